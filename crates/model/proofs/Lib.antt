@@ -1,0 +1,15 @@
+pub mod Cases
+pub mod OrderLaws
+pub mod KeyedLaws
+pub mod SetLaws
+pub mod PartLaws
+pub mod RuleLaws
+pub mod LimitLaws
+pub mod ValidLaws
+pub mod DossierLaws
+pub mod ClashLaws
+pub mod OpeningLaws
+pub mod SizeLaws
+pub mod StepLaws
+pub mod WayLaws
+pub mod HostExample
