@@ -1,0 +1,63 @@
+-- `sha1::add_block` meets its contract: a block in the message is a part of it, and any other is made. Assumes nothing.
+use mathlib.Core.Path.{ap, _∙_}
+use mathlib.Core.List.{List}
+use Prim.Native.Nat.{ℕ}
+use native.Mathlib.Omega.{arith}
+use Rattle.sha1.specs.Fips.{compressed}
+use Rattle.sha1.proofs.Laws.{padded-most, block-in}
+use borrow.Author.Needs.{needs}
+use Rattle.sha1.proofs.add_block.Statement.{statement}
+use Rattle.sha1.proofs.add_block.Tie as tie
+
+mul-start : tie.Need-mul-start
+mul-start c = omega (arith, padded-most (c .before .args .message .now))
+
+add-end : tie.Need-add-end
+add-end c = omega (arith, padded-most (c .before .args .message .now))
+
+sub-compress : tie.Need-sub-compress
+sub-compress c = search needs
+
+part-compress-start : tie.Need-part-compress-start
+part-compress-start c = search needs
+
+part-compress-end : tie.Need-part-compress-end
+part-compress-end c = search needs
+
+compress-requires : tie.Need-compress-requires
+compress-requires c κs = search needs
+
+returns : tie.Need-returns
+returns c =
+    let a = c .before .before .before .before .args in
+    c .compress .ensures ∙ ap (λ (m : List ℕ). compressed m (a .s)) (block-in (a .message .now) (a .i) (omega arith))
+
+padded-block-requires : tie.Need-padded-block-requires
+padded-block-requires c κs = search needs
+
+slice-aggregate-compress : tie.Need-slice-aggregate-compress
+slice-aggregate-compress c = search needs
+
+compress-requires-2 : tie.Need-compress-requires-2
+compress-requires-2 c κs = search needs
+
+returns-2 : tie.Need-returns-2
+returns-2 c =
+    let a = c .before .before .before .before .before .args in
+    c .compress2 .ensures ∙ ap (λ (m : List ℕ). compressed m (a .s)) (c .before .before .padded-block .ensures)
+
+pub add-block-spec : {M : Type 1} → statement M
+add-block-spec =
+    tie.close
+    (tie.spec
+    mul-start
+    add-end
+    sub-compress
+    part-compress-start
+    part-compress-end
+    compress-requires
+    returns
+    padded-block-requires
+    slice-aggregate-compress
+    compress-requires-2
+    returns-2)

@@ -1,0 +1,111 @@
+-- `sha1::block_words` meets its contract. The invariant: the words below `t` are those of the schedule. Assumes nothing.
+use mathlib.Core.Path.{_≡_, refl, _∙_}
+use Prim.Native.Nat.{_*_, _-_, _≤_}
+use native.Mathlib.Omega.{arith}
+use lib.ListN.{length, take, length-set}
+use Rattle.sha1.specs.Fips.{schedule, wordAt}
+use Rattle.sha1.proofs.Laws.{schedule-more, W-low}
+use borrow.Author.Needs.{needs}
+use Rattle.sha1.proofs.block_words.Statement.{statement}
+use Rattle.sha1.proofs.block_words.Tie as tie
+
+abbrev Inv-loop : tie.InvT-loop
+Inv-loop m w₀ t₀ w t = (t ≤ 16) × (length w ≡ 80) × (take t w ≡ schedule m t)
+
+abbrev μ-loop : tie.MeasureT-loop
+μ-loop m w₀ t₀ w t = 16 - t
+
+loop-holds : tie.Need-loop-holds Inv-loop μ-loop
+unfolding schedule
+loop-holds c = (omega arith, c .before .pre .1, refl)
+
+mul-word-of : tie.Need-mul-word-of Inv-loop μ-loop
+mul-word-of c = search needs
+
+shared-slice-read-word-of : tie.Need-shared-slice-read-word-of Inv-loop μ-loop
+shared-slice-read-word-of c = search needs
+
+mul-word-of-2 : tie.Need-mul-word-of-2 Inv-loop μ-loop
+mul-word-of-2 c = search needs
+
+add-word-of : tie.Need-add-word-of Inv-loop μ-loop
+add-word-of c = search needs
+
+shared-slice-read-word-of-2 : tie.Need-shared-slice-read-word-of-2 Inv-loop μ-loop
+shared-slice-read-word-of-2 c = search needs
+
+mul-word-of-3 : tie.Need-mul-word-of-3 Inv-loop μ-loop
+mul-word-of-3 c = search needs
+
+add-word-of-2 : tie.Need-add-word-of-2 Inv-loop μ-loop
+add-word-of-2 c = search needs
+
+shared-slice-read-word-of-3 : tie.Need-shared-slice-read-word-of-3 Inv-loop μ-loop
+shared-slice-read-word-of-3 c = search needs
+
+mul-word-of-4 : tie.Need-mul-word-of-4 Inv-loop μ-loop
+mul-word-of-4 c = search needs
+
+add-word-of-3 : tie.Need-add-word-of-3 Inv-loop μ-loop
+add-word-of-3 c = search needs
+
+shared-slice-read-word-of-4 : tie.Need-shared-slice-read-word-of-4 Inv-loop μ-loop
+shared-slice-read-word-of-4 c = search needs
+
+word-of-requires : tie.Need-word-of-requires Inv-loop μ-loop
+word-of-requires c κs = search needs
+
+mul-w : tie.Need-mul-w Inv-loop μ-loop
+mul-w c = search needs
+
+element-write-w : tie.Need-element-write-w Inv-loop μ-loop
+element-write-w c = search needs
+
+add-t : tie.Need-add-t Inv-loop μ-loop
+add-t c = search needs
+
+loop-less : tie.Need-loop-less Inv-loop μ-loop
+loop-less c = search needs
+
+loop-again : tie.Need-loop-again Inv-loop μ-loop
+unfolding wordAt
+loop-again c =
+    let l = c .before .before .before .before .before .before in
+    let m = l .before .before .args .m .now in
+    let t = l .loop .t in (
+      omega arith,
+      simp length-set (l .loop .inv .1),
+      schedule-more m (l .loop .w) t (c .word-of .result) (omega arith) (l .loop .inv .2) (c .word-of .ensures ∙ W-low m (schedule m t) t (omega arith)),
+    )
+
+returns : tie.Need-returns Inv-loop μ-loop
+returns c =
+    let l = c .before in
+    let end : l .loop .t ≡ 16 = omega arith in
+    (l .loop .inv .1, rw end at (l .loop .inv .2))
+
+pub block-words-spec : {M : Type 1} → statement M
+block-words-spec =
+    tie.close
+    (tie.spec
+    Inv-loop
+    μ-loop
+    loop-holds
+    mul-word-of
+    shared-slice-read-word-of
+    mul-word-of-2
+    add-word-of
+    shared-slice-read-word-of-2
+    mul-word-of-3
+    add-word-of-2
+    shared-slice-read-word-of-3
+    mul-word-of-4
+    add-word-of-3
+    shared-slice-read-word-of-4
+    word-of-requires
+    mul-w
+    element-write-w
+    add-t
+    loop-less
+    loop-again
+    returns)

@@ -1,0 +1,78 @@
+-- `sha1::compress` meets its contract: each quarter of the rounds finds its words written. Assumes nothing.
+use mathlib.Core.Path.{refl, sym, ap, _∙_}
+use Rattle.sha1.specs.Fips.{schedule, rounds, sum, compressed}
+use Rattle.sha1.proofs.Laws.{schedule-take}
+use borrow.Author.Needs.{needs}
+use Rattle.sha1.proofs.compress.Statement.{statement}
+use Rattle.sha1.proofs.compress.Tie as tie
+
+block-words-requires : tie.Need-block-words-requires
+block-words-requires c κs = search needs
+
+extend-requires : tie.Need-extend-requires
+extend-requires c κs = search needs
+
+twenty-requires : tie.Need-twenty-requires
+twenty-requires c κs = search needs
+
+extend-requires-2 : tie.Need-extend-requires-2
+extend-requires-2 c κs = search needs
+
+twenty-requires-2 : tie.Need-twenty-requires-2
+twenty-requires-2 c κs = search needs
+
+extend-requires-3 : tie.Need-extend-requires-3
+extend-requires-3 c κs = search needs
+
+twenty-requires-3 : tie.Need-twenty-requires-3
+twenty-requires-3 c κs = search needs
+
+extend-requires-4 : tie.Need-extend-requires-4
+extend-requires-4 c κs = search needs
+
+twenty-requires-4 : tie.Need-twenty-requires-4
+twenty-requires-4 c κs = search needs
+
+sum-of-requires : tie.Need-sum-of-requires
+sum-of-requires c κs = search needs
+
+returns : tie.Need-returns
+unfolding compressed rounds
+returns c =
+    let c4 = c .before in
+    let e4 = c4 .before .before in
+    let c3 = e4 .before .before in
+    let e3 = c3 .before .before in
+    let c2 = e3 .before .before in
+    let e2 = c2 .before .before in
+    let c1 = e2 .before .before in
+    let e1 = c1 .before .before in
+    let words = e1 .before .before in
+    let a = words .before .before .before .args in
+    let m = a .m .now in
+    let ws = schedule m 80 in
+    let w20 = e1 .extend .ensures .1 m (words .block-words .ensures .1) in
+    let w40 = e2 .extend2 .ensures .1 m w20 in
+    let w60 = e3 .extend3 .ensures .1 m w40 in
+    let w80 = e4 .extend4 .ensures .1 m w60 in
+    let r20 = c1 .twenty .ensures ws (a .s) (w20 ∙ sym (schedule-take m 20 60)) refl in
+    let r40 = c2 .twenty2 .ensures ws (a .s) (w40 ∙ sym (schedule-take m 40 40)) r20 in
+    let r60 = c3 .twenty3 .ensures ws (a .s) (w60 ∙ sym (schedule-take m 60 20)) r40 in
+    let r80 = c4 .twenty4 .ensures ws (a .s) (w80 ∙ sym (schedule-take m 80 0)) r60 in
+    c .sum-of .ensures ∙ ap (sum (a .s)) r80
+
+pub compress-spec : {M : Type 1} → statement M
+compress-spec =
+    tie.close
+    (tie.spec
+    block-words-requires
+    extend-requires
+    twenty-requires
+    extend-requires-2
+    twenty-requires-2
+    extend-requires-3
+    twenty-requires-3
+    extend-requires-4
+    twenty-requires-4
+    sum-of-requires
+    returns)

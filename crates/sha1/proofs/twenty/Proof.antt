@@ -1,0 +1,75 @@
+-- `sha1::twenty` meets its contract. The invariant: what was the state after the rounds below `from` is now that after the rounds
+-- below `t`. Assumes nothing.
+use mathlib.Core.Path.{_≡_, ap, ap₂, _∙_}
+use mathlib.Core.List.{List}
+use Prim.Native.Nat.{ℕ, _+_, _-_, _≤_}
+use native.Mathlib.Omega.{arith}
+use lib.ListN.{getD, take}
+use Rattle.sha1.specs.declared.State.{State}
+use Rattle.sha1.specs.Fips.{rounds, round}
+use Rattle.sha1.proofs.Laws.{same-at, rounds-more}
+use borrow.Author.Needs.{needs}
+use Rattle.sha1.proofs.twenty.Statement.{statement}
+use Rattle.sha1.proofs.twenty.Tie as tie
+
+abbrev Inv-loop : tie.InvT-loop
+Inv-loop w from r₀ t₀ r t =
+    (from ≤ t) × (t ≤ from + 20) × ((ws : List ℕ) (h : State) → take (from + 20) w ≡ take (from + 20) ws → r₀ ≡ rounds ws from h → r ≡ rounds ws t h)
+
+abbrev μ-loop : tie.MeasureT-loop
+μ-loop w from r₀ t₀ r t = from + 20 - t
+
+loop-holds : tie.Need-loop-holds Inv-loop μ-loop
+loop-holds c = (omega arith, omega arith, λ ws h words e. e)
+
+add-loop : tie.Need-add-loop Inv-loop μ-loop
+add-loop c = search needs
+
+mul-round-of : tie.Need-mul-round-of Inv-loop μ-loop
+mul-round-of c = search needs
+
+element-copy-out-round-of : tie.Need-element-copy-out-round-of Inv-loop μ-loop
+element-copy-out-round-of c = search needs
+
+round-of-requires : tie.Need-round-of-requires Inv-loop μ-loop
+round-of-requires c κs = search needs
+
+add-t : tie.Need-add-t Inv-loop μ-loop
+add-t c = search needs
+
+loop-less : tie.Need-loop-less Inv-loop μ-loop
+loop-less c = search needs
+
+loop-again : tie.Need-loop-again Inv-loop μ-loop
+loop-again c =
+    let l = c .before .before .before in
+    let a = l .before .args in
+    let t = l .loop .t in (
+      omega arith,
+      omega arith,
+      λ ws h words e.
+          let word : getD (a .w .now) t 0 ≡ getD ws t 0 = same-at (a .from + 20) (a .w .now) ws words t (omega arith) in
+          c .round-of .ensures ∙ ap₂ (round t) word (l .loop .inv .2 ws h words e) ∙ rounds-more ws t h,
+    )
+
+returns : tie.Need-returns Inv-loop μ-loop
+returns c = λ ws h words e.
+    let l = c .before in
+    let end : l .loop .t ≡ l .before .args .from + 20 = omega arith in
+    l .loop .inv .2 ws h words e ∙ ap (λ (n : ℕ). rounds ws n h) end
+
+pub twenty-spec : {M : Type 1} → statement M
+twenty-spec =
+    tie.close
+    (tie.spec
+    Inv-loop
+    μ-loop
+    loop-holds
+    add-loop
+    mul-round-of
+    element-copy-out-round-of
+    round-of-requires
+    add-t
+    loop-less
+    loop-again
+    returns)
