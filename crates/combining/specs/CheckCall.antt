@@ -1,0 +1,27 @@
+-- Document 01: the call check an event, "whose dossier is the output".
+use Prim.Native.Nat.{ℕ}
+use mathlib.Core.List.{List, [], _∷_}
+use lib.ListN.{length}
+use lib.Dec.{leb}
+use Rattle.model.specs.Rule.{rule}
+use Rattle.ontology.specs.TableLayout.{tableOf}
+use Rattle.ontology.specs.Questions.{Asked, refused, accepted, _>>=_, _>>_, ask, ensure, leastRoom, Answer, answer, Outcome, outcome}
+use Rattle.event.specs.Event.{Event, view}
+use Rattle.event.specs.EventLayout.{narrow}
+use Rattle.event.specs.EventQuestions.{Typed, eventAsked}
+use Rattle.dossier.specs.DossierLayout.{Headed, dossierBytes}
+
+-- "Freshly checked, one event gives the rule over itself."
+unfoldable pub eventDossier : Typed → Headed
+eventDossier a = record { type = a .event .type; source = a .event .source; dossier = rule (view (a .type)) (a .event ∷ []) }
+
+unfoldable pub checkAnswer : ℕ → List ℕ → List ℕ → Answer
+checkAnswer room table event = answer do
+  ensure 1 (leb leastRoom room)
+  ts ← ask 2 (tableOf table)
+  a ← eventAsked narrow ts event
+  accepted (dossierBytes (eventDossier a))
+
+-- the call with its output
+unfoldable pub checkCall : List ℕ → List ℕ → List ℕ → Outcome
+checkCall table event out = outcome (checkAnswer (length out) table event) out

@@ -1,0 +1,2 @@
+pub mod CheckCall
+pub mod CombineCall

@@ -1,0 +1,128 @@
+-- How long a dossier's bytes are, and that they have room in an output of 32,768 bytes.
+use mathlib.Core.Path.{_≡_, refl, ap}
+use mathlib.Core.Bool.{Bool, true, false, cond, not, _&&_}
+use mathlib.Core.List.{List, [], _∷_, map, flatten}
+use Prim.Native.Nat.{ℕ, _+_, _*_, _≤_}
+use native.Mathlib.Omega.{arith}
+use lib.Dec.{leb, eqb}
+use lib.ListN.{length, length-append}
+use borrow.Author.Tests.{leb-true, eqb-true}
+use Rattle.model.specs.Rule.{Cell, holds, differs, Snapshot, size, sizes, objects}
+use Rattle.model.specs.Limits.{standard}
+use Rattle.model.specs.Opening.{held, isMark}
+use Rattle.packed.proofs.LayoutLaws.{All, number-bounds, number-length-1, number-length-5}
+use Rattle.ontology.specs.Table.{Property, EventType, isVersioned}
+use Rattle.event.specs.Event.{objectCount}
+use Rattle.event.specs.EventLayout.{presenceBit, bitNumber}
+use Rattle.event.specs.EventQuestions.{isEmpty}
+use Rattle.event.proofs.EventLayoutLaws.{and-parts, presence-below}
+use Rattle.event.proofs.EventSizeLaws.{ValuesShort, Beyond, fit-short, head-size, sets-size}
+use Rattle.dossier.specs.DossierLayout.{Headed, differBit, snapshotBytes, dossierBytes}
+use Rattle.dossier.specs.DossierQuestions.{eachCell, eachSnapshot, isVacant, isPresent, isLoneIfExtreme, unversionedSnapshot, unversionedShape, versionedSnapshot, matchFits, matchAlike, dossierShape, snapshotValues}
+use Rattle.dossier.proofs.DossierLayoutLaws.{SnapshotWritten, DossierWritten, differ-below}
+
+-- the objects of a snapshot's cells are those of the sets that they hold
+pub held-objects : (cs : List Cell) → objectCount (map held cs) ≡ sizes cs
+unfolding objectCount sizes size held
+held-objects [] = refl
+held-objects (holds s ∷ cs) = ap (λ (n : ℕ). length s + n) (held-objects cs)
+held-objects (differs ∷ cs) = ap (λ (n : ℕ). 0 + n) (held-objects cs)
+
+-- 10 + 5 + 5 bytes for the numbers, 2 for the count of each of 32 sets, and 121 for an object
+pub snapshot-size : (s : Snapshot) → SnapshotWritten s → ValuesShort (map held (s .cells)) → length (snapshotBytes s) ≤ 84 + 121 * sizes (s .cells)
+unfolding snapshotBytes
+snapshot-size s w v =
+    let n : length (map held (s .cells)) ≡ 32 = w .sets .long in
+    simp length-append
+    (omega (
+      arith,
+      number-bounds (s .version),
+      number-length-5 (bitNumber (map presenceBit (map held (s .cells)))) (presence-below (map held (s .cells)) n),
+      number-length-5 (bitNumber (map differBit (s .cells))) (differ-below s w),
+      sets-size (map held (s .cells)) v (w .small),
+      held-objects (s .cells),
+    ))
+
+pub snapshots-size : (ss : List Snapshot) → All SnapshotWritten ss → All (λ (s : Snapshot). ValuesShort (map held (s .cells))) ss → length (flatten (map snapshotBytes ss)) ≤ 84 * length ss + 121 * objects ss
+unfolding flatten objects
+snapshots-size [] w v = omega arith
+snapshots-size (s ∷ ss) w v = simp length-append (omega (arith, snapshot-size s (w .0) (v .0), snapshots-size ss (w .1) (v .1)))
+
+-- 827 + 1 + 8 * 84 + 256 * 121 = 32,476
+pub dossier-size : (h : Headed) → DossierWritten standard h → All (λ (s : Snapshot). ValuesShort (map held (s .cells))) (h .dossier .snapshots) → length (h .type) ≤ 64 → objects (h .dossier .snapshots) ≤ 256 → length (dossierBytes h) ≤ 32768
+unfolding standard dossierBytes
+dossier-size h w v t o =
+    let n : length (h .dossier .snapshots) ≤ 8 = w .within in
+    simp length-append
+    (omega (
+      arith,
+      head-size (h .type) (h .source) (h .dossier .parents) (w .head) t,
+      number-length-1 (length (h .dossier .snapshots)) (omega arith),
+      snapshots-size (h .dossier .snapshots) (w .snapshots) v,
+    ))
+
+-- "has each versioned snapshot at most 32 objects": eight of them have at most 256
+pub objects-each : (ss : List Snapshot) → All (λ (s : Snapshot). sizes (s .cells) ≤ 32) ss → objects ss ≤ 32 * length ss
+unfolding objects
+objects-each [] h = omega arith
+objects-each (s ∷ ss) h = omega (arith, h .0, objects-each ss (h .1))
+
+pub versioned-objects : (ss : List Snapshot) → All (λ (s : Snapshot). sizes (s .cells) ≤ 32) ss → length ss ≤ 8 → objects ss ≤ 256
+versioned-objects ss h n = omega (arith, objects-each ss h)
+
+-- ---- what the questions of document 01 say of these sizes
+
+cells-beyond : (f : Property → Cell → Bool) (ps : List Property) (cs : List Cell) → eachCell f isVacant ps cs ≡ true → Beyond ps (map held cs)
+unfolding eachCell isVacant
+cells-beyond f [] [] h = tt
+cells-beyond f [] (c ∷ cs) h =
+    let a = and-parts (isVacant c) (eachCell f isVacant [] cs) h in
+    (eqb-true (length (held c)) 0 (and-parts (not (isMark c)) (isEmpty (held c)) (a .0) .1), cells-beyond f [] cs (a .1))
+cells-beyond f (p ∷ ps) [] h = tt
+cells-beyond f (p ∷ ps) (c ∷ cs) h = cells-beyond f ps cs (and-parts (f p c) (eachCell f isVacant ps cs) h .1)
+
+snapshots-short : (t : EventType) (ss : List Snapshot) → eachSnapshot (λ (s : Snapshot). eachCell isPresent isVacant (t .properties) (s .cells)) ss ≡ true → eachSnapshot (snapshotValues t) ss ≡ true → All (λ (s : Snapshot). ValuesShort (map held (s .cells))) ss
+unfolding eachSnapshot snapshotValues
+snapshots-short t [] h v = tt
+snapshots-short t (s ∷ ss) h v =
+    let a = and-parts (eachCell isPresent isVacant (t .properties) (s .cells)) _ h in
+    let b = and-parts (snapshotValues t s) (eachSnapshot (snapshotValues t) ss) v in
+    (fit-short t (map held (s .cells)) (cells-beyond isPresent (t .properties) (s .cells) (a .0)) (b .0), snapshots-short t ss (a .1) (b .1))
+
+versioned-sizes : (t : EventType) (ss : List Snapshot) → eachSnapshot (versionedSnapshot t) ss ≡ true → All (λ (s : Snapshot). sizes (s .cells) ≤ 32) ss
+unfolding eachSnapshot versionedSnapshot
+versioned-sizes t [] h = tt
+versioned-sizes t (s ∷ ss) h =
+    let a = and-parts (versionedSnapshot t s) (eachSnapshot (versionedSnapshot t) ss) h in
+    let b = and-parts (leb (sizes (s .cells)) 32 && _) _ (a .0) in
+    (leb-true (sizes (s .cells)) 32 (and-parts (leb (sizes (s .cells)) 32) _ (b .0) .0), versioned-sizes t ss (a .1))
+
+unversioned-objects : (t : EventType) (ss : List Snapshot) → unversionedShape standard t ss ≡ true → objects ss ≤ 256
+unfolding unversionedShape unversionedSnapshot eachSnapshot standard objects
+unversioned-objects t [] h = omega arith
+unversioned-objects t (s ∷ []) h =
+    let a = and-parts (unversionedSnapshot standard t s) true h in
+    let b = and-parts (eqb (s .version) 0 && eachCell (λ p c. not (isMark c) && isLoneIfExtreme p c) (λ c. true) (t .properties) (s .cells)) (leb (sizes (s .cells)) 256) (a .0) in
+    omega (arith, leb-true (sizes (s .cells)) 256 (b .1))
+unversioned-objects t (s ∷ r ∷ ss) h =
+    let a = and-parts (eqb (length (s ∷ r ∷ ss)) 1) _ h in
+    absurd (omega (arith, eqb-true (length (s ∷ r ∷ ss)) 1 (a .0)))
+
+-- the parts of question 5
+shape-parts : (t : EventType) (ss : List Snapshot) → dossierShape standard t ss ≡ true → (eachSnapshot (λ (s : Snapshot). eachCell isPresent isVacant (t .properties) (s .cells)) ss ≡ true) × (cond (isVersioned t) (eachSnapshot (versionedSnapshot t) ss) (unversionedShape standard t ss) ≡ true)
+unfolding dossierShape
+shape-parts t ss h = and-parts _ _ (and-parts _ (eachSnapshot (matchFits t) ss) (and-parts _ (matchAlike t ss) h .0) .0)
+
+pub shape-objects : (t : EventType) (ss : List Snapshot) → dossierShape standard t ss ≡ true → length ss ≤ 8 → objects ss ≤ 256
+shape-objects t ss h n = go (isVersioned t) (shape-parts t ss h .1)
+  where
+    go : (b : Bool) → cond b (eachSnapshot (versionedSnapshot t) ss) (unversionedShape standard t ss) ≡ true → objects ss ≤ 256
+    go true h = versioned-objects ss (versioned-sizes t ss h) n
+    go false h = unversioned-objects t ss h
+
+-- a dossier of which questions 3, 5 and 6 are answered yes
+pub dossier-fits : (t : EventType) (h : Headed) → DossierWritten standard h → dossierShape standard t (h .dossier .snapshots) ≡ true → eachSnapshot (snapshotValues t) (h .dossier .snapshots) ≡ true → length (h .type) ≤ 64 → length (dossierBytes h) ≤ 32768
+unfolding standard
+dossier-fits t h w q v n =
+    let ss = h .dossier .snapshots in
+    dossier-size h w (snapshots-short t ss (shape-parts t ss q .0) v) n (shape-objects t ss q (w .within))

@@ -1,0 +1,3 @@
+-- The laws of dossiers' bytes.
+pub mod DossierLayoutLaws
+pub mod DossierSizeLaws

@@ -1,0 +1,2 @@
+pub mod DossierLayout
+pub mod DossierQuestions

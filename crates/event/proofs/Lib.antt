@@ -1,0 +1,3 @@
+-- The laws of packed events.
+pub mod EventLayoutLaws
+pub mod EventSizeLaws

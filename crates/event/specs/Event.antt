@@ -1,0 +1,59 @@
+-- Document 01, "Packed event": what an event has, and what the rule reads of it.
+use Prim.Native.Nat.{ℕ, zero, suc, _+_, _-_}
+use mathlib.Core.Bool.{Bool, true, false, cond}
+use mathlib.Core.Option.{Option, none, some}
+use mathlib.Core.List.{List, [], _∷_}
+use lib.ListN.{length, getD, getElem?}
+use Rattle.model.specs.Order.{Text, reversed}
+use Rattle.model.specs.Rule.{View, Choice, every, least}
+use Rattle.values.specs.Decimal.{numeral}
+use Rattle.values.specs.ValueOrder.{valueOrder}
+use Rattle.ontology.specs.Table.{Strategy, min, max, add, replace, match, set, any, Property, EventType, isVersioned, isReplace, isSingle}
+
+-- An event: its sets are by place, one for each of the 32 bits of the presence number; a place without objects has the empty set
+pub record Event : Type 0 where
+  pub type : Text
+  pub source : Text
+  pub parents : List Text
+  pub sets : List (List Text)
+
+-- "At most 32 objects in all": how many
+unfoldable pub objectCount : List (List Text) → ℕ
+objectCount [] = 0
+objectCount (s ∷ ss) = length s + objectCount ss
+
+-- the set at a place
+abbrev pub setAt : Event → ℕ → List Text
+setAt e p = getD (e .sets) p []
+
+-- "An event's version is the number in its marked property." An unversioned type's events have the version 0 of their snapshot.
+unfoldable pub versionOf : EventType → Event → ℕ
+versionOf t e = cond (isVersioned t) (numeral (getD (setAt e (t .mark - 1)) 0 [])) 0
+
+-- "min and max have the smallest or largest value, other properties the union"
+unfoldable pub choiceOf : Strategy → Property → Choice
+choiceOf min p = least (valueOrder (p .kind))
+choiceOf max p = least (reversed (valueOrder (p .kind)))
+choiceOf add p = every
+choiceOf replace p = every
+choiceOf match p = every
+choiceOf set p = every
+choiceOf any p = every
+
+-- what is said of a place through its property; of a place without one, the default
+unfoldable pub atPlace : {A : Type 0} → A → (Property → A) → Option Property → A
+atPlace d f none = d
+atPlace d f (some p) = f p
+
+-- What the rule reads of an event and its type. Places are the 32 bits of the presence number: where the type has no property all sets are empty.
+unfoldable pub view : EventType → View Event
+view t = record {
+  parents = λ e. e .parents;
+  version = versionOf t;
+  set = setAt;
+  versioned = isVersioned t;
+  width = 32;
+  choice = λ p. atPlace every (λ q. choiceOf (q .strategy) q) (getElem? (t .properties) p);
+  replaces = λ p. atPlace false isReplace (getElem? (t .properties) p);
+  single = λ p. atPlace false isSingle (getElem? (t .properties) p);
+}

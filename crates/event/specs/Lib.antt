@@ -1,0 +1,4 @@
+pub mod Event
+pub mod EventLayout
+pub mod EventQuestions
+pub mod Value

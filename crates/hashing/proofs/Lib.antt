@@ -1,0 +1,2 @@
+-- The laws of hash texts.
+pub mod HashSizeLaws

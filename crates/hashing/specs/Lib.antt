@@ -1,0 +1,2 @@
+pub mod HashText
+pub mod HashCalls

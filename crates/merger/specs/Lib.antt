@@ -1,0 +1,3 @@
+pub mod Batch
+pub mod Report
+pub mod Demand3

@@ -1,0 +1,72 @@
+-- Document 01: what the merge program prints. "The merge program reads standard input (at most 65,536 bytes, else 9): table as a text, then a batch. A table
+-- text that doesn't read to its length gives 9, before question 2."
+use Prim.Native.Nat.{ℕ, _+_, _-_, _/_, _%_}
+use mathlib.Core.Bool.{Bool, true, false, cond}
+use mathlib.Core.Option.{Option, none, some}
+use mathlib.Core.List.{List, [], _∷_, _++_, map, flatten}
+use lib.ListN.{length, getElem?}
+use lib.Dec.{leb, ltb}
+use Rattle.model.specs.Order.{Text}
+use Rattle.model.specs.Limits.{Limits, standard}
+use Rattle.model.specs.Opening.{Opened, conflictAt, overfullAt, merged, opening}
+use Rattle.packed.specs.Parse.{Parse, fail, got}
+use Rattle.packed.specs.Packed.{readText}
+use Rattle.packed.specs.Ascii.{ascii}
+use Rattle.values.specs.Decimal.{inDecimal}
+use Rattle.sha1.specs.Fips.{sha1Of}
+use Rattle.ontology.specs.Table.{Property, EventType}
+use Rattle.event.specs.Event.{Event, view, objectCount, atPlace}
+use Rattle.hashing.specs.HashText.{hashText}
+use Rattle.dossier.specs.DossierLayout.{Headed}
+use Rattle.dossier.specs.DossierQuestions.{TypedDossier}
+use Rattle.opening.specs.OpenCall.{mergedEvent}
+use Rattle.merger.specs.Batch.{AskedAt, refusedAt, accepted, batchAsked}
+
+-- "Each line ends with 0A."
+abbrev pub line : List ℕ → List ℕ
+line s = s ++ (10 ∷ [])
+
+-- "lower-case hex digits"
+unfoldable pub hexDigit : ℕ → ℕ
+hexDigit n = cond (ltb n 10) (48 + n) (87 + n)
+
+unfoldable pub hexOf : List ℕ → List ℕ
+hexOf [] = []
+hexOf (b ∷ s) = hexDigit (b / 16) ∷ hexDigit (b % 16) ∷ hexOf s
+
+-- `addr:h1`: the objects, by place and then by value
+unfoldable pub objectLines : List Property → List (List Text) → List ℕ
+objectLines [] ss = []
+objectLines (p ∷ ps) [] = []
+objectLines (p ∷ ps) (s ∷ ss) = flatten (map (λ v. line (p .name ++ (58 ∷ v))) s) ++ objectLines ps ss
+
+-- the name of the property at a place
+unfoldable pub nameAt : EventType → ℕ → Text
+nameAt t p = atPlace [] (λ (q : Property). q .name) (getElem? (t .properties) p)
+
+-- "`merged 5` (objects), .. then `hash ` and 40 lower-case hex digits"
+unfoldable pub mergedLines : EventType → Event → List ℕ
+mergedLines t e =
+    line (ascii "merged " ++ inDecimal (objectCount (e .sets))) ++ objectLines (t .properties) (e .sets) ++ line (ascii "hash " ++ hexOf (sha1Of (hashText t e)))
+
+-- "`conflict 1 state` (version, property), `overfull serial` (property, of another type)"
+unfoldable pub openedLines : EventType → Headed → Opened → List ℕ
+openedLines t h (conflictAt v p) = line (ascii "conflict " ++ inDecimal v ++ ascii " " ++ nameAt t p)
+openedLines t h (overfullAt p) = line (ascii "overfull " ++ nameAt t p)
+openedLines t h (merged ss) = mergedLines t (mergedEvent h ss)
+
+-- "`refused 7 1` (number, position)"
+unfoldable pub refusedLine : ℕ → ℕ → List ℕ
+refusedLine n i = line (ascii "refused " ++ inDecimal n ++ ascii " " ++ inDecimal i)
+
+unfoldable pub askedLines : AskedAt TypedDossier → List ℕ
+askedLines (refusedAt n i) = refusedLine n i
+askedLines (accepted d) = openedLines (d .type) (d .headed) (opening (view (d .type)) (d .headed .dossier))
+
+unfoldable pub framedLines : Parse (List ℕ) → List ℕ
+framedLines fail = refusedLine 9 0
+framedLines (got table batch) = askedLines (batchAsked standard table batch)
+
+-- what the program prints for its input
+unfoldable pub report : List ℕ → List ℕ
+report input = cond (leb (length input) 65536) (framedLines (readText input)) (refusedLine 9 0)

@@ -1,0 +1,4 @@
+pub mod Table
+pub mod TableLayout
+pub mod Questions
+pub mod TableCall

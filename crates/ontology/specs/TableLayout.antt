@@ -1,0 +1,84 @@
+-- Document 01, "Ontology table": its bytes.
+use Prim.Native.Nat.{ℕ}
+use mathlib.Core.Bool.{Bool, true, false, cond}
+use mathlib.Core.Option.{Option, none, some}
+use mathlib.Core.List.{List, map}
+use lib.ListN.{length}
+use lib.Dec.{leb, eqb}
+use Rattle.model.specs.Order.{Text}
+use Rattle.packed.specs.Parse.{Parse, fail, got, Layout, _>>=_, found, foundIf, suchThat, times, whole}
+use Rattle.packed.specs.Packed.{readNumber, readText}
+use Rattle.values.specs.Spaces.{Kind, unsigned, signed, decimal, currency, sequence, datetime, boolean, string, hex, isWithin, isKind}
+use Rattle.ontology.specs.Table.{Strategy, min, max, add, replace, match, set, any, Property, EventType, Table, isNameWithin, namesRise, typeRules}
+
+-- 0 or 1
+unfoldable pub readFlag : Layout Bool
+readFlag = do
+  n ← suchThat (λ n. leb n 1) readNumber
+  found (eqb n 1)
+
+-- "total digits .., digits after the point .., signed 0 or 1"
+unfoldable pub readDecimal : Layout Kind
+readDecimal = do
+  total ← readNumber
+  after ← readNumber
+  sign ← readFlag
+  found (decimal total after sign)
+
+-- the parameters of the kind of a number
+unfoldable pub readParameters : ℕ → Layout Kind
+readParameters n =
+    cond (eqb n 1) (readNumber >>= λ width. found (unsigned width))
+    (cond (eqb n 2) (readNumber >>= λ width. found (signed width))
+    (cond (eqb n 3) readDecimal
+    (cond (eqb n 4) (found currency)
+    (cond (eqb n 5) (found sequence)
+    (cond (eqb n 6) (found datetime)
+    (cond (eqb n 7) (found boolean)
+    (cond (eqb n 8) (readNumber >>= λ most. found (string most))
+    (cond (eqb n 9) (readNumber >>= λ bytes. found (hex bytes))
+    (λ s. fail)))))))))
+
+-- "data kind with its parameters"
+unfoldable pub readKind : Layout Kind
+readKind = suchThat isKind (readNumber >>= readParameters)
+
+unfoldable pub readStrategy : Layout Strategy
+readStrategy = readNumber >>= λ n.
+    cond (eqb n 1) (found min)
+    (cond (eqb n 2) (found max)
+    (cond (eqb n 3) (found add)
+    (cond (eqb n 4) (found replace)
+    (cond (eqb n 5) (found match)
+    (cond (eqb n 6) (found set)
+    (cond (eqb n 7) (found any)
+    (λ s. fail)))))))
+
+unfoldable pub readProperty : Layout Property
+readProperty = do
+  name ← suchThat (isNameWithin 32) readText
+  kind ← readKind
+  optional ← readFlag
+  multivalued ← readFlag
+  strategy ← readStrategy
+  found (record { name = name; kind = kind; optional = optional; multivalued = multivalued; strategy = strategy })
+
+unfoldable pub readType : Layout EventType
+readType = do
+  name ← readText
+  definition ← readNumber
+  mark ← readNumber
+  count ← readNumber
+  properties ← times readProperty count
+  found (record { name = name; definition = definition; mark = mark; properties = properties })
+
+-- "A count of types 1 to 16; the types by rising name. .. Nothing follows the last type."
+unfoldable pub readTable : Layout Table
+readTable = do
+  count ← suchThat (isWithin 1 16) readNumber
+  types ← times (suchThat typeRules readType) count
+  foundIf (namesRise (map (λ (t : EventType). t .name) types)) types
+
+-- the table that some bytes are; none where they break a rule
+unfoldable pub tableOf : List ℕ → Option Table
+tableOf s = whole (readTable s)
