@@ -1,12 +1,12 @@
--- A kind as its number and up to three parameters, as a table and the code have it.
-use Prim.Native.Nat.{ℕ}
-use mathlib.Core.Bool.{Bool, true, false, cond}
+-- A kind by its number and its parameters, of which there are up to three.
+use mathlib.Core.Bool.{cond}
 use mathlib.Core.Option.{Option, none, some}
+use Prim.Native.Nat.{ℕ}
 use lib.Dec.{eqb}
 use Rattle.values.specs.Spaces.{Kind, unsigned, signed, decimal, currency, sequence, datetime, boolean, string, hex}
 
--- the parameters of a kind; those that it has not are 0
-unfoldable pub firstParameter : Kind → ℕ
+-- the parameters of a kind: 0 where it has none
+abbrev pub firstParameter : Kind → ℕ
 firstParameter (unsigned width) = width
 firstParameter (signed width) = width
 firstParameter (decimal total after sign) = total
@@ -17,7 +17,7 @@ firstParameter boolean = 0
 firstParameter (string most) = most
 firstParameter (hex bytes) = bytes
 
-unfoldable pub secondParameter : Kind → ℕ
+abbrev pub secondParameter : Kind → ℕ
 secondParameter (unsigned width) = 0
 secondParameter (signed width) = 0
 secondParameter (decimal total after sign) = after
@@ -28,7 +28,8 @@ secondParameter boolean = 0
 secondParameter (string most) = 0
 secondParameter (hex bytes) = 0
 
-unfoldable pub thirdParameter : Kind → ℕ
+-- "signed 0 or 1"
+abbrev pub thirdParameter : Kind → ℕ
 thirdParameter (unsigned width) = 0
 thirdParameter (signed width) = 0
 thirdParameter (decimal total after sign) = cond sign 1 0
@@ -38,3 +39,16 @@ thirdParameter datetime = 0
 thirdParameter boolean = 0
 thirdParameter (string most) = 0
 thirdParameter (hex bytes) = 0
+
+-- the kind of a number and parameters, if the number is one of a kind
+unfoldable pub kindOf : ℕ → ℕ → ℕ → ℕ → Option Kind
+kindOf kind first second third =
+    cond (eqb kind 1) (some (unsigned first))
+    (cond (eqb kind 2) (some (signed first))
+    (cond (eqb kind 3) (some (decimal first second (eqb third 1)))
+    (cond (eqb kind 4) (some currency)
+    (cond (eqb kind 5) (some sequence)
+    (cond (eqb kind 6) (some datetime)
+    (cond (eqb kind 7) (some boolean)
+    (cond (eqb kind 8) (some (string first))
+    (cond (eqb kind 9) (some (hex first)) none))))))))

@@ -2,5 +2,6 @@ pub mod Decimal
 pub mod Calendar
 pub mod Unicode
 pub mod Spaces
-pub mod KindNumbers
 pub mod ValueOrder
+pub mod NumberAnswer
+pub mod KindNumbers

@@ -1,1 +1,6 @@
-// Definitions only: see specs/.
+// The values of the nine kinds: which texts are in a kind's space, and the order of its values.
+pub mod calendar;
+pub mod numbers;
+pub mod spaces;
+pub mod unicode;
+pub mod versions;

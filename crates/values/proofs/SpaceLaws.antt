@@ -1,0 +1,138 @@
+-- Hex digits, kinds by their numbers, and the order and the choice of values.
+-- Assumes nothing.
+use mathlib.Core.Path.{_≡_, refl, sym, subst}
+use mathlib.Core.Logic.{⊎-elim}
+use mathlib.Core.Bool.{Bool, true, false, cond, not, _&&_}
+use mathlib.Core.Option.{none, some}
+use mathlib.Core.List.{List, [], _∷_}
+use Prim.Native.Nat.{ℕ, _+_, _<_, _≤_, Ordering, Ordering·lt, Ordering·eq, Ordering·gt}
+use native.Mathlib.Omega.{arith}
+use lib.Dec.{leb}
+use lib.ListN.{length, getD, take, drop, drop-of-length-le}
+use borrow.Author.Tests.{le-leb, lt-leb, ne-eqb}
+use Rattle.model.specs.Order.{Text, Order, pick, reversed}
+use Rattle.model.specs.Keyed.{put, merge}
+use Rattle.model.specs.Sets.{union}
+use Rattle.values.specs.Calendar.{instant}
+use Rattle.values.specs.Spaces.{Kind, unsigned, signed, decimal, currency, sequence, datetime, boolean, string, hex, kindNumber, isKind, isHexDigit, areHexDigits, isOfKind, inSpace}
+use Rattle.values.specs.ValueOrder.{valueNumber}
+use Rattle.values.specs.KindNumbers.{kindOf, firstParameter, secondParameter, thirdParameter}
+use Rattle.values.proofs.NumeralLaws.{and-right, lt-or-ge}
+use Rattle.values.proofs.NumberOrderLaws.{equal-number-equal-bytes}
+use Rattle.values.proofs.NumberStepLaws.{drop-next}
+use Rattle.values.proofs.InstantLaws.{equal-instant-equal-bytes}
+
+pub hex-step : (v : List ℕ) (i : ℕ) → i < length v → areHexDigits (drop i v) ≡ (isHexDigit (getD v i 0) && areHexDigits (drop (i + 1) v))
+unfolding areHexDigits
+hex-step v i h = rw (drop-next v i h)
+
+pub hex-end : (v : List ℕ) (i : ℕ) → length v ≤ i → areHexDigits (drop i v) ≡ true
+unfolding areHexDigits
+hex-end v i h = rw (drop-of-length-le v h)
+
+-- ---- kinds by their numbers
+
+pub kind-numbered : (k : Kind) → kindOf (kindNumber k) (firstParameter k) (secondParameter k) (thirdParameter k) ≡ some k
+unfolding kindOf
+kind-numbered (unsigned width) = refl
+kind-numbered (signed width) = refl
+kind-numbered (decimal total after true) = refl
+kind-numbered (decimal total after false) = refl
+kind-numbered currency = refl
+kind-numbered sequence = refl
+kind-numbered datetime = refl
+kind-numbered boolean = refl
+kind-numbered (string most) = refl
+kind-numbered (hex bytes) = refl
+
+-- an answer that is right of the kind that the number has is right of each kind that it has
+pub answered :
+    (kind first second third n : ℕ) (j : Kind) {r : Bool} (v : Text) → kind ≡ n → kindOf n first second third ≡ some j → (isKind j ≡ true → r ≡ isOfKind j v) →
+    (k : Kind) → kindOf kind first second third ≡ some k → isKind k ≡ true → r ≡ isOfKind k v
+answered kind first second third n j {r} v e p h k q w =
+    let s : j ≡ k = cc in
+    subst (λ (x : Kind). isKind x ≡ true → r ≡ isOfKind x v) s h w
+
+-- a number of no kind
+pub kind-none :
+    (kind first second third : ℕ) → (kind ≡ 1 → ⊥) → (kind ≡ 2 → ⊥) → (kind ≡ 3 → ⊥) → (kind ≡ 4 → ⊥) → (kind ≡ 5 → ⊥) →
+    (kind ≡ 6 → ⊥) → (kind ≡ 7 → ⊥) → (kind ≡ 8 → ⊥) → (kind ≡ 9 → ⊥) →
+    kindOf kind first second third ≡ none
+unfolding kindOf
+kind-none kind first second third n1 n2 n3 n4 n5 n6 n7 n8 n9 =
+    rw (
+      ne-eqb kind 1 n1,
+      ne-eqb kind 2 n2,
+      ne-eqb kind 3 n3,
+      ne-eqb kind 4 n4,
+      ne-eqb kind 5 n5,
+      ne-eqb kind 6 n6,
+      ne-eqb kind 7 n7,
+      ne-eqb kind 8 n8,
+      ne-eqb kind 9 n9,
+    )
+
+pub kind-least : (k : Kind) → 1 ≤ kindNumber k
+kind-least (unsigned width) = omega arith
+kind-least (signed width) = omega arith
+kind-least (decimal total after sign) = omega arith
+kind-least currency = omega arith
+kind-least sequence = omega arith
+kind-least datetime = omega arith
+kind-least boolean = omega arith
+kind-least (string most) = omega arith
+kind-least (hex bytes) = omega arith
+
+pub in-bounds : (k : Kind) (v : Text) → 1 ≤ length v → length v ≤ 120 → inSpace k v ≡ isOfKind k v
+unfolding inSpace
+in-bounds k v p q = rw (le-leb 1 (length v) p, le-leb (length v) 120 q)
+
+pub too-short : (k : Kind) (v : Text) → length v < 1 → inSpace k v ≡ false
+unfolding inSpace
+too-short k v p = rw (lt-leb 1 (length v) p)
+
+pub too-long : (k : Kind) (v : Text) → 120 < length v → inSpace k v ≡ false
+unfolding inSpace
+too-long k v p = rw (le-leb 1 (length v) (omega arith), lt-leb (length v) 120 p)
+
+pub of-kind : (k : Kind) (v : Text) → inSpace k v ≡ true → isOfKind k v ≡ true
+unfolding inSpace
+of-kind k v e = and-right (leb 1 (length v) && leb (length v) 120) (isOfKind k v) e
+
+-- ---- order and choice
+
+pub is-datetime-kind : (k : Kind) → kindNumber k ≡ 6 → k ≡ datetime
+is-datetime-kind (unsigned width) e = absurd (omega arith)
+is-datetime-kind (signed width) e = absurd (omega arith)
+is-datetime-kind (decimal total after sign) e = absurd (omega arith)
+is-datetime-kind currency e = absurd (omega arith)
+is-datetime-kind sequence e = absurd (omega arith)
+is-datetime-kind datetime e = refl
+is-datetime-kind boolean e = absurd (omega arith)
+is-datetime-kind (string most) e = absurd (omega arith)
+is-datetime-kind (hex bytes) e = absurd (omega arith)
+
+-- "Kinds 1 to 6 are ordered by their numbers or instants, so equal values have equal bytes."
+pub equal-values-equal-bytes :
+    (k : Kind) (a b : Text) → kindNumber k ≤ 6 → inSpace k a ≡ true → inSpace k b ≡ true → valueNumber k a ≡ valueNumber k b → a ≡ b
+unfolding isOfKind valueNumber
+equal-values-equal-bytes k a b n p q e = ⊎-elim
+    (λ (l : kindNumber k < 6). equal-number-equal-bytes k a b (le-leb (kindNumber k) 5 (omega arith)) (of-kind k a p) (of-kind k b q) e)
+    (λ (g : 6 ≤ kindNumber k).
+    subst (λ (x : Kind). isOfKind x a ≡ true → isOfKind x b ≡ true → valueNumber x a ≡ valueNumber x b → a ≡ b)
+    (sym (is-datetime-kind k (omega arith))) (datetimes a b) (of-kind k a p) (of-kind k b q) e)
+    (lt-or-ge (kindNumber k) 6)
+  where
+    datetimes : (a b : Text) → isOfKind datetime a ≡ true → isOfKind datetime b ≡ true → valueNumber datetime a ≡ valueNumber datetime b → a ≡ b
+    datetimes a b p q e = let s : instant a ≡ instant b = cc in equal-instant-equal-bytes a b p q s
+
+pub chosen :
+    (largest : Bool) (O : Order Text) (x y : Text) (o : Ordering) → O .cmp x y ≡ o →
+    cond (pick o (not largest) true largest) x y ∷ [] ≡ take 1 (union (cond largest (reversed O) O) (x ∷ []) (y ∷ []))
+unfolding union merge put reversed
+chosen true O x y Ordering·lt e = rw (O .turn x y, e)
+chosen true O x y Ordering·eq e = rw (O .turn x y, e)
+chosen true O x y Ordering·gt e = rw (O .turn x y, e)
+chosen false O x y Ordering·lt e = rw e
+chosen false O x y Ordering·eq e = rw e
+chosen false O x y Ordering·gt e = rw e

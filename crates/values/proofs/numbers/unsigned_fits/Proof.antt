@@ -1,0 +1,80 @@
+use borrow.Author.Needs.{needs}
+use native.Mathlib.Omega.{arith}
+use mathlib.Core.Path.{refl, _∙_}
+use Rattle.values.specs.Decimal.{isDigit, areDigits, numeralAfter, numeral, isNatural}
+use Rattle.values.proofs.NumberStepLaws.{leb-ltb, width-eight}
+use Rattle.values.proofs.numbers.unsigned_fits.Statement.{statement}
+use Rattle.values.proofs.numbers.unsigned_fits.Tie as tie
+
+slice-aggregate-at-most : tie.Need-slice-aggregate-at-most
+slice-aggregate-at-most c = search needs
+
+at-most-requires : tie.Need-at-most-requires
+at-most-requires c κs = search needs
+
+slice-aggregate-at-most-2 : tie.Need-slice-aggregate-at-most-2
+slice-aggregate-at-most-2 c = search needs
+
+at-most-requires-2 : tie.Need-at-most-requires-2
+at-most-requires-2 c κs = search needs
+
+slice-aggregate-at-most-3 : tie.Need-slice-aggregate-at-most-3
+slice-aggregate-at-most-3 c = search needs
+
+at-most-requires-3 : tie.Need-at-most-requires-3
+at-most-requires-3 c κs = search needs
+
+slice-aggregate-at-most-4 : tie.Need-slice-aggregate-at-most-4
+slice-aggregate-at-most-4 c = search needs
+
+at-most-requires-4 : tie.Need-at-most-requires-4
+at-most-requires-4 c κs = search needs
+
+slice-aggregate-at-most-5 : tie.Need-slice-aggregate-at-most-5
+slice-aggregate-at-most-5 c = search needs
+
+at-most-requires-5 : tie.Need-at-most-requires-5
+at-most-requires-5 c κs = search needs
+
+returns : tie.Need-returns
+unfolding isNatural areDigits isDigit numeral numeralAfter
+returns c = λ w n. rw (c .before .before .match .keys1) (c .at-most .ensures n refl ∙ leb-ltb (numeral (c .before .before .before .before .args .v .now)) 255)
+
+returns-2 : tie.Need-returns-2
+unfolding isNatural areDigits isDigit numeral numeralAfter
+returns-2 c = λ w n. rw (c .before .before .match .keys2) (c .at-most2 .ensures n refl ∙ leb-ltb (numeral (c .before .before .before .before .args .v .now)) 65535)
+
+returns-3 : tie.Need-returns-3
+unfolding isNatural areDigits isDigit numeral numeralAfter
+returns-3 c = λ w n. rw (c .before .before .match .keys3) (c .at-most3 .ensures n refl ∙ leb-ltb (numeral (c .before .before .before .before .args .v .now)) 16777215)
+
+returns-4 : tie.Need-returns-4
+unfolding isNatural areDigits isDigit numeral numeralAfter
+returns-4 c = λ w n. rw (c .before .before .match .keys4) (c .at-most4 .ensures n refl ∙ leb-ltb (numeral (c .before .before .before .before .args .v .now)) 4294967295)
+
+returns-5 : tie.Need-returns-5
+unfolding isNatural areDigits isDigit numeral numeralAfter
+returns-5 c =
+    λ w n.
+    rw (width-eight (c .before .before .before .before .args .width) w (λ e. omega arith) (λ e. omega arith) (λ e. omega arith) (λ e. omega arith))
+    (c .at-most5 .ensures n refl ∙ leb-ltb (numeral (c .before .before .before .before .args .v .now)) 18446744073709551615)
+
+pub unsigned-fits-spec : {M : Type 1} → statement M
+unsigned-fits-spec =
+    tie.close
+    (tie.spec
+    slice-aggregate-at-most
+    at-most-requires
+    slice-aggregate-at-most-2
+    at-most-requires-2
+    slice-aggregate-at-most-3
+    at-most-requires-3
+    slice-aggregate-at-most-4
+    at-most-requires-4
+    slice-aggregate-at-most-5
+    at-most-requires-5
+    returns
+    returns-2
+    returns-3
+    returns-4
+    returns-5)

@@ -1,0 +1,127 @@
+use mathlib.Core.Option.{none, some}
+use mathlib.Core.Path.{_≡_, refl, sym, _∙_}
+use Prim.Native.Nat.{ℕ}
+use native.Mathlib.Omega.{arith}
+use lib.Dec.{eqb}
+use borrow.Author.Needs.{needs}
+use Rattle.values.specs.KindNumbers.{kindOf}
+use Rattle.values.specs.Spaces.{unsigned, signed, decimal, currency, sequence, datetime, boolean, string, hex, isWidth, isKind, isOfKind}
+use Rattle.values.proofs.SpaceLaws.{answered, kind-none}
+use Rattle.values.proofs.spaces.is_of_kind.Statement.{statement}
+use Rattle.values.proofs.spaces.is_of_kind.Tie as tie
+
+is-unsigned-requires : tie.Need-is-unsigned-requires
+is-unsigned-requires c κs = search needs
+
+is-signed-requires : tie.Need-is-signed-requires
+is-signed-requires c κs = search needs
+
+is-decimal-requires : tie.Need-is-decimal-requires
+is-decimal-requires c κs = search needs
+
+is-decimal-requires-2 : tie.Need-is-decimal-requires-2
+is-decimal-requires-2 c κs = search needs
+
+is-unsigned-requires-2 : tie.Need-is-unsigned-requires-2
+is-unsigned-requires-2 c κs = search needs
+
+is-datetime-requires : tie.Need-is-datetime-requires
+is-datetime-requires c κs = search needs
+
+is-boolean-requires : tie.Need-is-boolean-requires
+is-boolean-requires c κs = search needs
+
+is-string-requires : tie.Need-is-string-requires
+is-string-requires c κs = search needs
+
+is-hex-requires : tie.Need-is-hex-requires
+is-hex-requires c κs = search needs
+
+returns : tie.Need-returns
+unfolding kindOf isOfKind isKind
+returns c =
+    let a = c .before .before .before .args in
+    answered (a .kind) (a .first) (a .second) (a .third) 1 (unsigned (a .first)) (a .v .now) (c .before .match .keys1) refl (λ w. c .is-unsigned .ensures w)
+
+returns-2 : tie.Need-returns-2
+unfolding kindOf isOfKind isKind
+returns-2 c =
+    let a = c .before .before .before .args in
+    answered (a .kind) (a .first) (a .second) (a .third) 2 (signed (a .first)) (a .v .now) (c .before .match .keys2) refl (λ w. c .is-signed .ensures w)
+
+returns-3 : tie.Need-returns-3
+unfolding kindOf isOfKind
+returns-3 c =
+    let a = c .before .before .before .args in
+    answered (a .kind) (a .first) (a .second) (a .third) 3 (decimal (a .first) (a .second) (eqb (a .third) 1)) (a .v .now) (c .before .match .keys3) refl (λ w. c .is-decimal .ensures)
+
+returns-4 : tie.Need-returns-4
+unfolding kindOf isOfKind
+returns-4 c =
+    let a = c .before .before .before .args in
+    answered (a .kind) (a .first) (a .second) (a .third) 4 currency (a .v .now) (c .before .match .keys4) refl (λ w. c .is-decimal2 .ensures)
+
+returns-5 : tie.Need-returns-5
+unfolding kindOf isOfKind isWidth
+returns-5 c =
+    let a = c .before .before .before .args in
+    answered (a .kind) (a .first) (a .second) (a .third) 5 sequence (a .v .now) (c .before .match .keys5) refl (λ w. c .is-unsigned2 .ensures refl)
+
+returns-6 : tie.Need-returns-6
+unfolding kindOf isOfKind
+returns-6 c =
+    let a = c .before .before .before .args in
+    answered (a .kind) (a .first) (a .second) (a .third) 6 datetime (a .v .now) (c .before .match .keys6) refl (λ w. c .is-datetime .ensures)
+
+returns-7 : tie.Need-returns-7
+unfolding kindOf isOfKind
+returns-7 c =
+    let a = c .before .before .before .args in
+    answered (a .kind) (a .first) (a .second) (a .third) 7 boolean (a .v .now) (c .before .match .keys7) refl (λ w. c .is-boolean .ensures)
+
+returns-8 : tie.Need-returns-8
+unfolding kindOf isOfKind
+returns-8 c =
+    let a = c .before .before .before .args in
+    answered (a .kind) (a .first) (a .second) (a .third) 8 (string (a .first)) (a .v .now) (c .before .match .keys8) refl (λ w. c .is-string .ensures)
+
+returns-9 : tie.Need-returns-9
+unfolding kindOf isOfKind
+returns-9 c =
+    let a = c .before .before .before .args in
+    answered (a .kind) (a .first) (a .second) (a .third) 9 (hex (a .first)) (a .v .now) (c .before .match .keys9) refl (λ w. c .is-hex .ensures)
+
+returns-10 : tie.Need-returns-10
+returns-10 c =
+    let a = c .before .before .args in
+    let r = c .match .rest in
+    λ k e w.
+    let z : none ≡ some k =
+    sym (kind-none (a .kind) (a .first) (a .second) (a .third) (r .0 .0 .0 .0 .0 .0 .0 .0 .1) (r .0 .0 .0 .0 .0 .0 .0 .1) (r .0 .0 .0 .0 .0 .0 .1) (r .0 .0 .0 .0 .0 .1) (r .0 .0 .0 .0 .1) (r .0 .0 .0 .1) (r .0 .0 .1) (r .0 .1) (r .1))
+    ∙ e in
+    let o : _≡_ {A = ℕ} 0 1 = cc in
+    absurd (omega arith)
+
+pub is-of-kind-spec : {M : Type 1} → statement M
+is-of-kind-spec =
+    tie.close
+    (tie.spec
+    is-unsigned-requires
+    is-signed-requires
+    is-decimal-requires
+    is-decimal-requires-2
+    is-unsigned-requires-2
+    is-datetime-requires
+    is-boolean-requires
+    is-string-requires
+    is-hex-requires
+    returns
+    returns-2
+    returns-3
+    returns-4
+    returns-5
+    returns-6
+    returns-7
+    returns-8
+    returns-9
+    returns-10)

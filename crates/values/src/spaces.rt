@@ -1,0 +1,147 @@
+// The value spaces of the nine kinds, and the order of the values of kinds 1 to 6.
+ghost use mathlib.Core.Path.{_≡_};
+ghost use mathlib.Core.Bool.{true, cond, not, _&&_, _||_};
+ghost use mathlib.Core.Option.{some};
+ghost use mathlib.Core.List.{[], _∷_};
+ghost use Prim.Native.Nat.{_-_, _*_, _≤_};
+ghost use lib.Dec.{leb, eqb};
+ghost use lib.ListN.{length, take, drop};
+ghost use Rattle.model.specs.Order.{texts, equal, pick, reversed};
+ghost use Rattle.model.specs.Sets.{union};
+ghost use Rattle.packed.specs.Ascii.{ascii};
+ghost use Rattle.values.specs.Unicode.{isUtf8};
+ghost use Rattle.values.specs.Spaces.{Kind, kindNumber, isKind, isHexDigit, areHexDigits, isOfKind, inSpace};
+ghost use Rattle.values.specs.ValueOrder.{valueOrder};
+ghost use Rattle.values.specs.NumberAnswer.{meaning};
+ghost use Rattle.values.specs.KindNumbers.{kindOf};
+use crate::calendar::compare_moments;
+use crate::calendar::has_form;
+use crate::calendar::is_datetime;
+use crate::calendar::is_digit;
+use crate::numbers::Ordered;
+use crate::numbers::compare_numbers;
+use crate::numbers::is_decimal;
+use crate::numbers::is_signed;
+use crate::numbers::is_unsigned;
+use crate::unicode::is_utf8;
+
+// A form without 0 is a text itself.
+pub fn is_boolean(v: &[u8]) -> bool
+    ensures { λ r. ⌜ r ≡ (equal texts (now (v .entry)) (ascii "true") || equal texts (now (v .entry)) (ascii "false")) ⌝ }
+{
+    has_form(b"true", v) || has_form(b"false", v)
+}
+
+fn is_hex_digit(b: u8) -> bool
+    ensures { λ r. ⌜ r ≡ isHexDigit b ⌝ }
+{
+    is_digit(b) || (97 <= b && b <= 102)
+}
+
+pub fn is_hex(bytes: u8, v: &[u8]) -> bool
+    ensures { λ r. ⌜ r ≡ (eqb (length (now (v .entry))) (2 * bytes) && areHexDigits (now (v .entry))) ⌝ }
+{
+    if v.len() != 2 * (bytes as usize) {
+        return false;
+    }
+    let mut i = 0;
+    while i < v.len() {
+        if !is_hex_digit(v[i]) {
+            return false;
+        }
+        i += 1;
+    }
+    true
+}
+
+fn is_string(most: u8, v: &[u8]) -> bool
+    ensures { λ r. ⌜ r ≡ (leb (length (now (v .entry))) most && isUtf8 (now (v .entry))) ⌝ }
+{
+    v.len() <= most as usize && is_utf8(v)
+}
+
+// The value space of each kind, without the bounds of all values.
+fn is_of_kind(kind: u8, first: u8, second: u8, third: u8, v: &[u8]) -> bool
+    ensures { λ r. ⌜ ((k : Kind) → kindOf kind first second third ≡ some k → isKind k ≡ true → r ≡ isOfKind k (now (v .entry))) ⌝ }
+{
+    match kind {
+        1 => is_unsigned(first, v),
+        2 => is_signed(first, v),
+        3 => is_decimal(first, second, third == 1, v),
+        4 => is_decimal(19, 4, true, v),
+        5 => is_unsigned(8, v),
+        6 => is_datetime(v),
+        7 => is_boolean(v),
+        8 => is_string(first, v),
+        9 => is_hex(first, v),
+        _ => false,
+    }
+}
+
+// The value is in the space of its kind.
+pub fn in_space(kind: u8, first: u8, second: u8, third: u8, v: &[u8]) -> bool
+    ensures { λ r. ⌜ ((k : Kind) → kindOf kind first second third ≡ some k → isKind k ≡ true → r ≡ inSpace k (now (v .entry))) ⌝ }
+{
+    if v.len() < 1 {
+        return false;
+    }
+    if 120 < v.len() {
+        return false;
+    }
+    is_of_kind(kind, first, second, third, v)
+}
+
+// "Kinds 1 to 6 are ordered by their numbers or instants"
+pub fn is_ordered(kind: u8) -> bool
+    ensures { λ r. ⌜ r ≡ (leb 1 kind && leb kind 6) ⌝ }
+{
+    match kind {
+        1..=6 => true,
+        _ => false,
+    }
+}
+
+// Two values of an ordered kind by number or instant; of no other kind is anything said.
+pub fn compare_values(kind: u8, a: &[u8], b: &[u8]) -> Ordered
+    ensures { λ r. ⌜ ((k : Kind) → kindNumber k ≡ kind → kind ≤ 6 → inSpace k (now (a .entry)) ≡ true → inSpace k (now (b .entry)) ≡ true → meaning r ≡ valueOrder k .cmp (now (a .entry)) (now (b .entry))) ⌝ }
+{
+    match kind {
+        1..=5 => compare_numbers(a, b),
+        6 => compare_moments(a, b),
+        _ => Ordered::Same,
+    }
+}
+
+// Whether the first of two values is the chosen one.
+fn takes_first(order: Ordered, largest: bool) -> bool
+    ensures { λ r. ⌜ r ≡ pick (meaning order) (not largest) true largest ⌝ }
+{
+    match order {
+        Ordered::Less => !largest,
+        Ordered::Same => true,
+        Ordered::More => largest,
+    }
+}
+
+// The smaller of two values, or the larger, where it stands.
+pub fn choose<'a>(
+    kind: u8,
+    largest: bool,
+    left: &'a [u8],
+    a: usize,
+    e: usize,
+    right: &'a [u8],
+    b: usize,
+    f: usize,
+) -> &'a [u8]
+    requires { ⌜ (a ≤ e) × (e ≤ length (now left)) ⌝ }
+    requires { ⌜ (b ≤ f) × (f ≤ length (now right)) ⌝ }
+    ensures { λ r. ⌜ ((k : Kind) → kindNumber k ≡ kind → kind ≤ 6 → inSpace k (take (e - a) (drop a (now (left .entry)))) ≡ true → inSpace k (take (f - b) (drop b (now (right .entry)))) ≡ true → now r ∷ [] ≡ take 1 (union (cond largest (reversed (valueOrder k)) (valueOrder k)) (take (e - a) (drop a (now (left .entry))) ∷ []) (take (f - b) (drop b (now (right .entry))) ∷ []))) ⌝ }
+{
+    let order = compare_values(kind, &left[a..e], &right[b..f]);
+    if takes_first(order, largest) {
+        &left[a..e]
+    } else {
+        &right[b..f]
+    }
+}
