@@ -1,3 +1,4 @@
 -- The laws of dossiers' bytes.
 pub mod DossierLayoutLaws
 pub mod DossierSizeLaws
+pub mod DossierQuestionLaws

@@ -1,3 +1,4 @@
 -- The laws of packed events.
 pub mod EventLayoutLaws
 pub mod EventSizeLaws
+pub mod EventQuestionLaws

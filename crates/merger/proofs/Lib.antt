@@ -1,2 +1,7 @@
 pub mod Computing
 pub mod Marked
+pub mod RuleQuestionLaws
+pub mod MergedEventLaws
+pub mod ViewLaws
+pub mod CallLaws
+pub mod DemandLaws

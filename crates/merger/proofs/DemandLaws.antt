@@ -1,0 +1,180 @@
+-- Demand 3 of every whole way, and demand 2's last line: a dossier of one event opens as that event.
+use mathlib.Core.Path.{_≡_, refl, sym, ap, _∙_}
+use mathlib.Core.Logic.{_↔_}
+use mathlib.Core.Option.{some}
+use mathlib.Core.List.{List, [], _∷_, List·Memᴰ, List·Memᴰ·eq-of-singleton}
+use Prim.Native.Nat.{ℕ, _≤_}
+use lib.ListN.{length, take, drop}
+use lib.Seq.{take-append-seam}
+use Rattle.model.specs.Order.{Text, texts}
+use Rattle.model.specs.Keyed.{put}
+use Rattle.model.specs.Sets.{canon}
+use Rattle.model.specs.Rule.{places, Dossier, rule}
+use Rattle.model.specs.Limits.{standard}
+use Rattle.model.specs.Opening.{Opened, conflictAt, overfullAt, merged, opening}
+use Rattle.model.specs.Ways as ways
+use Rattle.model.specs.Ways.{Way, leaf, Reply, wrote, events, buffers, eventSet, calls, limited}
+use Rattle.model.proofs.Cases.{never}
+use Rattle.model.proofs.SetLaws.{rising-ups}
+use Rattle.model.proofs.PartLaws.{map-getD}
+use Rattle.model.proofs.DossierLaws.{rule-one}
+use Rattle.model.proofs.OpeningLaws.{opening-one}
+use Rattle.model.proofs.WayLaws as model
+use Rattle.model.proofs.WayLaws.{has-event}
+use Rattle.ontology.specs.Table.{EventType, Table}
+use Rattle.ontology.specs.TableLayout.{tableOf}
+use Rattle.ontology.specs.Questions as asked
+use Rattle.ontology.specs.Questions.{accepted, Answer, gives, refuses, refusesAt, replyOf, laid, outcome}
+use Rattle.ontology.proofs.TableLaws.{TypeKept, table-type}
+use Rattle.event.specs.Event.{Event, view}
+use Rattle.event.specs.EventLayout.{narrow, eventBytes}
+use Rattle.event.specs.EventQuestions.{Typed, eventAsked}
+use Rattle.event.proofs.EventLayoutLaws.{event-was}
+use Rattle.event.proofs.EventQuestionLaws.{EventAccepted, event-accepted, EventFits, event-fits, set-rises, least-few, single-few}
+use Rattle.hashing.specs.HashText.{hashText}
+use Rattle.hashing.specs.HashCalls.{hashTextAnswer, hashTextCall}
+use Rattle.dossier.specs.DossierLayout.{Headed}
+use Rattle.opening.specs.OpenCall.{mergedEvent, openedAnswer, openAnswer, openCall}
+use Rattle.merger.specs.Demand3.{eventOr, eventAt, byteView, wayAnswer, HasRoom, Given, wayRule, wayDossier, Demand3, OpensAsItself}
+use Rattle.merger.proofs.CallLaws.{rule-bytes, opening-bytes, Colliding, headed, shown-as, byte-calls, byte-texts}
+
+-- a reply tells its answer
+reply-conflict : (a : Answer) (v p : ℕ) → (replyOf a ≡ asked.Reply.conflict v p) ↔ (a ≡ Answer.conflict v p)
+reply-conflict (gives x) v p = (λ e. never (cc), λ e. never (cc))
+reply-conflict (Answer.conflict w q) v p = (λ e. cc, λ e. cc)
+reply-conflict (Answer.overfull q) v p = (λ e. never (cc), λ e. never (cc))
+reply-conflict (refuses n) v p = (λ e. never (cc), λ e. never (cc))
+reply-conflict (refusesAt n i) v p = (λ e. never (cc), λ e. never (cc))
+
+-- a call that is done gave bytes, which are the first of its output
+done-gives : (a : Answer) (n : ℕ) (out : List ℕ) → replyOf a ≡ asked.Reply.done n → (x : List ℕ) × (a ≡ gives x) × (take n (laid a out) ≡ x)
+done-gives (gives x) n out e = let q : n ≡ length x = cc in (x, refl, rw q (take-append-seam x (drop (length x) out)))
+done-gives (Answer.conflict v p) n out e = never (cc)
+done-gives (Answer.overfull p) n out e = never (cc)
+done-gives (refuses m) n out e = never (cc)
+done-gives (refusesAt m i) n out e = never (cc)
+
+-- opening gives bytes only for a merged event
+gives-merged : (h : Headed) (o : Opened) (x : List ℕ) → openedAnswer h o ≡ gives x → (ss : List (List Text)) × (o ≡ merged ss)
+unfolding openedAnswer
+gives-merged h (conflictAt v p) x e = never (cc)
+gives-merged h (overfullAt p) x e = never (cc)
+gives-merged h (merged ss) x e = (ss, refl)
+
+module _ (table : List ℕ) (w : Way (List ℕ) (List ℕ)) (g : Given table w) where
+  abbrev t : EventType
+  t = g .type
+
+  -- an event of the way, whose match values all have
+  abbrev first : List ℕ
+  first = has-event w .0
+
+  colliding : (s : List ℕ) → List·Memᴰ s (events w) → Colliding (g .types) t (g .source) first s
+  colliding s m = record { taken = g .isAccepted s m; source = g .sameSource s m; alike = g .sameMatch s first m (has-event w .1) }
+
+  -- the model's theorem, of these calls
+  whole : ways.WholeDemand3 _ (byte-texts table (g .types) (g .isTable) t (g .source) first (colliding first (has-event w .1))) texts w
+  whole = model.whole-demand3 standard (byteView t) _ texts w colliding (g .haveRoom) _
+
+  opens-to : (d out : List ℕ) → wayAnswer table w ≡ wrote d → HasRoom out →
+      openAnswer standard (length out) table d ≡ openedAnswer (wayDossier table w g) (opening (byteView t) (wayRule table w g))
+  unfolding wayAnswer byte-calls
+  opens-to d out e r = whole .dossier .opened out d r e ∙ shown-as t (g .source) (wayRule table w g) (opening (byteView t) (wayRule table w g))
+
+  texts-of :
+      (d out : List ℕ) (n : ℕ) → wayAnswer table w ≡ wrote d → HasRoom out → replyOf (openAnswer standard (length out) table d) ≡ asked.Reply.done n →
+      (text : List ℕ) → 8192 ≤ length text → (s : List ℕ) → List·Memᴰ s (events w) →
+      (hashTextCall table s text ≡ outcome (gives (hashText t (eventAt s))) text)
+      × (hashTextCall table (take n (laid (openAnswer standard (length out) table d) out)) text ≡ hashTextCall table s text)
+  unfolding wayAnswer byte-calls byte-texts hashTextCall
+  texts-of d out n e r o text l s m =
+      let (x, a, b) = done-gives (openAnswer standard (length out) table d) n out o in
+      let (ss, q) = gives-merged (wayDossier table w g) (opening (byteView t) (wayRule table w g)) x (sym (opens-to d out e r) ∙ a) in
+      let (ofMerged, ofEvent) = whole .hashes out text d ss s r l e q m in
+      let y : hashTextAnswer (length text) table x ≡ gives (hashText t (eventAt s)) = rw a at ofMerged in
+      (ap (λ (z : Answer). outcome z text) ofEvent, rw b (ap (λ (z : Answer). outcome z text) (y ∙ sym ofEvent)))
+
+  pub demand3 : Demand3 table w g
+  unfolding wayAnswer byte-calls limited openCall openedAnswer
+  demand3 = record {
+    result = whole .dossier .result;
+    refusedExactly = whole .dossier .refused;
+    refusedOnly = whole .dossier .onlyEight;
+    however = whole .dossier .however;
+    opened = λ d out e r. ap (λ (a : Answer). outcome a out) (opens-to d out e r);
+    conflicts = λ d out e r v p.
+        let told = reply-conflict (openAnswer standard (length out) table d) v p in
+        let k = whole .dossier .conflicts out d r e v p in
+        (λ h. k .0 (told .0 h), λ h. told .1 (k .1 h));
+    agrees = λ d out e r.
+        let told = reply-conflict (openAnswer standard (length out) table d) in
+        let k = whole .dossier .agrees out d r e in
+        (λ h. k .0 (λ v p q. h v p (told v p .1 q)), λ h v p q. k .1 h v p (told v p .0 q));
+    hashed = texts-of;
+  }
+
+module _ (table event : List ℕ) (types : Table) (a : Typed) (isTable : tableOf table ≡ some types) (taken : eventAsked narrow types event ≡ accepted a) where
+  abbrev kind : EventType
+  kind = a .type
+
+  abbrev it : Event
+  it = a .event
+
+  facts : EventAccepted narrow types event kind it
+  facts = event-accepted narrow types event kind it taken
+
+  itself : eventAt event ≡ it
+  unfolding eventOr
+  itself = rw (facts .read)
+
+  fitting : EventFits kind it
+  fitting = event-fits types event kind it facts
+
+  kept : TypeKept kind
+  kept = table-type table types isTable (it .type) kind (facts .typed)
+
+  -- the way of one call
+  alone : (out : List ℕ) → HasRoom out → Given table (leaf out event)
+  unfolding events buffers
+  alone out r = record {
+    types = types;
+    type = kind;
+    source = it .source;
+    isTable = isTable;
+    isAccepted = λ s m. rw (List·Memᴰ·eq-of-singleton m, itself) taken;
+    sameSource = λ s m. rw (List·Memᴰ·eq-of-singleton m, itself);
+    sameMatch = λ s x m n p q at y. rw (List·Memᴰ·eq-of-singleton m, List·Memᴰ·eq-of-singleton n);
+    haveRoom = λ o m. rw (List·Memᴰ·eq-of-singleton m) r;
+  }
+
+  -- the rule over the event is that event's dossier, and opens as its sets
+  alone-rule : rule (byteView kind) (event ∷ []) ≡ rule (view kind) (it ∷ [])
+  alone-rule = rule-bytes kind (event ∷ []) ∙ ap (λ (e : Event). rule (view kind) (e ∷ [])) itself
+
+  alone-parents : rule (byteView kind) (event ∷ []) .parents ≡ it .parents
+  unfolding view
+  alone-parents = ap (λ (x : Dossier). x .parents)
+      (alone-rule ∙ rule-one (view kind) it (λ p l. set-rises kind it fitting p) (λ p l. least-few kind it kept fitting p) (rising-ups texts (it .parents) .0 (fitting .written .head .parents .rises)))
+
+  alone-opens : opening (byteView kind) (rule (byteView kind) (event ∷ [])) ≡ merged (it .sets)
+  unfolding view places
+  alone-opens =
+      opening-bytes kind (rule (byteView kind) (event ∷ []))
+      ∙ (ap (opening (view kind)) alone-rule
+      ∙ (opening-one (view kind) it (λ p l. set-rises kind it fitting p) (λ p l. least-few kind it kept fitting p) (λ p l. single-few kind it fitting p)
+      ∙ ap merged (map-getD (it .sets) [] 32 (fitting .written .sets .long))))
+
+  alone-gives :
+      openedAnswer (headed kind (it .source) (rule (byteView kind) (event ∷ []))) (opening (byteView kind) (rule (byteView kind) (event ∷ []))) ≡ gives event
+  unfolding openedAnswer mergedEvent
+  alone-gives =
+      ap (openedAnswer (headed kind (it .source) (rule (byteView kind) (event ∷ [])))) alone-opens
+      ∙ ap gives (ap eventBytes (λ i. record { type = sym (fitting .named) i; source = it .source; parents = alone-parents i; sets = it .sets })
+      ∙ sym (event-was narrow event it (facts .read) .0))
+
+  -- "A dossier of one event opens as that event, byte for byte."
+  pub opens-as-itself : OpensAsItself table event
+  unfolding wayAnswer calls events eventSet canon put alone
+  opens-as-itself = record {
+    opens = λ d out old r o e. demand3 table (leaf out event) (alone out r) .opened d old e o ∙ ap (λ (x : Answer). outcome x old) alone-gives;
+  }

@@ -1,0 +1,153 @@
+-- What question 2 says of an accepted table's types and their properties.
+use mathlib.Core.Path.{_≡_, refl, sym, ap, _∙_}
+use mathlib.Core.Logic.{⊎-elim}
+use mathlib.Core.Bool.{Bool, true, false, not, _&&_, _||_, and-eq-true-iff}
+use mathlib.Core.Option.{Option, none, some}
+use mathlib.Core.List.{List, [], _∷_, map, List·Memᴰ, List·Memᴰ·head, List·Memᴰ·tail, List·Memᴰ·not-nil, List·Memᴰ·cases-cons}
+use Prim.Native.Nat.{ℕ, zero, suc, _-_, _≤_, _<_}
+use native.Mathlib.Omega.{arith}
+use lib.Dec.{leb, eqb}
+use lib.ListN.{length, getElem?}
+use borrow.Author.Tests.{leb-true, not-true}
+use Rattle.model.specs.Order.{Text, texts, equal}
+use Rattle.model.proofs.Cases.{never, truth}
+use Rattle.model.proofs.OrderLaws.{equal-true}
+use Rattle.packed.specs.Parse.{Layout, got, suchThat, times}
+use Rattle.packed.specs.Packed.{readNumber}
+use Rattle.packed.proofs.LayoutLaws.{andThen-got, foundIf-got, suchThat-got, whole-some}
+use Rattle.values.specs.Spaces.{Kind, unsigned, signed, decimal, currency, sequence, datetime, boolean, string, hex, kindNumber, isWithin}
+use Rattle.ontology.specs.Table.{Property, EventType, Table, isMandatory, isSingle, isMin, isMax, isReplace, isVersioned, isName, isNameWithin, isOrdered, strategyFits, allFit, canBeMarked, markFits, namesRise, typeRules, typeNamed}
+use Rattle.ontology.specs.TableLayout.{readType, readTable, tableOf}
+
+-- a rule for what is so
+where-so : (a b : Bool) → (not a || b) ≡ true → a ≡ true → b ≡ true
+where-so true b h e = h
+where-so false b h e = never (cc)
+
+-- the type of a name has that name, and is one of the table's
+pub type-named : (n : Text) (ts : Table) (t : EventType) → typeNamed n ts ≡ some t → (t .name ≡ n) × List·Memᴰ t ts
+unfolding typeNamed
+type-named n [] t h = never (cc)
+type-named n (x ∷ ts) t h =
+    truth (equal texts n (x .name))
+    (λ y.
+    let k : some x ≡ some t = rw y at h in
+    let q : t ≡ x = cc in
+    (ap (λ (z : EventType). z .name) q ∙ sym (equal-true texts n (x .name) .0 y), List·Memᴰ·head q))
+    (λ y. let (a, m) = type-named n ts t (rw y at h) in (a, List·Memᴰ·tail m))
+
+-- each of so many that a layout found passes its test
+times-such :
+    {A : Type 0} (test : A → Bool) (p : Layout A) (n : ℕ) (s : List ℕ) (xs : List A) (r : List ℕ) → times (suchThat test p) n s ≡ got xs r →
+    (a : A) → List·Memᴰ a xs → test a ≡ true
+unfolding times
+times-such test p zero s xs r e a m = let q : xs ≡ [] = cc in absurd (List·Memᴰ·not-nil (rw q at m))
+times-such test p (suc n) s xs r e a m =
+    let c = andThen-got (suchThat test p s) _ xs r e in
+    let d = andThen-got (times (suchThat test p) n (c .left)) _ xs r (c .second) in
+    let q : xs ≡ c .value ∷ d .value = cc (d .second) in
+    ⊎-elim
+    (λ k. ap test k ∙ suchThat-got test p s (c .value) (c .left) (c .first) .test)
+    (times-such test p n (c .left) (d .value) (d .left) (d .first) a)
+    (List·Memᴰ·cases-cons (rw q at m))
+
+-- every type of an accepted table keeps the rules
+table-rules : (s : List ℕ) (ts : Table) → tableOf s ≡ some ts → (t : EventType) → List·Memᴰ t ts → typeRules t ≡ true
+unfolding tableOf readTable
+table-rules s ts h t m =
+    let c = andThen-got (suchThat (isWithin 1 16) readNumber s) _ ts [] (whole-some (readTable s) ts .0 h) in
+    let d = andThen-got (times (suchThat typeRules readType) (c .value) (c .left)) _ ts [] (c .second) in
+    let f = foundIf-got (namesRise (map (λ (x : EventType). x .name) (d .value))) (d .value) (d .left) ts [] (d .second) in
+    times-such typeRules readType (c .value) (c .left) (d .value) (d .left) (d .first) t (rw (← f .value) at m)
+
+all-fit-at : (b : Bool) (ps : List Property) → allFit b ps ≡ true → (p : ℕ) (q : Property) → getElem? ps p ≡ some q → strategyFits b q ≡ true
+unfolding allFit
+all-fit-at b [] h p q e = never (cc)
+all-fit-at b (x ∷ ps) h zero q e = let k : x ≡ q = cc in rw (← k) (and-eq-true-iff _ _ .0 h .0)
+all-fit-at b (x ∷ ps) h (suc p) q e = all-fit-at b ps (and-eq-true-iff (strategyFits b x) (allFit b ps) .0 h .1) p q e
+
+-- "The marked property is mandatory, single-valued, kind 5"
+pub record Markable (q : Property) : Type 0 where
+  pub mandatory : q .optional ≡ false
+  pub single : q .multivalued ≡ false
+  pub kind : q .kind ≡ sequence
+
+kind-five : (k : Kind) → eqb (kindNumber k) 5 ≡ true → k ≡ sequence
+kind-five (unsigned w) h = never (cc)
+kind-five (signed w) h = never (cc)
+kind-five (decimal a b c) h = never (cc)
+kind-five currency h = never (cc)
+kind-five sequence h = refl
+kind-five datetime h = never (cc)
+kind-five boolean h = never (cc)
+kind-five (string n) h = never (cc)
+kind-five (hex n) h = never (cc)
+
+markable : (q : Property) → canBeMarked q ≡ true → Markable q
+unfolding canBeMarked
+markable q h =
+    let (a, b) = and-eq-true-iff _ _ .0 h in
+    let (c, d) = and-eq-true-iff _ _ .0 a in
+    let (e, f) = and-eq-true-iff _ _ .0 c in
+    record { mandatory = not-true _ e; single = not-true _ f; kind = kind-five (q .kind) d }
+
+-- the marked property of a type
+pub record Mark (t : EventType) : Type 0 where
+  pub property : Property
+  pub at : getElem? (t .properties) (t .mark - 1) ≡ some property
+  pub can : Markable property
+
+-- what the rules say of a type
+pub record TypeKept (t : EventType) : Type 0 where
+  pub short : length (t .name) ≤ 64
+  pub few : length (t .properties) ≤ 32
+  pub fits : (p : ℕ) (q : Property) → getElem? (t .properties) p ≡ some q → strategyFits (isVersioned t) q ≡ true
+  pub marked : isVersioned t ≡ true → Mark t
+
+-- of seven tests that are passed, four
+four-of : (a b c d e f g : Bool) → (a && b && c && d && e && f && g) ≡ true → (a ≡ true) × (d ≡ true) × (f ≡ true) × (g ≡ true)
+four-of a b c d e f g h =
+    let (h6, w) = and-eq-true-iff (a && b && c && d && e && f) g .0 h in
+    let (h5, z) = and-eq-true-iff (a && b && c && d && e) f .0 h6 in
+    let h4 = and-eq-true-iff (a && b && c && d) e .0 h5 .0 in
+    let (h3, y) = and-eq-true-iff (a && b && c) d .0 h4 in
+    (and-eq-true-iff a b .0 (and-eq-true-iff (a && b) c .0 h3 .0) .0, y, z, w)
+
+type-kept : (t : EventType) → typeRules t ≡ true → TypeKept t
+unfolding typeRules isNameWithin
+type-kept t h =
+    let ps = t .properties in
+    let rise = namesRise (map (λ (p : Property). p .name) ps) in
+    let marks = not (isVersioned t) || markFits (getElem? ps (t .mark - 1)) in
+    let (name, few, fit, mark) =
+    four-of (isNameWithin 64 (t .name)) (leb 1 (t .definition)) (leb 1 (length ps)) (leb (length ps) 32) rise (allFit (isVersioned t) ps) marks h in
+    record {
+      short = leb-true (length (t .name)) 64 (and-eq-true-iff (isName (t .name)) _ .0 name .1);
+      few = leb-true _ _ few;
+      fits = all-fit-at (isVersioned t) (t .properties) fit;
+      marked = λ v. at-mark (getElem? (t .properties) (t .mark - 1)) refl (where-so _ _ mark v);
+    }
+  where
+    at-mark : (m : Option Property) → getElem? (t .properties) (t .mark - 1) ≡ m → markFits (getElem? (t .properties) (t .mark - 1)) ≡ true → Mark t
+    at-mark none e k = unfold markFits in never (cc)
+    at-mark (some q) e k = unfold markFits in record { property = q; at = e; can = markable q (rw e at k) }
+
+-- the type of a name in an accepted table
+pub table-type : (s : List ℕ) (ts : Table) → tableOf s ≡ some ts → (n : Text) (t : EventType) → typeNamed n ts ≡ some t → TypeKept t
+table-type s ts h n t e = type-kept t (table-rules s ts h t (type-named n ts t e .1))
+
+place-below : (ps : List Property) (p : ℕ) (q : Property) → getElem? ps p ≡ some q → p < length ps
+place-below [] p q e = never (cc)
+place-below (x ∷ ps) zero q e = omega arith
+place-below (x ∷ ps) (suc p) q e = omega (arith, place-below ps p q e)
+
+-- a property has one of the 32 places
+pub place-in : (t : EventType) → TypeKept t → (p : ℕ) (q : Property) → getElem? (t .properties) p ≡ some q → p < 32
+place-in t k p q e = omega (arith, k .few, place-below (t .properties) p q e)
+
+-- "Min and max need a mandatory single-valued property"
+pub extreme-single : (b : Bool) (q : Property) → strategyFits b q ≡ true → (isMin q || isMax q) ≡ true → q .multivalued ≡ false
+unfolding strategyFits
+extreme-single b q h e =
+    let k = where-so (isMin q || isMax q) (isMandatory q && isSingle q && isOrdered (q .kind)) (and-eq-true-iff _ (not (isReplace q) || (q .optional && isSingle q && b)) .0 h .0) e in
+    not-true (q .multivalued) (and-eq-true-iff (isMandatory q) _ .0 (and-eq-true-iff (isMandatory q && isSingle q) _ .0 k .0) .1)
