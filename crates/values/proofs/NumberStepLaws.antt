@@ -3,18 +3,17 @@
 use mathlib.Core.Path.{_≡_, refl, sym, ap, ap₂, _∙_}
 use mathlib.Core.Bool.{Bool, true, false, _&&_, _||_}
 use mathlib.Core.List.{List, [], _∷_}
-use Prim.Native.Nat.{ℕ, suc, _+_, _-_, _*_, _^_, _≤_, _<_, Ordering·lt, Ordering·eq, Ordering·gt}
+use Prim.Native.Nat.{ℕ, suc, _+_, _-_, _*_, _^_, _≤_, _<_}
 use native.Mathlib.Omega.{arith}
 use native.Mathlib.Numerals.{add-one}
 use lib.Dec.{ltb, leb, eqb, leb·suc-suc}
 use lib.ListN.{length, getD, take, drop, drop-of-length-le, length-drop}
 use lib.Seq.{drop-cons, take-all, length-take-le}
 use borrow.Author.Tests.{lt-ltb, le-ltb, le-leb, lt-leb, eq-eqb, ne-eqb, leb-true, eqb-true}
-use Rattle.model.specs.Order.{texts, numbers, lists, lex}
 use Rattle.values.specs.Decimal.{isDigit, areDigits, numeral, isNatural, isNegative, magnitude}
 use Rattle.values.specs.Spaces.{isWidth, isSigned, wholePart, pointPart, isFraction, unscaled, isDecimal}
 use Rattle.values.specs.NumberAnswer.{isMagnitude, hasNonzero}
-use Rattle.values.proofs.NumeralLaws.{lt-compare, gt-compare, eq-compare, digit-least, digits-head, natural-digits, natural-first, natural-nonempty}
+use Rattle.values.proofs.NumeralLaws.{digit-least, digits-head, natural-digits, natural-first, natural-nonempty}
 use Rattle.values.proofs.NumberOrderLaws.{negative-cons, positive-magnitude, numeral-nonzero, fixed, fixed-nonzero}
 
 pub drop-next : (s : List ℕ) (i : ℕ) → i < length s → drop i s ≡ getD s i 0 ∷ drop (i + 1) s
@@ -93,26 +92,6 @@ pub negative-first : (v : List ℕ) → 0 < length v → isNegative v ≡ eqb (g
 unfolding isNegative
 negative-first [] h = absurd (omega arith)
 negative-first (b ∷ v) h = refl
-
--- ---- bytes of texts of one length
-
-module _ (a b : List ℕ) (i : ℕ) where
-  pub bytes-less : i < length a → i < length b → getD a i 0 < getD b i 0 → texts .cmp (drop i a) (drop i b) ≡ Ordering·lt
-  unfolding texts lists lex numbers
-  bytes-less h k e = rw (drop-next a i h, drop-next b i k, lt-compare (getD a i 0) (getD b i 0) e)
-
-  pub bytes-more : i < length a → i < length b → getD b i 0 < getD a i 0 → texts .cmp (drop i a) (drop i b) ≡ Ordering·gt
-  unfolding texts lists lex numbers
-  bytes-more h k e = rw (drop-next a i h, drop-next b i k, gt-compare (getD a i 0) (getD b i 0) e)
-
-  pub bytes-step :
-      i < length a → i < length b → getD a i 0 ≡ getD b i 0 → texts .cmp (drop i a) (drop i b) ≡ texts .cmp (drop (i + 1) a) (drop (i + 1) b)
-  unfolding texts lists lex numbers
-  bytes-step h k e = rw (drop-next a i h, drop-next b i k, eq-compare (getD a i 0) (getD b i 0) e)
-
-  pub bytes-end : length a ≤ i → length b ≤ i → texts .cmp (drop i a) (drop i b) ≡ Ordering·eq
-  unfolding texts lists lex numbers
-  bytes-end h k = rw (drop-of-length-le a h, drop-of-length-le b k)
 
 -- ---- widths
 

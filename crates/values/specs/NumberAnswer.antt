@@ -1,5 +1,5 @@
 -- What the functions on numbers answer, in the terms of the definitions.
-use Prim.Native.Nat.{ℕ, _-_, Ordering, Ordering·lt, Ordering·eq, Ordering·gt}
+use Prim.Native.Nat.{ℕ, _-_, Ordering}
 use mathlib.Core.Bool.{Bool, false, _&&_, _||_}
 use mathlib.Core.List.{[], _∷_}
 use lib.ListN.{length}
@@ -7,14 +7,6 @@ use lib.Dec.{ltb, leb}
 use Rattle.model.specs.Order.{Text, texts, numbers, ranked}
 use Rattle.values.specs.Decimal.{isNatural}
 use Rattle.values.specs.Spaces.{Kind, kindNumber, wholePart, pointPart, isFraction}
-use Rattle.values.specs.declared.numbers.Ordered.{Ordered}
-use Rattle.values.specs.declared.numbers.Ordered.the-variants.{Less, Same, More}
-
--- the comparison that an answer states
-abbrev pub meaning : Ordered → Ordering
-meaning Less = Ordering·lt
-meaning Same = Ordering·eq
-meaning More = Ordering·gt
 
 -- "Kinds: 1 unsigned and 2 signed integer ..; 3 decimal ..; 4 currency ..; 5 sequence": the kinds whose values are numbers
 abbrev pub isNumber : Kind → Bool

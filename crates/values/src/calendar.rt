@@ -9,20 +9,20 @@ ghost use Rattle.values.specs.Decimal.{isDigit};
 ghost use Rattle.values.specs.Calendar.{hasForm, field, year, month, day, hour, minute, second, isLeap, daysIn, isMoment, isDatetime};
 ghost use Rattle.values.specs.Spaces.{datetime};
 ghost use Rattle.values.specs.ValueOrder.{valueOrder};
-ghost use Rattle.values.specs.NumberAnswer.{meaning};
-use crate::numbers::Ordered;
+ghost use Rattle.packed.specs.Comparison.{ordering};
+use packed::order::Compared;
 
 pub fn is_digit(b: u8) -> bool
     ensures { λ r. ⌜ r ≡ isDigit b ⌝ }
 {
-    48 <= b && b <= 57
+    b'0' <= b && b <= b'9'
 }
 
 // A byte stands where the form has f.
 fn matches(f: u8, b: u8) -> bool
     ensures { λ r. ⌜ r ≡ cond (eqb f 48) (isDigit b) (eqb f b) ⌝ }
 {
-    if f == 48 { is_digit(b) } else { f == b }
+    if f == b'0' { is_digit(b) } else { f == b }
 }
 
 // The text has the form: a 0 of it stands for any digit, another byte for itself.
@@ -46,7 +46,7 @@ pub fn has_form(form: &[u8], v: &[u8]) -> bool
 fn digit(b: u8) -> u32
     ensures { λ r. ⌜ r ≡ b - 48 ⌝ }
 {
-    if b < 48 { 0 } else { b as u32 - 48 }
+    if b < b'0' { 0 } else { b as u32 - 48 }
 }
 
 fn two(v: &[u8], at: usize) -> u32
@@ -130,35 +130,35 @@ fn stamp(v: &[u8]) -> u64
     (hour * 100 + two(v, 14) as u64) * 100 + two(v, 17) as u64
 }
 
-fn compare_fractions(f: u32, g: u32) -> Ordered
-    ensures { λ r. ⌜ meaning r ≡ compare f g ⌝ }
+fn compare_fractions(f: u32, g: u32) -> Compared
+    ensures { λ r. ⌜ ordering r ≡ compare f g ⌝ }
 {
     if f < g {
-        return Ordered::Less;
+        return Compared::Less;
     }
     if g < f {
-        return Ordered::More;
+        return Compared::More;
     }
-    Ordered::Same
+    Compared::Same
 }
 
 // Two datetimes by their instants. No days are counted: moments come by the digits of date and time, and within a second by the fraction.
-pub fn compare_moments(a: &[u8], b: &[u8]) -> Ordered
-    ensures { λ r. ⌜ (isDatetime (now (a .entry)) ≡ true → isDatetime (now (b .entry)) ≡ true → meaning r ≡ valueOrder datetime .cmp (now (a .entry)) (now (b .entry))) ⌝ }
+pub fn compare_moments(a: &[u8], b: &[u8]) -> Compared
+    ensures { λ r. ⌜ (isDatetime (now (a .entry)) ≡ true → isDatetime (now (b .entry)) ≡ true → ordering r ≡ valueOrder datetime .cmp (now (a .entry)) (now (b .entry))) ⌝ }
 {
     if a.len() < 20 {
-        return Ordered::Same;
+        return Compared::Same;
     }
     if b.len() < 20 {
-        return Ordered::Same;
+        return Compared::Same;
     }
     let x = stamp(a);
     let y = stamp(b);
     if x < y {
-        return Ordered::Less;
+        return Compared::Less;
     }
     if y < x {
-        return Ordered::More;
+        return Compared::More;
     }
     compare_fractions(fraction(a), fraction(b))
 }

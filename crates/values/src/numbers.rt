@@ -6,13 +6,10 @@ ghost use lib.Dec.{leb, ltb};
 ghost use Rattle.values.specs.Decimal.{areDigits, isNatural, isNegative, numeral};
 ghost use Rattle.values.specs.Spaces.{Kind, isWidth, isUnsigned, isSigned, isDecimal, isOfKind};
 ghost use Rattle.values.specs.ValueOrder.{valueOrder};
-ghost use Rattle.values.specs.NumberAnswer.{meaning, isNumber, sizeOrder, isMagnitude, hasNonzero};
-
-pub enum Ordered {
-    Less,
-    Same,
-    More,
-}
+ghost use Rattle.values.specs.NumberAnswer.{isNumber, sizeOrder, isMagnitude, hasNonzero};
+ghost use Rattle.packed.specs.Comparison.{ordering};
+use packed::order::Compared;
+use packed::order::compare;
 
 pub fn are_digits(v: &[u8]) -> bool
     ensures { λ r. ⌜ r ≡ areDigits (now (v .entry)) ⌝ }
@@ -57,28 +54,16 @@ pub fn is_negative(v: &[u8]) -> bool
 }
 
 // By length, then by bytes: so natural numerals come by their numbers.
-pub fn by_size(a: &[u8], b: &[u8]) -> Ordered
-    ensures { λ r. ⌜ meaning r ≡ sizeOrder (now (a .entry)) (now (b .entry)) ⌝ }
+pub fn by_size(a: &[u8], b: &[u8]) -> Compared
+    ensures { λ r. ⌜ ordering r ≡ sizeOrder (now (a .entry)) (now (b .entry)) ⌝ }
 {
     if a.len() < b.len() {
-        return Ordered::Less;
+        return Compared::Less;
     }
     if b.len() < a.len() {
-        return Ordered::More;
+        return Compared::More;
     }
-    let mut i = 0;
-    while i < a.len() {
-        let x = a[i];
-        let y = b[i];
-        if x < y {
-            return Ordered::Less;
-        }
-        if y < x {
-            return Ordered::More;
-        }
-        i += 1;
-    }
-    Ordered::Same
+    compare(a, b)
 }
 
 // Of two natural numerals, the first is at most the second.
@@ -86,9 +71,9 @@ pub fn at_most(v: &[u8], most: &[u8]) -> bool
     ensures { λ r. ⌜ (isNatural (now (v .entry)) ≡ true → isNatural (now (most .entry)) ≡ true → r ≡ leb (numeral (now (v .entry))) (numeral (now (most .entry)))) ⌝ }
 {
     match by_size(v, most) {
-        Ordered::Less => true,
-        Ordered::Same => true,
-        Ordered::More => false,
+        Compared::Less => true,
+        Compared::Same => true,
+        Compared::More => false,
     }
 }
 
@@ -211,17 +196,17 @@ pub fn is_decimal(total: u8, after: u8, sign: bool, v: &[u8]) -> bool
 }
 
 // Two numbers of one kind: by sign, then by length, then by bytes.
-pub fn compare_numbers(a: &[u8], b: &[u8]) -> Ordered
-    ensures { λ r. ⌜ ((k : Kind) → isNumber k ≡ true → isOfKind k (now (a .entry)) ≡ true → isOfKind k (now (b .entry)) ≡ true → meaning r ≡ valueOrder k .cmp (now (a .entry)) (now (b .entry))) ⌝ }
+pub fn compare_numbers(a: &[u8], b: &[u8]) -> Compared
+    ensures { λ r. ⌜ ((k : Kind) → isNumber k ≡ true → isOfKind k (now (a .entry)) ≡ true → isOfKind k (now (b .entry)) ≡ true → ordering r ≡ valueOrder k .cmp (now (a .entry)) (now (b .entry))) ⌝ }
 {
     if is_negative(a) {
         if is_negative(b) {
             return by_size(b, a);
         }
-        return Ordered::Less;
+        return Compared::Less;
     }
     if is_negative(b) {
-        return Ordered::More;
+        return Compared::More;
     }
     by_size(a, b)
 }

@@ -12,18 +12,18 @@ ghost use Rattle.packed.specs.Ascii.{ascii};
 ghost use Rattle.values.specs.Unicode.{isUtf8};
 ghost use Rattle.values.specs.Spaces.{Kind, kindNumber, isKind, isHexDigit, areHexDigits, isOfKind, inSpace};
 ghost use Rattle.values.specs.ValueOrder.{valueOrder};
-ghost use Rattle.values.specs.NumberAnswer.{meaning};
+ghost use Rattle.packed.specs.Comparison.{ordering};
 ghost use Rattle.values.specs.KindNumbers.{kindOf};
 use crate::calendar::compare_moments;
 use crate::calendar::has_form;
 use crate::calendar::is_datetime;
 use crate::calendar::is_digit;
-use crate::numbers::Ordered;
 use crate::numbers::compare_numbers;
 use crate::numbers::is_decimal;
 use crate::numbers::is_signed;
 use crate::numbers::is_unsigned;
 use crate::unicode::is_utf8;
+use packed::order::Compared;
 
 // A form without 0 is a text itself.
 pub fn is_boolean(v: &[u8]) -> bool
@@ -35,7 +35,7 @@ pub fn is_boolean(v: &[u8]) -> bool
 fn is_hex_digit(b: u8) -> bool
     ensures { λ r. ⌜ r ≡ isHexDigit b ⌝ }
 {
-    is_digit(b) || (97 <= b && b <= 102)
+    is_digit(b) || (b'a' <= b && b <= b'f')
 }
 
 pub fn is_hex(bytes: u8, v: &[u8]) -> bool
@@ -102,24 +102,24 @@ pub fn is_ordered(kind: u8) -> bool
 }
 
 // Two values of an ordered kind by number or instant; of no other kind is anything said.
-pub fn compare_values(kind: u8, a: &[u8], b: &[u8]) -> Ordered
-    ensures { λ r. ⌜ ((k : Kind) → kindNumber k ≡ kind → kind ≤ 6 → inSpace k (now (a .entry)) ≡ true → inSpace k (now (b .entry)) ≡ true → meaning r ≡ valueOrder k .cmp (now (a .entry)) (now (b .entry))) ⌝ }
+pub fn compare_values(kind: u8, a: &[u8], b: &[u8]) -> Compared
+    ensures { λ r. ⌜ ((k : Kind) → kindNumber k ≡ kind → kind ≤ 6 → inSpace k (now (a .entry)) ≡ true → inSpace k (now (b .entry)) ≡ true → ordering r ≡ valueOrder k .cmp (now (a .entry)) (now (b .entry))) ⌝ }
 {
     match kind {
         1..=5 => compare_numbers(a, b),
         6 => compare_moments(a, b),
-        _ => Ordered::Same,
+        _ => Compared::Same,
     }
 }
 
 // Whether the first of two values is the chosen one.
-fn takes_first(order: Ordered, largest: bool) -> bool
-    ensures { λ r. ⌜ r ≡ pick (meaning order) (not largest) true largest ⌝ }
+fn takes_first(order: Compared, largest: bool) -> bool
+    ensures { λ r. ⌜ r ≡ pick (ordering order) (not largest) true largest ⌝ }
 {
     match order {
-        Ordered::Less => !largest,
-        Ordered::Same => true,
-        Ordered::More => largest,
+        Compared::Less => !largest,
+        Compared::Same => true,
+        Compared::More => largest,
     }
 }
 

@@ -1,7 +1,7 @@
 use borrow.Author.Needs.{needs}
 use mathlib.Core.Path.{sym, ap, _∙_}
 use lib.Dec.{isLe}
-use Rattle.values.specs.NumberAnswer.{meaning}
+use Rattle.packed.specs.Comparison.{ordering}
 use Rattle.values.proofs.NumeralLaws.{natural-order}
 use Rattle.values.proofs.numbers.at_most.Statement.{statement}
 use Rattle.values.proofs.numbers.at_most.Tie as tie
@@ -19,13 +19,13 @@ enum-told-3 : tie.Need-enum-told-3
 enum-told-3 c = search needs
 
 returns : tie.Need-returns
-returns c = λ p q. sym (ap isLe (natural-order (c .before .before .before .before .before .args .v .now) (c .before .before .before .before .before .args .most .now) p q ∙ sym (c .before .before .by-size .ensures) ∙ ap meaning (c .enum-told .given .1)))
+returns c = λ p q. sym (ap isLe (natural-order (c .before .before .before .before .before .args .v .now) (c .before .before .before .before .before .args .most .now) p q ∙ sym (c .before .before .by-size .ensures) ∙ ap ordering (c .enum-told .given .1)))
 
 returns-2 : tie.Need-returns-2
-returns-2 c = λ p q. sym (ap isLe (natural-order (c .before .before .before .before .before .args .v .now) (c .before .before .before .before .before .args .most .now) p q ∙ sym (c .before .before .by-size .ensures) ∙ ap meaning (c .enum-told2 .given .1)))
+returns-2 c = λ p q. sym (ap isLe (natural-order (c .before .before .before .before .before .args .v .now) (c .before .before .before .before .before .args .most .now) p q ∙ sym (c .before .before .by-size .ensures) ∙ ap ordering (c .enum-told2 .given .1)))
 
 returns-3 : tie.Need-returns-3
-returns-3 c = λ p q. sym (ap isLe (natural-order (c .before .before .before .before .before .args .v .now) (c .before .before .before .before .before .args .most .now) p q ∙ sym (c .before .before .by-size .ensures) ∙ ap meaning (c .enum-told3 .given .1)))
+returns-3 c = λ p q. sym (ap isLe (natural-order (c .before .before .before .before .before .args .v .now) (c .before .before .before .before .before .args .most .now) p q ∙ sym (c .before .before .by-size .ensures) ∙ ap ordering (c .enum-told3 .given .1)))
 
 pub at-most-spec : {M : Type 1} → statement M
 at-most-spec =

@@ -7,7 +7,7 @@ use borrow.Author.Needs.{needs}
 use Rattle.model.specs.Sets.{union}
 use Rattle.model.specs.Order.{reversed}
 use Rattle.values.specs.Spaces.{Kind, kindNumber, inSpace}
-use Rattle.values.specs.NumberAnswer.{meaning}
+use Rattle.packed.specs.Comparison.{ordering}
 use Rattle.values.specs.ValueOrder.{valueOrder}
 use Rattle.values.proofs.SpaceLaws.{chosen}
 use Rattle.values.proofs.spaces.choose.Statement.{statement}
@@ -67,7 +67,7 @@ chosen-part c {t} s k n l p q =
     let x = take (g .e - g .a) (drop (g .a) (g .left .now)) in
     let y = take (g .f - g .b) (drop (g .b) (g .right .now)) in
     ap (λ (t : Bool). cond t x y ∷ []) (sym s ∙ c .takes-first .ensures)
-    ∙ chosen (g .largest) (valueOrder k) x y (meaning (c .before .compare-values .result)) (sym (c .before .compare-values .ensures k n l p q))
+    ∙ chosen (g .largest) (valueOrder k) x y (ordering (c .before .compare-values .result)) (sym (c .before .compare-values .ensures k n l p q))
 
 returns : tie.Need-returns
 returns c = chosen-part (c .before .before) (c .before .if1 .taken)

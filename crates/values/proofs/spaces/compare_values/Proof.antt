@@ -3,7 +3,7 @@ use mathlib.Core.Path.{_≡_, sym, subst, _∙_}
 use native.Mathlib.Omega.{arith}
 use borrow.Author.Tests.{le-leb}
 use borrow.Author.Needs.{needs}
-use Rattle.values.specs.NumberAnswer.{meaning}
+use Rattle.packed.specs.Comparison.{ordering}
 use Rattle.values.specs.ValueOrder.{valueOrder}
 use Rattle.values.specs.Spaces.{Kind, kindNumber, isOfKind}
 use Rattle.values.proofs.SpaceLaws.{of-kind, is-datetime-kind, kind-least}
@@ -22,7 +22,7 @@ returns c =
     let g = c .before .before .before .before .args in
     λ k n l p q.
     subst
-    (λ (x : Kind). isOfKind x (g .a .now) ≡ true → isOfKind x (g .b .now) ≡ true → meaning (c .compare-moments .result) ≡ valueOrder x .cmp (g .a .now) (g .b .now))
+    (λ (x : Kind). isOfKind x (g .a .now) ≡ true → isOfKind x (g .b .now) ≡ true → ordering (c .compare-moments .result) ≡ valueOrder x .cmp (g .a .now) (g .b .now))
     (sym (is-datetime-kind k (n ∙ c .before .match .keys1))) (c .compare-moments .ensures) (of-kind k (g .a .now) p) (of-kind k (g .b .now) q)
 
 returns-2 : tie.Need-returns-2
