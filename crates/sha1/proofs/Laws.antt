@@ -134,13 +134,13 @@ W-high m w t h e =
     let back : (k : ℕ) → k < t → getD w k 0 ≡ getD (schedule m t) k 0 = same-at t w (schedule m t) (e ∙ sym (take-all t (schedule m t) (omega (arith, length-schedule m t)))) in
     rw (le-ltb t 16 h, back (t - 3) (omega arith), back (t - 8) (omega arith), back (t - 14) (omega arith), back (t - 16) (omega arith))
 
-rest-first : (x y : ℕ) → (x % 2 ^ 32 + y) % 2 ^ 32 ≡ (x + y) % 2 ^ 32
-rest-first x y = omega arith
+plus-rest : (x y : ℕ) → (x % 2 ^ 32 + y) % 2 ^ 32 ≡ (x + y) % 2 ^ 32
+plus-rest x y = omega arith
 
 -- the sum of a round in the order of the code
 pub sum-order : (r f e k w : ℕ) → plus (plus (plus (plus e k) w) f) r ≡ plus (plus (plus (plus r f) e) k) w
 unfolding plus
-sum-order r f e k w = simp rest-first (ap (λ (n : ℕ). n % 2 ^ 32) (omega arith))
+sum-order r f e k w = simp plus-rest (ap (λ (n : ℕ). n % 2 ^ 32) (omega arith))
 
 pub rounds-more : (ws : List ℕ) (t : ℕ) (s : State) → round t (getD ws t 0) (rounds ws t s) ≡ rounds ws (t + 1) s
 unfolding rounds

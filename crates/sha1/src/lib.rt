@@ -24,12 +24,12 @@ fn rotl(x: u32, n: u32) -> u32
     (x << n) | (x >> (32 - n))
 }
 
-// The function of round `t`.
+// The function f of round `t`: Ch, Parity, Maj, Parity. Ch is written with three operations in place of four, for speed.
 fn mix(t: usize, x: u32, y: u32, z: u32) -> u32
     ensures { λ r. ⌜ r ≡ f t x y z ⌝ }
 {
     if t < 20 {
-        return (x & y) ^ (!x & z);
+        return z ^ (x & (y ^ z));
     }
     if t < 40 {
         return x ^ y ^ z;
@@ -40,7 +40,7 @@ fn mix(t: usize, x: u32, y: u32, z: u32) -> u32
     x ^ y ^ z
 }
 
-// The constant of round `t`.
+// The constant K of round `t`.
 fn constant(t: usize) -> u32
     ensures { λ r. ⌜ r ≡ K t ⌝ }
 {
@@ -56,7 +56,7 @@ fn constant(t: usize) -> u32
     0xca62_c1d6
 }
 
-// Round `t` with the word `w`. The terms that do not wait for the round before are added first.
+// Round `t` with the word `w`. The rotated `a`, which the round before makes last, is added last.
 fn round_of(t: usize, w: u32, s: State) -> State
     ensures { λ r. ⌜ r ≡ round t w s ⌝ }
 {
@@ -181,8 +181,8 @@ fn sum_of(s: State, r: State) -> State
     }
 }
 
-// The hash value after the block `m`, from the hash value `s` before it. The schedule is written between the rounds, a quarter
-// ahead of them, since the processor can then work on both.
+// The hash value after the block `m`, from the hash value `s` before it. The schedule is written in parts between the
+// rounds: the processor then works on both at once.
 fn compress(m: &[u8], s: State) -> State
     requires { ⌜ length (now m) ≡ 64 ⌝ }
     ensures { λ r. ⌜ r ≡ compressed (now (m .entry)) s ⌝ }
