@@ -1,2 +1,10 @@
--- The laws of tables.
+pub mod FieldLaws
+pub mod NameLaws
+pub mod KindLaws
+pub mod PropertyLaws
+pub mod RunLaws
+pub mod RuleLaws
+pub mod TypeLaws
+pub mod TableReadLaws
+pub mod TypeIndexLaws
 pub mod TableLaws

@@ -2,3 +2,4 @@ pub mod Table
 pub mod TableLayout
 pub mod Questions
 pub mod TableCall
+pub mod TypeIndex

@@ -1,0 +1,138 @@
+-- The laws of layouts one after the other, by positions, and of numbers in a range.
+use mathlib.Core.Path.{_≡_, refl, sym, ap, _∙_, subst}
+use mathlib.Core.Bool.{Bool, true, false, cond, _&&_}
+use mathlib.Core.List.{List}
+use Prim.Native.Nat.{ℕ, _≤_, _<_}
+use native.Mathlib.Omega.{arith}
+use lib.ListN.{drop}
+use lib.Dec.{leb, eqb}
+use borrow.Author.Tests.{le-leb, lt-leb, leb-true}
+use Rattle.packed.specs.declared.read.NumberAt.{NumberAt}
+use Rattle.packed.specs.declared.read.NumberAt.the-variants.{Number, NoNumber}
+use Rattle.packed.specs.declared.read.TextAt.{TextAt}
+use Rattle.packed.specs.declared.read.TextAt.the-variants.{Text, NoText}
+use Rattle.packed.specs.Parse.{Parse, fail, got, Layout, andThen, foundIf, suchThat}
+use Rattle.packed.specs.Packed.{readNumber, readText}
+use Rattle.packed.specs.Located.{part, numberAt, textAt}
+use Rattle.packed.proofs.LayoutLaws.{suchThat-got}
+use Rattle.packed.proofs.ReadLaws.{number-stops, text-stops}
+use Rattle.values.specs.Spaces.{isWithin}
+use Rattle.ontology.specs.declared.fields.FlagAt.{FlagAt}
+use Rattle.ontology.specs.declared.fields.FlagAt.the-variants.{Flag, NoFlag}
+use Rattle.ontology.specs.TableLayout.{readFlag}
+use Rattle.ontology.specs.TypeIndex.{Got, NumberReads, FlagReads, NameStops, NameReads}
+
+pub and-true : (a b : Bool) → (a && b) ≡ true → (a ≡ true) × (b ≡ true)
+and-true true b e = (refl, e)
+and-true false b e = let z : _≡_ {A = ℕ} 0 1 = cc in absurd (omega arith)
+
+-- ---- what is known of a call's answer in the arm of a `match`
+
+pub number-got : {p : Parse ℕ} {s : List ℕ} {at : ℕ} {r : NumberAt} {n e : ℕ} → r ≡ Number n e → NumberReads p s at r → Got p s at n e
+number-got {p} {s} {at} h w = subst (NumberReads p s at) h w
+
+pub number-fail : {p : Parse ℕ} (s : List ℕ) (at : ℕ) {r : NumberAt} → r ≡ NoNumber → NumberReads p s at r → p ≡ fail
+number-fail {p} s at h w = subst (NumberReads p s at) h w
+
+pub flag-got : {p : Parse Bool} {s : List ℕ} {at : ℕ} {r : FlagAt} {b : Bool} {e : ℕ} → r ≡ Flag b e → FlagReads p s at r → Got p s at b e
+flag-got {p} {s} {at} h w = subst (FlagReads p s at) h w
+
+pub flag-fail : {p : Parse Bool} (s : List ℕ) (at : ℕ) {r : FlagAt} → r ≡ NoFlag → FlagReads p s at r → p ≡ fail
+flag-fail {p} s at h w = subst (FlagReads p s at) h w
+
+pub name-got : {p : Parse (List ℕ)} {s : List ℕ} {at : ℕ} {r : TextAt} {a e : ℕ} → r ≡ Text a e → NameReads p s at r → NameStops p s at a e
+name-got {p} {s} {at} h w = subst (NameReads p s at) h w
+
+pub name-fail : {p : Parse (List ℕ)} (s : List ℕ) (at : ℕ) {r : TextAt} → r ≡ NoText → NameReads p s at r → p ≡ fail
+name-fail {p} s at h w = subst (NameReads p s at) h w
+
+pub number-here : (s : List ℕ) (at n next : ℕ) → numberAt s at ≡ Number n next → Got (readNumber (drop at s)) s at n next
+number-here s at n next e = let w = number-stops s at n next e in record { is = w .is; after = w .after; within = w .within }
+
+pub text-here : (s : List ℕ) (at a e : ℕ) → textAt s at ≡ Text a e → Got (readText (drop at s)) s at (part s a e) e
+text-here s at a e q = let w = text-stops s at a e q in record { is = w .is; after = omega (arith, w .after, w .order); within = w .within }
+
+-- ---- one layout after the other
+
+module _ {A B : Type 0} (k : A → Layout B) where
+  pub then-none : {p : Parse A} → p ≡ fail → andThen p k ≡ fail
+  then-none e = ap (λ (q : Parse A). andThen q k) e
+
+  pub then-fail : {p : Parse A} {s : List ℕ} {at : ℕ} {a : A} {e : ℕ} → Got p s at a e → k a (drop e s) ≡ fail → andThen p k ≡ fail
+  then-fail {p} {s} {at} {a} {e} g h = ap (λ (q : Parse A). andThen q k) (g .is) ∙ h
+
+  pub then-got : {p : Parse A} {s : List ℕ} {at : ℕ} {a : A} {e : ℕ} {b : B} {f : ℕ} → Got p s at a e → Got (k a (drop e s)) s e b f → Got (andThen p k) s at b f
+  then-got {p} {s} {at} {a} {e} {b} {f} g h = record {
+    is = ap (λ (q : Parse A). andThen q k) (g .is) ∙ h .is;
+    after = omega (arith, g .after, h .after);
+    within = h .within;
+  }
+
+  -- the last layout reads nothing more
+  pub then-found : {p : Parse A} {s : List ℕ} {at : ℕ} {a : A} {e : ℕ} {b : B} → Got p s at a e → k a (drop e s) ≡ got b (drop e s) → Got (andThen p k) s at b e
+  then-found {p} {s} {at} {a} {e} {b} g h = record {
+    is = ap (λ (q : Parse A). andThen q k) (g .is) ∙ h;
+    after = g .after;
+    within = g .within;
+  }
+
+-- a value that passes or fails its test
+module _ {A : Type 0} (t : A → Bool) (p : Layout A) (s : List ℕ) (at : ℕ) where
+  pub such-got : {a : A} {e : ℕ} → Got (p (drop at s)) s at a e → t a ≡ true → Got (suchThat t p (drop at s)) s at a e
+  such-got {a} {e} g h = then-found (λ b. foundIf (t b) b) g (ap (λ (x : Bool). cond x (got a (drop e s)) fail) h)
+
+  pub such-fail : {a : A} {e : ℕ} → Got (p (drop at s)) s at a e → t a ≡ false → suchThat t p (drop at s) ≡ fail
+  such-fail {a} {e} g h = then-fail (λ b. foundIf (t b) b) g (ap (λ (x : Bool). cond x (got a (drop e s)) fail) h)
+
+  pub such-none : p (drop at s) ≡ fail → suchThat t p (drop at s) ≡ fail
+  such-none e = then-none (λ b. foundIf (t b) b) e
+
+  -- a layout that fails its test has no value that passes it
+  pub such-never : {a : A} {r : List ℕ} → suchThat t p (drop at s) ≡ fail → p (drop at s) ≡ got a r → t a ≡ true → _≡_ {A = ℕ} 0 1
+  such-never {a} {r} e q h =
+      let z : fail ≡ got a r =
+      sym e ∙ ap (λ (x : Parse A). andThen x (λ b. foundIf (t b) b)) q ∙ ap (λ (x : Bool). cond x (got a r) fail) h in
+      cc
+
+  pub such-was : {a : A} {e : ℕ} → Got (suchThat t p (drop at s)) s at a e → Got (p (drop at s)) s at a e × (t a ≡ true)
+  such-was {a} {e} g =
+      let w = suchThat-got t p (drop at s) a (drop e s) (g .is) in
+      (record { is = w .was; after = g .after; within = g .within }, w .test)
+
+-- ---- numbers in a range
+
+pub is-within : (least most n : ℕ) → least ≤ n → n ≤ most → isWithin least most n ≡ true
+is-within least most n h k = rw (le-leb least n h, le-leb n most k)
+
+pub is-below : (least most n : ℕ) → n < least → isWithin least most n ≡ false
+is-below least most n h = rw (lt-leb least n h)
+
+pub is-above : (least most n : ℕ) → least ≤ n → most < n → isWithin least most n ≡ false
+is-above least most n h k = rw (le-leb least n h, lt-leb n most k)
+
+pub size-is : (most n : ℕ) → 0 < n → isWithin 1 most n ≡ leb n most
+size-is most n h = rw (le-leb 1 n h)
+
+pub within-bounds : (least most n : ℕ) → isWithin least most n ≡ true → (least ≤ n) × (n ≤ most)
+within-bounds least most n e = let b = and-true (leb least n) (leb n most) e in (leb-true least n (b .0), leb-true n most (b .1))
+
+pub got-bounds : {s : List ℕ} {at n next : ℕ} (least most : ℕ) → Got (suchThat (isWithin least most) readNumber (drop at s)) s at n next → (least ≤ n) × (n ≤ most)
+got-bounds {s} {at} {n} {next} least most g = within-bounds least most n (such-was (isWithin least most) readNumber s at g .1)
+
+-- ---- flags
+
+flag-same : (t : List ℕ) → readFlag t ≡ andThen (suchThat (isWithin 0 1) readNumber t) (λ n. got (eqb n 1))
+unfolding readFlag
+flag-same t = go (readNumber t)
+  where
+    go :
+        (p : Parse ℕ) →
+        andThen (andThen p (λ n. foundIf (leb n 1) n)) (λ n. got (eqb n 1)) ≡ andThen (andThen p (λ n. foundIf (isWithin 0 1 n) n)) (λ n. got (eqb n 1))
+    go fail = refl
+    go (got n r) = rw (le-leb 0 n (omega arith))
+
+pub flag-is : (s : List ℕ) (at : ℕ) {n e : ℕ} → Got (suchThat (isWithin 0 1) readNumber (drop at s)) s at n e → Got (readFlag (drop at s)) s at (eqb n 1) e
+flag-is s at {n} {e} g = rw (flag-same (drop at s)) (then-found (λ n. got (eqb n 1)) g refl)
+
+pub flag-none : (s : List ℕ) (at : ℕ) → suchThat (isWithin 0 1) readNumber (drop at s) ≡ fail → readFlag (drop at s) ≡ fail
+flag-none s at e = flag-same (drop at s) ∙ then-none (λ n. got (eqb n 1)) e

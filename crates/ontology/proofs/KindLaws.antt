@@ -1,0 +1,295 @@
+-- The laws of kinds and their parameters.
+use mathlib.Core.Path.{_≡_, refl, sym, ap, _∙_, subst}
+use mathlib.Core.Logic.{_⊎_, inl, inr}
+use mathlib.Core.Bool.{Bool, true, false, cond, _&&_, _||_}
+use mathlib.Core.List.{List}
+use Prim.Native.Nat.{ℕ, zero, suc, _-_, _≤_, _<_}
+use native.Mathlib.Omega.{arith}
+use lib.ListN.{drop}
+use lib.Dec.{leb, eqb}
+use mir.Val.{boolByte}
+use borrow.Author.Tests.{le-leb, lt-leb, eq-eqb, ne-eqb, eqb-true}
+use Rattle.packed.specs.Parse.{Parse, fail, got, Layout, andThen, found, foundIf, suchThat}
+use Rattle.packed.specs.Packed.{readNumber}
+use Rattle.values.specs.Spaces.{Kind, unsigned, signed, decimal, currency, sequence, datetime, boolean, string, hex, isWithin, isWidth, isKind}
+use Rattle.ontology.specs.TableLayout.{readFlag, readDecimal, readParameters, readKind}
+use Rattle.ontology.specs.declared.kinds.KindRead.{KindRead}
+use Rattle.ontology.specs.declared.kinds.KindRead.the-variants.{OfKind, NoKind}
+use Rattle.ontology.specs.TypeIndex.{Got, parameterFits, KindIs, KindStops, KindReads}
+use Rattle.ontology.proofs.FieldLaws.{then-none, then-fail, then-got, then-found, is-within, is-below, is-above, within-bounds}
+
+-- what is known of a call's answer in the arm of a `match`
+pub kind-got : {p : Parse Kind} {s : List ℕ} {at : ℕ} {r : KindRead} {n a b c e : ℕ} → r ≡ OfKind n a b c e → KindReads p s at r → KindStops p s at n a b c e
+kind-got {p} {s} {at} h w = subst (KindReads p s at) h w
+
+pub kind-fail : {p : Parse Kind} (s : List ℕ) (at : ℕ) {r : KindRead} → r ≡ NoKind → KindReads p s at r → p ≡ fail
+kind-fail {p} s at h w = subst (KindReads p s at) h w
+
+-- ---- ranges
+
+pub width-is : (n : ℕ) → 1 ≤ n → n ≤ 4 → isWidth n ≡ true
+unfolding isWidth
+width-is n h k = rw (is-within 1 4 n h k)
+
+pub width-eight : (n : ℕ) → n ≡ 8 → isWidth n ≡ true
+unfolding isWidth
+width-eight n h = rw h
+
+pub width-none : (n : ℕ) → n < 1 → isWidth n ≡ false
+unfolding isWidth
+width-none n h = rw (is-below 1 4 n h, ne-eqb n 8 (λ e. omega arith))
+
+pub width-wide : (n : ℕ) → 4 < n → (n ≡ 8 → ⊥) → isWidth n ≡ false
+unfolding isWidth
+width-wide n h k = rw (is-above 1 4 n (omega arith) h, ne-eqb n 8 k)
+
+width-small : (n : ℕ) → isWidth n ≡ true → n ≤ 120
+unfolding isWidth
+width-small n e = go (isWithin 1 4 n) refl e
+  where
+    go : (t : Bool) → isWithin 1 4 n ≡ t → (t || eqb n 8) ≡ true → n ≤ 120
+    go true h e = omega (arith, within-bounds 1 4 n h)
+    go false h e = omega (arith, eqb-true n 8 e)
+
+pub fits-width : (kind n : ℕ) → kind ≤ 2 → parameterFits kind n ≡ isWidth n
+unfolding parameterFits
+fits-width kind n h = rw (le-leb kind 2 h)
+
+pub fits-string : (kind n : ℕ) → 2 < kind → kind ≡ 8 → parameterFits kind n ≡ isWithin 1 120 n
+unfolding parameterFits
+fits-string kind n h k = rw (lt-leb kind 2 h, eq-eqb kind 8 k)
+
+pub fits-hex : (kind n : ℕ) → 2 < kind → (kind ≡ 8 → ⊥) → parameterFits kind n ≡ isWithin 1 60 n
+unfolding parameterFits
+fits-hex kind n h k = rw (lt-leb kind 2 h, ne-eqb kind 8 k)
+
+pub fits-small : (kind n : ℕ) → parameterFits kind n ≡ true → n ≤ 120
+unfolding parameterFits
+fits-small kind n e = go (leb kind 2) (eqb kind 8) e
+  where
+    go : (t u : Bool) → cond t (isWidth n) (isWithin 1 (cond u 120 60) n) ≡ true → n ≤ 120
+    go true u e = width-small n e
+    go false true e = within-bounds 1 120 n e .1
+    go false false e = omega (arith, within-bounds 1 60 n e .1)
+
+pub digits-few : (total after : ℕ) → total < 2 → (isWithin 2 38 total && isWithin 1 (total - 1) after) ≡ false
+digits-few total after h = rw (is-below 2 38 total h)
+
+pub digits-many : (total after : ℕ) → 2 ≤ total → 38 < total → (isWithin 2 38 total && isWithin 1 (total - 1) after) ≡ false
+digits-many total after h k = rw (is-above 2 38 total h k)
+
+pub digits-are : (total after : ℕ) → 2 ≤ total → total ≤ 38 → (isWithin 2 38 total && isWithin 1 (total - 1) after) ≡ isWithin 1 (total - 1) after
+digits-are total after h k = rw (is-within 2 38 total h k)
+
+pub digits-small : (total after : ℕ) → (isWithin 2 38 total && isWithin 1 (total - 1) after) ≡ true → (total ≤ 38) × (after ≤ 38)
+digits-small total after e = go (isWithin 2 38 total) refl e
+  where
+    go : (t : Bool) → isWithin 2 38 total ≡ t → (t && isWithin 1 (total - 1) after) ≡ true → (total ≤ 38) × (after ≤ 38)
+    go true h e =
+        let a = within-bounds 2 38 total h .1 in
+        let b = within-bounds 1 (total - 1) after e .1 in
+        (a, omega arith)
+    go false h e = let z : _≡_ {A = ℕ} 0 1 = cc in absurd (omega arith)
+
+-- ---- a kind of one parameter
+
+record OneParameter (kind : ℕ) : Type 0 where
+  make : ℕ → Kind
+  layout : (t : List ℕ) → readParameters kind t ≡ andThen (readNumber t) (λ n. found (make n))
+  fits : (n : ℕ) → isKind (make n) ≡ parameterFits kind n
+  are : (n : ℕ) → KindIs (make n) kind n 0 0
+
+one-1 : OneParameter 1
+unfolding readParameters isKind parameterFits
+one-1 = record { make = unsigned; layout = λ t. refl; fits = λ n. refl; are = λ n. record { number = refl; one = refl; two = refl; three = refl } }
+
+one-2 : OneParameter 2
+unfolding readParameters isKind parameterFits
+one-2 = record { make = signed; layout = λ t. refl; fits = λ n. refl; are = λ n. record { number = refl; one = refl; two = refl; three = refl } }
+
+one-8 : OneParameter 8
+unfolding readParameters isKind parameterFits
+one-8 = record { make = string; layout = λ t. refl; fits = λ n. refl; are = λ n. record { number = refl; one = refl; two = refl; three = refl } }
+
+one-9 : OneParameter 9
+unfolding readParameters isKind parameterFits
+one-9 = record { make = hex; layout = λ t. refl; fits = λ n. refl; are = λ n. record { number = refl; one = refl; two = refl; three = refl } }
+
+abbrev pub HasOne : ℕ → Type 0
+HasOne kind = (kind ≡ 1) ⊎ (kind ≡ 2) ⊎ (kind ≡ 8) ⊎ (kind ≡ 9)
+
+one-parameter : (kind : ℕ) → HasOne kind → OneParameter kind
+one-parameter kind (inl e) = subst OneParameter (sym e) one-1
+one-parameter kind (inr (inl e)) = subst OneParameter (sym e) one-2
+one-parameter kind (inr (inr (inl e))) = subst OneParameter (sym e) one-8
+one-parameter kind (inr (inr (inr e))) = subst OneParameter (sym e) one-9
+
+-- kinds of the parameters at a position, those in their ranges
+abbrev pub kindAfter : ℕ → List ℕ → Parse Kind
+kindAfter kind t = suchThat isKind (readParameters kind) t
+
+module _ (s : List ℕ) (at kind : ℕ) (h : HasOne kind) where
+  one-layout : kindAfter kind (drop at s) ≡ andThen (readNumber (drop at s)) (λ n r. cond (parameterFits kind n) (got (one-parameter kind h .make n) r) fail)
+  one-layout = rw (one-parameter kind h .layout (drop at s)) (go (readNumber (drop at s)))
+    where
+      go :
+          (p : Parse ℕ) →
+          andThen (andThen p (λ n. found (one-parameter kind h .make n))) (λ k. foundIf (isKind k) k)
+          ≡ andThen p (λ n r. cond (parameterFits kind n) (got (one-parameter kind h .make n) r) fail)
+      go fail = refl
+      go (got n r) = rw (one-parameter kind h .fits n)
+
+  pub one-none : readNumber (drop at s) ≡ fail → kindAfter kind (drop at s) ≡ fail
+  one-none e = one-layout ∙ then-none (λ n r. cond (parameterFits kind n) (got (one-parameter kind h .make n) r) fail) e
+
+  pub one-bad : {n e : ℕ} → Got (readNumber (drop at s)) s at n e → parameterFits kind n ≡ false → kindAfter kind (drop at s) ≡ fail
+  one-bad {n} {e} g f = one-layout ∙ then-fail (λ n r. cond (parameterFits kind n) (got (one-parameter kind h .make n) r) fail) g (rw f)
+
+  pub one-got : {n e : ℕ} → Got (readNumber (drop at s)) s at n e → parameterFits kind n ≡ true → KindStops (kindAfter kind (drop at s)) s at kind n 0 0 e
+  one-got {n} {e} g f = record {
+    what = one-parameter kind h .make n;
+    stops = rw one-layout (then-found (λ n r. cond (parameterFits kind n) (got (one-parameter kind h .make n) r) fail) g (rw f));
+    are = one-parameter kind h .are n;
+  }
+
+-- ---- a decimal
+
+sign-byte : (b : Bool) → boolByte b ≡ cond b 1 0
+sign-byte true = refl
+sign-byte false = refl
+
+module _ (s : List ℕ) (at : ℕ) where
+  decimal-layout :
+      kindAfter 3 (drop at s) ≡
+      andThen (readNumber (drop at s)) (λ total r. andThen (readNumber r) (λ after u. andThen (readFlag u)
+      (λ sign v. cond (isWithin 2 38 total && isWithin 1 (total - 1) after) (got (decimal total after sign) v) fail)))
+  unfolding readParameters readDecimal isKind
+  decimal-layout = go (readNumber (drop at s))
+    where
+      third : (total after : ℕ) (p : Parse Bool) →
+          andThen (andThen p (λ sign. found (decimal total after sign))) (λ k. foundIf (isKind k) k)
+          ≡ andThen p (λ sign v. cond (isWithin 2 38 total && isWithin 1 (total - 1) after) (got (decimal total after sign) v) fail)
+      third total after fail = refl
+      third total after (got sign v) = refl
+
+      second : (total : ℕ) (p : Parse ℕ) →
+          andThen (andThen p (λ after u. andThen (readFlag u) (λ sign. found (decimal total after sign)))) (λ k. foundIf (isKind k) k)
+          ≡ andThen p (λ after u. andThen (readFlag u) (λ sign v. cond (isWithin 2 38 total && isWithin 1 (total - 1) after) (got (decimal total after sign) v) fail))
+      second total fail = refl
+      second total (got after u) = third total after (readFlag u)
+
+      go : (p : Parse ℕ) →
+          andThen (andThen p (λ total r. andThen (readNumber r) (λ after u. andThen (readFlag u) (λ sign. found (decimal total after sign))))) (λ k. foundIf (isKind k) k)
+          ≡ andThen p (λ total r. andThen (readNumber r) (λ after u. andThen (readFlag u)
+          (λ sign v. cond (isWithin 2 38 total && isWithin 1 (total - 1) after) (got (decimal total after sign) v) fail)))
+      go fail = refl
+      go (got total r) = second total (readNumber r)
+
+  -- what follows each number and the flag
+  abbrev signed-last : ℕ → ℕ → Bool → Layout Kind
+  signed-last total after sign v = cond (isWithin 2 38 total && isWithin 1 (total - 1) after) (got (decimal total after sign) v) fail
+
+  abbrev after-second : ℕ → ℕ → Layout Kind
+  after-second total after u = andThen (readFlag u) (signed-last total after)
+
+  abbrev after-first : ℕ → Layout Kind
+  after-first total r = andThen (readNumber r) (after-second total)
+
+  pub decimal-none : readNumber (drop at s) ≡ fail → kindAfter 3 (drop at s) ≡ fail
+  decimal-none e = decimal-layout ∙ then-none after-first e
+
+  module _ {total e : ℕ} (g : Got (readNumber (drop at s)) s at total e) where
+    pub decimal-one : readNumber (drop e s) ≡ fail → kindAfter 3 (drop at s) ≡ fail
+    decimal-one h = decimal-layout ∙ then-fail after-first g (then-none (after-second total) h)
+
+    module _ {after f : ℕ} (h : Got (readNumber (drop e s)) s e after f) where
+      pub decimal-two : readFlag (drop f s) ≡ fail → kindAfter 3 (drop at s) ≡ fail
+      decimal-two k = decimal-layout ∙ then-fail after-first g (then-fail (after-second total) h (then-none (signed-last total after) k))
+
+      module _ {sign : Bool} {n : ℕ} (k : Got (readFlag (drop f s)) s f sign n) where
+        pub decimal-bad : (isWithin 2 38 total && isWithin 1 (total - 1) after) ≡ false → kindAfter 3 (drop at s) ≡ fail
+        decimal-bad b =
+            decimal-layout
+            ∙ then-fail after-first g (then-fail (after-second total) h (then-fail (signed-last total after) k
+            (ap (λ (t : Bool). cond t (got (decimal total after sign) (drop n s)) fail) b)))
+
+        pub decimal-got : (isWithin 2 38 total && isWithin 1 (total - 1) after) ≡ true → KindStops (kindAfter 3 (drop at s)) s at 3 total after (boolByte sign) n
+        decimal-got b = record {
+          what = decimal total after sign;
+          stops =
+              rw decimal-layout
+              (then-got after-first g (then-got (after-second total) h (then-found (signed-last total after) k
+              (ap (λ (t : Bool). cond t (got (decimal total after sign) (drop n s)) fail) b))));
+          are = record { number = refl; one = refl; two = refl; three = sign-byte sign };
+        }
+
+-- ---- a kind
+
+record Plain (n : ℕ) : Type 0 where
+  what : Kind
+  layout : (t : List ℕ) → kindAfter n t ≡ got what t
+  are : KindIs what n 0 0 0
+
+plain : (n : ℕ) → 4 ≤ n → n ≤ 7 → Plain n
+unfolding readParameters isKind
+plain zero h k = absurd (omega arith)
+plain (suc zero) h k = absurd (omega arith)
+plain (suc (suc zero)) h k = absurd (omega arith)
+plain (suc (suc (suc zero))) h k = absurd (omega arith)
+plain (suc (suc (suc (suc zero)))) h k = record { what = currency; layout = λ t. refl; are = record { number = refl; one = refl; two = refl; three = refl } }
+plain (suc (suc (suc (suc (suc zero))))) h k = record { what = sequence; layout = λ t. refl; are = record { number = refl; one = refl; two = refl; three = refl } }
+plain (suc (suc (suc (suc (suc (suc zero)))))) h k = record { what = datetime; layout = λ t. refl; are = record { number = refl; one = refl; two = refl; three = refl } }
+plain (suc (suc (suc (suc (suc (suc (suc zero))))))) h k = record { what = boolean; layout = λ t. refl; are = record { number = refl; one = refl; two = refl; three = refl } }
+plain (suc (suc (suc (suc (suc (suc (suc (suc n)))))))) h k = absurd (omega arith)
+
+-- no kind has a number below 1 or above 9
+kind-outside : (n : ℕ) (t : List ℕ) → (n < 1) ⊎ (9 < n) → kindAfter n t ≡ fail
+unfolding readParameters
+kind-outside n t (inl h) = let e : n ≡ 0 = omega arith in rw e
+kind-outside n t (inr h) =
+    rw (
+      ne-eqb n 1 (λ e. omega arith),
+      ne-eqb n 2 (λ e. omega arith),
+      ne-eqb n 3 (λ e. omega arith),
+      ne-eqb n 4 (λ e. omega arith),
+      ne-eqb n 5 (λ e. omega arith),
+      ne-eqb n 6 (λ e. omega arith),
+      ne-eqb n 7 (λ e. omega arith),
+      ne-eqb n 8 (λ e. omega arith),
+      ne-eqb n 9 (λ e. omega arith),
+    )
+
+module _ (s : List ℕ) (at : ℕ) where
+  pub kind-none : readNumber (drop at s) ≡ fail → readKind (drop at s) ≡ fail
+  unfolding readKind
+  kind-none e = rw e
+
+  module _ {n e : ℕ} (g : Got (readNumber (drop at s)) s at n e) where
+    kind-next : readKind (drop at s) ≡ kindAfter n (drop e s)
+    unfolding readKind
+    kind-next = rw (g .is)
+
+    -- what a reader of the parameters answers is the answer for the kind
+    pub kind-after : (r : KindRead) (k : ℕ) → n ≡ k → KindReads (kindAfter k (drop e s)) s e r → KindReads (readKind (drop at s)) s at r
+    kind-after (OfKind m a b c f) k q w = record {
+      what = w .what;
+      stops = record {
+        is = kind-next ∙ ap (λ (i : ℕ). kindAfter i (drop e s)) q ∙ w .stops .is;
+        after = omega (arith, g .after, w .stops .after);
+        within = w .stops .within;
+      };
+      are = w .are;
+    }
+    kind-after NoKind k q w = kind-next ∙ ap (λ (i : ℕ). kindAfter i (drop e s)) q ∙ w
+
+    pub kind-plain : 4 ≤ n → n ≤ 7 → KindStops (readKind (drop at s)) s at n 0 0 0 e
+    kind-plain h k =
+        let x = plain n h k in
+        record {
+          what = x .what;
+          stops = record { is = kind-next ∙ x .layout (drop e s); after = g .after; within = g .within };
+          are = x .are;
+        }
+
+    pub kind-other : (n < 1) ⊎ (9 < n) → readKind (drop at s) ≡ fail
+    kind-other h = kind-next ∙ kind-outside n (drop e s) h

@@ -1,0 +1,167 @@
+-- The laws of a property's fields, one after the other.
+use mathlib.Core.Path.{_≡_, refl, sym, _∙_, subst}
+use mathlib.Core.Bool.{Bool, true, false, cond}
+use mathlib.Core.List.{List}
+use Prim.Native.Nat.{ℕ, zero, suc, _≤_}
+use native.Mathlib.Omega.{arith}
+use lib.ListN.{drop}
+use borrow.Author.Tests.{ne-eqb}
+use Rattle.model.specs.Order.{Text}
+use Rattle.packed.specs.Parse.{Parse, fail, got, Layout, andThen, found, foundIf, suchThat}
+use Rattle.packed.specs.Packed.{readNumber, readText}
+use Rattle.packed.specs.Located.{part}
+use Rattle.values.specs.Spaces.{Kind, isWithin}
+use Rattle.ontology.specs.Table.{Strategy, min, max, add, replace, match, set, any, strategyNumber, Property, isNameWithin}
+use Rattle.ontology.specs.TableLayout.{readFlag, readKind, readStrategy, readProperty}
+use Rattle.ontology.specs.declared.properties.PropertyAt.{PropertyAt}
+use Rattle.ontology.specs.declared.properties.PropertyRead.{PropertyRead}
+use Rattle.ontology.specs.declared.properties.PropertyRead.the-variants as read
+use Rattle.ontology.specs.TypeIndex.{Got, NameStops, KindStops, PropertyStops, PropertyReads}
+use Rattle.ontology.proofs.FieldLaws.{then-none, then-fail, then-got, then-found, such-was, within-bounds, is-within}
+
+-- what is known of a call's answer in the arm of a `match`
+pub property-got : {p : Parse Property} {s : List ℕ} {at : ℕ} {r : PropertyRead} {x : PropertyAt} {e : ℕ} → r ≡ read.Property x e → PropertyReads p s at r → PropertyStops p s at x e
+property-got {p} {s} {at} h w = subst (PropertyReads p s at) h w
+
+pub property-fail : {p : Parse Property} (s : List ℕ) (at : ℕ) {r : PropertyRead} → r ≡ read.NoProperty → PropertyReads p s at r → p ≡ fail
+property-fail {p} s at h w = subst (PropertyReads p s at) h w
+
+-- ---- the strategy
+
+record StrategyOf (n : ℕ) : Type 0 where
+  what : Strategy
+  number : n ≡ strategyNumber what
+  layout : (t r : List ℕ) → readNumber t ≡ got n r → readStrategy t ≡ got what r
+
+strategy-of : (n : ℕ) → 1 ≤ n → n ≤ 7 → StrategyOf n
+unfolding readStrategy
+strategy-of zero h k = absurd (omega arith)
+strategy-of (suc zero) h k = record { what = min; number = refl; layout = λ t r e. rw e }
+strategy-of (suc (suc zero)) h k = record { what = max; number = refl; layout = λ t r e. rw e }
+strategy-of (suc (suc (suc zero))) h k = record { what = add; number = refl; layout = λ t r e. rw e }
+strategy-of (suc (suc (suc (suc zero)))) h k = record { what = replace; number = refl; layout = λ t r e. rw e }
+strategy-of (suc (suc (suc (suc (suc zero))))) h k = record { what = match; number = refl; layout = λ t r e. rw e }
+strategy-of (suc (suc (suc (suc (suc (suc zero)))))) h k = record { what = set; number = refl; layout = λ t r e. rw e }
+strategy-of (suc (suc (suc (suc (suc (suc (suc zero))))))) h k = record { what = any; number = refl; layout = λ t r e. rw e }
+strategy-of (suc (suc (suc (suc (suc (suc (suc (suc n)))))))) h k = absurd (omega arith)
+
+strategy-outside : (n : ℕ) (t r : List ℕ) → isWithin 1 7 n ≡ false → readNumber t ≡ got n r → readStrategy t ≡ fail
+unfolding readStrategy
+strategy-outside n t r h e =
+    let out : (1 ≤ n) → (n ≤ 7) → ⊥ = λ a b. let z : false ≡ true = sym h ∙ is-within 1 7 n a b in let y : _≡_ {A = ℕ} 0 1 = cc in omega arith in
+    rw (
+      e,
+      ne-eqb n 1 (λ q. out (omega arith) (omega arith)),
+      ne-eqb n 2 (λ q. out (omega arith) (omega arith)),
+      ne-eqb n 3 (λ q. out (omega arith) (omega arith)),
+      ne-eqb n 4 (λ q. out (omega arith) (omega arith)),
+      ne-eqb n 5 (λ q. out (omega arith) (omega arith)),
+      ne-eqb n 6 (λ q. out (omega arith) (omega arith)),
+      ne-eqb n 7 (λ q. out (omega arith) (omega arith)),
+    )
+
+module _ (s : List ℕ) (at : ℕ) where
+  -- the strategy of a number, by the number's position
+  pub record StrategyStops (n next : ℕ) : Type 0 where
+    pub what : Strategy
+    pub stops : Got (readStrategy (drop at s)) s at what next
+    pub number : n ≡ strategyNumber what
+
+  pub strategy-got : {n e : ℕ} → Got (suchThat (isWithin 1 7) readNumber (drop at s)) s at n e → StrategyStops n e
+  strategy-got {n} {e} g =
+      let w = such-was (isWithin 1 7) readNumber s at g in
+      let b = within-bounds 1 7 n (w .1) in
+      let x = strategy-of n (b .0) (b .1) in
+      record {
+        what = x .what;
+        stops = record { is = x .layout (drop at s) (drop e s) (w .0 .is); after = g .after; within = g .within };
+        number = x .number;
+      }
+
+  pub strategy-none : suchThat (isWithin 1 7) readNumber (drop at s) ≡ fail → readStrategy (drop at s) ≡ fail
+  unfolding readStrategy
+  strategy-none e = go (readNumber (drop at s)) refl e
+    where
+      go : (p : Parse ℕ) → readNumber (drop at s) ≡ p → andThen p (λ n. foundIf (isWithin 1 7 n) n) ≡ fail → readStrategy (drop at s) ≡ fail
+      go fail q e = rw q
+      go (got n r) q e = test (isWithin 1 7 n) refl e
+        where
+          test : (t : Bool) → isWithin 1 7 n ≡ t → cond t (got n r) fail ≡ fail → readStrategy (drop at s) ≡ fail
+          test true h e = let z : _≡_ {A = ℕ} 0 1 = cc in absurd (omega arith)
+          test false h e = strategy-outside n (drop at s) r h q
+
+-- ---- the property
+
+-- what follows each field
+abbrev property : Text → Kind → Bool → Bool → Strategy → Property
+property name kind optional multivalued strategy =
+    record { name = name; kind = kind; optional = optional; multivalued = multivalued; strategy = strategy }
+
+abbrev after-multivalued : Text → Kind → Bool → Bool → Layout Property
+after-multivalued n k o m r = andThen (readStrategy r) (λ y. found (property n k o m y))
+
+abbrev after-optional : Text → Kind → Bool → Layout Property
+after-optional n k o r = andThen (readFlag r) (after-multivalued n k o)
+
+abbrev after-kind : Text → Kind → Layout Property
+after-kind n k r = andThen (readFlag r) (after-optional n k)
+
+abbrev after-name : Text → Layout Property
+after-name n r = andThen (readKind r) (after-kind n)
+
+module _ (s : List ℕ) (at : ℕ) where
+  property-layout : readProperty (drop at s) ≡ andThen (suchThat (isNameWithin 32) readText (drop at s)) after-name
+  unfolding readProperty
+  property-layout = refl
+
+  pub property-no-name : suchThat (isNameWithin 32) readText (drop at s) ≡ fail → readProperty (drop at s) ≡ fail
+  property-no-name e = property-layout ∙ then-none after-name e
+
+  module _ {v : Text} {e : ℕ} (g : Got (suchThat (isNameWithin 32) readText (drop at s)) s at v e) where
+    pub property-no-kind : readKind (drop e s) ≡ fail → readProperty (drop at s) ≡ fail
+    property-no-kind h = property-layout ∙ then-fail after-name g (then-none (after-kind v) h)
+
+    module _ {k : Kind} {f : ℕ} (h : Got (readKind (drop e s)) s e k f) where
+      pub property-no-optional : readFlag (drop f s) ≡ fail → readProperty (drop at s) ≡ fail
+      property-no-optional i = property-layout ∙ then-fail after-name g (then-fail (after-kind v) h (then-none (after-optional v k) i))
+
+      module _ {o : Bool} {l : ℕ} (i : Got (readFlag (drop f s)) s f o l) where
+        pub property-no-multivalued : readFlag (drop l s) ≡ fail → readProperty (drop at s) ≡ fail
+        property-no-multivalued j =
+            property-layout
+            ∙ then-fail after-name g (then-fail (after-kind v) h (then-fail (after-optional v k) i (then-none (after-multivalued v k o) j)))
+
+        module _ {m : Bool} {n : ℕ} (j : Got (readFlag (drop l s)) s l m n) where
+          pub property-no-strategy : readStrategy (drop n s) ≡ fail → readProperty (drop at s) ≡ fail
+          property-no-strategy q =
+              property-layout
+              ∙ then-fail after-name g (then-fail (after-kind v) h (then-fail (after-optional v k) i (then-fail (after-multivalued v k o) j
+              (then-none (λ y. found (property v k o m y)) q))))
+
+          pub property-stops : {y : Strategy} {z : ℕ} → Got (readStrategy (drop n s)) s n y z → Got (readProperty (drop at s)) s at (property v k o m y) z
+          property-stops {y} {z} q =
+              rw property-layout
+              (then-got after-name g (then-got (after-kind v) h (then-got (after-optional v k) i (then-got (after-multivalued v k o) j
+              (then-found (λ y. found (property v k o m y)) q refl)))))
+
+-- the property that was read, as the index has it
+pub property-is :
+    {s : List ℕ} {at start end kind first second third f l n z strategy : ℕ} {o m : Bool} →
+    NameStops (suchThat (isNameWithin 32) readText (drop at s)) s at start end →
+    KindStops (readKind (drop end s)) s end kind first second third f →
+    Got (readFlag (drop f s)) s f o l → Got (readFlag (drop l s)) s l m n → StrategyStops s n strategy z →
+    PropertyStops (readProperty (drop at s)) s at
+    (record { start = start; end = end; kind = kind; first = first; second = second; third = third; optional = o; multivalued = m; strategy = strategy }) z
+property-is {s} {at} {start} {end} {kind} {first} {second} {third} {f} {l} {n} {z} {strategy} {o} {m} g k i j y = record {
+  what = property (part s start end) (k .what) o m (y .what);
+  stops = property-stops s at (g .stops) (k .stops) i j (y .stops);
+  is = record {
+    name = refl;
+    order = g .order;
+    within = g .stops .within;
+    kind = k .are;
+    optional = refl;
+    multivalued = refl;
+    strategy = y .number;
+  };
+}

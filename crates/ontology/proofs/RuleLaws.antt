@@ -1,0 +1,236 @@
+-- The laws of the rules of a type, on its index.
+use mathlib.Core.Path.{_≡_, refl, sym, ap, ap₂, _∙_}
+use mathlib.Core.Bool.{Bool, true, false, not, _&&_, _||_}
+use mathlib.Core.List.{List, [], _∷_, map}
+use Prim.Native.Nat.{ℕ, suc, _+_, _-_, _≤_, _<_, Ordering, Ordering·lt, Ordering·eq, Ordering·gt}
+use native.Mathlib.Omega.{arith}
+use lib.ListN.{length, drop, getD, getElem?, length-drop, drop-of-length-le}
+use lib.Seq.{drop-cons}
+use lib.Dec.{ltb, leb, eqb}
+use borrow.Author.Tests.{lt-ltb, eq-eqb, ne-eqb, eqb-false}
+use Rattle.model.specs.Order.{Text, texts, rising, pick}
+use Rattle.packed.specs.Located.{part}
+use Rattle.values.specs.Spaces.{kindNumber}
+use Rattle.ontology.specs.Table.{Property, EventType, strategyNumber, isVersioned, isOrdered, strategyFits, allFit, canBeMarked, markFits, namesRise}
+use Rattle.ontology.specs.declared.properties.PropertyAt.{PropertyAt}
+use Rattle.ontology.specs.declared.types.TypeIndex.{TypeIndex}
+use Rattle.ontology.specs.TypeIndex.{precedes, PropertyIs, propertyRules, TypeIs}
+use Rattle.ontology.proofs.RunLaws.{Nth, nth, map-length, past}
+
+and-right : (a : Bool) → (a && true) ≡ a
+and-right true = refl
+and-right false = refl
+
+and-never : (a : Bool) → (a && false) ≡ false
+and-never true = refl
+and-never false = refl
+
+-- one of three, by a comparison, where only the first is not false
+pub picked : (o : Ordering) (b : Bool) → pick o true false false ≡ true → pick o b false false ≡ b
+picked Ordering·lt b e = refl
+picked Ordering·eq b e = let z : _≡_ {A = ℕ} 0 1 = cc in absurd (omega arith)
+picked Ordering·gt b e = let z : _≡_ {A = ℕ} 0 1 = cc in absurd (omega arith)
+
+pub picked-not : (o : Ordering) (b : Bool) → pick o true false false ≡ false → pick o b false false ≡ false
+picked-not Ordering·lt b e = let z : _≡_ {A = ℕ} 0 1 = cc in absurd (omega arith)
+picked-not Ordering·eq b e = refl
+picked-not Ordering·gt b e = refl
+
+-- ---- a strategy, by numbers
+
+unfoldable fitsBy : ℕ → Bool → Bool → Bool → Bool → Bool
+fitsBy n o m d v = (not (eqb n 1 || eqb n 2) || (not o && not m && d)) && (not (eqb n 4) || (o && not m && v))
+
+module _ (s : List ℕ) (q : Property) (x : PropertyAt) (v : Bool) (w : PropertyIs s q x) where
+  fits-by : strategyFits v q ≡ fitsBy (x .strategy) (x .optional) (x .multivalued) (leb (x .kind) 6) v
+  unfolding strategyFits isOrdered fitsBy
+  fits-by =
+      model ∙ ap₂ (λ (n : ℕ) (d : Bool). fitsBy n (q .optional) (q .multivalued) d v) (sym (w .strategy)) (ap (λ (n : ℕ). leb n 6) (sym (w .kind .number)))
+      ∙ ap₂ (λ (o m : Bool). fitsBy (x .strategy) o m (leb (x .kind) 6) v) (sym (w .optional)) (sym (w .multivalued))
+    where
+      model : strategyFits v q ≡ fitsBy (strategyNumber (q .strategy)) (q .optional) (q .multivalued) (leb (kindNumber (q .kind)) 6) v
+      model = refl
+
+  -- min and max
+  fits-ordered : 1 ≤ x .strategy → x .strategy ≤ 2 → strategyFits v q ≡ (not (x .optional) && not (x .multivalued) && leb (x .kind) 6)
+  unfolding fitsBy
+  fits-ordered h k = fits-by ∙ go (x .strategy) (x .optional) (x .multivalued) (leb (x .kind) 6) h k
+    where
+      go : (n : ℕ) (o m d : Bool) → 1 ≤ n → n ≤ 2 → fitsBy n o m d v ≡ (not o && not m && d)
+      go n o m d h k = rw (ne-eqb n 4 (λ e. omega arith)) (and-right (not (eqb n 1 || eqb n 2) || (not o && not m && d)) ∙ one (eqb n 1) refl)
+        where
+          one : (t : Bool) → eqb n 1 ≡ t → (not (t || eqb n 2) || (not o && not m && d)) ≡ (not o && not m && d)
+          one true e = refl
+          one false e = rw (eq-eqb n 2 (omega (arith, eqb-false n 1 e)))
+
+  fits-replace : x .strategy ≡ 4 → strategyFits v q ≡ (x .optional && not (x .multivalued) && v)
+  unfolding fitsBy
+  fits-replace h = fits-by ∙ go (x .strategy) (x .optional) (x .multivalued) (leb (x .kind) 6) h
+    where
+      go : (n : ℕ) (o m d : Bool) → n ≡ 4 → fitsBy n o m d v ≡ (o && not m && v)
+      go n o m d h = rw h
+
+  pub fits-free : (x .strategy ≡ 1 → ⊥) → (x .strategy ≡ 2 → ⊥) → (x .strategy ≡ 4 → ⊥) → strategyFits v q ≡ true
+  unfolding fitsBy
+  fits-free h k l = fits-by ∙ go (x .strategy) (x .optional) (x .multivalued) (leb (x .kind) 6) h k l
+    where
+      go : (n : ℕ) (o m d : Bool) → (n ≡ 1 → ⊥) → (n ≡ 2 → ⊥) → (n ≡ 4 → ⊥) → fitsBy n o m d v ≡ true
+      go n o m d h k l = rw (ne-eqb n 1 h, ne-eqb n 2 k, ne-eqb n 4 l)
+
+  pub replace-many : x .strategy ≡ 4 → x .multivalued ≡ true → strategyFits v q ≡ false
+  replace-many h k =
+      fits-replace h ∙ ap (λ (m : Bool). x .optional && not m && v) k ∙ ap (λ (b : Bool). b && v) (and-never (x .optional))
+
+  pub replace-optional : x .strategy ≡ 4 → x .multivalued ≡ false → x .optional ≡ true → strategyFits v q ≡ v
+  replace-optional h k l = fits-replace h ∙ ap₂ (λ (o m : Bool). o && not m && v) l k
+
+  pub replace-mandatory : x .strategy ≡ 4 → x .optional ≡ false → strategyFits v q ≡ false
+  replace-mandatory h l = fits-replace h ∙ ap (λ (o : Bool). o && not (x .multivalued) && v) l
+
+  pub ordered-is : 1 ≤ x .strategy → x .strategy ≤ 2 → (not (x .optional) && not (x .multivalued)) ≡ true → strategyFits v q ≡ leb (x .kind) 6
+  ordered-is h k l = fits-ordered h k ∙ ap (λ (b : Bool). b && leb (x .kind) 6) l
+
+  pub ordered-not : 1 ≤ x .strategy → x .strategy ≤ 2 → (not (x .optional) && not (x .multivalued)) ≡ false → strategyFits v q ≡ false
+  ordered-not h k l = fits-ordered h k ∙ ap (λ (b : Bool). b && leb (x .kind) 6) l
+
+-- ---- the marked property, by numbers
+
+module _ (s : List ℕ) (q : Property) (x : PropertyAt) (w : PropertyIs s q x) where
+  marked-by : canBeMarked q ≡ (not (x .optional) && not (x .multivalued) && eqb (x .kind) 5 && eqb (x .strategy) 2)
+  unfolding canBeMarked
+  marked-by =
+      ap₂ (λ (n k : ℕ). not (q .optional) && not (q .multivalued) && eqb k 5 && eqb n 2) (sym (w .strategy)) (sym (w .kind .number))
+      ∙ ap₂ (λ (o m : Bool). not o && not m && eqb (x .kind) 5 && eqb (x .strategy) 2) (sym (w .optional)) (sym (w .multivalued))
+
+  pub marked-kind : (x .kind ≡ 5 → ⊥) → canBeMarked q ≡ false
+  marked-kind h = marked-by ∙ go (not (x .optional) && not (x .multivalued)) (eqb (x .kind) 5) (ne-eqb (x .kind) 5 h)
+    where
+      go : (a b : Bool) → b ≡ false → (a && b && eqb (x .strategy) 2) ≡ false
+      go a b h = ap (λ (b : Bool). a && b && eqb (x .strategy) 2) h ∙ ap (λ (b : Bool). b && eqb (x .strategy) 2) (and-never a)
+
+  pub marked-strategy : (x .strategy ≡ 2 → ⊥) → canBeMarked q ≡ false
+  marked-strategy h =
+      marked-by
+      ∙ ap (λ (b : Bool). not (x .optional) && not (x .multivalued) && eqb (x .kind) 5 && b) (ne-eqb (x .strategy) 2 h)
+      ∙ and-never (not (x .optional) && not (x .multivalued) && eqb (x .kind) 5)
+
+  pub marked-is : x .kind ≡ 5 → x .strategy ≡ 2 → canBeMarked q ≡ (not (x .optional) && not (x .multivalued))
+  marked-is h k =
+      marked-by
+      ∙ ap₂ (λ (b d : Bool). not (x .optional) && not (x .multivalued) && b && d) (eq-eqb (x .kind) 5 h) (eq-eqb (x .strategy) 2 k)
+      ∙ and-right (not (x .optional) && not (x .multivalued) && true)
+      ∙ and-right (not (x .optional) && not (x .multivalued))
+
+-- ---- all properties of a type
+
+abbrev nameOf : Property → Text
+nameOf p = p .name
+
+module _ (s : List ℕ) (t : EventType) (x : TypeIndex) (w : TypeIs s t x) where
+  -- the property at a place
+  pub at-place : (i : ℕ) → i < x .count → Nth nameOf (t .properties) i
+  at-place i h = nth nameOf (t .properties) i (omega (arith, w .count))
+
+  pub is-place : (i : ℕ) (h : i < x .count) (d : PropertyAt) → PropertyIs s (at-place i h .what) (getD (x .properties) i d)
+  is-place i h d = w .are .each i (at-place i h .what) d (at-place i h .is)
+
+  -- strategies
+  pub fit-not :
+      (k : ℕ) (h : k < x .count) → strategyFits (ltb 0 (x .mark)) (at-place k h .what) ≡ false →
+      allFit (isVersioned t) (drop k (t .properties)) ≡ false
+  unfolding allFit
+  fit-not k h e =
+      ap₂ (λ (m : ℕ) (l : List Property). allFit (ltb 0 m) l) (sym (w .mark)) (at-place k h .rest)
+      ∙ ap (λ (b : Bool). b && allFit (ltb 0 (x .mark)) (drop (k + 1) (t .properties))) e
+
+  pub fit-more :
+      (k : ℕ) (h : k < x .count) → strategyFits (ltb 0 (x .mark)) (at-place k h .what) ≡ true →
+      allFit (isVersioned t) (drop k (t .properties)) ≡ allFit (isVersioned t) (drop (k + 1) (t .properties))
+  unfolding allFit
+  fit-more k h e =
+      ap₂ (λ (m : ℕ) (l : List Property). allFit (ltb 0 m) l) (sym (w .mark)) (at-place k h .rest)
+      ∙ ap (λ (b : Bool). b && allFit (ltb 0 (x .mark)) (drop (k + 1) (t .properties))) e
+      ∙ ap (λ (m : ℕ). allFit (ltb 0 m) (drop (k + 1) (t .properties))) (w .mark)
+
+  pub fit-end : (k : ℕ) → x .count ≤ k → allFit (isVersioned t) (drop k (t .properties)) ≡ true
+  unfolding allFit
+  fit-end k h = ap (allFit (isVersioned t)) (drop-of-length-le (t .properties) (let z : length (t .properties) ≤ k = omega (arith, w .count) in z))
+
+  -- the mark
+  pub mark-none : x .mark ≡ 0 → (not (isVersioned t) || markFits (getElem? (t .properties) (t .mark - 1))) ≡ true
+  mark-none h = let e : t .mark ≡ 0 = sym (w .mark) ∙ h in ap (λ (m : ℕ). not (ltb 0 m) || markFits (getElem? (t .properties) (m - 1))) e
+
+  mark-some : 0 < x .mark → (not (isVersioned t) || markFits (getElem? (t .properties) (t .mark - 1))) ≡ markFits (getElem? (t .properties) (x .mark - 1))
+  mark-some h =
+      ap (λ (m : ℕ). not (ltb 0 m) || markFits (getElem? (t .properties) (m - 1))) (sym (w .mark))
+      ∙ ap (λ (b : Bool). not b || markFits (getElem? (t .properties) (x .mark - 1))) (lt-ltb 0 (x .mark) h)
+
+  pub mark-past : 0 < x .mark → x .count < x .mark → (not (isVersioned t) || markFits (getElem? (t .properties) (t .mark - 1))) ≡ false
+  unfolding markFits
+  mark-past h k = mark-some h ∙ ap markFits (past (t .properties) (x .mark - 1) (omega (arith, w .count)))
+
+  pub mark-is :
+      (h : 0 < x .mark) (k : x .mark - 1 < x .count) →
+      (not (isVersioned t) || markFits (getElem? (t .properties) (t .mark - 1))) ≡ canBeMarked (at-place (x .mark - 1) k .what)
+  unfolding markFits
+  mark-is h k = mark-some h ∙ ap markFits (at-place (x .mark - 1) k .is)
+
+  -- names
+  name-at : (i : ℕ) (h : i < x .count) (d : PropertyAt) → getD (map nameOf (t .properties)) i [] ≡ part s (getD (x .properties) i d .start) (getD (x .properties) i d .end)
+  name-at i h d = at-place i h .under ∙ sym (is-place i h d .name)
+
+  rise-step :
+      (k : ℕ) → 1 ≤ k → k < x .count → (d : PropertyAt) →
+      rising texts (drop (k - 1) (map nameOf (t .properties)))
+      ≡ pick (texts .cmp (part s (getD (x .properties) (k - 1) d .start) (getD (x .properties) (k - 1) d .end)) (part s (getD (x .properties) k d .start) (getD (x .properties) k d .end)))
+      (rising texts (drop k (map nameOf (t .properties)))) false false
+  unfolding rising
+  rise-step k p h d = go (map nameOf (t .properties)) (map-length nameOf (t .properties)) (name-at (k - 1) (omega arith) d) (name-at k h d)
+    where
+      go :
+          {a b : Text} (ns : List Text) → length ns ≡ length (t .properties) → getD ns (k - 1) [] ≡ a → getD ns k [] ≡ b →
+          rising texts (drop (k - 1) ns) ≡ pick (texts .cmp a b) (rising texts (drop k ns)) false false
+      go {a} {b} ns l e f =
+          let i : k - 1 < length ns = omega (arith, w .count) in
+          let j : k < length ns = omega (arith, w .count) in
+          let u : suc (k - 1) ≡ k = omega arith in
+          let y : drop k ns ≡ b ∷ drop (suc k) ns = drop-cons ns k [] j ∙ ap (λ (v : Text). v ∷ drop (suc k) ns) f in
+          let z : drop (k - 1) ns ≡ a ∷ b ∷ drop (suc k) ns = drop-cons ns (k - 1) [] i ∙ ap₂ (λ (v : Text) (l : List Text). v ∷ l) e (ap (λ (m : ℕ). drop m ns) u ∙ y) in
+          ap (rising texts) z ∙ ap (λ (l : List Text). pick (texts .cmp a b) (rising texts l) false false) (sym y)
+
+  pub rise-not :
+      (k : ℕ) → 1 ≤ k → k < x .count → (d : PropertyAt) →
+      precedes (part s (getD (x .properties) (k - 1) d .start) (getD (x .properties) (k - 1) d .end)) (part s (getD (x .properties) k d .start) (getD (x .properties) k d .end)) ≡ false →
+      rising texts (drop (k - 1) (map nameOf (t .properties))) ≡ false
+  rise-not k p h d e = rise-step k p h d ∙ picked-not (texts .cmp (part s (getD (x .properties) (k - 1) d .start) (getD (x .properties) (k - 1) d .end)) (part s (getD (x .properties) k d .start) (getD (x .properties) k d .end))) _ e
+
+  pub rise-more :
+      (k : ℕ) → 1 ≤ k → k < x .count → (d : PropertyAt) →
+      precedes (part s (getD (x .properties) (k - 1) d .start) (getD (x .properties) (k - 1) d .end)) (part s (getD (x .properties) k d .start) (getD (x .properties) k d .end)) ≡ true →
+      rising texts (drop (k - 1) (map nameOf (t .properties))) ≡ rising texts (drop (k + 1 - 1) (map nameOf (t .properties)))
+  rise-more k p h d e = rise-step k p h d ∙ picked (texts .cmp (part s (getD (x .properties) (k - 1) d .start) (getD (x .properties) (k - 1) d .end)) (part s (getD (x .properties) k d .start) (getD (x .properties) k d .end))) _ e ∙ ap (λ (m : ℕ). rising texts (drop m (map nameOf (t .properties)))) (let z : k ≡ k + 1 - 1 = omega arith in z)
+
+  pub rise-end : (k : ℕ) → 1 ≤ k → x .count ≤ k → rising texts (drop (k - 1) (map nameOf (t .properties))) ≡ true
+  unfolding rising
+  rise-end k p h = go (drop (k - 1) (map nameOf (t .properties))) (simp length-drop (omega (arith, w .count, map-length nameOf (t .properties))))
+    where
+      go : (ns : List Text) → length ns ≤ 1 → rising texts ns ≡ true
+      go [] h = refl
+      go (n ∷ []) h = refl
+      go (n ∷ m ∷ ns) h = absurd (omega arith)
+
+-- ---- all rules, in the order of their tests
+
+module _ (mark : ℕ) (qs : List Property) where
+  pub rules-unordered : namesRise (map nameOf qs) ≡ false → propertyRules mark qs ≡ false
+  unfolding propertyRules
+  rules-unordered h = rw h
+
+  module _ (h : namesRise (map nameOf qs) ≡ true) where
+    pub rules-unfit : allFit (ltb 0 mark) qs ≡ false → propertyRules mark qs ≡ false
+    unfolding propertyRules
+    rules-unfit k = rw (h, k)
+
+    pub rules-marked : allFit (ltb 0 mark) qs ≡ true → propertyRules mark qs ≡ (not (ltb 0 mark) || markFits (getElem? qs (mark - 1)))
+    unfolding propertyRules
+    rules-marked k = rw (h, k)

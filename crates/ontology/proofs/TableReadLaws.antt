@@ -1,0 +1,300 @@
+-- The laws of a table: its types one by one, in the order of their names, and the type of a name among them.
+use mathlib.Core.Path.{_≡_, refl, sym, ap, _∙_}
+use mathlib.Core.Bool.{Bool, true, false, cond}
+use mathlib.Core.Option.{Option, none, some}
+use mathlib.Core.List.{List, [], _∷_, _++_, map, append-nil}
+use Prim.Native.Nat.{ℕ, zero, suc, _-_, _≤_, _<_}
+use native.Mathlib.Omega.{arith}
+use lib.ListN.{length, drop, drop-of-length-le}
+use lib.Dec.{leb}
+use Rattle.model.specs.Order.{Text, texts, lists, lex, equal, rising, pick}
+use Rattle.packed.specs.Parse.{Parse, fail, got, Layout, andThen, foundIf, suchThat, times}
+use Rattle.packed.specs.Packed.{readNumber}
+use Rattle.packed.specs.Located.{part}
+use Rattle.packed.proofs.LayoutLaws.{suchThat-got}
+use Rattle.packed.proofs.ReadLaws.{drop-next}
+use Rattle.values.specs.Spaces.{isWithin}
+use Rattle.ontology.specs.Table.{EventType, Table, isName, isNameWithin, namesRise, typeRules, typeNamed}
+use Rattle.ontology.specs.TableLayout.{readType, readTable, tableOf}
+use Rattle.ontology.specs.Questions.{Reply}
+use Rattle.ontology.specs.TableCall.{replyToTable, tableCall}
+use Rattle.ontology.specs.declared.types.TypeRead.{TypeRead}
+use Rattle.ontology.specs.declared.tables.TableRead.{TableRead}
+use Rattle.ontology.specs.declared.tables.TableReply.the-variants.{Accepted, Refused}
+use Rattle.ontology.specs.TypeIndex.{Got, precedes, TypeIs, TypeReads, TypeSays, TableSays, tableReply}
+use Rattle.ontology.proofs.FieldLaws.{and-true}
+use Rattle.ontology.proofs.RunLaws.{prepend, prepend-nil, prepend-two, times-more, times-stop, times-end}
+use Rattle.ontology.proofs.RuleLaws.{picked, picked-not}
+use Rattle.ontology.proofs.TypeLaws.{rules-hold}
+
+-- ---- what a caller of `read_type` has
+
+pub record TypeGot (p : Parse EventType) (s : List ℕ) (at : ℕ) (r : TypeRead) : Type 0 where
+  pub what : EventType
+  pub is : p ≡ got what (drop (r .next) s)
+  pub after : at < r .next
+  pub within : r .next ≤ length s
+  pub index : TypeIs s what (r .index)
+
+pub type-got : (p : Parse EventType) (s : List ℕ) (at : ℕ) (r : TypeRead) → TypeReads p s at r → r .ok ≡ true → TypeGot p s at r
+unfolding TypeReads
+type-got fail s at r w h = let z : _≡_ {A = ℕ} 0 1 = cc in absurd (omega arith)
+type-got (got t u) s at r w h = record { what = t; is = ap (got t) (w .follows); after = w .after; within = w .within; index = w .is }
+
+pub type-not : (p : Parse EventType) (s : List ℕ) (at : ℕ) (r : TypeRead) → TypeReads p s at r → r .ok ≡ false → p ≡ fail
+unfolding TypeReads
+type-not fail s at r w h = refl
+type-not (got t u) s at r w h = let z : _≡_ {A = ℕ} 0 1 = cc (w .right) in absurd (omega arith)
+
+-- ---- the types that are left, each name above the one before
+
+abbrev nameOf : EventType → Text
+nameOf t = t .name
+
+abbrev readRuled : Layout EventType
+readRuled = suchThat typeRules readType
+
+-- so many types, whose names rise from `last` on
+unfoldable pub typesFrom : Text → ℕ → Layout (List EventType)
+typesFrom last n s = andThen (times readRuled n s) (λ ts. foundIf (rising texts (last ∷ map nameOf ts)) ts)
+
+module _ (last : Text) (n : ℕ) (s : List ℕ) where
+  pub types-none : 0 < n → readRuled s ≡ fail → typesFrom last n s ≡ fail
+  unfolding typesFrom
+  types-none h e = ap (λ (p : Parse (List EventType)). andThen p (λ ts. foundIf (rising texts (last ∷ map nameOf ts)) ts)) (times-stop readRuled n s h e)
+
+  pub types-end : n ≡ 0 → typesFrom last n s ≡ got [] s
+  unfolding typesFrom rising
+  types-end h = ap (λ (p : Parse (List EventType)). andThen p (λ ts. foundIf (rising texts (last ∷ map nameOf ts)) ts)) (times-end readRuled n s h)
+
+  module _ (t : EventType) (u : List ℕ) (h : 0 < n) (e : readRuled s ≡ got t u) where
+    types-step :
+        typesFrom last n s ≡
+        andThen (times readRuled (n - 1) u) (λ ts r. cond (pick (texts .cmp last (t .name)) (rising texts (t .name ∷ map nameOf ts)) false false) (got (t ∷ ts) r) fail)
+    unfolding typesFrom rising
+    types-step =
+        ap (λ (p : Parse (List EventType)). andThen p (λ ts. foundIf (rising texts (last ∷ map nameOf ts)) ts)) (times-more readRuled n s t u h e)
+        ∙ go (times readRuled (n - 1) u)
+      where
+        go :
+            (p : Parse (List EventType)) →
+            andThen (prepend (t ∷ []) p) (λ ts. foundIf (rising texts (last ∷ map nameOf ts)) ts)
+            ≡ andThen p (λ ts r. cond (pick (texts .cmp last (t .name)) (rising texts (t .name ∷ map nameOf ts)) false false) (got (t ∷ ts) r) fail)
+        go fail = refl
+        go (got ts r) = refl
+
+    pub types-low : precedes last (t .name) ≡ false → typesFrom last n s ≡ fail
+    types-low b = types-step ∙ go (times readRuled (n - 1) u)
+      where
+        go :
+            (p : Parse (List EventType)) →
+            andThen p (λ ts r. cond (pick (texts .cmp last (t .name)) (rising texts (t .name ∷ map nameOf ts)) false false) (got (t ∷ ts) r) fail) ≡ fail
+        go fail = refl
+        go (got ts r) = ap (λ (x : Bool). cond x (got (t ∷ ts) r) fail) (picked-not (texts .cmp last (t .name)) (rising texts (t .name ∷ map nameOf ts)) b)
+
+    pub types-more : precedes last (t .name) ≡ true → typesFrom last n s ≡ prepend (t ∷ []) (typesFrom (t .name) (n - 1) u)
+    unfolding typesFrom
+    types-more b = types-step ∙ go (times readRuled (n - 1) u)
+      where
+        go :
+            (p : Parse (List EventType)) →
+            andThen p (λ ts r. cond (pick (texts .cmp last (t .name)) (rising texts (t .name ∷ map nameOf ts)) false false) (got (t ∷ ts) r) fail)
+            ≡ prepend (t ∷ []) (andThen p (λ ts. foundIf (rising texts (t .name ∷ map nameOf ts)) ts))
+        go fail = refl
+        go (got ts r) =
+            ap (λ (x : Bool). cond x (got (t ∷ ts) r) fail) (picked (texts .cmp last (t .name)) (rising texts (t .name ∷ map nameOf ts)) b)
+            ∙ test (rising texts (t .name ∷ map nameOf ts))
+          where
+            test : (x : Bool) → cond x (got (t ∷ ts) r) fail ≡ prepend (t ∷ []) (cond x (got ts r) fail)
+            test true = refl
+            test false = refl
+
+-- every name comes after the empty text, so the first may be asked the same
+module _ (t : EventType) (h : typeRules t ≡ true) where
+  name-there : isName (t .name) ≡ true
+  unfolding isNameWithin
+  name-there = and-true (isName (t .name)) (leb (length (t .name)) 64) (rules-hold t h .name) .0
+
+  first-name : (ns : List Text) → rising texts (t .name ∷ ns) ≡ rising texts ([] ∷ t .name ∷ ns)
+  unfolding rising texts lists lex isName
+  first-name ns = go (t .name) name-there
+    where
+      go : (v : Text) → isName v ≡ true → rising texts (v ∷ ns) ≡ rising texts ([] ∷ v ∷ ns)
+      go [] e = let z : _≡_ {A = ℕ} 0 1 = cc in absurd (omega arith)
+      go (b ∷ v) e = refl
+
+all-from : (n : ℕ) (s : List ℕ) → andThen (times readRuled n s) (λ ts. foundIf (namesRise (map nameOf ts)) ts) ≡ typesFrom [] n s
+unfolding typesFrom namesRise times rising
+all-from zero s = refl
+all-from (suc n) s = go (readRuled s) refl
+  where
+    go :
+        (p : Parse EventType) → readRuled s ≡ p →
+        andThen (andThen p (λ a r. andThen (times readRuled n r) (λ xs t. got (a ∷ xs) t))) (λ ts. foundIf (rising texts (map nameOf ts)) ts)
+        ≡ andThen (andThen p (λ a r. andThen (times readRuled n r) (λ xs t. got (a ∷ xs) t))) (λ ts. foundIf (rising texts ([] ∷ map nameOf ts)) ts)
+    go fail e = refl
+    go (got t r) e = rest (times readRuled n r)
+      where
+        rest :
+            (p : Parse (List EventType)) →
+            andThen (andThen p (λ xs u. got (t ∷ xs) u)) (λ ts. foundIf (rising texts (map nameOf ts)) ts)
+            ≡ andThen (andThen p (λ xs u. got (t ∷ xs) u)) (λ ts. foundIf (rising texts ([] ∷ map nameOf ts)) ts)
+        rest fail = refl
+        rest (got ts u) =
+            ap (λ (x : Bool). cond x (got (t ∷ ts) u) fail) (first-name t (suchThat-got typeRules readType s t r e .test) (map nameOf ts))
+
+-- ---- the table
+
+pub table-none : (s : List ℕ) → suchThat (isWithin 1 16) readNumber (drop 0 s) ≡ fail → readTable s ≡ fail
+unfolding readTable
+table-none s e = rw e
+
+pub table-from : (s : List ℕ) {n next : ℕ} → Got (suchThat (isWithin 1 16) readNumber (drop 0 s)) s 0 n next → readTable s ≡ typesFrom [] n (drop next s)
+unfolding readTable
+table-from s {n} {next} g =
+    ap (λ (p : Parse ℕ). andThen p (λ count r. andThen (times readRuled count r) (λ ts. foundIf (namesRise (map nameOf ts)) ts))) (g .is) ∙ all-from n (drop next s)
+
+-- The types before `at` are read, and r has the type of the name among them
+pub record Listed (s : List ℕ) (name : Text) (r : TableRead) (left at start end : ℕ) : Type 0 where
+  pub before : List EventType
+  pub rest : readTable s ≡ prepend before (typesFrom (part s start end) left (drop at s))
+  pub within : at ≤ length s
+  pub order : start ≤ end
+  pub ends : end ≤ length s
+  pub unset : r .ok ≡ false
+  pub says : TypeSays (typeNamed name before) s r
+
+pub listed-none :
+    (s : List ℕ) (name : Text) (r : TableRead) {n next : ℕ} → Got (suchThat (isWithin 1 16) readNumber (drop 0 s)) s 0 n next →
+    r .ok ≡ false → r .found ≡ false → Listed s name r n next 0 0
+unfolding TypeSays typeNamed
+listed-none s name r {n} {next} g h k = record {
+  before = [];
+  rest = table-from s g ∙ prepend-nil (typesFrom [] n (drop next s));
+  within = g .within;
+  order = omega arith;
+  ends = omega arith;
+  unset = h;
+  says = k;
+}
+
+module _ {s : List ℕ} {name : Text} {r : TableRead} {left at start end : ℕ} (w : Listed s name r left at start end) where
+  pub listed-bad : 0 < left → readRuled (drop at s) ≡ fail → readTable s ≡ fail
+  listed-bad h e = w .rest ∙ ap (prepend (w .before)) (types-none (part s start end) left (drop at s) h e)
+
+  module _ {t : TypeRead} (h : 0 < left) (g : TypeGot (readRuled (drop at s)) s at t) where
+    pub listed-low : precedes (part s start end) (part s (t .index .start) (t .index .end)) ≡ false → readTable s ≡ fail
+    listed-low b =
+        w .rest
+        ∙ ap (prepend (w .before)) (types-low (part s start end) left (drop at s) (g .what) (drop (t .next) s) h (g .is) (ap (precedes (part s start end)) (sym (g .index .name)) ∙ b))
+
+    pub listed-more :
+        (q : TableRead) → precedes (part s start end) (part s (t .index .start) (t .index .end)) ≡ true → q .ok ≡ r .ok →
+        (TypeSays (typeNamed name (w .before)) s r → TypeSays (typeNamed name (w .before ++ (g .what ∷ []))) s q) →
+        Listed s name q (left - 1) (t .next) (t .index .start) (t .index .end)
+    listed-more q b o k = record {
+      before = w .before ++ (g .what ∷ []);
+      rest =
+          w .rest
+          ∙ ap (prepend (w .before)) (types-more (part s start end) left (drop at s) (g .what) (drop (t .next) s) h (g .is) (ap (precedes (part s start end)) (sym (g .index .name)) ∙ b))
+          ∙ prepend-two (w .before) (g .what ∷ []) (typesFrom (g .what .name) (left - 1) (drop (t .next) s))
+          ∙ ap (λ (v : Text). prepend (w .before ++ (g .what ∷ [])) (typesFrom v (left - 1) (drop (t .next) s))) (sym (g .index .name));
+      within = g .within;
+      order = g .index .order;
+      ends = g .index .within;
+      unset = o ∙ w .unset;
+      says = k (w .says);
+    }
+
+  listed-all : left ≡ 0 → readTable s ≡ got (w .before) (drop at s)
+  listed-all h =
+      w .rest ∙ ap (prepend (w .before)) (types-end (part s start end) left (drop at s) h) ∙ ap (λ (l : List EventType). got l (drop at s)) (append-nil (w .before))
+
+  pub listed-exact : left ≡ 0 → at ≡ length s → TableSays (tableOf s) s name (record { ok = true; found = r .found; index = r .index })
+  unfolding TableSays TypeSays tableOf
+  listed-exact h e =
+      let z : length s ≤ at = omega arith in
+      rw (listed-all h, drop-of-length-le s z) (refl, again (typeNamed name (w .before)) (w .says))
+    where
+      again : (o : Option EventType) → TypeSays o s r → TypeSays o s (record { ok = true; found = r .found; index = r .index })
+      again none k = k
+      again (some t) k = k
+
+  pub listed-early : left ≡ 0 → (at ≡ length s → ⊥) → TableSays (tableOf s) s name r
+  unfolding TableSays tableOf
+  listed-early h e =
+      let z : at < length s = omega (arith, w .within, e) in
+      rw (listed-all h, drop-next s at z) (w .unset)
+
+pub table-fail : (s : List ℕ) (name : Text) (r : TableRead) → readTable s ≡ fail → r .ok ≡ false → TableSays (tableOf s) s name r
+unfolding TableSays tableOf
+table-fail s name r e h = rw e h
+
+-- ---- the type of a name
+
+named-some : (n : Text) (ts : List EventType) (t u : EventType) → typeNamed n ts ≡ some u → typeNamed n (ts ++ (t ∷ [])) ≡ some u
+unfolding typeNamed
+named-some n [] t u e = let z : _≡_ {A = ℕ} 0 1 = cc in absurd (omega arith)
+named-some n (x ∷ ts) t u e = go (equal texts n (x .name)) (λ q. named-some n ts t u q) e
+  where
+    go :
+        (b : Bool) → (typeNamed n ts ≡ some u → typeNamed n (ts ++ (t ∷ [])) ≡ some u) → cond b (some x) (typeNamed n ts) ≡ some u →
+        cond b (some x) (typeNamed n (ts ++ (t ∷ []))) ≡ some u
+    go true f e = e
+    go false f e = f e
+
+named-none : (n : Text) (ts : List EventType) (t : EventType) → typeNamed n ts ≡ none → typeNamed n (ts ++ (t ∷ [])) ≡ cond (equal texts n (t .name)) (some t) none
+unfolding typeNamed
+named-none n [] t e = refl
+named-none n (x ∷ ts) t e = go (equal texts n (x .name)) (λ q. named-none n ts t q) e
+  where
+    go :
+        (b : Bool) → (typeNamed n ts ≡ none → typeNamed n (ts ++ (t ∷ [])) ≡ cond (equal texts n (t .name)) (some t) none) →
+        cond b (some x) (typeNamed n ts) ≡ none → cond b (some x) (typeNamed n (ts ++ (t ∷ []))) ≡ cond (equal texts n (t .name)) (some t) none
+    go true f e = let z : _≡_ {A = ℕ} 0 1 = cc in absurd (omega arith)
+    go false f e = f e
+
+module _ (n : Text) (ts : List EventType) (t : EventType) (s : List ℕ) (r : TableRead) (w : TypeSays (typeNamed n ts) s r) where
+  pub keep-old : r .found ≡ true → TypeSays (typeNamed n (ts ++ (t ∷ []))) s r
+  unfolding TypeSays
+  keep-old h = go (typeNamed n ts) refl w
+    where
+      go : (o : Option EventType) → typeNamed n ts ≡ o → TypeSays o s r → TypeSays (typeNamed n (ts ++ (t ∷ []))) s r
+      go none e k = let z : _≡_ {A = ℕ} 0 1 = cc in absurd (omega arith)
+      go (some u) e k = rw (named-some n ts t u e) k
+
+  none-yet : r .found ≡ false → typeNamed n ts ≡ none
+  unfolding TypeSays
+  none-yet h = go (typeNamed n ts) w
+    where
+      go : (o : Option EventType) → TypeSays o s r → o ≡ none
+      go none k = refl
+      go (some u) k = let y = k .0 in let z : _≡_ {A = ℕ} 0 1 = cc in absurd (omega arith)
+
+  pub keep-new :
+      (q : TableRead) → r .found ≡ false → equal texts n (t .name) ≡ true → q .found ≡ true → TypeIs s t (q .index) →
+      TypeSays (typeNamed n (ts ++ (t ∷ []))) s q
+  unfolding TypeSays
+  keep-new q h e f k = rw (named-none n ts t (none-yet h), e) (f, k)
+
+  pub keep-none : r .found ≡ false → equal texts n (t .name) ≡ false → TypeSays (typeNamed n (ts ++ (t ∷ []))) s r
+  unfolding TypeSays
+  keep-none h e = rw (named-none n ts t (none-yet h), e) h
+
+-- ---- the call
+
+pub reply-refused : (s : List ℕ) (name : Text) (r : TableRead) → TableSays (tableOf s) s name r → r .ok ≡ false → tableReply (Refused 2) ≡ tableCall s
+unfolding TableSays tableReply tableCall replyToTable
+reply-refused s name r w h = go (tableOf s) w
+  where
+    go : (o : Option Table) → TableSays o s name r → Reply.refused 2 ≡ replyToTable o
+    go none k = refl
+    go (some ts) k = let y = k .0 in let z : _≡_ {A = ℕ} 0 1 = cc in absurd (omega arith)
+
+pub reply-accepted : (s : List ℕ) (name : Text) (r : TableRead) → TableSays (tableOf s) s name r → r .ok ≡ true → tableReply Accepted ≡ tableCall s
+unfolding TableSays tableReply tableCall replyToTable
+reply-accepted s name r w h = go (tableOf s) w
+  where
+    go : (o : Option Table) → TableSays o s name r → Reply.done 0 ≡ replyToTable o
+    go none k = let z : _≡_ {A = ℕ} 0 1 = cc in absurd (omega arith)
+    go (some ts) k = refl

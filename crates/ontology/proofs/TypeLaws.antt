@@ -1,0 +1,307 @@
+-- The laws of a type: what stands before its properties, its properties one by one, and its rules.
+use mathlib.Core.Path.{_≡_, refl, sym, ap, ap₂, _∙_, subst}
+use mathlib.Core.Logic.{_⊎_, inl, inr}
+use mathlib.Core.Bool.{Bool, true, false, cond, not, _&&_, _||_}
+use mathlib.Core.Option.{some}
+use mathlib.Core.List.{List, [], _∷_, _++_, map, append-nil}
+use Prim.Native.Nat.{ℕ, _+_, _-_, _≤_, _<_}
+use native.Mathlib.Omega.{arith}
+use lib.ListN.{length, drop, getD, getElem?, set, length-append, length-set}
+use lib.Seq.{getD-set-same, getD-set-other}
+use lib.Dec.{leb}
+use borrow.Author.Tests.{le-leb, leb-true}
+use Rattle.model.specs.Order.{Text}
+use Rattle.packed.specs.Parse.{Parse, fail, got, andThen, found, foundIf, suchThat, times}
+use Rattle.packed.specs.Packed.{readNumber, readText}
+use Rattle.packed.specs.Located.{part}
+use Rattle.packed.proofs.LayoutLaws.{andThen-got, suchThat-got}
+use Rattle.values.specs.Spaces.{isWithin}
+use Rattle.ontology.specs.Table.{Property, EventType, isNameWithin, namesRise, allFit, markFits, isVersioned, typeRules}
+use Rattle.ontology.specs.TableLayout.{readProperty, readType}
+use Rattle.ontology.specs.declared.properties.PropertyAt.{PropertyAt}
+use Rattle.ontology.specs.declared.types.HeadRead.{HeadRead}
+use Rattle.ontology.specs.declared.types.HeadRead.the-variants.{Head, NoHead}
+use Rattle.ontology.specs.declared.types.PropertiesRead.{PropertiesRead}
+use Rattle.ontology.specs.declared.types.TypeIndex.{TypeIndex}
+use Rattle.ontology.specs.declared.types.TypeRead.{TypeRead}
+use Rattle.ontology.specs.TypeIndex.{Got, PropertyIs, PropertyStops, PropertiesAre, PropertiesStop, PropertiesSay, propertyRules, typeOf, HeadStops, HeadReads, TypeIs, TypeReads}
+use Rattle.ontology.proofs.FieldLaws.{and-true, such-never, such-was, within-bounds, is-within}
+use Rattle.ontology.proofs.RunLaws.{prepend, prepend-nil, prepend-two, times-more, times-stop, times-end, times-length, snoc-at}
+
+-- what is known of a call's answer in the arm of a `match`
+pub head-got : {s : List ℕ} {at : ℕ} {r : HeadRead} {a e m n f : ℕ} → r ≡ Head a e m n f → HeadReads s at r → HeadStops s at a e m n f
+head-got {s} {at} h w = subst (HeadReads s at) h w
+
+pub head-fail : (s : List ℕ) (at : ℕ) {r : HeadRead} → r ≡ NoHead → HeadReads s at r → suchThat typeRules readType (drop at s) ≡ fail
+head-fail s at h w = subst (HeadReads s at) h w
+
+-- ---- the rules of a type
+
+-- what they come to
+pub record RulesHold (t : EventType) : Type 0 where
+  pub name : isNameWithin 64 (t .name) ≡ true
+  pub definition : 1 ≤ t .definition
+  pub least : 1 ≤ length (t .properties)
+  pub most : length (t .properties) ≤ 32
+  pub others : propertyRules (t .mark) (t .properties) ≡ true
+
+pub rules-hold : (t : EventType) → typeRules t ≡ true → RulesHold t
+unfolding typeRules propertyRules
+rules-hold t e =
+    let n = isNameWithin 64 (t .name) in
+    let d = leb 1 (t .definition) in
+    let l = leb 1 (length (t .properties)) in
+    let m = leb (length (t .properties)) 32 in
+    let r = namesRise (map (λ (p : Property). p .name) (t .properties)) in
+    let f = allFit (isVersioned t) (t .properties) in
+    let k = not (isVersioned t) || markFits (getElem? (t .properties) (t .mark - 1)) in
+    let a = and-true (n && d && l && m && r && f) k e in
+    let b = and-true (n && d && l && m && r) f (a .0) in
+    let c = and-true (n && d && l && m) r (b .0) in
+    let g = and-true (n && d && l) m (c .0) in
+    let h = and-true (n && d) l (g .0) in
+    let i = and-true n d (h .0) in
+    record {
+      name = i .0;
+      definition = leb-true 1 (t .definition) (i .1);
+      least = leb-true 1 (length (t .properties)) (h .1);
+      most = leb-true (length (t .properties)) 32 (g .1);
+      others = ap₂ (λ (x y : Bool). x && y && k) (c .1) (b .1) ∙ a .1;
+    }
+
+rules-are :
+    (name : Text) (definition mark : ℕ) (qs : List Property) → isNameWithin 64 name ≡ true → 1 ≤ definition → 1 ≤ length qs → length qs ≤ 32 →
+    typeRules (typeOf name definition mark qs) ≡ propertyRules mark qs
+unfolding typeRules propertyRules
+rules-are name definition mark qs h k l m = rw (h, le-leb 1 definition k, le-leb 1 (length qs) l, le-leb (length qs) 32 m)
+
+-- ---- a type that was read, by its parts
+
+pub record TypeWas (s : List ℕ) (t : EventType) (r : List ℕ) : Type 0 where
+  pub after-name : List ℕ
+  pub after-definition : List ℕ
+  pub after-mark : List ℕ
+  pub after-count : List ℕ
+  pub count : ℕ
+  pub name : readText s ≡ got (t .name) after-name
+  pub definition : readNumber after-name ≡ got (t .definition) after-definition
+  pub mark : readNumber after-definition ≡ got (t .mark) after-mark
+  pub counted : readNumber after-mark ≡ got count after-count
+  pub properties : times readProperty count after-count ≡ got (t .properties) r
+  pub long : length (t .properties) ≡ count
+
+pub type-was : (s : List ℕ) (t : EventType) (r : List ℕ) → readType s ≡ got t r → TypeWas s t r
+unfolding readType
+type-was s t r e =
+    let a = andThen-got (readText s) _ t r e in
+    let b = andThen-got (readNumber (a .left)) _ t r (a .second) in
+    let c = andThen-got (readNumber (b .left)) _ t r (b .second) in
+    let d = andThen-got (readNumber (c .left)) _ t r (c .second) in
+    let f = andThen-got (times readProperty (d .value) (d .left)) _ t r (d .second) in
+    let x : typeOf (a .value) (b .value) (c .value) (f .value) ≡ t = cc (f .second) in
+    let y : f .left ≡ r = cc (f .second) in
+    let z : f .value ≡ t .properties = ap (λ (u : EventType). u .properties) x in
+    record {
+      after-name = a .left;
+      after-definition = b .left;
+      after-mark = c .left;
+      after-count = d .left;
+      count = d .value;
+      name = a .first ∙ ap (λ (u : EventType). got (u .name) (a .left)) x;
+      definition = b .first ∙ ap (λ (u : EventType). got (u .definition) (b .left)) x;
+      mark = c .first ∙ ap (λ (u : EventType). got (u .mark) (c .left)) x;
+      counted = d .first;
+      properties = f .first ∙ ap₂ got z y;
+      long = ap length (sym z) ∙ times-length readProperty (d .value) (d .left) (f .value) (f .left) (f .first);
+    }
+
+-- a layout of types fails where no type of it meets the rules
+type-fail : (s : List ℕ) → ((t : EventType) (r : List ℕ) → TypeWas s t r → RulesHold t → _≡_ {A = ℕ} 0 1) → suchThat typeRules readType s ≡ fail
+type-fail s never = go (suchThat typeRules readType s) refl
+  where
+    go : (p : Parse EventType) → suchThat typeRules readType s ≡ p → p ≡ fail
+    go fail e = refl
+    go (got t r) e =
+        let w = suchThat-got typeRules readType s t r e in
+        let z = never t r (type-was s t r (w .was)) (rules-hold t (w .test)) in
+        absurd (omega arith)
+
+-- ---- what stands before the properties, each for a return of `read_head`
+
+module _ (s : List ℕ) (at : ℕ) where
+  pub head-no-name : suchThat (isNameWithin 64) readText (drop at s) ≡ fail → suchThat typeRules readType (drop at s) ≡ fail
+  head-no-name h = type-fail (drop at s) (λ t r w k. such-never (isNameWithin 64) readText s at h (w .name) (k .name))
+
+  module _ {v : Text} {e : ℕ} (g : Got (readText (drop at s)) s at v e) where
+    pub head-no-definition : readNumber (drop e s) ≡ fail → suchThat typeRules readType (drop at s) ≡ fail
+    head-no-definition h = type-fail (drop at s) (λ t r w k. cc)
+
+    module _ {d f : ℕ} (h : Got (readNumber (drop e s)) s e d f) where
+      pub head-undefined : d ≡ 0 → suchThat typeRules readType (drop at s) ≡ fail
+      head-undefined i = type-fail (drop at s) (λ t r w k. let z : t .definition ≡ d = cc in omega (arith, k .definition))
+
+      pub head-no-mark : readNumber (drop f s) ≡ fail → suchThat typeRules readType (drop at s) ≡ fail
+      head-no-mark i = type-fail (drop at s) (λ t r w k. cc)
+
+      module _ {m l : ℕ} (i : Got (readNumber (drop f s)) s f m l) where
+        pub head-no-count : suchThat (isWithin 1 32) readNumber (drop l s) ≡ fail → suchThat typeRules readType (drop at s) ≡ fail
+        head-no-count j = type-fail (drop at s) (λ t r w k.
+            let y : readNumber (drop l s) ≡ got (w .count) (w .after-count) = cc in
+            let b : isWithin 1 32 (w .count) ≡ true = is-within 1 32 (w .count) (omega (arith, k .least, w .long)) (omega (arith, k .most, w .long)) in
+            such-never (isWithin 1 32) readNumber s l j y b)
+
+        module _ {n z : ℕ} (j : Got (suchThat (isWithin 1 32) readNumber (drop l s)) s l n z) where
+          few : (1 ≤ n) × (n ≤ 32)
+          few = within-bounds 1 32 n (such-was (isWithin 1 32) readNumber s l j .1)
+
+          pub head-is : {start : ℕ} → v ≡ part s start e → start ≤ e → isNameWithin 64 v ≡ true → (d ≡ 0 → ⊥) → HeadStops s at start e m n z
+          unfolding readType
+          head-is {start} q o name def = record {
+            definition = d;
+            is = rw (g .is, h .is, i .is, such-was (isWithin 1 32) readNumber s l j .0 .is) (go (times readProperty n (drop z s)) refl);
+            order = o;
+            ends = g .within;
+            few = few .1;
+            after = omega (arith, g .after, h .after, i .after, j .after);
+            within = j .within;
+          }
+            where
+              go :
+                  (p : Parse (List Property)) → times readProperty n (drop z s) ≡ p →
+                  andThen (andThen p (λ qs. found (typeOf v d m qs))) (λ t. foundIf (typeRules t) t)
+                  ≡ andThen p (λ qs. foundIf (propertyRules m qs) (typeOf (part s start e) d m qs))
+              go fail x = refl
+              go (got qs r) x =
+                  let len = times-length readProperty n (drop z s) qs r x in
+                  ap (λ (b : Bool). cond b (got (typeOf v d m qs) r) fail) (rules-are v d m qs name (omega arith) (omega (arith, few)) (omega (arith, few)))
+                  ∙ ap (λ (u : Text). cond (propertyRules m qs) (got (typeOf u d m qs) r) fail) q
+
+-- ---- properties, one by one
+
+pub record Filled (p : Parse (List Property)) (s : List ℕ) (at : ℕ) (xs : List PropertyAt) (next k count : ℕ) : Type 0 where
+  pub before : List Property
+  pub long : length before ≡ k
+  pub few : k ≤ count
+  pub rest : p ≡ prepend before (times readProperty (count - k) (drop next s))
+  pub low : at ≤ next
+  pub within : next ≤ length s
+  pub are : PropertiesAre s before xs
+  pub size : length xs ≡ 32
+
+pub filled-none : (s : List ℕ) (at count : ℕ) (xs : List PropertyAt) → at ≤ length s → length xs ≡ 32 → Filled (times readProperty count (drop at s)) s at xs at 0 count
+filled-none s at count xs h z = record {
+  before = [];
+  long = refl;
+  few = omega arith;
+  rest = prepend-nil (times readProperty count (drop at s)) ∙ ap (λ (n : ℕ). prepend [] (times readProperty n (drop at s))) (let e : count ≡ count - 0 = omega arith in e);
+  low = omega arith;
+  within = h;
+  are = record { each = λ i q d e. let y : _≡_ {A = ℕ} 0 1 = cc in absurd (omega arith) };
+  size = z;
+}
+
+module _ {p : Parse (List Property)} {s : List ℕ} {at : ℕ} {xs : List PropertyAt} {next k count : ℕ} (w : Filled p s at xs next k count) where
+  pub filled-bad : k < count → readProperty (drop next s) ≡ fail → p ≡ fail
+  filled-bad h e = w .rest ∙ ap (prepend (w .before)) (times-stop readProperty (count - k) (drop next s) (omega arith) e)
+
+  pub filled-more : (x : PropertyAt) (e : ℕ) → k < count → count ≤ 32 → PropertyStops (readProperty (drop next s)) s next x e → Filled p s at (set xs k x) e (k + 1) count
+  filled-more x e h m t = record {
+    before = w .before ++ (t .what ∷ []);
+    long = length-append (w .before) (t .what ∷ []) ∙ ap (λ (n : ℕ). n + 1) (w .long);
+    few = omega arith;
+    rest =
+        w .rest
+        ∙ ap (prepend (w .before)) (times-more readProperty (count - k) (drop next s) (t .what) (drop e s) (omega arith) (t .stops .is))
+        ∙ prepend-two (w .before) (t .what ∷ []) (times readProperty (count - k - 1) (drop e s))
+        ∙ ap (λ (n : ℕ). prepend (w .before ++ (t .what ∷ [])) (times readProperty n (drop e s))) (let z : count - k - 1 ≡ count - (k + 1) = omega arith in z);
+    low = omega (arith, w .low, t .stops .after);
+    within = t .stops .within;
+    are = record { each = λ i q d f. one i q d (snoc-at (w .before) (t .what) i q f) };
+    size = length-set xs k x ∙ w .size;
+  }
+    where
+      one :
+          (i : ℕ) (q : Property) (d : PropertyAt) →
+          ((i < length (w .before)) × (getElem? (w .before) i ≡ some q)) ⊎ ((i ≡ length (w .before)) × (t .what ≡ q)) → PropertyIs s q (getD (set xs k x) i d)
+      one i q d (inl a) =
+          let ne : i ≡ k → ⊥ = λ b. omega (arith, a .0, w .long) in
+          subst (PropertyIs s q) (sym (getD-set-other xs k i x d ne)) (w .are .each i q d (a .1))
+      one i q d (inr a) =
+          let b : k ≡ i = sym (a .0 ∙ w .long) in
+          let f : getD (set xs k x) i d ≡ x = ap (λ (j : ℕ). getD (set xs k x) j d) (sym b) ∙ getD-set-same xs k x d (omega (arith, w .size)) in
+          subst (PropertyIs s q) (sym f) (subst (λ (u : Property). PropertyIs s u x) (a .1) (t .is))
+
+  pub filled-all : count ≤ k → p ≡ got (w .before) (drop next s)
+  filled-all h =
+      w .rest ∙ ap (prepend (w .before)) (times-end readProperty (count - k) (drop next s) (omega (arith, w .few)))
+      ∙ ap (λ (l : List Property). got l (drop next s)) (append-nil (w .before))
+
+pub say-fail : (p : Parse (List Property)) (s : List ℕ) (at : ℕ) (r : PropertiesRead) → p ≡ fail → r .ok ≡ false → PropertiesSay p s at r
+unfolding PropertiesSay
+say-fail p s at r e h = rw e h
+
+pub say-got : (p : Parse (List Property)) (s : List ℕ) (at : ℕ) (qs : List Property) (t : List ℕ) (r : PropertiesRead) → p ≡ got qs t → PropertiesStop s at qs t r → PropertiesSay p s at r
+unfolding PropertiesSay
+say-got p s at qs t r e h = rw e h
+
+pub said-fail : (p : Parse (List Property)) (s : List ℕ) (at : ℕ) (r : PropertiesRead) → PropertiesSay p s at r → r .ok ≡ false → p ≡ fail
+unfolding PropertiesSay
+said-fail fail s at r w h = refl
+said-fail (got qs t) s at r w h = let z : _≡_ {A = ℕ} 0 1 = cc (w .right) in absurd (omega arith)
+
+pub record Said (p : Parse (List Property)) (s : List ℕ) (at : ℕ) (r : PropertiesRead) : Type 0 where
+  pub what : List Property
+  pub is : p ≡ got what (drop (r .next) s)
+  pub stops : PropertiesStop s at what (drop (r .next) s) r
+
+pub said-got : (p : Parse (List Property)) (s : List ℕ) (at : ℕ) (r : PropertiesRead) → PropertiesSay p s at r → r .ok ≡ true → Said p s at r
+unfolding PropertiesSay
+said-got fail s at r w h = let z : _≡_ {A = ℕ} 0 1 = cc in absurd (omega arith)
+said-got (got qs t) s at r w h = record { what = qs; is = ap (got qs) (w .follows); stops = subst (λ (u : List ℕ). PropertiesStop s at qs u r) (w .follows) w }
+
+-- ---- the type
+
+pub type-none : (p : Parse EventType) (s : List ℕ) (at : ℕ) (r : TypeRead) → p ≡ fail → r .ok ≡ false → TypeReads p s at r
+unfolding TypeReads
+type-none p s at r e h = rw e h
+
+module _ {s : List ℕ} {at start end mark count next : ℕ} (w : HeadStops s at start end mark count next) where
+  pub type-short : times readProperty count (drop next s) ≡ fail → suchThat typeRules readType (drop at s) ≡ fail
+  type-short e = w .is ∙ ap (λ (p : Parse (List Property)). andThen p (λ qs. foundIf (propertyRules mark qs) (typeOf (part s start end) (w .definition) mark qs))) e
+
+  module _ {r : PropertiesRead} (u : Said (times readProperty count (drop next s)) s next r) where
+    -- the type that was read, if it meets the rules
+    abbrev pub headed : EventType
+    headed = typeOf (part s start end) (w .definition) mark (u .what)
+
+    abbrev pub indexed : TypeIndex
+    indexed = record { start = start; end = end; mark = mark; count = count; properties = r .properties }
+
+    pub type-is : TypeIs s headed indexed
+    type-is = record {
+      name = refl;
+      order = w .order;
+      within = w .ends;
+      mark = refl;
+      count = sym (times-length readProperty count (drop next s) (u .what) (drop (r .next) s) (u .is));
+      few = w .few;
+      are = u .stops .are;
+    }
+
+    pub type-reads :
+        (b : Bool) → b ≡ propertyRules mark (u .what) →
+        TypeReads (suchThat typeRules readType (drop at s)) s at (record { ok = b; next = r .next; index = indexed })
+    unfolding TypeReads
+    type-reads b e =
+        rw (w .is ∙ ap (λ (p : Parse (List Property)). andThen p (λ qs. foundIf (propertyRules mark qs) (typeOf (part s start end) (w .definition) mark qs))) (u .is))
+        (go (propertyRules mark (u .what)) b e)
+      where
+        go : (x b : Bool) → b ≡ x → TypeReads (cond x (got headed (drop (r .next) s)) fail) s at (record { ok = b; next = r .next; index = indexed })
+        go true b e = record {
+          right = e;
+          follows = refl;
+          after = omega (arith, w .after, u .stops .after);
+          within = u .stops .within;
+          is = type-is;
+        }
+        go false b e = e

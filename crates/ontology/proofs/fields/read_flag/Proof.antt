@@ -1,0 +1,29 @@
+use Rattle.ontology.proofs.FieldLaws.{number-fail, number-got, flag-none, flag-is}
+use borrow.Author.Needs.{needs}
+use Rattle.ontology.proofs.fields.read_flag.Statement.{statement}
+use Rattle.ontology.proofs.fields.read_flag.Tie as tie
+use Rattle.ontology.proofs.fields.read_flag.Reads as reads
+use Rattle.ontology.proofs.fields.read_flag.Lts as lts
+use Rattle.ontology.proofs.fields.read_within.Reads as read-within-reads
+
+read-within-requires : tie.Need-read-within-requires
+read-within-requires c κs = search needs
+
+enum-known-n : tie.Need-enum-known-n
+enum-known-n c = search needs
+
+enum-told : tie.Need-enum-told
+enum-told c = search needs
+
+returns : tie.Need-returns
+returns c =
+    let a = c .before .before .before .before .args in
+    flag-none (a .s .now) (a .at) (number-fail (a .s .now) (a .at) (c .enum-told .given .1) (c .before .before .read-within .ensures))
+
+returns-2 : tie.Need-returns-2
+returns-2 c =
+    let a = c .before .before .before .before .before .args in
+    flag-is (a .s .now) (a .at) (number-got (c .before .n .given .1) (c .before .before .before .read-within .ensures))
+
+pub read-flag-spec : {M : Type 1} → statement M
+read-flag-spec = tie.close (tie.spec read-within-requires enum-known-n enum-told returns returns-2)

@@ -1,0 +1,83 @@
+use Rattle.ontology.proofs.NameLaws.{name-none, name-long, name-unlettered, name-lettered, bytes-not, bytes-more, bytes-end}
+use Rattle.ontology.specs.Table.{areNameBytes, isNameWithin}
+use borrow.Author.Tests.{not-true, not-false}
+use lib.ListN.{length, drop}
+use Prim.Native.Nat.{_-_, _≤_}
+use mathlib.Core.Path.{_≡_, sym, _∙_}
+use native.Mathlib.Omega.{arith}
+use borrow.Author.Needs.{needs}
+use Rattle.ontology.proofs.names.is_name.Statement.{statement}
+use Rattle.ontology.proofs.names.is_name.Tie as tie
+use Rattle.ontology.proofs.names.is_name.Reads as reads
+use Rattle.ontology.proofs.names.is_name.Lts as lts
+use Rattle.ontology.proofs.names.is_letter.Reads as is-letter-reads
+use Rattle.ontology.proofs.names.is_name_byte.Reads as is-name-byte-reads
+
+abbrev Inv-loop : tie.InvT-loop
+Inv-loop v most i₀ i = (i ≤ length v) × (isNameWithin most v ≡ areNameBytes (drop i v))
+
+abbrev μ-loop : tie.MeasureT-loop
+μ-loop v most i₀ i = length v - i
+
+returns : tie.Need-returns Inv-loop μ-loop
+returns c = sym (name-none _ _ (omega arith))
+
+returns-2 : tie.Need-returns-2 Inv-loop μ-loop
+returns-2 c = sym (name-long _ _ (omega arith))
+
+shared-slice-read-is-letter : tie.Need-shared-slice-read-is-letter Inv-loop μ-loop
+shared-slice-read-is-letter c = search needs
+
+is-letter-requires : tie.Need-is-letter-requires Inv-loop μ-loop
+is-letter-requires c κs = search needs
+
+returns-3 : tie.Need-returns-3 Inv-loop μ-loop
+returns-3 c = sym (name-unlettered _ _ (omega arith) (sym (c .before .is-letter .ensures) ∙ not-true _ (c .if3 .taken)))
+
+loop-holds : tie.Need-loop-holds Inv-loop μ-loop
+loop-holds c = (omega arith, name-lettered _ _ (omega arith) (omega arith) (sym (c .before .is-letter .ensures) ∙ not-false _ (c .if3 .left)))
+
+shared-slice-read-is-name-byte : tie.Need-shared-slice-read-is-name-byte Inv-loop μ-loop
+shared-slice-read-is-name-byte c = search needs
+
+is-name-byte-requires : tie.Need-is-name-byte-requires Inv-loop μ-loop
+is-name-byte-requires c κs = search needs
+
+returns-4 : tie.Need-returns-4 Inv-loop μ-loop
+returns-4 c =
+    let l = c .before .before .before .before in
+    sym (l .loop .inv .1 ∙ bytes-not (c .before .before .before .before .before .before .before .before .before .before .before .args .v .now) (l .loop .i) (omega arith) (sym (c .before .is-name-byte .ensures) ∙ not-true _ (c .if4 .taken)))
+
+add-i : tie.Need-add-i Inv-loop μ-loop
+add-i c = search needs
+
+loop-less : tie.Need-loop-less Inv-loop μ-loop
+loop-less c = search needs
+
+loop-again : tie.Need-loop-again Inv-loop μ-loop
+loop-again c =
+    let l = c .before .before .before .before in
+    (omega arith, l .loop .inv .1 ∙ bytes-more (c .before .before .before .before .before .before .before .before .before .before .before .args .v .now) (l .loop .i) (omega arith) (sym (c .before .is-name-byte .ensures) ∙ not-false _ (c .if4 .left)))
+
+returns-5 : tie.Need-returns-5 Inv-loop μ-loop
+returns-5 c = sym (c .before .loop .inv .1 ∙ bytes-end (c .before .before .before .before .before .before .before .before .args .v .now) (c .before .loop .i) (omega arith))
+
+pub is-name-spec : {M : Type 1} → statement M
+is-name-spec =
+    tie.close
+    (tie.spec
+    Inv-loop
+    μ-loop
+    returns
+    returns-2
+    shared-slice-read-is-letter
+    is-letter-requires
+    returns-3
+    loop-holds
+    shared-slice-read-is-name-byte
+    is-name-byte-requires
+    returns-4
+    add-i
+    loop-less
+    loop-again
+    returns-5)

@@ -1,0 +1,24 @@
+use Rattle.ontology.proofs.RuleLaws.{marked-kind, marked-strategy, marked-is}
+use mathlib.Core.Path.{sym, _∙_}
+use native.Mathlib.Omega.{arith}
+use borrow.Author.Needs.{needs}
+use Rattle.ontology.proofs.types.can_be_marked.Statement.{statement}
+use Rattle.ontology.proofs.types.can_be_marked.Tie as tie
+use Rattle.ontology.proofs.types.can_be_marked.Reads as reads
+use Rattle.ontology.proofs.types.can_be_marked.Lts as lts
+use Rattle.ontology.proofs.types.is_mandatory_single.Reads as is-mandatory-single-reads
+
+returns : tie.Need-returns
+returns c = λ s q w. sym (marked-kind s q _ w (c .if1 .taken))
+
+returns-2 : tie.Need-returns-2
+returns-2 c = λ s q w. sym (marked-strategy s q _ w (c .if2 .taken))
+
+is-mandatory-single-requires : tie.Need-is-mandatory-single-requires
+is-mandatory-single-requires c κs = search needs
+
+returns-3 : tie.Need-returns-3
+returns-3 c = λ s q w. c .is-mandatory-single .ensures ∙ sym (marked-is s q _ w (omega arith) (omega arith))
+
+pub can-be-marked-spec : {M : Type 1} → statement M
+can-be-marked-spec = tie.close (tie.spec returns returns-2 is-mandatory-single-requires returns-3)

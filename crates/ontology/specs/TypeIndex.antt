@@ -1,0 +1,190 @@
+-- What the readers of a table answer, as relations between the bytes, the model and what the code holds.
+use Prim.Native.Nat.{ℕ, _-_, _≤_, _<_}
+use mathlib.Core.Path.{_≡_}
+use mathlib.Core.Bool.{Bool, true, false, cond, not, _&&_, _||_}
+use mathlib.Core.Option.{Option, none, some}
+use mathlib.Core.List.{List, map}
+use lib.ListN.{length, drop, getD, getElem?}
+use lib.Dec.{ltb, leb, eqb}
+use Rattle.model.specs.Order.{Text, texts, pick}
+use Rattle.packed.specs.Parse.{Parse, fail, got, andThen, foundIf, suchThat, times}
+use Rattle.packed.specs.Located.{part}
+use Rattle.packed.specs.declared.read.NumberAt.{NumberAt}
+use Rattle.packed.specs.declared.read.NumberAt.the-variants.{Number, NoNumber}
+use Rattle.packed.specs.declared.read.TextAt.{TextAt}
+use Rattle.packed.specs.declared.read.TextAt.the-variants as text
+use Rattle.values.specs.Spaces.{Kind, kindNumber, isWithin, isWidth}
+use Rattle.values.specs.KindNumbers.{firstParameter, secondParameter, thirdParameter}
+use Rattle.ontology.specs.Table.{Property, EventType, Table, strategyNumber, namesRise, allFit, markFits, typeRules, typeNamed}
+use Rattle.ontology.specs.TableLayout.{readProperty, readType}
+use Rattle.ontology.specs.Questions.{Reply}
+use Rattle.ontology.specs.declared.fields.FlagAt.{FlagAt}
+use Rattle.ontology.specs.declared.fields.FlagAt.the-variants.{Flag, NoFlag}
+use Rattle.ontology.specs.declared.kinds.KindRead.{KindRead}
+use Rattle.ontology.specs.declared.kinds.KindRead.the-variants.{OfKind, NoKind}
+use Rattle.ontology.specs.declared.properties.PropertyAt.{PropertyAt}
+use Rattle.ontology.specs.declared.properties.PropertyRead.{PropertyRead}
+use Rattle.ontology.specs.declared.properties.PropertyRead.the-variants as read
+use Rattle.ontology.specs.declared.types.HeadRead.{HeadRead}
+use Rattle.ontology.specs.declared.types.HeadRead.the-variants.{Head, NoHead}
+use Rattle.ontology.specs.declared.types.PropertiesRead.{PropertiesRead}
+use Rattle.ontology.specs.declared.types.TypeIndex.{TypeIndex}
+use Rattle.ontology.specs.declared.types.TypeRead.{TypeRead}
+use Rattle.ontology.specs.declared.tables.TableRead.{TableRead}
+use Rattle.ontology.specs.declared.tables.TableReply.{TableReply}
+use Rattle.ontology.specs.declared.tables.TableReply.the-variants.{Accepted, Refused}
+
+-- ---- fields
+
+-- A layout at position `at` got a, and what is left starts at `next`.
+pub record Got {A : Type 0} (p : Parse A) (s : List ℕ) (at : ℕ) (a : A) (next : ℕ) : Type 0 where
+  pub is : p ≡ got a (drop next s)
+  pub after : at < next
+  pub within : next ≤ length s
+
+abbrev pub NumberReads : Parse ℕ → List ℕ → ℕ → NumberAt → Type 0
+NumberReads p s at (Number n next) = Got p s at n next
+NumberReads p s at NoNumber = p ≡ fail
+
+abbrev pub FlagReads : Parse Bool → List ℕ → ℕ → FlagAt → Type 0
+FlagReads p s at (Flag b next) = Got p s at b next
+FlagReads p s at NoFlag = p ≡ fail
+
+-- the same of a text, which stands from `start` up to `end`
+pub record NameStops (p : Parse Text) (s : List ℕ) (at start end : ℕ) : Type 0 where
+  pub stops : Got p s at (part s start end) end
+  pub order : start ≤ end
+
+abbrev pub NameReads : Parse Text → List ℕ → ℕ → TextAt → Type 0
+NameReads p s at (text.Text start end) = NameStops p s at start end
+NameReads p s at text.NoText = p ≡ fail
+
+-- the first comes before the second
+abbrev pub precedes : Text → Text → Bool
+precedes a b = pick (texts .cmp a b) true false false
+
+-- ---- kinds
+
+-- the parameter of a kind that has one, 1, 2, 8 or 9, is in its range
+unfoldable pub parameterFits : ℕ → ℕ → Bool
+parameterFits kind n = cond (leb kind 2) (isWidth n) (isWithin 1 (cond (eqb kind 8) 120 60) n)
+
+-- A kind as its number and its parameters
+pub record KindIs (k : Kind) (kind first second third : ℕ) : Type 0 where
+  pub number : kind ≡ kindNumber k
+  pub one : first ≡ firstParameter k
+  pub two : second ≡ secondParameter k
+  pub three : third ≡ thirdParameter k
+
+pub record KindStops (p : Parse Kind) (s : List ℕ) (at kind first second third next : ℕ) : Type 0 where
+  pub what : Kind
+  pub stops : Got p s at what next
+  pub are : KindIs what kind first second third
+
+abbrev pub KindReads : Parse Kind → List ℕ → ℕ → KindRead → Type 0
+KindReads p s at (OfKind kind first second third next) = KindStops p s at kind first second third next
+KindReads p s at NoKind = p ≡ fail
+
+-- ---- properties
+
+-- The property q, whose name stands in the bytes s, as the index has it
+pub record PropertyIs (s : List ℕ) (q : Property) (x : PropertyAt) : Type 0 where
+  pub name : part s (x .start) (x .end) ≡ q .name
+  pub order : x .start ≤ x .end
+  pub within : x .end ≤ length s
+  pub kind : KindIs (q .kind) (x .kind) (x .first) (x .second) (x .third)
+  pub optional : x .optional ≡ q .optional
+  pub multivalued : x .multivalued ≡ q .multivalued
+  pub strategy : x .strategy ≡ strategyNumber (q .strategy)
+
+pub record PropertyStops (p : Parse Property) (s : List ℕ) (at : ℕ) (x : PropertyAt) (next : ℕ) : Type 0 where
+  pub what : Property
+  pub stops : Got p s at what next
+  pub is : PropertyIs s what x
+
+abbrev pub PropertyReads : Parse Property → List ℕ → ℕ → PropertyRead → Type 0
+PropertyReads p s at (read.Property x next) = PropertyStops p s at x next
+PropertyReads p s at read.NoProperty = p ≡ fail
+
+-- each of some properties, at its place in a table of them
+pub record PropertiesAre (s : List ℕ) (qs : List Property) (xs : List PropertyAt) : Type 0 where
+  pub each : (i : ℕ) (q : Property) (d : PropertyAt) → getElem? qs i ≡ some q → PropertyIs s q (getD xs i d)
+
+pub record PropertiesStop (s : List ℕ) (at : ℕ) (qs : List Property) (t : List ℕ) (r : PropertiesRead) : Type 0 where
+  pub right : r .ok ≡ true
+  pub follows : t ≡ drop (r .next) s
+  pub after : at ≤ r .next
+  pub within : r .next ≤ length s
+  pub are : PropertiesAre s qs (r .properties)
+
+unfoldable pub PropertiesSay : Parse (List Property) → List ℕ → ℕ → PropertiesRead → Type 0
+PropertiesSay fail s at r = r .ok ≡ false
+PropertiesSay (got qs t) s at r = PropertiesStop s at qs t r
+
+-- ---- types
+
+-- the rules of a type that its mark and its properties have to meet, besides their count
+unfoldable pub propertyRules : ℕ → List Property → Bool
+propertyRules mark qs =
+    namesRise (map (λ (p : Property). p .name) qs) && allFit (ltb 0 mark) qs && (not (ltb 0 mark) || markFits (getElem? qs (mark - 1)))
+
+abbrev pub typeOf : Text → ℕ → ℕ → List Property → EventType
+typeOf name definition mark qs = record { name = name; definition = definition; mark = mark; properties = qs }
+
+-- What stands before the properties was read: what is left of the type, and of its rules, is about them.
+pub record HeadStops (s : List ℕ) (at start end mark count next : ℕ) : Type 0 where
+  pub definition : ℕ
+  pub is :
+      suchThat typeRules readType (drop at s) ≡
+      andThen (times readProperty count (drop next s)) (λ qs. foundIf (propertyRules mark qs) (typeOf (part s start end) definition mark qs))
+  pub order : start ≤ end
+  pub ends : end ≤ length s
+  pub few : count ≤ 32
+  pub after : at < next
+  pub within : next ≤ length s
+
+abbrev pub HeadReads : List ℕ → ℕ → HeadRead → Type 0
+HeadReads s at (Head start end mark count next) = HeadStops s at start end mark count next
+HeadReads s at NoHead = suchThat typeRules readType (drop at s) ≡ fail
+
+-- The type t, as the index has it
+pub record TypeIs (s : List ℕ) (t : EventType) (x : TypeIndex) : Type 0 where
+  pub name : part s (x .start) (x .end) ≡ t .name
+  pub order : x .start ≤ x .end
+  pub within : x .end ≤ length s
+  pub mark : x .mark ≡ t .mark
+  pub count : x .count ≡ length (t .properties)
+  pub few : x .count ≤ 32
+  pub are : PropertiesAre s (t .properties) (x .properties)
+
+-- x is the index of some type
+pub record IsType (s : List ℕ) (x : TypeIndex) : Type 0 where
+  pub what : EventType
+  pub is : TypeIs s what x
+
+pub record TypeStops (s : List ℕ) (at : ℕ) (t : EventType) (u : List ℕ) (r : TypeRead) : Type 0 where
+  pub right : r .ok ≡ true
+  pub follows : u ≡ drop (r .next) s
+  pub after : at < r .next
+  pub within : r .next ≤ length s
+  pub is : TypeIs s t (r .index)
+
+unfoldable pub TypeReads : Parse EventType → List ℕ → ℕ → TypeRead → Type 0
+TypeReads fail s at r = r .ok ≡ false
+TypeReads (got t u) s at r = TypeStops s at t u r
+
+-- ---- tables
+
+-- the type of the name that was asked for, where there is one
+unfoldable pub TypeSays : Option EventType → List ℕ → TableRead → Type 0
+TypeSays none s r = r .found ≡ false
+TypeSays (some t) s r = (r .found ≡ true) × TypeIs s t (r .index)
+
+-- what the reader of a table answers that is asked for the type of a name
+unfoldable pub TableSays : Option Table → List ℕ → Text → TableRead → Type 0
+TableSays none s name r = r .ok ≡ false
+TableSays (some ts) s name r = (r .ok ≡ true) × TypeSays (typeNamed name ts) s r
+
+unfoldable pub tableReply : TableReply → Reply
+tableReply Accepted = Reply.done 0
+tableReply (Refused n) = Reply.refused n

@@ -1,0 +1,139 @@
+ghost use mathlib.Core.Path.{_≡_};
+ghost use Prim.Native.Nat.{_-_};
+ghost use mathlib.Core.Bool.{_&&_};
+ghost use mathlib.Core.Logic.{_⊎_};
+ghost use lib.ListN.{drop};
+ghost use Rattle.packed.specs.Parse.{suchThat};
+ghost use Rattle.values.specs.Spaces.{isWithin, isWidth, isKind};
+ghost use Rattle.ontology.specs.TableLayout.{readParameters, readKind};
+ghost use Rattle.ontology.specs.TypeIndex.{parameterFits, KindReads};
+use super::fields::FlagAt;
+use super::fields::read_flag;
+use packed::read::NumberAt;
+use packed::read::read_number;
+
+// A kind's number and its parameters, those that it has not as 0, and the position after them.
+pub enum KindRead {
+    OfKind {
+        kind: u8,
+        first: u8,
+        second: u8,
+        third: u8,
+        next: usize,
+    },
+    NoKind,
+}
+
+fn is_width(n: u64) -> bool
+    ensures { λ r. ⌜ r ≡ isWidth n ⌝ }
+{
+    match n {
+        1..=4 => true,
+        8 => true,
+        _ => false,
+    }
+}
+
+fn is_size(n: u64, most: u64) -> bool
+    ensures { λ r. ⌜ r ≡ isWithin 1 most n ⌝ }
+{
+    if n == 0 { false } else { n <= most }
+}
+
+// Whether the only parameter of kind 1, 2, 8 or 9 is in its range.
+fn parameter_fits(kind: u8, n: u64) -> bool
+    ensures { λ r. ⌜ r ≡ parameterFits kind n ⌝ }
+{
+    if kind <= 2 {
+        return is_width(n);
+    }
+    if kind == 8 {
+        is_size(n, 120)
+    } else {
+        is_size(n, 60)
+    }
+}
+
+// A kind with one parameter.
+fn read_parameter(s: &[u8], at: usize, kind: u8) -> KindRead
+    requires { ⌜ (kind ≡ 1) ⊎ (kind ≡ 2) ⊎ (kind ≡ 8) ⊎ (kind ≡ 9) ⌝ }
+    ensures { λ r. ⌜ KindReads (suchThat isKind (readParameters kind) (drop at (now (s .entry)))) (now (s .entry)) at r ⌝ }
+{
+    let NumberAt::Number(n, next) = read_number(s, at) else {
+        return KindRead::NoKind;
+    };
+    if parameter_fits(kind, n) {
+        KindRead::OfKind {
+            kind: kind,
+            first: n as u8,
+            second: 0,
+            third: 0,
+            next: next,
+        }
+    } else {
+        KindRead::NoKind
+    }
+}
+
+// Whether a decimal may have so many digits in all, and so many after the point.
+fn digits_fit(total: u64, after: u64) -> bool
+    ensures { λ r. ⌜ r ≡ (isWithin 2 38 total && isWithin 1 (total - 1) after) ⌝ }
+{
+    if total < 2 {
+        return false;
+    }
+    if 38 < total {
+        return false;
+    }
+    is_size(after, total - 1)
+}
+
+// A decimal's parameters.
+fn read_decimal(s: &[u8], at: usize) -> KindRead
+    ensures { λ r. ⌜ KindReads (suchThat isKind (readParameters 3) (drop at (now (s .entry)))) (now (s .entry)) at r ⌝ }
+{
+    let NumberAt::Number(total, second) = read_number(s, at) else {
+        return KindRead::NoKind;
+    };
+    let NumberAt::Number(after, third) = read_number(s, second) else {
+        return KindRead::NoKind;
+    };
+    let FlagAt::Flag(sign, next) = read_flag(s, third) else {
+        return KindRead::NoKind;
+    };
+    if digits_fit(total, after) {
+        KindRead::OfKind {
+            kind: 3,
+            first: total as u8,
+            second: after as u8,
+            third: sign as u8,
+            next: next,
+        }
+    } else {
+        KindRead::NoKind
+    }
+}
+
+// A kind with its parameters.
+pub fn read_kind(s: &[u8], at: usize) -> KindRead
+    ensures { λ r. ⌜ KindReads (readKind (drop at (now (s .entry)))) (now (s .entry)) at r ⌝ }
+{
+    let NumberAt::Number(n, next) = read_number(s, at) else {
+        return KindRead::NoKind;
+    };
+    match n {
+        1 => read_parameter(s, next, 1),
+        2 => read_parameter(s, next, 2),
+        3 => read_decimal(s, next),
+        4..=7 => KindRead::OfKind {
+            kind: n as u8,
+            first: 0,
+            second: 0,
+            third: 0,
+            next: next,
+        },
+        8 => read_parameter(s, next, 8),
+        9 => read_parameter(s, next, 9),
+        _ => KindRead::NoKind,
+    }
+}
