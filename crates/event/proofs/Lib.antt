@@ -1,4 +1,11 @@
 -- The laws of packed events.
 pub mod EventLayoutLaws
 pub mod EventSizeLaws
+pub mod SetLaws
+pub mod HeadLaws
+pub mod EventReadLaws
+pub mod LookupLaws
+pub mod ShapeLaws
+pub mod SpaceLaws
+pub mod AskLaws
 pub mod EventQuestionLaws

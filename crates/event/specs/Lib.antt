@@ -2,3 +2,4 @@ pub mod Event
 pub mod EventLayout
 pub mod EventQuestions
 pub mod Value
+pub mod EventIndex

@@ -1,1 +1,7 @@
-// Definitions only: see specs/.
+// A packed event, read where it stands into an index of positions, and the questions asked of it.
+pub mod ask;
+pub mod lookup;
+pub mod read;
+pub mod sets;
+pub mod shape;
+pub mod spaces;

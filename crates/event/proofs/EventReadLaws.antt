@@ -1,0 +1,177 @@
+-- The laws of reading a whole event: its head, its presence number and its sets.
+use mathlib.Core.Path.{_≡_, refl, sym, ap, ap₂, _∙_, subst}
+use mathlib.Core.Bool.{Bool, true, false, cond}
+use mathlib.Core.Option.{Option, none, some}
+use mathlib.Core.List.{List, [], _∷_, _++_, append-assoc, append-nil, map, flatten}
+use Prim.Native.Nat.{ℕ, zero, suc, _+_, _-_, _^_, _≤_, _<_}
+use native.Mathlib.Omega.{arith}
+use lib.Dec.{leb, ltb}
+use lib.ListN.{length, take, drop, drop-of-length-le}
+use borrow.Author.Tests.{le-leb, lt-leb, lt-ltb, le-ltb}
+use Rattle.model.specs.Order.{Text}
+use Rattle.packed.specs.Parse.{Parse, fail, got, Layout, andThen, _>>=_, found, foundIf, suchThat, whole}
+use Rattle.packed.specs.Packed.{number, readNumber, text, readText}
+use Rattle.packed.specs.Located.{part}
+use Rattle.packed.proofs.LayoutLaws.{number-was}
+use Rattle.packed.proofs.ReadLaws.{drop-next, NumberStops}
+use Rattle.event.specs.Event.{Event, objectCount}
+use Rattle.event.specs.EventLayout.{isSource, readParents, readBits, readSets, Counts, readEvent, eventOf, setsBytes, presenceBit, bitNumber, headBytes}
+use Rattle.event.specs.EventIndex.{SetsAre, SetsStop, SetsReads, HeadOf, readHead, HeadStops, EventIs, EventReads}
+use Rattle.event.proofs.EventLayoutLaws.{head-was, SetsWas, sets-was}
+use Rattle.event.proofs.SetLaws.{stretch}
+use Rattle.event.specs.declared.sets.SetsRead.{SetsRead}
+use Rattle.event.specs.declared.read.HeadAt.{HeadAt}
+use Rattle.event.specs.declared.read.EventIndex.{EventIndex}
+
+-- ---- the head, and what follows it
+
+-- the three parts of a head, each on its own, are the head
+pub head-then : {A : Type 0} (most : ℕ) (k : Text → Text → List Text → Layout A) (s : List ℕ) →
+    (readText >>= λ t. suchThat isSource readText >>= λ u. readParents most >>= λ hs. k t u hs) s
+    ≡ andThen (readHead most s) (λ h. k (h .type) (h .source) (h .parents))
+unfolding readHead
+head-then {A} most k s = name (readText s)
+  where
+    all : Text → Text → List Text → Layout HeadOf
+    all t u hs = found (record { type = t; source = u; parents = hs })
+
+    head : Text → Text → Layout HeadOf
+    head t u = readParents most >>= all t u
+
+    parents : (t u : Text) (p : Parse (List Text)) → andThen p (λ hs. k t u hs) ≡ andThen (andThen p (all t u)) (λ h. k (h .type) (h .source) (h .parents))
+    parents t u fail = refl
+    parents t u (got hs r) = refl
+
+    source : (t : Text) (p : Parse Text) → andThen p (λ u. readParents most >>= λ hs. k t u hs) ≡ andThen (andThen p (head t)) (λ h. k (h .type) (h .source) (h .parents))
+    source t fail = refl
+    source t (got u r) = parents t u (readParents most r)
+
+    name : (p : Parse Text) →
+        andThen p (λ t. suchThat isSource readText >>= λ u. readParents most >>= λ hs. k t u hs)
+        ≡ andThen (andThen p (λ t. suchThat isSource readText >>= head t)) (λ h. k (h .type) (h .source) (h .parents))
+    name fail = refl
+    name (got t r) = source t (suchThat isSource readText r)
+
+-- the bytes of a head
+pub head-bytes : (most : ℕ) (s : List ℕ) (h : HeadAt) (w : HeadStops (readHead most s) s h) → s ≡ headBytes (w .what .type) (w .what .source) (w .what .parents) ++ drop (h .parents .end) s
+unfolding readHead
+head-bytes most s h w =
+    let b = head-was most (λ t u hs. found (record { type = t; source = u; parents = hs })) s (w .what) (drop (h .parents .end) s) (w .is) in
+    same (w .what) (b .type) (b .source) (b .parents) (drop (h .parents .end) s) (b .left) (b .rest) (b .bytes)
+  where
+    same : (x : HeadOf) (t u : Text) (hs : List Text) (r l : List ℕ) → got (record { type = t; source = u; parents = hs }) l ≡ got x r → s ≡ headBytes t u hs ++ l → s ≡ headBytes (x .type) (x .source) (x .parents) ++ r
+    same x t u hs r l e b =
+        let f : (record { type = t; source = u; parents = hs }) ≡ x = cc in
+        let g : l ≡ r = cc in
+        b ∙ ap₂ (λ (y : HeadOf) (o : List ℕ). headBytes (y .type) (y .source) (y .parents) ++ o) f g
+
+-- ---- the event
+
+abbrev body : Counts → HeadOf → Layout Event
+body counts h = do
+  presence ← readBits
+  sets ← readSets 32 presence
+  foundIf (leb (objectCount sets) (counts .objects)) (record { type = h .type; source = h .source; parents = h .parents; sets = sets })
+
+event-then : (counts : Counts) (s : List ℕ) → readEvent counts s ≡ andThen (readHead (counts .parents) s) (body counts)
+unfolding readEvent
+event-then counts s = head-then (counts .parents) (λ t u hs. body counts (record { type = t; source = u; parents = hs })) s
+
+-- what is known of the sets that were read, and that none were read
+pub record Sets (p : Parse (List (List Text))) (s : List ℕ) (r : SetsRead) : Type 0 where
+  pub xs : List (List Text)
+  pub is : p ≡ got xs (drop (r .next) s)
+  pub within : r .next ≤ length s
+  pub objects : r .objects ≡ objectCount xs
+  pub stands : SetsAre s xs (r .sets)
+
+pub sets-right : (p : Parse (List (List Text))) (s : List ℕ) (r : SetsRead) → SetsReads p s r → r .ok ≡ true → Sets p s r
+unfolding SetsReads
+sets-right fail s r w h = let z : _≡_ {A = ℕ} 0 1 = cc in absurd (omega arith)
+sets-right (got xs t) s r w h = record { xs = xs; is = ap (got xs) (w .rest); within = w .within; objects = w .objects; stands = w .stands }
+
+pub sets-wrong : (p : Parse (List (List Text))) (s : List ℕ) (r : SetsRead) → SetsReads p s r → r .ok ≡ false → p ≡ fail
+unfolding SetsReads
+sets-wrong fail s r w h = refl
+sets-wrong (got xs t) s r w h = let z : _≡_ {A = ℕ} 0 1 = cc (w .right) in absurd (omega arith)
+
+pub event-none : (o : Option Event) (s : List ℕ) (x : EventIndex) → o ≡ none → x .ok ≡ false → EventReads o s x
+unfolding EventReads
+event-none o s x e h = rw e h
+
+pub no-head : (counts : Counts) (s : List ℕ) → readHead (counts .parents) s ≡ fail → eventOf counts s ≡ none
+unfolding eventOf
+no-head counts s e = rw (event-then counts s, e)
+
+module _ (counts : Counts) (s : List ℕ) (h : HeadAt) (w : HeadStops (readHead (counts .parents) s) s h) where
+  after-head : readEvent counts s ≡ body counts (w .what) (drop (h .parents .end) s)
+  after-head = event-then counts s ∙ ap (λ (p : Parse HeadOf). andThen p (body counts)) (w .is)
+
+  pub no-presence : readNumber (drop (h .parents .end) s) ≡ fail → eventOf counts s ≡ none
+  unfolding eventOf readBits
+  no-presence e = rw (after-head, e)
+
+  module _ (n next : ℕ) (m : NumberStops s (h .parents .end) n next) where
+    pub presence-large : 2 ^ 32 ≤ n → eventOf counts s ≡ none
+    unfolding eventOf readBits
+    presence-large k = rw (after-head, m .is, le-ltb n (2 ^ 32) k)
+
+    module _ (small : n < 2 ^ 32) where
+      after-presence : readEvent counts s ≡ andThen (readSets 32 n (drop next s)) (λ xs. foundIf (leb (objectCount xs) (counts .objects)) (record { type = w .what .type; source = w .what .source; parents = w .what .parents; sets = xs }))
+      unfolding readBits
+      after-presence = rw (after-head, m .is, lt-ltb n (2 ^ 32) small)
+
+      module _ (r : SetsRead) (t : SetsReads (readSets 32 n (drop next s)) s r) where
+        pub no-sets : r .ok ≡ false → eventOf counts s ≡ none
+        unfolding eventOf
+        no-sets e = rw (after-presence, sets-wrong (readSets 32 n (drop next s)) s r t e)
+
+        module _ (right : r .ok ≡ true) where
+          sets : Sets (readSets 32 n (drop next s)) s r
+          sets = sets-right (readSets 32 n (drop next s)) s r t right
+
+          after-sets : (l : List ℕ) → drop (r .next) s ≡ l → readEvent counts s ≡ foundIf (leb (objectCount (sets .xs)) (counts .objects)) (record { type = w .what .type; source = w .what .source; parents = w .what .parents; sets = sets .xs }) l
+          after-sets l e = after-presence ∙ ap (λ (p : Parse (List (List Text))). andThen p (λ xs. foundIf (leb (objectCount xs) (counts .objects)) (record { type = w .what .type; source = w .what .source; parents = w .what .parents; sets = xs }))) (sets .is ∙ ap (got (sets .xs)) e)
+
+          pub early : (r .next ≡ length s → ⊥) → eventOf counts s ≡ none
+          unfolding eventOf
+          early ne =
+              let k : r .next < length s = omega (arith, sets .within, ne) in
+              ap whole (after-sets _ (drop-next s (r .next) k)) ∙ go (leb (objectCount (sets .xs)) (counts .objects)) _ _ _
+            where
+              go : (b : Bool) (e : Event) (y : ℕ) (l : List ℕ) → whole (foundIf b e (y ∷ l)) ≡ none
+              go true e y l = refl
+              go false e y l = refl
+
+          module _ (end : r .next ≡ length s) where
+            at-end : drop (r .next) s ≡ []
+            at-end = let l : length s ≤ r .next = omega arith in drop-of-length-le s l
+
+            pub many : counts .objects < r .objects → eventOf counts s ≡ none
+            unfolding eventOf
+            many k =
+                let l : counts .objects < objectCount (sets .xs) = omega (arith, sets .objects) in
+                rw (after-sets [] at-end, lt-leb _ _ l)
+
+            pub event-found : r .objects ≤ counts .objects → EventReads (eventOf counts s) s (record { ok = true; head = h; presence = n; first = next; objects = r .objects; sets = r .sets })
+            unfolding eventOf EventReads
+            event-found k =
+                let l : objectCount (sets .xs) ≤ counts .objects = omega (arith, sets .objects) in
+                let x = sets-was 32 n (drop next s) (sets .xs) (drop (r .next) s) small (sets .is) in
+                let front : drop 0 s ≡ (headBytes (w .what .type) (w .what .source) (w .what .parents) ++ number n) ++ drop next s =
+                head-bytes (counts .parents) s h w
+                ∙ ap (λ (l : List ℕ). headBytes (w .what .type) (w .what .source) (w .what .parents) ++ l) (number-was (drop (h .parents .end) s) n (drop next s) (m .is) .0)
+                ∙ sym (append-assoc (headBytes (w .what .type) (w .what .source) (w .what .parents)) (number n) (drop next s)) in
+                let zero : next ≡ next - 0 = omega arith in
+                rw (after-sets [] at-end, le-leb _ _ l) (
+                  refl,
+                  record {
+                    head = w .stands;
+                    presence = sym (x .present);
+                    front = ap (λ (i : ℕ). take i s) zero ∙ stretch s (headBytes (w .what .type) (w .what .source) (w .what .parents) ++ number n) 0 next (omega arith) (m .within) front .0;
+                    rest = x .bytes ∙ ap (λ (l : List ℕ). setsBytes (sets .xs) ++ l) at-end ∙ append-nil (setsBytes (sets .xs));
+                    within = m .within;
+                    objects = sets .objects;
+                    sets = sets .stands;
+                  },
+                )

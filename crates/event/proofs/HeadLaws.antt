@@ -1,0 +1,176 @@
+-- The laws of reading what an event begins with: type name, source and parents.
+use mathlib.Core.Path.{_≡_, refl, sym, ap, ap₂, _∙_, subst}
+use mathlib.Core.Bool.{Bool, true, false, cond, _&&_}
+use mathlib.Core.List.{List, [], _∷_, _++_, append-assoc, append-nil, map, flatten}
+use Prim.Native.Nat.{ℕ, zero, suc, _+_, _-_, _*_, _^_, _≤_, _<_}
+use native.Mathlib.Nat.{sub-self}
+use native.Mathlib.Omega.{arith}
+use lib.Dec.{leb, ltb}
+use lib.ListN.{length, take, drop, getD, length-append, length-drop, drop-of-length-le}
+use lib.Seq.{take-at, drop-drop, take-append-seam, drop-append-seam}
+use borrow.Author.Tests.{le-leb, lt-leb}
+use Rattle.model.specs.Order.{Text, texts, rising}
+use Rattle.packed.specs.Parse.{Parse, fail, got, Layout, andThen, _>>=_, found, foundIf, suchThat, times}
+use Rattle.packed.specs.Packed.{number, readNumber, text, readText, readBytes}
+use Rattle.packed.specs.Located.{part}
+use Rattle.packed.proofs.LayoutLaws.{All, andThen-got, foundIf-got, times-was, bytes-was}
+use Rattle.packed.proofs.ReadLaws.{drop-next, TextStops}
+use Rattle.event.specs.EventLayout.{areSourceBytes, isSource, readParents}
+use Rattle.event.specs.EventIndex.{HashesAre, ParentsStop, ParentsReads, TextIs, HeadOf, readHead, HeadIs, HeadStops, HeadReads}
+use Rattle.event.proofs.SetLaws.{stretch, risen, risen-was}
+use Rattle.event.specs.declared.sets.SetAt.{SetAt}
+use Rattle.event.specs.declared.read.HeadAt.{HeadAt}
+use Rattle.event.specs.declared.read.HeadRead.{HeadRead}
+use Rattle.event.specs.declared.read.HeadRead.the-variants.{Head, NoHead}
+use Rattle.event.specs.declared.read.ParentsRead.{ParentsRead}
+use Rattle.event.specs.declared.read.ParentsRead.the-variants.{Parents, NoParents}
+
+-- ---- the source
+
+pub source-none : (v : Text) → length v ≡ 0 → isSource v ≡ false
+unfolding isSource
+source-none v h = rw h
+
+pub source-many : (v : Text) → 120 < length v → isSource v ≡ false
+unfolding isSource
+source-many v h = rw (le-leb 1 (length v) (omega arith), lt-leb (length v) 120 h)
+
+pub source-is : (v : Text) → (length v ≡ 0 → ⊥) → length v ≤ 120 → isSource v ≡ areSourceBytes v
+unfolding isSource
+source-is v h k = rw (le-leb 1 (length v) (omega (arith, h)), le-leb (length v) 120 k)
+
+module _ (v : Text) (i : ℕ) (h : i < length v) where
+  pub source-low : getD v i 0 < 0x21 → areSourceBytes (drop i v) ≡ false
+  unfolding areSourceBytes
+  source-low k = rw (drop-next v i h, lt-leb 0x21 (getD v i 0) k)
+
+  pub source-high : 0x7e < getD v i 0 → areSourceBytes (drop i v) ≡ false
+  unfolding areSourceBytes
+  source-high k = rw (drop-next v i h, le-leb 0x21 (getD v i 0) (omega arith), lt-leb (getD v i 0) 0x7e k)
+
+  pub source-step : 0x21 ≤ getD v i 0 → getD v i 0 ≤ 0x7e → areSourceBytes (drop i v) ≡ areSourceBytes (drop (i + 1) v)
+  unfolding areSourceBytes
+  source-step k l = rw (drop-next v i h, le-leb 0x21 (getD v i 0) k, le-leb (getD v i 0) 0x7e l)
+
+pub source-end : (v : Text) (i : ℕ) → length v ≤ i → areSourceBytes (drop i v) ≡ true
+unfolding areSourceBytes
+source-end v i h = rw (drop-of-length-le v h)
+
+-- ---- the parents
+
+-- so many bytes
+pub bytes-at : (s : List ℕ) (at n : ℕ) → at + n ≤ length s → readBytes n (drop at s) ≡ got (part s at (at + n)) (drop (at + n) s)
+unfolding readBytes
+bytes-at s at n h =
+    let k : n ≤ length (drop at s) = simp length-drop (omega arith) in
+    let e : at + n - at ≡ n = omega arith in
+    rw (le-leb _ _ k, e) (ap (got (take n (drop at s))) (drop-drop n at s))
+
+pub bytes-short : (s : List ℕ) (at n : ℕ) → length s - at < n → readBytes n (drop at s) ≡ fail
+unfolding readBytes
+bytes-short s at n h =
+    let k : length (drop at s) < n = simp length-drop (omega arith) in
+    rw (lt-leb _ _ k)
+
+pub parents-none : (most : ℕ) (t : List ℕ) → readNumber t ≡ fail → readParents most t ≡ fail
+unfolding readParents
+parents-none most t e = rw e
+
+pub parents-many : (most : ℕ) (t r : List ℕ) (n : ℕ) → readNumber t ≡ got n r → most < n → readParents most t ≡ fail
+unfolding readParents
+parents-many most t r n e h = rw (e, lt-leb n most h)
+
+pub parents-some : (most : ℕ) (t r : List ℕ) (n : ℕ) → readNumber t ≡ got n r → n ≤ most → readParents most t ≡ risen (readBytes 20) n r
+unfolding readParents risen
+parents-some most t r n e h = rw (e, le-leb n most h)
+
+flat : (hs : List Text) → flatten (map (λ (h : Text). h) hs) ≡ flatten hs
+unfolding flatten
+flat [] = refl
+flat (h ∷ hs) = ap (λ (l : List ℕ). h ++ l) (flat hs)
+
+hashes-long : (hs : List Text) → All (λ (h : Text). length h ≡ 20) hs → length (flatten hs) ≡ 20 * length hs
+unfolding flatten
+hashes-long [] a = refl
+hashes-long (h ∷ hs) a = omega (arith, length-append h (flatten hs), a .0, hashes-long hs (a .1))
+
+hash-at : (hs : List Text) (t r : List ℕ) (i : ℕ) → All (λ (h : Text). length h ≡ 20) hs → t ≡ flatten hs ++ r → i < length hs → take 20 (drop (20 * i) t) ≡ getD hs i []
+unfolding flatten
+hash-at [] t r i a e l = absurd (omega arith)
+hash-at (h ∷ hs) t r zero a e l = ap (take 20) (e ∙ append-assoc h (flatten hs) r) ∙ take-at h (flatten hs ++ r) 20 (a .0)
+hash-at (h ∷ hs) t r (suc i) a e l =
+    let d : drop 20 t ≡ flatten hs ++ r = ap (drop 20) (e ∙ append-assoc h (flatten hs) r) ∙ ap (λ (n : ℕ). drop n (h ++ (flatten hs ++ r))) (sym (a .0)) ∙ drop-append-seam h (flatten hs ++ r) in
+    let n : 20 * suc i ≡ 20 + 20 * i = omega arith in
+    ap (λ (k : ℕ). take 20 (drop k t)) n ∙ ap (take 20) (sym (drop-drop (20 * i) 20 t)) ∙ hash-at hs (drop 20 t) r i (a .1) d (omega arith)
+
+pub parents-found : (s : List ℕ) (q : Parse (List Text)) (start to count : ℕ) (hs : List Text) → start ≤ length s → to ≤ length s → q ≡ risen (readBytes 20) count (drop start s) → q ≡ got hs (drop to s) → ParentsStop q s (record { start = start; end = to; count = count })
+parents-found s q start to count hs a b e f =
+    let w = times-was (readBytes 20) (λ (h : Text). h) (λ (h : Text). length h ≡ 20) (bytes-was 20) count (drop start s) hs (drop to s) (risen-was (readBytes 20) count (drop start s) hs (drop to s) (sym e ∙ f)) in
+    let g : drop start s ≡ flatten hs ++ drop to s = w .0 ∙ ap (λ (l : List ℕ). l ++ drop to s) (flat hs) in
+    let p = stretch s (flatten hs) start to a b g in
+    record {
+      what = hs;
+      is = f;
+      stands = record {
+        bytes = p .0;
+        count = sym (w .1);
+        size = omega (arith, p .1, p .2, hashes-long hs (w .2), w .1);
+        within = b;
+        each = λ i l. parent-at s start i hs (hash-at hs (drop start s) (drop to s) i (w .2) g l);
+      };
+    }
+  where
+    parent-at : (s : List ℕ) (start i : ℕ) (hs : List Text) → take 20 (drop (20 * i) (drop start s)) ≡ getD hs i [] → part s (start + 20 * i) (start + 20 * i + 20) ≡ getD hs i []
+    parent-at s start i hs e =
+        let n : start + 20 * i + 20 - (start + 20 * i) ≡ 20 = omega arith in
+        rw n (ap (take 20) (sym (drop-drop (20 * i) start s)) ∙ e)
+
+pub parents-zero : (s : List ℕ) (q : Parse (List Text)) (start count : ℕ) → start ≤ length s → count ≡ 0 → q ≡ risen (readBytes 20) count (drop start s) → ParentsStop q s (record { start = start; end = start; count = count })
+unfolding times rising risen
+parents-zero s q start count a z e = parents-found s q start start count [] a a e (e ∙ rw z)
+
+pub parents-reads : {p : Parse (List Text)} {s : List ℕ} {r : ParentsRead} {x : SetAt} → r ≡ Parents x → ParentsReads p s r → ParentsStop p s x
+parents-reads {p} {s} h w = subst (ParentsReads p s) h w
+
+pub parents-refused : {p : Parse (List Text)} (s : List ℕ) {r : ParentsRead} → r ≡ NoParents → ParentsReads p s r → p ≡ fail
+parents-refused {p} s h w = subst (ParentsReads p s) h w
+
+-- ---- the head
+
+pub head-reads : {p : Parse HeadOf} {s : List ℕ} {r : HeadRead} {x : HeadAt} → r ≡ Head x → HeadReads p s r → HeadStops p s x
+head-reads {p} {s} h w = subst (HeadReads p s) h w
+
+pub head-refused : {p : Parse HeadOf} (s : List ℕ) {r : HeadRead} → r ≡ NoHead → HeadReads p s r → p ≡ fail
+head-refused {p} s h w = subst (HeadReads p s) h w
+
+pub no-name : (most : ℕ) (s : List ℕ) → readText s ≡ fail → readHead most s ≡ fail
+unfolding readHead
+no-name most s e = rw e
+
+module _ (most : ℕ) (s : List ℕ) (a e : ℕ) (n : TextStops s 0 a e) where
+  pub no-source : readText (drop e s) ≡ fail → readHead most s ≡ fail
+  unfolding readHead
+  no-source f = ap (λ (p : Parse Text). andThen p (λ t. suchThat isSource readText >>= λ u. readParents most >>= λ hs. found (record { type = t; source = u; parents = hs }))) (n .is) ∙ rw f
+
+  module _ (b f : ℕ) (u : TextStops s e b f) where
+    step : readHead most s ≡ andThen (foundIf (isSource (part s b f)) (part s b f) (drop f s)) (λ v. readParents most >>= λ hs. found (record { type = part s a e; source = v; parents = hs }))
+    unfolding readHead
+    step = ap (λ (p : Parse Text). andThen p (λ t. suchThat isSource readText >>= λ u. readParents most >>= λ hs. found (record { type = t; source = u; parents = hs }))) (n .is)
+        ∙ ap (λ (p : Parse Text). andThen (andThen p (λ v. foundIf (isSource v) v)) (λ u. readParents most >>= λ hs. found (record { type = part s a e; source = u; parents = hs }))) (u .is)
+
+    pub source-not : isSource (part s b f) ≡ false → readHead most s ≡ fail
+    source-not h = step ∙ rw h
+
+    pub parents-not : isSource (part s b f) ≡ true → readParents most (drop f s) ≡ fail → readHead most s ≡ fail
+    parents-not h g = step ∙ rw (h, g)
+
+    pub head-found : isSource (part s b f) ≡ true → (x : SetAt) → ParentsStop (readParents most (drop f s)) s x → HeadStops (readHead most s) s (record { name = record { start = a; end = e }; source = record { start = b; end = f }; parents = x })
+    head-found h x w = record {
+      what = record { type = part s a e; source = part s b f; parents = w .what };
+      is = step ∙ rw (h, w .is);
+      stands = record {
+        name = record { bytes = refl; order = n .order; within = n .within };
+        uri = record { bytes = refl; order = u .order; within = u .within };
+        hashes = w .stands;
+      };
+    }

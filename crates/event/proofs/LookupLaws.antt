@@ -1,0 +1,353 @@
+-- The laws of finding a value: skipping texts and sets, and the sets that the ones below a place count.
+use mathlib.Core.Path.{_≡_, refl, sym, ap, ap₂, _∙_, subst}
+use mathlib.Core.Bool.{Bool, true, false}
+use mathlib.Core.Option.{Option, none, some}
+use mathlib.Core.List.{List, [], _∷_, _++_, append-assoc, append-nil, map, flatten}
+use Prim.Native.Nat.{ℕ, zero, suc, _+_, _-_, _*_, _/_, _%_, _^_, _≤_, _<_}
+use native.Mathlib.Nat.{one-mul, mod-one, zero-mod, mod-lt, lt-of-lt-of-le}
+use native.Mathlib.Omega.{arith}
+use native.Mathlib.Numerals.{add-one}
+use lib.Dec.{lit<}
+use lib.Pow.{pow-pos, pow-mono, shl-exact, mod-pow-add}
+use lib.Count.{ones, ones-step, ones-ones}
+use lib.ListN.{length, take, drop, getD, getElem?, length-append, length-drop, take-append-drop}
+use lib.Seq.{drop-cons, length-take-le}
+use Rattle.model.specs.Order.{Text}
+use Rattle.packed.specs.Parse.{Parse, fail, got}
+use Rattle.packed.specs.Packed.{number, readNumber, text, readText}
+use Rattle.packed.specs.Located.{part}
+use Rattle.packed.proofs.LayoutLaws.{fail-got, number-read, number-was, text-read, text-was, text-length}
+use Rattle.packed.proofs.ReadLaws.{part-length, NumberStops, TextStops}
+use Rattle.event.specs.Event.{Event, setAt}
+use Rattle.event.specs.EventLayout.{setBytes, setsBytes, presenceBit, bitNumber, headBytes}
+use Rattle.event.specs.Value.{bytesBefore}
+use Rattle.event.specs.EventIndex.{SetIs, noSet, EventIs, present, Skipped, ValueStands}
+use Rattle.event.proofs.EventLayoutLaws.{presence-small}
+use Rattle.event.proofs.SetLaws.{stretch, texts-long}
+use Rattle.event.specs.declared.sets.SetAt.{SetAt}
+use Rattle.event.specs.declared.read.EventIndex.{EventIndex}
+
+-- ---- the next number and the next text
+
+-- the bytes that follow a position, and what a reader of them got, tell where the rest starts
+module _ (s : List ℕ) (small : length s < 2 ^ 64) (at : ℕ) (within : at ≤ length s) where
+  front-small : (x r : List ℕ) → drop at s ≡ x ++ r → length x < 2 ^ 64
+  front-small x r h = omega (arith, length-drop at s, ap length h, length-append x r)
+
+  module _ (n : ℕ) (r : List ℕ) (fits : n < 2 ^ 64) (h : drop at s ≡ number n ++ r) where
+    there : readNumber (drop at s) ≡ got n r
+    there = ap readNumber h ∙ number-read n r fits
+
+    pub number-there : readNumber (drop at s) ≡ fail → ⊥
+    number-there e = fail-got (sym e ∙ there)
+
+    pub number-next : (m to : ℕ) → NumberStops s at m to → (m ≡ n) × Skipped s at (number n) r to
+    number-next m to w =
+        let g : got m (drop to s) ≡ got n r = sym (w .is) ∙ there in
+        let a : drop to s ≡ r = cc in
+        let b = stretch s (number n) at to within (w .within) (h ∙ ap (λ (l : List ℕ). number n ++ l) (sym a)) in
+        (cc, record { rest = a; far = omega (arith, b .1, b .2); within = w .within })
+
+  module _ (v r : List ℕ) (h : drop at s ≡ text v ++ r) where
+    fits : length v < 2 ^ 64
+    fits = omega (arith, front-small (text v) r h, text-length v)
+
+    pub text-there : readText (drop at s) ≡ fail → ⊥
+    text-there e = fail-got (sym e ∙ ap readText h ∙ text-read v r fits)
+
+    pub text-next : (a z : ℕ) → TextStops s at a z → (part s a z ≡ v) × (a ≡ at + length (number (length v))) × Skipped s at (text v) r z
+    text-next a z w =
+        let g : got (part s a z) (drop z s) ≡ got v r = sym (w .is) ∙ ap readText h ∙ text-read v r fits in
+        let b : part s a z ≡ v = cc in
+        let d : drop z s ≡ r = cc in
+        let l = stretch s (text v) at z within (w .within) (h ∙ ap (λ (l : List ℕ). text v ++ l) (sym d)) in
+        let m : length v ≡ z - a = ap length (sym b) ∙ part-length s a z (w .order) (w .within) in
+        (b, omega (arith, w .order, l .1, l .2, text-length v), record { rest = d; far = omega (arith, l .1, l .2); within = w .within })
+
+-- ---- texts
+
+-- `left` texts stand at pos, r follows them, and they end at `end`
+pub record Skipping (end : ℕ) (r s : List ℕ) (pos left : ℕ) : Type 0 where
+  pub more : List Text
+  pub bytes : drop pos s ≡ flatten (map text more) ++ r
+  pub long : left ≡ length more
+  pub far : pos + length (flatten (map text more)) ≡ end
+  pub within : pos ≤ length s
+
+pub skipping-first : (s : List ℕ) (at count : ℕ) (vs : List Text) (r : List ℕ) → drop at s ≡ flatten (map text vs) ++ r → at ≤ length s → count ≡ length vs → Skipping (at + length (flatten (map text vs))) r s at count
+skipping-first s at count vs r h k l = record { more = vs; bytes = h; long = l; far = refl; within = k }
+
+module _ (end : ℕ) (r s : List ℕ) (pos left : ℕ) (small : length s < 2 ^ 64) where
+  -- the first text, and the others
+  record First : Type 0 where
+    v : Text
+    vs : List Text
+    bytes : drop pos s ≡ text v ++ (flatten (map text vs) ++ r)
+    long : left ≡ suc (length vs)
+    far : pos + (length (text v) + length (flatten (map text vs))) ≡ end
+
+  first : Skipping end r s pos left → 0 < left → First
+  unfolding flatten
+  first w h = go (w .more) (w .bytes) (w .long) (w .far)
+    where
+      go : (more : List Text) → drop pos s ≡ flatten (map text more) ++ r → left ≡ length more → pos + length (flatten (map text more)) ≡ end → First
+      go [] b l f = absurd (omega arith)
+      go (v ∷ vs) b l f = record {
+        v = v;
+        vs = vs;
+        bytes = b ∙ append-assoc (text v) (flatten (map text vs)) r;
+        long = l;
+        far = ap (λ (n : ℕ). pos + n) (sym (length-append (text v) (flatten (map text vs)))) ∙ f;
+      }
+
+  pub skipping-bad : Skipping end r s pos left → 0 < left → readText (drop pos s) ≡ fail → ⊥
+  skipping-bad w h e = let f = first w h in text-there s small pos (w .within) (f .v) (flatten (map text (f .vs)) ++ r) (f .bytes) e
+
+  pub skipping-more : Skipping end r s pos left → 0 < left → (a z : ℕ) → TextStops s pos a z → Skipping end r s z (left - 1)
+  skipping-more w h a z t =
+      let f = first w h in
+      let n = text-next s small pos (w .within) (f .v) (flatten (map text (f .vs)) ++ r) (f .bytes) a z t .2 in
+      record { more = f .vs; bytes = n .rest; long = omega (arith, f .long); far = omega (arith, f .far, n .far); within = n .within }
+
+pub skipping-all : (at : ℕ) (x r s : List ℕ) (pos left : ℕ) → Skipping (at + length x) r s pos left → left ≤ 0 → Skipped s at x r pos
+unfolding flatten
+skipping-all at x r s pos left w h = go (w .more) (w .bytes) (w .long) (w .far)
+  where
+    go : (more : List Text) → drop pos s ≡ flatten (map text more) ++ r → left ≡ length more → pos + length (flatten (map text more)) ≡ at + length x → Skipped s at x r pos
+    go [] b l f = record { rest = b; far = omega arith; within = w .within }
+    go (v ∷ vs) b l f = absurd (omega arith)
+
+-- ---- sets
+
+-- `left` sets stand at pos
+pub record SetsSkipping (end : ℕ) (r s : List ℕ) (pos left : ℕ) : Type 0 where
+  pub more : List (List Text)
+  pub bytes : drop pos s ≡ setsBytes more ++ r
+  pub long : left ≡ present more
+  pub far : pos + length (setsBytes more) ≡ end
+  pub within : pos ≤ length s
+
+pub sets-skipping-first : (s : List ℕ) (at count : ℕ) (xs : List (List Text)) (r : List ℕ) → drop at s ≡ setsBytes xs ++ r → at ≤ length s → count ≡ present xs → SetsSkipping (at + length (setsBytes xs)) r s at count
+sets-skipping-first s at count xs r h k l = record { more = xs; bytes = h; long = l; far = refl; within = k }
+
+-- the first place with objects, and those after it
+record FirstSet (xs : List (List Text)) : Type 0 where
+  vs : List Text
+  more : List (List Text)
+  bytes : setsBytes xs ≡ number (length vs) ++ (flatten (map text vs) ++ setsBytes more)
+  long : present xs ≡ suc (present more)
+
+first-set : (xs : List (List Text)) → 0 < present xs → FirstSet xs
+unfolding present presenceBit setsBytes setBytes flatten
+first-set [] h = absurd (omega arith)
+first-set ([] ∷ xs) h = let f = first-set xs (omega arith) in record { vs = f .vs; more = f .more; bytes = f .bytes; long = omega (arith, f .long) }
+first-set ((v ∷ vs) ∷ xs) h = record {
+  vs = v ∷ vs;
+  more = xs;
+  bytes = append-assoc (number (length (v ∷ vs))) (flatten (map text (v ∷ vs))) (flatten (map setBytes xs));
+  long = omega arith;
+}
+
+none-present : (xs : List (List Text)) → present xs ≡ 0 → setsBytes xs ≡ []
+unfolding present presenceBit setsBytes setBytes flatten
+none-present [] h = refl
+none-present ([] ∷ xs) h = none-present xs (omega arith)
+none-present ((v ∷ vs) ∷ xs) h = absurd (omega arith)
+
+module _ (end : ℕ) (r s : List ℕ) (pos left : ℕ) (small : length s < 2 ^ 64) (w : SetsSkipping end r s pos left) (h : 0 < left) where
+  next-set : FirstSet (w .more)
+  next-set = first-set (w .more) (omega (arith, w .long))
+
+  next-bytes : drop pos s ≡ number (length (next-set .vs)) ++ (flatten (map text (next-set .vs)) ++ (setsBytes (next-set .more) ++ r))
+  next-bytes =
+      let f = next-set in
+      w .bytes ∙ ap (λ (l : List ℕ). l ++ r) (f .bytes)
+      ∙ append-assoc (number (length (f .vs))) (flatten (map text (f .vs)) ++ setsBytes (f .more)) r
+      ∙ ap (λ (l : List ℕ). number (length (f .vs)) ++ l) (append-assoc (flatten (map text (f .vs))) (setsBytes (f .more)) r)
+
+  next-few : length (next-set .vs) < 2 ^ 64
+  next-few =
+      let f = next-set in
+      omega (
+        arith,
+        texts-long (f .vs),
+        length-drop pos s,
+        ap length next-bytes,
+        length-append (number (length (f .vs))) (flatten (map text (f .vs)) ++ (setsBytes (f .more) ++ r)),
+        length-append (flatten (map text (f .vs))) (setsBytes (f .more) ++ r),
+      )
+
+  pub sets-skipping-bad : readNumber (drop pos s) ≡ fail → ⊥
+  sets-skipping-bad e = number-there s small pos (w .within) (length (next-set .vs)) _ next-few next-bytes e
+
+  pub sets-skipping-more :
+      (n start to : ℕ) → NumberStops s pos n start →
+      ((vs : List Text) (q : List ℕ) → drop start s ≡ flatten (map text vs) ++ q → start ≤ length s → n ≡ length vs → Skipped s start (flatten (map text vs)) q to) →
+      SetsSkipping end r s to (left - 1)
+  sets-skipping-more n start to m skip =
+      let f = next-set in
+      let a = number-next s small pos (w .within) (length (f .vs)) (flatten (map text (f .vs)) ++ (setsBytes (f .more) ++ r)) next-few next-bytes n start m in
+      let b = skip (f .vs) (setsBytes (f .more) ++ r) (a .1 .rest) (a .1 .within) (a .0) in
+      record {
+        more = f .more;
+        bytes = b .rest;
+        long = omega (arith, w .long, f .long);
+        far = omega (
+          arith,
+          w .far,
+          a .1 .far,
+          b .far,
+          ap length (f .bytes),
+          length-append (number (length (f .vs))) (flatten (map text (f .vs)) ++ setsBytes (f .more)),
+          length-append (flatten (map text (f .vs))) (setsBytes (f .more)),
+        );
+        within = b .within;
+      }
+
+pub sets-skipping-all : (at : ℕ) (x r s : List ℕ) (pos left : ℕ) → SetsSkipping (at + length x) r s pos left → left ≤ 0 → Skipped s at x r pos
+sets-skipping-all at x r s pos left w h =
+    let z : present (w .more) ≡ 0 = omega (arith, w .long) in
+    let e = none-present (w .more) z in
+    record { rest = w .bytes ∙ ap (λ (l : List ℕ). l ++ r) e; far = omega (arith, w .far, ap length e); within = w .within }
+
+-- ---- the ones below a place
+
+-- 1 shifted to a place of 64 bits is the power
+pub shifted : (k : ℕ) → k < 32 → 1 * 2 ^ k % 18446744073709551616 ≡ 2 ^ k
+shifted k h = shl-exact {a = 1} 1 k 64 (lit< tt) (omega arith) ∙ one-mul (2 ^ k)
+
+pub positive : (k : ℕ) → k < 32 → 0 < 1 * 2 ^ k % 18446744073709551616
+positive k h = rw (shifted k h) (pow-pos k)
+
+pub below-small : (n k : ℕ) → k < 32 → n % (1 * 2 ^ k % 18446744073709551616) < 2 ^ 32
+below-small n k h = rw (shifted k h) (lt-of-lt-of-le (mod-lt n (pow-pos k)) (pow-mono {j = 32} (omega arith)))
+
+ones-bits : (xs : List (List Text)) → ones (bitNumber (map presenceBit xs)) ≡ present xs
+unfolding bitNumber present
+ones-bits [] = ones-ones 0
+ones-bits (x ∷ xs) =
+    let b = presence-small x in
+    let n = bitNumber (map presenceBit xs) in
+    let l : (presenceBit x + 2 * n) % 2 ≡ presenceBit x = omega arith in
+    let h : (presenceBit x + 2 * n) / 2 ≡ n = omega arith in
+    ones-step (presenceBit x + 2 * n) ∙ rw (l, h) (ap (λ (m : ℕ). presenceBit x + m) (ones-bits xs))
+
+-- the bits below k + 1 are the lowest and those below k of the rest
+digit : (b n k : ℕ) → b < 2 → (b + 2 * n) % 2 ^ suc k ≡ b + 2 * (n % 2 ^ k)
+digit b n k h =
+    let j : suc k ≡ k + 1 = omega arith in
+    let l : (b + 2 * n) % 2 ^ 1 ≡ b = omega arith in
+    let u : (b + 2 * n) / 2 ^ 1 ≡ n = omega arith in
+    ap (λ (i : ℕ). (b + 2 * n) % 2 ^ i) j ∙ mod-pow-add (b + 2 * n) k 1 ∙ rw (l, u) (turned (n % 2 ^ k))
+  where
+    turned : (x : ℕ) → x * 2 ^ 1 + b ≡ b + 2 * x
+    turned x = omega arith
+
+bits-below : (k : ℕ) (xs : List (List Text)) → bitNumber (map presenceBit xs) % 2 ^ k ≡ bitNumber (map presenceBit (take k xs))
+unfolding bitNumber
+bits-below zero xs = mod-one (bitNumber (map presenceBit xs))
+bits-below (suc k) [] = zero-mod (2 ^ suc k)
+bits-below (suc k) (x ∷ xs) =
+    digit (presenceBit x) (bitNumber (map presenceBit xs)) k (presence-small x) ∙ ap (λ (m : ℕ). presenceBit x + 2 * m) (bits-below k xs)
+
+-- the ones below a place are the sets before the place's own
+pub ones-below : (k : ℕ) (xs : List (List Text)) → ones (bitNumber (map presenceBit xs) % 2 ^ k) ≡ present (take k xs)
+ones-below k xs = ap ones (bits-below k xs) ∙ ones-bits (take k xs)
+
+-- ---- the value
+
+-- what is written one after the other, up to an index and from it on
+flat-split : {A : Type 0} (w : A → List ℕ) (k : ℕ) (xs : List A) → flatten (map w xs) ≡ flatten (map w (take k xs)) ++ flatten (map w (drop k xs))
+unfolding flatten
+flat-split w zero xs = refl
+flat-split w (suc k) [] = refl
+flat-split w (suc k) (x ∷ xs) = ap (λ (l : List ℕ). w x ++ l) (flat-split w k xs) ∙ sym (append-assoc (w x) (flatten (map w (take k xs))) (flatten (map w (drop k xs))))
+
+set-bytes : (vs : List Text) → 0 < length vs → setBytes vs ≡ number (length vs) ++ flatten (map text vs)
+unfolding setBytes
+set-bytes [] h = absurd (omega arith)
+set-bytes (v ∷ vs) h = refl
+
+pub element : {A : Type 0} (xs : List A) (i : ℕ) (d : A) → i < length xs → getElem? xs i ≡ some (getD xs i d)
+element [] i d h = absurd (omega arith)
+element (x ∷ xs) zero d h = refl
+element (x ∷ xs) (suc i) d h = element xs i d (omega arith)
+
+pub no-element : {A : Type 0} (xs : List A) (i : ℕ) → length xs ≤ i → getElem? xs i ≡ none
+no-element [] i h = refl
+no-element (x ∷ xs) zero h = absurd (omega arith)
+no-element (x ∷ xs) (suc i) h = no-element xs i (omega arith)
+
+pub no-place : (xs : List (List Text)) (place index : ℕ) → length xs ≤ place → getElem? (getD xs place []) index ≡ none
+no-place [] place index h = refl
+no-place (x ∷ xs) zero index h = absurd (omega arith)
+no-place (x ∷ xs) (suc place) index h = no-place xs place index (omega arith)
+
+module _ (s : List ℕ) (small : length s < 2 ^ 64) (e : Event) (x : EventIndex) (w : EventIs s e x) (place index : ℕ) (p : place < 32) (i : index < length (setAt e place)) where
+  long : place < length (e .sets)
+  long = omega (arith, w .sets .long)
+
+  module _ (below at : ℕ) (ones-are : below ≡ ones (x .presence % 2 ^ place))
+      (skip : (xs : List (List Text)) (r : List ℕ) → drop (x .first) s ≡ setsBytes xs ++ r → x .first ≤ length s → below ≡ present xs → Skipped s (x .first) (setsBytes xs) r at) where
+    skipped : Skipped s (x .first) (setsBytes (take place (e .sets))) (setsBytes (drop place (e .sets))) at
+    unfolding setsBytes
+    skipped =
+        skip (take place (e .sets)) (setsBytes (drop place (e .sets))) (w .rest ∙ flat-split setBytes place (e .sets)) (w .within)
+        (ones-are ∙ ap (λ (n : ℕ). ones (n % 2 ^ place)) (w .presence) ∙ ones-below place (e .sets))
+
+    set-here : drop at s ≡ number (length (setAt e place)) ++ (flatten (map text (setAt e place)) ++ setsBytes (drop (suc place) (e .sets)))
+    unfolding setsBytes flatten
+    set-here =
+        skipped .rest
+        ∙ ap (λ (l : List (List Text)). setsBytes l) (drop-cons (e .sets) place [] long)
+        ∙ ap (λ (l : List ℕ). l ++ setsBytes (drop (suc place) (e .sets))) (set-bytes (setAt e place) (omega arith))
+        ∙ append-assoc (number (length (setAt e place))) (flatten (map text (setAt e place))) (setsBytes (drop (suc place) (e .sets)))
+
+    few : length (setAt e place) < 2 ^ 64
+    few = omega (
+      arith,
+      texts-long (setAt e place),
+      length-drop at s,
+      ap length set-here,
+      length-append (number (length (setAt e place))) (flatten (map text (setAt e place)) ++ setsBytes (drop (suc place) (e .sets))),
+      length-append (flatten (map text (setAt e place))) (setsBytes (drop (suc place) (e .sets))),
+    )
+
+    pub value-no-count : readNumber (drop at s) ≡ fail → ⊥
+    value-no-count f = number-there s small at (skipped .within) (length (setAt e place)) _ few set-here f
+
+    module _ (n start to : ℕ) (m : NumberStops s at n start)
+        (skip-texts : (vs : List Text) (r : List ℕ) → drop start s ≡ flatten (map text vs) ++ r → start ≤ length s → index ≡ length vs → Skipped s start (flatten (map text vs)) r to) where
+      counted : Skipped s at (number (length (setAt e place))) (flatten (map text (setAt e place)) ++ setsBytes (drop (suc place) (e .sets))) start
+      counted = number-next s small at (skipped .within) (length (setAt e place)) _ few set-here n start m .1
+
+      passed : Skipped s start (flatten (map text (take index (setAt e place)))) (flatten (map text (drop index (setAt e place))) ++ setsBytes (drop (suc place) (e .sets))) to
+      passed =
+          skip-texts (take index (setAt e place)) (flatten (map text (drop index (setAt e place))) ++ setsBytes (drop (suc place) (e .sets)))
+          (counted .rest ∙ ap (λ (l : List ℕ). l ++ setsBytes (drop (suc place) (e .sets))) (flat-split text index (setAt e place))
+          ∙ append-assoc (flatten (map text (take index (setAt e place)))) (flatten (map text (drop index (setAt e place)))) (setsBytes (drop (suc place) (e .sets))))
+          (counted .within) (sym (length-take-le index (setAt e place) (omega arith)))
+
+      value-here : drop to s ≡ text (getD (setAt e place) index []) ++ (flatten (map text (drop (suc index) (setAt e place))) ++ setsBytes (drop (suc place) (e .sets)))
+      unfolding flatten
+      value-here =
+          passed .rest
+          ∙ ap (λ (l : List Text). flatten (map text l) ++ setsBytes (drop (suc place) (e .sets))) (drop-cons (setAt e place) index [] i)
+          ∙ append-assoc (text (getD (setAt e place) index [])) (flatten (map text (drop (suc index) (setAt e place)))) (setsBytes (drop (suc place) (e .sets)))
+
+      pub value-no-text : readText (drop to s) ≡ fail → ⊥
+      value-no-text f = text-there s small to (passed .within) (getD (setAt e place) index []) _ value-here f
+
+      pub value-stands : (a z : ℕ) → TextStops s to a z → ValueStands s e place index a z
+      unfolding bytesBefore
+      value-stands a z t =
+          let b = text-next s small to (passed .within) (getD (setAt e place) index []) _ value-here a z t in
+          let f : x .first ≡ length (headBytes (e .type) (e .source) (e .parents)) + length (number (x .presence)) =
+          sym (length-take-le (x .first) s (w .within)) ∙ ap length (w .front) ∙ length-append (headBytes (e .type) (e .source) (e .parents)) (number (x .presence)) in
+          let g : length (number (x .presence)) ≡ length (number (bitNumber (map presenceBit (e .sets)))) = ap (λ (n : ℕ). length (number n)) (w .presence) in
+          record {
+            some = element (setAt e place) index [] i ∙ ap some (sym (b .0));
+            start = simp length-append (omega (arith, b .1, passed .far, counted .far, skipped .far, f, g));
+            order = t .order;
+            within = t .within;
+          }

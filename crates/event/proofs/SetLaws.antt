@@ -1,0 +1,365 @@
+-- The laws of reading sets and hashes: rising texts one after the other, a place's set, and the sets of all places.
+use mathlib.Core.Path.{_≡_, refl, sym, ap, ap₂, _∙_, subst}
+use mathlib.Core.Bool.{Bool, true, false, cond}
+use mathlib.Core.List.{List, [], _∷_, _++_, append-assoc, append-nil, map, flatten}
+use Prim.Native.Nat.{ℕ, zero, suc, _+_, _-_, _*_, _/_, _%_, _^_, _≤_, _<_, Ordering, Ordering·lt, Ordering·eq, Ordering·gt}
+use native.Mathlib.Nat.{sub-self, le-refl}
+use native.Mathlib.Omega.{arith}
+use native.Mathlib.Numerals.{add-one}
+use lib.Dec.{leb, eqb}
+use lib.ListN.{length, take, drop, getD, set, length-append, length-drop, length-set, drop-of-length-le, List·getD-append, List·getD-eq-default}
+use lib.Seq.{take-at, getD-at, getD-set-same, getD-set-other}
+use borrow.Author.Tests.{le-leb, eq-eqb, ne-eqb}
+use borrow.Author.Count.{below-more}
+use Rattle.model.specs.Order.{Text, texts, rising, pick}
+use Rattle.packed.specs.Parse.{Parse, fail, got, Layout, andThen, _>>=_, found, foundIf, suchThat, times}
+use Rattle.packed.specs.Packed.{number, readNumber, text, readText}
+use Rattle.packed.specs.Located.{part}
+use Rattle.packed.proofs.LayoutLaws.{andThen-got, foundIf-got, times-was, text-read, text-was, text-length, number-bounds}
+use Rattle.packed.proofs.ReadLaws.{TextStops}
+use Rattle.event.specs.Event.{objectCount}
+use Rattle.event.specs.EventLayout.{readSet, readPlace, readSets, setBytes}
+use Rattle.event.specs.EventIndex.{SetIs, noSet, SetsAre, SetStops, SetReads, SetsStop, SetsReads}
+use Rattle.event.proofs.EventLayoutLaws.{set-was}
+use Rattle.event.specs.declared.sets.SetAt.{SetAt}
+use Rattle.event.specs.declared.sets.SetRead.{SetRead}
+use Rattle.event.specs.declared.sets.SetRead.the-variants.{Found, NoSet}
+use Rattle.event.specs.declared.sets.SetsRead.{SetsRead}
+
+-- what stands before what is left
+pub stretch : (s x : List ℕ) (p e : ℕ) → p ≤ length s → e ≤ length s → drop p s ≡ x ++ drop e s → (part s p e ≡ x) × (p ≤ e) × (length x ≡ e - p)
+stretch s x p e hp he h =
+    let l : length s - p ≡ length x + (length s - e) = sym (length-drop p s) ∙ ap length h ∙ length-append x (drop e s) ∙ ap (λ (n : ℕ). length x + n) (length-drop e s) in
+    let n : length x ≡ e - p = omega arith in
+    (ap (take (e - p)) h ∙ take-at x (drop e s) (e - p) n, omega arith, n)
+
+-- ---- rising texts, each read by the layout p
+
+-- all of them, if they rise
+unfoldable pub risen : Layout Text → ℕ → Layout (List Text)
+risen p count = do
+  values ← times p count
+  foundIf (rising texts values) values
+
+-- The last that was read is v, and `left` more stand at t; q is what is found of them all
+pub record Onward (p : Layout Text) (q : Parse (List Text)) (v : Text) (left : ℕ) (t : List ℕ) : Type 0 where
+  pub sofar : List Text
+  pub is : q ≡ andThen (times p left t) (λ ws r. foundIf (rising texts (v ∷ ws)) (sofar ++ ws) r)
+
+suc-of : (n : ℕ) → 0 < n → suc (n - 1) ≡ n
+suc-of n h = omega arith
+
+module _ (p : Layout Text) where
+  times-step : {B : Type 0} (k : List Text → Layout B) (n : ℕ) (t r : List ℕ) (v : Text) → p t ≡ got v r → andThen (times p (suc n) t) k ≡ andThen (times p n r) (λ ws. k (v ∷ ws))
+  unfolding times
+  times-step {B} k n t r v e = rw e (go (times p n r))
+    where
+      go : (q : Parse (List Text)) → andThen (andThen q (λ xs u. got (v ∷ xs) u)) k ≡ andThen q (λ ws. k (v ∷ ws))
+      go fail = refl
+      go (got xs u) = refl
+
+  times-stop : {B : Type 0} (k : List Text → Layout B) (n : ℕ) (t : List ℕ) → p t ≡ fail → andThen (times p (suc n) t) k ≡ fail
+  unfolding times
+  times-stop k n t e = rw e
+
+  -- for a count that is not 0
+  times-next : {B : Type 0} (k : List Text → Layout B) (n : ℕ) (t r : List ℕ) (v : Text) → 0 < n → p t ≡ got v r → andThen (times p n t) k ≡ andThen (times p (n - 1) r) (λ ws. k (v ∷ ws))
+  times-next k n t r v h e = ap (λ (m : ℕ). andThen (times p m t) k) (sym (suc-of n h)) ∙ times-step k (n - 1) t r v e
+
+  times-bad : {B : Type 0} (k : List Text → Layout B) (n : ℕ) (t : List ℕ) → 0 < n → p t ≡ fail → andThen (times p n t) k ≡ fail
+  times-bad k n t h e = ap (λ (m : ℕ). andThen (times p m t) k) (sym (suc-of n h)) ∙ times-stop k (n - 1) t e
+
+  pub risen-bad : (count : ℕ) (t : List ℕ) → 0 < count → p t ≡ fail → risen p count t ≡ fail
+  unfolding risen
+  risen-bad count t h e = times-bad (λ ws. foundIf (rising texts ws) ws) count t h e
+
+  pub onward-first : (q : Parse (List Text)) (count : ℕ) (t r : List ℕ) (v : Text) → q ≡ risen p count t → 0 < count → p t ≡ got v r → Onward p q v (count - 1) r
+  unfolding risen
+  onward-first q count t r v f h e = record { sofar = v ∷ []; is = f ∙ times-next (λ ws. foundIf (rising texts ws) ws) count t r v h e }
+
+  module _ (q : Parse (List Text)) (v : Text) (left : ℕ) (t : List ℕ) (w : Onward p q v left t) where
+    pub onward-bad : 0 < left → p t ≡ fail → q ≡ fail
+    onward-bad h e = w .is ∙ times-bad (λ ws r. foundIf (rising texts (v ∷ ws)) (w .sofar ++ ws) r) left t h e
+
+    pub onward-all : left ≤ 0 → q ≡ got (w .sofar) t
+    unfolding times rising
+    onward-all h =
+        let z : left ≡ 0 = omega arith in
+        w .is
+        ∙ ap (λ (n : ℕ). andThen (times p n t) (λ ws r. foundIf (rising texts (v ∷ ws)) (w .sofar ++ ws) r)) z
+        ∙ ap (λ (l : List Text). got l t) (append-nil (w .sofar))
+
+    module _ (u : Text) (r : List ℕ) (h : 0 < left) (e : p t ≡ got u r) where
+      step : q ≡ andThen (times p (left - 1) r) (λ ws o. foundIf (rising texts (v ∷ u ∷ ws)) (w .sofar ++ (u ∷ ws)) o)
+      step = w .is ∙ times-next (λ ws o. foundIf (rising texts (v ∷ ws)) (w .sofar ++ ws) o) left t r u h e
+
+      pub onward-not : pick (texts .cmp v u) true false false ≡ false → q ≡ fail
+      unfolding rising
+      onward-not b = step ∙ go (texts .cmp v u) b (times p (left - 1) r)
+        where
+          go : (o : Ordering) → pick o true false false ≡ false → (m : Parse (List Text)) →
+              andThen m (λ ws o′. foundIf (pick o (rising texts (u ∷ ws)) false false) (w .sofar ++ (u ∷ ws)) o′) ≡ fail
+          go Ordering·lt b m = cc
+          go Ordering·eq b fail = refl
+          go Ordering·eq b (got ws o′) = refl
+          go Ordering·gt b fail = refl
+          go Ordering·gt b (got ws o′) = refl
+
+      pub onward-more : pick (texts .cmp v u) true false false ≡ true → Onward p q u (left - 1) r
+      unfolding rising
+      onward-more b = record { sofar = w .sofar ++ (u ∷ []); is = step ∙ go (texts .cmp v u) b (times p (left - 1) r) }
+        where
+          go : (o : Ordering) → pick o true false false ≡ true → (m : Parse (List Text)) →
+              andThen m (λ ws o′. foundIf (pick o (rising texts (u ∷ ws)) false false) (w .sofar ++ (u ∷ ws)) o′)
+              ≡ andThen m (λ ws o′. foundIf (rising texts (u ∷ ws)) ((w .sofar ++ (u ∷ [])) ++ ws) o′)
+          go Ordering·lt b fail = refl
+          go Ordering·lt b (got ws o′) = ap (λ (l : List Text). foundIf (rising texts (u ∷ ws)) l o′) (sym (append-assoc (w .sofar) (u ∷ []) ws))
+          go Ordering·eq b m = cc
+          go Ordering·gt b m = cc
+
+  -- what they were
+  pub risen-was : (count : ℕ) (t : List ℕ) (vs : List Text) (r : List ℕ) → risen p count t ≡ got vs r → times p count t ≡ got vs r
+  unfolding risen
+  risen-was count t vs r e =
+      let c = andThen-got (times p count t) _ vs r e in
+      let f = foundIf-got (rising texts (c .value)) (c .value) (c .left) vs r (c .second) in
+      c .first ∙ ap₂ got (f .value) (f .rest)
+
+-- ---- a set
+
+pub set-none : (t : List ℕ) → readNumber t ≡ fail → readSet t ≡ fail
+unfolding readSet
+set-none t e = rw e
+
+pub set-zero : (t r : List ℕ) (n : ℕ) → readNumber t ≡ got n r → n ≡ 0 → readSet t ≡ fail
+unfolding readSet
+set-zero t r n e h = rw (e, h)
+
+pub set-some : (t r : List ℕ) (n : ℕ) → readNumber t ≡ got n r → 0 < n → readSet t ≡ risen readText n r
+unfolding readSet risen
+set-some t r n e h = rw (e, le-leb 1 n h)
+
+pub set-found : (s : List ℕ) (q : Parse (List Text)) (start to count : ℕ) (vs : List Text) → start ≤ length s → to ≤ length s → q ≡ risen readText count (drop start s) → q ≡ got vs (drop to s) → SetStops q s (record { start = start; end = to; count = count })
+set-found s q start to count vs a b e f =
+    let w = times-was readText text (λ (v : Text). length v < 2 ^ 64) text-was count (drop start s) vs (drop to s) (risen-was readText count (drop start s) vs (drop to s) (sym e ∙ f)) in
+    let p = stretch s (flatten (map text vs)) start to a b (w .0) in
+    record { what = vs; is = f; stands = record { bytes = p .0; count = sym (w .1); order = p .1; within = b } }
+
+-- what is known of a call's answer in the arm of a `match`
+pub set-reads : {p : Parse (List Text)} {s : List ℕ} {r : SetRead} {x : SetAt} → r ≡ Found x → SetReads p s r → SetStops p s x
+set-reads {p} {s} h w = subst (SetReads p s) h w
+
+pub set-refused : {p : Parse (List Text)} (s : List ℕ) {r : SetRead} → r ≡ NoSet → SetReads p s r → p ≡ fail
+set-refused {p} s h w = subst (SetReads p s) h w
+
+-- ---- a place
+
+pub place-set : (bit : ℕ) (t : List ℕ) → bit ≡ 1 → readPlace bit t ≡ readSet t
+unfolding readPlace
+place-set bit t h = rw (eq-eqb bit 1 h)
+
+pub place-clear : (bit : ℕ) (s : List ℕ) (at : ℕ) → (bit ≡ 1 → ⊥) → at ≤ length s → SetStops (readPlace bit (drop at s)) s (record { start = at; end = at; count = 0 })
+unfolding readPlace flatten
+place-clear bit s at h k = record {
+  what = [];
+  is = rw (ne-eqb bit 1 h);
+  stands = record { bytes = rw sub-self; count = refl; order = le-refl at; within = k };
+}
+
+-- ---- the sets of all places
+
+-- so many more places
+sets-step : (n presence : ℕ) (t : List ℕ) (x : List Text) (r : List ℕ) → readPlace (presence % 2) t ≡ got x r → readSets (suc n) presence t ≡ andThen (readSets n (presence / 2) r) (λ xs u. got (x ∷ xs) u)
+unfolding readSets
+sets-step n presence t x r e = ap (λ (p : Parse (List Text)). andThen p (λ y o. andThen (readSets n (presence / 2) o) (λ xs u. got (y ∷ xs) u))) e
+
+sets-stop : (n presence : ℕ) (t : List ℕ) → readPlace (presence % 2) t ≡ fail → readSets (suc n) presence t ≡ fail
+unfolding readSets
+sets-stop n presence t e = ap (λ (p : Parse (List Text)). andThen p (λ y o. andThen (readSets n (presence / 2) o) (λ xs u. got (y ∷ xs) u))) e
+
+-- what was read before, and then what is read next
+abbrev pub prepend : {A : Type 0} → List A → Parse (List A) → Parse (List A)
+prepend vs fail = fail
+prepend vs (got ws t) = got (vs ++ ws) t
+
+prepend-none : {A : Type 0} (p : Parse (List A)) → p ≡ prepend [] p
+prepend-none fail = refl
+prepend-none (got ws t) = refl
+
+prepend-one : {A : Type 0} (vs : List A) (v : A) (p : Parse (List A)) → prepend vs (andThen p (λ ws t. got (v ∷ ws) t)) ≡ prepend (vs ++ (v ∷ [])) p
+prepend-one vs v fail = refl
+prepend-one vs v (got ws t) = ap (λ (l : List _). got l t) (sym (append-assoc vs (v ∷ []) ws))
+
+objects-snoc : (xs : List (List Text)) (x : List Text) → objectCount (xs ++ (x ∷ [])) ≡ objectCount xs + length x
+unfolding objectCount
+objects-snoc [] x = omega arith
+objects-snoc (y ∷ ys) x = let h = objects-snoc ys x in omega arith
+
+-- a text has a byte at least
+pub texts-long : (vs : List Text) → length vs ≤ length (flatten (map text vs))
+unfolding flatten
+texts-long [] = omega arith
+texts-long (v ∷ vs) = omega (arith, texts-long vs, length-append (text v) (flatten (map text vs)), text-length v, number-bounds (length v))
+
+set-long : (vs : List Text) → length vs ≤ length (setBytes vs)
+unfolding setBytes
+set-long [] = omega arith
+set-long (v ∷ vs) = omega (arith, texts-long (v ∷ vs), length-append (number (length (v ∷ vs))) (flatten (map text (v ∷ vs))))
+
+-- The first k places are read: their sets are xs, and the others stand from `next` on
+pub record Sofar (p : Parse (List (List Text))) (s : List ℕ) (ats : List SetAt) (bits next objects k : ℕ) : Type 0 where
+  pub xs : List (List Text)
+  pub long : length xs ≡ k
+  pub few : k ≤ 32
+  pub rest : p ≡ prepend xs (readSets (32 - k) bits (drop next s))
+  pub within : next ≤ length s
+  pub summed : objects ≡ objectCount xs
+  pub small : objects ≤ next
+  pub each : (i : ℕ) → i < k → SetIs s (getD xs i []) (getD ats i noSet)
+  pub ats-long : length ats ≡ 32
+
+pub sofar-none : (s : List ℕ) (ats : List SetAt) (bits at : ℕ) → at ≤ length s → length ats ≡ 32 → Sofar (readSets 32 bits (drop at s)) s ats bits at 0 0
+unfolding objectCount
+sofar-none s ats bits at h l = record {
+  xs = [];
+  long = refl;
+  few = omega arith;
+  rest = prepend-none (readSets 32 bits (drop at s));
+  within = h;
+  summed = refl;
+  small = omega arith;
+  each = λ i k. absurd (omega arith);
+  ats-long = l;
+}
+
+module _ (p : Parse (List (List Text))) (s : List ℕ) (ats : List SetAt) (bits next objects k : ℕ) (w : Sofar p s ats bits next objects k) where
+  one-more : k < 32 → suc (32 - (k + 1)) ≡ 32 - k
+  one-more h = omega arith
+
+  pub sofar-bad : k < 32 → readPlace (bits % 2) (drop next s) ≡ fail → p ≡ fail
+  sofar-bad h e =
+      w .rest
+      ∙ ap (λ (n : ℕ). prepend (w .xs) (readSets n bits (drop next s))) (sym (one-more h))
+      ∙ ap (prepend (w .xs)) (sets-stop (32 - (k + 1)) bits (drop next s) e)
+
+  module _ (x : SetAt) (h : k < 32) (t : SetStops (readPlace (bits % 2) (drop next s)) s x) where
+    last-set : getD (w .xs ++ (t .what ∷ [])) k [] ≡ t .what
+    last-set = getD-at (w .xs) (t .what) [] [] k (w .long)
+
+    old-set : (i : ℕ) → i < k → getD (w .xs ++ (t .what ∷ [])) i [] ≡ getD (w .xs) i []
+    old-set i l = let m : i < length (w .xs) = omega (arith, w .long) in List·getD-append (w .xs) (t .what ∷ []) [] i m
+
+    stand-old : (i : ℕ) → i < k → SetIs s (getD (w .xs ++ (t .what ∷ [])) i []) (getD (set ats k x) i noSet)
+    stand-old i l =
+        let ne : i ≡ k → ⊥ = λ e. omega arith in
+        rw (getD-set-other ats k i x noSet ne, old-set i l) (w .each i l)
+
+    stand-last : SetIs s (getD (w .xs ++ (t .what ∷ [])) k []) (getD (set ats k x) k noSet)
+    stand-last =
+        let a : k < length ats = omega (arith, w .ats-long) in
+        rw (getD-set-same ats k x noSet a, last-set) (t .stands)
+
+    -- the objects of a set are no more than its bytes
+    pub few-more : (next ≤ x .end) × (x .count ≤ x .end - next)
+    few-more =
+        let b = set-was (bits % 2) (drop next s) (t .what) (drop (x .end) s) (omega arith) (t .is) .bytes in
+        let l = stretch s (setBytes (t .what)) next (x .end) (w .within) (t .stands .within) b in
+        (l .1, omega (arith, t .stands .count, set-long (t .what), l .2))
+
+    pub sofar-more : Sofar p s (set ats k x) (bits / 2) (x .end) (objects + x .count) (k + 1)
+    sofar-more = record {
+      xs = w .xs ++ (t .what ∷ []);
+      long = length-append (w .xs) (t .what ∷ []) ∙ ap (λ (n : ℕ). n + 1) (w .long);
+      few = omega arith;
+      rest =
+          w .rest
+          ∙ ap (λ (n : ℕ). prepend (w .xs) (readSets n bits (drop next s))) (sym (one-more h))
+          ∙ ap (prepend (w .xs)) (sets-step (32 - (k + 1)) bits (drop next s) (t .what) (drop (x .end) s) (t .is))
+          ∙ prepend-one (w .xs) (t .what) (readSets (32 - (k + 1)) (bits / 2) (drop (x .end) s));
+      within = t .stands .within;
+      summed = ap₂ (λ (a b : ℕ). a + b) (w .summed) (t .stands .count) ∙ sym (objects-snoc (w .xs) (t .what));
+      small = omega (arith, w .small, few-more .0, few-more .1);
+      each =
+          below-more (λ (i : ℕ). SetIs s (getD (w .xs ++ (t .what ∷ [])) i []) (getD (set ats k x) i noSet))
+          k stand-old stand-last;
+      ats-long = length-set ats k x ∙ w .ats-long;
+    }
+
+  module _ (full : 32 ≤ k) where
+    pub sofar-all : p ≡ got (w .xs) (drop next s)
+    unfolding readSets
+    sofar-all =
+        let z : 32 - k ≡ 0 = omega arith in
+        w .rest ∙ ap (λ (n : ℕ). prepend (w .xs) (readSets n bits (drop next s))) z ∙ ap (λ (l : List (List Text)). got l (drop next s)) (append-nil (w .xs))
+
+    pub sofar-sets : SetsAre s (w .xs) ats
+    sofar-sets = record { long = omega (arith, w .long, w .few); each = λ i h. w .each i (omega arith) }
+
+pub sets-none : (p : Parse (List (List Text))) (s : List ℕ) (r : SetsRead) → p ≡ fail → r .ok ≡ false → SetsReads p s r
+unfolding SetsReads
+sets-none p s r e h = rw e h
+
+pub sets-got : (p : Parse (List (List Text))) (xs : List (List Text)) (t s : List ℕ) (r : SetsRead) → p ≡ got xs t → SetsStop xs t s r → SetsReads p s r
+unfolding SetsReads
+sets-got p xs t s r e w = rw e w
+
+-- ---- the text at an index
+
+-- what is looked for, x, is the text at `left` among those from `at` on
+pub record Walked (x : Text) (s : List ℕ) (at left : ℕ) : Type 0 where
+  pub more : List Text
+  pub bytes : drop at s ≡ flatten (map text more)
+  pub is : x ≡ getD more left []
+
+pub walked-none : (vs : List Text) (s : List ℕ) (index : ℕ) → s ≡ flatten (map text vs) → Walked (getD vs index []) s 0 index
+walked-none vs s index h = record { more = vs; bytes = h; is = refl }
+
+-- a text that stands among others is the first of them
+record Next (vs : List Text) (v : Text) (r : List ℕ) : Type 0 where
+  more : List Text
+  all : vs ≡ v ∷ more
+  bytes : r ≡ flatten (map text more)
+
+next : (t : List ℕ) (v : Text) (r : List ℕ) (vs : List Text) → length t < 2 ^ 64 → readText t ≡ got v r → t ≡ flatten (map text vs) → Next vs v r
+unfolding flatten
+next t v r [] l h e =
+    let w = text-was t v r h .0 in
+    absurd (omega (arith, ap length w, ap length e, length-append (text v) r, text-length v, number-bounds (length v)))
+next t v r (u ∷ us) l h e =
+    let k : length u < 2 ^ 64 = omega (arith, ap length e, length-append (text u) (flatten (map text us)), text-length u) in
+    let g : got u (flatten (map text us)) ≡ got v r = sym (text-read u (flatten (map text us)) k) ∙ ap readText (sym e) ∙ h in
+    record { more = us; all = cc; bytes = cc }
+
+no-next : (t : List ℕ) (vs : List Text) → length t < 2 ^ 64 → readText t ≡ fail → t ≡ flatten (map text vs) → vs ≡ []
+unfolding flatten
+no-next t [] l h e = refl
+no-next t (u ∷ us) l h e =
+    let k : length u < 2 ^ 64 = omega (arith, ap length e, length-append (text u) (flatten (map text us)), text-length u) in
+    let g : got u (flatten (map text us)) ≡ fail = sym (text-read u (flatten (map text us)) k) ∙ ap readText (sym e) ∙ h in
+    let z : _≡_ {A = ℕ} 0 1 = cc in
+    absurd (omega arith)
+
+module _ (x : Text) (s : List ℕ) (at left : ℕ) (small : length s < 2 ^ 64) (w : Walked x s at left) where
+  rest-small : length (drop at s) < 2 ^ 64
+  rest-small = omega (arith, length-drop at s)
+
+  pub walked-bad : readText (drop at s) ≡ fail → [] ≡ x
+  walked-bad e =
+      let z : w .more ≡ [] = no-next (drop at s) (w .more) rest-small e (w .bytes) in
+      sym (w .is ∙ ap (λ (l : List Text). getD l left []) z)
+
+  module _ (a e : ℕ) (t : TextStops s at a e) where
+    pub walked-more : 0 < left → Walked x s e (left - 1)
+    walked-more h =
+        let n = next (drop at s) (part s a e) (drop e s) (w .more) rest-small (t .is) (w .bytes) in
+        record {
+          more = n .more;
+          bytes = n .bytes;
+          is = w .is ∙ ap₂ (λ (l : List Text) (i : ℕ). getD l i []) (n .all) (sym (suc-of left h));
+        }
+
+    pub walked-found : left ≤ 0 → part s a e ≡ x
+    walked-found h =
+        let z : left ≡ 0 = omega arith in
+        let n = next (drop at s) (part s a e) (drop e s) (w .more) rest-small (t .is) (w .bytes) in
+        sym (w .is ∙ ap₂ (λ (l : List Text) (i : ℕ). getD l i []) (n .all) z)

@@ -1,0 +1,193 @@
+-- The laws of question 5, place by place.
+use mathlib.Core.Path.{_≡_, refl, sym, ap, ap₂, _∙_, subst}
+use mathlib.Core.Bool.{Bool, true, false, cond, _&&_, _||_}
+use mathlib.Core.Option.{Option, none, some}
+use mathlib.Core.List.{List, [], _∷_}
+use Prim.Native.Nat.{ℕ, zero, suc, _+_, _-_, _≤_, _<_}
+use native.Mathlib.Omega.{arith}
+use native.Mathlib.Numerals.{add-one}
+use native.Mathlib.Nat.{add-assoc}
+use lib.Dec.{leb, ltb, eqb}
+use lib.ListN.{length, drop, getD, getElem?, drop-of-length-le}
+use borrow.Author.Tests.{le-leb, lt-leb, lt-ltb, le-ltb, eq-eqb, ne-eqb}
+use Rattle.model.specs.Order.{Text}
+use Rattle.ontology.specs.Table.{Property, EventType, strategyNumber, isMatch}
+use Rattle.ontology.specs.TypeIndex.{PropertyIs, TypeIs}
+use Rattle.event.specs.Event.{Event, atPlace}
+use Rattle.event.specs.EventQuestions.{eachPlace, isEmpty, setFits, matchCount, eventShape}
+use Rattle.event.specs.EventIndex.{PlaceIs}
+use Rattle.ontology.specs.declared.properties.PropertyAt.{PropertyAt}
+use Rattle.ontology.specs.declared.types.TypeIndex.{TypeIndex}
+
+-- ---- a set
+
+module _ (q : Property) (vs : List Text) where
+  pub fits-none : length vs ≡ 0 → setFits q vs ≡ q .optional
+  unfolding setFits
+  fits-none h = rw h (go (q .optional) (q .multivalued))
+    where
+      go : (a b : Bool) → ((a || false) && (b || true)) ≡ a
+      go true true = refl
+      go true false = refl
+      go false b = refl
+
+  pub fits-one : length vs ≡ 1 → setFits q vs ≡ true
+  unfolding setFits
+  fits-one h = rw h (go (q .optional) (q .multivalued))
+    where
+      go : (a b : Bool) → ((a || true) && (b || true)) ≡ true
+      go true true = refl
+      go true false = refl
+      go false true = refl
+      go false false = refl
+
+  pub fits-more : (length vs ≡ 0 → ⊥) → (length vs ≡ 1 → ⊥) → setFits q vs ≡ q .multivalued
+  unfolding setFits
+  fits-more h k = rw (le-leb 1 (length vs) (omega (arith, h)), lt-leb (length vs) 1 (omega (arith, h, k))) (go (q .optional) (q .multivalued))
+    where
+      go : (a b : Bool) → ((a || true) && (b || false)) ≡ b
+      go true true = refl
+      go true false = refl
+      go false true = refl
+      go false false = refl
+
+pub match-yes : (q : Property) (n : ℕ) → strategyNumber (q .strategy) ≡ 5 → cond (isMatch q) n 0 ≡ n
+match-yes q n h = rw (eq-eqb (strategyNumber (q .strategy)) 5 h)
+
+pub match-no : (q : Property) (n : ℕ) → (strategyNumber (q .strategy) ≡ 5 → ⊥) → cond (isMatch q) n 0 ≡ 0
+match-no q n h = rw (ne-eqb (strategyNumber (q .strategy)) 5 h)
+
+-- ---- a place
+
+module _ (s : List ℕ) (o : Option Property) (p : PropertyAt) where
+  -- what is said of a place that has a property, and of one that has none
+  pub place-named : {A : Type 0} (d : A) (f : Property → A) (a : A) (b : Bool) → b ≡ true → PlaceIs s o b p → ((q : Property) → o ≡ some q → PropertyIs s q p → a ≡ f q) → a ≡ atPlace d f o
+  unfolding PlaceIs atPlace
+  place-named {A} d f a b h w k = go o refl w
+    where
+      go : (x : Option Property) → o ≡ x → PlaceIs s x b p → a ≡ atPlace d f x
+      go none e w = let z : _≡_ {A = Bool} true false = sym h ∙ w in let y : _≡_ {A = ℕ} 0 1 = cc in absurd (omega arith)
+      go (some q) e w = k q e (w .1)
+
+  pub place-unnamed : {A : Type 0} (d : A) (f : Property → A) (b : Bool) → b ≡ false → PlaceIs s o b p → d ≡ atPlace d f o
+  unfolding PlaceIs atPlace
+  place-unnamed {A} d f b h w = go o w
+    where
+      go : (x : Option Property) → PlaceIs s x b p → d ≡ atPlace d f x
+      go none w = refl
+      go (some q) w = let z : _≡_ {A = Bool} true false = sym (w .0) ∙ h in let y : _≡_ {A = ℕ} 0 1 = cc in absurd (omega arith)
+
+none-past : {A : Type 0} (xs : List A) (i : ℕ) → getElem? xs i ≡ none → length xs ≤ i
+none-past [] i e = omega arith
+none-past (x ∷ xs) zero e = let z : _≡_ {A = ℕ} 0 1 = cc in absurd (omega arith)
+none-past (x ∷ xs) (suc i) e = omega (arith, none-past xs i e)
+
+some-within : {A : Type 0} (xs : List A) (i : ℕ) (a : A) → getElem? xs i ≡ some a → i < length xs
+some-within [] i a e = let z : _≡_ {A = ℕ} 0 1 = cc in absurd (omega arith)
+some-within (x ∷ xs) zero a e = omega arith
+some-within (x ∷ xs) (suc i) a e = omega (arith, some-within xs i a e)
+
+-- no property, where an array begins
+abbrev pub noProperty : PropertyAt
+noProperty = record { start = 0; end = 0; kind = 0; first = 0; second = 0; third = 0; optional = false; multivalued = false; strategy = 0 }
+
+-- a place of a type, as the type's index has it
+pub place-is : (s : List ℕ) (t : EventType) (x : TypeIndex) (d : PropertyAt) (k : ℕ) → TypeIs s t x → PlaceIs s (getElem? (t .properties) k) (ltb k (x .count)) (getD (x .properties) k d)
+unfolding PlaceIs
+place-is s t x d k w = go (getElem? (t .properties) k) refl
+  where
+    go : (o : Option Property) → getElem? (t .properties) k ≡ o → PlaceIs s o (ltb k (x .count)) (getD (x .properties) k d)
+    go none e = le-ltb k (x .count) (omega (arith, w .count, none-past (t .properties) k e))
+    go (some q) e = (lt-ltb k (x .count) (omega (arith, w .count, some-within (t .properties) k q e)), w .are .each k q d e)
+
+-- ---- all places
+
+module _ (f : Property → List Text → Bool) (g : List Text → Bool) where
+  past-step : (k : ℕ) (ss : List (List Text)) → k < length ss → eachPlace f g [] (drop k ss) ≡ (g (getD ss k []) && eachPlace f g [] (drop (suc k) ss))
+  unfolding eachPlace
+  past-step k [] h = absurd (omega arith)
+  past-step zero (s ∷ ss) h = refl
+  past-step (suc k) (s ∷ ss) h = past-step k ss (omega arith)
+
+  place-step :
+      (k : ℕ) (ps : List Property) (ss : List (List Text)) → k < length ss →
+      eachPlace f g (drop k ps) (drop k ss)
+      ≡ (atPlace (g (getD ss k [])) (λ q. f q (getD ss k [])) (getElem? ps k) && eachPlace f g (drop (suc k) ps) (drop (suc k) ss))
+  unfolding eachPlace atPlace
+  place-step k ps [] h = absurd (omega arith)
+  place-step zero [] (s ∷ ss) h = refl
+  place-step zero (p ∷ ps) (s ∷ ss) h = refl
+  place-step (suc k) [] (s ∷ ss) h = past-step k ss (omega arith)
+  place-step (suc k) (p ∷ ps) (s ∷ ss) h = place-step k ps ss (omega arith)
+
+  pub each-step :
+      (k : ℕ) (ps : List Property) (ss : List (List Text)) → k < length ss →
+      eachPlace f g (drop k ps) (drop k ss)
+      ≡ (atPlace (g (getD ss k [])) (λ q. f q (getD ss k [])) (getElem? ps k) && eachPlace f g (drop (k + 1) ps) (drop (k + 1) ss))
+  each-step k ps ss h = rw (add-one k) (place-step k ps ss h)
+
+  pub each-end : (k : ℕ) (ps : List Property) (ss : List (List Text)) → length ss ≤ k → length ps ≤ k → eachPlace f g (drop k ps) (drop k ss) ≡ true
+  unfolding eachPlace
+  each-end k ps ss h l = rw (drop-of-length-le ps l, drop-of-length-le ss h)
+
+-- the match objects of a place
+abbrev pub matchesAt : Option Property → List Text → ℕ
+matchesAt o s = atPlace 0 (λ q. cond (isMatch q) (length s) 0) o
+
+count-step : (k : ℕ) (ps : List Property) (ss : List (List Text)) → k < length ss → matchCount (drop k ps) (drop k ss) ≡ matchesAt (getElem? ps k) (getD ss k []) + matchCount (drop (suc k) ps) (drop (suc k) ss)
+unfolding matchCount atPlace
+count-step k ps [] h = absurd (omega arith)
+count-step zero [] (s ∷ ss) h = refl
+count-step zero (p ∷ ps) (s ∷ ss) h = refl
+count-step (suc k) [] (s ∷ ss) h = refl
+count-step (suc k) (p ∷ ps) (s ∷ ss) h = count-step k ps ss (omega arith)
+
+match-step : (k : ℕ) (ps : List Property) (ss : List (List Text)) → k < length ss → matchCount (drop k ps) (drop k ss) ≡ matchesAt (getElem? ps k) (getD ss k []) + matchCount (drop (k + 1) ps) (drop (k + 1) ss)
+match-step k ps ss h = rw (add-one k) (count-step k ps ss h)
+
+match-end : (k : ℕ) (ps : List Property) (ss : List (List Text)) → length ps ≤ k → matchCount (drop k ps) (drop k ss) ≡ 0
+unfolding matchCount
+match-end k ps ss l = rw (drop-of-length-le ps l)
+
+-- The places below k fit, and have so many match objects
+pub record Shape (ps : List Property) (ss : List (List Text)) (matches k : ℕ) : Type 0 where
+  pub each : eachPlace setFits isEmpty ps ss ≡ eachPlace setFits isEmpty (drop k ps) (drop k ss)
+  pub count : matchCount ps ss ≡ matches + matchCount (drop k ps) (drop k ss)
+
+pub shape-first : (ps : List Property) (ss : List (List Text)) → Shape ps ss 0 0
+shape-first ps ss = record { each = refl; count = omega arith }
+
+module _ (t : EventType) (x : Event) (matches k : ℕ) (w : Shape (t .properties) (x .sets) matches k) where
+  module _ (h : k < length (x .sets)) where
+    each-next : eachPlace setFits isEmpty (t .properties) (x .sets) ≡ (atPlace (isEmpty (getD (x .sets) k [])) (λ q. setFits q (getD (x .sets) k [])) (getElem? (t .properties) k) && eachPlace setFits isEmpty (drop (k + 1) (t .properties)) (drop (k + 1) (x .sets)))
+    each-next = w .each ∙ each-step setFits isEmpty k (t .properties) (x .sets) h
+
+    pub shape-not : false ≡ atPlace (isEmpty (getD (x .sets) k [])) (λ q. setFits q (getD (x .sets) k [])) (getElem? (t .properties) k) → false ≡ eventShape t x
+    unfolding eventShape
+    shape-not e = sym (rw (each-next, ← e))
+
+    pub shape-many : (n : ℕ) → n ≡ matchesAt (getElem? (t .properties) k) (getD (x .sets) k []) → 32 - matches < n → matches ≤ 32 → false ≡ eventShape t x
+    unfolding eventShape
+    shape-many n e l m =
+        let c : matchCount (t .properties) (x .sets) ≡ matches + (n + matchCount (drop (k + 1) (t .properties)) (drop (k + 1) (x .sets))) =
+        w .count ∙ ap (λ (i : ℕ). matches + i) (match-step k (t .properties) (x .sets) h ∙ ap (λ (i : ℕ). i + matchCount (drop (k + 1) (t .properties)) (drop (k + 1) (x .sets))) (sym e)) in
+        let y : 32 < matchCount (t .properties) (x .sets) = omega (arith, c) in
+        sym (ap (λ (b : Bool). eachPlace setFits isEmpty (t .properties) (x .sets) && b) (lt-leb _ _ y) ∙ both (eachPlace setFits isEmpty (t .properties) (x .sets)))
+      where
+        both : (b : Bool) → (b && false) ≡ false
+        both true = refl
+        both false = refl
+
+    pub shape-more : (n : ℕ) → true ≡ atPlace (isEmpty (getD (x .sets) k [])) (λ q. setFits q (getD (x .sets) k [])) (getElem? (t .properties) k) → n ≡ matchesAt (getElem? (t .properties) k) (getD (x .sets) k []) → Shape (t .properties) (x .sets) (matches + n) (k + 1)
+    shape-more n e f = record {
+      each = each-next ∙ rw (← e);
+      count =
+          w .count ∙ ap (λ (i : ℕ). matches + i) (match-step k (t .properties) (x .sets) h ∙ ap (λ (i : ℕ). i + matchCount (drop (k + 1) (t .properties)) (drop (k + 1) (x .sets))) (sym f))
+          ∙ sym (add-assoc matches n (matchCount (drop (k + 1) (t .properties)) (drop (k + 1) (x .sets))));
+    }
+
+  pub shape-end : length (x .sets) ≤ k → length (t .properties) ≤ k → matches ≤ 32 → true ≡ eventShape t x
+  unfolding eventShape
+  shape-end h l m =
+      let c : matchCount (t .properties) (x .sets) ≤ 32 = omega (arith, w .count, match-end k (t .properties) (x .sets) l) in
+      sym (rw (w .each, each-end setFits isEmpty k (t .properties) (x .sets) h l, le-leb _ _ c))

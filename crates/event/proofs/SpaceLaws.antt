@@ -1,0 +1,106 @@
+-- The laws of question 6, text by text and place by place.
+use mathlib.Core.Path.{_≡_, refl, sym, ap, ap₂, _∙_, subst}
+use mathlib.Core.Bool.{Bool, true, false, cond, _&&_}
+use mathlib.Core.Option.{Option, none, some}
+use mathlib.Core.List.{List, [], _∷_, _++_, append-nil, map, flatten}
+use Prim.Native.Nat.{ℕ, zero, suc, _+_, _-_, _^_, _≤_, _<_}
+use native.Mathlib.Omega.{arith}
+use lib.ListN.{length, drop, getD, getElem?, length-append, length-drop}
+use Rattle.model.specs.Order.{Text}
+use Rattle.packed.specs.Parse.{Parse, fail, got}
+use Rattle.packed.specs.Packed.{text, readText}
+use Rattle.packed.specs.Located.{part}
+use Rattle.packed.proofs.ReadLaws.{TextStops}
+use Rattle.packed.proofs.LayoutLaws.{text-length, number-bounds}
+use Rattle.values.specs.Spaces.{Kind, inSpace}
+use Rattle.values.specs.KindNumbers.{kindOf}
+use Rattle.values.proofs.SpaceLaws.{kind-numbered}
+use Rattle.ontology.specs.Table.{Property, EventType}
+use Rattle.ontology.specs.TypeIndex.{KindIs}
+use Rattle.event.specs.Event.{atPlace}
+use Rattle.event.specs.EventQuestions.{eachPlace, areInSpace, valuesFit}
+use Rattle.event.proofs.LookupLaws.{text-there, text-next}
+use Rattle.event.proofs.ShapeLaws.{each-step, each-end}
+
+-- the kind that an index has the numbers of
+pub kind-of : (k : Kind) (kind first second third : ℕ) → KindIs k kind first second third → kindOf kind first second third ≡ some k
+kind-of k kind first second third w = rw (w .number, w .one, w .two, w .three) (kind-numbered k)
+
+-- ---- texts
+
+-- the texts before `at` are in the space
+pub record InSpace (k : Kind) (b : Bool) (s : List ℕ) (at : ℕ) : Type 0 where
+  pub more : List Text
+  pub bytes : drop at s ≡ flatten (map text more)
+  pub is : b ≡ areInSpace k more
+
+pub space-first : (k : Kind) (s : List ℕ) (vs : List Text) → s ≡ flatten (map text vs) → InSpace k (areInSpace k vs) s 0
+space-first k s vs h = record { more = vs; bytes = h; is = refl }
+
+module _ (k : Kind) (b : Bool) (s : List ℕ) (at : ℕ) (w : InSpace k b s at) where
+  pub space-end : length s ≤ at → true ≡ b
+  unfolding areInSpace flatten
+  space-end h = go (w .more) (w .bytes) (w .is)
+    where
+      go : (more : List Text) → drop at s ≡ flatten (map text more) → b ≡ areInSpace k more → true ≡ b
+      go [] d e = sym e
+      go (v ∷ vs) d e = absurd (omega (arith, length-drop at s, ap length d, length-append (text v) (flatten (map text vs)), text-length v, number-bounds (length v) .0))
+
+  module _ (small : length s < 2 ^ 64) (l : at < length s) where
+    -- the first text, and the others
+    record First : Type 0 where
+      v : Text
+      vs : List Text
+      bytes : drop at s ≡ text v ++ flatten (map text vs)
+      is : b ≡ (inSpace k v && areInSpace k vs)
+
+    first : First
+    unfolding areInSpace flatten
+    first = go (w .more) (w .bytes) (w .is)
+      where
+        go : (more : List Text) → drop at s ≡ flatten (map text more) → b ≡ areInSpace k more → First
+        go [] d e = absurd (omega (arith, length-drop at s, ap length d))
+        go (v ∷ vs) d e = record { v = v; vs = vs; bytes = d; is = e }
+
+    pub space-bad : readText (drop at s) ≡ fail → ⊥
+    space-bad e = text-there s small at (omega arith) (first .v) (flatten (map text (first .vs))) (first .bytes) e
+
+    module _ (a z : ℕ) (t : TextStops s at a z) where
+      there : (part s a z ≡ first .v) × (drop z s ≡ flatten (map text (first .vs)))
+      there = let n = text-next s small at (omega arith) (first .v) (flatten (map text (first .vs))) (first .bytes) a z t in (n .0, n .2 .rest)
+
+      pub space-not : false ≡ inSpace k (part s a z) → false ≡ b
+      space-not e = sym (first .is ∙ ap (λ (c : Bool). c && areInSpace k (first .vs)) (sym (e ∙ ap (inSpace k) (there .0))))
+
+      pub space-more : true ≡ inSpace k (part s a z) → InSpace k b s z
+      space-more e = record {
+        more = first .vs;
+        bytes = there .1;
+        is = first .is ∙ ap (λ (c : Bool). c && areInSpace k (first .vs)) (sym (e ∙ ap (inSpace k) (there .0)));
+      }
+
+-- ---- places
+
+abbrev pub placeSpace : Option Property → List Text → Bool
+placeSpace o s = atPlace true (λ q. areInSpace (q .kind) s) o
+
+-- the places below k are in their spaces
+pub record Fit (t : EventType) (ss : List (List Text)) (k : ℕ) : Type 0 where
+  pub each : valuesFit t ss ≡ eachPlace (λ p s. areInSpace (p .kind) s) (λ s. true) (drop k (t .properties)) (drop k ss)
+
+pub fit-first : (t : EventType) (ss : List (List Text)) → Fit t ss 0
+unfolding valuesFit
+fit-first t ss = record { each = refl }
+
+module _ (t : EventType) (ss : List (List Text)) (k : ℕ) (w : Fit t ss k) where
+  next : k < length ss → valuesFit t ss ≡ (placeSpace (getElem? (t .properties) k) (getD ss k []) && eachPlace (λ p s. areInSpace (p .kind) s) (λ s. true) (drop (k + 1) (t .properties)) (drop (k + 1) ss))
+  next h = w .each ∙ each-step (λ p s. areInSpace (p .kind) s) (λ s. true) k (t .properties) ss h
+
+  pub fit-not : k < length ss → false ≡ placeSpace (getElem? (t .properties) k) (getD ss k []) → false ≡ valuesFit t ss
+  fit-not h e = sym (next h ∙ ap (λ (c : Bool). c && eachPlace (λ p s. areInSpace (p .kind) s) (λ s. true) (drop (k + 1) (t .properties)) (drop (k + 1) ss)) (sym e))
+
+  pub fit-more : k < length ss → true ≡ placeSpace (getElem? (t .properties) k) (getD ss k []) → Fit t ss (k + 1)
+  fit-more h e = record { each = next h ∙ ap (λ (c : Bool). c && eachPlace (λ p s. areInSpace (p .kind) s) (λ s. true) (drop (k + 1) (t .properties)) (drop (k + 1) ss)) (sym e) }
+
+  pub fit-end : length ss ≤ k → length (t .properties) ≤ k → true ≡ valuesFit t ss
+  fit-end h l = sym (w .each ∙ each-end (λ p s. areInSpace (p .kind) s) (λ s. true) k (t .properties) ss h l)

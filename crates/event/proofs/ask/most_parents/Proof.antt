@@ -1,0 +1,20 @@
+use borrow.Author.Needs.{needs}
+use mathlib.Core.Path.{_≡_, sym, ap}
+use mathlib.Core.Bool.{Bool}
+use Rattle.event.specs.EventLayout.{narrow, wide}
+use Rattle.event.specs.EventIndex.{countsOf}
+use Rattle.event.proofs.ask.most_parents.Statement.{statement}
+use Rattle.event.proofs.ask.most_parents.Tie as tie
+use Rattle.event.proofs.ask.most_parents.Reads as reads
+use Rattle.event.proofs.ask.most_parents.Lts as lts
+
+returns : tie.Need-returns
+unfolding wide
+returns c = sym (ap (λ (b : Bool). countsOf b .parents) (c .if1 .taken))
+
+returns-2 : tie.Need-returns-2
+unfolding narrow
+returns-2 c = sym (ap (λ (b : Bool). countsOf b .parents) (c .if1 .left))
+
+pub most-parents-spec : {M : Type 1} → statement M
+most-parents-spec = tie.close (tie.spec returns returns-2)

@@ -1,0 +1,58 @@
+use borrow.Author.Needs.{needs}
+use mathlib.Core.Path.{_≡_, sym, _∙_}
+use Rattle.packed.proofs.ReadLaws.{text-stops, text-none}
+use Rattle.event.proofs.AskLaws.{no-name-there, name-part}
+use Rattle.event.proofs.ask.name_of.Statement.{statement}
+use Rattle.event.proofs.ask.name_of.Tie as tie
+use Rattle.event.proofs.ask.name_of.Reads as reads
+use Rattle.event.proofs.ask.name_of.Lts as lts
+use Rattle.packed.proofs.read.read_text.Reads as read-text-reads
+
+read-text-requires : tie.Need-read-text-requires
+read-text-requires c κs = search needs
+
+enum-known-start : tie.Need-enum-known-start
+enum-known-start c = search needs
+
+enum-told : tie.Need-enum-told
+enum-told c = search needs
+
+sub-result : tie.Need-sub-result
+sub-result c = search needs
+
+part-result-start : tie.Need-part-result-start
+part-result-start c = search needs
+
+part-result-end : tie.Need-part-result-end
+part-result-end c = search needs
+
+returns : tie.Need-returns
+returns c = λ counts e h. absurd (no-name-there counts _ e h (text-none _ 0 (sym (c .before .before .before .read-text .ensures) ∙ c .before .enum-told .given .1)))
+
+sub-result-2 : tie.Need-sub-result-2
+sub-result-2 c = text-stops _ _ _ _ (sym (c .before .before .before .read-text .ensures) ∙ c .before .start .given .1) .order
+
+part-result-start-2 : tie.Need-part-result-start-2
+part-result-start-2 c = text-stops _ _ _ _ (sym (c .before .before .before .read-text .ensures) ∙ c .before .start .given .1) .order
+
+part-result-end-2 : tie.Need-part-result-end-2
+part-result-end-2 c = text-stops _ _ _ _ (sym (c .before .before .before .read-text .ensures) ∙ c .before .start .given .1) .within
+
+returns-2 : tie.Need-returns-2
+returns-2 c = λ counts e h. name-part counts _ e _ _ h (text-stops _ _ _ _ (sym (c .before .before .before .before .read-text .ensures) ∙ c .before .before .start .given .1))
+
+pub name-of-spec : {M : Type 1} → statement M
+name-of-spec =
+    tie.close
+    (tie.spec
+    read-text-requires
+    enum-known-start
+    enum-told
+    sub-result
+    part-result-start
+    part-result-end
+    returns
+    sub-result-2
+    part-result-start-2
+    part-result-end-2
+    returns-2)

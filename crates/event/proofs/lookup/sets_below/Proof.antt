@@ -1,0 +1,22 @@
+use borrow.Author.Needs.{needs}
+use native.Mathlib.Omega.{arith}
+use Rattle.event.proofs.LookupLaws.{shifted, positive, below-small}
+use Rattle.event.proofs.lookup.sets_below.Statement.{statement}
+use Rattle.event.proofs.lookup.sets_below.Tie as tie
+use Rattle.event.proofs.lookup.sets_below.Reads as reads
+use Rattle.event.proofs.lookup.sets_below.Lts as lts
+
+shl-result : tie.Need-shl-result
+shl-result c = search needs
+
+rem-result : tie.Need-rem-result
+rem-result c = positive (c .args .place) (c .pre)
+
+cast-result : tie.Need-cast-result
+cast-result c = omega (arith, below-small (c .args .presence) (c .args .place) (c .pre))
+
+returns : tie.Need-returns
+returns c = rw (shifted (c .args .place) (c .pre))
+
+pub sets-below-spec : {M : Type 1} → statement M
+sets-below-spec = tie.close (tie.spec shl-result rem-result cast-result returns)

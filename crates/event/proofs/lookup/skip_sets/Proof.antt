@@ -1,0 +1,71 @@
+use borrow.Author.Needs.{needs}
+use native.Mathlib.Omega.{arith}
+use Prim.Native.Nat.{ℕ, _+_, _≤_}
+use mathlib.Core.Path.{_≡_, sym, _∙_}
+use mathlib.Core.List.{List, _++_}
+use lib.ListN.{length, drop}
+use Rattle.model.specs.Order.{Text}
+use Rattle.packed.proofs.ReadLaws.{number-stops, number-none}
+use Rattle.event.specs.EventLayout.{setsBytes}
+use Rattle.event.specs.EventIndex.{present}
+use Rattle.event.proofs.LookupLaws.{SetsSkipping, sets-skipping-first, sets-skipping-bad, sets-skipping-more, sets-skipping-all}
+use Rattle.event.proofs.lookup.skip_sets.Statement.{statement}
+use Rattle.event.proofs.lookup.skip_sets.Tie as tie
+use Rattle.event.proofs.lookup.skip_sets.Reads as reads
+use Rattle.event.proofs.lookup.skip_sets.Lts as lts
+use Rattle.event.proofs.lookup.skip_texts.Reads as skip-texts-reads
+use Rattle.packed.proofs.read.read_number.Reads as read-number-reads
+
+abbrev Inv-loop : tie.InvT-loop
+Inv-loop s at count pos₀ left₀ pos left =
+    (xs : List (List Text)) (r : List ℕ) → drop at s ≡ setsBytes xs ++ r → at ≤ length s → count ≡ present xs → SetsSkipping (at + length (setsBytes xs)) r s pos left
+
+abbrev μ-loop : tie.MeasureT-loop
+μ-loop s at count pos₀ left₀ pos left = left
+
+loop-holds : tie.Need-loop-holds Inv-loop μ-loop
+loop-holds c = λ xs r h k l. sets-skipping-first _ _ _ xs r h k l
+
+read-number-requires : tie.Need-read-number-requires Inv-loop μ-loop
+read-number-requires c κs = search needs
+
+enum-known-values : tie.Need-enum-known-values Inv-loop μ-loop
+enum-known-values c = search needs
+
+enum-told : tie.Need-enum-told Inv-loop μ-loop
+enum-told c = search needs
+
+returns : tie.Need-returns Inv-loop μ-loop
+returns c = λ xs r h k l. absurd (sets-skipping-bad _ _ _ _ _ (omega arith) (c .before .before .before .before .loop .inv xs r h k l) (c .before .before .before .loop-test .taken) (number-none _ _ (sym (c .before .before .read-number .ensures) ∙ c .enum-told .given .1)))
+
+skip-texts-requires : tie.Need-skip-texts-requires Inv-loop μ-loop
+skip-texts-requires c κs = search needs
+
+sub-left : tie.Need-sub-left Inv-loop μ-loop
+sub-left c = search needs
+
+loop-less : tie.Need-loop-less Inv-loop μ-loop
+loop-less c = search needs
+
+loop-again : tie.Need-loop-again Inv-loop μ-loop
+loop-again c = λ xs r h k l. sets-skipping-more _ _ _ _ _ (omega arith) (c .before .before .before .before .before .before .loop .inv xs r h k l) (c .before .before .before .before .before .loop-test .taken) _ _ _ (number-stops _ _ _ _ (sym (c .before .before .before .before .read-number .ensures) ∙ c .before .before .values .given .1)) (c .skip-texts .ensures)
+
+returns-2 : tie.Need-returns-2 Inv-loop μ-loop
+returns-2 c = λ xs r h k l. sets-skipping-all _ _ _ _ _ _ (c .before .loop .inv xs r h k l) (c .loop-test .left)
+
+pub skip-sets-spec : {M : Type 1} → statement M
+skip-sets-spec =
+    tie.close
+    (tie.spec
+    Inv-loop
+    μ-loop
+    loop-holds
+    read-number-requires
+    enum-known-values
+    enum-told
+    returns
+    skip-texts-requires
+    sub-left
+    loop-less
+    loop-again
+    returns-2)

@@ -1,0 +1,27 @@
+use borrow.Author.Needs.{needs}
+use mathlib.Core.Path.{_≡_, sym, ap, subst}
+use mathlib.Core.List.{List}
+use lib.ListN.{drop}
+use Rattle.model.specs.Order.{Text}
+use Rattle.packed.specs.Parse.{Parse}
+use Rattle.event.specs.EventIndex.{SetReads}
+use Rattle.event.proofs.SetLaws.{place-set, place-clear}
+use Rattle.event.proofs.sets.read_place.Statement.{statement}
+use Rattle.event.proofs.sets.read_place.Tie as tie
+use Rattle.event.proofs.sets.read_place.Reads as reads
+use Rattle.event.proofs.sets.read_place.Lts as lts
+use Rattle.event.proofs.sets.read_set.Reads as read-set-reads
+
+read-set-requires : tie.Need-read-set-requires
+read-set-requires c κs = search needs
+
+returns : tie.Need-returns
+returns c =
+    let a = c .before .before .before .args in
+    subst (λ (p : Parse (List Text)). SetReads p (a .s .now) (c .read-set .result)) (sym (place-set (a .bit) (drop (a .at) (a .s .now)) (c .before .if1 .taken))) (c .read-set .ensures)
+
+returns-2 : tie.Need-returns-2
+returns-2 c = place-clear _ _ _ (c .if1 .left) (c .before .before .pre)
+
+pub read-place-spec : {M : Type 1} → statement M
+read-place-spec = tie.close (tie.spec read-set-requires returns returns-2)

@@ -1,0 +1,85 @@
+use borrow.Author.Needs.{needs}
+use native.Mathlib.Omega.{arith}
+use Prim.Native.Nat.{ℕ, _-_}
+use mathlib.Core.Path.{_≡_, refl, sym, ap, _∙_}
+use mathlib.Core.Bool.{true, false}
+use lib.ListN.{length, drop}
+use Rattle.event.specs.EventLayout.{readSets}
+use Rattle.event.proofs.SetLaws.{Sofar, sofar-none, sofar-bad, sofar-more, sofar-all, sofar-sets, few-more, sets-none, sets-got, set-reads, set-refused}
+use Rattle.event.proofs.sets.read_sets.Statement.{statement}
+use Rattle.event.proofs.sets.read_sets.Tie as tie
+use Rattle.event.proofs.sets.read_sets.Reads as reads
+use Rattle.event.proofs.sets.read_sets.Lts as lts
+use Rattle.event.proofs.sets.read_place.Reads as read-place-reads
+
+abbrev Inv-loop : tie.InvT-loop
+Inv-loop s at presence found₀ bits₀ next₀ objects₀ k₀ found bits next objects k =
+    (found .ok ≡ false) × Sofar (readSets 32 presence (drop at s)) s (found .sets) bits next objects k
+
+abbrev μ-loop : tie.MeasureT-loop
+μ-loop s at presence found₀ bits₀ next₀ objects₀ k₀ found bits next objects k = 32 - k
+
+loop-holds : tie.Need-loop-holds Inv-loop μ-loop
+loop-holds c = (refl, sofar-none _ _ _ _ (c .before .pre) refl)
+
+read-place-requires : tie.Need-read-place-requires Inv-loop μ-loop
+read-place-requires c κs = c .before .loop .inv .1 .within
+
+enum-known-x : tie.Need-enum-known-x Inv-loop μ-loop
+enum-known-x c = search needs
+
+enum-told : tie.Need-enum-told Inv-loop μ-loop
+enum-told c = search needs
+
+returns : tie.Need-returns Inv-loop μ-loop
+returns c =
+    let l = c .before .before .before .before .loop in
+    sets-none _ _ _ (sofar-bad _ _ _ _ _ _ _ (l .inv .1) (c .before .before .before .loop-test .taken) (set-refused _ (c .enum-told .given .1) (c .before .before .read-place .ensures))) (l .inv .0)
+
+mul-x : tie.Need-mul-x Inv-loop μ-loop
+mul-x c = search needs
+
+element-set-from-x : tie.Need-element-set-from-x Inv-loop μ-loop
+element-set-from-x c = search needs
+
+add-objects : tie.Need-add-objects Inv-loop μ-loop
+add-objects c =
+    let l = c .before .before .before .before .before .before .loop in
+    let f = few-more _ _ _ _ _ _ _ (l .inv .1) _ (c .before .before .before .before .before .loop-test .taken) (set-reads (c .before .before .x .given .1) (c .before .before .before .before .read-place .ensures)) in
+    omega (arith, l .inv .1 .small, f .0, f .1)
+
+add-k : tie.Need-add-k Inv-loop μ-loop
+add-k c = search needs
+
+loop-less : tie.Need-loop-less Inv-loop μ-loop
+loop-less c = search needs
+
+loop-again : tie.Need-loop-again Inv-loop μ-loop
+loop-again c =
+    let l = c .before .before .before .before .before .before .loop in
+    (l .inv .0, sofar-more _ _ _ _ _ _ _ (l .inv .1) _ (c .before .before .before .before .before .loop-test .taken) (set-reads (c .before .before .x .given .1) (c .before .before .before .before .read-place .ensures)))
+
+returns-2 : tie.Need-returns-2 Inv-loop μ-loop
+returns-2 c =
+    let w = c .before .loop .inv .1 in
+    let f = c .loop-test .left in
+    sets-got _ (w .xs) _ _ _ (sofar-all _ _ _ _ _ _ _ w f) (record { right = refl; rest = refl; within = w .within; objects = w .summed; stands = sofar-sets _ _ _ _ _ _ _ w f })
+
+pub read-sets-spec : {M : Type 1} → statement M
+read-sets-spec =
+    tie.close
+    (tie.spec
+    Inv-loop
+    μ-loop
+    loop-holds
+    read-place-requires
+    enum-known-x
+    enum-told
+    returns
+    mul-x
+    element-set-from-x
+    add-objects
+    add-k
+    loop-less
+    loop-again
+    returns-2)

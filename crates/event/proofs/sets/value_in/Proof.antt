@@ -1,0 +1,117 @@
+use borrow.Author.Needs.{needs}
+use native.Mathlib.Omega.{arith}
+use Prim.Native.Nat.{ℕ, _≤_}
+use mathlib.Core.Path.{_≡_, refl, sym, ap, _∙_}
+use mathlib.Core.List.{List, [], map, flatten}
+use lib.ListN.{length, drop, getD}
+use Rattle.model.specs.Order.{Text}
+use Rattle.packed.specs.Packed.{text}
+use Rattle.packed.specs.Located.{part}
+use Rattle.packed.proofs.ReadLaws.{TextStops, text-stops, text-none}
+use Rattle.event.proofs.SetLaws.{Walked, walked-none, walked-bad, walked-more, walked-found}
+use Rattle.event.proofs.sets.value_in.Statement.{statement}
+use Rattle.event.proofs.sets.value_in.Tie as tie
+use Rattle.event.proofs.sets.value_in.Reads as reads
+use Rattle.event.proofs.sets.value_in.Lts as lts
+use Rattle.packed.proofs.read.read_text.Reads as read-text-reads
+
+abbrev Inv-loop : tie.InvT-loop
+Inv-loop s index at₀ left₀ at left = (vs : List Text) → s ≡ flatten (map text vs) → Walked (getD vs index []) s at left
+
+abbrev μ-loop : tie.MeasureT-loop
+μ-loop s index at₀ left₀ at left = left
+
+loop-holds : tie.Need-loop-holds Inv-loop μ-loop
+loop-holds c = λ vs h. walked-none vs _ _ h
+
+read-text-requires : tie.Need-read-text-requires Inv-loop μ-loop
+read-text-requires c κs = search needs
+
+enum-known-end : tie.Need-enum-known-end Inv-loop μ-loop
+enum-known-end c = search needs
+
+enum-told : tie.Need-enum-told Inv-loop μ-loop
+enum-told c = search needs
+
+sub-result : tie.Need-sub-result Inv-loop μ-loop
+sub-result c = search needs
+
+part-result-start : tie.Need-part-result-start Inv-loop μ-loop
+part-result-start c = search needs
+
+part-result-end : tie.Need-part-result-end Inv-loop μ-loop
+part-result-end c = search needs
+
+returns : tie.Need-returns Inv-loop μ-loop
+returns c = λ vs h. walked-bad _ _ _ _ (omega arith) (c .before .before .before .before .before .loop .inv vs h) (text-none _ _ (sym (c .before .before .before .read-text .ensures) ∙ c .before .enum-told .given .1))
+
+sub-left : tie.Need-sub-left Inv-loop μ-loop
+sub-left c = search needs
+
+loop-less : tie.Need-loop-less Inv-loop μ-loop
+loop-less c = search needs
+
+loop-again : tie.Need-loop-again Inv-loop μ-loop
+loop-again c = λ vs h. walked-more _ _ _ _ (omega arith) (c .before .before .before .before .before .loop .inv vs h) _ _ (text-stops _ _ _ _ (sym (c .before .before .before .read-text .ensures) ∙ c .before .end .given .1)) (c .before .before .before .before .loop-test .taken)
+
+read-text-requires-2 : tie.Need-read-text-requires-2 Inv-loop μ-loop
+read-text-requires-2 c κs = search needs
+
+enum-known-start : tie.Need-enum-known-start Inv-loop μ-loop
+enum-known-start c = search needs
+
+enum-told-2 : tie.Need-enum-told-2 Inv-loop μ-loop
+enum-told-2 c = search needs
+
+sub-result-2 : tie.Need-sub-result-2 Inv-loop μ-loop
+sub-result-2 c = search needs
+
+part-result-start-2 : tie.Need-part-result-start-2 Inv-loop μ-loop
+part-result-start-2 c = search needs
+
+part-result-end-2 : tie.Need-part-result-end-2 Inv-loop μ-loop
+part-result-end-2 c = search needs
+
+returns-2 : tie.Need-returns-2 Inv-loop μ-loop
+returns-2 c = λ vs h. walked-bad _ _ _ _ (omega arith) (c .before .before .before .before .before .loop .inv vs h) (text-none _ _ (sym (c .before .before .before .read-text2 .ensures) ∙ c .before .enum-told2 .given .1))
+
+sub-result-3 : tie.Need-sub-result-3 Inv-loop μ-loop
+sub-result-3 c = text-stops _ _ _ _ (sym (c .before .before .before .read-text2 .ensures) ∙ c .before .start .given .1) .order
+
+part-result-start-3 : tie.Need-part-result-start-3 Inv-loop μ-loop
+part-result-start-3 c = text-stops _ _ _ _ (sym (c .before .before .before .read-text2 .ensures) ∙ c .before .start .given .1) .order
+
+part-result-end-3 : tie.Need-part-result-end-3 Inv-loop μ-loop
+part-result-end-3 c = text-stops _ _ _ _ (sym (c .before .before .before .read-text2 .ensures) ∙ c .before .start .given .1) .within
+
+returns-3 : tie.Need-returns-3 Inv-loop μ-loop
+returns-3 c = λ vs h. walked-found _ _ _ _ (omega arith) (c .before .before .before .before .before .before .loop .inv vs h) _ _ (text-stops _ _ _ _ (sym (c .before .before .before .before .read-text2 .ensures) ∙ c .before .before .start .given .1)) (c .before .before .before .before .before .loop-test .left)
+
+pub value-in-spec : {M : Type 1} → statement M
+value-in-spec =
+    tie.close
+    (tie.spec
+    Inv-loop
+    μ-loop
+    loop-holds
+    read-text-requires
+    enum-known-end
+    enum-told
+    sub-result
+    part-result-start
+    part-result-end
+    returns
+    sub-left
+    loop-less
+    loop-again
+    read-text-requires-2
+    enum-known-start
+    enum-told-2
+    sub-result-2
+    part-result-start-2
+    part-result-end-2
+    returns-2
+    sub-result-3
+    part-result-start-3
+    part-result-end-3
+    returns-3)

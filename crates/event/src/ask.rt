@@ -1,0 +1,98 @@
+ghost use Prim.Native.Nat.{_+_};
+ghost use mathlib.Core.Path.{_≡_};
+ghost use mathlib.Core.Option.{some};
+ghost use Rattle.event.specs.Event.{Event};
+ghost use Rattle.event.specs.EventLayout.{Counts, eventOf};
+ghost use Rattle.event.specs.Value.{valueCall};
+ghost use Rattle.event.specs.EventIndex.{countsOf, eventQuestions, EventAnswers};
+use crate::lookup::ValueAt;
+use crate::lookup::find_value;
+use crate::read::EventIndex;
+use crate::read::read_event;
+use crate::shape::shape_ok;
+use crate::spaces::values_ok;
+use ontology::tables::read_table;
+use ontology::types::TypeIndex;
+use packed::read::TextAt;
+use packed::read::read_text;
+
+// The number of the first question that is answered no, or 0; and then the event and its type.
+pub struct EventAsked {
+    pub number: u8,
+    pub kind: TypeIndex,
+    pub event: EventIndex,
+}
+
+fn most_parents(wide: bool) -> usize
+    ensures { λ r. ⌜ r ≡ countsOf wide .parents ⌝ }
+{
+    if wide { 32 } else { 8 }
+}
+
+fn most_objects(wide: bool) -> usize
+    ensures { λ r. ⌜ r ≡ countsOf wide .objects ⌝ }
+{
+    if wide { 256 } else { 32 }
+}
+
+// The type name that an event begins with; the empty name, which no type has, where it cannot be read.
+fn name_of(event: &[u8]) -> &[u8]
+    ensures { λ r. ⌜ ((counts : Counts) (e : Event) → eventOf counts (now (event .entry)) ≡ some e → now r ≡ e .type) ⌝ }
+{
+    let TextAt::Text(start, end) = read_text(event, 0) else {
+        return &event[0..0];
+    };
+    &event[start..end]
+}
+
+// Questions 2 to 6. Table and event are each read once, the event's type name first, so that its type is found while the table is read.
+pub fn ask_event(table: &[u8], event: &[u8], wide: bool) -> EventAsked
+    ensures { λ r. ⌜ EventAnswers (eventQuestions (countsOf wide) (now (table .entry)) (now (event .entry))) (now (table .entry)) (now (event .entry)) r ⌝ }
+{
+    let t = read_table(table, name_of(event));
+    let e = read_event(event, most_parents(wide), most_objects(wide));
+    let kind = t.index;
+    let mut asked = EventAsked {
+        number: 2,
+        kind,
+        event: e,
+    };
+    if !t.ok {
+        return asked;
+    }
+    asked.number = 3;
+    if !e.ok {
+        return asked;
+    }
+    asked.number = 4;
+    if !t.found {
+        return asked;
+    }
+    asked.number = 5;
+    if !shape_ok(kind, e) {
+        return asked;
+    }
+    asked.number = 6;
+    if !values_ok(event, kind, e) {
+        return asked;
+    }
+    asked.number = 0;
+    asked
+}
+
+// The value at a place and an index: its own bytes in the event. A refused table or event, or no value there, gives a part of 0 bytes.
+pub fn value<'a>(table: &[u8], event: &'a [u8], place: usize, index: usize) -> &'a [u8]
+    ensures bytes { λ r. ⌜ now r ≡ valueCall (now (table .entry)) (now (event .entry)) place index .bytes ⌝ }
+    ensures block { λ r. ⌜ r .ptr .0 ≡ event .entry .ptr .0 ⌝ }
+    ensures offset { λ r. ⌜ r .ptr .1 ≡ event .entry .ptr .1 + valueCall (now (table .entry)) (now (event .entry)) place index .start ⌝ }
+{
+    let asked = ask_event(table, event, true);
+    if asked.number != 0 {
+        return &event[0..0];
+    }
+    let x = asked.event;
+    match find_value(event, x, place, index) {
+        ValueAt::Value(start, end) => &event[start..end],
+        ValueAt::NoValue => &event[0..0],
+    }
+}

@@ -1,0 +1,198 @@
+ghost use mathlib.Core.Path.{_≡_};
+ghost use mathlib.Core.Bool.{true, false};
+ghost use lib.ListN.{length, drop};
+ghost use Rattle.event.specs.EventLayout.{isSource, readParents, eventOf};
+ghost use Rattle.event.specs.EventIndex.{ParentsReads, HeadReads, readHead, EventReads, counts};
+use crate::sets::SetAt;
+use crate::sets::read_sets;
+use ontology::names::is_before;
+use packed::read::NumberAt;
+use packed::read::TextAt;
+use packed::read::read_number;
+use packed::read::read_text;
+
+// Where a text's own bytes stand.
+pub struct PartAt {
+    pub start: usize,
+    pub end: usize,
+}
+
+pub enum ParentsRead {
+    Parents(SetAt),
+    NoParents,
+}
+
+// Type name, source and parents, with which an event and a dossier begin.
+pub struct HeadAt {
+    pub name: PartAt,
+    pub source: PartAt,
+    pub parents: SetAt,
+}
+
+pub enum HeadRead {
+    Head(HeadAt),
+    NoHead,
+}
+
+// Where each thing of an event stands; `first` is the position of the first set's count.
+pub struct EventIndex {
+    pub ok: bool,
+    pub head: HeadAt,
+    pub presence: u64,
+    pub first: usize,
+    pub objects: usize,
+    pub sets: [SetAt; 32],
+}
+
+// 1 to 120 bytes from 21 to 7E hexadecimal.
+pub fn is_source(v: &[u8]) -> bool
+    ensures { λ r. ⌜ r ≡ isSource (now (v .entry)) ⌝ }
+{
+    if v.len() == 0 {
+        return false;
+    }
+    if 120 < v.len() {
+        return false;
+    }
+    let mut i = 0;
+    while i < v.len() {
+        let b = v[i];
+        if b < 0x21 {
+            return false;
+        }
+        if 0x7e < b {
+            return false;
+        }
+        i += 1;
+    }
+    true
+}
+
+// A count of at most `most`, and as many rising hashes of 20 bytes.
+pub fn read_parents(s: &[u8], at: usize, most: usize) -> ParentsRead
+    ensures { λ r. ⌜ ParentsReads (readParents most (drop at (now (s .entry)))) (now (s .entry)) r ⌝ }
+{
+    let NumberAt::Number(number, start) = read_number(s, at) else {
+        return ParentsRead::NoParents;
+    };
+    let count = number as usize;
+    if most < count {
+        return ParentsRead::NoParents;
+    }
+    if count == 0 {
+        return ParentsRead::Parents(SetAt {
+            start,
+            end: start,
+            count,
+        });
+    }
+    if s.len() - start < 20 {
+        return ParentsRead::NoParents;
+    }
+    let mut from = start;
+    let mut to = start + 20;
+    let mut left = count - 1;
+    while 0 < left {
+        if s.len() - to < 20 {
+            return ParentsRead::NoParents;
+        }
+        let end = to + 20;
+        if !is_before(s, from, to, to, end) {
+            return ParentsRead::NoParents;
+        }
+        from = to;
+        to = end;
+        left -= 1;
+    }
+    ParentsRead::Parents(SetAt {
+        start,
+        end: to,
+        count,
+    })
+}
+
+pub fn read_head(s: &[u8], most: usize) -> HeadRead
+    ensures { λ r. ⌜ HeadReads (readHead most (now (s .entry))) (now (s .entry)) r ⌝ }
+{
+    let TextAt::Text(name, name_end) = read_text(s, 0) else {
+        return HeadRead::NoHead;
+    };
+    let TextAt::Text(source, source_end) = read_text(s, name_end) else {
+        return HeadRead::NoHead;
+    };
+    if !is_source(&s[source..source_end]) {
+        return HeadRead::NoHead;
+    }
+    let ParentsRead::Parents(parents) = read_parents(s, source_end, most) else {
+        return HeadRead::NoHead;
+    };
+    HeadRead::Head(HeadAt {
+        name: PartAt {
+            start: name,
+            end: name_end,
+        },
+        source: PartAt {
+            start: source,
+            end: source_end,
+        },
+        parents,
+    })
+}
+
+fn no_event() -> EventIndex
+    ensures { λ r. ⌜ r .ok ≡ false ⌝ }
+{
+    let part = PartAt { start: 0, end: 0 };
+    let set = SetAt {
+        start: 0,
+        end: 0,
+        count: 0,
+    };
+    EventIndex {
+        ok: false,
+        head: HeadAt {
+            name: part,
+            source: part,
+            parents: set,
+        },
+        presence: 0,
+        first: 0,
+        objects: 0,
+        sets: [set; 32],
+    }
+}
+
+// The index of an event that the bytes are, to their exact end.
+pub fn read_event(s: &[u8], most_parents: usize, most_objects: usize) -> EventIndex
+    ensures { λ r. ⌜ EventReads (eventOf (counts «most_parents» «most_objects») (now (s .entry))) (now (s .entry)) r ⌝ }
+{
+    let HeadRead::Head(head) = read_head(s, most_parents) else {
+        return no_event();
+    };
+    let parents = head.parents;
+    let NumberAt::Number(presence, first) = read_number(s, parents.end) else {
+        return no_event();
+    };
+    if 4294967296 <= presence {
+        return no_event();
+    }
+    let found = read_sets(s, first, presence);
+    if !found.ok {
+        return no_event();
+    }
+    if found.next != s.len() {
+        return no_event();
+    }
+    if most_objects < found.objects {
+        return no_event();
+    }
+    let sets = found.sets;
+    EventIndex {
+        ok: true,
+        head,
+        presence,
+        first,
+        objects: found.objects,
+        sets,
+    }
+}

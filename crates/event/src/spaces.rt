@@ -1,0 +1,67 @@
+ghost use Prim.Native.Nat.{ℕ};
+ghost use mathlib.Core.Path.{_≡_};
+ghost use mathlib.Core.Bool.{true};
+ghost use mathlib.Core.Option.{Option, some};
+ghost use mathlib.Core.List.{List, map, flatten};
+ghost use lib.ListN.{length};
+ghost use Rattle.model.specs.Order.{Text};
+ghost use Rattle.packed.specs.Packed.{text};
+ghost use Rattle.values.specs.Spaces.{Kind, isKind};
+ghost use Rattle.values.specs.KindNumbers.{kindOf};
+ghost use Rattle.ontology.specs.Table.{Property, EventType};
+ghost use Rattle.ontology.specs.TypeIndex.{TypeIs};
+ghost use Rattle.event.specs.Event.{Event, atPlace};
+ghost use Rattle.event.specs.EventQuestions.{areInSpace, valuesFit};
+ghost use Rattle.event.specs.EventIndex.{SetIs, EventIs, PlaceIs, KindsAre};
+use crate::read::EventIndex;
+use crate::sets::SetAt;
+use crate::sets::set_part;
+use ontology::properties::PropertyAt;
+use ontology::types::TypeIndex;
+use packed::read::TextAt;
+use packed::read::read_text;
+use values::spaces::in_space;
+
+// Whether each text of those that v is made of is in the space of a kind.
+pub fn are_in_space(v: &[u8], kind: u8, first: u8, second: u8, third: u8) -> bool
+    ensures { λ r. ⌜ ((k : Kind) (vs : List Text) → kindOf kind first second third ≡ some k → isKind k ≡ true → now (v .entry) ≡ flatten (map text vs) → r ≡ areInSpace k vs) ⌝ }
+{
+    let mut at: usize = 0;
+    while at < v.len() {
+        let TextAt::Text(value, end) = read_text(v, at) else {
+            return false;
+        };
+        if !in_space(kind, first, second, third, &v[value..end]) {
+            return false;
+        }
+        at = end;
+    }
+    true
+}
+
+// The same of a place's set; a place without a property is asked nothing.
+fn place_in_space(event: &[u8], set: SetAt, named: bool, p: PropertyAt) -> bool
+    ensures { λ r. ⌜ ((s : List ℕ) (o : Option Property) (vs : List Text) → PlaceIs s o named p → ((q : Property) → o ≡ some q → isKind (q .kind) ≡ true) → SetIs (now (event .entry)) vs set → r ≡ atPlace true (λ q. areInSpace (q .kind) vs) o) ⌝ }
+{
+    if named {
+        are_in_space(set_part(event, set), p.kind, p.first, p.second, p.third)
+    } else {
+        true
+    }
+}
+
+// Question 6.
+pub fn values_ok(event: &[u8], t: TypeIndex, e: EventIndex) -> bool
+    ensures { λ r. ⌜ ((table : List ℕ) (y : EventType) (x : Event) → TypeIs table y t → KindsAre y → EventIs (now (event .entry)) x e → r ≡ valuesFit y (x .sets)) ⌝ }
+{
+    let mut k: usize = 0;
+    while k < 32 {
+        let p = t.properties[k];
+        let set = e.sets[k];
+        if !place_in_space(event, set, k < t.count, p) {
+            return false;
+        }
+        k += 1;
+    }
+    true
+}
