@@ -1,0 +1,18 @@
+use borrow.Author.Needs.{needs}
+use Rattle.model.specs.Order.{texts}
+use Rattle.model.specs.Sets.{union}
+use Rattle.unions.proofs.RunLaws.{hash-run, hashes-room, hashes-wrote}
+use Rattle.unions.proofs.pair.write_hash_union.Statement.{statement}
+use Rattle.unions.proofs.pair.write_hash_union.Tie as tie
+
+write-runs-requires : tie.Need-write-runs-requires
+write-runs-requires c κs = hashes-room (c .before .before .before .before .pre)
+
+same-length : tie.Need-same-length
+same-length c = search needs
+
+returns : tie.Need-returns
+returns c = λ xs ys rx ry ex ey kx ky. hashes-wrote (union texts xs ys) (c .before .before .write-runs .ensures xs ys (hash-run _ xs rx ex kx) (hash-run _ ys ry ey ky))
+
+pub write-hash-union-spec : {M : Type 1} → statement M
+write-hash-union-spec = tie.close (tie.spec write-runs-requires same-length returns)

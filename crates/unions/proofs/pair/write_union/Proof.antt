@@ -1,0 +1,19 @@
+use borrow.Author.Needs.{needs}
+use native.Mathlib.Omega.{arith}
+use Rattle.model.specs.Order.{texts}
+use Rattle.model.specs.Sets.{union}
+use Rattle.unions.proofs.RunLaws.{text-run, texts-room, texts-wrote}
+use Rattle.unions.proofs.pair.write_union.Statement.{statement}
+use Rattle.unions.proofs.pair.write_union.Tie as tie
+
+write-runs-requires : tie.Need-write-runs-requires
+write-runs-requires c κs = texts-room (omega arith) (omega arith) (c .before .before .before .before .pre)
+
+same-length : tie.Need-same-length
+same-length c = search needs
+
+returns : tie.Need-returns
+returns c = λ xs ys rx ry kx ky. texts-wrote (union texts xs ys) (c .before .before .write-runs .ensures xs ys (text-run _ xs (omega arith) rx kx) (text-run _ ys (omega arith) ry ky))
+
+pub write-union-spec : {M : Type 1} → statement M
+write-union-spec = tie.close (tie.spec write-runs-requires same-length returns)
