@@ -1,13 +1,13 @@
 -- The laws of asking questions 2 to 6, and of the value call's answer.
 use mathlib.Core.Path.{_≡_, refl, sym, ap, ap₂, _∙_, subst}
-use mathlib.Core.Bool.{Bool, true, false, cond, _&&_}
+use mathlib.Core.Bool.{Bool, true, false, cond}
 use mathlib.Core.Option.{Option, none, some}
 use mathlib.Core.List.{List, [], _∷_, _++_, append-assoc, map}
-use Prim.Native.Nat.{ℕ, zero, suc, _+_, _≤_, _<_}
+use Prim.Native.Nat.{ℕ, zero, suc, _+_, _<_}
 use native.Mathlib.Omega.{arith}
-use lib.ListN.{length, getElem?}
+use lib.ListN.{getElem?}
 use Rattle.model.specs.Order.{Text, texts, equal}
-use Rattle.packed.specs.Parse.{Parse, fail, got, Layout, andThen, _>>=_, suchThat, times, whole}
+use Rattle.packed.specs.Parse.{Parse, fail, got, Layout, _>>=_, suchThat, times}
 use Rattle.packed.specs.Packed.{number, readNumber, text, readText}
 use Rattle.packed.specs.Located.{part}
 use Rattle.packed.proofs.LayoutLaws.{All, fail-got, andThen-got, foundIf-got, suchThat-got, whole-some, text-read}
@@ -21,9 +21,9 @@ use Rattle.ontology.specs.TypeIndex.{TypeIs, TypeSays, TableSays}
 use Rattle.event.specs.Event.{Event, setAt}
 use Rattle.event.specs.EventLayout.{Counts, wide, eventOf, parentsBytes, setsBytes, presenceBit, bitNumber, headBytes, eventBytes}
 use Rattle.event.specs.EventQuestions.{eventShape, valuesFit, Typed, eventAsked}
-use Rattle.event.specs.Value.{Part, bytesBefore, partOf, askedPart, valueCall}
+use Rattle.event.specs.Value.{Part, partOf, askedPart, valueCall}
 use Rattle.event.specs.EventIndex.{EventIs, ValueStands, ValueFound, EventReads, counts, KindsAre, eventQuestions, EventAnswers}
-use Rattle.event.proofs.EventLayoutLaws.{EventWritten, event-was}
+use Rattle.event.proofs.EventLayoutLaws.{event-was}
 use Rattle.event.specs.declared.ask.EventAsked.{EventAsked}
 use Rattle.event.specs.declared.lookup.ValueAt.{ValueAt}
 use Rattle.event.specs.declared.lookup.ValueAt.the-variants.{Value, NoValue}

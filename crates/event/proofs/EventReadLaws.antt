@@ -1,23 +1,22 @@
 -- The laws of reading a whole event: its head, its presence number and its sets.
-use mathlib.Core.Path.{_≡_, refl, sym, ap, ap₂, _∙_, subst}
-use mathlib.Core.Bool.{Bool, true, false, cond}
-use mathlib.Core.Option.{Option, none, some}
-use mathlib.Core.List.{List, [], _∷_, _++_, append-assoc, append-nil, map, flatten}
-use Prim.Native.Nat.{ℕ, zero, suc, _+_, _-_, _^_, _≤_, _<_}
+use mathlib.Core.Path.{_≡_, refl, sym, ap, ap₂, _∙_}
+use mathlib.Core.Bool.{Bool, true, false}
+use mathlib.Core.Option.{Option, none}
+use mathlib.Core.List.{List, [], _∷_, _++_, append-assoc, append-nil}
+use Prim.Native.Nat.{ℕ, zero, _+_, _-_, _^_, _≤_, _<_}
 use native.Mathlib.Omega.{arith}
-use lib.Dec.{leb, ltb}
+use lib.Dec.{leb}
 use lib.ListN.{length, take, drop, drop-of-length-le}
 use borrow.Author.Tests.{le-leb, lt-leb, lt-ltb, le-ltb}
 use Rattle.model.specs.Order.{Text}
 use Rattle.packed.specs.Parse.{Parse, fail, got, Layout, andThen, _>>=_, found, foundIf, suchThat, whole}
-use Rattle.packed.specs.Packed.{number, readNumber, text, readText}
-use Rattle.packed.specs.Located.{part}
+use Rattle.packed.specs.Packed.{number, readNumber, readText}
 use Rattle.packed.proofs.LayoutLaws.{number-was}
 use Rattle.packed.proofs.ReadLaws.{drop-next, NumberStops}
 use Rattle.event.specs.Event.{Event, objectCount}
-use Rattle.event.specs.EventLayout.{isSource, readParents, readBits, readSets, Counts, readEvent, eventOf, setsBytes, presenceBit, bitNumber, headBytes}
-use Rattle.event.specs.EventIndex.{SetsAre, SetsStop, SetsReads, HeadOf, readHead, HeadStops, EventIs, EventReads}
-use Rattle.event.proofs.EventLayoutLaws.{head-was, SetsWas, sets-was}
+use Rattle.event.specs.EventLayout.{isSource, readParents, readBits, readSets, Counts, readEvent, eventOf, setsBytes, headBytes}
+use Rattle.event.specs.EventIndex.{SetsAre, SetsReads, HeadOf, readHead, HeadStops, EventReads}
+use Rattle.event.proofs.EventLayoutLaws.{head-was, sets-was}
 use Rattle.event.proofs.SetLaws.{stretch}
 use Rattle.event.specs.declared.sets.SetsRead.{SetsRead}
 use Rattle.event.specs.declared.read.HeadAt.{HeadAt}

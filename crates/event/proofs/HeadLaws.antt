@@ -1,22 +1,20 @@
 -- The laws of reading what an event begins with: type name, source and parents.
-use mathlib.Core.Path.{_≡_, refl, sym, ap, ap₂, _∙_, subst}
-use mathlib.Core.Bool.{Bool, true, false, cond, _&&_}
-use mathlib.Core.List.{List, [], _∷_, _++_, append-assoc, append-nil, map, flatten}
-use Prim.Native.Nat.{ℕ, zero, suc, _+_, _-_, _*_, _^_, _≤_, _<_}
-use native.Mathlib.Nat.{sub-self}
+use mathlib.Core.Path.{_≡_, refl, sym, ap, _∙_, subst}
+use mathlib.Core.Bool.{true, false}
+use mathlib.Core.List.{List, [], _∷_, _++_, append-assoc, map, flatten}
+use Prim.Native.Nat.{ℕ, zero, suc, _+_, _-_, _*_, _≤_, _<_}
 use native.Mathlib.Omega.{arith}
-use lib.Dec.{leb, ltb}
 use lib.ListN.{length, take, drop, getD, length-append, length-drop, drop-of-length-le}
-use lib.Seq.{take-at, drop-drop, take-append-seam, drop-append-seam}
+use lib.Seq.{take-at, drop-drop, drop-append-seam}
 use borrow.Author.Tests.{le-leb, lt-leb}
-use Rattle.model.specs.Order.{Text, texts, rising}
-use Rattle.packed.specs.Parse.{Parse, fail, got, Layout, andThen, _>>=_, found, foundIf, suchThat, times}
-use Rattle.packed.specs.Packed.{number, readNumber, text, readText, readBytes}
+use Rattle.model.specs.Order.{Text, rising}
+use Rattle.packed.specs.Parse.{Parse, fail, got, andThen, _>>=_, found, foundIf, suchThat, times}
+use Rattle.packed.specs.Packed.{readNumber, readText, readBytes}
 use Rattle.packed.specs.Located.{part}
-use Rattle.packed.proofs.LayoutLaws.{All, andThen-got, foundIf-got, times-was, bytes-was}
+use Rattle.packed.proofs.LayoutLaws.{All, times-was, bytes-was}
 use Rattle.packed.proofs.ReadLaws.{drop-next, TextStops}
 use Rattle.event.specs.EventLayout.{areSourceBytes, isSource, readParents}
-use Rattle.event.specs.EventIndex.{HashesAre, ParentsStop, ParentsReads, TextIs, HeadOf, readHead, HeadIs, HeadStops, HeadReads}
+use Rattle.event.specs.EventIndex.{ParentsStop, ParentsReads, HeadOf, readHead, HeadStops, HeadReads}
 use Rattle.event.proofs.SetLaws.{stretch, risen, risen-was}
 use Rattle.event.specs.declared.sets.SetAt.{SetAt}
 use Rattle.event.specs.declared.read.HeadAt.{HeadAt}

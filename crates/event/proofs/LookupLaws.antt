@@ -1,30 +1,27 @@
 -- The laws of finding a value: skipping texts and sets, and the sets that the ones below a place count.
-use mathlib.Core.Path.{_≡_, refl, sym, ap, ap₂, _∙_, subst}
-use mathlib.Core.Bool.{Bool, true, false}
-use mathlib.Core.Option.{Option, none, some}
-use mathlib.Core.List.{List, [], _∷_, _++_, append-assoc, append-nil, map, flatten}
+use mathlib.Core.Path.{_≡_, refl, sym, ap, _∙_}
+use mathlib.Core.Option.{none, some}
+use mathlib.Core.List.{List, [], _∷_, _++_, append-assoc, map, flatten}
 use Prim.Native.Nat.{ℕ, zero, suc, _+_, _-_, _*_, _/_, _%_, _^_, _≤_, _<_}
 use native.Mathlib.Nat.{one-mul, mod-one, zero-mod, mod-lt, lt-of-lt-of-le}
 use native.Mathlib.Omega.{arith}
-use native.Mathlib.Numerals.{add-one}
 use lib.Dec.{lit<}
 use lib.Pow.{pow-pos, pow-mono, shl-exact, mod-pow-add}
 use lib.Count.{ones, ones-step, ones-ones}
-use lib.ListN.{length, take, drop, getD, getElem?, length-append, length-drop, take-append-drop}
+use lib.ListN.{length, take, drop, getD, getElem?, length-append, length-drop}
 use lib.Seq.{drop-cons, length-take-le}
 use Rattle.model.specs.Order.{Text}
-use Rattle.packed.specs.Parse.{Parse, fail, got}
+use Rattle.packed.specs.Parse.{fail, got}
 use Rattle.packed.specs.Packed.{number, readNumber, text, readText}
 use Rattle.packed.specs.Located.{part}
-use Rattle.packed.proofs.LayoutLaws.{fail-got, number-read, number-was, text-read, text-was, text-length}
+use Rattle.packed.proofs.LayoutLaws.{fail-got, number-read, text-read, text-length}
 use Rattle.packed.proofs.ReadLaws.{part-length, NumberStops, TextStops}
 use Rattle.event.specs.Event.{Event, setAt}
 use Rattle.event.specs.EventLayout.{setBytes, setsBytes, presenceBit, bitNumber, headBytes}
 use Rattle.event.specs.Value.{bytesBefore}
-use Rattle.event.specs.EventIndex.{SetIs, noSet, EventIs, present, Skipped, ValueStands}
+use Rattle.event.specs.EventIndex.{EventIs, present, Skipped, ValueStands}
 use Rattle.event.proofs.EventLayoutLaws.{presence-small}
 use Rattle.event.proofs.SetLaws.{stretch, texts-long}
-use Rattle.event.specs.declared.sets.SetAt.{SetAt}
 use Rattle.event.specs.declared.read.EventIndex.{EventIndex}
 
 -- ---- the next number and the next text

@@ -1,18 +1,16 @@
 -- The laws of reading sets and hashes: rising texts one after the other, a place's set, and the sets of all places.
 use mathlib.Core.Path.{_≡_, refl, sym, ap, ap₂, _∙_, subst}
-use mathlib.Core.Bool.{Bool, true, false, cond}
+use mathlib.Core.Bool.{true, false}
 use mathlib.Core.List.{List, [], _∷_, _++_, append-assoc, append-nil, map, flatten}
-use Prim.Native.Nat.{ℕ, zero, suc, _+_, _-_, _*_, _/_, _%_, _^_, _≤_, _<_, Ordering, Ordering·lt, Ordering·eq, Ordering·gt}
+use Prim.Native.Nat.{ℕ, suc, _+_, _-_, _/_, _%_, _^_, _≤_, _<_, Ordering, Ordering·lt, Ordering·eq, Ordering·gt}
 use native.Mathlib.Nat.{sub-self, le-refl}
 use native.Mathlib.Omega.{arith}
-use native.Mathlib.Numerals.{add-one}
-use lib.Dec.{leb, eqb}
-use lib.ListN.{length, take, drop, getD, set, length-append, length-drop, length-set, drop-of-length-le, List·getD-append, List·getD-eq-default}
+use lib.ListN.{length, take, drop, getD, set, length-append, length-drop, length-set, List·getD-append}
 use lib.Seq.{take-at, getD-at, getD-set-same, getD-set-other}
 use borrow.Author.Tests.{le-leb, eq-eqb, ne-eqb}
 use borrow.Author.Count.{below-more}
 use Rattle.model.specs.Order.{Text, texts, rising, pick}
-use Rattle.packed.specs.Parse.{Parse, fail, got, Layout, andThen, _>>=_, found, foundIf, suchThat, times}
+use Rattle.packed.specs.Parse.{Parse, fail, got, Layout, andThen, _>>=_, found, foundIf, times}
 use Rattle.packed.specs.Packed.{number, readNumber, text, readText}
 use Rattle.packed.specs.Located.{part}
 use Rattle.packed.proofs.LayoutLaws.{andThen-got, foundIf-got, times-was, text-read, text-was, text-length, number-bounds}

@@ -1,13 +1,13 @@
 -- The laws of question 6, text by text and place by place.
-use mathlib.Core.Path.{_≡_, refl, sym, ap, ap₂, _∙_, subst}
-use mathlib.Core.Bool.{Bool, true, false, cond, _&&_}
-use mathlib.Core.Option.{Option, none, some}
-use mathlib.Core.List.{List, [], _∷_, _++_, append-nil, map, flatten}
-use Prim.Native.Nat.{ℕ, zero, suc, _+_, _-_, _^_, _≤_, _<_}
+use mathlib.Core.Path.{_≡_, refl, sym, ap, _∙_}
+use mathlib.Core.Bool.{Bool, true, false, _&&_}
+use mathlib.Core.Option.{Option, some}
+use mathlib.Core.List.{List, [], _∷_, _++_, map, flatten}
+use Prim.Native.Nat.{ℕ, _+_, _-_, _^_, _≤_, _<_}
 use native.Mathlib.Omega.{arith}
 use lib.ListN.{length, drop, getD, getElem?, length-append, length-drop}
 use Rattle.model.specs.Order.{Text}
-use Rattle.packed.specs.Parse.{Parse, fail, got}
+use Rattle.packed.specs.Parse.{fail}
 use Rattle.packed.specs.Packed.{text, readText}
 use Rattle.packed.specs.Located.{part}
 use Rattle.packed.proofs.ReadLaws.{TextStops}

@@ -3,7 +3,6 @@ ghost use mathlib.Core.Path.{_≡_};
 ghost use mathlib.Core.Bool.{true};
 ghost use mathlib.Core.Option.{Option, some};
 ghost use mathlib.Core.List.{List, map, flatten};
-ghost use lib.ListN.{length};
 ghost use Rattle.model.specs.Order.{Text};
 ghost use Rattle.packed.specs.Packed.{text};
 ghost use Rattle.values.specs.Spaces.{Kind, isKind};

@@ -1,19 +1,10 @@
 use borrow.Author.Needs.{needs}
-use mathlib.Core.Path.{_≡_, refl, sym, _∙_}
+use mathlib.Core.Path.{refl, sym, _∙_}
 use borrow.Author.Tests.{not-true, not-false}
 use Rattle.event.specs.EventIndex.{countsOf}
 use Rattle.event.proofs.AskLaws.{with-counts, no-table, no-event, no-type, met, no-shape, no-values, all-met}
 use Rattle.event.proofs.ask.ask_event.Statement.{statement}
 use Rattle.event.proofs.ask.ask_event.Tie as tie
-use Rattle.event.proofs.ask.ask_event.Reads as reads
-use Rattle.event.proofs.ask.ask_event.Lts as lts
-use Rattle.event.proofs.ask.most_objects.Reads as most-objects-reads
-use Rattle.event.proofs.ask.most_parents.Reads as most-parents-reads
-use Rattle.event.proofs.ask.name_of.Reads as name-of-reads
-use Rattle.event.proofs.read.read_event.Reads as read-event-reads
-use Rattle.event.proofs.shape.shape_ok.Reads as shape-ok-reads
-use Rattle.event.proofs.spaces.values_ok.Reads as values-ok-reads
-use Rattle.ontology.proofs.tables.read_table.Reads as read-table-reads
 
 name-of-requires : tie.Need-name-of-requires
 name-of-requires c κs = search needs

@@ -1,12 +1,9 @@
-use borrow.Author.Needs.{needs}
-use mathlib.Core.Path.{_≡_, sym, ap}
+use mathlib.Core.Path.{sym, ap}
 use mathlib.Core.Bool.{Bool}
 use Rattle.event.specs.EventLayout.{narrow, wide}
 use Rattle.event.specs.EventIndex.{countsOf}
 use Rattle.event.proofs.ask.most_objects.Statement.{statement}
 use Rattle.event.proofs.ask.most_objects.Tie as tie
-use Rattle.event.proofs.ask.most_objects.Reads as reads
-use Rattle.event.proofs.ask.most_objects.Lts as lts
 
 returns : tie.Need-returns
 unfolding wide

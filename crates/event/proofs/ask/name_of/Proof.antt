@@ -1,12 +1,9 @@
 use borrow.Author.Needs.{needs}
-use mathlib.Core.Path.{_≡_, sym, _∙_}
+use mathlib.Core.Path.{sym, _∙_}
 use Rattle.packed.proofs.ReadLaws.{text-stops, text-none}
 use Rattle.event.proofs.AskLaws.{no-name-there, name-part}
 use Rattle.event.proofs.ask.name_of.Statement.{statement}
 use Rattle.event.proofs.ask.name_of.Tie as tie
-use Rattle.event.proofs.ask.name_of.Reads as reads
-use Rattle.event.proofs.ask.name_of.Lts as lts
-use Rattle.packed.proofs.read.read_text.Reads as read-text-reads
 
 read-text-requires : tie.Need-read-text-requires
 read-text-requires c κs = search needs

@@ -1,16 +1,12 @@
 use borrow.Author.Needs.{needs}
-use Prim.Native.Nat.{ℕ, _+_}
+use Prim.Native.Nat.{_+_}
 use native.Mathlib.Nat.{add-comm}
-use mathlib.Core.Path.{_≡_, refl, sym, ap, _∙_}
+use mathlib.Core.Path.{refl, sym, ap, _∙_}
 use Rattle.event.specs.EventLayout.{wide}
 use Rattle.event.specs.Value.{Part}
 use Rattle.event.proofs.AskLaws.{accepted-is, refused-is, found-value, found-none, value-refused, value-missing, value-is}
 use Rattle.event.proofs.ask.value.Statement.{statement}
 use Rattle.event.proofs.ask.value.Tie as tie
-use Rattle.event.proofs.ask.value.Reads as reads
-use Rattle.event.proofs.ask.value.Lts as lts
-use Rattle.event.proofs.ask.ask_event.Reads as ask-event-reads
-use Rattle.event.proofs.lookup.find_value.Reads as find-value-reads
 
 ask-event-requires : tie.Need-ask-event-requires
 ask-event-requires c κs = search needs

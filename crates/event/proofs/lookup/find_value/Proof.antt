@@ -1,20 +1,11 @@
 use borrow.Author.Needs.{needs}
 use native.Mathlib.Omega.{arith}
-use Prim.Native.Nat.{ℕ, _≤_, _<_}
-use mathlib.Core.Path.{_≡_, sym, _∙_}
-use lib.ListN.{length, getD}
+use mathlib.Core.Path.{sym, _∙_}
 use Rattle.packed.proofs.ReadLaws.{number-stops, number-none, text-stops, text-none}
 use Rattle.event.specs.Event.{setAt}
 use Rattle.event.proofs.LookupLaws.{no-place, no-element, value-no-count, value-no-text, value-stands}
 use Rattle.event.proofs.lookup.find_value.Statement.{statement}
 use Rattle.event.proofs.lookup.find_value.Tie as tie
-use Rattle.event.proofs.lookup.find_value.Reads as reads
-use Rattle.event.proofs.lookup.find_value.Lts as lts
-use Rattle.event.proofs.lookup.sets_below.Reads as sets-below-reads
-use Rattle.event.proofs.lookup.skip_sets.Reads as skip-sets-reads
-use Rattle.event.proofs.lookup.skip_texts.Reads as skip-texts-reads
-use Rattle.packed.proofs.read.read_number.Reads as read-number-reads
-use Rattle.packed.proofs.read.read_text.Reads as read-text-reads
 
 returns : tie.Need-returns
 returns c = λ e w. no-place (e .sets) (c .before .before .args .place) (c .before .before .args .index) (omega (arith, w .sets .long, c .if1 .taken))

@@ -3,8 +3,6 @@ use native.Mathlib.Omega.{arith}
 use Rattle.event.proofs.LookupLaws.{shifted, positive, below-small}
 use Rattle.event.proofs.lookup.sets_below.Statement.{statement}
 use Rattle.event.proofs.lookup.sets_below.Tie as tie
-use Rattle.event.proofs.lookup.sets_below.Reads as reads
-use Rattle.event.proofs.lookup.sets_below.Lts as lts
 
 shl-result : tie.Need-shl-result
 shl-result c = search needs

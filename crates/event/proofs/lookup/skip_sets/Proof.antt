@@ -11,10 +11,6 @@ use Rattle.event.specs.EventIndex.{present}
 use Rattle.event.proofs.LookupLaws.{SetsSkipping, sets-skipping-first, sets-skipping-bad, sets-skipping-more, sets-skipping-all}
 use Rattle.event.proofs.lookup.skip_sets.Statement.{statement}
 use Rattle.event.proofs.lookup.skip_sets.Tie as tie
-use Rattle.event.proofs.lookup.skip_sets.Reads as reads
-use Rattle.event.proofs.lookup.skip_sets.Lts as lts
-use Rattle.event.proofs.lookup.skip_texts.Reads as skip-texts-reads
-use Rattle.packed.proofs.read.read_number.Reads as read-number-reads
 
 abbrev Inv-loop : tie.InvT-loop
 Inv-loop s at count pos₀ left₀ pos left =

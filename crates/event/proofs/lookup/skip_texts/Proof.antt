@@ -10,9 +10,6 @@ use Rattle.packed.proofs.ReadLaws.{text-stops, text-none}
 use Rattle.event.proofs.LookupLaws.{Skipping, skipping-first, skipping-bad, skipping-more, skipping-all}
 use Rattle.event.proofs.lookup.skip_texts.Statement.{statement}
 use Rattle.event.proofs.lookup.skip_texts.Tie as tie
-use Rattle.event.proofs.lookup.skip_texts.Reads as reads
-use Rattle.event.proofs.lookup.skip_texts.Lts as lts
-use Rattle.packed.proofs.read.read_text.Reads as read-text-reads
 
 abbrev Inv-loop : tie.InvT-loop
 Inv-loop s at count pos₀ left₀ pos left =

@@ -1,14 +1,12 @@
 use borrow.Author.Needs.{needs}
 use native.Mathlib.Omega.{arith}
-use Prim.Native.Nat.{ℕ, _≤_, _-_}
-use mathlib.Core.Path.{_≡_, refl, sym, ap, _∙_}
-use lib.ListN.{length, drop, getD}
+use Prim.Native.Nat.{_≤_, _-_}
+use mathlib.Core.Path.{_≡_, refl, sym, _∙_}
+use lib.ListN.{length, drop}
 use Rattle.event.specs.EventLayout.{areSourceBytes}
 use Rattle.event.proofs.HeadLaws.{source-none, source-many, source-is, source-low, source-high, source-step, source-end}
 use Rattle.event.proofs.read.is_source.Statement.{statement}
 use Rattle.event.proofs.read.is_source.Tie as tie
-use Rattle.event.proofs.read.is_source.Reads as reads
-use Rattle.event.proofs.read.is_source.Lts as lts
 
 abbrev Inv-loop : tie.InvT-loop
 Inv-loop v i₀ i = (i ≤ length v) × (areSourceBytes v ≡ areSourceBytes (drop i v))

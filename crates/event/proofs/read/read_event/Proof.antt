@@ -1,18 +1,11 @@
 use borrow.Author.Needs.{needs}
-use native.Mathlib.Omega.{arith}
-use mathlib.Core.Path.{_≡_, sym, _∙_}
+use mathlib.Core.Path.{sym, _∙_}
 use borrow.Author.Tests.{not-true, not-false}
 use Rattle.packed.proofs.ReadLaws.{number-stops, number-none}
 use Rattle.event.proofs.HeadLaws.{head-reads, head-refused}
 use Rattle.event.proofs.EventReadLaws.{event-none, no-head, no-presence, presence-large, no-sets, early, many, event-found}
 use Rattle.event.proofs.read.read_event.Statement.{statement}
 use Rattle.event.proofs.read.read_event.Tie as tie
-use Rattle.event.proofs.read.read_event.Reads as reads
-use Rattle.event.proofs.read.read_event.Lts as lts
-use Rattle.event.proofs.read.no_event.Reads as no-event-reads
-use Rattle.event.proofs.read.read_head.Reads as read-head-reads
-use Rattle.event.proofs.sets.read_sets.Reads as read-sets-reads
-use Rattle.packed.proofs.read.read_number.Reads as read-number-reads
 
 read-head-requires : tie.Need-read-head-requires
 read-head-requires c κs = search needs

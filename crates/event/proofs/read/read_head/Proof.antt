@@ -1,15 +1,10 @@
 use borrow.Author.Needs.{needs}
-use mathlib.Core.Path.{_≡_, sym, _∙_}
+use mathlib.Core.Path.{sym, _∙_}
 use borrow.Author.Tests.{not-true, not-false}
-use Rattle.packed.proofs.ReadLaws.{TextStops, text-stops, text-none}
+use Rattle.packed.proofs.ReadLaws.{text-stops, text-none}
 use Rattle.event.proofs.HeadLaws.{no-name, no-source, source-not, parents-not, head-found, parents-reads, parents-refused}
 use Rattle.event.proofs.read.read_head.Statement.{statement}
 use Rattle.event.proofs.read.read_head.Tie as tie
-use Rattle.event.proofs.read.read_head.Reads as reads
-use Rattle.event.proofs.read.read_head.Lts as lts
-use Rattle.event.proofs.read.is_source.Reads as is-source-reads
-use Rattle.event.proofs.read.read_parents.Reads as read-parents-reads
-use Rattle.packed.proofs.read.read_text.Reads as read-text-reads
 
 read-text-requires : tie.Need-read-text-requires
 read-text-requires c κs = search needs

@@ -1,21 +1,17 @@
 use borrow.Author.Needs.{needs}
 use native.Mathlib.Omega.{arith}
-use Prim.Native.Nat.{ℕ, _≤_, _-_}
-use mathlib.Core.Path.{_≡_, refl, sym, ap, _∙_}
+use Prim.Native.Nat.{_≤_, _-_}
+use mathlib.Core.Path.{sym, _∙_}
 use lib.ListN.{length, drop}
 use borrow.Author.Tests.{not-true, not-false}
 use Rattle.packed.specs.Packed.{readBytes}
 use Rattle.packed.specs.Located.{part}
-use Rattle.packed.proofs.ReadLaws.{NumberStops, number-stops, number-none}
+use Rattle.packed.proofs.ReadLaws.{number-stops, number-none}
 use Rattle.event.specs.EventLayout.{readParents}
 use Rattle.event.proofs.SetLaws.{Onward, onward-first, onward-bad, onward-not, onward-more, onward-all, risen-bad}
 use Rattle.event.proofs.HeadLaws.{bytes-at, bytes-short, parents-none, parents-many, parents-some, parents-zero, parents-found}
 use Rattle.event.proofs.read.read_parents.Statement.{statement}
 use Rattle.event.proofs.read.read_parents.Tie as tie
-use Rattle.event.proofs.read.read_parents.Reads as reads
-use Rattle.event.proofs.read.read_parents.Lts as lts
-use Rattle.ontology.proofs.names.is_before.Reads as is-before-reads
-use Rattle.packed.proofs.read.read_number.Reads as read-number-reads
 
 abbrev Inv-loop : tie.InvT-loop
 Inv-loop s at most number start count from₀ to₀ left₀ from to left =

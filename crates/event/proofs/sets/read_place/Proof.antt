@@ -1,5 +1,5 @@
 use borrow.Author.Needs.{needs}
-use mathlib.Core.Path.{_≡_, sym, ap, subst}
+use mathlib.Core.Path.{sym, subst}
 use mathlib.Core.List.{List}
 use lib.ListN.{drop}
 use Rattle.model.specs.Order.{Text}
@@ -8,9 +8,6 @@ use Rattle.event.specs.EventIndex.{SetReads}
 use Rattle.event.proofs.SetLaws.{place-set, place-clear}
 use Rattle.event.proofs.sets.read_place.Statement.{statement}
 use Rattle.event.proofs.sets.read_place.Tie as tie
-use Rattle.event.proofs.sets.read_place.Reads as reads
-use Rattle.event.proofs.sets.read_place.Lts as lts
-use Rattle.event.proofs.sets.read_set.Reads as read-set-reads
 
 read-set-requires : tie.Need-read-set-requires
 read-set-requires c κs = search needs

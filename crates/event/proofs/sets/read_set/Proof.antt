@@ -1,21 +1,16 @@
 use borrow.Author.Needs.{needs}
 use native.Mathlib.Omega.{arith}
-use Prim.Native.Nat.{ℕ, _≤_}
-use mathlib.Core.Path.{_≡_, refl, sym, ap, _∙_}
+use Prim.Native.Nat.{_≤_}
+use mathlib.Core.Path.{sym, _∙_}
 use lib.ListN.{length, drop}
 use borrow.Author.Tests.{not-true, not-false}
 use Rattle.packed.specs.Packed.{readText}
 use Rattle.packed.specs.Located.{part}
-use Rattle.packed.proofs.ReadLaws.{NumberStops, number-stops, number-none, TextStops, text-stops, text-none}
+use Rattle.packed.proofs.ReadLaws.{number-stops, number-none, text-stops, text-none}
 use Rattle.event.specs.EventLayout.{readSet}
 use Rattle.event.proofs.SetLaws.{Onward, onward-first, onward-bad, onward-not, onward-more, onward-all, risen-bad, set-none, set-zero, set-some, set-found}
 use Rattle.event.proofs.sets.read_set.Statement.{statement}
 use Rattle.event.proofs.sets.read_set.Tie as tie
-use Rattle.event.proofs.sets.read_set.Reads as reads
-use Rattle.event.proofs.sets.read_set.Lts as lts
-use Rattle.ontology.proofs.names.is_before.Reads as is-before-reads
-use Rattle.packed.proofs.read.read_number.Reads as read-number-reads
-use Rattle.packed.proofs.read.read_text.Reads as read-text-reads
 
 abbrev Inv-loop : tie.InvT-loop
 Inv-loop s at count start first first-end from₀ to₀ left₀ from to left =

@@ -1,16 +1,13 @@
 use borrow.Author.Needs.{needs}
 use native.Mathlib.Omega.{arith}
-use Prim.Native.Nat.{ℕ, _-_}
-use mathlib.Core.Path.{_≡_, refl, sym, ap, _∙_}
-use mathlib.Core.Bool.{true, false}
-use lib.ListN.{length, drop}
+use Prim.Native.Nat.{_-_}
+use mathlib.Core.Path.{_≡_, refl}
+use mathlib.Core.Bool.{false}
+use lib.ListN.{drop}
 use Rattle.event.specs.EventLayout.{readSets}
 use Rattle.event.proofs.SetLaws.{Sofar, sofar-none, sofar-bad, sofar-more, sofar-all, sofar-sets, few-more, sets-none, sets-got, set-reads, set-refused}
 use Rattle.event.proofs.sets.read_sets.Statement.{statement}
 use Rattle.event.proofs.sets.read_sets.Tie as tie
-use Rattle.event.proofs.sets.read_sets.Reads as reads
-use Rattle.event.proofs.sets.read_sets.Lts as lts
-use Rattle.event.proofs.sets.read_place.Reads as read-place-reads
 
 abbrev Inv-loop : tie.InvT-loop
 Inv-loop s at presence found₀ bits₀ next₀ objects₀ k₀ found bits next objects k =

@@ -2,8 +2,6 @@ use borrow.Author.Needs.{needs}
 use native.Mathlib.Omega.{arith}
 use Rattle.event.proofs.sets.set_part.Statement.{statement}
 use Rattle.event.proofs.sets.set_part.Tie as tie
-use Rattle.event.proofs.sets.set_part.Reads as reads
-use Rattle.event.proofs.sets.set_part.Lts as lts
 
 sub-result : tie.Need-sub-result
 sub-result c = search needs

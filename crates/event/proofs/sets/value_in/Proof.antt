@@ -1,19 +1,14 @@
 use borrow.Author.Needs.{needs}
 use native.Mathlib.Omega.{arith}
-use Prim.Native.Nat.{ℕ, _≤_}
-use mathlib.Core.Path.{_≡_, refl, sym, ap, _∙_}
+use mathlib.Core.Path.{_≡_, sym, _∙_}
 use mathlib.Core.List.{List, [], map, flatten}
-use lib.ListN.{length, drop, getD}
+use lib.ListN.{getD}
 use Rattle.model.specs.Order.{Text}
 use Rattle.packed.specs.Packed.{text}
-use Rattle.packed.specs.Located.{part}
-use Rattle.packed.proofs.ReadLaws.{TextStops, text-stops, text-none}
+use Rattle.packed.proofs.ReadLaws.{text-stops, text-none}
 use Rattle.event.proofs.SetLaws.{Walked, walked-none, walked-bad, walked-more, walked-found}
 use Rattle.event.proofs.sets.value_in.Statement.{statement}
 use Rattle.event.proofs.sets.value_in.Tie as tie
-use Rattle.event.proofs.sets.value_in.Reads as reads
-use Rattle.event.proofs.sets.value_in.Lts as lts
-use Rattle.packed.proofs.read.read_text.Reads as read-text-reads
 
 abbrev Inv-loop : tie.InvT-loop
 Inv-loop s index at₀ left₀ at left = (vs : List Text) → s ≡ flatten (map text vs) → Walked (getD vs index []) s at left

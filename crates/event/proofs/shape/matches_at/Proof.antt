@@ -1,13 +1,10 @@
-use borrow.Author.Needs.{needs}
-use mathlib.Core.Path.{_≡_, sym, ap, _∙_}
+use mathlib.Core.Path.{sym, _∙_}
 use mathlib.Core.Bool.{cond}
 use lib.ListN.{length}
 use Rattle.ontology.specs.Table.{isMatch}
 use Rattle.event.proofs.ShapeLaws.{place-named, place-unnamed, match-yes, match-no}
 use Rattle.event.proofs.shape.matches_at.Statement.{statement}
 use Rattle.event.proofs.shape.matches_at.Tie as tie
-use Rattle.event.proofs.shape.matches_at.Reads as reads
-use Rattle.event.proofs.shape.matches_at.Lts as lts
 
 returns : tie.Need-returns
 returns c = λ s o vs w n. place-named s o _ 0 (λ q. cond (isMatch q) (length vs) 0) _ _ (c .before .before .if1 .taken) w (λ q e x. n ∙ sym (match-yes q (length vs) (sym (x .strategy) ∙ c .if2 .taken)))

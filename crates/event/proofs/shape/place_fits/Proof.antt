@@ -1,14 +1,11 @@
 use borrow.Author.Needs.{needs}
 use Prim.Native.Nat.{ℕ}
-use mathlib.Core.Path.{_≡_, sym, ap, _∙_}
+use mathlib.Core.Path.{ap, _∙_}
 use lib.Dec.{eqb}
 use Rattle.event.specs.EventQuestions.{isEmpty, setFits}
 use Rattle.event.proofs.ShapeLaws.{place-named, place-unnamed}
 use Rattle.event.proofs.shape.place_fits.Statement.{statement}
 use Rattle.event.proofs.shape.place_fits.Tie as tie
-use Rattle.event.proofs.shape.place_fits.Reads as reads
-use Rattle.event.proofs.shape.place_fits.Lts as lts
-use Rattle.event.proofs.shape.set_fits.Reads as set-fits-reads
 
 set-fits-requires : tie.Need-set-fits-requires
 set-fits-requires c κs = search needs

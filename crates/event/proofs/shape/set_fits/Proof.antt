@@ -1,10 +1,7 @@
-use borrow.Author.Needs.{needs}
-use mathlib.Core.Path.{_≡_, sym, _∙_}
+use mathlib.Core.Path.{sym, _∙_}
 use Rattle.event.proofs.ShapeLaws.{fits-none, fits-one, fits-more}
 use Rattle.event.proofs.shape.set_fits.Statement.{statement}
 use Rattle.event.proofs.shape.set_fits.Tie as tie
-use Rattle.event.proofs.shape.set_fits.Reads as reads
-use Rattle.event.proofs.shape.set_fits.Lts as lts
 
 returns : tie.Need-returns
 returns c = λ s q vs w n. w .optional ∙ sym (fits-none q vs (sym n ∙ c .if1 .taken))

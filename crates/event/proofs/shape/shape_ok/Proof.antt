@@ -1,9 +1,9 @@
 use borrow.Author.Needs.{needs}
 use native.Mathlib.Omega.{arith}
 use Prim.Native.Nat.{ℕ, _-_, _≤_}
-use mathlib.Core.Path.{_≡_, sym, _∙_}
+use mathlib.Core.Path.{sym, _∙_}
 use mathlib.Core.List.{List, []}
-use lib.ListN.{length, getD}
+use lib.ListN.{getD}
 use borrow.Author.Tests.{not-true, not-false}
 use Rattle.ontology.specs.Table.{EventType}
 use Rattle.ontology.specs.TypeIndex.{TypeIs}
@@ -14,10 +14,6 @@ use Rattle.event.proofs.ShapeLaws.{noProperty}
 use Rattle.event.proofs.ShapeLaws.{Shape, shape-first, shape-not, shape-many, shape-more, shape-end, place-is}
 use Rattle.event.proofs.shape.shape_ok.Statement.{statement}
 use Rattle.event.proofs.shape.shape_ok.Tie as tie
-use Rattle.event.proofs.shape.shape_ok.Reads as reads
-use Rattle.event.proofs.shape.shape_ok.Lts as lts
-use Rattle.event.proofs.shape.matches_at.Reads as matches-at-reads
-use Rattle.event.proofs.shape.place_fits.Reads as place-fits-reads
 
 abbrev Inv-loop : tie.InvT-loop
 Inv-loop t e matches₀ k₀ matches k =

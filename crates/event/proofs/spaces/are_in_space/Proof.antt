@@ -1,11 +1,11 @@
 use borrow.Author.Needs.{needs}
 use native.Mathlib.Omega.{arith}
-use Prim.Native.Nat.{ℕ, _-_, _≤_}
-use mathlib.Core.Path.{_≡_, refl, sym, _∙_}
+use Prim.Native.Nat.{_-_, _≤_}
+use mathlib.Core.Path.{_≡_, sym, _∙_}
 use mathlib.Core.Bool.{true}
 use mathlib.Core.Option.{some}
 use mathlib.Core.List.{List, map, flatten}
-use lib.ListN.{length, getD}
+use lib.ListN.{length}
 use borrow.Author.Tests.{not-true, not-false}
 use Rattle.model.specs.Order.{Text}
 use Rattle.packed.specs.Packed.{text}
@@ -16,10 +16,6 @@ use Rattle.event.specs.EventQuestions.{areInSpace}
 use Rattle.event.proofs.SpaceLaws.{InSpace, space-first, space-end, space-bad, space-not, space-more}
 use Rattle.event.proofs.spaces.are_in_space.Statement.{statement}
 use Rattle.event.proofs.spaces.are_in_space.Tie as tie
-use Rattle.event.proofs.spaces.are_in_space.Reads as reads
-use Rattle.event.proofs.spaces.are_in_space.Lts as lts
-use Rattle.packed.proofs.read.read_text.Reads as read-text-reads
-use Rattle.values.proofs.spaces.in_space.Reads as in-space-reads
 
 abbrev Inv-loop : tie.InvT-loop
 Inv-loop v kind first second third at₀ at =

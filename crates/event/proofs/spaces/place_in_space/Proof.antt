@@ -1,15 +1,10 @@
 use borrow.Author.Needs.{needs}
-use mathlib.Core.Path.{_≡_, sym, ap, _∙_}
 use mathlib.Core.Bool.{true}
 use Rattle.event.specs.EventQuestions.{areInSpace}
 use Rattle.event.proofs.ShapeLaws.{place-named, place-unnamed}
 use Rattle.event.proofs.SpaceLaws.{kind-of}
 use Rattle.event.proofs.spaces.place_in_space.Statement.{statement}
 use Rattle.event.proofs.spaces.place_in_space.Tie as tie
-use Rattle.event.proofs.spaces.place_in_space.Reads as reads
-use Rattle.event.proofs.spaces.place_in_space.Lts as lts
-use Rattle.event.proofs.sets.set_part.Reads as set-part-reads
-use Rattle.event.proofs.spaces.are_in_space.Reads as are-in-space-reads
 
 set-part-requires : tie.Need-set-part-requires
 set-part-requires c κs = search needs

@@ -1,9 +1,9 @@
 use borrow.Author.Needs.{needs}
 use native.Mathlib.Omega.{arith}
 use Prim.Native.Nat.{ℕ, _-_, _≤_}
-use mathlib.Core.Path.{_≡_, sym, _∙_}
+use mathlib.Core.Path.{sym, _∙_}
 use mathlib.Core.List.{List, []}
-use lib.ListN.{length, getD}
+use lib.ListN.{getD}
 use borrow.Author.Tests.{not-true, not-false}
 use Rattle.ontology.specs.Table.{EventType}
 use Rattle.ontology.specs.TypeIndex.{TypeIs}
@@ -15,9 +15,6 @@ use Rattle.event.proofs.ShapeLaws.{place-is}
 use Rattle.event.proofs.SpaceLaws.{Fit, fit-first, fit-not, fit-more, fit-end}
 use Rattle.event.proofs.spaces.values_ok.Statement.{statement}
 use Rattle.event.proofs.spaces.values_ok.Tie as tie
-use Rattle.event.proofs.spaces.values_ok.Reads as reads
-use Rattle.event.proofs.spaces.values_ok.Lts as lts
-use Rattle.event.proofs.spaces.place_in_space.Reads as place-in-space-reads
 
 abbrev Inv-loop : tie.InvT-loop
 Inv-loop event t e k₀ k =
