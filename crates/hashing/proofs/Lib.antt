@@ -1,2 +1,7 @@
 -- The laws of hash texts.
 pub mod HashSizeLaws
+pub mod SortLaws
+pub mod ObjectLaws
+pub mod GatherLaws
+pub mod TextLaws
+pub mod CallLaws

@@ -1,2 +1,3 @@
 pub mod HashText
 pub mod HashCalls
+pub mod HashIndex

@@ -1,0 +1,135 @@
+-- The laws of the calls hash text and hash: what they ask, and what they reply.
+use mathlib.Core.Path.{_≡_, refl, sym, ap, ap₂, _∙_, subst}
+use mathlib.Core.Option.{Option, none, some}
+use mathlib.Core.List.{List, [], _∷_, _++_}
+use Prim.Native.Nat.{ℕ, suc, _+_, _≤_, _<_}
+use native.Mathlib.Omega.{arith}
+use lib.ListN.{length, drop, getElem?}
+use lib.Seq.{sets, sets-eq}
+use borrow.Author.Tests.{le-leb, lt-leb}
+use Rattle.model.specs.Order.{Text}
+use Rattle.model.proofs.Cases.{never}
+use Rattle.packed.specs.Written.{Wrote}
+use Rattle.packed.proofs.LayoutLaws.{All}
+use Rattle.packed.proofs.WriteLaws.{wrote-between}
+use Rattle.sha1.specs.Fips.{sha1Of}
+use Rattle.sha1.proofs.Laws.{length-sha1Of}
+use Rattle.ontology.specs.Table.{Property, EventType, Table}
+use Rattle.ontology.specs.TableLayout.{tableOf}
+use Rattle.ontology.specs.Questions.{Asked, refused, accepted, _>>=_, ask}
+use Rattle.ontology.proofs.TableLaws.{table-type}
+use Rattle.ontology.proofs.TypeIndexLaws.{name-length, type-rules, properties-rules}
+use Rattle.event.specs.Event.{Event}
+use Rattle.event.specs.EventLayout.{wide}
+use Rattle.event.specs.EventQuestions.{Typed, matchCount, eventAsked}
+use Rattle.event.specs.EventIndex.{eventQuestions}
+use Rattle.event.specs.declared.ask.EventAsked.{EventAsked}
+use Rattle.event.proofs.EventLayoutLaws.{event-was}
+use Rattle.event.proofs.EventSizeLaws.{event-match}
+use Rattle.event.proofs.EventQuestionLaws.{event-accepted}
+use Rattle.event.proofs.AskLaws.{Accepted}
+use Rattle.hashing.specs.HashText.{hashText}
+use Rattle.hashing.specs.HashCalls.{hashTextAsked, hashTextAnswer, hashAnswer, hashTextCall, hashCall}
+use Rattle.hashing.specs.HashIndex.{Hashable, replies}
+use Rattle.hashing.specs.declared.calls.Reply.the-variants.{Done, Refused}
+use Rattle.hashing.proofs.HashSizeLaws.{hash-fits}
+
+-- ---- an accepted event has a hash text
+
+all-elements : {A : Type 0} (P : A → Type 0) (xs : List A) → ((i : ℕ) (a : A) → getElem? xs i ≡ some a → P a) → All P xs
+all-elements P [] h = tt
+all-elements P (x ∷ xs) h = (h 0 x refl, all-elements P xs (λ i a k. h (suc i) a k))
+
+-- the table that the questions were asked of
+record OfTable (table event : List ℕ) (a : Typed) : Type 0 where
+  what : Table
+  is : tableOf table ≡ some what
+  asked : eventAsked wide what event ≡ accepted a
+
+of-table : (table event : List ℕ) (a : Typed) → eventQuestions wide table event ≡ accepted a → OfTable table event a
+of-table table event a e = go (tableOf table) refl e
+  where
+    go : (m : Option Table) → tableOf table ≡ m → (ask 2 m >>= λ ts. eventAsked wide ts event) ≡ accepted a → OfTable table event a
+    go none q e = never (cc)
+    go (some ts) q e = record { what = ts; is = q; asked = e }
+
+pub text-short : (table event : List ℕ) (r : EventAsked) (a : Accepted wide table event r) → (matchCount (a .type .properties) (a .e .sets) ≤ 32) × (length (hashText (a .type) (a .e)) ≤ 8192)
+text-short table event r a =
+    let o = of-table table event (record { type = a .type; event = a .e }) (a .is) in
+    let w = event-accepted wide (o .what) event (a .type) (a .e) (o .asked) in
+    let n : length (a .e .type) ≤ 64 =
+    subst (λ (v : Text). length v ≤ 64) (type-rules table (a .e .type) (o .what) (a .type) (o .is) (w .typed) .0)
+    (table-type table (o .what) (o .is) (a .e .type) (a .type) (w .typed) .short) in
+    let p : All (λ (q : Property). length (q .name) ≤ 32) (a .type .properties) =
+    all-elements (λ (q : Property). length (q .name) ≤ 32) (a .type .properties)
+    (λ i q k. name-length 32 (q .name) (properties-rules table (a .e .type) (o .what) (a .type) (o .is) (w .typed) i q k .name) .1) in
+    (event-match (a .type) (a .e) (w .shape), hash-fits (a .type) (a .e) (event-was wide event (a .e) (w .read) .1) (w .shape) (w .values) n p)
+
+abbrev pub hashable : (table event : List ℕ) (r : EventAsked) → Accepted wide table event r → Hashable table event (r .kind) (r .event)
+hashable table event r a = record {
+  type = a .type;
+  event = a .e;
+  typed = a .type-is;
+  read = a .event-is;
+  few = text-short table event r a .0;
+  short = text-short table event r a .1;
+}
+
+-- ---- the questions
+
+module _ (table event : List ℕ) (least room : ℕ) where
+  asked-small : room < least → hashTextAsked least room table event ≡ refused 1
+  unfolding hashTextAsked
+  asked-small h = rw (lt-leb least room h)
+
+  asked-is : least ≤ room → hashTextAsked least room table event ≡ (eventQuestions wide table event >>= λ a. accepted (hashText (a .type) (a .event)))
+  unfolding hashTextAsked
+  asked-is h = rw (le-leb least room h) (go (tableOf table))
+    where
+      go : (m : Option Table) → (ask 2 m >>= λ ts. (eventAsked wide ts event >>= λ a. accepted (hashText (a .type) (a .event)))) ≡ ((ask 2 m >>= λ ts. eventAsked wide ts event) >>= λ a. accepted (hashText (a .type) (a .event)))
+      go none = refl
+      go (some ts) = refl
+
+  asked-refused : (n : ℕ) → least ≤ room → eventQuestions wide table event ≡ refused n → hashTextAsked least room table event ≡ refused n
+  asked-refused n h e = asked-is h ∙ ap (λ (q : Asked Typed). q >>= λ a. accepted (hashText (a .type) (a .event))) e
+
+  asked-accepted : (t : EventType) (e : Event) → least ≤ room → eventQuestions wide table event ≡ accepted (record { type = t; event = e }) → hashTextAsked least room table event ≡ accepted (hashText t e)
+  asked-accepted t e h q = asked-is h ∙ ap (λ (q : Asked Typed). q >>= λ a. accepted (hashText (a .type) (a .event))) q
+
+-- ---- the replies
+
+module _ (table event out : List ℕ) where
+  pub text-small : length out < 8192 → replies (Refused 1) out ≡ hashTextCall table event out
+  unfolding hashTextCall hashTextAnswer
+  text-small h = rw (asked-small table event 8192 (length out) h)
+
+  pub text-refused : (n : ℕ) → 8192 ≤ length out → eventQuestions wide table event ≡ refused n → replies (Refused n) out ≡ hashTextCall table event out
+  unfolding hashTextCall hashTextAnswer
+  text-refused n h e = rw (asked-refused table event 8192 (length out) n h e)
+
+  pub hash-small : length out < 20 → replies (Refused 1) out ≡ hashCall table event out
+  unfolding hashCall hashAnswer
+  hash-small h = rw (asked-small table event 20 (length out) h)
+
+  pub hash-refused : (n : ℕ) → 20 ≤ length out → eventQuestions wide table event ≡ refused n → replies (Refused n) out ≡ hashCall table event out
+  unfolding hashCall hashAnswer
+  hash-refused n h e = rw (asked-refused table event 20 (length out) n h e)
+
+  module _ (r : EventAsked) (a : Accepted wide table event r) (new : List ℕ) where
+    pub text-done : (n : ℕ) → 8192 ≤ length out → Wrote out 0 (hashText (a .type) (a .e)) new n → replies (Done n) new ≡ hashTextCall table event out
+    unfolding hashTextCall hashTextAnswer
+    text-done n h w =
+        let x = hashText (a .type) (a .e) in
+        let s : 0 + length x ≤ length out = omega (arith, text-short table event r a .1) in
+        let m : n ≡ length x = omega (arith, w .after) in
+        rw (asked-accepted table event 8192 (length out) (a .type) (a .e) h (a .is))
+        (ap₂ (λ (k : ℕ) (l : List ℕ). replies (Done k) l) m (wrote-between s w ∙ ap (λ (k : ℕ). x ++ drop k out) m))
+
+    pub hash-done : 20 ≤ length out → new ≡ sets out 0 (sha1Of (hashText (a .type) (a .e))) → replies (Done 20) new ≡ hashCall table event out
+    unfolding hashCall hashAnswer
+    hash-done h w =
+        let x = sha1Of (hashText (a .type) (a .e)) in
+        let l : length x ≡ 20 = length-sha1Of (hashText (a .type) (a .e)) in
+        let z : 0 + length x ≡ length x = omega arith in
+        rw (asked-accepted table event 20 (length out) (a .type) (a .e) h (a .is))
+        (ap₂ (λ (k : ℕ) (b : List ℕ). replies (Done k) b) (sym l) (w ∙ sets-eq x out 0 (omega arith) ∙ ap (λ (k : ℕ). x ++ drop k out) z))

@@ -1,0 +1,246 @@
+-- The laws of gathering the objects of the match properties.
+use mathlib.Core.Path.{_≡_, refl, sym, ap, ap₂, _∙_, subst}
+use mathlib.Core.Bool.{Bool, true, cond}
+use mathlib.Core.Option.{some}
+use mathlib.Core.List.{List, [], _∷_, _++_, append-assoc, append-nil, map, flatten}
+use Prim.Native.Nat.{ℕ, zero, suc, _+_, _-_, _^_, _≤_, _<_}
+use native.Mathlib.Omega.{arith}
+use native.Mathlib.Numerals.{add-one}
+use lib.ListN.{length, take, drop, getD, getElem?, length-append, length-map, take-append-drop, drop-of-length-le}
+use lib.Seq.{drop-drop, drop-cons}
+use borrow.Author.Tests.{eq-eqb, ne-eqb}
+use Rattle.model.specs.Order.{Text, texts}
+use Rattle.packed.specs.Parse.{fail}
+use Rattle.packed.specs.Packed.{text, readText}
+use Rattle.packed.specs.Located.{part}
+use Rattle.packed.proofs.ReadLaws.{TextStops}
+use Rattle.ontology.specs.Table.{Property, strategyNumber, isMatch}
+use Rattle.ontology.specs.TypeIndex.{PropertyIs}
+use Rattle.ontology.specs.declared.properties.PropertyAt.{PropertyAt}
+use Rattle.ontology.specs.declared.types.TypeIndex.{TypeIndex}
+use Rattle.event.specs.EventIndex.{SetIs, noSet}
+use Rattle.event.specs.declared.sets.SetAt.{SetAt}
+use Rattle.event.specs.declared.read.EventIndex.{EventIndex}
+use Rattle.event.proofs.LookupLaws.{text-there, text-next}
+use Rattle.hashing.specs.HashText.{insert, sorted, objectStrings}
+use Rattle.hashing.specs.HashIndex.{stringOf, stringsOf, ObjectsFit, Inserted, Gathered, Hashable}
+use Rattle.hashing.specs.declared.objects.ObjectAt.{ObjectAt}
+use Rattle.hashing.specs.declared.objects.Objects.{Objects}
+use Rattle.hashing.proofs.SortLaws.{sorted-snoc}
+use Rattle.hashing.proofs.HashSizeLaws.{strings-length}
+
+module _ {A B : Type 0} (f : A → B) where
+  map-snoc : (xs : List A) (x : A) → map f (xs ++ (x ∷ [])) ≡ map f xs ++ (f x ∷ [])
+  map-snoc [] x = refl
+  map-snoc (y ∷ ys) x = ap (λ (l : List B). f y ∷ l) (map-snoc ys x)
+
+-- ---- the objects of one property
+
+module _ (table event : List ℕ) where
+  pub gathered-none : (xs : Objects) → Gathered table event xs xs []
+  gathered-none xs = record { more = omega arith; is = λ ws e. e ∙ ap (sorted texts) (sym (append-nil ws)) }
+
+  gathered-more : (xs r q : Objects) (x : ObjectAt) (added : List Text) → Gathered table event xs r added → Inserted table event r x q → Gathered table event xs q (added ++ (stringOf table event x ∷ []))
+  gathered-more xs r q x added g w = record {
+    more = omega (arith, g .more, w .more, length-append added (stringOf table event x ∷ []));
+    is =
+        λ ws e.
+        let h = g .is ws e in
+        w .is (ws ++ added) h
+        ∙ ap (insert texts (stringOf table event x)) h
+        ∙ sym (sorted-snoc texts (ws ++ added) (stringOf table event x))
+        ∙ ap (sorted texts) (append-assoc ws added (stringOf table event x ∷ []));
+  }
+
+-- The values vs of a set are gathered but for `left`, which stand at `at`
+pub record Gathering (table event : List ℕ) (name colon : ℕ) (xs r : Objects) (vs : List Text) (at left : ℕ) (tail : List ℕ) : Type 0 where
+  pub done : List Text
+  pub rest : List Text
+  pub all : vs ≡ done ++ rest
+  pub bytes : drop at event ≡ flatten (map text rest) ++ tail
+  pub within : at ≤ length event
+  pub long : left ≡ length rest
+  pub have : Gathered table event xs r (map (λ (v : Text). part table name colon ++ (58 ∷ v)) done)
+
+module _ (table event : List ℕ) (name colon : ℕ) (xs : Objects) (vs : List Text) where
+  pub gathering-none : (x : SetAt) → SetIs event vs x → Gathering table event name colon xs xs vs (x .start) (x .count) (drop (x .end) event)
+  gathering-none x w = record {
+    done = [];
+    rest = vs;
+    all = refl;
+    bytes =
+        sym (take-append-drop (x .end - x .start) (drop (x .start) event))
+        ∙ ap₂ (λ (a b : List ℕ). a ++ b) (w .bytes) (drop-drop (x .end - x .start) (x .start) event ∙ ap (λ (n : ℕ). drop n event) (sums (x .start) (x .end) (w .order)));
+    within = omega (arith, w .order, w .within);
+    long = w .count;
+    have = gathered-none table event xs;
+  }
+    where
+      sums : (a e : ℕ) → a ≤ e → a + (e - a) ≡ e
+      sums a e h = omega arith
+
+  module _ (r : Objects) (at left : ℕ) (tail : List ℕ) (small : length event < 2 ^ 64) (w : Gathering table event name colon xs r vs at left tail) where
+    -- the first value of those that are left, and the others
+    record First : Type 0 where
+      v : Text
+      us : List Text
+      all : vs ≡ w .done ++ (v ∷ us)
+      bytes : drop at event ≡ text v ++ (flatten (map text us) ++ tail)
+      long : left ≡ suc (length us)
+
+    first : 0 < left → First
+    unfolding flatten
+    first h = go (w .rest) (w .all) (w .bytes) (w .long)
+      where
+        go : (rest : List Text) → vs ≡ w .done ++ rest → drop at event ≡ flatten (map text rest) ++ tail → left ≡ length rest → First
+        go [] a b l = absurd (omega arith)
+        go (v ∷ us) a b l = record { v = v; us = us; all = a; bytes = b ∙ append-assoc (text v) (flatten (map text us)) tail; long = l }
+
+    pub gathering-bad : 0 < left → readText (drop at event) ≡ fail → ⊥
+    gathering-bad h e = let f = first h in text-there event small at (w .within) (f .v) (flatten (map text (f .us)) ++ tail) (f .bytes) e
+
+    pub gathering-more :
+        0 < left → (a z : ℕ) → TextStops event at a z → (q : Objects) → Inserted table event r (record { name = name; colon = colon; value = a; end = z }) q →
+        Gathering table event name colon xs q vs z (left - 1) tail
+    unfolding stringOf
+    gathering-more h a z t q i =
+        let f = first h in
+        let n = text-next event small at (w .within) (f .v) (flatten (map text (f .us)) ++ tail) (f .bytes) a z t in
+        let g = gathered-more table event xs r q (record { name = name; colon = colon; value = a; end = z }) (map (λ (v : Text). part table name colon ++ (58 ∷ v)) (w .done)) (w .have) i in
+        let e : map (λ (v : Text). part table name colon ++ (58 ∷ v)) (w .done) ++ ((part table name colon ++ (58 ∷ part event a z)) ∷ []) ≡ map (λ (v : Text). part table name colon ++ (58 ∷ v)) (w .done ++ (f .v ∷ [])) =
+        ap (λ (u : Text). map (λ (v : Text). part table name colon ++ (58 ∷ v)) (w .done) ++ ((part table name colon ++ (58 ∷ u)) ∷ [])) (n .0)
+        ∙ sym (map-snoc (λ (v : Text). part table name colon ++ (58 ∷ v)) (w .done) (f .v)) in
+        record {
+          done = w .done ++ (f .v ∷ []);
+          rest = f .us;
+          all = f .all ∙ sym (append-assoc (w .done) (f .v ∷ []) (f .us));
+          bytes = n .2 .rest;
+          within = n .2 .within;
+          long = omega (arith, f .long);
+          have = subst (Gathered table event xs q) e g;
+        }
+
+    pub gathering-all : left ≤ 0 → Gathered table event xs r (map (λ (v : Text). part table name colon ++ (58 ∷ v)) vs)
+    gathering-all h = go (w .rest) (w .all) (w .long)
+      where
+        go : (rest : List Text) → vs ≡ w .done ++ rest → left ≡ length rest → Gathered table event xs r (map (λ (v : Text). part table name colon ++ (58 ∷ v)) vs)
+        go [] a l = subst (λ (us : List Text). Gathered table event xs r (map (λ (v : Text). part table name colon ++ (58 ∷ v)) us)) (sym (a ∙ append-nil (w .done))) (w .have)
+        go (v ∷ us) a l = absurd (omega arith)
+
+-- ---- a place
+
+module _ (table event : List ℕ) (q : Property) (p : PropertyAt) (is : PropertyIs table q p) where
+  pub match-true : p .strategy ≡ 5 → isMatch q ≡ true
+  match-true e = eq-eqb (strategyNumber (q .strategy)) 5 (sym (is .strategy) ∙ e)
+
+  pub gathered-match : (xs r : Objects) (vs : List Text) → p .strategy ≡ 5 → Gathered table event xs r (map (λ (v : Text). part table (p .start) (p .end) ++ (58 ∷ v)) vs) → Gathered table event xs r (cond (isMatch q) (map (λ (v : Text). q .name ++ (58 ∷ v)) vs) [])
+  gathered-match xs r vs e g =
+      rw (match-true e) (subst (λ (n : Text). Gathered table event xs r (map (λ (v : Text). n ++ (58 ∷ v)) vs)) (is .name) g)
+
+  pub gathered-other : (xs : Objects) (vs : List Text) → (p .strategy ≡ 5 → ⊥) → Gathered table event xs xs (cond (isMatch q) (map (λ (v : Text). q .name ++ (58 ∷ v)) vs) [])
+  gathered-other xs vs n = rw (ne-eqb (strategyNumber (q .strategy)) 5 (λ e. n (is .strategy ∙ e))) (gathered-none table event xs)
+
+-- ---- all places
+
+record At {A : Type 0} (xs : List A) (i : ℕ) : Type 0 where
+  what : A
+  is : getElem? xs i ≡ some what
+  rest : drop i xs ≡ what ∷ drop (suc i) xs
+
+at : {A : Type 0} (xs : List A) (i : ℕ) → i < length xs → At xs i
+at [] i h = absurd (omega arith)
+at (x ∷ xs) zero h = record { what = x; is = refl; rest = refl }
+at (x ∷ xs) (suc i) h = let w = at xs i (omega arith) in record { what = w .what; is = w .is; rest = w .rest }
+
+-- the strings of a property and its set
+abbrev strings : Property → List Text → List Text
+strings q s = cond (isMatch q) (map (λ (v : Text). q .name ++ (58 ∷ v)) s) []
+
+strings-step : (ps : List Property) (ss : List (List Text)) (i : ℕ) (w : At ps i) → i < length ss → objectStrings (drop i ps) (drop i ss) ≡ strings (w .what) (getD ss i []) ++ objectStrings (drop (i + 1) ps) (drop (i + 1) ss)
+unfolding objectStrings
+strings-step ps ss i w h = rw (w .rest, drop-cons ss i [] h, add-one)
+
+-- The objects of the places below `place` are r; ps are the properties and ss their sets
+pub record SoFar (table event : List ℕ) (ps : List Property) (ss : List (List Text)) (r : Objects) (place : ℕ) : Type 0 where
+  pub done : List Text
+  pub all : objectStrings ps ss ≡ done ++ objectStrings (drop place ps) (drop place ss)
+  pub count : r .count ≡ length done
+  pub is : stringsOf table event r ≡ sorted texts done
+
+module _ (table event : List ℕ) where
+  pub fit-none : (r : Objects) → (r .count ≡ 0) × (length (r .at) ≡ 32) → ObjectsFit table event r
+  fit-none r e = record { few = omega (arith, e .0); long = e .1; each = λ i h. absurd (omega (arith, e .0)) }
+
+  pub so-far-none : (ps : List Property) (ss : List (List Text)) (r : Objects) → r .count ≡ 0 → SoFar table event ps ss r 0
+  unfolding stringsOf sorted
+  so-far-none ps ss r e = record {
+    done = [];
+    all = refl;
+    count = e;
+    is = ap (λ (n : ℕ). map (stringOf table event) (take n (r .at))) e;
+  }
+
+  module _ (t : TypeIndex) (e : EventIndex) (h : Hashable table event t e) (r : Objects) (place : ℕ) (below : place < t .count) (w : SoFar table event (h .type .properties) (h .event .sets) r place) where
+    property : At (h .type .properties) place
+    property = at (h .type .properties) place (omega (arith, h .typed .count))
+
+    set-there : place < length (h .event .sets)
+    set-there = omega (arith, h .read .sets .long, h .typed .few)
+
+    set-is : SetIs event (getD (h .event .sets) place []) (getD (e .sets) place noSet)
+    set-is = h .read .sets .each place (omega (arith, h .typed .few))
+
+    step : objectStrings (h .type .properties) (h .event .sets) ≡ (w .done ++ strings (property .what) (getD (h .event .sets) place [])) ++ objectStrings (drop (place + 1) (h .type .properties)) (drop (place + 1) (h .event .sets))
+    step =
+        w .all
+        ∙ ap (λ (l : List Text). w .done ++ l) (strings-step (h .type .properties) (h .event .sets) place property set-there)
+        ∙ sym (append-assoc (w .done) (strings (property .what) (getD (h .event .sets) place [])) (objectStrings (drop (place + 1) (h .type .properties)) (drop (place + 1) (h .event .sets))))
+
+    module _ (d : PropertyAt) where
+      property-is : PropertyIs table (property .what) (getD (t .properties) place d)
+      property-is = h .typed .are .each place (property .what) d (property .is)
+
+      -- room for the objects of this place, which question 5 has answered
+      room : getD (t .properties) place d .strategy ≡ 5 → r .count + getD (e .sets) place noSet .count ≤ 32
+      room m =
+          let q = property .what in
+          let vs = getD (h .event .sets) place [] in
+          let a : strings q vs ≡ map (λ (v : Text). q .name ++ (58 ∷ v)) vs = ap (λ (b : Bool). cond b (map (λ (v : Text). q .name ++ (58 ∷ v)) vs) []) (match-true table event q (getD (t .properties) place d) property-is m) in
+          omega (
+            arith,
+            h .few,
+            strings-length (h .type .properties) (h .event .sets),
+            ap length step,
+            length-append (w .done ++ strings q vs) (objectStrings (drop (place + 1) (h .type .properties)) (drop (place + 1) (h .event .sets))),
+            length-append (w .done) (strings q vs),
+            ap length a,
+            length-map vs (λ (v : Text). q .name ++ (58 ∷ v)),
+            w .count,
+            set-is .count,
+          )
+
+      pub place-ready :
+          ObjectsFit table event r →
+          ObjectsFit table event r × (getD (t .properties) place d .start ≤ getD (t .properties) place d .end) × (getD (t .properties) place d .end ≤ length table)
+          × (getD (t .properties) place d .strategy ≡ 5 → r .count + getD (e .sets) place noSet .count ≤ 32)
+      place-ready f = (f, property-is .order, property-is .within, room)
+
+      pub so-far-more :
+          (q : Objects) →
+          ((p : Property) (vs : List Text) → PropertyIs table p (getD (t .properties) place d) → SetIs event vs (getD (e .sets) place noSet) → Gathered table event r q (cond (isMatch p) (map (λ (v : Text). p .name ++ (58 ∷ v)) vs) [])) →
+          SoFar table event (h .type .properties) (h .event .sets) q (place + 1)
+      so-far-more q f =
+          let g = f (property .what) (getD (h .event .sets) place []) property-is set-is in
+          record {
+            done = w .done ++ strings (property .what) (getD (h .event .sets) place []);
+            all = step;
+            count = omega (arith, g .more, w .count, length-append (w .done) (strings (property .what) (getD (h .event .sets) place [])));
+            is = g .is (w .done) (w .is);
+          }
+
+  pub so-far-all : (ps : List Property) (ss : List (List Text)) (r : Objects) (place : ℕ) → length ps ≤ place → SoFar table event ps ss r place → stringsOf table event r ≡ sorted texts (objectStrings ps ss)
+  unfolding objectStrings
+  so-far-all ps ss r place h w =
+      w .is
+      ∙ ap (sorted texts)
+      (sym (w .all ∙ ap (λ (l : List Property). w .done ++ objectStrings l (drop place ss)) (drop-of-length-le ps h) ∙ append-nil (w .done)))

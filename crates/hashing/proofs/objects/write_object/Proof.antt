@@ -1,0 +1,46 @@
+use Rattle.packed.proofs.WriteLaws.{wrote-length}
+use Rattle.hashing.proofs.ObjectLaws.{room-name, room-colon, room-value, wrote-string}
+use native.Mathlib.Omega.{arith}
+use borrow.Author.Needs.{needs}
+use Rattle.hashing.proofs.objects.write_object.Statement.{statement}
+use Rattle.hashing.proofs.objects.write_object.Tie as tie
+
+copy-part-requires : tie.Need-copy-part-requires
+copy-part-requires c κs =
+    let p = c .before .before .before .before in
+    (p .pre .0 .name, p .pre .0 .named, room-name _ _ _ (p .pre .0) _ _ (p .pre .1))
+
+slice-aggregate-copy : tie.Need-slice-aggregate-copy
+slice-aggregate-copy c = search needs
+
+copy-requires : tie.Need-copy-requires
+copy-requires c κs =
+    let w = c .before .before .before .before .copy-part in
+    let p = c .before .before .before .before .before .before .before .before .before in
+    let h = room-colon (p .args .table .now) (p .args .event .now) (p .args .x) (p .pre .0) _ _ _ (w .ensures .after) (p .pre .1) in
+    omega (arith, h, wrote-length (w .ensures))
+
+copy-part-requires-2 : tie.Need-copy-part-requires-2
+copy-part-requires-2 c κs =
+    let v = c .before .before .before .copy in
+    let w = c .before .before .before .before .before .before .before .before .copy-part in
+    let p = c .before .before .before .before .before .before .before .before .before .before .before .before .before in
+    let h = room-value (p .args .table .now) (p .args .event .now) (p .args .x) (p .pre .0) _ _ _ _ (w .ensures .after) (v .ensures .after) (p .pre .1) in
+    (p .pre .0 .value, p .pre .0 .within, omega (arith, h, wrote-length (w .ensures), wrote-length (v .ensures)))
+
+same-length : tie.Need-same-length
+same-length c = search needs
+
+returns : tie.Need-returns
+returns c = wrote-string _ _ _ (c .before .before .before .before .before .before .before .before .before .before .before .copy-part .ensures) (c .before .before .before .before .before .before .copy .ensures) (c .before .before .copy-part2 .ensures)
+
+pub write-object-spec : {M : Type 1} → statement M
+write-object-spec =
+    tie.close
+    (tie.spec
+    copy-part-requires
+    slice-aggregate-copy
+    copy-requires
+    copy-part-requires-2
+    same-length
+    returns)

@@ -1,0 +1,45 @@
+ghost use mathlib.Core.Path.{_≡_};
+ghost use Rattle.hashing.specs.HashCalls.{hashTextCall, hashCall};
+ghost use Rattle.hashing.specs.HashIndex.{replies};
+use crate::text::write_hash;
+use crate::text::write_hash_text;
+use event::ask::ask_event;
+
+// The length of what was written, or the number of the first question that is answered no.
+pub enum Reply {
+    Done(usize),
+    Refused(u8),
+}
+
+// The hash text of an event, written at the front of `out`.
+pub fn hash_text(table: &[u8], event: &[u8], out: &mut [u8]) -> Reply
+    ensures { λ r. ⌜ replies r (now (out .exit)) ≡ hashTextCall (now (table .entry)) (now (event .entry)) (now (out .entry)) ⌝ }
+{
+    if out.len() < 8192 {
+        return Reply::Refused(1);
+    }
+    let asked = ask_event(table, event, true);
+    if asked.number != 0 {
+        return Reply::Refused(asked.number);
+    }
+    let kind = asked.kind;
+    let x = asked.event;
+    Reply::Done(write_hash_text(table, event, kind, x, out))
+}
+
+// The hash of an event, written at the front of `out`.
+pub fn hash(table: &[u8], event: &[u8], out: &mut [u8]) -> Reply
+    ensures { λ r. ⌜ replies r (now (out .exit)) ≡ hashCall (now (table .entry)) (now (event .entry)) (now (out .entry)) ⌝ }
+{
+    if out.len() < 20 {
+        return Reply::Refused(1);
+    }
+    let asked = ask_event(table, event, true);
+    if asked.number != 0 {
+        return Reply::Refused(asked.number);
+    }
+    let kind = asked.kind;
+    let x = asked.event;
+    write_hash(table, event, kind, x, out);
+    Reply::Done(20)
+}

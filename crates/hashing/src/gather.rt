@@ -1,0 +1,85 @@
+ghost use Prim.Native.Nat.{_+_, _≤_};
+ghost use mathlib.Core.Path.{_≡_};
+ghost use mathlib.Core.Bool.{cond};
+ghost use mathlib.Core.List.{List, [], _∷_, _++_, map};
+ghost use lib.ListN.{length};
+ghost use Rattle.model.specs.Order.{Text, texts};
+ghost use Rattle.packed.specs.Located.{part};
+ghost use Rattle.ontology.specs.Table.{Property, isMatch};
+ghost use Rattle.ontology.specs.TypeIndex.{PropertyIs};
+ghost use Rattle.event.specs.EventIndex.{SetIs};
+ghost use Rattle.hashing.specs.HashText.{objectStrings, sorted};
+ghost use Rattle.hashing.specs.HashIndex.{stringsOf, ObjectsFit, Gathered, Hashable};
+use crate::objects::ObjectAt;
+use crate::objects::Objects;
+use crate::objects::insert_object;
+use crate::objects::no_objects;
+use event::read::EventIndex;
+use event::sets::SetAt;
+use ontology::properties::PropertyAt;
+use ontology::types::TypeIndex;
+use packed::read::TextAt;
+use packed::read::read_text;
+
+// The objects with those of one property more, whose name stands in the table from `name` up to `colon`.
+fn gather_set(
+    table: &[u8],
+    event: &[u8],
+    name: usize,
+    colon: usize,
+    set: SetAt,
+    objects: Objects,
+) -> Objects
+    requires { ⌜ ObjectsFit (now table) (now event) objects × (name ≤ colon) × (colon ≤ length (now table)) × (objects .count + set .count ≤ 32) ⌝ }
+    ensures fit { λ r. ⌜ ObjectsFit (now (table .entry)) (now (event .entry)) r ⌝ }
+    ensures { λ r. ⌜ ((vs : List Text) → SetIs (now (event .entry)) vs set → Gathered (now (table .entry)) (now (event .entry)) objects r (map (λ (v : Text). part (now (table .entry)) name colon ++ (58 ∷ v)) vs)) ⌝ }
+{
+    let mut r = objects;
+    let mut at = set.start;
+    let mut left = set.count;
+    while 0 < left {
+        let TextAt::Text(value, end) = read_text(event, at) else {
+            return r;
+        };
+        let x = ObjectAt {
+            name,
+            colon,
+            value,
+            end,
+        };
+        r = insert_object(table, event, r, x);
+        at = end;
+        left -= 1;
+    }
+    r
+}
+
+// The same, where it is a match property.
+fn gather_place(table: &[u8], event: &[u8], p: PropertyAt, set: SetAt, objects: Objects) -> Objects
+    requires { ⌜ ObjectsFit (now table) (now event) objects × (p .start ≤ p .end) × (p .end ≤ length (now table)) × (p .strategy ≡ 5 → objects .count + set .count ≤ 32) ⌝ }
+    ensures fit { λ r. ⌜ ObjectsFit (now (table .entry)) (now (event .entry)) r ⌝ }
+    ensures { λ r. ⌜ ((q : Property) (vs : List Text) → PropertyIs (now (table .entry)) q p → SetIs (now (event .entry)) vs set → Gathered (now (table .entry)) (now (event .entry)) objects r (cond (isMatch q) (map (λ (v : Text). q .name ++ (58 ∷ v)) vs) [])) ⌝ }
+{
+    if p.strategy == 5 {
+        gather_set(table, event, p.start, p.end, set, objects)
+    } else {
+        objects
+    }
+}
+
+// The objects of all match properties, sorted.
+pub fn gather(table: &[u8], event: &[u8], t: TypeIndex, e: EventIndex) -> Objects
+    requires { ⌜ Hashable (now table) (now event) t e ⌝ }
+    ensures fit { λ r. ⌜ ObjectsFit (now (table .entry)) (now (event .entry)) r ⌝ }
+    ensures { λ r. ⌜ ((h : Hashable (now (table .entry)) (now (event .entry)) t e) → stringsOf (now (table .entry)) (now (event .entry)) r ≡ sorted texts (objectStrings (h .type .properties) (h .event .sets))) ⌝ }
+{
+    let mut r = no_objects();
+    let mut place: usize = 0;
+    while place < t.count {
+        let p = t.properties[place];
+        let set = e.sets[place];
+        r = gather_place(table, event, p, set, r);
+        place += 1;
+    }
+    r
+}
