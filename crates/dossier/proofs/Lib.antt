@@ -1,4 +1,13 @@
--- The laws of dossiers' bytes.
+-- The laws of dossiers' bytes, and of their index.
 pub mod DossierLayoutLaws
 pub mod DossierSizeLaws
+pub mod SnapshotLaws
+pub mod DossierReadLaws
+pub mod CellLaws
+pub mod DigitLaws
+pub mod MatchLaws
+pub mod VersionLaws
+pub mod ValueLaws
+pub mod AskLaws
+pub mod AnswerLaws
 pub mod DossierQuestionLaws

@@ -1,2 +1,3 @@
 pub mod DossierLayout
 pub mod DossierQuestions
+pub mod DossierIndex

@@ -1,0 +1,130 @@
+-- The laws of questions 3 to 7 of dossiers.
+use mathlib.Core.Path.{_≡_, refl, sym, ap, ap₂, _∙_}
+use mathlib.Core.Bool.{Bool, true, false, _&&_}
+use mathlib.Core.Option.{Option, none, some}
+use mathlib.Core.List.{List, [], _∷_}
+use Prim.Native.Nat.{ℕ, _≤_}
+use native.Mathlib.Omega.{arith}
+use lib.ListN.{length, getD}
+use Rattle.model.specs.Order.{texts, sets, lists, equal}
+use Rattle.model.proofs.OrderLaws.{equal-true}
+use Rattle.model.specs.Rule.{Snapshot}
+use Rattle.model.specs.Limits.{standard}
+use Rattle.ontology.specs.Table.{EventType, Table, typeNamed}
+use Rattle.ontology.specs.TableLayout.{tableOf}
+use Rattle.ontology.specs.TypeIndex.{TypeIs, TypeSays}
+use Rattle.ontology.specs.Questions.{accepted, _>>_, ensure}
+use Rattle.ontology.specs.declared.types.TypeIndex.{TypeIndex}
+use Rattle.ontology.specs.declared.tables.TableRead.{TableRead}
+use Rattle.event.specs.EventIndex.{KindsAre}
+use Rattle.event.proofs.AskLaws.{table-kinds}
+use Rattle.dossier.specs.DossierLayout.{Headed, dossierOf}
+use Rattle.dossier.specs.DossierQuestions.{eachSnapshot, snapshotMatch, dossierShape, snapshotValues, dossierAsked, dossierMatch, agree, dossiersAgree}
+use Rattle.dossier.specs.DossierIndex.{noSnapshot, DossierIs, IsDossier, DossierReads, DossierAnswers, shapeNumber}
+use Rattle.dossier.specs.declared.dossiers.DossierIndex.{DossierIndex}
+use Rattle.dossier.proofs.CellLaws.{and-false}
+
+-- ---- questions 3 to 6
+
+pub record Known (o : Option Headed) (s : List ℕ) (d : DossierIndex) : Type 0 where
+  pub what : Headed
+  pub is : o ≡ some what
+  pub stands : DossierIs s what d
+
+pub dossier-known : (o : Option Headed) (s : List ℕ) (d : DossierIndex) → DossierReads o s d → d .ok ≡ true → Known o s d
+unfolding DossierReads
+dossier-known none s d w h = let z : _≡_ {A = ℕ} 0 1 = cc in absurd (omega arith)
+dossier-known (some h) s d w e = record { what = h; is = refl; stands = w .1 }
+
+dossier-no : (o : Option Headed) (s : List ℕ) (d : DossierIndex) → DossierReads o s d → d .ok ≡ false → o ≡ none
+unfolding DossierReads
+dossier-no none s d w h = refl
+dossier-no (some h) s d w e = let z : _≡_ {A = ℕ} 0 1 = cc (w .0) in absurd (omega arith)
+
+pub is-dossier : (o : Option Headed) (s : List ℕ) (d : DossierIndex) → DossierReads o s d → d .ok ≡ true → IsDossier s d
+is-dossier o s d w h = let k = dossier-known o s d w h in record { what = k .what; is = k .stands }
+
+type-no : (o : Option EventType) (table : List ℕ) (r : TableRead) → TypeSays o table r → r .found ≡ false → o ≡ none
+unfolding TypeSays
+type-no none table r w h = refl
+type-no (some t) table r w h = let z : _≡_ {A = ℕ} 0 1 = cc (w .0) in absurd (omega arith)
+
+record TypeKnown (o : Option EventType) (table : List ℕ) (r : TableRead) : Type 0 where
+  what : EventType
+  is : o ≡ some what
+  stands : TypeIs table what (r .index)
+
+type-known : (o : Option EventType) (table : List ℕ) (r : TableRead) → TypeSays o table r → r .found ≡ true → TypeKnown o table r
+unfolding TypeSays
+type-known none table r w h = let z : _≡_ {A = ℕ} 0 1 = cc in absurd (omega arith)
+type-known (some t) table r w h = record { what = t; is = refl; stands = w .1 }
+
+-- what `ask_dossier` needs of the table that was read
+pub found-few : (o : Option EventType) (table : List ℕ) (r : TableRead) → TypeSays o table r → r .found ≡ true → r .index .count ≤ 32
+found-few o table r w h = type-known o table r w h .stands .few
+
+module _ (table : List ℕ) (ts : Table) (s : List ℕ) (d : DossierIndex) (w : DossierReads (dossierOf standard s) s d) where
+  pub answer-layout : d .ok ≡ false → (k : TypeIndex) → DossierAnswers (dossierAsked standard ts s) table s (record { number = 3; kind = k; dossier = d })
+  unfolding dossierAsked DossierAnswers
+  answer-layout h k = let e : dossierOf standard s ≡ none = dossier-no (dossierOf standard s) s d w h in rw e refl
+
+  module _ (ok : d .ok ≡ true) where
+    it : Known (dossierOf standard s) s d
+    it = dossier-known (dossierOf standard s) s d w ok
+
+    module _ (read : TableRead) (says : (h : Headed) → DossierIs s h d → TypeSays (typeNamed (h .type) ts) table read) where
+      pub answer-type : read .found ≡ false → (k : TypeIndex) → DossierAnswers (dossierAsked standard ts s) table s (record { number = 4; kind = k; dossier = d })
+      unfolding dossierAsked DossierAnswers
+      answer-type h k = let e : typeNamed (it .what .type) ts ≡ none = type-no (typeNamed (it .what .type) ts) table read (says (it .what) (it .stands)) h in rw (it .is, e) refl
+
+      module _ (e : tableOf table ≡ some ts) (f : read .found ≡ true) where
+        type : TypeKnown (typeNamed (it .what .type) ts) table read
+        type = type-known (typeNamed (it .what .type) ts) table read (says (it .what) (it .stands)) f
+
+        pub answer-rest :
+            (n : ℕ) →
+            ((u : List ℕ) (ty : EventType) (h : Headed) → TypeIs u ty (read .index) → KindsAre ty → DossierIs s h d → n ≡ shapeNumber (dossierShape standard ty (h .dossier .snapshots)) (eachSnapshot (snapshotValues ty) (h .dossier .snapshots))) →
+            DossierAnswers (dossierAsked standard ts s) table s (record { number = n; kind = read .index; dossier = d })
+        unfolding dossierAsked DossierAnswers shapeNumber
+        answer-rest n a =
+            rw (it .is, type .is)
+            (go (dossierShape standard (type .what) (it .what .dossier .snapshots)) (eachSnapshot (snapshotValues (type .what)) (it .what .dossier .snapshots))
+            (a table (type .what) (it .what) (type .stands) (table-kinds table ts (it .what .type) (type .what) e (type .is)) (it .stands)))
+          where
+            go :
+                (x y : Bool) → n ≡ shapeNumber x y →
+                DossierAnswers (ensure 5 x >> (ensure 6 y >> accepted (record { type = type .what; headed = it .what }))) table s (record { number = n; kind = read .index; dossier = d })
+            go false y h = h
+            go true false h = h
+            go true true h = (h, type .stands, it .stands)
+
+-- ---- question 7
+
+first-match : (t : EventType) (ss : List Snapshot) → 1 ≤ length ss → dossierMatch t ss ≡ snapshotMatch t (getD ss 0 noSnapshot)
+unfolding dossierMatch
+first-match t [] h = absurd (omega arith)
+first-match t (s ∷ ss) h = refl
+
+module _ (ty tz : EventType) (h g : Headed) where
+  abbrev both : Bool
+  both = dossiersAgree (record { type = ty; headed = h }) (record { type = tz; headed = g })
+
+  pub agree-type : {r : Bool} → r ≡ equal texts (h .type) (g .type) → r ≡ false → false ≡ both
+  unfolding dossiersAgree agree
+  agree-type e f = sym (ap (λ (b : Bool). b && equal texts (h .source) (g .source) && equal (lists sets) (dossierMatch ty (h .dossier .snapshots)) (dossierMatch tz (g .dossier .snapshots))) (sym e ∙ f))
+
+  pub agree-source : {r : Bool} → r ≡ equal texts (h .source) (g .source) → r ≡ false → false ≡ both
+  unfolding dossiersAgree agree
+  agree-source e f =
+      sym (ap (λ (b : Bool). equal texts (h .type) (g .type) && b && equal (lists sets) (dossierMatch ty (h .dossier .snapshots)) (dossierMatch tz (g .dossier .snapshots))) (sym e ∙ f)
+      ∙ ap (λ (b : Bool). b && equal (lists sets) (dossierMatch ty (h .dossier .snapshots)) (dossierMatch tz (g .dossier .snapshots))) (and-false (equal texts (h .type) (g .type))))
+
+  module _ {a b : Bool} (d : a ≡ equal texts (h .type) (g .type)) (e : a ≡ true) (f : b ≡ equal texts (h .source) (g .source)) (k : b ≡ true) (one : 1 ≤ length (h .dossier .snapshots)) (two : 1 ≤ length (g .dossier .snapshots)) where
+    pub agree-match : (h .type ≡ g .type → ty ≡ tz) → {r : Bool} → r ≡ equal (lists sets) (snapshotMatch ty (getD (h .dossier .snapshots) 0 noSnapshot)) (snapshotMatch ty (getD (g .dossier .snapshots) 0 noSnapshot)) → r ≡ both
+    unfolding dossiersAgree agree
+    agree-match l n =
+        let q : ty ≡ tz = l (equal-true texts (h .type) (g .type) .0 (sym d ∙ e)) in
+        n
+        ∙ sym (ap₂ (λ (x y : Bool). x && y && equal (lists sets) (dossierMatch ty (h .dossier .snapshots)) (dossierMatch tz (g .dossier .snapshots))) (sym d ∙ e) (sym f ∙ k)
+        ∙ ap (λ (t : EventType). equal (lists sets) (dossierMatch ty (h .dossier .snapshots)) (dossierMatch t (g .dossier .snapshots))) (sym q)
+        ∙ ap₂ (equal (lists sets)) (first-match ty (h .dossier .snapshots) one) (first-match ty (g .dossier .snapshots) two))

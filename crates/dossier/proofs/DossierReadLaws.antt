@@ -1,0 +1,402 @@
+-- The laws of reading a dossier: its snapshots one after the other, their versions, and the whole.
+use mathlib.Core.Path.{_≡_, refl, sym, ap, ap₂, _∙_, subst}
+use mathlib.Core.Logic.{⊎-elim}
+use mathlib.Core.Bool.{Bool, true, false}
+use mathlib.Core.Option.{Option, none}
+use mathlib.Core.List.{List, [], _∷_, _++_, append-assoc, append-nil, map}
+use Prim.Native.Nat.{ℕ, zero, suc, _+_, _-_, _≤_, _<_}
+use native.Mathlib.Omega.{arith}
+use native.Mathlib.Numerals.{add-one, sub-one}
+use lib.ListN.{length, take, drop, getD, set, length-append, length-drop, length-set, List·getD-append}
+use lib.Seq.{drop-cons, drop-drop, drop-length, getD-at, getD-set-same, getD-set-other, getD-take, length-take-le, take-all, take-suc-set}
+use borrow.Author.Tests.{le-leb, lt-leb}
+use borrow.Author.Count.{below-more}
+use Rattle.model.specs.Order.{Text, numbers, rising, three}
+use Rattle.model.proofs.OrderLaws.{less-of, less-cmp}
+use Rattle.model.specs.Rule.{Snapshot}
+use Rattle.model.specs.Limits.{standard}
+use Rattle.packed.specs.Parse.{Parse, fail, got, Layout, andThen, _>>=_, found, foundIf, suchThat, times, whole}
+use Rattle.packed.specs.Packed.{readNumber, readText}
+use Rattle.packed.proofs.LayoutLaws.{lt-or-ge, times-was}
+use Rattle.packed.proofs.ReadLaws.{drop-next, NumberStops}
+use Rattle.values.specs.Spaces.{isWithin}
+use Rattle.event.specs.EventLayout.{isSource, readParents}
+use Rattle.event.specs.EventIndex.{HeadOf, readHead, HeadStops}
+use Rattle.event.proofs.SetLaws.{prepend}
+use Rattle.event.specs.declared.read.HeadAt.{HeadAt}
+use Rattle.dossier.specs.DossierLayout.{Headed, readSnapshot, readDossier, dossierOf, snapshotBytes}
+use Rattle.dossier.specs.DossierIndex.{SnapshotIs, SnapshotReads, SnapshotAt, noSnapshot, SnapshotsAre, SnapshotsReads, DossierReads}
+use Rattle.dossier.specs.declared.snapshots.SnapshotIndex.{SnapshotIndex}
+use Rattle.dossier.specs.declared.dossiers.SnapshotsRead.{SnapshotsRead}
+use Rattle.dossier.specs.declared.dossiers.DossierIndex.{DossierIndex}
+use Rattle.dossier.proofs.DossierLayoutLaws.{SnapshotWritten, snapshot-was}
+
+-- ---- versions that rise
+
+rise-not : (a b : ℕ) (l : List ℕ) → b ≤ a → rising numbers (a ∷ b ∷ l) ≡ false
+unfolding rising
+rise-not a b l h = three (numbers .cmp a b) (λ e. let k : a < b = less-of a b e in absurd (omega arith)) (λ e. rw e) (λ e. rw e)
+
+rise-on : (a b : ℕ) (l : List ℕ) → a < b → rising numbers (a ∷ b ∷ l) ≡ rising numbers (b ∷ l)
+unfolding rising
+rise-on a b l h = rw (less-cmp a b h)
+
+rise-few : (l : List ℕ) → length l ≤ 1 → rising numbers l ≡ true
+unfolding rising
+rise-few [] h = refl
+rise-few (a ∷ []) h = refl
+rise-few (a ∷ b ∷ l) h = absurd (omega arith)
+
+-- of the first `count` versions, those from the one before k on
+module _ (vs : List ℕ) (count : ℕ) (few : count ≤ length vs) where
+  long : length (take count vs) ≡ count
+  long = length-take-le count vs few
+
+  two : (j : ℕ) → suc j < count → drop j (take count vs) ≡ getD vs j 0 ∷ getD vs (suc j) 0 ∷ drop (suc (suc j)) (take count vs)
+  two j h =
+      drop-cons (take count vs) j 0 (omega (arith, long))
+      ∙ ap (λ (l : List ℕ). getD (take count vs) j 0 ∷ l) (drop-cons (take count vs) (suc j) 0 (omega (arith, long)))
+      ∙ ap₂ (λ (a b : ℕ). a ∷ b ∷ drop (suc (suc j)) (take count vs)) (getD-take count vs j 0 (omega arith)) (getD-take count vs (suc j) 0 h)
+
+  pub rise-bad : (k : ℕ) → 1 ≤ k → k < count → getD vs k 0 ≤ getD vs (k - 1) 0 → rising numbers (drop (k - 1) (take count vs)) ≡ false
+  rise-bad zero o h b = absurd (omega arith)
+  rise-bad (suc j) o h b =
+      let g : getD vs (suc j) 0 ≤ getD vs j 0 = rw sub-one at b in
+      rw (sub-one, two j h) (rise-not (getD vs j 0) (getD vs (suc j) 0) _ g)
+
+  pub rise-step : (k : ℕ) → 1 ≤ k → k < count → getD vs (k - 1) 0 < getD vs k 0 → rising numbers (drop (k - 1) (take count vs)) ≡ rising numbers (drop (k + 1 - 1) (take count vs))
+  rise-step zero o h b = absurd (omega arith)
+  rise-step (suc j) o h b =
+      let g : getD vs j 0 < getD vs (suc j) 0 = rw sub-one at b in
+      let e : suc j + 1 - 1 ≡ suc j = omega arith in
+      rw (sub-one, e)
+      (ap (rising numbers) (two j h)
+      ∙ rise-on (getD vs j 0) (getD vs (suc j) 0) _ g
+      ∙ ap (rising numbers) (sym (drop-cons (take count vs) (suc j) 0 (omega (arith, long)) ∙ ap (λ (a : ℕ). a ∷ drop (suc (suc j)) (take count vs)) (getD-take count vs (suc j) 0 h))))
+
+  pub rise-end : (k : ℕ) → count ≤ k → rising numbers (drop (k - 1) (take count vs)) ≡ true
+  rise-end k h = rise-few (drop (k - 1) (take count vs)) (simp (length-drop, long) (omega arith))
+
+-- ---- snapshots, one after the other
+
+times-step : (n : ℕ) (t : List ℕ) (x : Snapshot) (r : List ℕ) → readSnapshot t ≡ got x r → times readSnapshot (suc n) t ≡ andThen (times readSnapshot n r) (λ xs u. got (x ∷ xs) u)
+unfolding times
+times-step n t x r e = ap (λ (p : Parse Snapshot). andThen p (λ y o. andThen (times readSnapshot n o) (λ xs u. got (y ∷ xs) u))) e
+
+times-stop : (n : ℕ) (t : List ℕ) → readSnapshot t ≡ fail → times readSnapshot (suc n) t ≡ fail
+unfolding times
+times-stop n t e = ap (λ (p : Parse Snapshot). andThen p (λ y o. andThen (times readSnapshot n o) (λ xs u. got (y ∷ xs) u))) e
+
+prepend-none : (p : Parse (List Snapshot)) → p ≡ prepend [] p
+prepend-none fail = refl
+prepend-none (got ws t) = refl
+
+prepend-one : (vs : List Snapshot) (v : Snapshot) (p : Parse (List Snapshot)) → prepend vs (andThen p (λ ws t. got (v ∷ ws) t)) ≡ prepend (vs ++ (v ∷ [])) p
+prepend-one vs v fail = refl
+prepend-one vs v (got ws t) = ap (λ (l : List Snapshot). got l t) (sym (append-assoc vs (v ∷ []) ws))
+
+-- a part that goes to the end
+pub to-end : (s : List ℕ) (at : ℕ) → take (length s - at) (drop at s) ≡ drop at s
+to-end s at = let l = length-drop at s in take-all (length s - at) (drop at s) (omega arith)
+
+pub reads-at : (s : List ℕ) (at : ℕ) (i : SnapshotIndex) → SnapshotReads (readSnapshot (take (length s - at) (drop at s))) (take (length s - at) (drop at s)) i → SnapshotReads (readSnapshot (drop at s)) (drop at s) i
+reads-at s at i w = subst (λ (t : List ℕ). SnapshotReads (readSnapshot t) t i) (to-end s at) w
+
+reads-none : (p : Parse Snapshot) (s : List ℕ) (i : SnapshotIndex) → SnapshotReads p s i → i .ok ≡ false → p ≡ fail
+unfolding SnapshotReads
+reads-none fail s i w h = refl
+reads-none (got x t) s i w h = let z : _≡_ {A = ℕ} 0 1 = cc (w .0) in absurd (omega arith)
+
+pub record SnapshotRead (s : List ℕ) (i : SnapshotIndex) : Type 0 where
+  pub what : Snapshot
+  pub is : SnapshotIs s what i
+
+pub reads-some : (p : Parse Snapshot) (s : List ℕ) (i : SnapshotIndex) → SnapshotReads p s i → i .ok ≡ true → SnapshotRead s i
+unfolding SnapshotReads
+reads-some fail s i w h = let z : _≡_ {A = ℕ} 0 1 = cc in absurd (omega arith)
+reads-some (got x t) s i w h = record { what = x; is = w .1 }
+
+-- The first j of n snapshots are read: they are xs, and the others stand from `next` on
+pub record Passed (p : Parse (List Snapshot)) (s starts ends versions : List ℕ) (n next j : ℕ) : Type 0 where
+  pub xs : List Snapshot
+  pub long : length xs ≡ j
+  pub below : j ≤ n
+  pub rest : p ≡ prepend xs (times readSnapshot (n - j) (drop next s))
+  pub within : next ≤ length s
+  pub each : (i : ℕ) → i < j → SnapshotAt s (getD xs i noSnapshot) (getD starts i 0) (getD ends i 0)
+  pub follows : (i : ℕ) → suc i < j → getD starts (suc i) 0 ≡ getD ends i 0
+  pub last : (i : ℕ) → suc i ≡ j → getD ends i 0 ≡ next
+  pub numbers : take j versions ≡ map (λ (x : Snapshot). x .version) xs
+  pub starts-long : length starts ≡ 8
+  pub ends-long : length ends ≡ 8
+  pub versions-long : length versions ≡ 8
+
+pub passed-none : (s starts ends versions : List ℕ) (n at : ℕ) → at ≤ length s → length starts ≡ 8 → length ends ≡ 8 → length versions ≡ 8 → Passed (times readSnapshot n (drop at s)) s starts ends versions n at 0
+passed-none s starts ends versions n at h a b c =
+    let z : n - 0 ≡ n = omega arith in
+    record {
+      xs = [];
+      long = refl;
+      below = omega arith;
+      rest = prepend-none (times readSnapshot n (drop at s)) ∙ ap (λ (m : ℕ). prepend [] (times readSnapshot m (drop at s))) (sym z);
+      within = h;
+      each = λ i k. absurd (omega arith);
+      follows = λ i k. absurd (omega arith);
+      last = λ i k. absurd (omega arith);
+      numbers = refl;
+      starts-long = a;
+      ends-long = b;
+      versions-long = c;
+    }
+
+map-snoc : (xs : List Snapshot) (x : Snapshot) → map (λ (x : Snapshot). x .version) (xs ++ (x ∷ [])) ≡ map (λ (x : Snapshot). x .version) xs ++ (x .version ∷ [])
+map-snoc [] x = refl
+map-snoc (y ∷ ys) x = ap (λ (l : List ℕ). y .version ∷ l) (map-snoc ys x)
+
+module _ (p : Parse (List Snapshot)) (s starts ends versions : List ℕ) (n next j : ℕ) (w : Passed p s starts ends versions n next j) where
+  one-more : j < n → suc (n - (j + 1)) ≡ n - j
+  one-more h = omega arith
+
+  module _ (i : SnapshotIndex) (v : SnapshotReads (readSnapshot (drop next s)) (drop next s) i) (h : j < n) where
+    pub passed-bad : i .ok ≡ false → p ≡ fail
+    passed-bad b =
+        w .rest
+        ∙ ap (λ (m : ℕ). prepend (w .xs) (times readSnapshot m (drop next s))) (sym (one-more h))
+        ∙ ap (prepend (w .xs)) (times-stop (n - (j + 1)) (drop next s) (reads-none (readSnapshot (drop next s)) (drop next s) i v b))
+
+    module _ (ok : i .ok ≡ true) where
+      one : SnapshotRead (drop next s) i
+      one = reads-some (readSnapshot (drop next s)) (drop next s) i v ok
+
+      pub next-within : next + i .next ≤ length s
+      next-within = omega (arith, one .is .within, length-drop next s, w .within)
+
+      at-next : SnapshotAt s (one .what) next (next + i .next)
+      at-next =
+          let e : next + i .next - next ≡ i .next = omega arith in
+          record {
+            is = one .is .is ∙ ap (got (one .what)) (drop-drop (i .next) next s);
+            bytes = ap (λ (k : ℕ). take k (drop next s)) e ∙ one .is .bytes;
+            order = omega arith;
+            within = next-within;
+          }
+
+      module _ (few : n ≤ 8) where
+        old : (m : ℕ) → m < j → m ≡ j → ⊥
+        old m l e = omega arith
+
+        each-old : (m : ℕ) → m < j → SnapshotAt s (getD (w .xs ++ (one .what ∷ [])) m noSnapshot) (getD (set starts j next) m 0) (getD (set ends j (next + i .next)) m 0)
+        each-old m l =
+            rw (
+              getD-set-other starts j m next 0 (old m l),
+              getD-set-other ends j m (next + i .next) 0 (old m l),
+              List·getD-append (w .xs) (one .what ∷ []) noSnapshot m (omega (arith, w .long)),
+            )
+            (w .each m l)
+
+        each-last : SnapshotAt s (getD (w .xs ++ (one .what ∷ [])) j noSnapshot) (getD (set starts j next) j 0) (getD (set ends j (next + i .next)) j 0)
+        each-last =
+            let a : j < length starts = omega (arith, w .starts-long) in
+            let b : j < length ends = omega (arith, w .ends-long) in
+            rw (getD-set-same starts j next 0 a, getD-set-same ends j (next + i .next) 0 b, getD-at (w .xs) (one .what) [] noSnapshot j (w .long)) at-next
+
+        follows-on : (m : ℕ) → suc m < j + 1 → getD (set starts j next) (suc m) 0 ≡ getD (set ends j (next + i .next)) m 0
+        follows-on m l =
+            let ne : m ≡ j → ⊥ = λ e. omega arith in
+            let a : j < length starts = omega (arith, w .starts-long) in
+            ⊎-elim (λ (b : suc m < j). getD-set-other starts j (suc m) next 0 (old (suc m) b) ∙ w .follows m b ∙ sym (getD-set-other ends j m (next + i .next) 0 ne))
+            (λ (b : j ≤ suc m).
+            let e : suc m ≡ j = omega arith in
+            ap (λ (k : ℕ). getD (set starts j next) k 0) e ∙ getD-set-same starts j next 0 a ∙ sym (getD-set-other ends j m (next + i .next) 0 ne ∙ w .last m e))
+            (lt-or-ge (suc m) j)
+
+        last-on : (m : ℕ) → suc m ≡ j + 1 → getD (set ends j (next + i .next)) m 0 ≡ next + i .next
+        last-on m l =
+            let e : m ≡ j = omega arith in
+            let a : j < length ends = omega (arith, w .ends-long) in
+            ap (λ (k : ℕ). getD (set ends j (next + i .next)) k 0) e ∙ getD-set-same ends j (next + i .next) 0 a
+
+        numbers-on : take (j + 1) (set versions j (i .version .0)) ≡ map (λ (x : Snapshot). x .version) (w .xs ++ (one .what ∷ []))
+        numbers-on =
+            let a : j < length versions = omega (arith, w .versions-long) in
+            ap (λ (k : ℕ). take k (set versions j (i .version .0))) (add-one j)
+            ∙ take-suc-set versions j (i .version .0) a
+            ∙ ap₂ (λ (l : List ℕ) (v : ℕ). l ++ (v ∷ [])) (w .numbers) (one .is .version)
+            ∙ sym (map-snoc (w .xs) (one .what))
+
+        pub passed-more : Passed p s (set starts j next) (set ends j (next + i .next)) (set versions j (i .version .0)) n (next + i .next) (j + 1)
+        passed-more = record {
+          xs = w .xs ++ (one .what ∷ []);
+          long = length-append (w .xs) (one .what ∷ []) ∙ ap (λ (m : ℕ). m + 1) (w .long);
+          below = omega arith;
+          rest =
+              w .rest
+              ∙ ap (λ (m : ℕ). prepend (w .xs) (times readSnapshot m (drop next s))) (sym (one-more h))
+              ∙ ap (prepend (w .xs)) (times-step (n - (j + 1)) (drop next s) (one .what) (drop (next + i .next) s) (at-next .is))
+              ∙ prepend-one (w .xs) (one .what) (times readSnapshot (n - (j + 1)) (drop (next + i .next) s));
+          within = next-within;
+          each =
+              below-more (λ (m : ℕ). SnapshotAt s (getD (w .xs ++ (one .what ∷ [])) m noSnapshot) (getD (set starts j next) m 0) (getD (set ends j (next + i .next)) m 0))
+              j each-old each-last;
+          follows = follows-on;
+          last = last-on;
+          numbers = numbers-on;
+          starts-long = length-set starts j next ∙ w .starts-long;
+          ends-long = length-set ends j (next + i .next) ∙ w .ends-long;
+          versions-long = length-set versions j (i .version .0) ∙ w .versions-long;
+        }
+
+  module _ (full : n ≤ j) where
+    all : p ≡ got (w .xs) (drop next s)
+    unfolding times
+    all =
+        let z : n - j ≡ 0 = omega arith in
+        w .rest ∙ ap (λ (m : ℕ). prepend (w .xs) (times readSnapshot m (drop next s))) z ∙ ap (λ (l : List Snapshot). got l (drop next s)) (append-nil (w .xs))
+
+    pub passed-all : SnapshotsReads p s (record { ok = true; next = next; starts = starts; ends = ends; versions = versions })
+    unfolding SnapshotsReads
+    passed-all =
+        rw all (record {
+          right = refl;
+          rest = refl;
+          within = w .within;
+          are = record {
+            each = λ i l. w .each i (omega (arith, w .long));
+            follows = λ i l. w .follows i (omega (arith, w .long));
+            numbers = ap (λ (k : ℕ). take k versions) (w .long) ∙ w .numbers;
+          };
+        })
+
+pub snapshots-none : (p : Parse (List Snapshot)) (s : List ℕ) (r : SnapshotsRead) → p ≡ fail → r .ok ≡ false → SnapshotsReads p s r
+unfolding SnapshotsReads
+snapshots-none p s r e h = rw e h
+
+-- ---- the whole
+
+snapshots-refused : (p : Parse (List Snapshot)) (s : List ℕ) (r : SnapshotsRead) → SnapshotsReads p s r → r .ok ≡ false → p ≡ fail
+unfolding SnapshotsReads
+snapshots-refused fail s r w h = refl
+snapshots-refused (got xs t) s r w h = let z : _≡_ {A = ℕ} 0 1 = cc (w .right) in absurd (omega arith)
+
+record Found (p : Parse (List Snapshot)) (s : List ℕ) (r : SnapshotsRead) : Type 0 where
+  what : List Snapshot
+  is : p ≡ got what (drop (r .next) s)
+  within : r .next ≤ length s
+  are : SnapshotsAre s what (r .starts) (r .ends) (r .versions)
+
+snapshots-found : (p : Parse (List Snapshot)) (s : List ℕ) (r : SnapshotsRead) → SnapshotsReads p s r → r .ok ≡ true → Found p s r
+unfolding SnapshotsReads
+snapshots-found fail s r w h = let z : _≡_ {A = ℕ} 0 1 = cc in absurd (omega arith)
+snapshots-found (got xs t) s r w h = record { what = xs; is = ap (got xs) (w .rest); within = w .within; are = w .are }
+
+-- what follows the head
+abbrev headed : HeadOf → List Snapshot → Headed
+headed h ss = record { type = h .type; source = h .source; dossier = record { parents = h .parents; snapshots = ss } }
+
+abbrev risen : HeadOf → List Snapshot → Layout Headed
+risen h ss = foundIf (rising numbers (map (λ (s : Snapshot). s .version) ss)) (headed h ss)
+
+abbrev counted : HeadOf → ℕ → Layout Headed
+counted h count = times readSnapshot count >>= risen h
+
+abbrev readBody : HeadOf → Layout Headed
+readBody h = suchThat (isWithin 1 8) readNumber >>= counted h
+
+abbrev headOf : Text → Text → List Text → HeadOf
+headOf type source parents = record { type = type; source = source; parents = parents }
+
+head-first : (s : List ℕ) → readDossier standard s ≡ andThen (readHead 32 s) readBody
+unfolding readDossier readHead standard
+head-first s = go (readText s)
+  where
+    third : (type source : Text) (p : Parse (List Text)) → andThen p (λ parents. readBody (headOf type source parents)) ≡ andThen (andThen p (λ parents. found (headOf type source parents))) readBody
+    third type source fail = refl
+    third type source (got hs t) = refl
+
+    second : (type : Text) (p : Parse Text) → andThen p (λ source t. andThen (readParents 32 t) (λ parents. readBody (headOf type source parents))) ≡ andThen (andThen p (λ source t. andThen (readParents 32 t) (λ parents. found (headOf type source parents)))) readBody
+    second type fail = refl
+    second type (got source t) = third type source (readParents 32 t)
+
+    go : (p : Parse Text) → andThen p (λ type t. andThen (suchThat isSource readText t) (λ source u. andThen (readParents 32 u) (λ parents. readBody (headOf type source parents)))) ≡ andThen (andThen p (λ type t. andThen (suchThat isSource readText t) (λ source u. andThen (readParents 32 u) (λ parents. found (headOf type source parents))))) readBody
+    go fail = refl
+    go (got type t) = second type (suchThat isSource readText t)
+
+pub dossier-none : (o : Option Headed) (s : List ℕ) (i : DossierIndex) → o ≡ none → i .ok ≡ false → DossierReads o s i
+unfolding DossierReads
+dossier-none o s i e h = rw e h
+
+no-dossier : (s : List ℕ) → readDossier standard s ≡ fail → dossierOf standard s ≡ none
+unfolding dossierOf
+no-dossier s e = rw e
+
+pub no-head : (s : List ℕ) → readHead 32 s ≡ fail → dossierOf standard s ≡ none
+no-head s e = no-dossier s (head-first s ∙ rw e)
+
+within-not : (n : ℕ) → n ≡ 0 → isWithin 1 8 n ≡ false
+within-not n h = rw h
+
+within-large : (n : ℕ) → 8 < n → isWithin 1 8 n ≡ false
+within-large n h = rw (le-leb 1 n (omega arith), lt-leb n 8 h)
+
+within-so : (n : ℕ) → (n ≡ 0 → ⊥) → n ≤ 8 → isWithin 1 8 n ≡ true
+within-so n h k = rw (le-leb 1 n (omega (arith, h)), le-leb n 8 k)
+
+module _ (s : List ℕ) (x : HeadAt) (w : HeadStops (readHead 32 s) s x) where
+  head-step : readDossier standard s ≡ readBody (w .what) (drop (x .parents .end) s)
+  head-step = head-first s ∙ rw (w .is)
+
+  pub no-count : readNumber (drop (x .parents .end) s) ≡ fail → dossierOf standard s ≡ none
+  no-count e = no-dossier s (head-step ∙ rw e)
+
+  module _ (n at : ℕ) (c : NumberStops s (x .parents .end) n at) where
+    count-step : readDossier standard s ≡ andThen (foundIf (isWithin 1 8 n) n (drop at s)) (counted (w .what))
+    count-step = head-step ∙ ap (λ (p : Parse ℕ). andThen (andThen p (λ m. foundIf (isWithin 1 8 m) m)) (counted (w .what))) (c .is)
+
+    pub count-zero : n ≡ 0 → dossierOf standard s ≡ none
+    count-zero h = no-dossier s (count-step ∙ rw (within-not n h))
+
+    pub count-large : 8 < n → dossierOf standard s ≡ none
+    count-large h = no-dossier s (count-step ∙ rw (within-large n h))
+
+    module _ (one : n ≡ 0 → ⊥) (few : n ≤ 8) (r : SnapshotsRead) (v : SnapshotsReads (times readSnapshot n (drop at s)) s r) where
+      times-all : readDossier standard s ≡ andThen (times readSnapshot n (drop at s)) (risen (w .what))
+      times-all = count-step ∙ rw (within-so n one few)
+
+      pub no-snapshots : r .ok ≡ false → dossierOf standard s ≡ none
+      no-snapshots h = no-dossier s (times-all ∙ rw (snapshots-refused (times readSnapshot n (drop at s)) s r v h))
+
+      module _ (ok : r .ok ≡ true) where
+        these : Found (times readSnapshot n (drop at s)) s r
+        these = snapshots-found (times readSnapshot n (drop at s)) s r v ok
+
+        last-step : readDossier standard s ≡ risen (w .what) (these .what) (drop (r .next) s)
+        last-step = times-all ∙ rw (these .is)
+
+        pub not-whole : (r .next ≡ length s → ⊥) → dossierOf standard s ≡ none
+        unfolding dossierOf
+        not-whole ne =
+            let l : r .next < length s = omega (arith, these .within, ne) in
+            ap whole last-step ∙ go (rising numbers (map (λ (s : Snapshot). s .version) (these .what))) (drop-next s (r .next) l)
+          where
+            go : (b : Bool) {y : ℕ} {t u : List ℕ} → t ≡ y ∷ u → whole (foundIf b (headed (w .what) (these .what)) t) ≡ none
+            go true e = rw e
+            go false e = refl
+
+        -- as many as were asked for
+        many : length (these .what) ≡ n
+        many = times-was readSnapshot snapshotBytes SnapshotWritten snapshot-was n (drop at s) (these .what) (drop (r .next) s) (these .is) .1
+
+        rises : (b : Bool) → b ≡ rising numbers (take n (r .versions)) → rising numbers (map (λ (s : Snapshot). s .version) (these .what)) ≡ b
+        rises b e = ap (rising numbers) (sym (these .are .numbers) ∙ ap (λ (k : ℕ). take k (r .versions)) many) ∙ sym e
+
+        pub not-rising : false ≡ rising numbers (take n (r .versions)) → dossierOf standard s ≡ none
+        not-rising e = no-dossier s (last-step ∙ rw (rises false e))
+
+        pub dossier-found : true ≡ rising numbers (take n (r .versions)) → r .next ≡ length s → DossierReads (dossierOf standard s) s (record { ok = true; head = x; count = n; starts = r .starts; ends = r .ends; versions = r .versions })
+        unfolding DossierReads dossierOf
+        dossier-found e z =
+            let g : readDossier standard s ≡ got (headed (w .what) (these .what)) [] =
+            last-step
+            ∙ ap (λ (b : Bool). foundIf b (headed (w .what) (these .what)) (drop (r .next) s)) (rises true e)
+            ∙ ap (got (headed (w .what) (these .what))) (ap (λ (k : ℕ). drop k s) z ∙ drop-length s) in
+            rw g (refl, record { head = w .stands; count = sym many; one = omega (arith, one); few = few; snapshots = these .are })

@@ -1,0 +1,206 @@
+-- The laws of reading a snapshot.
+use mathlib.Core.Path.{_≡_, refl, sym, ap, _∙_, subst}
+use mathlib.Core.Bool.{Bool, true, false, not, _&&_}
+use mathlib.Core.List.{List, [], map}
+use Prim.Native.Nat.{ℕ, zero, suc, _+_, _-_, _/_, _%_, _^_, _≤_, _<_}
+use native.Mathlib.Nat.{sub-zero}
+use native.Mathlib.Omega.{arith}
+use native.Mathlib.Numerals.{add-one, sub-one}
+use lib.Dec.{eqb}
+use lib.ListN.{length, take, drop, getD, drop-of-length-le}
+use lib.Seq.{drop-cons}
+use borrow.Author.Tests.{lt-ltb, le-ltb, le-leb, lt-leb, eq-eqb, ne-eqb, eqb-true}
+use Rattle.model.specs.Order.{Text}
+use Rattle.model.specs.Rule.{Snapshot}
+use Rattle.packed.specs.Parse.{Parse, fail, got, Layout, andThen, _>>=_, foundIf, suchThat}
+use Rattle.packed.specs.Packed.{readNumber}
+use Rattle.packed.proofs.ReadLaws.{NumberStops}
+use Rattle.event.specs.Event.{objectCount}
+use Rattle.event.specs.EventLayout.{readBits, readSets, presenceBit, bitNumber, setsBytes}
+use Rattle.event.specs.EventIndex.{SetsAre, SetsStop, SetsReads, noSet}
+use Rattle.event.proofs.EventLayoutLaws.{SetsWas, sets-was}
+use Rattle.event.proofs.SetLaws.{stretch}
+use Rattle.event.specs.declared.sets.SetAt.{SetAt}
+use Rattle.event.specs.declared.sets.SetsRead.{SetsRead}
+use Rattle.dossier.specs.DossierLayout.{apart, cellsOf, areSmall, readSnapshot, snapshotBytes}
+use Rattle.dossier.specs.DossierIndex.{afterNumbers, NumbersStop, NumbersRead, SnapshotIs, SnapshotReads}
+use Rattle.dossier.specs.declared.snapshots.NumbersAt.{NumbersAt}
+use Rattle.dossier.specs.declared.snapshots.NumbersAt.the-variants.{Numbers, NoNumbers}
+use Rattle.dossier.specs.declared.snapshots.SnapshotIndex.{SnapshotIndex}
+use Rattle.dossier.proofs.DossierLayoutLaws.{CellsWas, cells-was, snapshot-was}
+use Rattle.dossier.proofs.DossierSizeLaws.{held-objects}
+
+-- ---- no bit in common
+
+pub apart-bad : (left m n : ℕ) → 0 < left → m % 2 + n % 2 ≡ 2 → apart left m n ≡ false
+unfolding apart
+apart-bad zero m n h e = absurd (omega arith)
+apart-bad (suc k) m n h e = rw (eq-eqb (m % 2) 1 (omega arith), eq-eqb (n % 2) 1 (omega arith))
+
+pub apart-step : (left m n : ℕ) → 0 < left → (m % 2 + n % 2 ≡ 2 → ⊥) → apart left m n ≡ apart (left - 1) (m / 2) (n / 2)
+unfolding apart
+apart-step zero m n h e = absurd (omega arith)
+apart-step (suc k) m n h e = rw sub-one (ap (λ (b : Bool). not b && apart k (m / 2) (n / 2)) (go (eqb (m % 2) 1) refl))
+  where
+    go : (b : Bool) → eqb (m % 2) 1 ≡ b → (b && eqb (n % 2) 1) ≡ false
+    go true q = ne-eqb (n % 2) 1 (λ f. e (omega (arith, eqb-true (m % 2) 1 q)))
+    go false q = refl
+
+pub apart-end : (left m n : ℕ) → left ≤ 0 → apart left m n ≡ true
+unfolding apart
+apart-end zero m n h = refl
+apart-end (suc k) m n h = absurd (omega arith)
+
+-- ---- small sets
+
+module _ (s : List ℕ) (xs : List (List Text)) (ats : List SetAt) (w : SetsAre s xs ats) (k : ℕ) where
+  pub small-bad : k < 32 → 256 < getD ats k noSet .count → areSmall (drop k xs) ≡ false
+  unfolding areSmall
+  small-bad h b =
+      let l : k < length xs = omega (arith, w .long) in
+      rw (drop-cons xs k [] l, lt-leb (length (getD xs k [])) 256 (omega (arith, w .each k h .count)))
+
+  pub small-step : k < 32 → getD ats k noSet .count ≤ 256 → areSmall (drop k xs) ≡ areSmall (drop (k + 1) xs)
+  unfolding areSmall
+  small-step h b =
+      let l : k < length xs = omega (arith, w .long) in
+      rw (drop-cons xs k [] l, le-leb (length (getD xs k [])) 256 (omega (arith, w .each k h .count)), add-one)
+
+  pub small-end : 32 ≤ k → areSmall (drop k xs) ≡ true
+  unfolding areSmall
+  small-end h = let l : length xs ≤ k = omega (arith, w .long) in rw (drop-of-length-le xs l)
+
+-- ---- the numbers
+
+bits-none : (t : List ℕ) → readNumber t ≡ fail → readBits t ≡ fail
+unfolding readBits
+bits-none t e = rw e
+
+bits-large : (t : List ℕ) (n : ℕ) (r : List ℕ) → readNumber t ≡ got n r → 4294967296 ≤ n → readBits t ≡ fail
+unfolding readBits
+bits-large t n r e h = rw (e, le-ltb n (2 ^ 32) h)
+
+bits-got : (t : List ℕ) (n : ℕ) (r : List ℕ) → readNumber t ≡ got n r → n < 4294967296 → readBits t ≡ got n r
+unfolding readBits
+bits-got t n r e h = rw (e, lt-ltb n (2 ^ 32) h)
+
+pub no-version : (s : List ℕ) → readNumber s ≡ fail → readSnapshot s ≡ fail
+unfolding readSnapshot
+no-version s e = rw e
+
+-- what follows the version, and the presence number
+abbrev afterPresence : ℕ → ℕ → Layout Snapshot
+afterPresence version presence = suchThat (apart 32 presence) readBits >>= λ differ. afterNumbers version presence differ
+
+abbrev afterVersion : ℕ → Layout Snapshot
+afterVersion version = readBits >>= λ presence. afterPresence version presence
+
+module _ (s : List ℕ) (version a : ℕ) (x : NumberStops s 0 version a) where
+  first-step : readSnapshot s ≡ afterVersion version (drop a s)
+  unfolding readSnapshot
+  first-step = ap (λ (p : Parse ℕ). andThen p afterVersion) (x .is)
+
+  pub no-presence : readNumber (drop a s) ≡ fail → readSnapshot s ≡ fail
+  no-presence e = first-step ∙ rw (bits-none (drop a s) e)
+
+  module _ (presence b : ℕ) (y : NumberStops s a presence b) where
+    pub presence-large : 4294967296 ≤ presence → readSnapshot s ≡ fail
+    presence-large h = first-step ∙ rw (bits-large (drop a s) presence (drop b s) (y .is) h)
+
+    second-step : presence < 4294967296 → readSnapshot s ≡ afterPresence version presence (drop b s)
+    second-step h = first-step ∙ ap (λ (p : Parse ℕ). andThen p (afterPresence version)) (bits-got (drop a s) presence (drop b s) (y .is) h)
+
+    pub no-differ : presence < 4294967296 → readNumber (drop b s) ≡ fail → readSnapshot s ≡ fail
+    no-differ h e = second-step h ∙ rw (bits-none (drop b s) e)
+
+    module _ (h : presence < 4294967296) (differ c : ℕ) (z : NumberStops s b differ c) where
+      pub differ-large : 4294967296 ≤ differ → readSnapshot s ≡ fail
+      differ-large k = second-step h ∙ rw (bits-large (drop b s) differ (drop c s) (z .is) k)
+
+      third-step : differ < 4294967296 → readSnapshot s ≡ andThen (foundIf (apart 32 presence differ) differ (drop c s)) (afterNumbers version presence)
+      third-step k = second-step h ∙ ap (λ (p : Parse ℕ). andThen (andThen p (λ d. foundIf (apart 32 presence d) d)) (afterNumbers version presence)) (bits-got (drop b s) differ (drop c s) (z .is) k)
+
+      pub not-apart : differ < 4294967296 → apart 32 presence differ ≡ false → readSnapshot s ≡ fail
+      not-apart k e = third-step k ∙ rw e
+
+      pub numbers-stop : differ < 4294967296 → apart 32 presence differ ≡ true → NumbersStop s version presence differ c
+      numbers-stop k e = record { is = third-step k ∙ rw e; within = z .within; presence-low = h; differ-low = k; clear = e }
+
+-- ---- the snapshot
+
+-- what is known of a call's answer in the arm of a `match`
+pub numbers-read : {s : List ℕ} {r : NumbersAt} {version presence differ first : ℕ} → r ≡ Numbers version presence differ first → NumbersRead s r → NumbersStop s version presence differ first
+numbers-read {s} h w = subst (NumbersRead s) h w
+
+pub numbers-refused : (s : List ℕ) {r : NumbersAt} → r ≡ NoNumbers → NumbersRead s r → readSnapshot s ≡ fail
+numbers-refused s h w = subst (NumbersRead s) h w
+
+pub snapshot-none : (p : Parse Snapshot) (s : List ℕ) (i : SnapshotIndex) → p ≡ fail → i .ok ≡ false → SnapshotReads p s i
+unfolding SnapshotReads
+snapshot-none p s i e h = rw e h
+
+-- what the reader of sets found
+sets-refused : (p : Parse (List (List Text))) (s : List ℕ) (r : SetsRead) → SetsReads p s r → r .ok ≡ false → p ≡ fail
+unfolding SetsReads
+sets-refused fail s r w h = refl
+sets-refused (got xs t) s r w h = let z : _≡_ {A = ℕ} 0 1 = cc (w .right) in absurd (omega arith)
+
+record SetsFound (p : Parse (List (List Text))) (s : List ℕ) (r : SetsRead) : Type 0 where
+  what : List (List Text)
+  is : p ≡ got what (drop (r .next) s)
+  stop : SetsStop what (drop (r .next) s) s r
+
+sets-found : (p : Parse (List (List Text))) (s : List ℕ) (r : SetsRead) → SetsReads p s r → r .ok ≡ true → SetsFound p s r
+unfolding SetsReads
+sets-found fail s r w h = let z : _≡_ {A = ℕ} 0 1 = cc in absurd (omega arith)
+sets-found (got xs t) s r w h = record { what = xs; is = ap (got xs) (w .rest); stop = subst (λ (u : List ℕ). SetsStop xs u s r) (w .rest) w }
+
+-- the snapshot of some sets
+module _ (s : List ℕ) (version presence differ first : ℕ) (n : NumbersStop s version presence differ first) where
+  module _ (r : SetsRead) (w : SetsReads (readSets 32 presence (drop first s)) s r) where
+    pub no-sets : r .ok ≡ false → readSnapshot s ≡ fail
+    no-sets h = n .is ∙ rw (sets-refused (readSets 32 presence (drop first s)) s r w h)
+
+    module _ (h : r .ok ≡ true) where
+      found : SetsFound (readSets 32 presence (drop first s)) s r
+      found = sets-found (readSets 32 presence (drop first s)) s r w h
+
+      pub sets-large : ((t : List ℕ) (xs : List (List Text)) → SetsAre t xs (r .sets) → false ≡ areSmall xs) → readSnapshot s ≡ fail
+      sets-large b = let e = sym (b s (found .what) (found .stop .stands)) in n .is ∙ rw (found .is, e)
+
+      module _ (b : (t : List ℕ) (xs : List (List Text)) → SetsAre t xs (r .sets) → true ≡ areSmall xs) where
+        small : areSmall (found .what) ≡ true
+        small = sym (b s (found .what) (found .stop .stands))
+
+        was : SetsWas 32 presence (drop first s) (found .what) (drop (r .next) s)
+        was = sets-was 32 presence (drop first s) (found .what) (drop (r .next) s) (n .presence-low) (found .is)
+
+        cells-are : (xs : List (List Text)) → length xs ≡ 32 → bitNumber (map presenceBit xs) ≡ presence → CellsWas differ xs
+        cells-are xs l p = cells-was differ xs (rw l (n .differ-low)) (rw (l, p) (n .clear))
+
+        cells : CellsWas differ (found .what)
+        cells = cells-are (found .what) (was .long) (was .present)
+
+        abbrev it : Snapshot
+        it = record { version = version; cells = cellsOf differ (found .what) }
+
+        reads : readSnapshot s ≡ got it (drop (r .next) s)
+        reads = n .is ∙ rw (found .is, small)
+
+        snapshot-found : SnapshotIs s it (record { ok = true; next = r .next; version = record { 0 = version }; presence = presence; differ = differ; first = first; objects = r .objects; sets = r .sets })
+        snapshot-found = record {
+          is = reads;
+          bytes = ap (λ (k : ℕ). take k s) (sym (sub-zero (r .next))) ∙ stretch s (snapshotBytes it) 0 (r .next) (omega arith) (found .stop .within) (snapshot-was s it (drop (r .next) s) reads .0) .0;
+          within = found .stop .within;
+          version = refl;
+          presence = sym (was .present) ∙ ap (λ (l : List (List Text)). bitNumber (map presenceBit l)) (sym (cells .sets));
+          differ = sym (cells .bits);
+          body = stretch s (setsBytes (found .what)) first (r .next) (n .within) (found .stop .within) (was .bytes) .0 ∙ ap setsBytes (sym (cells .sets));
+          order = stretch s (setsBytes (found .what)) first (r .next) (n .within) (found .stop .within) (was .bytes) .1;
+          objects = found .stop .objects ∙ ap objectCount (sym (cells .sets)) ∙ held-objects (cellsOf differ (found .what));
+          sets = subst (λ (l : List (List Text)). SetsAre s l (r .sets)) (sym (cells .sets)) (found .stop .stands);
+        }
+
+        pub snapshot-some : SnapshotReads (readSnapshot s) s (record { ok = true; next = r .next; version = record { 0 = version }; presence = presence; differ = differ; first = first; objects = r .objects; sets = r .sets })
+        unfolding SnapshotReads
+        snapshot-some = rw reads (refl, snapshot-found)

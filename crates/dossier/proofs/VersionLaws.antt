@@ -1,0 +1,102 @@
+-- The laws of a snapshot's version property, and of all that question 5 asks of one snapshot.
+use mathlib.Core.Path.{_≡_, refl, sym, ap, ap₂, _∙_, subst}
+use mathlib.Core.Bool.{Bool, true, false, cond, _&&_}
+use mathlib.Core.List.{List, [], _∷_, map}
+use Prim.Native.Nat.{ℕ, _-_, _≤_, _<_}
+use native.Mathlib.Omega.{arith}
+use lib.Dec.{ltb, leb, eqb}
+use lib.ListN.{length, getD, length-map, List·getD-eq-default}
+use borrow.Author.Tests.{lt-ltb, le-leb, lt-leb, eq-eqb, ne-eqb}
+use Rattle.model.specs.Order.{Text, texts, sets, lists, lex, equal, three}
+use Rattle.model.proofs.OrderLaws.{equal-false}
+use Rattle.model.specs.Rule.{Cell, holds, differs, Snapshot, sizes}
+use Rattle.model.specs.Opening.{held, cellAt}
+use Rattle.values.specs.Decimal.{inDecimal}
+use Rattle.ontology.specs.Table.{EventType, isVersioned}
+use Rattle.event.specs.EventQuestions.{matchCount}
+use Rattle.event.specs.EventIndex.{SetIs, noSet}
+use Rattle.dossier.specs.DossierQuestions.{eachCell, isVacant, holdsVersion}
+use Rattle.dossier.specs.DossierIndex.{SnapshotIs, CellsAre, cellFits, versionFits, snapshotFits}
+use Rattle.dossier.specs.declared.snapshots.SnapshotIndex.{SnapshotIndex}
+use Rattle.dossier.proofs.CellLaws.{and-false, held-at}
+
+-- ---- a set of one value
+
+pub version-many : (vs : List Text) (n : ℕ) (d : Text) → n ≡ length vs → (n ≡ 1 → ⊥) → false ≡ equal sets vs (d ∷ [])
+version-many vs n d e ne = sym (equal-false sets vs (d ∷ []) .1 (λ q. ne (e ∙ ap length q)))
+
+pub version-one : (vs : List Text) (n : ℕ) (d : Text) → n ≡ length vs → n ≡ 1 → equal texts (getD vs 0 []) d ≡ equal sets vs (d ∷ [])
+unfolding sets equal lists lex
+version-one [] n d e o = absurd (omega arith)
+version-one (v ∷ []) n d e o = three (texts .cmp v d) (λ e. rw e) (λ e. rw e) (λ e. rw e)
+version-one (v ∷ w ∷ vs) n d e o = absurd (omega arith)
+
+-- ---- the version property
+
+holds-held : (v : ℕ) (c : Cell) → holdsVersion v c ≡ equal sets (held c) (inDecimal v ∷ [])
+unfolding holdsVersion held
+holds-held v (holds s) = refl
+holds-held v differs = sym (equal-false sets [] (inDecimal v ∷ []) .1 (λ e. absurd (omega (arith, ap length e))))
+
+module _ (s : List ℕ) (y : Snapshot) (x : SnapshotIndex) (w : SnapshotIs s y x) (mark : ℕ) where
+  long : length (y .cells) ≡ 32
+  long = sym (length-map (y .cells) held) ∙ w .sets .long
+
+  pub holds-far : 32 < mark → false ≡ holdsVersion (y .version) (cellAt y (mark - 1))
+  unfolding cellAt held
+  holds-far h =
+      let l : length (y .cells) ≤ mark - 1 = omega (arith, long) in
+      sym (holds-held (y .version) (cellAt y (mark - 1))
+      ∙ ap (λ (c : Cell). equal sets (held c) (inDecimal (y .version) ∷ [])) (List·getD-eq-default (y .cells) (holds []) l)
+      ∙ equal-false sets [] (inDecimal (y .version) ∷ []) .1 (λ e. absurd (omega (arith, ap length e))))
+
+  pub holds-set : 1 ≤ mark → mark ≤ 32 → SetIs s (held (cellAt y (mark - 1))) (getD (x .sets) (mark - 1) noSet)
+  unfolding cellAt
+  holds-set o h = subst (λ (vs : List Text). SetIs s vs (getD (x .sets) (mark - 1) noSet)) (held-at (y .cells) (mark - 1)) (w .sets .each (mark - 1) (omega arith))
+
+  pub holds-here : {r : Bool} → r ≡ equal sets (held (cellAt y (mark - 1))) (inDecimal (x .version .0) ∷ []) → r ≡ holdsVersion (y .version) (cellAt y (mark - 1))
+  holds-here e = e ∙ ap (λ (v : ℕ). equal sets (held (cellAt y (mark - 1))) (inDecimal v ∷ [])) (w .version) ∙ sym (holds-held (y .version) (cellAt y (mark - 1)))
+
+  -- by the type's mark
+  module _ (ty : EventType) (m : mark ≡ ty .mark) where
+    plain : mark ≡ 0 → versionFits ty y ≡ (eqb (y .version) 0 && leb (sizes (y .cells)) 256)
+    unfolding versionFits
+    plain h = ap (λ (n : ℕ). cond (ltb 0 n) (leb (sizes (y .cells)) 32 && holdsVersion (y .version) (cellAt y (ty .mark - 1))) (eqb (y .version) 0 && leb (sizes (y .cells)) 256)) (sym m ∙ h)
+
+    dated : (mark ≡ 0 → ⊥) → versionFits ty y ≡ (leb (sizes (y .cells)) 32 && holdsVersion (y .version) (cellAt y (mark - 1)))
+    unfolding versionFits
+    dated h =
+        ap (λ (n : ℕ). cond (ltb 0 n) (leb (sizes (y .cells)) 32 && holdsVersion (y .version) (cellAt y (n - 1))) (eqb (y .version) 0 && leb (sizes (y .cells)) 256)) (sym m)
+        ∙ ap (λ (b : Bool). cond b (leb (sizes (y .cells)) 32 && holdsVersion (y .version) (cellAt y (mark - 1))) (eqb (y .version) 0 && leb (sizes (y .cells)) 256)) (lt-ltb 0 mark (omega (arith, h)))
+
+    pub plain-not : mark ≡ 0 → (x .version .0 ≡ 0 → ⊥) → false ≡ versionFits ty y
+    plain-not h ne = sym (plain h ∙ ap (λ (b : Bool). b && leb (sizes (y .cells)) 256) (ne-eqb (y .version) 0 (λ e. ne (w .version ∙ e))))
+
+    pub plain-so : mark ≡ 0 → x .version .0 ≡ 0 → leb (x .objects) 256 ≡ versionFits ty y
+    plain-so h e = sym (plain h ∙ ap₂ (λ (b : Bool) (n : ℕ). b && leb n 256) (eq-eqb (y .version) 0 (sym (w .version) ∙ e)) (sym (w .objects)))
+
+    pub dated-large : (mark ≡ 0 → ⊥) → 32 < x .objects → false ≡ versionFits ty y
+    dated-large h k = sym (dated h ∙ ap (λ (b : Bool). b && holdsVersion (y .version) (cellAt y (mark - 1))) (lt-leb (sizes (y .cells)) 32 (omega (arith, w .objects))))
+
+    pub dated-so : (mark ≡ 0 → ⊥) → x .objects ≤ 32 → {r : Bool} → r ≡ holdsVersion (y .version) (cellAt y (mark - 1)) → r ≡ versionFits ty y
+    dated-so h k e = e ∙ sym (dated h ∙ ap (λ (b : Bool). b && holdsVersion (y .version) (cellAt y (mark - 1))) (le-leb (sizes (y .cells)) 32 (omega (arith, w .objects))))
+
+-- ---- one snapshot
+
+pub cells-are : (s : List ℕ) (y : Snapshot) (x : SnapshotIndex) → SnapshotIs s y x → CellsAre s (y .cells) (x .differ) (x .sets)
+cells-are s y x w = record { bits = w .differ; sets = w .sets }
+
+module _ (ty : EventType) (y : Snapshot) where
+  pub fits-cells : {a : Bool} → a ≡ eachCell (cellFits (isVersioned ty)) isVacant (ty .properties) (y .cells) → a ≡ false → false ≡ snapshotFits ty y
+  unfolding snapshotFits
+  fits-cells e f = sym (ap (λ (b : Bool). b && leb (matchCount (ty .properties) (map held (y .cells))) 32 && versionFits ty y) (sym e ∙ f))
+
+  pub fits-match : {a : Bool} → a ≡ leb (matchCount (ty .properties) (map held (y .cells))) 32 → a ≡ false → false ≡ snapshotFits ty y
+  unfolding snapshotFits
+  fits-match e f =
+      sym (ap (λ (b : Bool). eachCell (cellFits (isVersioned ty)) isVacant (ty .properties) (y .cells) && b && versionFits ty y) (sym e ∙ f)
+      ∙ ap (λ (b : Bool). b && versionFits ty y) (and-false (eachCell (cellFits (isVersioned ty)) isVacant (ty .properties) (y .cells))))
+
+  pub fits-all : {a b r : Bool} → a ≡ eachCell (cellFits (isVersioned ty)) isVacant (ty .properties) (y .cells) → a ≡ true → b ≡ leb (matchCount (ty .properties) (map held (y .cells))) 32 → b ≡ true → r ≡ versionFits ty y → r ≡ snapshotFits ty y
+  unfolding snapshotFits
+  fits-all e f g h k = k ∙ sym (ap₂ (λ (a b : Bool). a && b && versionFits ty y) (sym e ∙ f) (sym g ∙ h))

@@ -1,0 +1,41 @@
+use borrow.Author.Needs.{needs}
+use mathlib.Core.Path.{ap, _∙_}
+use Rattle.model.specs.Order.{Text, texts, equal}
+use Rattle.values.specs.Decimal.{inDecimal}
+use Rattle.dossier.proofs.VersionLaws.{version-many, version-one}
+use Rattle.dossier.proofs.shape.is_version.Statement.{statement}
+use Rattle.dossier.proofs.shape.is_version.Tie as tie
+use Rattle.dossier.proofs.shape.is_version.Reads as reads
+use Rattle.dossier.proofs.shape.is_version.Lts as lts
+use Rattle.dossier.proofs.shape.is_in_decimal.Reads as is-in-decimal-reads
+use Rattle.event.proofs.sets.set_part.Reads as set-part-reads
+use Rattle.event.proofs.sets.value_in.Reads as value-in-reads
+
+-- src/shape.rt:193:9
+returns : tie.Need-returns
+returns c = λ vs w. version-many vs _ _ (w .count) (c .if1 .taken)
+
+-- src/shape.rt:195:22
+set-part-requires : tie.Need-set-part-requires
+set-part-requires c κs = search needs
+
+-- src/shape.rt:195:9
+value-in-requires : tie.Need-value-in-requires
+value-in-requires c κs = search needs
+
+-- src/shape.rt:196:5
+is-in-decimal-requires : tie.Need-is-in-decimal-requires
+is-in-decimal-requires c κs = search needs
+
+-- src/shape.rt:189:1
+returns-2 : tie.Need-returns-2
+returns-2 c =
+    λ vs w.
+    c .is-in-decimal .ensures
+    ∙ ap (λ (v : Text). equal texts v (inDecimal (c .before .before .before .before .before .before .args .version))) (c .before .value-in .ensures vs (c .before .before .set-part .ensures vs w))
+    ∙ version-one vs _ _ (w .count) (c .before .before .before .if1 .left)
+
+pub is-version-spec : {M : Type 1} → statement M
+is-version-spec =
+    tie.close
+    (tie.spec returns set-part-requires value-in-requires is-in-decimal-requires returns-2)

@@ -1,0 +1,144 @@
+ghost use mathlib.Core.Path.{_≡_};
+ghost use mathlib.Core.Bool.{false};
+ghost use Prim.Native.Nat.{_≤_};
+ghost use lib.ListN.{length, take, drop};
+ghost use Rattle.model.specs.Order.{numbers, rising};
+ghost use Rattle.model.specs.Limits.{standard};
+ghost use Rattle.packed.specs.Parse.{times};
+ghost use Rattle.dossier.specs.DossierLayout.{readSnapshot, dossierOf};
+ghost use Rattle.dossier.specs.DossierIndex.{SnapshotsReads, DossierReads};
+use crate::snapshots::read_snapshot;
+use event::read::HeadAt;
+use event::read::HeadRead;
+use event::read::PartAt;
+use event::read::read_head;
+use event::sets::SetAt;
+use packed::read::NumberAt;
+use packed::read::read_number;
+
+// Where each of the snapshots stands, its version, and the position after the last.
+struct SnapshotsRead {
+    ok: bool,
+    next: usize,
+    starts: [usize; 8],
+    ends: [usize; 8],
+    versions: [u64; 8],
+}
+
+// Where each thing of a dossier stands: its head, and the start and the end of each of its `count` snapshots, with their versions.
+pub struct DossierIndex {
+    pub ok: bool,
+    pub head: HeadAt,
+    pub count: usize,
+    pub starts: [usize; 8],
+    pub ends: [usize; 8],
+    pub versions: [u64; 8],
+}
+
+fn read_snapshots(s: &[u8], at: usize, count: usize) -> SnapshotsRead
+    requires { ⌜ (at ≤ length (now s)) × (count ≤ 8) ⌝ }
+    ensures { λ r. ⌜ SnapshotsReads (times readSnapshot count (drop at (now (s .entry)))) (now (s .entry)) r ⌝ }
+{
+    let mut r = SnapshotsRead {
+        ok: false,
+        next: 0,
+        starts: [0; 8],
+        ends: [0; 8],
+        versions: [0; 8],
+    };
+    let mut next = at;
+    let mut j: usize = 0;
+    while j < count {
+        let x = read_snapshot(&s[next..]);
+        if !x.ok {
+            return r;
+        }
+        let version = x.version;
+        r.starts[j] = next;
+        next = next + x.next;
+        r.ends[j] = next;
+        r.versions[j] = version.0;
+        j += 1;
+    }
+    r.next = next;
+    r.ok = true;
+    r
+}
+
+fn versions_rise(versions: [u64; 8], count: usize) -> bool
+    requires { ⌜ count ≤ 8 ⌝ }
+    ensures { λ r. ⌜ r ≡ rising numbers (take count versions) ⌝ }
+{
+    let mut k: usize = 1;
+    while k < count {
+        if versions[k] <= versions[k - 1] {
+            return false;
+        }
+        k += 1;
+    }
+    true
+}
+
+fn no_dossier() -> DossierIndex
+    ensures { λ r. ⌜ r .ok ≡ false ⌝ }
+{
+    let part = PartAt { start: 0, end: 0 };
+    let set = SetAt {
+        start: 0,
+        end: 0,
+        count: 0,
+    };
+    DossierIndex {
+        ok: false,
+        head: HeadAt {
+            name: part,
+            source: part,
+            parents: set,
+        },
+        count: 0,
+        starts: [0; 8],
+        ends: [0; 8],
+        versions: [0; 8],
+    }
+}
+
+// The index of a dossier that the bytes are, to their exact end.
+pub fn read_dossier(s: &[u8]) -> DossierIndex
+    ensures { λ r. ⌜ DossierReads (dossierOf standard (now (s .entry))) (now (s .entry)) r ⌝ }
+{
+    let HeadRead::Head(head) = read_head(s, 32) else {
+        return no_dossier();
+    };
+    let parents = head.parents;
+    let NumberAt::Number(number, at) = read_number(s, parents.end) else {
+        return no_dossier();
+    };
+    if number == 0 {
+        return no_dossier();
+    }
+    if 8 < number {
+        return no_dossier();
+    }
+    let count = number as usize;
+    let all = read_snapshots(s, at, count);
+    if !all.ok {
+        return no_dossier();
+    }
+    if all.next != s.len() {
+        return no_dossier();
+    }
+    let starts = all.starts;
+    let ends = all.ends;
+    let versions = all.versions;
+    if !versions_rise(versions, count) {
+        return no_dossier();
+    }
+    DossierIndex {
+        ok: true,
+        head,
+        count,
+        starts,
+        ends,
+        versions,
+    }
+}

@@ -1,0 +1,159 @@
+ghost use Prim.Native.Nat.{ℕ, _≤_};
+ghost use mathlib.Core.Path.{_≡_};
+ghost use mathlib.Core.Bool.{true, cond, _&&_, _||_};
+ghost use mathlib.Core.Option.{some};
+ghost use mathlib.Core.List.{List};
+ghost use lib.Dec.{ltb, eqb};
+ghost use Rattle.model.specs.Order.{Text, sets, lists, equal};
+ghost use Rattle.model.specs.Rule.{Snapshot};
+ghost use Rattle.model.specs.Limits.{standard};
+ghost use Rattle.packed.specs.Parse.{got};
+ghost use Rattle.ontology.specs.Table.{EventType, Table, typeNamed};
+ghost use Rattle.ontology.specs.TableLayout.{tableOf};
+ghost use Rattle.ontology.specs.TypeIndex.{TypeIs, TypeSays};
+ghost use Rattle.event.specs.EventIndex.{SetsAre, KindsAre};
+ghost use Rattle.dossier.specs.DossierLayout.{Headed, readSnapshot, dossierOf};
+ghost use Rattle.dossier.specs.DossierQuestions.{matchSets, snapshotMatch, dossierShape, eachSnapshot, snapshotValues, dossierAsked, dossiersAgree};
+ghost use Rattle.dossier.specs.DossierIndex.{snapshotFits, shapeNumber, IsDossier, DossierIs, DossierReads, DossierAnswers};
+use crate::dossiers::DossierIndex;
+use crate::parts::text_part;
+use crate::shape::is_match_same;
+use crate::shape::snapshot_fits;
+use crate::snapshots::read_snapshot;
+use crate::spaces::sets_in_space;
+use event::sets::SetAt;
+use ontology::tables::TableRead;
+use ontology::types::TypeIndex;
+use packed::order::same;
+
+// The number of the first question of 5 and 6 that the snapshot at the front of b is refused by, or 0. The sets x of the bytes a are those of the first
+// snapshot, which all have the match sets of.
+fn ask_snapshot(a: &[u8], x: [SetAt; 32], b: &[u8], t: TypeIndex) -> u8
+    requires { ⌜ t .count ≤ 32 ⌝ }
+    ensures { λ r. ⌜ ((u v : List ℕ) (ty : EventType) (xs : List (List Text)) (y : Snapshot) → TypeIs u ty t → KindsAre ty → SetsAre (now (a .entry)) xs x → readSnapshot (now (b .entry)) ≡ got y v → r ≡ shapeNumber (snapshotFits ty y && equal (lists sets) (matchSets (ty .properties) xs) (snapshotMatch ty y)) (snapshotValues ty y)) ⌝ }
+{
+    let y = read_snapshot(b);
+    if !snapshot_fits(b, y, t) {
+        return 5;
+    }
+    let sets = y.sets;
+    if !is_match_same(t, a, x, b, sets) {
+        return 5;
+    }
+    if sets_in_space(b, sets, t) { 0 } else { 6 }
+}
+
+// What comes first of the numbers so far and the next one, where neither is 5.
+fn first_number(number: u8, next: u8) -> u8
+    ensures { λ r. ⌜ r ≡ cond (eqb next 6) 6 number ⌝ }
+{
+    if next == 6 { 6 } else { number }
+}
+
+// Whether the snapshots at the front of a and b have the same match sets.
+fn is_first_same(a: &[u8], b: &[u8], t: TypeIndex) -> bool
+    requires { ⌜ t .count ≤ 32 ⌝ }
+    ensures { λ r. ⌜ ((u v w : List ℕ) (ty : EventType) (x y : Snapshot) → TypeIs u ty t → readSnapshot (now (a .entry)) ≡ got x v → readSnapshot (now (b .entry)) ≡ got y w → r ≡ equal (lists sets) (snapshotMatch ty x) (snapshotMatch ty y)) ⌝ }
+{
+    let x = read_snapshot(a);
+    let y = read_snapshot(b);
+    let left = x.sets;
+    let right = y.sets;
+    is_match_same(t, a, left, b, right)
+}
+
+// An unversioned dossier has a single snapshot.
+fn is_lone(mark: usize, count: usize) -> bool
+    ensures { λ r. ⌜ r ≡ (ltb 0 mark || eqb count 1) ⌝ }
+{
+    if 0 < mark {
+        return true;
+    }
+    count == 1
+}
+
+// Questions 5 and 6 of a dossier's snapshots.
+pub fn ask_snapshots(s: &[u8], d: DossierIndex, t: TypeIndex) -> u8
+    requires { ⌜ (t .count ≤ 32) × IsDossier (now s) d ⌝ }
+    ensures { λ r. ⌜ ((u : List ℕ) (ty : EventType) (h : Headed) → TypeIs u ty t → KindsAre ty → DossierIs (now (s .entry)) h d → r ≡ shapeNumber (dossierShape standard ty (h .dossier .snapshots)) (eachSnapshot (snapshotValues ty) (h .dossier .snapshots))) ⌝ }
+{
+    if !is_lone(t.mark, d.count) {
+        return 5;
+    }
+    let front = d.starts[0];
+    let first = read_snapshot(&s[front..]);
+    let sets = first.sets;
+    let mut number: u8 = 0;
+    let mut j: usize = 0;
+    while j < d.count {
+        let at = d.starts[j];
+        let next = ask_snapshot(&s[front..], sets, &s[at..], t);
+        if next == 5 {
+            return 5;
+        }
+        number = first_number(number, next);
+        j += 1;
+    }
+    number
+}
+
+// A dossier that was asked questions 3 to 6: the number of the first that is answered no, or 0; and its type and its index, where it is 0.
+pub struct DossierAsked {
+    pub number: u8,
+    pub kind: TypeIndex,
+    pub dossier: DossierIndex,
+}
+
+// The name of a dossier's type, by which the table is read.
+pub fn type_name(s: &[u8], d: DossierIndex) -> &[u8]
+    ensures { λ r. ⌜ ((h : Headed) → DossierIs (now (s .entry)) h d → now r ≡ h .type) ⌝ }
+{
+    let head = d.head;
+    let name = head.name;
+    text_part(s, name)
+}
+
+// Questions 3 to 6 of the dossier s, whose index is d. The table was read for the name of its type, and is read once for all dossiers of that type.
+pub fn ask_dossier(s: &[u8], d: DossierIndex, read: TableRead) -> DossierAsked
+    requires { ⌜ DossierReads (dossierOf standard (now s)) (now s) d × (read .found ≡ true → read .index .count ≤ 32) ⌝ }
+    ensures { λ r. ⌜ ((table : List ℕ) (ts : Table) → tableOf table ≡ some ts → ((h : Headed) → DossierIs (now (s .entry)) h d → TypeSays (typeNamed (h .type) ts) table read) → DossierAnswers (dossierAsked standard ts (now (s .entry))) table (now (s .entry)) r) ⌝ }
+{
+    let kind = read.index;
+    if !d.ok {
+        return DossierAsked {
+            number: 3,
+            kind,
+            dossier: d,
+        };
+    }
+    if !read.found {
+        return DossierAsked {
+            number: 4,
+            kind,
+            dossier: d,
+        };
+    }
+    DossierAsked {
+        number: ask_snapshots(s, d, kind),
+        kind,
+        dossier: d,
+    }
+}
+
+// Question 7: whether two dossiers agree in type, source and match sets. The match sets of a dossier are those of its first snapshot.
+pub fn dossiers_agree(a: &[u8], d: DossierIndex, b: &[u8], e: DossierIndex, t: TypeIndex) -> bool
+    requires { ⌜ (t .count ≤ 32) × IsDossier (now a) d × IsDossier (now b) e ⌝ }
+    ensures { λ r. ⌜ ((u : List ℕ) (ty tz : EventType) (h g : Headed) → TypeIs u ty t → DossierIs (now (a .entry)) h d → DossierIs (now (b .entry)) g e → (h .type ≡ g .type → ty ≡ tz) → r ≡ dossiersAgree (record { type = ty; headed = h }) (record { type = tz; headed = g })) ⌝ }
+{
+    let x = d.head;
+    let y = e.head;
+    if !same(text_part(a, x.name), text_part(b, y.name)) {
+        return false;
+    }
+    if !same(text_part(a, x.source), text_part(b, y.source)) {
+        return false;
+    }
+    let left = d.starts[0];
+    let right = e.starts[0];
+    is_first_same(&a[left..], &b[right..], t)
+}

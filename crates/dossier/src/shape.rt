@@ -1,0 +1,254 @@
+ghost use Prim.Native.Nat.{ℕ, _-_, _≤_};
+ghost use mathlib.Core.Path.{_≡_};
+ghost use mathlib.Core.Bool.{true, false, cond, not, _&&_, _||_};
+ghost use mathlib.Core.List.{List, [], _∷_};
+ghost use lib.ListN.{getElem?};
+ghost use lib.Dec.{leb, eqb};
+ghost use Rattle.model.specs.Order.{Text, texts, sets, lists, equal};
+ghost use Rattle.model.specs.Rule.{Cell, Snapshot};
+ghost use Rattle.model.specs.Opening.{cellAt};
+ghost use Rattle.values.specs.Decimal.{inDecimal};
+ghost use Rattle.ontology.specs.Table.{Property, EventType, isMatch, isVersioned};
+ghost use Rattle.ontology.specs.TypeIndex.{PropertyIs, TypeIs};
+ghost use Rattle.event.specs.EventQuestions.{matchCount};
+ghost use Rattle.event.specs.EventIndex.{SetIs, SetsAre};
+ghost use Rattle.dossier.specs.DossierQuestions.{eachCell, isVacant, holdsVersion, matchSets};
+ghost use Rattle.dossier.specs.DossierIndex.{CellIs, CellsAre, cellFits, placeFits, snapshotFits, versionFits, SnapshotIs};
+use crate::snapshots::SnapshotIndex;
+use event::sets::SetAt;
+use event::sets::set_part;
+use event::sets::value_in;
+use ontology::properties::PropertyAt;
+use ontology::types::TypeIndex;
+use packed::order::same;
+
+// A mandatory one is present or marked.
+fn is_present(p: PropertyAt, marked: bool, count: usize) -> bool
+    ensures { λ r. ⌜ r ≡ (p .optional || marked || leb 1 count) ⌝ }
+{
+    if p.optional {
+        return true;
+    }
+    if marked {
+        return true;
+    }
+    1 <= count
+}
+
+fn is_lone_if_single(p: PropertyAt, count: usize) -> bool
+    ensures { λ r. ⌜ r ≡ (p .multivalued || leb count 1) ⌝ }
+{
+    if p.multivalued {
+        return true;
+    }
+    count <= 1
+}
+
+// In an unversioned dossier nothing is marked, and min and max are single.
+fn fits_unversioned(p: PropertyAt, marked: bool, count: usize) -> bool
+    ensures { λ r. ⌜ r ≡ (not marked && (not (eqb (p .strategy) 1 || eqb (p .strategy) 2) || leb count 1)) ⌝ }
+{
+    if marked {
+        return false;
+    }
+    if p.strategy == 1 {
+        return count <= 1;
+    }
+    if p.strategy == 2 {
+        return count <= 1;
+    }
+    true
+}
+
+// A match set is unmarked, and single where single.
+fn is_unmarked_match(p: PropertyAt, marked: bool, count: usize) -> bool
+    ensures { λ r. ⌜ r ≡ (not (eqb (p .strategy) 5) || (not marked && (p .multivalued || leb count 1))) ⌝ }
+{
+    if p.strategy != 5 {
+        return true;
+    }
+    if marked {
+        return false;
+    }
+    is_lone_if_single(p, count)
+}
+
+// What question 5 asks of a property's cell, by its differ bit and the number of its objects.
+fn cell_fits(p: PropertyAt, versioned: bool, marked: bool, count: usize) -> bool
+    ensures { λ r. ⌜ ((s : List ℕ) (q : Property) (c : Cell) → PropertyIs s q p → CellIs c marked count → r ≡ cellFits versioned q c) ⌝ }
+{
+    if !is_present(p, marked, count) {
+        return false;
+    }
+    if !is_unmarked_match(p, marked, count) {
+        return false;
+    }
+    if versioned {
+        is_lone_if_single(p, count)
+    } else {
+        fits_unversioned(p, marked, count)
+    }
+}
+
+// The same of a place. Where there is no property the cell is empty.
+fn place_fits(t: TypeIndex, k: usize, marked: bool, count: usize) -> bool
+    requires { ⌜ t .count ≤ 32 ⌝ }
+    ensures { λ r. ⌜ ((s : List ℕ) (ty : EventType) (c : Cell) → TypeIs s ty t → CellIs c marked count → r ≡ placeFits (isVersioned ty) (getElem? (ty .properties) k) c) ⌝ }
+{
+    if k < t.count {
+        let p = t.properties[k];
+        return cell_fits(p, 0 < t.mark, marked, count);
+    }
+    if marked {
+        return false;
+    }
+    count == 0
+}
+
+fn cells_fit(t: TypeIndex, differ: u64, sets: [SetAt; 32]) -> bool
+    requires { ⌜ t .count ≤ 32 ⌝ }
+    ensures { λ r. ⌜ ((s u : List ℕ) (ty : EventType) (cs : List Cell) → TypeIs s ty t → CellsAre u cs differ sets → r ≡ eachCell (cellFits (isVersioned ty)) isVacant (ty .properties) cs) ⌝ }
+{
+    let mut bits = differ;
+    let mut k: usize = 0;
+    while k < 32 {
+        let x = sets[k];
+        if !place_fits(t, k, bits % 2 == 1, x.count) {
+            return false;
+        }
+        bits = bits / 2;
+        k += 1;
+    }
+    true
+}
+
+// How many of a place's objects are match objects.
+fn match_size(p: PropertyAt, count: usize) -> usize
+    ensures { λ r. ⌜ r ≡ cond (eqb (p .strategy) 5) count 0 ⌝ }
+{
+    if p.strategy == 5 { count } else { 0 }
+}
+
+// At most 32 match objects.
+fn is_match_small(t: TypeIndex, sets: [SetAt; 32]) -> bool
+    requires { ⌜ t .count ≤ 32 ⌝ }
+    ensures { λ r. ⌜ ((s u : List ℕ) (ty : EventType) (xs : List (List Text)) → TypeIs s ty t → SetsAre u xs sets → r ≡ leb (matchCount (ty .properties) xs) 32) ⌝ }
+{
+    let mut left: usize = 32;
+    let mut k: usize = 0;
+    while k < t.count {
+        let p = t.properties[k];
+        let x = sets[k];
+        let n = match_size(p, x.count);
+        if left < n {
+            return false;
+        }
+        left -= n;
+        k += 1;
+    }
+    true
+}
+
+// Whether v is n in decimal, from the last digit back.
+fn is_in_decimal(v: &[u8], n: u64) -> bool
+    ensures { λ r. ⌜ r ≡ equal texts (now (v .entry)) (inDecimal n) ⌝ }
+{
+    let mut m = n;
+    let mut k = v.len();
+    while 9 < m {
+        if k == 0 {
+            return false;
+        }
+        if v[k - 1] as u64 != 48 + m % 10 {
+            return false;
+        }
+        m = m / 10;
+        k -= 1;
+    }
+    if k != 1 {
+        return false;
+    }
+    v[0] as u64 == 48 + m
+}
+
+fn is_version(s: &[u8], x: SetAt, version: u64) -> bool
+    ensures { λ r. ⌜ ((vs : List Text) → SetIs (now (s .entry)) vs x → r ≡ equal sets vs (inDecimal version ∷ [])) ⌝ }
+{
+    if x.count != 1 {
+        return false;
+    }
+    let v = value_in(set_part(s, x), 0);
+    is_in_decimal(v, version)
+}
+
+// The version property holds the snapshot's version. A marked one holds nothing.
+fn holds_version(s: &[u8], x: SnapshotIndex, mark: usize) -> bool
+    requires { ⌜ 1 ≤ mark ⌝ }
+    ensures { λ r. ⌜ ((y : Snapshot) → SnapshotIs (now (s .entry)) y x → r ≡ holdsVersion (y .version) (cellAt y (mark - 1))) ⌝ }
+{
+    if 32 < mark {
+        return false;
+    }
+    let set = x.sets[mark - 1];
+    let version = x.version;
+    is_version(s, set, version.0)
+}
+
+fn fits_by_version(s: &[u8], x: SnapshotIndex, mark: usize) -> bool
+    ensures { λ r. ⌜ ((y : Snapshot) (ty : EventType) → mark ≡ ty .mark → SnapshotIs (now (s .entry)) y x → r ≡ versionFits ty y) ⌝ }
+{
+    let version = x.version;
+    if mark == 0 {
+        if version.0 != 0 {
+            return false;
+        }
+        return x.objects <= 256;
+    }
+    if 32 < x.objects {
+        return false;
+    }
+    holds_version(s, x, mark)
+}
+
+// All that question 5 asks of one snapshot.
+pub fn snapshot_fits(s: &[u8], x: SnapshotIndex, t: TypeIndex) -> bool
+    requires { ⌜ t .count ≤ 32 ⌝ }
+    ensures { λ r. ⌜ ((u : List ℕ) (ty : EventType) (y : Snapshot) → TypeIs u ty t → SnapshotIs (now (s .entry)) y x → r ≡ snapshotFits ty y) ⌝ }
+{
+    let sets = x.sets;
+    if !cells_fit(t, x.differ, sets) {
+        return false;
+    }
+    if !is_match_small(t, sets) {
+        return false;
+    }
+    fits_by_version(s, x, t.mark)
+}
+
+// Equal bytes are equal sets.
+fn place_same(p: PropertyAt, a: &[u8], x: SetAt, b: &[u8], y: SetAt) -> bool
+    ensures { λ r. ⌜ ((s : List ℕ) (q : Property) (vs ws : List Text) → PropertyIs s q p → SetIs (now (a .entry)) vs x → SetIs (now (b .entry)) ws y → r ≡ (not (isMatch q) || equal sets vs ws)) ⌝ }
+{
+    if p.strategy != 5 {
+        return true;
+    }
+    same(set_part(a, x), set_part(b, y))
+}
+
+// Whether the match sets of two snapshots are the same.
+pub fn is_match_same(t: TypeIndex, a: &[u8], x: [SetAt; 32], b: &[u8], y: [SetAt; 32]) -> bool
+    requires { ⌜ t .count ≤ 32 ⌝ }
+    ensures { λ r. ⌜ ((s : List ℕ) (ty : EventType) (xs ys : List (List Text)) → TypeIs s ty t → SetsAre (now (a .entry)) xs x → SetsAre (now (b .entry)) ys y → r ≡ equal (lists sets) (matchSets (ty .properties) xs) (matchSets (ty .properties) ys)) ⌝ }
+{
+    let mut k: usize = 0;
+    while k < t.count {
+        let p = t.properties[k];
+        let v = x[k];
+        let w = y[k];
+        if !place_same(p, a, v, b, w) {
+            return false;
+        }
+        k += 1;
+    }
+    true
+}

@@ -1,0 +1,152 @@
+ghost use mathlib.Core.Path.{_≡_};
+ghost use mathlib.Core.Bool.{false};
+ghost use mathlib.Core.List.{List};
+ghost use Prim.Native.Nat.{ℕ};
+ghost use Rattle.model.specs.Order.{Text};
+ghost use Rattle.event.specs.EventIndex.{SetsAre};
+ghost use Rattle.dossier.specs.DossierLayout.{apart, areSmall, readSnapshot};
+ghost use Rattle.dossier.specs.DossierIndex.{NumbersRead, SnapshotReads};
+use event::sets::SetAt;
+use event::sets::read_sets;
+use packed::read::NumberAt;
+use packed::read::read_number;
+use values::versions::EventVersion;
+
+// Where each thing of a snapshot stands, from its first byte; `first` is the position of the first set's count, and `next` that of what follows.
+pub struct SnapshotIndex {
+    pub ok: bool,
+    pub next: usize,
+    pub version: EventVersion,
+    pub presence: u64,
+    pub differ: u64,
+    pub first: usize,
+    pub objects: usize,
+    pub sets: [SetAt; 32],
+}
+
+// The numbers that a snapshot begins with, and the position after them.
+enum NumbersAt {
+    Numbers {
+        version: u64,
+        presence: u64,
+        differ: u64,
+        first: usize,
+    },
+    NoNumbers,
+}
+
+// Whether no bit of 32 is set in both.
+fn are_apart(presence: u64, differ: u64) -> bool
+    ensures { λ r. ⌜ r ≡ apart 32 presence differ ⌝ }
+{
+    let mut m = presence;
+    let mut n = differ;
+    let mut left: usize = 32;
+    while 0 < left {
+        if m % 2 + n % 2 == 2 {
+            return false;
+        }
+        m = m / 2;
+        n = n / 2;
+        left -= 1;
+    }
+    true
+}
+
+fn read_numbers(s: &[u8]) -> NumbersAt
+    ensures { λ r. ⌜ NumbersRead (now (s .entry)) r ⌝ }
+{
+    let NumberAt::Number(version, second) = read_number(s, 0) else {
+        return NumbersAt::NoNumbers;
+    };
+    let NumberAt::Number(presence, third) = read_number(s, second) else {
+        return NumbersAt::NoNumbers;
+    };
+    if 4294967296 <= presence {
+        return NumbersAt::NoNumbers;
+    }
+    let NumberAt::Number(differ, first) = read_number(s, third) else {
+        return NumbersAt::NoNumbers;
+    };
+    if 4294967296 <= differ {
+        return NumbersAt::NoNumbers;
+    }
+    if are_apart(presence, differ) {
+        NumbersAt::Numbers {
+            version,
+            presence,
+            differ,
+            first,
+        }
+    } else {
+        NumbersAt::NoNumbers
+    }
+}
+
+// Whether each set has at most 256 values.
+fn are_small(sets: [SetAt; 32]) -> bool
+    ensures { λ r. ⌜ ((s : List ℕ) (xs : List (List Text)) → SetsAre s xs sets → r ≡ areSmall xs) ⌝ }
+{
+    let mut k: usize = 0;
+    while k < 32 {
+        let x = sets[k];
+        if 256 < x.count {
+            return false;
+        }
+        k += 1;
+    }
+    true
+}
+
+fn no_snapshot() -> SnapshotIndex
+    ensures { λ r. ⌜ r .ok ≡ false ⌝ }
+{
+    let none = SetAt {
+        start: 0,
+        end: 0,
+        count: 0,
+    };
+    SnapshotIndex {
+        ok: false,
+        next: 0,
+        version: EventVersion(0),
+        presence: 0,
+        differ: 0,
+        first: 0,
+        objects: 0,
+        sets: [none; 32],
+    }
+}
+
+// The index of the snapshot that the bytes begin with. They are the rest of a dossier, from the snapshot's first byte on.
+pub fn read_snapshot(s: &[u8]) -> SnapshotIndex
+    ensures { λ r. ⌜ SnapshotReads (readSnapshot (now (s .entry))) (now (s .entry)) r ⌝ }
+{
+    let NumbersAt::Numbers {
+        version,
+        presence,
+        differ,
+        first,
+    } = read_numbers(s)
+    else {
+        return no_snapshot();
+    };
+    let found = read_sets(s, first, presence);
+    if !found.ok {
+        return no_snapshot();
+    }
+    let sets = found.sets;
+    if !are_small(sets) {
+        return no_snapshot();
+    }
+    SnapshotIndex {
+        ok: true,
+        next: found.next,
+        version: EventVersion(version),
+        presence,
+        differ,
+        first,
+        objects: found.objects,
+        sets,
+    }
+}
