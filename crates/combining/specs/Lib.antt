@@ -1,2 +1,4 @@
 pub mod CheckCall
 pub mod CombineCall
+pub mod Replies
+pub mod CheckIndex

@@ -1,1 +1,3 @@
-// Definitions only: see specs/.
+// The calls that give a dossier: check an event, and combine.
+pub mod check;
+pub mod replies;

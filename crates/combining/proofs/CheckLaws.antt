@@ -1,0 +1,192 @@
+-- The laws of the call check an event.
+use mathlib.Core.Path.{_≡_, refl, sym, ap, ap₂, _∙_, subst}
+use mathlib.Core.Option.{Option, none, some}
+use mathlib.Core.List.{List, [], _∷_, _++_, map, flatten, append-nil}
+use Prim.Native.Nat.{ℕ, suc, _+_, _-_, _≤_, _<_}
+use native.Mathlib.Omega.{arith}
+use lib.ListN.{length, drop, length-append}
+use borrow.Author.Tests.{le-leb, lt-leb}
+use Rattle.model.specs.Order.{Text, texts}
+use Rattle.model.specs.Sets.{upTo}
+use Rattle.model.specs.Rule.{Cell, holds, differs, places, Snapshot, Dossier, rule}
+use Rattle.model.specs.Opening.{held}
+use Rattle.model.proofs.Cases.{never}
+use Rattle.model.proofs.SetLaws.{rising-ups}
+use Rattle.model.proofs.PartLaws.{map-getD}
+use Rattle.model.proofs.DossierLaws.{rule-one}
+use Rattle.packed.specs.Packed.{number}
+use Rattle.packed.specs.Written.{Wrote}
+use Rattle.packed.proofs.LayoutLaws.{number-bounds, number-length-1, number-length-5}
+use Rattle.packed.proofs.WriteLaws.{wrote-between}
+use Rattle.ontology.specs.Table.{EventType, Table}
+use Rattle.ontology.specs.TableLayout.{tableOf}
+use Rattle.ontology.specs.Questions.{Asked, refused, accepted, _>>=_, ask, Answer, refuses, answer}
+use Rattle.ontology.proofs.TableLaws.{TypeKept, table-type, place-in}
+use Rattle.event.specs.Event.{Event, setAt, view, versionOf, objectCount}
+use Rattle.event.specs.EventLayout.{narrow, wide, headBytes, presenceBit, bitNumber, setsBytes}
+use Rattle.event.specs.EventQuestions.{Typed, eventAsked}
+use Rattle.event.specs.EventIndex.{eventQuestions}
+use Rattle.event.specs.declared.ask.EventAsked.{EventAsked}
+use Rattle.event.proofs.EventLayoutLaws.{EventWritten, written-larger, presence-below}
+use Rattle.event.proofs.EventSizeLaws.{head-size, sets-size, each-within, event-short}
+use Rattle.event.proofs.EventQuestionLaws.{EventAccepted, event-accepted, EventFits, event-fits, set-rises, least-few, version-set, version-below}
+use Rattle.event.proofs.AskLaws.{Accepted}
+use Rattle.dossier.specs.DossierLayout.{Headed, differBit, snapshotBytes, dossierBytes}
+use Rattle.combining.specs.CheckCall.{eventDossier, checkAnswer, checkCall}
+use Rattle.combining.specs.CheckIndex.{loneBytes, Checkable, LoneRoom}
+use Rattle.combining.specs.Replies.{replies}
+use Rattle.combining.specs.declared.replies.Reply.the-variants.{Done, Refused}
+
+-- ---- the bytes of one event's dossier
+
+-- cells that hold sets have those sets and no mark
+sets-held : (f : ℕ → List Text) (ps : List ℕ) → map held (map (λ p. holds (f p)) ps) ≡ map f ps
+unfolding held
+sets-held f [] = refl
+sets-held f (p ∷ ps) = ap (λ (ss : List (List Text)). f p ∷ ss) (sets-held f ps)
+
+none-differ : (f : ℕ → List Text) (ps : List ℕ) → bitNumber (map differBit (map (λ p. holds (f p)) ps)) ≡ 0
+unfolding differBit bitNumber
+none-differ f [] = refl
+none-differ f (p ∷ ps) = omega (arith, none-differ f ps)
+
+module _ (t : EventType) (e : Event) (k : TypeKept t) (a : EventFits t e) where
+  abbrev lone : Dossier
+  lone = record { parents = e .parents; snapshots = record { version = versionOf t e; cells = map (λ p. holds (setAt e p)) (upTo 32) } ∷ [] }
+
+  lone-rule : rule (view t) (e ∷ []) ≡ lone
+  unfolding view places
+  lone-rule =
+      rule-one (view t) e (λ p l. set-rises t e a p) (λ p l O c. least-few t e k a p O c) (rising-ups texts (e .parents) .0 (a .written .head .parents .rises))
+
+  lone-sets : map held (map (λ p. holds (setAt e p)) (upTo 32)) ≡ e .sets
+  lone-sets = sets-held (setAt e) (upTo 32) ∙ map-getD (e .sets) [] 32 (a .written .sets .long)
+
+  abbrev alone : Snapshot
+  alone = record { version = versionOf t e; cells = map (λ p. holds (setAt e p)) (upTo 32) }
+
+  one-snapshot : flatten (map snapshotBytes (alone ∷ [])) ≡ snapshotBytes alone
+  unfolding flatten
+  one-snapshot = append-nil (snapshotBytes alone)
+
+  snapshot-parts : snapshotBytes alone ≡ number (versionOf t e) ++ number (bitNumber (map presenceBit (e .sets))) ++ number 0 ++ setsBytes (e .sets)
+  unfolding snapshotBytes
+  snapshot-parts =
+      ap₂ (λ (ss : List (List Text)) (n : ℕ). number (versionOf t e) ++ number (bitNumber (map presenceBit ss)) ++ number n ++ setsBytes ss) lone-sets (none-differ (setAt e) (upTo 32))
+
+  pub lone-bytes : dossierBytes (eventDossier (record { type = t; event = e })) ≡ loneBytes e (versionOf t e)
+  unfolding eventDossier dossierBytes loneBytes
+  lone-bytes =
+      ap (λ (d : Dossier). headBytes (e .type) (e .source) (d .parents) ++ number (length (d .snapshots)) ++ flatten (map snapshotBytes (d .snapshots))) lone-rule
+      ∙ ap (λ (l : List ℕ). headBytes (e .type) (e .source) (e .parents) ++ number 1 ++ l) (one-snapshot ∙ snapshot-parts)
+
+-- ---- an accepted event
+
+record OfTable (table event : List ℕ) (a : Typed) : Type 0 where
+  what : Table
+  is : tableOf table ≡ some what
+  asked : eventAsked narrow what event ≡ accepted a
+
+of-table : (table event : List ℕ) (a : Typed) → eventQuestions narrow table event ≡ accepted a → OfTable table event a
+of-table table event a e = go (tableOf table) refl e
+  where
+    go : (m : Option Table) → tableOf table ≡ m → (ask 2 m >>= λ ts. eventAsked narrow ts event) ≡ accepted a → OfTable table event a
+    go none q e = never (cc)
+    go (some ts) q e = record { what = ts; is = q; asked = e }
+
+module _ (table event : List ℕ) (r : EventAsked) (a : Accepted narrow table event r) where
+  abbrev from : OfTable table event (record { type = a .type; event = a .e })
+  from = of-table table event (record { type = a .type; event = a .e }) (a .is)
+
+  taken : EventAccepted narrow (from .what) event (a .type) (a .e)
+  taken = event-accepted narrow (from .what) event (a .type) (a .e) (from .asked)
+
+  pub fit : EventFits (a .type) (a .e)
+  fit = event-fits (from .what) event (a .type) (a .e) taken
+
+  pub kept : TypeKept (a .type)
+  kept = table-type table (from .what) (from .is) (a .e .type) (a .type) (taken .typed)
+
+  abbrev pub checkable : Checkable table event (r .kind) (r .event)
+  checkable = record {
+    type = a .type;
+    event = a .e;
+    typed = a .type-is;
+    read = a .event-is;
+    marked = λ u. (let m = kept .marked u in omega (arith, place-in (a .type) kept (a .type .mark - 1) (m .property) (m .at)), version-set (a .type) (a .e) kept fit u);
+    below = version-below (a .type) (a .e) kept fit;
+  }
+
+  -- 827 + 1 + 10 + 5 + 1 + 32 * 2 + 32 * 121 = 4,780
+  pub lone-short : length (loneBytes (a .e) (versionOf (a .type) (a .e))) ≤ 32768
+  unfolding loneBytes narrow wide
+  lone-short =
+      let e = a .e in
+      let w : EventWritten narrow e = fit .written in
+      let n : length (e .sets) ≡ 32 = w .sets .long in
+      let o : objectCount (e .sets) ≤ 32 = w .objects in
+      let m : length (e .type) ≤ 64 = subst (λ (v : Text). length v ≤ 64) (sym (fit .named)) (kept .short) in
+      let z : EventWritten wide e = written-larger narrow wide e (omega arith) (omega arith) w in
+      let o′ : objectCount (e .sets) ≤ 256 = omega arith in
+      simp length-append
+      (omega (
+        arith,
+        head-size (e .type) (e .source) (e .parents) (z .head) m,
+        number-length-1 1 (omega arith),
+        number-length-1 0 (omega arith),
+        number-bounds (versionOf (a .type) e),
+        number-length-5 (bitNumber (map presenceBit (e .sets))) (presence-below (e .sets) n),
+        sets-size (e .sets) (event-short (a .type) e (taken .shape) (taken .values)) (each-within 256 (e .sets) o′),
+      ))
+
+  pub lone-is : dossierBytes (eventDossier (record { type = a .type; event = a .e })) ≡ loneBytes (a .e) (versionOf (a .type) (a .e))
+  lone-is = lone-bytes (a .type) (a .e) kept fit
+
+  pub lone-room : (version room : ℕ) → version ≡ versionOf (a .type) (a .e) → 32768 ≤ room → LoneRoom event (r .event) version room
+  lone-room version room q h = record {
+    event = a .e;
+    read = a .event-is;
+    room = subst (λ (v : ℕ). length (loneBytes (a .e) v) ≤ room) (sym q) (omega (arith, lone-short));
+  }
+
+-- ---- the questions
+
+-- what the call answers where there is room
+abbrev bytesAsked : List ℕ → List ℕ → Asked (List ℕ)
+bytesAsked table event = eventQuestions narrow table event >>= λ a. accepted (dossierBytes (eventDossier a))
+
+answer-small : (table event : List ℕ) (room : ℕ) → room < 32768 → checkAnswer room table event ≡ refuses 1
+unfolding checkAnswer
+answer-small table event room h = rw (lt-leb 32768 room h)
+
+answer-is : (table event : List ℕ) (room : ℕ) → 32768 ≤ room → checkAnswer room table event ≡ answer (bytesAsked table event)
+unfolding checkAnswer
+answer-is table event room h = rw (le-leb 32768 room h) (go (tableOf table))
+  where
+    go : (m : Option Table) → answer (ask 2 m >>= λ ts. (eventAsked narrow ts event >>= λ a. accepted (dossierBytes (eventDossier a)))) ≡ answer ((ask 2 m >>= λ ts. eventAsked narrow ts event) >>= λ a. accepted (dossierBytes (eventDossier a)))
+    go none = refl
+    go (some ts) = refl
+
+answer-of : (table event : List ℕ) (room : ℕ) (q : Asked Typed) → 32768 ≤ room → eventQuestions narrow table event ≡ q → checkAnswer room table event ≡ answer (q >>= λ a. accepted (dossierBytes (eventDossier a)))
+answer-of table event room q h e = answer-is table event room h ∙ ap (λ (q : Asked Typed). answer (q >>= λ a. accepted (dossierBytes (eventDossier a)))) e
+
+-- ---- the replies
+
+module _ (table event out : List ℕ) where
+  pub check-small : length out < 32768 → replies (Refused 1) out ≡ checkCall table event out
+  unfolding checkCall
+  check-small h = rw (answer-small table event (length out) h)
+
+  pub check-refused : (n : ℕ) → 32768 ≤ length out → eventQuestions narrow table event ≡ refused n → replies (Refused n) out ≡ checkCall table event out
+  unfolding checkCall
+  check-refused n h e = rw (answer-of table event (length out) (refused n) h e)
+
+  pub check-done : (r : EventAsked) (a : Accepted narrow table event r) (new : List ℕ) (n version : ℕ) → 32768 ≤ length out → version ≡ versionOf (a .type) (a .e) → Wrote out 0 (loneBytes (a .e) version) new n → replies (Done n) new ≡ checkCall table event out
+  unfolding checkCall
+  check-done r a new n version h q w₀ =
+      let x = dossierBytes (eventDossier (record { type = a .type; event = a .e })) in
+      let w : Wrote out 0 x new n = subst (λ (z : List ℕ). Wrote out 0 z new n) (ap (loneBytes (a .e)) q ∙ sym (lone-is table event r a)) w₀ in
+      let s : 0 + length x ≤ length out = omega (arith, lone-short table event r a, ap length (lone-is table event r a)) in
+      let m : n ≡ length x = omega (arith, w .after) in
+      rw (answer-of table event (length out) (accepted (record { type = a .type; event = a .e })) h (a .is))
+      (ap₂ (λ (k : ℕ) (l : List ℕ). replies (Done k) l) m (wrote-between s w ∙ ap (λ (k : ℕ). x ++ drop k out) m))

@@ -1,0 +1,37 @@
+-- The dossier of one event, as it is written from the event's own bytes.
+use Prim.Native.Nat.{ℕ, _-_, _^_, _≤_, _<_}
+use mathlib.Core.Path.{_≡_}
+use mathlib.Core.Bool.{true}
+use mathlib.Core.List.{List, [], _∷_, _++_, map}
+use lib.ListN.{length}
+use Rattle.packed.specs.Packed.{number}
+use Rattle.values.specs.Decimal.{inDecimal}
+use Rattle.ontology.specs.Table.{EventType, isVersioned}
+use Rattle.ontology.specs.TypeIndex.{TypeIs}
+use Rattle.ontology.specs.declared.types.TypeIndex.{TypeIndex}
+use Rattle.event.specs.Event.{Event, setAt, versionOf}
+use Rattle.event.specs.EventLayout.{headBytes, presenceBit, bitNumber, setsBytes}
+use Rattle.event.specs.EventIndex.{EventIs}
+use Rattle.event.specs.declared.read.EventIndex.{EventIndex}
+
+-- the head, one snapshot, its version, its presence and differ numbers, and its sets
+unfoldable pub loneBytes : Event → ℕ → List ℕ
+loneBytes e version =
+    headBytes (e .type) (e .source) (e .parents)
+    ++ number 1
+    ++ (number version ++ number (bitNumber (map presenceBit (e .sets))) ++ number 0 ++ setsBytes (e .sets))
+
+-- t and e are the indexes of a type and of an event whose version is to be had
+pub record Checkable (table bytes : List ℕ) (t : TypeIndex) (e : EventIndex) : Type 0 where
+  pub type : EventType
+  pub event : Event
+  pub typed : TypeIs table type t
+  pub read : EventIs bytes event e
+  pub marked : isVersioned type ≡ true → (type .mark ≤ 32) × (setAt event (type .mark - 1) ≡ inDecimal (versionOf type event) ∷ [])
+  pub below : versionOf type event < 2 ^ 64
+
+-- the dossier has its room in an output of `size` bytes
+pub record LoneRoom (bytes : List ℕ) (e : EventIndex) (version size : ℕ) : Type 0 where
+  pub event : Event
+  pub read : EventIs bytes event e
+  pub room : length (loneBytes event version) ≤ size
