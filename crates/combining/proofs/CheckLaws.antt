@@ -34,8 +34,8 @@ use Rattle.event.proofs.AskLaws.{Accepted}
 use Rattle.dossier.specs.DossierLayout.{Headed, differBit, snapshotBytes, dossierBytes}
 use Rattle.combining.specs.CheckCall.{eventDossier, checkAnswer, checkCall}
 use Rattle.combining.specs.CheckIndex.{loneBytes, Checkable, LoneRoom}
-use Rattle.combining.specs.Replies.{replies}
-use Rattle.combining.specs.declared.replies.Reply.the-variants.{Done, Refused}
+use Rattle.ontology.specs.Replies.{replies}
+use Rattle.ontology.specs.declared.replies.Reply.the-variants.{Done, Refused}
 
 -- ---- the bytes of one event's dossier
 

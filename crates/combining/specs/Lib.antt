@@ -1,4 +1,3 @@
 pub mod CheckCall
 pub mod CombineCall
-pub mod Replies
 pub mod CheckIndex

@@ -1,3 +1,2 @@
 // The calls that give a dossier: check an event, and combine.
 pub mod check;
-pub mod replies;

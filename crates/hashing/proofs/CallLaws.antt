@@ -30,8 +30,9 @@ use Rattle.event.proofs.EventQuestionLaws.{event-accepted}
 use Rattle.event.proofs.AskLaws.{Accepted}
 use Rattle.hashing.specs.HashText.{hashText}
 use Rattle.hashing.specs.HashCalls.{hashTextAsked, hashTextAnswer, hashAnswer, hashTextCall, hashCall}
-use Rattle.hashing.specs.HashIndex.{Hashable, replies}
-use Rattle.hashing.specs.declared.calls.Reply.the-variants.{Done, Refused}
+use Rattle.ontology.specs.Replies.{replies}
+use Rattle.ontology.specs.declared.replies.Reply.the-variants.{Done, Refused}
+use Rattle.hashing.specs.HashIndex.{Hashable}
 use Rattle.hashing.proofs.HashSizeLaws.{hash-fits}
 
 -- ---- an accepted event has a hash text

@@ -12,10 +12,6 @@ use Rattle.event.specs.Event.{Event}
 use Rattle.event.specs.EventQuestions.{matchCount}
 use Rattle.event.specs.EventIndex.{EventIs}
 use Rattle.event.specs.declared.read.EventIndex.{EventIndex}
-use Rattle.ontology.specs.Questions as questions
-use Rattle.ontology.specs.Questions.{Outcome}
-use Rattle.hashing.specs.declared.calls.Reply.{Reply}
-use Rattle.hashing.specs.declared.calls.Reply.the-variants.{Done, Refused}
 use Rattle.hashing.specs.HashText.{insert, sorted, hashText}
 use Rattle.hashing.specs.declared.objects.ObjectAt.{ObjectAt}
 use Rattle.hashing.specs.declared.objects.Objects.{Objects}
@@ -65,12 +61,3 @@ pub record Hashable (table bytes : List ℕ) (t : TypeIndex) (e : EventIndex) : 
   pub read : EventIs bytes event e
   pub few : matchCount (type .properties) (event .sets) ≤ 32
   pub short : length (hashText type event) ≤ 8192
-
--- the numbers of a reply
-abbrev pub replied : Reply → questions.Reply
-replied (Done n) = questions.Reply.done n
-replied (Refused n) = questions.Reply.refused n
-
--- a reply with the output after it
-abbrev pub replies : Reply → List ℕ → Outcome
-replies r bytes = record { reply = replied r; bytes = bytes }

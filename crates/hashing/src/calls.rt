@@ -1,15 +1,10 @@
 ghost use mathlib.Core.Path.{_≡_};
 ghost use Rattle.hashing.specs.HashCalls.{hashTextCall, hashCall};
-ghost use Rattle.hashing.specs.HashIndex.{replies};
+ghost use Rattle.ontology.specs.Replies.{replies};
 use crate::text::write_hash;
 use crate::text::write_hash_text;
 use event::ask::ask_event;
-
-// The length of what was written, or the number of the first question that is answered no.
-pub enum Reply {
-    Done(usize),
-    Refused(u8),
-}
+use ontology::replies::Reply;
 
 // The hash text of an event, written at the front of `out`.
 pub fn hash_text(table: &[u8], event: &[u8], out: &mut [u8]) -> Reply

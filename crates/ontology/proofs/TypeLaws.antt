@@ -19,6 +19,7 @@ use Rattle.values.specs.Spaces.{isWithin}
 use Rattle.ontology.specs.Table.{Property, EventType, isNameWithin, namesRise, allFit, markFits, isVersioned, typeRules}
 use Rattle.ontology.specs.TableLayout.{readProperty, readType}
 use Rattle.ontology.specs.declared.properties.PropertyAt.{PropertyAt}
+use Rattle.values.specs.declared.versions.DefinitionVersion.{DefinitionVersion}
 use Rattle.ontology.specs.declared.types.HeadRead.{HeadRead}
 use Rattle.ontology.specs.declared.types.HeadRead.the-variants.{Head, NoHead}
 use Rattle.ontology.specs.declared.types.PropertiesRead.{PropertiesRead}
@@ -29,7 +30,7 @@ use Rattle.ontology.proofs.FieldLaws.{and-true, such-never, such-was, w
 use Rattle.ontology.proofs.RunLaws.{prepend, prepend-nil, prepend-two, times-more, times-stop, times-end, times-length, snoc-at}
 
 -- what is known of a call's answer in the arm of a `match`
-pub head-got : {s : List ℕ} {at : ℕ} {r : HeadRead} {a e m n f : ℕ} → r ≡ Head a e m n f → HeadReads s at r → HeadStops s at a e m n f
+pub head-got : {s : List ℕ} {at : ℕ} {r : HeadRead} {a e : ℕ} {d : DefinitionVersion} {m n f : ℕ} → r ≡ Head a e d m n f → HeadReads s at r → HeadStops s at a e d m n f
 head-got {s} {at} h w = subst (HeadReads s at) h w
 
 pub head-fail : (s : List ℕ) (at : ℕ) {r : HeadRead} → r ≡ NoHead → HeadReads s at r → suchThat typeRules readType (drop at s) ≡ fail
@@ -154,10 +155,9 @@ module _ (s : List ℕ) (at : ℕ) where
           few : (1 ≤ n) × (n ≤ 32)
           few = within-bounds 1 32 n (such-was (isWithin 1 32) readNumber s l j .1)
 
-          pub head-is : {start : ℕ} → v ≡ part s start e → start ≤ e → isNameWithin 64 v ≡ true → (d ≡ 0 → ⊥) → HeadStops s at start e m n z
+          pub head-is : {start : ℕ} → v ≡ part s start e → start ≤ e → isNameWithin 64 v ≡ true → (d ≡ 0 → ⊥) → HeadStops s at start e (record { 0 = d }) m n z
           unfolding readType
           head-is {start} q o name def = record {
-            definition = d;
             is = rw (g .is, h .is, i .is, such-was (isWithin 1 32) readNumber s l j .0 .is) (go (times readProperty n (drop z s)) refl);
             order = o;
             ends = g .within;
@@ -265,23 +265,24 @@ pub type-none : (p : Parse EventType) (s : List ℕ) (at : ℕ) (r : TypeRead) �
 unfolding TypeReads
 type-none p s at r e h = rw e h
 
-module _ {s : List ℕ} {at start end mark count next : ℕ} (w : HeadStops s at start end mark count next) where
+module _ {s : List ℕ} {at start end : ℕ} {definition : DefinitionVersion} {mark count next : ℕ} (w : HeadStops s at start end definition mark count next) where
   pub type-short : times readProperty count (drop next s) ≡ fail → suchThat typeRules readType (drop at s) ≡ fail
-  type-short e = w .is ∙ ap (λ (p : Parse (List Property)). andThen p (λ qs. foundIf (propertyRules mark qs) (typeOf (part s start end) (w .definition) mark qs))) e
+  type-short e = w .is ∙ ap (λ (p : Parse (List Property)). andThen p (λ qs. foundIf (propertyRules mark qs) (typeOf (part s start end) (definition .0) mark qs))) e
 
   module _ {r : PropertiesRead} (u : Said (times readProperty count (drop next s)) s next r) where
     -- the type that was read, if it meets the rules
     abbrev pub headed : EventType
-    headed = typeOf (part s start end) (w .definition) mark (u .what)
+    headed = typeOf (part s start end) (definition .0) mark (u .what)
 
     abbrev pub indexed : TypeIndex
-    indexed = record { start = start; end = end; mark = mark; count = count; properties = r .properties }
+    indexed = record { start = start; end = end; definition = definition; mark = mark; count = count; properties = r .properties }
 
     pub type-is : TypeIs s headed indexed
     type-is = record {
       name = refl;
       order = w .order;
       within = w .ends;
+      definition = refl;
       mark = refl;
       count = sym (times-length readProperty count (drop next s) (u .what) (drop (r .next) s) (u .is));
       few = w .few;
@@ -293,7 +294,7 @@ module _ {s : List ℕ} {at start end mark count next : ℕ} (w : HeadStops s at
         TypeReads (suchThat typeRules readType (drop at s)) s at (record { ok = b; next = r .next; index = indexed })
     unfolding TypeReads
     type-reads b e =
-        rw (w .is ∙ ap (λ (p : Parse (List Property)). andThen p (λ qs. foundIf (propertyRules mark qs) (typeOf (part s start end) (w .definition) mark qs))) (u .is))
+        rw (w .is ∙ ap (λ (p : Parse (List Property)). andThen p (λ qs. foundIf (propertyRules mark qs) (typeOf (part s start end) (definition .0) mark qs))) (u .is))
         (go (propertyRules mark (u .what)) b e)
       where
         go : (x b : Bool) → b ≡ x → TypeReads (cond x (got headed (drop (r .next) s)) fail) s at (record { ok = b; next = r .next; index = indexed })

@@ -3,3 +3,4 @@ pub mod TableLayout
 pub mod Questions
 pub mod TableCall
 pub mod TypeIndex
+pub mod Replies

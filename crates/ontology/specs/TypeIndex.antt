@@ -15,6 +15,7 @@ use Rattle.packed.specs.declared.read.TextAt.{TextAt}
 use Rattle.packed.specs.declared.read.TextAt.the-variants as text
 use Rattle.values.specs.Spaces.{Kind, kindNumber, isWithin, isWidth}
 use Rattle.values.specs.KindNumbers.{firstParameter, secondParameter, thirdParameter}
+use Rattle.values.specs.declared.versions.DefinitionVersion.{DefinitionVersion}
 use Rattle.ontology.specs.Table.{Property, EventType, Table, strategyNumber, namesRise, allFit, markFits, typeRules, typeNamed}
 use Rattle.ontology.specs.TableLayout.{readProperty, readType}
 use Rattle.ontology.specs.Questions.{Reply}
@@ -132,11 +133,10 @@ abbrev pub typeOf : Text → ℕ → ℕ → List Property → EventType
 typeOf name definition mark qs = record { name = name; definition = definition; mark = mark; properties = qs }
 
 -- What stands before the properties was read: what is left of the type, and of its rules, is about them.
-pub record HeadStops (s : List ℕ) (at start end mark count next : ℕ) : Type 0 where
-  pub definition : ℕ
+pub record HeadStops (s : List ℕ) (at start end : ℕ) (definition : DefinitionVersion) (mark count next : ℕ) : Type 0 where
   pub is :
       suchThat typeRules readType (drop at s) ≡
-      andThen (times readProperty count (drop next s)) (λ qs. foundIf (propertyRules mark qs) (typeOf (part s start end) definition mark qs))
+      andThen (times readProperty count (drop next s)) (λ qs. foundIf (propertyRules mark qs) (typeOf (part s start end) (definition .0) mark qs))
   pub order : start ≤ end
   pub ends : end ≤ length s
   pub few : count ≤ 32
@@ -144,7 +144,7 @@ pub record HeadStops (s : List ℕ) (at start end mark count next : ℕ) : Type 
   pub within : next ≤ length s
 
 abbrev pub HeadReads : List ℕ → ℕ → HeadRead → Type 0
-HeadReads s at (Head start end mark count next) = HeadStops s at start end mark count next
+HeadReads s at (Head start end definition mark count next) = HeadStops s at start end definition mark count next
 HeadReads s at NoHead = suchThat typeRules readType (drop at s) ≡ fail
 
 -- The type t, as the index has it
@@ -152,6 +152,7 @@ pub record TypeIs (s : List ℕ) (t : EventType) (x : TypeIndex) : Type 0 where
   pub name : part s (x .start) (x .end) ≡ t .name
   pub order : x .start ≤ x .end
   pub within : x .end ≤ length s
+  pub definition : x .definition .0 ≡ t .definition
   pub mark : x .mark ≡ t .mark
   pub count : x .count ≡ length (t .properties)
   pub few : x .count ≤ 32

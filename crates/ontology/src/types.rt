@@ -16,11 +16,13 @@ use super::properties::read_property;
 use packed::read::NumberAt;
 use packed::read::TextAt;
 use packed::read::read_number;
+use values::versions::DefinitionVersion;
 
-// A type: where its name stands in the table, its event-version mark, and its first `count` properties.
+// A type: where its name stands in the table, its definition version, its event-version mark, and its first `count` properties.
 pub struct TypeIndex {
     pub start: usize,
     pub end: usize,
+    pub definition: DefinitionVersion,
     pub mark: usize,
     pub count: usize,
     pub properties: [PropertyAt; 32],
@@ -45,6 +47,7 @@ enum HeadRead {
     Head {
         start: usize,
         end: usize,
+        definition: DefinitionVersion,
         mark: usize,
         count: usize,
         next: usize,
@@ -80,6 +83,7 @@ pub fn no_type() -> TypeIndex {
     TypeIndex {
         start: 0,
         end: 0,
+        definition: DefinitionVersion(0),
         mark: 0,
         count: 0,
         properties: properties,
@@ -108,6 +112,7 @@ fn read_head(table: &[u8], at: usize) -> HeadRead
     HeadRead::Head {
         start: start,
         end: end,
+        definition: DefinitionVersion(definition),
         mark: mark as usize,
         count: count as usize,
         next: next,
@@ -245,6 +250,7 @@ pub fn read_type(table: &[u8], at: usize) -> TypeRead
     let HeadRead::Head {
         start,
         end,
+        definition,
         mark,
         count,
         next,
@@ -260,6 +266,7 @@ pub fn read_type(table: &[u8], at: usize) -> TypeRead
     let x = TypeIndex {
         start: start,
         end: end,
+        definition: definition,
         mark: mark,
         count: count,
         properties: properties,

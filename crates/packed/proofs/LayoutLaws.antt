@@ -12,6 +12,7 @@ use lib.Dec.{ltb, leb}
 use lib.ListN.{length, take, drop, length-append, take-append-drop}
 use lib.Seq.{length-take-le, take-append-seam, drop-append-seam}
 use borrow.Author.Tests.{lt-ltb, le-ltb, le-leb, ltb-true, ltb-false, leb-true}
+pub use Rattle.packed.specs.Parse.{All}
 use Rattle.packed.specs.Parse.{Parse, fail, got, Layout, andThen, foundIf, suchThat, times, whole}
 use Rattle.packed.specs.Packed.{groups, number, more, readGroups, readNumber, text, readBytes, readText}
 
@@ -259,11 +260,6 @@ text-was s v r e =
     (n .0 ∙ rw (b .0, ← b .1) (sym (append-assoc (number (length v)) v r)), omega (arith, n .1, b .1))
 
 -- ---- so many of a layout
-
--- each element is so
-abbrev pub All : {A : Type 0} → (A → Type 0) → List A → Type 0
-All ok [] = Unit {0}
-All ok (x ∷ xs) = ok x × All ok xs
 
 -- for any layout p, what w writes for each value, and the condition on values
 module _ {A : Type 0} (p : Layout A) (w : A → List ℕ) (ok : A → Type 0) where

@@ -44,3 +44,8 @@ abbrev pub whole : {A : Type 0} → Parse A → Option A
 whole fail = none
 whole (got a []) = some a
 whole (got a (b ∷ r)) = none
+
+-- each element is so
+abbrev pub All : {A : Type 0} → (A → Type 0) → List A → Type 0
+All ok [] = Unit {0}
+All ok (x ∷ xs) = ok x × All ok xs

@@ -3,7 +3,7 @@ ghost use mathlib.Core.Path.{_≡_};
 ghost use lib.ListN.{length};
 use crate::lines;
 use event::ask::value;
-use hashing::calls::Reply;
+use ontology::replies::Reply;
 use hashing::calls::hash;
 use hashing::calls::hash_text;
 use ontology::tables::TableReply;

@@ -11,7 +11,7 @@ use Rattle.packed.specs.Packed.{text}
 use Rattle.packed.specs.Located.{part}
 use Rattle.packed.specs.declared.read.TextAt.{TextAt}
 use Rattle.packed.specs.declared.read.TextAt.the-variants as at
-use Rattle.packed.proofs.LayoutLaws.{All}
+use Rattle.packed.specs.Parse.{All}
 use Rattle.unions.specs.declared.heads.Form.{Form}
 use Rattle.unions.specs.declared.heads.Form.the-variants as form
 use Rattle.unions.specs.declared.pair.Step.{Step}

@@ -1,10 +1,10 @@
--- What the code replies, in the words of the calls.
+-- What the code of a call that writes replies, in the words of the calls.
 use Prim.Native.Nat.{ℕ}
 use mathlib.Core.List.{List}
 use Rattle.ontology.specs.Questions as questions
 use Rattle.ontology.specs.Questions.{Outcome}
-use Rattle.combining.specs.declared.replies.Reply.{Reply}
-use Rattle.combining.specs.declared.replies.Reply.the-variants.{Done, Refused}
+use Rattle.ontology.specs.declared.replies.Reply.{Reply}
+use Rattle.ontology.specs.declared.replies.Reply.the-variants.{Done, Refused}
 
 -- the numbers of a reply
 abbrev pub replied : Reply → questions.Reply
