@@ -1,3 +1,13 @@
 -- The laws of the calls check an event and combine.
 pub mod LoneLaws
 pub mod CheckLaws
+pub mod PlaceLaws
+pub mod MeetLaws
+pub mod CountLaws
+pub mod ObjectLaws
+pub mod FitLaws
+pub mod AgreedLaws
+pub mod JoinedLaws
+pub mod MergedLaws
+pub mod RoomLaws
+pub mod CombineLaws

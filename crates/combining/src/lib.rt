@@ -1,2 +1,8 @@
 // The calls that give a dossier: check an event, and combine.
+pub mod agreed;
+pub mod bits;
 pub mod check;
+pub mod combine;
+pub mod joined;
+pub mod limits;
+pub mod write;

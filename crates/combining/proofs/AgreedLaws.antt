@@ -1,0 +1,290 @@
+-- The laws of what two versioned snapshots of one version are together: place by place, and written.
+use mathlib.Core.Path.{_≡_, refl, sym, ap, ap₂, _∙_, subst}
+use mathlib.Core.Bool.{Bool, true, false, cond, not, _&&_}
+use mathlib.Core.List.{List, [], _∷_, _++_, map, flatten}
+use Prim.Native.Nat.{ℕ, zero, suc, _+_, _/_, _%_, _≤_, _<_}
+use native.Mathlib.Omega.{arith}
+use native.Mathlib.Numerals.{add-one}
+use lib.Dec.{ltb, eqb}
+use lib.ListN.{length, take, drop, set, getD, length-append, length-map, List·getD-map, drop-of-length-le}
+use lib.Seq.{take-suc, take-suc-set, take-all}
+use borrow.Author.Tests.{lt-ltb, eqb-true, eqb-false}
+use Rattle.model.specs.Order.{Text, sets, equal}
+use Rattle.model.specs.Rule.{Cell, holds, differs, Choice, View, Snapshot, places, joinCell, joinCells, joinSnapshots}
+use Rattle.model.specs.Opening.{held, isMark, cellAt}
+use Rattle.model.proofs.PartLaws.{length-upTo}
+use Rattle.model.proofs.StepLaws.{join-map, join-at}
+use Rattle.packed.specs.Packed.{number, text}
+use Rattle.packed.specs.Written.{Wrote}
+use Rattle.packed.proofs.WriteLaws.{wrote-then, ToGo, gone, all-gone}
+use Rattle.ontology.specs.Table.{EventType, isVersioned}
+use Rattle.event.specs.Event.{Event, view}
+use Rattle.event.specs.EventLayout.{presenceBit, bitNumber, setBytes, setsBytes}
+use Rattle.event.specs.EventIndex.{SetIs, SetsAre, noSet}
+use Rattle.event.specs.declared.sets.SetAt.{SetAt}
+use Rattle.dossier.specs.DossierLayout.{differBit, readSnapshot, snapshotBytes}
+use Rattle.dossier.specs.DossierIndex.{CellsAre, SnapshotIs, SnapshotReads}
+use Rattle.dossier.specs.declared.snapshots.SnapshotIndex.{SnapshotIndex}
+use Rattle.dossier.proofs.CellLaws.{held-at, cell-here, bits-next}
+use Rattle.dossier.proofs.AskLaws.{reads-got}
+use Rattle.combining.specs.CombineIndex.{bitOf, Meet}
+use Rattle.combining.specs.AgreedIndex.{isAgreed, isFilled, PlacesAre, placeBytes, presentBytes}
+use Rattle.combining.specs.declared.agreed.Places.{Places}
+
+-- ---- a place
+
+-- a mark on either side, and two sets
+pub agreed-marked : (c d : Cell) (marks : ℕ) → marks ≡ differBit c + differBit d → (marks ≡ 0 → ⊥) → false ≡ isAgreed c d
+unfolding isAgreed differBit
+agreed-marked differs d marks e h = refl
+agreed-marked (holds s) differs marks e h = refl
+agreed-marked (holds s) (holds t) marks e h = absurd (h e)
+
+pub agreed-sets : (c d : Cell) (marks : ℕ) → marks ≡ differBit c + differBit d → marks ≡ 0 → equal sets (held c) (held d) ≡ isAgreed c d
+unfolding isAgreed differBit held
+agreed-sets differs d marks e h = absurd (omega arith)
+agreed-sets (holds s) differs marks e h = absurd (omega arith)
+agreed-sets (holds s) (holds t) marks e h = refl
+
+-- what is joined is marked where the two do not agree, and has the objects of the first where they do
+join-mark : (ch : Choice) (c d : Cell) → isMark (joinCell true ch c d) ≡ not (isAgreed c d)
+unfolding joinCell isMark isAgreed
+join-mark ch differs d = refl
+join-mark ch (holds s) differs = refl
+join-mark ch (holds s) (holds t) = go (equal sets s t)
+  where
+    go : (b : Bool) → isMark (cond b (holds s) differs) ≡ not b
+    go true = refl
+    go false = refl
+
+join-filled : (ch : Choice) (c d : Cell) → isFilled (joinCell true ch c d) ≡ (isAgreed c d && ltb 0 (length (held c)))
+unfolding joinCell isFilled isAgreed held
+join-filled ch differs d = refl
+join-filled ch (holds s) differs = refl
+join-filled ch (holds s) (holds t) = go (equal sets s t) s
+  where
+    go : (b : Bool) (s : List Text) → isFilled (cond b (holds s) differs) ≡ (b && ltb 0 (length s))
+    go true [] = refl
+    go true (v ∷ vs) = sym (lt-ltb 0 (suc (length vs)) (omega arith))
+    go false s = refl
+
+join-bytes : (f : Bool) → f ≡ true → (ch : Choice) (c d : Cell) → setBytes (held (joinCell f ch c d)) ≡ placeBytes (isFilled (joinCell f ch c d)) (held c)
+unfolding joinCell isFilled held setBytes placeBytes
+join-bytes false e ch c d = let z : _≡_ {A = ℕ} 0 1 = cc in absurd (omega arith)
+join-bytes true e ch differs d = refl
+join-bytes true e ch (holds s) differs = refl
+join-bytes true e ch (holds s) (holds t) = go (equal sets s t) s
+  where
+    go : (b : Bool) (s : List Text) → setBytes (held (cond b (holds s) differs)) ≡ placeBytes (isFilled (cond b (holds s) differs)) s
+    go true [] = refl
+    go true (v ∷ vs) = refl
+    go false s = refl
+
+-- ---- all places
+
+joins-bytes : (t : View Event) → t .versioned ≡ true → (ps : List ℕ) (cs ds : List Cell) → setsBytes (map held (joinCells t ps cs ds)) ≡ presentBytes (map isFilled (joinCells t ps cs ds)) (map held cs)
+unfolding joinCells setsBytes flatten presentBytes
+joins-bytes t e [] cs ds = refl
+joins-bytes t e (p ∷ ps) [] ds = refl
+joins-bytes t e (p ∷ ps) (c ∷ cs) [] = refl
+joins-bytes t e (p ∷ ps) (c ∷ cs) (d ∷ ds) = ap₂ (λ (a b : List ℕ). a ++ b) (join-bytes (t .versioned) e (t .choice p) c d) (joins-bytes t e ps cs ds)
+
+filled-bits : (cs : List Cell) → map bitOf (map isFilled cs) ≡ map presenceBit (map held cs)
+unfolding bitOf isFilled presenceBit held
+filled-bits [] = refl
+filled-bits (differs ∷ cs) = ap (λ (l : List ℕ). 0 ∷ l) (filled-bits cs)
+filled-bits (holds [] ∷ cs) = ap (λ (l : List ℕ). 0 ∷ l) (filled-bits cs)
+filled-bits (holds (v ∷ vs) ∷ cs) = ap (λ (l : List ℕ). 1 ∷ l) (filled-bits cs)
+
+mark-bits : (cs : List Cell) → map bitOf (map isMark cs) ≡ map differBit cs
+unfolding bitOf isMark differBit
+mark-bits [] = refl
+mark-bits (differs ∷ cs) = ap (λ (l : List ℕ). 1 ∷ l) (mark-bits cs)
+mark-bits (holds s ∷ cs) = ap (λ (l : List ℕ). 0 ∷ l) (mark-bits cs)
+
+-- the first k elements are right, and so is the next one
+take-step : {A : Type 0} (l w : List A) (k : ℕ) (a d : A) → k < length l → k < length w → a ≡ getD w k d → take k l ≡ take k w → take (k + 1) (set l k a) ≡ take (k + 1) w
+take-step {A} l w k a d h i e q = rw add-one (take-suc-set l k a h ∙ ap₂ (λ (r : List A) (z : A). r ++ (z ∷ [])) q e ∙ sym (take-suc w k d i))
+
+-- a differ bit, by whether it is set
+mark-bit : (c : Cell) (n : ℕ) → n < 2 → eqb n 1 ≡ isMark c → n ≡ differBit c
+unfolding isMark differBit
+mark-bit (holds s) n h e = let ne : n ≡ 1 → ⊥ = eqb-false n 1 e in omega (arith, ne)
+mark-bit differs n h e = eqb-true n 1 e
+
+-- The first k places are found; m and n have the differ bits of the others
+pub record PlacesSofar (ty : EventType) (left right : Snapshot) (present marked : List Bool) (m n k : ℕ) : Type 0 where
+  pub filled : take k present ≡ take k (map isFilled (joinSnapshots (view ty) left right .cells))
+  pub differing : take k marked ≡ take k (map isMark (joinSnapshots (view ty) left right .cells))
+  pub left-bits : m ≡ bitNumber (map differBit (drop k (left .cells)))
+  pub right-bits : n ≡ bitNumber (map differBit (drop k (right .cells)))
+
+pub snapshot-cells : (s : List ℕ) (x : Snapshot) (i : SnapshotIndex) → SnapshotIs s x i → CellsAre s (x .cells) (i .differ) (i .sets)
+snapshot-cells s x i w = record { bits = w .differ; sets = w .sets }
+
+module _ (a b : List ℕ) (e f : ℕ) (ats bts : List SetAt) (ty : EventType) (left right : Snapshot) (v : isVersioned ty ≡ true) (x : CellsAre a (left .cells) e ats) (y : CellsAre b (right .cells) f bts) where
+  left-long : length (left .cells) ≡ 32
+  left-long = sym (length-map (left .cells) held) ∙ x .sets .long
+
+  right-long : length (right .cells) ≡ 32
+  right-long = sym (length-map (right .cells) held) ∙ y .sets .long
+
+  abbrev joined : List Cell
+  joined = joinSnapshots (view ty) left right .cells
+
+  joined-long : length joined ≡ 32
+  unfolding view places
+  joined-long = ap length (join-map (view ty) left right left-long right-long) ∙ simp (length-map, length-upTo)
+
+  joined-at : (k : ℕ) → k < 32 → getD joined k (holds []) ≡ joinCell true (view ty .choice k) (getD (left .cells) k (holds [])) (getD (right .cells) k (holds []))
+  unfolding view cellAt
+  joined-at k h = join-at (view ty) left right left-long right-long k h ∙ ap (λ (f : Bool). joinCell f (view ty .choice k) (getD (left .cells) k (holds [])) (getD (right .cells) k (holds []))) v
+
+  pub places-none : (present marked : List Bool) → PlacesSofar ty left right present marked e f 0
+  places-none present marked = record { filled = refl; differing = refl; left-bits = x .bits; right-bits = y .bits }
+
+  module _ (present marked : List Bool) (m n k : ℕ) (h : k < 32) (t : PlacesSofar ty left right present marked m n k) where
+    abbrev leftCell : Cell
+    leftCell = getD (left .cells) k (holds [])
+
+    abbrev rightCell : Cell
+    rightCell = getD (right .cells) k (holds [])
+
+    pub places-marks : m % 2 + n % 2 ≡ differBit leftCell + differBit rightCell
+    places-marks = ap₂ (λ (c d : ℕ). c + d) (mark-bit leftCell (m % 2) (omega arith) (cell-here a (left .cells) e ats x k m h (t .left-bits) .mark)) (mark-bit rightCell (n % 2) (omega arith) (cell-here b (right .cells) f bts y k n h (t .right-bits) .mark))
+
+    pub left-set : SetIs a (held leftCell) (getD ats k noSet)
+    left-set = subst (λ (s : List Text). SetIs a s (getD ats k noSet)) (held-at (left .cells) k) (x .sets .each k h)
+
+    pub right-set : SetIs b (held rightCell) (getD bts k noSet)
+    right-set = subst (λ (s : List Text). SetIs b s (getD bts k noSet)) (held-at (right .cells) k) (y .sets .each k h)
+
+    pub places-more : (kept fill : Bool) → kept ≡ isAgreed leftCell rightCell → fill ≡ (kept && ltb 0 (getD ats k noSet .count)) → length present ≡ 32 → length marked ≡ 32 → PlacesSofar ty left right (set present k fill) (set marked k (not kept)) (m / 2) (n / 2) (k + 1)
+    places-more kept fill g o p q = record {
+      filled = take-step present (map isFilled joined) k fill (isFilled (holds [])) (omega arith) (omega (arith, length-map joined isFilled, joined-long))
+          (o ∙ ap₂ (λ (z : Bool) (c : ℕ). z && ltb 0 c) g (left-set .count) ∙ sym (join-filled (view ty .choice k) leftCell rightCell) ∙ ap isFilled (sym (joined-at k h)) ∙ sym (List·getD-map isFilled joined k (holds [])))
+          (t .filled);
+      differing = take-step marked (map isMark joined) k (not kept) (isMark (holds [])) (omega arith) (omega (arith, length-map joined isMark, joined-long))
+          (ap not g ∙ sym (join-mark (view ty .choice k) leftCell rightCell) ∙ ap isMark (sym (joined-at k h)) ∙ sym (List·getD-map isMark joined k (holds [])))
+          (t .differing);
+      left-bits = bits-next a (left .cells) e ats x k m h (t .left-bits);
+      right-bits = bits-next b (right .cells) f bts y k n h (t .right-bits);
+    }
+
+  pub places-all : (p : Places) (m n k : ℕ) → 32 ≤ k → length (p .present) ≡ 32 → length (p .marked) ≡ 32 → PlacesSofar ty left right (p .present) (p .marked) m n k → PlacesAre joined p
+  places-all p m n k h q r t = record {
+    present = sym (take-all k (p .present) (omega arith)) ∙ t .filled ∙ take-all k (map isFilled joined) (omega (arith, length-map joined isFilled, joined-long));
+    marked = sym (take-all k (p .marked) (omega arith)) ∙ t .differing ∙ take-all k (map isMark joined) (omega (arith, length-map joined isMark, joined-long));
+  }
+
+  -- ---- written
+
+  module _ (found : Places) (are : PlacesAre joined found) where
+    abbrev presence : ℕ
+    presence = bitNumber (map bitOf (found .present))
+
+    abbrev marks : ℕ
+    marks = bitNumber (map bitOf (found .marked))
+
+    abbrev body : List ℕ
+    body = presentBytes (found .present) (map held (left .cells))
+
+    presence-is : presence ≡ bitNumber (map presenceBit (map held joined))
+    presence-is = ap (λ (l : List Bool). bitNumber (map bitOf l)) (are .present) ∙ ap bitNumber (filled-bits joined)
+
+    marks-is : marks ≡ bitNumber (map differBit joined)
+    marks-is = ap (λ (l : List Bool). bitNumber (map bitOf l)) (are .marked) ∙ ap bitNumber (mark-bits joined)
+
+    body-is : body ≡ setsBytes (map held joined)
+    unfolding joinSnapshots view
+    body-is = ap (λ (l : List Bool). presentBytes l (map held (left .cells))) (are .present) ∙ sym (joins-bytes (view ty) v (places (view ty)) (left .cells) (right .cells))
+
+    agreed-bytes : number (left .version) ++ number presence ++ number marks ++ body ≡ snapshotBytes (joinSnapshots (view ty) left right)
+    unfolding snapshotBytes joinSnapshots
+    agreed-bytes =
+        ap₂ (λ (c d : ℕ). number (left .version) ++ number c ++ number d ++ body) presence-is marks-is
+        ∙ ap (λ (l : List ℕ). number (left .version) ++ number (bitNumber (map presenceBit (map held joined))) ++ number (bitNumber (map differBit joined)) ++ l) body-is
+
+-- Two snapshots that were read, of one type, with the places of what they are together
+pub record BothRead (a b : List ℕ) (i j : SnapshotIndex) (found : Places) (ty : EventType) (left right : Snapshot) : Type 0 where
+  pub versioned : isVersioned ty ≡ true
+  pub left-is : SnapshotIs a left i
+  pub right-is : SnapshotIs b right j
+  pub are : PlacesAre (joinSnapshots (view ty) left right .cells) found
+
+pub both-read :
+    (a b : List ℕ) (i j : SnapshotIndex) (found : Places) →
+    SnapshotReads (readSnapshot a) a i → SnapshotReads (readSnapshot b) b j →
+    ((ty : EventType) (left right : Snapshot) → isVersioned ty ≡ true → SnapshotIs a left i → SnapshotIs b right j → PlacesAre (joinSnapshots (view ty) left right .cells) found) →
+    (ty : EventType) (left right : Snapshot) → isVersioned ty ≡ true → Meet a b ty left right → BothRead a b i j found ty left right
+both-read a b i j found r s f ty left right v m =
+    let x = reads-got (readSnapshot a) a i left (m .left-rest) r (m .left-read) in
+    let y = reads-got (readSnapshot b) b j right (m .right-rest) s (m .right-read) in
+    record { versioned = v; left-is = x; right-is = y; are = f ty left right v x y }
+
+module _ {a b : List ℕ} {i j : SnapshotIndex} {found : Places} {ty : EventType} {left right : Snapshot} (w : BothRead a b i j found ty left right) where
+  abbrev kept : List ℕ
+  kept = presentBytes (found .present) (map held (left .cells))
+
+  parts : number (i .version .0) ++ number (bitNumber (map bitOf (found .present))) ++ number (bitNumber (map bitOf (found .marked))) ++ kept ≡ snapshotBytes (joinSnapshots (view ty) left right)
+  parts =
+      ap (λ (n : ℕ). number n ++ number (bitNumber (map bitOf (found .present))) ++ number (bitNumber (map bitOf (found .marked))) ++ kept) (w .left-is .version)
+      ∙ agreed-bytes a b (i .differ) (j .differ) (i .sets) (j .sets) ty left right (w .versioned) (snapshot-cells a left i (w .left-is)) (snapshot-cells b right j (w .right-is)) found (w .are)
+
+  pub both-length : length (snapshotBytes (joinSnapshots (view ty) left right)) ≡ length (number (i .version .0)) + length (number (bitNumber (map bitOf (found .present)))) + length (number (bitNumber (map bitOf (found .marked)))) + length kept
+  both-length = ap length (sym parts) ∙ simp length-append
+
+  pub wrote-both :
+      {l l₁ l₂ l₃ l₄ : List ℕ} {at second third first next m n : ℕ} → m ≡ bitNumber (map bitOf (found .present)) → n ≡ bitNumber (map bitOf (found .marked)) →
+      Wrote l at (number (i .version .0)) l₁ second → Wrote l₁ second (number m) l₂ third → Wrote l₂ third (number n) l₃ first → Wrote l₃ first kept l₄ next →
+      Wrote l at (snapshotBytes (joinSnapshots (view ty) left right)) l₄ next
+  wrote-both {l} {l₁} {l₂} {l₃} {l₄} {at} {second} {third} {first} {next} {m} {n} e f o p q r =
+      let p′ = subst (λ (k : ℕ). Wrote l₁ second (number k) l₂ third) e p in
+      let q′ = subst (λ (k : ℕ). Wrote l₂ third (number k) l₃ first) f q in
+      subst (λ (z : List ℕ). Wrote l at z l₄ next) parts (wrote-then (wrote-then (wrote-then o p′) q′) r)
+
+-- ---- the sets, place by place
+
+present-suc : (bs : List Bool) (xs : List (List Text)) (k : ℕ) → k < length xs → presentBytes (drop k bs) (drop k xs) ≡ placeBytes (getD bs k false) (getD xs k []) ++ presentBytes (drop (suc k) bs) (drop (suc k) xs)
+unfolding presentBytes placeBytes
+present-suc bs [] k h = absurd (omega arith)
+present-suc [] (x ∷ xs) zero h = refl
+present-suc [] (x ∷ xs) (suc k) h = refl
+present-suc (b ∷ bs) (x ∷ xs) zero h = refl
+present-suc (b ∷ bs) (x ∷ xs) (suc k) h = present-suc bs xs k (omega arith)
+
+present-step : (bs : List Bool) (xs : List (List Text)) (k : ℕ) → k < length xs → presentBytes (drop k bs) (drop k xs) ≡ placeBytes (getD bs k false) (getD xs k []) ++ presentBytes (drop (k + 1) bs) (drop (k + 1) xs)
+present-step bs xs k h = rw add-one (present-suc bs xs k h)
+
+present-none : (bs : List Bool) (xs : List (List Text)) (k : ℕ) → length xs ≤ k → presentBytes (drop k bs) (drop k xs) ≡ []
+unfolding presentBytes
+present-none bs xs k h = ap (presentBytes (drop k bs)) (drop-of-length-le xs h) ∙ go (drop k bs)
+  where
+    go : (bs : List Bool) → presentBytes bs [] ≡ []
+    go [] = refl
+    go (b ∷ bs) = refl
+
+pub place-none : (l : List ℕ) (at : ℕ) (present : Bool) (vs : List Text) → present ≡ false → Wrote l at (placeBytes present vs) l at
+unfolding placeBytes
+place-none l at true vs e = let z : _≡_ {A = ℕ} 0 1 = cc in absurd (omega arith)
+place-none l at false vs e = record { bytes = refl; after = omega arith }
+
+pub place-present : (present : Bool) (vs : List Text) → present ≡ true → placeBytes present vs ≡ number (length vs) ++ flatten (map text vs)
+unfolding placeBytes
+place-present true vs e = refl
+place-present false vs e = let z : _≡_ {A = ℕ} 0 1 = cc in absurd (omega arith)
+
+pub place-set : {l l₁ : List ℕ} {at next : ℕ} (present : Bool) (vs : List Text) → present ≡ true → Wrote l at (number (length vs) ++ flatten (map text vs)) l₁ next → Wrote l at (placeBytes present vs) l₁ next
+place-set {l} {l₁} {at} {next} present vs e w = subst (λ (z : List ℕ). Wrote l at z l₁ next) (sym (place-present present vs e)) w
+
+module _ {l₀ l : List ℕ} {at p : ℕ} (s : List ℕ) (ats : List SetAt) (bs : List Bool) (xs : List (List Text)) (w : SetsAre s xs ats) (k : ℕ) (g : ToGo l₀ at (presentBytes bs xs) l p (presentBytes (drop k bs) (drop k xs))) where
+  pub present-room : k < 32 → at + length (presentBytes bs xs) ≤ length l₀ → p + length (placeBytes (getD bs k false) (getD xs k [])) ≤ length l
+  present-room h r =
+      let e = present-step bs xs k (omega (arith, w .long)) in
+      omega (arith, g .after, g .long, ap length e, length-append (placeBytes (getD bs k false) (getD xs k [])) (presentBytes (drop (k + 1) bs) (drop (k + 1) xs)))
+
+  pub present-more : k < 32 → {l₁ : List ℕ} {p₁ : ℕ} → Wrote l p (placeBytes (getD bs k false) (getD xs k [])) l₁ p₁ → ToGo l₀ at (presentBytes bs xs) l₁ p₁ (presentBytes (drop (k + 1) bs) (drop (k + 1) xs))
+  present-more h o = gone (placeBytes (getD bs k false) (getD xs k [])) (presentBytes (drop (k + 1) bs) (drop (k + 1) xs)) g (present-step bs xs k (omega (arith, w .long))) o
+
+  pub present-all : 32 ≤ k → Wrote l₀ at (presentBytes bs xs) l p
+  present-all h = all-gone g (present-none bs xs k (omega (arith, w .long)))

@@ -1,0 +1,222 @@
+-- The laws of the call combine.
+use mathlib.Core.Path.{_≡_, refl, sym, ap, ap₂, _∙_, subst}
+use mathlib.Core.Bool.{Bool, true, false}
+use mathlib.Core.Option.{Option, none, some}
+use mathlib.Core.List.{List, _++_}
+use Prim.Native.Nat.{ℕ, _+_, _≤_, _<_}
+use native.Mathlib.Omega.{arith}
+use lib.ListN.{length, drop}
+use borrow.Author.Tests.{le-leb, lt-leb}
+use Rattle.model.specs.Order.{Text, texts, equal}
+use Rattle.model.specs.Limits.{standard, fits}
+use Rattle.model.proofs.Cases.{never}
+use Rattle.model.proofs.OrderLaws.{equal-true}
+use Rattle.packed.specs.Written.{Wrote}
+use Rattle.packed.proofs.WriteLaws.{wrote-between}
+use Rattle.ontology.specs.Table.{EventType, Table, typeNamed}
+use Rattle.ontology.specs.TableLayout.{tableOf}
+use Rattle.ontology.specs.Questions.{Asked, refused, accepted, _>>=_, _>>_, ask, ensure, gives}
+use Rattle.ontology.specs.TypeIndex.{TypeIs, TypeSays, TableSays}
+use Rattle.ontology.specs.declared.tables.TableRead.{TableRead}
+use Rattle.ontology.specs.declared.types.TypeIndex.{TypeIndex}
+use Rattle.event.specs.Event.{view}
+use Rattle.dossier.specs.DossierLayout.{Headed, dossierOf, dossierBytes}
+use Rattle.dossier.specs.DossierQuestions.{eachSnapshot, dossierShape, snapshotValues, TypedDossier, dossierAsked, dossiersAgree}
+use Rattle.dossier.specs.DossierIndex.{DossierIs, IsDossier, DossierReads, DossierAnswers}
+use Rattle.dossier.specs.declared.dossiers.DossierIndex.{DossierIndex}
+use Rattle.dossier.specs.declared.questions.DossierAsked.{DossierAsked}
+use Rattle.dossier.proofs.AnswerLaws.{found-few}
+use Rattle.combining.specs.CombineCall.{headedAs, combined, combineAnswer, combineCall}
+use Rattle.combining.specs.CombineIndex.{Combinable}
+use Rattle.ontology.specs.Replies.{replies}
+use Rattle.ontology.specs.declared.replies.Reply.the-variants.{Done, Refused}
+use Rattle.combining.proofs.RoomLaws.{shapeAsked, dossier-taken, combined-room}
+
+-- ---- the table
+
+pub record Tabled (table : List ℕ) : Type 0 where
+  pub types : Table
+  pub is : tableOf table ≡ some types
+
+module _ (table : List ℕ) (name : Text) (r : TableRead) (says : TableSays (tableOf table) table name r) where
+  no-table : r .ok ≡ false → tableOf table ≡ none
+  unfolding TableSays
+  no-table h = go (tableOf table) says
+    where
+      go : (o : Option Table) → TableSays o table name r → o ≡ none
+      go none w = refl
+      go (some ts) w = never (cc (w .0))
+
+  pub tabled : r .ok ≡ true → Tabled table
+  unfolding TableSays
+  tabled h = go (tableOf table) refl says
+    where
+      go : (o : Option Table) → tableOf table ≡ o → TableSays o table name r → Tabled table
+      go none e w = never (cc)
+      go (some ts) e w = record { types = ts; is = e }
+
+  -- what was read of the type of that name
+  type-says : (k : Tabled table) → TypeSays (typeNamed name (k .types)) table r
+  unfolding TableSays
+  type-says k = subst (λ (o : Option Table). TableSays o table name r) (k .is) says .1
+
+  pub type-few : Tabled table → r .found ≡ true → r .index .count ≤ 32
+  type-few k h = found-few (typeNamed name (k .types)) table r (type-says k) h
+
+-- what was read for a name was read for the same name
+pub says-same : (table : List ℕ) (left right : Text) (r : TableRead) {b : Bool} → b ≡ equal texts left right → b ≡ true → TableSays (tableOf table) table left r → TableSays (tableOf table) table right r
+says-same table left right r e h = subst (λ (n : Text). TableSays (tableOf table) table n r) (equal-true texts left right .0 (sym e ∙ h))
+
+-- ---- questions 3 to 6
+
+-- a dossier of which they are answered yes
+pub record Taken (table : List ℕ) (types : Table) (s : List ℕ) (d : DossierIndex) (t : TypeIndex) : Type 0 where
+  pub what : TypedDossier
+  pub asked : dossierAsked standard types s ≡ accepted what
+  pub typed : TypeIs table (what .type) t
+  pub stands : DossierIs s (what .headed) d
+
+-- no question has the number 0
+asked-number : (types : Table) (s : List ℕ) → dossierAsked standard types s ≡ refused 0 → ⊥
+unfolding dossierAsked
+asked-number types s e = at-layout (dossierOf standard s) e
+  where
+    at-shape : (a : TypedDossier) (x y : Bool) → (ensure 5 x >> (ensure 6 y >> accepted a)) ≡ refused 0 → ⊥
+    at-shape a false y e = never (cc)
+    at-shape a true false e = never (cc)
+    at-shape a true true e = never (cc)
+
+    at-type : (h : Headed) (o : Option EventType) → (ask 4 o >>= shapeAsked h) ≡ refused 0 → ⊥
+    at-type h none e = never (cc)
+    at-type h (some t) e = at-shape (record { type = t; headed = h }) (dossierShape standard t (h .dossier .snapshots)) (eachSnapshot (snapshotValues t) (h .dossier .snapshots)) e
+
+    at-layout : (o : Option Headed) → (ask 3 o >>= λ h. (ask 4 (typeNamed (h .type) types) >>= shapeAsked h)) ≡ refused 0 → ⊥
+    at-layout none e = never (cc)
+    at-layout (some h) e = at-type h (typeNamed (h .type) types) e
+
+reads-is : (s : List ℕ) (d : DossierIndex) (h : Headed) → DossierReads (dossierOf standard s) s d → dossierOf standard s ≡ some h → DossierIs s h d
+unfolding DossierReads
+reads-is s d h w e = subst (λ (o : Option Headed). DossierReads o s d) e w .1
+
+-- what `ask_dossier` answers
+abbrev Asks : List ℕ → DossierIndex → TableRead → DossierAsked → Type 0
+Asks s d read r = (table : List ℕ) (ts : Table) → tableOf table ≡ some ts → ((h : Headed) → DossierIs s h d → TypeSays (typeNamed (h .type) ts) table read) → DossierAnswers (dossierAsked standard ts s) table s r
+
+module _
+    (table s : List ℕ) (k : Tabled table) (d : DossierIndex) (w : DossierReads (dossierOf standard s) s d)
+    (name : Text) (names : (h : Headed) → DossierIs s h d → name ≡ h .type)
+    (read : TableRead) (says : TableSays (tableOf table) table name read)
+    (r : DossierAsked) (asks : Asks s d read r) where
+  answers : DossierAnswers (dossierAsked standard (k .types) s) table s r
+  answers = asks table (k .types) (k .is) (λ h i. subst (λ (n : Text). TypeSays (typeNamed n (k .types)) table read) (names h i) (type-says table name read says k))
+
+  pub refused-by : (r .number ≡ 0 → ⊥) → dossierAsked standard (k .types) s ≡ refused (r .number)
+  unfolding DossierAnswers
+  refused-by ne = go (dossierAsked standard (k .types) s) answers
+    where
+      go : (q : Asked TypedDossier) → DossierAnswers q table s r → q ≡ refused (r .number)
+      go (refused n) a = ap refused (sym a)
+      go (accepted x) a = absurd (ne (a .0))
+
+  pub taken-by : r .number ≡ 0 → Taken table (k .types) s d (r .kind)
+  unfolding DossierAnswers
+  taken-by e = go (dossierAsked standard (k .types) s) refl answers
+    where
+      go : (q : Asked TypedDossier) → dossierAsked standard (k .types) s ≡ q → DossierAnswers q table s r → Taken table (k .types) s d (r .kind)
+      go (refused n) p a = absurd (asked-number (k .types) s (p ∙ ap refused (sym a ∙ e)))
+      go (accepted x) p a = record { what = x; asked = p; typed = a .1; stands = reads-is s d (x .headed) w (dossier-taken (k .types) s x p .read) }
+
+-- ---- question 7
+
+-- both dossiers were asked questions 3 to 6
+pub record BothTaken (table a : List ℕ) (d : DossierIndex) (b : List ℕ) (e : DossierIndex) (t : TypeIndex) : Type 0 where
+  pub known : Tabled table
+  pub kind : TypeIndex
+  pub left : Taken table (known .types) a d t
+  pub right : Taken table (known .types) b e kind
+
+abbrev pub both-taken : {table a b : List ℕ} {d e : DossierIndex} {t u : TypeIndex} (k : Tabled table) → Taken table (k .types) a d t → Taken table (k .types) b e u → BothTaken table a d b e t
+both-taken {u = u} k x y = record { known = k; kind = u; left = x; right = y }
+
+module _ (table a : List ℕ) (d : DossierIndex) (b : List ℕ) (e : DossierIndex) (t : TypeIndex) (h : BothTaken table a d b e t) where
+  pub agree-asks : (t .count ≤ 32) × IsDossier a d × IsDossier b e
+  agree-asks = (h .left .typed .few, record { what = h .left .what .headed; is = h .left .stands }, record { what = h .right .what .headed; is = h .right .stands })
+
+  -- one name has one type
+  one-type : h .left .what .headed .type ≡ h .right .what .headed .type → h .left .what .type ≡ h .right .what .type
+  one-type n =
+      let x = dossier-taken (h .known .types) a (h .left .what) (h .left .asked) in
+      let y = dossier-taken (h .known .types) b (h .right .what) (h .right .asked) in
+      let q : some (h .left .what .type) ≡ some (h .right .what .type) = sym (x .typed) ∙ ap (λ (v : Text). typeNamed v (h .known .types)) n ∙ y .typed in
+      cc
+
+  module _
+      (r : Bool)
+      (says : (u : List ℕ) (ty tz : EventType) (x y : Headed) → TypeIs u ty t → DossierIs a x d → DossierIs b y e → (x .type ≡ y .type → ty ≡ tz) → r ≡ dossiersAgree (record { type = ty; headed = x }) (record { type = tz; headed = y })) where
+    pub agree-is : r ≡ dossiersAgree (h .left .what) (h .right .what)
+    agree-is = says table (h .left .what .type) (h .right .what .type) (h .left .what .headed) (h .right .what .headed) (h .left .typed) (h .left .stands) (h .right .stands) one-type
+
+    abbrev pub combinable : r ≡ true → Combinable table a d b e t
+    combinable y = record {
+      types = h .known .types;
+      is = h .known .is;
+      left = h .left .what;
+      right = h .right .what;
+      left-asked = h .left .asked;
+      right-asked = h .right .asked;
+      agree = sym agree-is ∙ y;
+      typed = h .left .typed;
+      left-read = h .left .stands;
+      right-read = h .right .stands;
+    }
+
+-- ---- question 8
+
+pub combine-room :
+    (table a b : List ℕ) {d e : DossierIndex} {t : TypeIndex} (h : Combinable table a d b e t) {r : Bool} → r ≡ fits standard (view (h .left .type)) (combined (h .left) (h .right)) → r ≡ true →
+    (size : ℕ) → 32768 ≤ size → length (dossierBytes (headedAs (h .left .headed) (combined (h .left) (h .right)))) ≤ size
+combine-room table a b {d} {e} {t} h p y size l = omega (arith, combined-room table a b d e t h (sym p ∙ y))
+
+-- ---- the replies
+
+module _ (table left right out : List ℕ) where
+  pub combine-small : length out < 32768 → replies (Refused 1) out ≡ combineCall standard table left right out
+  unfolding combineCall combineAnswer
+  combine-small h = rw (lt-leb 32768 (length out) h)
+
+  module _ (room : 32768 ≤ length out) where
+    pub combine-untabled : (name : Text) (r : TableRead) → TableSays (tableOf table) table name r → r .ok ≡ false → replies (Refused 2) out ≡ combineCall standard table left right out
+    unfolding combineCall combineAnswer
+    combine-untabled name r w h = rw (le-leb 32768 (length out) room, no-table table name r w h)
+
+    pub combine-left : (k : Tabled table) (n : ℕ) → dossierAsked standard (k .types) left ≡ refused n → replies (Refused n) out ≡ combineCall standard table left right out
+    unfolding combineCall combineAnswer
+    combine-left k n e = rw (le-leb 32768 (length out) room, k .is, e)
+
+    pub combine-right : (k : Tabled table) {d : DossierIndex} {t : TypeIndex} → Taken table (k .types) left d t → (n : ℕ) → dossierAsked standard (k .types) right ≡ refused n → replies (Refused n) out ≡ combineCall standard table left right out
+    unfolding combineCall combineAnswer
+    combine-right k x n e = rw (le-leb 32768 (length out) room, k .is, x .asked, e)
+
+    pub combine-apart : {d e : DossierIndex} {t : TypeIndex} (h : BothTaken table left d right e t) {r : Bool} → r ≡ dossiersAgree (h .left .what) (h .right .what) → r ≡ false → replies (Refused 7) out ≡ combineCall standard table left right out
+    unfolding combineCall combineAnswer
+    combine-apart h p n = let q = sym p ∙ n in rw (le-leb 32768 (length out) room, h .known .is, h .left .asked, h .right .asked, q)
+
+    module _ {d e : DossierIndex} {t : TypeIndex} (h : Combinable table left d right e t) {r : Bool} (p : r ≡ fits standard (view (h .left .type)) (combined (h .left) (h .right))) where
+      pub combine-full : r ≡ false → replies (Refused 8) out ≡ combineCall standard table left right out
+      unfolding combineCall combineAnswer
+      combine-full n = let q = sym p ∙ n in rw (le-leb 32768 (length out) room, h .is, h .left-asked, h .right-asked, h .agree, q)
+
+      abbrev whole : List ℕ
+      whole = dossierBytes (headedAs (h .left .headed) (combined (h .left) (h .right)))
+
+      answer-whole : r ≡ true → combineAnswer standard (length out) table left right ≡ gives whole
+      unfolding combineAnswer
+      answer-whole y = let q = sym p ∙ y in rw (le-leb 32768 (length out) room, h .is, h .left-asked, h .right-asked, h .agree, q)
+
+      pub combine-done : r ≡ true → (new : List ℕ) (n : ℕ) → Wrote out 0 whole new n → replies (Done n) new ≡ combineCall standard table left right out
+      unfolding combineCall
+      combine-done y new n w =
+          let s : 0 + length whole ≤ length out = omega (arith, combine-room table left right h p y (length out) room) in
+          let m : n ≡ length whole = omega (arith, w .after) in
+          rw (answer-whole y)
+          (ap₂ (λ (k : ℕ) (l : List ℕ). replies (Done k) l) m (wrote-between s w ∙ ap (λ (k : ℕ). whole ++ drop k out) m))

@@ -1,0 +1,220 @@
+-- The laws of counting: the number of some bits, and the versions of two dossiers.
+use mathlib.Core.Path.{_≡_, sym, ap, ap₂, _∙_, subst, subst₂}
+use mathlib.Core.Logic.{_⊎_, ⊎-elim}
+use mathlib.Core.Bool.{Bool, true, false}
+use mathlib.Core.List.{List, [], _∷_, map}
+use Prim.Native.Nat.{ℕ, zero, suc, _+_, _-_, _*_, _^_, _≤_, _<_}
+use native.Mathlib.Omega.{arith}
+use native.Mathlib.Numerals.{add-one}
+use lib.ListN.{length, take, drop, getD, length-drop, drop-of-length-le}
+use lib.Seq.{drop-cons, getD-take, length-take-le}
+use Rattle.model.specs.Order.{numbers, rising}
+use Rattle.model.specs.Sets.{Ups, union}
+use Rattle.model.proofs.OrderLaws.{less-turn, less-cmp}
+use Rattle.model.proofs.SetLaws.{rising-ups}
+use Rattle.model.proofs.StepLaws.{union-left-nil, union-right-nil, union-step}
+use Rattle.event.specs.EventLayout.{bitNumber}
+use Rattle.event.proofs.EventLayoutLaws.{bits-small}
+use Rattle.combining.specs.CombineIndex.{bitOf}
+
+-- ---- the number of some bits
+
+bit-small : (b : Bool) → bitOf b < 2
+unfolding bitOf
+bit-small true = omega arith
+bit-small false = omega arith
+
+-- the bits from k on are no more than all of them
+bits-least : (bits : List Bool) (k : ℕ) → bitNumber (map bitOf (drop k bits)) ≤ bitNumber (map bitOf bits)
+unfolding bitNumber
+bits-least [] zero = omega arith
+bits-least [] (suc k) = omega arith
+bits-least (b ∷ bits) zero = omega arith
+bits-least (b ∷ bits) (suc k) = omega (arith, bits-least bits k)
+
+bits-below : (bits : List Bool) → length bits ≡ 32 → bitNumber (map bitOf bits) < 4294967296
+bits-below bits h = omega (arith, bits-small bitOf bits bit-small, ap (λ (n : ℕ). 2 ^ n) h)
+
+-- n is the number of the bits from k on
+pub record BitsFrom (bits : List Bool) (n k : ℕ) : Type 0 where
+  pub is : n ≡ bitNumber (map bitOf (drop k bits))
+  pub within : k ≤ 32
+
+module _ (bits : List Bool) (long : length bits ≡ 32) where
+  pub bits-none : BitsFrom bits 0 32
+  unfolding bitNumber
+  bits-none = record { is = sym (ap (λ (l : List Bool). bitNumber (map bitOf l)) (drop-of-length-le bits {i = 32} (omega arith))); within = omega arith }
+
+  module _ (n k : ℕ) (w : BitsFrom bits n k) (l : 0 < k) where
+    bits-step : bitOf (getD bits (k - 1) false) + 2 * n ≡ bitNumber (map bitOf (drop (k - 1) bits))
+    unfolding bitNumber
+    bits-step =
+        let e : suc (k - 1) ≡ k = omega arith in
+        sym (ap (λ (l : List Bool). bitNumber (map bitOf l)) (drop-cons bits (k - 1) false (omega (arith, w .within)))
+        ∙ ap (λ (m : ℕ). bitOf (getD bits (k - 1) false) + 2 * bitNumber (map bitOf (drop m bits))) e
+        ∙ ap (λ (m : ℕ). bitOf (getD bits (k - 1) false) + 2 * m) (sym (w .is)))
+
+    pub bits-room : 2 * n + 1 < 8589934592
+    bits-room = omega (arith, w .is, bits-least bits k, bits-below bits long)
+
+    pub bits-set : getD bits (k - 1) false ≡ true → BitsFrom bits (2 * n + 1) (k - 1)
+    unfolding bitOf
+    bits-set h = record { is = let e = ap bitOf h in omega (arith, e) ∙ bits-step; within = omega (arith, w .within) }
+
+    pub bits-clear : getD bits (k - 1) false ≡ false → BitsFrom bits (2 * n) (k - 1)
+    unfolding bitOf
+    bits-clear h = record { is = let e = ap bitOf h in omega (arith, e) ∙ bits-step; within = omega (arith, w .within) }
+
+pub bits-all : (bits : List Bool) (n k : ℕ) → BitsFrom bits n k → k ≤ 0 → n ≡ bitNumber (map bitOf bits)
+bits-all bits n k w h = w .is ∙ ap (λ (m : ℕ). bitNumber (map bitOf (drop m bits))) (the-front k h)
+  where
+    the-front : (k : ℕ) → k ≤ 0 → k ≡ 0
+    the-front k h = omega arith
+
+-- ---- the versions of two dossiers
+
+-- count versions have been counted, and those from i and from j on are left
+pub record VersionsLeft (xs ys : List ℕ) (i j count : ℕ) : Type 0 where
+  pub is : rising numbers xs ≡ true → rising numbers ys ≡ true → length (union numbers xs ys) ≡ count + length (union numbers (drop i xs) (drop j ys))
+  pub left : i ≤ length xs
+  pub right : j ≤ length ys
+  pub few : count ≤ i + j
+
+pub versions-none : (xs ys : List ℕ) → VersionsLeft xs ys 0 0 0
+versions-none xs ys = record { is = λ h k. omega arith; left = omega arith; right = omega arith; few = omega arith }
+
+ups-drop : (xs : List ℕ) (i : ℕ) → Ups numbers xs → Ups numbers (drop i xs)
+ups-drop [] zero h = h
+ups-drop [] (suc i) h = h
+ups-drop (x ∷ xs) zero h = h
+ups-drop (x ∷ xs) (suc i) h = ups-drop xs i (h .1)
+
+-- the first versions of two lists, which rise
+module _ (x y : ℕ) (xs ys : List ℕ) (hx : Ups numbers (x ∷ xs)) (hy : Ups numbers (y ∷ ys)) where
+  first-left : x < y → length (union numbers (x ∷ xs) (y ∷ ys)) ≡ 1 + length (union numbers xs (y ∷ ys))
+  first-left h = ap length (union-step numbers x xs y ys hx hy) ∙ rw (less-cmp x y h) (omega arith)
+
+  first-right : y < x → length (union numbers (x ∷ xs) (y ∷ ys)) ≡ 1 + length (union numbers (x ∷ xs) ys)
+  first-right h = ap length (union-step numbers x xs y ys hx hy) ∙ rw (less-turn numbers y x (less-cmp y x h)) (omega arith)
+
+  first-both : x ≡ y → length (union numbers (x ∷ xs) (y ∷ ys)) ≡ 1 + length (union numbers xs ys)
+  first-both h = ap length (union-step numbers x xs y ys hx hy) ∙ rw (ap (numbers .cmp x) (sym h) ∙ numbers .self x) (omega arith)
+
+-- a side goes on where its version is not the greater one
+abbrev pub Passed : ℕ → ℕ → ℕ → ℕ → Type 0
+Passed a b i i′ = ((a ≤ b) × (i′ ≡ i + 1)) ⊎ ((b < a) × (i′ ≡ i))
+
+module _ (xs ys : List ℕ) (i j count : ℕ) (w : VersionsLeft xs ys i j count) where
+  versions-left : length ys ≤ j → rising numbers xs ≡ true → rising numbers ys ≡ true → count + (length xs - i) ≡ length (union numbers xs ys)
+  versions-left l h k =
+      sym (w .is h k
+      ∙ ap (λ (zs : List ℕ). count + length (union numbers (drop i xs) zs)) (drop-of-length-le ys l)
+      ∙ ap (λ (zs : List ℕ). count + length zs) (union-right-nil numbers (drop i xs) (ups-drop xs i (rising-ups numbers xs .0 h)))
+      ∙ ap (λ (n : ℕ). count + n) (length-drop i xs))
+
+  versions-right : length xs ≤ i → rising numbers xs ≡ true → rising numbers ys ≡ true → count + (length ys - j) ≡ length (union numbers xs ys)
+  versions-right l h k =
+      sym (w .is h k
+      ∙ ap (λ (zs : List ℕ). count + length (union numbers zs (drop j ys))) (drop-of-length-le xs l)
+      ∙ ap (λ (zs : List ℕ). count + length zs) (union-left-nil numbers (drop j ys))
+      ∙ ap (λ (n : ℕ). count + n) (length-drop j ys))
+
+  module _ (l : i < length xs) (m : j < length ys) (i′ j′ : ℕ) (p : Passed (getD xs i 0) (getD ys j 0) i i′) (q : Passed (getD ys j 0) (getD xs i 0) j j′) where
+    abbrev Next : Type 0
+    Next = length (union numbers (drop i xs) (drop j ys)) ≡ 1 + length (union numbers (drop i′ xs) (drop j′ ys))
+
+    module _ (h : rising numbers xs ≡ true) (k : rising numbers ys ≡ true) where
+      abbrev x : ℕ
+      x = getD xs i 0
+
+      abbrev y : ℕ
+      y = getD ys j 0
+
+      left-is : drop i xs ≡ x ∷ drop (suc i) xs
+      left-is = drop-cons xs i 0 l
+
+      right-is : drop j ys ≡ y ∷ drop (suc j) ys
+      right-is = drop-cons ys j 0 m
+
+      hx : Ups numbers (x ∷ drop (suc i) xs)
+      hx = subst (Ups numbers) left-is (ups-drop xs i (rising-ups numbers xs .0 h))
+
+      hy : Ups numbers (y ∷ drop (suc j) ys)
+      hy = subst (Ups numbers) right-is (ups-drop ys j (rising-ups numbers ys .0 k))
+
+      both-split : length (union numbers (drop i xs) (drop j ys)) ≡ length (union numbers (x ∷ drop (suc i) xs) (y ∷ drop (suc j) ys))
+      both-split = ap₂ (λ (a b : List ℕ). length (union numbers a b)) left-is right-is
+
+      next : Next
+      next =
+          ⊎-elim
+          (λ (a : (x ≤ y) × (i′ ≡ i + 1)). ⊎-elim
+          (λ (b : (y ≤ x) × (j′ ≡ j + 1)). both-split ∙ first-both x y (drop (suc i) xs) (drop (suc j) ys) hx hy (omega arith)
+          ∙ ap₂ (λ (a b : ℕ). 1 + length (union numbers (drop a xs) (drop b ys))) (sym (a .1 ∙ add-one i)) (sym (b .1 ∙ add-one j)))
+          (λ (b : (x < y) × (j′ ≡ j)). both-split ∙ first-left x y (drop (suc i) xs) (drop (suc j) ys) hx hy (b .0)
+          ∙ ap₂ (λ (a : ℕ) (b : List ℕ). 1 + length (union numbers (drop a xs) b)) (sym (a .1 ∙ add-one i)) (sym right-is ∙ ap (λ (n : ℕ). drop n ys) (sym (b .1))))
+          q)
+          (λ (a : (y < x) × (i′ ≡ i)). ⊎-elim
+          (λ (b : (y ≤ x) × (j′ ≡ j + 1)). both-split ∙ first-right x y (drop (suc i) xs) (drop (suc j) ys) hx hy (a .0)
+          ∙ ap₂ (λ (a : List ℕ) (b : ℕ). 1 + length (union numbers a (drop b ys))) (sym left-is ∙ ap (λ (n : ℕ). drop n xs) (sym (a .1))) (sym (b .1 ∙ add-one j)))
+          (λ (b : (x < y) × (j′ ≡ j)). absurd (omega arith))
+          q)
+          p
+
+    -- what one turn passes
+    passed-some : (i + j + 1 ≤ i′ + j′) × (i ≤ i′) × (i′ ≤ i + 1) × (j ≤ j′) × (j′ ≤ j + 1)
+    passed-some =
+        ⊎-elim
+        (λ (a : (getD xs i 0 ≤ getD ys j 0) × (i′ ≡ i + 1)). ⊎-elim
+        (λ (b : (getD ys j 0 ≤ getD xs i 0) × (j′ ≡ j + 1)). (omega arith, omega arith, omega arith, omega arith, omega arith))
+        (λ (b : (getD xs i 0 < getD ys j 0) × (j′ ≡ j)). (omega arith, omega arith, omega arith, omega arith, omega arith))
+        q)
+        (λ (a : (getD ys j 0 < getD xs i 0) × (i′ ≡ i)). ⊎-elim
+        (λ (b : (getD ys j 0 ≤ getD xs i 0) × (j′ ≡ j + 1)). (omega arith, omega arith, omega arith, omega arith, omega arith))
+        (λ (b : (getD xs i 0 < getD ys j 0) × (j′ ≡ j)). absurd (omega arith))
+        q)
+        p
+
+    versions-more : VersionsLeft xs ys i′ j′ (count + 1)
+    versions-more = record {
+      is = λ h k. omega (arith, w .is h k, next h k);
+      left = omega (arith, passed-some);
+      right = omega (arith, passed-some);
+      few = omega (arith, passed-some, w .few);
+    }
+
+-- the same of the first m and n versions of two arrays
+module _ (m n : ℕ) (v w : List ℕ) (long : (length v ≡ 8) × (length w ≡ 8)) (few : (m ≤ 8) × (n ≤ 8)) (i j count : ℕ) (z : VersionsLeft (take m v) (take n w) i j count) where
+  left-length : length (take m v) ≡ m
+  left-length = length-take-le m v (omega (arith, long, few))
+
+  right-length : length (take n w) ≡ n
+  right-length = length-take-le n w (omega (arith, long, few))
+
+  pub counted-within : (i ≤ m) × (j ≤ n) × (count ≤ i + j)
+  counted-within = (omega (arith, z .left, left-length), omega (arith, z .right, right-length), z .few)
+
+  pub counted-left : n ≤ j → rising numbers (take m v) ≡ true → rising numbers (take n w) ≡ true → count + (m - i) ≡ length (union numbers (take m v) (take n w))
+  counted-left l h k = omega (arith, left-length, versions-left (take m v) (take n w) i j count z (omega (arith, right-length)) h k)
+
+  pub counted-right : m ≤ i → rising numbers (take m v) ≡ true → rising numbers (take n w) ≡ true → count + (n - j) ≡ length (union numbers (take m v) (take n w))
+  counted-right l h k = omega (arith, right-length, versions-right (take m v) (take n w) i j count z (omega (arith, left-length)) h k)
+
+  module _ (l : i < m) (k : j < n) (i′ j′ : ℕ) (p : Passed (getD v i 0) (getD w j 0) i i′) (q : Passed (getD w j 0) (getD v i 0) j j′) where
+    left-at : getD v i 0 ≡ getD (take m v) i 0
+    left-at = sym (getD-take m v i 0 l)
+
+    right-at : getD w j 0 ≡ getD (take n w) j 0
+    right-at = sym (getD-take n w j 0 k)
+
+    left-passed : Passed (getD (take m v) i 0) (getD (take n w) j 0) i i′
+    left-passed = subst₂ (λ (a b : ℕ). Passed a b i i′) left-at right-at p
+
+    right-passed : Passed (getD (take n w) j 0) (getD (take m v) i 0) j j′
+    right-passed = subst₂ (λ (a b : ℕ). Passed a b j j′) right-at left-at q
+
+    pub counted-passed : (i + j + 1 ≤ i′ + j′) × (i ≤ i′) × (i′ ≤ i + 1) × (j ≤ j′) × (j′ ≤ j + 1)
+    counted-passed = passed-some (take m v) (take n w) i j count z (omega (arith, left-length)) (omega (arith, right-length)) i′ j′ left-passed right-passed
+
+    pub counted-more : VersionsLeft (take m v) (take n w) i′ j′ (count + 1)
+    counted-more = versions-more (take m v) (take n w) i j count z (omega (arith, left-length)) (omega (arith, right-length)) i′ j′ left-passed right-passed

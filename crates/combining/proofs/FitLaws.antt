@@ -1,0 +1,217 @@
+-- The laws of question 8: the limits of two dossiers together.
+use mathlib.Core.Path.{_≡_, refl, sym, ap, ap₂, _∙_, subst₂}
+use mathlib.Core.Bool.{Bool, true, false, cond, _&&_, _||_}
+use mathlib.Core.List.{List, [], _∷_, map}
+use Prim.Native.Nat.{ℕ, zero, suc, _-_, _≤_, _<_}
+use native.Mathlib.Omega.{arith}
+use lib.Dec.{leb, eqb}
+use lib.ListN.{length, take, drop, getD, length-map}
+use borrow.Author.Tests.{lt-ltb, le-ltb, le-leb, lt-leb, eqb-true}
+use Rattle.model.specs.Order.{Order, Text, numbers, texts, rising, three}
+use Rattle.model.specs.Keyed.{put, merge}
+use Rattle.model.specs.Sets.{itself, first, union}
+use Rattle.model.specs.Rule.{Snapshot, joinSnapshots, Dossier, combine, sizes, objects}
+use Rattle.model.specs.Limits.{standard, fits}
+use Rattle.model.specs.Opening.{cellAt, held}
+use Rattle.packed.proofs.LayoutLaws.{All}
+use Rattle.ontology.specs.Table.{EventType, Table, isVersioned}
+use Rattle.ontology.specs.declared.types.TypeIndex.{TypeIndex}
+use Rattle.event.specs.Event.{view}
+use Rattle.event.specs.EventQuestions.{matchCount}
+use Rattle.event.proofs.EventLayoutLaws.{and-parts}
+use Rattle.unions.specs.Runs.{Hashes}
+use Rattle.dossier.specs.DossierQuestions.{eachCell, eachSnapshot, isVacant, holdsVersion, TypedDossier}
+use Rattle.dossier.specs.DossierIndex.{noSnapshot, cellFits, versionFits, snapshotFits}
+use Rattle.dossier.specs.declared.dossiers.DossierIndex.{DossierIndex}
+use Rattle.dossier.proofs.AskLaws.{fitsWith, shape-is, start-within}
+use Rattle.dossier.proofs.DossierLayoutLaws.{DossierWritten}
+use Rattle.dossier.proofs.DossierReadLaws.{to-end}
+use Rattle.combining.specs.CombineCall.{combined}
+use Rattle.combining.specs.CombineIndex.{Combinable, Meet}
+use Rattle.combining.proofs.MeetLaws.{DossierTaken, taken-written, taken-fits, left-taken, right-taken, same-type, meet}
+
+-- ---- the keys of a merge
+
+module _ {E K : Type 0} (O : Order K) (key : E → K) (join : E → E → E) (kept : (a b : E) → key (join a b) ≡ key a) where
+  put-keys : (e : E) (xs : List E) → map key (put O key join e xs) ≡ put O itself first (key e) (map key xs)
+  unfolding put
+  put-keys e [] = refl
+  put-keys e (x ∷ xs) =
+      three (O .cmp (key e) (key x))
+      (λ l. rw l)
+      (λ s. rw (s, kept e x))
+      (λ g. rw (g, put-keys e xs))
+
+  merge-keys : (xs ys : List E) → map key (merge O key join xs ys) ≡ union O (map key xs) (map key ys)
+  unfolding union merge
+  merge-keys [] ys = refl
+  merge-keys (x ∷ xs) ys = put-keys x (merge O key join xs ys) ∙ ap (put O itself first (key x)) (merge-keys xs ys)
+
+-- ---- the parts of the question
+
+-- a dossier's snapshots and their versions
+abbrev snapshots : TypedDossier → List Snapshot
+snapshots a = a .headed .dossier .snapshots
+
+abbrev versions : List Snapshot → List ℕ
+versions xs = map (λ (s : Snapshot). s .version) xs
+
+fits-parts : (ty : EventType) (d : Dossier) → fits standard (view ty) d ≡ (leb (length (d .parents)) 32 && (leb (length (d .snapshots)) 8 && (isVersioned ty || leb (objects (d .snapshots)) 256)))
+unfolding fits standard view
+fits-parts ty d = refl
+
+all-hashes : (hs : List Text) → All (λ (h : Text). length h ≡ 20) hs → Hashes hs
+all-hashes [] w i l = absurd (omega arith)
+all-hashes (h ∷ hs) w zero l = w .0
+all-hashes (h ∷ hs) w (suc i) l = all-hashes hs (w .1) i (omega arith)
+
+-- ---- an unversioned dossier has one snapshot, of version 0
+
+or-right : (a b : Bool) → a ≡ false → (a || b) ≡ true → b ≡ true
+or-right a b e h = ap (λ (x : Bool). x || b) (sym e) ∙ h
+
+one-snapshot : (table : Table) (s : List ℕ) (a : TypedDossier) → DossierTaken table s a → isVersioned (a .type) ≡ false → length (snapshots a) ≡ 1
+one-snapshot table s a w un =
+    let ss = snapshots a in
+    let h = and-parts (isVersioned (a .type) || eqb (length ss) 1) (eachSnapshot (fitsWith (a .type) (getD ss 0 noSnapshot)) ss) (sym (shape-is (a .type) ss) ∙ w .shape) .0 in
+    eqb-true (length ss) 1 (or-right (isVersioned (a .type)) (eqb (length ss) 1) un h)
+
+alone : (ss : List Snapshot) → length ss ≡ 1 → ss ≡ getD ss 0 noSnapshot ∷ []
+alone [] h = absurd (omega arith)
+alone (s ∷ []) h = refl
+alone (s ∷ r ∷ ss) h = absurd (omega arith)
+
+version-none : (ty : EventType) (s : Snapshot) → isVersioned ty ≡ false → snapshotFits ty s ≡ true → s .version ≡ 0
+unfolding snapshotFits versionFits
+version-none ty s un h =
+    let a = and-parts (eachCell (cellFits (isVersioned ty)) isVacant (ty .properties) (s .cells) && leb (matchCount (ty .properties) (map held (s .cells))) 32) (versionFits ty s) h .1 in
+    let b = sym (ap (λ (v : Bool). cond v (leb (sizes (s .cells)) 32 && holdsVersion (s .version) (cellAt s (ty .mark - 1))) (eqb (s .version) 0 && leb (sizes (s .cells)) 256)) un) ∙ a in
+    eqb-true (s .version) 0 (and-parts (eqb (s .version) 0) (leb (sizes (s .cells)) 256) b .0)
+
+-- two snapshots of one version, merged
+merge-alone : (join : Snapshot → Snapshot → Snapshot) (x y : Snapshot) → x .version ≡ y .version → merge numbers (λ (s : Snapshot). s .version) join (x ∷ []) (y ∷ []) ≡ join x y ∷ []
+unfolding merge put
+merge-alone join x y e = rw (ap (numbers .cmp (x .version)) (sym e) ∙ numbers .self (x .version))
+
+-- ---- two dossiers
+
+module _ (table a : List ℕ) (d : DossierIndex) (b : List ℕ) (e : DossierIndex) (t : TypeIndex) (c : Combinable table a d b e t) where
+  abbrev ty : EventType
+  ty = c .left .type
+
+  abbrev whole : Dossier
+  whole = combined (c .left) (c .right)
+
+  left-written : DossierWritten standard (c .left .headed)
+  left-written = taken-written (c .types) a (c .left) (left-taken table a d b e t c)
+
+  right-written : DossierWritten standard (c .right .headed)
+  right-written = taken-written (c .types) b (c .right) (right-taken table a d b e t c)
+
+  -- the parents of each are hashes and rise
+  pub left-hashes : Hashes (c .left .headed .dossier .parents) × (rising texts (c .left .headed .dossier .parents) ≡ true)
+  left-hashes = (all-hashes (c .left .headed .dossier .parents) (left-written .head .parents .each), left-written .head .parents .rises)
+
+  pub right-hashes : Hashes (c .right .headed .dossier .parents) × (rising texts (c .right .headed .dossier .parents) ≡ true)
+  right-hashes = (all-hashes (c .right .headed .dossier .parents) (right-written .head .parents .each), right-written .head .parents .rises)
+
+  -- and so do the versions
+  left-versions : take (d .count) (d .versions) ≡ versions (snapshots (c .left))
+  left-versions = ap (λ (n : ℕ). take n (d .versions)) (c .left-read .count) ∙ c .left-read .snapshots .numbers
+
+  right-versions : take (e .count) (e .versions) ≡ versions (snapshots (c .right))
+  right-versions = ap (λ (n : ℕ). take n (e .versions)) (c .right-read .count) ∙ c .right-read .snapshots .numbers
+
+  pub left-rises : rising numbers (take (d .count) (d .versions)) ≡ true
+  left-rises = ap (rising numbers) left-versions ∙ left-written .rises
+
+  pub right-rises : rising numbers (take (e .count) (e .versions)) ≡ true
+  right-rises = ap (rising numbers) right-versions ∙ right-written .rises
+
+  whole-parents : whole .parents ≡ union texts (c .left .headed .dossier .parents) (c .right .headed .dossier .parents)
+  unfolding combined combine
+  whole-parents = refl
+
+  whole-snapshots : whole .snapshots ≡ merge numbers (λ (s : Snapshot). s .version) (joinSnapshots (view ty)) (snapshots (c .left)) (snapshots (c .right))
+  unfolding combined combine
+  whole-snapshots = refl
+
+  whole-versions : length (whole .snapshots) ≡ length (union numbers (take (d .count) (d .versions)) (take (e .count) (e .versions)))
+  whole-versions =
+      sym (length-map (whole .snapshots) (λ (s : Snapshot). s .version))
+      ∙ ap (λ (ss : List Snapshot). length (versions ss)) whole-snapshots
+      ∙ ap length (merge-keys numbers (λ (s : Snapshot). s .version) (joinSnapshots (view ty)) (λ x y. unfold joinSnapshots in refl) (snapshots (c .left)) (snapshots (c .right)))
+      ∙ sym (ap₂ (λ (v w : List ℕ). length (union numbers v w)) left-versions right-versions)
+
+  -- the first snapshots of an unversioned type, from where they start
+  module _ (un : t .mark ≤ 0) where
+    pub unversioned : isVersioned ty ≡ false
+    unversioned = le-ltb 0 (ty .mark) (omega (arith, c .typed .mark))
+
+    left-one : length (snapshots (c .left)) ≡ 1
+    left-one = one-snapshot (c .types) a (c .left) (left-taken table a d b e t c) unversioned
+
+    right-one : length (snapshots (c .right)) ≡ 1
+    right-one = one-snapshot (c .types) b (c .right) (right-taken table a d b e t c) (ap isVersioned (sym (same-type table a d b e t c)) ∙ unversioned)
+
+    abbrev x : Snapshot
+    x = getD (snapshots (c .left)) 0 noSnapshot
+
+    abbrev y : Snapshot
+    y = getD (snapshots (c .right)) 0 noSnapshot
+
+    same-version : x .version ≡ y .version
+    same-version =
+        version-none ty x unversioned (taken-fits (c .types) a (c .left) (left-taken table a d b e t c) 0 (omega (arith, left-one)))
+        ∙ sym (version-none (c .right .type) y (ap isVersioned (sym (same-type table a d b e t c)) ∙ unversioned) (taken-fits (c .types) b (c .right) (right-taken table a d b e t c) 0 (omega (arith, right-one))))
+
+    pub first-meet : Meet (take (length a - getD (d .starts) 0 0) (drop (getD (d .starts) 0 0) a)) (take (length b - getD (e .starts) 0 0) (drop (getD (e .starts) 0 0) b)) ty x y
+    first-meet =
+        subst₂ (λ (p q : List ℕ). Meet p q ty x y) (sym (to-end a (getD (d .starts) 0 0))) (sym (to-end b (getD (e .starts) 0 0)))
+        (meet table a d b e t c 0 0 (omega (arith, left-one)) (omega (arith, right-one)) same-version)
+
+    whole-objects : objects (whole .snapshots) ≡ sizes (joinSnapshots (view ty) x y .cells)
+    unfolding objects
+    whole-objects =
+        ap objects (whole-snapshots
+        ∙ ap₂ (merge numbers (λ (s : Snapshot). s .version) (joinSnapshots (view ty))) (alone (snapshots (c .left)) left-one) (alone (snapshots (c .right)) right-one)
+        ∙ merge-alone (joinSnapshots (view ty)) x y same-version)
+        ∙ omega arith
+
+  -- where they start
+  pub first-start : (getD (d .starts) 0 0 ≤ length a) × (getD (e .starts) 0 0 ≤ length b)
+  first-start = (start-within a (c .left .headed) d (c .left-read) 0 (omega (arith, c .left-read .one)), start-within b (c .right .headed) e (c .right-read) 0 (omega (arith, c .right-read .one)))
+
+  -- ---- the answers
+
+  abbrev asked : Bool
+  asked = fits standard (view ty) whole
+
+  module _ (n : ℕ) (p : n ≡ length (union texts (c .left .headed .dossier .parents) (c .right .headed .dossier .parents))) where
+    pub fits-parents : 32 < n → false ≡ asked
+    fits-parents l =
+        sym (fits-parts ty whole
+        ∙ ap (λ (z : Bool). z && (leb (length (whole .snapshots)) 8 && (isVersioned ty || leb (objects (whole .snapshots)) 256))) (lt-leb (length (whole .parents)) 32 (omega (arith, p, ap length whole-parents))))
+
+    module _ (l : n ≤ 32) (m : ℕ) (q : m ≡ length (union numbers (take (d .count) (d .versions)) (take (e .count) (e .versions)))) where
+      then-versions : asked ≡ (leb (length (whole .snapshots)) 8 && (isVersioned ty || leb (objects (whole .snapshots)) 256))
+      then-versions =
+          fits-parts ty whole
+          ∙ ap (λ (z : Bool). z && (leb (length (whole .snapshots)) 8 && (isVersioned ty || leb (objects (whole .snapshots)) 256))) (le-leb (length (whole .parents)) 32 (omega (arith, p, ap length whole-parents)))
+
+      pub fits-versions : 8 < m → false ≡ asked
+      fits-versions k = sym (then-versions ∙ ap (λ (z : Bool). z && (isVersioned ty || leb (objects (whole .snapshots)) 256)) (lt-leb (length (whole .snapshots)) 8 (omega (arith, q, whole-versions))))
+
+      module _ (k : m ≤ 8) where
+        then-objects : asked ≡ (isVersioned ty || leb (objects (whole .snapshots)) 256)
+        then-objects = then-versions ∙ ap (λ (z : Bool). z && (isVersioned ty || leb (objects (whole .snapshots)) 256)) (le-leb (length (whole .snapshots)) 8 (omega (arith, q, whole-versions)))
+
+        pub fits-versioned : 0 < t .mark → true ≡ asked
+        fits-versioned h = sym (then-objects ∙ ap (λ (z : Bool). z || leb (objects (whole .snapshots)) 256) (lt-ltb 0 (ty .mark) (omega (arith, c .typed .mark))))
+
+        pub fits-objects : (un : t .mark ≤ 0) {r : Bool} → r ≡ leb (sizes (joinSnapshots (view ty) (getD (snapshots (c .left)) 0 noSnapshot) (getD (snapshots (c .right)) 0 noSnapshot) .cells)) 256 → r ≡ asked
+        fits-objects un h =
+            h
+            ∙ sym (then-objects
+            ∙ ap (λ (z : Bool). z || leb (objects (whole .snapshots)) 256) (unversioned un)
+            ∙ ap (λ (z : ℕ). leb z 256) (whole-objects un))

@@ -1,0 +1,541 @@
+-- The laws of joining two unversioned snapshots.
+use mathlib.Core.Path.{_≡_, refl, sym, ap, ap₂, _∙_, subst}
+use mathlib.Core.Logic.{⊎-elim}
+use mathlib.Core.Bool.{Bool, true, false, cond, not, _&&_, _||_}
+use mathlib.Core.Option.{Option, none, some}
+use mathlib.Core.List.{List, [], _∷_, _++_, map, flatten, append-nil, List·Memᴰ, List·Memᴰ·head, List·Memᴰ·tail}
+use Prim.Native.Nat.{ℕ, zero, suc, _+_, _-_, _≤_, _<_}
+use native.Mathlib.Omega.{arith}
+use native.Mathlib.Numerals.{add-one}
+use lib.Dec.{ltb, leb, eqb}
+use lib.ListN.{length, take, drop, set, getD, getElem?, length-append, length-map, length-set}
+use lib.Seq.{take-all, getD-set-same, getD-set-other}
+use borrow.Author.Tests.{lt-ltb, le-ltb, leb-true, eqb-true, not-true}
+use Rattle.model.specs.Order.{Order, Text, texts, rising, reversed}
+use Rattle.model.specs.Sets.{union, upFrom, upTo}
+use Rattle.model.specs.Rule.{Choice, every, least, Cell, holds, differs, joinCell, places, Snapshot, joinSnapshots}
+use Rattle.model.specs.Opening.{held, isMark, cellAt}
+use Rattle.model.proofs.Cases.{never}
+use Rattle.model.proofs.SetLaws.{rising-ups, union-in}
+use Rattle.model.proofs.PartLaws.{map-same, map-getD, in-upTo}
+use Rattle.model.proofs.StepLaws.{union-left-nil, union-right-nil, join-map}
+use Rattle.packed.specs.Parse.{got}
+use Rattle.packed.specs.Packed.{number, text}
+use Rattle.packed.specs.Written.{Wrote}
+use Rattle.packed.proofs.LayoutLaws.{lt-or-ge}
+use Rattle.packed.proofs.WriteLaws.{wrote-length, wrote-then, ToGo}
+use Rattle.unions.specs.Runs.{TextsRoom}
+use Rattle.values.specs.Spaces.{Kind, kindNumber, inSpace}
+use Rattle.values.specs.ValueOrder.{valueOrder}
+use Rattle.ontology.specs.Table.{Strategy, min, max, add, replace, match, any, strategyNumber, Property, EventType, isMin, isMax, isVersioned}
+use Rattle.ontology.specs.Table as table
+use Rattle.ontology.specs.TypeIndex.{PropertyIs, TypeIs}
+use Rattle.ontology.specs.declared.properties.PropertyAt.{PropertyAt}
+use Rattle.ontology.specs.declared.types.TypeIndex.{TypeIndex}
+use Rattle.event.specs.Event.{choiceOf, atPlace, view}
+use Rattle.event.specs.EventLayout.{setBytes, setsBytes, presenceBit, bitNumber}
+use Rattle.event.specs.EventQuestions.{areInSpace, matchCount, valuesFit}
+use Rattle.event.specs.EventIndex.{SetIs, noSet}
+use Rattle.event.specs.declared.sets.SetAt.{SetAt}
+use Rattle.event.proofs.EventLayoutLaws.{and-parts, SetWritten}
+use Rattle.event.proofs.EventQuestionLaws.{all-at, each-place-at, empty-written}
+use Rattle.dossier.specs.DossierLayout.{readSnapshot, differBit, snapshotBytes}
+use Rattle.dossier.specs.DossierQuestions.{eachCell, isVacant, isPresent, isLone, isLoneIfExtreme, snapshotValues}
+use Rattle.dossier.specs.DossierIndex.{SnapshotIs, SnapshotReads, cellFits, placeFits, versionFits, snapshotFits}
+use Rattle.dossier.specs.declared.snapshots.SnapshotIndex.{SnapshotIndex}
+use Rattle.dossier.proofs.DossierLayoutLaws.{snapshot-was}
+use Rattle.dossier.proofs.CellLaws.{held-at}
+use Rattle.dossier.proofs.AskLaws.{reads-got}
+use Rattle.combining.specs.CombineIndex.{bitOf, isExtremeAt, Fitting, Meet}
+use Rattle.combining.specs.JoinedIndex.{haveObjects, PlacesAre, extremeOrder, Extremes, joinedSet, Paired, PlaceIs, PlaceRoom}
+use Rattle.combining.proofs.PlaceLaws.{set-room, wrote-set}
+
+-- ---- the smaller or larger of two values
+
+none-of : {A : Type 0} (l : List A) → length l ≡ 0 → l ≡ []
+none-of [] h = refl
+none-of (a ∷ l) h = absurd (omega arith)
+
+one-of : (l : List Text) → length l ≤ 1 → 1 ≤ length l → l ≡ getD l 0 [] ∷ []
+one-of [] h k = absurd (omega arith)
+one-of (a ∷ []) h k = refl
+one-of (a ∷ b ∷ l) h k = absurd (omega arith)
+
+whole-part : (v : Text) → take (length v - 0) (drop 0 v) ≡ v
+whole-part v = take-all (length v - 0) v (omega arith)
+
+lone-value : (k : Kind) (xs : List Text) (v : Text) → xs ≡ v ∷ [] → areInSpace k xs ≡ true → inSpace k v ≡ true
+unfolding areInSpace
+lone-value k xs v e h = and-parts (inSpace k v) true (rw e at h) .0
+
+module _ (k : Kind) (kind : ℕ) (xs ys : List Text) (e : Extremes k kind xs ys) where
+  pub chosen-right : (O : Order Text) (w : Text) → length xs ≡ 0 → w ≡ getD ys 0 [] → w ∷ [] ≡ take 1 (union O xs ys)
+  chosen-right O w n q =
+      let y : ys ≡ getD ys 0 [] ∷ [] = one-of ys (e .right-one) (omega (arith, e .some)) in
+      ap (λ (v : Text). v ∷ []) q ∙ sym (ap (take 1) (ap (λ (l : List Text). union O l ys) (none-of xs n) ∙ union-left-nil O ys ∙ y))
+
+  pub chosen-left : (O : Order Text) (v : Text) → length ys ≡ 0 → v ≡ getD xs 0 [] → v ∷ [] ≡ take 1 (union O xs ys)
+  unfolding rising
+  chosen-left O v n q =
+      let x : xs ≡ v ∷ [] = one-of xs (e .left-one) (omega (arith, e .some)) ∙ ap (λ (v : Text). v ∷ []) (sym q) in
+      sym (ap (take 1) (ap₂ (union O) x (none-of ys n) ∙ union-right-nil O (v ∷ []) (rising-ups O (v ∷ []) .0 refl)))
+
+  pub chosen-both :
+      (largest : Bool) (r v w : Text) → (length xs ≡ 0 → ⊥) → (length ys ≡ 0 → ⊥) → v ≡ getD xs 0 [] → w ≡ getD ys 0 [] →
+      ((k : Kind) → kindNumber k ≡ kind → kind ≤ 6 → inSpace k (take (length v - 0) (drop 0 v)) ≡ true → inSpace k (take (length w - 0) (drop 0 w)) ≡ true →
+      r ∷ [] ≡ take 1 (union (cond largest (reversed (valueOrder k)) (valueOrder k)) (take (length v - 0) (drop 0 v) ∷ []) (take (length w - 0) (drop 0 w) ∷ []))) →
+      r ∷ [] ≡ take 1 (union (extremeOrder largest k) xs ys)
+  chosen-both largest r v w m n p q c =
+      let x : xs ≡ v ∷ [] = one-of xs (e .left-one) (positive (length xs) m) ∙ ap (λ (v : Text). v ∷ []) (sym p) in
+      let y : ys ≡ w ∷ [] = one-of ys (e .right-one) (positive (length ys) n) ∙ ap (λ (v : Text). v ∷ []) (sym q) in
+      c k (e .number) (e .ordered)
+      (ap (inSpace k) (whole-part v) ∙ lone-value k xs v x (e .left-values))
+      (ap (inSpace k) (whole-part w) ∙ lone-value k ys w y (e .right-values))
+      ∙ ap₂ (λ (a b : List Text). take 1 (union (extremeOrder largest k) a b)) (ap (λ (a : Text). a ∷ []) (whole-part v) ∙ sym x) (ap (λ (a : Text). a ∷ []) (whole-part w) ∙ sym y)
+    where
+      positive : (n : ℕ) → (n ≡ 0 → ⊥) → 1 ≤ n
+      positive zero h = absurd (h refl)
+      positive (suc n) h = omega arith
+
+-- ---- the set of a place
+
+-- the property of a place of strategy min or max
+pub record ExtremeAt (ty : EventType) (p : ℕ) : Type 0 where
+  pub what : Property
+  pub is : getElem? (ty .properties) p ≡ some what
+  pub extreme : (isMin what || isMax what) ≡ true
+
+pub extreme-at : (ty : EventType) (p : ℕ) → isExtremeAt ty p ≡ true → ExtremeAt ty p
+unfolding isExtremeAt atPlace
+extreme-at ty p h = go (getElem? (ty .properties) p) refl h
+  where
+    go : (o : Option Property) → getElem? (ty .properties) p ≡ o → atPlace false (λ (q : Property). isMin q || isMax q) o ≡ true → ExtremeAt ty p
+    go none e h = never (cc)
+    go (some q) e h = record { what = q; is = e; extreme = h }
+
+every-at : (ty : EventType) (p : ℕ) → isExtremeAt ty p ≡ false → view ty .choice p ≡ every
+unfolding isExtremeAt view choiceOf atPlace
+every-at ty p h = go (getElem? (ty .properties) p) h
+  where
+    strategy : (s : Strategy) (q : Property) → (eqb (strategyNumber s) 1 || eqb (strategyNumber s) 2) ≡ false → choiceOf s q ≡ every
+    strategy min q h = never (cc)
+    strategy max q h = never (cc)
+    strategy add q h = refl
+    strategy replace q h = refl
+    strategy match q h = refl
+    strategy table.set q h = refl
+    strategy any q h = refl
+
+    go : (o : Option Property) → atPlace false (λ (q : Property). isMin q || isMax q) o ≡ false → atPlace every (λ (q : Property). choiceOf (q .strategy) q) o ≡ every
+    go none h = refl
+    go (some q) h = strategy (q .strategy) q h
+
+least-at : (ty : EventType) (p : ℕ) (e : ExtremeAt ty p) → view ty .choice p ≡ least (extremeOrder (isMax (e .what)) (e .what .kind))
+unfolding view atPlace choiceOf
+least-at ty p e = rw (e .is) (go (e .what .strategy) (e .what) (e .extreme))
+  where
+    go : (s : Strategy) (q : Property) → (eqb (strategyNumber s) 1 || eqb (strategyNumber s) 2) ≡ true → choiceOf s q ≡ least (extremeOrder (eqb (strategyNumber s) 2) (q .kind))
+    go min q h = refl
+    go max q h = refl
+    go add q h = never (cc)
+    go replace q h = never (cc)
+    go match q h = never (cc)
+    go table.set q h = never (cc)
+    go any q h = never (cc)
+
+module _ (ty : EventType) (p : ℕ) (xs ys : List Text) where
+  pub joined-every : isExtremeAt ty p ≡ false → joinedSet ty p xs ys ≡ union texts xs ys
+  unfolding joinCell held
+  joined-every h = rw (every-at ty p h)
+
+  pub joined-extreme : (e : ExtremeAt ty p) → joinedSet ty p xs ys ≡ take 1 (union (extremeOrder (isMax (e .what)) (e .what .kind)) xs ys)
+  unfolding joinCell held
+  joined-extreme e = rw (least-at ty p e)
+
+  -- it is empty only where both are
+  pub joined-none : xs ≡ [] → ys ≡ [] → joinedSet ty p xs ys ≡ []
+  unfolding joinCell held
+  joined-none a b = ap₂ (joinedSet ty p) a b ∙ go (view ty .choice p)
+    where
+      go : (c : Choice) → held (joinCell false c (holds []) (holds [])) ≡ []
+      go every = union-left-nil texts []
+      go (least O) = ap (take 1) (union-left-nil O [])
+
+  pub joined-some : 1 ≤ length xs + length ys → 1 ≤ length (joinedSet ty p xs ys)
+  unfolding joinCell held
+  joined-some h = go (view ty .choice p)
+    where
+      member : (m : List Text) (a : Text) → List·Memᴰ a m → 1 ≤ length m
+      member (b ∷ m) a (List·Memᴰ·head q) = omega arith
+      member (b ∷ m) a (List·Memᴰ·tail n) = omega arith
+
+      some-in : (l m : List Text) → 1 ≤ length l → ((a : Text) → List·Memᴰ a l → List·Memᴰ a m) → 1 ≤ length m
+      some-in [] m h w = absurd (omega arith)
+      some-in (a ∷ l) m h w = member m a (w a (List·Memᴰ·head refl))
+
+      some-union : (O : Order Text) → 1 ≤ length (union O xs ys)
+      some-union O = some-in (xs ++ ys) (union O xs ys) (omega (arith, length-append xs ys)) (union-in O xs ys)
+
+      some-take : (l : List Text) → 1 ≤ length l → 1 ≤ length (take 1 l)
+      some-take [] h = absurd (omega arith)
+      some-take (a ∷ l) h = omega arith
+
+      go : (c : Choice) → 1 ≤ length (held (joinCell false c (holds xs) (holds ys)))
+      go every = some-union texts
+      go (least O) = some-take (union O xs ys) (some-union O)
+
+-- ---- whether one of two places has objects
+
+module _ (a : List ℕ) (x : SetAt) (b : List ℕ) (y : SetAt) (xs ys : List Text) (v : SetIs a xs x) (w : SetIs b ys y) where
+  pub have-none : haveObjects x y ≡ false → (xs ≡ []) × (ys ≡ [])
+  have-none h = go (x .count) (y .count) (v .count) (w .count) h
+    where
+      go : (m n : ℕ) → m ≡ length xs → n ≡ length ys → (ltb 0 m || ltb 0 n) ≡ false → (xs ≡ []) × (ys ≡ [])
+      go zero zero p q h = (none-of xs (sym p), none-of ys (sym q))
+      go zero (suc n) p q h = let z : ltb 0 (suc n) ≡ true = lt-ltb 0 (suc n) (omega arith) in never (cc)
+      go (suc m) n p q h = let z : ltb 0 (suc m) ≡ true = lt-ltb 0 (suc m) (omega arith) in never (cc (rw z at h))
+
+  pub have-some : haveObjects x y ≡ true → 1 ≤ length xs + length ys
+  have-some h = go (x .count) (y .count) (v .count) (w .count) h
+    where
+      go : (m n : ℕ) → m ≡ length xs → n ≡ length ys → (ltb 0 m || ltb 0 n) ≡ true → 1 ≤ length xs + length ys
+      go zero zero p q h = let z : ltb 0 0 ≡ false = le-ltb 0 0 (omega arith) in never (cc (rw z at h))
+      go zero (suc n) p q h = omega arith
+      go (suc m) n p q h = omega arith
+
+  module _ (ty : EventType) (p : ℕ) where
+    pub nothing-bytes : haveObjects x y ≡ false → setBytes (joinedSet ty p xs ys) ≡ []
+    unfolding setBytes
+    nothing-bytes h = let (m, n) = have-none h in ap setBytes (joined-none ty p xs ys m n)
+
+    pub some-bytes : haveObjects x y ≡ true → setBytes (joinedSet ty p xs ys) ≡ number (length (joinedSet ty p xs ys)) ++ flatten (map text (joinedSet ty p xs ys))
+    unfolding setBytes
+    some-bytes h = go (joinedSet ty p xs ys) (joined-some ty p xs ys (have-some h))
+      where
+        go : (l : List Text) → 1 ≤ length l → setBytes l ≡ number (length l) ++ flatten (map text l)
+        go [] h = absurd (omega arith)
+        go (c ∷ l) h = refl
+
+    pub presence-is : presenceBit (joinedSet ty p xs ys) ≡ bitOf (haveObjects x y)
+    unfolding presenceBit bitOf
+    presence-is = go (haveObjects x y) refl
+      where
+        one : (l : List Text) → 1 ≤ length l → presenceBit l ≡ 1
+        one [] h = absurd (omega arith)
+        one (c ∷ l) h = refl
+
+        go : (b : Bool) → haveObjects x y ≡ b → presenceBit (joinedSet ty p xs ys) ≡ bitOf b
+        go false e = let (m, n) = have-none e in ap presenceBit (joined-none ty p xs ys m n)
+        go true e = one (joinedSet ty p xs ys) (joined-some ty p xs ys (have-some e))
+
+-- ---- writing a place
+
+pub wrote-same : {l xs ys l′ : List ℕ} {at next : ℕ} → xs ≡ ys → Wrote l at xs l′ next → Wrote l at ys l′ next
+wrote-same {l} {xs} {ys} {l′} {at} {next} e w = subst (λ (z : List ℕ). Wrote l at z l′ next) e w
+
+-- what the chosen value asks
+module _ (t : TypeIndex) (p : ℕ) (a : List ℕ) (x : SetAt) (b : List ℕ) (y : SetAt) (some : haveObjects x y ≡ true) (h : PlaceIs t p a x b y) where
+  module _ (e : isExtremeAt (h .type) p ≡ true) where
+    abbrev here : ExtremeAt (h .type) p
+    here = extreme-at (h .type) p e
+
+    property : (d : PropertyAt) → PropertyIs (h .table) (here .what) (getD (t .properties) p d)
+    property d = h .typed .are .each p (here .what) d (here .is)
+
+    extremes : (d : PropertyAt) → Extremes (here .what .kind) (getD (t .properties) p d .kind) (h .xs) (h .ys)
+    extremes d = record {
+      number = sym (property d .kind .number);
+      ordered = subst (λ (n : ℕ). n ≤ 6) (sym (property d .kind .number)) (h .paired .ordered (here .what) (here .is) (here .extreme));
+      left-one = h .paired .few e .0;
+      right-one = h .paired .few e .1;
+      left-values = h .paired .values (here .what) (here .is) .0;
+      right-values = h .paired .values (here .what) (here .is) .1;
+      some = have-some a x b y (h .xs) (h .ys) (h .left) (h .right) some;
+    }
+
+    -- the text of the chosen value is all of the set
+    pub chosen-text :
+        (d : PropertyAt) (v : Text) →
+        ((k : Kind) (xs ys : List Text) → SetIs a xs x → SetIs b ys y → Extremes k (getD (t .properties) p d .kind) xs ys → v ∷ [] ≡ take 1 (union (extremeOrder (eqb (getD (t .properties) p d .strategy) 2) k) xs ys)) →
+        text v ≡ flatten (map text (joinedSet (h .type) p (h .xs) (h .ys)))
+    unfolding flatten
+    chosen-text d v c =
+        sym (append-nil (text v))
+        ∙ ap (λ (l : List Text). flatten (map text l))
+        (c (here .what .kind) (h .xs) (h .ys) (h .left) (h .right) (extremes d)
+        ∙ ap (λ (n : ℕ). take 1 (union (extremeOrder (eqb n 2) (here .what .kind)) (h .xs) (h .ys))) (property d .strategy)
+        ∙ sym (joined-extreme (h .type) p (h .xs) (h .ys) here))
+
+  -- a union is all of the set elsewhere
+  module _ (e : isExtremeAt (h .type) p ≡ false) (u v : List ℕ) (l : u ≡ flatten (map text (h .xs))) (r : v ≡ flatten (map text (h .ys))) where
+    pub union-texts : flatten (map text (union texts (h .xs) (h .ys))) ≡ flatten (map text (joinedSet (h .type) p (h .xs) (h .ys)))
+    union-texts = ap (λ (s : List Text). flatten (map text s)) (sym (joined-every (h .type) p (h .xs) (h .ys) e))
+
+    pub union-room : (at size : ℕ) → at + length (flatten (map text (joinedSet (h .type) p (h .xs) (h .ys)))) ≤ size → TextsRoom u v at size
+    union-room at size k = record {
+      xs = h .xs;
+      ys = h .ys;
+      left = l;
+      right = r;
+      xs-rise = h .paired .left-rises;
+      ys-rise = h .paired .right-rises;
+      room = omega (arith, ap length union-texts);
+    }
+
+  pub place-room : (n at size : ℕ) → n ≡ length (joinedSet (h .type) p (h .xs) (h .ys)) → at + length (setBytes (joinedSet (h .type) p (h .xs) (h .ys))) ≤ size → at + length (number n) + length (flatten (map text (joinedSet (h .type) p (h .xs) (h .ys)))) ≤ size
+  place-room n at size e k =
+      set-room n (joinedSet (h .type) p (h .xs) (h .ys)) at size e (subst (λ (z : List ℕ). at + length z ≤ size) (some-bytes a x b y (h .xs) (h .ys) (h .left) (h .right) (h .type) p some) k)
+
+  pub place-wrote : {l l₁ l₂ : List ℕ} {at b next : ℕ} (n : ℕ) → n ≡ length (joinedSet (h .type) p (h .xs) (h .ys)) → Wrote l at (number n) l₁ b → Wrote l₁ b (flatten (map text (joinedSet (h .type) p (h .xs) (h .ys)))) l₂ next → Wrote l at (setBytes (joinedSet (h .type) p (h .xs) (h .ys))) l₂ next
+  place-wrote n e v w =
+      wrote-same (sym (some-bytes a x b y (h .xs) (h .ys) (h .left) (h .right) (h .type) p some)) (wrote-set n (joinedSet (h .type) p (h .xs) (h .ys)) e refl v w)
+
+pub to-go-same : {l₀ whole l l′ xs : List ℕ} {at p p′ : ℕ} → ToGo l₀ at whole l p xs → l′ ≡ l → p′ ≡ p → ToGo l₀ at whole l′ p′ xs
+to-go-same g e f = rw (e, f) g
+
+-- ---- the places that have objects
+
+-- the same of the places below k
+pub record PlacesTo (left right : List SetAt) (l : List Bool) (k : ℕ) : Type 0 where
+  pub long : length l ≡ 32
+  pub each : (p : ℕ) → p < k → getD l p false ≡ haveObjects (getD left p noSet) (getD right p noSet)
+
+pub places-none : (left right : List SetAt) (l : List Bool) → length l ≡ 32 → PlacesTo left right l 0
+places-none left right l h = record { long = h; each = λ p k. absurd (omega arith) }
+
+module _ (left right : List SetAt) (l : List Bool) (k : ℕ) (w : PlacesTo left right l k) where
+  pub places-more : (b : Bool) → k < 32 → b ≡ haveObjects (getD left k noSet) (getD right k noSet) → PlacesTo left right (set l k b) (k + 1)
+  places-more b h e = record {
+    long = length-set l k b ∙ w .long;
+    each = λ p m.
+        ⊎-elim
+        (λ (n : p < k). let d : p ≡ k → ⊥ = λ q. omega arith in getD-set-other l k p b false d ∙ w .each p n)
+        (λ (n : k ≤ p).
+        let q : p ≡ k = omega arith in
+        let o : k < length l = omega (arith, w .long) in
+        ap (λ (i : ℕ). getD (set l k b) i false) q ∙ getD-set-same l k b false o ∙ e ∙ ap (λ (i : ℕ). haveObjects (getD left i noSet) (getD right i noSet)) (sym q))
+        (lt-or-ge p k);
+  }
+
+  pub places-all : 32 ≤ k → PlacesAre left right l
+  places-all h = record { long = w .long; each = λ p m. w .each p (omega arith) }
+
+-- ---- an unversioned snapshot
+
+-- the set of a place
+abbrev pub setOf : Snapshot → ℕ → List Text
+setOf x p = getD (map held (x .cells)) p []
+
+fits-at : (f : Bool) (ps : List Property) (cs : List Cell) → eachCell (cellFits f) isVacant ps cs ≡ true → (p : ℕ) → placeFits f (getElem? ps p) (getD cs p (holds [])) ≡ true
+unfolding eachCell placeFits isVacant isMark held
+fits-at f [] [] h p = refl
+fits-at f [] (c ∷ cs) h zero = and-parts (isVacant c) _ h .0
+fits-at f [] (c ∷ cs) h (suc p) = fits-at f [] cs (and-parts (isVacant c) _ h .1) p
+fits-at f (q ∷ ps) [] h zero = and-parts (cellFits f q (holds [])) _ h .0
+fits-at f (q ∷ ps) [] h (suc p) = fits-at f ps [] (and-parts (cellFits f q (holds [])) _ h .1) p
+fits-at f (q ∷ ps) (c ∷ cs) h zero = and-parts (cellFits f q c) _ h .0
+fits-at f (q ∷ ps) (c ∷ cs) h (suc p) = fits-at f ps cs (and-parts (cellFits f q c) _ h .1) p
+
+plain-parts : (f : Bool) (q : Property) (c : Cell) → f ≡ false → cellFits f q c ≡ true → (not (isMark c) ≡ true) × (isLoneIfExtreme q c ≡ true)
+unfolding cellFits
+plain-parts f q c e h = and-parts (not (isMark c)) (isLoneIfExtreme q c) (and-parts (isPresent q c) _ (and-parts (isPresent q c && (not (isMark c) && isLoneIfExtreme q c)) _ (rw e at h) .0) .1)
+
+plain-mark : (f : Bool) (o : Option Property) (c : Cell) → f ≡ false → placeFits f o c ≡ true → isMark c ≡ false
+unfolding placeFits isVacant
+plain-mark f none c e h = not-true (isMark c) (and-parts (not (isMark c)) _ h .0)
+plain-mark f (some q) c e h = not-true (isMark c) (plain-parts f q c e h .0)
+
+plain-holds : (c : Cell) → isMark c ≡ false → c ≡ holds (held c)
+unfolding isMark held
+plain-holds (holds s) h = refl
+plain-holds differs h = never (cc)
+
+lone-extreme : (q : Property) (c : Cell) → isLoneIfExtreme q c ≡ true → (isMin q || isMax q) ≡ true → length (held c) ≤ 1
+unfolding isLoneIfExtreme isLone
+lone-extreme q c h e = leb-true (length (held c)) 1 (rw e at h)
+
+module _ (ty : EventType) (x : Snapshot) (f : snapshotFits ty x ≡ true) (u : isVersioned ty ≡ false) where
+  fits-parts : (eachCell (cellFits (isVersioned ty)) isVacant (ty .properties) (x .cells) ≡ true) × (versionFits ty x ≡ true)
+  unfolding snapshotFits
+  fits-parts =
+      let (a, b) = and-parts (eachCell (cellFits (isVersioned ty)) isVacant (ty .properties) (x .cells) && leb (matchCount (ty .properties) (map held (x .cells))) 32) (versionFits ty x) f in
+      (and-parts (eachCell (cellFits (isVersioned ty)) isVacant (ty .properties) (x .cells)) _ a .0, b)
+
+  cell-fits : (p : ℕ) → placeFits (isVersioned ty) (getElem? (ty .properties) p) (getD (x .cells) p (holds [])) ≡ true
+  cell-fits p = fits-at (isVersioned ty) (ty .properties) (x .cells) (fits-parts .0) p
+
+  plain-cell : (p : ℕ) → cellAt x p ≡ holds (setOf x p)
+  unfolding cellAt
+  plain-cell p =
+      plain-holds (getD (x .cells) p (holds [])) (plain-mark (isVersioned ty) (getElem? (ty .properties) p) (getD (x .cells) p (holds [])) u (cell-fits p))
+      ∙ ap holds (sym (held-at (x .cells) p))
+
+  plain-few : (p : ℕ) → isExtremeAt ty p ≡ true → length (setOf x p) ≤ 1
+  unfolding placeFits
+  plain-few p h =
+      let e = extreme-at ty p h in
+      let c = getD (x .cells) p (holds []) in
+      let k : cellFits (isVersioned ty) (e .what) c ≡ true = subst (λ (o : Option Property). placeFits (isVersioned ty) o c ≡ true) (e .is) (cell-fits p) in
+      subst (λ (s : List Text). length s ≤ 1) (sym (held-at (x .cells) p)) (lone-extreme (e .what) c (plain-parts (isVersioned ty) (e .what) c u k .1) (e .extreme))
+
+  plain-version : x .version ≡ 0
+  unfolding versionFits
+  plain-version = eqb-true (x .version) 0 (and-parts (eqb (x .version) 0) _ (rw u at (fits-parts .1)) .0)
+
+set-values : (ty : EventType) (x : Snapshot) → snapshotValues ty x ≡ true → (p : ℕ) (q : Property) → getElem? (ty .properties) p ≡ some q → areInSpace (q .kind) (setOf x p) ≡ true
+unfolding snapshotValues valuesFit
+set-values ty x v p q e = each-place-at (λ (q : Property) (s : List Text). areInSpace (q .kind) s) (λ (s : List Text). true) (ty .properties) (map held (x .cells)) v p q e
+
+set-rises : (s : List ℕ) (x : Snapshot) (r : List ℕ) → readSnapshot s ≡ got x r → (p : ℕ) → rising texts (setOf x p) ≡ true
+set-rises s x r e p = all-at SetWritten [] empty-written (map held (x .cells)) (snapshot-was s x r e .1 .sets .each) p .rises
+
+-- cells that hold sets have those sets and no mark
+sets-held : (g : ℕ → List Text) (ps : List ℕ) → map held (map (λ p. holds (g p)) ps) ≡ map g ps
+unfolding held
+sets-held g [] = refl
+sets-held g (p ∷ ps) = ap (λ (ss : List (List Text)). g p ∷ ss) (sets-held g ps)
+
+none-differ : (g : ℕ → List Text) (ps : List ℕ) → bitNumber (map differBit (map (λ p. holds (g p)) ps)) ≡ 0
+unfolding differBit bitNumber
+none-differ g [] = refl
+none-differ g (p ∷ ps) = omega (arith, none-differ g ps)
+
+-- ---- two unversioned snapshots
+
+-- they stand at the front of a and b, as the indexes say
+pub record Joins (table a b : List ℕ) (t : TypeIndex) (i j : SnapshotIndex) (ty : EventType) (x y : Snapshot) : Type 0 where
+  pub typed : TypeIs table ty t
+  pub unversioned : isVersioned ty ≡ false
+  pub meet : Meet a b ty x y
+  pub left : SnapshotIs a x i
+  pub right : SnapshotIs b y j
+
+pub joins : {table a b : List ℕ} {t : TypeIndex} {i j : SnapshotIndex} {ty : EventType} {x y : Snapshot} → SnapshotReads (readSnapshot a) a i → SnapshotReads (readSnapshot b) b j → TypeIs table ty t → isVersioned ty ≡ false → Meet a b ty x y → Joins table a b t i j ty x y
+joins {table} {a} {b} {t} {i} {j} {ty} {x} {y} p q w u m = record {
+  typed = w;
+  unversioned = u;
+  meet = m;
+  left = reads-got (readSnapshot a) a i x (m .left-rest) p (m .left-read);
+  right = reads-got (readSnapshot b) b j y (m .right-rest) q (m .right-read);
+}
+
+-- the bytes of their sets together, from place k on
+unfoldable pub setsFrom : EventType → Snapshot → Snapshot → ℕ → List ℕ
+setsFrom ty x y k = setsBytes (map (λ p. joinedSet ty p (setOf x p) (setOf y p)) (upFrom k (32 - k)))
+
+pub sets-step : (ty : EventType) (x y : Snapshot) (k : ℕ) → k < 32 → setsFrom ty x y k ≡ setBytes (joinedSet ty k (setOf x k) (setOf y k)) ++ setsFrom ty x y (k + 1)
+unfolding setsFrom setsBytes flatten upFrom
+sets-step ty x y k h =
+    ap (λ (n : ℕ). setsBytes (map (λ p. joinedSet ty p (setOf x p) (setOf y p)) (upFrom k n))) (one-more k h)
+    ∙ ap (λ (m : ℕ). setBytes (joinedSet ty k (setOf x k) (setOf y k)) ++ setsBytes (map (λ p. joinedSet ty p (setOf x p) (setOf y p)) (upFrom m (32 - (k + 1))))) (sym (add-one k))
+  where
+    one-more : (k : ℕ) → k < 32 → 32 - k ≡ suc (32 - (k + 1))
+    one-more k h = omega arith
+
+pub sets-end : (ty : EventType) (x y : Snapshot) (k : ℕ) → 32 ≤ k → setsFrom ty x y k ≡ []
+unfolding setsFrom setsBytes flatten upFrom
+sets-end ty x y k h = let e : 32 - k ≡ 0 = omega arith in ap (λ (n : ℕ). setsBytes (map (λ p. joinedSet ty p (setOf x p) (setOf y p)) (upFrom k n))) e
+
+module _ {table a b : List ℕ} {t : TypeIndex} {i j : SnapshotIndex} {ty : EventType} {x y : Snapshot} (h : Joins table a b t i j ty x y) where
+  abbrev f : Fitting ty x y
+  f = h .meet .fitting
+
+  abbrev joined : ℕ → List Text
+  joined p = joinedSet ty p (setOf x p) (setOf y p)
+
+  pub paired : (p : ℕ) → Paired ty p (setOf x p) (setOf y p)
+  paired p = record {
+    left-rises = set-rises a x (h .meet .left-rest) (h .meet .left-read) p;
+    right-rises = set-rises b y (h .meet .right-rest) (h .meet .right-read) p;
+    few = λ e. (plain-few ty x (f .left-fits) (h .unversioned) p e, plain-few ty y (f .right-fits) (h .unversioned) p e);
+    values = λ q e. (set-values ty x (f .left-values) p q e, set-values ty y (f .right-values) p q e);
+    ordered = λ q e o. f .ordered p q e o;
+  }
+
+  abbrev pub joined-place : (p : ℕ) → p < 32 → PlaceIs t p a (getD (i .sets) p noSet) b (getD (j .sets) p noSet)
+  joined-place p l = record {
+    table = table;
+    type = ty;
+    typed = h .typed;
+    xs = setOf x p;
+    ys = setOf y p;
+    left = h .left .sets .each p l;
+    right = h .right .sets .each p l;
+    paired = paired p;
+  }
+
+  -- their cells together
+  cells-long : (s : List ℕ) (z : Snapshot) (k : SnapshotIndex) → SnapshotIs s z k → length (z .cells) ≡ 32
+  cells-long s z k w = sym (length-map (z .cells) held) ∙ w .sets .long
+
+  joined-cell : (p : ℕ) → joinCell (isVersioned ty) (view ty .choice p) (cellAt x p) (cellAt y p) ≡ holds (joined p)
+  joined-cell p =
+      ap (λ (v : Bool). joinCell v (view ty .choice p) (cellAt x p) (cellAt y p)) (h .unversioned)
+      ∙ ap₂ (joinCell false (view ty .choice p)) (plain-cell ty x (f .left-fits) (h .unversioned) p) (plain-cell ty y (f .right-fits) (h .unversioned) p)
+      ∙ go (view ty .choice p)
+    where
+      go : (c : Choice) → joinCell false c (holds (setOf x p)) (holds (setOf y p)) ≡ holds (held (joinCell false c (holds (setOf x p)) (holds (setOf y p))))
+      go every = unfold joinCell held in refl
+      go (least O) = unfold joinCell held in refl
+
+  joined-cells : joinSnapshots (view ty) x y .cells ≡ map (λ p. holds (joined p)) (upTo 32)
+  unfolding view places
+  joined-cells =
+      join-map (view ty) x y (cells-long a x i (h .left)) (cells-long b y j (h .right))
+      ∙ map-same (λ p. joinCell (isVersioned ty) (view ty .choice p) (cellAt x p) (cellAt y p)) (λ p. holds (joined p)) (upTo 32) (λ p m. joined-cell p)
+
+  joined-version : joinSnapshots (view ty) x y .version ≡ 0
+  unfolding joinSnapshots
+  joined-version = plain-version ty x (f .left-fits) (h .unversioned)
+
+  module _ (present : List Bool) (w : PlacesAre (i .sets) (j .sets) present) where
+    presence-bits : map presenceBit (map joined (upTo 32)) ≡ map bitOf present
+    presence-bits =
+        go (upTo 32) (λ p m. in-upTo 32 p .1 m) ∙ ap (map bitOf) (map-getD present false 32 (w .long))
+      where
+        go : (ps : List ℕ) → ((p : ℕ) → List·Memᴰ p ps → p < 32) → map presenceBit (map joined ps) ≡ map bitOf (map (λ p. getD present p false) ps)
+        go [] l = refl
+        go (p ∷ ps) l =
+            let m = l p (List·Memᴰ·head refl) in
+            ap₂ (λ (n : ℕ) (ns : List ℕ). n ∷ ns)
+            (presence-is a (getD (i .sets) p noSet) b (getD (j .sets) p noSet) (setOf x p) (setOf y p) (h .left .sets .each p m) (h .right .sets .each p m) ty p
+            ∙ ap bitOf (sym (w .each p m)))
+            (go ps (λ q n. l q (List·Memᴰ·tail n)))
+
+    pub joined-bytes : snapshotBytes (joinSnapshots (view ty) x y) ≡ number 0 ++ number (bitNumber (map bitOf present)) ++ number 0 ++ setsFrom ty x y 0
+    unfolding snapshotBytes setsFrom upTo
+    joined-bytes =
+        ap₂ (λ (v : ℕ) (cs : List Cell). number v ++ number (bitNumber (map presenceBit (map held cs))) ++ number (bitNumber (map differBit cs)) ++ setsBytes (map held cs)) joined-version joined-cells
+        ∙ ap₂ (λ (ss : List (List Text)) (n : ℕ). number 0 ++ number (bitNumber (map presenceBit ss)) ++ number n ++ setsBytes ss) (sets-held joined (upTo 32)) (none-differ joined (upTo 32))
+        ∙ ap (λ (bs : List ℕ). number 0 ++ number (bitNumber bs) ++ number 0 ++ setsBytes (map joined (upTo 32))) presence-bits
+
+    -- its length, part by part
+    pub joined-length : length (snapshotBytes (joinSnapshots (view ty) x y)) ≡ length (number 0) + length (number (bitNumber (map bitOf present))) + length (number 0) + length (setsFrom ty x y 0)
+    joined-length = ap length joined-bytes ∙ simp length-append (omega arith)
+
+    -- the numbers are written, and then the sets
+    module _ {l l₁ l₂ l₃ : List ℕ} {at p q r : ℕ} (n : ℕ) (e : n ≡ bitNumber (map bitOf present)) (u : Wrote l at (number 0) l₁ p) (v : Wrote l₁ p (number n) l₂ q) (z : Wrote l₂ q (number 0) l₃ r) where
+      pub sets-room : at + length (snapshotBytes (joinSnapshots (view ty) x y)) ≤ length l → r + length (setsFrom ty x y 0) ≤ length l₃
+      sets-room k = omega (arith, joined-length, ap (λ (m : ℕ). length (number m)) e, u .after, v .after, z .after, wrote-length u, wrote-length v, wrote-length z)
+
+      pub joined-wrote : {l₄ : List ℕ} {m : ℕ} → Wrote l₃ r (setsFrom ty x y 0) l₄ m → Wrote l at (snapshotBytes (joinSnapshots (view ty) x y)) l₄ m
+      joined-wrote g =
+          wrote-same (ap (λ (m : ℕ). number 0 ++ number m ++ number 0 ++ setsFrom ty x y 0) e ∙ sym joined-bytes) (wrote-then (wrote-then (wrote-then u v) z) g)
+
+    -- a place that has objects, with its room, where the places before it are written
+    pub place-next :
+        {l₀ l : List ℕ} {at p : ℕ} (k : ℕ) → k < 32 → getD present k false ≡ true → ToGo l₀ at (setsFrom ty x y 0) l p (setsFrom ty x y k) →
+        at + length (setsFrom ty x y 0) ≤ length l₀ → PlaceRoom t k a (getD (i .sets) k noSet) b (getD (j .sets) k noSet) p (length l)
+    place-next k l e g r = record {
+      low = l;
+      some = sym (w .each k l) ∙ e;
+      place = joined-place k l;
+      room = omega (arith, g .after, g .long, ap length (sets-step ty x y k l), length-append (setBytes (joined k)) (setsFrom ty x y (k + 1)));
+    }
+
+    -- nothing is written for one that has none
+    pub place-past :
+        {l₀ l : List ℕ} {at p : ℕ} (k : ℕ) → k < 32 → getD present k false ≡ false → ToGo l₀ at (setsFrom ty x y 0) l p (setsFrom ty x y k) → ToGo l₀ at (setsFrom ty x y 0) l p (setsFrom ty x y (k + 1))
+    place-past {l₀} {l} {at} {p} k m e g =
+        let nothing = nothing-bytes a (getD (i .sets) k noSet) b (getD (j .sets) k noSet) (setOf x k) (setOf y k) (h .left .sets .each k m) (h .right .sets .each k m) ty k (sym (w .each k m) ∙ e) in
+        subst (ToGo l₀ at (setsFrom ty x y 0) l p) (sets-step ty x y k m ∙ ap (λ (z : List ℕ). z ++ setsFrom ty x y (k + 1)) nothing) g

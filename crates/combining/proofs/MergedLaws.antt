@@ -1,0 +1,452 @@
+-- The laws of writing a combined dossier: its head, and the snapshots of both sides by rising version.
+use mathlib.Core.Path.{_≡_, refl, sym, ap, ap₂, _∙_, subst, subst₂}
+use mathlib.Core.Bool.{Bool, true, false, cond}
+use mathlib.Core.List.{List, [], _∷_, _++_, append-assoc, append-nil, map, flatten}
+use Prim.Native.Nat.{ℕ, zero, suc, _+_, _-_, _≤_, _<_, Ordering·lt}
+use native.Mathlib.Omega.{arith}
+use lib.Dec.{leb}
+use lib.ListN.{length, take, drop, getD, length-append, length-map, drop-of-length-le, List·getD-map}
+use lib.Seq.{drop-cons, drop-drop, getD-take}
+use borrow.Author.Tests.{lt-ltb, le-ltb, le-leb, lt-leb}
+use Rattle.model.specs.Order.{Text, texts, numbers, rising, pick, three}
+use Rattle.model.specs.Keyed.{Above, Rising, merge, put}
+use Rattle.model.specs.Sets.{Ups, itself, first, union}
+use Rattle.model.specs.Rule.{Snapshot, joinSnapshots, combine}
+use Rattle.model.specs.Limits.{standard}
+use Rattle.model.proofs.OrderLaws.{less-of, less-cmp, less-turn, more-turn}
+use Rattle.model.proofs.KeyedLaws.{merge-left, merge-right, merge-meet, merge-nil, above-trans}
+use Rattle.model.proofs.SetLaws.{rising-ups}
+use Rattle.packed.specs.Packed.{number, text}
+use Rattle.packed.specs.Located.{part}
+use Rattle.packed.specs.Written.{Wrote}
+use Rattle.packed.proofs.LayoutLaws.{All}
+use Rattle.packed.proofs.WriteLaws.{wrote-then, ToGo, to-go, gone, all-gone}
+use Rattle.ontology.specs.Table.{EventType, isVersioned}
+use Rattle.ontology.specs.TypeIndex.{TypeIs}
+use Rattle.ontology.specs.declared.types.TypeIndex.{TypeIndex}
+use Rattle.event.specs.Event.{view}
+use Rattle.event.specs.EventLayout.{parentsBytes, headBytes}
+use Rattle.event.proofs.SetLaws.{stretch}
+use Rattle.unions.specs.Runs.{Hashes}
+use Rattle.unions.proofs.RunLaws.{part-then}
+use Rattle.dossier.specs.DossierLayout.{Headed, snapshotBytes, dossierBytes}
+use Rattle.dossier.specs.DossierIndex.{noSnapshot, SnapshotsAre, DossierIs}
+use Rattle.dossier.specs.declared.dossiers.DossierIndex.{DossierIndex}
+use Rattle.dossier.proofs.DossierLayoutLaws.{DossierWritten}
+use Rattle.dossier.proofs.DossierReadLaws.{to-end}
+use Rattle.combining.specs.CombineCall.{headedAs, combined}
+use Rattle.combining.specs.CombineIndex.{Combinable, Meet, AgreedRoom, JoinedRoom}
+use Rattle.combining.specs.WriteIndex.{SharedRoom, bytesFrom, RestRoom, nextSnapshot, stepBy, nextBytes, NextRoom, HeadsAre}
+use Rattle.combining.proofs.MeetLaws.{left-taken, right-taken, taken-written, meet}
+
+-- ---- writes
+
+pub nothing-wrote : {l xs : List ℕ} {at : ℕ} → xs ≡ [] → Wrote l at xs l at
+nothing-wrote e = all-gone to-go e
+
+pub wrote-as : {l xs ys l₁ : List ℕ} {at next : ℕ} → xs ≡ ys → Wrote l at xs l₁ next → Wrote l at ys l₁ next
+wrote-as {l} {xs} {ys} {l₁} {at} {next} e w = subst (λ (z : List ℕ). Wrote l at z l₁ next) e w
+
+-- ---- two snapshots of one version
+
+module _ (table : List ℕ) (ty : EventType) (t : TypeIndex) (w : TypeIs table ty t) where
+  pub is-versioned : 0 < t .mark → isVersioned ty ≡ true
+  is-versioned h = lt-ltb 0 (ty .mark) (omega (arith, w .mark))
+
+  pub not-versioned : t .mark ≤ 0 → isVersioned ty ≡ false
+  not-versioned h = le-ltb 0 (ty .mark) (omega (arith, w .mark))
+
+module _ {table a b : List ℕ} {t : TypeIndex} {at size : ℕ} (r : SharedRoom table a b t at size) where
+  pub agreed-room : 0 < t .mark → AgreedRoom a b at size
+  agreed-room h = record { type = r .type; left = r .left; right = r .right; versioned = is-versioned table (r .type) t (r .typed) h; meet = r .meet; room = r .room }
+
+  pub joined-room : t .mark ≤ 0 → JoinedRoom table a b t at size
+  joined-room h = record { type = r .type; left = r .left; right = r .right; typed = r .typed; unversioned = not-versioned table (r .type) t (r .typed) h; meet = r .meet; room = r .room }
+
+-- ---- the snapshots of one side
+
+abbrev versionIn : Snapshot → ℕ
+versionIn s = s .version
+
+abbrev Rises : List Snapshot → Type 0
+Rises = Rising numbers versionIn
+
+-- the versions of the snapshots rise
+versions-rise : (ss : List Snapshot) → rising numbers (map versionIn ss) ≡ true → Rises ss
+versions-rise ss h = all ss (rising-ups numbers (map versionIn ss) .0 h)
+  where
+    above : (k : ℕ) (ss : List Snapshot) → Above numbers itself k (map versionIn ss) → Above numbers versionIn k ss
+    above k [] h = tt
+    above k (s ∷ ss) h = (h .0, above k ss (h .1))
+
+    all : (ss : List Snapshot) → Ups numbers (map versionIn ss) → Rises ss
+    all [] h = tt
+    all (s ∷ ss) h = (above (s .version) ss (h .0), all ss (h .1))
+
+rising-drop : (i : ℕ) (ss : List Snapshot) → Rises ss → Rises (drop i ss)
+rising-drop zero ss h = h
+rising-drop (suc i) [] h = tt
+rising-drop (suc i) (s ∷ ss) h = rising-drop i ss (h .1)
+
+bytes-cons : (ss : List Snapshot) (i : ℕ) → i < length ss → bytesFrom ss i ≡ snapshotBytes (getD ss i noSnapshot) ++ bytesFrom ss (suc i)
+unfolding flatten
+bytes-cons ss i l = ap (λ (z : List Snapshot). flatten (map snapshotBytes z)) (drop-cons ss i noSnapshot l)
+
+bytes-none : (ss : List Snapshot) (i : ℕ) → length ss ≤ i → bytesFrom ss i ≡ []
+unfolding flatten
+bytes-none ss i l = ap (λ (z : List Snapshot). flatten (map snapshotBytes z)) (drop-of-length-le ss l)
+
+module _ (s : List ℕ) (xs : List Snapshot) (starts ends versions : List ℕ) (w : SnapshotsAre s xs starts ends versions) where
+  -- from the start of one on they stand one after the other; n others follow it
+  run-from : (n i last : ℕ) → i + suc n ≡ length xs → last + 1 ≡ length xs → drop (getD starts i 0) s ≡ bytesFrom xs i ++ drop (getD ends last 0) s
+  run-from zero i last e f =
+      let a = w .each i (omega arith) in
+      let k : i ≡ last = omega arith in
+      part-then s (getD starts i 0) (getD ends i 0) (a .order) (a .within)
+      ∙ ap₂ (λ (x y : List ℕ). x ++ y)
+      (a .bytes ∙ sym (bytes-cons xs i (omega arith) ∙ rw (bytes-none xs (suc i) (omega arith)) (append-nil (snapshotBytes (getD xs i noSnapshot)))))
+      (ap (λ (k : ℕ). drop (getD ends k 0) s) k)
+  run-from (suc n) i last e f =
+      let a = w .each i (omega arith) in
+      let r = run-from n (suc i) last (omega arith) f in
+      part-then s (getD starts i 0) (getD ends i 0) (a .order) (a .within)
+      ∙ ap₂ (λ (x y : List ℕ). x ++ y) (a .bytes) (ap (λ (k : ℕ). drop k s) (sym (w .follows i (omega arith))) ∙ r)
+      ∙ sym (append-assoc (snapshotBytes (getD xs i noSnapshot)) (bytesFrom xs (suc i)) (drop (getD ends last 0) s))
+      ∙ ap (λ (x : List ℕ). x ++ drop (getD ends last 0) s) (sym (bytes-cons xs i (omega arith)))
+
+  pub version-at : (i : ℕ) → i < length xs → getD versions i 0 ≡ getD xs i noSnapshot .version
+  version-at i l =
+      sym (getD-take (length xs) versions i 0 l)
+      ∙ ap (λ (v : List ℕ). getD v i 0) (w .numbers)
+      ∙ List·getD-map versionIn xs i noSnapshot
+
+module _ (s : List ℕ) (d : DossierIndex) (h : Headed) (w : DossierIs s h d) (i : ℕ) where
+  abbrev these : List Snapshot
+  these = h .dossier .snapshots
+
+  pub rest-none : d .count ≤ i → bytesFrom these i ≡ []
+  rest-none l = bytes-none these i (omega (arith, w .count))
+
+  module _ (l : i < d .count) where
+    rest-stretch : (part s (getD (d .starts) i 0) (getD (d .ends) (d .count - 1) 0) ≡ bytesFrom these i) × (getD (d .starts) i 0 ≤ getD (d .ends) (d .count - 1) 0) × (getD (d .ends) (d .count - 1) 0 ≤ length s)
+    rest-stretch =
+        let a = w .snapshots .each i (omega (arith, w .count)) in
+        let z = w .snapshots .each (d .count - 1) (omega (arith, w .count)) in
+        let r = run-from s these (d .starts) (d .ends) (d .versions) (w .snapshots) (length these - suc i) i (d .count - 1) (omega (arith, w .count)) (omega (arith, w .count)) in
+        let q = stretch s (bytesFrom these i) (getD (d .starts) i 0) (getD (d .ends) (d .count - 1) 0) (omega (arith, a .order, a .within)) (z .within) r in
+        (q .0, q .1, z .within)
+
+    pub rest-part : part s (getD (d .starts) i 0) (getD (d .ends) (d .count - 1) 0) ≡ bytesFrom these i
+    rest-part = rest-stretch .0
+
+    pub rest-there : (at size : ℕ) → at + length (bytesFrom these i) ≤ size → (getD (d .starts) i 0 ≤ getD (d .ends) (d .count - 1) 0) × (getD (d .ends) (d .count - 1) 0 ≤ length s) × (at + length (part s (getD (d .starts) i 0) (getD (d .ends) (d .count - 1) 0)) ≤ size)
+    rest-there at size k = (rest-stretch .1, rest-stretch .2, omega (arith, ap length rest-part))
+
+-- ---- the next snapshot of both sides
+
+next-less : (ty : EventType) (x y : Snapshot) → x .version < y .version → nextSnapshot ty x y ≡ x
+unfolding nextSnapshot
+next-less ty x y l = rw (less-cmp (x .version) (y .version) l)
+
+next-more : (ty : EventType) (x y : Snapshot) → y .version < x .version → nextSnapshot ty x y ≡ y
+unfolding nextSnapshot
+next-more ty x y l = rw (less-turn numbers (y .version) (x .version) (less-cmp (y .version) (x .version) l))
+
+next-same : (ty : EventType) (x y : Snapshot) → x .version ≡ y .version → nextSnapshot ty x y ≡ joinSnapshots (view ty) x y
+unfolding nextSnapshot
+next-same ty x y e = ap (λ (o : _). pick o x (joinSnapshots (view ty) x y) y) (ap (numbers .cmp (x .version)) (sym e) ∙ numbers .self (x .version))
+
+-- ---- how far the sides go on
+
+pub step-least : (v w : ℕ) → stepBy v w ≤ 1
+unfolding stepBy
+step-least v w = go (leb v w)
+  where
+    go : (b : Bool) → cond b 1 0 ≤ 1
+    go true = omega arith
+    go false = omega arith
+
+pub step-on : (v w : ℕ) → v ≤ w → stepBy v w ≡ 1
+unfolding stepBy
+step-on v w h = rw (le-leb v w h)
+
+pub step-none : (v w : ℕ) → w < v → stepBy v w ≡ 0
+unfolding stepBy
+step-none v w h = rw (lt-leb v w h)
+
+-- one of the sides goes on
+pub step-one : (v w : ℕ) → 1 ≤ stepBy v w + stepBy w v
+step-one v w =
+    three (numbers .cmp v w)
+    (λ l. omega (arith, step-on v w (lt-le (less-of v w l))))
+    (λ e. omega (arith, step-on v w (eq-le (numbers .same v w e))))
+    (λ g. omega (arith, step-on w v (lt-le (less-of w v (more-turn numbers v w g)))))
+  where
+    lt-le : {m n : ℕ} → m < n → m ≤ n
+    lt-le h = omega arith
+
+    eq-le : {m n : ℕ} → m ≡ n → m ≤ n
+    eq-le h = omega arith
+
+-- ---- the snapshots of both sides
+
+join-keeps : (ty : EventType) (x y : Snapshot) → x .version ≡ y .version → joinSnapshots (view ty) x y .version ≡ x .version
+unfolding joinSnapshots
+join-keeps ty x y e = refl
+
+abbrev mergedOf : EventType → List Snapshot → List Snapshot → List Snapshot
+mergedOf ty xs ys = merge numbers versionIn (joinSnapshots (view ty)) xs ys
+
+-- the sides have come to the snapshots x and y
+merge-next : (ty : EventType) (x : Snapshot) (xs : List Snapshot) (y : Snapshot) (ys : List Snapshot) →
+    Rises (x ∷ xs) → Rises (y ∷ ys) →
+    mergedOf ty (x ∷ xs) (y ∷ ys) ≡ nextSnapshot ty x y ∷ mergedOf ty (drop (stepBy (x .version) (y .version)) (x ∷ xs)) (drop (stepBy (y .version) (x .version)) (y ∷ ys))
+merge-next ty x xs y ys hx hy =
+    three (numbers .cmp (x .version) (y .version))
+    (λ l. less l (less-of (x .version) (y .version) l))
+    (λ e. same (numbers .same (x .version) (y .version) e))
+    (λ g. more (more-turn numbers (x .version) (y .version) g) (less-of (y .version) (x .version) (more-turn numbers (x .version) (y .version) g)))
+  where
+    less : numbers .cmp (x .version) (y .version) ≡ Ordering·lt → x .version < y .version → mergedOf ty (x ∷ xs) (y ∷ ys) ≡ nextSnapshot ty x y ∷ mergedOf ty (drop (stepBy (x .version) (y .version)) (x ∷ xs)) (drop (stepBy (y .version) (x .version)) (y ∷ ys))
+    less l h =
+        rw (next-less ty x y h, step-on (x .version) (y .version) (omega arith), step-none (y .version) (x .version) h)
+        (merge-left numbers versionIn (joinSnapshots (view ty)) (join-keeps ty) x xs (y ∷ ys) (hx .0) (l, above-trans numbers versionIn (x .version) (y .version) ys l (hy .0)))
+
+    same : x .version ≡ y .version → mergedOf ty (x ∷ xs) (y ∷ ys) ≡ nextSnapshot ty x y ∷ mergedOf ty (drop (stepBy (x .version) (y .version)) (x ∷ xs)) (drop (stepBy (y .version) (x .version)) (y ∷ ys))
+    same e =
+        rw (next-same ty x y e, step-on (x .version) (y .version) (omega arith), step-on (y .version) (x .version) (omega arith))
+        (merge-meet numbers versionIn (joinSnapshots (view ty)) (join-keeps ty) x xs y ys (hx .0) e)
+
+    more : numbers .cmp (y .version) (x .version) ≡ Ordering·lt → y .version < x .version → mergedOf ty (x ∷ xs) (y ∷ ys) ≡ nextSnapshot ty x y ∷ mergedOf ty (drop (stepBy (x .version) (y .version)) (x ∷ xs)) (drop (stepBy (y .version) (x .version)) (y ∷ ys))
+    more l h =
+        rw (next-more ty x y h, step-none (x .version) (y .version) h, step-on (y .version) (x .version) (omega arith))
+        (merge-right numbers versionIn (joinSnapshots (view ty)) (join-keeps ty) (x ∷ xs) y ys (l, above-trans numbers versionIn (y .version) (x .version) xs l (hx .0)))
+
+merge-at : (ty : EventType) (xs ys : List Snapshot) (i j : ℕ) → i < length xs → j < length ys →
+    Rises (drop i xs) → Rises (drop j ys) →
+    let x = getD xs i noSnapshot in
+    let y = getD ys j noSnapshot in
+    mergedOf ty (drop i xs) (drop j ys) ≡ nextSnapshot ty x y ∷ mergedOf ty (drop (i + stepBy (x .version) (y .version)) xs) (drop (j + stepBy (y .version) (x .version)) ys)
+merge-at ty xs ys i j l m hx hy =
+    let x = getD xs i noSnapshot in
+    let y = getD ys j noSnapshot in
+    go (drop i xs) (drop j ys) (drop-cons xs i noSnapshot l) (drop-cons ys j noSnapshot m) hx hy
+    ∙ ap₂ (λ (u v : List Snapshot). nextSnapshot ty x y ∷ mergedOf ty u v) (drop-drop (stepBy (x .version) (y .version)) i xs) (drop-drop (stepBy (y .version) (x .version)) j ys)
+  where
+    go : (zs ws : List Snapshot) {x y : Snapshot} {us vs : List Snapshot} → zs ≡ x ∷ us → ws ≡ y ∷ vs → Rises zs → Rises ws →
+        mergedOf ty zs ws ≡ nextSnapshot ty x y ∷ mergedOf ty (drop (stepBy (x .version) (y .version)) zs) (drop (stepBy (y .version) (x .version)) ws)
+    go zs ws {x} {y} {us} {vs} e f hx hy = rw (e, f) (merge-next ty x us y vs (rw e at hx) (rw f at hy))
+
+-- the versions of the merged snapshots are those of both sides
+put-versions : (ty : EventType) (x : Snapshot) (ys : List Snapshot) → map versionIn (put numbers versionIn (joinSnapshots (view ty)) x ys) ≡ put numbers itself first (x .version) (map versionIn ys)
+unfolding put
+put-versions ty x [] = refl
+put-versions ty x (y ∷ ys) =
+    three (numbers .cmp (x .version) (y .version))
+    (λ l. rw l)
+    (λ e. rw e (ap (λ (v : ℕ). v ∷ map versionIn ys) (join-keeps ty x y (numbers .same (x .version) (y .version) e))))
+    (λ g. rw g (ap (λ (vs : List ℕ). y .version ∷ vs) (put-versions ty x ys)))
+
+merged-versions : (ty : EventType) (xs ys : List Snapshot) → map versionIn (mergedOf ty xs ys) ≡ union numbers (map versionIn xs) (map versionIn ys)
+unfolding merge union
+merged-versions ty [] ys = refl
+merged-versions ty (x ∷ xs) ys = put-versions ty x (mergedOf ty xs ys) ∙ ap (put numbers itself first (x .version)) (merged-versions ty xs ys)
+
+module _ {table a b : List ℕ} {d e : DossierIndex} {t : TypeIndex} (c : Combinable table a d b e t) where
+  abbrev lefts : List Snapshot
+  lefts = c .left .headed .dossier .snapshots
+
+  abbrev rights : List Snapshot
+  rights = c .right .headed .dossier .snapshots
+
+  -- the bytes of them all
+  abbrev snapshotsPart : List ℕ
+  snapshotsPart = flatten (map snapshotBytes (combined (c .left) (c .right) .snapshots))
+
+  -- what is to be written when the sides have come to their i-th and their j-th
+  abbrev pub mergedBytes : ℕ → ℕ → List ℕ
+  mergedBytes i j = flatten (map snapshotBytes (mergedOf (c .left .type) (drop i lefts) (drop j rights)))
+
+  merged-all : snapshotsPart ≡ mergedBytes 0 0
+  unfolding combined combine
+  merged-all = refl
+
+  left-written : DossierWritten standard (c .left .headed)
+  left-written = taken-written (c .types) a (c .left) (left-taken table a d b e t c)
+
+  right-written : DossierWritten standard (c .right .headed)
+  right-written = taken-written (c .types) b (c .right) (right-taken table a d b e t c)
+
+  left-rising : (i : ℕ) → Rises (drop i lefts)
+  left-rising i = rising-drop i lefts (versions-rise lefts (left-written .rises))
+
+  right-rising : (j : ℕ) → Rises (drop j rights)
+  right-rising j = rising-drop j rights (versions-rise rights (right-written .rises))
+
+  -- one side alone is left
+  pub merged-left : (i j : ℕ) → e .count ≤ j → mergedBytes i j ≡ bytesFrom lefts i
+  merged-left i j h =
+      ap (λ (ss : List Snapshot). flatten (map snapshotBytes ss))
+      (ap (mergedOf (c .left .type) (drop i lefts)) (drop-of-length-le rights {i = j} (omega (arith, c .right-read .count)))
+      ∙ merge-nil numbers versionIn (joinSnapshots (view (c .left .type))) (join-keeps (c .left .type)) (drop i lefts) (left-rising i))
+
+  pub merged-right : (i j : ℕ) → d .count ≤ i → mergedBytes i j ≡ bytesFrom rights j
+  unfolding merge
+  merged-right i j h =
+      ap (λ (ss : List Snapshot). flatten (map snapshotBytes (mergedOf (c .left .type) ss (drop j rights)))) (drop-of-length-le lefts {i = i} (omega (arith, c .left-read .count)))
+
+  left-version : (i : ℕ) → i < d .count → getD (d .versions) i 0 ≡ getD lefts i noSnapshot .version
+  left-version i l = version-at a lefts (d .starts) (d .ends) (d .versions) (c .left-read .snapshots) i (omega (arith, c .left-read .count))
+
+  right-version : (j : ℕ) → j < e .count → getD (e .versions) j 0 ≡ getD rights j noSnapshot .version
+  right-version j l = version-at b rights (e .starts) (e .ends) (e .versions) (c .right-read .snapshots) j (omega (arith, c .right-read .count))
+
+  module _ (i j : ℕ) (l : i < d .count) (m : j < e .count) where
+    abbrev leftOne : Snapshot
+    leftOne = getD lefts i noSnapshot
+
+    abbrev rightOne : Snapshot
+    rightOne = getD rights j noSnapshot
+
+    -- the next one is written, and both sides have gone on
+    pub merged-next : (x y : ℕ) → x ≡ stepBy (getD (d .versions) i 0) (getD (e .versions) j 0) → y ≡ stepBy (getD (e .versions) j 0) (getD (d .versions) i 0) → mergedBytes i j ≡ nextBytes c i j ++ mergedBytes (i + x) (j + y)
+    unfolding flatten
+    merged-next x y p q =
+        ap (λ (ss : List Snapshot). flatten (map snapshotBytes ss))
+        (merge-at (c .left .type) lefts rights i j (omega (arith, c .left-read .count)) (omega (arith, c .right-read .count)) (left-rising i) (right-rising j)
+        ∙ ap₂ (λ (u v : ℕ). nextSnapshot (c .left .type) leftOne rightOne ∷ mergedOf (c .left .type) (drop (i + u) lefts) (drop (j + v) rights))
+        (sym (p ∙ ap₂ stepBy (left-version i l) (right-version j m)))
+        (sym (q ∙ ap₂ stepBy (right-version j m) (left-version i l))))
+
+    pub next-left : getD (d .versions) i 0 < getD (e .versions) j 0 → part a (getD (d .starts) i 0) (getD (d .ends) i 0) ≡ nextBytes c i j
+    next-left h =
+        c .left-read .snapshots .each i (omega (arith, c .left-read .count)) .bytes
+        ∙ ap snapshotBytes (sym (next-less (c .left .type) leftOne rightOne (omega (arith, left-version i l, right-version j m))))
+
+    pub next-right : getD (e .versions) j 0 < getD (d .versions) i 0 → part b (getD (e .starts) j 0) (getD (e .ends) j 0) ≡ nextBytes c i j
+    next-right h =
+        c .right-read .snapshots .each j (omega (arith, c .right-read .count)) .bytes
+        ∙ ap snapshotBytes (sym (next-more (c .left .type) leftOne rightOne (omega (arith, left-version i l, right-version j m))))
+
+    module _ (at size : ℕ) (room : at + length (nextBytes c i j) ≤ size) where
+      pub left-there : getD (d .versions) i 0 < getD (e .versions) j 0 → (getD (d .starts) i 0 ≤ getD (d .ends) i 0) × (getD (d .ends) i 0 ≤ length a) × (at + length (part a (getD (d .starts) i 0) (getD (d .ends) i 0)) ≤ size)
+      left-there h = let s = c .left-read .snapshots .each i (omega (arith, c .left-read .count)) in (s .order, s .within, omega (arith, ap length (next-left h)))
+
+      pub right-there : getD (e .versions) j 0 < getD (d .versions) i 0 → (getD (e .starts) j 0 ≤ getD (e .ends) j 0) × (getD (e .ends) j 0 ≤ length b) × (at + length (part b (getD (e .starts) j 0) (getD (e .ends) j 0)) ≤ size)
+      right-there h = let s = c .right-read .snapshots .each j (omega (arith, c .right-read .count)) in (s .order, s .within, omega (arith, ap length (next-right h)))
+
+    one-version : getD (e .versions) j 0 ≤ getD (d .versions) i 0 → getD (d .versions) i 0 ≤ getD (e .versions) j 0 → leftOne .version ≡ rightOne .version
+    one-version h k = omega (arith, left-version i l, right-version j m)
+
+    pub next-both : getD (e .versions) j 0 ≤ getD (d .versions) i 0 → getD (d .versions) i 0 ≤ getD (e .versions) j 0 → snapshotBytes (joinSnapshots (view (c .left .type)) leftOne rightOne) ≡ nextBytes c i j
+    next-both h k = ap snapshotBytes (sym (next-same (c .left .type) leftOne rightOne (one-version h k)))
+
+    -- the two of one version meet where they start
+    pub next-meet : getD (e .versions) j 0 ≤ getD (d .versions) i 0 → getD (d .versions) i 0 ≤ getD (e .versions) j 0 →
+        Meet (take (length a - getD (d .starts) i 0) (drop (getD (d .starts) i 0) a)) (take (length b - getD (e .starts) j 0) (drop (getD (e .starts) j 0) b)) (c .left .type) leftOne rightOne
+    next-meet h k =
+        subst₂ (λ (x y : List ℕ). Meet x y (c .left .type) leftOne rightOne) (sym (to-end a (getD (d .starts) i 0))) (sym (to-end b (getD (e .starts) j 0)))
+        (meet table a d b e t c i j (omega (arith, c .left-read .count)) (omega (arith, c .right-read .count)) (one-version h k))
+
+    pub shared-room : (at size : ℕ) → at + length (nextBytes c i j) ≤ size → getD (e .versions) j 0 ≤ getD (d .versions) i 0 → getD (d .versions) i 0 ≤ getD (e .versions) j 0 →
+        SharedRoom table (take (length a - getD (d .starts) i 0) (drop (getD (d .starts) i 0) a)) (take (length b - getD (e .starts) j 0) (drop (getD (e .starts) j 0) b)) t at size
+    shared-room at size room h k = record {
+      type = c .left .type;
+      left = leftOne;
+      right = rightOne;
+      typed = c .typed;
+      meet = next-meet h k;
+      room = omega (arith, ap length (next-both h k));
+    }
+
+  -- ---- writing them
+
+  module _ {l₀ l : List ℕ} {at next : ℕ} (i j : ℕ) (g : ToGo l₀ at snapshotsPart l next (mergedBytes i j)) where
+    module _ (room : at + length snapshotsPart ≤ length l₀) where
+      pub left-room : e .count ≤ j → RestRoom a d i next (length l)
+      left-room h = record { what = c .left .headed; is = c .left-read; room = omega (arith, g .after, g .long, ap length (merged-left i j h)) }
+
+      pub right-room : d .count ≤ i → RestRoom b e j next (length l)
+      right-room h = record { what = c .right .headed; is = c .right-read; room = omega (arith, g .after, g .long, ap length (merged-right i j h)) }
+
+      pub next-room : i < d .count → j < e .count → NextRoom table a d i b e j t next (length l)
+      next-room p q =
+          let x = stepBy (getD (d .versions) i 0) (getD (e .versions) j 0) in
+          let y = stepBy (getD (e .versions) j 0) (getD (d .versions) i 0) in
+          record {
+            both = c;
+            left-in = p;
+            right-in = q;
+            room = omega (arith, g .after, g .long, ap length (merged-next i j p q x y refl refl), length-append (nextBytes c i j) (mergedBytes (i + x) (j + y)));
+          }
+
+    pub left-wrote : {l₁ : List ℕ} {to : ℕ} → e .count ≤ j → Wrote l next (bytesFrom lefts i) l₁ to → Wrote l₀ at snapshotsPart l₁ to
+    left-wrote h w = all-gone (gone (bytesFrom lefts i) [] g (merged-left i j h ∙ sym (append-nil (bytesFrom lefts i))) w) refl
+
+    pub right-wrote : {l₁ : List ℕ} {to : ℕ} → d .count ≤ i → Wrote l next (bytesFrom rights j) l₁ to → Wrote l₀ at snapshotsPart l₁ to
+    right-wrote h w = all-gone (gone (bytesFrom rights j) [] g (merged-right i j h ∙ sym (append-nil (bytesFrom rights j))) w) refl
+
+    pub next-wrote : {l₁ : List ℕ} {to : ℕ} (x y : ℕ) → i < d .count → j < e .count → x ≡ stepBy (getD (d .versions) i 0) (getD (e .versions) j 0) → y ≡ stepBy (getD (e .versions) j 0) (getD (d .versions) i 0) →
+        Wrote l next (nextBytes c i j) l₁ to → ToGo l₀ at snapshotsPart l₁ to (mergedBytes (i + x) (j + y))
+    next-wrote x y p q u v w = gone (nextBytes c i j) (mergedBytes (i + x) (j + y)) g (merged-next i j p q x y u v) w
+
+  pub merged-to-go : {l : List ℕ} {at : ℕ} → ToGo l at snapshotsPart l at (mergedBytes 0 0)
+  merged-to-go {l} {at} = subst (λ (z : List ℕ). ToGo l at snapshotsPart l at z) merged-all to-go
+
+  -- ---- the head
+
+  pub heads-are : HeadsAre a d b e (c .left .headed .type) (c .left .headed .source) (c .left .headed .dossier .parents) (c .right .headed .dossier .parents)
+  heads-are = record {
+    left = c .left-read .head;
+    type′ = c .right .headed .type;
+    source′ = c .right .headed .source;
+    right = c .right-read .head;
+    left-each = each-hash (c .left .headed .dossier .parents) (left-written .head .parents .each);
+    right-each = each-hash (c .right .headed .dossier .parents) (right-written .head .parents .each);
+    left-rise = left-written .head .parents .rises;
+    right-rise = right-written .head .parents .rises;
+  }
+    where
+      each-hash : (hs : List Text) → All (λ (h : Text). length h ≡ 20) hs → Hashes hs
+      each-hash [] w i l = absurd (omega arith)
+      each-hash (h ∷ hs) w zero l = w .0
+      each-hash (h ∷ hs) w (suc i) l = each-hash hs (w .1) i (omega arith)
+
+  -- ---- the whole
+
+  abbrev headPart : List ℕ
+  headPart = headBytes (c .left .headed .type) (c .left .headed .source) (union texts (c .left .headed .dossier .parents) (c .right .headed .dossier .parents))
+
+  pub versions-counted : (n : ℕ) → n ≡ length (union numbers (take (d .count) (d .versions)) (take (e .count) (e .versions))) → n ≡ length (combined (c .left) (c .right) .snapshots)
+  unfolding combined combine
+  versions-counted n h =
+      h
+      ∙ ap₂ (λ (v w : List ℕ). length (union numbers v w))
+      (ap (λ (k : ℕ). take k (d .versions)) (c .left-read .count) ∙ c .left-read .snapshots .numbers)
+      (ap (λ (k : ℕ). take k (e .versions)) (c .right-read .count) ∙ c .right-read .snapshots .numbers)
+      ∙ ap length (sym (merged-versions (c .left .type) lefts rights))
+      ∙ length-map (mergedOf (c .left .type) lefts rights) versionIn
+
+  module _ (n : ℕ) (is : n ≡ length (combined (c .left) (c .right) .snapshots)) where
+    pub combined-length : length (dossierBytes (headedAs (c .left .headed) (combined (c .left) (c .right)))) ≡ length headPart + length (number n) + length snapshotsPart
+    unfolding dossierBytes combined combine
+    combined-length = rw is (simp length-append refl)
+
+    pub wrote-combined : {l l₁ l₂ l₃ : List ℕ} {x y z : ℕ} → Wrote l 0 headPart l₁ x → Wrote l₁ x (number n) l₂ y → Wrote l₂ y snapshotsPart l₃ z → Wrote l 0 (dossierBytes (headedAs (c .left .headed) (combined (c .left) (c .right)))) l₃ z
+    unfolding dossierBytes combined combine
+    wrote-combined {l} {l₁} {l₂} {l₃} {x} {y} {z} p q r = wrote-then (wrote-then p (subst (λ (k : ℕ). Wrote l₁ x (number k) l₂ y) is q)) r
+
+-- ---- the writing of a head
+
+module _ (type source : Text) (hs : List Text) where
+  pub head-length : length (headBytes type source hs) ≡ length (text type) + length (text source) + length (number (length hs)) + length (flatten hs)
+  unfolding headBytes parentsBytes
+  head-length = simp length-append (omega arith)
+
+  pub wrote-head : {l l₁ l₂ l₃ l₄ v w : List ℕ} {n x y z u : ℕ} → v ≡ type → w ≡ source → n ≡ length hs →
+      Wrote l 0 (text v) l₁ x → Wrote l₁ x (text w) l₂ y → Wrote l₂ y (number n) l₃ z → Wrote l₃ z (flatten hs) l₄ u → Wrote l 0 (headBytes type source hs) l₄ u
+  unfolding headBytes parentsBytes
+  wrote-head {l} {l₁} {l₂} {l₃} {l₄} {v} {w} {n} {x} {y} {z} {u} e f g p q r s =
+      wrote-then
+      (wrote-then (subst (λ (k : List ℕ). Wrote l 0 (text k) l₁ x) e p) (subst (λ (k : List ℕ). Wrote l₁ x (text k) l₂ y) f q))
+      (wrote-then (subst (λ (k : ℕ). Wrote l₂ y (number k) l₃ z) g r) s)

@@ -1,0 +1,281 @@
+-- The laws of the objects that two unversioned snapshots have together, place by place.
+use mathlib.Core.Path.{_≡_, refl, sym, ap, ap₂, _∙_, subst}
+use mathlib.Core.Logic.{⊎-elim}
+use mathlib.Core.Bool.{Bool, true, false, not, _&&_, _||_}
+use mathlib.Core.Option.{Option, none, some}
+use mathlib.Core.List.{List, [], _∷_, map}
+use Prim.Native.Nat.{ℕ, zero, suc, _+_, _-_, _≤_, _<_}
+use native.Mathlib.Omega.{arith}
+use native.Mathlib.Numerals.{add-one}
+use lib.Dec.{leb, eqb}
+use lib.ListN.{length, take, drop, getD, getElem?, length-map, drop-of-length-le}
+use lib.Seq.{drop-cons}
+use borrow.Author.Tests.{eq-eqb, ne-eqb, le-leb, lt-leb, leb-true}
+use Rattle.model.specs.Order.{Order, Text, texts, rising, three}
+use Rattle.model.specs.Keyed.{put, merge}
+use Rattle.model.specs.Sets.{itself, first, union, upTo}
+use Rattle.model.specs.Rule.{Cell, holds, differs, Choice, every, least, places, Snapshot, joinCell, joinSnapshots, size, sizes}
+use Rattle.model.specs.Opening.{cellAt, isMark, held}
+use Rattle.model.proofs.Cases.{never}
+use Rattle.model.proofs.PartLaws.{length-upTo}
+use Rattle.model.proofs.StepLaws.{join-map, join-at}
+use Rattle.packed.proofs.LayoutLaws.{lt-or-ge}
+use Rattle.ontology.specs.Table.{Strategy, min, max, add, replace, match, set, any, strategyNumber, Property, EventType, isMin, isMax, isVersioned}
+use Rattle.ontology.specs.TypeIndex.{TypeIs}
+use Rattle.ontology.specs.declared.properties.PropertyAt.{PropertyAt}
+use Rattle.ontology.specs.declared.types.TypeIndex.{TypeIndex}
+use Rattle.event.specs.Event.{choiceOf, atPlace, view}
+use Rattle.event.specs.EventIndex.{SetIs, noSet}
+use Rattle.event.specs.EventQuestions.{isEmpty, matchCount}
+use Rattle.event.proofs.EventLayoutLaws.{SetWritten, and-parts}
+use Rattle.event.proofs.EventQuestionLaws.{all-at, empty-written}
+use Rattle.dossier.specs.DossierLayout.{readSnapshot}
+use Rattle.dossier.specs.DossierQuestions.{eachCell, isVacant, isPresent, isLone, isLoneIfExtreme, isUnmarkedMatch}
+use Rattle.dossier.specs.DossierIndex.{SnapshotReads, cellFits, placeFits, versionFits, snapshotFits}
+use Rattle.dossier.specs.declared.snapshots.SnapshotIndex.{SnapshotIndex}
+use Rattle.dossier.proofs.CellLaws.{elem, elem-none, held-at}
+use Rattle.dossier.proofs.DossierLayoutLaws.{SnapshotWritten, snapshot-cells, snapshot-was}
+use Rattle.dossier.proofs.AskLaws.{reads-got}
+use Rattle.combining.specs.CombineIndex.{isExtremeAt, Meet}
+
+-- ---- strategy min or max
+
+or-first : (n : ℕ) → n ≡ 1 → (eqb n 1 || eqb n 2) ≡ eqb n 1
+or-first n e = rw (eq-eqb n 1 e)
+
+or-second : (n : ℕ) → (n ≡ 1 → ⊥) → (eqb n 1 || eqb n 2) ≡ eqb n 2
+or-second n e = rw (ne-eqb n 1 e)
+
+module _ (u : List ℕ) (ty : EventType) (t : TypeIndex) (k : ℕ) (w : TypeIs u ty t) where
+  pub extreme-past : t .count ≤ k → false ≡ isExtremeAt ty k
+  unfolding isExtremeAt atPlace
+  extreme-past h = sym (ap (atPlace false (λ (q : Property). isMin q || isMax q)) (elem-none (ty .properties) k (omega (arith, w .count))))
+
+  module _ (d : PropertyAt) (h : k < t .count) where
+    abbrev strategy : ℕ
+    strategy = getD (t .properties) k d .strategy
+
+    extreme-here : isExtremeAt ty k ≡ (eqb strategy 1 || eqb strategy 2)
+    unfolding isExtremeAt atPlace
+    extreme-here =
+        let e = elem (ty .properties) k (omega (arith, w .count)) in
+        ap (atPlace false (λ (q : Property). isMin q || isMax q)) (e .is)
+        ∙ ap (λ (n : ℕ). eqb n 1 || eqb n 2) (sym (w .are .each k (e .what) d (e .is) .strategy))
+
+    pub extreme-min : strategy ≡ 1 → eqb strategy 1 ≡ isExtremeAt ty k
+    extreme-min e = sym (extreme-here ∙ or-first strategy e)
+
+    pub extreme-max : (strategy ≡ 1 → ⊥) → eqb strategy 2 ≡ isExtremeAt ty k
+    extreme-max e = sym (extreme-here ∙ or-second strategy e)
+
+-- ---- which values such a place keeps
+
+pub record KeepsLeast (c : Choice) : Type 0 where
+  pub order : Order Text
+  pub is : c ≡ least order
+
+least-of : (s : Strategy) (q : Property) → (eqb (strategyNumber s) 1 || eqb (strategyNumber s) 2) ≡ true → KeepsLeast (choiceOf s q)
+unfolding choiceOf
+least-of min q h = record { order = _; is = refl }
+least-of max q h = record { order = _; is = refl }
+least-of add q h = never (cc)
+least-of replace q h = never (cc)
+least-of match q h = never (cc)
+least-of set q h = never (cc)
+least-of any q h = never (cc)
+
+every-of : (s : Strategy) (q : Property) → (eqb (strategyNumber s) 1 || eqb (strategyNumber s) 2) ≡ false → choiceOf s q ≡ every
+unfolding choiceOf
+every-of min q h = never (cc)
+every-of max q h = never (cc)
+every-of add q h = refl
+every-of replace q h = refl
+every-of match q h = refl
+every-of set q h = refl
+every-of any q h = refl
+
+module _ (ty : EventType) (k : ℕ) where
+  pub keeps-least : isExtremeAt ty k ≡ true → KeepsLeast (view ty .choice k)
+  unfolding isExtremeAt atPlace view
+  keeps-least h = go (getElem? (ty .properties) k) h
+    where
+      go : (m : Option Property) → atPlace false (λ (q : Property). isMin q || isMax q) m ≡ true → KeepsLeast (atPlace every (λ (q : Property). choiceOf (q .strategy) q) m)
+      go none h = never (cc)
+      go (some q) h = least-of (q .strategy) q h
+
+  pub keeps-every : isExtremeAt ty k ≡ false → view ty .choice k ≡ every
+  unfolding isExtremeAt atPlace view
+  keeps-every h = go (getElem? (ty .properties) k) h
+    where
+      go : (m : Option Property) → atPlace false (λ (q : Property). isMin q || isMax q) m ≡ false → atPlace every (λ (q : Property). choiceOf (q .strategy) q) m ≡ every
+      go none h = refl
+      go (some q) h = every-of (q .strategy) q h
+
+-- ---- how many values a place has
+
+module _ (O : Order Text) where
+  put-some : (x : Text) (zs : List Text) → length (take 1 (put O itself first x zs)) ≡ 1
+  unfolding put
+  put-some x [] = refl
+  put-some x (z ∷ zs) = three (O .cmp x z) (λ l. rw l) (λ e. rw e) (λ g. rw g)
+
+  union-some : (xs ys : List Text) → (length xs ≡ 0 → ⊥) → length (take 1 (union O xs ys)) ≡ 1
+  unfolding union merge
+  union-some [] ys h = absurd (h refl)
+  union-some (x ∷ xs) ys h = put-some x (merge O itself first xs ys)
+
+  union-none : (xs ys : List Text) → length xs ≡ 0 → length ys ≤ 1 → length (take 1 (union O xs ys)) ≡ length ys
+  unfolding union merge
+  union-none [] [] h l = refl
+  union-none [] (y ∷ []) h l = refl
+  union-none [] (y ∷ z ∷ ys) h l = absurd (omega arith)
+  union-none (x ∷ xs) ys h l = absurd (omega arith)
+
+module _ (ty : EventType) (k : ℕ) (xs ys : List Text) where
+  abbrev together : ℕ
+  together = length (held (joinCell false (view ty .choice k) (holds xs) (holds ys)))
+
+  pub count-every : isExtremeAt ty k ≡ false → length (union texts xs ys) ≡ together
+  unfolding joinCell held
+  count-every h = sym (ap (λ (c : Choice). length (held (joinCell false c (holds xs) (holds ys)))) (keeps-every ty k h))
+
+  module _ (h : isExtremeAt ty k ≡ true) where
+    count-least : together ≡ length (take 1 (union (keeps-least ty k h .order) xs ys))
+    unfolding joinCell held
+    count-least = ap (λ (c : Choice). length (held (joinCell false c (holds xs) (holds ys)))) (keeps-least ty k h .is)
+
+    pub count-right : (n : ℕ) → length xs ≡ 0 → n ≡ length ys → length ys ≤ 1 → n ≡ together
+    count-right n e f l = f ∙ sym (count-least ∙ union-none (keeps-least ty k h .order) xs ys e l)
+
+    pub count-one : (length xs ≡ 0 → ⊥) → 1 ≡ together
+    count-one e = sym (count-least ∙ union-some (keeps-least ty k h .order) xs ys e)
+
+-- ---- the cells of an unversioned snapshot of which question 5 is answered yes
+
+each-cell-at : (f : Bool) (ps : List Property) (cs : List Cell) → eachCell (cellFits f) isVacant ps cs ≡ true → (k : ℕ) → k < length cs → placeFits f (getElem? ps k) (getD cs k (holds [])) ≡ true
+unfolding eachCell placeFits
+each-cell-at f [] [] h k l = absurd (omega arith)
+each-cell-at f [] (c ∷ cs) h zero l = and-parts (isVacant c) _ h .0
+each-cell-at f [] (c ∷ cs) h (suc k) l = each-cell-at f [] cs (and-parts (isVacant c) _ h .1) k (omega arith)
+each-cell-at f (p ∷ ps) [] h k l = absurd (omega arith)
+each-cell-at f (p ∷ ps) (c ∷ cs) h zero l = and-parts (cellFits f p c) _ h .0
+each-cell-at f (p ∷ ps) (c ∷ cs) h (suc k) l = each-cell-at f ps cs (and-parts (cellFits f p c) _ h .1) k (omega arith)
+
+-- a cell at a place: it is not marked, and where its strategy is min or max it has one value at most
+pub record PlainCell (ty : EventType) (k : ℕ) (c : Cell) : Type 0 where
+  pub holds-it : c ≡ holds (held c)
+  pub lone : isExtremeAt ty k ≡ true → length (held c) ≤ 1
+  pub rises : rising texts (held c) ≡ true
+
+not-marked : (c : Cell) → not (isMark c) ≡ true → c ≡ holds (held c)
+unfolding isMark held
+not-marked (holds s) h = refl
+not-marked differs h = never (cc)
+
+-- what the tests of a place say of its cell
+abbrev PlaceSays : Option Property → Cell → Type 0
+PlaceSays m c = (not (isMark c) ≡ true) × (atPlace false (λ (q : Property). isMin q || isMax q) m ≡ true → length (held c) ≤ 1)
+
+lone-so : (a : Bool) (n : ℕ) → (not a || leb n 1) ≡ true → a ≡ true → n ≤ 1
+lone-so true n h e = leb-true n 1 h
+lone-so false n h e = never (cc)
+
+place-says : (m : Option Property) (c : Cell) → placeFits false m c ≡ true → PlaceSays m c
+unfolding placeFits isVacant cellFits isLoneIfExtreme isLone atPlace
+place-says none c h = (and-parts (not (isMark c)) (isEmpty (held c)) h .0, λ e. never (cc))
+place-says (some q) c h =
+    let a = and-parts (isPresent q c && (not (isMark c) && isLoneIfExtreme q c)) (isUnmarkedMatch q c) h .0 in
+    let b = and-parts (isPresent q c) (not (isMark c) && isLoneIfExtreme q c) a .1 in
+    let d = and-parts (not (isMark c)) (isLoneIfExtreme q c) b in
+    (d .0, lone-so (isMin q || isMax q) (length (held c)) (d .1))
+
+module _ (ty : EventType) (x : Snapshot) (w : SnapshotWritten x) (un : isVersioned ty ≡ false) (fits : snapshotFits ty x ≡ true) (k : ℕ) (h : k < 32) where
+  abbrev cell : Cell
+  cell = getD (x .cells) k (holds [])
+
+  fits-here : placeFits false (getElem? (ty .properties) k) cell ≡ true
+  unfolding snapshotFits
+  fits-here =
+      let a = and-parts (eachCell (cellFits (isVersioned ty)) isVacant (ty .properties) (x .cells) && leb (matchCount (ty .properties) (map held (x .cells))) 32) (versionFits ty x) fits .0 in
+      let b = and-parts (eachCell (cellFits (isVersioned ty)) isVacant (ty .properties) (x .cells)) (leb (matchCount (ty .properties) (map held (x .cells))) 32) a .0 in
+      each-cell-at false (ty .properties) (x .cells) (subst (λ (f : Bool). eachCell (cellFits f) isVacant (ty .properties) (x .cells) ≡ true) un b) k (omega (arith, snapshot-cells x w))
+
+  pub plain-cell : PlainCell ty k cell
+  unfolding isExtremeAt
+  plain-cell =
+      let a = place-says (getElem? (ty .properties) k) cell fits-here in
+      record {
+        holds-it = not-marked cell (a .0);
+        lone = a .1;
+        rises = subst (λ (vs : List Text). rising texts vs ≡ true) (held-at (x .cells) k) (all-at SetWritten [] empty-written (map held (x .cells)) (w .sets .each) k .rises);
+      }
+
+-- ---- the objects of all places
+
+size-held : (c : Cell) → size c ≡ length (held c)
+unfolding size held
+size-held (holds s) = refl
+size-held differs = refl
+
+leb-sub : (n m l : ℕ) → n ≤ l → leb (n + m) l ≡ leb m (l - n)
+leb-sub n m l h =
+    ⊎-elim (λ (a : l - n < m). lt-leb (n + m) l (omega arith) ∙ sym (lt-leb m (l - n) a))
+    (λ (a : m ≤ l - n). le-leb (n + m) l (omega arith) ∙ sym (le-leb m (l - n) a))
+    (lt-or-ge (l - n) m)
+
+-- two snapshots where they stand, of an unversioned type
+module _ (a b : List ℕ) (ty : EventType) (x y : Snapshot) (un : isVersioned ty ≡ false) (m : Meet a b ty x y) where
+  left-written : SnapshotWritten x
+  left-written = snapshot-was a x (m .left-rest) (m .left-read) .1
+
+  right-written : SnapshotWritten y
+  right-written = snapshot-was b y (m .right-rest) (m .right-read) .1
+
+  abbrev joined : List Cell
+  joined = joinSnapshots (view ty) x y .cells
+
+  joined-map : joined ≡ map (λ p. joinCell (isVersioned ty) (view ty .choice p) (cellAt x p) (cellAt y p)) (upTo 32)
+  unfolding view places
+  joined-map = join-map (view ty) x y (snapshot-cells x left-written) (snapshot-cells y right-written)
+
+  joined-long : length joined ≡ 32
+  joined-long = ap length joined-map ∙ length-map (upTo 32) (λ p. joinCell (isVersioned ty) (view ty .choice p) (cellAt x p) (cellAt y p)) ∙ length-upTo 32
+
+  pub objects-end : (k room : ℕ) → 32 ≤ k → true ≡ leb (sizes (drop k joined)) room
+  unfolding sizes
+  objects-end k room h = sym (ap (λ (cs : List Cell). leb (sizes cs) room) (drop-of-length-le joined {i = k} (omega (arith, joined-long))) ∙ le-leb 0 room (omega arith))
+
+  module _ (k : ℕ) (h : k < 32) where
+    pub left-cell : PlainCell ty k (getD (x .cells) k (holds []))
+    left-cell = plain-cell ty x left-written un (m .fitting .left-fits) k h
+
+    pub right-cell : PlainCell ty k (getD (y .cells) k (holds []))
+    right-cell = plain-cell ty y right-written un (m .fitting .right-fits) k h
+
+    pub left-set : (i : SnapshotIndex) → SnapshotReads (readSnapshot a) a i → SetIs a (held (getD (x .cells) k (holds []))) (getD (i .sets) k noSet)
+    left-set i r = subst (λ (vs : List Text). SetIs a vs (getD (i .sets) k noSet)) (held-at (x .cells) k) (reads-got (readSnapshot a) a i x (m .left-rest) r (m .left-read) .sets .each k h)
+
+    pub right-set : (i : SnapshotIndex) → SnapshotReads (readSnapshot b) b i → SetIs b (held (getD (y .cells) k (holds []))) (getD (i .sets) k noSet)
+    right-set i r = subst (λ (vs : List Text). SetIs b vs (getD (i .sets) k noSet)) (held-at (y .cells) k) (reads-got (readSnapshot b) b i y (m .right-rest) r (m .right-read) .sets .each k h)
+
+    joined-at : getD joined k (holds []) ≡ joinCell false (view ty .choice k) (holds (held (getD (x .cells) k (holds [])))) (holds (held (getD (y .cells) k (holds []))))
+    unfolding cellAt
+    joined-at =
+        wide ∙ ap (λ (v : Bool). joinCell v (view ty .choice k) (getD (x .cells) k (holds [])) (getD (y .cells) k (holds []))) un
+        ∙ ap₂ (joinCell false (view ty .choice k)) (left-cell .holds-it) (right-cell .holds-it)
+      where
+        wide : getD joined k (holds []) ≡ joinCell (isVersioned ty) (view ty .choice k) (getD (x .cells) k (holds [])) (getD (y .cells) k (holds []))
+        wide = unfold view in join-at (view ty) x y (snapshot-cells x left-written) (snapshot-cells y right-written) k h
+
+    module _ (n room : ℕ) (e : n ≡ length (held (joinCell false (view ty .choice k) (holds (held (getD (x .cells) k (holds [])))) (holds (held (getD (y .cells) k (holds []))))))) where
+      objects-step : sizes (drop k joined) ≡ n + sizes (drop (k + 1) joined)
+      unfolding sizes
+      objects-step =
+          ap sizes (drop-cons joined k (holds []) (omega (arith, joined-long)))
+          ∙ ap₂ (λ (p q : ℕ). p + sizes (drop q joined)) (size-held (getD joined k (holds [])) ∙ ap (λ (c : Cell). length (held c)) joined-at ∙ sym e) (sym (add-one k))
+
+      pub objects-large : room < n → leb (sizes (drop k joined)) room ≡ false
+      objects-large l = lt-leb (sizes (drop k joined)) room (omega (arith, objects-step))
+
+      pub objects-more : n ≤ room → leb (sizes (drop k joined)) room ≡ leb (sizes (drop (k + 1) joined)) (room - n)
+      objects-more l = ap (λ (q : ℕ). leb q room) objects-step ∙ leb-sub n (sizes (drop (k + 1) joined)) room l

@@ -1,0 +1,56 @@
+use borrow.Author.Needs.{needs}
+use mathlib.Core.Path.{sym, _∙_}
+use lib.Dec.{eqb}
+use Rattle.combining.proofs.JoinedLaws.{chosen-right, chosen-left, chosen-both}
+use Rattle.combining.proofs.joined.chosen.Statement.{statement}
+use Rattle.combining.proofs.joined.chosen.Tie as tie
+use Rattle.combining.proofs.joined.chosen.Reads as reads
+use Rattle.combining.proofs.joined.chosen.Lts as lts
+use Rattle.event.proofs.sets.set_part.Reads as set-part-reads
+use Rattle.event.proofs.sets.value_in.Reads as value-in-reads
+use Rattle.values.proofs.spaces.choose.Reads as choose-reads
+
+set-part-requires : tie.Need-set-part-requires
+set-part-requires c κs = search needs
+
+value-in-requires : tie.Need-value-in-requires
+value-in-requires c κs = search needs
+
+set-part-requires-2 : tie.Need-set-part-requires-2
+set-part-requires-2 c κs = search needs
+
+value-in-requires-2 : tie.Need-value-in-requires-2
+value-in-requires-2 c κs = search needs
+
+returns : tie.Need-returns
+returns c =
+    λ kind xs ys v w e. chosen-right kind _ xs ys e _ _ (sym (v .count) ∙ c .if1 .taken) (c .before .before .value-in2 .ensures ys (c .before .before .before .set-part2 .ensures ys w))
+
+returns-2 : tie.Need-returns-2
+returns-2 c = λ kind xs ys v w e. chosen-left kind _ xs ys e _ _ (sym (w .count) ∙ c .if2 .taken) (c .before .before .before .before .before .before .value-in .ensures xs (c .before .before .before .before .before .before .before .set-part .ensures xs v))
+
+choose-requires : tie.Need-choose-requires
+choose-requires c κs = search needs
+
+returns-3 : tie.Need-returns-3
+returns-3 c =
+    λ kind xs ys v w e.
+    chosen-both kind _ xs ys e (eqb (c .before .before .before .before .before .before .before .before .before .before .before .before .args .p .strategy) 2) _ _ _
+    (λ z. c .before .before .before .before .if1 .left (v .count ∙ z))
+    (λ z. c .before .before .if2 .left (w .count ∙ z))
+    (c .before .before .before .before .before .before .before .before .value-in .ensures xs (c .before .before .before .before .before .before .before .before .before .set-part .ensures xs v))
+    (c .before .before .before .before .before .before .value-in2 .ensures ys (c .before .before .before .before .before .before .before .set-part2 .ensures ys w))
+    (c .choose .ensures)
+
+pub chosen-spec : {M : Type 1} → statement M
+chosen-spec =
+    tie.close
+    (tie.spec
+    set-part-requires
+    value-in-requires
+    set-part-requires-2
+    value-in-requires-2
+    returns
+    returns-2
+    choose-requires
+    returns-3)

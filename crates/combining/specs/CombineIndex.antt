@@ -1,0 +1,90 @@
+-- Two dossiers that are combined, and two snapshots of one version, as the code has them.
+use Prim.Native.Nat.{ℕ, _+_, _^_, _≤_, _<_}
+use mathlib.Core.Path.{_≡_}
+use mathlib.Core.Bool.{Bool, true, false, _||_}
+use mathlib.Core.Option.{some}
+use mathlib.Core.List.{List, _++_, map, flatten}
+use lib.ListN.{length, getElem?}
+use Rattle.model.specs.Order.{Text}
+use Rattle.model.specs.Rule.{Snapshot, joinSnapshots}
+use Rattle.model.specs.Limits.{standard}
+use Rattle.packed.specs.Parse.{got}
+use Rattle.packed.specs.Packed.{number, text}
+use Rattle.values.specs.Spaces.{kindNumber}
+use Rattle.ontology.specs.Table.{Property, EventType, Table, isMin, isMax, isVersioned}
+use Rattle.ontology.specs.TableLayout.{tableOf}
+use Rattle.ontology.specs.Questions.{accepted}
+use Rattle.ontology.specs.TypeIndex.{TypeIs}
+use Rattle.ontology.specs.declared.types.TypeIndex.{TypeIndex}
+use Rattle.event.specs.Event.{atPlace, view}
+use Rattle.event.specs.EventIndex.{SetIs}
+use Rattle.event.specs.declared.sets.SetAt.{SetAt}
+use Rattle.dossier.specs.DossierLayout.{readSnapshot, snapshotBytes}
+use Rattle.dossier.specs.DossierQuestions.{TypedDossier, dossierAsked, dossiersAgree, snapshotValues}
+use Rattle.dossier.specs.DossierIndex.{snapshotFits, DossierIs}
+use Rattle.dossier.specs.declared.dossiers.DossierIndex.{DossierIndex}
+
+-- a bit
+unfoldable pub bitOf : Bool → ℕ
+bitOf true = 1
+bitOf false = 0
+
+-- a set, written with its count, has its room in an output of `size` bytes
+pub record SetRoom (s : List ℕ) (x : SetAt) (at size : ℕ) : Type 0 where
+  pub values : List Text
+  pub is : SetIs s values x
+  pub room : at + length (number (length values) ++ flatten (map text values)) ≤ size
+
+-- questions 2 to 7 are answered yes
+pub record Combinable (table a : List ℕ) (d : DossierIndex) (b : List ℕ) (e : DossierIndex) (t : TypeIndex) : Type 0 where
+  pub types : Table
+  pub is : tableOf table ≡ some types
+  pub left : TypedDossier
+  pub right : TypedDossier
+  pub left-asked : dossierAsked standard types a ≡ accepted left
+  pub right-asked : dossierAsked standard types b ≡ accepted right
+  pub agree : dossiersAgree left right ≡ true
+  pub typed : TypeIs table (left .type) t
+  pub left-read : DossierIs a (left .headed) d
+  pub right-read : DossierIs b (right .headed) e
+
+-- strategy min or max at a place
+unfoldable pub isExtremeAt : EventType → ℕ → Bool
+isExtremeAt t p = atPlace false (λ (q : Property). isMin q || isMax q) (getElem? (t .properties) p)
+
+-- two snapshots of one version and one type, of each of which questions 5 and 6 are answered yes
+pub record Fitting (type : EventType) (left right : Snapshot) : Type 0 where
+  pub left-fits : snapshotFits type left ≡ true
+  pub right-fits : snapshotFits type right ≡ true
+  pub left-values : snapshotValues type left ≡ true
+  pub right-values : snapshotValues type right ≡ true
+  pub same : left .version ≡ right .version
+  pub below : left .version < 2 ^ 64
+  pub ordered : (p : ℕ) (q : Property) → getElem? (type .properties) p ≡ some q → (isMin q || isMax q) ≡ true → kindNumber (q .kind) ≤ 6
+
+-- they stand at the front of a and b
+pub record Meet (a b : List ℕ) (type : EventType) (left right : Snapshot) : Type 0 where
+  pub fitting : Fitting type left right
+  pub left-rest : List ℕ
+  pub right-rest : List ℕ
+  pub left-read : readSnapshot a ≡ got left left-rest
+  pub right-read : readSnapshot b ≡ got right right-rest
+
+-- what two versioned snapshots are together has its room in an output of `size` bytes
+pub record AgreedRoom (a b : List ℕ) (at size : ℕ) : Type 0 where
+  pub type : EventType
+  pub left : Snapshot
+  pub right : Snapshot
+  pub versioned : isVersioned type ≡ true
+  pub meet : Meet a b type left right
+  pub room : at + length (snapshotBytes (joinSnapshots (view type) left right)) ≤ size
+
+-- the same of two unversioned ones
+pub record JoinedRoom (table a b : List ℕ) (t : TypeIndex) (at size : ℕ) : Type 0 where
+  pub type : EventType
+  pub left : Snapshot
+  pub right : Snapshot
+  pub typed : TypeIs table type t
+  pub unversioned : isVersioned type ≡ false
+  pub meet : Meet a b type left right
+  pub room : at + length (snapshotBytes (joinSnapshots (view type) left right)) ≤ size

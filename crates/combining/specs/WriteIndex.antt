@@ -1,0 +1,85 @@
+-- What is still to be written of a combined dossier, as the code has it.
+use Prim.Native.Nat.{ℕ, _+_, _≤_, _<_}
+use mathlib.Core.Path.{_≡_}
+use mathlib.Core.Bool.{true, cond}
+use mathlib.Core.List.{List, map, flatten}
+use lib.ListN.{length, drop, getD}
+use lib.Dec.{leb}
+use Rattle.model.specs.Order.{Text, texts, numbers, rising, pick}
+use Rattle.model.specs.Sets.{union}
+use Rattle.model.specs.Rule.{Snapshot, joinSnapshots}
+use Rattle.ontology.specs.Table.{EventType}
+use Rattle.ontology.specs.TypeIndex.{TypeIs}
+use Rattle.ontology.specs.declared.types.TypeIndex.{TypeIndex}
+use Rattle.event.specs.Event.{view}
+use Rattle.event.specs.EventLayout.{headBytes}
+use Rattle.event.specs.EventIndex.{HeadIs}
+use Rattle.unions.specs.Runs.{Hashes}
+use Rattle.dossier.specs.DossierLayout.{Headed, snapshotBytes}
+use Rattle.dossier.specs.DossierIndex.{noSnapshot, DossierIs}
+use Rattle.dossier.specs.declared.dossiers.DossierIndex.{DossierIndex}
+use Rattle.combining.specs.CombineCall.{combined}
+use Rattle.combining.specs.CombineIndex.{Combinable, Meet}
+
+-- what two snapshots of one version are together has its room in an output of `size` bytes
+pub record SharedRoom (table a b : List ℕ) (t : TypeIndex) (at size : ℕ) : Type 0 where
+  pub type : EventType
+  pub left : Snapshot
+  pub right : Snapshot
+  pub typed : TypeIs table type t
+  pub meet : Meet a b type left right
+  pub room : at + length (snapshotBytes (joinSnapshots (view type) left right)) ≤ size
+
+-- the bytes of the snapshots from the i-th on
+abbrev pub bytesFrom : List Snapshot → ℕ → List ℕ
+bytesFrom ss i = flatten (map snapshotBytes (drop i ss))
+
+-- they have their room
+pub record RestRoom (s : List ℕ) (d : DossierIndex) (i at size : ℕ) : Type 0 where
+  pub what : Headed
+  pub is : DossierIs s what d
+  pub room : at + length (bytesFrom (what .dossier .snapshots) i) ≤ size
+
+-- the first snapshot of two sides that begin with x and y: that of the lower version, or both together
+unfoldable pub nextSnapshot : EventType → Snapshot → Snapshot → Snapshot
+nextSnapshot t x y = pick (numbers .cmp (x .version) (y .version)) x (joinSnapshots (view t) x y) y
+
+-- how many snapshots a side of version v goes on by, where the other one has version w
+unfoldable pub stepBy : ℕ → ℕ → ℕ
+stepBy v w = cond (leb v w) 1 0
+
+-- the bytes of the next snapshot, where the sides have come to their i-th and their j-th
+abbrev pub nextBytes : {table a b : List ℕ} {d e : DossierIndex} {t : TypeIndex} → Combinable table a d b e t → ℕ → ℕ → List ℕ
+nextBytes h i j =
+    snapshotBytes (nextSnapshot (h .left .type) (getD (h .left .headed .dossier .snapshots) i noSnapshot) (getD (h .right .headed .dossier .snapshots) j noSnapshot))
+
+pub record NextRoom (table a : List ℕ) (d : DossierIndex) (i : ℕ) (b : List ℕ) (e : DossierIndex) (j : ℕ) (t : TypeIndex) (at size : ℕ) : Type 0 where
+  pub both : Combinable table a d b e t
+  pub left-in : i < d .count
+  pub right-in : j < e .count
+  pub room : at + length (nextBytes both i j) ≤ size
+
+-- the heads of two dossiers, with the hashes of their parents rising
+pub record HeadsAre (a : List ℕ) (d : DossierIndex) (b : List ℕ) (e : DossierIndex) (type source : Text) (parents parents′ : List Text) : Type 0 where
+  pub left : HeadIs a type source parents (d .head)
+  pub type′ : Text
+  pub source′ : Text
+  pub right : HeadIs b type′ source′ parents′ (e .head)
+  pub left-each : Hashes parents
+  pub right-each : Hashes parents′
+  pub left-rise : rising texts parents ≡ true
+  pub right-rise : rising texts parents′ ≡ true
+
+-- the left one has its room, with the parents of both
+pub record HeadRoom (a : List ℕ) (d : DossierIndex) (b : List ℕ) (e : DossierIndex) (size : ℕ) : Type 0 where
+  pub type : Text
+  pub source : Text
+  pub parents : List Text
+  pub parents′ : List Text
+  pub are : HeadsAre a d b e type source parents parents′
+  pub room : length (headBytes type source (union texts parents parents′)) ≤ size
+
+-- the snapshots of both sides have their room
+pub record SnapshotsRoom (table a : List ℕ) (d : DossierIndex) (b : List ℕ) (e : DossierIndex) (t : TypeIndex) (at size : ℕ) : Type 0 where
+  pub both : Combinable table a d b e t
+  pub room : at + length (flatten (map snapshotBytes (combined (both .left) (both .right) .snapshots))) ≤ size

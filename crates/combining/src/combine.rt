@@ -1,0 +1,58 @@
+ghost use mathlib.Core.Path.{_≡_};
+ghost use Rattle.model.specs.Limits.{standard};
+ghost use Rattle.ontology.specs.TableLayout.{tableOf};
+ghost use Rattle.ontology.specs.TypeIndex.{TableSays};
+ghost use Rattle.combining.specs.CombineCall.{combineCall};
+ghost use Rattle.ontology.specs.Replies.{replies};
+use crate::limits::limits_fit;
+use crate::write::write_combined;
+use dossier::dossiers::read_dossier;
+use dossier::questions::ask_dossier;
+use dossier::questions::dossiers_agree;
+use dossier::questions::type_name;
+use ontology::replies::Reply;
+use ontology::tables::TableRead;
+use ontology::tables::read_table;
+use packed::order::same;
+
+// The table read for the name of the right side's type: what was read for the left one, where they have one name.
+fn table_for(table: &[u8], left: &[u8], right: &[u8], read: TableRead) -> TableRead
+    ensures { λ r. ⌜ (TableSays (tableOf (now (table .entry))) (now (table .entry)) (now (left .entry)) read → TableSays (tableOf (now (table .entry))) (now (table .entry)) (now (right .entry)) r) ⌝ }
+{
+    if same(left, right) {
+        return read;
+    }
+    read_table(table, right)
+}
+
+// Two dossiers together, written at the front of `out`.
+pub fn combine<'a>(table: &[u8], left: &'a [u8], right: &'a [u8], out: &mut [u8]) -> Reply
+    ensures { λ r. ⌜ replies r (now (out .exit)) ≡ combineCall standard (now (table .entry)) (now (left .entry)) (now (right .entry)) (now (out .entry)) ⌝ }
+{
+    if out.len() < 32768 {
+        return Reply::Refused(1);
+    }
+    let d = read_dossier(left);
+    let e = read_dossier(right);
+    let name = type_name(left, d);
+    let read = read_table(table, name);
+    if !read.ok {
+        return Reply::Refused(2);
+    }
+    let a = ask_dossier(left, d, read);
+    if a.number != 0 {
+        return Reply::Refused(a.number);
+    }
+    let b = ask_dossier(right, e, table_for(table, name, type_name(right, e), read));
+    if b.number != 0 {
+        return Reply::Refused(b.number);
+    }
+    let kind = a.kind;
+    if !dossiers_agree(left, d, right, e, kind) {
+        return Reply::Refused(7);
+    }
+    if !limits_fit(table, left, d, right, e, kind) {
+        return Reply::Refused(8);
+    }
+    Reply::Done(write_combined(table, left, d, right, e, kind, out))
+}

@@ -1,0 +1,122 @@
+ghost use mathlib.Core.Path.{_≡_};
+ghost use mathlib.Core.Bool.{false};
+ghost use mathlib.Core.List.{List, [], _∷_};
+ghost use lib.Dec.{eqb};
+ghost use lib.ListN.{length, take};
+ghost use Rattle.model.specs.Order.{Text};
+ghost use Rattle.model.specs.Sets.{union};
+ghost use Rattle.model.specs.Rule.{Snapshot, joinSnapshots};
+ghost use Rattle.packed.specs.Written.{Wrote};
+ghost use Rattle.ontology.specs.Table.{EventType, isVersioned};
+ghost use Rattle.ontology.specs.TypeIndex.{TypeIs};
+ghost use Rattle.values.specs.Spaces.{Kind};
+ghost use Rattle.event.specs.Event.{view};
+ghost use Rattle.event.specs.EventLayout.{setBytes};
+ghost use Rattle.event.specs.EventIndex.{SetIs};
+ghost use Rattle.dossier.specs.DossierLayout.{snapshotBytes};
+ghost use Rattle.combining.specs.CombineIndex.{Meet, JoinedRoom};
+ghost use Rattle.combining.specs.JoinedIndex.{haveObjects, PlacesAre, extremeOrder, Extremes, joinedSet, PlaceIs, PlaceRoom};
+use crate::bits::number_of;
+use crate::limits::count_place;
+use crate::limits::is_extreme;
+use dossier::snapshots::read_snapshot;
+use event::sets::SetAt;
+use event::sets::set_part;
+use event::sets::value_in;
+use ontology::properties::PropertyAt;
+use ontology::types::TypeIndex;
+use packed::write::write_number;
+use packed::write::write_text;
+use unions::pair::write_union;
+use values::spaces::choose;
+
+// Whether one of two places has objects.
+fn have_objects(x: SetAt, y: SetAt) -> bool
+    ensures { λ r. ⌜ r ≡ haveObjects x y ⌝ }
+{
+    0 < x.count || 0 < y.count
+}
+
+// The smaller or larger of the values of two places, or the one that is there.
+fn chosen<'a>(p: PropertyAt, a: &'a [u8], x: SetAt, b: &'a [u8], y: SetAt) -> &'a [u8]
+    ensures { λ r. ⌜ ((k : Kind) (xs ys : List Text) → SetIs (now (a .entry)) xs x → SetIs (now (b .entry)) ys y → Extremes k (p .kind) xs ys → now r ∷ [] ≡ take 1 (union (extremeOrder (eqb (p .strategy) 2) k) xs ys)) ⌝ }
+{
+    let v = value_in(set_part(a, x), 0);
+    let w = value_in(set_part(b, y), 0);
+    if x.count == 0 {
+        return w;
+    }
+    if y.count == 0 {
+        return v;
+    }
+    choose(p.kind, p.strategy == 2, v, 0, v.len(), w, 0, w.len())
+}
+
+// Writes the set of a place of two unversioned snapshots, one of which has objects there.
+fn write_place<'a>(
+    t: TypeIndex,
+    k: usize,
+    a: &'a [u8],
+    x: SetAt,
+    b: &'a [u8],
+    y: SetAt,
+    out: &mut [u8],
+    at: usize,
+) -> usize
+    requires { ⌜ PlaceRoom t k (now a) x (now b) y at (length (now out)) ⌝ }
+    ensures { λ r. ⌜ ((h : PlaceIs t k (now (a .entry)) x (now (b .entry)) y) → Wrote (now (out .entry)) at (setBytes (joinedSet (h .type) k (h .xs) (h .ys))) (now (out .exit)) r) ⌝ }
+{
+    let values = write_number(out, at, count_place(t, k, a, x, b, y) as u64);
+    if is_extreme(t, k) {
+        let p = t.properties[k];
+        return write_text(chosen(p, a, x, b, y), out, values);
+    }
+    write_union(set_part(a, x), set_part(b, y), out, values)
+}
+
+// The places at which one of two unversioned snapshots has objects.
+fn joined_places(left: [SetAt; 32], right: [SetAt; 32]) -> [bool; 32]
+    ensures { λ r. ⌜ PlacesAre left right r ⌝ }
+{
+    let mut present = [false; 32];
+    let mut k: usize = 0;
+    while k < 32 {
+        let v = left[k];
+        let w = right[k];
+        present[k] = have_objects(v, w);
+        k += 1;
+    }
+    present
+}
+
+// Writes what two unversioned snapshots, at the front of a and b, are together.
+pub fn write_joined<'a>(
+    table: &[u8],
+    a: &'a [u8],
+    b: &'a [u8],
+    t: TypeIndex,
+    out: &mut [u8],
+    at: usize,
+) -> usize
+    requires { ⌜ JoinedRoom (now table) (now a) (now b) t at (length (now out)) ⌝ }
+    ensures { λ r. ⌜ ((ty : EventType) (x y : Snapshot) → TypeIs (now (table .entry)) ty t → isVersioned ty ≡ false → Meet (now (a .entry)) (now (b .entry)) ty x y → Wrote (now (out .entry)) at (snapshotBytes (joinSnapshots (view ty) x y)) (now (out .exit)) r) ⌝ }
+{
+    let x = read_snapshot(a);
+    let y = read_snapshot(b);
+    let left = x.sets;
+    let right = y.sets;
+    let present = joined_places(left, right);
+    let second = write_number(out, at, 0);
+    let third = write_number(out, second, number_of(present));
+    let mut next = write_number(out, third, 0);
+    let mut k: usize = 0;
+    while k < 32 {
+        if present[k] {
+            let v = left[k];
+            let w = right[k];
+            next = write_place(t, k, a, v, b, w, out, next);
+        }
+        k += 1;
+    }
+    next
+}

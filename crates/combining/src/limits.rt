@@ -1,0 +1,144 @@
+ghost use Prim.Native.Nat.{ℕ, _≤_};
+ghost use mathlib.Core.Path.{_≡_};
+ghost use mathlib.Core.List.{List, flatten};
+ghost use mathlib.Core.Bool.{true, false};
+ghost use lib.Dec.{leb};
+ghost use lib.ListN.{length, take};
+ghost use Rattle.model.specs.Order.{Text, texts, numbers, rising};
+ghost use Rattle.model.specs.Sets.{union};
+ghost use Rattle.model.specs.Rule.{holds, joinCell, Snapshot, joinSnapshots, sizes};
+ghost use Rattle.model.specs.Limits.{standard, fits};
+ghost use Rattle.model.specs.Opening.{held};
+ghost use Rattle.ontology.specs.Table.{EventType, isVersioned};
+ghost use Rattle.ontology.specs.TypeIndex.{TypeIs};
+ghost use Rattle.event.specs.Event.{view};
+ghost use Rattle.event.specs.EventIndex.{HashesAre, SetIs};
+ghost use Rattle.combining.specs.CombineCall.{combined};
+ghost use Rattle.combining.specs.CombineIndex.{isExtremeAt, Combinable, Meet};
+use dossier::dossiers::DossierIndex;
+use dossier::snapshots::read_snapshot;
+use event::sets::SetAt;
+use event::sets::set_part;
+use ontology::types::TypeIndex;
+use unions::pair::count_hash_union;
+use unions::pair::count_union;
+
+// The hashes of some parents where they stand; nothing where the positions are not of these bytes.
+pub fn hashes_part(s: &[u8], x: SetAt) -> &[u8]
+    ensures { λ r. ⌜ ((hs : List Text) → HashesAre (now (s .entry)) hs x → now r ≡ flatten hs) ⌝ }
+{
+    let start = x.start;
+    let end = x.end;
+    if end < start {
+        return &s[0..0];
+    }
+    if s.len() < end {
+        return &s[0..0];
+    }
+    &s[start..end]
+}
+
+// How many versions two dossiers have together, where each has its versions rising.
+pub fn count_versions(v: [u64; 8], m: usize, w: [u64; 8], n: usize) -> usize
+    requires { ⌜ (m ≤ 8) × (n ≤ 8) ⌝ }
+    ensures { λ r. ⌜ (rising numbers (take m v) ≡ true → rising numbers (take n w) ≡ true → r ≡ length (union numbers (take m v) (take n w))) ⌝ }
+{
+    let mut i: usize = 0;
+    let mut j: usize = 0;
+    let mut count: usize = 0;
+    while i < m {
+        if n <= j {
+            return count + (m - i);
+        }
+        let a = v[i];
+        let b = w[j];
+        if a <= b {
+            i += 1;
+        }
+        if b <= a {
+            j += 1;
+        }
+        count += 1;
+    }
+    count + (n - j)
+}
+
+// A place of strategy min or max has one value.
+pub fn is_extreme(t: TypeIndex, k: usize) -> bool
+    requires { ⌜ t .count ≤ 32 ⌝ }
+    ensures { λ r. ⌜ ((u : List ℕ) (ty : EventType) → TypeIs u ty t → r ≡ isExtremeAt ty k) ⌝ }
+{
+    if t.count <= k {
+        return false;
+    }
+    let p = t.properties[k];
+    p.strategy == 1 || p.strategy == 2
+}
+
+// How many objects a place has where two unversioned snapshots are joined.
+pub fn count_place(t: TypeIndex, k: usize, a: &[u8], x: SetAt, b: &[u8], y: SetAt) -> usize
+    requires { ⌜ t .count ≤ 32 ⌝ }
+    ensures { λ r. ⌜ ((u : List ℕ) (ty : EventType) (xs ys : List Text) → TypeIs u ty t → SetIs (now (a .entry)) xs x → SetIs (now (b .entry)) ys y → rising texts xs ≡ true → rising texts ys ≡ true → (isExtremeAt ty k ≡ true → (length xs ≤ 1) × (length ys ≤ 1)) → r ≡ length (held (joinCell false (view ty .choice k) (holds xs) (holds ys)))) ⌝ }
+{
+    if is_extreme(t, k) {
+        if x.count == 0 {
+            return y.count;
+        }
+        return 1;
+    }
+    count_union(set_part(a, x), set_part(b, y))
+}
+
+// Whether two unversioned snapshots, at the front of a and b, have at most 256 objects when they are joined.
+pub fn objects_fit(a: &[u8], b: &[u8], t: TypeIndex) -> bool
+    requires { ⌜ t .count ≤ 32 ⌝ }
+    ensures { λ r. ⌜ ((u : List ℕ) (ty : EventType) (x y : Snapshot) → TypeIs u ty t → isVersioned ty ≡ false → Meet (now (a .entry)) (now (b .entry)) ty x y → r ≡ leb (sizes (joinSnapshots (view ty) x y .cells)) 256) ⌝ }
+{
+    let x = read_snapshot(a);
+    let y = read_snapshot(b);
+    let left = x.sets;
+    let right = y.sets;
+    let mut room: usize = 256;
+    let mut k: usize = 0;
+    while k < 32 {
+        let v = left[k];
+        let w = right[k];
+        let n = count_place(t, k, a, v, b, w);
+        if room < n {
+            return false;
+        }
+        room -= n;
+        k += 1;
+    }
+    true
+}
+
+// Question 8: 32 parents, 8 versions, and 256 objects of an unversioned type.
+pub fn limits_fit(
+    table: &[u8],
+    a: &[u8],
+    d: DossierIndex,
+    b: &[u8],
+    e: DossierIndex,
+    t: TypeIndex,
+) -> bool
+    requires { ⌜ Combinable (now table) (now a) d (now b) e t ⌝ }
+    ensures { λ r. ⌜ ((h : Combinable (now (table .entry)) (now (a .entry)) d (now (b .entry)) e t) → r ≡ fits standard (view (h .left .type)) (combined (h .left) (h .right))) ⌝ }
+{
+    let x = d.head;
+    let y = e.head;
+    if 32 < count_hash_union(hashes_part(a, x.parents), hashes_part(b, y.parents)) {
+        return false;
+    }
+    let v = d.versions;
+    let w = e.versions;
+    if 8 < count_versions(v, d.count, w, e.count) {
+        return false;
+    }
+    if 0 < t.mark {
+        return true;
+    }
+    let i = d.starts[0];
+    let j = e.starts[0];
+    objects_fit(&a[i..], &b[j..], t)
+}

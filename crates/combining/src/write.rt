@@ -1,0 +1,163 @@
+ghost use Prim.Native.Nat.{_≤_};
+ghost use mathlib.Core.Path.{_≡_};
+ghost use mathlib.Core.List.{List, map, flatten};
+ghost use lib.ListN.{length};
+ghost use Rattle.model.specs.Order.{Text, texts};
+ghost use Rattle.model.specs.Sets.{union};
+ghost use Rattle.model.specs.Rule.{Snapshot, joinSnapshots};
+ghost use Rattle.packed.specs.Written.{Wrote};
+ghost use Rattle.ontology.specs.Table.{EventType};
+ghost use Rattle.ontology.specs.TypeIndex.{TypeIs};
+ghost use Rattle.event.specs.Event.{view};
+ghost use Rattle.event.specs.EventLayout.{headBytes};
+ghost use Rattle.dossier.specs.DossierLayout.{Headed, snapshotBytes, dossierBytes};
+ghost use Rattle.dossier.specs.DossierIndex.{DossierIs};
+ghost use Rattle.combining.specs.CombineCall.{headedAs, combined};
+ghost use Rattle.combining.specs.CombineIndex.{Combinable, Meet};
+ghost use Rattle.combining.specs.WriteIndex.{SharedRoom, bytesFrom, RestRoom, stepBy, nextBytes, NextRoom, SnapshotsRoom, HeadsAre, HeadRoom};
+use crate::agreed::write_agreed;
+use crate::joined::write_joined;
+use crate::limits::count_versions;
+use crate::limits::hashes_part;
+use dossier::dossiers::DossierIndex;
+use dossier::parts::text_part;
+use ontology::types::TypeIndex;
+use packed::write::copy_part;
+use packed::write::write_number;
+use packed::write::write_text;
+use unions::pair::count_hash_union;
+use unions::pair::write_hash_union;
+
+// Writes what two snapshots of one version, at the front of a and b, are together.
+fn write_shared<'a>(
+    table: &[u8],
+    a: &'a [u8],
+    b: &'a [u8],
+    t: TypeIndex,
+    out: &mut [u8],
+    at: usize,
+) -> usize
+    requires { ⌜ SharedRoom (now table) (now a) (now b) t at (length (now out)) ⌝ }
+    ensures { λ r. ⌜ ((ty : EventType) (x y : Snapshot) → TypeIs (now (table .entry)) ty t → Meet (now (a .entry)) (now (b .entry)) ty x y → Wrote (now (out .entry)) at (snapshotBytes (joinSnapshots (view ty) x y)) (now (out .exit)) r) ⌝ }
+{
+    if 0 < t.mark {
+        return write_agreed(a, b, out, at);
+    }
+    write_joined(table, a, b, t, out, at)
+}
+
+// The snapshots of one side from the i-th on, which stand one after the other.
+fn write_rest(s: &[u8], d: DossierIndex, i: usize, out: &mut [u8], at: usize) -> usize
+    requires { ⌜ RestRoom (now s) d i at (length (now out)) ⌝ }
+    ensures { λ r. ⌜ ((h : Headed) → DossierIs (now (s .entry)) h d → Wrote (now (out .entry)) at (bytesFrom (h .dossier .snapshots) i) (now (out .exit)) r) ⌝ }
+{
+    if d.count <= i {
+        return at;
+    }
+    let start = d.starts[i];
+    let end = d.ends[d.count - 1];
+    copy_part(s, start, end, out, at)
+}
+
+// The next snapshot: that of the lower version as it stands, or what two of one version are together.
+fn write_next<'a>(
+    table: &[u8],
+    a: &'a [u8],
+    d: DossierIndex,
+    i: usize,
+    b: &'a [u8],
+    e: DossierIndex,
+    j: usize,
+    t: TypeIndex,
+    out: &mut [u8],
+    at: usize,
+) -> usize
+    requires { ⌜ NextRoom (now table) (now a) d i (now b) e j t at (length (now out)) ⌝ }
+    ensures { λ r. ⌜ ((h : Combinable (now (table .entry)) (now (a .entry)) d (now (b .entry)) e t) → Wrote (now (out .entry)) at (nextBytes h i j) (now (out .exit)) r) ⌝ }
+{
+    let left = d.starts[i];
+    let right = e.starts[j];
+    let v = d.versions[i];
+    let w = e.versions[j];
+    if v < w {
+        let end = d.ends[i];
+        return copy_part(a, left, end, out, at);
+    }
+    if w < v {
+        let end = e.ends[j];
+        return copy_part(b, right, end, out, at);
+    }
+    write_shared(table, &a[left..], &b[right..], t, out, at)
+}
+
+// How many snapshots a side of version v goes on by, where the other one has version w.
+fn step_by(v: u64, w: u64) -> usize
+    ensures { λ r. ⌜ r ≡ stepBy v w ⌝ }
+{
+    if v <= w { 1 } else { 0 }
+}
+
+// The snapshots of both sides by rising version.
+fn write_snapshots<'a>(
+    table: &[u8],
+    a: &'a [u8],
+    d: DossierIndex,
+    b: &'a [u8],
+    e: DossierIndex,
+    t: TypeIndex,
+    out: &mut [u8],
+    at: usize,
+) -> usize
+    requires { ⌜ SnapshotsRoom (now table) (now a) d (now b) e t at (length (now out)) ⌝ }
+    ensures { λ r. ⌜ ((h : Combinable (now (table .entry)) (now (a .entry)) d (now (b .entry)) e t) → Wrote (now (out .entry)) at (flatten (map snapshotBytes (combined (h .left) (h .right) .snapshots))) (now (out .exit)) r) ⌝ }
+{
+    let mut i: usize = 0;
+    let mut j: usize = 0;
+    let mut next = at;
+    while i < d.count {
+        if e.count <= j {
+            return write_rest(a, d, i, out, next);
+        }
+        next = write_next(table, a, d, i, b, e, j, t, out, next);
+        let v = d.versions[i];
+        let w = e.versions[j];
+        i += step_by(v, w);
+        j += step_by(w, v);
+    }
+    write_rest(b, e, j, out, next)
+}
+
+// The head of the left side, with the parents of both.
+fn write_head(a: &[u8], d: DossierIndex, b: &[u8], e: DossierIndex, out: &mut [u8]) -> usize
+    requires { ⌜ HeadRoom (now a) d (now b) e (length (now out)) ⌝ }
+    ensures { λ r. ⌜ ((type source : Text) (hs ks : List Text) → HeadsAre (now (a .entry)) d (now (b .entry)) e type source hs ks → Wrote (now (out .entry)) 0 (headBytes type source (union texts hs ks)) (now (out .exit)) r) ⌝ }
+{
+    let x = d.head;
+    let y = e.head;
+    let left = hashes_part(a, x.parents);
+    let right = hashes_part(b, y.parents);
+    let source = write_text(text_part(a, x.name), out, 0);
+    let parents = write_text(text_part(a, x.source), out, source);
+    let hashes = write_number(out, parents, count_hash_union(left, right) as u64);
+    write_hash_union(left, right, out, hashes)
+}
+
+// Writes the combined dossier at the front of `out`.
+pub fn write_combined<'a>(
+    table: &[u8],
+    a: &'a [u8],
+    d: DossierIndex,
+    b: &'a [u8],
+    e: DossierIndex,
+    t: TypeIndex,
+    out: &mut [u8],
+) -> usize
+    requires { ⌜ ((h : Combinable (now table) (now a) d (now b) e t) → length (dossierBytes (headedAs (h .left .headed) (combined (h .left) (h .right)))) ≤ length (now out)) × Combinable (now table) (now a) d (now b) e t ⌝ }
+    ensures { λ r. ⌜ ((h : Combinable (now (table .entry)) (now (a .entry)) d (now (b .entry)) e t) → Wrote (now (out .entry)) 0 (dossierBytes (headedAs (h .left .headed) (combined (h .left) (h .right)))) (now (out .exit)) r) ⌝ }
+{
+    let v = d.versions;
+    let w = e.versions;
+    let count = write_head(a, d, b, e, out);
+    let first = write_number(out, count, count_versions(v, d.count, w, e.count) as u64);
+    write_snapshots(table, a, d, b, e, t, out, first)
+}
