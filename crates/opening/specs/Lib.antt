@@ -1,1 +1,3 @@
 pub mod OpenCall
+pub mod OpenIndex
+pub mod CellIndex

@@ -1,1 +1,7 @@
-// Definitions only: see specs/.
+// A dossier opened: the conflict that it names, an overfull place, or the merged event.
+pub mod calls;
+pub mod cells;
+pub mod clash;
+pub mod merge;
+pub mod strategies;
+pub mod write;

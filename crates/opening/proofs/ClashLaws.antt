@@ -1,0 +1,100 @@
+-- The laws of a conflict: the lowest place with a differ bit, and the lowest snapshot that has one.
+use mathlib.Core.Path.{_≡_, refl, sym, ap, ap₂, _∙_}
+use mathlib.Core.Bool.{Bool, true, false, cond}
+use mathlib.Core.Option.{Option, none, some}
+use mathlib.Core.List.{List, [], _∷_, map}
+use Prim.Native.Nat.{ℕ, suc, _+_, _-_, _/_, _%_, _≤_, _<_}
+use native.Mathlib.Omega.{arith}
+use native.Mathlib.Numerals.{add-one}
+use lib.Dec.{eqb}
+use lib.ListN.{length, drop, getD, drop-of-length-le}
+use lib.Seq.{drop-cons}
+use borrow.Author.Tests.{eq-eqb, ne-eqb}
+use Rattle.model.specs.Sets.{upFrom, upTo}
+use Rattle.model.specs.Rule.{Cell, holds, Snapshot}
+use Rattle.model.specs.Opening.{lowest, isMark, cellAt, Conflict, noConflict, differsAt, marked, orLater, conflict}
+use Rattle.model.proofs.Cases.{never}
+use Rattle.event.specs.EventLayout.{bitNumber}
+use Rattle.event.specs.declared.sets.SetAt.{SetAt}
+use Rattle.dossier.specs.DossierLayout.{differBit}
+use Rattle.dossier.specs.DossierIndex.{CellsAre, SnapshotIs, noSnapshot}
+use Rattle.dossier.specs.declared.snapshots.SnapshotIndex.{SnapshotIndex}
+use Rattle.values.specs.declared.versions.EventVersion.{EventVersion}
+use Rattle.dossier.proofs.CellLaws.{cell-here}
+use Rattle.opening.specs.OpenIndex.{clashOf}
+use Rattle.opening.specs.declared.clash.Clash.{Clash}
+use Rattle.opening.specs.declared.clash.Clash.the-variants.{Differs, NoClash}
+
+-- ---- the lowest of 32 places
+
+module _ (test : ℕ → Bool) where
+  pub lowest-start : lowest test (upTo 32) ≡ lowest test (upFrom 0 (32 - 0))
+  unfolding upTo
+  lowest-start = refl
+
+  lowest-step : (k : ℕ) → k < 32 → lowest test (upFrom k (32 - k)) ≡ cond (test k) (some k) (lowest test (upFrom (k + 1) (32 - (k + 1))))
+  unfolding lowest upFrom
+  lowest-step k h = let e : 32 - k ≡ suc (32 - (k + 1)) = omega arith in rw (e, add-one)
+
+  pub lowest-here : (k : ℕ) → k < 32 → test k ≡ true → lowest test (upFrom k (32 - k)) ≡ some k
+  lowest-here k h e = lowest-step k h ∙ ap (λ (b : Bool). cond b (some k) (lowest test (upFrom (k + 1) (32 - (k + 1))))) e
+
+  pub lowest-next : (k : ℕ) → k < 32 → test k ≡ false → lowest test (upFrom k (32 - k)) ≡ lowest test (upFrom (k + 1) (32 - (k + 1)))
+  lowest-next k h e = lowest-step k h ∙ ap (λ (b : Bool). cond b (some k) (lowest test (upFrom (k + 1) (32 - (k + 1))))) e
+
+  pub lowest-end : (k : ℕ) → 32 ≤ k → lowest test (upFrom k (32 - k)) ≡ none
+  unfolding lowest upFrom
+  lowest-end k h = let e : 32 - k ≡ 0 = omega arith in rw e
+
+-- ---- the differ bit of a place
+
+module _ (s : List ℕ) (cs : List Cell) (differ : ℕ) (ats : List SetAt) (v : CellsAre s cs differ ats) (k bits : ℕ) (h : k < 32) (b : bits ≡ bitNumber (map differBit (drop k cs))) where
+  pub bit-set : bits % 2 ≡ 1 → isMark (getD cs k (holds [])) ≡ true
+  bit-set e = sym (cell-here s cs differ ats v k bits h b .mark) ∙ eq-eqb (bits % 2) 1 e
+
+  pub bit-clear : (bits % 2 ≡ 1 → ⊥) → isMark (getD cs k (holds [])) ≡ false
+  bit-clear e = sym (cell-here s cs differ ats v k bits h b .mark) ∙ ne-eqb (bits % 2) 1 e
+
+-- ---- a snapshot
+
+module _ (s : List ℕ) (y : Snapshot) (x : SnapshotIndex) (w : SnapshotIs s y x) where
+  pub snapshot-differs : (p : ℕ) → some p ≡ lowest (λ q. isMark (getD (y .cells) q (holds []))) (upTo 32) → differsAt (x .version .0) p ≡ conflict (upTo 32) (y ∷ [])
+  unfolding conflict orLater marked cellAt
+  snapshot-differs p e = ap₂ (λ (v : ℕ) (o : Option ℕ). orLater v o noConflict) (w .version) e
+
+  pub snapshot-clear : none ≡ lowest (λ q. isMark (getD (y .cells) q (holds []))) (upTo 32) → noConflict ≡ conflict (upTo 32) (y ∷ [])
+  unfolding conflict orLater marked cellAt
+  snapshot-clear e = ap (λ (o : Option ℕ). orLater (y .version) o noConflict) e
+
+-- ---- the snapshots, from one on
+
+pub clash-not : {v : EventVersion} {p : ℕ} (r : Clash) → r ≡ Differs v p → r ≡ NoClash → ⊥
+clash-not r e f = never (cc)
+
+module _ (ps : List ℕ) where
+  later : (v : ℕ) (o : Option ℕ) (c : Conflict) → orLater v o noConflict ≡ noConflict → orLater v o c ≡ c
+  unfolding orLater
+  later v (some p) c e = never (cc)
+  later v none c e = refl
+
+  sooner : (v w p : ℕ) (o : Option ℕ) (c : Conflict) → differsAt w p ≡ orLater v o noConflict → differsAt w p ≡ orLater v o c
+  unfolding orLater
+  sooner v w p (some q) c e = e
+  sooner v w p none c e = never (cc)
+
+  module _ (ss : List Snapshot) (j : ℕ) (h : j < length ss) where
+    conflict-split : conflict ps (drop j ss) ≡ conflict ps (getD ss j noSnapshot ∷ drop (j + 1) ss)
+    conflict-split = rw (add-one, drop-cons ss j noSnapshot h)
+
+    pub conflict-later : noConflict ≡ conflict ps (getD ss j noSnapshot ∷ []) → conflict ps (drop j ss) ≡ conflict ps (drop (j + 1) ss)
+    unfolding conflict
+    conflict-later e = conflict-split ∙ later (getD ss j noSnapshot .version) (marked ps (getD ss j noSnapshot)) (conflict ps (drop (j + 1) ss)) (sym e)
+
+    pub conflict-here : (r : Clash) → clashOf r ≡ conflict ps (getD ss j noSnapshot ∷ []) → (r ≡ NoClash → ⊥) → clashOf r ≡ conflict ps (drop j ss)
+    unfolding conflict
+    conflict-here (Differs v p) e n = sooner (getD ss j noSnapshot .version) (v .0) p (marked ps (getD ss j noSnapshot)) (conflict ps (drop (j + 1) ss)) e ∙ sym conflict-split
+    conflict-here NoClash e n = absurd (n refl)
+
+  pub conflict-end : (ss : List Snapshot) (j : ℕ) → length ss ≤ j → noConflict ≡ conflict ps (drop j ss)
+  unfolding conflict
+  conflict-end ss j h = rw (drop-of-length-le ss h)

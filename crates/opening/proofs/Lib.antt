@@ -1,0 +1,9 @@
+-- The laws of opening.
+pub mod ClashLaws
+pub mod StrategyLaws
+pub mod MergeLaws
+pub mod StandLaws
+pub mod WriteRoomLaws
+pub mod AcceptedLaws
+pub mod SizeLaws
+pub mod OpenLaws

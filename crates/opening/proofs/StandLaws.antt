@@ -1,0 +1,152 @@
+-- The laws of cells: how they are filled from the snapshots, and the runs of a place.
+use mathlib.Core.Path.{_≡_, refl, ap, _∙_}
+use mathlib.Core.List.{List, [], _∷_, map}
+use Prim.Native.Nat.{ℕ, zero, suc, _+_, _-_, _*_, _≤_, _<_}
+use native.Mathlib.Omega.{arith}
+use lib.ListN.{length, take, drop, getD, set, length-set, length-drop}
+use lib.Seq.{drop-drop, getD-set-same, getD-set-other}
+use borrow.Author.Count.{below-more}
+use Rattle.model.specs.Order.{Text}
+use Rattle.model.specs.Rule.{Snapshot}
+use Rattle.model.specs.Opening.{held, cellAt, column}
+use Rattle.packed.specs.Parse.{got}
+use Rattle.event.specs.EventIndex.{SetIs, noSet}
+use Rattle.event.specs.declared.sets.SetAt.{SetAt}
+use Rattle.event.proofs.EventLayoutLaws.{SetWritten}
+use Rattle.event.proofs.EventQuestionLaws.{all-at, empty-written}
+use Rattle.unions.specs.Merging.{SetRun, SetRuns}
+use Rattle.dossier.specs.DossierLayout.{Headed, readSnapshot}
+use Rattle.dossier.specs.DossierIndex.{SnapshotIs, SnapshotReads, noSnapshot, DossierIs}
+use Rattle.dossier.specs.declared.snapshots.SnapshotIndex.{SnapshotIndex}
+use Rattle.dossier.specs.declared.dossiers.DossierIndex.{DossierIndex}
+use Rattle.dossier.proofs.CellLaws.{held-at}
+use Rattle.dossier.proofs.AskLaws.{reads-got}
+use Rattle.dossier.proofs.DossierReadLaws.{to-end}
+use Rattle.dossier.proofs.DossierLayoutLaws.{snapshot-was}
+use Rattle.opening.specs.OpenIndex.{CellStands, Shifted, CellsFilled, CellsStand}
+
+-- ---- the column of a place
+
+pub column-long : (ss : List Snapshot) (p : ℕ) → length (column ss p) ≡ length ss
+unfolding column
+column-long [] p = refl
+column-long (x ∷ ss) p = ap suc (column-long ss p)
+
+pub column-at : (ss : List Snapshot) (p j : ℕ) → getD (column ss p) j [] ≡ held (cellAt (getD ss j noSnapshot) p)
+unfolding column cellAt held
+column-at [] p j = refl
+column-at (x ∷ ss) p zero = refl
+column-at (x ∷ ss) p (suc j) = column-at ss p j
+
+-- ---- the runs of a place
+
+-- the first j runs are those of the cells
+pub record RunsTo (cells : List SetAt) (place : ℕ) (starts ends : List ℕ) (j : ℕ) : Type 0 where
+  pub starts-long : length starts ≡ 8
+  pub ends-long : length ends ≡ 8
+  pub start : (i : ℕ) → i < j → getD starts i 0 ≡ getD cells (place * 8 + i) noSet .start
+  pub end : (i : ℕ) → i < j → getD ends i 0 ≡ getD cells (place * 8 + i) noSet .end
+
+pub runs-none : (cells : List SetAt) (place : ℕ) (starts ends : List ℕ) → length starts ≡ 8 → length ends ≡ 8 → RunsTo cells place starts ends 0
+runs-none cells place starts ends a b = record { starts-long = a; ends-long = b; start = λ i h. absurd (omega arith); end = λ i h. absurd (omega arith) }
+
+put-more : (f : ℕ → ℕ) (l : List ℕ) (j : ℕ) → j < length l → ((i : ℕ) → i < j → getD l i 0 ≡ f i) → (i : ℕ) → i < j + 1 → getD (set l j (f j)) i 0 ≡ f i
+put-more f l j h old =
+    below-more (λ (i : ℕ). getD (set l j (f j)) i 0 ≡ f i) j
+    (λ i k. let ne : i ≡ j → ⊥ = λ e. omega arith in getD-set-other l j i (f j) 0 ne ∙ old i k)
+    (getD-set-same l j (f j) 0 h)
+
+pub runs-more : (cells : List SetAt) (place : ℕ) (starts ends : List ℕ) (j : ℕ) → j < 8 → RunsTo cells place starts ends j →
+    RunsTo cells place (set starts j (getD cells (place * 8 + j) noSet .start)) (set ends j (getD cells (place * 8 + j) noSet .end)) (j + 1)
+runs-more cells place starts ends j h w = record {
+  starts-long = length-set starts j (getD cells (place * 8 + j) noSet .start) ∙ w .starts-long;
+  ends-long = length-set ends j (getD cells (place * 8 + j) noSet .end) ∙ w .ends-long;
+  start = put-more (λ (i : ℕ). getD cells (place * 8 + i) noSet .start) starts j (omega (arith, w .starts-long)) (w .start);
+  end = put-more (λ (i : ℕ). getD cells (place * 8 + i) noSet .end) ends j (omega (arith, w .ends-long)) (w .end);
+}
+
+pub cell-run : (s : List ℕ) (vs : List Text) (x : SetAt) → CellStands s vs x → SetRun s (x .start) (x .end) vs
+cell-run s vs x w = record { bytes = w .is .bytes; order = w .is .order; within = w .is .within; rises = w .rises }
+
+pub runs-all : (s : List ℕ) (ss : List Snapshot) (cells : List SetAt) (place : ℕ) (starts ends : List ℕ) (j : ℕ) → CellsStand s ss cells → place < 32 → 8 ≤ j →
+    RunsTo cells place starts ends j → SetRuns s starts ends (length ss) (column ss place)
+runs-all s ss cells place starts ends j w h full r = record {
+  long = column-long ss place;
+  each = λ i l.
+      let k : i < j = omega (arith, w .few) in
+      rw (column-at ss place i, r .start i k, r .end i k) (cell-run s (held (cellAt (getD ss i noSnapshot) place)) (getD cells (place * 8 + i) noSet) (w .each place i h l));
+}
+
+-- ---- the cells of a snapshot
+
+-- a set of the rest of the bytes, in the whole
+pub shifted-set : (s : List ℕ) (at : ℕ) (vs : List Text) (x r : SetAt) → at ≤ length s → SetIs (drop at s) vs x → Shifted x at (length s) r → SetIs s vs r
+shifted-set s at vs x r h w v =
+    let l : length (drop at s) ≡ length s - at = length-drop at s in
+    let e = v .is (omega (arith, l, w .order, w .within)) (omega (arith, l, w .within)) in
+    let d : at + x .end - (at + x .start) ≡ x .end - x .start = omega arith in
+    rw e (record {
+      bytes = rw (d, ← drop-drop (x .start) at s) (w .bytes);
+      count = w .count;
+      order = omega (arith, w .order);
+      within = omega (arith, l, w .within);
+    })
+
+-- the cells of the first p places of snapshot j are those of x, and those of the other snapshots are as they were
+pub record FilledTo (s : List ℕ) (x : Snapshot) (j : ℕ) (old cells : List SetAt) (p : ℕ) : Type 0 where
+  pub own : (q : ℕ) → q < p → CellStands s (held (cellAt x q)) (getD cells (q * 8 + j) noSet)
+  pub others : (q i : ℕ) → q < 32 → i < 8 → (i ≡ j → ⊥) → getD cells (q * 8 + i) noSet ≡ getD old (q * 8 + i) noSet
+
+pub filled-none : (s : List ℕ) (x : Snapshot) (j : ℕ) (old : List SetAt) → FilledTo s x j old old 0
+filled-none s x j old = record { own = λ q h. absurd (omega arith); others = λ q i h k n. refl }
+
+-- the snapshot that the rest of the bytes begins with
+pub rest-read : (s : List ℕ) (at : ℕ) (i : SnapshotIndex) (x : Snapshot) (v : List ℕ) → SnapshotReads (readSnapshot (take (length s - at) (drop at s))) (take (length s - at) (drop at s)) i → readSnapshot (drop at s) ≡ got x v → SnapshotIs (drop at s) x i
+rest-read s at i x v w e = let f = to-end s at in reads-got (readSnapshot (drop at s)) (drop at s) i x v (rw f at w) e
+
+-- the set of a place that was read from the rest of the bytes
+pub own-cell : (s : List ℕ) (at : ℕ) (x : Snapshot) (v : List ℕ) (i : SnapshotIndex) (p : ℕ) (r : SetAt) → at ≤ length s → p < 32 → readSnapshot (drop at s) ≡ got x v → SnapshotIs (drop at s) x i → Shifted (getD (i .sets) p noSet) at (length s) r → CellStands s (held (cellAt x p)) r
+unfolding cellAt
+own-cell s at x v i p r h l e w z = record {
+  is = shifted-set s at (held (cellAt x p)) (getD (i .sets) p noSet) r h (rw (← held-at (x .cells) p) (w .sets .each p l)) z;
+  rises = rw (← held-at (x .cells) p) (all-at SetWritten [] empty-written (map held (x .cells)) (snapshot-was (drop at s) x v e .1 .sets .each) p .rises);
+}
+
+pub filled-more : (s : List ℕ) (x : Snapshot) (j : ℕ) (old cells : List SetAt) (p : ℕ) (r : SetAt) → length cells ≡ 256 → p < 32 → j < 8 → FilledTo s x j old cells p → CellStands s (held (cellAt x p)) r → FilledTo s x j old (set cells (p * 8 + j) r) (p + 1)
+filled-more s x j old cells p r long h k w here = record {
+  own =
+      below-more (λ (q : ℕ). CellStands s (held (cellAt x q)) (getD (set cells (p * 8 + j) r) (q * 8 + j) noSet)) p
+      (λ q l. let ne : q * 8 + j ≡ p * 8 + j → ⊥ = λ e. omega arith in rw (getD-set-other cells (p * 8 + j) (q * 8 + j) r noSet ne) (w .own q l))
+      (let b : p * 8 + j < length cells = omega arith in rw (getD-set-same cells (p * 8 + j) r noSet b) here);
+  others = λ q i a b n. let ne : q * 8 + i ≡ p * 8 + j → ⊥ = λ e. n (omega arith) in getD-set-other cells (p * 8 + j) (q * 8 + i) r noSet ne ∙ w .others q i a b n;
+}
+
+pub filled-all : (s : List ℕ) (x : Snapshot) (j : ℕ) (old cells : List SetAt) (p : ℕ) → 32 ≤ p → FilledTo s x j old cells p → CellsFilled s x j old cells
+filled-all s x j old cells p h w = record { own = λ q l. w .own q (omega arith); others = w .others }
+
+-- ---- the cells of all snapshots
+
+-- the cells of the first j snapshots are filled
+pub record StandTo (s : List ℕ) (ss : List Snapshot) (cells : List SetAt) (j : ℕ) : Type 0 where
+  pub each : (p i : ℕ) → p < 32 → i < j → CellStands s (held (cellAt (getD ss i noSnapshot) p)) (getD cells (p * 8 + i) noSet)
+
+pub stand-none : (s : List ℕ) (ss : List Snapshot) (cells : List SetAt) → StandTo s ss cells 0
+stand-none s ss cells = record { each = λ p i h k. absurd (omega arith) }
+
+pub stand-more : (s : List ℕ) (ss : List Snapshot) (cells r : List SetAt) (j : ℕ) → j < 8 → StandTo s ss cells j → CellsFilled s (getD ss j noSnapshot) j cells r → StandTo s ss r (j + 1)
+stand-more s ss cells r j h w f = record {
+  each = λ p i a.
+      below-more (λ (i : ℕ). CellStands s (held (cellAt (getD ss i noSnapshot) p)) (getD r (p * 8 + i) noSet)) j
+      (λ i b. let ne : i ≡ j → ⊥ = λ e. omega arith in rw (f .others p i a (omega arith) ne) (w .each p i a b))
+      (f .own p a) i;
+}
+
+pub stand-all : (s : List ℕ) (h : Headed) (d : DossierIndex) (cells : List SetAt) (j : ℕ) → DossierIs s h d → d .count ≤ j → StandTo s (h .dossier .snapshots) cells j → CellsStand s (h .dossier .snapshots) cells
+stand-all s h d cells j w k v = record {
+  few = omega (arith, w .count, w .few);
+  each = λ p i a b. v .each p i a (omega (arith, w .count));
+}
+
+-- a set of the column, where its cell says
+pub cell-stands : (s : List ℕ) (ss : List Snapshot) (cells : List SetAt) (p j i : ℕ) → CellsStand s ss cells → p < 32 → j < length ss → i ≡ p * 8 + j → SetIs s (getD (column ss p) j []) (getD cells i noSet)
+cell-stands s ss cells p j i w h k e = rw (column-at ss p j, e) (w .each p j h k .is)

@@ -1,0 +1,109 @@
+use borrow.Author.Needs.{needs}
+use mathlib.Core.Path.{_≡_, ap, ap₂}
+use mathlib.Core.Bool.{Bool, true, false, not}
+use mathlib.Core.List.{List, []}
+use lib.ListN.{take, getD}
+use Rattle.model.specs.Order.{Text, pick}
+use Rattle.model.specs.Sets.{union}
+use Rattle.packed.specs.Comparison.{ordering}
+use Rattle.packed.specs.declared.order.Compared.{Compared}
+use Rattle.values.specs.Spaces.{Kind}
+use Rattle.values.specs.ValueOrder.{valueOrder}
+use Rattle.event.specs.EventIndex.{SetIs}
+use Rattle.opening.specs.OpenIndex.{Chooses, Lone}
+use Rattle.opening.proofs.MergeLaws.{orderOf, better-none, better-only, value-order, better-first, better-second}
+use Rattle.opening.proofs.merge.better.Statement.{statement}
+use Rattle.opening.proofs.merge.better.Tie as tie
+
+returns : tie.Need-returns
+returns c = λ k vs ws ch p q v w. better-none (c .before .before .before .args .s .now) k (c .before .before .before .args .largest) vs ws _ _ p q v w (c .if1 .taken)
+
+returns-2 : tie.Need-returns-2
+returns-2 c = λ k vs ws ch p q v w. better-only (c .before .before .before .before .before .args .s .now) k (c .before .before .before .before .before .args .largest) vs ws _ _ p q v w (c .if2 .taken)
+
+set-part-requires : tie.Need-set-part-requires
+set-part-requires c κs = search needs
+
+value-in-requires : tie.Need-value-in-requires
+value-in-requires c κs = search needs
+
+set-part-requires-2 : tie.Need-set-part-requires-2
+set-part-requires-2 c κs = search needs
+
+value-in-requires-2 : tie.Need-value-in-requires-2
+value-in-requires-2 c κs = search needs
+
+compare-values-requires : tie.Need-compare-values-requires
+compare-values-requires c κs = search needs
+
+enum-told : tie.Need-enum-told
+enum-told c = search needs
+
+enum-told-2 : tie.Need-enum-told-2
+enum-told-2 c = search needs
+
+enum-told-3 : tie.Need-enum-told-3
+enum-told-3 c = search needs
+
+-- the first set is the answer where the comparison of the values takes the first, and the second where it does not
+module _ (c : tie.After-compare-values) (k : Kind) (vs ws : List Text) where
+  compared :
+      let g = c .before .before .before .before .before .before .before .before .before .before .args in
+      Chooses k (g .kind) → SetIs (g .s .now) vs (g .a) → SetIs (g .s .now) ws (g .b) → Lone k vs → Lone k ws → valueOrder k .cmp (getD vs 0 []) (getD ws 0 []) ≡ ordering (c .compare-values .result)
+  compared ch p q v w =
+      let g = c .before .before .before .before .before .before .before .before .before .before .args in
+      value-order (g .s .now) k (g .largest) vs ws (g .a) (g .b) p q v w (c .before .before .before .before .before .before .before .if1 .left) (c .before .before .before .before .before .if2 .left) _ _ (ordering (c .compare-values .result)) (c .before .before .before .value-in .ensures vs (c .before .before .before .before .set-part .ensures vs p)) (c .before .value-in2 .ensures ws (c .before .before .set-part2 .ensures ws q)) (λ x y. c .compare-values .ensures k (ch .number) (ch .ordered) x y)
+
+  keeps :
+      let g = c .before .before .before .before .before .before .before .before .before .before .args in
+      pick (ordering (c .compare-values .result)) (not (g .largest)) true (g .largest) ≡ true →
+      Chooses k (g .kind) → SetIs (g .s .now) vs (g .a) → SetIs (g .s .now) ws (g .b) → Lone k vs → Lone k ws → SetIs (g .s .now) (take 1 (union (orderOf (g .largest) k) vs ws)) (g .a)
+  keeps e ch p q v w =
+      let g = c .before .before .before .before .before .before .before .before .before .before .args in
+      better-first (g .s .now) k (g .largest) vs ws (g .a) (g .b) p q v w (c .before .before .before .before .before .before .before .if1 .left) (c .before .before .before .before .before .if2 .left) (ordering (c .compare-values .result)) (compared ch p q v w) e
+
+  takes :
+      let g = c .before .before .before .before .before .before .before .before .before .before .args in
+      pick (ordering (c .compare-values .result)) (not (g .largest)) true (g .largest) ≡ false →
+      Chooses k (g .kind) → SetIs (g .s .now) vs (g .a) → SetIs (g .s .now) ws (g .b) → Lone k vs → Lone k ws → SetIs (g .s .now) (take 1 (union (orderOf (g .largest) k) vs ws)) (g .b)
+  takes e ch p q v w =
+      let g = c .before .before .before .before .before .before .before .before .before .before .args in
+      better-second (g .s .now) k (g .largest) vs ws (g .a) (g .b) p q v w (c .before .before .before .before .before .before .before .if1 .left) (c .before .before .before .before .before .if2 .left) (ordering (c .compare-values .result)) (compared ch p q v w) e
+
+abbrev first : Compared → Bool → Bool
+first x t = pick (ordering x) (not t) true t
+
+returns-3 : tie.Need-returns-3
+returns-3 c = λ k vs ws ch p q v w. takes (c .before .before .before) k vs ws (ap₂ first (c .before .enum-told .given .1) (c .if3 .taken)) ch p q v w
+
+returns-4 : tie.Need-returns-4
+returns-4 c = λ k vs ws ch p q v w. keeps (c .before .before .before) k vs ws (ap₂ first (c .before .enum-told .given .1) (c .if3 .left)) ch p q v w
+
+returns-5 : tie.Need-returns-5
+returns-5 c = λ k vs ws ch p q v w. keeps (c .before .before) k vs ws (ap (λ (x : Compared). first x (c .before .before .before .before .before .before .before .before .before .before .before .before .args .largest)) (c .enum-told2 .given .1)) ch p q v w
+
+returns-6 : tie.Need-returns-6
+returns-6 c = λ k vs ws ch p q v w. keeps (c .before .before .before) k vs ws (ap₂ first (c .before .enum-told3 .given .1) (c .if4 .taken)) ch p q v w
+
+returns-7 : tie.Need-returns-7
+returns-7 c = λ k vs ws ch p q v w. takes (c .before .before .before) k vs ws (ap₂ first (c .before .enum-told3 .given .1) (c .if4 .left)) ch p q v w
+
+pub better-spec : {M : Type 1} → statement M
+better-spec =
+    tie.close
+    (tie.spec
+    returns
+    returns-2
+    set-part-requires
+    value-in-requires
+    set-part-requires-2
+    value-in-requires-2
+    compare-values-requires
+    enum-told
+    enum-told-2
+    enum-told-3
+    returns-3
+    returns-4
+    returns-5
+    returns-6
+    returns-7)

@@ -1,0 +1,169 @@
+-- What the code holds of a dossier that is opened, and what it answers.
+use Prim.Native.Nat.{ℕ, _+_, _*_, _^_, _≤_, _<_}
+use mathlib.Core.Path.{_≡_}
+use mathlib.Core.Bool.{Bool, true, false, _||_}
+use mathlib.Core.Option.{Option, none, some}
+use mathlib.Core.List.{List, [], map, flatten}
+use lib.ListN.{length, getD, getElem?}
+use Rattle.model.specs.Order.{Text, texts, rising}
+use Rattle.model.specs.Rule.{View, Snapshot, Dossier}
+use Rattle.model.specs.Limits.{standard}
+use Rattle.model.specs.Opening as model
+use Rattle.model.specs.Opening.{held, cellAt, column, mergedAt, mergedSets}
+use Rattle.packed.specs.Packed.{text}
+use Rattle.values.specs.Spaces.{Kind, kindNumber}
+use Rattle.ontology.specs.Table.{Property, EventType, Table, isMin, isMax, isReplace, isSingle}
+use Rattle.ontology.specs.TableLayout.{tableOf}
+use Rattle.ontology.specs.TypeIndex.{TypeIs}
+use Rattle.ontology.specs.declared.types.TypeIndex.{TypeIndex}
+use Rattle.ontology.specs.Questions as questions
+use Rattle.ontology.specs.Questions.{accepted, Outcome}
+use Rattle.event.specs.Event.{Event, view}
+use Rattle.event.specs.EventLayout.{headBytes, setsBytes, eventBytes}
+use Rattle.event.specs.EventQuestions.{areInSpace}
+use Rattle.event.specs.EventIndex.{SetIs, noSet, HeadIs}
+use Rattle.event.specs.declared.read.HeadAt.{HeadAt}
+use Rattle.event.specs.declared.sets.SetAt.{SetAt}
+use Rattle.dossier.specs.DossierLayout.{Headed}
+use Rattle.dossier.specs.DossierQuestions.{dossierAsked}
+use Rattle.dossier.specs.DossierIndex.{noSnapshot, DossierIs}
+use Rattle.dossier.specs.declared.dossiers.DossierIndex.{DossierIndex}
+use Rattle.opening.specs.OpenCall.{mergedEvent}
+use Rattle.opening.specs.declared.calls.Opened.{Opened}
+use Rattle.opening.specs.declared.calls.Opened.the-variants.{Merged, Conflict, Overfull, Refused}
+use Rattle.opening.specs.declared.clash.Clash.{Clash}
+use Rattle.opening.specs.declared.clash.Clash.the-variants.{Differs, NoClash}
+use Rattle.opening.specs.declared.clash.Lowest.{Lowest}
+use Rattle.opening.specs.declared.clash.Lowest.the-variants.{Place, NoPlace}
+use Rattle.opening.specs.declared.strategies.PlaceRule.{PlaceRule}
+
+-- ---- the call's reply
+
+-- the numbers of a reply
+abbrev pub replied : Opened → questions.Reply
+replied (Merged n) = questions.Reply.done n
+replied (Conflict v p) = questions.Reply.conflict (v .0) p
+replied (Overfull p) = questions.Reply.overfull p
+replied (Refused n) = questions.Reply.refused n
+
+-- a reply with the output after it
+abbrev pub replies : Opened → List ℕ → Outcome
+replies r bytes = record { reply = replied r; bytes = bytes }
+
+-- ---- conflict
+
+abbrev pub lowestOf : Lowest → Option ℕ
+lowestOf (Place p) = some p
+lowestOf NoPlace = none
+
+abbrev pub clashOf : Clash → model.Conflict
+clashOf (Differs v p) = model.differsAt (v .0) p
+clashOf NoClash = model.noConflict
+
+-- ---- cells
+
+-- the rising values vs stand in s where x says
+pub record CellStands (s : List ℕ) (vs : List Text) (x : SetAt) : Type 0 where
+  pub is : SetIs s vs x
+  pub rises : rising texts vs ≡ true
+
+-- r is x, `at` bytes further on
+pub record Shifted (x : SetAt) (at size : ℕ) (r : SetAt) : Type 0 where
+  pub is : at + x .start ≤ size → at + x .end ≤ size → r ≡ record { start = at + x .start; end = at + x .end; count = x .count }
+
+-- the cells of snapshot j are those of x, and the others are as they were
+pub record CellsFilled (s : List ℕ) (x : Snapshot) (j : ℕ) (old r : List SetAt) : Type 0 where
+  pub own : (p : ℕ) → p < 32 → CellStands s (held (cellAt x p)) (getD r (p * 8 + j) noSet)
+  pub others : (p i : ℕ) → p < 32 → i < 8 → (i ≡ j → ⊥) → getD r (p * 8 + i) noSet ≡ getD old (p * 8 + i) noSet
+
+-- the set of place p in snapshot j is cell p * 8 + j
+pub record CellsStand (s : List ℕ) (ss : List Snapshot) (cells : List SetAt) : Type 0 where
+  pub few : length ss ≤ 8
+  pub each : (p j : ℕ) → p < 32 → j < length ss → CellStands s (held (cellAt (getD ss j noSnapshot) p)) (getD cells (p * 8 + j) noSet)
+
+-- ---- merging
+
+-- how the sets of a property are merged
+pub record RuleOf (q : Property) (r : PlaceRule) : Type 0 where
+  pub single : r .single ≡ isSingle q
+  pub replaces : r .replaces ≡ isReplace q
+  pub extreme : r .extreme ≡ (isMin q || isMax q)
+  pub largest : r .largest ≡ isMax q
+  pub kind : r .kind ≡ kindNumber (q .kind)
+
+pub record NoRule (r : PlaceRule) : Type 0 where
+  pub single : r .single ≡ false
+  pub replaces : r .replaces ≡ false
+  pub extreme : r .extreme ≡ false
+
+unfoldable pub RuleIs : Option Property → PlaceRule → Type 0
+RuleIs none r = NoRule r
+RuleIs (some q) r = RuleOf q r
+
+-- at most one value, in the space of a kind
+pub record Lone (k : Kind) (vs : List Text) : Type 0 where
+  pub one : length vs ≤ 1
+  pub in-space : areInSpace k vs ≡ true
+
+-- the number of a kind that is ordered
+pub record Chooses (k : Kind) (kind : ℕ) : Type 0 where
+  pub number : kindNumber k ≡ kind
+  pub ordered : kind ≤ 6
+
+-- the n snapshots of a dossier have their cells, and their sets of min and max can be chosen from
+pub record Mergeable (s : List ℕ) (cells : List SetAt) (n : ℕ) (t : EventType) (d : Dossier) : Type 0 where
+  pub stand : CellsStand s (d .snapshots) cells
+  pub count : length (d .snapshots) ≡ n
+  pub small : (p : ℕ) → length (flatten (column (d .snapshots) p)) < 2 ^ 64
+  pub chosen : (p : ℕ) (q : Property) → getElem? (t .properties) p ≡ some q → (isMin q || isMax q) ≡ true → Chooses (q .kind) (kindNumber (q .kind))
+  pub lone : (p : ℕ) (q : Property) → getElem? (t .properties) p ≡ some q → (isMin q || isMax q) ≡ true → (j : ℕ) → j < n → Lone (q .kind) (getD (column (d .snapshots) p) j [])
+
+-- how many objects each merged set has
+pub record CountsMerged (t : EventType) (d : Dossier) (counts : List ℕ) : Type 0 where
+  pub each : (p : ℕ) → p < 32 → getD counts p 0 ≡ length (mergedAt (view t) d p)
+
+-- ---- writing: what is written has its room in an output of `size` bytes
+
+pub record HeadRoom (s : List ℕ) (head : HeadAt) (size : ℕ) : Type 0 where
+  pub type : Text
+  pub source : Text
+  pub parents : List Text
+  pub is : HeadIs s type source parents head
+  pub room : length (headBytes type source parents) ≤ size
+
+pub record PlaceRoom (s : List ℕ) (cells : List SetAt) (place n : ℕ) (rule : PlaceRule) (at size : ℕ) : Type 0 where
+  pub type : EventType
+  pub dossier : Dossier
+  pub merges : Mergeable s cells n type dossier
+  pub rules : RuleIs (getElem? (type .properties) place) rule
+  pub room : at + length (flatten (map text (mergedAt (view type) dossier place))) ≤ size
+
+pub record SetsRoom (s : List ℕ) (cells : List SetAt) (n : ℕ) (t : TypeIndex) (counts : List ℕ) (at size : ℕ) : Type 0 where
+  pub table : List ℕ
+  pub type : EventType
+  pub dossier : Dossier
+  pub typed : TypeIs table type t
+  pub merges : Mergeable s cells n type dossier
+  pub counted : CountsMerged type dossier counts
+  pub room : at + length (setsBytes (mergedSets (view type) dossier)) ≤ size
+
+pub record Writable (s : List ℕ) (d : DossierIndex) (t : TypeIndex) (cells : List SetAt) (counts : List ℕ) (size : ℕ) : Type 0 where
+  pub table : List ℕ
+  pub type : EventType
+  pub headed : Headed
+  pub typed : TypeIs table type t
+  pub is : DossierIs s headed d
+  pub merges : Mergeable s cells (d .count) type (headed .dossier)
+  pub counted : CountsMerged type (headed .dossier) counts
+  pub room : length (eventBytes (mergedEvent headed (mergedSets (view type) (headed .dossier)))) ≤ size
+
+-- d and t are the indexes of a dossier that was asked its questions, and of its type
+pub record Openable (s : List ℕ) (d : DossierIndex) (t : TypeIndex) : Type 0 where
+  pub table : List ℕ
+  pub types : Table
+  pub type : EventType
+  pub headed : Headed
+  pub read : tableOf table ≡ some types
+  pub asked : dossierAsked standard types s ≡ accepted (record { type = type; headed = headed })
+  pub typed : TypeIs table type t
+  pub is : DossierIs s headed d

@@ -1,0 +1,77 @@
+ghost use Prim.Native.Nat.{_≤_};
+ghost use mathlib.Core.Path.{_≡_};
+ghost use lib.ListN.{length};
+ghost use Rattle.model.specs.Limits.{standard};
+ghost use Rattle.model.specs.Sets.{upTo};
+ghost use Rattle.model.specs.Opening.{noConflict, conflict, opening};
+ghost use Rattle.ontology.specs.Questions.{outcome};
+ghost use Rattle.event.specs.Event.{view};
+ghost use Rattle.opening.specs.OpenCall.{openedAnswer, openCall};
+ghost use Rattle.opening.specs.OpenIndex.{replies, Openable};
+use crate::cells::cells_of;
+use crate::clash::Clash;
+use crate::clash::Lowest;
+use crate::clash::find_conflict;
+use crate::merge::find_overfull;
+use crate::merge::merged_counts;
+use crate::write::write_event;
+use dossier::dossiers::DossierIndex;
+use dossier::dossiers::read_dossier;
+use dossier::questions::ask_dossier;
+use dossier::questions::type_name;
+use ontology::tables::read_table;
+use ontology::types::TypeIndex;
+use values::versions::EventVersion;
+
+// The length of the merged event; or the event version and the place of a conflict, an overfull place, or the number of the first question that is
+// answered no.
+pub enum Opened {
+    Merged(usize),
+    Conflict(EventVersion, usize),
+    Overfull(usize),
+    Refused(u8),
+}
+
+// Without a conflict. The counts are known before the first byte is written.
+fn open_merged(s: &[u8], d: DossierIndex, t: TypeIndex, out: &mut [u8]) -> Opened
+    requires { ⌜ Openable (now s) d t × (32768 ≤ length (now out)) ⌝ }
+    ensures { λ r. ⌜ ((o : Openable (now (s .entry)) d t) → conflict (upTo 32) (o .headed .dossier .snapshots) ≡ noConflict → replies r (now (out .exit)) ≡ outcome (openedAnswer (o .headed) (opening (view (o .type)) (o .headed .dossier))) (now (out .entry))) ⌝ }
+{
+    let cells = cells_of(s, d);
+    let counts = merged_counts(s, cells, d.count, t);
+    match find_overfull(t, counts) {
+        Lowest::Place(place) => Opened::Overfull(place),
+        Lowest::NoPlace => Opened::Merged(write_event(s, d, t, cells, counts, out)),
+    }
+}
+
+// A dossier that was asked its questions.
+fn open_asked(s: &[u8], d: DossierIndex, t: TypeIndex, out: &mut [u8]) -> Opened
+    requires { ⌜ Openable (now s) d t × (32768 ≤ length (now out)) ⌝ }
+    ensures { λ r. ⌜ ((o : Openable (now (s .entry)) d t) → replies r (now (out .exit)) ≡ outcome (openedAnswer (o .headed) (opening (view (o .type)) (o .headed .dossier))) (now (out .entry))) ⌝ }
+{
+    match find_conflict(s, d) {
+        Clash::Differs(version, place) => Opened::Conflict(version, place),
+        Clash::NoClash => open_merged(s, d, t, out),
+    }
+}
+// The merged event of a dossier, written at the front of `out`.
+pub fn open_dossier(table: &[u8], dossier: &[u8], out: &mut [u8]) -> Opened
+    ensures { λ r. ⌜ replies r (now (out .exit)) ≡ openCall standard (now (table .entry)) (now (dossier .entry)) (now (out .entry)) ⌝ }
+{
+    if out.len() < 32768 {
+        return Opened::Refused(1);
+    }
+    let d = read_dossier(dossier);
+    let read = read_table(table, type_name(dossier, d));
+    if !read.ok {
+        return Opened::Refused(2);
+    }
+    let asked = ask_dossier(dossier, d, read);
+    if asked.number != 0 {
+        return Opened::Refused(asked.number);
+    }
+    let kind = asked.kind;
+    let x = asked.dossier;
+    open_asked(dossier, x, kind, out)
+}

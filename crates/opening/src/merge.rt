@@ -1,0 +1,161 @@
+ghost use Prim.Native.Nat.{ℕ, _<_, _≤_};
+ghost use mathlib.Core.Path.{_≡_};
+ghost use mathlib.Core.Bool.{true, cond, _&&_, _||_};
+ghost use mathlib.Core.List.{List, [], map, flatten};
+ghost use lib.ListN.{length, take, getD, getElem?};
+ghost use lib.Dec.{leb};
+ghost use Rattle.model.specs.Order.{Text, reversed};
+ghost use Rattle.model.specs.Sets.{union, smallest};
+ghost use Rattle.model.specs.Rule.{Snapshot, Dossier};
+ghost use Rattle.model.specs.Opening.{column, mergedAt, mergedSets, overfull};
+ghost use Rattle.values.specs.Spaces.{Kind};
+ghost use Rattle.values.specs.ValueOrder.{valueOrder};
+ghost use Rattle.ontology.specs.Table.{EventType};
+ghost use Rattle.ontology.specs.TypeIndex.{TypeIs};
+ghost use Rattle.event.specs.Event.{view};
+ghost use Rattle.event.specs.EventLayout.{presenceBit, bitNumber};
+ghost use Rattle.event.specs.EventIndex.{SetIs};
+ghost use Rattle.opening.specs.OpenIndex.{lowestOf, CellsStand, RuleIs, Lone, Chooses, CountsMerged, Mergeable};
+ghost use Rattle.opening.specs.CellIndex.{countBit};
+use crate::cells::runs_of;
+use crate::clash::Lowest;
+use crate::strategies::PlaceRule;
+use crate::strategies::rule_of;
+use event::sets::SetAt;
+use event::sets::set_part;
+use event::sets::value_in;
+use ontology::types::TypeIndex;
+use packed::order::Compared;
+use unions::many::count_merged;
+use values::spaces::compare_values;
+
+// The smaller of the values of two sets of at most one, or the larger, where it stands.
+fn better(s: &[u8], kind: u8, largest: bool, a: SetAt, b: SetAt) -> SetAt
+    ensures { λ r. ⌜ ((k : Kind) (vs ws : List Text) → Chooses k kind → SetIs (now (s .entry)) vs a → SetIs (now (s .entry)) ws b → Lone k vs → Lone k ws → SetIs (now (s .entry)) (take 1 (union (cond largest (reversed (valueOrder k)) (valueOrder k)) vs ws)) r) ⌝ }
+{
+    if a.count == 0 {
+        return b;
+    }
+    if b.count == 0 {
+        return a;
+    }
+    let v = value_in(set_part(s, a), 0);
+    let w = value_in(set_part(s, b), 0);
+    match compare_values(kind, v, w) {
+        Compared::Less => { if largest { b } else { a } }
+        Compared::Same => a,
+        Compared::More => { if largest { a } else { b } }
+    }
+}
+
+// The smallest or the largest value of a place in n snapshots.
+fn extreme_of(
+    s: &[u8],
+    cells: [SetAt; 256],
+    place: usize,
+    n: usize,
+    kind: u8,
+    largest: bool,
+) -> SetAt
+    requires { ⌜ (place < 32) × (1 ≤ n) × (n ≤ 8) ⌝ }
+    ensures { λ r. ⌜ ((ss : List Snapshot) (k : Kind) → CellsStand (now (s .entry)) ss cells → length ss ≡ n → Chooses k kind → ((j : ℕ) → j < n → Lone k (getD (column ss place) j [])) → SetIs (now (s .entry)) (smallest (cond largest (reversed (valueOrder k)) (valueOrder k)) (flatten (column ss place))) r) ⌝ }
+{
+    let mut best = cells[place * 8];
+    let mut j: usize = 1;
+    while j < n {
+        let x = cells[place * 8 + j];
+        best = better(s, kind, largest, best, x);
+        j += 1;
+    }
+    best
+}
+
+// Where a merged set stands already: the last snapshot's, or the one with the chosen value.
+pub fn standing(s: &[u8], cells: [SetAt; 256], place: usize, n: usize, rule: PlaceRule) -> SetAt
+    requires { ⌜ (place < 32) × (1 ≤ n) × (n ≤ 8) ⌝ }
+    ensures { λ r. ⌜ ((t : EventType) (d : Dossier) → Mergeable (now (s .entry)) cells n t d → RuleIs (getElem? (t .properties) place) rule → (rule .replaces || rule .extreme) ≡ true → SetIs (now (s .entry)) (mergedAt (view t) d place) r) ⌝ }
+{
+    if rule.replaces {
+        return cells[place * 8 + (n - 1)];
+    }
+    extreme_of(s, cells, place, n, rule.kind, rule.largest)
+}
+
+// How many objects a merged set has.
+fn merged_count(s: &[u8], cells: [SetAt; 256], place: usize, n: usize, rule: PlaceRule) -> usize
+    requires { ⌜ (place < 32) × (1 ≤ n) × (n ≤ 8) ⌝ }
+    ensures { λ r. ⌜ ((t : EventType) (d : Dossier) → Mergeable (now (s .entry)) cells n t d → RuleIs (getElem? (t .properties) place) rule → r ≡ length (mergedAt (view t) d place)) ⌝ }
+{
+    if rule.replaces || rule.extreme {
+        let x = standing(s, cells, place, n, rule);
+        return x.count;
+    }
+    let runs = runs_of(cells, place);
+    let starts = runs.starts;
+    let ends = runs.ends;
+    count_merged(s, starts, ends, n)
+}
+
+// The counts of all places.
+pub fn merged_counts(s: &[u8], cells: [SetAt; 256], n: usize, t: TypeIndex) -> [usize; 32]
+    requires { ⌜ (t .count ≤ 32) × (1 ≤ n) × (n ≤ 8) ⌝ }
+    ensures { λ r. ⌜ ((u : List ℕ) (ty : EventType) (d : Dossier) → TypeIs u ty t → Mergeable (now (s .entry)) cells n ty d → CountsMerged ty d r) ⌝ }
+{
+    let mut counts = [0; 32];
+    let mut p: usize = 0;
+    while p < 32 {
+        let rule = rule_of(t, p);
+        counts[p] = merged_count(s, cells, p, n, rule);
+        p += 1;
+    }
+    counts
+}
+
+fn is_overfull(rule: PlaceRule, count: usize) -> bool
+    ensures { λ r. ⌜ r ≡ (rule .single && leb 2 count) ⌝ }
+{
+    if rule.single {
+        return 2 <= count;
+    }
+    false
+}
+
+// The lowest single-valued place that would get more than one object.
+pub fn find_overfull(t: TypeIndex, counts: [usize; 32]) -> Lowest
+    requires { ⌜ t .count ≤ 32 ⌝ }
+    ensures { λ r. ⌜ ((u : List ℕ) (ty : EventType) (d : Dossier) → TypeIs u ty t → CountsMerged ty d counts → lowestOf r ≡ overfull (view ty) d) ⌝ }
+{
+    let mut p: usize = 0;
+    while p < 32 {
+        let rule = rule_of(t, p);
+        let count = counts[p];
+        if is_overfull(rule, count) {
+            return Lowest::Place(p);
+        }
+        p += 1;
+    }
+    Lowest::NoPlace
+}
+
+// The presence bit of a set of so many objects.
+fn presence_bit(count: usize) -> u64
+    ensures { λ r. ⌜ r ≡ countBit count ⌝ }
+{
+    if count == 0 {
+        return 0;
+    }
+    1
+}
+
+// The presence number, from its highest bit down.
+pub fn presence_of(counts: [usize; 32]) -> u64
+    ensures { λ r. ⌜ ((ty : EventType) (d : Dossier) → CountsMerged ty d counts → r ≡ bitNumber (map presenceBit (mergedSets (view ty) d))) ⌝ }
+{
+    let mut bits: u64 = 0;
+    let mut p: usize = 32;
+    while 0 < p {
+        p -= 1;
+        bits = bits * 2 + presence_bit(counts[p]);
+    }
+    bits
+}
