@@ -2,13 +2,13 @@
 use mathlib.Core.Path.{_≡_, refl, sym, ap, ap₂, _∙_, subst}
 use mathlib.Core.Option.{Option, none, some}
 use mathlib.Core.List.{List, [], _∷_, _++_, map, flatten, append-nil}
-use Prim.Native.Nat.{ℕ, suc, _+_, _-_, _≤_, _<_}
+use Prim.Native.Nat.{ℕ, _+_, _-_, _≤_, _<_}
 use native.Mathlib.Omega.{arith}
 use lib.ListN.{length, drop, length-append}
 use borrow.Author.Tests.{le-leb, lt-leb}
 use Rattle.model.specs.Order.{Text, texts}
 use Rattle.model.specs.Sets.{upTo}
-use Rattle.model.specs.Rule.{Cell, holds, differs, places, Snapshot, Dossier, rule}
+use Rattle.model.specs.Rule.{holds, places, Snapshot, Dossier, rule}
 use Rattle.model.specs.Opening.{held}
 use Rattle.model.proofs.Cases.{never}
 use Rattle.model.proofs.SetLaws.{rising-ups}
@@ -20,7 +20,7 @@ use Rattle.packed.proofs.LayoutLaws.{number-bounds, number-length-1, number-len
 use Rattle.packed.proofs.WriteLaws.{wrote-between}
 use Rattle.ontology.specs.Table.{EventType, Table}
 use Rattle.ontology.specs.TableLayout.{tableOf}
-use Rattle.ontology.specs.Questions.{Asked, refused, accepted, _>>=_, ask, Answer, refuses, answer}
+use Rattle.ontology.specs.Questions.{Asked, refused, accepted, _>>=_, ask, refuses, answer}
 use Rattle.ontology.proofs.TableLaws.{TypeKept, table-type, place-in}
 use Rattle.event.specs.Event.{Event, setAt, view, versionOf, objectCount}
 use Rattle.event.specs.EventLayout.{narrow, wide, headBytes, presenceBit, bitNumber, setsBytes}
@@ -31,7 +31,7 @@ use Rattle.event.proofs.EventLayoutLaws.{EventWritten, written-larger, presence
 use Rattle.event.proofs.EventSizeLaws.{head-size, sets-size, each-within, event-short}
 use Rattle.event.proofs.EventQuestionLaws.{EventAccepted, event-accepted, EventFits, event-fits, set-rises, least-few, version-set, version-below}
 use Rattle.event.proofs.AskLaws.{Accepted}
-use Rattle.dossier.specs.DossierLayout.{Headed, differBit, snapshotBytes, dossierBytes}
+use Rattle.dossier.specs.DossierLayout.{differBit, snapshotBytes, dossierBytes}
 use Rattle.combining.specs.CheckCall.{eventDossier, checkAnswer, checkCall}
 use Rattle.combining.specs.CheckIndex.{loneBytes, Checkable, LoneRoom}
 use Rattle.ontology.specs.Replies.{replies}
@@ -40,12 +40,12 @@ use Rattle.ontology.specs.declared.replies.Reply.the-variants.{Done, Refused}
 -- ---- the bytes of one event's dossier
 
 -- cells that hold sets have those sets and no mark
-sets-held : (f : ℕ → List Text) (ps : List ℕ) → map held (map (λ p. holds (f p)) ps) ≡ map f ps
+pub sets-held : (f : ℕ → List Text) (ps : List ℕ) → map held (map (λ p. holds (f p)) ps) ≡ map f ps
 unfolding held
 sets-held f [] = refl
 sets-held f (p ∷ ps) = ap (λ (ss : List (List Text)). f p ∷ ss) (sets-held f ps)
 
-none-differ : (f : ℕ → List Text) (ps : List ℕ) → bitNumber (map differBit (map (λ p. holds (f p)) ps)) ≡ 0
+pub none-differ : (f : ℕ → List Text) (ps : List ℕ) → bitNumber (map differBit (map (λ p. holds (f p)) ps)) ≡ 0
 unfolding differBit bitNumber
 none-differ f [] = refl
 none-differ f (p ∷ ps) = omega (arith, none-differ f ps)

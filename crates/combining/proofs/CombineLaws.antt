@@ -1,7 +1,7 @@
 -- The laws of the call combine.
-use mathlib.Core.Path.{_≡_, refl, sym, ap, ap₂, _∙_, subst}
+use mathlib.Core.Path.{_≡_, sym, ap, ap₂, _∙_, subst}
 use mathlib.Core.Bool.{Bool, true, false}
-use mathlib.Core.Option.{Option, none, some}
+use mathlib.Core.Option.{Option, some}
 use mathlib.Core.List.{List, _++_}
 use Prim.Native.Nat.{ℕ, _+_, _≤_, _<_}
 use native.Mathlib.Omega.{arith}
@@ -9,28 +9,28 @@ use lib.ListN.{length, drop}
 use borrow.Author.Tests.{le-leb, lt-leb}
 use Rattle.model.specs.Order.{Text, texts, equal}
 use Rattle.model.specs.Limits.{standard, fits}
-use Rattle.model.proofs.Cases.{never}
 use Rattle.model.proofs.OrderLaws.{equal-true}
 use Rattle.packed.specs.Written.{Wrote}
 use Rattle.packed.proofs.WriteLaws.{wrote-between}
 use Rattle.ontology.specs.Table.{EventType, Table, typeNamed}
 use Rattle.ontology.specs.TableLayout.{tableOf}
-use Rattle.ontology.specs.Questions.{Asked, refused, accepted, _>>=_, _>>_, ask, ensure, gives}
+use Rattle.ontology.specs.Questions.{refused, accepted, _>>=_, _>>_, gives}
 use Rattle.ontology.specs.TypeIndex.{TypeIs, TypeSays, TableSays}
 use Rattle.ontology.specs.declared.tables.TableRead.{TableRead}
 use Rattle.ontology.specs.declared.types.TypeIndex.{TypeIndex}
 use Rattle.event.specs.Event.{view}
 use Rattle.dossier.specs.DossierLayout.{Headed, dossierOf, dossierBytes}
-use Rattle.dossier.specs.DossierQuestions.{eachSnapshot, dossierShape, snapshotValues, TypedDossier, dossierAsked, dossiersAgree}
+use Rattle.dossier.specs.DossierQuestions.{TypedDossier, dossierAsked, dossiersAgree}
 use Rattle.dossier.specs.DossierIndex.{DossierIs, IsDossier, DossierReads, DossierAnswers}
 use Rattle.dossier.specs.declared.dossiers.DossierIndex.{DossierIndex}
 use Rattle.dossier.specs.declared.questions.DossierAsked.{DossierAsked}
-use Rattle.dossier.proofs.AnswerLaws.{found-few}
 use Rattle.combining.specs.CombineCall.{headedAs, combined, combineAnswer, combineCall}
 use Rattle.combining.specs.CombineIndex.{Combinable}
 use Rattle.ontology.specs.Replies.{replies}
 use Rattle.ontology.specs.declared.replies.Reply.the-variants.{Done, Refused}
-use Rattle.combining.proofs.RoomLaws.{shapeAsked, dossier-taken, combined-room}
+use Rattle.ontology.proofs.TypeIndexLaws.{table-refused, table-got, found-few}
+use Rattle.dossier.proofs.AcceptedLaws.{dossier-taken, one-type, asked-refused, asked-accepted}
+use Rattle.combining.proofs.RoomLaws.{combined-room}
 
 -- ---- the table
 
@@ -39,21 +39,8 @@ pub record Tabled (table : List ℕ) : Type 0 where
   pub is : tableOf table ≡ some types
 
 module _ (table : List ℕ) (name : Text) (r : TableRead) (says : TableSays (tableOf table) table name r) where
-  no-table : r .ok ≡ false → tableOf table ≡ none
-  unfolding TableSays
-  no-table h = go (tableOf table) says
-    where
-      go : (o : Option Table) → TableSays o table name r → o ≡ none
-      go none w = refl
-      go (some ts) w = never (cc (w .0))
-
   pub tabled : r .ok ≡ true → Tabled table
-  unfolding TableSays
-  tabled h = go (tableOf table) refl says
-    where
-      go : (o : Option Table) → tableOf table ≡ o → TableSays o table name r → Tabled table
-      go none e w = never (cc)
-      go (some ts) e w = record { types = ts; is = e }
+  tabled h = let g = table-got table name r says h in record { types = g .what; is = g .is }
 
   -- what was read of the type of that name
   type-says : (k : Tabled table) → TypeSays (typeNamed name (k .types)) table r
@@ -76,24 +63,6 @@ pub record Taken (table : List ℕ) (types : Table) (s : List ℕ) (d : DossierI
   pub typed : TypeIs table (what .type) t
   pub stands : DossierIs s (what .headed) d
 
--- no question has the number 0
-asked-number : (types : Table) (s : List ℕ) → dossierAsked standard types s ≡ refused 0 → ⊥
-unfolding dossierAsked
-asked-number types s e = at-layout (dossierOf standard s) e
-  where
-    at-shape : (a : TypedDossier) (x y : Bool) → (ensure 5 x >> (ensure 6 y >> accepted a)) ≡ refused 0 → ⊥
-    at-shape a false y e = never (cc)
-    at-shape a true false e = never (cc)
-    at-shape a true true e = never (cc)
-
-    at-type : (h : Headed) (o : Option EventType) → (ask 4 o >>= shapeAsked h) ≡ refused 0 → ⊥
-    at-type h none e = never (cc)
-    at-type h (some t) e = at-shape (record { type = t; headed = h }) (dossierShape standard t (h .dossier .snapshots)) (eachSnapshot (snapshotValues t) (h .dossier .snapshots)) e
-
-    at-layout : (o : Option Headed) → (ask 3 o >>= λ h. (ask 4 (typeNamed (h .type) types) >>= shapeAsked h)) ≡ refused 0 → ⊥
-    at-layout none e = never (cc)
-    at-layout (some h) e = at-type h (typeNamed (h .type) types) e
-
 reads-is : (s : List ℕ) (d : DossierIndex) (h : Headed) → DossierReads (dossierOf standard s) s d → dossierOf standard s ≡ some h → DossierIs s h d
 unfolding DossierReads
 reads-is s d h w e = subst (λ (o : Option Headed). DossierReads o s d) e w .1
@@ -111,20 +80,12 @@ module _
   answers = asks table (k .types) (k .is) (λ h i. subst (λ (n : Text). TypeSays (typeNamed n (k .types)) table read) (names h i) (type-says table name read says k))
 
   pub refused-by : (r .number ≡ 0 → ⊥) → dossierAsked standard (k .types) s ≡ refused (r .number)
-  unfolding DossierAnswers
-  refused-by ne = go (dossierAsked standard (k .types) s) answers
-    where
-      go : (q : Asked TypedDossier) → DossierAnswers q table s r → q ≡ refused (r .number)
-      go (refused n) a = ap refused (sym a)
-      go (accepted x) a = absurd (ne (a .0))
+  refused-by ne = asked-refused (k .types) table s r answers ne
 
   pub taken-by : r .number ≡ 0 → Taken table (k .types) s d (r .kind)
-  unfolding DossierAnswers
-  taken-by e = go (dossierAsked standard (k .types) s) refl answers
-    where
-      go : (q : Asked TypedDossier) → dossierAsked standard (k .types) s ≡ q → DossierAnswers q table s r → Taken table (k .types) s d (r .kind)
-      go (refused n) p a = absurd (asked-number (k .types) s (p ∙ ap refused (sym a ∙ e)))
-      go (accepted x) p a = record { what = x; asked = p; typed = a .1; stands = reads-is s d (x .headed) w (dossier-taken (k .types) s x p .read) }
+  taken-by e =
+      let a = asked-accepted (k .types) table s r answers e in
+      record { what = a .what; asked = a .asked; typed = a .typed; stands = reads-is s d (a .what .headed) w (dossier-taken (k .types) s (a .what) (a .asked) .read) }
 
 -- ---- question 7
 
@@ -142,19 +103,12 @@ module _ (table a : List ℕ) (d : DossierIndex) (b : List ℕ) (e : DossierInde
   pub agree-asks : (t .count ≤ 32) × IsDossier a d × IsDossier b e
   agree-asks = (h .left .typed .few, record { what = h .left .what .headed; is = h .left .stands }, record { what = h .right .what .headed; is = h .right .stands })
 
-  -- one name has one type
-  one-type : h .left .what .headed .type ≡ h .right .what .headed .type → h .left .what .type ≡ h .right .what .type
-  one-type n =
-      let x = dossier-taken (h .known .types) a (h .left .what) (h .left .asked) in
-      let y = dossier-taken (h .known .types) b (h .right .what) (h .right .asked) in
-      let q : some (h .left .what .type) ≡ some (h .right .what .type) = sym (x .typed) ∙ ap (λ (v : Text). typeNamed v (h .known .types)) n ∙ y .typed in
-      cc
-
   module _
       (r : Bool)
       (says : (u : List ℕ) (ty tz : EventType) (x y : Headed) → TypeIs u ty t → DossierIs a x d → DossierIs b y e → (x .type ≡ y .type → ty ≡ tz) → r ≡ dossiersAgree (record { type = ty; headed = x }) (record { type = tz; headed = y })) where
     pub agree-is : r ≡ dossiersAgree (h .left .what) (h .right .what)
-    agree-is = says table (h .left .what .type) (h .right .what .type) (h .left .what .headed) (h .right .what .headed) (h .left .typed) (h .left .stands) (h .right .stands) one-type
+    agree-is = says table (h .left .what .type) (h .right .what .type) (h .left .what .headed) (h .right .what .headed) (h .left .typed) (h .left .stands) (h .right .stands)
+        (one-type (dossier-taken (h .known .types) a (h .left .what) (h .left .asked)) (dossier-taken (h .known .types) b (h .right .what) (h .right .asked)))
 
     abbrev pub combinable : r ≡ true → Combinable table a d b e t
     combinable y = record {
@@ -175,7 +129,7 @@ module _ (table a : List ℕ) (d : DossierIndex) (b : List ℕ) (e : DossierInde
 pub combine-room :
     (table a b : List ℕ) {d e : DossierIndex} {t : TypeIndex} (h : Combinable table a d b e t) {r : Bool} → r ≡ fits standard (view (h .left .type)) (combined (h .left) (h .right)) → r ≡ true →
     (size : ℕ) → 32768 ≤ size → length (dossierBytes (headedAs (h .left .headed) (combined (h .left) (h .right)))) ≤ size
-combine-room table a b {d} {e} {t} h p y size l = omega (arith, combined-room table a b d e t h (sym p ∙ y))
+combine-room table a b {d} {e} {t} h p y size l = omega (arith, combined-room h (sym p ∙ y))
 
 -- ---- the replies
 
@@ -187,7 +141,7 @@ module _ (table left right out : List ℕ) where
   module _ (room : 32768 ≤ length out) where
     pub combine-untabled : (name : Text) (r : TableRead) → TableSays (tableOf table) table name r → r .ok ≡ false → replies (Refused 2) out ≡ combineCall standard table left right out
     unfolding combineCall combineAnswer
-    combine-untabled name r w h = rw (le-leb 32768 (length out) room, no-table table name r w h)
+    combine-untabled name r w h = rw (le-leb 32768 (length out) room, table-refused table name r w h)
 
     pub combine-left : (k : Tabled table) (n : ℕ) → dossierAsked standard (k .types) left ≡ refused n → replies (Refused n) out ≡ combineCall standard table left right out
     unfolding combineCall combineAnswer

@@ -13,22 +13,23 @@ use Rattle.model.specs.Sets.{itself, first, union}
 use Rattle.model.specs.Rule.{Snapshot, joinSnapshots, Dossier, combine, sizes, objects}
 use Rattle.model.specs.Limits.{standard, fits}
 use Rattle.model.specs.Opening.{cellAt, held}
+use Rattle.model.proofs.Cases.{and-parts, or-part}
 use Rattle.packed.proofs.LayoutLaws.{All}
 use Rattle.ontology.specs.Table.{EventType, Table, isVersioned}
 use Rattle.ontology.specs.declared.types.TypeIndex.{TypeIndex}
 use Rattle.event.specs.Event.{view}
 use Rattle.event.specs.EventQuestions.{matchCount}
-use Rattle.event.proofs.EventLayoutLaws.{and-parts}
 use Rattle.unions.specs.Runs.{Hashes}
-use Rattle.dossier.specs.DossierQuestions.{eachCell, eachSnapshot, isVacant, holdsVersion, TypedDossier}
+use Rattle.dossier.specs.DossierQuestions.{eachCell, isVacant, holdsVersion, TypedDossier}
 use Rattle.dossier.specs.DossierIndex.{noSnapshot, cellFits, versionFits, snapshotFits}
 use Rattle.dossier.specs.declared.dossiers.DossierIndex.{DossierIndex}
-use Rattle.dossier.proofs.AskLaws.{fitsWith, shape-is, start-within}
+use Rattle.dossier.proofs.AskLaws.{start-within}
 use Rattle.dossier.proofs.DossierLayoutLaws.{DossierWritten}
 use Rattle.dossier.proofs.DossierReadLaws.{to-end}
+use Rattle.dossier.proofs.AcceptedLaws.{DossierTaken, taken-written, taken-lone, taken-fits}
 use Rattle.combining.specs.CombineCall.{combined}
 use Rattle.combining.specs.CombineIndex.{Combinable, Meet}
-use Rattle.combining.proofs.MeetLaws.{DossierTaken, taken-written, taken-fits, left-taken, right-taken, same-type, meet}
+use Rattle.combining.proofs.MeetLaws.{left-taken, right-taken, same-type, meet}
 
 -- ---- the keys of a merge
 
@@ -67,14 +68,8 @@ all-hashes (h ∷ hs) w (suc i) l = all-hashes hs (w .1) i (omega arith)
 
 -- ---- an unversioned dossier has one snapshot, of version 0
 
-or-right : (a b : Bool) → a ≡ false → (a || b) ≡ true → b ≡ true
-or-right a b e h = ap (λ (x : Bool). x || b) (sym e) ∙ h
-
-one-snapshot : (table : Table) (s : List ℕ) (a : TypedDossier) → DossierTaken table s a → isVersioned (a .type) ≡ false → length (snapshots a) ≡ 1
-one-snapshot table s a w un =
-    let ss = snapshots a in
-    let h = and-parts (isVersioned (a .type) || eqb (length ss) 1) (eachSnapshot (fitsWith (a .type) (getD ss 0 noSnapshot)) ss) (sym (shape-is (a .type) ss) ∙ w .shape) .0 in
-    eqb-true (length ss) 1 (or-right (isVersioned (a .type)) (eqb (length ss) 1) un h)
+one-snapshot : {types : Table} {s : List ℕ} {a : TypedDossier} → DossierTaken types s a → isVersioned (a .type) ≡ false → length (snapshots a) ≡ 1
+one-snapshot {types} {s} {a} w un = eqb-true (length (snapshots a)) 1 (or-part (isVersioned (a .type)) (eqb (length (snapshots a)) 1) (taken-lone w) un)
 
 alone : (ss : List Snapshot) → length ss ≡ 1 → ss ≡ getD ss 0 noSnapshot ∷ []
 alone [] h = absurd (omega arith)
@@ -103,10 +98,10 @@ module _ (table a : List ℕ) (d : DossierIndex) (b : List ℕ) (e : DossierInde
   whole = combined (c .left) (c .right)
 
   left-written : DossierWritten standard (c .left .headed)
-  left-written = taken-written (c .types) a (c .left) (left-taken table a d b e t c)
+  left-written = taken-written (left-taken c)
 
   right-written : DossierWritten standard (c .right .headed)
-  right-written = taken-written (c .types) b (c .right) (right-taken table a d b e t c)
+  right-written = taken-written (right-taken c)
 
   -- the parents of each are hashes and rise
   pub left-hashes : Hashes (c .left .headed .dossier .parents) × (rising texts (c .left .headed .dossier .parents) ≡ true)
@@ -136,7 +131,7 @@ module _ (table a : List ℕ) (d : DossierIndex) (b : List ℕ) (e : DossierInde
   unfolding combined combine
   whole-snapshots = refl
 
-  whole-versions : length (whole .snapshots) ≡ length (union numbers (take (d .count) (d .versions)) (take (e .count) (e .versions)))
+  pub whole-versions : length (whole .snapshots) ≡ length (union numbers (take (d .count) (d .versions)) (take (e .count) (e .versions)))
   whole-versions =
       sym (length-map (whole .snapshots) (λ (s : Snapshot). s .version))
       ∙ ap (λ (ss : List Snapshot). length (versions ss)) whole-snapshots
@@ -149,10 +144,10 @@ module _ (table a : List ℕ) (d : DossierIndex) (b : List ℕ) (e : DossierInde
     unversioned = le-ltb 0 (ty .mark) (omega (arith, c .typed .mark))
 
     left-one : length (snapshots (c .left)) ≡ 1
-    left-one = one-snapshot (c .types) a (c .left) (left-taken table a d b e t c) unversioned
+    left-one = one-snapshot (left-taken c) unversioned
 
     right-one : length (snapshots (c .right)) ≡ 1
-    right-one = one-snapshot (c .types) b (c .right) (right-taken table a d b e t c) (ap isVersioned (sym (same-type table a d b e t c)) ∙ unversioned)
+    right-one = one-snapshot (right-taken c) (ap isVersioned (sym (same-type c)) ∙ unversioned)
 
     abbrev x : Snapshot
     x = getD (snapshots (c .left)) 0 noSnapshot
@@ -162,13 +157,13 @@ module _ (table a : List ℕ) (d : DossierIndex) (b : List ℕ) (e : DossierInde
 
     same-version : x .version ≡ y .version
     same-version =
-        version-none ty x unversioned (taken-fits (c .types) a (c .left) (left-taken table a d b e t c) 0 (omega (arith, left-one)))
-        ∙ sym (version-none (c .right .type) y (ap isVersioned (sym (same-type table a d b e t c)) ∙ unversioned) (taken-fits (c .types) b (c .right) (right-taken table a d b e t c) 0 (omega (arith, right-one))))
+        version-none ty x unversioned (taken-fits (left-taken c) 0 (omega (arith, left-one)))
+        ∙ sym (version-none (c .right .type) y (ap isVersioned (sym (same-type c)) ∙ unversioned) (taken-fits (right-taken c) 0 (omega (arith, right-one))))
 
     pub first-meet : Meet (take (length a - getD (d .starts) 0 0) (drop (getD (d .starts) 0 0) a)) (take (length b - getD (e .starts) 0 0) (drop (getD (e .starts) 0 0) b)) ty x y
     first-meet =
         subst₂ (λ (p q : List ℕ). Meet p q ty x y) (sym (to-end a (getD (d .starts) 0 0))) (sym (to-end b (getD (e .starts) 0 0)))
-        (meet table a d b e t c 0 0 (omega (arith, left-one)) (omega (arith, right-one)) same-version)
+        (meet c 0 0 (omega (arith, left-one)) (omega (arith, right-one)) same-version)
 
     whole-objects : objects (whole .snapshots) ≡ sizes (joinSnapshots (view ty) x y .cells)
     unfolding objects

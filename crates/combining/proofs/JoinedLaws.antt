@@ -15,7 +15,7 @@ use Rattle.model.specs.Order.{Order, Text, texts, rising, reversed}
 use Rattle.model.specs.Sets.{union, upFrom, upTo}
 use Rattle.model.specs.Rule.{Choice, every, least, Cell, holds, differs, joinCell, places, Snapshot, joinSnapshots}
 use Rattle.model.specs.Opening.{held, isMark, cellAt}
-use Rattle.model.proofs.Cases.{never}
+use Rattle.model.proofs.Cases.{never, and-parts}
 use Rattle.model.proofs.SetLaws.{rising-ups, union-in}
 use Rattle.model.proofs.PartLaws.{map-same, map-getD, in-upTo}
 use Rattle.model.proofs.StepLaws.{union-left-nil, union-right-nil, join-map}
@@ -37,7 +37,7 @@ use Rattle.event.specs.EventLayout.{setBytes, setsBytes, presenceBit, bitNumber
 use Rattle.event.specs.EventQuestions.{areInSpace, matchCount, valuesFit}
 use Rattle.event.specs.EventIndex.{SetIs, noSet}
 use Rattle.event.specs.declared.sets.SetAt.{SetAt}
-use Rattle.event.proofs.EventLayoutLaws.{and-parts, SetWritten}
+use Rattle.event.proofs.EventLayoutLaws.{SetWritten}
 use Rattle.event.proofs.EventQuestionLaws.{all-at, each-place-at, empty-written}
 use Rattle.dossier.specs.DossierLayout.{readSnapshot, differBit, snapshotBytes}
 use Rattle.dossier.specs.DossierQuestions.{eachCell, isVacant, isPresent, isLone, isLoneIfExtreme, snapshotValues}
@@ -47,8 +47,9 @@ use Rattle.dossier.proofs.DossierLayoutLaws.{snapshot-was}
 use Rattle.dossier.proofs.CellLaws.{held-at}
 use Rattle.dossier.proofs.AskLaws.{reads-got}
 use Rattle.combining.specs.CombineIndex.{bitOf, isExtremeAt, Fitting, Meet}
-use Rattle.combining.specs.JoinedIndex.{haveObjects, PlacesAre, extremeOrder, Extremes, joinedSet, Paired, PlaceIs, PlaceRoom}
+use Rattle.combining.specs.JoinedIndex.{haveObjects, PresentAre, extremeOrder, Extremes, joinedSet, Paired, PlaceIs, PlaceRoom}
 use Rattle.combining.proofs.PlaceLaws.{set-room, wrote-set}
+use Rattle.combining.proofs.CheckLaws.{sets-held, none-differ}
 
 -- ---- the smaller or larger of two values
 
@@ -317,7 +318,7 @@ module _ (left right : List SetAt) (l : List Bool) (k : ℕ) (w : PlacesTo left 
         (lt-or-ge p k);
   }
 
-  pub places-all : 32 ≤ k → PlacesAre left right l
+  pub places-all : 32 ≤ k → PresentAre left right l
   places-all h = record { long = w .long; each = λ p m. w .each p (omega arith) }
 
 -- ---- an unversioned snapshot
@@ -388,17 +389,6 @@ set-values ty x v p q e = each-place-at (λ (q : Property) (s : List Text). areI
 
 set-rises : (s : List ℕ) (x : Snapshot) (r : List ℕ) → readSnapshot s ≡ got x r → (p : ℕ) → rising texts (setOf x p) ≡ true
 set-rises s x r e p = all-at SetWritten [] empty-written (map held (x .cells)) (snapshot-was s x r e .1 .sets .each) p .rises
-
--- cells that hold sets have those sets and no mark
-sets-held : (g : ℕ → List Text) (ps : List ℕ) → map held (map (λ p. holds (g p)) ps) ≡ map g ps
-unfolding held
-sets-held g [] = refl
-sets-held g (p ∷ ps) = ap (λ (ss : List (List Text)). g p ∷ ss) (sets-held g ps)
-
-none-differ : (g : ℕ → List Text) (ps : List ℕ) → bitNumber (map differBit (map (λ p. holds (g p)) ps)) ≡ 0
-unfolding differBit bitNumber
-none-differ g [] = refl
-none-differ g (p ∷ ps) = omega (arith, none-differ g ps)
 
 -- ---- two unversioned snapshots
 
@@ -488,7 +478,7 @@ module _ {table a b : List ℕ} {t : TypeIndex} {i j : SnapshotIndex} {ty : Even
   unfolding joinSnapshots
   joined-version = plain-version ty x (f .left-fits) (h .unversioned)
 
-  module _ (present : List Bool) (w : PlacesAre (i .sets) (j .sets) present) where
+  module _ (present : List Bool) (w : PresentAre (i .sets) (j .sets) present) where
     presence-bits : map presenceBit (map joined (upTo 32)) ≡ map bitOf present
     presence-bits =
         go (upTo 32) (λ p m. in-upTo 32 p .1 m) ∙ ap (map bitOf) (map-getD present false 32 (w .long))

@@ -1,10 +1,9 @@
 -- The laws of the dossier of one event: its version, and its bytes from the event's own.
-use mathlib.Core.Path.{_≡_, refl, sym, ap, ap₂, _∙_, subst}
-use mathlib.Core.Bool.{Bool, true, cond}
-use mathlib.Core.List.{List, [], _∷_, _++_, map, append-assoc}
+use mathlib.Core.Path.{_≡_, refl, sym, ap, _∙_, subst}
+use mathlib.Core.Bool.{true}
+use mathlib.Core.List.{List, [], _∷_}
 use Prim.Native.Nat.{ℕ, zero, suc, _+_, _-_, _*_, _^_, _≤_, _<_}
 use native.Mathlib.Omega.{arith}
-use lib.Dec.{ltb}
 use lib.ListN.{length, take, drop, getD, length-append, length-drop}
 use lib.Seq.{take-at, take-all, length-take-le}
 use borrow.Author.Tests.{lt-ltb, le-ltb}
@@ -16,14 +15,14 @@ use Rattle.packed.proofs.ReadLaws.{drop-next}
 use Rattle.packed.proofs.WriteLaws.{wrote-then}
 use Rattle.values.specs.Decimal.{areDigits, numeralAfter, numeral, inDecimal}
 use Rattle.values.proofs.NumeralLaws.{digit-least, digits-head, digits-tail, natural-digits, natural-in-decimal, numeral-in-decimal}
-use Rattle.ontology.specs.Table.{EventType, isVersioned}
+use Rattle.ontology.specs.Table.{isVersioned}
 use Rattle.ontology.specs.declared.types.TypeIndex.{TypeIndex}
 use Rattle.event.specs.Event.{Event, setAt, versionOf}
-use Rattle.event.specs.EventLayout.{headBytes, presenceBit, bitNumber, setsBytes}
+use Rattle.event.specs.EventLayout.{headBytes, setsBytes}
 use Rattle.event.specs.EventIndex.{SetIs, noSet, EventIs}
 use Rattle.event.specs.declared.read.EventIndex.{EventIndex}
 use Rattle.event.proofs.EventQuestionLaws.{version-none}
-use Rattle.combining.specs.CheckIndex.{loneBytes, Checkable, LoneRoom}
+use Rattle.combining.specs.CheckIndex.{loneBytes, Checkable}
 
 -- ---- a numeral, digit by digit
 

@@ -5,21 +5,19 @@ use mathlib.Core.List.{List, [], _∷_, _++_, append-assoc, append-nil, map, fla
 use Prim.Native.Nat.{ℕ, zero, suc, _+_, _-_, _≤_, _<_, Ordering·lt}
 use native.Mathlib.Omega.{arith}
 use lib.Dec.{leb}
-use lib.ListN.{length, take, drop, getD, length-append, length-map, drop-of-length-le, List·getD-map}
+use lib.ListN.{length, take, drop, getD, length-append, drop-of-length-le, List·getD-map}
 use lib.Seq.{drop-cons, drop-drop, getD-take}
 use borrow.Author.Tests.{lt-ltb, le-ltb, le-leb, lt-leb}
 use Rattle.model.specs.Order.{Text, texts, numbers, rising, pick, three}
-use Rattle.model.specs.Keyed.{Above, Rising, merge, put}
-use Rattle.model.specs.Sets.{Ups, itself, first, union}
+use Rattle.model.specs.Keyed.{Rising, merge}
+use Rattle.model.specs.Sets.{union}
 use Rattle.model.specs.Rule.{Snapshot, joinSnapshots, combine}
-use Rattle.model.specs.Limits.{standard}
 use Rattle.model.proofs.OrderLaws.{less-of, less-cmp, less-turn, more-turn}
-use Rattle.model.proofs.KeyedLaws.{merge-left, merge-right, merge-meet, merge-nil, above-trans}
+use Rattle.model.proofs.KeyedLaws.{merge-left, merge-right, merge-meet, merge-nil, above-trans, rising-keys}
 use Rattle.model.proofs.SetLaws.{rising-ups}
 use Rattle.packed.specs.Packed.{number, text}
 use Rattle.packed.specs.Located.{part}
 use Rattle.packed.specs.Written.{Wrote}
-use Rattle.packed.proofs.LayoutLaws.{All}
 use Rattle.packed.proofs.WriteLaws.{wrote-then, ToGo, to-go, gone, all-gone}
 use Rattle.ontology.specs.Table.{EventType, isVersioned}
 use Rattle.ontology.specs.TypeIndex.{TypeIs}
@@ -27,17 +25,17 @@ use Rattle.ontology.specs.declared.types.TypeIndex.{TypeIndex}
 use Rattle.event.specs.Event.{view}
 use Rattle.event.specs.EventLayout.{parentsBytes, headBytes}
 use Rattle.event.proofs.SetLaws.{stretch}
-use Rattle.unions.specs.Runs.{Hashes}
 use Rattle.unions.proofs.RunLaws.{part-then}
 use Rattle.dossier.specs.DossierLayout.{Headed, snapshotBytes, dossierBytes}
 use Rattle.dossier.specs.DossierIndex.{noSnapshot, SnapshotsAre, DossierIs}
 use Rattle.dossier.specs.declared.dossiers.DossierIndex.{DossierIndex}
-use Rattle.dossier.proofs.DossierLayoutLaws.{DossierWritten}
 use Rattle.dossier.proofs.DossierReadLaws.{to-end}
+use Rattle.dossier.proofs.AcceptedLaws.{taken-written}
 use Rattle.combining.specs.CombineCall.{headedAs, combined}
 use Rattle.combining.specs.CombineIndex.{Combinable, Meet, AgreedRoom, JoinedRoom}
 use Rattle.combining.specs.WriteIndex.{SharedRoom, bytesFrom, RestRoom, nextSnapshot, stepBy, nextBytes, NextRoom, HeadsAre}
-use Rattle.combining.proofs.MeetLaws.{left-taken, right-taken, taken-written, meet}
+use Rattle.combining.proofs.MeetLaws.{left-taken, right-taken, meet}
+use Rattle.combining.proofs.FitLaws.{left-hashes, right-hashes, whole-versions}
 
 -- ---- writes
 
@@ -73,15 +71,7 @@ Rises = Rising numbers versionIn
 
 -- the versions of the snapshots rise
 versions-rise : (ss : List Snapshot) → rising numbers (map versionIn ss) ≡ true → Rises ss
-versions-rise ss h = all ss (rising-ups numbers (map versionIn ss) .0 h)
-  where
-    above : (k : ℕ) (ss : List Snapshot) → Above numbers itself k (map versionIn ss) → Above numbers versionIn k ss
-    above k [] h = tt
-    above k (s ∷ ss) h = (h .0, above k ss (h .1))
-
-    all : (ss : List Snapshot) → Ups numbers (map versionIn ss) → Rises ss
-    all [] h = tt
-    all (s ∷ ss) h = (above (s .version) ss (h .0), all ss (h .1))
+versions-rise ss h = rising-keys numbers versionIn ss .1 (rising-ups numbers (map versionIn ss) .0 h)
 
 rising-drop : (i : ℕ) (ss : List Snapshot) → Rises ss → Rises (drop i ss)
 rising-drop zero ss h = h
@@ -237,21 +227,6 @@ merge-at ty xs ys i j l m hx hy =
         mergedOf ty zs ws ≡ nextSnapshot ty x y ∷ mergedOf ty (drop (stepBy (x .version) (y .version)) zs) (drop (stepBy (y .version) (x .version)) ws)
     go zs ws {x} {y} {us} {vs} e f hx hy = rw (e, f) (merge-next ty x us y vs (rw e at hx) (rw f at hy))
 
--- the versions of the merged snapshots are those of both sides
-put-versions : (ty : EventType) (x : Snapshot) (ys : List Snapshot) → map versionIn (put numbers versionIn (joinSnapshots (view ty)) x ys) ≡ put numbers itself first (x .version) (map versionIn ys)
-unfolding put
-put-versions ty x [] = refl
-put-versions ty x (y ∷ ys) =
-    three (numbers .cmp (x .version) (y .version))
-    (λ l. rw l)
-    (λ e. rw e (ap (λ (v : ℕ). v ∷ map versionIn ys) (join-keeps ty x y (numbers .same (x .version) (y .version) e))))
-    (λ g. rw g (ap (λ (vs : List ℕ). y .version ∷ vs) (put-versions ty x ys)))
-
-merged-versions : (ty : EventType) (xs ys : List Snapshot) → map versionIn (mergedOf ty xs ys) ≡ union numbers (map versionIn xs) (map versionIn ys)
-unfolding merge union
-merged-versions ty [] ys = refl
-merged-versions ty (x ∷ xs) ys = put-versions ty x (mergedOf ty xs ys) ∙ ap (put numbers itself first (x .version)) (merged-versions ty xs ys)
-
 module _ {table a b : List ℕ} {d e : DossierIndex} {t : TypeIndex} (c : Combinable table a d b e t) where
   abbrev lefts : List Snapshot
   lefts = c .left .headed .dossier .snapshots
@@ -271,17 +246,11 @@ module _ {table a b : List ℕ} {d e : DossierIndex} {t : TypeIndex} (c : Combin
   unfolding combined combine
   merged-all = refl
 
-  left-written : DossierWritten standard (c .left .headed)
-  left-written = taken-written (c .types) a (c .left) (left-taken table a d b e t c)
-
-  right-written : DossierWritten standard (c .right .headed)
-  right-written = taken-written (c .types) b (c .right) (right-taken table a d b e t c)
-
   left-rising : (i : ℕ) → Rises (drop i lefts)
-  left-rising i = rising-drop i lefts (versions-rise lefts (left-written .rises))
+  left-rising i = rising-drop i lefts (versions-rise lefts (taken-written (left-taken c) .rises))
 
   right-rising : (j : ℕ) → Rises (drop j rights)
-  right-rising j = rising-drop j rights (versions-rise rights (right-written .rises))
+  right-rising j = rising-drop j rights (versions-rise rights (taken-written (right-taken c) .rises))
 
   -- one side alone is left
   pub merged-left : (i j : ℕ) → e .count ≤ j → mergedBytes i j ≡ bytesFrom lefts i
@@ -346,7 +315,7 @@ module _ {table a b : List ℕ} {d e : DossierIndex} {t : TypeIndex} (c : Combin
         Meet (take (length a - getD (d .starts) i 0) (drop (getD (d .starts) i 0) a)) (take (length b - getD (e .starts) j 0) (drop (getD (e .starts) j 0) b)) (c .left .type) leftOne rightOne
     next-meet h k =
         subst₂ (λ (x y : List ℕ). Meet x y (c .left .type) leftOne rightOne) (sym (to-end a (getD (d .starts) i 0))) (sym (to-end b (getD (e .starts) j 0)))
-        (meet table a d b e t c i j (omega (arith, c .left-read .count)) (omega (arith, c .right-read .count)) (one-version h k))
+        (meet c i j (omega (arith, c .left-read .count)) (omega (arith, c .right-read .count)) (one-version h k))
 
     pub shared-room : (at size : ℕ) → at + length (nextBytes c i j) ≤ size → getD (e .versions) j 0 ≤ getD (d .versions) i 0 → getD (d .versions) i 0 ≤ getD (e .versions) j 0 →
         SharedRoom table (take (length a - getD (d .starts) i 0) (drop (getD (d .starts) i 0) a)) (take (length b - getD (e .starts) j 0) (drop (getD (e .starts) j 0) b)) t at size
@@ -396,21 +365,19 @@ module _ {table a b : List ℕ} {d e : DossierIndex} {t : TypeIndex} (c : Combin
   -- ---- the head
 
   pub heads-are : HeadsAre a d b e (c .left .headed .type) (c .left .headed .source) (c .left .headed .dossier .parents) (c .right .headed .dossier .parents)
-  heads-are = record {
-    left = c .left-read .head;
-    type′ = c .right .headed .type;
-    source′ = c .right .headed .source;
-    right = c .right-read .head;
-    left-each = each-hash (c .left .headed .dossier .parents) (left-written .head .parents .each);
-    right-each = each-hash (c .right .headed .dossier .parents) (right-written .head .parents .each);
-    left-rise = left-written .head .parents .rises;
-    right-rise = right-written .head .parents .rises;
-  }
-    where
-      each-hash : (hs : List Text) → All (λ (h : Text). length h ≡ 20) hs → Hashes hs
-      each-hash [] w i l = absurd (omega arith)
-      each-hash (h ∷ hs) w zero l = w .0
-      each-hash (h ∷ hs) w (suc i) l = each-hash hs (w .1) i (omega arith)
+  heads-are =
+      let x = left-hashes table a d b e t c in
+      let y = right-hashes table a d b e t c in
+      record {
+        left = c .left-read .head;
+        type′ = c .right .headed .type;
+        source′ = c .right .headed .source;
+        right = c .right-read .head;
+        left-each = x .0;
+        right-each = y .0;
+        left-rise = x .1;
+        right-rise = y .1;
+      }
 
   -- ---- the whole
 
@@ -418,14 +385,7 @@ module _ {table a b : List ℕ} {d e : DossierIndex} {t : TypeIndex} (c : Combin
   headPart = headBytes (c .left .headed .type) (c .left .headed .source) (union texts (c .left .headed .dossier .parents) (c .right .headed .dossier .parents))
 
   pub versions-counted : (n : ℕ) → n ≡ length (union numbers (take (d .count) (d .versions)) (take (e .count) (e .versions))) → n ≡ length (combined (c .left) (c .right) .snapshots)
-  unfolding combined combine
-  versions-counted n h =
-      h
-      ∙ ap₂ (λ (v w : List ℕ). length (union numbers v w))
-      (ap (λ (k : ℕ). take k (d .versions)) (c .left-read .count) ∙ c .left-read .snapshots .numbers)
-      (ap (λ (k : ℕ). take k (e .versions)) (c .right-read .count) ∙ c .right-read .snapshots .numbers)
-      ∙ ap length (sym (merged-versions (c .left .type) lefts rights))
-      ∙ length-map (mergedOf (c .left .type) lefts rights) versionIn
+  versions-counted n h = h ∙ sym (whole-versions table a d b e t c)
 
   module _ (n : ℕ) (is : n ≡ length (combined (c .left) (c .right) .snapshots)) where
     pub combined-length : length (dossierBytes (headedAs (c .left .headed) (combined (c .left) (c .right)))) ≡ length headPart + length (number n) + length snapshotsPart

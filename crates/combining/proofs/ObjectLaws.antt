@@ -1,6 +1,5 @@
 -- The laws of the objects that two unversioned snapshots have together, place by place.
 use mathlib.Core.Path.{_≡_, refl, sym, ap, ap₂, _∙_, subst}
-use mathlib.Core.Logic.{⊎-elim}
 use mathlib.Core.Bool.{Bool, true, false, not, _&&_, _||_}
 use mathlib.Core.Option.{Option, none, some}
 use mathlib.Core.List.{List, [], _∷_, map}
@@ -14,12 +13,12 @@ use borrow.Author.Tests.{eq-eqb, ne-eqb, le-leb, lt-leb, leb-true}
 use Rattle.model.specs.Order.{Order, Text, texts, rising, three}
 use Rattle.model.specs.Keyed.{put, merge}
 use Rattle.model.specs.Sets.{itself, first, union, upTo}
-use Rattle.model.specs.Rule.{Cell, holds, differs, Choice, every, least, places, Snapshot, joinCell, joinSnapshots, size, sizes}
+use Rattle.model.specs.Rule.{Cell, holds, differs, Choice, every, least, places, Snapshot, joinCell, joinSnapshots, sizes}
 use Rattle.model.specs.Opening.{cellAt, isMark, held}
-use Rattle.model.proofs.Cases.{never}
+use Rattle.model.proofs.Cases.{never, and-parts}
 use Rattle.model.proofs.PartLaws.{length-upTo}
 use Rattle.model.proofs.StepLaws.{join-map, join-at}
-use Rattle.packed.proofs.LayoutLaws.{lt-or-ge}
+use Rattle.model.proofs.SizeLaws.{held-size}
 use Rattle.ontology.specs.Table.{Strategy, min, max, add, replace, match, set, any, strategyNumber, Property, EventType, isMin, isMax, isVersioned}
 use Rattle.ontology.specs.TypeIndex.{TypeIs}
 use Rattle.ontology.specs.declared.properties.PropertyAt.{PropertyAt}
@@ -27,13 +26,13 @@ use Rattle.ontology.specs.declared.types.TypeIndex.{TypeIndex}
 use Rattle.event.specs.Event.{choiceOf, atPlace, view}
 use Rattle.event.specs.EventIndex.{SetIs, noSet}
 use Rattle.event.specs.EventQuestions.{isEmpty, matchCount}
-use Rattle.event.proofs.EventLayoutLaws.{SetWritten, and-parts}
+use Rattle.event.proofs.EventLayoutLaws.{SetWritten}
 use Rattle.event.proofs.EventQuestionLaws.{all-at, empty-written}
 use Rattle.dossier.specs.DossierLayout.{readSnapshot}
 use Rattle.dossier.specs.DossierQuestions.{eachCell, isVacant, isPresent, isLone, isLoneIfExtreme, isUnmarkedMatch}
 use Rattle.dossier.specs.DossierIndex.{SnapshotReads, cellFits, placeFits, versionFits, snapshotFits}
 use Rattle.dossier.specs.declared.snapshots.SnapshotIndex.{SnapshotIndex}
-use Rattle.dossier.proofs.CellLaws.{elem, elem-none, held-at}
+use Rattle.dossier.proofs.CellLaws.{elem, elem-none, held-at, leb-sub}
 use Rattle.dossier.proofs.DossierLayoutLaws.{SnapshotWritten, snapshot-cells, snapshot-was}
 use Rattle.dossier.proofs.AskLaws.{reads-got}
 use Rattle.combining.specs.CombineIndex.{isExtremeAt, Meet}
@@ -212,17 +211,6 @@ module _ (ty : EventType) (x : Snapshot) (w : SnapshotWritten x) (un : isVersion
 
 -- ---- the objects of all places
 
-size-held : (c : Cell) → size c ≡ length (held c)
-unfolding size held
-size-held (holds s) = refl
-size-held differs = refl
-
-leb-sub : (n m l : ℕ) → n ≤ l → leb (n + m) l ≡ leb m (l - n)
-leb-sub n m l h =
-    ⊎-elim (λ (a : l - n < m). lt-leb (n + m) l (omega arith) ∙ sym (lt-leb m (l - n) a))
-    (λ (a : m ≤ l - n). le-leb (n + m) l (omega arith) ∙ sym (le-leb m (l - n) a))
-    (lt-or-ge (l - n) m)
-
 -- two snapshots where they stand, of an unversioned type
 module _ (a b : List ℕ) (ty : EventType) (x y : Snapshot) (un : isVersioned ty ≡ false) (m : Meet a b ty x y) where
   left-written : SnapshotWritten x
@@ -272,7 +260,7 @@ module _ (a b : List ℕ) (ty : EventType) (x y : Snapshot) (un : isVersioned ty
       unfolding sizes
       objects-step =
           ap sizes (drop-cons joined k (holds []) (omega (arith, joined-long)))
-          ∙ ap₂ (λ (p q : ℕ). p + sizes (drop q joined)) (size-held (getD joined k (holds [])) ∙ ap (λ (c : Cell). length (held c)) joined-at ∙ sym e) (sym (add-one k))
+          ∙ ap₂ (λ (p q : ℕ). p + sizes (drop q joined)) (sym (held-size (getD joined k (holds []))) ∙ ap (λ (c : Cell). length (held c)) joined-at ∙ sym e) (sym (add-one k))
 
       pub objects-large : room < n → leb (sizes (drop k joined)) room ≡ false
       objects-large l = lt-leb (sizes (drop k joined)) room (omega (arith, objects-step))

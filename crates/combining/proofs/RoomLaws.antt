@@ -1,42 +1,37 @@
 -- Two dossiers together, inside the limits, have room in an output of 32,768 bytes.
-use mathlib.Core.Path.{_≡_, refl, sym, ap, _∙_, subst}
-use mathlib.Core.Bool.{Bool, true, false, cond, not, _&&_}
-use mathlib.Core.Option.{Option, none, some}
+use mathlib.Core.Path.{_≡_, refl, sym, ap, _∙_}
+use mathlib.Core.Bool.{Bool, true, false, cond}
 use mathlib.Core.List.{List, [], _∷_, map}
 use Prim.Native.Nat.{ℕ, _^_, _≤_, _<_}
 use native.Mathlib.Omega.{arith}
-use lib.Dec.{leb}
 use lib.ListN.{length, take, length-map}
-use borrow.Author.Tests.{leb-true, eqb-true}
 use Rattle.model.specs.Order.{Order, Text, texts, numbers, sets, three, rising, equal}
-use Rattle.model.specs.Keyed.{Above, Rising, put, merge}
+use Rattle.model.specs.Keyed.{Rising, put, merge}
 use Rattle.model.specs.Sets.{itself, first, Ups, union}
 use Rattle.model.specs.Rule.{Cell, holds, differs, Choice, every, least, View, places, Snapshot, Dossier, joinCell, joinCells, joinSnapshots, combine, size, sizes, objects}
 use Rattle.model.specs.Limits.{standard, fits}
-use Rattle.model.specs.Opening.{held, isMark}
+use Rattle.model.specs.Opening.{held}
 use Rattle.model.proofs.Cases.{never, truth}
 use Rattle.model.proofs.SetLaws.{rising-ups, ups-union}
-use Rattle.model.proofs.KeyedLaws.{rising-merge}
+use Rattle.model.proofs.KeyedLaws.{rising-merge, rising-keys}
 use Rattle.model.proofs.PartLaws.{length-upTo}
 use Rattle.model.proofs.LimitLaws.{fits-bounds}
 use Rattle.model.proofs.ValidLaws.{ups-take}
 use Rattle.packed.proofs.LayoutLaws.{All}
-use Rattle.ontology.specs.Table.{Property, EventType, Table, isVersioned, typeNamed}
-use Rattle.ontology.specs.Questions.{Asked, accepted, _>>=_, _>>_, ask, ensure}
+use Rattle.ontology.specs.Table.{EventType, isVersioned}
+use Rattle.ontology.specs.Questions.{_>>=_, _>>_}
 use Rattle.ontology.specs.declared.types.TypeIndex.{TypeIndex}
-use Rattle.ontology.proofs.TableLaws.{table-type, type-named}
 use Rattle.event.specs.Event.{view}
-use Rattle.event.specs.EventQuestions.{isEmpty}
-use Rattle.event.proofs.EventLayoutLaws.{SetWritten, and-parts}
-use Rattle.event.proofs.EventSizeLaws.{ValuesShort, Beyond, fit-short, each-within}
-use Rattle.dossier.specs.DossierLayout.{Headed, dossierOf, dossierBytes}
-use Rattle.dossier.specs.DossierQuestions.{eachCell, eachSnapshot, isVacant, isPresent, unversionedShape, versionedSnapshot, matchFits, matchAlike, dossierShape, snapshotValues, TypedDossier, dossierAsked, dossiersAgree}
+use Rattle.event.proofs.EventLayoutLaws.{SetWritten}
+use Rattle.event.proofs.EventSizeLaws.{ValuesShort, each-within}
+use Rattle.dossier.specs.DossierLayout.{dossierBytes}
 use Rattle.dossier.specs.declared.dossiers.DossierIndex.{DossierIndex}
-use Rattle.dossier.proofs.DossierLayoutLaws.{SnapshotWritten, DossierWritten, snapshot-cells, dossier-was}
+use Rattle.dossier.proofs.DossierLayoutLaws.{SnapshotWritten, DossierWritten, snapshot-cells}
 use Rattle.dossier.proofs.DossierSizeLaws.{held-objects, dossier-size, versioned-objects}
-use Rattle.dossier.proofs.DossierQuestionLaws.{agree-exact}
+use Rattle.dossier.proofs.AcceptedLaws.{taken-written, taken-name, taken-short, taken-sizes}
 use Rattle.combining.specs.CombineCall.{headedAs, combined}
 use Rattle.combining.specs.CombineIndex.{Combinable}
+use Rattle.combining.proofs.MeetLaws.{left-taken, right-taken, same-type}
 
 -- ---- what is so of all entries of two lists is so of all that they are together
 
@@ -176,109 +171,16 @@ values-short (c ∷ cs) h = (h .0 .short, values-short cs (h .1))
 
 -- ---- an accepted dossier
 
-pub record DossierAccepted (types : Table) (s : List ℕ) (a : TypedDossier) : Type 0 where
-  pub read : dossierOf standard s ≡ some (a .headed)
-  pub typed : typeNamed (a .headed .type) types ≡ some (a .type)
-  pub shape : dossierShape standard (a .type) (a .headed .dossier .snapshots) ≡ true
-  pub values : eachSnapshot (snapshotValues (a .type)) (a .headed .dossier .snapshots) ≡ true
-
--- questions 5 and 6 of a dossier whose type is known
-abbrev pub shapeAsked : Headed → EventType → Asked TypedDossier
-shapeAsked h t = ensure 5 (dossierShape standard t (h .dossier .snapshots)) >> (ensure 6 (eachSnapshot (snapshotValues t) (h .dossier .snapshots)) >> accepted (record { type = t; headed = h }))
-
-pub dossier-taken : (types : Table) (s : List ℕ) (a : TypedDossier) → dossierAsked standard types s ≡ accepted a → DossierAccepted types s a
-unfolding dossierAsked
-dossier-taken types s a e = at-layout (dossierOf standard s) refl e
-  where
-    at-shape : (h : Headed) (t : EventType) (x y : Bool) → dossierOf standard s ≡ some h → typeNamed (h .type) types ≡ some t → dossierShape standard t (h .dossier .snapshots) ≡ x → eachSnapshot (snapshotValues t) (h .dossier .snapshots) ≡ y → (ensure 5 x >> (ensure 6 y >> accepted (record { type = t; headed = h }))) ≡ accepted a → DossierAccepted types s a
-    at-shape h t false y i j k l e = never (cc)
-    at-shape h t true false i j k l e = never (cc)
-    at-shape h t true true i j k l e =
-        let z : record { type = t; headed = h } ≡ a = cc in
-        subst (DossierAccepted types s) z (record { read = i; typed = j; shape = k; values = l })
-
-    at-type : (h : Headed) (o : Option EventType) → dossierOf standard s ≡ some h → typeNamed (h .type) types ≡ o → (ask 4 o >>= shapeAsked h) ≡ accepted a → DossierAccepted types s a
-    at-type h none i j e = never (cc)
-    at-type h (some t) i j e = at-shape h t (dossierShape standard t (h .dossier .snapshots)) (eachSnapshot (snapshotValues t) (h .dossier .snapshots)) i j refl refl e
-
-    at-layout : (o : Option Headed) → dossierOf standard s ≡ o → (ask 3 o >>= λ h. (ask 4 (typeNamed (h .type) types) >>= shapeAsked h)) ≡ accepted a → DossierAccepted types s a
-    at-layout none i e = never (cc)
-    at-layout (some h) i e = at-type h (typeNamed (h .type) types) i refl e
-
--- the parts of question 5
-shape-parts : (t : EventType) (ss : List Snapshot) → dossierShape standard t ss ≡ true → (eachSnapshot (λ (s : Snapshot). eachCell isPresent isVacant (t .properties) (s .cells)) ss ≡ true) × (cond (isVersioned t) (eachSnapshot (versionedSnapshot t) ss) (unversionedShape standard t ss) ≡ true)
-unfolding dossierShape
-shape-parts t ss h = and-parts _ _ (and-parts _ (eachSnapshot (matchFits t) ss) (and-parts _ (matchAlike t ss) h .0) .0)
-
-cells-beyond : (f : Property → Cell → Bool) (ps : List Property) (cs : List Cell) → eachCell f isVacant ps cs ≡ true → Beyond ps (map held cs)
-unfolding eachCell isVacant
-cells-beyond f [] [] h = tt
-cells-beyond f [] (c ∷ cs) h =
-    let a = and-parts (isVacant c) (eachCell f isVacant [] cs) h in
-    (eqb-true (length (held c)) 0 (and-parts (not (isMark c)) (isEmpty (held c)) (a .0) .1), cells-beyond f [] cs (a .1))
-cells-beyond f (p ∷ ps) [] h = tt
-cells-beyond f (p ∷ ps) (c ∷ cs) h = cells-beyond f ps cs (and-parts (f p c) (eachCell f isVacant ps cs) h .1)
-
 cells-each : (cs : List Cell) → All SetWritten (map held cs) → ValuesShort (map held cs) → All (λ (c : Cell). ShortSet (held c)) cs
 cells-each [] w v = tt
 cells-each (c ∷ cs) w v = (record { rises = w .0 .rises; short = v .0 }, cells-each cs (w .1) (v .1))
 
-snapshots-short : (t : EventType) (ss : List Snapshot) → All SnapshotWritten ss → eachSnapshot (λ (s : Snapshot). eachCell isPresent isVacant (t .properties) (s .cells)) ss ≡ true → eachSnapshot (snapshotValues t) ss ≡ true → All ShortSnapshot ss
-unfolding eachSnapshot snapshotValues
-snapshots-short t [] w h v = tt
-snapshots-short t (s ∷ ss) w h v =
-    let a = and-parts (eachCell isPresent isVacant (t .properties) (s .cells)) _ h in
-    let b = and-parts (snapshotValues t s) (eachSnapshot (snapshotValues t) ss) v in (
-      record {
-        version = w .0 .version;
-        long = snapshot-cells s (w .0);
-        each = cells-each (s .cells) (w .0 .sets .each) (fit-short t (map held (s .cells)) (cells-beyond isPresent (t .properties) (s .cells) (a .0)) (b .0));
-      },
-      snapshots-short t ss (w .1) (a .1) (b .1),
-    )
-
-versioned-sizes : (t : EventType) (ss : List Snapshot) → eachSnapshot (versionedSnapshot t) ss ≡ true → All (λ (s : Snapshot). sizes (s .cells) ≤ 32) ss
-unfolding eachSnapshot versionedSnapshot
-versioned-sizes t [] h = tt
-versioned-sizes t (s ∷ ss) h =
-    let a = and-parts (versionedSnapshot t s) (eachSnapshot (versionedSnapshot t) ss) h in
-    let b = and-parts (leb (sizes (s .cells)) 32 && _) _ (a .0) in
-    (leb-true (sizes (s .cells)) 32 (and-parts (leb (sizes (s .cells)) 32) _ (b .0) .0), versioned-sizes t ss (a .1))
-
-module _ (types : Table) (s : List ℕ) (x : TypedDossier) (k : DossierAccepted types s x) where
-  abbrev taken-written : DossierWritten standard (x .headed)
-  taken-written = dossier-was standard s (x .headed) (k .read) .1
-
-  taken-short : All ShortSnapshot (x .headed .dossier .snapshots)
-  taken-short =
-      let ss = x .headed .dossier .snapshots in
-      snapshots-short (x .type) ss (taken-written .snapshots) (shape-parts (x .type) ss (k .shape) .0) (k .values)
-
-  taken-sizes : isVersioned (x .type) ≡ true → All (λ (z : Snapshot). sizes (z .cells) ≤ 32) (x .headed .dossier .snapshots)
-  taken-sizes v =
-      let ss = x .headed .dossier .snapshots in
-      versioned-sizes (x .type) ss (rw v at (shape-parts (x .type) ss (k .shape) .1))
-
--- ---- rising by a key, and as the keys themselves
+short-snapshots : (ss : List Snapshot) → All SnapshotWritten ss → All (λ (s : Snapshot). ValuesShort (map held (s .cells))) ss → All ShortSnapshot ss
+short-snapshots [] w v = tt
+short-snapshots (s ∷ ss) w v = (record { version = w .0 .version; long = snapshot-cells s (w .0); each = cells-each (s .cells) (w .0 .sets .each) (v .0) }, short-snapshots ss (w .1) (v .1))
 
 abbrev versionIn : Snapshot → ℕ
 versionIn s = s .version
-
-above-keys : (n : ℕ) (ss : List Snapshot) → Above numbers versionIn n ss → Above numbers itself n (map versionIn ss)
-above-keys n [] h = tt
-above-keys n (s ∷ ss) h = (h .0, above-keys n ss (h .1))
-
-keys-above : (n : ℕ) (ss : List Snapshot) → Above numbers itself n (map versionIn ss) → Above numbers versionIn n ss
-keys-above n [] h = tt
-keys-above n (s ∷ ss) h = (h .0, keys-above n ss (h .1))
-
-rising-keys : (ss : List Snapshot) → Rising numbers versionIn ss → Ups numbers (map versionIn ss)
-rising-keys [] h = tt
-rising-keys (s ∷ ss) h = (above-keys (s .version) ss (h .0), rising-keys ss (h .1))
-
-keys-rising : (ss : List Snapshot) → Ups numbers (map versionIn ss) → Rising numbers versionIn ss
-keys-rising [] h = tt
-keys-rising (s ∷ ss) h = (keys-above (s .version) ss (h .0), keys-rising ss (h .1))
 
 -- ---- two dossiers that are combined
 
@@ -292,49 +194,35 @@ unfolding merge
 merge-some O key join [] ys h = absurd (omega arith)
 merge-some O key join (x ∷ xs) ys h = put-some O key join x (merge O key join xs ys)
 
-module _ (table a b : List ℕ) (d e : DossierIndex) (t : TypeIndex) (h : Combinable table a d b e t) where
-  pub left-taken : DossierAccepted (h .types) a (h .left)
-  left-taken = dossier-taken (h .types) a (h .left) (h .left-asked)
-
-  pub right-taken : DossierAccepted (h .types) b (h .right)
-  right-taken = dossier-taken (h .types) b (h .right) (h .right-asked)
-
-  -- one name has one type
-  pub same-type : h .left .type ≡ h .right .type
-  unfolding dossiersAgree
-  same-type =
-      let n = agree-exact (h .left .headed .type) (h .left .headed .source) _ (h .right .headed .type) (h .right .headed .source) _ .0 (h .agree) .0 in
-      let q : some (h .left .type) ≡ some (h .right .type) = sym (left-taken .typed) ∙ ap (λ (v : Text). typeNamed v (h .types)) n ∙ right-taken .typed in
-      cc
-
+module _ {table a b : List ℕ} {d e : DossierIndex} {t : TypeIndex} (h : Combinable table a d b e t) where
   abbrev together : Dossier
   together = combined (h .left) (h .right)
 
   abbrev x : DossierWritten standard (h .left .headed)
-  x = taken-written (h .types) a (h .left) left-taken
+  x = taken-written (left-taken h)
 
   abbrev y : DossierWritten standard (h .right .headed)
-  y = taken-written (h .types) b (h .right) right-taken
+  y = taken-written (right-taken h)
 
   together-short : All ShortSnapshot (together .snapshots)
   unfolding combined combine
   together-short =
       all-merge numbers versionIn (joinSnapshots (view (h .left .type))) ShortSnapshot (snapshots-joined (h .left .type))
       (h .left .headed .dossier .snapshots) (h .right .headed .dossier .snapshots)
-      (taken-short (h .types) a (h .left) left-taken) (taken-short (h .types) b (h .right) right-taken)
+      (short-snapshots (h .left .headed .dossier .snapshots) (x .snapshots) (taken-short (left-taken h))) (short-snapshots (h .right .headed .dossier .snapshots) (y .snapshots) (taken-short (right-taken h)))
 
   together-sizes : isVersioned (h .left .type) ≡ true → All (λ (z : Snapshot). sizes (z .cells) ≤ 32) (together .snapshots)
   unfolding combined combine
   together-sizes v =
       all-merge numbers versionIn (joinSnapshots (view (h .left .type))) (λ (z : Snapshot). sizes (z .cells) ≤ 32) (sizes-joined (h .left .type) v)
       (h .left .headed .dossier .snapshots) (h .right .headed .dossier .snapshots)
-      (taken-sizes (h .types) a (h .left) left-taken v) (taken-sizes (h .types) b (h .right) right-taken (ap isVersioned (sym same-type) ∙ v))
+      (taken-sizes (left-taken h) v) (taken-sizes (right-taken h) (ap isVersioned (sym (same-type h)) ∙ v))
 
   together-rises : Rising numbers versionIn (together .snapshots)
   unfolding combined combine joinSnapshots
   together-rises =
       rising-merge numbers versionIn (joinSnapshots (view (h .left .type))) (λ r s q. refl) (h .left .headed .dossier .snapshots) (h .right .headed .dossier .snapshots)
-      (keys-rising (h .right .headed .dossier .snapshots) (rising-ups numbers (map versionIn (h .right .headed .dossier .snapshots)) .0 (y .rises)))
+      (rising-keys numbers versionIn (h .right .headed .dossier .snapshots) .1 (rising-ups numbers (map versionIn (h .right .headed .dossier .snapshots)) .0 (y .rises)))
 
   together-one : 1 ≤ length (together .snapshots)
   unfolding combined combine
@@ -371,13 +259,12 @@ module _ (table a b : List ℕ) (d e : DossierIndex) (t : TypeIndex) (h : Combin
       within = bounds .1;
       few = omega (arith, bounds .1);
       snapshots = snapshots-written (together .snapshots) together-short together-objects;
-      rises = rising-ups numbers (map versionIn (together .snapshots)) .1 (rising-keys (together .snapshots) together-rises);
+      rises = rising-ups numbers (map versionIn (together .snapshots)) .1 (rising-keys numbers versionIn (together .snapshots) .0 together-rises);
     }
 
     pub combined-room : length (dossierBytes (headedAs (h .left .headed) together)) ≤ 32768
     combined-room =
-        let n = type-named (h .left .headed .type) (h .types) (h .left .type) (left-taken .typed) .0 in
         dossier-size (headedAs (h .left .headed) together) together-written
         (all-each ShortSnapshot (λ (s : Snapshot). ValuesShort (map held (s .cells))) (λ s k. values-short (s .cells) (k .each)) (together .snapshots) together-short)
-        (subst (λ (v : Text). length v ≤ 64) n (table-type table (h .types) (h .is) (h .left .headed .type) (h .left .type) (left-taken .typed) .short))
+        (taken-name (left-taken h) table (h .is))
         together-objects

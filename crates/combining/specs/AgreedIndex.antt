@@ -40,7 +40,7 @@ presentBytes (b ∷ bs) [] = []
 presentBytes (b ∷ bs) (x ∷ xs) = placeBytes b x ++ presentBytes bs xs
 
 -- it has its room in an output of `size` bytes
-pub record PlaceRoom (s : List ℕ) (x : SetAt) (present : Bool) (at size : ℕ) : Type 0 where
+pub record PresentPlaceRoom (s : List ℕ) (x : SetAt) (present : Bool) (at size : ℕ) : Type 0 where
   pub values : List Text
   pub is : SetIs s values x
   pub room : at + length (placeBytes present values) ≤ size

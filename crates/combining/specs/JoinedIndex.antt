@@ -25,8 +25,8 @@ use Rattle.combining.specs.CombineIndex.{isExtremeAt}
 abbrev pub haveObjects : SetAt → SetAt → Bool
 haveObjects x y = ltb 0 (x .count) || ltb 0 (y .count)
 
--- the same of each of the 32 places
-pub record PlacesAre (left right : List SetAt) (r : List Bool) : Type 0 where
+-- so of each of the 32 places
+pub record PresentAre (left right : List SetAt) (r : List Bool) : Type 0 where
   pub long : length r ≡ 32
   pub each : (p : ℕ) → p < 32 → getD r p false ≡ haveObjects (getD left p noSet) (getD right p noSet)
 

@@ -15,7 +15,7 @@ ghost use Rattle.event.specs.EventIndex.{SetIs, SetsAre};
 ghost use Rattle.dossier.specs.DossierLayout.{differBit, snapshotBytes};
 ghost use Rattle.dossier.specs.DossierIndex.{SnapshotIs};
 ghost use Rattle.combining.specs.CombineIndex.{SetRoom, Meet, AgreedRoom};
-ghost use Rattle.combining.specs.AgreedIndex.{isAgreed, PlacesAre, placeBytes, PlaceRoom, presentBytes, PresentRoom};
+ghost use Rattle.combining.specs.AgreedIndex.{isAgreed, PlacesAre, placeBytes, PresentPlaceRoom, presentBytes, PresentRoom};
 use crate::bits::number_of;
 use dossier::snapshots::SnapshotIndex;
 use dossier::snapshots::read_snapshot;
@@ -85,7 +85,7 @@ fn write_set(s: &[u8], x: SetAt, out: &mut [u8], at: usize) -> usize
 
 // The set of a place, if it is present.
 fn write_place(s: &[u8], x: SetAt, present: bool, out: &mut [u8], at: usize) -> usize
-    requires { ⌜ PlaceRoom (now s) x present at (length (now out)) ⌝ }
+    requires { ⌜ PresentPlaceRoom (now s) x present at (length (now out)) ⌝ }
     ensures { λ r. ⌜ ((vs : List Text) → SetIs (now (s .entry)) vs x → Wrote (now (out .entry)) at (placeBytes present vs) (now (out .exit)) r) ⌝ }
 {
     if present {

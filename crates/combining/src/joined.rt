@@ -15,7 +15,7 @@ ghost use Rattle.event.specs.EventLayout.{setBytes};
 ghost use Rattle.event.specs.EventIndex.{SetIs};
 ghost use Rattle.dossier.specs.DossierLayout.{snapshotBytes};
 ghost use Rattle.combining.specs.CombineIndex.{Meet, JoinedRoom};
-ghost use Rattle.combining.specs.JoinedIndex.{haveObjects, PlacesAre, extremeOrder, Extremes, joinedSet, PlaceIs, PlaceRoom};
+ghost use Rattle.combining.specs.JoinedIndex.{haveObjects, PresentAre, extremeOrder, Extremes, joinedSet, PlaceIs, PlaceRoom};
 use crate::bits::number_of;
 use crate::limits::count_place;
 use crate::limits::is_extreme;
@@ -76,7 +76,7 @@ fn write_place<'a>(
 
 // The places at which one of two unversioned snapshots has objects.
 fn joined_places(left: [SetAt; 32], right: [SetAt; 32]) -> [bool; 32]
-    ensures { λ r. ⌜ PlacesAre left right r ⌝ }
+    ensures { λ r. ⌜ PresentAre left right r ⌝ }
 {
     let mut present = [false; 32];
     let mut k: usize = 0;

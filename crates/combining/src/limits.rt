@@ -20,6 +20,7 @@ use dossier::snapshots::read_snapshot;
 use event::sets::SetAt;
 use event::sets::set_part;
 use ontology::types::TypeIndex;
+use packed::read::part_of;
 use unions::pair::count_hash_union;
 use unions::pair::count_union;
 
@@ -27,15 +28,7 @@ use unions::pair::count_union;
 pub fn hashes_part(s: &[u8], x: SetAt) -> &[u8]
     ensures { λ r. ⌜ ((hs : List Text) → HashesAre (now (s .entry)) hs x → now r ≡ flatten hs) ⌝ }
 {
-    let start = x.start;
-    let end = x.end;
-    if end < start {
-        return &s[0..0];
-    }
-    if s.len() < end {
-        return &s[0..0];
-    }
-    &s[start..end]
+    part_of(s, x.start, x.end)
 }
 
 // How many versions two dossiers have together, where each has its versions rising.

@@ -10,19 +10,20 @@ use Rattle.model.specs.Order.{texts, sets, lists, equal}
 use Rattle.model.proofs.OrderLaws.{equal-true}
 use Rattle.model.specs.Rule.{Snapshot}
 use Rattle.model.specs.Limits.{standard}
+use Rattle.model.proofs.Cases.{and-false}
 use Rattle.ontology.specs.Table.{EventType, Table, typeNamed}
 use Rattle.ontology.specs.TableLayout.{tableOf}
 use Rattle.ontology.specs.TypeIndex.{TypeIs, TypeSays}
 use Rattle.ontology.specs.Questions.{accepted, _>>_, ensure}
 use Rattle.ontology.specs.declared.types.TypeIndex.{TypeIndex}
 use Rattle.ontology.specs.declared.tables.TableRead.{TableRead}
+use Rattle.ontology.proofs.TypeIndexLaws.{type-absent, TypeFound, type-found}
 use Rattle.event.specs.EventIndex.{KindsAre}
 use Rattle.event.proofs.AskLaws.{table-kinds}
 use Rattle.dossier.specs.DossierLayout.{Headed, dossierOf}
 use Rattle.dossier.specs.DossierQuestions.{eachSnapshot, snapshotMatch, dossierShape, snapshotValues, dossierAsked, dossierMatch, agree, dossiersAgree}
 use Rattle.dossier.specs.DossierIndex.{noSnapshot, DossierIs, IsDossier, DossierReads, DossierAnswers, shapeNumber}
 use Rattle.dossier.specs.declared.dossiers.DossierIndex.{DossierIndex}
-use Rattle.dossier.proofs.CellLaws.{and-false}
 
 -- ---- questions 3 to 6
 
@@ -44,25 +45,6 @@ dossier-no (some h) s d w e = let z : _≡_ {A = ℕ} 0 1 = cc (w .0) in absurd 
 pub is-dossier : (o : Option Headed) (s : List ℕ) (d : DossierIndex) → DossierReads o s d → d .ok ≡ true → IsDossier s d
 is-dossier o s d w h = let k = dossier-known o s d w h in record { what = k .what; is = k .stands }
 
-type-no : (o : Option EventType) (table : List ℕ) (r : TableRead) → TypeSays o table r → r .found ≡ false → o ≡ none
-unfolding TypeSays
-type-no none table r w h = refl
-type-no (some t) table r w h = let z : _≡_ {A = ℕ} 0 1 = cc (w .0) in absurd (omega arith)
-
-record TypeKnown (o : Option EventType) (table : List ℕ) (r : TableRead) : Type 0 where
-  what : EventType
-  is : o ≡ some what
-  stands : TypeIs table what (r .index)
-
-type-known : (o : Option EventType) (table : List ℕ) (r : TableRead) → TypeSays o table r → r .found ≡ true → TypeKnown o table r
-unfolding TypeSays
-type-known none table r w h = let z : _≡_ {A = ℕ} 0 1 = cc in absurd (omega arith)
-type-known (some t) table r w h = record { what = t; is = refl; stands = w .1 }
-
--- what `ask_dossier` needs of the table that was read
-pub found-few : (o : Option EventType) (table : List ℕ) (r : TableRead) → TypeSays o table r → r .found ≡ true → r .index .count ≤ 32
-found-few o table r w h = type-known o table r w h .stands .few
-
 module _ (table : List ℕ) (ts : Table) (s : List ℕ) (d : DossierIndex) (w : DossierReads (dossierOf standard s) s d) where
   pub answer-layout : d .ok ≡ false → (k : TypeIndex) → DossierAnswers (dossierAsked standard ts s) table s (record { number = 3; kind = k; dossier = d })
   unfolding dossierAsked DossierAnswers
@@ -75,11 +57,11 @@ module _ (table : List ℕ) (ts : Table) (s : List ℕ) (d : DossierIndex) (w : 
     module _ (read : TableRead) (says : (h : Headed) → DossierIs s h d → TypeSays (typeNamed (h .type) ts) table read) where
       pub answer-type : read .found ≡ false → (k : TypeIndex) → DossierAnswers (dossierAsked standard ts s) table s (record { number = 4; kind = k; dossier = d })
       unfolding dossierAsked DossierAnswers
-      answer-type h k = let e : typeNamed (it .what .type) ts ≡ none = type-no (typeNamed (it .what .type) ts) table read (says (it .what) (it .stands)) h in rw (it .is, e) refl
+      answer-type h k = let e : typeNamed (it .what .type) ts ≡ none = type-absent (typeNamed (it .what .type) ts) table read (says (it .what) (it .stands)) h in rw (it .is, e) refl
 
       module _ (e : tableOf table ≡ some ts) (f : read .found ≡ true) where
-        type : TypeKnown (typeNamed (it .what .type) ts) table read
-        type = type-known (typeNamed (it .what .type) ts) table read (says (it .what) (it .stands)) f
+        type : TypeFound (typeNamed (it .what .type) ts) table read
+        type = type-found (typeNamed (it .what .type) ts) table read (says (it .what) (it .stands)) f
 
         pub answer-rest :
             (n : ℕ) →

@@ -1,5 +1,5 @@
 -- The laws of questions 5 and 6 of all snapshots.
-use mathlib.Core.Path.{_≡_, refl, sym, ap, ap₂, _∙_}
+use mathlib.Core.Path.{_≡_, refl, sym, ap, ap₂, _∙_, subst}
 use mathlib.Core.Logic.{_⊎_, inl, inr, ⊎-elim}
 use mathlib.Core.Bool.{Bool, true, false, cond, not, _&&_, _||_}
 use mathlib.Core.List.{List, [], _∷_, map}
@@ -14,6 +14,7 @@ use Rattle.model.proofs.OrderLaws.{equal-true}
 use Rattle.model.specs.Rule.{Cell, holds, Snapshot, sizes}
 use Rattle.model.specs.Limits.{standard}
 use Rattle.model.specs.Opening.{held, isMark, cellAt}
+use Rattle.model.proofs.Cases.{and-false, and-true}
 use Rattle.packed.specs.Parse.{Parse, got}
 use Rattle.ontology.specs.Table.{Property, EventType, isVersioned}
 use Rattle.ontology.specs.TypeIndex.{TypeIs}
@@ -24,7 +25,6 @@ use Rattle.dossier.specs.DossierQuestions.{eachCell, eachSnapshot, isVac
 use Rattle.dossier.specs.DossierIndex.{SnapshotIs, SnapshotReads, noSnapshot, DossierIs, cellFits, versionFits, snapshotFits, shapeNumber}
 use Rattle.dossier.specs.declared.snapshots.SnapshotIndex.{SnapshotIndex}
 use Rattle.dossier.specs.declared.dossiers.DossierIndex.{DossierIndex}
-use Rattle.dossier.proofs.CellLaws.{and-false, and-true}
 use Rattle.dossier.proofs.DossierReadLaws.{to-end}
 
 -- ---- tests
@@ -239,6 +239,10 @@ module _ (s : List ℕ) (h : Headed) (d : DossierIndex) (w : DossierIs s h d) wh
   -- what the part of the dossier from a snapshot on reads as
   pub start-reads : (j : ℕ) → j < d .count → readSnapshot (take (length s - getD (d .starts) j 0) (drop (getD (d .starts) j 0) s)) ≡ got (getD (h .dossier .snapshots) j noSnapshot) (drop (getD (d .ends) j 0) s)
   start-reads j l = ap readSnapshot (to-end s (getD (d .starts) j 0)) ∙ w .snapshots .each j (omega (arith, w .count)) .is
+
+  -- the first snapshot stands, as its index says, at the front of that part
+  pub first-stands : SnapshotIs (take (length s - getD (d .starts) 0 0) (drop (getD (d .starts) 0 0) s)) (getD (h .dossier .snapshots) 0 noSnapshot) (d .first)
+  first-stands = subst (λ (l : List ℕ). SnapshotIs l (getD (h .dossier .snapshots) 0 noSnapshot) (d .first)) (sym (to-end s (getD (d .starts) 0 0))) (w .first)
 
   module _ (u : List ℕ) (ty : EventType) (t : TypeIndex) (v : TypeIs u ty t) where
     lone-of : {r : Bool} → r ≡ (ltb 0 (t .mark) || eqb (d .count) 1) → r ≡ (isVersioned ty || eqb (length (h .dossier .snapshots)) 1)

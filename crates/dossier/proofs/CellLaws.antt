@@ -14,6 +14,7 @@ use borrow.Author.Tests.{le-leb, lt-leb}
 use Rattle.model.specs.Order.{Text}
 use Rattle.model.specs.Rule.{Cell, holds, differs}
 use Rattle.model.specs.Opening.{held, isMark}
+use Rattle.model.proofs.Cases.{and-false, and-true}
 use Rattle.packed.proofs.LayoutLaws.{lt-or-ge}
 use Rattle.ontology.specs.Table.{Property, EventType, isMin, isMax, isMatch, isVersioned}
 use Rattle.ontology.specs.TypeIndex.{PropertyIs, TypeIs}
@@ -28,14 +29,6 @@ use Rattle.dossier.specs.DossierLayout.{differBit}
 use Rattle.dossier.specs.DossierQuestions.{eachCell, isVacant, isPresent, isLone, isLoneIfSingle, isLoneIfExtreme, isUnmarkedMatch}
 use Rattle.dossier.specs.DossierIndex.{CellIs, CellsAre, cellFits, placeFits}
 use Rattle.dossier.proofs.DossierLayoutLaws.{differ-small}
-
-pub and-false : (a : Bool) → (a && false) ≡ false
-and-false true = refl
-and-false false = refl
-
-pub and-true : (a : Bool) → (a && true) ≡ a
-and-true true = refl
-and-true false = refl
 
 -- ---- a property's cell
 
@@ -187,7 +180,8 @@ cells-end s cs differ ats v f ps k few h =
 match-of : (s : List ℕ) (q : Property) (x : PropertyAt) → PropertyIs s q x → eqb (x .strategy) 5 ≡ isMatch q
 match-of s q x w = ap (λ (n : ℕ). eqb n 5) (w .strategy)
 
-leb-sub : (n m l : ℕ) → n ≤ l → leb (n + m) l ≡ leb m (l - n)
+-- a limit of a sum is a limit of the rest
+pub leb-sub : (n m l : ℕ) → n ≤ l → leb (n + m) l ≡ leb m (l - n)
 leb-sub n m l h =
     ⊎-elim (λ (a : l - n < m). lt-leb (n + m) l (omega arith) ∙ sym (lt-leb m (l - n) a))
     (λ (a : m ≤ l - n). le-leb (n + m) l (omega arith) ∙ sym (le-leb m (l - n) a))

@@ -12,12 +12,13 @@ use Rattle.model.specs.Order.{Text, numbers, rising}
 use Rattle.model.specs.Rule.{Cell, holds, differs, Snapshot}
 use Rattle.model.specs.Limits.{Limits}
 use Rattle.model.specs.Opening.{held}
+use Rattle.model.proofs.Cases.{and-parts}
 use Rattle.packed.specs.Parse.{got, Layout, _>>=_, foundIf, suchThat, times}
 use Rattle.packed.specs.Packed.{number, readNumber}
 use Rattle.packed.proofs.LayoutLaws.{All, andThen-got, foundIf-got, suchThat-got, whole-some, number-read, number-was, times-read, times-was}
 use Rattle.values.specs.Spaces.{isWithin}
 use Rattle.event.specs.EventLayout.{readBits, readSets, headBytes, presenceBit, bitNumber, setsBytes}
-use Rattle.event.proofs.EventLayoutLaws.{SetsWritten, HeadWritten, and-parts, head-read, head-was, presence-small, bits-small, low-bit, high-bits, half-small, SetsWas, sets-was, bits-read, bits-was, presence-below, all-sets-read}
+use Rattle.event.proofs.EventLayoutLaws.{SetsWritten, HeadWritten, head-read, head-was, presence-small, bits-small, low-bit, high-bits, half-small, SetsWas, sets-was, bits-read, bits-was, presence-below, all-sets-read}
 use Rattle.dossier.specs.DossierLayout.{Headed, apart, cellsOf, areSmall, readSnapshot, readDossier, dossierOf, differBit, snapshotBytes, dossierBytes}
 
 -- ---- what can be written

@@ -20,11 +20,11 @@ use Rattle.packed.specs.Packed.{readNumber, readText}
 use Rattle.packed.proofs.LayoutLaws.{lt-or-ge, times-was}
 use Rattle.packed.proofs.ReadLaws.{drop-next, NumberStops}
 use Rattle.values.specs.Spaces.{isWithin}
-use Rattle.event.specs.EventLayout.{isSource, readParents}
+use Rattle.event.specs.EventLayout.{isSource, readParents, bitNumber}
 use Rattle.event.specs.EventIndex.{HeadOf, readHead, HeadStops}
 use Rattle.event.proofs.SetLaws.{prepend}
 use Rattle.event.specs.declared.read.HeadAt.{HeadAt}
-use Rattle.dossier.specs.DossierLayout.{Headed, readSnapshot, readDossier, dossierOf, snapshotBytes}
+use Rattle.dossier.specs.DossierLayout.{Headed, readSnapshot, readDossier, dossierOf, differBit, snapshotBytes}
 use Rattle.dossier.specs.DossierIndex.{SnapshotIs, SnapshotReads, SnapshotAt, noSnapshot, SnapshotsAre, SnapshotsReads, DossierReads}
 use Rattle.dossier.specs.declared.snapshots.SnapshotIndex.{SnapshotIndex}
 use Rattle.dossier.specs.declared.dossiers.SnapshotsRead.{SnapshotsRead}
@@ -116,8 +116,11 @@ unfolding SnapshotReads
 reads-some fail s i w h = let z : _≡_ {A = ℕ} 0 1 = cc in absurd (omega arith)
 reads-some (got x t) s i w h = record { what = x; is = w .1 }
 
+abbrev differNumber : Snapshot → ℕ
+differNumber x = bitNumber (map differBit (x .cells))
+
 -- The first j of n snapshots are read: they are xs, and the others stand from `next` on
-pub record Passed (p : Parse (List Snapshot)) (s starts ends versions : List ℕ) (n next j : ℕ) : Type 0 where
+pub record Passed (p : Parse (List Snapshot)) (s starts ends versions differs : List ℕ) (first : SnapshotIndex) (n next j : ℕ) : Type 0 where
   pub xs : List Snapshot
   pub long : length xs ≡ j
   pub below : j ≤ n
@@ -127,12 +130,15 @@ pub record Passed (p : Parse (List Snapshot)) (s starts ends versions : List ℕ
   pub follows : (i : ℕ) → suc i < j → getD starts (suc i) 0 ≡ getD ends i 0
   pub last : (i : ℕ) → suc i ≡ j → getD ends i 0 ≡ next
   pub numbers : take j versions ≡ map (λ (x : Snapshot). x .version) xs
+  pub marks : take j differs ≡ map differNumber xs
+  pub front : 1 ≤ j → SnapshotIs (drop (getD starts 0 0) s) (getD xs 0 noSnapshot) first
   pub starts-long : length starts ≡ 8
   pub ends-long : length ends ≡ 8
   pub versions-long : length versions ≡ 8
+  pub differs-long : length differs ≡ 8
 
-pub passed-none : (s starts ends versions : List ℕ) (n at : ℕ) → at ≤ length s → length starts ≡ 8 → length ends ≡ 8 → length versions ≡ 8 → Passed (times readSnapshot n (drop at s)) s starts ends versions n at 0
-passed-none s starts ends versions n at h a b c =
+pub passed-none : (s starts ends versions differs : List ℕ) (first : SnapshotIndex) (n at : ℕ) → at ≤ length s → length starts ≡ 8 → length ends ≡ 8 → length versions ≡ 8 → length differs ≡ 8 → Passed (times readSnapshot n (drop at s)) s starts ends versions differs first n at 0
+passed-none s starts ends versions differs first n at h a b c d =
     let z : n - 0 ≡ n = omega arith in
     record {
       xs = [];
@@ -144,16 +150,19 @@ passed-none s starts ends versions n at h a b c =
       follows = λ i k. absurd (omega arith);
       last = λ i k. absurd (omega arith);
       numbers = refl;
+      marks = refl;
+      front = λ k. absurd (omega arith);
       starts-long = a;
       ends-long = b;
       versions-long = c;
+      differs-long = d;
     }
 
-map-snoc : (xs : List Snapshot) (x : Snapshot) → map (λ (x : Snapshot). x .version) (xs ++ (x ∷ [])) ≡ map (λ (x : Snapshot). x .version) xs ++ (x .version ∷ [])
-map-snoc [] x = refl
-map-snoc (y ∷ ys) x = ap (λ (l : List ℕ). y .version ∷ l) (map-snoc ys x)
+map-snoc : (f : Snapshot → ℕ) (xs : List Snapshot) (x : Snapshot) → map f (xs ++ (x ∷ [])) ≡ map f xs ++ (f x ∷ [])
+map-snoc f [] x = refl
+map-snoc f (y ∷ ys) x = ap (λ (l : List ℕ). f y ∷ l) (map-snoc f ys x)
 
-module _ (p : Parse (List Snapshot)) (s starts ends versions : List ℕ) (n next j : ℕ) (w : Passed p s starts ends versions n next j) where
+module _ (p : Parse (List Snapshot)) (s starts ends versions differs : List ℕ) (first : SnapshotIndex) (n next j : ℕ) (w : Passed p s starts ends versions differs first n next j) where
   one-more : j < n → suc (n - (j + 1)) ≡ n - j
   one-more h = omega arith
 
@@ -222,10 +231,33 @@ module _ (p : Parse (List Snapshot)) (s starts ends versions : List ℕ) (n next
             ap (λ (k : ℕ). take k (set versions j (i .version .0))) (add-one j)
             ∙ take-suc-set versions j (i .version .0) a
             ∙ ap₂ (λ (l : List ℕ) (v : ℕ). l ++ (v ∷ [])) (w .numbers) (one .is .version)
-            ∙ sym (map-snoc (w .xs) (one .what))
+            ∙ sym (map-snoc (λ (x : Snapshot). x .version) (w .xs) (one .what))
 
-        pub passed-more : Passed p s (set starts j next) (set ends j (next + i .next)) (set versions j (i .version .0)) n (next + i .next) (j + 1)
-        passed-more = record {
+        marks-on : take (j + 1) (set differs j (i .differ)) ≡ map differNumber (w .xs ++ (one .what ∷ []))
+        marks-on =
+            let a : j < length differs = omega (arith, w .differs-long) in
+            ap (λ (k : ℕ). take k (set differs j (i .differ))) (add-one j)
+            ∙ take-suc-set differs j (i .differ) a
+            ∙ ap₂ (λ (l : List ℕ) (v : ℕ). l ++ (v ∷ [])) (w .marks) (one .is .differ)
+            ∙ sym (map-snoc differNumber (w .xs) (one .what))
+
+        -- the index of the first snapshot is that of the one that is read first
+        front-on : (j ≡ 0 → i ≡ first) → SnapshotIs (drop (getD (set starts j next) 0 0) s) (getD (w .xs ++ (one .what ∷ [])) 0 noSnapshot) first
+        front-on same =
+            ⊎-elim (λ (b : 0 < j).
+            let o : 0 ≡ j → ⊥ = λ e. omega arith in
+            rw (getD-set-other starts j 0 next 0 o, List·getD-append (w .xs) (one .what ∷ []) noSnapshot 0 (omega (arith, w .long))) (w .front b))
+            (λ (b : j ≤ 0).
+            let e : j ≡ 0 = omega arith in
+            let a : j < length starts = omega (arith, w .starts-long) in
+            let g : SnapshotIs (drop (getD (set starts j next) j 0) s) (getD (w .xs ++ (one .what ∷ [])) j noSnapshot) i =
+            rw (getD-set-same starts j next 0 a, getD-at (w .xs) (one .what) [] noSnapshot j (w .long)) (one .is) in
+            subst (λ (x : SnapshotIndex). SnapshotIs (drop (getD (set starts j next) 0 0) s) (getD (w .xs ++ (one .what ∷ [])) 0 noSnapshot) x) (same e)
+            (subst (λ (k : ℕ). SnapshotIs (drop (getD (set starts j next) k 0) s) (getD (w .xs ++ (one .what ∷ [])) k noSnapshot) i) e g))
+            (lt-or-ge 0 j)
+
+        pub passed-more : (j ≡ 0 → i ≡ first) → Passed p s (set starts j next) (set ends j (next + i .next)) (set versions j (i .version .0)) (set differs j (i .differ)) first n (next + i .next) (j + 1)
+        passed-more same = record {
           xs = w .xs ++ (one .what ∷ []);
           long = length-append (w .xs) (one .what ∷ []) ∙ ap (λ (m : ℕ). m + 1) (w .long);
           below = omega arith;
@@ -241,9 +273,12 @@ module _ (p : Parse (List Snapshot)) (s starts ends versions : List ℕ) (n next
           follows = follows-on;
           last = last-on;
           numbers = numbers-on;
+          marks = marks-on;
+          front = λ k. front-on same;
           starts-long = length-set starts j next ∙ w .starts-long;
           ends-long = length-set ends j (next + i .next) ∙ w .ends-long;
           versions-long = length-set versions j (i .version .0) ∙ w .versions-long;
+          differs-long = length-set differs j (i .differ) ∙ w .differs-long;
         }
 
   module _ (full : n ≤ j) where
@@ -253,9 +288,9 @@ module _ (p : Parse (List Snapshot)) (s starts ends versions : List ℕ) (n next
         let z : n - j ≡ 0 = omega arith in
         w .rest ∙ ap (λ (m : ℕ). prepend (w .xs) (times readSnapshot m (drop next s))) z ∙ ap (λ (l : List Snapshot). got l (drop next s)) (append-nil (w .xs))
 
-    pub passed-all : SnapshotsReads p s (record { ok = true; next = next; starts = starts; ends = ends; versions = versions })
+    pub passed-all : 1 ≤ j → SnapshotsReads p s (record { ok = true; next = next; starts = starts; ends = ends; versions = versions; differs = differs; first = first })
     unfolding SnapshotsReads
-    passed-all =
+    passed-all o =
         rw all (record {
           right = refl;
           rest = refl;
@@ -265,7 +300,20 @@ module _ (p : Parse (List Snapshot)) (s starts ends versions : List ℕ) (n next
             follows = λ i l. w .follows i (omega (arith, w .long));
             numbers = ap (λ (k : ℕ). take k versions) (w .long) ∙ w .numbers;
           };
+          differs = ap (λ (k : ℕ). take k differs) (w .long) ∙ w .marks;
+          first = w .front o;
         })
+
+-- the first snapshot, which is read before the others
+pub first-bad : (s : List ℕ) (n at : ℕ) (i : SnapshotIndex) → 1 ≤ n → SnapshotReads (readSnapshot (drop at s)) (drop at s) i → i .ok ≡ false → times readSnapshot n (drop at s) ≡ fail
+first-bad s zero at i o v b = absurd (omega arith)
+first-bad s (suc n) at i o v b = times-stop n (drop at s) (reads-none (readSnapshot (drop at s)) (drop at s) i v b)
+
+pub first-within : (s : List ℕ) (at : ℕ) (i : SnapshotIndex) → at ≤ length s → SnapshotReads (readSnapshot (drop at s)) (drop at s) i → i .ok ≡ true → at + i .next ≤ length s
+first-within s at i h v ok = omega (arith, reads-some (readSnapshot (drop at s)) (drop at s) i v ok .is .within, length-drop at s, h)
+
+pub passed-first : (s starts ends versions differs : List ℕ) (i : SnapshotIndex) (n at : ℕ) → at ≤ length s → length starts ≡ 8 → length ends ≡ 8 → length versions ≡ 8 → length differs ≡ 8 → SnapshotReads (readSnapshot (drop at s)) (drop at s) i → 1 ≤ n → i .ok ≡ true → n ≤ 8 → Passed (times readSnapshot n (drop at s)) s (set starts 0 at) (set ends 0 (at + i .next)) (set versions 0 (i .version .0)) (set differs 0 (i .differ)) i n (at + i .next) 1
+passed-first s starts ends versions differs i n at h a b c d v o ok few = passed-more (times readSnapshot n (drop at s)) s starts ends versions differs i n at 0 (passed-none s starts ends versions differs i n at h a b c d) i v o ok few (λ e. refl)
 
 pub snapshots-none : (p : Parse (List Snapshot)) (s : List ℕ) (r : SnapshotsRead) → p ≡ fail → r .ok ≡ false → SnapshotsReads p s r
 unfolding SnapshotsReads
@@ -283,11 +331,13 @@ record Found (p : Parse (List Snapshot)) (s : List ℕ) (r : SnapshotsRead) : Ty
   is : p ≡ got what (drop (r .next) s)
   within : r .next ≤ length s
   are : SnapshotsAre s what (r .starts) (r .ends) (r .versions)
+  differs : take (length what) (r .differs) ≡ map differNumber what
+  first : SnapshotIs (drop (getD (r .starts) 0 0) s) (getD what 0 noSnapshot) (r .first)
 
 snapshots-found : (p : Parse (List Snapshot)) (s : List ℕ) (r : SnapshotsRead) → SnapshotsReads p s r → r .ok ≡ true → Found p s r
 unfolding SnapshotsReads
 snapshots-found fail s r w h = let z : _≡_ {A = ℕ} 0 1 = cc in absurd (omega arith)
-snapshots-found (got xs t) s r w h = record { what = xs; is = ap (got xs) (w .rest); within = w .within; are = w .are }
+snapshots-found (got xs t) s r w h = record { what = xs; is = ap (got xs) (w .rest); within = w .within; are = w .are; differs = w .differs; first = w .first }
 
 -- what follows the head
 abbrev headed : HeadOf → List Snapshot → Headed
@@ -392,11 +442,11 @@ module _ (s : List ℕ) (x : HeadAt) (w : HeadStops (readHead 32 s) s x) where
         pub not-rising : false ≡ rising numbers (take n (r .versions)) → dossierOf standard s ≡ none
         not-rising e = no-dossier s (last-step ∙ rw (rises false e))
 
-        pub dossier-found : true ≡ rising numbers (take n (r .versions)) → r .next ≡ length s → DossierReads (dossierOf standard s) s (record { ok = true; head = x; count = n; starts = r .starts; ends = r .ends; versions = r .versions })
+        pub dossier-found : true ≡ rising numbers (take n (r .versions)) → r .next ≡ length s → DossierReads (dossierOf standard s) s (record { ok = true; head = x; count = n; starts = r .starts; ends = r .ends; versions = r .versions; differs = r .differs; first = r .first })
         unfolding DossierReads dossierOf
         dossier-found e z =
             let g : readDossier standard s ≡ got (headed (w .what) (these .what)) [] =
             last-step
             ∙ ap (λ (b : Bool). foundIf b (headed (w .what) (these .what)) (drop (r .next) s)) (rises true e)
             ∙ ap (got (headed (w .what) (these .what))) (ap (λ (k : ℕ). drop k s) z ∙ drop-length s) in
-            rw g (refl, record { head = w .stands; count = sym many; one = omega (arith, one); few = few; snapshots = these .are })
+            rw g (refl, record { head = w .stands; count = sym many; one = omega (arith, one); few = few; snapshots = these .are; differs = these .differs; first = these .first })

@@ -10,12 +10,13 @@ use borrow.Author.Tests.{leb-true, eqb-true}
 use Rattle.model.specs.Rule.{Cell, holds, differs, Snapshot, size, sizes, objects}
 use Rattle.model.specs.Limits.{standard}
 use Rattle.model.specs.Opening.{held, isMark}
+use Rattle.model.proofs.Cases.{and-parts}
 use Rattle.packed.proofs.LayoutLaws.{All, number-bounds, number-length-1, number-length-5}
 use Rattle.ontology.specs.Table.{Property, EventType, isVersioned}
 use Rattle.event.specs.Event.{objectCount}
 use Rattle.event.specs.EventLayout.{presenceBit, bitNumber}
 use Rattle.event.specs.EventQuestions.{isEmpty}
-use Rattle.event.proofs.EventLayoutLaws.{and-parts, presence-below}
+use Rattle.event.proofs.EventLayoutLaws.{presence-below}
 use Rattle.event.proofs.EventSizeLaws.{ValuesShort, Beyond, fit-short, head-size, sets-size}
 use Rattle.dossier.specs.DossierLayout.{Headed, differBit, snapshotBytes, dossierBytes}
 use Rattle.dossier.specs.DossierQuestions.{eachCell, eachSnapshot, isVacant, isPresent, isLoneIfExtreme, unversionedSnapshot, unversionedShape, versionedSnapshot, matchFits, matchAlike, dossierShape, snapshotValues}
@@ -72,7 +73,7 @@ versioned-objects ss h n = omega (arith, objects-each ss h)
 
 -- ---- what the questions of document 01 say of these sizes
 
-cells-beyond : (f : Property → Cell → Bool) (ps : List Property) (cs : List Cell) → eachCell f isVacant ps cs ≡ true → Beyond ps (map held cs)
+pub cells-beyond : (f : Property → Cell → Bool) (ps : List Property) (cs : List Cell) → eachCell f isVacant ps cs ≡ true → Beyond ps (map held cs)
 unfolding eachCell isVacant
 cells-beyond f [] [] h = tt
 cells-beyond f [] (c ∷ cs) h =
@@ -81,7 +82,7 @@ cells-beyond f [] (c ∷ cs) h =
 cells-beyond f (p ∷ ps) [] h = tt
 cells-beyond f (p ∷ ps) (c ∷ cs) h = cells-beyond f ps cs (and-parts (f p c) (eachCell f isVacant ps cs) h .1)
 
-snapshots-short : (t : EventType) (ss : List Snapshot) → eachSnapshot (λ (s : Snapshot). eachCell isPresent isVacant (t .properties) (s .cells)) ss ≡ true → eachSnapshot (snapshotValues t) ss ≡ true → All (λ (s : Snapshot). ValuesShort (map held (s .cells))) ss
+pub snapshots-short : (t : EventType) (ss : List Snapshot) → eachSnapshot (λ (s : Snapshot). eachCell isPresent isVacant (t .properties) (s .cells)) ss ≡ true → eachSnapshot (snapshotValues t) ss ≡ true → All (λ (s : Snapshot). ValuesShort (map held (s .cells))) ss
 unfolding eachSnapshot snapshotValues
 snapshots-short t [] h v = tt
 snapshots-short t (s ∷ ss) h v =
@@ -89,7 +90,7 @@ snapshots-short t (s ∷ ss) h v =
     let b = and-parts (snapshotValues t s) (eachSnapshot (snapshotValues t) ss) v in
     (fit-short t (map held (s .cells)) (cells-beyond isPresent (t .properties) (s .cells) (a .0)) (b .0), snapshots-short t ss (a .1) (b .1))
 
-versioned-sizes : (t : EventType) (ss : List Snapshot) → eachSnapshot (versionedSnapshot t) ss ≡ true → All (λ (s : Snapshot). sizes (s .cells) ≤ 32) ss
+pub versioned-sizes : (t : EventType) (ss : List Snapshot) → eachSnapshot (versionedSnapshot t) ss ≡ true → All (λ (s : Snapshot). sizes (s .cells) ≤ 32) ss
 unfolding eachSnapshot versionedSnapshot
 versioned-sizes t [] h = tt
 versioned-sizes t (s ∷ ss) h =
@@ -109,7 +110,7 @@ unversioned-objects t (s ∷ r ∷ ss) h =
     absurd (omega (arith, eqb-true (length (s ∷ r ∷ ss)) 1 (a .0)))
 
 -- the parts of question 5
-shape-parts : (t : EventType) (ss : List Snapshot) → dossierShape standard t ss ≡ true → (eachSnapshot (λ (s : Snapshot). eachCell isPresent isVacant (t .properties) (s .cells)) ss ≡ true) × (cond (isVersioned t) (eachSnapshot (versionedSnapshot t) ss) (unversionedShape standard t ss) ≡ true)
+pub shape-parts : (t : EventType) (ss : List Snapshot) → dossierShape standard t ss ≡ true → (eachSnapshot (λ (s : Snapshot). eachCell isPresent isVacant (t .properties) (s .cells)) ss ≡ true) × (cond (isVersioned t) (eachSnapshot (versionedSnapshot t) ss) (unversionedShape standard t ss) ≡ true)
 unfolding dossierShape
 shape-parts t ss h = and-parts _ _ (and-parts _ (eachSnapshot (matchFits t) ss) (and-parts _ (matchAlike t ss) h .0) .0)
 

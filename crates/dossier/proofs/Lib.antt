@@ -11,3 +11,4 @@ pub mod ValueLaws
 pub mod AskLaws
 pub mod AnswerLaws
 pub mod DossierQuestionLaws
+pub mod AcceptedLaws

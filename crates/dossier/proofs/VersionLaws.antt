@@ -11,6 +11,7 @@ use Rattle.model.specs.Order.{Text, texts, sets, lists, lex, equal, three}
 use Rattle.model.proofs.OrderLaws.{equal-false}
 use Rattle.model.specs.Rule.{Cell, holds, differs, Snapshot, sizes}
 use Rattle.model.specs.Opening.{held, cellAt}
+use Rattle.model.proofs.Cases.{and-false}
 use Rattle.values.specs.Decimal.{inDecimal}
 use Rattle.ontology.specs.Table.{EventType, isVersioned}
 use Rattle.event.specs.EventQuestions.{matchCount}
@@ -18,7 +19,7 @@ use Rattle.event.specs.EventIndex.{SetIs, noSet}
 use Rattle.dossier.specs.DossierQuestions.{eachCell, isVacant, holdsVersion}
 use Rattle.dossier.specs.DossierIndex.{SnapshotIs, CellsAre, cellFits, versionFits, snapshotFits}
 use Rattle.dossier.specs.declared.snapshots.SnapshotIndex.{SnapshotIndex}
-use Rattle.dossier.proofs.CellLaws.{and-false, held-at}
+use Rattle.dossier.proofs.CellLaws.{held-at}
 
 -- ---- a set of one value
 

@@ -84,6 +84,8 @@ pub record SnapshotsStop (s : List ℕ) (xs : List Snapshot) (t : List ℕ) (r :
   pub rest : t ≡ drop (r .next) s
   pub within : r .next ≤ length s
   pub are : SnapshotsAre s xs (r .starts) (r .ends) (r .versions)
+  pub differs : take (length xs) (r .differs) ≡ map (λ (x : Snapshot). bitNumber (map differBit (x .cells))) xs
+  pub first : SnapshotIs (drop (getD (r .starts) 0 0) s) (getD xs 0 noSnapshot) (r .first)
 
 unfoldable pub SnapshotsReads : Parse (List Snapshot) → List ℕ → SnapshotsRead → Type 0
 SnapshotsReads fail s r = r .ok ≡ false
@@ -98,6 +100,8 @@ pub record DossierIs (s : List ℕ) (h : Headed) (i : DossierIndex) : Type 0 whe
   pub one : 1 ≤ i .count
   pub few : i .count ≤ 8
   pub snapshots : SnapshotsAre s (h .dossier .snapshots) (i .starts) (i .ends) (i .versions)
+  pub differs : take (length (h .dossier .snapshots)) (i .differs) ≡ map (λ (x : Snapshot). bitNumber (map differBit (x .cells))) (h .dossier .snapshots)
+  pub first : SnapshotIs (drop (getD (i .starts) 0 0) s) (getD (h .dossier .snapshots) 0 noSnapshot) (i .first)
 
 unfoldable pub DossierReads : Option Headed → List ℕ → DossierIndex → Type 0
 DossierReads none s i = i .ok ≡ false

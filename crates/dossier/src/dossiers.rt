@@ -7,6 +7,8 @@ ghost use Rattle.model.specs.Limits.{standard};
 ghost use Rattle.packed.specs.Parse.{times};
 ghost use Rattle.dossier.specs.DossierLayout.{readSnapshot, dossierOf};
 ghost use Rattle.dossier.specs.DossierIndex.{SnapshotsReads, DossierReads};
+use crate::snapshots::SnapshotIndex;
+use crate::snapshots::no_snapshot;
 use crate::snapshots::read_snapshot;
 use event::read::HeadAt;
 use event::read::HeadRead;
@@ -16,16 +18,19 @@ use event::sets::SetAt;
 use packed::read::NumberAt;
 use packed::read::read_number;
 
-// Where each of the snapshots stands, its version, and the position after the last.
+// Where each of the snapshots stands, its version and its differ number, the index of the first, and the position after the last.
 struct SnapshotsRead {
     ok: bool,
     next: usize,
     starts: [usize; 8],
     ends: [usize; 8],
     versions: [u64; 8],
+    differs: [u64; 8],
+    first: SnapshotIndex,
 }
 
-// Where each thing of a dossier stands: its head, and the start and the end of each of its `count` snapshots, with their versions.
+// Where each thing of a dossier stands: its head, and the start and the end of each of its `count` snapshots, with their versions and differ numbers. The
+// positions in the index of the first snapshot count from that snapshot's start.
 pub struct DossierIndex {
     pub ok: bool,
     pub head: HeadAt,
@@ -33,21 +38,32 @@ pub struct DossierIndex {
     pub starts: [usize; 8],
     pub ends: [usize; 8],
     pub versions: [u64; 8],
+    pub differs: [u64; 8],
+    pub first: SnapshotIndex,
 }
 
+// So many snapshots, from `at` on. The first is read before the others, since its index is kept.
 fn read_snapshots(s: &[u8], at: usize, count: usize) -> SnapshotsRead
-    requires { ⌜ (at ≤ length (now s)) × (count ≤ 8) ⌝ }
+    requires { ⌜ (at ≤ length (now s)) × (1 ≤ count) × (count ≤ 8) ⌝ }
     ensures { λ r. ⌜ SnapshotsReads (times readSnapshot count (drop at (now (s .entry)))) (now (s .entry)) r ⌝ }
 {
+    let first = read_snapshot(&s[at..]);
+    let version = first.version;
     let mut r = SnapshotsRead {
         ok: false,
         next: 0,
-        starts: [0; 8],
+        starts: [at; 8],
         ends: [0; 8],
-        versions: [0; 8],
+        versions: [version.0; 8],
+        differs: [first.differ; 8],
+        first,
     };
-    let mut next = at;
-    let mut j: usize = 0;
+    if !first.ok {
+        return r;
+    }
+    let mut next = at + first.next;
+    r.ends[0] = next;
+    let mut j: usize = 1;
     while j < count {
         let x = read_snapshot(&s[next..]);
         if !x.ok {
@@ -58,6 +74,7 @@ fn read_snapshots(s: &[u8], at: usize, count: usize) -> SnapshotsRead
         next = next + x.next;
         r.ends[j] = next;
         r.versions[j] = version.0;
+        r.differs[j] = x.differ;
         j += 1;
     }
     r.next = next;
@@ -99,6 +116,8 @@ fn no_dossier() -> DossierIndex
         starts: [0; 8],
         ends: [0; 8],
         versions: [0; 8],
+        differs: [0; 8],
+        first: no_snapshot(),
     }
 }
 
@@ -130,6 +149,8 @@ pub fn read_dossier(s: &[u8]) -> DossierIndex
     let starts = all.starts;
     let ends = all.ends;
     let versions = all.versions;
+    let differs = all.differs;
+    let first = all.first;
     if !versions_rise(versions, count) {
         return no_dossier();
     }
@@ -140,5 +161,7 @@ pub fn read_dossier(s: &[u8]) -> DossierIndex
         starts,
         ends,
         versions,
+        differs,
+        first,
     }
 }

@@ -14,11 +14,12 @@ ghost use Rattle.ontology.specs.TypeIndex.{TypeIs, TypeSays};
 ghost use Rattle.event.specs.EventIndex.{SetsAre, KindsAre};
 ghost use Rattle.dossier.specs.DossierLayout.{Headed, readSnapshot, dossierOf};
 ghost use Rattle.dossier.specs.DossierQuestions.{matchSets, snapshotMatch, dossierShape, eachSnapshot, snapshotValues, dossierAsked, dossiersAgree};
-ghost use Rattle.dossier.specs.DossierIndex.{snapshotFits, shapeNumber, IsDossier, DossierIs, DossierReads, DossierAnswers};
+ghost use Rattle.dossier.specs.DossierIndex.{SnapshotIs, snapshotFits, shapeNumber, IsDossier, DossierIs, DossierReads, DossierAnswers};
 use crate::dossiers::DossierIndex;
 use crate::parts::text_part;
 use crate::shape::is_match_same;
 use crate::shape::snapshot_fits;
+use crate::snapshots::SnapshotIndex;
 use crate::snapshots::read_snapshot;
 use crate::spaces::sets_in_space;
 use event::sets::SetAt;
@@ -26,13 +27,12 @@ use ontology::tables::TableRead;
 use ontology::types::TypeIndex;
 use packed::order::same;
 
-// The number of the first question of 5 and 6 that the snapshot at the front of b is refused by, or 0. The sets x of the bytes a are those of the first
-// snapshot, which all have the match sets of.
-fn ask_snapshot(a: &[u8], x: [SetAt; 32], b: &[u8], t: TypeIndex) -> u8
+// The number of the first question of 5 and 6 that the snapshot at the front of b, whose index is y, is refused by, or 0. The sets x of the bytes a are
+// those of the first snapshot, which all have the match sets of.
+fn ask_read(a: &[u8], x: [SetAt; 32], b: &[u8], y: SnapshotIndex, t: TypeIndex) -> u8
     requires { ⌜ t .count ≤ 32 ⌝ }
-    ensures { λ r. ⌜ ((u v : List ℕ) (ty : EventType) (xs : List (List Text)) (y : Snapshot) → TypeIs u ty t → KindsAre ty → SetsAre (now (a .entry)) xs x → readSnapshot (now (b .entry)) ≡ got y v → r ≡ shapeNumber (snapshotFits ty y && equal (lists sets) (matchSets (ty .properties) xs) (snapshotMatch ty y)) (snapshotValues ty y)) ⌝ }
+    ensures { λ r. ⌜ ((u : List ℕ) (ty : EventType) (xs : List (List Text)) (z : Snapshot) → TypeIs u ty t → KindsAre ty → SetsAre (now (a .entry)) xs x → SnapshotIs (now (b .entry)) z y → r ≡ shapeNumber (snapshotFits ty z && equal (lists sets) (matchSets (ty .properties) xs) (snapshotMatch ty z)) (snapshotValues ty z)) ⌝ }
 {
-    let y = read_snapshot(b);
     if !snapshot_fits(b, y, t) {
         return 5;
     }
@@ -43,23 +43,20 @@ fn ask_snapshot(a: &[u8], x: [SetAt; 32], b: &[u8], t: TypeIndex) -> u8
     if sets_in_space(b, sets, t) { 0 } else { 6 }
 }
 
+// The same of the snapshot at the front of b, which is read here.
+fn ask_snapshot(a: &[u8], x: [SetAt; 32], b: &[u8], t: TypeIndex) -> u8
+    requires { ⌜ t .count ≤ 32 ⌝ }
+    ensures { λ r. ⌜ ((u v : List ℕ) (ty : EventType) (xs : List (List Text)) (y : Snapshot) → TypeIs u ty t → KindsAre ty → SetsAre (now (a .entry)) xs x → readSnapshot (now (b .entry)) ≡ got y v → r ≡ shapeNumber (snapshotFits ty y && equal (lists sets) (matchSets (ty .properties) xs) (snapshotMatch ty y)) (snapshotValues ty y)) ⌝ }
+{
+    let y = read_snapshot(b);
+    ask_read(a, x, b, y, t)
+}
+
 // What comes first of the numbers so far and the next one, where neither is 5.
 fn first_number(number: u8, next: u8) -> u8
     ensures { λ r. ⌜ r ≡ cond (eqb next 6) 6 number ⌝ }
 {
     if next == 6 { 6 } else { number }
-}
-
-// Whether the snapshots at the front of a and b have the same match sets.
-fn is_first_same(a: &[u8], b: &[u8], t: TypeIndex) -> bool
-    requires { ⌜ t .count ≤ 32 ⌝ }
-    ensures { λ r. ⌜ ((u v w : List ℕ) (ty : EventType) (x y : Snapshot) → TypeIs u ty t → readSnapshot (now (a .entry)) ≡ got x v → readSnapshot (now (b .entry)) ≡ got y w → r ≡ equal (lists sets) (snapshotMatch ty x) (snapshotMatch ty y)) ⌝ }
-{
-    let x = read_snapshot(a);
-    let y = read_snapshot(b);
-    let left = x.sets;
-    let right = y.sets;
-    is_match_same(t, a, left, b, right)
 }
 
 // An unversioned dossier has a single snapshot.
@@ -81,10 +78,14 @@ pub fn ask_snapshots(s: &[u8], d: DossierIndex, t: TypeIndex) -> u8
         return 5;
     }
     let front = d.starts[0];
-    let first = read_snapshot(&s[front..]);
+    let first = d.first;
     let sets = first.sets;
-    let mut number: u8 = 0;
-    let mut j: usize = 0;
+    let asked = ask_read(&s[front..], sets, &s[front..], first, t);
+    if asked == 5 {
+        return 5;
+    }
+    let mut number = first_number(0, asked);
+    let mut j: usize = 1;
     while j < d.count {
         let at = d.starts[j];
         let next = ask_snapshot(&s[front..], sets, &s[at..], t);
@@ -155,5 +156,9 @@ pub fn dossiers_agree(a: &[u8], d: DossierIndex, b: &[u8], e: DossierIndex, t: T
     }
     let left = d.starts[0];
     let right = e.starts[0];
-    is_first_same(&a[left..], &b[right..], t)
+    let one = d.first;
+    let two = e.first;
+    let these = one.sets;
+    let others = two.sets;
+    is_match_same(t, &a[left..], these, &b[right..], others)
 }

@@ -98,7 +98,7 @@ fn are_small(sets: [SetAt; 32]) -> bool
     true
 }
 
-fn no_snapshot() -> SnapshotIndex
+pub fn no_snapshot() -> SnapshotIndex
     ensures { λ r. ⌜ r .ok ≡ false ⌝ }
 {
     let none = SetAt {

@@ -1,20 +1,19 @@
 -- The laws of asking questions 2 to 6, and of the value call's answer.
 use mathlib.Core.Path.{_≡_, refl, sym, ap, ap₂, _∙_, subst}
-use mathlib.Core.Bool.{Bool, true, false, cond}
+use mathlib.Core.Bool.{Bool, true, false}
 use mathlib.Core.Option.{Option, none, some}
-use mathlib.Core.List.{List, [], _∷_, _++_, append-assoc, map}
-use Prim.Native.Nat.{ℕ, zero, suc, _+_, _<_}
+use mathlib.Core.List.{List, [], _++_, append-assoc, map}
+use Prim.Native.Nat.{ℕ, _<_}
 use native.Mathlib.Omega.{arith}
 use lib.ListN.{getElem?}
-use Rattle.model.specs.Order.{Text, texts, equal}
-use Rattle.packed.specs.Parse.{Parse, fail, got, Layout, _>>=_, suchThat, times}
-use Rattle.packed.specs.Packed.{number, readNumber, text, readText}
+use Rattle.model.specs.Order.{Text}
+use Rattle.packed.specs.Parse.{fail, got, _>>=_}
+use Rattle.packed.specs.Packed.{number, text, readText}
 use Rattle.packed.specs.Located.{part}
-use Rattle.packed.proofs.LayoutLaws.{All, fail-got, andThen-got, foundIf-got, suchThat-got, whole-some, text-read}
+use Rattle.packed.proofs.LayoutLaws.{fail-got, text-read}
 use Rattle.packed.proofs.ReadLaws.{TextStops}
-use Rattle.values.specs.Spaces.{Kind, boolean, isWithin, isKind}
-use Rattle.ontology.specs.Table.{Property, EventType, Table, isNameWithin, namesRise, typeRules, typeNamed}
-use Rattle.ontology.specs.TableLayout.{readFlag, readParameters, readKind, readStrategy, readProperty, readType, readTable, tableOf}
+use Rattle.ontology.specs.Table.{EventType, Table, typeNamed}
+use Rattle.ontology.specs.TableLayout.{tableOf}
 use Rattle.ontology.specs.Questions as questions
 use Rattle.ontology.specs.Questions.{Asked, refused, accepted, ask, ensure}
 use Rattle.ontology.specs.TypeIndex.{TypeIs, TypeSays, TableSays}
@@ -29,78 +28,12 @@ use Rattle.event.specs.declared.lookup.ValueAt.{ValueAt}
 use Rattle.event.specs.declared.lookup.ValueAt.the-variants.{Value, NoValue}
 use Rattle.event.specs.declared.read.EventIndex.{EventIndex}
 use Rattle.ontology.specs.declared.tables.TableRead.{TableRead}
+use Rattle.ontology.proofs.TypeIndexLaws.{table-refused, table-got, type-absent, type-found, properties-rules}
 
 -- ---- the kinds of a table
 
--- each of so many passes what one passes
-times-all : {A : Type 0} (p : Layout A) (ok : A → Type 0) → ((s : List ℕ) (a : A) (r : List ℕ) → p s ≡ got a r → ok a) → (n : ℕ) (s : List ℕ) (xs : List A) (r : List ℕ) → times p n s ≡ got xs r → All ok xs
-unfolding times
-times-all p ok law zero s xs r e = let a : [] ≡ xs = cc in rw (← a) tt
-times-all p ok law (suc n) s xs r e =
-    let c = andThen-got (p s) _ xs r e in
-    let d = andThen-got (times p n (c .left)) _ xs r (c .second) in
-    let a : c .value ∷ d .value ≡ xs = cc (d .second) in
-    subst (All ok) a (law s (c .value) (c .left) (c .first), times-all p ok law n (c .left) (d .value) (d .left) (d .first))
-
-all-at : {A : Type 0} (ok : A → Type 0) (xs : List A) → All ok xs → (i : ℕ) (a : A) → getElem? xs i ≡ some a → ok a
-all-at ok [] w i a e = let z : _≡_ {A = ℕ} 0 1 = cc in absurd (omega arith)
-all-at ok (x ∷ xs) w zero a e = let z : x ≡ a = cc in subst ok z (w .0)
-all-at ok (x ∷ xs) w (suc i) a e = all-at ok xs (w .1) i a e
-
-abbrev Sound : Property → Type 0
-Sound q = isKind (q .kind) ≡ true
-
-property-kind : (s : List ℕ) (q : Property) (r : List ℕ) → readProperty s ≡ got q r → Sound q
-unfolding readProperty readKind
-property-kind s q r e =
-    let a = andThen-got (suchThat (isNameWithin 32) readText s) _ q r e in
-    let b = andThen-got (suchThat isKind (readNumber >>= readParameters) (a .left)) _ q r (a .second) in
-    let c = andThen-got (readFlag (b .left)) _ q r (b .second) in
-    let d = andThen-got (readFlag (c .left)) _ q r (c .second) in
-    let f = andThen-got (readStrategy (d .left)) _ q r (d .second) in
-    let k = suchThat-got isKind (readNumber >>= readParameters) (a .left) (b .value) (b .left) (b .first) in
-    let z : b .value ≡ q .kind = ap (λ (p : Parse Property). kind p) (f .second) in
-    ap isKind (sym z) ∙ k .test
-  where
-    kind : Parse Property → Kind
-    kind fail = boolean
-    kind (got p t) = p .kind
-
-type-kinds : (s : List ℕ) (t : EventType) (r : List ℕ) → suchThat typeRules readType s ≡ got t r → All Sound (t .properties)
-unfolding readType
-type-kinds s t r e =
-    let w = suchThat-got typeRules readType s t r e .was in
-    let a = andThen-got (readText s) _ t r w in
-    let b = andThen-got (readNumber (a .left)) _ t r (a .second) in
-    let c = andThen-got (readNumber (b .left)) _ t r (b .second) in
-    let d = andThen-got (readNumber (c .left)) _ t r (c .second) in
-    let f = andThen-got (times readProperty (d .value) (d .left)) _ t r (d .second) in
-    let k = times-all readProperty Sound property-kind (d .value) (d .left) (f .value) (f .left) (f .first) in
-    let z : f .value ≡ t .properties = ap (λ (p : Parse EventType). listed p) (f .second) in
-    subst (All Sound) z k
-  where
-    listed : Parse EventType → List Property
-    listed fail = []
-    listed (got t r) = t .properties
-
-named-all : (ok : EventType → Type 0) (n : Text) (ts : Table) (t : EventType) → All ok ts → typeNamed n ts ≡ some t → ok t
-unfolding typeNamed
-named-all ok n [] t w e = let z : _≡_ {A = ℕ} 0 1 = cc in absurd (omega arith)
-named-all ok n (u ∷ ts) t w e = go (equal texts n (u .name)) (named-all ok n ts t (w .1)) e
-  where
-    go : (b : Bool) → (typeNamed n ts ≡ some t → ok t) → cond b (some u) (typeNamed n ts) ≡ some t → ok t
-    go true k e = let z : u ≡ t = cc in subst ok z (w .0)
-    go false k e = k e
-
 pub table-kinds : (s : List ℕ) (ts : Table) (n : Text) (t : EventType) → tableOf s ≡ some ts → typeNamed n ts ≡ some t → KindsAre t
-unfolding tableOf readTable
-table-kinds s ts n t e f =
-    let w = whole-some (readTable s) ts .0 e in
-    let a = andThen-got (suchThat (isWithin 1 16) readNumber s) _ ts [] w in
-    let b = andThen-got (times (suchThat typeRules readType) (a .value) (a .left)) _ ts [] (a .second) in
-    let g = foundIf-got (namesRise (map (λ (t : EventType). t .name) (b .value))) (b .value) (b .left) ts [] (b .second) in
-    let k = times-all (suchThat typeRules readType) (λ (t : EventType). All Sound (t .properties)) type-kinds (a .value) (a .left) (b .value) (b .left) (b .first) in
-    λ i q h. all-at Sound (t .properties) (named-all (λ (t : EventType). All Sound (t .properties)) n ts t (subst (All (λ (t : EventType). All Sound (t .properties))) (g .value) k) f) i q h
+table-kinds s ts n t e f i q h = properties-rules s n ts t e f i q h .kind
 
 -- ---- the type name of an event
 
@@ -156,20 +89,8 @@ module _ (table event : List ℕ) (counts : Counts) (name : Text) (t : TableRead
     (says : TableSays (tableOf table) table name t) (reads : EventReads (eventOf counts event) event x)
     (names : (e : Event) → eventOf counts event ≡ some e → name ≡ e .type) where
   pub no-table : (r : EventAsked) → t .ok ≡ false → r .number ≡ 2 → EventAnswers (eventQuestions counts table event) table event r
-  unfolding TableSays EventAnswers
-  no-table r h n = go (tableOf table) says
-    where
-      go : (o : Option Table) → TableSays o table name t → EventAnswers (questions._>>=_ (ask 2 o) (λ ts. eventAsked counts ts event)) table event r
-      go none w = n
-      go (some ts) w = let z : _≡_ {A = Bool} true false = sym (w .0) ∙ h in let y : _≡_ {A = ℕ} 0 1 = cc in absurd (omega arith)
-
-  table-there : t .ok ≡ true → (ts : Table) × (tableOf table ≡ some ts) × TypeSays (typeNamed name ts) table t
-  unfolding TableSays
-  table-there h = go (tableOf table) refl says
-    where
-      go : (o : Option Table) → tableOf table ≡ o → TableSays o table name t → (ts : Table) × (tableOf table ≡ some ts) × TypeSays (typeNamed name ts) table t
-      go none e w = let z : _≡_ {A = Bool} true false = sym h ∙ w in let y : _≡_ {A = ℕ} 0 1 = cc in absurd (omega arith)
-      go (some ts) e w = (ts, e, w .1)
+  unfolding EventAnswers
+  no-table r h n = rw (table-refused table name t says h) n
 
   event-there : x .ok ≡ true → (e : Event) × (eventOf counts event ≡ some e) × EventIs event e x
   unfolding EventReads
@@ -182,8 +103,8 @@ module _ (table event : List ℕ) (counts : Counts) (name : Text) (t : TableRead
   pub no-event : (r : EventAsked) → t .ok ≡ true → x .ok ≡ false → r .number ≡ 3 → EventAnswers (eventQuestions counts table event) table event r
   unfolding EventReads EventAnswers eventAsked
   no-event r h k n =
-      let a = table-there h in
-      subst (λ (o : Option Table). EventAnswers (questions._>>=_ (ask 2 o) (λ ts. eventAsked counts ts event)) table event r) (sym (a .1)) (go (a .0) (eventOf counts event) reads)
+      let a = table-got table name t says h in
+      subst (λ (o : Option Table). EventAnswers (questions._>>=_ (ask 2 o) (λ ts. eventAsked counts ts event)) table event r) (sym (a .is)) (go (a .what) (eventOf counts event) reads)
     where
       go : (ts : Table) (o : Option Event) → EventReads o event x → EventAnswers (questions._>>=_ (ask 3 o) (λ e. questions._>>=_ (ask 4 (typeNamed (e .type) ts)) (λ t. later t e))) table event r
       go ts none w = n
@@ -191,14 +112,14 @@ module _ (table event : List ℕ) (counts : Counts) (name : Text) (t : TableRead
 
   both-there : t .ok ≡ true → x .ok ≡ true → Read table event counts name t x
   both-there h k =
-      let a = table-there h in
+      let a = table-got table name t says h in
       let b = event-there k in
       record {
-        ts = a .0;
+        ts = a .what;
         e = b .0;
-        is-table = a .1;
+        is-table = a .is;
         is-event = b .1;
-        type-says = subst (λ (n : Text). TypeSays (typeNamed n (a .0)) table t) (names (b .0) (b .1)) (a .2);
+        type-says = subst (λ (n : Text). TypeSays (typeNamed n (a .what)) table t) (names (b .0) (b .1)) (a .says);
         event-is = b .2;
       }
 
@@ -207,28 +128,23 @@ module _ (table event : List ℕ) (counts : Counts) (name : Text) (t : TableRead
   so-far w = rw (w .is-table, w .is-event)
 
   pub no-type : (r : EventAsked) → t .ok ≡ true → x .ok ≡ true → t .found ≡ false → r .number ≡ 4 → EventAnswers (eventQuestions counts table event) table event r
-  unfolding EventAnswers TypeSays
+  unfolding EventAnswers
   no-type r h k f n =
       let w = both-there h k in
-      subst (λ (q : Asked Typed). EventAnswers q table event r) (sym (so-far w)) (go (w .e) (typeNamed (w .e .type) (w .ts)) (w .type-says))
-    where
-      go : (e : Event) (o : Option EventType) → TypeSays o table t → EventAnswers (questions._>>=_ (ask 4 o) (λ y. later y e)) table event r
-      go e none w = n
-      go e (some y) w = let z : _≡_ {A = Bool} true false = sym (w .0) ∙ f in let y : _≡_ {A = ℕ} 0 1 = cc in absurd (omega arith)
+      let e = type-absent (typeNamed (w .e .type) (w .ts)) table t (w .type-says) f in
+      subst (λ (q : Asked Typed). EventAnswers q table event r) (sym (so-far w ∙ ap (λ (o : Option EventType). questions._>>=_ (ask 4 o) (λ y. later y (w .e))) e)) n
 
   pub met : t .ok ≡ true → x .ok ≡ true → t .found ≡ true → Met table event counts t x
-  unfolding TypeSays
-  met h k f = let w = both-there h k in go w (typeNamed (w .e .type) (w .ts)) refl (w .type-says)
-    where
-      go : (w : Read table event counts name t x) (o : Option EventType) → typeNamed (w .e .type) (w .ts) ≡ o → TypeSays o table t → Met table event counts t x
-      go w none e s = let z : _≡_ {A = Bool} true false = sym f ∙ s in let y : _≡_ {A = ℕ} 0 1 = cc in absurd (omega arith)
-      go w (some y) e s = record {
-        type = y;
+  met h k f =
+      let w = both-there h k in
+      let y = type-found (typeNamed (w .e .type) (w .ts)) table t (w .type-says) f in
+      record {
+        type = y .what;
         e = w .e;
-        is = so-far w ∙ ap (λ (o : Option EventType). questions._>>=_ (ask 4 o) (λ z. later z (w .e))) e;
-        type-is = s .1;
+        is = so-far w ∙ ap (λ (o : Option EventType). questions._>>=_ (ask 4 o) (λ z. later z (w .e))) (y .is);
+        type-is = y .stands;
         event-is = w .event-is;
-        kinds = table-kinds table (w .ts) (w .e .type) y (w .is-table) e;
+        kinds = table-kinds table (w .ts) (w .e .type) (y .what) (w .is-table) (y .is);
       }
 
 module _ (table event : List ℕ) (counts : Counts) (t : TableRead) (x : EventIndex) (m : Met table event counts t x) (r : EventAsked) where

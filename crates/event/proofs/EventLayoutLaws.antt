@@ -11,6 +11,7 @@ use lib.Dec.{ltb, leb, eqb}
 use lib.ListN.{length}
 use borrow.Author.Tests.{lt-ltb, le-leb, ltb-true, leb-true, eqb-true, eqb-false}
 use Rattle.model.specs.Order.{Text, texts, rising}
+use Rattle.model.proofs.Cases.{and-parts}
 use Rattle.packed.specs.Parse.{got, Layout, _>>=_, found, foundIf, suchThat, times}
 use Rattle.packed.specs.Packed.{number, readNumber, text, readText, readBytes}
 use Rattle.packed.proofs.LayoutLaws.{All, andThen-got, foundIf-got, suchThat-got, whole-some, number-read, number-was, text-read, text-was, bytes-read, bytes-was, times-read, times-was}
@@ -45,12 +46,6 @@ pub record EventWritten (counts : Counts) (e : Event) : Type 0 where
   pub head : HeadWritten (counts .parents) (e .type) (e .source) (e .parents)
   pub sets : SetsWritten (e .sets)
   pub objects : objectCount (e .sets) ≤ counts .objects
-
--- ---- tests and their parts
-
-pub and-parts : (a b : Bool) → (a && b) ≡ true → (a ≡ true) × (b ≡ true)
-and-parts true b e = (refl, e)
-and-parts false b e = (e, cc)
 
 -- a layout whose value passes a test, read
 pub such-that : {A : Type 0} (t : A → Bool) (p : Layout A) (s : List ℕ) (a : A) (r : List ℕ) → p s ≡ got a r → t a ≡ true → suchThat t p s ≡ got a r

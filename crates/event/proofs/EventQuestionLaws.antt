@@ -2,7 +2,7 @@
 use mathlib.Core.Path.{_≡_, refl, sym, ap, ap₂, _∙_, subst, subst₂}
 use mathlib.Core.Logic.{⊎-elim}
 use mathlib.Core.Bool.{Bool, true, false, cond, not, _&&_, _||_, and-eq-true-iff}
-use mathlib.Core.Option.{Option, none, some}
+use mathlib.Core.Option.{none, some}
 use mathlib.Core.List.{List, [], _∷_, map, flatten, List·Memᴰ, List·Memᴰ·head, List·Memᴰ·tail, List·Memᴰ·not-nil}
 use Prim.Native.Nat.{ℕ, zero, suc, _+_, _-_, _^_, _≤_, _<_}
 use native.Mathlib.Omega.{arith}
@@ -13,7 +13,7 @@ use Rattle.model.specs.Order.{Order, Text, texts, rising, reversed}
 use Rattle.model.specs.Sets.{Ups, upTo}
 use Rattle.model.specs.Rule.{every, least, places, count}
 use Rattle.model.specs.Ways.{Has}
-use Rattle.model.proofs.Cases.{never, truth, found}
+use Rattle.model.proofs.Cases.{never, truth, found, or-part}
 use Rattle.model.proofs.SetLaws.{rising-ups}
 use Rattle.model.proofs.PartLaws.{map-getD}
 use Rattle.packed.proofs.LayoutLaws.{All, lt-or-ge}
@@ -22,8 +22,10 @@ use Rattle.values.specs.Spaces.{Kind, sequence, isUnsigned, isOfKind, inSpace}
 use Rattle.values.specs.ValueOrder.{valueOrder}
 use Rattle.values.proofs.NumberOrderLaws.{unsigned-below, in-decimal-sequence}
 use Rattle.ontology.specs.Table.{Strategy, min, max, add, replace, match, set, any, strategyNumber, Property, EventType, Table, isMin, isMax, isMatch, isVersioned, typeNamed}
-use Rattle.ontology.specs.Questions.{Asked, refused, accepted, _>>=_, _>>_, ask, ensure}
-use Rattle.ontology.proofs.TableLaws.{type-named, TypeKept, extreme-single}
+use Rattle.ontology.specs.Questions.{accepted, _>>=_, _>>_, ask}
+use Rattle.ontology.proofs.TableLaws.{TypeKept, extreme-single}
+use Rattle.ontology.proofs.QuestionLaws.{asked-then, ask-some, ensured, accepted-same}
+use Rattle.ontology.proofs.TypeIndexLaws.{named-at}
 use Rattle.event.specs.Event.{Event, objectCount, setAt, versionOf, choiceOf, atPlace, view}
 use Rattle.event.specs.EventLayout.{Counts, narrow, eventOf}
 use Rattle.event.specs.EventQuestions.{eachPlace, isEmpty, setFits, matchCount, eventShape, areInSpace, valuesFit, Typed, eventAsked}
@@ -103,10 +105,6 @@ match-count (x ∷ ps) (s ∷ ss) (t ∷ ts) l h =
     (truth (isMatch x) (λ y. ap (λ (r : List Text). cond (isMatch x) (length r) 0) (h 0 x refl y)) (λ n. rw n))
     (match-count ps ss ts (omega arith) (λ p q e y. h (suc p) q e y))
 
-or-part : (a b : Bool) → (a || b) ≡ true → a ≡ false → b ≡ true
-or-part true b h e = never (cc)
-or-part false b h e = h
-
 -- "are mandatory ones there, single ones single"
 pub fits-some : (q : Property) (s : List Text) → setFits q s ≡ true → q .optional ≡ false → Has s
 unfolding setFits
@@ -118,22 +116,6 @@ unfolding setFits
 fits-single q s h o = leb-true (length s) 1 (or-part (q .multivalued) _ (and-eq-true-iff (q .optional || leb 1 (length s)) _ .0 h .1) o)
 
 -- ---- the questions in their order
-
-module _ {A B : Type 0} where
-  asked-then : (m : Asked A) (k : A → Asked B) (b : B) → (m >>= k) ≡ accepted b → (a : A) × (m ≡ accepted a) × (k a ≡ accepted b)
-  asked-then (refused n) k b h = never (cc)
-  asked-then (accepted a) k b h = (a, refl, h)
-
-ask-some : {A : Type 0} (n : ℕ) (m : Option A) (a : A) → ask n m ≡ accepted a → m ≡ some a
-ask-some n none a h = never (cc)
-ask-some n (some b) a h = cc
-
-ensured : {A : Type 0} (n : ℕ) (b : Bool) (k : Asked A) (a : A) → (ensure n b >> k) ≡ accepted a → (b ≡ true) × (k ≡ accepted a)
-ensured n true k a h = (refl, h)
-ensured n false k a h = never (cc)
-
-typed-same : (a b : Typed) → accepted a ≡ accepted b → a ≡ b
-typed-same a b h = cc
 
 -- an event that is accepted, and its type
 pub record EventAccepted (counts : Counts) (table : Table) (s : List ℕ) (t : EventType) (e : Event) : Type 0 where
@@ -150,7 +132,7 @@ module _ (counts : Counts) (table : Table) (s : List ℕ) (t : EventType) (e : E
       let (u, y, l) = asked-then (ask 4 (typeNamed (d .type) table)) _ _ k in
       let (a, m) = ensured 5 (eventShape u d) _ _ l in
       let (b, n) = ensured 6 (valuesFit u (d .sets)) _ _ m in
-      let q = typed-same (record { type = u; event = d }) (record { type = t; event = e }) n in
+      let q = accepted-same (record { type = u; event = d }) (record { type = t; event = e }) n in
       subst₂ (EventAccepted counts table s) (ap (λ (x : Typed). x .type) q) (ap (λ (x : Typed). x .event) q)
       (record { read = ask-some 3 (eventOf counts s) d r; typed = ask-some 4 (typeNamed (d .type) table) u y; shape = a; values = b })
 
@@ -177,7 +159,7 @@ unfolding eventShape valuesFit
 event-fits table s t e a =
     let shape = and-eq-true-iff (eachPlace setFits isEmpty (t .properties) (e .sets)) _ .0 (a .shape) .0 in
     record {
-      named = sym (type-named (e .type) table t (a .typed) .0);
+      named = sym (named-at (e .type) table t (a .typed) .2);
       written = event-was narrow s e (a .read) .1;
       fits = each-place-at setFits isEmpty (t .properties) (e .sets) shape;
       vacant = λ p n. ⊎-elim

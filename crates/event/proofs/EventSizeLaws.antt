@@ -8,6 +8,7 @@ use lib.Dec.{leb}
 use lib.ListN.{length, drop, length-append}
 use borrow.Author.Tests.{leb-true, eqb-true}
 use Rattle.model.specs.Order.{Text}
+use Rattle.model.proofs.Cases.{and-parts}
 use Rattle.packed.specs.Packed.{text}
 pub use Rattle.packed.proofs.LayoutLaws.{All}
 use Rattle.packed.proofs.LayoutLaws.{number-length-1, number-length-2, number-length-5, text-length}
@@ -16,7 +17,7 @@ use Rattle.ontology.specs.Table.{Property, EventType}
 use Rattle.event.specs.Event.{Event, objectCount}
 use Rattle.event.specs.EventLayout.{wide, parentsBytes, setBytes, setsBytes, presenceBit, bitNumber, headBytes, eventBytes}
 use Rattle.event.specs.EventQuestions.{eachPlace, isEmpty, setFits, matchCount, eventShape, areInSpace, valuesFit}
-use Rattle.event.proofs.EventLayoutLaws.{HeadWritten, EventWritten, and-parts, source-length, presence-below}
+use Rattle.event.proofs.EventLayoutLaws.{HeadWritten, EventWritten, source-length, presence-below}
 
 -- "its length of 1 to 120 bytes included": each value of each set
 abbrev pub ValuesShort : List (List Text) → Type 0

@@ -96,12 +96,11 @@ pub fn read_parents(s: &[u8], at: usize, most: usize) -> ParentsRead
         if s.len() - to < 20 {
             return ParentsRead::NoParents;
         }
-        let end = to + 20;
-        if !is_before(s, from, to, to, end) {
+        if !is_before(s, from, to, to, to + 20) {
             return ParentsRead::NoParents;
         }
         from = to;
-        to = end;
+        to += 20;
         left -= 1;
     }
     ParentsRead::Parents(SetAt {

@@ -9,6 +9,7 @@ ghost use Rattle.event.specs.EventIndex.{SetIs, SetReads, SetsReads};
 use ontology::names::is_before;
 use packed::read::NumberAt;
 use packed::read::TextAt;
+use packed::read::part_of;
 use packed::read::read_number;
 use packed::read::read_text;
 
@@ -141,13 +142,5 @@ pub fn value_in(s: &[u8], index: usize) -> &[u8]
 pub fn set_part(s: &[u8], x: SetAt) -> &[u8]
     ensures { λ r. ⌜ ((vs : List Text) → SetIs (now (s .entry)) vs x → now r ≡ flatten (map text vs)) ⌝ }
 {
-    let start = x.start;
-    let end = x.end;
-    if end < start {
-        return &s[0..0];
-    }
-    if s.len() < end {
-        return &s[0..0];
-    }
-    &s[start..end]
+    part_of(s, x.start, x.end)
 }

@@ -1,10 +1,12 @@
 -- What stands at a key, `look`, decides a rising list (`by-look`), and `merge` joins it key by key (`look-merge`). So an equation of merged lists is one at each key.
 use mathlib.Core.Path.{_≡_, refl, sym, _∙_}
+use mathlib.Core.Logic.{_↔_}
 use mathlib.Core.Option.{Option, none, some}
-use mathlib.Core.List.{List, [], _∷_, List·Memᴰ, List·Memᴰ·head, List·Memᴰ·tail}
+use mathlib.Core.List.{List, [], _∷_, map, List·Memᴰ, List·Memᴰ·head, List·Memᴰ·tail}
 use Prim.Native.Nat.{Ordering·lt, Ordering·gt}
 use Rattle.model.specs.Order.{Order, pick, three}
 use Rattle.model.specs.Keyed.{joined, both, Above, Rising, look, put, merge}
+use Rattle.model.specs.Sets.{itself, Ups}
 use Rattle.model.proofs.Cases.{never}
 use Rattle.model.proofs.OrderLaws.{less-turn, more-turn}
 
@@ -18,6 +20,18 @@ module _ {E K : Type 0} (O : Order K) (key : E → K) where
   pub above-trans : (j k : K) (xs : List E) → O .cmp j k ≡ Ordering·lt → Above O key k xs → Above O key j xs
   above-trans j k [] p h = tt
   above-trans j k (x ∷ xs) p h = (O .step j k (key x) p (h .0), above-trans j k xs p (h .1))
+
+  -- entries rise by their keys exactly when the keys rise
+  above-keys : (k : K) (xs : List E) → Above O key k xs ↔ Above O itself k (map key xs)
+  above-keys k [] = (λ h. h, λ h. h)
+  above-keys k (x ∷ xs) = let i = above-keys k xs in (λ h. (h .0, i .0 (h .1)), λ h. (h .0, i .1 (h .1)))
+
+  pub rising-keys : (xs : List E) → Rising O key xs ↔ Ups O (map key xs)
+  rising-keys [] = (λ h. h, λ h. h)
+  rising-keys (x ∷ xs) =
+      let i = above-keys (key x) xs in
+      let j = rising-keys xs in
+      (λ h. (i .0 (h .0), j .0 (h .1)), λ h. (i .1 (h .0), j .1 (h .1)))
 
   pub look-above : (k : K) (xs : List E) → Above O key k xs → look O key k xs ≡ none
   unfolding look

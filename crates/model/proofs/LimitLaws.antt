@@ -1,6 +1,6 @@
 -- A set of events that passes a limit passes it with more events too (`fits-within`) and under smaller limits (`fits-larger`); one event passes none (`fits-one`).
 use mathlib.Core.Path.{_≡_, refl, ap}
-use mathlib.Core.Bool.{Bool, true, false, _&&_, _||_}
+use mathlib.Core.Bool.{Bool, true, false, _||_}
 use mathlib.Core.List.{List, [], _∷_, map, flatten, append-nil, List·Memᴰ·eq-of-singleton}
 use Prim.Native.Nat.{ℕ, _≤_, zero-le, suc-le-suc}
 use lib.ListN.{length, take, length-map, length-take as length-take-min}
@@ -11,17 +11,10 @@ use Rattle.model.specs.Order.{Text, numbers, texts}
 use Rattle.model.specs.Sets.{Within, canon, smallest}
 use Rattle.model.specs.Rule.{allAre, agreed, Choice, every, least, View, places, Snapshot, Dossier, cell, ofVersion, cellOf, snapshot, ruleAt, rule, size, sizes, objects, count}
 use Rattle.model.specs.Limits.{Limits, fits}
+use Rattle.model.proofs.Cases.{and-parts, or-part}
 use Rattle.model.proofs.SetLaws.{ups-canon, canon-in, canon-of, total, total-within, length-canon-within, length-canon}
 use Rattle.model.proofs.PartLaws.{map-within, flatten-within, only-within}
 use Rattle.model.proofs.ValidLaws.{one-snapshot}
-
-and-parts : (a b : Bool) → (a && b) ≡ true → (a ≡ true) × (b ≡ true)
-and-parts true b h = (refl, h)
-and-parts false b h = (cc, cc)
-
-or-part : (a b : Bool) → (a || b) ≡ true → a ≡ false → b ≡ true
-or-part true b h e = cc
-or-part false b h e = h
 
 -- the limits as bounds
 module _ {Event : Type 0} (l : Limits) (t : View Event) (d : Dossier) where

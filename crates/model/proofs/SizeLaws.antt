@@ -46,7 +46,7 @@ unfolding flatten column
 flat-none [] = refl
 flat-none (p ∷ ps) = flat-none ps
 
-held-size : (c : Cell) → length (held c) ≡ size c
+pub held-size : (c : Cell) → length (held c) ≡ size c
 unfolding held size
 held-size (holds s) = refl
 held-size differs = refl

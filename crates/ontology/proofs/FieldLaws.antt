@@ -1,12 +1,13 @@
 -- The laws of layouts one after the other, by positions, and of numbers in a range.
 use mathlib.Core.Path.{_≡_, refl, sym, ap, _∙_, subst}
-use mathlib.Core.Bool.{Bool, true, false, cond, _&&_}
+use mathlib.Core.Bool.{Bool, true, false, cond}
 use mathlib.Core.List.{List}
 use Prim.Native.Nat.{ℕ, _≤_, _<_}
 use native.Mathlib.Omega.{arith}
 use lib.ListN.{drop}
 use lib.Dec.{leb, eqb}
 use borrow.Author.Tests.{le-leb, lt-leb, leb-true}
+use Rattle.model.proofs.Cases.{and-parts}
 use Rattle.packed.specs.declared.read.NumberAt.{NumberAt}
 use Rattle.packed.specs.declared.read.NumberAt.the-variants.{Number, NoNumber}
 use Rattle.packed.specs.declared.read.TextAt.{TextAt}
@@ -21,10 +22,6 @@ use Rattle.ontology.specs.declared.fields.FlagAt.{FlagAt}
 use Rattle.ontology.specs.declared.fields.FlagAt.the-variants.{Flag, NoFlag}
 use Rattle.ontology.specs.TableLayout.{readFlag}
 use Rattle.ontology.specs.TypeIndex.{Got, NumberReads, FlagReads, NameStops, NameReads}
-
-pub and-true : (a b : Bool) → (a && b) ≡ true → (a ≡ true) × (b ≡ true)
-and-true true b e = (refl, e)
-and-true false b e = let z : _≡_ {A = ℕ} 0 1 = cc in absurd (omega arith)
 
 -- ---- what is known of a call's answer in the arm of a `match`
 
@@ -114,7 +111,7 @@ pub size-is : (most n : ℕ) → 0 < n → isWithin 1 most n ≡ leb n most
 size-is most n h = rw (le-leb 1 n h)
 
 pub within-bounds : (least most n : ℕ) → isWithin least most n ≡ true → (least ≤ n) × (n ≤ most)
-within-bounds least most n e = let b = and-true (leb least n) (leb n most) e in (leb-true least n (b .0), leb-true n most (b .1))
+within-bounds least most n e = let b = and-parts (leb least n) (leb n most) e in (leb-true least n (b .0), leb-true n most (b .1))
 
 pub got-bounds : {s : List ℕ} {at n next : ℕ} (least most : ℕ) → Got (suchThat (isWithin least most) readNumber (drop at s)) s at n next → (least ≤ n) × (n ≤ most)
 got-bounds {s} {at} {n} {next} least most g = within-bounds least most n (such-was (isWithin least most) readNumber s at g .1)

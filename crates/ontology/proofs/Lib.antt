@@ -8,3 +8,4 @@ pub mod TypeLaws
 pub mod TableReadLaws
 pub mod TypeIndexLaws
 pub mod TableLaws
+pub mod QuestionLaws

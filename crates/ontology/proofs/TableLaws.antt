@@ -1,64 +1,19 @@
 -- What question 2 says of an accepted table's types and their properties.
-use mathlib.Core.Path.{_≡_, refl, sym, ap, _∙_}
-use mathlib.Core.Logic.{⊎-elim}
+use mathlib.Core.Path.{_≡_, refl}
 use mathlib.Core.Bool.{Bool, true, false, not, _&&_, _||_, and-eq-true-iff}
 use mathlib.Core.Option.{Option, none, some}
-use mathlib.Core.List.{List, [], _∷_, map, List·Memᴰ, List·Memᴰ·head, List·Memᴰ·tail, List·Memᴰ·not-nil, List·Memᴰ·cases-cons}
+use mathlib.Core.List.{List, [], _∷_, map}
 use Prim.Native.Nat.{ℕ, zero, suc, _-_, _≤_, _<_}
 use native.Mathlib.Omega.{arith}
 use lib.Dec.{leb, eqb}
 use lib.ListN.{length, getElem?}
 use borrow.Author.Tests.{leb-true, not-true}
-use Rattle.model.specs.Order.{Text, texts, equal}
-use Rattle.model.proofs.Cases.{never, truth}
-use Rattle.model.proofs.OrderLaws.{equal-true}
-use Rattle.packed.specs.Parse.{Layout, got, suchThat, times}
-use Rattle.packed.specs.Packed.{readNumber}
-use Rattle.packed.proofs.LayoutLaws.{andThen-got, foundIf-got, suchThat-got, whole-some}
-use Rattle.values.specs.Spaces.{Kind, unsigned, signed, decimal, currency, sequence, datetime, boolean, string, hex, kindNumber, isWithin}
+use Rattle.model.specs.Order.{Text}
+use Rattle.model.proofs.Cases.{never, where-so, and-parts}
+use Rattle.values.specs.Spaces.{Kind, unsigned, signed, decimal, currency, sequence, datetime, boolean, string, hex, kindNumber}
 use Rattle.ontology.specs.Table.{Property, EventType, Table, isMandatory, isSingle, isMin, isMax, isReplace, isVersioned, isName, isNameWithin, isOrdered, strategyFits, allFit, canBeMarked, markFits, namesRise, typeRules, typeNamed}
-use Rattle.ontology.specs.TableLayout.{readType, readTable, tableOf}
-
--- a rule for what is so
-where-so : (a b : Bool) → (not a || b) ≡ true → a ≡ true → b ≡ true
-where-so true b h e = h
-where-so false b h e = never (cc)
-
--- the type of a name has that name, and is one of the table's
-pub type-named : (n : Text) (ts : Table) (t : EventType) → typeNamed n ts ≡ some t → (t .name ≡ n) × List·Memᴰ t ts
-unfolding typeNamed
-type-named n [] t h = never (cc)
-type-named n (x ∷ ts) t h =
-    truth (equal texts n (x .name))
-    (λ y.
-    let k : some x ≡ some t = rw y at h in
-    let q : t ≡ x = cc in
-    (ap (λ (z : EventType). z .name) q ∙ sym (equal-true texts n (x .name) .0 y), List·Memᴰ·head q))
-    (λ y. let (a, m) = type-named n ts t (rw y at h) in (a, List·Memᴰ·tail m))
-
--- each of so many that a layout found passes its test
-times-such :
-    {A : Type 0} (test : A → Bool) (p : Layout A) (n : ℕ) (s : List ℕ) (xs : List A) (r : List ℕ) → times (suchThat test p) n s ≡ got xs r →
-    (a : A) → List·Memᴰ a xs → test a ≡ true
-unfolding times
-times-such test p zero s xs r e a m = let q : xs ≡ [] = cc in absurd (List·Memᴰ·not-nil (rw q at m))
-times-such test p (suc n) s xs r e a m =
-    let c = andThen-got (suchThat test p s) _ xs r e in
-    let d = andThen-got (times (suchThat test p) n (c .left)) _ xs r (c .second) in
-    let q : xs ≡ c .value ∷ d .value = cc (d .second) in
-    ⊎-elim
-    (λ k. ap test k ∙ suchThat-got test p s (c .value) (c .left) (c .first) .test)
-    (times-such test p n (c .left) (d .value) (d .left) (d .first) a)
-    (List·Memᴰ·cases-cons (rw q at m))
-
--- every type of an accepted table keeps the rules
-table-rules : (s : List ℕ) (ts : Table) → tableOf s ≡ some ts → (t : EventType) → List·Memᴰ t ts → typeRules t ≡ true
-unfolding tableOf readTable
-table-rules s ts h t m =
-    let c = andThen-got (suchThat (isWithin 1 16) readNumber s) _ ts [] (whole-some (readTable s) ts .0 h) in
-    let d = andThen-got (times (suchThat typeRules readType) (c .value) (c .left)) _ ts [] (c .second) in
-    let f = foundIf-got (namesRise (map (λ (x : EventType). x .name) (d .value))) (d .value) (d .left) ts [] (d .second) in
-    times-such typeRules readType (c .value) (c .left) (d .value) (d .left) (d .first) t (rw (← f .value) at m)
+use Rattle.ontology.specs.TableLayout.{tableOf}
+use Rattle.ontology.proofs.TypeIndexLaws.{type-rules}
 
 all-fit-at : (b : Bool) (ps : List Property) → allFit b ps ≡ true → (p : ℕ) (q : Property) → getElem? ps p ≡ some q → strategyFits b q ≡ true
 unfolding allFit
@@ -134,7 +89,7 @@ type-kept t h =
 
 -- the type of a name in an accepted table
 pub table-type : (s : List ℕ) (ts : Table) → tableOf s ≡ some ts → (n : Text) (t : EventType) → typeNamed n ts ≡ some t → TypeKept t
-table-type s ts h n t e = type-kept t (table-rules s ts h t (type-named n ts t e .1))
+table-type s ts h n t e = type-kept t (type-rules s n ts t h e .1)
 
 place-below : (ps : List Property) (p : ℕ) (q : Property) → getElem? ps p ≡ some q → p < length ps
 place-below [] p q e = never (cc)
@@ -145,9 +100,16 @@ place-below (x ∷ ps) (suc p) q e = omega (arith, place-below ps p q e)
 pub place-in : (t : EventType) → TypeKept t → (p : ℕ) (q : Property) → getElem? (t .properties) p ≡ some q → p < 32
 place-in t k p q e = omega (arith, k .few, place-below (t .properties) p q e)
 
--- "Min and max need a mandatory single-valued property"
-pub extreme-single : (b : Bool) (q : Property) → strategyFits b q ≡ true → (isMin q || isMax q) ≡ true → q .multivalued ≡ false
+-- "Min and max need a mandatory single-valued property of kind 1 to 6"
+extreme-parts : (b : Bool) (q : Property) → strategyFits b q ≡ true → (isMin q || isMax q) ≡ true → ((isMandatory q && isSingle q) ≡ true) × (isOrdered (q .kind) ≡ true)
 unfolding strategyFits
-extreme-single b q h e =
-    let k = where-so (isMin q || isMax q) (isMandatory q && isSingle q && isOrdered (q .kind)) (and-eq-true-iff _ (not (isReplace q) || (q .optional && isSingle q && b)) .0 h .0) e in
-    not-true (q .multivalued) (and-eq-true-iff (isMandatory q) _ .0 (and-eq-true-iff (isMandatory q && isSingle q) _ .0 k .0) .1)
+extreme-parts b q h e =
+    and-parts (isMandatory q && isSingle q) (isOrdered (q .kind))
+    (where-so (isMin q || isMax q) (isMandatory q && isSingle q && isOrdered (q .kind)) (and-parts _ (not (isReplace q) || (q .optional && isSingle q && b)) h .0) e)
+
+pub extreme-single : (b : Bool) (q : Property) → strategyFits b q ≡ true → (isMin q || isMax q) ≡ true → q .multivalued ≡ false
+extreme-single b q h e = not-true (q .multivalued) (and-parts (isMandatory q) _ (extreme-parts b q h e .0) .1)
+
+pub extreme-ordered : (b : Bool) (q : Property) → strategyFits b q ≡ true → (isMin q || isMax q) ≡ true → kindNumber (q .kind) ≤ 6
+unfolding isOrdered
+extreme-ordered b q h e = leb-true (kindNumber (q .kind)) 6 (extreme-parts b q h e .1)

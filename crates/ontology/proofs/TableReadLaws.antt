@@ -8,6 +8,7 @@ use native.Mathlib.Omega.{arith}
 use lib.ListN.{length, drop, drop-of-length-le}
 use lib.Dec.{leb}
 use Rattle.model.specs.Order.{Text, texts, lists, lex, equal, rising, pick}
+use Rattle.model.proofs.Cases.{and-parts}
 use Rattle.packed.specs.Parse.{Parse, fail, got, Layout, andThen, foundIf, suchThat, times}
 use Rattle.packed.specs.Packed.{readNumber}
 use Rattle.packed.specs.Located.{part}
@@ -22,7 +23,6 @@ use Rattle.ontology.specs.declared.types.TypeRead.{TypeRead}
 use Rattle.ontology.specs.declared.tables.TableRead.{TableRead}
 use Rattle.ontology.specs.declared.tables.TableReply.the-variants.{Accepted, Refused}
 use Rattle.ontology.specs.TypeIndex.{Got, precedes, TypeIs, TypeReads, TypeSays, TableSays, tableReply}
-use Rattle.ontology.proofs.FieldLaws.{and-true}
 use Rattle.ontology.proofs.RunLaws.{prepend, prepend-nil, prepend-two, times-more, times-stop, times-end}
 use Rattle.ontology.proofs.RuleLaws.{picked, picked-not}
 use Rattle.ontology.proofs.TypeLaws.{rules-hold}
@@ -113,7 +113,7 @@ module _ (last : Text) (n : ℕ) (s : List ℕ) where
 module _ (t : EventType) (h : typeRules t ≡ true) where
   name-there : isName (t .name) ≡ true
   unfolding isNameWithin
-  name-there = and-true (isName (t .name)) (leb (length (t .name)) 64) (rules-hold t h .name) .0
+  name-there = and-parts (isName (t .name)) (leb (length (t .name)) 64) (rules-hold t h .name) .0
 
   first-name : (ns : List Text) → rising texts (t .name ∷ ns) ≡ rising texts ([] ∷ t .name ∷ ns)
   unfolding rising texts lists lex isName

@@ -1,6 +1,6 @@
 -- What is known of a type that a table has, and of its properties: for the callers of `read_table`.
 use mathlib.Core.Path.{_≡_, refl, sym, ap, _∙_}
-use mathlib.Core.Bool.{Bool, true, false, cond}
+use mathlib.Core.Bool.{true, false}
 use mathlib.Core.Option.{Option, none, some}
 use mathlib.Core.List.{List, [], _∷_, map}
 use Prim.Native.Nat.{ℕ, suc, _≤_}
@@ -9,6 +9,7 @@ use lib.ListN.{length, getElem?}
 use lib.Dec.{leb}
 use borrow.Author.Tests.{leb-true}
 use Rattle.model.specs.Order.{Text, texts, equal}
+use Rattle.model.proofs.Cases.{and-parts, never, truth}
 use Rattle.packed.specs.Parse.{got, andThen, suchThat, times}
 use Rattle.packed.specs.Packed.{readNumber, readText}
 use Rattle.packed.proofs.LayoutLaws.{andThen-got, suchThat-got, foundIf-got, whole-some}
@@ -18,14 +19,13 @@ use Rattle.ontology.specs.Table.{Property, EventType, Table, isName, isN
 use Rattle.ontology.specs.TableLayout.{readFlag, readParameters, readKind, readStrategy, readProperty, readType, readTable, tableOf}
 use Rattle.ontology.specs.declared.tables.TableRead.{TableRead}
 use Rattle.ontology.specs.TypeIndex.{TypeIs, TypeSays, TableSays}
-use Rattle.ontology.proofs.FieldLaws.{and-true}
 use Rattle.ontology.proofs.RunLaws.{times-each}
 use Rattle.ontology.proofs.TypeLaws.{type-was}
 
 -- a name has a byte, and at most so many
 pub name-length : (most : ℕ) (v : Text) → isNameWithin most v ≡ true → (1 ≤ length v) × (length v ≤ most)
 unfolding isNameWithin isName
-name-length most v e = let b = and-true (isName v) (leb (length v) most) e in (go v (b .0), leb-true (length v) most (b .1))
+name-length most v e = let b = and-parts (isName v) (leb (length v) most) e in (go v (b .0), leb-true (length v) most (b .1))
   where
     go : (v : Text) → isName v ≡ true → 1 ≤ length v
     go [] e = let z : _≡_ {A = ℕ} 0 1 = cc in absurd (omega arith)
@@ -56,17 +56,13 @@ property-rules s q r e =
 -- ---- a type of a table
 
 -- its place, and that it has the name
-named-at : (n : Text) (ts : List EventType) (t : EventType) → typeNamed n ts ≡ some t → (i : ℕ) × (getElem? ts i ≡ some t) × (equal texts n (t .name) ≡ true)
+pub named-at : (n : Text) (ts : List EventType) (t : EventType) → typeNamed n ts ≡ some t → (i : ℕ) × (getElem? ts i ≡ some t) × (t .name ≡ n)
 unfolding typeNamed
-named-at n [] t e = let z : _≡_ {A = ℕ} 0 1 = cc in absurd (omega arith)
-named-at n (x ∷ ts) t e = go (equal texts n (x .name)) refl (λ q. named-at n ts t q) e
-  where
-    go :
-        (b : Bool) → equal texts n (x .name) ≡ b →
-        (typeNamed n ts ≡ some t → (i : ℕ) × (getElem? ts i ≡ some t) × (equal texts n (t .name) ≡ true)) →
-        cond b (some x) (typeNamed n ts) ≡ some t → (i : ℕ) × (getElem? (x ∷ ts) i ≡ some t) × (equal texts n (t .name) ≡ true)
-    go true h f e = let y : x ≡ t = cc in (0, e, ap (λ (u : EventType). equal texts n (u .name)) (sym y) ∙ h)
-    go false h f e = let r = f e in (suc (r .0), r .1, r .2)
+named-at n [] t e = never (cc)
+named-at n (x ∷ ts) t e =
+    truth (equal texts n (x .name))
+    (λ y. let q : x ≡ t = cc (rw y at e) in (0, ap some q, ap (λ (u : EventType). u .name) (sym q) ∙ sym (texts-equal n (x .name) .0 y)))
+    (λ y. let r = named-at n ts t (rw y at e) in (suc (r .0), r .1, r .2))
 
 -- each type of a table was read so
 type-at :
@@ -85,7 +81,7 @@ module _ (s : List ℕ) (n : Text) (ts : Table) (t : EventType) (e : tableOf s �
   type-rules =
       let a = named-at n ts t h in
       let r = type-at s ts e (a .0) t (a .1) in
-      (sym (texts-equal n (t .name) .0 (a .2)), suchThat-got typeRules readType (r .0) t (r .1) (r .2) .test)
+      (a .2, suchThat-got typeRules readType (r .0) t (r .1) (r .2) .test)
 
   pub properties-rules : (i : ℕ) (q : Property) → getElem? (t .properties) i ≡ some q → PropertyRules q
   properties-rules i q k =
@@ -103,7 +99,7 @@ table-refused s n r w h = go (tableOf s) w
   where
     go : (o : Option Table) → TableSays o s n r → o ≡ none
     go none k = refl
-    go (some ts) k = let y = k .0 in let z : _≡_ {A = ℕ} 0 1 = cc in absurd (omega arith)
+    go (some ts) k = never (cc (k .0))
 
 pub record TableGot (s : List ℕ) (n : Text) (r : TableRead) : Type 0 where
   pub what : Table
@@ -115,27 +111,24 @@ unfolding TableSays
 table-got s n r w h = go (tableOf s) refl w
   where
     go : (o : Option Table) → tableOf s ≡ o → TableSays o s n r → TableGot s n r
-    go none e k = let z : _≡_ {A = ℕ} 0 1 = cc in absurd (omega arith)
+    go none e k = never (cc)
     go (some ts) e k = record { what = ts; is = e; says = k .1 }
 
-module _ {s : List ℕ} {n : Text} {r : TableRead} (w : TableGot s n r) where
-  pub type-absent : r .found ≡ false → typeNamed n (w .what) ≡ none
-  unfolding TypeSays
-  type-absent h = go (typeNamed n (w .what)) (w .says)
-    where
-      go : (o : Option EventType) → TypeSays o s r → o ≡ none
-      go none k = refl
-      go (some t) k = let y = k .0 in let z : _≡_ {A = ℕ} 0 1 = cc in absurd (omega arith)
+-- the type that was asked for, where there is one
+pub type-absent : (o : Option EventType) (s : List ℕ) (r : TableRead) → TypeSays o s r → r .found ≡ false → o ≡ none
+unfolding TypeSays
+type-absent none s r w h = refl
+type-absent (some t) s r w h = never (cc (w .0))
 
-  pub record TypeFound : Type 0 where
-    pub what : EventType
-    pub is : typeNamed n (w .what) ≡ some what
-    pub index : TypeIs s what (r .index)
+pub record TypeFound (o : Option EventType) (s : List ℕ) (r : TableRead) : Type 0 where
+  pub what : EventType
+  pub is : o ≡ some what
+  pub stands : TypeIs s what (r .index)
 
-  pub type-found : r .found ≡ true → TypeFound
-  unfolding TypeSays
-  type-found h = go (typeNamed n (w .what)) refl (w .says)
-    where
-      go : (o : Option EventType) → typeNamed n (w .what) ≡ o → TypeSays o s r → TypeFound
-      go none e k = let z : _≡_ {A = ℕ} 0 1 = cc in absurd (omega arith)
-      go (some t) e k = record { what = t; is = e; index = k .1 }
+pub type-found : (o : Option EventType) (s : List ℕ) (r : TableRead) → TypeSays o s r → r .found ≡ true → TypeFound o s r
+unfolding TypeSays
+type-found none s r w h = never (cc)
+type-found (some t) s r w h = record { what = t; is = refl; stands = w .1 }
+
+pub found-few : (o : Option EventType) (s : List ℕ) (r : TableRead) → TypeSays o s r → r .found ≡ true → r .index .count ≤ 32
+found-few o s r w h = type-found o s r w h .stands .few

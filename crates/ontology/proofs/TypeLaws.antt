@@ -11,6 +11,7 @@ use lib.Seq.{getD-set-same, getD-set-other}
 use lib.Dec.{leb}
 use borrow.Author.Tests.{le-leb, leb-true}
 use Rattle.model.specs.Order.{Text}
+use Rattle.model.proofs.Cases.{and-parts}
 use Rattle.packed.specs.Parse.{Parse, fail, got, andThen, found, foundIf, suchThat, times}
 use Rattle.packed.specs.Packed.{readNumber, readText}
 use Rattle.packed.specs.Located.{part}
@@ -26,7 +27,7 @@ use Rattle.ontology.specs.declared.types.PropertiesRead.{PropertiesRead}
 use Rattle.ontology.specs.declared.types.TypeIndex.{TypeIndex}
 use Rattle.ontology.specs.declared.types.TypeRead.{TypeRead}
 use Rattle.ontology.specs.TypeIndex.{Got, PropertyIs, PropertyStops, PropertiesAre, PropertiesStop, PropertiesSay, propertyRules, typeOf, HeadStops, HeadReads, TypeIs, TypeReads}
-use Rattle.ontology.proofs.FieldLaws.{and-true, such-never, such-was, within-bounds, is-within}
+use Rattle.ontology.proofs.FieldLaws.{such-never, such-was, within-bounds, is-within}
 use Rattle.ontology.proofs.RunLaws.{prepend, prepend-nil, prepend-two, times-more, times-stop, times-end, times-length, snoc-at}
 
 -- what is known of a call's answer in the arm of a `match`
@@ -56,12 +57,12 @@ rules-hold t e =
     let r = namesRise (map (λ (p : Property). p .name) (t .properties)) in
     let f = allFit (isVersioned t) (t .properties) in
     let k = not (isVersioned t) || markFits (getElem? (t .properties) (t .mark - 1)) in
-    let a = and-true (n && d && l && m && r && f) k e in
-    let b = and-true (n && d && l && m && r) f (a .0) in
-    let c = and-true (n && d && l && m) r (b .0) in
-    let g = and-true (n && d && l) m (c .0) in
-    let h = and-true (n && d) l (g .0) in
-    let i = and-true n d (h .0) in
+    let a = and-parts (n && d && l && m && r && f) k e in
+    let b = and-parts (n && d && l && m && r) f (a .0) in
+    let c = and-parts (n && d && l && m) r (b .0) in
+    let g = and-parts (n && d && l) m (c .0) in
+    let h = and-parts (n && d) l (g .0) in
+    let i = and-parts n d (h .0) in
     record {
       name = i .0;
       definition = leb-true 1 (t .definition) (i .1);

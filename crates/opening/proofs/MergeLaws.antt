@@ -18,6 +18,7 @@ use Rattle.model.specs.Sets.{upFrom, upTo, canon, union, smallest}
 use Rattle.model.specs.Rule.{Choice, every, least, places, Snapshot, Dossier}
 use Rattle.model.specs.Opening.{column, lastOf, lowest, mergedSet, mergedAt, mergedSets, overfull}
 use Rattle.model.proofs.StepLaws.{smallest-snoc}
+use Rattle.model.proofs.Cases.{and-parts}
 use Rattle.values.specs.Spaces.{Kind, inSpace}
 use Rattle.values.specs.ValueOrder.{valueOrder}
 use Rattle.values.proofs.SpaceLaws.{chosen}
@@ -27,7 +28,7 @@ use Rattle.event.specs.EventLayout.{presenceBit, bitNumber}
 use Rattle.event.specs.EventQuestions.{areInSpace}
 use Rattle.event.specs.EventIndex.{SetIs, noSet}
 use Rattle.event.specs.declared.sets.SetAt.{SetAt}
-use Rattle.event.proofs.EventLayoutLaws.{and-parts, bits-small}
+use Rattle.event.proofs.EventLayoutLaws.{bits-small}
 use Rattle.unions.specs.Merging.{SetRuns}
 use Rattle.opening.specs.OpenIndex.{CellsStand, RuleOf, RuleIs, Lone, Chooses, Mergeable, CountsMerged}
 use Rattle.opening.specs.CellIndex.{countBit}

@@ -1,39 +1,34 @@
 -- The merged event of a dossier that is opened has room in an output of 32,768 bytes.
 use mathlib.Core.Path.{_≡_, _∙_, subst}
-use mathlib.Core.Bool.{Bool, true, false, not}
+use mathlib.Core.Bool.{Bool, true, false}
 use mathlib.Core.List.{List, [], _∷_, map, flatten, List·Memᴰ}
 use Prim.Native.Nat.{ℕ, _≤_}
 use native.Mathlib.Omega.{arith}
-use lib.ListN.{length, getD, length-append, length-map}
-use borrow.Author.Tests.{eqb-true}
+use lib.ListN.{length, length-append, length-map}
 use Rattle.model.specs.Order.{Text, texts}
 use Rattle.model.specs.Sets.{canon, smallest}
-use Rattle.model.specs.Rule.{Cell, Choice, every, least, places, Snapshot, objects}
+use Rattle.model.specs.Rule.{Choice, every, least, places, Snapshot}
 use Rattle.model.specs.Limits.{standard}
-use Rattle.model.specs.Opening.{held, isMark, cellAt, column, lastOf, mergedSet, mergedAt, mergedSets}
+use Rattle.model.specs.Opening.{held, cellAt, column, lastOf, mergedSet, mergedAt, mergedSets}
 use Rattle.model.proofs.SetLaws.{canon-of}
 use Rattle.model.proofs.ValidLaws.{take-of}
 use Rattle.model.proofs.PartLaws.{flatten-of, length-upTo}
 use Rattle.model.proofs.SizeLaws.{merged-objects}
 use Rattle.packed.proofs.LayoutLaws.{All, number-length-5}
-use Rattle.ontology.specs.Table.{Property, isVersioned}
 use Rattle.ontology.specs.declared.types.TypeIndex.{TypeIndex}
-use Rattle.ontology.proofs.TableLaws.{type-named}
 use Rattle.event.specs.Event.{objectCount, view}
 use Rattle.event.specs.EventLayout.{presenceBit, bitNumber, eventBytes}
-use Rattle.event.specs.EventQuestions.{isEmpty}
-use Rattle.event.proofs.EventLayoutLaws.{HeadWritten, and-parts, presence-below}
-use Rattle.event.proofs.EventSizeLaws.{ValuesShort, Beyond, fit-short, head-size, sets-size, each-within}
-use Rattle.event.proofs.EventQuestionLaws.{all-member, member-all, all-at, at-all, flat-objects}
+use Rattle.event.proofs.EventLayoutLaws.{HeadWritten, presence-below}
+use Rattle.event.proofs.EventSizeLaws.{ValuesShort, head-size, sets-size, each-within}
+use Rattle.event.proofs.EventQuestionLaws.{all-member, member-all, all-at, flat-objects}
 use Rattle.dossier.specs.DossierLayout.{Headed}
-use Rattle.dossier.specs.DossierQuestions.{eachCell, isVacant}
-use Rattle.dossier.specs.DossierIndex.{noSnapshot, cellFits}
 use Rattle.dossier.specs.declared.dossiers.DossierIndex.{DossierIndex}
 use Rattle.dossier.proofs.CellLaws.{held-at}
 use Rattle.dossier.proofs.DossierLayoutLaws.{SnapshotWritten, snapshot-cells}
+use Rattle.dossier.proofs.AcceptedLaws.{taken-written, taken-name, taken-objects, taken-short}
 use Rattle.opening.specs.OpenCall.{mergedEvent}
 use Rattle.opening.specs.OpenIndex.{Openable}
-use Rattle.opening.proofs.AcceptedLaws.{taken, kept, written, few-objects, fits-at, values-at}
+use Rattle.opening.proofs.AcceptedLaws.{taken}
 
 -- ---- the values of a merged set are values of its column
 
@@ -56,15 +51,6 @@ unfolding mergedSet smallest
 merged-short true c ss h = last-short ss h
 merged-short false every ss h = member-all (λ (w : Text). length w ≤ 120) (canon texts (flatten ss)) (λ v m. column-value ss h v (canon-of texts (flatten ss) v m))
 merged-short false (least O) ss h = member-all (λ (w : Text). length w ≤ 120) _ (λ v m. column-value ss h v (canon-of O (flatten ss) v (take-of (canon O (flatten ss)) v m)))
-
-cells-beyond : (f : Property → Cell → Bool) (ps : List Property) (cs : List Cell) → eachCell f isVacant ps cs ≡ true → Beyond ps (map held cs)
-unfolding eachCell isVacant
-cells-beyond f [] [] h = tt
-cells-beyond f [] (c ∷ cs) h =
-    let a = and-parts (isVacant c) (eachCell f isVacant [] cs) h in
-    (eqb-true (length (held c)) 0 (and-parts (not (isMark c)) (isEmpty (held c)) (a .0) .1), cells-beyond f [] cs (a .1))
-cells-beyond f (p ∷ ps) [] h = tt
-cells-beyond f (p ∷ ps) (c ∷ cs) h = cells-beyond f ps cs (and-parts (f p c) (eachCell f isVacant ps cs) h .1)
 
 column-short : (ss : List Snapshot) (p : ℕ) → All (λ (z : Snapshot). ValuesShort (map held (z .cells))) ss → All Short (column ss p)
 unfolding column cellAt
@@ -93,18 +79,13 @@ module _ (s : List ℕ) (d : DossierIndex) (t : TypeIndex) (o : Openable s d t) 
   abbrev sets : List (List Text)
   sets = mergedSets (view (o .type)) (o .headed .dossier)
 
-  snapshots-short : All (λ (z : Snapshot). ValuesShort (map held (z .cells))) snapshots
-  snapshots-short = at-all (λ (z : Snapshot). ValuesShort (map held (z .cells))) noSnapshot snapshots (λ j l.
-      let z = getD snapshots j noSnapshot in
-      fit-short (o .type) (map held (z .cells)) (cells-beyond (cellFits (isVersioned (o .type))) (o .type .properties) (z .cells) (fits-at s d t o j l)) (values-at s d t o j l))
-
   sets-short : ValuesShort sets
   unfolding mergedSets mergedAt
   sets-short = go (places (view (o .type)))
     where
       go : (ps : List ℕ) → ValuesShort (map (mergedAt (view (o .type)) (o .headed .dossier)) ps)
       go [] = tt
-      go (p ∷ ps) = (merged-short (view (o .type) .replaces p) (view (o .type) .choice p) (column snapshots p) (column-short snapshots p snapshots-short), go ps)
+      go (p ∷ ps) = (merged-short (view (o .type) .replaces p) (view (o .type) .choice p) (column snapshots p) (column-short snapshots p (taken-short (taken s d t o))), go ps)
 
   sets-long : length sets ≡ 32
   unfolding mergedSets places view
@@ -116,13 +97,10 @@ module _ (s : List ℕ) (d : DossierIndex) (t : TypeIndex) (o : Openable s d t) 
       omega (
         arith,
         flat-objects sets,
-        merged-objects (view (o .type)) (o .headed .dossier) (λ z i. snapshot-cells z (all-member SnapshotWritten snapshots (written s d t o .snapshots) z i)),
-        few-objects s d t o,
+        merged-objects (view (o .type)) (o .headed .dossier) (λ z i. snapshot-cells z (all-member SnapshotWritten snapshots (taken-written (taken s d t o) .snapshots) z i)),
+        taken-objects (taken s d t o),
       )
-
-  name-short : length (o .headed .type) ≤ 64
-  name-short = subst (λ (v : Text). length v ≤ 64) (type-named (o .headed .type) (o .types) (o .type) (taken s d t o .typed) .0) (kept s d t o .short)
 
   pub merged-size : length (eventBytes (mergedEvent (o .headed) sets)) ≤ 32768
   unfolding standard
-  merged-size = event-short (o .headed) sets (written s d t o .head) name-short sets-long sets-few sets-short
+  merged-size = event-short (o .headed) sets (taken-written (taken s d t o) .head) (taken-name (taken s d t o) (o .table) (o .read)) sets-long sets-few sets-short

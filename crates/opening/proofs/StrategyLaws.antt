@@ -1,18 +1,18 @@
 -- How the sets of a property are merged, by its numbers.
 use mathlib.Core.Path.{_≡_, refl, sym, ap, _∙_, subst}
-use mathlib.Core.Bool.{Bool, true, false, not, _||_}
-use mathlib.Core.Option.{Option, none, some}
+use mathlib.Core.Bool.{false, not, _||_}
+use mathlib.Core.Option.{Option}
 use mathlib.Core.List.{List}
 use Prim.Native.Nat.{ℕ, _≤_, _<_}
 use native.Mathlib.Omega.{arith}
 use lib.Dec.{leb, eqb}
-use lib.ListN.{length, getD, getElem?}
+use lib.ListN.{getD, getElem?}
 use Rattle.ontology.specs.Table.{Strategy, min, max, add, replace, match, set, any, strategyNumber, Property, EventType}
 use Rattle.ontology.specs.TypeIndex.{PropertyIs, TypeIs}
 use Rattle.ontology.specs.declared.properties.PropertyAt.{PropertyAt}
 use Rattle.ontology.specs.declared.types.TypeIndex.{TypeIndex}
 use Rattle.dossier.proofs.CellLaws.{Elem, elem, elem-none}
-use Rattle.opening.specs.OpenIndex.{RuleOf, NoRule, RuleIs}
+use Rattle.opening.specs.OpenIndex.{RuleOf, RuleIs}
 use Rattle.opening.specs.declared.strategies.PlaceRule.{PlaceRule}
 
 extreme-is : (st : Strategy) → leb (strategyNumber st) 2 ≡ (eqb (strategyNumber st) 1 || eqb (strategyNumber st) 2)

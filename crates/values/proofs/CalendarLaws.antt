@@ -10,10 +10,11 @@ use lib.ListN.{length, getD, take, drop, drop-of-length-le, take-append-drop}
 use lib.Seq.{take-add, drop-drop}
 use borrow.Author.Tests.{eqb-true, eqb-false}
 use Rattle.model.specs.Order.{texts, lists, numbers, lex, equal, three, nat-turn}
+use Rattle.model.proofs.OrderLaws.{eq-compare}
+use Rattle.packed.proofs.ReadLaws.{drop-next}
 use Rattle.values.specs.Decimal.{isDigit, areDigits, numeralAfter, numeral}
 use Rattle.values.specs.Calendar.{hasForm, field}
-use Rattle.values.proofs.NumberStepLaws.{drop-next}
-use Rattle.values.proofs.NumeralLaws.{and-left, and-right, eq-compare, digits-order}
+use Rattle.values.proofs.NumeralLaws.{and-left, and-right, digits-order}
 
 -- ---- fields
 

@@ -10,11 +10,12 @@ use lib.Dec.{ltb, leb}
 use lib.ListN.{length, take, drop, drop-of-length-le}
 use borrow.Author.Tests.{ltb-true, leb-true}
 use Rattle.model.specs.Order.{Text, integers, integerCmp, ranked, rankCmp}
+use Rattle.model.proofs.OrderLaws.{lt-compare, gt-compare, eq-compare}
 use Rattle.packed.specs.Ascii.{ascii}
 use Rattle.values.specs.Calendar.{hasForm, wholeSecond, withFraction, field, year, month, day, hour, minute, second, microsecond, daysIn, isMoment, isDatetime, dayNumber, instant}
 use Rattle.values.specs.Spaces.{datetime}
 use Rattle.values.specs.ValueOrder.{valueNumber, valueOrder}
-use Rattle.values.proofs.NumeralLaws.{and-left, and-right, lt-compare, gt-compare, eq-compare, numeral-below}
+use Rattle.values.proofs.NumeralLaws.{and-left, and-right, numeral-below}
 use Rattle.values.proofs.CalendarLaws.{form-length, form-part, field-none, zeros-digits, same-mark, same-field}
 use Rattle.values.proofs.MomentLaws.{Day, dateOf, Along, days-along, along-more, ordered, days-in-most}
 

@@ -9,8 +9,8 @@ use native.Mathlib.Nat.{add-zero, add-suc, suc-mul, mul-le-mul-right}
 use native.Mathlib.Numerals.{sub-one}
 use lib.Dec.{ltb, eqb}
 use borrow.Author.Tests.{ltb-true, eqb-true, eqb-false, ltb-false}
+use Rattle.packed.proofs.LayoutLaws.{lt-or-ge}
 use Rattle.values.specs.Calendar.{isLeap, daysIn, daysOfYears, daysOfMonths}
-use Rattle.values.proofs.NumeralLaws.{lt-or-ge}
 
 -- ---- years and months
 

@@ -2,7 +2,7 @@
 -- Assumes nothing.
 use mathlib.Core.Path.{_≡_, refl, sym, ap, ap₂, _∙_}
 use mathlib.Core.Logic.{⊎-elim}
-use mathlib.Core.Bool.{Bool, true, false, cond, not, _&&_, _||_}
+use mathlib.Core.Bool.{Bool, true, false, cond, _&&_, _||_}
 use mathlib.Core.List.{[], _∷_, _++_}
 use Prim.Native.Nat.{ℕ, zero, suc, _+_, _-_, _*_, _^_, _≤_, _<_, compare, Ordering, Ordering·lt, Ordering·eq, Ordering·gt, compare·suc-suc}
 use native.Mathlib.Omega.{arith}
@@ -10,11 +10,13 @@ use lib.Dec.{ltb, leb, eqb}
 use lib.ListN.{length, drop, take-append-drop, length-append}
 use borrow.Author.Tests.{lt-ltb, le-ltb, ne-eqb, ltb-true, eqb-true}
 use Rattle.model.specs.Order.{Text, texts, numbers, lists, lex, pick, three, nat-same, ranked, rankCmp, from, integers, integerCmp}
+use Rattle.model.proofs.OrderLaws.{lt-compare, gt-compare, eq-compare, compare-lt, compare-gt}
+use Rattle.packed.proofs.LayoutLaws.{lt-or-ge}
 use Rattle.values.specs.Decimal.{areDigits, numeralAfter, numeral, isNatural, inDecimal, isNegative, magnitude}
 use Rattle.values.specs.Spaces.{Kind, unsigned, signed, decimal, currency, sequence, datetime, boolean, string, hex, isUnsigned, isSigned, wholePart, pointPart, isFraction, unscaled, isDecimal, isOfKind}
 use Rattle.values.specs.ValueOrder.{minus, withSign, valueNumber, valueOrder}
 use Rattle.values.specs.NumberAnswer.{isNumber, sizeOrder, isMagnitude, hasNonzero}
-use Rattle.values.proofs.NumeralLaws.{lt-or-ge, lt-compare, gt-compare, eq-compare, compare-lt, compare-gt, and-left, and-right, digit-least, digits-head, digits-append, natural-digits, natural-nonempty, natural-first, digits-order, longer-larger, natural-order, size-same, natural-in-decimal, numeral-in-decimal, in-decimal-numeral}
+use Rattle.values.proofs.NumeralLaws.{and-left, and-right, digit-least, digits-head, digits-append, natural-digits, natural-nonempty, natural-first, digits-order, longer-larger, natural-order, size-same, natural-in-decimal, numeral-in-decimal, in-decimal-numeral}
 
 -- ---- by length, and then by bytes
 

@@ -5,19 +5,17 @@ use mathlib.Core.Bool.{Bool, true, false, _&&_, _||_}
 use mathlib.Core.List.{List, [], _∷_}
 use Prim.Native.Nat.{ℕ, suc, _+_, _-_, _*_, _^_, _≤_, _<_}
 use native.Mathlib.Omega.{arith}
-use native.Mathlib.Numerals.{add-one}
 use lib.Dec.{ltb, leb, eqb, leb·suc-suc}
 use lib.ListN.{length, getD, take, drop, drop-of-length-le, length-drop}
-use lib.Seq.{drop-cons, take-all, length-take-le}
+use lib.Seq.{take-all, length-take-le}
 use borrow.Author.Tests.{lt-ltb, le-ltb, le-leb, lt-leb, eq-eqb, ne-eqb, leb-true, eqb-true}
+use Rattle.model.proofs.Cases.{and-false, and-true}
+use Rattle.packed.proofs.ReadLaws.{drop-next}
 use Rattle.values.specs.Decimal.{isDigit, areDigits, numeral, isNatural, isNegative, magnitude}
 use Rattle.values.specs.Spaces.{isWidth, isSigned, wholePart, pointPart, isFraction, unscaled, isDecimal}
 use Rattle.values.specs.NumberAnswer.{isMagnitude, hasNonzero}
 use Rattle.values.proofs.NumeralLaws.{digit-least, digits-head, natural-digits, natural-first, natural-nonempty}
 use Rattle.values.proofs.NumberOrderLaws.{negative-cons, positive-magnitude, numeral-nonzero, fixed, fixed-nonzero}
-
-pub drop-next : (s : List ℕ) (i : ℕ) → i < length s → drop i s ≡ getD s i 0 ∷ drop (i + 1) s
-drop-next s i h = drop-cons s i 0 h ∙ rw add-one
 
 -- the rest of a slice as a part
 pub the-rest : (a : ℕ) (s : List ℕ) → take (length s - a) (drop a s) ≡ drop a s
@@ -143,14 +141,6 @@ unfolding isSigned
 signed-positive width v e = rw (e, positive-magnitude v e)
 
 -- ---- decimals
-
-pub and-true : (t : Bool) → t && true ≡ t
-and-true true = refl
-and-true false = refl
-
-pub and-false : (t : Bool) → t && false ≡ false
-and-false true = refl
-and-false false = refl
 
 minus-nonzero : (v : List ℕ) → isNegative v ≡ true → hasNonzero v ≡ hasNonzero (magnitude v)
 unfolding hasNonzero

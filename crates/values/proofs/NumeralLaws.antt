@@ -1,59 +1,30 @@
 -- The laws of decimal numerals: their order is that of length and then bytes, and a number below 2^64 and its numeral determine each other.
 -- Assumes nothing.
 use mathlib.Core.Path.{_≡_, refl, sym, ap, _∙_}
-use mathlib.Core.Logic.{_⊎_, inl, inr, ⊎-elim}
-use mathlib.Core.Bool.{Bool, true, false, not, _&&_}
+use mathlib.Core.Logic.{⊎-elim}
+use mathlib.Core.Bool.{Bool, true, not, _&&_}
 use mathlib.Core.List.{[], _∷_, _++_}
 use Prim.Native.Nat.{ℕ, zero, suc, _+_, _-_, _*_, _/_, _%_, _^_, _≤_, _<_, compare, Ordering·lt, Ordering·eq, Ordering·gt}
 use native.Mathlib.Nat.{pow-suc, pow-zero, div-lt-iff-lt-mul, mul-le-mul-right}
 use native.Mathlib.Omega.{arith}
 use native.Mathlib.Numerals.{sub-one}
-use lib.Dec.{ltb, leb, eqb, isLe}
+use lib.Dec.{leb, eqb}
 use lib.ListN.{length}
-use borrow.Author.Tests.{lt-ltb, le-ltb, le-leb, eq-eqb, ne-eqb, ltb-true, ltb-false, leb-true, leb-false}
-use Rattle.model.specs.Order.{Text, texts, numbers, lists, lex, pick, three, flip, nat-self, nat-same, nat-turn, ranked, rankCmp, rank-same}
+use borrow.Author.Tests.{lt-ltb, le-ltb, le-leb, eq-eqb, ne-eqb, leb-true}
+use Rattle.model.specs.Order.{Text, texts, numbers, lists, lex, pick, three, nat-same, ranked, rankCmp, rank-same}
+use Rattle.model.proofs.Cases.{and-parts}
+use Rattle.model.proofs.OrderLaws.{lt-compare, gt-compare, eq-compare, compare-lt, compare-gt}
+use Rattle.packed.proofs.LayoutLaws.{lt-or-ge}
 use Rattle.values.specs.Decimal.{isDigit, areDigits, numeralAfter, numeral, isNatural, digitsBefore, inDecimal}
 use Rattle.values.specs.NumberAnswer.{sizeOrder}
-
--- ---- comparisons of numbers
-
--- two numbers are in one order or the other
-pub lt-or-ge : (a b : ℕ) → (a < b) ⊎ (b ≤ a)
-lt-or-ge a b = go (ltb a b) refl
-  where
-    go : (t : Bool) → ltb a b ≡ t → (a < b) ⊎ (b ≤ a)
-    go true e = inl (ltb-true a b e)
-    go false e = inr (ltb-false a b e)
-
-pub lt-compare : (a b : ℕ) → a < b → compare a b ≡ Ordering·lt
-lt-compare a b h = three (compare a b)
-    (λ l. l)
-    (λ s. let e : a ≡ b = nat-same a b s in absurd (omega arith))
-    (λ g. let t : leb a b ≡ false = ap isLe g in let k : b < a = leb-false a b t in absurd (omega arith))
-
-pub gt-compare : (a b : ℕ) → b < a → compare a b ≡ Ordering·gt
-gt-compare a b h = nat-turn b a ∙ ap flip (lt-compare b a h)
-
-pub eq-compare : (a b : ℕ) → a ≡ b → compare a b ≡ Ordering·eq
-eq-compare a b h = ap (compare a) (sym h) ∙ nat-self a
-
-pub compare-lt : (a b : ℕ) → compare a b ≡ Ordering·lt → a < b
-compare-lt a b e = ⊎-elim (λ (h : a < b). h)
-    (λ (h : b ≤ a). let t : leb b a ≡ true = le-leb b a h in let f : leb b a ≡ false = ap isLe (nat-turn a b ∙ ap flip e) in let z : _≡_ {A = ℕ} 0 1 = cc in absurd (omega arith))
-    (lt-or-ge a b)
-
-pub compare-gt : (a b : ℕ) → compare a b ≡ Ordering·gt → b < a
-compare-gt a b e = compare-lt b a (nat-turn a b ∙ ap flip e)
 
 -- ---- tests
 
 pub and-left : (p q : Bool) → p && q ≡ true → p ≡ true
-and-left true q e = refl
-and-left false q e = e
+and-left p q e = and-parts p q e .0
 
 pub and-right : (p q : Bool) → p && q ≡ true → q ≡ true
-and-right true q e = e
-and-right false q e = cc
+and-right p q e = and-parts p q e .1
 
 pub digit-least : (b : ℕ) → isDigit b ≡ true → 48 ≤ b
 unfolding isDigit

@@ -13,13 +13,14 @@ use borrow.Author.Tests.{le-leb, lt-leb, ne-eqb}
 use Rattle.model.specs.Order.{Text, Order, pick, reversed}
 use Rattle.model.specs.Keyed.{put, merge}
 use Rattle.model.specs.Sets.{union}
+use Rattle.packed.proofs.LayoutLaws.{lt-or-ge}
+use Rattle.packed.proofs.ReadLaws.{drop-next}
 use Rattle.values.specs.Calendar.{instant}
 use Rattle.values.specs.Spaces.{Kind, unsigned, signed, decimal, currency, sequence, datetime, boolean, string, hex, kindNumber, isKind, isHexDigit, areHexDigits, isOfKind, inSpace}
 use Rattle.values.specs.ValueOrder.{valueNumber}
 use Rattle.values.specs.KindNumbers.{kindOf, firstParameter, secondParameter, thirdParameter}
-use Rattle.values.proofs.NumeralLaws.{and-right, lt-or-ge}
+use Rattle.values.proofs.NumeralLaws.{and-right}
 use Rattle.values.proofs.NumberOrderLaws.{equal-number-equal-bytes}
-use Rattle.values.proofs.NumberStepLaws.{drop-next}
 use Rattle.values.proofs.InstantLaws.{equal-instant-equal-bytes}
 
 pub hex-step : (v : List ℕ) (i : ℕ) → i < length v → areHexDigits (drop i v) ≡ (isHexDigit (getD v i 0) && areHexDigits (drop (i + 1) v))

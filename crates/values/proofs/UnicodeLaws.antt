@@ -11,8 +11,8 @@ use lib.Dec.{ltb, leb}
 use lib.ListN.{length, getD, drop, drop-of-length-le}
 use borrow.Author.Tests.{lt-ltb, le-ltb, le-leb, lt-leb}
 use Rattle.packed.specs.Parse.{fail, got}
+use Rattle.packed.proofs.ReadLaws.{drop-next}
 use Rattle.values.specs.Unicode.{isScalar, readContinued, readSequence, readScalar, afterScalar, areScalars}
-use Rattle.values.proofs.NumberStepLaws.{drop-next}
 
 -- the numbers that leave room for so many times six bits more below 2^23
 abbrev pub cap : ℕ → ℕ

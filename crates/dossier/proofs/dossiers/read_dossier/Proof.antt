@@ -83,7 +83,7 @@ returns-4 c =
 read-snapshots-requires : tie.Need-read-snapshots-requires
 read-snapshots-requires c κs =
     let n = number-stops _ _ _ _ (sym (c .before .before .before .before .before .read-number .ensures) ∙ c .before .before .before .number .given .1) in
-    (n .within, c .if2 .left)
+    (n .within, omega (arith, c .before .if1 .left), c .if2 .left)
 
 -- src/dossiers.rt:125:9
 no-dossier-requires-5 : tie.Need-no-dossier-requires-5
@@ -109,7 +109,7 @@ returns-6 c =
 
 -- src/dossiers.rt:133:9
 versions-rise-requires : tie.Need-versions-rise-requires
-versions-rise-requires c κs = c .before .before .before .before .before .before .before .before .if2 .left
+versions-rise-requires c κs = c .before .before .before .before .before .before .before .before .before .before .if2 .left
 
 -- src/dossiers.rt:134:9
 no-dossier-requires-7 : tie.Need-no-dossier-requires-7
@@ -118,16 +118,16 @@ no-dossier-requires-7 c κs = search needs
 -- src/dossiers.rt:134:9
 returns-7 : tie.Need-returns-7
 returns-7 c =
-    let h = head-reads (c .before .before .before .before .before .before .before .before .before .before .before .before .before .before .before .before .before .before .before .head .given .1) (c .before .before .before .before .before .before .before .before .before .before .before .before .before .before .before .before .before .before .before .before .before .read-head .ensures) in
-    let n = number-stops _ _ _ _ (sym (c .before .before .before .before .before .before .before .before .before .before .before .before .before .before .before .before .read-number .ensures) ∙ c .before .before .before .before .before .before .before .before .before .before .before .before .before .before .number .given .1) in
-    dossier-none _ _ _ (not-rising _ _ h _ _ n (c .before .before .before .before .before .before .before .before .before .before .before .before .if1 .left) (c .before .before .before .before .before .before .before .before .before .before .before .if2 .left) _ (c .before .before .before .before .before .before .before .before .before .before .read-snapshots .ensures) (not-false _ (c .before .before .before .before .before .before .before .before .if3 .left)) (sym (not-true _ (c .before .if5 .taken)) ∙ c .before .before .versions-rise .ensures)) (c .no-dossier7 .ensures)
+    let h = head-reads (c .before .before .before .before .before .before .before .before .before .before .before .before .before .before .before .before .before .before .before .before .before .head .given .1) (c .before .before .before .before .before .before .before .before .before .before .before .before .before .before .before .before .before .before .before .before .before .before .before .read-head .ensures) in
+    let n = number-stops _ _ _ _ (sym (c .before .before .before .before .before .before .before .before .before .before .before .before .before .before .before .before .before .before .read-number .ensures) ∙ c .before .before .before .before .before .before .before .before .before .before .before .before .before .before .before .before .number .given .1) in
+    dossier-none _ _ _ (not-rising _ _ h _ _ n (c .before .before .before .before .before .before .before .before .before .before .before .before .before .before .if1 .left) (c .before .before .before .before .before .before .before .before .before .before .before .before .before .if2 .left) _ (c .before .before .before .before .before .before .before .before .before .before .before .before .read-snapshots .ensures) (not-false _ (c .before .before .before .before .before .before .before .before .before .before .if3 .left)) (sym (not-true _ (c .before .if5 .taken)) ∙ c .before .before .versions-rise .ensures)) (c .no-dossier7 .ensures)
 
 -- src/dossiers.rt:106:1
 returns-8 : tie.Need-returns-8
 returns-8 c =
-    let h = head-reads (c .before .before .before .before .before .before .before .before .before .before .before .before .before .before .before .before .before .before .head .given .1) (c .before .before .before .before .before .before .before .before .before .before .before .before .before .before .before .before .before .before .before .before .read-head .ensures) in
-    let n = number-stops _ _ _ _ (sym (c .before .before .before .before .before .before .before .before .before .before .before .before .before .before .before .read-number .ensures) ∙ c .before .before .before .before .before .before .before .before .before .before .before .before .before .number .given .1) in
-    dossier-found _ _ h _ _ n (c .before .before .before .before .before .before .before .before .before .before .before .if1 .left) (c .before .before .before .before .before .before .before .before .before .before .if2 .left) _ (c .before .before .before .before .before .before .before .before .before .read-snapshots .ensures) (not-false _ (c .before .before .before .before .before .before .before .if3 .left)) (sym (not-false _ (c .if5 .left)) ∙ c .before .versions-rise .ensures) (c .before .before .before .before .before .if4 .left)
+    let h = head-reads (c .before .before .before .before .before .before .before .before .before .before .before .before .before .before .before .before .before .before .before .before .head .given .1) (c .before .before .before .before .before .before .before .before .before .before .before .before .before .before .before .before .before .before .before .before .before .before .read-head .ensures) in
+    let n = number-stops _ _ _ _ (sym (c .before .before .before .before .before .before .before .before .before .before .before .before .before .before .before .before .before .read-number .ensures) ∙ c .before .before .before .before .before .before .before .before .before .before .before .before .before .before .before .number .given .1) in
+    dossier-found _ _ h _ _ n (c .before .before .before .before .before .before .before .before .before .before .before .before .before .if1 .left) (c .before .before .before .before .before .before .before .before .before .before .before .before .if2 .left) _ (c .before .before .before .before .before .before .before .before .before .before .before .read-snapshots .ensures) (not-false _ (c .before .before .before .before .before .before .before .before .before .if3 .left)) (sym (not-false _ (c .if5 .left)) ∙ c .before .versions-rise .ensures) (c .before .before .before .before .before .before .before .if4 .left)
 
 pub read-dossier-spec : {M : Type 1} → statement M
 read-dossier-spec =

@@ -1,69 +1,23 @@
 use borrow.Author.Needs.{needs}
-use borrow.Author.Tests.{not-true, not-false}
-use Rattle.dossier.specs.DossierQuestions.{snapshotValues}
-use Rattle.dossier.specs.DossierIndex.{snapshotFits}
-use Rattle.dossier.proofs.AskLaws.{reads-got, number-shape, number-match, number-all, number-values}
+use Rattle.dossier.proofs.AskLaws.{reads-got}
 use Rattle.dossier.proofs.questions.ask_snapshot.Statement.{statement}
 use Rattle.dossier.proofs.questions.ask_snapshot.Tie as tie
 use Rattle.dossier.proofs.questions.ask_snapshot.Reads as reads
 use Rattle.dossier.proofs.questions.ask_snapshot.Lts as lts
-use Rattle.dossier.proofs.shape.is_match_same.Reads as is-match-same-reads
-use Rattle.dossier.proofs.shape.snapshot_fits.Reads as snapshot-fits-reads
+use Rattle.dossier.proofs.questions.ask_read.Reads as ask-read-reads
 use Rattle.dossier.proofs.snapshots.read_snapshot.Reads as read-snapshot-reads
-use Rattle.dossier.proofs.spaces.sets_in_space.Reads as sets-in-space-reads
 
--- src/questions.rt:29:9
+-- src/questions.rt:51:9
 read-snapshot-requires : tie.Need-read-snapshot-requires
 read-snapshot-requires c κs = search needs
 
--- src/questions.rt:30:9
-snapshot-fits-requires : tie.Need-snapshot-fits-requires
-snapshot-fits-requires c κs = c .before .before .before .pre
+-- src/questions.rt:52:5
+ask-read-requires : tie.Need-ask-read-requires
+ask-read-requires c κs = search needs
 
--- src/questions.rt:31:9
+-- src/questions.rt:47:1
 returns : tie.Need-returns
-returns c = λ u v ty xs y w g x e. number-shape _ _ _ (c .before .snapshot-fits .ensures u ty y w (reads-got _ _ _ y v (c .before .before .read-snapshot .ensures) e)) (not-true _ (c .if1 .taken))
-
--- src/questions.rt:34:9
-is-match-same-requires : tie.Need-is-match-same-requires
-is-match-same-requires c κs = c .before .before .before .before .before .before .pre
-
--- src/questions.rt:35:9
-returns-2 : tie.Need-returns-2
-returns-2 c =
-    λ u v ty xs y w g x e.
-    let i = reads-got _ _ _ y v (c .before .before .before .before .before .read-snapshot .ensures) e in
-    number-match (snapshotFits ty y) _ (snapshotValues ty y) (c .before .is-match-same .ensures u ty xs _ w x (i .sets)) (not-true _ (c .if2 .taken))
-
--- src/questions.rt:37:8
-sets-in-space-requires : tie.Need-sets-in-space-requires
-sets-in-space-requires c κs = c .before .before .before .before .before .before .before .before .pre
-
--- src/questions.rt:25:1
-returns-3 : tie.Need-returns-3
-unfolding snapshotValues
-returns-3 c =
-    λ u v ty xs y w g x e.
-    let i = reads-got _ _ _ y v (c .before .before .before .before .before .before .before .read-snapshot .ensures) e in
-    number-all _ _ _ (c .before .before .before .before .before .before .snapshot-fits .ensures u ty y w i) (not-false _ (c .before .before .before .before .before .if1 .left)) (c .before .before .before .is-match-same .ensures u ty xs _ w x (i .sets)) (not-false _ (c .before .before .if2 .left)) (c .before .sets-in-space .ensures u ty _ w g (i .sets)) (c .if3 .taken)
-
--- src/questions.rt:25:1
-returns-4 : tie.Need-returns-4
-unfolding snapshotValues
-returns-4 c =
-    λ u v ty xs y w g x e.
-    let i = reads-got _ _ _ y v (c .before .before .before .before .before .before .before .read-snapshot .ensures) e in
-    number-values _ _ _ (c .before .before .before .before .before .before .snapshot-fits .ensures u ty y w i) (not-false _ (c .before .before .before .before .before .if1 .left)) (c .before .before .before .is-match-same .ensures u ty xs _ w x (i .sets)) (not-false _ (c .before .before .if2 .left)) (c .before .sets-in-space .ensures u ty _ w g (i .sets)) (c .if3 .left)
+returns c = λ u v ty xs y w g x e. c .ask-read .ensures u ty xs y w g x (reads-got _ _ _ y v (c .before .read-snapshot .ensures) e)
 
 pub ask-snapshot-spec : {M : Type 1} → statement M
-ask-snapshot-spec =
-    tie.close
-    (tie.spec
-    read-snapshot-requires
-    snapshot-fits-requires
-    returns
-    is-match-same-requires
-    returns-2
-    sets-in-space-requires
-    returns-3
-    returns-4)
+ask-snapshot-spec = tie.close (tie.spec read-snapshot-requires ask-read-requires returns)

@@ -2,14 +2,14 @@ use borrow.Author.Needs.{needs}
 use mathlib.Core.Path.{ap₂, _∙_}
 use borrow.Author.Tests.{not-true, not-false}
 use Rattle.model.specs.Order.{texts, equal}
-use Rattle.dossier.proofs.AskLaws.{in-count, start-within, start-reads}
+use Rattle.dossier.proofs.AskLaws.{in-count, start-within, first-stands}
 use Rattle.dossier.proofs.AnswerLaws.{agree-type, agree-source, agree-match}
 use Rattle.dossier.proofs.questions.dossiers_agree.Statement.{statement}
 use Rattle.dossier.proofs.questions.dossiers_agree.Tie as tie
 use Rattle.dossier.proofs.questions.dossiers_agree.Reads as reads
 use Rattle.dossier.proofs.questions.dossiers_agree.Lts as lts
 use Rattle.dossier.proofs.parts.text_part.Reads as text-part-reads
-use Rattle.dossier.proofs.questions.is_first_same.Reads as is-first-same-reads
+use Rattle.dossier.proofs.shape.is_match_same.Reads as is-match-same-reads
 use Rattle.packed.proofs.order.same.Reads as same-reads
 
 -- src/questions.rt:150:14
@@ -53,42 +53,42 @@ element-copy-out-right : tie.Need-element-copy-out-right
 element-copy-out-right c = search needs
 
 -- src/questions.rt:158:19
-sub-is-first-same : tie.Need-sub-is-first-same
-sub-is-first-same c = let p = c .before .before .before .before .before .before .before .before .before .before .before .before .before .before .pre .1 in start-within _ (p .what) _ (p .is) 0 (p .is .one)
+sub-is-match-same : tie.Need-sub-is-match-same
+sub-is-match-same c = let p = c .before .before .before .before .before .before .before .before .before .before .before .before .before .before .before .before .before .before .pre .1 in start-within _ (p .what) _ (p .is) 0 (p .is .one)
 
 -- src/questions.rt:158:19
-part-is-first-same-start : tie.Need-part-is-first-same-start
-part-is-first-same-start c = let p = c .before .before .before .before .before .before .before .before .before .before .before .before .before .before .pre .1 in start-within _ (p .what) _ (p .is) 0 (p .is .one)
+part-is-match-same-start : tie.Need-part-is-match-same-start
+part-is-match-same-start c = let p = c .before .before .before .before .before .before .before .before .before .before .before .before .before .before .before .before .before .before .pre .1 in start-within _ (p .what) _ (p .is) 0 (p .is .one)
 
 -- src/questions.rt:158:19
-part-is-first-same-end : tie.Need-part-is-first-same-end
-part-is-first-same-end c = search needs
+part-is-match-same-end : tie.Need-part-is-match-same-end
+part-is-match-same-end c = search needs
 
 -- src/questions.rt:158:31
-sub-is-first-same-2 : tie.Need-sub-is-first-same-2
-sub-is-first-same-2 c = let p = c .before .before .before .before .before .before .before .before .before .before .before .before .before .before .before .pre .2 in start-within _ (p .what) _ (p .is) 0 (p .is .one)
+sub-is-match-same-2 : tie.Need-sub-is-match-same-2
+sub-is-match-same-2 c = let p = c .before .before .before .before .before .before .before .before .before .before .before .before .before .before .before .before .before .before .before .pre .2 in start-within _ (p .what) _ (p .is) 0 (p .is .one)
 
 -- src/questions.rt:158:31
-part-is-first-same-start-2 : tie.Need-part-is-first-same-start-2
-part-is-first-same-start-2 c = let p = c .before .before .before .before .before .before .before .before .before .before .before .before .before .before .before .pre .2 in start-within _ (p .what) _ (p .is) 0 (p .is .one)
+part-is-match-same-start-2 : tie.Need-part-is-match-same-start-2
+part-is-match-same-start-2 c = let p = c .before .before .before .before .before .before .before .before .before .before .before .before .before .before .before .before .before .before .before .pre .2 in start-within _ (p .what) _ (p .is) 0 (p .is .one)
 
 -- src/questions.rt:158:31
-part-is-first-same-end-2 : tie.Need-part-is-first-same-end-2
-part-is-first-same-end-2 c = search needs
+part-is-match-same-end-2 : tie.Need-part-is-match-same-end-2
+part-is-match-same-end-2 c = search needs
 
 -- src/questions.rt:158:5
-is-first-same-requires : tie.Need-is-first-same-requires
-is-first-same-requires c κs = c .before .before .before .before .before .before .before .before .before .before .before .before .before .before .before .before .pre .0
+is-match-same-requires : tie.Need-is-match-same-requires
+is-match-same-requires c κs = c .before .before .before .before .before .before .before .before .before .before .before .before .before .before .before .before .before .before .before .before .pre .0
 
 -- src/questions.rt:144:1
 returns-3 : tie.Need-returns-3
 returns-3 c =
     λ u ty tz h g w x y e.
     agree-match ty tz h g
-    (c .before .before .before .before .before .before .before .before .before .before .same .ensures ∙ ap₂ (equal texts) (c .before .before .before .before .before .before .before .before .before .before .before .before .text-part .ensures (h .type) (x .head .name)) (c .before .before .before .before .before .before .before .before .before .before .before .text-part2 .ensures (g .type) (y .head .name))) (not-false _ (c .before .before .before .before .before .before .before .before .before .if1 .left))
-    (c .before .before .before .before .before .before .same2 .ensures ∙ ap₂ (equal texts) (c .before .before .before .before .before .before .before .before .text-part3 .ensures (h .source) (x .head .uri)) (c .before .before .before .before .before .before .before .text-part4 .ensures (g .source) (y .head .uri))) (not-false _ (c .before .before .before .before .before .if2 .left))
+    (c .before .before .before .before .before .before .before .before .before .before .before .before .before .before .same .ensures ∙ ap₂ (equal texts) (c .before .before .before .before .before .before .before .before .before .before .before .before .before .before .before .before .text-part .ensures (h .type) (x .head .name)) (c .before .before .before .before .before .before .before .before .before .before .before .before .before .before .before .text-part2 .ensures (g .type) (y .head .name))) (not-false _ (c .before .before .before .before .before .before .before .before .before .before .before .before .before .if1 .left))
+    (c .before .before .before .before .before .before .before .before .before .before .same2 .ensures ∙ ap₂ (equal texts) (c .before .before .before .before .before .before .before .before .before .before .before .before .text-part3 .ensures (h .source) (x .head .uri)) (c .before .before .before .before .before .before .before .before .before .before .before .text-part4 .ensures (g .source) (y .head .uri))) (not-false _ (c .before .before .before .before .before .before .before .before .before .if2 .left))
     (in-count _ h _ x 0 (x .one)) (in-count _ g _ y 0 (y .one)) e
-    (c .is-first-same .ensures u _ _ ty _ _ w (start-reads _ h _ x 0 (x .one)) (start-reads _ g _ y 0 (y .one)))
+    (c .is-match-same .ensures u ty _ _ w (first-stands _ h _ x .sets) (first-stands _ g _ y .sets))
 
 pub dossiers-agree-spec : {M : Type 1} → statement M
 dossiers-agree-spec =
@@ -104,11 +104,11 @@ dossiers-agree-spec =
     returns-2
     element-copy-out-left
     element-copy-out-right
-    sub-is-first-same
-    part-is-first-same-start
-    part-is-first-same-end
-    sub-is-first-same-2
-    part-is-first-same-start-2
-    part-is-first-same-end-2
-    is-first-same-requires
+    sub-is-match-same
+    part-is-match-same-start
+    part-is-match-same-end
+    sub-is-match-same-2
+    part-is-match-same-start-2
+    part-is-match-same-end-2
+    is-match-same-requires
     returns-3)

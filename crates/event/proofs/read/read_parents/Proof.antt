@@ -70,8 +70,8 @@ sub-if4 c = search needs
 returns-5 : tie.Need-returns-5 Inv-loop μ-loop
 returns-5 c = onward-bad _ _ _ _ _ (c .before .before .loop .inv .2) (c .before .loop-test .taken) (bytes-short (c .before .before .before .before .before .before .before .before .before .before .before .args .s .now) (c .before .before .loop .to) 20 (c .if4 .taken))
 
-add-end : tie.Need-add-end Inv-loop μ-loop
-add-end c = search needs
+add-is-before : tie.Need-add-is-before Inv-loop μ-loop
+add-is-before c = search needs
 
 is-before-requires : tie.Need-is-before-requires Inv-loop μ-loop
 is-before-requires c κs =
@@ -80,6 +80,9 @@ is-before-requires c κs =
 
 returns-6 : tie.Need-returns-6 Inv-loop μ-loop
 returns-6 c = onward-not _ _ _ _ _ (c .before .before .before .before .loop .inv .2) _ _ (c .before .before .before .loop-test .taken) (bytes-at (c .before .before .before .before .before .before .before .before .before .before .before .before .before .args .s .now) (c .before .before .before .before .loop .to) 20 (omega arith)) (sym (c .before .is-before .ensures) ∙ not-true _ (c .if5 .taken))
+
+add-to-2 : tie.Need-add-to-2 Inv-loop μ-loop
+add-to-2 c = search needs
 
 sub-left-2 : tie.Need-sub-left-2 Inv-loop μ-loop
 sub-left-2 c = search needs
@@ -115,9 +118,10 @@ read-parents-spec =
     loop-holds
     sub-if4
     returns-5
-    add-end
+    add-is-before
     is-before-requires
     returns-6
+    add-to-2
     sub-left-2
     loop-less
     loop-again

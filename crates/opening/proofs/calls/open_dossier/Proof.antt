@@ -2,7 +2,7 @@ use borrow.Author.Needs.{needs}
 use mathlib.Core.Path.{_∙_}
 use native.Mathlib.Omega.{arith}
 use borrow.Author.Tests.{not-true, not-false}
-use Rattle.opening.proofs.OpenLaws.{table-missing, table-there, found-low, type-says, asked-refused, asked-accepted, open-small, open-table, open-refused, open-done}
+use Rattle.opening.proofs.OpenLaws.{found-low, type-says, open-small, open-table, open-refused, open-done, asked-open}
 use Rattle.opening.proofs.calls.open_dossier.Statement.{statement}
 use Rattle.opening.proofs.calls.open_dossier.Tie as tie
 use Rattle.opening.proofs.calls.open_dossier.Reads as reads
@@ -11,6 +11,8 @@ use Rattle.dossier.proofs.dossiers.read_dossier.Reads as read-dossier-reads
 use Rattle.dossier.proofs.questions.ask_dossier.Reads as ask-dossier-reads
 use Rattle.dossier.proofs.questions.type_name.Reads as type-name-reads
 use Rattle.ontology.proofs.tables.read_table.Reads as read-table-reads
+use Rattle.ontology.proofs.TypeIndexLaws.{table-refused, table-got}
+use Rattle.dossier.proofs.AcceptedLaws.{asked-refused}
 use Rattle.opening.proofs.calls.open_asked.Reads as open-asked-reads
 
 returns : tie.Need-returns
@@ -26,20 +28,20 @@ read-table-requires : tie.Need-read-table-requires
 read-table-requires c κs = search needs
 
 returns-2 : tie.Need-returns-2
-returns-2 c = open-table _ _ _ (omega (arith, c .before .before .before .before .before .if1 .left)) (table-missing _ _ _ (c .before .before .read-table .ensures) (not-true _ (c .if2 .taken)))
+returns-2 c = open-table _ _ _ (omega (arith, c .before .before .before .before .before .if1 .left)) (table-refused _ _ _ (c .before .before .read-table .ensures) (not-true _ (c .if2 .taken)))
 
 ask-dossier-requires : tie.Need-ask-dossier-requires
-ask-dossier-requires c κs = (c .before .before .before .before .read-dossier .ensures, found-low _ _ _ (table-there _ _ _ (c .before .before .read-table .ensures) (not-false _ (c .if2 .left))))
+ask-dossier-requires c κs = (c .before .before .before .before .read-dossier .ensures, found-low _ _ _ (table-got _ _ _ (c .before .before .read-table .ensures) (not-false _ (c .if2 .left))))
 
 returns-3 : tie.Need-returns-3
 returns-3 c =
-    let th = table-there _ _ _ (c .before .before .before .before .before .read-table .ensures) (not-false _ (c .before .before .before .if2 .left)) in
+    let th = table-got _ _ _ (c .before .before .before .before .before .read-table .ensures) (not-false _ (c .before .before .before .if2 .left)) in
     open-refused _ _ _ (omega (arith, c .before .before .before .before .before .before .before .before .if1 .left)) _ _ (th .is) (asked-refused _ _ _ _ (c .before .before .ask-dossier .ensures _ _ (th .is) (λ h w. type-says _ _ _ th (c .before .before .before .before .before .before .type-name .ensures h w))) (c .if3 .taken))
 
 open-asked-requires : tie.Need-open-asked-requires
 open-asked-requires c κs =
-    let th = table-there _ _ _ (c .before .before .before .before .before .before .before .before .read-table .ensures) (not-false _ (c .before .before .before .before .before .before .if2 .left)) in
-    let a = asked-accepted _ _ _ _ (c .before .before .before .before .before .ask-dossier .ensures _ _ (th .is) (λ h w. type-says _ _ _ th (c .before .before .before .before .before .before .before .before .before .type-name .ensures h w))) (th .is) (c .before .before .before .if3 .left) in
+    let th = table-got _ _ _ (c .before .before .before .before .before .before .before .before .read-table .ensures) (not-false _ (c .before .before .before .before .before .before .if2 .left)) in
+    let a = asked-open _ _ _ _ (c .before .before .before .before .before .ask-dossier .ensures _ _ (th .is) (λ h w. type-says _ _ _ th (c .before .before .before .before .before .before .before .before .before .type-name .ensures h w))) (th .is) (c .before .before .before .if3 .left) in
     (a .openable, omega (arith, c .before .before .before .before .before .before .before .before .before .before .before .if1 .left))
 
 same-length : tie.Need-same-length
@@ -47,8 +49,8 @@ same-length c = search needs
 
 returns-4 : tie.Need-returns-4
 returns-4 c =
-    let th = table-there _ _ _ (c .before .before .before .before .before .before .before .before .before .before .before .read-table .ensures) (not-false _ (c .before .before .before .before .before .before .before .before .before .if2 .left)) in
-    let a = asked-accepted _ _ _ _ (c .before .before .before .before .before .before .before .before .ask-dossier .ensures _ _ (th .is) (λ h w. type-says _ _ _ th (c .before .before .before .before .before .before .before .before .before .before .before .before .type-name .ensures h w))) (th .is) (c .before .before .before .before .before .before .if3 .left) in
+    let th = table-got _ _ _ (c .before .before .before .before .before .before .before .before .before .before .before .read-table .ensures) (not-false _ (c .before .before .before .before .before .before .before .before .before .if2 .left)) in
+    let a = asked-open _ _ _ _ (c .before .before .before .before .before .before .before .before .ask-dossier .ensures _ _ (th .is) (λ h w. type-says _ _ _ th (c .before .before .before .before .before .before .before .before .before .before .before .before .type-name .ensures h w))) (th .is) (c .before .before .before .before .before .before .if3 .left) in
     c .before .before .open-asked .ensures (a .openable) ∙ open-done _ _ _ (omega (arith, c .before .before .before .before .before .before .before .before .before .before .before .before .before .before .if1 .left)) _ a
 
 pub open-dossier-spec : {M : Type 1} → statement M

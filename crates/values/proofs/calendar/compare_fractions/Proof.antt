@@ -1,6 +1,6 @@
 use mathlib.Core.Path.{sym}
 use native.Mathlib.Omega.{arith}
-use Rattle.values.proofs.NumeralLaws.{lt-compare, gt-compare, eq-compare}
+use Rattle.model.proofs.OrderLaws.{lt-compare, gt-compare, eq-compare}
 use Rattle.values.proofs.calendar.compare_fractions.Statement.{statement}
 use Rattle.values.proofs.calendar.compare_fractions.Tie as tie
 

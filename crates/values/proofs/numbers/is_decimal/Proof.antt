@@ -1,7 +1,8 @@
 use borrow.Author.Needs.{needs}
 use native.Mathlib.Omega.{arith}
 use mathlib.Core.Path.{sym, _∙_}
-use Rattle.values.proofs.NumberStepLaws.{and-true, and-false, negative-long, decimal-negative, decimal-positive}
+use Rattle.model.proofs.Cases.{and-false, and-true}
+use Rattle.values.proofs.NumberStepLaws.{negative-long, decimal-negative, decimal-positive}
 use Rattle.values.proofs.numbers.is_decimal.Statement.{statement}
 use Rattle.values.proofs.numbers.is_decimal.Tie as tie
 

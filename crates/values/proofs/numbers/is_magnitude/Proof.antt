@@ -4,7 +4,8 @@ use Prim.Native.Nat.{_+_, _-_}
 use mathlib.Core.Path.{sym, _∙_}
 use lib.ListN.{length, getD, length-take}
 use borrow.Author.Tests.{eq-eqb, ne-eqb}
-use Rattle.values.proofs.NumberStepLaws.{and-false, magnitude-short, magnitude-long, magnitude-parts}
+use Rattle.model.proofs.Cases.{and-false}
+use Rattle.values.proofs.NumberStepLaws.{magnitude-short, magnitude-long, magnitude-parts}
 use Rattle.values.proofs.numbers.is_magnitude.Statement.{statement}
 use Rattle.values.proofs.numbers.is_magnitude.Tie as tie
 

@@ -1,0 +1,150 @@
+-- What is known of a dossier of which questions 3 to 6 are answered yes.
+use mathlib.Core.Path.{_≡_, sym, _∙_, subst, refl, ap}
+use mathlib.Core.Bool.{Bool, true, _||_, false}
+use mathlib.Core.Option.{some, Option, none}
+use mathlib.Core.List.{List, [], _∷_, map}
+use Prim.Native.Nat.{ℕ, zero, suc, _≤_, _<_}
+use native.Mathlib.Omega.{arith}
+use lib.Dec.{eqb}
+use lib.ListN.{length, getD}
+use Rattle.model.specs.Order.{Text}
+use Rattle.model.specs.Rule.{Snapshot, sizes, objects}
+use Rattle.model.specs.Limits.{standard}
+use Rattle.model.specs.Opening.{held}
+use Rattle.model.proofs.Cases.{and-parts, never}
+use Rattle.packed.proofs.LayoutLaws.{All}
+use Rattle.ontology.specs.Table.{Table, isVersioned, typeNamed, EventType}
+use Rattle.ontology.specs.TableLayout.{tableOf}
+use Rattle.ontology.specs.Questions.{accepted, ask, Asked, refused, _>>_, ensure, _>>=_}
+use Rattle.ontology.specs.TypeIndex.{TypeIs}
+use Rattle.ontology.proofs.QuestionLaws.{asked-then, ask-some, ensured, accepted-same}
+use Rattle.ontology.proofs.TableLaws.{TypeKept, table-type}
+use Rattle.ontology.proofs.TypeIndexLaws.{named-at}
+use Rattle.event.proofs.EventSizeLaws.{ValuesShort}
+use Rattle.dossier.specs.DossierLayout.{dossierOf, Headed}
+use Rattle.dossier.specs.DossierQuestions.{eachSnapshot, dossierShape, snapshotValues, TypedDossier, dossierAsked}
+use Rattle.dossier.specs.DossierIndex.{noSnapshot, snapshotFits, DossierIs, DossierAnswers}
+use Rattle.dossier.specs.declared.questions.DossierAsked.{DossierAsked}
+use Rattle.dossier.proofs.DossierLayoutLaws.{DossierWritten, dossier-was}
+use Rattle.dossier.proofs.DossierSizeLaws.{snapshots-short, versioned-sizes, shape-parts, shape-objects}
+use Rattle.dossier.proofs.AskLaws.{alikeTo, fitsWith, shape-is}
+
+pub record DossierTaken (types : Table) (s : List ℕ) (a : TypedDossier) : Type 0 where
+  pub read : dossierOf standard s ≡ some (a .headed)
+  pub typed : typeNamed (a .headed .type) types ≡ some (a .type)
+  pub shape : dossierShape standard (a .type) (a .headed .dossier .snapshots) ≡ true
+  pub values : eachSnapshot (snapshotValues (a .type)) (a .headed .dossier .snapshots) ≡ true
+
+pub dossier-taken : (types : Table) (s : List ℕ) (a : TypedDossier) → dossierAsked standard types s ≡ accepted a → DossierTaken types s a
+unfolding dossierAsked
+dossier-taken types s a h =
+    let (d, r, k) = asked-then (ask 3 (dossierOf standard s)) _ _ h in
+    let (t, y, l) = asked-then (ask 4 (typeNamed (d .type) types)) _ _ k in
+    let (b, m) = ensured 5 (dossierShape standard t (d .dossier .snapshots)) _ _ l in
+    let (c, n) = ensured 6 (eachSnapshot (snapshotValues t) (d .dossier .snapshots)) _ _ m in
+    subst (DossierTaken types s) (accepted-same (record { type = t; headed = d }) a n)
+    (record { read = ask-some 3 (dossierOf standard s) d r; typed = ask-some 4 (typeNamed (d .type) types) t y; shape = b; values = c })
+
+-- two dossiers whose types have one name have one type
+pub one-type : {types : Table} {r s : List ℕ} {a b : TypedDossier} → DossierTaken types r a → DossierTaken types s b → a .headed .type ≡ b .headed .type → a .type ≡ b .type
+one-type {types} {r} {s} {a} {b} x y e = let q : some (a .type) ≡ some (b .type) = sym (x .typed) ∙ ap (λ (n : Text). typeNamed n types) e ∙ y .typed in cc
+
+-- ---- what the caller of `ask_dossier` has
+
+-- questions 5 and 6
+abbrev later : Headed → EventType → Asked TypedDossier
+later h t = ensure 5 (dossierShape standard t (h .dossier .snapshots)) >> (ensure 6 (eachSnapshot (snapshotValues t) (h .dossier .snapshots)) >> accepted (record { type = t; headed = h }))
+
+-- no question has the number 0
+asked-number : (types : Table) (s : List ℕ) → dossierAsked standard types s ≡ refused 0 → ⊥
+unfolding dossierAsked
+asked-number types s e = at-layout (dossierOf standard s) e
+  where
+    at-shape : (a : TypedDossier) (x y : Bool) → (ensure 5 x >> (ensure 6 y >> accepted a)) ≡ refused 0 → ⊥
+    at-shape a false y e = never (cc)
+    at-shape a true false e = never (cc)
+    at-shape a true true e = never (cc)
+
+    at-type : (h : Headed) (o : Option EventType) → (ask 4 o >>= later h) ≡ refused 0 → ⊥
+    at-type h none e = never (cc)
+    at-type h (some t) e = at-shape (record { type = t; headed = h }) (dossierShape standard t (h .dossier .snapshots)) (eachSnapshot (snapshotValues t) (h .dossier .snapshots)) e
+
+    at-layout : (o : Option Headed) → (ask 3 o >>= λ h. (ask 4 (typeNamed (h .type) types) >>= later h)) ≡ refused 0 → ⊥
+    at-layout none e = never (cc)
+    at-layout (some h) e = at-type h (typeNamed (h .type) types) e
+
+-- all are answered yes, and the indexes are of the dossier and its type
+pub record Answered (types : Table) (table s : List ℕ) (r : DossierAsked) : Type 0 where
+  pub what : TypedDossier
+  pub asked : dossierAsked standard types s ≡ accepted what
+  pub typed : TypeIs table (what .type) (r .kind)
+  pub stands : DossierIs s (what .headed) (r .dossier)
+
+module _ (types : Table) (table s : List ℕ) (r : DossierAsked) (w : DossierAnswers (dossierAsked standard types s) table s r) where
+  pub asked-refused : (r .number ≡ 0 → ⊥) → dossierAsked standard types s ≡ refused (r .number)
+  unfolding DossierAnswers
+  asked-refused h = go (dossierAsked standard types s) w
+    where
+      go : (q : Asked TypedDossier) → DossierAnswers q table s r → q ≡ refused (r .number)
+      go (refused n) w = ap refused (sym w)
+      go (accepted a) w = absurd (h (w .0))
+
+  pub asked-accepted : r .number ≡ 0 → Answered types table s r
+  unfolding DossierAnswers
+  asked-accepted h = go (dossierAsked standard types s) refl w
+    where
+      go : (q : Asked TypedDossier) → dossierAsked standard types s ≡ q → DossierAnswers q table s r → Answered types table s r
+      go (refused n) e w = absurd (asked-number types s (e ∙ ap refused (sym w ∙ h)))
+      go (accepted a) e w = record { what = a; asked = e; typed = w .1; stands = w .2 }
+
+-- ---- one of its snapshots, and all of them
+
+-- what is so of each snapshot is so of one
+each-at : (f : Snapshot → Bool) (ss : List Snapshot) → eachSnapshot f ss ≡ true → (i : ℕ) → i < length ss → f (getD ss i noSnapshot) ≡ true
+unfolding eachSnapshot
+each-at f [] h i l = absurd (omega arith)
+each-at f (s ∷ ss) h zero l = and-parts (f s) (eachSnapshot f ss) h .0
+each-at f (s ∷ ss) h (suc i) l = each-at f ss (and-parts (f s) (eachSnapshot f ss) h .1) i (omega arith)
+
+module _ {types : Table} {s : List ℕ} {a : TypedDossier} (w : DossierTaken types s a) where
+  abbrev snapshots : List Snapshot
+  snapshots = a .headed .dossier .snapshots
+
+  pub taken-written : DossierWritten standard (a .headed)
+  taken-written = dossier-was standard s (a .headed) (w .read) .1
+
+  -- the type keeps the rules of its table
+  pub taken-kept : (table : List ℕ) → tableOf table ≡ some types → TypeKept (a .type)
+  taken-kept table e = table-type table types e (a .headed .type) (a .type) (w .typed)
+
+  pub taken-name : (table : List ℕ) → tableOf table ≡ some types → length (a .headed .type) ≤ 64
+  taken-name table e = subst (λ (v : Text). length v ≤ 64) (named-at (a .headed .type) types (a .type) (w .typed) .2) (taken-kept table e .short)
+
+  -- question 5, of how many there are and of each
+  shape-whole : ((isVersioned (a .type) || eqb (length snapshots) 1) ≡ true) × (eachSnapshot (fitsWith (a .type) (getD snapshots 0 noSnapshot)) snapshots ≡ true)
+  shape-whole = and-parts (isVersioned (a .type) || eqb (length snapshots) 1) (eachSnapshot (fitsWith (a .type) (getD snapshots 0 noSnapshot)) snapshots) (sym (shape-is (a .type) snapshots) ∙ w .shape)
+
+  pub taken-lone : (isVersioned (a .type) || eqb (length snapshots) 1) ≡ true
+  taken-lone = shape-whole .0
+
+  module _ (i : ℕ) (l : i < length snapshots) where
+    abbrev one : Snapshot
+    one = getD snapshots i noSnapshot
+
+    pub taken-fits : snapshotFits (a .type) one ≡ true
+    taken-fits = and-parts (snapshotFits (a .type) one) (alikeTo (a .type) (getD snapshots 0 noSnapshot) one) (each-at (fitsWith (a .type) (getD snapshots 0 noSnapshot)) snapshots (shape-whole .1) i l) .0
+
+    pub taken-values : snapshotValues (a .type) one ≡ true
+    taken-values = each-at (snapshotValues (a .type)) snapshots (w .values) i l
+
+  -- ---- sizes
+
+  pub taken-objects : objects snapshots ≤ 256
+  unfolding standard
+  taken-objects = shape-objects (a .type) snapshots (w .shape) (taken-written .within)
+
+  pub taken-short : All (λ (z : Snapshot). ValuesShort (map held (z .cells))) snapshots
+  taken-short = snapshots-short (a .type) snapshots (shape-parts (a .type) snapshots (w .shape) .0) (w .values)
+
+  pub taken-sizes : isVersioned (a .type) ≡ true → All (λ (z : Snapshot). sizes (z .cells) ≤ 32) snapshots
+  taken-sizes v = versioned-sizes (a .type) snapshots (rw v at (shape-parts (a .type) snapshots (w .shape) .1))
