@@ -5,3 +5,6 @@ pub mod MergedEventLaws
 pub mod ViewLaws
 pub mod CallLaws
 pub mod DemandLaws
+pub mod FrameLaws
+pub mod AskedLaws
+pub mod BatchLaws

@@ -1,3 +1,4 @@
 pub mod Batch
 pub mod Report
 pub mod Demand3
+pub mod BatchIndex

@@ -1,1 +1,4 @@
-// Definitions only: see specs/.
+// The call batch.
+pub mod asked;
+pub mod batch;
+pub mod frame;

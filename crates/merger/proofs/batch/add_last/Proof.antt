@@ -1,0 +1,97 @@
+use borrow.Author.Needs.{needs}
+use mathlib.Core.Path.{_∙_}
+use native.Mathlib.Omega.{arith}
+use Rattle.merger.proofs.BatchLaws.{known, never-refused, add-next, check-within, combine-within, done-within, refused-within, taken-count}
+use Rattle.merger.proofs.batch.add_last.Statement.{statement}
+use Rattle.merger.proofs.batch.add_last.Tie as tie
+use Rattle.merger.proofs.batch.add_last.Reads as reads
+use Rattle.merger.proofs.batch.add_last.Lts as lts
+use Rattle.combining.proofs.check.check_event.Reads as check-event-reads
+use Rattle.combining.proofs.combine.combine.Reads as combine-reads
+use Rattle.merger.proofs.frame.event_part.Reads as event-part-reads
+
+-- src/batch.rt:44:57
+sub-event-part : tie.Need-sub-event-part
+sub-event-part c = search needs
+
+-- src/batch.rt:44:36
+event-part-requires : tie.Need-event-part-requires
+event-part-requires c κs = search needs
+
+-- src/batch.rt:44:9
+check-event-requires : tie.Need-check-event-requires
+check-event-requires c κs = search needs
+
+-- src/batch.rt:45:21
+enum-known-added : tie.Need-enum-known-added
+enum-known-added c = search needs
+
+-- src/batch.rt:46:9
+enum-told : tie.Need-enum-told
+enum-told c = search needs
+
+-- src/batch.rt:46:9
+same-length : tie.Need-same-length
+same-length c = search needs
+
+-- src/batch.rt:46:9
+returns : tie.Need-returns
+returns c = (
+  refused-within _ _ _ (c .enum-told .given .1),
+  λ ts ss g h l e.
+      absurd (never-refused _ ts (g .isTable) ss (known ts ss (g .agreed)) (c .before .before .before .before .before .before .before .before .before .before .before .before .args .n) _ _ _ _ _ (omega (arith, h)) l (c .before .before .before .before .before .before .before .before .before .before .before .before .pre .1 .0)
+      (c .before .before .before .before .before .before .event-part .ensures ss (g .isBatch) (omega (arith, h, l))) (c .before .before .before .before .check-event .ensures) (c .enum-told .given .1)),
+)
+
+-- src/batch.rt:48:20
+slice-aggregate-combine : tie.Need-slice-aggregate-combine
+slice-aggregate-combine c = taken-count (c .before .before .before .before .before .before .before .before .before .before .before .before .before .before .args .size) (c .before .before .before .before .before .before .before .before .before .before .before .before .before .before .args .sofar .now) (c .before .before .before .before .before .before .before .before .before .before .before .before .before .before .pre .0 .2)
+
+-- src/batch.rt:48:36
+slice-reshare-prefix-combine : tie.Need-slice-reshare-prefix-combine
+slice-reshare-prefix-combine c = done-within (c .before .before .before .before .before .before .check-event .result) (c .before .before .before .before .before .before .check-event .last .1 .1 .0) (c .before .before .added .given .0 .0) (check-within _ _ _ _ _ (c .before .before .before .before .before .before .check-event .ensures)) (c .before .before .added .given .1)
+
+-- src/batch.rt:48:36
+slice-aggregate-combine-2 : tie.Need-slice-aggregate-combine-2
+slice-aggregate-combine-2 c = taken-count (c .before .before .before .added .given .0 .0) (c .before .before .before .before .before .before .before .check-event .last .1 .1 .0) (done-within (c .before .before .before .before .before .before .before .check-event .result) (c .before .before .before .before .before .before .before .check-event .last .1 .1 .0) (c .before .before .before .added .given .0 .0) (check-within _ _ _ _ _ (c .before .before .before .before .before .before .before .check-event .ensures)) (c .before .before .before .added .given .1))
+
+-- src/batch.rt:48:5
+combine-requires : tie.Need-combine-requires
+combine-requires c κs = search needs
+
+-- src/batch.rt:29:1
+same-length-2 : tie.Need-same-length-2
+same-length-2 c = search needs
+
+-- src/batch.rt:29:1
+same-length-3 : tie.Need-same-length-3
+same-length-3 c = search needs
+
+-- src/batch.rt:29:1
+returns-2 : tie.Need-returns-2
+returns-2 c = (
+  combine-within _ _ _ _ _ _ (c .before .before .combine .ensures),
+  λ ts ss g h l e.
+      c .before .before .combine .ensures
+      ∙ add-next _ ts (g .isTable) ss (known ts ss (g .agreed)) (c .before .before .before .before .before .before .before .before .before .before .before .before .before .before .before .before .before .before .before .args .n) (c .before .before .before .before .before .before .before .before .before .before .before .before .before .before .before .before .before .before .before .args .size) (c .before .before .before .before .before .before .before .added .given .0 .0) _ (c .before .before .before .before .before .before .before .before .before .before .before .before .before .before .before .before .before .before .before .args .sofar .now) (c .before .before .before .before .before .before .before .before .before .before .before .before .before .before .before .before .before .before .before .args .lone .now) (c .before .before .before .before .before .before .before .before .before .before .before .check-event .last .1 .1 .0) (c .before .before .before .before .before .before .before .before .before .before .before .before .before .before .before .before .before .before .before .args .out .now) (c .before .before .before .before .before .before .before .before .before .before .before .check-event .result) h l (c .before .before .before .before .before .before .before .before .before .before .before .before .before .before .before .before .before .before .before .pre .1 .0) (c .before .before .before .before .before .before .before .before .before .before .before .before .before .before .before .before .before .before .before .pre .1 .1)
+      (c .before .before .before .before .before .before .before .before .before .before .before .before .before .event-part .ensures ss (g .isBatch) (omega (arith, h, l))) e (c .before .before .before .before .before .before .before .before .before .before .before .check-event .ensures) (c .before .before .before .before .before .before .before .added .given .1),
+)
+
+pub add-last-spec : {M : Type 1} → statement M
+add-last-spec =
+    tie.close
+    (tie.spec
+    sub-event-part
+    event-part-requires
+    check-event-requires
+    enum-known-added
+    enum-told
+    same-length
+    returns
+    slice-aggregate-combine
+    slice-reshare-prefix-combine
+    slice-aggregate-combine-2
+    combine-requires
+    same-length-2
+    same-length-3
+    returns-2)

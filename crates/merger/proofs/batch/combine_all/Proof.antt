@@ -1,0 +1,124 @@
+use borrow.Author.Needs.{needs}
+use mathlib.Core.Path.{_∙_}
+use Prim.Native.Nat.{_-_}
+use native.Mathlib.Omega.{arith}
+use Rattle.merger.proofs.BatchLaws.{known, check-one, first-done, stopped-exact, done-within, all-taken}
+use Rattle.merger.proofs.batch.combine_all.Statement.{statement}
+use Rattle.merger.proofs.batch.combine_all.Tie as tie
+use Rattle.merger.proofs.batch.combine_all.Reads as reads
+use Rattle.merger.proofs.batch.combine_all.Lts as lts
+use Rattle.combining.proofs.check.check_event.Reads as check-event-reads
+use Rattle.merger.proofs.batch.add_last.Reads as add-last-reads
+use Rattle.merger.proofs.batch.combine_first.Reads as combine-first-reads
+use Rattle.merger.proofs.frame.event_part.Reads as event-part-reads
+
+-- src/batch.rt:92:35
+event-part-requires : tie.Need-event-part-requires
+event-part-requires c κs = search needs
+
+-- src/batch.rt:92:9
+check-event-requires : tie.Need-check-event-requires
+check-event-requires c κs = search needs
+
+-- src/batch.rt:92:9
+same-length : tie.Need-same-length
+same-length c = search needs
+
+-- src/batch.rt:92:9
+returns : tie.Need-returns
+returns c =
+    λ ts ss g.
+    check-one _ ts (g .isTable) ss (known ts ss (g .agreed)) (c .before .before .before .before .before .before .before .before .before .before .before .before .args .x .count) _ (c .before .before .before .before .before .before .before .before .before .before .before .before .args .out .now) (c .before .before .check-event .last .1 .1 .0) (c .before .before .check-event .result) (omega (arith, c .before .before .before .before .before .if1 .taken, g .isBatch .one)) (omega (arith, g .isBatch .one, g .isBatch .count)) (c .before .before .before .before .before .before .before .before .before .before .before .before .pre .0 .1)
+    (c .before .before .before .before .event-part .ensures ss (g .isBatch) (omega (arith, g .isBatch .one, g .isBatch .count))) (c .before .before .check-event .ensures)
+    ∙ all-taken ts ss _ _ (g .isBatch .count)
+
+-- src/batch.rt:94:49
+sub-combine-first : tie.Need-sub-combine-first
+sub-combine-first c = search needs
+
+-- src/batch.rt:94:9
+combine-first-requires : tie.Need-combine-first-requires
+combine-first-requires c κs = search needs
+
+-- src/batch.rt:95:21
+enum-known-others : tie.Need-enum-known-others
+enum-known-others c = search needs
+
+-- src/batch.rt:96:9
+enum-told : tie.Need-enum-told
+enum-told c = search needs
+
+-- src/batch.rt:96:9
+same-length-2 : tie.Need-same-length-2
+same-length-2 c = search needs
+
+-- src/batch.rt:96:9
+same-length-3 : tie.Need-same-length-3
+same-length-3 c = search needs
+
+-- src/batch.rt:96:9
+same-length-4 : tie.Need-same-length-4
+same-length-4 c = search needs
+
+-- src/batch.rt:96:9
+returns-2 : tie.Need-returns-2
+returns-2 c =
+    λ ts ss g.
+    stopped-exact _ ts (g .isTable) ss (known ts ss (g .agreed)) (c .before .before .before .before .before .before .before .before .before .before .before .before .before .before .before .before .before .before .before .args .x .count - 1) (omega (arith, c .before .before .before .before .before .before .before .before .before .before .before .before .if1 .left)) (omega (arith, g .isBatch .count)) (c .before .before .before .before .before .before .before .before .combine-first .result) _ _
+    (c .before .before .before .before .before .before .before .before .combine-first .ensures .1 ts ss g (omega (arith, g .isBatch .count))) (c .before .before .before .before .before .before .before .before .before .before .before .before .before .before .before .before .before .before .before .args .x .count) _ _ (omega (arith, c .before .before .before .before .before .before .before .before .before .before .before .before .if1 .left)) (omega (arith, g .isBatch .count)) (c .enum-told .given .1)
+    ∙ all-taken ts ss _ _ (g .isBatch .count)
+
+-- src/batch.rt:98:5
+add-last-requires : tie.Need-add-last-requires
+add-last-requires c κs = (
+  (omega (arith, c .before .before .before .before .before .before .before .before .before .before .before .before .before .before .before .before .if1 .left), c .before .before .before .before .before .before .before .before .before .before .before .before .before .before .before .before .before .before .before .before .before .before .before .pre .0 .0, done-within _ _ _ (c .before .before .before .before .before .before .before .before .before .before .before .before .combine-first .ensures .0) (c .before .before .before .before .others .given .1)),
+  (omega (arith, c .before .before .before .before .before .before .before .before .before .before .before .before .combine-first .kept .1 .1 .1 .1 .1 .0, c .before .before .before .before .before .before .before .before .before .before .before .before .before .before .before .before .before .before .before .before .before .before .before .pre .1 .1), c .before .before .before .before .before .before .before .before .before .before .before .before .before .before .before .before .before .before .before .before .before .before .before .pre .0 .1),
+)
+
+-- src/batch.rt:77:1
+same-length-5 : tie.Need-same-length-5
+same-length-5 c = search needs
+
+-- src/batch.rt:77:1
+same-length-6 : tie.Need-same-length-6
+same-length-6 c = search needs
+
+-- src/batch.rt:77:1
+same-length-7 : tie.Need-same-length-7
+same-length-7 c = search needs
+
+-- src/batch.rt:77:1
+same-length-8 : tie.Need-same-length-8
+same-length-8 c = search needs
+
+-- src/batch.rt:77:1
+returns-3 : tie.Need-returns-3
+returns-3 c =
+    λ ts ss g.
+    c .before .before .before .before .add-last .ensures .1 ts ss g (omega (arith, c .before .before .before .before .before .before .before .before .before .before .before .before .before .before .before .before .before .before .before .before .before .if1 .left)) (omega (arith, g .isBatch .count))
+    (first-done _ ts (g .isTable) ss (known ts ss (g .agreed)) (c .before .before .before .before .before .before .before .before .before .before .before .before .before .before .before .before .before .before .before .before .before .before .before .before .before .before .before .before .args .x .count - 1) (omega (arith, c .before .before .before .before .before .before .before .before .before .before .before .before .before .before .before .before .before .before .before .before .before .if1 .left)) (omega (arith, g .isBatch .count)) (c .before .before .before .before .before .before .before .before .before .before .before .before .before .before .before .before .before .combine-first .result) _ _
+    (c .before .before .before .before .before .before .before .before .before .before .before .before .before .before .before .before .before .combine-first .ensures .1 ts ss g (omega (arith, g .isBatch .count))) _ (c .before .before .before .before .before .before .before .before .before .others .given .1))
+    ∙ all-taken ts ss _ _ (g .isBatch .count)
+
+pub combine-all-spec : {M : Type 1} → statement M
+combine-all-spec =
+    tie.close
+    (tie.spec
+    event-part-requires
+    check-event-requires
+    same-length
+    returns
+    sub-combine-first
+    combine-first-requires
+    enum-known-others
+    enum-told
+    same-length-2
+    same-length-3
+    same-length-4
+    returns-2
+    add-last-requires
+    same-length-5
+    same-length-6
+    same-length-7
+    same-length-8
+    returns-3)

@@ -1,0 +1,93 @@
+-- What the code holds of a batch, and what it answers.
+use Prim.Native.Nat.{ℕ, _≤_, _<_}
+use mathlib.Core.Path.{_≡_}
+use mathlib.Core.Bool.{Bool, true, false, cond, not, _&&_}
+use mathlib.Core.Option.{Option, none, some}
+use mathlib.Core.List.{List, [], _∷_}
+use lib.ListN.{length, getD}
+use lib.Dec.{eqb}
+use Rattle.model.specs.Limits.{standard}
+use Rattle.packed.specs.Located.{part}
+use Rattle.ontology.specs.Table.{Table}
+use Rattle.ontology.specs.TableLayout.{tableOf}
+use Rattle.ontology.specs.Questions as questions
+use Rattle.ontology.specs.Questions.{Answer, gives, refuses, Outcome}
+use Rattle.ontology.specs.declared.replies.Reply as reply
+use Rattle.ontology.specs.declared.replies.Reply.the-variants as replied
+use Rattle.event.specs.EventQuestions.{Typed}
+use Rattle.dossier.specs.DossierLayout.{dossierBytes}
+use Rattle.dossier.specs.DossierQuestions.{TypedDossier}
+use Rattle.merger.specs.Batch.{AskedAt, refusedAt, accepted, _>>=_, eventsAsked, agreeWith, together}
+use Rattle.merger.specs.declared.asked.Refusal.{Refusal}
+use Rattle.merger.specs.declared.batch.BatchReply.{BatchReply}
+use Rattle.merger.specs.declared.batch.BatchReply.the-variants.{Done, Refused}
+use Rattle.merger.specs.declared.frame.BatchIndex.{BatchIndex}
+
+-- The bytes s are a batch of the events ss, each of which stands where the index says
+pub record BatchIs (s : List ℕ) (ss : List (List ℕ)) (x : BatchIndex) : Type 0 where
+  pub count : x .count ≡ length ss
+  pub one : 1 ≤ x .count
+  pub few : x .count ≤ 16
+  pub each : (i : ℕ) → i < length ss → part s (getD (x .starts) i 0) (getD (x .ends) i 0) ≡ getD ss i []
+  pub order : (i : ℕ) → i < length ss → getD (x .starts) i 0 ≤ getD (x .ends) i 0
+  pub within : (i : ℕ) → i < length ss → getD (x .ends) i 0 ≤ length s
+
+unfoldable pub BatchReads : Option (List (List ℕ)) → List ℕ → BatchIndex → Type 0
+BatchReads none s x = x .ok ≡ false
+BatchReads (some ss) s x = (x .ok ≡ true) × BatchIs s ss x
+
+-- question 7 of all events; a batch has a first event
+unfoldable pub eventsAgreed : List Typed → AskedAt (Unit {0})
+eventsAgreed [] = refusedAt 9 0
+eventsAgreed (a ∷ bs) = agreeWith a 1 bs
+
+-- questions 3 to 7 of all events
+unfoldable pub eventsTogether : Table → List (List ℕ) → AskedAt (Unit {0})
+eventsTogether ts ss = eventsAsked ts 0 ss >>= eventsAgreed
+
+-- the number and the position of a refusal; 0 where there is none
+unfoldable pub RefusalIs : AskedAt (Unit {0}) → Refusal → Type 0
+RefusalIs (refusedAt n i) r = (r .number ≡ n) × (r .position ≡ i) × (1 ≤ n)
+RefusalIs (accepted u) r = r .number ≡ 0
+
+-- the numbers of a reply
+abbrev pub batchReplied : BatchReply → questions.Reply
+batchReplied (Done n) = questions.Reply.done n
+batchReplied (Refused n i) = questions.Reply.refusedAt n i
+
+-- a reply with the output after it
+abbrev pub batchReplies : BatchReply → List ℕ → Outcome
+batchReplies r bytes = record { reply = batchReplied r; bytes = bytes }
+
+-- the position of the first event that does not agree with the first one, or 0: as it was, or of the event that was asked now
+unfoldable pub firstApart : ℕ → Bool → ℕ → ℕ
+firstApart apart agrees position = cond (eqb apart 0 && not agrees) position apart
+
+-- ---- combining the events
+
+-- what combining them answers: as the batch, without a position
+unfoldable pub combinedGiven : AskedAt TypedDossier → Answer
+combinedGiven (refusedAt n i) = refuses n
+combinedGiven (accepted d) = gives (dossierBytes (d .headed))
+
+unfoldable pub combinedAnswer : Table → List (List ℕ) → Answer
+combinedAnswer ts ss = combinedGiven (eventsAsked ts 0 ss >>= together standard)
+
+-- the table and the batch of the events ss, of which questions 3 to 7 are answered yes
+pub record Agreed (table batch : List ℕ) (x : BatchIndex) (ts : Table) (ss : List (List ℕ)) : Type 0 where
+  pub isTable : tableOf table ≡ some ts
+  pub isBatch : BatchIs batch ss x
+  pub agreed : eventsTogether ts ss ≡ accepted tt
+
+-- what a call says that it wrote is inside its buffer
+unfoldable pub DoneWithin : reply.Reply → List ℕ → Type 0
+DoneWithin (replied.Done n) s = n ≤ length s
+DoneWithin (replied.Refused n) s = Unit {0}
+
+-- a refusal of the whole batch has the position 0
+abbrev pub atFirst : questions.Reply → questions.Reply
+atFirst (questions.Reply.done n) = questions.Reply.done n
+atFirst (questions.Reply.conflict v p) = questions.Reply.conflict v p
+atFirst (questions.Reply.overfull p) = questions.Reply.overfull p
+atFirst (questions.Reply.refused n) = questions.Reply.refusedAt n 0
+atFirst (questions.Reply.refusedAt n i) = questions.Reply.refusedAt n i

@@ -1,0 +1,92 @@
+ghost use Prim.Native.Nat.{ℕ, _≤_};
+ghost use mathlib.Core.Path.{_≡_};
+ghost use mathlib.Core.Option.{some};
+ghost use mathlib.Core.List.{List};
+ghost use Rattle.ontology.specs.Table.{EventType, Table};
+ghost use Rattle.ontology.specs.TableLayout.{tableOf};
+ghost use Rattle.ontology.specs.TypeIndex.{TypeIs};
+ghost use Rattle.event.specs.Event.{Event};
+ghost use Rattle.event.specs.EventIndex.{EventIs};
+ghost use Rattle.merger.specs.Batch.{eventsAgree};
+ghost use Rattle.merger.specs.BatchIndex.{BatchIs, eventsTogether, RefusalIs, firstApart};
+use crate::frame::BatchIndex;
+use crate::frame::event_part;
+use dossier::parts::text_part;
+use dossier::shape::is_match_same;
+use event::ask::ask_event;
+use event::read::EventIndex;
+use ontology::types::TypeIndex;
+use packed::order::same;
+
+// The number of a question that is answered no and the position of its event; 0 where all are answered yes.
+pub struct Refusal {
+    pub number: u8,
+    pub position: usize,
+}
+
+// A refusal; none where the number is 0.
+fn refuse(number: u8, position: usize) -> Refusal
+    ensures { λ r. ⌜ (r .number ≡ number) × (r .position ≡ position) ⌝ }
+{
+    Refusal { number, position }
+}
+
+// Question 7 of two events.
+fn events_agree(a: &[u8], d: EventIndex, b: &[u8], e: EventIndex, t: TypeIndex) -> bool
+    requires { ⌜ t .count ≤ 32 ⌝ }
+    ensures { λ r. ⌜ ((u : List ℕ) (ty tz : EventType) (f g : Event) → TypeIs u ty t → EventIs (now (a .entry)) f d → EventIs (now (b .entry)) g e → (f .type ≡ g .type → ty ≡ tz) → r ≡ eventsAgree (record { type = ty; event = f }) (record { type = tz; event = g })) ⌝ }
+{
+    let x = d.head;
+    let y = e.head;
+    if !same(text_part(a, x.name), text_part(b, y.name)) {
+        return false;
+    }
+    if !same(text_part(a, x.source), text_part(b, y.source)) {
+        return false;
+    }
+    let left = d.sets;
+    let right = e.sets;
+    is_match_same(t, a, left, b, right)
+}
+
+// The position of the first event that does not agree with the first one, after one more was asked.
+fn first_apart(apart: usize, agrees: bool, position: usize) -> usize
+    ensures { λ r. ⌜ r ≡ firstApart apart agrees position ⌝ }
+{
+    if apart == 0 {
+        if !agrees {
+            return position;
+        }
+    }
+    apart
+}
+
+// Questions 3 to 6 of each event in turn, then 7 of each against the first. Each event is read once.
+pub fn ask_events(table: &[u8], batch: &[u8], x: BatchIndex) -> Refusal
+    requires { ⌜ x .count ≤ 16 ⌝ }
+    ensures { λ r. ⌜ ((ts : Table) (ss : List (List ℕ)) → tableOf (now (table .entry)) ≡ some ts → BatchIs (now (batch .entry)) ss x → RefusalIs (eventsTogether ts ss) r) ⌝ }
+{
+    let head = event_part(batch, x, 0);
+    let first = ask_event(table, head, false);
+    if first.number != 0 {
+        return refuse(first.number, 0);
+    }
+    let t = first.kind;
+    let d = first.event;
+    let mut apart: usize = 0;
+    let mut i: usize = 1;
+    while i < x.count {
+        let event = event_part(batch, x, i);
+        let asked = ask_event(table, event, false);
+        if asked.number != 0 {
+            return refuse(asked.number, i);
+        }
+        let e = asked.event;
+        apart = first_apart(apart, events_agree(head, d, event, e, t), i);
+        i += 1;
+    }
+    if apart == 0 {
+        return refuse(0, 0);
+    }
+    refuse(7, apart)
+}

@@ -1,0 +1,153 @@
+ghost use Prim.Native.Nat.{ℕ, _-_, _≤_};
+ghost use mathlib.Core.Path.{_≡_};
+ghost use mathlib.Core.List.{List};
+ghost use lib.ListN.{length, take};
+ghost use Rattle.model.specs.Limits.{standard};
+ghost use Rattle.ontology.specs.Table.{Table};
+ghost use Rattle.ontology.specs.Questions.{gives, outcome};
+ghost use Rattle.ontology.specs.Replies.{replied, replies};
+ghost use Rattle.merger.specs.Batch.{haveRoom, batchCall};
+ghost use Rattle.merger.specs.Demand3.{dossierReturned, returned};
+ghost use Rattle.merger.specs.BatchIndex.{Agreed, combinedAnswer, DoneWithin, atFirst, batchReplied, batchReplies};
+use crate::asked::ask_events;
+use crate::frame::BatchIndex;
+use crate::frame::event_part;
+use crate::frame::read_batch;
+use combining::check::check_event;
+use combining::combine::combine;
+use ontology::replies::Reply;
+use ontology::tables::TableReply;
+use ontology::tables::check_table;
+
+// The length of the batch's dossier, or the number of the first question that is answered no and the position of its event.
+pub enum BatchReply {
+    Done(usize),
+    Refused(u8, usize),
+}
+
+// The n-th event added to the dossier of those before it, the first `size` bytes of `sofar`: the dossier of all is the answer.
+fn add_last(
+    table: &[u8],
+    batch: &[u8],
+    x: BatchIndex,
+    n: usize,
+    sofar: &[u8],
+    size: usize,
+    lone: &mut [u8],
+    out: &mut [u8],
+) -> Reply
+    requires { ⌜ (1 ≤ n) × (n ≤ 16) × (size ≤ length (now sofar)) ⌝ }
+    requires { ⌜ (32768 ≤ length (now lone)) × (32768 ≤ length (now out)) ⌝ }
+    ensures within { λ r. ⌜ DoneWithin r (now (out .exit)) ⌝ }
+    ensures added { λ r. ⌜ ((ts : Table) (ss : List (List ℕ)) → Agreed (now (table .entry)) (now (batch .entry)) x ts ss → 2 ≤ n → n ≤ length ss → combinedAnswer ts (take (n - 1) ss) ≡ gives (take size (now (sofar .entry))) → replies r (now (out .exit)) ≡ outcome (combinedAnswer ts (take n ss)) (now (out .entry))) ⌝ }
+{
+    let added = check_event(table, event_part(batch, x, n - 1), lone);
+    let Reply::Done(m) = added else {
+        return added;
+    };
+    combine(table, &sofar[..size], &lone[..m], out)
+}
+
+// The dossier of the first n events, in the first of three buffers: all but the last are combined first, then the last is added. The buffers change roles.
+fn combine_first(
+    table: &[u8],
+    batch: &[u8],
+    x: BatchIndex,
+    n: usize,
+    a: &mut [u8],
+    b: &mut [u8],
+    c: &mut [u8],
+) -> Reply
+    requires { ⌜ (1 ≤ n) × (n ≤ 16) ⌝ }
+    requires { ⌜ (32768 ≤ length (now a)) × (32768 ≤ length (now b)) × (32768 ≤ length (now c)) ⌝ }
+    ensures within { λ r. ⌜ DoneWithin r (now (a .exit)) ⌝ }
+    ensures first { λ r. ⌜ ((ts : Table) (ss : List (List ℕ)) → Agreed (now (table .entry)) (now (batch .entry)) x ts ss → n ≤ length ss → dossierReturned (replied r) (now (a .exit)) ≡ returned (outcome (combinedAnswer ts (take n ss)) (now (a .entry)))) ⌝ }
+{
+    if n <= 1 {
+        return check_event(table, event_part(batch, x, 0), a);
+    }
+    let others = combine_first(table, batch, x, n - 1, b, c, a);
+    let Reply::Done(size) = others else {
+        return others;
+    };
+    add_last(table, batch, x, n, b, size, c, a)
+}
+
+// The dossier of all events of a batch that was asked its questions but the last.
+fn combine_all(
+    table: &[u8],
+    batch: &[u8],
+    x: BatchIndex,
+    out: &mut [u8],
+    a: &mut [u8],
+    b: &mut [u8],
+    c: &mut [u8],
+) -> Reply
+    requires { ⌜ (x .count ≤ 16) × (32768 ≤ length (now out)) ⌝ }
+    requires { ⌜ (32768 ≤ length (now a)) × (32768 ≤ length (now b)) × (32768 ≤ length (now c)) ⌝ }
+    ensures { λ r. ⌜ ((ts : Table) (ss : List (List ℕ)) → Agreed (now (table .entry)) (now (batch .entry)) x ts ss → replies r (now (out .exit)) ≡ outcome (combinedAnswer ts ss) (now (out .entry))) ⌝ }
+{
+    let n = x.count;
+    if n <= 1 {
+        return check_event(table, event_part(batch, x, 0), out);
+    }
+    let others = combine_first(table, batch, x, n - 1, a, b, c);
+    let Reply::Done(size) = others else {
+        return others;
+    };
+    add_last(table, batch, x, n, a, size, b, out)
+}
+
+// A reply of the whole batch, whose refusal has the position 0.
+fn batch_reply(r: Reply) -> BatchReply
+    ensures { λ b. ⌜ batchReplied b ≡ atFirst (replied r) ⌝ }
+{
+    match r {
+        Reply::Done(n) => BatchReply::Done(n),
+        Reply::Refused(n) => BatchReply::Refused(n, 0),
+    }
+}
+
+// Question 1 of the sizes of the output and of three scratch buffers.
+fn have_room(out: usize, a: usize, b: usize, c: usize) -> bool
+    ensures { λ r. ⌜ r ≡ haveRoom (record { output = out; first = a; second = b; third = c }) ⌝ }
+{
+    if out < 32768 {
+        return false;
+    }
+    if a < 32768 {
+        return false;
+    }
+    if b < 32768 {
+        return false;
+    }
+    32768 <= c
+}
+
+// The dossier of a batch, written at the front of `out`; a, b and c are scratch.
+pub fn batch(
+    table: &[u8],
+    batch: &[u8],
+    out: &mut [u8],
+    a: &mut [u8],
+    b: &mut [u8],
+    c: &mut [u8],
+) -> BatchReply
+    ensures { λ r. ⌜ batchReplies r (now (out .exit)) ≡ batchCall standard (record { output = length (now (out .entry)); first = length (now (a .entry)); second = length (now (b .entry)); third = length (now (c .entry)) }) (now (table .entry)) (now (batch .entry)) (now (out .entry)) ⌝ }
+{
+    if !have_room(out.len(), a.len(), b.len(), c.len()) {
+        return BatchReply::Refused(1, 0);
+    }
+    let TableReply::Accepted = check_table(table) else {
+        return BatchReply::Refused(2, 0);
+    };
+    let x = read_batch(batch);
+    if !x.ok {
+        return BatchReply::Refused(9, 0);
+    }
+    let refusal = ask_events(table, batch, x);
+    if refusal.number != 0 {
+        return BatchReply::Refused(refusal.number, refusal.position);
+    }
+    batch_reply(combine_all(table, batch, x, out, a, b, c))
+}
