@@ -8,3 +8,6 @@ pub mod DemandLaws
 pub mod FrameLaws
 pub mod AskedLaws
 pub mod BatchLaws
+pub mod LineLaws
+pub mod ReportSizeLaws
+pub mod ReportLaws

@@ -2,3 +2,4 @@ pub mod Batch
 pub mod Report
 pub mod Demand3
 pub mod BatchIndex
+pub mod ReportIndex

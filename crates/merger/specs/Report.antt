@@ -15,6 +15,7 @@ use Rattle.packed.specs.Ascii.{ascii}
 use Rattle.values.specs.Decimal.{inDecimal}
 use Rattle.sha1.specs.Fips.{sha1Of}
 use Rattle.ontology.specs.Table.{Property, EventType}
+use Rattle.ontology.specs.Questions.{Answer, gives, refuses, Outcome, outcome}
 use Rattle.event.specs.Event.{Event, view, objectCount, atPlace}
 use Rattle.hashing.specs.HashText.{hashText}
 use Rattle.dossier.specs.DossierLayout.{Headed}
@@ -70,3 +71,14 @@ framedLines (got table batch) = askedLines (batchAsked standard table batch)
 -- what the program prints for its input
 unfoldable pub report : List ℕ → List ℕ
 report input = cond (leb (length input) 65536) (framedLines (readText input)) (refusedLine 9 0)
+
+-- The report as a call: an output of at least 65,536 bytes holds every report
+unfoldable pub reportRoom : ℕ
+reportRoom = 65536
+
+unfoldable pub reportAnswer : ℕ → List ℕ → Answer
+reportAnswer room input = cond (leb reportRoom room) (gives (report input)) (refuses 1)
+
+-- the call with its output
+unfoldable pub reportCall : List ℕ → List ℕ → Outcome
+reportCall input out = outcome (reportAnswer (length out) input) out

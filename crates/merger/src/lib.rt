@@ -1,4 +1,6 @@
-// The call batch.
+// The call batch, and what the merge program prints.
 pub mod asked;
 pub mod batch;
 pub mod frame;
+pub mod lines;
+pub mod report;

@@ -1,0 +1,106 @@
+-- What the writers of the report's lines are given, and what they write.
+use Prim.Native.Nat.{ℕ, _+_, _≤_}
+use mathlib.Core.Path.{_≡_}
+use mathlib.Core.Option.{some}
+use mathlib.Core.List.{List, [], _∷_, _++_, map, flatten}
+use lib.ListN.{length, getElem?}
+use Rattle.model.specs.Order.{Text}
+use Rattle.model.specs.Limits.{standard}
+use Rattle.model.specs.Opening.{Opened, conflictAt, overfullAt, merged, opening}
+use Rattle.packed.specs.Ascii.{ascii}
+use Rattle.values.specs.Decimal.{inDecimal}
+use Rattle.ontology.specs.Table.{Property, EventType, Table}
+use Rattle.ontology.specs.TableLayout.{tableOf}
+use Rattle.ontology.specs.Questions.{accepted}
+use Rattle.ontology.specs.TypeIndex.{PropertyIs, TypeIs}
+use Rattle.ontology.specs.declared.properties.PropertyAt.{PropertyAt}
+use Rattle.ontology.specs.declared.types.TypeIndex.{TypeIndex}
+use Rattle.event.specs.Event.{Event, objectCount, view}
+use Rattle.event.specs.EventLayout.{wide, eventBytes}
+use Rattle.event.specs.EventQuestions.{eventAsked}
+use Rattle.event.specs.EventIndex.{SetIs, EventIs}
+use Rattle.event.specs.declared.sets.SetAt.{SetAt}
+use Rattle.event.specs.declared.read.EventIndex.{EventIndex}
+use Rattle.dossier.specs.DossierQuestions.{TypedDossier, dossierAsked}
+use Rattle.opening.specs.OpenCall.{mergedEvent}
+use Rattle.merger.specs.Report.{line, hexOf, objectLines, nameAt, mergedLines, openedLines}
+
+-- ---- what is written
+
+unfoldable pub conflictLine : EventType → ℕ → ℕ → List ℕ
+conflictLine t v p = line (ascii "conflict " ++ inDecimal v ++ ascii " " ++ nameAt t p)
+
+unfoldable pub overfullLine : EventType → ℕ → List ℕ
+overfullLine t p = line (ascii "overfull " ++ nameAt t p)
+
+-- `addr:h1`
+abbrev pub valueLine : Text → Text → List ℕ
+valueLine name v = line (name ++ (58 ∷ v))
+
+-- the lines of a property's values
+unfoldable pub valueLines : Text → List Text → List ℕ
+valueLines name vs = flatten (map (valueLine name) vs)
+
+-- the lines of an event whose hash is given
+unfoldable pub hashedLines : EventType → Event → List ℕ → List ℕ
+hashedLines t e hash =
+    line (ascii "merged " ++ inDecimal (objectCount (e .sets))) ++ objectLines (t .properties) (e .sets) ++ line (ascii "hash " ++ hexOf hash)
+
+-- ---- what the writers are given
+
+-- t is the index of a type that has a property at a place
+pub record PlaceNamed (table : List ℕ) (t : TypeIndex) (place : ℕ) : Type 0 where
+  pub type : EventType
+  pub property : Property
+  pub typed : TypeIs table type t
+  pub named : getElem? (type .properties) place ≡ some property
+
+-- a property's values stand in the bytes of an event, and their lines have room
+pub record ValuesRoom (table : List ℕ) (p : PropertyAt) (bytes : List ℕ) (x : SetAt) (at room : ℕ) : Type 0 where
+  pub property : Property
+  pub values : List Text
+  pub named : PropertyIs table property p
+  pub is : SetIs bytes values x
+  pub fits : at + length (valueLines (property .name) values) ≤ room
+
+-- t and e are the indexes of a type and of an event of it, whose objects' lines have room
+pub record ObjectsRoom (table : List ℕ) (t : TypeIndex) (bytes : List ℕ) (e : EventIndex) (at room : ℕ) : Type 0 where
+  pub type : EventType
+  pub event : Event
+  pub typed : TypeIs table type t
+  pub read : EventIs bytes event e
+  pub fits : at + length (objectLines (type .properties) (event .sets)) ≤ room
+
+-- the same, with the first and the last line
+pub record LinesRoom (table : List ℕ) (t : TypeIndex) (bytes : List ℕ) (e : EventIndex) (hash : List ℕ) (room : ℕ) : Type 0 where
+  pub type : EventType
+  pub event : Event
+  pub typed : TypeIs table type t
+  pub read : EventIs bytes event e
+  pub fits : length (hashedLines type event hash) ≤ room
+
+-- ---- what the report is made of
+
+-- the event e of the type t, whose bytes pass the questions in the wide form, and whose lines have room
+pub record MergedAsked (table bytes : List ℕ) (t : EventType) (e : Event) (room : ℕ) : Type 0 where
+  pub types : Table
+  pub tabled : tableOf table ≡ some types
+  pub asked : eventAsked wide types bytes ≡ accepted (record { type = t; event = e })
+  pub fits : length (mergedLines t e) ≤ room
+
+-- what a dossier opens as
+abbrev pub opens : TypedDossier → Opened
+opens d = opening (view (d .type)) (d .headed .dossier)
+
+abbrev pub HasProperty : EventType → ℕ → Type 0
+HasProperty t p = (q : Property) × (getElem? (t .properties) p ≡ some q)
+
+-- the dossier d, whose bytes pass the questions: opened, it is a merged event that passes them too, or names a property; and its lines have room
+pub record DossierOpens (table bytes : List ℕ) (d : TypedDossier) (room : ℕ) : Type 0 where
+  pub types : Table
+  pub tabled : tableOf table ≡ some types
+  pub asked : dossierAsked standard types bytes ≡ accepted d
+  pub merges : (ss : List (List Text)) → opens d ≡ merged ss → eventAsked wide types (eventBytes (mergedEvent (d .headed) ss)) ≡ accepted (record { type = d .type; event = mergedEvent (d .headed) ss })
+  pub conflicts : (v p : ℕ) → opens d ≡ conflictAt v p → HasProperty (d .type) p
+  pub overfills : (p : ℕ) → opens d ≡ overfullAt p → HasProperty (d .type) p
+  pub fits : length (openedLines (d .type) (d .headed) (opens d)) ≤ room

@@ -1,0 +1,204 @@
+// The lines of the report.
+ghost use Prim.Native.Nat.{_+_, _*_, _≤_, _<_};
+ghost use mathlib.Core.Path.{_≡_};
+ghost use mathlib.Core.List.{[], _∷_};
+ghost use lib.ListN.{length};
+ghost use Rattle.packed.specs.Located.{part};
+ghost use Rattle.packed.specs.Written.{Wrote};
+ghost use Rattle.values.specs.Decimal.{inDecimal};
+ghost use Rattle.merger.specs.Report.{hexDigit, hexOf, objectLines, refusedLine};
+ghost use Rattle.merger.specs.ReportIndex.{conflictLine, overfullLine, valueLine, valueLines, hashedLines, PlaceNamed, ValuesRoom, ObjectsRoom, LinesRoom};
+use event::read::EventIndex;
+use event::sets::SetAt;
+use ontology::properties::PropertyAt;
+use ontology::types::TypeIndex;
+use packed::read::TextAt;
+use packed::read::read_text;
+use packed::write::copy;
+use packed::write::copy_part;
+
+// A number in decimal: the digits before the last are those of a tenth.
+pub fn write_decimal(n: u64, out: &mut [u8], at: usize) -> usize
+    requires { ⌜ at + length (inDecimal n) ≤ length (now out) ⌝ }
+    ensures { λ r. ⌜ Wrote (now (out .entry)) at (inDecimal n) (now (out .exit)) r ⌝ }
+{
+    if n < 10 {
+        out[at] = 48 + n as u8;
+        return at + 1;
+    }
+    let last = write_decimal(n / 10, out, at);
+    out[last] = 48 + (n % 10) as u8;
+    last + 1
+}
+
+fn hex_digit(n: u8) -> u8
+    requires { ⌜ n < 16 ⌝ }
+    ensures { λ r. ⌜ r ≡ hexDigit n ⌝ }
+{
+    if n < 10 { 48 + n } else { 87 + n }
+}
+
+// Two digits a byte.
+pub fn write_hex(s: &[u8], out: &mut [u8], at: usize) -> usize
+    requires { ⌜ at + 2 * length (now s) ≤ length (now out) ⌝ }
+    ensures { λ r. ⌜ Wrote (now (out .entry)) at (hexOf (now (s .entry))) (now (out .exit)) r ⌝ }
+{
+    let mut i: usize = 0;
+    while i < s.len() {
+        let b = s[i];
+        out[at + 2 * i] = hex_digit(b / 16);
+        out[at + 2 * i + 1] = hex_digit(b % 16);
+        i += 1;
+    }
+    at + 2 * i
+}
+
+// The end of a line.
+fn write_end(out: &mut [u8], at: usize) -> usize
+    requires { ⌜ at + 1 ≤ length (now out) ⌝ }
+    ensures { λ r. ⌜ Wrote (now (out .entry)) at (10 ∷ []) (now (out .exit)) r ⌝ }
+{
+    copy(b"\n", out, at)
+}
+
+// `refused 7 1`: the number and the position.
+pub fn write_refused(number: u8, position: usize, out: &mut [u8]) -> usize
+    requires { ⌜ length (refusedLine number position) ≤ length (now out) ⌝ }
+    ensures { λ r. ⌜ Wrote (now (out .entry)) 0 (refusedLine number position) (now (out .exit)) r ⌝ }
+{
+    let first = copy(b"refused ", out, 0);
+    let second = write_decimal(number as u64, out, first);
+    let third = copy(b" ", out, second);
+    let end = write_decimal(position as u64, out, third);
+    write_end(out, end)
+}
+
+// The name of a property.
+fn write_name(table: &[u8], p: PropertyAt, out: &mut [u8], at: usize) -> usize
+    requires { ⌜ (p .start ≤ p .end) × (p .end ≤ length (now table)) × (at + length (part (now table) (p .start) (p .end)) ≤ length (now out)) ⌝ }
+    ensures { λ r. ⌜ Wrote (now (out .entry)) at (part (now (table .entry)) (p .start) (p .end)) (now (out .exit)) r ⌝ }
+{
+    let start = p.start;
+    let end = p.end;
+    copy_part(table, start, end, out, at)
+}
+
+// `conflict 1 state`: the version and the property.
+pub fn write_conflict(
+    table: &[u8],
+    t: TypeIndex,
+    version: u64,
+    place: usize,
+    out: &mut [u8],
+) -> usize
+    requires { ⌜ ((p : PlaceNamed (now table) t place) × (length (conflictLine (p .type) version place) ≤ length (now out))) ⌝ }
+    ensures { λ r. ⌜ ((p : PlaceNamed (now (table .entry)) t place) → Wrote (now (out .entry)) 0 (conflictLine (p .type) version place) (now (out .exit)) r) ⌝ }
+{
+    let first = copy(b"conflict ", out, 0);
+    let second = write_decimal(version, out, first);
+    let third = copy(b" ", out, second);
+    let p = t.properties[place];
+    let end = write_name(table, p, out, third);
+    write_end(out, end)
+}
+
+// `overfull serial`: the property.
+pub fn write_overfull(table: &[u8], t: TypeIndex, place: usize, out: &mut [u8]) -> usize
+    requires { ⌜ ((p : PlaceNamed (now table) t place) × (length (overfullLine (p .type) place) ≤ length (now out))) ⌝ }
+    ensures { λ r. ⌜ ((p : PlaceNamed (now (table .entry)) t place) → Wrote (now (out .entry)) 0 (overfullLine (p .type) place) (now (out .exit)) r) ⌝ }
+{
+    let first = copy(b"overfull ", out, 0);
+    let p = t.properties[place];
+    let end = write_name(table, p, out, first);
+    write_end(out, end)
+}
+
+// `addr:h1`: the line of a value, which stands in the event from `start` up to `end`.
+fn write_value(
+    table: &[u8],
+    p: PropertyAt,
+    event: &[u8],
+    start: usize,
+    end: usize,
+    out: &mut [u8],
+    at: usize,
+) -> usize
+    requires { ⌜ (p .start ≤ p .end) × (p .end ≤ length (now table)) × (start ≤ end) × (end ≤ length (now event)) × (at + length (valueLine (part (now table) (p .start) (p .end)) (part (now event) start end)) ≤ length (now out)) ⌝ }
+    ensures { λ r. ⌜ Wrote (now (out .entry)) at (valueLine (part (now (table .entry)) (p .start) (p .end)) (part (now (event .entry)) start end)) (now (out .exit)) r ⌝ }
+{
+    let colon = write_name(table, p, out, at);
+    let value = copy(b":", out, colon);
+    let line = copy_part(event, start, end, out, value);
+    write_end(out, line)
+}
+
+// The lines of a property's values.
+fn write_values(
+    table: &[u8],
+    p: PropertyAt,
+    event: &[u8],
+    x: SetAt,
+    out: &mut [u8],
+    at: usize,
+) -> usize
+    requires { ⌜ ValuesRoom (now table) p (now event) x at (length (now out)) ⌝ }
+    ensures { λ r. ⌜ ((v : ValuesRoom (now (table .entry)) p (now (event .entry)) x at (length (now (out .entry)))) → Wrote (now (out .entry)) at (valueLines (v .property .name) (v .values)) (now (out .exit)) r) ⌝ }
+{
+    let mut next = at;
+    let mut i = x.start;
+    let mut left = x.count;
+    while 0 < left {
+        let TextAt::Text(start, end) = read_text(event, i) else {
+            return next;
+        };
+        next = write_value(table, p, event, start, end, out, next);
+        i = end;
+        left -= 1;
+    }
+    next
+}
+
+// The lines of all objects, by place and then by value.
+fn write_objects(
+    table: &[u8],
+    t: TypeIndex,
+    event: &[u8],
+    e: EventIndex,
+    out: &mut [u8],
+    at: usize,
+) -> usize
+    requires { ⌜ ObjectsRoom (now table) t (now event) e at (length (now out)) ⌝ }
+    ensures { λ r. ⌜ ((o : ObjectsRoom (now (table .entry)) t (now (event .entry)) e at (length (now (out .entry)))) → Wrote (now (out .entry)) at (objectLines (o .type .properties) (o .event .sets)) (now (out .exit)) r) ⌝ }
+{
+    let mut next = at;
+    let mut k: usize = 0;
+    while k < t.count {
+        let p = t.properties[k];
+        let x = e.sets[k];
+        next = write_values(table, p, event, x, out, next);
+        k += 1;
+    }
+    next
+}
+
+// The lines of a merged event, whose hash is given.
+pub fn write_merged(
+    table: &[u8],
+    t: TypeIndex,
+    event: &[u8],
+    e: EventIndex,
+    hash: &[u8],
+    out: &mut [u8],
+) -> usize
+    requires { ⌜ LinesRoom (now table) t (now event) e (now hash) (length (now out)) ⌝ }
+    ensures { λ r. ⌜ ((l : LinesRoom (now (table .entry)) t (now (event .entry)) e (now (hash .entry)) (length (now (out .entry)))) → Wrote (now (out .entry)) 0 (hashedLines (l .type) (l .event) (now (hash .entry))) (now (out .exit)) r) ⌝ }
+{
+    let first = copy(b"merged ", out, 0);
+    let objects = e.objects;
+    let second = write_decimal(objects as u64, out, first);
+    let third = write_end(out, second);
+    let fourth = write_objects(table, t, event, e, out, third);
+    let fifth = copy(b"hash ", out, fourth);
+    let last = write_hex(hash, out, fifth);
+    write_end(out, last)
+}
