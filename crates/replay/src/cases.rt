@@ -1,49 +1,25 @@
 // The cases of a script: each is the number of a call and its fields. A function answers the position after its case, or 0 where the script has none there.
-ghost use mathlib.Core.Path.{_≡_};
-ghost use lib.ListN.{length};
+use crate::fields::bytes;
+use crate::fields::read_count;
+use crate::fields::read_field;
 use crate::lines;
+use crate::outputs::output;
+use crate::outputs::write_batch;
+use crate::outputs::write_opened;
+use crate::outputs::write_reply;
+use combining::check::check_event;
+use combining::combine::combine;
 use event::ask::value;
-use ontology::replies::Reply;
 use hashing::calls::hash;
 use hashing::calls::hash_text;
+use merger::batch::batch;
+use merger::report::report;
+use ontology::replies::Reply;
 use ontology::tables::TableReply;
 use ontology::tables::check_table;
+use opening::calls::open_dossier;
 use packed::read::NumberAt;
-use packed::read::TextAt;
 use packed::read::read_number;
-use packed::read::read_text;
-
-// A text of the script.
-struct Field {
-    ok: bool,
-    start: usize,
-    end: usize,
-}
-
-fn read_field(script: &[u8], at: usize) -> Field {
-    match read_text(script, at) {
-        TextAt::Text(start, end) => Field {
-            ok: true,
-            start: start,
-            end: end,
-        },
-        TextAt::NoText => Field {
-            ok: false,
-            start: 0,
-            end: 0,
-        },
-    }
-}
-
-// The bytes of a field.
-fn bytes(script: &[u8], f: Field) -> &[u8] {
-    let start = f.start;
-    let end = f.end;
-    if start <= end && end <= script.len() {
-        return &script[start..end];
-    }
-    &script[0..0]
-}
 
 // 1, check a table: the table.
 fn replay_table(script: &[u8], at: usize) -> usize {
@@ -62,70 +38,6 @@ fn replay_table(script: &[u8], at: usize) -> usize {
     table.end
 }
 
-// A number of the script that counts something, and the position after it.
-struct Count {
-    ok: bool,
-    n: usize,
-    end: usize,
-}
-
-fn read_count(script: &[u8], at: usize) -> Count {
-    match read_number(script, at) {
-        NumberAt::Number(n, end) => Count {
-            ok: true,
-            n: n as usize,
-            end: end,
-        },
-        NumberAt::NoNumber => Count {
-            ok: false,
-            n: 0,
-            end: 0,
-        },
-    }
-}
-
-// The largest output, filled with EE. The contract says the length alone, so that no proof holds the bytes.
-fn output() -> [u8; 40960]
-    ensures { λ r. ⌜ 40960 ≡ length r ⌝ }
-{
-    [0xee; 40960]
-}
-
-// Every byte of the output from a position on has its old value.
-fn is_kept(out: &[u8], from: usize) -> bool {
-    let mut i = from;
-    while i < out.len() {
-        if out[i] != 0xee {
-            return false;
-        }
-        i += 1;
-    }
-    true
-}
-
-fn write_kept(out: &[u8], from: usize) {
-    if !is_kept(out, from) {
-        lines::write(b" dirty");
-    }
-}
-
-// `ok HEX` or `refused N`
-fn write_reply(r: Reply, out: &[u8]) {
-    match r {
-        Reply::Done(n) => {
-            lines::write(b"ok ");
-            if n <= out.len() {
-                lines::write_hex(&out[0..n]);
-            }
-            write_kept(out, n);
-        }
-        Reply::Refused(n) => {
-            lines::write_refusal(n);
-            write_kept(out, 0);
-        }
-    }
-}
-
 // 5, value: the table, the event, the place and the index.
 fn replay_value(script: &[u8], at: usize) -> usize {
     let table = read_field(script, at);
@@ -140,26 +52,31 @@ fn replay_value(script: &[u8], at: usize) -> usize {
     index.end
 }
 
-// Calls 6 and 7 by their number.
-fn call_hashing(call: u64, table: &[u8], event: &[u8], out: &mut [u8]) -> Reply {
-    if call == 6 {
-        hash_text(table, event, out)
-    } else {
-        hash(table, event, out)
+// A call with one input, by its number.
+fn call_one(call: u64, table: &[u8], input: &[u8], out: &mut [u8]) -> Reply {
+    match call {
+        2 => check_event(table, input, out),
+        6 => hash_text(table, input, out),
+        _ => hash(table, input, out),
     }
 }
 
-fn write_hashing(call: u64, table: &[u8], event: &[u8], out: &mut [u8]) {
-    let r = call_hashing(call, table, event, out);
+fn write_one(call: u64, table: &[u8], input: &[u8], out: &mut [u8]) {
+    if call == 4 {
+        let r = open_dossier(table, input, out);
+        write_opened(r, out);
+        return;
+    }
+    let r = call_one(call, table, input, out);
     write_reply(r, out);
 }
 
-// 6, hash text, and 7, hash: the size of the output, the table and the event.
-fn replay_hashing(call: u64, script: &[u8], at: usize) -> usize {
+// 2, check an event, 4, open, 6, hash text, and 7, hash: the size of the output, the table, and the event or dossier.
+fn replay_one(call: u64, script: &[u8], at: usize) -> usize {
     let size = read_count(script, at);
     let table = read_field(script, size.end);
-    let event = read_field(script, table.end);
-    if !(size.ok && table.ok && event.ok) {
+    let input = read_field(script, table.end);
+    if !(size.ok && table.ok && input.ok) {
         return 0;
     }
     let n = size.n;
@@ -167,13 +84,114 @@ fn replay_hashing(call: u64, script: &[u8], at: usize) -> usize {
     if out.len() < n {
         return 0;
     }
-    write_hashing(
+    write_one(
         call,
         bytes(script, table),
-        bytes(script, event),
+        bytes(script, input),
         &mut out[0..n],
     );
-    event.end
+    input.end
+}
+
+fn write_combine<'a>(table: &[u8], left: &'a [u8], right: &'a [u8], out: &mut [u8]) {
+    let r = combine(table, left, right, out);
+    write_reply(r, out);
+}
+
+// 3, combine: the size of the output, the table, and the two dossiers.
+fn replay_combine(script: &[u8], at: usize) -> usize {
+    let size = read_count(script, at);
+    let table = read_field(script, size.end);
+    let left = read_field(script, table.end);
+    let right = read_field(script, left.end);
+    if !(size.ok && table.ok && left.ok && right.ok) {
+        return 0;
+    }
+    let n = size.n;
+    let mut out = output();
+    if out.len() < n {
+        return 0;
+    }
+    write_combine(
+        bytes(script, table),
+        bytes(script, left),
+        bytes(script, right),
+        &mut out[0..n],
+    );
+    right.end
+}
+
+fn call_batch(
+    table: &[u8],
+    events: &[u8],
+    out: &mut [u8],
+    a: &mut [u8],
+    b: &mut [u8],
+    c: &mut [u8],
+) {
+    let r = batch(table, events, out, a, b, c);
+    write_batch(r, out);
+}
+
+// A batch with its scratch buffers, of these sizes.
+fn replay_sized(table: &[u8], events: &[u8], out: &mut [u8], x: usize, y: usize, z: usize) {
+    let mut a = output();
+    let mut b = output();
+    let mut c = output();
+    if a.len() < x {
+        return;
+    }
+    if b.len() < y {
+        return;
+    }
+    if c.len() < z {
+        return;
+    }
+    call_batch(table, events, out, &mut a[0..x], &mut b[0..y], &mut c[0..z]);
+}
+
+// 8, batch: the sizes of the output and of the three scratch buffers, the table, and the batch.
+fn replay_batch(script: &[u8], at: usize) -> usize {
+    let size = read_count(script, at);
+    let x = read_count(script, size.end);
+    let y = read_count(script, x.end);
+    let z = read_count(script, y.end);
+    let table = read_field(script, z.end);
+    let events = read_field(script, table.end);
+    if !(size.ok && x.ok && y.ok && z.ok && table.ok && events.ok) {
+        return 0;
+    }
+    let n = size.n;
+    let mut out = output();
+    if out.len() < n {
+        return 0;
+    }
+    replay_sized(
+        bytes(script, table),
+        bytes(script, events),
+        &mut out[0..n],
+        x.n,
+        y.n,
+        z.n,
+    );
+    events.end
+}
+
+// 9, merge report: the program's standard input.
+fn replay_report(script: &[u8], at: usize) -> usize {
+    let input = read_field(script, at);
+    if !input.ok {
+        return 0;
+    }
+    let mut out = io::large_buffer();
+    let r = report(bytes(script, input), &mut out);
+    lines::write(b"report ");
+    if let Reply::Done(n) = r {
+        if n <= out.len() {
+            lines::write_hex(&out[0..n]);
+        }
+    }
+    input.end
 }
 
 pub fn replay_case(script: &[u8], at: usize) -> usize {
@@ -182,8 +200,11 @@ pub fn replay_case(script: &[u8], at: usize) -> usize {
     };
     let end = match call {
         1 => replay_table(script, next),
+        3 => replay_combine(script, next),
         5 => replay_value(script, next),
-        6 | 7 => replay_hashing(call, script, next),
+        2 | 4 | 6 | 7 => replay_one(call, script, next),
+        8 => replay_batch(script, next),
+        9 => replay_report(script, next),
         _ => 0,
     };
     lines::write(b"\n");

@@ -8,10 +8,14 @@ pub fn write(s: &[u8]) {
     io::write_all(STDOUT_FILENO, s);
 }
 
+pub fn write_number(n: u64) {
+    io::print_decimal(STDOUT_FILENO, n);
+}
+
 // `refused N`
 pub fn write_refusal(n: u8) {
     write(b"refused ");
-    io::print_decimal(STDOUT_FILENO, n as u64);
+    write_number(n as u64);
 }
 
 fn digit(n: u8) -> u8 {

@@ -2,7 +2,9 @@
 // A script is a run of cases to its end. Each output is filled with EE before its call, and a line ends with ` dirty` where a byte that must keep its old
 // value lost it.
 mod cases;
+mod fields;
 mod lines;
+mod outputs;
 
 ghost use mathlib.Core.Path.{_≡_};
 ghost use lib.ListN.{length};

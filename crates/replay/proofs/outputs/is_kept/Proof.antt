@@ -2,8 +2,8 @@ use Prim.Native.Nat.{_-_}
 use native.Mathlib.Omega.{arith}
 use lib.ListN.{length}
 use borrow.Author.Needs.{needs}
-use Rattle.replay.proofs.cases.is_kept.Statement.{statement}
-use Rattle.replay.proofs.cases.is_kept.Tie as tie
+use Rattle.replay.proofs.outputs.is_kept.Statement.{statement}
+use Rattle.replay.proofs.outputs.is_kept.Tie as tie
 
 abbrev Inv-loop : tie.InvT-loop
 Inv-loop out from i₀ i = Unit {0}

@@ -1,0 +1,59 @@
+// The fields of a case: numbers and texts.
+use packed::read::NumberAt;
+use packed::read::TextAt;
+use packed::read::read_number;
+use packed::read::read_text;
+
+// A text of the script.
+pub struct Field {
+    pub ok: bool,
+    pub start: usize,
+    pub end: usize,
+}
+
+pub fn read_field(script: &[u8], at: usize) -> Field {
+    match read_text(script, at) {
+        TextAt::Text(start, end) => Field {
+            ok: true,
+            start: start,
+            end: end,
+        },
+        TextAt::NoText => Field {
+            ok: false,
+            start: 0,
+            end: 0,
+        },
+    }
+}
+
+// The bytes of a field.
+pub fn bytes(script: &[u8], f: Field) -> &[u8] {
+    let start = f.start;
+    let end = f.end;
+    if start <= end && end <= script.len() {
+        return &script[start..end];
+    }
+    &script[0..0]
+}
+
+// A number of the script that counts something, and the position after it.
+pub struct Count {
+    pub ok: bool,
+    pub n: usize,
+    pub end: usize,
+}
+
+pub fn read_count(script: &[u8], at: usize) -> Count {
+    match read_number(script, at) {
+        NumberAt::Number(n, end) => Count {
+            ok: true,
+            n: n as usize,
+            end: end,
+        },
+        NumberAt::NoNumber => Count {
+            ok: false,
+            n: 0,
+            end: 0,
+        },
+    }
+}
