@@ -1,0 +1,145 @@
+// Each call as C sees it. What it asks and answers is said in include/merger.h.
+ghost use mathlib.Core.Path.{_≡_};
+ghost use lib.ListN.{length};
+ghost use Rattle.model.specs.Limits.{standard};
+ghost use Rattle.ontology.specs.TableCall.{tableCall};
+ghost use Rattle.event.specs.Value.{valueCall};
+ghost use Rattle.hashing.specs.HashCalls.{hashTextCall, hashCall};
+ghost use Rattle.combining.specs.CheckCall.{checkCall};
+ghost use Rattle.combining.specs.CombineCall.{combineCall};
+ghost use Rattle.opening.specs.OpenCall.{openCall};
+ghost use Rattle.opening.specs.OpenIndex.{replied};
+ghost use Rattle.merger.specs.Batch.{batchCall};
+ghost use Rattle.merger.specs.Report.{reportCall};
+ghost use Rattle.interface.specs.Packing.{packed, packedOpened, versionAfter, packedPart};
+use crate::replies::pack_batch;
+use crate::replies::pack_opened;
+use crate::replies::pack_reply;
+use combining::check::check_event;
+use combining::combine::combine;
+use event::ask::ask_event;
+use event::lookup::ValueAt;
+use event::lookup::find_value;
+use hashing::calls::hash;
+use hashing::calls::hash_text;
+use merger::batch::batch;
+use merger::report::report;
+use ontology::replies::Reply;
+use ontology::tables::TableReply;
+use ontology::tables::check_table;
+use opening::calls::Opened;
+use opening::calls::open_dossier;
+
+#[no_mangle]
+pub extern "C" fn merger_check_table(table: &[u8]) -> u64
+    ensures { λ r. ⌜ r ≡ packed (tableCall (now (table .entry))) ⌝ }
+{
+    match check_table(table) {
+        TableReply::Accepted => pack_reply(Reply::Done(0)),
+        TableReply::Refused(n) => pack_reply(Reply::Refused(n)),
+    }
+}
+
+#[no_mangle]
+pub extern "C" fn merger_check_event(table: &[u8], event: &[u8], out: &mut [u8]) -> u64
+    ensures { λ r. ⌜ r ≡ packed (checkCall (now (table .entry)) (now (event .entry)) (now (out .entry)) .reply) ⌝ }
+    ensures { λ _. ⌜ now (out .exit) ≡ checkCall (now (table .entry)) (now (event .entry)) (now (out .entry)) .bytes ⌝ }
+{
+    pack_reply(check_event(table, event, out))
+}
+
+#[no_mangle]
+pub extern "C" fn merger_combine<'a>(
+    table: &[u8],
+    left: &'a [u8],
+    right: &'a [u8],
+    out: &mut [u8],
+) -> u64
+    ensures { λ r. ⌜ r ≡ packed (combineCall standard (now (table .entry)) (now (left .entry)) (now (right .entry)) (now (out .entry)) .reply) ⌝ }
+    ensures { λ _. ⌜ now (out .exit) ≡ combineCall standard (now (table .entry)) (now (left .entry)) (now (right .entry)) (now (out .entry)) .bytes ⌝ }
+{
+    pack_reply(combine(table, left, right, out))
+}
+
+// The event version of a conflict, or what was there before.
+fn conflict_version(r: Opened, old: u64) -> u64
+    ensures { λ v. ⌜ v ≡ versionAfter (replied r) old ⌝ }
+{
+    match r {
+        Opened::Merged(_) => old,
+        Opened::Conflict(version, _) => version.0,
+        Opened::Overfull(_) => old,
+        Opened::Refused(_) => old,
+    }
+}
+
+#[no_mangle]
+pub extern "C" fn merger_open(
+    table: &[u8],
+    dossier: &[u8],
+    out: &mut [u8],
+    version: &mut u64,
+) -> u64
+    ensures { λ r. ⌜ r ≡ packedOpened (openCall standard (now (table .entry)) (now (dossier .entry)) (now (out .entry)) .reply) ⌝ }
+    ensures { λ _. ⌜ now (out .exit) ≡ openCall standard (now (table .entry)) (now (dossier .entry)) (now (out .entry)) .bytes ⌝ }
+    ensures { λ _. ⌜ now (version .exit) ≡ versionAfter (openCall standard (now (table .entry)) (now (dossier .entry)) (now (out .entry)) .reply) (now (version .entry)) ⌝ }
+{
+    let r = open_dossier(table, dossier, out);
+    *version = conflict_version(r, *version);
+    pack_opened(r)
+}
+
+#[no_mangle]
+pub extern "C" fn merger_value(table: &[u8], event: &[u8], place: usize, index: usize) -> u64
+    ensures { λ r. ⌜ r ≡ packedPart (valueCall (now (table .entry)) (now (event .entry)) place index) ⌝ }
+{
+    let asked = ask_event(table, event, true);
+    if asked.number != 0 {
+        return 0;
+    }
+    let x = asked.event;
+    match find_value(event, x, place, index) {
+        ValueAt::Value(start, end) => (end - start) as u64 % 268435456
+            + start as u64 % 268435456 * 268435456,
+        ValueAt::NoValue => 0,
+    }
+}
+
+#[no_mangle]
+pub extern "C" fn merger_hash_text(table: &[u8], event: &[u8], out: &mut [u8]) -> u64
+    ensures { λ r. ⌜ r ≡ packed (hashTextCall (now (table .entry)) (now (event .entry)) (now (out .entry)) .reply) ⌝ }
+    ensures { λ _. ⌜ now (out .exit) ≡ hashTextCall (now (table .entry)) (now (event .entry)) (now (out .entry)) .bytes ⌝ }
+{
+    pack_reply(hash_text(table, event, out))
+}
+
+#[no_mangle]
+pub extern "C" fn merger_hash(table: &[u8], event: &[u8], out: &mut [u8]) -> u64
+    ensures { λ r. ⌜ r ≡ packed (hashCall (now (table .entry)) (now (event .entry)) (now (out .entry)) .reply) ⌝ }
+    ensures { λ _. ⌜ now (out .exit) ≡ hashCall (now (table .entry)) (now (event .entry)) (now (out .entry)) .bytes ⌝ }
+{
+    pack_reply(hash(table, event, out))
+}
+
+#[no_mangle]
+pub extern "C" fn merger_batch(
+    table: &[u8],
+    events: &[u8],
+    out: &mut [u8],
+    a: &mut [u8],
+    b: &mut [u8],
+    c: &mut [u8],
+) -> u64
+    ensures { λ r. ⌜ r ≡ packed (batchCall standard (record { output = length (now (out .entry)); first = length (now (a .entry)); second = length (now (b .entry)); third = length (now (c .entry)) }) (now (table .entry)) (now (events .entry)) (now (out .entry)) .reply) ⌝ }
+    ensures { λ _. ⌜ now (out .exit) ≡ batchCall standard (record { output = length (now (out .entry)); first = length (now (a .entry)); second = length (now (b .entry)); third = length (now (c .entry)) }) (now (table .entry)) (now (events .entry)) (now (out .entry)) .bytes ⌝ }
+{
+    pack_batch(batch(table, events, out, a, b, c))
+}
+
+#[no_mangle]
+pub extern "C" fn merger_report(input: &[u8], out: &mut [u8]) -> u64
+    ensures { λ r. ⌜ r ≡ packed (reportCall (now (input .entry)) (now (out .entry)) .reply) ⌝ }
+    ensures { λ _. ⌜ now (out .exit) ≡ reportCall (now (input .entry)) (now (out .entry)) .bytes ⌝ }
+{
+    pack_reply(report(input, out))
+}
