@@ -1,0 +1,17 @@
+# archive  proves and builds the archive; it and its header stand in target/merger/
+# test     every test over the archive
+# bench    the archive's times beside the independent implementation's
+
+.PHONY: archive test bench
+
+archive:
+	rt staticlib interface
+	mkdir -p target/merger
+	cp target/staticlib/libinterface.a include/merger.h target/merger/
+
+test:
+	tests/run
+
+bench: archive
+	MERGER_LIB_DIR=$(CURDIR)/target/merger CARGO_TARGET_DIR=$(CURDIR)/target/cargo \
+		cargo run --quiet --release --locked --offline --manifest-path bench/Cargo.toml

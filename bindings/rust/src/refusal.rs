@@ -1,0 +1,74 @@
+//! Why a call was refused.
+
+use std::error::Error;
+use std::fmt;
+
+/// The question whose answer was no. Each has its number in the profile.
+#[derive(Clone, Copy, Debug, PartialEq, Eq, PartialOrd, Ord, Hash)]
+pub enum Question {
+    Room = 1,
+    Table,
+    Layout,
+    Type,
+    Shape,
+    Values,
+    Collision,
+    Limits,
+    Frame,
+}
+
+impl Question {
+    /// By number, from 1.
+    pub const ALL: [Question; 9] = [
+        Question::Room,
+        Question::Table,
+        Question::Layout,
+        Question::Type,
+        Question::Shape,
+        Question::Values,
+        Question::Collision,
+        Question::Limits,
+        Question::Frame,
+    ];
+
+    pub fn number(self) -> u8 {
+        self as u8
+    }
+}
+
+impl fmt::Display for Question {
+    fn fmt(&self, text: &mut fmt::Formatter) -> fmt::Result {
+        text.write_str(match self {
+            Question::Room => "has each output and scratch buffer enough room?",
+            Question::Table => "does the table meet every rule?",
+            Question::Layout => "does the input read by its layout to its exact end?",
+            Question::Type => "has the table the input's type?",
+            Question::Shape => "do the presence bits, counts and marks fit the type?",
+            Question::Values => "is every value in its space?",
+            Question::Collision => "do the inputs agree in type, source URI and match sets?",
+            Question::Limits => "are the events together inside the limits?",
+            Question::Frame => "does the batch frame read to its exact end?",
+        })
+    }
+}
+
+/// A refused call: the first question whose answer was no, and in a batch the position, from 0, of
+/// the event that it was asked of.
+#[derive(Clone, Copy, Debug, PartialEq, Eq, Hash)]
+pub struct Refusal {
+    pub question: Question,
+    pub position: usize,
+}
+
+impl fmt::Display for Refusal {
+    fn fmt(&self, text: &mut fmt::Formatter) -> fmt::Result {
+        let number = self.question.number();
+        write!(text, "refused, no to question {number}: {}", self.question)?;
+        match self.position {
+            0 => Ok(()),
+            position => write!(text, " (event {position} of the batch)"),
+        }
+    }
+}
+
+impl Error for Refusal {}

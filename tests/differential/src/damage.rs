@@ -1,0 +1,157 @@
+//! Damaged copies: of bytes, and of events and dossiers field by field.
+
+use crate::random::Random;
+use crate::value::spoil;
+use independent::dossier::Dossier;
+use independent::event::{Counts, Event, Head, Sets};
+use std::collections::BTreeSet;
+
+/// A copy with a byte flipped, cut, inserted or the like.
+pub fn damage_bytes(random: &mut Random, bytes: &[u8]) -> Vec<u8> {
+    let mut damaged = bytes.to_vec();
+    let place = random.below(bytes.len().max(1));
+    let length = random.below(4).min(bytes.len() - place.min(bytes.len()));
+    match random.below(8) {
+        0 => damaged.truncate(place),
+        1 => damaged.insert(place, random.byte()),
+        2 => damaged.push(random.byte()),
+        3 => drop(damaged.drain(place..place + length)),
+        4 => damaged.extend_from_within(place..place + length),
+        _ if bytes.is_empty() => damaged.push(random.byte()),
+        5 => damaged[place] ^= 1 << random.below(8),
+        6 => damaged[place] = damaged[place].wrapping_add(1),
+        _ => damaged[place] = random.byte(),
+    }
+    damaged
+}
+
+/// A copy of a packed event with a field changed, or damaged as bytes where it does not read.
+pub fn damage_event(random: &mut Random, bytes: &[u8]) -> Vec<u8> {
+    let odd = Odd::random(random, bytes);
+    match Event::read(bytes, Counts::MERGED) {
+        Some(mut event) if !random.one_in(3) => {
+            match random.below(4) {
+                0 => odd.change_head(random, &mut event.head),
+                _ => odd.change_sets(random, &mut event.sets),
+            }
+            event.write()
+        }
+        _ => damage_bytes(random, bytes),
+    }
+}
+
+/// A copy of a packed dossier with a field changed, or damaged as bytes where it does not read.
+pub fn damage_dossier(random: &mut Random, bytes: &[u8]) -> Vec<u8> {
+    let odd = Odd::random(random, bytes);
+    match Dossier::read(bytes) {
+        Some(mut dossier) if !random.one_in(3) => {
+            match random.below(6) {
+                0 => odd.change_head(random, &mut dossier.head),
+                1 | 2 => change_snapshots(random, &mut dossier),
+                _ => {
+                    let mut snapshots: Vec<_> = dossier.snapshots.values_mut().collect();
+                    let chosen = random.draw(&mut snapshots);
+                    odd.change_sets(random, &mut chosen.sets);
+                }
+            }
+            dossier.write()
+        }
+        _ => damage_bytes(random, bytes),
+    }
+}
+
+fn change_snapshots(random: &mut Random, dossier: &mut Dossier) {
+    let versions: Vec<u64> = dossier.snapshots.keys().copied().collect();
+    let version = *random.pick(&versions);
+    let place = random.below(34);
+    let other = random.number_of_bits(64);
+    let snapshot = dossier.snapshots.get_mut(&version).expect("a version");
+    match random.below(6) {
+        0 => {
+            snapshot.differ.insert(place);
+            snapshot.sets.remove(&place);
+        }
+        1 => {
+            snapshot.differ.insert(place);
+        }
+        2 => {
+            snapshot.differ.pop_last();
+        }
+        3 => {
+            let copy = snapshot.clone();
+            dossier.snapshots.insert(other, copy);
+        }
+        4 => {
+            let copy = snapshot.clone();
+            dossier
+                .snapshots
+                .extend((0..9).map(|more| (more, copy.clone())));
+        }
+        _ => {
+            let moved = dossier.snapshots.remove(&version);
+            dossier.snapshots.extend(moved.map(|moved| (other, moved)));
+        }
+    }
+}
+
+/// What damage puts into an event or a dossier.
+struct Odd {
+    values: Vec<Vec<u8>>,
+    sources: Vec<Vec<u8>>,
+    names: Vec<Vec<u8>>,
+    parents: Vec<Vec<u8>>,
+}
+
+impl Odd {
+    fn random(random: &mut Random, bytes: &[u8]) -> Self {
+        let place = random.below(bytes.len().max(1));
+        let part = &bytes[place.min(bytes.len())..];
+        let part = &part[..part.len().min(6)];
+        let parents = random.between(1, 33);
+        Odd {
+            values: (0..40).map(|_| spoil(random, part)).collect(),
+            sources: vec![
+                vec![],
+                b"/other/".to_vec(),
+                b"/a b/".to_vec(),
+                vec![b'/'; 120],
+                vec![b'/'; 121],
+            ],
+            names: vec![vec![], b"other".to_vec(), vec![b'a'; 65]],
+            parents: (0..parents).map(|_| random.bytes(20)).collect(),
+        }
+    }
+
+    fn change_head<'s>(&'s self, random: &mut Random, head: &mut Head<'s>) {
+        match random.below(3) {
+            0 => head.source = random.pick(&self.sources).as_slice(),
+            1 => head.type_name = random.pick(&self.names).as_slice(),
+            _ => head.parents.extend(self.parents.iter().map(Vec::as_slice)),
+        }
+    }
+
+    fn change_sets<'s>(&'s self, random: &mut Random, sets: &mut Sets<'s>) {
+        let places: Vec<usize> = sets.keys().copied().collect();
+        let chosen = match places.len() {
+            0 => 0,
+            _ => *random.pick(&places),
+        };
+        let other = random.below(34);
+        let odd = random.pick(&self.values).as_slice();
+        match random.below(7) {
+            0 => drop(sets.remove(&chosen)),
+            1 => {
+                let moved = sets.remove(&chosen);
+                sets.extend(moved.map(|moved| (other, moved)));
+            }
+            2 => drop(sets.insert(other, BTreeSet::from([odd]))),
+            3 => drop(sets.insert(chosen, BTreeSet::from([odd]))),
+            4 => drop(sets.insert(chosen, BTreeSet::new())),
+            5 => {
+                let all = self.values.iter().map(Vec::as_slice);
+                sets.entry(chosen).or_default().extend(all);
+            }
+            _ => drop(sets.entry(chosen).or_default().insert(odd)),
+        }
+    }
+}

@@ -1,0 +1,64 @@
+//! The proved archive, as an implementation that cases can be put to.
+
+use independent::case::Case;
+use independent::script::{range_in, Merger, Reply};
+use merger::{Opened, Refusal};
+
+pub struct Proved;
+
+impl Merger for Proved {
+    fn call(&self, case: &Case, out: &mut [u8]) -> Reply {
+        use Case::*;
+        match case {
+            CheckTable { table } => done(merger::check_table(table).map(|()| &[][..])),
+            CheckEvent { table, event, .. } => done(merger::check_event(table, event, out)),
+            Combine {
+                table, left, right, ..
+            } => done(merger::combine(table, left, right, out)),
+            Open { table, dossier, .. } => opened(merger::open(table, dossier, out)),
+            Value {
+                table,
+                event,
+                place,
+                index,
+            } => {
+                let value = merger::value(table, event, *place as usize, *index as usize);
+                Reply::Value(value.map(|value| range_in(event, value)))
+            }
+            HashText { table, event, .. } => done(merger::hash_text(table, event, out)),
+            Hash { table, event, .. } => done(merger::hash(table, event, out)),
+            Batch {
+                scratch,
+                table,
+                batch,
+                ..
+            } => {
+                // Scratch may hold anything before.
+                let mut buffers = scratch.map(|room| vec![0xA5; room]);
+                let scratch = buffers.each_mut().map(Vec::as_mut_slice);
+                done(merger::batch(table, batch, out, scratch))
+            }
+            Report { input } => done(merger::report(input, out)),
+        }
+    }
+}
+
+fn done(answer: Result<&[u8], Refusal>) -> Reply {
+    answer.map_or_else(refused, |written| Reply::Done(written.len()))
+}
+
+fn opened(answer: Result<Opened, Refusal>) -> Reply {
+    match answer {
+        Ok(Opened::Merged(event)) => Reply::Merged(event.len()),
+        Ok(Opened::Conflict { version, place }) => Reply::Conflict { version, place },
+        Ok(Opened::Overfull { place }) => Reply::Overfull { place },
+        Err(refusal) => refused(refusal),
+    }
+}
+
+fn refused(refusal: Refusal) -> Reply {
+    Reply::Refused {
+        number: refusal.question.number(),
+        position: refusal.position,
+    }
+}

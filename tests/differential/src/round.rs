@@ -1,0 +1,286 @@
+//! A round of calls over one family: what earlier calls gave is handed to later ones.
+
+use crate::compare::{Comparison, Difference};
+use crate::damage::{damage_bytes, damage_dossier, damage_event};
+use crate::family::Family;
+use crate::random::Random;
+use independent::calls::{DOSSIER_ROOM, HASH_ROOM, HASH_TEXT_ROOM};
+use independent::case::{Case, MOST_ROOM};
+use independent::packed::{put_count, put_text};
+use independent::script::{Outcome, Reply};
+
+/// Calls with free choice of inputs, beside the trees.
+const FREE_CALLS: usize = 150;
+/// As many events and dossiers are kept for later calls.
+const MOST_KEPT: usize = 40;
+
+pub struct Round<'r> {
+    family: Family,
+    random: &'r mut Random,
+    comparison: &'r mut Comparison,
+    /// Packed events: of the family, damaged and merged ones.
+    events: Vec<Vec<u8>>,
+    dossiers: Vec<Vec<u8>>,
+}
+
+impl<'r> Round<'r> {
+    pub fn new(random: &'r mut Random, comparison: &'r mut Comparison) -> Self {
+        let family = Family::random(random);
+        let events = (0..16).map(|_| family.event(random).write()).collect();
+        Round {
+            family,
+            random,
+            comparison,
+            events,
+            dossiers: Vec::new(),
+        }
+    }
+
+    pub fn run(&mut self) -> Result<(), Difference> {
+        for _ in 0..2 {
+            self.tree()?;
+        }
+        for _ in 0..FREE_CALLS {
+            let case = self.free_case();
+            let outcome = self.comparison.run(&case)?;
+            self.keep(&case, &outcome);
+        }
+        Ok(())
+    }
+
+    /// Checks events and combines their dossiers in a random tree. A batch of the same events has
+    /// to give the same bytes, or the same refusal.
+    fn tree(&mut self) -> Result<(), Difference> {
+        let count = self.random.between(1, 16);
+        let events: Vec<_> = (0..count)
+            .map(|_| self.family.event(self.random).write())
+            .collect();
+        let way = self.way(&events)?;
+        let batch = Case::Batch {
+            room: DOSSIER_ROOM,
+            scratch: [DOSSIER_ROOM; 3],
+            table: self.family.table.clone(),
+            batch: frame(&events),
+        };
+        let outcome = self.comparison.run(&batch)?;
+        if outcome.reply == way.reply && outcome.written() == way.written() {
+            Ok(())
+        } else {
+            Err(Difference::between_ways(batch))
+        }
+    }
+
+    /// The last call of a random tree over the events, or the first refused one.
+    fn way(&mut self, events: &[Vec<u8>]) -> Result<Outcome, Difference> {
+        let mut outcomes = Vec::new();
+        for event in events {
+            let outcome = self.comparison.run(&Case::CheckEvent {
+                room: DOSSIER_ROOM,
+                table: self.family.table.clone(),
+                event: event.clone(),
+            })?;
+            outcomes.push(outcome);
+        }
+        while outcomes.len() > 1 {
+            let left = self.random.draw(&mut outcomes);
+            let right = self.random.draw(&mut outcomes);
+            let case = Case::Combine {
+                room: DOSSIER_ROOM,
+                table: self.family.table.clone(),
+                left: left.written().to_vec(),
+                right: right.written().to_vec(),
+            };
+            let both = self.comparison.run(&case)?;
+            self.keep(&case, &both);
+            if let Reply::Refused { .. } = both.reply {
+                return Ok(both);
+            }
+            outcomes.push(both);
+        }
+        Ok(outcomes.remove(0))
+    }
+
+    /// Keeps what later calls can be handed.
+    fn keep(&mut self, case: &Case, outcome: &Outcome) {
+        let kept = match case {
+            Case::CheckEvent { .. } | Case::Combine { .. } | Case::Batch { .. } => {
+                &mut self.dossiers
+            }
+            Case::Open { .. } => &mut self.events,
+            _ => return,
+        };
+        let written = outcome.written();
+        if written.is_empty() {
+            return;
+        }
+        if kept.len() >= MOST_KEPT {
+            self.random.draw(kept);
+        }
+        kept.push(written.to_vec());
+    }
+
+    fn free_case(&mut self) -> Case {
+        match self.random.below(16) {
+            0 => Case::CheckTable {
+                table: self.broken_table(),
+            },
+            1..=2 => Case::CheckEvent {
+                room: self.room(DOSSIER_ROOM),
+                table: self.table(),
+                event: self.event(),
+            },
+            3..=6 => Case::Combine {
+                room: self.room(DOSSIER_ROOM),
+                table: self.table(),
+                left: self.dossier(),
+                right: self.dossier(),
+            },
+            7..=9 => Case::Open {
+                room: self.room(DOSSIER_ROOM),
+                table: self.table(),
+                dossier: self.dossier(),
+            },
+            call => self.free_reading(call),
+        }
+    }
+
+    fn free_reading(&mut self, call: usize) -> Case {
+        match call {
+            10..=11 => Case::Value {
+                table: self.table(),
+                event: self.event(),
+                place: self.below_or_far(self.family.places()),
+                index: self.below_or_far(2),
+            },
+            12 => Case::HashText {
+                room: self.room(HASH_TEXT_ROOM),
+                table: self.table(),
+                event: self.event(),
+            },
+            13 => Case::Hash {
+                room: self.room(HASH_ROOM),
+                table: self.table(),
+                event: self.event(),
+            },
+            14 => Case::Batch {
+                room: self.room(DOSSIER_ROOM),
+                scratch: [DOSSIER_ROOM; 3].map(|least| self.room(least)),
+                table: self.table(),
+                batch: self.batch(),
+            },
+            _ => Case::Report {
+                input: self.input(),
+            },
+        }
+    }
+
+    /// Mostly below `bound`, else anywhere.
+    fn below_or_far(&mut self, bound: usize) -> u64 {
+        match self.random.below(16) {
+            0 => self.random.number_of_bits(64),
+            _ => self.random.below(bound) as u64,
+        }
+    }
+
+    /// Mostly the least room that suffices.
+    fn room(&mut self, least: usize) -> usize {
+        match self.random.below(40) {
+            0 => least - 1,
+            1 => self.random.below(least),
+            2 => least + self.random.below(MOST_ROOM - least),
+            _ => least,
+        }
+    }
+
+    fn table(&mut self) -> Vec<u8> {
+        if self.random.one_in(40) {
+            self.broken_table()
+        } else {
+            self.family.table.clone()
+        }
+    }
+
+    fn broken_table(&mut self) -> Vec<u8> {
+        let table = if self.random.one_in(2) {
+            self.family.draft.broken(self.random).pack()
+        } else {
+            self.family.table.clone()
+        };
+        if self.random.one_in(3) {
+            damage_bytes(self.random, &table)
+        } else {
+            table
+        }
+    }
+
+    /// An event of the family, or one that came about; now and then a damaged copy.
+    fn event(&mut self) -> Vec<u8> {
+        let event = if self.random.one_in(2) {
+            self.family.event(self.random).write()
+        } else {
+            self.random.pick(&self.events).clone()
+        };
+        if self.random.one_in(5) {
+            damage_event(self.random, &event)
+        } else {
+            event
+        }
+    }
+
+    fn dossier(&mut self) -> Vec<u8> {
+        if self.dossiers.is_empty() {
+            return self.event();
+        }
+        let dossier = self.random.pick(&self.dossiers).clone();
+        if self.random.one_in(6) {
+            damage_dossier(self.random, &dossier)
+        } else {
+            dossier
+        }
+    }
+
+    fn batch(&mut self) -> Vec<u8> {
+        let count = match self.random.below(20) {
+            0 => self.random.below(20),
+            _ => self.random.between(1, 16),
+        };
+        // One damaged event in most batches: with one in five, hardly a batch would be whole.
+        let mut events: Vec<_> = (0..count)
+            .map(|_| self.family.event(self.random).write())
+            .collect();
+        if count > 0 && self.random.one_in(2) {
+            let place = self.random.below(count);
+            events[place] = self.event();
+        }
+        let batch = frame(&events);
+        if self.random.one_in(12) {
+            damage_bytes(self.random, &batch)
+        } else {
+            batch
+        }
+    }
+
+    fn input(&mut self) -> Vec<u8> {
+        let mut input = Vec::new();
+        put_text(&mut input, &self.table());
+        input.extend(self.batch());
+        match self.random.below(30) {
+            0 => damage_bytes(self.random, &input),
+            1 => {
+                input.resize(65_537, 0);
+                input
+            }
+            _ => input,
+        }
+    }
+}
+
+/// The events as a batch.
+fn frame(events: &[Vec<u8>]) -> Vec<u8> {
+    let mut batch = Vec::new();
+    put_count(&mut batch, events.len());
+    for event in events {
+        put_text(&mut batch, event);
+    }
+    batch
+}
