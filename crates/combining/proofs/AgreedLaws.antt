@@ -27,6 +27,7 @@ use Rattle.dossier.specs.DossierIndex.{CellsAre, SnapshotIs, SnapshotReads}
 use Rattle.dossier.specs.declared.snapshots.SnapshotIndex.{SnapshotIndex}
 use Rattle.dossier.proofs.CellLaws.{held-at, cell-here, bits-next}
 use Rattle.dossier.proofs.AskLaws.{reads-got}
+use Rattle.dossier.proofs.VersionLaws.{cells-are}
 use Rattle.combining.specs.CombineIndex.{bitOf, Meet}
 use Rattle.combining.specs.AgreedIndex.{isAgreed, isFilled, PlacesAre, placeBytes, presentBytes}
 use Rattle.combining.specs.declared.agreed.Places.{Places}
@@ -118,9 +119,6 @@ pub record PlacesSofar (ty : EventType) (left right : Snapshot) (present marked 
   pub differing : take k marked ≡ take k (map isMark (joinSnapshots (view ty) left right .cells))
   pub left-bits : m ≡ bitNumber (map differBit (drop k (left .cells)))
   pub right-bits : n ≡ bitNumber (map differBit (drop k (right .cells)))
-
-pub snapshot-cells : (s : List ℕ) (x : Snapshot) (i : SnapshotIndex) → SnapshotIs s x i → CellsAre s (x .cells) (i .differ) (i .sets)
-snapshot-cells s x i w = record { bits = w .differ; sets = w .sets }
 
 module _ (a b : List ℕ) (e f : ℕ) (ats bts : List SetAt) (ty : EventType) (left right : Snapshot) (v : isVersioned ty ≡ true) (x : CellsAre a (left .cells) e ats) (y : CellsAre b (right .cells) f bts) where
   left-long : length (left .cells) ≡ 32
@@ -229,7 +227,7 @@ module _ {a b : List ℕ} {i j : SnapshotIndex} {found : Places} {ty : EventType
   parts : number (i .version .0) ++ number (bitNumber (map bitOf (found .present))) ++ number (bitNumber (map bitOf (found .marked))) ++ kept ≡ snapshotBytes (joinSnapshots (view ty) left right)
   parts =
       ap (λ (n : ℕ). number n ++ number (bitNumber (map bitOf (found .present))) ++ number (bitNumber (map bitOf (found .marked))) ++ kept) (w .left-is .version)
-      ∙ agreed-bytes a b (i .differ) (j .differ) (i .sets) (j .sets) ty left right (w .versioned) (snapshot-cells a left i (w .left-is)) (snapshot-cells b right j (w .right-is)) found (w .are)
+      ∙ agreed-bytes a b (i .differ) (j .differ) (i .sets) (j .sets) ty left right (w .versioned) (cells-are a left i (w .left-is)) (cells-are b right j (w .right-is)) found (w .are)
 
   pub both-length : length (snapshotBytes (joinSnapshots (view ty) left right)) ≡ length (number (i .version .0)) + length (number (bitNumber (map bitOf (found .present)))) + length (number (bitNumber (map bitOf (found .marked)))) + length kept
   both-length = ap length (sym parts) ∙ simp length-append

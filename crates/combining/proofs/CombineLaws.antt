@@ -25,7 +25,7 @@ use Rattle.dossier.specs.DossierIndex.{DossierIs, IsDossier, DossierReads, Doss
 use Rattle.dossier.specs.declared.dossiers.DossierIndex.{DossierIndex}
 use Rattle.dossier.specs.declared.questions.DossierAsked.{DossierAsked}
 use Rattle.combining.specs.CombineCall.{headedAs, combined, combineAnswer, combineCall}
-use Rattle.combining.specs.CombineIndex.{Combinable}
+use Rattle.combining.specs.CombineIndex.{Known, Combinable}
 use Rattle.ontology.specs.Replies.{replies}
 use Rattle.ontology.specs.declared.replies.Reply.the-variants.{Done, Refused}
 use Rattle.ontology.proofs.TypeIndexLaws.{table-refused, table-got, found-few}
@@ -123,6 +123,23 @@ module _ (table a : List ℕ) (d : DossierIndex) (b : List ℕ) (e : DossierInde
       left-read = h .left .stands;
       right-read = h .right .stands;
     }
+
+-- so of dossiers of which the questions are known to be answered yes
+pub known-read :
+    {table a b : List ℕ} {t : TypeIndex} (d e : DossierIndex) → Known table a b t →
+    DossierReads (dossierOf standard a) a d → DossierReads (dossierOf standard b) b e → Combinable table a d b e t
+known-read {table} {a} {b} {t} d e k v w = record {
+  types = k .types;
+  is = k .is;
+  left = k .left;
+  right = k .right;
+  left-asked = k .left-asked;
+  right-asked = k .right-asked;
+  agree = k .agree;
+  typed = k .typed;
+  left-read = reads-is a d (k .left .headed) v (dossier-taken (k .types) a (k .left) (k .left-asked) .read);
+  right-read = reads-is b e (k .right .headed) w (dossier-taken (k .types) b (k .right) (k .right-asked) .read);
+}
 
 -- ---- question 8
 

@@ -15,6 +15,7 @@ use Rattle.model.specs.Limits.{standard, fits}
 use Rattle.model.specs.Opening.{cellAt, held}
 use Rattle.model.proofs.Cases.{and-parts, or-part}
 use Rattle.packed.proofs.LayoutLaws.{All}
+use Rattle.packed.proofs.ReadLaws.{to-end}
 use Rattle.ontology.specs.Table.{EventType, Table, isVersioned}
 use Rattle.ontology.specs.declared.types.TypeIndex.{TypeIndex}
 use Rattle.event.specs.Event.{view}
@@ -25,7 +26,6 @@ use Rattle.dossier.specs.DossierIndex.{noSnapshot, cellFits, versionFits, snaps
 use Rattle.dossier.specs.declared.dossiers.DossierIndex.{DossierIndex}
 use Rattle.dossier.proofs.AskLaws.{start-within}
 use Rattle.dossier.proofs.DossierLayoutLaws.{DossierWritten}
-use Rattle.dossier.proofs.DossierReadLaws.{to-end}
 use Rattle.dossier.proofs.AcceptedLaws.{DossierTaken, taken-written, taken-lone, taken-fits}
 use Rattle.combining.specs.CombineCall.{combined}
 use Rattle.combining.specs.CombineIndex.{Combinable, Meet}
@@ -143,10 +143,10 @@ module _ (table a : List ℕ) (d : DossierIndex) (b : List ℕ) (e : DossierInde
     pub unversioned : isVersioned ty ≡ false
     unversioned = le-ltb 0 (ty .mark) (omega (arith, c .typed .mark))
 
-    left-one : length (snapshots (c .left)) ≡ 1
+    pub left-one : length (snapshots (c .left)) ≡ 1
     left-one = one-snapshot (left-taken c) unversioned
 
-    right-one : length (snapshots (c .right)) ≡ 1
+    pub right-one : length (snapshots (c .right)) ≡ 1
     right-one = one-snapshot (right-taken c) (ap isVersioned (sym (same-type c)) ∙ unversioned)
 
     abbrev x : Snapshot

@@ -23,33 +23,33 @@ use Rattle.packed.specs.Parse.{got}
 use Rattle.packed.specs.Packed.{number, text}
 use Rattle.packed.specs.Written.{Wrote}
 use Rattle.packed.proofs.LayoutLaws.{lt-or-ge}
-use Rattle.packed.proofs.WriteLaws.{wrote-length, wrote-then, ToGo}
+use Rattle.packed.proofs.WriteLaws.{wrote-length, wrote-then, ToGo, wrote-as}
 use Rattle.unions.specs.Runs.{TextsRoom}
 use Rattle.values.specs.Spaces.{Kind, kindNumber, inSpace}
 use Rattle.values.specs.ValueOrder.{valueOrder}
-use Rattle.ontology.specs.Table.{Strategy, min, max, add, replace, match, any, strategyNumber, Property, EventType, isMin, isMax, isVersioned}
+use Rattle.ontology.specs.Table.{Property, EventType, isMin, isMax, isVersioned}
 use Rattle.ontology.specs.Table as table
 use Rattle.ontology.specs.TypeIndex.{PropertyIs, TypeIs}
 use Rattle.ontology.specs.declared.properties.PropertyAt.{PropertyAt}
 use Rattle.ontology.specs.declared.types.TypeIndex.{TypeIndex}
-use Rattle.event.specs.Event.{choiceOf, atPlace, view}
+use Rattle.event.specs.Event.{atPlace, view}
 use Rattle.event.specs.EventLayout.{setBytes, setsBytes, presenceBit, bitNumber}
 use Rattle.event.specs.EventQuestions.{areInSpace, matchCount, valuesFit}
 use Rattle.event.specs.EventIndex.{SetIs, noSet}
 use Rattle.event.specs.declared.sets.SetAt.{SetAt}
 use Rattle.event.proofs.EventLayoutLaws.{SetWritten}
-use Rattle.event.proofs.EventQuestionLaws.{all-at, each-place-at, empty-written}
+use Rattle.event.proofs.EventQuestionLaws.{all-at, each-place-at, empty-written, choice-least}
 use Rattle.dossier.specs.DossierLayout.{readSnapshot, differBit, snapshotBytes}
 use Rattle.dossier.specs.DossierQuestions.{eachCell, isVacant, isPresent, isLone, isLoneIfExtreme, snapshotValues}
-use Rattle.dossier.specs.DossierIndex.{SnapshotIs, SnapshotReads, cellFits, placeFits, versionFits, snapshotFits}
+use Rattle.dossier.specs.DossierIndex.{SnapshotIs, cellFits, placeFits, versionFits, snapshotFits}
 use Rattle.dossier.specs.declared.snapshots.SnapshotIndex.{SnapshotIndex}
 use Rattle.dossier.proofs.DossierLayoutLaws.{snapshot-was}
 use Rattle.dossier.proofs.CellLaws.{held-at}
-use Rattle.dossier.proofs.AskLaws.{reads-got}
 use Rattle.combining.specs.CombineIndex.{bitOf, isExtremeAt, Fitting, Meet}
 use Rattle.combining.specs.JoinedIndex.{haveObjects, PresentAre, extremeOrder, Extremes, joinedSet, Paired, PlaceIs, PlaceRoom}
 use Rattle.combining.proofs.PlaceLaws.{set-room, wrote-set}
 use Rattle.combining.proofs.CheckLaws.{sets-held, none-differ}
+use Rattle.combining.proofs.ObjectLaws.{keeps-every}
 
 -- ---- the smaller or larger of two values
 
@@ -114,40 +114,14 @@ extreme-at ty p h = go (getElem? (ty .properties) p) refl h
     go none e h = never (cc)
     go (some q) e h = record { what = q; is = e; extreme = h }
 
-every-at : (ty : EventType) (p : ℕ) → isExtremeAt ty p ≡ false → view ty .choice p ≡ every
-unfolding isExtremeAt view choiceOf atPlace
-every-at ty p h = go (getElem? (ty .properties) p) h
-  where
-    strategy : (s : Strategy) (q : Property) → (eqb (strategyNumber s) 1 || eqb (strategyNumber s) 2) ≡ false → choiceOf s q ≡ every
-    strategy min q h = never (cc)
-    strategy max q h = never (cc)
-    strategy add q h = refl
-    strategy replace q h = refl
-    strategy match q h = refl
-    strategy table.set q h = refl
-    strategy any q h = refl
-
-    go : (o : Option Property) → atPlace false (λ (q : Property). isMin q || isMax q) o ≡ false → atPlace every (λ (q : Property). choiceOf (q .strategy) q) o ≡ every
-    go none h = refl
-    go (some q) h = strategy (q .strategy) q h
-
 least-at : (ty : EventType) (p : ℕ) (e : ExtremeAt ty p) → view ty .choice p ≡ least (extremeOrder (isMax (e .what)) (e .what .kind))
-unfolding view atPlace choiceOf
-least-at ty p e = rw (e .is) (go (e .what .strategy) (e .what) (e .extreme))
-  where
-    go : (s : Strategy) (q : Property) → (eqb (strategyNumber s) 1 || eqb (strategyNumber s) 2) ≡ true → choiceOf s q ≡ least (extremeOrder (eqb (strategyNumber s) 2) (q .kind))
-    go min q h = refl
-    go max q h = refl
-    go add q h = never (cc)
-    go replace q h = never (cc)
-    go match q h = never (cc)
-    go table.set q h = never (cc)
-    go any q h = never (cc)
+unfolding view atPlace
+least-at ty p e = rw (e .is) (choice-least (e .what .strategy) (e .what) (e .extreme))
 
 module _ (ty : EventType) (p : ℕ) (xs ys : List Text) where
   pub joined-every : isExtremeAt ty p ≡ false → joinedSet ty p xs ys ≡ union texts xs ys
   unfolding joinCell held
-  joined-every h = rw (every-at ty p h)
+  joined-every h = rw (keeps-every ty p h)
 
   pub joined-extreme : (e : ExtremeAt ty p) → joinedSet ty p xs ys ≡ take 1 (union (extremeOrder (isMax (e .what)) (e .what .kind)) xs ys)
   unfolding joinCell held
@@ -231,9 +205,6 @@ module _ (a : List ℕ) (x : SetAt) (b : List ℕ) (y : SetAt) (xs ys : List Tex
 
 -- ---- writing a place
 
-pub wrote-same : {l xs ys l′ : List ℕ} {at next : ℕ} → xs ≡ ys → Wrote l at xs l′ next → Wrote l at ys l′ next
-wrote-same {l} {xs} {ys} {l′} {at} {next} e w = subst (λ (z : List ℕ). Wrote l at z l′ next) e w
-
 -- what the chosen value asks
 module _ (t : TypeIndex) (p : ℕ) (a : List ℕ) (x : SetAt) (b : List ℕ) (y : SetAt) (some : haveObjects x y ≡ true) (h : PlaceIs t p a x b y) where
   module _ (e : isExtremeAt (h .type) p ≡ true) where
@@ -289,7 +260,7 @@ module _ (t : TypeIndex) (p : ℕ) (a : List ℕ) (x : SetAt) (b : List ℕ) (y 
 
   pub place-wrote : {l l₁ l₂ : List ℕ} {at b next : ℕ} (n : ℕ) → n ≡ length (joinedSet (h .type) p (h .xs) (h .ys)) → Wrote l at (number n) l₁ b → Wrote l₁ b (flatten (map text (joinedSet (h .type) p (h .xs) (h .ys)))) l₂ next → Wrote l at (setBytes (joinedSet (h .type) p (h .xs) (h .ys))) l₂ next
   place-wrote n e v w =
-      wrote-same (sym (some-bytes a x b y (h .xs) (h .ys) (h .left) (h .right) (h .type) p some)) (wrote-set n (joinedSet (h .type) p (h .xs) (h .ys)) e refl v w)
+      wrote-as (sym (some-bytes a x b y (h .xs) (h .ys) (h .left) (h .right) (h .type) p some)) (wrote-set n (joinedSet (h .type) p (h .xs) (h .ys)) e refl v w)
 
 pub to-go-same : {l₀ whole l l′ xs : List ℕ} {at p p′ : ℕ} → ToGo l₀ at whole l p xs → l′ ≡ l → p′ ≡ p → ToGo l₀ at whole l′ p′ xs
 to-go-same g e f = rw (e, f) g
@@ -400,13 +371,20 @@ pub record Joins (table a b : List ℕ) (t : TypeIndex) (i j : SnapshotIndex) (t
   pub left : SnapshotIs a x i
   pub right : SnapshotIs b y j
 
-pub joins : {table a b : List ℕ} {t : TypeIndex} {i j : SnapshotIndex} {ty : EventType} {x y : Snapshot} → SnapshotReads (readSnapshot a) a i → SnapshotReads (readSnapshot b) b j → TypeIs table ty t → isVersioned ty ≡ false → Meet a b ty x y → Joins table a b t i j ty x y
-joins {table} {a} {b} {t} {i} {j} {ty} {x} {y} p q w u m = record {
+-- one snapshot stands at the front
+stands-as : (s : List ℕ) (z x : Snapshot) (i : SnapshotIndex) {r : List ℕ} → SnapshotIs s z i → readSnapshot s ≡ got x r → SnapshotIs s x i
+stands-as s z x i {r} w e =
+    let g : got z (drop (i .next) s) ≡ got x r = sym (w .is) ∙ e in
+    let same : z ≡ x = cc in
+    subst (λ (y : Snapshot). SnapshotIs s y i) same w
+
+pub joins : {table a b : List ℕ} {t : TypeIndex} {i j : SnapshotIndex} {ty : EventType} {x y z v : Snapshot} → SnapshotIs a z i → SnapshotIs b v j → TypeIs table ty t → isVersioned ty ≡ false → Meet a b ty x y → Joins table a b t i j ty x y
+joins {table} {a} {b} {t} {i} {j} {ty} {x} {y} {z} {v} p q w u m = record {
   typed = w;
   unversioned = u;
   meet = m;
-  left = reads-got (readSnapshot a) a i x (m .left-rest) p (m .left-read);
-  right = reads-got (readSnapshot b) b j y (m .right-rest) q (m .right-read);
+  left = stands-as a z x i p (m .left-read);
+  right = stands-as b v y j q (m .right-read);
 }
 
 -- the bytes of their sets together, from place k on
@@ -510,7 +488,7 @@ module _ {table a b : List ℕ} {t : TypeIndex} {i j : SnapshotIndex} {ty : Even
 
       pub joined-wrote : {l₄ : List ℕ} {m : ℕ} → Wrote l₃ r (setsFrom ty x y 0) l₄ m → Wrote l at (snapshotBytes (joinSnapshots (view ty) x y)) l₄ m
       joined-wrote g =
-          wrote-same (ap (λ (m : ℕ). number 0 ++ number m ++ number 0 ++ setsFrom ty x y 0) e ∙ sym joined-bytes) (wrote-then (wrote-then (wrote-then u v) z) g)
+          wrote-as (ap (λ (m : ℕ). number 0 ++ number m ++ number 0 ++ setsFrom ty x y 0) e ∙ sym joined-bytes) (wrote-then (wrote-then (wrote-then u v) z) g)
 
     -- a place that has objects, with its room, where the places before it are written
     pub place-next :

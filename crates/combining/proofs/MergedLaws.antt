@@ -19,6 +19,7 @@ use Rattle.packed.specs.Packed.{number, text}
 use Rattle.packed.specs.Located.{part}
 use Rattle.packed.specs.Written.{Wrote}
 use Rattle.packed.proofs.WriteLaws.{wrote-then, ToGo, to-go, gone, all-gone}
+use Rattle.packed.proofs.ReadLaws.{to-end}
 use Rattle.ontology.specs.Table.{EventType, isVersioned}
 use Rattle.ontology.specs.TypeIndex.{TypeIs}
 use Rattle.ontology.specs.declared.types.TypeIndex.{TypeIndex}
@@ -27,23 +28,21 @@ use Rattle.event.specs.EventLayout.{parentsBytes, headBytes}
 use Rattle.event.proofs.SetLaws.{stretch}
 use Rattle.unions.proofs.RunLaws.{part-then}
 use Rattle.dossier.specs.DossierLayout.{Headed, snapshotBytes, dossierBytes}
-use Rattle.dossier.specs.DossierIndex.{noSnapshot, SnapshotsAre, DossierIs}
+use Rattle.dossier.specs.DossierIndex.{noSnapshot, SnapshotIs, SnapshotsAre, DossierIs}
+use Rattle.dossier.specs.declared.snapshots.SnapshotIndex.{SnapshotIndex}
 use Rattle.dossier.specs.declared.dossiers.DossierIndex.{DossierIndex}
-use Rattle.dossier.proofs.DossierReadLaws.{to-end}
+use Rattle.dossier.proofs.AskLaws.{first-stands}
 use Rattle.dossier.proofs.AcceptedLaws.{taken-written}
 use Rattle.combining.specs.CombineCall.{headedAs, combined}
 use Rattle.combining.specs.CombineIndex.{Combinable, Meet, AgreedRoom, JoinedRoom}
 use Rattle.combining.specs.WriteIndex.{SharedRoom, bytesFrom, RestRoom, nextSnapshot, stepBy, nextBytes, NextRoom, HeadsAre}
 use Rattle.combining.proofs.MeetLaws.{left-taken, right-taken, meet}
-use Rattle.combining.proofs.FitLaws.{left-hashes, right-hashes, whole-versions}
+use Rattle.combining.proofs.FitLaws.{left-hashes, right-hashes, whole-versions, left-one, right-one}
 
 -- ---- writes
 
 pub nothing-wrote : {l xs : List ℕ} {at : ℕ} → xs ≡ [] → Wrote l at xs l at
 nothing-wrote e = all-gone to-go e
-
-pub wrote-as : {l xs ys l₁ : List ℕ} {at next : ℕ} → xs ≡ ys → Wrote l at xs l₁ next → Wrote l at ys l₁ next
-wrote-as {l} {xs} {ys} {l₁} {at} {next} e w = subst (λ (z : List ℕ). Wrote l at z l₁ next) e w
 
 -- ---- two snapshots of one version
 
@@ -54,12 +53,12 @@ module _ (table : List ℕ) (ty : EventType) (t : TypeIndex) (w : TypeIs table t
   pub not-versioned : t .mark ≤ 0 → isVersioned ty ≡ false
   not-versioned h = le-ltb 0 (ty .mark) (omega (arith, w .mark))
 
-module _ {table a b : List ℕ} {t : TypeIndex} {at size : ℕ} (r : SharedRoom table a b t at size) where
+module _ {table a b : List ℕ} {x y : SnapshotIndex} {t : TypeIndex} {at size : ℕ} (r : SharedRoom table a x b y t at size) where
   pub agreed-room : 0 < t .mark → AgreedRoom a b at size
   agreed-room h = record { type = r .type; left = r .left; right = r .right; versioned = is-versioned table (r .type) t (r .typed) h; meet = r .meet; room = r .room }
 
-  pub joined-room : t .mark ≤ 0 → JoinedRoom table a b t at size
-  joined-room h = record { type = r .type; left = r .left; right = r .right; typed = r .typed; unversioned = not-versioned table (r .type) t (r .typed) h; meet = r .meet; room = r .room }
+  pub joined-room : t .mark ≤ 0 → JoinedRoom table a x b y t at size
+  joined-room h = record { type = r .type; left = r .left; right = r .right; typed = r .typed; unversioned = not-versioned table (r .type) t (r .typed) h; meet = r .meet; left-is = r .left-is h; right-is = r .right-is h; room = r .room }
 
 -- ---- the snapshots of one side
 
@@ -317,14 +316,27 @@ module _ {table a b : List ℕ} {d e : DossierIndex} {t : TypeIndex} (c : Combin
         subst₂ (λ (x y : List ℕ). Meet x y (c .left .type) leftOne rightOne) (sym (to-end a (getD (d .starts) i 0))) (sym (to-end b (getD (e .starts) j 0)))
         (meet c i j (omega (arith, c .left-read .count)) (omega (arith, c .right-read .count)) (one-version h k))
 
+    -- an unversioned side has come to its first snapshot, which stands as its index says
+    left-first : t .mark ≤ 0 → SnapshotIs (take (length a - getD (d .starts) i 0) (drop (getD (d .starts) i 0) a)) leftOne (d .first)
+    left-first un =
+        let z : 0 ≡ i = omega (arith, left-one table a d b e t c un, c .left-read .count, l) in
+        subst (λ (n : ℕ). SnapshotIs (take (length a - getD (d .starts) n 0) (drop (getD (d .starts) n 0) a)) (getD lefts n noSnapshot) (d .first)) z (first-stands a (c .left .headed) d (c .left-read))
+
+    right-first : t .mark ≤ 0 → SnapshotIs (take (length b - getD (e .starts) j 0) (drop (getD (e .starts) j 0) b)) rightOne (e .first)
+    right-first un =
+        let z : 0 ≡ j = omega (arith, right-one table a d b e t c un, c .right-read .count, m) in
+        subst (λ (n : ℕ). SnapshotIs (take (length b - getD (e .starts) n 0) (drop (getD (e .starts) n 0) b)) (getD rights n noSnapshot) (e .first)) z (first-stands b (c .right .headed) e (c .right-read))
+
     pub shared-room : (at size : ℕ) → at + length (nextBytes c i j) ≤ size → getD (e .versions) j 0 ≤ getD (d .versions) i 0 → getD (d .versions) i 0 ≤ getD (e .versions) j 0 →
-        SharedRoom table (take (length a - getD (d .starts) i 0) (drop (getD (d .starts) i 0) a)) (take (length b - getD (e .starts) j 0) (drop (getD (e .starts) j 0) b)) t at size
+        SharedRoom table (take (length a - getD (d .starts) i 0) (drop (getD (d .starts) i 0) a)) (d .first) (take (length b - getD (e .starts) j 0) (drop (getD (e .starts) j 0) b)) (e .first) t at size
     shared-room at size room h k = record {
       type = c .left .type;
       left = leftOne;
       right = rightOne;
       typed = c .typed;
       meet = next-meet h k;
+      left-is = left-first;
+      right-is = right-first;
       room = omega (arith, ap length (next-both h k));
     }
 

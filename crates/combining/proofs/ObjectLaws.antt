@@ -19,22 +19,21 @@ use Rattle.model.proofs.Cases.{never, and-parts}
 use Rattle.model.proofs.PartLaws.{length-upTo}
 use Rattle.model.proofs.StepLaws.{join-map, join-at}
 use Rattle.model.proofs.SizeLaws.{held-size}
-use Rattle.ontology.specs.Table.{Strategy, min, max, add, replace, match, set, any, strategyNumber, Property, EventType, isMin, isMax, isVersioned}
+use Rattle.ontology.specs.Table.{Property, EventType, isMin, isMax, isVersioned}
 use Rattle.ontology.specs.TypeIndex.{TypeIs}
 use Rattle.ontology.specs.declared.properties.PropertyAt.{PropertyAt}
 use Rattle.ontology.specs.declared.types.TypeIndex.{TypeIndex}
+use Rattle.ontology.proofs.RunLaws.{no-element}
 use Rattle.event.specs.Event.{choiceOf, atPlace, view}
-use Rattle.event.specs.EventIndex.{SetIs, noSet}
+use Rattle.event.specs.EventIndex.{SetIs, SetsAre, noSet}
+use Rattle.event.specs.declared.sets.SetAt.{SetAt}
 use Rattle.event.specs.EventQuestions.{isEmpty, matchCount}
 use Rattle.event.proofs.EventLayoutLaws.{SetWritten}
-use Rattle.event.proofs.EventQuestionLaws.{all-at, empty-written}
-use Rattle.dossier.specs.DossierLayout.{readSnapshot}
+use Rattle.event.proofs.EventQuestionLaws.{all-at, empty-written, choice-every, choice-least}
 use Rattle.dossier.specs.DossierQuestions.{eachCell, isVacant, isPresent, isLone, isLoneIfExtreme, isUnmarkedMatch}
-use Rattle.dossier.specs.DossierIndex.{SnapshotReads, cellFits, placeFits, versionFits, snapshotFits}
-use Rattle.dossier.specs.declared.snapshots.SnapshotIndex.{SnapshotIndex}
-use Rattle.dossier.proofs.CellLaws.{elem, elem-none, held-at, leb-sub}
+use Rattle.dossier.specs.DossierIndex.{cellFits, placeFits, versionFits, snapshotFits}
+use Rattle.dossier.proofs.CellLaws.{elem, held-at, leb-sub}
 use Rattle.dossier.proofs.DossierLayoutLaws.{SnapshotWritten, snapshot-cells, snapshot-was}
-use Rattle.dossier.proofs.AskLaws.{reads-got}
 use Rattle.combining.specs.CombineIndex.{isExtremeAt, Meet}
 
 -- ---- strategy min or max
@@ -48,7 +47,7 @@ or-second n e = rw (ne-eqb n 1 e)
 module _ (u : List ℕ) (ty : EventType) (t : TypeIndex) (k : ℕ) (w : TypeIs u ty t) where
   pub extreme-past : t .count ≤ k → false ≡ isExtremeAt ty k
   unfolding isExtremeAt atPlace
-  extreme-past h = sym (ap (atPlace false (λ (q : Property). isMin q || isMax q)) (elem-none (ty .properties) k (omega (arith, w .count))))
+  extreme-past h = sym (ap (atPlace false (λ (q : Property). isMin q || isMax q)) (no-element (ty .properties) k (omega (arith, w .count))))
 
   module _ (d : PropertyAt) (h : k < t .count) where
     abbrev strategy : ℕ
@@ -73,26 +72,6 @@ pub record KeepsLeast (c : Choice) : Type 0 where
   pub order : Order Text
   pub is : c ≡ least order
 
-least-of : (s : Strategy) (q : Property) → (eqb (strategyNumber s) 1 || eqb (strategyNumber s) 2) ≡ true → KeepsLeast (choiceOf s q)
-unfolding choiceOf
-least-of min q h = record { order = _; is = refl }
-least-of max q h = record { order = _; is = refl }
-least-of add q h = never (cc)
-least-of replace q h = never (cc)
-least-of match q h = never (cc)
-least-of set q h = never (cc)
-least-of any q h = never (cc)
-
-every-of : (s : Strategy) (q : Property) → (eqb (strategyNumber s) 1 || eqb (strategyNumber s) 2) ≡ false → choiceOf s q ≡ every
-unfolding choiceOf
-every-of min q h = never (cc)
-every-of max q h = never (cc)
-every-of add q h = refl
-every-of replace q h = refl
-every-of match q h = refl
-every-of set q h = refl
-every-of any q h = refl
-
 module _ (ty : EventType) (k : ℕ) where
   pub keeps-least : isExtremeAt ty k ≡ true → KeepsLeast (view ty .choice k)
   unfolding isExtremeAt atPlace view
@@ -100,7 +79,7 @@ module _ (ty : EventType) (k : ℕ) where
     where
       go : (m : Option Property) → atPlace false (λ (q : Property). isMin q || isMax q) m ≡ true → KeepsLeast (atPlace every (λ (q : Property). choiceOf (q .strategy) q) m)
       go none h = never (cc)
-      go (some q) h = least-of (q .strategy) q h
+      go (some q) h = record { order = _; is = choice-least (q .strategy) q h }
 
   pub keeps-every : isExtremeAt ty k ≡ false → view ty .choice k ≡ every
   unfolding isExtremeAt atPlace view
@@ -108,7 +87,7 @@ module _ (ty : EventType) (k : ℕ) where
     where
       go : (m : Option Property) → atPlace false (λ (q : Property). isMin q || isMax q) m ≡ false → atPlace every (λ (q : Property). choiceOf (q .strategy) q) m ≡ every
       go none h = refl
-      go (some q) h = every-of (q .strategy) q h
+      go (some q) h = choice-every (q .strategy) q h
 
 -- ---- how many values a place has
 
@@ -240,11 +219,11 @@ module _ (a b : List ℕ) (ty : EventType) (x y : Snapshot) (un : isVersioned ty
     pub right-cell : PlainCell ty k (getD (y .cells) k (holds []))
     right-cell = plain-cell ty y right-written un (m .fitting .right-fits) k h
 
-    pub left-set : (i : SnapshotIndex) → SnapshotReads (readSnapshot a) a i → SetIs a (held (getD (x .cells) k (holds []))) (getD (i .sets) k noSet)
-    left-set i r = subst (λ (vs : List Text). SetIs a vs (getD (i .sets) k noSet)) (held-at (x .cells) k) (reads-got (readSnapshot a) a i x (m .left-rest) r (m .left-read) .sets .each k h)
+    pub left-set : (sets : List SetAt) → SetsAre a (map held (x .cells)) sets → SetIs a (held (getD (x .cells) k (holds []))) (getD sets k noSet)
+    left-set sets r = subst (λ (vs : List Text). SetIs a vs (getD sets k noSet)) (held-at (x .cells) k) (r .each k h)
 
-    pub right-set : (i : SnapshotIndex) → SnapshotReads (readSnapshot b) b i → SetIs b (held (getD (y .cells) k (holds []))) (getD (i .sets) k noSet)
-    right-set i r = subst (λ (vs : List Text). SetIs b vs (getD (i .sets) k noSet)) (held-at (y .cells) k) (reads-got (readSnapshot b) b i y (m .right-rest) r (m .right-read) .sets .each k h)
+    pub right-set : (sets : List SetAt) → SetsAre b (map held (y .cells)) sets → SetIs b (held (getD (y .cells) k (holds []))) (getD sets k noSet)
+    right-set sets r = subst (λ (vs : List Text). SetIs b vs (getD sets k noSet)) (held-at (y .cells) k) (r .each k h)
 
     joined-at : getD joined k (holds []) ≡ joinCell false (view ty .choice k) (holds (held (getD (x .cells) k (holds [])))) (holds (held (getD (y .cells) k (holds []))))
     unfolding cellAt

@@ -21,7 +21,8 @@ use Rattle.event.specs.EventIndex.{SetIs}
 use Rattle.event.specs.declared.sets.SetAt.{SetAt}
 use Rattle.dossier.specs.DossierLayout.{readSnapshot, snapshotBytes}
 use Rattle.dossier.specs.DossierQuestions.{TypedDossier, dossierAsked, dossiersAgree, snapshotValues}
-use Rattle.dossier.specs.DossierIndex.{snapshotFits, DossierIs}
+use Rattle.dossier.specs.DossierIndex.{snapshotFits, SnapshotIs, DossierIs}
+use Rattle.dossier.specs.declared.snapshots.SnapshotIndex.{SnapshotIndex}
 use Rattle.dossier.specs.declared.dossiers.DossierIndex.{DossierIndex}
 
 -- a bit
@@ -36,6 +37,17 @@ pub record SetRoom (s : List ℕ) (x : SetAt) (at size : ℕ) : Type 0 where
   pub room : at + length (number (length values) ++ flatten (map text values)) ≤ size
 
 -- questions 2 to 7 are answered yes
+pub record Known (table a b : List ℕ) (t : TypeIndex) : Type 0 where
+  pub types : Table
+  pub is : tableOf table ≡ some types
+  pub left : TypedDossier
+  pub right : TypedDossier
+  pub left-asked : dossierAsked standard types a ≡ accepted left
+  pub right-asked : dossierAsked standard types b ≡ accepted right
+  pub agree : dossiersAgree left right ≡ true
+  pub typed : TypeIs table (left .type) t
+
+-- and both dossiers are read
 pub record Combinable (table a : List ℕ) (d : DossierIndex) (b : List ℕ) (e : DossierIndex) (t : TypeIndex) : Type 0 where
   pub types : Table
   pub is : tableOf table ≡ some types
@@ -79,12 +91,14 @@ pub record AgreedRoom (a b : List ℕ) (at size : ℕ) : Type 0 where
   pub meet : Meet a b type left right
   pub room : at + length (snapshotBytes (joinSnapshots (view type) left right)) ≤ size
 
--- the same of two unversioned ones
-pub record JoinedRoom (table a b : List ℕ) (t : TypeIndex) (at size : ℕ) : Type 0 where
+-- the same of two unversioned ones, which stand as their indexes say
+pub record JoinedRoom (table a : List ℕ) (x : SnapshotIndex) (b : List ℕ) (y : SnapshotIndex) (t : TypeIndex) (at size : ℕ) : Type 0 where
   pub type : EventType
   pub left : Snapshot
   pub right : Snapshot
   pub typed : TypeIs table type t
   pub unversioned : isVersioned type ≡ false
   pub meet : Meet a b type left right
+  pub left-is : SnapshotIs a left x
+  pub right-is : SnapshotIs b right y
   pub room : at + length (snapshotBytes (joinSnapshots (view type) left right)) ≤ size

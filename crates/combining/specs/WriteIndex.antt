@@ -16,18 +16,21 @@ use Rattle.event.specs.EventLayout.{headBytes}
 use Rattle.event.specs.EventIndex.{HeadIs}
 use Rattle.unions.specs.Runs.{Hashes}
 use Rattle.dossier.specs.DossierLayout.{Headed, snapshotBytes}
-use Rattle.dossier.specs.DossierIndex.{noSnapshot, DossierIs}
+use Rattle.dossier.specs.DossierIndex.{noSnapshot, SnapshotIs, DossierIs}
+use Rattle.dossier.specs.declared.snapshots.SnapshotIndex.{SnapshotIndex}
 use Rattle.dossier.specs.declared.dossiers.DossierIndex.{DossierIndex}
 use Rattle.combining.specs.CombineCall.{combined}
 use Rattle.combining.specs.CombineIndex.{Combinable, Meet}
 
--- what two snapshots of one version are together has its room in an output of `size` bytes
-pub record SharedRoom (table a b : List ℕ) (t : TypeIndex) (at size : ℕ) : Type 0 where
+-- what two snapshots of one version are together has its room in an output of `size` bytes; unversioned ones stand as their indexes say
+pub record SharedRoom (table a : List ℕ) (x : SnapshotIndex) (b : List ℕ) (y : SnapshotIndex) (t : TypeIndex) (at size : ℕ) : Type 0 where
   pub type : EventType
   pub left : Snapshot
   pub right : Snapshot
   pub typed : TypeIs table type t
   pub meet : Meet a b type left right
+  pub left-is : t .mark ≤ 0 → SnapshotIs a left x
+  pub right-is : t .mark ≤ 0 → SnapshotIs b right y
   pub room : at + length (snapshotBytes (joinSnapshots (view type) left right)) ≤ size
 
 -- the bytes of the snapshots from the i-th on

@@ -1,11 +1,15 @@
+ghost use Prim.Native.Nat.{_≤_};
 ghost use mathlib.Core.Path.{_≡_};
+ghost use lib.ListN.{length};
 ghost use Rattle.model.specs.Limits.{standard};
 ghost use Rattle.ontology.specs.TableLayout.{tableOf};
 ghost use Rattle.ontology.specs.TypeIndex.{TableSays};
 ghost use Rattle.combining.specs.CombineCall.{combineCall};
+ghost use Rattle.combining.specs.CombineIndex.{Known, Combinable};
 ghost use Rattle.ontology.specs.Replies.{replies};
 use crate::limits::limits_fit;
 use crate::write::write_combined;
+use dossier::dossiers::DossierIndex;
 use dossier::dossiers::read_dossier;
 use dossier::questions::ask_dossier;
 use dossier::questions::dossiers_agree;
@@ -13,6 +17,7 @@ use dossier::questions::type_name;
 use ontology::replies::Reply;
 use ontology::tables::TableRead;
 use ontology::tables::read_table;
+use ontology::types::TypeIndex;
 use packed::order::same;
 
 // The table read for the name of the right side's type: what was read for the left one, where they have one name.
@@ -23,6 +28,25 @@ fn table_for(table: &[u8], left: &[u8], right: &[u8], read: TableRead) -> TableR
         return read;
     }
     read_table(table, right)
+}
+
+// Question 8, and two dossiers of which the others are answered yes, written together at the front of `out`.
+fn combine_read<'a>(
+    table: &[u8],
+    left: &'a [u8],
+    d: DossierIndex,
+    right: &'a [u8],
+    e: DossierIndex,
+    kind: TypeIndex,
+    out: &mut [u8],
+) -> Reply
+    requires { ⌜ Combinable (now table) (now left) d (now right) e kind × (32768 ≤ length (now out)) ⌝ }
+    ensures { λ r. ⌜ replies r (now (out .exit)) ≡ combineCall standard (now (table .entry)) (now (left .entry)) (now (right .entry)) (now (out .entry)) ⌝ }
+{
+    if !limits_fit(table, left, d, right, e, kind) {
+        return Reply::Refused(8);
+    }
+    Reply::Done(write_combined(table, left, d, right, e, kind, out))
 }
 
 // Two dossiers together, written at the front of `out`.
@@ -51,8 +75,21 @@ pub fn combine<'a>(table: &[u8], left: &'a [u8], right: &'a [u8], out: &mut [u8]
     if !dossiers_agree(left, d, right, e, kind) {
         return Reply::Refused(7);
     }
-    if !limits_fit(table, left, d, right, e, kind) {
-        return Reply::Refused(8);
-    }
-    Reply::Done(write_combined(table, left, d, right, e, kind, out))
+    combine_read(table, left, d, right, e, kind, out)
+}
+
+// The same of two dossiers of which questions 2 to 7 are known to be answered yes.
+pub fn combine_known<'a>(
+    table: &[u8],
+    left: &'a [u8],
+    right: &'a [u8],
+    t: TypeIndex,
+    out: &mut [u8],
+) -> Reply
+    requires { ⌜ Known (now table) (now left) (now right) t × (32768 ≤ length (now out)) ⌝ }
+    ensures { λ r. ⌜ replies r (now (out .exit)) ≡ combineCall standard (now (table .entry)) (now (left .entry)) (now (right .entry)) (now (out .entry)) ⌝ }
+{
+    let d = read_dossier(left);
+    let e = read_dossier(right);
+    combine_read(table, left, d, right, e, t, out)
 }

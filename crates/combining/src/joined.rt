@@ -19,7 +19,7 @@ ghost use Rattle.combining.specs.JoinedIndex.{haveObjects, PresentAre, e
 use crate::bits::number_of;
 use crate::limits::count_place;
 use crate::limits::is_extreme;
-use dossier::snapshots::read_snapshot;
+use dossier::snapshots::SnapshotIndex;
 use event::sets::SetAt;
 use event::sets::set_part;
 use event::sets::value_in;
@@ -93,16 +93,16 @@ fn joined_places(left: [SetAt; 32], right: [SetAt; 32]) -> [bool; 32]
 pub fn write_joined<'a>(
     table: &[u8],
     a: &'a [u8],
+    x: SnapshotIndex,
     b: &'a [u8],
+    y: SnapshotIndex,
     t: TypeIndex,
     out: &mut [u8],
     at: usize,
 ) -> usize
-    requires { ⌜ JoinedRoom (now table) (now a) (now b) t at (length (now out)) ⌝ }
-    ensures { λ r. ⌜ ((ty : EventType) (x y : Snapshot) → TypeIs (now (table .entry)) ty t → isVersioned ty ≡ false → Meet (now (a .entry)) (now (b .entry)) ty x y → Wrote (now (out .entry)) at (snapshotBytes (joinSnapshots (view ty) x y)) (now (out .exit)) r) ⌝ }
+    requires { ⌜ JoinedRoom (now table) (now a) x (now b) y t at (length (now out)) ⌝ }
+    ensures { λ r. ⌜ ((ty : EventType) (p q : Snapshot) → TypeIs (now (table .entry)) ty t → isVersioned ty ≡ false → Meet (now (a .entry)) (now (b .entry)) ty p q → Wrote (now (out .entry)) at (snapshotBytes (joinSnapshots (view ty) p q)) (now (out .exit)) r) ⌝ }
 {
-    let x = read_snapshot(a);
-    let y = read_snapshot(b);
     let left = x.sets;
     let right = y.sets;
     let present = joined_places(left, right);

@@ -13,10 +13,11 @@ ghost use Rattle.ontology.specs.Table.{EventType, isVersioned};
 ghost use Rattle.ontology.specs.TypeIndex.{TypeIs};
 ghost use Rattle.event.specs.Event.{view};
 ghost use Rattle.event.specs.EventIndex.{HashesAre, SetIs};
+ghost use Rattle.dossier.specs.DossierIndex.{SnapshotIs};
 ghost use Rattle.combining.specs.CombineCall.{combined};
 ghost use Rattle.combining.specs.CombineIndex.{isExtremeAt, Combinable, Meet};
 use dossier::dossiers::DossierIndex;
-use dossier::snapshots::read_snapshot;
+use dossier::snapshots::SnapshotIndex;
 use event::sets::SetAt;
 use event::sets::set_part;
 use ontology::types::TypeIndex;
@@ -83,12 +84,10 @@ pub fn count_place(t: TypeIndex, k: usize, a: &[u8], x: SetAt, b: &[u8], y: SetA
 }
 
 // Whether two unversioned snapshots, at the front of a and b, have at most 256 objects when they are joined.
-pub fn objects_fit(a: &[u8], b: &[u8], t: TypeIndex) -> bool
+pub fn objects_fit(a: &[u8], x: SnapshotIndex, b: &[u8], y: SnapshotIndex, t: TypeIndex) -> bool
     requires { ⌜ t .count ≤ 32 ⌝ }
-    ensures { λ r. ⌜ ((u : List ℕ) (ty : EventType) (x y : Snapshot) → TypeIs u ty t → isVersioned ty ≡ false → Meet (now (a .entry)) (now (b .entry)) ty x y → r ≡ leb (sizes (joinSnapshots (view ty) x y .cells)) 256) ⌝ }
+    ensures { λ r. ⌜ ((u : List ℕ) (ty : EventType) (p q : Snapshot) → TypeIs u ty t → isVersioned ty ≡ false → Meet (now (a .entry)) (now (b .entry)) ty p q → SnapshotIs (now (a .entry)) p x → SnapshotIs (now (b .entry)) q y → r ≡ leb (sizes (joinSnapshots (view ty) p q .cells)) 256) ⌝ }
 {
-    let x = read_snapshot(a);
-    let y = read_snapshot(b);
     let left = x.sets;
     let right = y.sets;
     let mut room: usize = 256;
@@ -133,5 +132,7 @@ pub fn limits_fit(
     }
     let i = d.starts[0];
     let j = e.starts[0];
-    objects_fit(&a[i..], &b[j..], t)
+    let left = d.first;
+    let right = e.first;
+    objects_fit(&a[i..], left, &b[j..], right, t)
 }

@@ -21,6 +21,7 @@ use crate::limits::count_versions;
 use crate::limits::hashes_part;
 use dossier::dossiers::DossierIndex;
 use dossier::parts::text_part;
+use dossier::snapshots::SnapshotIndex;
 use ontology::types::TypeIndex;
 use packed::write::copy_part;
 use packed::write::write_number;
@@ -28,22 +29,24 @@ use packed::write::write_text;
 use unions::pair::count_hash_union;
 use unions::pair::write_hash_union;
 
-// Writes what two snapshots of one version, at the front of a and b, are together.
+// Writes what two snapshots of one version, at the front of a and b, are together. Unversioned ones stand there as the indexes say.
 fn write_shared<'a>(
     table: &[u8],
     a: &'a [u8],
+    x: SnapshotIndex,
     b: &'a [u8],
+    y: SnapshotIndex,
     t: TypeIndex,
     out: &mut [u8],
     at: usize,
 ) -> usize
-    requires { ⌜ SharedRoom (now table) (now a) (now b) t at (length (now out)) ⌝ }
-    ensures { λ r. ⌜ ((ty : EventType) (x y : Snapshot) → TypeIs (now (table .entry)) ty t → Meet (now (a .entry)) (now (b .entry)) ty x y → Wrote (now (out .entry)) at (snapshotBytes (joinSnapshots (view ty) x y)) (now (out .exit)) r) ⌝ }
+    requires { ⌜ SharedRoom (now table) (now a) x (now b) y t at (length (now out)) ⌝ }
+    ensures { λ r. ⌜ ((ty : EventType) (p q : Snapshot) → TypeIs (now (table .entry)) ty t → Meet (now (a .entry)) (now (b .entry)) ty p q → Wrote (now (out .entry)) at (snapshotBytes (joinSnapshots (view ty) p q)) (now (out .exit)) r) ⌝ }
 {
     if 0 < t.mark {
         return write_agreed(a, b, out, at);
     }
-    write_joined(table, a, b, t, out, at)
+    write_joined(table, a, x, b, y, t, out, at)
 }
 
 // The snapshots of one side from the i-th on, which stand one after the other.
@@ -87,7 +90,9 @@ fn write_next<'a>(
         let end = e.ends[j];
         return copy_part(b, right, end, out, at);
     }
-    write_shared(table, &a[left..], &b[right..], t, out, at)
+    let x = d.first;
+    let y = e.first;
+    write_shared(table, &a[left..], x, &b[right..], y, t, out, at)
 }
 
 // How many snapshots a side of version v goes on by, where the other one has version w.

@@ -16,6 +16,7 @@ use Rattle.model.specs.Limits.{standard}
 use Rattle.model.specs.Opening.{held, isMark, cellAt}
 use Rattle.model.proofs.Cases.{and-false, and-true}
 use Rattle.packed.specs.Parse.{Parse, got}
+use Rattle.packed.proofs.ReadLaws.{to-end}
 use Rattle.ontology.specs.Table.{Property, EventType, isVersioned}
 use Rattle.ontology.specs.TypeIndex.{TypeIs}
 use Rattle.ontology.specs.declared.types.TypeIndex.{TypeIndex}
@@ -25,7 +26,6 @@ use Rattle.dossier.specs.DossierQuestions.{eachCell, eachSnapshot, isVac
 use Rattle.dossier.specs.DossierIndex.{SnapshotIs, SnapshotReads, noSnapshot, DossierIs, cellFits, versionFits, snapshotFits, shapeNumber}
 use Rattle.dossier.specs.declared.snapshots.SnapshotIndex.{SnapshotIndex}
 use Rattle.dossier.specs.declared.dossiers.DossierIndex.{DossierIndex}
-use Rattle.dossier.proofs.DossierReadLaws.{to-end}
 
 -- ---- tests
 

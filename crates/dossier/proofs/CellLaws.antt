@@ -2,7 +2,7 @@
 use mathlib.Core.Path.{_≡_, refl, sym, ap, ap₂, _∙_}
 use mathlib.Core.Logic.{⊎-elim}
 use mathlib.Core.Bool.{Bool, true, false, cond, not, _&&_, _||_}
-use mathlib.Core.Option.{Option, none, some}
+use mathlib.Core.Option.{Option, some}
 use mathlib.Core.List.{List, [], _∷_, map}
 use Prim.Native.Nat.{ℕ, zero, suc, _+_, _-_, _*_, _/_, _%_, _≤_, _<_}
 use native.Mathlib.Omega.{arith}
@@ -14,12 +14,14 @@ use borrow.Author.Tests.{le-leb, lt-leb}
 use Rattle.model.specs.Order.{Text}
 use Rattle.model.specs.Rule.{Cell, holds, differs}
 use Rattle.model.specs.Opening.{held, isMark}
-use Rattle.model.proofs.Cases.{and-false, and-true}
+pub use Rattle.model.proofs.Cases.{and-false}
+use Rattle.model.proofs.Cases.{and-true}
 use Rattle.packed.proofs.LayoutLaws.{lt-or-ge}
 use Rattle.ontology.specs.Table.{Property, EventType, isMin, isMax, isMatch, isVersioned}
 use Rattle.ontology.specs.TypeIndex.{PropertyIs, TypeIs}
 use Rattle.ontology.specs.declared.properties.PropertyAt.{PropertyAt}
 use Rattle.ontology.specs.declared.types.TypeIndex.{TypeIndex}
+use Rattle.ontology.proofs.RunLaws.{no-element}
 use Rattle.event.specs.EventLayout.{bitNumber}
 use Rattle.event.specs.EventQuestions.{matchCount}
 use Rattle.event.specs.EventIndex.{SetsAre, noSet}
@@ -91,11 +93,6 @@ elem [] k h = absurd (omega arith)
 elem (a ∷ l) zero h = record { what = a; is = refl; split = ap (λ (n : ℕ). a ∷ drop n (a ∷ l)) (sym (add-one 0)) }
 elem (a ∷ l) (suc k) h = elem-more a l k (elem l k (omega arith))
 
-pub elem-none : {A : Type 0} (l : List A) (k : ℕ) → length l ≤ k → getElem? l k ≡ none
-elem-none [] k h = refl
-elem-none (a ∷ l) zero h = absurd (omega arith)
-elem-none (a ∷ l) (suc k) h = elem-none l k (omega arith)
-
 -- ---- a place
 
 module _ (s : List ℕ) (ty : EventType) (t : TypeIndex) (c : Cell) (marked : Bool) (count k : ℕ) (w : TypeIs s ty t) (v : CellIs c marked count) where
@@ -108,7 +105,7 @@ module _ (s : List ℕ) (ty : EventType) (t : TypeIndex) (c : Cell) (marked : Bo
 
   past : t .count ≤ k → placeFits (isVersioned ty) (getElem? (ty .properties) k) c ≡ isVacant c
   unfolding placeFits
-  past h = ap (λ (o : Option Property). placeFits (isVersioned ty) o c) (elem-none (ty .properties) k (omega (arith, w .count)))
+  past h = ap (λ (o : Option Property). placeFits (isVersioned ty) o c) (no-element (ty .properties) k (omega (arith, w .count)))
 
   pub place-marked : t .count ≤ k → marked ≡ true → false ≡ placeFits (isVersioned ty) (getElem? (ty .properties) k) c
   unfolding isVacant
@@ -158,7 +155,7 @@ module _ (s : List ℕ) (cs : List Cell) (differ : ℕ) (ats : List SetAt) (v : 
         rw (e .split, drop-cons cs k (holds []) long, e .is, add-one))
         (λ (g : length ps ≤ k).
         let n : length ps ≤ k + 1 = omega arith in
-        rw (drop-of-length-le ps g, drop-of-length-le ps n, drop-cons cs k (holds []) long, elem-none ps k g, add-one))
+        rw (drop-of-length-le ps g, drop-of-length-le ps n, drop-cons cs k (holds []) long, no-element ps k g, add-one))
         (lt-or-ge k (length ps))
 
     pub cells-bad : {r : Bool} → r ≡ placeFits f (getElem? ps k) (getD cs k (holds [])) → r ≡ false → eachCell (cellFits f) isVacant (drop k ps) (drop k cs) ≡ false

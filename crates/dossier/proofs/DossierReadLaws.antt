@@ -3,26 +3,27 @@ use mathlib.Core.Path.{_≡_, refl, sym, ap, ap₂, _∙_, subst}
 use mathlib.Core.Logic.{⊎-elim}
 use mathlib.Core.Bool.{Bool, true, false}
 use mathlib.Core.Option.{Option, none}
-use mathlib.Core.List.{List, [], _∷_, _++_, append-assoc, append-nil, map}
+use mathlib.Core.List.{List, [], _∷_, _++_, append-nil, map}
 use Prim.Native.Nat.{ℕ, zero, suc, _+_, _-_, _≤_, _<_}
 use native.Mathlib.Omega.{arith}
 use native.Mathlib.Numerals.{add-one, sub-one}
 use lib.ListN.{length, take, drop, getD, set, length-append, length-drop, length-set, List·getD-append}
-use lib.Seq.{drop-cons, drop-drop, drop-length, getD-at, getD-set-same, getD-set-other, getD-take, length-take-le, take-all, take-suc-set}
+use lib.Seq.{drop-cons, drop-drop, drop-length, getD-at, getD-set-same, getD-set-other, getD-take, length-take-le, take-suc-set}
 use borrow.Author.Tests.{le-leb, lt-leb}
 use borrow.Author.Count.{below-more}
 use Rattle.model.specs.Order.{Text, numbers, rising, three}
 use Rattle.model.proofs.OrderLaws.{less-of, less-cmp}
 use Rattle.model.specs.Rule.{Snapshot}
 use Rattle.model.specs.Limits.{standard}
+use Rattle.model.proofs.PartLaws.{map-append}
 use Rattle.packed.specs.Parse.{Parse, fail, got, Layout, andThen, _>>=_, found, foundIf, suchThat, times, whole}
 use Rattle.packed.specs.Packed.{readNumber, readText}
 use Rattle.packed.proofs.LayoutLaws.{lt-or-ge, times-was}
-use Rattle.packed.proofs.ReadLaws.{drop-next, NumberStops}
+use Rattle.packed.proofs.ReadLaws.{drop-next, NumberStops, to-end}
 use Rattle.values.specs.Spaces.{isWithin}
+use Rattle.ontology.proofs.RunLaws.{prepend, prepend-nil, prepend-one}
 use Rattle.event.specs.EventLayout.{isSource, readParents, bitNumber}
 use Rattle.event.specs.EventIndex.{HeadOf, readHead, HeadStops}
-use Rattle.event.proofs.SetLaws.{prepend}
 use Rattle.event.specs.declared.read.HeadAt.{HeadAt}
 use Rattle.dossier.specs.DossierLayout.{Headed, readSnapshot, readDossier, dossierOf, differBit, snapshotBytes}
 use Rattle.dossier.specs.DossierIndex.{SnapshotIs, SnapshotReads, SnapshotAt, noSnapshot, SnapshotsAre, SnapshotsReads, DossierReads}
@@ -87,18 +88,6 @@ times-stop : (n : ℕ) (t : List ℕ) → readSnapshot t ≡ fail → times read
 unfolding times
 times-stop n t e = ap (λ (p : Parse Snapshot). andThen p (λ y o. andThen (times readSnapshot n o) (λ xs u. got (y ∷ xs) u))) e
 
-prepend-none : (p : Parse (List Snapshot)) → p ≡ prepend [] p
-prepend-none fail = refl
-prepend-none (got ws t) = refl
-
-prepend-one : (vs : List Snapshot) (v : Snapshot) (p : Parse (List Snapshot)) → prepend vs (andThen p (λ ws t. got (v ∷ ws) t)) ≡ prepend (vs ++ (v ∷ [])) p
-prepend-one vs v fail = refl
-prepend-one vs v (got ws t) = ap (λ (l : List Snapshot). got l t) (sym (append-assoc vs (v ∷ []) ws))
-
--- a part that goes to the end
-pub to-end : (s : List ℕ) (at : ℕ) → take (length s - at) (drop at s) ≡ drop at s
-to-end s at = let l = length-drop at s in take-all (length s - at) (drop at s) (omega arith)
-
 pub reads-at : (s : List ℕ) (at : ℕ) (i : SnapshotIndex) → SnapshotReads (readSnapshot (take (length s - at) (drop at s))) (take (length s - at) (drop at s)) i → SnapshotReads (readSnapshot (drop at s)) (drop at s) i
 reads-at s at i w = subst (λ (t : List ℕ). SnapshotReads (readSnapshot t) t i) (to-end s at) w
 
@@ -144,7 +133,7 @@ passed-none s starts ends versions differs first n at h a b c d =
       xs = [];
       long = refl;
       below = omega arith;
-      rest = prepend-none (times readSnapshot n (drop at s)) ∙ ap (λ (m : ℕ). prepend [] (times readSnapshot m (drop at s))) (sym z);
+      rest = prepend-nil (times readSnapshot n (drop at s)) ∙ ap (λ (m : ℕ). prepend [] (times readSnapshot m (drop at s))) (sym z);
       within = h;
       each = λ i k. absurd (omega arith);
       follows = λ i k. absurd (omega arith);
@@ -157,10 +146,6 @@ passed-none s starts ends versions differs first n at h a b c d =
       versions-long = c;
       differs-long = d;
     }
-
-map-snoc : (f : Snapshot → ℕ) (xs : List Snapshot) (x : Snapshot) → map f (xs ++ (x ∷ [])) ≡ map f xs ++ (f x ∷ [])
-map-snoc f [] x = refl
-map-snoc f (y ∷ ys) x = ap (λ (l : List ℕ). f y ∷ l) (map-snoc f ys x)
 
 module _ (p : Parse (List Snapshot)) (s starts ends versions differs : List ℕ) (first : SnapshotIndex) (n next j : ℕ) (w : Passed p s starts ends versions differs first n next j) where
   one-more : j < n → suc (n - (j + 1)) ≡ n - j
@@ -231,7 +216,7 @@ module _ (p : Parse (List Snapshot)) (s starts ends versions differs : List ℕ)
             ap (λ (k : ℕ). take k (set versions j (i .version .0))) (add-one j)
             ∙ take-suc-set versions j (i .version .0) a
             ∙ ap₂ (λ (l : List ℕ) (v : ℕ). l ++ (v ∷ [])) (w .numbers) (one .is .version)
-            ∙ sym (map-snoc (λ (x : Snapshot). x .version) (w .xs) (one .what))
+            ∙ sym (map-append (λ (x : Snapshot). x .version) (w .xs) (one .what ∷ []))
 
         marks-on : take (j + 1) (set differs j (i .differ)) ≡ map differNumber (w .xs ++ (one .what ∷ []))
         marks-on =
@@ -239,7 +224,7 @@ module _ (p : Parse (List Snapshot)) (s starts ends versions differs : List ℕ)
             ap (λ (k : ℕ). take k (set differs j (i .differ))) (add-one j)
             ∙ take-suc-set differs j (i .differ) a
             ∙ ap₂ (λ (l : List ℕ) (v : ℕ). l ++ (v ∷ [])) (w .marks) (one .is .differ)
-            ∙ sym (map-snoc differNumber (w .xs) (one .what))
+            ∙ sym (map-append differNumber (w .xs) (one .what ∷ []))
 
         -- the index of the first snapshot is that of the one that is read first
         front-on : (j ≡ 0 → i ≡ first) → SnapshotIs (drop (getD (set starts j next) 0 0) s) (getD (w .xs ++ (one .what ∷ [])) 0 noSnapshot) first

@@ -22,6 +22,7 @@ use Rattle.event.proofs.EventLayoutLaws.{SetsWas, sets-was}
 use Rattle.event.proofs.SetLaws.{stretch}
 use Rattle.event.specs.declared.sets.SetAt.{SetAt}
 use Rattle.event.specs.declared.sets.SetsRead.{SetsRead}
+use Rattle.event.proofs.EventReadLaws.{sets-wrong}
 use Rattle.dossier.specs.DossierLayout.{apart, cellsOf, areSmall, readSnapshot, snapshotBytes}
 use Rattle.dossier.specs.DossierIndex.{afterNumbers, NumbersStop, NumbersRead, SnapshotIs, SnapshotReads}
 use Rattle.dossier.specs.declared.snapshots.NumbersAt.{NumbersAt}
@@ -140,11 +141,6 @@ unfolding SnapshotReads
 snapshot-none p s i e h = rw e h
 
 -- what the reader of sets found
-sets-refused : (p : Parse (List (List Text))) (s : List ℕ) (r : SetsRead) → SetsReads p s r → r .ok ≡ false → p ≡ fail
-unfolding SetsReads
-sets-refused fail s r w h = refl
-sets-refused (got xs t) s r w h = let z : _≡_ {A = ℕ} 0 1 = cc (w .right) in absurd (omega arith)
-
 record SetsFound (p : Parse (List (List Text))) (s : List ℕ) (r : SetsRead) : Type 0 where
   what : List (List Text)
   is : p ≡ got what (drop (r .next) s)
@@ -159,7 +155,7 @@ sets-found (got xs t) s r w h = record { what = xs; is = ap (got xs) (w .rest); 
 module _ (s : List ℕ) (version presence differ first : ℕ) (n : NumbersStop s version presence differ first) where
   module _ (r : SetsRead) (w : SetsReads (readSets 32 presence (drop first s)) s r) where
     pub no-sets : r .ok ≡ false → readSnapshot s ≡ fail
-    no-sets h = n .is ∙ rw (sets-refused (readSets 32 presence (drop first s)) s r w h)
+    no-sets h = n .is ∙ rw (sets-wrong (readSets 32 presence (drop first s)) s r w h)
 
     module _ (h : r .ok ≡ true) where
       found : SetsFound (readSets 32 presence (drop first s)) s r

@@ -170,6 +170,27 @@ event-fits table s t e a =
       matches = event-match t e (a .shape);
     }
 
+-- what a strategy chooses
+pub choice-every : (s : Strategy) (q : Property) → (eqb (strategyNumber s) 1 || eqb (strategyNumber s) 2) ≡ false → choiceOf s q ≡ every
+unfolding choiceOf
+choice-every min q h = never (cc)
+choice-every max q h = never (cc)
+choice-every add q h = refl
+choice-every replace q h = refl
+choice-every match q h = refl
+choice-every set q h = refl
+choice-every any q h = refl
+
+pub choice-least : (s : Strategy) (q : Property) → (eqb (strategyNumber s) 1 || eqb (strategyNumber s) 2) ≡ true → choiceOf s q ≡ least (cond (eqb (strategyNumber s) 2) (reversed (valueOrder (q .kind))) (valueOrder (q .kind)))
+unfolding choiceOf
+choice-least min q h = refl
+choice-least max q h = refl
+choice-least add q h = never (cc)
+choice-least replace q h = never (cc)
+choice-least match q h = never (cc)
+choice-least set q h = never (cc)
+choice-least any q h = never (cc)
+
 pub empty-written : SetWritten []
 empty-written = record { rises = unfold rising in refl; few = omega arith; short = tt }
 
@@ -207,16 +228,7 @@ module _ (t : EventType) (p : ℕ) where
 
     pub extreme-least : (isMin q || isMax q) ≡ true → (O : Order Text) × (view t .choice p ≡ least O)
     unfolding view atPlace
-    extreme-least h = let (O, e) = go (q .strategy) h in (O, rw n e)
-      where
-        go : (s : Strategy) → (eqb (strategyNumber s) 1 || eqb (strategyNumber s) 2) ≡ true → (O : Order Text) × (choiceOf s q ≡ least O)
-        go min h = unfold choiceOf in (valueOrder (q .kind), refl)
-        go max h = unfold choiceOf in (reversed (valueOrder (q .kind)), refl)
-        go add h = never (cc)
-        go replace h = never (cc)
-        go match h = never (cc)
-        go set h = never (cc)
-        go any h = never (cc)
+    extreme-least h = (cond (isMax q) (reversed (valueOrder (q .kind))) (valueOrder (q .kind)), rw n (choice-least (q .strategy) q h))
 
     least-extreme : (O : Order Text) → view t .choice p ≡ least O → (isMin q || isMax q) ≡ true
     unfolding view atPlace

@@ -4,7 +4,7 @@ use mathlib.Core.Bool.{true, false}
 use mathlib.Core.List.{List, [], _∷_, _++_, append-assoc, map, flatten}
 use Prim.Native.Nat.{ℕ, zero, suc, _+_, _-_, _*_, _≤_, _<_}
 use native.Mathlib.Omega.{arith}
-use lib.ListN.{length, take, drop, getD, length-append, length-drop, drop-of-length-le}
+use lib.ListN.{length, take, drop, getD, length-drop, drop-of-length-le}
 use lib.Seq.{take-at, drop-drop, drop-append-seam}
 use borrow.Author.Tests.{le-leb, lt-leb}
 use Rattle.model.specs.Order.{Text, rising}
@@ -22,6 +22,7 @@ use Rattle.event.specs.declared.read.HeadRead.{HeadRead}
 use Rattle.event.specs.declared.read.HeadRead.the-variants.{Head, NoHead}
 use Rattle.event.specs.declared.read.ParentsRead.{ParentsRead}
 use Rattle.event.specs.declared.read.ParentsRead.the-variants.{Parents, NoParents}
+use Rattle.event.proofs.EventSizeLaws.{hashes-size}
 
 -- ---- the source
 
@@ -82,15 +83,10 @@ pub parents-some : (most : ℕ) (t r : List ℕ) (n : ℕ) → readNumber t ≡ 
 unfolding readParents risen
 parents-some most t r n e h = rw (e, le-leb n most h)
 
-flat : (hs : List Text) → flatten (map (λ (h : Text). h) hs) ≡ flatten hs
+pub flat : (hs : List Text) → flatten (map (λ (h : Text). h) hs) ≡ flatten hs
 unfolding flatten
 flat [] = refl
 flat (h ∷ hs) = ap (λ (l : List ℕ). h ++ l) (flat hs)
-
-hashes-long : (hs : List Text) → All (λ (h : Text). length h ≡ 20) hs → length (flatten hs) ≡ 20 * length hs
-unfolding flatten
-hashes-long [] a = refl
-hashes-long (h ∷ hs) a = omega (arith, length-append h (flatten hs), a .0, hashes-long hs (a .1))
 
 hash-at : (hs : List Text) (t r : List ℕ) (i : ℕ) → All (λ (h : Text). length h ≡ 20) hs → t ≡ flatten hs ++ r → i < length hs → take 20 (drop (20 * i) t) ≡ getD hs i []
 unfolding flatten
@@ -112,7 +108,7 @@ parents-found s q start to count hs a b e f =
       stands = record {
         bytes = p .0;
         count = sym (w .1);
-        size = omega (arith, p .1, p .2, hashes-long hs (w .2), w .1);
+        size = omega (arith, p .1, p .2, hashes-size hs (w .2), w .1);
         within = b;
         each = λ i l. parent-at s start i hs (hash-at hs (drop start s) (drop to s) i (w .2) g l);
       };

@@ -270,11 +270,6 @@ element [] i d h = absurd (omega arith)
 element (x ∷ xs) zero d h = refl
 element (x ∷ xs) (suc i) d h = element xs i d (omega arith)
 
-pub no-element : {A : Type 0} (xs : List A) (i : ℕ) → length xs ≤ i → getElem? xs i ≡ none
-no-element [] i h = refl
-no-element (x ∷ xs) zero h = absurd (omega arith)
-no-element (x ∷ xs) (suc i) h = no-element xs i (omega arith)
-
 pub no-place : (xs : List (List Text)) (place index : ℕ) → length xs ≤ place → getElem? (getD xs place []) index ≡ none
 no-place [] place index h = refl
 no-place (x ∷ xs) zero index h = absurd (omega arith)

@@ -15,6 +15,8 @@ use Rattle.packed.specs.Packed.{number, readNumber, text, readText}
 use Rattle.packed.specs.Located.{part}
 use Rattle.packed.proofs.LayoutLaws.{andThen-got, foundIf-got, times-was, text-read, text-was, text-length, number-bounds}
 use Rattle.packed.proofs.ReadLaws.{TextStops}
+pub use Rattle.ontology.proofs.RunLaws.{prepend}
+use Rattle.ontology.proofs.RunLaws.{prepend-nil, prepend-one}
 use Rattle.event.specs.Event.{objectCount}
 use Rattle.event.specs.EventLayout.{readSet, readPlace, readSets, setBytes}
 use Rattle.event.specs.EventIndex.{SetIs, noSet, SetsAre, SetStops, SetReads, SetsStop, SetsReads}
@@ -175,19 +177,6 @@ sets-stop : (n presence : ℕ) (t : List ℕ) → readPlace (presence % 2) t ≡
 unfolding readSets
 sets-stop n presence t e = ap (λ (p : Parse (List Text)). andThen p (λ y o. andThen (readSets n (presence / 2) o) (λ xs u. got (y ∷ xs) u))) e
 
--- what was read before, and then what is read next
-abbrev pub prepend : {A : Type 0} → List A → Parse (List A) → Parse (List A)
-prepend vs fail = fail
-prepend vs (got ws t) = got (vs ++ ws) t
-
-prepend-none : {A : Type 0} (p : Parse (List A)) → p ≡ prepend [] p
-prepend-none fail = refl
-prepend-none (got ws t) = refl
-
-prepend-one : {A : Type 0} (vs : List A) (v : A) (p : Parse (List A)) → prepend vs (andThen p (λ ws t. got (v ∷ ws) t)) ≡ prepend (vs ++ (v ∷ [])) p
-prepend-one vs v fail = refl
-prepend-one vs v (got ws t) = ap (λ (l : List _). got l t) (sym (append-assoc vs (v ∷ []) ws))
-
 objects-snoc : (xs : List (List Text)) (x : List Text) → objectCount (xs ++ (x ∷ [])) ≡ objectCount xs + length x
 unfolding objectCount
 objects-snoc [] x = omega arith
@@ -222,7 +211,7 @@ sofar-none s ats bits at h l = record {
   xs = [];
   long = refl;
   few = omega arith;
-  rest = prepend-none (readSets 32 bits (drop at s));
+  rest = prepend-nil (readSets 32 bits (drop at s));
   within = h;
   summed = refl;
   small = omega arith;

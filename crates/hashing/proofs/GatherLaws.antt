@@ -10,6 +10,7 @@ use lib.ListN.{length, take, drop, getD, getElem?, length-append, length-map, ta
 use lib.Seq.{drop-drop, drop-cons}
 use borrow.Author.Tests.{eq-eqb, ne-eqb}
 use Rattle.model.specs.Order.{Text, texts}
+use Rattle.model.proofs.PartLaws.{map-append}
 use Rattle.packed.specs.Parse.{fail}
 use Rattle.packed.specs.Packed.{text, readText}
 use Rattle.packed.specs.Located.{part}
@@ -28,11 +29,6 @@ use Rattle.hashing.specs.declared.objects.ObjectAt.{ObjectAt}
 use Rattle.hashing.specs.declared.objects.Objects.{Objects}
 use Rattle.hashing.proofs.SortLaws.{sorted-snoc}
 use Rattle.hashing.proofs.HashSizeLaws.{strings-length}
-
-module _ {A B : Type 0} (f : A → B) where
-  map-snoc : (xs : List A) (x : A) → map f (xs ++ (x ∷ [])) ≡ map f xs ++ (f x ∷ [])
-  map-snoc [] x = refl
-  map-snoc (y ∷ ys) x = ap (λ (l : List B). f y ∷ l) (map-snoc ys x)
 
 -- ---- the objects of one property
 
@@ -109,7 +105,7 @@ module _ (table event : List ℕ) (name colon : ℕ) (xs : Objects) (vs : List T
         let g = gathered-more table event xs r q (record { name = name; colon = colon; value = a; end = z }) (map (λ (v : Text). part table name colon ++ (58 ∷ v)) (w .done)) (w .have) i in
         let e : map (λ (v : Text). part table name colon ++ (58 ∷ v)) (w .done) ++ ((part table name colon ++ (58 ∷ part event a z)) ∷ []) ≡ map (λ (v : Text). part table name colon ++ (58 ∷ v)) (w .done ++ (f .v ∷ [])) =
         ap (λ (u : Text). map (λ (v : Text). part table name colon ++ (58 ∷ v)) (w .done) ++ ((part table name colon ++ (58 ∷ u)) ∷ [])) (n .0)
-        ∙ sym (map-snoc (λ (v : Text). part table name colon ++ (58 ∷ v)) (w .done) (f .v)) in
+        ∙ sym (map-append (λ (v : Text). part table name colon ++ (58 ∷ v)) (w .done) (f .v ∷ [])) in
         record {
           done = w .done ++ (f .v ∷ []);
           rest = f .us;

@@ -1,5 +1,5 @@
 -- The laws of questions 3 to 7 of the events of a batch.
-use mathlib.Core.Path.{_≡_, refl, sym, ap, ap₂, _∙_}
+use mathlib.Core.Path.{_≡_, refl, sym, ap, ap₂, _∙_, subst}
 use mathlib.Core.Bool.{Bool, true, false, _&&_}
 use mathlib.Core.Option.{Option, some}
 use mathlib.Core.List.{List, [], _∷_}
@@ -14,6 +14,7 @@ use Rattle.model.proofs.OrderLaws.{equal-true}
 use Rattle.ontology.specs.Table.{EventType, Table, typeNamed}
 use Rattle.ontology.specs.TableLayout.{tableOf}
 use Rattle.ontology.specs.TypeIndex.{TypeIs}
+use Rattle.ontology.specs.declared.types.TypeIndex.{TypeIndex}
 use Rattle.ontology.specs.Questions as questions
 use Rattle.ontology.specs.Questions.{Asked, ask, ensure}
 use Rattle.event.specs.Event.{Event}
@@ -26,7 +27,7 @@ use Rattle.dossier.specs.DossierQuestions.{matchSets, agree}
 use Rattle.model.proofs.Cases.{and-false}
 use Rattle.merger.specs.Batch.{AskedAt, refusedAt, accepted, _>>=_, _>>_, at, eventsAsked, eventsAgree, agreeWith}
 use Rattle.merger.specs.BatchIndex.{BatchIs, eventsAgreed, eventsTogether, RefusalIs, firstApart}
-use Rattle.merger.specs.declared.asked.Refusal.{Refusal}
+use Rattle.merger.specs.declared.asked.EventsAsked.{EventsAsked}
 use Rattle.merger.specs.declared.frame.BatchIndex.{BatchIndex}
 
 -- ---- question 7 of two events
@@ -162,10 +163,13 @@ module _ (ts : Table) (a : Typed) (i : ℕ) (ss : List (List ℕ)) (past : lengt
 abbrev pub GoesOn : List ℕ → List ℕ → BatchIndex → Typed → ℕ → ℕ → Type 0
 GoesOn table batch x a i apart = (ts : Table) (ss : List (List ℕ)) → tableOf table ≡ some ts → BatchIs batch ss x → eventsTogether ts ss ≡ goingOn ts a i apart (drop i ss)
 
-pub refusal-is : (q : AskedAt (Unit {0})) (n i : ℕ) (r : Refusal) → q ≡ refusedAt n i → r .number ≡ n → r .position ≡ i → 1 ≤ n → RefusalIs q r
-unfolding RefusalIs
-refusal-is q n i r e a b h = rw e (a, b, h)
+module _ (table : List ℕ) (ts : Table) (ss : List (List ℕ)) (q : AskedAt (Unit {0})) where
+  pub refusal-is : (n i : ℕ) (r : EventsAsked) → q ≡ refusedAt n i → r .number ≡ n → r .position ≡ i → 1 ≤ n → RefusalIs table ts ss q r
+  unfolding RefusalIs
+  refusal-is n i r e a b h = rw e (a, b, h)
 
-pub no-refusal : (q : AskedAt (Unit {0})) (r : Refusal) → q ≡ accepted tt → r .number ≡ 0 → RefusalIs q r
-unfolding RefusalIs
-no-refusal q r e a = rw e a
+  pub no-refusal :
+      (a : Typed) (t : TypeIndex) (r : EventsAsked) → q ≡ accepted tt → r .number ≡ 0 → r .kind ≡ t → eventAsked narrow ts (getD ss 0 []) ≡ questions.accepted a → TypeIs table (a .type) t →
+      RefusalIs table ts ss q r
+  unfolding RefusalIs
+  no-refusal a t r e n k h w = rw e (n, record { first = a; taken = h; typed = subst (λ (x : TypeIndex). TypeIs table (a .type) x) (sym k) w })

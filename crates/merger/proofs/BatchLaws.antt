@@ -27,7 +27,8 @@ use Rattle.ontology.specs.Questions as questions
 use Rattle.ontology.specs.Questions.{Asked, ask, ensure, leastRoom, Answer, gives, refuses, refusesAt, replyOf, laid, answer, Outcome, outcome}
 use Rattle.ontology.specs.Replies.{replied, replies}
 use Rattle.ontology.specs.TableCall.{replyToTable, tableCall}
-use Rattle.ontology.specs.TypeIndex.{tableReply}
+use Rattle.ontology.specs.TypeIndex.{TypeIs, tableReply}
+use Rattle.ontology.specs.declared.types.TypeIndex.{TypeIndex}
 use Rattle.ontology.specs.declared.tables.TableReply.{TableReply}
 use Rattle.ontology.specs.declared.tables.TableReply.the-variants as checked
 use Rattle.ontology.specs.declared.replies.Reply as reply
@@ -40,16 +41,17 @@ use Rattle.dossier.specs.DossierLayout.{Headed, dossierBytes}
 use Rattle.dossier.specs.DossierQuestions.{TypedDossier, dossierAsked, dossiersAgree, matchSets}
 use Rattle.dossier.proofs.DossierQuestionLaws.{match-sets, agree-exact}
 use Rattle.combining.specs.CheckCall.{eventDossier, checkAnswer, checkCall}
+use Rattle.combining.specs.CombineIndex as combining
 use Rattle.combining.specs.CombineCall.{headedAs, combined, combineAnswer, combineCall}
 use Rattle.merger.specs.Batch.{AskedAt, refusedAt, accepted, _>>=_, _>>_, at, eventsAsked, eventsAgree, agreeWith, batchOf, batchDossier, together, batchAsked, batchGiven, Rooms, haveRoom, batchAnswer, batchCall}
-use Rattle.merger.specs.BatchIndex.{BatchIs, BatchReads, eventsAgreed, eventsTogether, RefusalIs, combinedGiven, combinedAnswer, DoneWithin, atFirst, batchReplied, batchReplies}
+use Rattle.merger.specs.BatchIndex.{BatchIs, BatchReads, eventsAgreed, eventsTogether, FirstTyped, RefusalIs, combinedGiven, combinedAnswer, Agreed, FirstOf, LastOf, DoneWithin, atFirst, batchReplied, batchReplies}
 use Rattle.merger.specs.Demand3.{eventOr, eventAt, byteView, dossierReturned, returned, wayAnswer, HasRoom, SameMatch}
-use Rattle.merger.specs.declared.asked.Refusal.{Refusal}
+use Rattle.merger.specs.declared.asked.EventsAsked.{EventsAsked}
 use Rattle.merger.specs.declared.batch.BatchReply.{BatchReply}
 use Rattle.merger.specs.declared.frame.BatchIndex.{BatchIndex}
 use Rattle.merger.proofs.AskedLaws.{same-type, apartThen, goingOn, first-accepted, first-refused}
 use Rattle.merger.proofs.RuleQuestionLaws.{has-length}
-use Rattle.merger.proofs.CallLaws.{returned-gives, rule-bytes, fits-bytes, Colliding, headed, ruleOf, bytesOf, checked-one, one-fits, two-joined, byte-calls}
+use Rattle.merger.proofs.CallLaws.{returned-gives, rule-bytes, fits-bytes, Colliding, headed, ruleOf, bytesOf, checked-one, asked, same-match, one-fits, two-joined, byte-calls}
 
 -- ---- events of which questions 3 to 7 are answered yes
 
@@ -119,8 +121,8 @@ module _ (ts : Table) (s r : List ℕ) (a b : Typed) (h : eventAsked narrow ts s
   one-type : b .type ≡ a .type
   one-type = sym (same-type ts s r a b h k (l .type))
 
-  same-match : SameMatch (a .type) (b .event) (a .event)
-  same-match =
+  alike-match : SameMatch (a .type) (b .event) (a .event)
+  alike-match =
       let e : matchSets (a .type .properties) (b .event .sets) ≡ matchSets (a .type .properties) (a .event .sets) =
       ap (λ (t : EventType). matchSets (t .properties) (b .event .sets)) (sym one-type) ∙ sym (l .sets) in
       match-sets (a .type .properties) (b .event .sets) (a .event .sets) (sets-long ts r b k ∙ sym (sets-long ts s a h)) .1 e
@@ -130,7 +132,7 @@ module _ (ts : Table) (s r : List ℕ) (a b : Typed) (h : eventAsked narrow ts s
     taken = k ∙ ap questions.accepted (λ i. record { type = one-type i; event = sym (is-event ts r b k) i });
     source = ap (λ (e : Event). e .source) (is-event ts r b k) ∙ sym (l .source);
     alike = subst (λ (e : Event). SameMatch (a .type) e (eventAt s)) (sym (is-event ts r b k))
-        (subst (λ (e : Event). SameMatch (a .type) (b .event) e) (sym (is-event ts s a h)) same-match);
+        (subst (λ (e : Event). SameMatch (a .type) (b .event) e) (sym (is-event ts s a h)) alike-match);
   }
 
 pub known : (ts : Table) (ss : List (List ℕ)) → eventsTogether ts ss ≡ accepted tt → Known ts ss
@@ -212,6 +214,9 @@ for-refused : (w : ways.Reply (List ℕ)) (n : ℕ) (old : List ℕ) → said n 
 unfolding answerFor
 for-refused (wrote x) n old e = let z = e ∙ returned-gives x old in never (cc)
 for-refused (said m) n old e = cc
+
+accepted-same : {A : Type 0} {a b : A} → questions.accepted a ≡ questions.accepted b → a ≡ b
+accepted-same e = cc
 
 -- ---- combining such events
 
@@ -370,25 +375,75 @@ module _ (table : List ℕ) (ts : Table) (isTable : tableOf table ≡ some ts) (
       let z : said m ≡ wrote (bytes (x ∷ [])) = ap (λ (y : reply.Reply). returned (replies y after)) (sym f) ∙ g in
       never (cc)
 
-  -- the n-th event combined with those before it
-  pub add-next : (n size m : ℕ) (s sofar lone after out : List ℕ) (r : reply.Reply) → 2 ≤ n → n ≤ length ss → HasRoom lone → HasRoom out → s ≡ getD ss (n - 1) [] →
-      combinedAnswer ts (take (n - 1) ss) ≡ gives (take size sofar) → replies r after ≡ checkCall table s lone → r ≡ variant.Done m →
-      combineCall standard table (take size sofar) (take m after) out ≡ outcome (combinedAnswer ts (take n ss)) out
-  add-next n size m s sofar lone after out r h l v o q c e f =
-      let x = getD ss (n - 1) [] in
-      let es = take (n - 1) ss in
-      let has = first-has ss (n - 1) (omega arith) (omega arith) in
-      let sx = last-is n (omega arith) l in
-      let (inside, left) = inside-of es (take size sofar) (sym (first-is (n - 1) (omega arith) (omega arith)) ∙ c) in
-      let w : wrote (take m after) ≡ wrote (bytes (x ∷ [])) =
-      ap (λ (y : reply.Reply). returned (replies y after)) (sym f) ∙ (ap returned (e ∙ ap (λ (y : List ℕ). checkCall table y lone) q) ∙ checked-for x lone sx v) in
-      let right : take m after ≡ bytes (x ∷ []) = cc in
-      let both = two-joined table ts isTable t (k .source) (k .first) (k .model) out es (x ∷ []) o has (x, List·Memᴰ·head refl) (first-each (n - 1)) (one-each x sx) inside (one-fits table ts isTable t (k .source) (k .first) (k .model) x sx) in
-      let all : returned (combineCall standard table (bytes es) (bytes (x ∷ [])) out) ≡ ruled (take n ss) =
-      both ∙ ap (limited standard (byteView t) (λ d. dossierBytes (headed t (k .source) d))) (rule-append (byteView t) es (x ∷ []) ∙ ap (rule (byteView t)) (sym (first-last n (omega arith) l))) in
-      rw (left, right)
-      (combine-for table (bytes es) (bytes (x ∷ [])) out
-      ∙ ap (λ (a : Answer). outcome a out) (ap answerFor all ∙ sym (first-is n (omega arith) l)))
+  -- a dossier of some of these events, and what is asked of two
+  abbrev dossierOf : List (List ℕ) → TypedDossier
+  dossierOf es = record { type = t; headed = headed t (k .source) (rule (view t) (map eventAt es)) }
+
+  first-type : (x : TypeIndex) → 1 ≤ length ss → FirstTyped table ts ss x → TypeIs table t x
+  first-type x l w =
+      let e : questions.accepted (w .first) ≡ questions.accepted (typed (getD ss 0 [])) = sym (w .taken) ∙ last-is 1 (omega arith) l .taken in
+      subst (λ (y : EventType). TypeIs table y x) (ap (λ (a : Typed). a .type) (accepted-same e)) (w .typed)
+
+  both-known : (es fs : List (List ℕ)) (x : TypeIndex) → Has es → Has fs → Each S es → Each S fs →
+      fits standard (byteView t) (rules es) ≡ true → fits standard (byteView t) (rules fs) ≡ true → TypeIs table t x → combining.Known table (bytes es) (bytes fs) x
+  unfolding dossiersAgree
+  both-known es fs x n o h g p q w =
+      let ms = matchSets (t .properties) (eventAt (k .first) .sets) in
+      let left = same-match table ts isTable t (k .source) (k .first) (k .model) es n h p in
+      let right = same-match table ts isTable t (k .source) (k .first) (k .model) fs o g q in
+      record {
+        types = ts;
+        is = isTable;
+        left = dossierOf es;
+        right = dossierOf fs;
+        left-asked = asked table ts isTable t (k .source) (k .first) (k .model) es n h p;
+        right-asked = asked table ts isTable t (k .source) (k .first) (k .model) fs o g q;
+        agree = rw (left, right) (agree-exact (t .name) (k .source) ms (t .name) (k .source) ms .1 (refl, refl, refl));
+        typed = w;
+      }
+
+  -- the n-th event, checked, and the dossier of those before it
+  module _ (n size m : ℕ) (s sofar lone after : List ℕ) (r : reply.Reply) (h : 2 ≤ n) (l : n ≤ length ss) (v : HasRoom lone) (q : s ≡ getD ss (n - 1) [])
+      (c : combinedAnswer ts (take (n - 1) ss) ≡ gives (take size sofar)) (e : replies r after ≡ checkCall table s lone) (f : r ≡ variant.Done m) where
+    abbrev others : List (List ℕ)
+    others = take (n - 1) ss
+
+    abbrev last : List ℕ
+    last = getD ss (n - 1) []
+
+    has-others : Has others
+    has-others = first-has ss (n - 1) (omega arith) (omega arith)
+
+    last-in : S last
+    last-in = last-is n (omega arith) l
+
+    left-is : (fits standard (byteView t) (rules others) ≡ true) × (take size sofar ≡ bytes others)
+    left-is = inside-of others (take size sofar) (sym (first-is (n - 1) (omega arith) (omega arith)) ∙ c)
+
+    right-is : take m after ≡ bytes (last ∷ [])
+    right-is =
+        let w : wrote (take m after) ≡ wrote (bytes (last ∷ [])) =
+        ap (λ (y : reply.Reply). returned (replies y after)) (sym f) ∙ (ap returned (e ∙ ap (λ (y : List ℕ). checkCall table y lone) q) ∙ checked-for last lone last-in v) in
+        cc
+
+    last-fits : fits standard (byteView t) (rules (last ∷ [])) ≡ true
+    last-fits = one-fits table ts isTable t (k .source) (k .first) (k .model) last last-in
+
+    -- of these two, questions 2 to 7 are answered yes
+    pub last-known : (x : TypeIndex) → FirstTyped table ts ss x → combining.Known table (take size sofar) (take m after) x
+    last-known x w =
+        rw (left-is .1, right-is)
+        (both-known others (last ∷ []) x has-others (last, List·Memᴰ·head refl) (first-each (n - 1)) (one-each last last-in) (left-is .0) last-fits (first-type x (omega arith) w))
+
+    -- and they combine to the dossier of the first n
+    pub add-next : (out : List ℕ) → HasRoom out → combineCall standard table (take size sofar) (take m after) out ≡ outcome (combinedAnswer ts (take n ss)) out
+    add-next out o =
+        let both = two-joined table ts isTable t (k .source) (k .first) (k .model) out others (last ∷ []) o has-others (last, List·Memᴰ·head refl) (first-each (n - 1)) (one-each last last-in) (left-is .0) last-fits in
+        let all : returned (combineCall standard table (bytes others) (bytes (last ∷ [])) out) ≡ ruled (take n ss) =
+        both ∙ ap (limited standard (byteView t) (λ d. dossierBytes (headed t (k .source) d))) (rule-append (byteView t) others (last ∷ []) ∙ ap (rule (byteView t)) (sym (first-last n (omega arith) l))) in
+        rw (left-is .1, right-is)
+        (combine-for table (bytes others) (bytes (last ∷ [])) out
+        ∙ ap (λ (a : Answer). outcome a out) (ap answerFor all ∙ sym (first-is n (omega arith) l)))
 
   -- what the first n came to
   module _ (n : ℕ) (h : 1 ≤ n) (l : n ≤ length ss) (r : reply.Reply) (after old : List ℕ) (e : dossierReturned (replied r) after ≡ returned (outcome (combinedAnswer ts (take n ss)) old)) where
@@ -413,6 +468,25 @@ module _ (table : List ℕ) (ts : Table) (isTable : tableOf table ≡ some ts) (
     pub stopped-exact : (i m : ℕ) (z : List ℕ) → i ≡ n + 1 → i ≤ length ss → r ≡ variant.Refused m → replies r z ≡ outcome (combinedAnswer ts (take i ss)) z
     stopped-exact i m z q g f =
         ap (λ (x : reply.Reply). replies x z) f ∙ ap (λ (a : Answer). outcome a z) (sym (more-refused i m q g f))
+
+-- ---- what adding the last event asks for
+
+module _ (table batch : List ℕ) (x : BatchIndex) (t : TypeIndex) (n : ℕ) (w : FirstOf table batch x t n) where
+  pub fewer : FirstOf table batch x t (n - 1)
+  fewer = record { types = w .types; events = w .events; agreed = w .agreed; typed = w .typed; within = omega (arith, w .within) }
+
+  -- those before it are combined
+  pub last-of : (m : ℕ) (after old : List ℕ) (r : reply.Reply) → 2 ≤ n →
+      ((ts : Table) (ss : List (List ℕ)) → Agreed table batch x ts ss → n - 1 ≤ length ss → dossierReturned (replied r) after ≡ returned (outcome (combinedAnswer ts (take (n - 1) ss)) old)) →
+      r ≡ variant.Done m → LastOf table batch x t n (take m after)
+  last-of m after old r h e f =
+      let g = w .agreed in
+      let l : n - 1 ≤ length (w .events) = omega (arith, w .within) in
+      record {
+        all = w;
+        more = h;
+        before = first-done table (w .types) (g .isTable) (w .events) (known (w .types) (w .events) (g .agreed)) (n - 1) (omega arith) l r after old (e (w .types) (w .events) g l) m f;
+      }
 
 -- ---- replies and what they wrote
 
@@ -521,15 +595,22 @@ given-refused ts ss n i e = go (eventsAsked ts 0 ss) e
     go (accepted []) e = cc
     go (accepted (a ∷ bs)) e = seven (agreeWith a 1 bs) _ e
 
-pub refusal-was : (q : AskedAt (Unit {0})) (r : Refusal) → RefusalIs q r → (r .number ≡ 0 → ⊥) → q ≡ refusedAt (r .number) (r .position)
-unfolding RefusalIs
-refusal-was (refusedAt n i) r w h = sym (ap₂ (λ (x y : ℕ). refusedAt x y) (w .0) (w .1))
-refusal-was (accepted u) r w h = absurd (h w)
+module _ (table : List ℕ) (ts : Table) (ss : List (List ℕ)) (q : AskedAt (Unit {0})) (r : EventsAsked) (w : RefusalIs table ts ss q r) where
+  pub refusal-was : (r .number ≡ 0 → ⊥) → q ≡ refusedAt (r .number) (r .position)
+  unfolding RefusalIs
+  refusal-was h = go q w
+    where
+      go : (q : AskedAt (Unit {0})) → RefusalIs table ts ss q r → q ≡ refusedAt (r .number) (r .position)
+      go (refusedAt n i) w = sym (ap₂ (λ (x y : ℕ). refusedAt x y) (w .0) (w .1))
+      go (accepted u) w = absurd (h (w .0))
 
-pub all-agreed : (q : AskedAt (Unit {0})) (r : Refusal) → RefusalIs q r → r .number ≡ 0 → q ≡ accepted tt
-unfolding RefusalIs
-all-agreed (refusedAt n i) r w h = absurd (omega (arith, w .0, w .2))
-all-agreed (accepted u) r w h = refl
+  pub all-agreed : r .number ≡ 0 → (q ≡ accepted tt) × FirstTyped table ts ss (r .kind)
+  unfolding RefusalIs
+  all-agreed h = go q w
+    where
+      go : (q : AskedAt (Unit {0})) → RefusalIs table ts ss q r → (q ≡ accepted tt) × FirstTyped table ts ss (r .kind)
+      go (refusedAt n i) w = absurd (omega (arith, w .0, w .2))
+      go (accepted u) w = (refl, w .1)
 
 pub table-there : (table : List ℕ) (r : TableReply) → tableReply r ≡ tableCall table → r ≡ checked.Accepted → (ts : Table) × (tableOf table ≡ some ts)
 unfolding tableReply tableCall replyToTable

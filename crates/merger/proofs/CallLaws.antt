@@ -129,12 +129,12 @@ module _ (table : List ℕ) (types : Table) (isTable : tableOf table ≡ some ty
         inside = sym (fits-bytes t (ruleOf es) ∙ ap (fits standard (view t)) (rule-bytes t es)) ∙ f;
       }
 
-      asked : dossierAsked standard types (bytesOf es) ≡ accepted (record { type = t; headed = headed t uri (rule (view t) these) })
+      pub asked : dossierAsked standard types (bytesOf es) ≡ accepted (record { type = t; headed = headed t uri (rule (view t) these) })
       asked =
           ap (λ (x : Dossier). dossierAsked standard types (dossierBytes (headed t uri x))) (rule-bytes t es)
           ∙ rule-asked t uri (eventAt d) these gathered types type-at
 
-      same-match : dossierMatch t (rule (view t) these .snapshots) ≡ matchSets (t .properties) (eventAt d .sets)
+      pub same-match : dossierMatch t (rule (view t) these .snapshots) ≡ matchSets (t .properties) (eventAt d .sets)
       same-match = rule-match t uri (eventAt d) these gathered
 
       -- "Opened, the dossier answers what 01's opening says of the rule's bytes."

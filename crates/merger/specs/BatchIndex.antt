@@ -1,10 +1,10 @@
 -- What the code holds of a batch, and what it answers.
-use Prim.Native.Nat.{ℕ, _≤_, _<_}
+use Prim.Native.Nat.{ℕ, _-_, _≤_, _<_}
 use mathlib.Core.Path.{_≡_}
 use mathlib.Core.Bool.{Bool, true, false, cond, not, _&&_}
 use mathlib.Core.Option.{Option, none, some}
 use mathlib.Core.List.{List, [], _∷_}
-use lib.ListN.{length, getD}
+use lib.ListN.{length, take, getD}
 use lib.Dec.{eqb}
 use Rattle.model.specs.Limits.{standard}
 use Rattle.packed.specs.Located.{part}
@@ -14,11 +14,14 @@ use Rattle.ontology.specs.Questions as questions
 use Rattle.ontology.specs.Questions.{Answer, gives, refuses, Outcome}
 use Rattle.ontology.specs.declared.replies.Reply as reply
 use Rattle.ontology.specs.declared.replies.Reply.the-variants as replied
-use Rattle.event.specs.EventQuestions.{Typed}
+use Rattle.ontology.specs.TypeIndex.{TypeIs}
+use Rattle.ontology.specs.declared.types.TypeIndex.{TypeIndex}
+use Rattle.event.specs.EventLayout.{narrow}
+use Rattle.event.specs.EventQuestions.{Typed, eventAsked}
 use Rattle.dossier.specs.DossierLayout.{dossierBytes}
 use Rattle.dossier.specs.DossierQuestions.{TypedDossier}
 use Rattle.merger.specs.Batch.{AskedAt, refusedAt, accepted, _>>=_, eventsAsked, agreeWith, together}
-use Rattle.merger.specs.declared.asked.Refusal.{Refusal}
+use Rattle.merger.specs.declared.asked.EventsAsked.{EventsAsked}
 use Rattle.merger.specs.declared.batch.BatchReply.{BatchReply}
 use Rattle.merger.specs.declared.batch.BatchReply.the-variants.{Done, Refused}
 use Rattle.merger.specs.declared.frame.BatchIndex.{BatchIndex}
@@ -45,10 +48,16 @@ eventsAgreed (a ∷ bs) = agreeWith a 1 bs
 unfoldable pub eventsTogether : Table → List (List ℕ) → AskedAt (Unit {0})
 eventsTogether ts ss = eventsAsked ts 0 ss >>= eventsAgreed
 
--- the number and the position of a refusal; 0 where there is none
-unfoldable pub RefusalIs : AskedAt (Unit {0}) → Refusal → Type 0
-RefusalIs (refusedAt n i) r = (r .number ≡ n) × (r .position ≡ i) × (1 ≤ n)
-RefusalIs (accepted u) r = r .number ≡ 0
+-- the first of the events ss is accepted, and has the type t
+pub record FirstTyped (table : List ℕ) (ts : Table) (ss : List (List ℕ)) (t : TypeIndex) : Type 0 where
+  pub first : Typed
+  pub taken : eventAsked narrow ts (getD ss 0 []) ≡ questions.accepted first
+  pub typed : TypeIs table (first .type) t
+
+-- the number and the position of a refusal; 0 where there is none, and then the type of the events
+unfoldable pub RefusalIs : List ℕ → Table → List (List ℕ) → AskedAt (Unit {0}) → EventsAsked → Type 0
+RefusalIs table ts ss (refusedAt n i) r = (r .number ≡ n) × (r .position ≡ i) × (1 ≤ n)
+RefusalIs table ts ss (accepted u) r = (r .number ≡ 0) × FirstTyped table ts ss (r .kind)
 
 -- the numbers of a reply
 abbrev pub batchReplied : BatchReply → questions.Reply
@@ -78,6 +87,20 @@ pub record Agreed (table batch : List ℕ) (x : BatchIndex) (ts : Table) (ss : L
   pub isTable : tableOf table ≡ some ts
   pub isBatch : BatchIs batch ss x
   pub agreed : eventsTogether ts ss ≡ accepted tt
+
+-- such a batch has n events at least, and its events have the type t
+pub record FirstOf (table batch : List ℕ) (x : BatchIndex) (t : TypeIndex) (n : ℕ) : Type 0 where
+  pub types : Table
+  pub events : List (List ℕ)
+  pub agreed : Agreed table batch x types events
+  pub typed : FirstTyped table types events t
+  pub within : n ≤ length events
+
+-- and `sofar` is the dossier of those before the n-th
+pub record LastOf (table batch : List ℕ) (x : BatchIndex) (t : TypeIndex) (n : ℕ) (sofar : List ℕ) : Type 0 where
+  pub all : FirstOf table batch x t n
+  pub more : 2 ≤ n
+  pub before : combinedAnswer (all .types) (take (n - 1) (all .events)) ≡ gives sofar
 
 -- what a call says that it wrote is inside its buffer
 unfoldable pub DoneWithin : reply.Reply → List ℕ → Type 0

@@ -18,17 +18,22 @@ use event::read::EventIndex;
 use ontology::types::TypeIndex;
 use packed::order::same;
 
-// The number of a question that is answered no and the position of its event; 0 where all are answered yes.
-pub struct Refusal {
+// The number of a question that is answered no and the position of its event; 0 where all are answered yes, and then the type of the events.
+pub struct EventsAsked {
     pub number: u8,
     pub position: usize,
+    pub kind: TypeIndex,
 }
 
-// A refusal; none where the number is 0.
-fn refuse(number: u8, position: usize) -> Refusal
-    ensures { λ r. ⌜ (r .number ≡ number) × (r .position ≡ position) ⌝ }
+// What asking answers; no refusal where the number is 0.
+fn answer(number: u8, position: usize, kind: TypeIndex) -> EventsAsked
+    ensures { λ r. ⌜ (r .number ≡ number) × (r .position ≡ position) × (r .kind ≡ kind) ⌝ }
 {
-    Refusal { number, position }
+    EventsAsked {
+        number,
+        position,
+        kind,
+    }
 }
 
 // Question 7 of two events.
@@ -62,14 +67,14 @@ fn first_apart(apart: usize, agrees: bool, position: usize) -> usize
 }
 
 // Questions 3 to 6 of each event in turn, then 7 of each against the first. Each event is read once.
-pub fn ask_events(table: &[u8], batch: &[u8], x: BatchIndex) -> Refusal
+pub fn ask_events(table: &[u8], batch: &[u8], x: BatchIndex) -> EventsAsked
     requires { ⌜ x .count ≤ 16 ⌝ }
-    ensures { λ r. ⌜ ((ts : Table) (ss : List (List ℕ)) → tableOf (now (table .entry)) ≡ some ts → BatchIs (now (batch .entry)) ss x → RefusalIs (eventsTogether ts ss) r) ⌝ }
+    ensures { λ r. ⌜ ((ts : Table) (ss : List (List ℕ)) → tableOf (now (table .entry)) ≡ some ts → BatchIs (now (batch .entry)) ss x → RefusalIs (now (table .entry)) ts ss (eventsTogether ts ss) r) ⌝ }
 {
     let head = event_part(batch, x, 0);
     let first = ask_event(table, head, false);
     if first.number != 0 {
-        return refuse(first.number, 0);
+        return answer(first.number, 0, first.kind);
     }
     let t = first.kind;
     let d = first.event;
@@ -79,14 +84,14 @@ pub fn ask_events(table: &[u8], batch: &[u8], x: BatchIndex) -> Refusal
         let event = event_part(batch, x, i);
         let asked = ask_event(table, event, false);
         if asked.number != 0 {
-            return refuse(asked.number, i);
+            return answer(asked.number, i, t);
         }
         let e = asked.event;
         apart = first_apart(apart, events_agree(head, d, event, e, t), i);
         i += 1;
     }
     if apart == 0 {
-        return refuse(0, 0);
+        return answer(0, 0, t);
     }
-    refuse(7, apart)
+    answer(7, apart, t)
 }

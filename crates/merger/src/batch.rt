@@ -8,16 +8,17 @@ ghost use Rattle.ontology.specs.Questions.{gives, outcome};
 ghost use Rattle.ontology.specs.Replies.{replied, replies};
 ghost use Rattle.merger.specs.Batch.{haveRoom, batchCall};
 ghost use Rattle.merger.specs.Demand3.{dossierReturned, returned};
-ghost use Rattle.merger.specs.BatchIndex.{Agreed, combinedAnswer, DoneWithin, atFirst, batchReplied, batchReplies};
+ghost use Rattle.merger.specs.BatchIndex.{Agreed, combinedAnswer, FirstOf, LastOf, DoneWithin, atFirst, batchReplied, batchReplies};
 use crate::asked::ask_events;
 use crate::frame::BatchIndex;
 use crate::frame::event_part;
 use crate::frame::read_batch;
 use combining::check::check_event;
-use combining::combine::combine;
+use combining::combine::combine_known;
 use ontology::replies::Reply;
 use ontology::tables::TableReply;
 use ontology::tables::check_table;
+use ontology::types::TypeIndex;
 
 // The length of the batch's dossier, or the number of the first question that is answered no and the position of its event.
 pub enum BatchReply {
@@ -25,11 +26,12 @@ pub enum BatchReply {
     Refused(u8, usize),
 }
 
-// The n-th event added to the dossier of those before it, the first `size` bytes of `sofar`: the dossier of all is the answer.
+// The n-th event added to the dossier of those before it, the first `size` bytes of `sofar`: the dossier of all is the answer. Of both dossiers, which the batch made itself, questions 2 to 7 need not be asked.
 fn add_last(
     table: &[u8],
     batch: &[u8],
     x: BatchIndex,
+    t: TypeIndex,
     n: usize,
     sofar: &[u8],
     size: usize,
@@ -38,6 +40,7 @@ fn add_last(
 ) -> Reply
     requires { ⌜ (1 ≤ n) × (n ≤ 16) × (size ≤ length (now sofar)) ⌝ }
     requires { ⌜ (32768 ≤ length (now lone)) × (32768 ≤ length (now out)) ⌝ }
+    requires { ⌜ LastOf (now table) (now batch) x t n (take size (now sofar)) ⌝ }
     ensures within { λ r. ⌜ DoneWithin r (now (out .exit)) ⌝ }
     ensures added { λ r. ⌜ ((ts : Table) (ss : List (List ℕ)) → Agreed (now (table .entry)) (now (batch .entry)) x ts ss → 2 ≤ n → n ≤ length ss → combinedAnswer ts (take (n - 1) ss) ≡ gives (take size (now (sofar .entry))) → replies r (now (out .exit)) ≡ outcome (combinedAnswer ts (take n ss)) (now (out .entry))) ⌝ }
 {
@@ -45,7 +48,7 @@ fn add_last(
     let Reply::Done(m) = added else {
         return added;
     };
-    combine(table, &sofar[..size], &lone[..m], out)
+    combine_known(table, &sofar[..size], &lone[..m], t, out)
 }
 
 // The dossier of the first n events, in the first of three buffers: all but the last are combined first, then the last is added. The buffers change roles.
@@ -53,6 +56,7 @@ fn combine_first(
     table: &[u8],
     batch: &[u8],
     x: BatchIndex,
+    t: TypeIndex,
     n: usize,
     a: &mut [u8],
     b: &mut [u8],
@@ -60,17 +64,18 @@ fn combine_first(
 ) -> Reply
     requires { ⌜ (1 ≤ n) × (n ≤ 16) ⌝ }
     requires { ⌜ (32768 ≤ length (now a)) × (32768 ≤ length (now b)) × (32768 ≤ length (now c)) ⌝ }
+    requires { ⌜ FirstOf (now table) (now batch) x t n ⌝ }
     ensures within { λ r. ⌜ DoneWithin r (now (a .exit)) ⌝ }
     ensures first { λ r. ⌜ ((ts : Table) (ss : List (List ℕ)) → Agreed (now (table .entry)) (now (batch .entry)) x ts ss → n ≤ length ss → dossierReturned (replied r) (now (a .exit)) ≡ returned (outcome (combinedAnswer ts (take n ss)) (now (a .entry)))) ⌝ }
 {
     if n <= 1 {
         return check_event(table, event_part(batch, x, 0), a);
     }
-    let others = combine_first(table, batch, x, n - 1, b, c, a);
+    let others = combine_first(table, batch, x, t, n - 1, b, c, a);
     let Reply::Done(size) = others else {
         return others;
     };
-    add_last(table, batch, x, n, b, size, c, a)
+    add_last(table, batch, x, t, n, b, size, c, a)
 }
 
 // The dossier of all events of a batch that was asked its questions but the last.
@@ -78,6 +83,7 @@ fn combine_all(
     table: &[u8],
     batch: &[u8],
     x: BatchIndex,
+    t: TypeIndex,
     out: &mut [u8],
     a: &mut [u8],
     b: &mut [u8],
@@ -85,17 +91,18 @@ fn combine_all(
 ) -> Reply
     requires { ⌜ (x .count ≤ 16) × (32768 ≤ length (now out)) ⌝ }
     requires { ⌜ (32768 ≤ length (now a)) × (32768 ≤ length (now b)) × (32768 ≤ length (now c)) ⌝ }
+    requires { ⌜ FirstOf (now table) (now batch) x t (x .count) ⌝ }
     ensures { λ r. ⌜ ((ts : Table) (ss : List (List ℕ)) → Agreed (now (table .entry)) (now (batch .entry)) x ts ss → replies r (now (out .exit)) ≡ outcome (combinedAnswer ts ss) (now (out .entry))) ⌝ }
 {
     let n = x.count;
     if n <= 1 {
         return check_event(table, event_part(batch, x, 0), out);
     }
-    let others = combine_first(table, batch, x, n - 1, a, b, c);
+    let others = combine_first(table, batch, x, t, n - 1, a, b, c);
     let Reply::Done(size) = others else {
         return others;
     };
-    add_last(table, batch, x, n, a, size, b, out)
+    add_last(table, batch, x, t, n, a, size, b, out)
 }
 
 // A reply of the whole batch, whose refusal has the position 0.
@@ -145,9 +152,9 @@ pub fn batch(
     if !x.ok {
         return BatchReply::Refused(9, 0);
     }
-    let refusal = ask_events(table, batch, x);
-    if refusal.number != 0 {
-        return BatchReply::Refused(refusal.number, refusal.position);
+    let asked = ask_events(table, batch, x);
+    if asked.number != 0 {
+        return BatchReply::Refused(asked.number, asked.position);
     }
-    batch_reply(combine_all(table, batch, x, out, a, b, c))
+    batch_reply(combine_all(table, batch, x, asked.kind, out, a, b, c))
 }

@@ -9,21 +9,14 @@ use lib.Seq.{drop-cons}
 use lib.Dec.{ltb, leb, eqb}
 use borrow.Author.Tests.{lt-ltb, eq-eqb, ne-eqb, eqb-false}
 use Rattle.model.specs.Order.{Text, texts, rising, pick}
+use Rattle.model.proofs.Cases.{and-true, and-false}
 use Rattle.packed.specs.Located.{part}
 use Rattle.values.specs.Spaces.{kindNumber}
 use Rattle.ontology.specs.Table.{Property, EventType, strategyNumber, isVersioned, isOrdered, strategyFits, allFit, canBeMarked, markFits, namesRise}
 use Rattle.ontology.specs.declared.properties.PropertyAt.{PropertyAt}
 use Rattle.ontology.specs.declared.types.TypeIndex.{TypeIndex}
 use Rattle.ontology.specs.TypeIndex.{precedes, PropertyIs, propertyRules, TypeIs}
-use Rattle.ontology.proofs.RunLaws.{Nth, nth, map-length, past}
-
-and-right : (a : Bool) → (a && true) ≡ a
-and-right true = refl
-and-right false = refl
-
-and-never : (a : Bool) → (a && false) ≡ false
-and-never true = refl
-and-never false = refl
+use Rattle.ontology.proofs.RunLaws.{Nth, nth, map-length, no-element}
 
 -- one of three, by a comparison, where only the first is not false
 pub picked : (o : Ordering) (b : Bool) → pick o true false false ≡ true → pick o b false false ≡ b
@@ -57,7 +50,7 @@ module _ (s : List ℕ) (q : Property) (x : PropertyAt) (v : Bool) (w : Property
   fits-ordered h k = fits-by ∙ go (x .strategy) (x .optional) (x .multivalued) (leb (x .kind) 6) h k
     where
       go : (n : ℕ) (o m d : Bool) → 1 ≤ n → n ≤ 2 → fitsBy n o m d v ≡ (not o && not m && d)
-      go n o m d h k = rw (ne-eqb n 4 (λ e. omega arith)) (and-right (not (eqb n 1 || eqb n 2) || (not o && not m && d)) ∙ one (eqb n 1) refl)
+      go n o m d h k = rw (ne-eqb n 4 (λ e. omega arith)) (and-true (not (eqb n 1 || eqb n 2) || (not o && not m && d)) ∙ one (eqb n 1) refl)
         where
           one : (t : Bool) → eqb n 1 ≡ t → (not (t || eqb n 2) || (not o && not m && d)) ≡ (not o && not m && d)
           one true e = refl
@@ -79,7 +72,7 @@ module _ (s : List ℕ) (q : Property) (x : PropertyAt) (v : Bool) (w : Property
 
   pub replace-many : x .strategy ≡ 4 → x .multivalued ≡ true → strategyFits v q ≡ false
   replace-many h k =
-      fits-replace h ∙ ap (λ (m : Bool). x .optional && not m && v) k ∙ ap (λ (b : Bool). b && v) (and-never (x .optional))
+      fits-replace h ∙ ap (λ (m : Bool). x .optional && not m && v) k ∙ ap (λ (b : Bool). b && v) (and-false (x .optional))
 
   pub replace-optional : x .strategy ≡ 4 → x .multivalued ≡ false → x .optional ≡ true → strategyFits v q ≡ v
   replace-optional h k l = fits-replace h ∙ ap₂ (λ (o m : Bool). o && not m && v) l k
@@ -106,20 +99,20 @@ module _ (s : List ℕ) (q : Property) (x : PropertyAt) (w : PropertyIs s q x) w
   marked-kind h = marked-by ∙ go (not (x .optional) && not (x .multivalued)) (eqb (x .kind) 5) (ne-eqb (x .kind) 5 h)
     where
       go : (a b : Bool) → b ≡ false → (a && b && eqb (x .strategy) 2) ≡ false
-      go a b h = ap (λ (b : Bool). a && b && eqb (x .strategy) 2) h ∙ ap (λ (b : Bool). b && eqb (x .strategy) 2) (and-never a)
+      go a b h = ap (λ (b : Bool). a && b && eqb (x .strategy) 2) h ∙ ap (λ (b : Bool). b && eqb (x .strategy) 2) (and-false a)
 
   pub marked-strategy : (x .strategy ≡ 2 → ⊥) → canBeMarked q ≡ false
   marked-strategy h =
       marked-by
       ∙ ap (λ (b : Bool). not (x .optional) && not (x .multivalued) && eqb (x .kind) 5 && b) (ne-eqb (x .strategy) 2 h)
-      ∙ and-never (not (x .optional) && not (x .multivalued) && eqb (x .kind) 5)
+      ∙ and-false (not (x .optional) && not (x .multivalued) && eqb (x .kind) 5)
 
   pub marked-is : x .kind ≡ 5 → x .strategy ≡ 2 → canBeMarked q ≡ (not (x .optional) && not (x .multivalued))
   marked-is h k =
       marked-by
       ∙ ap₂ (λ (b d : Bool). not (x .optional) && not (x .multivalued) && b && d) (eq-eqb (x .kind) 5 h) (eq-eqb (x .strategy) 2 k)
-      ∙ and-right (not (x .optional) && not (x .multivalued) && true)
-      ∙ and-right (not (x .optional) && not (x .multivalued))
+      ∙ and-true (not (x .optional) && not (x .multivalued) && true)
+      ∙ and-true (not (x .optional) && not (x .multivalued))
 
 -- ---- all properties of a type
 
@@ -167,7 +160,7 @@ module _ (s : List ℕ) (t : EventType) (x : TypeIndex) (w : TypeIs s t x) where
 
   pub mark-past : 0 < x .mark → x .count < x .mark → (not (isVersioned t) || markFits (getElem? (t .properties) (t .mark - 1))) ≡ false
   unfolding markFits
-  mark-past h k = mark-some h ∙ ap markFits (past (t .properties) (x .mark - 1) (omega (arith, w .count)))
+  mark-past h k = mark-some h ∙ ap markFits (no-element (t .properties) (x .mark - 1) (omega (arith, w .count)))
 
   pub mark-is :
       (h : 0 < x .mark) (k : x .mark - 1 < x .count) →

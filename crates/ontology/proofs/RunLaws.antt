@@ -22,6 +22,10 @@ pub prepend-two : {A : Type 0} (xs ys : List A) (p : Parse (List A)) → prepend
 prepend-two xs ys fail = refl
 prepend-two xs ys (got ws t) = ap (λ (l : List _). got l t) (sym (append-assoc xs ys ws))
 
+pub prepend-one : {A : Type 0} (vs : List A) (v : A) (p : Parse (List A)) → prepend vs (andThen p (λ ws t. got (v ∷ ws) t)) ≡ prepend (vs ++ (v ∷ [])) p
+prepend-one vs v fail = refl
+prepend-one vs v (got ws t) = ap (λ (l : List _). got l t) (sym (append-assoc vs (v ∷ []) ws))
+
 module _ {A : Type 0} (p : Layout A) where
   times-one : (n : ℕ) (s : List ℕ) (a : A) (t : List ℕ) → p s ≡ got a t → times p (suc n) s ≡ prepend (a ∷ []) (times p n t)
   unfolding times
@@ -97,10 +101,10 @@ module _ {A : Type 0} (f : A → List ℕ) where
   map-length [] = refl
   map-length (x ∷ xs) = ap suc (map-length xs)
 
-pub past : {A : Type 0} (xs : List A) (i : ℕ) → length xs ≤ i → getElem? xs i ≡ none
-past [] i h = refl
-past (x ∷ xs) zero h = absurd (omega arith)
-past (x ∷ xs) (suc i) h = past xs i (omega arith)
+pub no-element : {A : Type 0} (xs : List A) (i : ℕ) → length xs ≤ i → getElem? xs i ≡ none
+no-element [] i h = refl
+no-element (x ∷ xs) zero h = absurd (omega arith)
+no-element (x ∷ xs) (suc i) h = no-element xs i (omega arith)
 
 -- an element of a list with one more at its end
 pub snoc-at :

@@ -25,6 +25,7 @@ use Rattle.dossier.specs.declared.dossiers.DossierIndex.{DossierIndex}
 use Rattle.dossier.proofs.CellLaws.{held-at}
 use Rattle.dossier.proofs.AcceptedLaws.{DossierTaken, dossier-taken, taken-kept, taken-fits, taken-values, taken-objects}
 use Rattle.opening.specs.OpenIndex.{CellsStand, Lone, Mergeable, Openable}
+use Rattle.opening.proofs.StandLaws.{column-at}
 
 -- ---- place by place
 
@@ -35,12 +36,6 @@ cell-at f g (x ∷ ps) [] h zero q e = let k : x ≡ q = cc in rw (← k) (and-p
 cell-at f g (x ∷ ps) [] h (suc p) q e = cell-at f g ps [] (and-parts (f x (holds [])) (eachCell f g ps []) h .1) p q e
 cell-at f g (x ∷ ps) (c ∷ cs) h zero q e = let k : x ≡ q = cc in rw (← k) (and-parts (f x c) (eachCell f g ps cs) h .0)
 cell-at f g (x ∷ ps) (c ∷ cs) h (suc p) q e = cell-at f g ps cs (and-parts (f x c) (eachCell f g ps cs) h .1) p q e
-
-column-at : (ss : List Snapshot) (p j : ℕ) → j < length ss → getD (column ss p) j [] ≡ held (cellAt (getD ss j noSnapshot) p)
-unfolding column
-column-at [] p j l = absurd (omega arith)
-column-at (s ∷ ss) p zero l = refl
-column-at (s ∷ ss) p (suc j) l = column-at ss p j (omega arith)
 
 column-size : (ss : List Snapshot) (p : ℕ) → length (flatten (column ss p)) ≤ objects ss
 unfolding column flatten objects cellAt
@@ -90,7 +85,7 @@ module _ (s : List ℕ) (d : DossierIndex) (t : TypeIndex) (o : Openable s d t) 
         ∙ each-place-at (λ p s. areInSpace (p .kind) s) (λ s. true) (o .type .properties) (map held (getD snapshots j noSnapshot .cells)) (taken-values taken j l) p q e
 
     lone-there : Lone (q .kind) (getD (column snapshots p) j [])
-    lone-there = subst (Lone (q .kind)) (sym (column-at snapshots p j l)) (record { one = one-there; in-space = space-there })
+    lone-there = subst (Lone (q .kind)) (sym (column-at snapshots p j)) (record { one = one-there; in-space = space-there })
 
   pub mergeable : (cells : List SetAt) → CellsStand s snapshots cells → Mergeable s cells (d .count) (o .type) (o .headed .dossier)
   mergeable cells w = record {

@@ -3,23 +3,24 @@ use mathlib.Core.Path.{_≡_, refl, sym, ap, ap₂, _∙_}
 use mathlib.Core.Bool.{Bool, true, false, cond}
 use mathlib.Core.Option.{Option, none, some}
 use mathlib.Core.List.{List, [], _∷_, map}
-use Prim.Native.Nat.{ℕ, suc, _+_, _-_, _%_, _≤_, _<_}
+use Prim.Native.Nat.{ℕ, zero, suc, _+_, _-_, _*_, _/_, _%_, _≤_, _<_}
 use native.Mathlib.Omega.{arith}
 use native.Mathlib.Numerals.{add-one}
-use lib.ListN.{length, drop, getD, drop-of-length-le}
-use lib.Seq.{drop-cons}
+use lib.Dec.{eqb}
+use lib.ListN.{length, drop, getD, drop-of-length-le, List·getD-map}
+use lib.Seq.{drop-cons, getD-take}
 use borrow.Author.Tests.{eq-eqb, ne-eqb}
 use Rattle.model.specs.Sets.{upFrom, upTo}
-use Rattle.model.specs.Rule.{Cell, holds, Snapshot}
+use Rattle.model.specs.Rule.{Cell, holds, differs, Snapshot}
 use Rattle.model.specs.Opening.{lowest, isMark, cellAt, Conflict, noConflict, differsAt, marked, orLater, conflict}
 use Rattle.model.proofs.Cases.{never}
 use Rattle.event.specs.EventLayout.{bitNumber}
-use Rattle.event.specs.declared.sets.SetAt.{SetAt}
-use Rattle.dossier.specs.DossierLayout.{differBit}
-use Rattle.dossier.specs.DossierIndex.{CellsAre, SnapshotIs, noSnapshot}
-use Rattle.dossier.specs.declared.snapshots.SnapshotIndex.{SnapshotIndex}
+use Rattle.event.proofs.EventLayoutLaws.{low-bit, high-bits}
+use Rattle.dossier.specs.DossierLayout.{Headed, differBit}
+use Rattle.dossier.specs.DossierIndex.{noSnapshot, DossierIs}
+use Rattle.dossier.specs.declared.dossiers.DossierIndex.{DossierIndex}
+use Rattle.dossier.proofs.DossierLayoutLaws.{differ-small}
 use Rattle.values.specs.declared.versions.EventVersion.{EventVersion}
-use Rattle.dossier.proofs.CellLaws.{cell-here}
 use Rattle.opening.specs.OpenIndex.{clashOf}
 use Rattle.opening.specs.declared.clash.Clash.{Clash}
 use Rattle.opening.specs.declared.clash.Clash.the-variants.{Differs, NoClash}
@@ -47,23 +48,62 @@ module _ (test : ℕ → Bool) where
 
 -- ---- the differ bit of a place
 
-module _ (s : List ℕ) (cs : List Cell) (differ : ℕ) (ats : List SetAt) (v : CellsAre s cs differ ats) (k bits : ℕ) (h : k < 32) (b : bits ≡ bitNumber (map differBit (drop k cs))) where
+mark-bit : (c : Cell) → eqb (differBit c) 1 ≡ isMark c
+unfolding differBit isMark
+mark-bit (holds x) = refl
+mark-bit differs = refl
+
+bits-split : (cs : List Cell) (k : ℕ) → bitNumber (map differBit (drop k cs)) ≡ differBit (getD cs k (holds [])) + 2 * bitNumber (map differBit (drop (suc k) cs))
+unfolding bitNumber differBit
+bits-split [] zero = refl
+bits-split [] (suc k) = refl
+bits-split (c ∷ cs) zero = refl
+bits-split (c ∷ cs) (suc k) = bits-split cs k
+
+module _ (cs : List Cell) (k bits : ℕ) (b : bits ≡ bitNumber (map differBit (drop k cs))) where
+  bits-here : bits ≡ differBit (getD cs k (holds [])) + 2 * bitNumber (map differBit (drop (suc k) cs))
+  bits-here = b ∙ bits-split cs k
+
+  mark-here : isMark (getD cs k (holds [])) ≡ eqb (bits % 2) 1
+  mark-here = sym (ap (λ (n : ℕ). eqb (n % 2) 1) bits-here ∙ ap (λ (n : ℕ). eqb n 1) (low-bit (differBit (getD cs k (holds []))) (bitNumber (map differBit (drop (suc k) cs))) (differ-small (getD cs k (holds [])))) ∙ mark-bit (getD cs k (holds [])))
+
   pub bit-set : bits % 2 ≡ 1 → isMark (getD cs k (holds [])) ≡ true
-  bit-set e = sym (cell-here s cs differ ats v k bits h b .mark) ∙ eq-eqb (bits % 2) 1 e
+  bit-set e = mark-here ∙ eq-eqb (bits % 2) 1 e
 
   pub bit-clear : (bits % 2 ≡ 1 → ⊥) → isMark (getD cs k (holds [])) ≡ false
-  bit-clear e = sym (cell-here s cs differ ats v k bits h b .mark) ∙ ne-eqb (bits % 2) 1 e
+  bit-clear e = mark-here ∙ ne-eqb (bits % 2) 1 e
+
+  pub bits-next : bits / 2 ≡ bitNumber (map differBit (drop (k + 1) cs))
+  bits-next =
+      ap (λ (n : ℕ). n / 2) bits-here
+      ∙ high-bits (differBit (getD cs k (holds []))) (bitNumber (map differBit (drop (suc k) cs))) (differ-small (getD cs k (holds [])))
+      ∙ ap (λ (n : ℕ). bitNumber (map differBit (drop n cs))) (sym (add-one k))
 
 -- ---- a snapshot
 
-module _ (s : List ℕ) (y : Snapshot) (x : SnapshotIndex) (w : SnapshotIs s y x) where
-  pub snapshot-differs : (p : ℕ) → some p ≡ lowest (λ q. isMark (getD (y .cells) q (holds []))) (upTo 32) → differsAt (x .version .0) p ≡ conflict (upTo 32) (y ∷ [])
+module _ (y : Snapshot) (version : ℕ) (w : version ≡ y .version) where
+  pub snapshot-differs : (p : ℕ) → some p ≡ lowest (λ q. isMark (getD (y .cells) q (holds []))) (upTo 32) → differsAt version p ≡ conflict (upTo 32) (y ∷ [])
   unfolding conflict orLater marked cellAt
-  snapshot-differs p e = ap₂ (λ (v : ℕ) (o : Option ℕ). orLater v o noConflict) (w .version) e
+  snapshot-differs p e = ap₂ (λ (v : ℕ) (o : Option ℕ). orLater v o noConflict) w e
 
   pub snapshot-clear : none ≡ lowest (λ q. isMark (getD (y .cells) q (holds []))) (upTo 32) → noConflict ≡ conflict (upTo 32) (y ∷ [])
   unfolding conflict orLater marked cellAt
   snapshot-clear e = ap (λ (o : Option ℕ). orLater (y .version) o noConflict) e
+
+-- the numbers of a snapshot, as the index has them
+module _ (s : List ℕ) (h : Headed) (d : DossierIndex) (w : DossierIs s h d) (j : ℕ) (l : j < length (h .dossier .snapshots)) where
+  pub version-at : getD (d .versions) j 0 ≡ getD (h .dossier .snapshots) j noSnapshot .version
+  version-at =
+      sym (getD-take (length (h .dossier .snapshots)) (d .versions) j 0 l)
+      ∙ ap (λ (v : List ℕ). getD v j 0) (w .snapshots .numbers)
+      ∙ List·getD-map (λ (x : Snapshot). x .version) (h .dossier .snapshots) j noSnapshot
+
+  pub differ-at : getD (d .differs) j 0 ≡ bitNumber (map differBit (getD (h .dossier .snapshots) j noSnapshot .cells))
+  unfolding bitNumber
+  differ-at =
+      sym (getD-take (length (h .dossier .snapshots)) (d .differs) j 0 l)
+      ∙ ap (λ (v : List ℕ). getD v j 0) (w .differs)
+      ∙ List·getD-map (λ (x : Snapshot). bitNumber (map differBit (x .cells))) (h .dossier .snapshots) j noSnapshot
 
 -- ---- the snapshots, from one on
 

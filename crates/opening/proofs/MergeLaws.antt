@@ -12,27 +12,30 @@ use lib.ListN.{length, take, drop, getD, getElem?, length-drop}
 use lib.ListN as lists
 use lib.Seq.{take-suc, take-all, drop-cons, drop-length, getD-set-same, getD-set-other}
 use borrow.Author.Count.{below-more}
-use Rattle.model.specs.Order.{Text, Order, texts, reversed, pick}
+use borrow.Author.Tests.{eq-eqb, ne-eqb}
+use Rattle.model.specs.Order.{Text, Order, texts, rising, reversed, pick}
 use Rattle.model.specs.Keyed.{put, merge}
 use Rattle.model.specs.Sets.{upFrom, upTo, canon, union, smallest}
 use Rattle.model.specs.Rule.{Choice, every, least, places, Snapshot, Dossier}
 use Rattle.model.specs.Opening.{column, lastOf, lowest, mergedSet, mergedAt, mergedSets, overfull}
 use Rattle.model.proofs.StepLaws.{smallest-snoc}
-use Rattle.model.proofs.Cases.{and-parts}
+use Rattle.model.proofs.SetLaws.{rising-ups, canon-ups}
+use Rattle.model.proofs.Cases.{and-parts, or-part, never}
 use Rattle.values.specs.Spaces.{Kind, inSpace}
 use Rattle.values.specs.ValueOrder.{valueOrder}
 use Rattle.values.proofs.SpaceLaws.{chosen}
-use Rattle.ontology.specs.Table.{Strategy, min, max, add, replace, match, set, any, strategyNumber, Property, EventType, isReplace, isSingle}
+use Rattle.ontology.specs.Table.{set, Property, EventType, isReplace, isSingle}
 use Rattle.event.specs.Event.{choiceOf, atPlace, view}
 use Rattle.event.specs.EventLayout.{presenceBit, bitNumber}
 use Rattle.event.specs.EventQuestions.{areInSpace}
 use Rattle.event.specs.EventIndex.{SetIs, noSet}
 use Rattle.event.specs.declared.sets.SetAt.{SetAt}
 use Rattle.event.proofs.EventLayoutLaws.{bits-small}
+use Rattle.event.proofs.EventQuestionLaws.{choice-every, choice-least}
 use Rattle.unions.specs.Merging.{SetRuns}
 use Rattle.opening.specs.OpenIndex.{CellsStand, RuleOf, RuleIs, Lone, Chooses, Mergeable, CountsMerged}
-use Rattle.opening.specs.CellIndex.{countBit}
-use Rattle.opening.proofs.StandLaws.{column-long, cell-stands}
+use Rattle.opening.specs.CellIndex.{countBit, isStanding, RowIs}
+use Rattle.opening.proofs.StandLaws.{column-long, column-at, row-stands}
 use Rattle.opening.specs.declared.strategies.PlaceRule.{PlaceRule}
 
 pub single-overfull : (b : Bool) (n : ℕ) → b ≡ true → leb 2 n ≡ (b && leb 2 n)
@@ -252,26 +255,6 @@ unfolding RuleIs atPlace
 replaces-at none r w = w .replaces
 replaces-at (some q) r w = w .replaces
 
-choice-every : (st : Strategy) (q : Property) → (eqb (strategyNumber st) 1 || eqb (strategyNumber st) 2) ≡ false → choiceOf st q ≡ every
-unfolding choiceOf
-choice-every min q e = cc
-choice-every max q e = cc
-choice-every add q e = refl
-choice-every replace q e = refl
-choice-every match q e = refl
-choice-every set q e = refl
-choice-every any q e = refl
-
-choice-least : (st : Strategy) (q : Property) → (eqb (strategyNumber st) 1 || eqb (strategyNumber st) 2) ≡ true → choiceOf st q ≡ least (orderOf (eqb (strategyNumber st) 2) (q .kind))
-unfolding choiceOf
-choice-least min q e = refl
-choice-least max q e = refl
-choice-least add q e = cc
-choice-least replace q e = cc
-choice-least match q e = cc
-choice-least set q e = cc
-choice-least any q e = cc
-
 abbrev choiceAt : Option Property → Choice
 choiceAt o = atPlace every (λ q. choiceOf (q .strategy) q) o
 
@@ -322,22 +305,92 @@ last-at (xs ∷ []) (suc j) e = absurd (omega arith)
 last-at (xs ∷ ys ∷ zss) zero e = absurd (omega arith)
 last-at (xs ∷ ys ∷ zss) (suc j) e = last-at (ys ∷ zss) j (omega arith)
 
-or-right : (a b : Bool) → (a || b) ≡ true → a ≡ false → b ≡ true
-or-right true b e f = cc
-or-right false b e f = e
+-- the only set of one snapshot
+only-set : (xss : List (List Text)) → length xss ≡ 1 → flatten xss ≡ getD xss 0 []
+unfolding flatten
+only-set [] e = absurd (omega arith)
+only-set (xs ∷ []) e = append-nil xs
+only-set (xs ∷ ys ∷ zss) e = absurd (omega arith)
 
-module _ (s : List ℕ) (cells : List SetAt) (n : ℕ) (t : EventType) (d : Dossier) (m : Mergeable s cells n t d) (p : ℕ) (r : PlaceRule) (w : RuleIs (getElem? (t .properties) p) r) where
-  pub stands-last : p < 32 → 1 ≤ n → r .replaces ≡ true → SetIs s (mergedAt (view t) d p) (getD cells (p * 8 + (n - 1)) noSet)
-  stands-last h k e =
+-- ---- the merged sets that stand already
+
+module _ (r : PlaceRule) (n : ℕ) where
+  pub standing-only : n ≡ 1 → true ≡ isStanding r n
+  unfolding isStanding
+  standing-only e = sym (ap (λ (b : Bool). b || (r .replaces || r .extreme)) (eq-eqb n 1 e))
+
+  module _ (h : n ≡ 1 → ⊥) where
+    standing-many : isStanding r n ≡ (r .replaces || r .extreme)
+    unfolding isStanding
+    standing-many = ap (λ (b : Bool). b || (r .replaces || r .extreme)) (ne-eqb n 1 h)
+
+    pub standing-last : r .replaces ≡ true → true ≡ isStanding r n
+    standing-last e = sym (standing-many ∙ ap (λ (b : Bool). b || r .extreme) e)
+
+    pub standing-chosen : r .replaces ≡ false → r .extreme ≡ isStanding r n
+    standing-chosen e = sym (standing-many ∙ ap (λ (b : Bool). b || r .extreme) e)
+
+  module _ {b : Bool} (e : b ≡ isStanding r n) (f : b ≡ false) where
+    neither : (a x y : Bool) → (a || (x || y)) ≡ false → (x ≡ false) × (y ≡ false)
+    neither true x y e = never (cc)
+    neither false true y e = never (cc)
+    neither false false y e = (refl, e)
+
+    made : (r .replaces ≡ false) × (r .extreme ≡ false)
+    unfolding isStanding
+    made = neither (eqb n 1) (r .replaces) (r .extreme) (sym e ∙ f)
+
+    pub made-no-last : r .replaces ≡ false
+    made-no-last = made .0
+
+    pub made-no-chosen : r .extreme ≡ false
+    made-no-chosen = made .1
+
+module _ (s : List ℕ) (cells row : List SetAt) (n : ℕ) (t : EventType) (d : Dossier) (p : ℕ) (v : RowIs cells p row) (m : Mergeable s cells n t d) (r : PlaceRule) (w : RuleIs (getElem? (t .properties) p) r) where
+  pub stands-last : 1 ≤ n → r .replaces ≡ true → SetIs s (mergedAt (view t) d p) (getD row (n - 1) noSet)
+  stands-last k e =
       let l : length (column (d .snapshots) p) ≡ suc (n - 1) = column-long (d .snapshots) p ∙ m .count ∙ omega arith in
-      subst (λ (vs : List Text). SetIs s vs (getD cells (p * 8 + (n - 1)) noSet)) (sym (merged-last t d p r w e ∙ last-at (column (d .snapshots) p) (n - 1) l))
-      (cell-stands s (d .snapshots) cells p (n - 1) (p * 8 + (n - 1)) (m .stand) h (omega (arith, m .count)) refl)
+      subst (λ (vs : List Text). SetIs s vs (getD row (n - 1) noSet)) (sym (merged-last t d p r w e ∙ last-at (column (d .snapshots) p) (n - 1) l))
+      (row-stands s (d .snapshots) cells row p (n - 1) v (m .stand) (omega (arith, m .count)))
 
-  pub stands-chosen : (x : SetAt) → r .replaces ≡ false → (r .replaces || r .extreme) ≡ true →
+  module _ (k : n ≡ 1) where
+    only-flat : flatten (column (d .snapshots) p) ≡ getD (column (d .snapshots) p) 0 []
+    only-flat = only-set (column (d .snapshots) p) (column-long (d .snapshots) p ∙ m .count ∙ k)
+
+    only-rises : rising texts (getD (column (d .snapshots) p) 0 []) ≡ true
+    only-rises = ap (rising texts) (column-at (d .snapshots) p 0) ∙ m .stand .each p 0 (v .within) (omega (arith, m .count)) .rises
+
+    only-stands : mergedAt (view t) d p ≡ getD (column (d .snapshots) p) 0 [] → SetIs s (mergedAt (view t) d p) (getD row (n - 1) noSet)
+    only-stands e =
+        let z : n - 1 ≡ 0 = omega arith in
+        subst (λ (vs : List Text). SetIs s vs (getD row (n - 1) noSet)) (sym e)
+        (rw z (row-stands s (d .snapshots) cells row p 0 v (m .stand) (omega (arith, m .count))))
+
+    only-union : r .replaces ≡ false → r .extreme ≡ false → mergedAt (view t) d p ≡ getD (column (d .snapshots) p) 0 []
+    only-union e f =
+        merged-every t d p r w e f ∙ ap (canon texts) only-flat
+        ∙ canon-ups texts (getD (column (d .snapshots) p) 0 []) (rising-ups texts (getD (column (d .snapshots) p) 0 []) .0 only-rises)
+
+    only-least : r .replaces ≡ false → r .extreme ≡ true → mergedAt (view t) d p ≡ getD (column (d .snapshots) p) 0 []
+    only-least e f =
+        let y = extremal (getElem? (t .properties) p) r w f in
+        let o = sym (y .rule .extreme) ∙ f in
+        merged-least t d p r w e f y ∙ ap (smallest (orderOf (r .largest) (y .what .kind))) only-flat
+        ∙ lone-smallest (y .what .kind) (r .largest) (getD (column (d .snapshots) p) 0 []) (m .lone p (y .what) (y .is) o 0 (omega arith))
+
+    pub stands-only : SetIs s (mergedAt (view t) d p) (getD row (n - 1) noSet)
+    stands-only = by (r .replaces) (r .extreme) refl refl
+      where
+        by : (a b : Bool) → r .replaces ≡ a → r .extreme ≡ b → SetIs s (mergedAt (view t) d p) (getD row (n - 1) noSet)
+        by true b e f = stands-last (omega arith) e
+        by false true e f = only-stands (only-least e f)
+        by false false e f = only-stands (only-union e f)
+
+  pub stands-chosen : (x : SetAt) → (n ≡ 1 → ⊥) → r .replaces ≡ false → isStanding r n ≡ true →
       ((ss : List Snapshot) (k : Kind) → CellsStand s ss cells → length ss ≡ n → Chooses k (r .kind) → ((j : ℕ) → j < n → Lone k (getD (column ss p) j [])) → SetIs s (smallest (orderOf (r .largest) k) (flatten (column ss p))) x) →
       SetIs s (mergedAt (view t) d p) x
-  stands-chosen x e f h =
-      let g = or-right (r .replaces) (r .extreme) f e in
+  stands-chosen x z e f h =
+      let g = standing-chosen r n z e ∙ f in
       let y = extremal (getElem? (t .properties) p) r w g in
       let o = sym (y .rule .extreme) ∙ g in
       subst (λ (vs : List Text). SetIs s vs x) (sym (merged-least t d p r w e g y))

@@ -10,6 +10,7 @@ use Rattle.model.specs.Order.{Text}
 use Rattle.model.specs.Rule.{Snapshot}
 use Rattle.model.specs.Opening.{held, cellAt, column}
 use Rattle.packed.specs.Parse.{got}
+use Rattle.packed.proofs.ReadLaws.{to-end}
 use Rattle.event.specs.EventIndex.{SetIs, noSet}
 use Rattle.event.specs.declared.sets.SetAt.{SetAt}
 use Rattle.event.proofs.EventLayoutLaws.{SetWritten}
@@ -21,9 +22,9 @@ use Rattle.dossier.specs.declared.snapshots.SnapshotIndex.{SnapshotIndex}
 use Rattle.dossier.specs.declared.dossiers.DossierIndex.{DossierIndex}
 use Rattle.dossier.proofs.CellLaws.{held-at}
 use Rattle.dossier.proofs.AskLaws.{reads-got}
-use Rattle.dossier.proofs.DossierReadLaws.{to-end}
 use Rattle.dossier.proofs.DossierLayoutLaws.{snapshot-was}
 use Rattle.opening.specs.OpenIndex.{CellStands, Shifted, CellsFilled, CellsStand}
+use Rattle.opening.specs.CellIndex.{RowIs}
 
 -- ---- the column of a place
 
@@ -40,15 +41,15 @@ column-at (x ∷ ss) p (suc j) = column-at ss p j
 
 -- ---- the runs of a place
 
--- the first j runs are those of the cells
-pub record RunsTo (cells : List SetAt) (place : ℕ) (starts ends : List ℕ) (j : ℕ) : Type 0 where
+-- the first j runs are those of the row
+pub record RunsTo (row : List SetAt) (starts ends : List ℕ) (j : ℕ) : Type 0 where
   pub starts-long : length starts ≡ 8
   pub ends-long : length ends ≡ 8
-  pub start : (i : ℕ) → i < j → getD starts i 0 ≡ getD cells (place * 8 + i) noSet .start
-  pub end : (i : ℕ) → i < j → getD ends i 0 ≡ getD cells (place * 8 + i) noSet .end
+  pub start : (i : ℕ) → i < j → getD starts i 0 ≡ getD row i noSet .start
+  pub end : (i : ℕ) → i < j → getD ends i 0 ≡ getD row i noSet .end
 
-pub runs-none : (cells : List SetAt) (place : ℕ) (starts ends : List ℕ) → length starts ≡ 8 → length ends ≡ 8 → RunsTo cells place starts ends 0
-runs-none cells place starts ends a b = record { starts-long = a; ends-long = b; start = λ i h. absurd (omega arith); end = λ i h. absurd (omega arith) }
+pub runs-none : (row : List SetAt) (starts ends : List ℕ) → length starts ≡ 8 → length ends ≡ 8 → RunsTo row starts ends 0
+runs-none row starts ends a b = record { starts-long = a; ends-long = b; start = λ i h. absurd (omega arith); end = λ i h. absurd (omega arith) }
 
 put-more : (f : ℕ → ℕ) (l : List ℕ) (j : ℕ) → j < length l → ((i : ℕ) → i < j → getD l i 0 ≡ f i) → (i : ℕ) → i < j + 1 → getD (set l j (f j)) i 0 ≡ f i
 put-more f l j h old =
@@ -56,25 +57,26 @@ put-more f l j h old =
     (λ i k. let ne : i ≡ j → ⊥ = λ e. omega arith in getD-set-other l j i (f j) 0 ne ∙ old i k)
     (getD-set-same l j (f j) 0 h)
 
-pub runs-more : (cells : List SetAt) (place : ℕ) (starts ends : List ℕ) (j : ℕ) → j < 8 → RunsTo cells place starts ends j →
-    RunsTo cells place (set starts j (getD cells (place * 8 + j) noSet .start)) (set ends j (getD cells (place * 8 + j) noSet .end)) (j + 1)
-runs-more cells place starts ends j h w = record {
-  starts-long = length-set starts j (getD cells (place * 8 + j) noSet .start) ∙ w .starts-long;
-  ends-long = length-set ends j (getD cells (place * 8 + j) noSet .end) ∙ w .ends-long;
-  start = put-more (λ (i : ℕ). getD cells (place * 8 + i) noSet .start) starts j (omega (arith, w .starts-long)) (w .start);
-  end = put-more (λ (i : ℕ). getD cells (place * 8 + i) noSet .end) ends j (omega (arith, w .ends-long)) (w .end);
+pub runs-more : (row : List SetAt) (starts ends : List ℕ) (j : ℕ) → j < 8 → RunsTo row starts ends j →
+    RunsTo row (set starts j (getD row j noSet .start)) (set ends j (getD row j noSet .end)) (j + 1)
+runs-more row starts ends j h w = record {
+  starts-long = length-set starts j (getD row j noSet .start) ∙ w .starts-long;
+  ends-long = length-set ends j (getD row j noSet .end) ∙ w .ends-long;
+  start = put-more (λ (i : ℕ). getD row i noSet .start) starts j (omega (arith, w .starts-long)) (w .start);
+  end = put-more (λ (i : ℕ). getD row i noSet .end) ends j (omega (arith, w .ends-long)) (w .end);
 }
 
 pub cell-run : (s : List ℕ) (vs : List Text) (x : SetAt) → CellStands s vs x → SetRun s (x .start) (x .end) vs
 cell-run s vs x w = record { bytes = w .is .bytes; order = w .is .order; within = w .is .within; rises = w .rises }
 
-pub runs-all : (s : List ℕ) (ss : List Snapshot) (cells : List SetAt) (place : ℕ) (starts ends : List ℕ) (j : ℕ) → CellsStand s ss cells → place < 32 → 8 ≤ j →
-    RunsTo cells place starts ends j → SetRuns s starts ends (length ss) (column ss place)
-runs-all s ss cells place starts ends j w h full r = record {
+pub runs-all : (s : List ℕ) (ss : List Snapshot) (cells row : List SetAt) (place : ℕ) (starts ends : List ℕ) (j : ℕ) → RowIs cells place row → CellsStand s ss cells → 8 ≤ j →
+    RunsTo row starts ends j → SetRuns s starts ends (length ss) (column ss place)
+runs-all s ss cells row place starts ends j v w full r = record {
   long = column-long ss place;
   each = λ i l.
       let k : i < j = omega (arith, w .few) in
-      rw (column-at ss place i, r .start i k, r .end i k) (cell-run s (held (cellAt (getD ss i noSnapshot) place)) (getD cells (place * 8 + i) noSet) (w .each place i h l));
+      let e = v .at i (omega (arith, w .few)) in
+      rw (column-at ss place i, r .start i k, r .end i k, e) (cell-run s (held (cellAt (getD ss i noSnapshot) place)) (getD cells (place * 8 + i) noSet) (w .each place i (v .within) l));
 }
 
 -- ---- the cells of a snapshot
@@ -112,6 +114,11 @@ own-cell s at x v i p r h l e w z = record {
   rises = rw (← held-at (x .cells) p) (all-at SetWritten [] empty-written (map held (x .cells)) (snapshot-was (drop at s) x v e .1 .sets .each) p .rises);
 }
 
+-- the index of the first snapshot
+pub first-is : (s : List ℕ) (h : Headed) (d : DossierIndex) (j : ℕ) → DossierIs s h d → j ≡ 0 → SnapshotIs (drop (getD (d .starts) j 0) s) (getD (h .dossier .snapshots) j noSnapshot) (d .first)
+first-is s h d zero w e = w .first
+first-is s h d (suc j) w e = absurd (omega arith)
+
 pub filled-more : (s : List ℕ) (x : Snapshot) (j : ℕ) (old cells : List SetAt) (p : ℕ) (r : SetAt) → length cells ≡ 256 → p < 32 → j < 8 → FilledTo s x j old cells p → CellStands s (held (cellAt x p)) r → FilledTo s x j old (set cells (p * 8 + j) r) (p + 1)
 filled-more s x j old cells p r long h k w here = record {
   own =
@@ -148,5 +155,25 @@ stand-all s h d cells j w k v = record {
 }
 
 -- a set of the column, where its cell says
-pub cell-stands : (s : List ℕ) (ss : List Snapshot) (cells : List SetAt) (p j i : ℕ) → CellsStand s ss cells → p < 32 → j < length ss → i ≡ p * 8 + j → SetIs s (getD (column ss p) j []) (getD cells i noSet)
-cell-stands s ss cells p j i w h k e = rw (column-at ss p j, e) (w .each p j h k .is)
+pub row-stands : (s : List ℕ) (ss : List Snapshot) (cells row : List SetAt) (p j : ℕ) → RowIs cells p row → CellsStand s ss cells → j < length ss → SetIs s (getD (column ss p) j []) (getD row j noSet)
+row-stands s ss cells row p j v w k = let e = v .at j (omega (arith, w .few)) in rw (column-at ss p j, e) (w .each p j (v .within) k .is)
+
+-- the cells of a place, one by one
+pub row-is :
+    (cells : List SetAt) (p : ℕ) → p < 32 →
+    RowIs cells p (getD cells (p * 8) noSet ∷ getD cells (p * 8 + 1) noSet ∷ getD cells (p * 8 + 2) noSet ∷ getD cells (p * 8 + 3) noSet ∷ getD cells (p * 8 + 4) noSet ∷ getD cells (p * 8 + 5) noSet ∷ getD cells (p * 8 + 6) noSet ∷ getD cells (p * 8 + 7) noSet ∷ [])
+row-is cells p h = record { within = h; at = each }
+  where
+    each :
+        (j : ℕ) → j < 8 →
+        getD (getD cells (p * 8) noSet ∷ getD cells (p * 8 + 1) noSet ∷ getD cells (p * 8 + 2) noSet ∷ getD cells (p * 8 + 3) noSet ∷ getD cells (p * 8 + 4) noSet ∷ getD cells (p * 8 + 5) noSet ∷ getD cells (p * 8 + 6) noSet ∷ getD cells (p * 8 + 7) noSet ∷ []) j noSet
+        ≡ getD cells (p * 8 + j) noSet
+    each zero k = ap (λ (i : ℕ). getD cells i noSet) (omega arith)
+    each (suc zero) k = refl
+    each (suc (suc zero)) k = refl
+    each (suc (suc (suc zero))) k = refl
+    each (suc (suc (suc (suc zero)))) k = refl
+    each (suc (suc (suc (suc (suc zero))))) k = refl
+    each (suc (suc (suc (suc (suc (suc zero)))))) k = refl
+    each (suc (suc (suc (suc (suc (suc (suc zero))))))) k = refl
+    each (suc (suc (suc (suc (suc (suc (suc (suc j)))))))) k = absurd (omega arith)

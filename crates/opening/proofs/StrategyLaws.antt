@@ -11,7 +11,8 @@ use Rattle.ontology.specs.Table.{Strategy, min, max, add, replace, match, set, 
 use Rattle.ontology.specs.TypeIndex.{PropertyIs, TypeIs}
 use Rattle.ontology.specs.declared.properties.PropertyAt.{PropertyAt}
 use Rattle.ontology.specs.declared.types.TypeIndex.{TypeIndex}
-use Rattle.dossier.proofs.CellLaws.{Elem, elem, elem-none}
+use Rattle.ontology.proofs.RunLaws.{no-element}
+use Rattle.dossier.proofs.CellLaws.{Elem, elem}
 use Rattle.opening.specs.OpenIndex.{RuleOf, RuleIs}
 use Rattle.opening.specs.declared.strategies.PlaceRule.{PlaceRule}
 
@@ -42,7 +43,7 @@ module _ (s : List ℕ) (ty : EventType) (t : TypeIndex) (w : TypeIs s ty t) (k 
 
   pub rule-none : t .count ≤ k → RuleIs (getElem? (ty .properties) k) (record { single = false; replaces = false; extreme = false; largest = false; kind = 0 })
   unfolding RuleIs
-  rule-none h = subst (λ (o : Option Property). RuleIs o (record { single = false; replaces = false; extreme = false; largest = false; kind = 0 })) (sym (elem-none (ty .properties) k (omega (arith, w .count)))) (record { single = refl; replaces = refl; extreme = refl })
+  rule-none h = subst (λ (o : Option Property). RuleIs o (record { single = false; replaces = false; extreme = false; largest = false; kind = 0 })) (sym (no-element (ty .properties) k (omega (arith, w .count)))) (record { single = refl; replaces = refl; extreme = refl })
 
   pub rule-some : (d : PropertyAt) → k < t .count → RuleIs (getElem? (ty .properties) k) (ruleFrom (getD (t .properties) k d))
   unfolding RuleIs

@@ -16,7 +16,7 @@ use Rattle.model.proofs.Cases.{never}
 use Rattle.packed.specs.Packed.{number, text}
 use Rattle.packed.specs.Located.{part}
 use Rattle.packed.specs.Written.{Wrote}
-use Rattle.packed.proofs.WriteLaws.{wrote-length, wrote-then, ToGo, to-go, gone}
+use Rattle.packed.proofs.WriteLaws.{wrote-length, wrote-then, ToGo, to-go, gone, wrote-none}
 use Rattle.unions.specs.Merging.{SetRuns, MergedRoom}
 use Rattle.ontology.specs.Table.{Strategy, min, max, add, replace, match, set, any, strategyNumber, Property, EventType, isReplace}
 use Rattle.ontology.specs.TypeIndex.{TypeIs}
@@ -29,6 +29,7 @@ use Rattle.event.specs.declared.read.HeadAt.{HeadAt}
 use Rattle.dossier.specs.declared.dossiers.DossierIndex.{DossierIndex}
 use Rattle.opening.specs.OpenCall.{mergedEvent}
 use Rattle.opening.specs.OpenIndex.{Mergeable, RuleIs, HeadRoom, PlaceRoom, SetsRoom, Writable}
+use Rattle.opening.specs.CellIndex.{RowIs, RowRoom}
 use Rattle.opening.specs.declared.strategies.PlaceRule.{PlaceRule}
 
 -- ---- the head
@@ -54,14 +55,6 @@ module _ (s : List ℕ) (type source : Text) (parents : List Text) (x : HeadAt) 
       wrote-then (wrote-then p′ q′) (wrote-then r′ z′)
 
 -- ---- the values of a place
-
-pub or-first : (a b : Bool) → a ≡ true → (a || b) ≡ true
-or-first true b e = refl
-or-first false b e = never (cc)
-
-pub or-second : (a b : Bool) → b ≡ true → (a || b) ≡ true
-or-second true b e = refl
-or-second false b e = e
 
 -- a set that is neither replaced nor chosen from is the union
 module _ (ty : EventType) (d : Dossier) (place : ℕ) (r : PlaceRule) where
@@ -116,6 +109,9 @@ module _ {s : List ℕ} {cells : List SetAt} {place n : ℕ} {rule : PlaceRule} 
   pub runs-here : (starts ends : List ℕ) → SetRuns s starts ends (length (p .dossier .snapshots)) (column (p .dossier .snapshots) place) → SetRuns s starts ends n (column (p .dossier .snapshots) place)
   runs-here starts ends w = subst (λ (k : ℕ). SetRuns s starts ends k (column (p .dossier .snapshots) place)) (p .merges .count) w
 
+abbrev pub row-room : {s : List ℕ} {cells row : List SetAt} {place n : ℕ} {rule : PlaceRule} {at size : ℕ} → RowIs cells place row → PlaceRoom s cells place n rule at size → RowRoom s row n rule at size
+row-room {s} {cells} {row} {place} v p = record { cells = cells; place = place; is = v; room = p }
+
 -- ---- the set of a place
 
 set-none : (vs : List Text) → 0 ≡ length vs → setBytes vs ≡ []
@@ -137,9 +133,6 @@ pub record SetRoom (s : List ℕ) (cells : List SetAt) (place n : ℕ) (t : Type
   pub merges : Mergeable s cells n type dossier
   pub counted : count ≡ length (mergedAt (view type) dossier place)
   pub room : at + length (setBytes (mergedAt (view type) dossier place)) ≤ size
-
-wrote-none : (l : List ℕ) (at : ℕ) → Wrote l at [] l at
-wrote-none l at = record { bytes = refl; after = omega arith }
 
 module _ {s : List ℕ} {cells : List SetAt} {place n : ℕ} {t : TypeIndex} {count at size : ℕ} (p : SetRoom s cells place n t count at size) where
   abbrev merged-here : List Text

@@ -1,7 +1,32 @@
--- What the code counts of merged sets.
-use Prim.Native.Nat.{ℕ, zero, suc}
+-- What the code counts of merged sets, which of them stand already, and the cells of one place.
+use Prim.Native.Nat.{ℕ, zero, suc, _+_, _*_, _<_}
+use mathlib.Core.Path.{_≡_}
+use mathlib.Core.Bool.{Bool, _||_}
+use mathlib.Core.List.{List}
+use lib.Dec.{eqb}
+use lib.ListN.{getD}
+use Rattle.event.specs.EventIndex.{noSet}
+use Rattle.event.specs.declared.sets.SetAt.{SetAt}
+use Rattle.opening.specs.OpenIndex.{PlaceRoom}
+use Rattle.opening.specs.declared.strategies.PlaceRule.{PlaceRule}
 
 -- the presence bit of a set of so many objects
 unfoldable pub countBit : ℕ → ℕ
 countBit zero = 0
 countBit (suc n) = 1
+
+-- the merged set of n snapshots is the set of one of them
+unfoldable pub isStanding : PlaceRule → ℕ → Bool
+isStanding r n = eqb n 1 || (r .replaces || r .extreme)
+
+-- the cells of a place, one for each snapshot
+pub record RowIs (cells : List SetAt) (place : ℕ) (row : List SetAt) : Type 0 where
+  pub within : place < 32
+  pub at : (j : ℕ) → j < 8 → getD row j noSet ≡ getD cells (place * 8 + j) noSet
+
+-- the merged set of a row has its room in an output of `size` bytes
+pub record RowRoom (s : List ℕ) (row : List SetAt) (n : ℕ) (rule : PlaceRule) (at size : ℕ) : Type 0 where
+  pub cells : List SetAt
+  pub place : ℕ
+  pub is : RowIs cells place row
+  pub room : PlaceRoom s cells place n rule at size

@@ -50,7 +50,7 @@ fn open_asked(s: &[u8], d: DossierIndex, t: TypeIndex, out: &mut [u8]) -> Opened
     requires { ⌜ Openable (now s) d t × (32768 ≤ length (now out)) ⌝ }
     ensures { λ r. ⌜ ((o : Openable (now (s .entry)) d t) → replies r (now (out .exit)) ≡ outcome (openedAnswer (o .headed) (opening (view (o .type)) (o .headed .dossier))) (now (out .entry))) ⌝ }
 {
-    match find_conflict(s, d) {
+    match find_conflict(d) {
         Clash::Differs(version, place) => Opened::Conflict(version, place),
         Clash::NoClash => open_merged(s, d, t, out),
     }

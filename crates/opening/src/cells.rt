@@ -1,16 +1,18 @@
-ghost use Prim.Native.Nat.{ℕ, _+_, _*_, _≤_, _<_};
+ghost use Prim.Native.Nat.{ℕ, _<_};
 ghost use mathlib.Core.Path.{_≡_};
 ghost use mathlib.Core.List.{List};
 ghost use lib.ListN.{length, drop, getD};
 ghost use Rattle.model.specs.Rule.{Snapshot};
 ghost use Rattle.model.specs.Opening.{column};
-ghost use Rattle.packed.specs.Parse.{got};
 ghost use Rattle.event.specs.EventIndex.{SetIs, noSet};
 ghost use Rattle.unions.specs.Merging.{SetRuns};
-ghost use Rattle.dossier.specs.DossierLayout.{Headed, readSnapshot};
-ghost use Rattle.dossier.specs.DossierIndex.{DossierIs, IsDossier};
-ghost use Rattle.opening.specs.OpenIndex.{Shifted, CellsStand, CellsFilled};
+ghost use Rattle.dossier.specs.DossierLayout.{Headed};
+ghost use Rattle.dossier.specs.DossierIndex.{SnapshotIs, noSnapshot, DossierIs, IsDossier};
+ghost use Rattle.event.specs.declared.sets.SetAt.{SetAt};
+ghost use Rattle.opening.specs.OpenIndex.{Shifted, CellsStand};
+ghost use Rattle.opening.specs.CellIndex.{RowIs};
 use dossier::dossiers::DossierIndex;
+use dossier::snapshots::SnapshotIndex;
 use dossier::snapshots::read_snapshot;
 use event::sets::SetAt;
 
@@ -40,23 +42,19 @@ fn shifted(x: SetAt, at: usize, size: usize) -> SetAt
     }
 }
 
-// The cells with those of snapshot j, which stands in s from `at` on. The set of place p in snapshot j is cell p * 8 + j.
-fn fill_cells(s: &[u8], at: usize, j: usize, old: [SetAt; 256]) -> [SetAt; 256]
-    requires { ⌜ (at ≤ length (now s)) × (j < 8) ⌝ }
-    ensures { λ r. ⌜ ((x : Snapshot) (v : List ℕ) → readSnapshot (drop at (now (s .entry))) ≡ got x v → CellsFilled (now (s .entry)) x j old r) ⌝ }
+// The index of snapshot j. That of the first is kept with the dossier's.
+fn snapshot_at(s: &[u8], d: DossierIndex, j: usize) -> SnapshotIndex
+    requires { ⌜ IsDossier (now s) d × (j < d .count) ⌝ }
+    ensures { λ r. ⌜ ((h : Headed) → DossierIs (now (s .entry)) h d → SnapshotIs (drop (getD (d .starts) j 0) (now (s .entry))) (getD (h .dossier .snapshots) j noSnapshot) r) ⌝ }
 {
-    let x = read_snapshot(&s[at..]);
-    let mut cells = old;
-    let mut p: usize = 0;
-    while p < 32 {
-        let set = x.sets[p];
-        cells[p * 8 + j] = shifted(set, at, s.len());
-        p += 1;
+    if j == 0 {
+        return d.first;
     }
-    cells
+    let at = d.starts[j];
+    read_snapshot(&s[at..])
 }
 
-// The cells of all snapshots, each of which is read once.
+// The cells of all snapshots. The set of place p in snapshot j is cell p * 8 + j.
 pub fn cells_of(s: &[u8], d: DossierIndex) -> [SetAt; 256]
     requires { ⌜ IsDossier (now s) d ⌝ }
     ensures { λ r. ⌜ ((h : Headed) → DossierIs (now (s .entry)) h d → CellsStand (now (s .entry)) (h .dossier .snapshots) r) ⌝ }
@@ -70,17 +68,21 @@ pub fn cells_of(s: &[u8], d: DossierIndex) -> [SetAt; 256]
     let mut j: usize = 0;
     while j < d.count {
         let at = d.starts[j];
-        let filled = fill_cells(s, at, j, cells);
-        cells = filled;
+        let x = snapshot_at(s, d, j);
+        let mut p: usize = 0;
+        while p < 32 {
+            let set = x.sets[p];
+            cells[p * 8 + j] = shifted(set, at, s.len());
+            p += 1;
+        }
         j += 1;
     }
     cells
 }
 
-// The runs of a place, one for each snapshot.
-pub fn runs_of(cells: [SetAt; 256], place: usize) -> Runs
-    requires { ⌜ place < 32 ⌝ }
-    ensures { λ r. ⌜ ((s : List ℕ) (ss : List Snapshot) → CellsStand s ss cells → SetRuns s (r .starts) (r .ends) (length ss) (column ss place)) ⌝ }
+// The runs of a place, one for each snapshot, from its cells.
+pub fn runs_of(row: [SetAt; 8]) -> Runs
+    ensures { λ r. ⌜ ((cells : List SetAt) (place : ℕ) (s : List ℕ) (ss : List Snapshot) → RowIs cells place row → CellsStand s ss cells → SetRuns s (r .starts) (r .ends) (length ss) (column ss place)) ⌝ }
 {
     let mut r = Runs {
         starts: [0; 8],
@@ -88,7 +90,7 @@ pub fn runs_of(cells: [SetAt; 256], place: usize) -> Runs
     };
     let mut j: usize = 0;
     while j < 8 {
-        let x = cells[place * 8 + j];
+        let x = row[j];
         r.starts[j] = x.start;
         r.ends[j] = x.end;
         j += 1;

@@ -1,17 +1,15 @@
-ghost use Prim.Native.Nat.{ℕ};
+ghost use Prim.Native.Nat.{ℕ, _≤_};
 ghost use mathlib.Core.Path.{_≡_};
-ghost use mathlib.Core.List.{List, [], _∷_};
+ghost use mathlib.Core.List.{List, [], _∷_, map};
 ghost use lib.ListN.{getD};
 ghost use Rattle.model.specs.Sets.{upTo};
 ghost use Rattle.model.specs.Rule.{Cell, holds, Snapshot};
 ghost use Rattle.model.specs.Opening.{lowest, isMark, conflict};
-ghost use Rattle.packed.specs.Parse.{got};
-ghost use Rattle.dossier.specs.DossierLayout.{Headed, readSnapshot};
-ghost use Rattle.dossier.specs.DossierIndex.{CellsAre, DossierIs, IsDossier};
-ghost use Rattle.event.specs.declared.sets.SetAt.{SetAt};
+ghost use Rattle.event.specs.EventLayout.{bitNumber};
+ghost use Rattle.dossier.specs.DossierLayout.{Headed, differBit};
+ghost use Rattle.dossier.specs.DossierIndex.{DossierIs};
 ghost use Rattle.opening.specs.OpenIndex.{lowestOf, clashOf};
 use dossier::dossiers::DossierIndex;
-use dossier::snapshots::read_snapshot;
 use values::versions::EventVersion;
 
 // The lowest place that something is so of, if any.
@@ -28,7 +26,7 @@ pub enum Clash {
 
 // The lowest place whose differ bit is set.
 fn lowest_mark(differ: u64) -> Lowest
-    ensures { λ r. ⌜ ((s : List ℕ) (cs : List Cell) (ats : List SetAt) → CellsAre s cs differ ats → lowestOf r ≡ lowest (λ p. isMark (getD cs p (holds []))) (upTo 32)) ⌝ }
+    ensures { λ r. ⌜ ((cs : List Cell) → differ ≡ bitNumber (map differBit cs) → lowestOf r ≡ lowest (λ p. isMark (getD cs p (holds []))) (upTo 32)) ⌝ }
 {
     let mut bits = differ;
     let mut k: usize = 0;
@@ -42,27 +40,24 @@ fn lowest_mark(differ: u64) -> Lowest
     Lowest::NoPlace
 }
 
-// The conflict of the snapshot at the front of s.
-fn snapshot_clash(s: &[u8]) -> Clash
-    ensures { λ r. ⌜ ((x : Snapshot) (v : List ℕ) → readSnapshot (now (s .entry)) ≡ got x v → clashOf r ≡ conflict (upTo 32) (x ∷ [])) ⌝ }
+// The conflict of a snapshot, from its version and its differ number.
+fn snapshot_clash(version: u64, differ: u64) -> Clash
+    ensures { λ r. ⌜ ((x : Snapshot) → version ≡ x .version → differ ≡ bitNumber (map differBit (x .cells)) → clashOf r ≡ conflict (upTo 32) (x ∷ [])) ⌝ }
 {
-    let x = read_snapshot(s);
-    let version = x.version;
-    match lowest_mark(x.differ) {
-        Lowest::Place(place) => Clash::Differs(version, place),
+    match lowest_mark(differ) {
+        Lowest::Place(place) => Clash::Differs(EventVersion(version), place),
         Lowest::NoPlace => Clash::NoClash,
     }
 }
 
 // The lowest snapshot with a differ bit, and its lowest place.
-pub fn find_conflict(s: &[u8], d: DossierIndex) -> Clash
-    requires { ⌜ IsDossier (now s) d ⌝ }
-    ensures { λ r. ⌜ ((h : Headed) → DossierIs (now (s .entry)) h d → clashOf r ≡ conflict (upTo 32) (h .dossier .snapshots)) ⌝ }
+pub fn find_conflict(d: DossierIndex) -> Clash
+    requires { ⌜ d .count ≤ 8 ⌝ }
+    ensures { λ r. ⌜ ((s : List ℕ) (h : Headed) → DossierIs s h d → clashOf r ≡ conflict (upTo 32) (h .dossier .snapshots)) ⌝ }
 {
     let mut j: usize = 0;
     while j < d.count {
-        let at = d.starts[j];
-        let found = snapshot_clash(&s[at..]);
+        let found = snapshot_clash(d.versions[j], d.differs[j]);
         let Clash::NoClash = found else {
             return found;
         };

@@ -1,6 +1,6 @@
 ghost use Prim.Native.Nat.{ℕ, _<_, _≤_};
 ghost use mathlib.Core.Path.{_≡_};
-ghost use mathlib.Core.Bool.{true, cond, _&&_, _||_};
+ghost use mathlib.Core.Bool.{true, cond, _&&_};
 ghost use mathlib.Core.List.{List, [], map, flatten};
 ghost use lib.ListN.{length, take, getD, getElem?};
 ghost use lib.Dec.{leb};
@@ -15,8 +15,9 @@ ghost use Rattle.ontology.specs.TypeIndex.{TypeIs};
 ghost use Rattle.event.specs.Event.{view};
 ghost use Rattle.event.specs.EventLayout.{presenceBit, bitNumber};
 ghost use Rattle.event.specs.EventIndex.{SetIs};
+ghost use Rattle.event.specs.declared.sets.SetAt.{SetAt};
 ghost use Rattle.opening.specs.OpenIndex.{lowestOf, CellsStand, RuleIs, Lone, Chooses, CountsMerged, Mergeable};
-ghost use Rattle.opening.specs.CellIndex.{countBit};
+ghost use Rattle.opening.specs.CellIndex.{countBit, isStanding, RowIs};
 use crate::cells::runs_of;
 use crate::clash::Lowest;
 use crate::strategies::PlaceRule;
@@ -49,54 +50,60 @@ fn better(s: &[u8], kind: u8, largest: bool, a: SetAt, b: SetAt) -> SetAt
 }
 
 // The smallest or the largest value of a place in n snapshots.
-fn extreme_of(
-    s: &[u8],
-    cells: [SetAt; 256],
-    place: usize,
-    n: usize,
-    kind: u8,
-    largest: bool,
-) -> SetAt
-    requires { ⌜ (place < 32) × (1 ≤ n) × (n ≤ 8) ⌝ }
-    ensures { λ r. ⌜ ((ss : List Snapshot) (k : Kind) → CellsStand (now (s .entry)) ss cells → length ss ≡ n → Chooses k kind → ((j : ℕ) → j < n → Lone k (getD (column ss place) j [])) → SetIs (now (s .entry)) (smallest (cond largest (reversed (valueOrder k)) (valueOrder k)) (flatten (column ss place))) r) ⌝ }
+fn extreme_of(s: &[u8], row: [SetAt; 8], n: usize, kind: u8, largest: bool) -> SetAt
+    requires { ⌜ (1 ≤ n) × (n ≤ 8) ⌝ }
+    ensures { λ r. ⌜ ((cells : List SetAt) (place : ℕ) (ss : List Snapshot) (k : Kind) → RowIs cells place row → CellsStand (now (s .entry)) ss cells → length ss ≡ n → Chooses k kind → ((j : ℕ) → j < n → Lone k (getD (column ss place) j [])) → SetIs (now (s .entry)) (smallest (cond largest (reversed (valueOrder k)) (valueOrder k)) (flatten (column ss place))) r) ⌝ }
 {
-    let mut best = cells[place * 8];
+    let mut best = row[0];
     let mut j: usize = 1;
     while j < n {
-        let x = cells[place * 8 + j];
+        let x = row[j];
         best = better(s, kind, largest, best, x);
         j += 1;
     }
     best
 }
 
-// Where a merged set stands already: the last snapshot's, or the one with the chosen value.
-pub fn standing(s: &[u8], cells: [SetAt; 256], place: usize, n: usize, rule: PlaceRule) -> SetAt
-    requires { ⌜ (place < 32) × (1 ≤ n) × (n ≤ 8) ⌝ }
-    ensures { λ r. ⌜ ((t : EventType) (d : Dossier) → Mergeable (now (s .entry)) cells n t d → RuleIs (getElem? (t .properties) place) rule → (rule .replaces || rule .extreme) ≡ true → SetIs (now (s .entry)) (mergedAt (view t) d place) r) ⌝ }
+// Whether a merged set is the set of one of the snapshots, and need not be made.
+pub fn is_standing(rule: PlaceRule, n: usize) -> bool
+    ensures { λ r. ⌜ r ≡ isStanding rule n ⌝ }
 {
-    if rule.replaces {
-        return cells[place * 8 + (n - 1)];
+    if n == 1 {
+        return true;
     }
-    extreme_of(s, cells, place, n, rule.kind, rule.largest)
+    if rule.replaces {
+        return true;
+    }
+    rule.extreme
+}
+
+// Where a merged set stands already: the only snapshot's, the last one's, or the one with the chosen value.
+pub fn standing(s: &[u8], row: [SetAt; 8], n: usize, rule: PlaceRule) -> SetAt
+    requires { ⌜ (1 ≤ n) × (n ≤ 8) ⌝ }
+    ensures { λ r. ⌜ ((cells : List SetAt) (place : ℕ) (t : EventType) (d : Dossier) → RowIs cells place row → Mergeable (now (s .entry)) cells n t d → RuleIs (getElem? (t .properties) place) rule → isStanding rule n ≡ true → SetIs (now (s .entry)) (mergedAt (view t) d place) r) ⌝ }
+{
+    if n == 1 || rule.replaces {
+        return row[n - 1];
+    }
+    extreme_of(s, row, n, rule.kind, rule.largest)
 }
 
 // How many objects a merged set has.
-fn merged_count(s: &[u8], cells: [SetAt; 256], place: usize, n: usize, rule: PlaceRule) -> usize
-    requires { ⌜ (place < 32) × (1 ≤ n) × (n ≤ 8) ⌝ }
-    ensures { λ r. ⌜ ((t : EventType) (d : Dossier) → Mergeable (now (s .entry)) cells n t d → RuleIs (getElem? (t .properties) place) rule → r ≡ length (mergedAt (view t) d place)) ⌝ }
+fn merged_count(s: &[u8], row: [SetAt; 8], n: usize, rule: PlaceRule) -> usize
+    requires { ⌜ (1 ≤ n) × (n ≤ 8) ⌝ }
+    ensures { λ r. ⌜ ((cells : List SetAt) (place : ℕ) (t : EventType) (d : Dossier) → RowIs cells place row → Mergeable (now (s .entry)) cells n t d → RuleIs (getElem? (t .properties) place) rule → r ≡ length (mergedAt (view t) d place)) ⌝ }
 {
-    if rule.replaces || rule.extreme {
-        let x = standing(s, cells, place, n, rule);
+    if is_standing(rule, n) {
+        let x = standing(s, row, n, rule);
         return x.count;
     }
-    let runs = runs_of(cells, place);
+    let runs = runs_of(row);
     let starts = runs.starts;
     let ends = runs.ends;
     count_merged(s, starts, ends, n)
 }
 
-// The counts of all places.
+// The counts of all places. The cells of a place are taken here, since a call copies the arrays that it is given.
 pub fn merged_counts(s: &[u8], cells: [SetAt; 256], n: usize, t: TypeIndex) -> [usize; 32]
     requires { ⌜ (t .count ≤ 32) × (1 ≤ n) × (n ≤ 8) ⌝ }
     ensures { λ r. ⌜ ((u : List ℕ) (ty : EventType) (d : Dossier) → TypeIs u ty t → Mergeable (now (s .entry)) cells n ty d → CountsMerged ty d r) ⌝ }
@@ -105,7 +112,17 @@ pub fn merged_counts(s: &[u8], cells: [SetAt; 256], n: usize, t: TypeIndex) -> [
     let mut p: usize = 0;
     while p < 32 {
         let rule = rule_of(t, p);
-        counts[p] = merged_count(s, cells, p, n, rule);
+        let row = [
+            cells[p * 8],
+            cells[p * 8 + 1],
+            cells[p * 8 + 2],
+            cells[p * 8 + 3],
+            cells[p * 8 + 4],
+            cells[p * 8 + 5],
+            cells[p * 8 + 6],
+            cells[p * 8 + 7],
+        ];
+        counts[p] = merged_count(s, row, n, rule);
         p += 1;
     }
     counts

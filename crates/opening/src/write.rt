@@ -1,4 +1,4 @@
-ghost use Prim.Native.Nat.{_≤_, _<_};
+ghost use Prim.Native.Nat.{_≤_};
 ghost use mathlib.Core.List.{List, map, flatten};
 ghost use lib.ListN.{length};
 ghost use Rattle.model.specs.Order.{Text};
@@ -9,8 +9,10 @@ ghost use Rattle.event.specs.Event.{view};
 ghost use Rattle.event.specs.EventLayout.{headBytes, setsBytes, eventBytes};
 ghost use Rattle.event.specs.EventIndex.{HeadIs};
 ghost use Rattle.opening.specs.OpenCall.{mergedEvent};
-ghost use Rattle.opening.specs.OpenIndex.{HeadRoom, PlaceRoom, SetsRoom, Writable};
+ghost use Rattle.opening.specs.OpenIndex.{HeadRoom, SetsRoom, Writable};
+ghost use Rattle.opening.specs.CellIndex.{RowRoom};
 use crate::cells::runs_of;
+use crate::merge::is_standing;
 use crate::merge::presence_of;
 use crate::merge::standing;
 use crate::strategies::PlaceRule;
@@ -42,25 +44,20 @@ fn write_head(s: &[u8], head: HeadAt, out: &mut [u8]) -> usize
 // A merged set that stands already is copied; a union is written.
 fn write_values(
     s: &[u8],
-    cells: [SetAt; 256],
-    place: usize,
+    row: [SetAt; 8],
     n: usize,
     rule: PlaceRule,
     out: &mut [u8],
     at: usize,
 ) -> usize
-    requires { ⌜ (place < 32) × (1 ≤ n) × (n ≤ 8) × PlaceRoom (now s) cells place n rule at (length (now out)) ⌝ }
-    ensures { λ r. ⌜ ((p : PlaceRoom (now (s .entry)) cells place n rule at (length (now (out .entry)))) → Wrote (now (out .entry)) at (flatten (map text (mergedAt (view (p .type)) (p .dossier) place))) (now (out .exit)) r) ⌝ }
+    requires { ⌜ (1 ≤ n) × (n ≤ 8) × RowRoom (now s) row n rule at (length (now out)) ⌝ }
+    ensures { λ r. ⌜ ((p : RowRoom (now (s .entry)) row n rule at (length (now (out .entry)))) → Wrote (now (out .entry)) at (flatten (map text (mergedAt (view (p .room .type)) (p .room .dossier) (p .place)))) (now (out .exit)) r) ⌝ }
 {
-    if rule.replaces {
-        let last = standing(s, cells, place, n, rule);
-        return copy_part(s, last.start, last.end, out, at);
+    if is_standing(rule, n) {
+        let x = standing(s, row, n, rule);
+        return copy_part(s, x.start, x.end, out, at);
     }
-    if rule.extreme {
-        let chosen = standing(s, cells, place, n, rule);
-        return copy_part(s, chosen.start, chosen.end, out, at);
-    }
-    let runs = runs_of(cells, place);
+    let runs = runs_of(row);
     let starts = runs.starts;
     let ends = runs.ends;
     write_merged(s, starts, ends, n, out, at)
@@ -86,7 +83,17 @@ fn write_sets(
         if count != 0 {
             let rule = rule_of(t, p);
             let first = write_number(out, next, count as u64);
-            next = write_values(s, cells, p, n, rule, out, first);
+            let row = [
+                cells[p * 8],
+                cells[p * 8 + 1],
+                cells[p * 8 + 2],
+                cells[p * 8 + 3],
+                cells[p * 8 + 4],
+                cells[p * 8 + 5],
+                cells[p * 8 + 6],
+                cells[p * 8 + 7],
+            ];
+            next = write_values(s, row, n, rule, out, first);
         }
         p += 1;
     }

@@ -8,7 +8,7 @@ use native.Mathlib.Omega.{arith}
 use native.Mathlib.Numerals.{add-one, sub-one}
 use lib.Dec.{ltb}
 use lib.ListN.{length, take, drop, getD, length-drop, length-append, drop-of-length-le}
-use lib.Seq.{drop-cons, drop-drop, drop-append-seam, drop-length, length-take-le, take-append-seam}
+use lib.Seq.{drop-cons, drop-drop, drop-append-seam, drop-length, length-take-le, take-append-seam, take-all}
 use borrow.Author.Tests.{lt-ltb, le-ltb, le-leb, lt-leb}
 use Rattle.packed.specs.declared.read.NumberAt.{NumberAt}
 use Rattle.packed.specs.declared.read.NumberAt.the-variants.{Number, NoNumber}
@@ -22,6 +22,9 @@ use Rattle.packed.proofs.LayoutLaws.{read-last, read-more, number-was, 
 
 pub part-length : (s : List ℕ) (a e : ℕ) → a ≤ e → e ≤ length s → length (part s a e) ≡ e - a
 part-length s a e h k = length-take-le (e - a) (drop a s) (simp length-drop (omega arith))
+
+pub to-end : (s : List ℕ) (a : ℕ) → part s a (length s) ≡ drop a s
+to-end s a = take-all (length s - a) (drop a s) (omega (arith, length-drop a s))
 
 pub drop-next : (s : List ℕ) (i : ℕ) → i < length s → drop i s ≡ getD s i 0 ∷ drop (i + 1) s
 drop-next s i h = drop-cons s i 0 h ∙ rw add-one

@@ -6,7 +6,7 @@ use mathlib.Core.List.{List, [], _∷_, _++_, append-assoc, append-nil, map, fla
 use Prim.Native.Nat.{ℕ, suc, _+_, _-_, _*_, _^_, _≤_, _<_, Ordering·lt, Ordering·eq, Ordering·gt}
 use native.Mathlib.Omega.{arith}
 use lib.ListN.{length, take, drop, length-append, length-drop, take-append-drop}
-use lib.Seq.{drop-drop, take-at, drop-at, take-all}
+use lib.Seq.{drop-drop, take-at, drop-at}
 use Rattle.model.specs.Order.{Text, texts, rising, pick}
 use Rattle.model.specs.Sets.{Ups, union}
 use Rattle.model.proofs.SetLaws.{rising-ups}
@@ -17,12 +17,13 @@ use Rattle.packed.specs.Located.{part, textAt}
 use Rattle.packed.specs.declared.read.TextAt.{TextAt}
 use Rattle.packed.specs.declared.read.TextAt.the-variants as at
 use Rattle.packed.proofs.LayoutLaws.{All, text-read, text-was, text-length, number-bounds}
-use Rattle.packed.proofs.ReadLaws.{text-stops, text-none, part-length}
+use Rattle.packed.proofs.ReadLaws.{text-stops, text-none, part-length, to-end}
 use Rattle.packed.specs.Written.{Wrote}
 use Rattle.packed.proofs.WriteLaws.{ToGo, gone, all-gone}
 use Rattle.event.specs.EventIndex.{HashesAre}
 use Rattle.event.specs.declared.sets.SetAt.{SetAt}
 use Rattle.event.proofs.SetLaws.{stretch}
+use Rattle.event.proofs.HeadLaws.{flat}
 use Rattle.unions.specs.declared.heads.Form.{Form}
 use Rattle.unions.specs.declared.heads.Form.the-variants as form
 use Rattle.unions.specs.declared.pair.Step.{Step}
@@ -247,9 +248,6 @@ unfolding flatten
 run-append f [] ys = refl
 run-append f (x ∷ xs) ys = ap (λ (l : List ℕ). written f x ++ l) (run-append f xs ys) ∙ sym (append-assoc (written f x) (run f xs) (run f ys))
 
-to-end : (s : List ℕ) (i : ℕ) → part s i (length s) ≡ drop i s
-to-end s i = take-all (length s - i) (drop i s) (omega (arith, length-drop i s))
-
 module _ (f : Form) {l₀ whole l : List ℕ} {at p : ℕ} where
   pub write-room : (v : Text) (zs : List Text) (head : List ℕ) → at + length whole ≤ length l₀ → head ≡ written f v → ToGo l₀ at whole l p (run f (v ∷ zs)) → p + length head ≤ length l
   unfolding flatten
@@ -306,11 +304,6 @@ text-run s xs l e h = record {
   each = texts-fit xs (omega (arith, ap length e));
   rises = rising-ups texts xs .0 h;
 }
-
-flat : (hs : List Text) → flatten (map (λ (h : Text). h) hs) ≡ flatten hs
-unfolding flatten
-flat [] = refl
-flat (h ∷ hs) = ap (λ (l : List ℕ). h ++ l) (flat hs)
 
 hashes-fit : (hs : List Text) → Hashes hs → All (fits form.Hashes) hs
 unfolding fits

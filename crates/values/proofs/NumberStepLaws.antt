@@ -7,19 +7,15 @@ use Prim.Native.Nat.{ℕ, suc, _+_, _-_, _*_, _^_, _≤_, _<_}
 use native.Mathlib.Omega.{arith}
 use lib.Dec.{ltb, leb, eqb, leb·suc-suc}
 use lib.ListN.{length, getD, take, drop, drop-of-length-le, length-drop}
-use lib.Seq.{take-all, length-take-le}
+use lib.Seq.{length-take-le}
 use borrow.Author.Tests.{lt-ltb, le-ltb, le-leb, lt-leb, eq-eqb, ne-eqb, leb-true, eqb-true}
 use Rattle.model.proofs.Cases.{and-false, and-true}
-use Rattle.packed.proofs.ReadLaws.{drop-next}
+use Rattle.packed.proofs.ReadLaws.{drop-next, to-end}
 use Rattle.values.specs.Decimal.{isDigit, areDigits, numeral, isNatural, isNegative, magnitude}
 use Rattle.values.specs.Spaces.{isWidth, isSigned, wholePart, pointPart, isFraction, unscaled, isDecimal}
 use Rattle.values.specs.NumberAnswer.{isMagnitude, hasNonzero}
 use Rattle.values.proofs.NumeralLaws.{digit-least, digits-head, natural-digits, natural-first, natural-nonempty}
 use Rattle.values.proofs.NumberOrderLaws.{negative-cons, positive-magnitude, numeral-nonzero, fixed, fixed-nonzero}
-
--- the rest of a slice as a part
-pub the-rest : (a : ℕ) (s : List ℕ) → take (length s - a) (drop a s) ≡ drop a s
-the-rest a s = take-all (length s - a) (drop a s) (omega (arith, length-drop a s))
 
 -- ---- digits
 
@@ -127,7 +123,7 @@ negative-long v e = omega (arith, ap length (negative-cons v e))
 
 -- what follows the minus sign
 pub negative-rest : (v : List ℕ) → isNegative v ≡ true → magnitude v ≡ take (length v - 1) (drop 1 v)
-negative-rest v e = sym (the-rest 1 v ∙ ap (drop 1) (negative-cons v e))
+negative-rest v e = sym (to-end v 1 ∙ ap (drop 1) (negative-cons v e))
 
 pub signed-negative :
     (width : ℕ) (v : List ℕ) → isNegative v ≡ true →
@@ -183,6 +179,6 @@ module _ (total after : ℕ) (m : List ℕ) where
   unfolding isMagnitude wholePart pointPart
   magnitude-parts h k =
       let point = length m - (after + 1) in
-      rw (length-take-le point m (omega arith), le-leb point (total - after) (omega arith), drop-next m point (omega arith), the-rest (point + 1) m)
+      rw (length-take-le point m (omega arith), le-leb point (total - after) (omega arith), drop-next m point (omega arith), to-end m (point + 1))
       (ap₂ (λ (s t : Bool). s && t) (and-true (isNatural (take point m)))
       (fraction-cons after (getD m point 0) (drop (point + 1) m) (omega (arith, length-drop (point + 1) m))))

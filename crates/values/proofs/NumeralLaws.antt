@@ -14,7 +14,7 @@ use borrow.Author.Tests.{lt-ltb, le-ltb, le-leb, eq-eqb, ne-eqb, leb-true}
 use Rattle.model.specs.Order.{Text, texts, numbers, lists, lex, pick, three, nat-same, ranked, rankCmp, rank-same}
 use Rattle.model.proofs.Cases.{and-parts}
 use Rattle.model.proofs.OrderLaws.{lt-compare, gt-compare, eq-compare, compare-lt, compare-gt}
-use Rattle.packed.proofs.LayoutLaws.{lt-or-ge}
+pub use Rattle.packed.proofs.LayoutLaws.{lt-or-ge}
 use Rattle.values.specs.Decimal.{isDigit, areDigits, numeralAfter, numeral, isNatural, digitsBefore, inDecimal}
 use Rattle.values.specs.NumberAnswer.{sizeOrder}
 

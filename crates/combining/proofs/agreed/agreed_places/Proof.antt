@@ -6,7 +6,8 @@ use lib.ListN.{length, length-set}
 use Rattle.model.specs.Rule.{Snapshot}
 use Rattle.ontology.specs.Table.{EventType, isVersioned}
 use Rattle.dossier.specs.DossierIndex.{CellsAre}
-use Rattle.combining.proofs.AgreedLaws.{PlacesSofar, places-none, places-marks, left-set, right-set, places-more, places-all, snapshot-cells}
+use Rattle.dossier.proofs.VersionLaws.{cells-are}
+use Rattle.combining.proofs.AgreedLaws.{PlacesSofar, places-none, places-marks, left-set, right-set, places-more, places-all}
 use Rattle.combining.proofs.agreed.agreed_places.Statement.{statement}
 use Rattle.combining.proofs.agreed.agreed_places.Tie as tie
 use Rattle.combining.proofs.agreed.agreed_places.Reads as reads
@@ -77,8 +78,8 @@ returns : tie.Need-returns Inv-loop μ-loop
 returns c =
     λ ty x y v w u.
     let l = c .before .loop in
-    let e = snapshot-cells _ x _ w in
-    let f = snapshot-cells _ y _ u in
+    let e = cells-are _ x _ w in
+    let f = cells-are _ y _ u in
     places-all _ _ _ _ _ _ ty x y v e f _ _ _ (l .k) (c .loop-test .left) (l .inv .0) (l .inv .1) (l .inv .2 ty x y v e f)
 
 pub agreed-places-spec : {M : Type 1} → statement M

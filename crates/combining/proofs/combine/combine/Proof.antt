@@ -1,67 +1,54 @@
 use borrow.Author.Needs.{needs}
 use borrow.Author.Tests.{not-true, not-false}
 use native.Mathlib.Omega.{arith}
-use Rattle.combining.proofs.CombineLaws.{tabled, type-few, refused-by, taken-by, both-taken, agree-asks, agree-is, combinable, combine-small, combine-untabled, combine-left, combine-right, combine-apart, combine-full, combine-room, combine-done}
+use Rattle.combining.proofs.CombineLaws.{tabled, type-few, refused-by, taken-by, both-taken, agree-asks, agree-is, combinable, combine-small, combine-untabled, combine-left, combine-right, combine-apart}
 use Rattle.combining.proofs.combine.combine.Statement.{statement}
 use Rattle.combining.proofs.combine.combine.Tie as tie
 use Rattle.combining.proofs.combine.combine.Reads as reads
 use Rattle.combining.proofs.combine.combine.Lts as lts
+use Rattle.combining.proofs.combine.combine_read.Reads as combine-read-reads
 use Rattle.combining.proofs.combine.table_for.Reads as table-for-reads
-use Rattle.combining.proofs.limits.limits_fit.Reads as limits-fit-reads
-use Rattle.combining.proofs.write.write_combined.Reads as write-combined-reads
 use Rattle.dossier.proofs.dossiers.read_dossier.Reads as read-dossier-reads
 use Rattle.dossier.proofs.questions.ask_dossier.Reads as ask-dossier-reads
 use Rattle.dossier.proofs.questions.dossiers_agree.Reads as dossiers-agree-reads
 use Rattle.dossier.proofs.questions.type_name.Reads as type-name-reads
 use Rattle.ontology.proofs.tables.read_table.Reads as read-table-reads
 
--- src/combine.rt:33:9
 returns : tie.Need-returns
 returns c = combine-small _ _ _ _ (c .if1 .taken)
 
--- src/combine.rt:35:9
 read-dossier-requires : tie.Need-read-dossier-requires
 read-dossier-requires c κs = search needs
 
--- src/combine.rt:36:9
 read-dossier-requires-2 : tie.Need-read-dossier-requires-2
 read-dossier-requires-2 c κs = search needs
 
--- src/combine.rt:37:9
 type-name-requires : tie.Need-type-name-requires
 type-name-requires c κs = search needs
 
--- src/combine.rt:38:9
 read-table-requires : tie.Need-read-table-requires
 read-table-requires c κs = search needs
 
--- src/combine.rt:40:9
 returns-2 : tie.Need-returns-2
 returns-2 c = combine-untabled _ _ _ _ (omega (arith, c .before .before .before .before .before .before .if1 .left)) _ _ (c .before .before .read-table .ensures) (not-true _ (c .if2 .taken))
 
--- src/combine.rt:42:9
 ask-dossier-requires : tie.Need-ask-dossier-requires
 ask-dossier-requires c κs = (c .before .before .before .before .before .read-dossier .ensures, type-few _ _ _ (c .before .before .read-table .ensures) (tabled _ _ _ (c .before .before .read-table .ensures) (not-false _ (c .if2 .left))))
 
--- src/combine.rt:44:9
 returns-3 : tie.Need-returns-3
 returns-3 c =
     let k = tabled _ _ _ (c .before .before .before .before .before .read-table .ensures) (not-false _ (c .before .before .before .if2 .left)) in
     combine-left _ _ _ _ (omega (arith, c .before .before .before .before .before .before .before .before .before .if1 .left)) k _ (refused-by _ _ k _ (c .before .before .before .before .before .before .before .before .read-dossier .ensures) _ (c .before .before .before .before .before .before .type-name .ensures) _ (c .before .before .before .before .before .read-table .ensures) _ (c .before .before .ask-dossier .ensures) (c .if3 .taken))
 
--- src/combine.rt:46:58
 type-name-requires-2 : tie.Need-type-name-requires-2
 type-name-requires-2 c κs = search needs
 
--- src/combine.rt:46:35
 table-for-requires : tie.Need-table-for-requires
 table-for-requires c κs = search needs
 
--- src/combine.rt:46:9
 ask-dossier-requires-2 : tie.Need-ask-dossier-requires-2
 ask-dossier-requires-2 c κs = (c .before .before .before .before .before .before .before .before .before .read-dossier2 .ensures, type-few _ _ _ (c .table-for .ensures (c .before .before .before .before .before .before .before .read-table .ensures)) (tabled _ _ _ (c .before .before .before .before .before .before .before .read-table .ensures) (not-false _ (c .before .before .before .before .before .if2 .left))))
 
--- src/combine.rt:48:9
 returns-4 : tie.Need-returns-4
 returns-4 c =
     let k = tabled _ _ _ (c .before .before .before .before .before .before .before .before .before .before .read-table .ensures) (not-false _ (c .before .before .before .before .before .before .before .before .if2 .left)) in
@@ -69,7 +56,6 @@ returns-4 c =
     let x = taken-by _ _ k _ (c .before .before .before .before .before .before .before .before .before .before .before .before .before .read-dossier .ensures) _ (c .before .before .before .before .before .before .before .before .before .before .before .type-name .ensures) _ (c .before .before .before .before .before .before .before .before .before .before .read-table .ensures) _ (c .before .before .before .before .before .before .before .ask-dossier .ensures) (c .before .before .before .before .before .if3 .left) in
     combine-right _ _ _ _ (omega (arith, c .before .before .before .before .before .before .before .before .before .before .before .before .before .before .if1 .left)) k x _ (refused-by _ _ k _ (c .before .before .before .before .before .before .before .before .before .before .before .before .read-dossier2 .ensures) _ (c .before .before .before .before .type-name2 .ensures) _ s _ (c .before .before .ask-dossier2 .ensures) (c .if4 .taken))
 
--- src/combine.rt:51:9
 dossiers-agree-requires : tie.Need-dossiers-agree-requires
 dossiers-agree-requires c κs =
     let k = tabled _ _ _ (c .before .before .before .before .before .before .before .before .before .before .before .read-table .ensures) (not-false _ (c .before .before .before .before .before .before .before .before .before .if2 .left)) in
@@ -78,7 +64,6 @@ dossiers-agree-requires c κs =
     let y = taken-by _ _ k _ (c .before .before .before .before .before .before .before .before .before .before .before .before .before .read-dossier2 .ensures) _ (c .before .before .before .before .before .type-name2 .ensures) _ s _ (c .before .before .before .ask-dossier2 .ensures) (c .before .if4 .left) in
     agree-asks _ _ _ _ _ _ (both-taken k x y)
 
--- src/combine.rt:52:9
 returns-5 : tie.Need-returns-5
 returns-5 c =
     let k = tabled _ _ _ (c .before .before .before .before .before .before .before .before .before .before .before .before .before .read-table .ensures) (not-false _ (c .before .before .before .before .before .before .before .before .before .before .before .if2 .left)) in
@@ -88,51 +73,20 @@ returns-5 c =
     let b = both-taken k x y in
     combine-apart _ _ _ _ (omega (arith, c .before .before .before .before .before .before .before .before .before .before .before .before .before .before .before .before .before .if1 .left)) b (agree-is _ _ _ _ _ _ b _ (c .before .dossiers-agree .ensures)) (not-true _ (c .if5 .taken))
 
--- src/combine.rt:54:9
-limits-fit-requires : tie.Need-limits-fit-requires
-limits-fit-requires c κs =
-    let k = tabled _ _ _ (c .before .before .before .before .before .before .before .before .before .before .before .before .before .read-table .ensures) (not-false _ (c .before .before .before .before .before .before .before .before .before .before .before .if2 .left)) in
-    let s = c .before .before .before .before .before .before .table-for .ensures (c .before .before .before .before .before .before .before .before .before .before .before .before .before .read-table .ensures) in
-    let x = taken-by _ _ k _ (c .before .before .before .before .before .before .before .before .before .before .before .before .before .before .before .before .read-dossier .ensures) _ (c .before .before .before .before .before .before .before .before .before .before .before .before .before .before .type-name .ensures) _ (c .before .before .before .before .before .before .before .before .before .before .before .before .before .read-table .ensures) _ (c .before .before .before .before .before .before .before .before .before .before .ask-dossier .ensures) (c .before .before .before .before .before .before .before .before .if3 .left) in
-    let y = taken-by _ _ k _ (c .before .before .before .before .before .before .before .before .before .before .before .before .before .before .before .read-dossier2 .ensures) _ (c .before .before .before .before .before .before .before .type-name2 .ensures) _ s _ (c .before .before .before .before .before .ask-dossier2 .ensures) (c .before .before .before .if4 .left) in
+combine-read-requires : tie.Need-combine-read-requires
+combine-read-requires c κs =
+    let k = tabled _ _ _ (c .before .before .before .before .before .before .before .before .before .before .before .before .before .before .read-table .ensures) (not-false _ (c .before .before .before .before .before .before .before .before .before .before .before .before .if2 .left)) in
+    let s = c .before .before .before .before .before .before .before .table-for .ensures (c .before .before .before .before .before .before .before .before .before .before .before .before .before .before .read-table .ensures) in
+    let x = taken-by _ _ k _ (c .before .before .before .before .before .before .before .before .before .before .before .before .before .before .before .before .before .read-dossier .ensures) _ (c .before .before .before .before .before .before .before .before .before .before .before .before .before .before .before .type-name .ensures) _ (c .before .before .before .before .before .before .before .before .before .before .before .before .before .before .read-table .ensures) _ (c .before .before .before .before .before .before .before .before .before .before .before .ask-dossier .ensures) (c .before .before .before .before .before .before .before .before .before .if3 .left) in
+    let y = taken-by _ _ k _ (c .before .before .before .before .before .before .before .before .before .before .before .before .before .before .before .before .read-dossier2 .ensures) _ (c .before .before .before .before .before .before .before .before .type-name2 .ensures) _ s _ (c .before .before .before .before .before .before .ask-dossier2 .ensures) (c .before .before .before .before .if4 .left) in
     let b = both-taken k x y in
-    combinable _ _ _ _ _ _ b _ (c .before .dossiers-agree .ensures) (not-false _ (c .if5 .left))
+    (combinable _ _ _ _ _ _ b _ (c .before .before .dossiers-agree .ensures) (not-false _ (c .before .if5 .left)), omega (arith, c .before .before .before .before .before .before .before .before .before .before .before .before .before .before .before .before .before .before .if1 .left))
 
--- src/combine.rt:55:9
-returns-6 : tie.Need-returns-6
-returns-6 c =
-    let k = tabled _ _ _ (c .before .before .before .before .before .before .before .before .before .before .before .before .before .before .before .read-table .ensures) (not-false _ (c .before .before .before .before .before .before .before .before .before .before .before .before .before .if2 .left)) in
-    let s = c .before .before .before .before .before .before .before .before .table-for .ensures (c .before .before .before .before .before .before .before .before .before .before .before .before .before .before .before .read-table .ensures) in
-    let x = taken-by _ _ k _ (c .before .before .before .before .before .before .before .before .before .before .before .before .before .before .before .before .before .before .read-dossier .ensures) _ (c .before .before .before .before .before .before .before .before .before .before .before .before .before .before .before .before .type-name .ensures) _ (c .before .before .before .before .before .before .before .before .before .before .before .before .before .before .before .read-table .ensures) _ (c .before .before .before .before .before .before .before .before .before .before .before .before .ask-dossier .ensures) (c .before .before .before .before .before .before .before .before .before .before .if3 .left) in
-    let y = taken-by _ _ k _ (c .before .before .before .before .before .before .before .before .before .before .before .before .before .before .before .before .before .read-dossier2 .ensures) _ (c .before .before .before .before .before .before .before .before .before .type-name2 .ensures) _ s _ (c .before .before .before .before .before .before .before .ask-dossier2 .ensures) (c .before .before .before .before .before .if4 .left) in
-    let b = both-taken k x y in
-    let h = combinable _ _ _ _ _ _ b _ (c .before .before .before .dossiers-agree .ensures) (not-false _ (c .before .before .if5 .left)) in
-    combine-full _ _ _ _ (omega (arith, c .before .before .before .before .before .before .before .before .before .before .before .before .before .before .before .before .before .before .before .if1 .left)) h (c .before .limits-fit .ensures h) (not-true _ (c .if6 .taken))
-
--- src/combine.rt:57:17
-write-combined-requires : tie.Need-write-combined-requires
-write-combined-requires c κs =
-    let k = tabled _ _ _ (c .before .before .before .before .before .before .before .before .before .before .before .before .before .before .before .before .read-table .ensures) (not-false _ (c .before .before .before .before .before .before .before .before .before .before .before .before .before .before .if2 .left)) in
-    let s = c .before .before .before .before .before .before .before .before .before .table-for .ensures (c .before .before .before .before .before .before .before .before .before .before .before .before .before .before .before .before .read-table .ensures) in
-    let x = taken-by _ _ k _ (c .before .before .before .before .before .before .before .before .before .before .before .before .before .before .before .before .before .before .before .read-dossier .ensures) _ (c .before .before .before .before .before .before .before .before .before .before .before .before .before .before .before .before .before .type-name .ensures) _ (c .before .before .before .before .before .before .before .before .before .before .before .before .before .before .before .before .read-table .ensures) _ (c .before .before .before .before .before .before .before .before .before .before .before .before .before .ask-dossier .ensures) (c .before .before .before .before .before .before .before .before .before .before .before .if3 .left) in
-    let y = taken-by _ _ k _ (c .before .before .before .before .before .before .before .before .before .before .before .before .before .before .before .before .before .before .read-dossier2 .ensures) _ (c .before .before .before .before .before .before .before .before .before .before .type-name2 .ensures) _ s _ (c .before .before .before .before .before .before .before .before .ask-dossier2 .ensures) (c .before .before .before .before .before .before .if4 .left) in
-    let b = both-taken k x y in
-    (λ h. combine-room _ _ _ h (c .before .before .limits-fit .ensures h) (not-false _ (c .before .if6 .left)) _ (omega (arith, c .before .before .before .before .before .before .before .before .before .before .before .before .before .before .before .before .before .before .before .before .if1 .left)), combinable _ _ _ _ _ _ b _ (c .before .before .before .before .dossiers-agree .ensures) (not-false _ (c .before .before .before .if5 .left)))
-
--- src/combine.rt:29:1
 same-length : tie.Need-same-length
 same-length c = search needs
 
--- src/combine.rt:29:1
-returns-7 : tie.Need-returns-7
-returns-7 c =
-    let k = tabled _ _ _ (c .before .before .before .before .before .before .before .before .before .before .before .before .before .before .before .before .before .before .before .read-table .ensures) (not-false _ (c .before .before .before .before .before .before .before .before .before .before .before .before .before .before .before .before .before .if2 .left)) in
-    let s = c .before .before .before .before .before .before .before .before .before .before .before .before .table-for .ensures (c .before .before .before .before .before .before .before .before .before .before .before .before .before .before .before .before .before .before .before .read-table .ensures) in
-    let x = taken-by _ _ k _ (c .before .before .before .before .before .before .before .before .before .before .before .before .before .before .before .before .before .before .before .before .before .before .read-dossier .ensures) _ (c .before .before .before .before .before .before .before .before .before .before .before .before .before .before .before .before .before .before .before .before .type-name .ensures) _ (c .before .before .before .before .before .before .before .before .before .before .before .before .before .before .before .before .before .before .before .read-table .ensures) _ (c .before .before .before .before .before .before .before .before .before .before .before .before .before .before .before .before .ask-dossier .ensures) (c .before .before .before .before .before .before .before .before .before .before .before .before .before .before .if3 .left) in
-    let y = taken-by _ _ k _ (c .before .before .before .before .before .before .before .before .before .before .before .before .before .before .before .before .before .before .before .before .before .read-dossier2 .ensures) _ (c .before .before .before .before .before .before .before .before .before .before .before .before .before .type-name2 .ensures) _ s _ (c .before .before .before .before .before .before .before .before .before .before .before .ask-dossier2 .ensures) (c .before .before .before .before .before .before .before .before .before .if4 .left) in
-    let b = both-taken k x y in
-    let h = combinable _ _ _ _ _ _ b _ (c .before .before .before .before .before .before .before .dossiers-agree .ensures) (not-false _ (c .before .before .before .before .before .before .if5 .left)) in
-    combine-done _ _ _ _ (omega (arith, c .before .before .before .before .before .before .before .before .before .before .before .before .before .before .before .before .before .before .before .before .before .before .before .if1 .left)) h (c .before .before .before .before .before .limits-fit .ensures h) (not-false _ (c .before .before .before .before .if6 .left)) _ _ (c .before .before .write-combined .ensures h)
+returns-6 : tie.Need-returns-6
+returns-6 c = c .before .before .combine-read .ensures
 
 pub combine-spec : {M : Type 1} → statement M
 combine-spec =
@@ -152,8 +106,6 @@ combine-spec =
     returns-4
     dossiers-agree-requires
     returns-5
-    limits-fit-requires
-    returns-6
-    write-combined-requires
+    combine-read-requires
     same-length
-    returns-7)
+    returns-6)

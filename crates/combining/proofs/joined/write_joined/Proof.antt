@@ -19,7 +19,6 @@ use Rattle.combining.proofs.joined.write_joined.Lts as lts
 use Rattle.combining.proofs.bits.number_of.Reads as number-of-reads
 use Rattle.combining.proofs.joined.joined_places.Reads as joined-places-reads
 use Rattle.combining.proofs.joined.write_place.Reads as write-place-reads
-use Rattle.dossier.proofs.snapshots.read_snapshot.Reads as read-snapshot-reads
 use Rattle.packed.proofs.write.write_number.Reads as write-number-reads
 
 abbrev Inv-loop : tie.InvT-loop
@@ -29,35 +28,29 @@ Inv-loop table a b t out₀ at left right present second third next₀ k₀ out 
 abbrev μ-loop : tie.MeasureT-loop
 μ-loop table a b t out₀ at left right present second third next₀ k₀ out next k = 32 - k
 
-read-snapshot-requires : tie.Need-read-snapshot-requires Inv-loop μ-loop
-read-snapshot-requires c κs = search needs
-
-read-snapshot-requires-2 : tie.Need-read-snapshot-requires-2 Inv-loop μ-loop
-read-snapshot-requires-2 c κs = search needs
-
 joined-places-requires : tie.Need-joined-places-requires Inv-loop μ-loop
 joined-places-requires c κs = search needs
 
 write-number-requires : tie.Need-write-number-requires Inv-loop μ-loop
 write-number-requires c κs =
-    let q = c .before .before .before .before .before .before .before .before .before .before .pre in
-    omega (arith, q .room, joined-length (joins (c .before .before .before .before .before .read-snapshot .ensures) (c .before .before .before .before .read-snapshot2 .ensures) (q .typed) (q .unversioned) (q .meet)) _ (c .before .joined-places .ensures))
+    let q = c .before .before .before .before .before .before .before .before .pre in
+    omega (arith, q .room, joined-length (joins (q .left-is) (q .right-is) (q .typed) (q .unversioned) (q .meet)) _ (c .before .joined-places .ensures))
 
 number-of-requires : tie.Need-number-of-requires Inv-loop μ-loop
 number-of-requires c κs = search needs
 
 write-number-requires-2 : tie.Need-write-number-requires-2 Inv-loop μ-loop
 write-number-requires-2 c κs =
-    let q = c .before .before .before .before .before .before .before .before .before .before .before .before .before .before .before .pre in
+    let q = c .before .before .before .before .before .before .before .before .before .before .before .before .before .pre in
     let w = c .before .before .before .before .write-number .ensures in
-    omega (arith, q .room, joined-length (joins (c .before .before .before .before .before .before .before .before .before .before .read-snapshot .ensures) (c .before .before .before .before .before .before .before .before .before .read-snapshot2 .ensures) (q .typed) (q .unversioned) (q .meet)) _ (c .before .before .before .before .before .before .joined-places .ensures), ap (λ (n : ℕ). length (number n)) (c .number-of .ensures), w .after, wrote-length w)
+    omega (arith, q .room, joined-length (joins (q .left-is) (q .right-is) (q .typed) (q .unversioned) (q .meet)) _ (c .before .before .before .before .before .before .joined-places .ensures), ap (λ (n : ℕ). length (number n)) (c .number-of .ensures), w .after, wrote-length w)
 
 write-number-requires-3 : tie.Need-write-number-requires-3 Inv-loop μ-loop
 write-number-requires-3 c κs =
-    let q = c .before .before .before .before .before .before .before .before .before .before .before .before .before .before .before .before .before .before .before .pre in
+    let q = c .before .before .before .before .before .before .before .before .before .before .before .before .before .before .before .before .before .pre in
     let w = c .before .before .before .before .before .before .before .before .write-number .ensures in
     let v = c .before .before .before .write-number2 .ensures in
-    omega (arith, q .room, joined-length (joins (c .before .before .before .before .before .before .before .before .before .before .before .before .before .before .read-snapshot .ensures) (c .before .before .before .before .before .before .before .before .before .before .before .before .before .read-snapshot2 .ensures) (q .typed) (q .unversioned) (q .meet)) _ (c .before .before .before .before .before .before .before .before .before .before .joined-places .ensures), ap (λ (n : ℕ). length (number n)) (c .before .before .before .before .number-of .ensures), w .after, wrote-length w, v .after, wrote-length v)
+    omega (arith, q .room, joined-length (joins (q .left-is) (q .right-is) (q .typed) (q .unversioned) (q .meet)) _ (c .before .before .before .before .before .before .before .before .before .before .joined-places .ensures), ap (λ (n : ℕ). length (number n)) (c .before .before .before .before .number-of .ensures), w .after, wrote-length w, v .after, wrote-length v)
 
 loop-holds : tie.Need-loop-holds Inv-loop μ-loop
 loop-holds c = λ ty x y w u m. to-go
@@ -79,8 +72,8 @@ array-copy-out-w c = search needs
 
 write-place-requires : tie.Need-write-place-requires Inv-loop μ-loop
 write-place-requires c κs =
-    let q = c .before .before .before .before .before .before .before .before .before .before .before .before .before .before .before .before .before .before .before .before .before .before .before .before .before .before .before .before .pre in
-    let h = joins (c .before .before .before .before .before .before .before .before .before .before .before .before .before .before .before .before .before .before .before .before .before .before .before .read-snapshot .ensures) (c .before .before .before .before .before .before .before .before .before .before .before .before .before .before .before .before .before .before .before .before .before .before .read-snapshot2 .ensures) (q .typed) (q .unversioned) (q .meet) in
+    let q = c .before .before .before .before .before .before .before .before .before .before .before .before .before .before .before .before .before .before .before .before .before .before .before .before .before .before .pre in
+    let h = joins (q .left-is) (q .right-is) (q .typed) (q .unversioned) (q .meet) in
     let p = c .before .before .before .before .before .before .before .before .before .before .before .before .before .before .before .before .before .before .before .joined-places .ensures in
     place-next h _ p _ (c .before .before .before .before .loop-test .taken) (c .before .before .before .if1 .taken) (c .before .before .before .before .before .loop .inv (q .type) (q .left) (q .right) (q .typed) (q .unversioned) (q .meet))
     (sets-room h _ (c .before .before .before .before .before .before .before .before .before .before .before .before .before .before .before .before .before .before .before .joined-places .ensures) _ (c .before .before .before .before .before .before .before .before .before .before .before .before .before .number-of .ensures) (c .before .before .before .before .before .before .before .before .before .before .before .before .before .before .before .before .before .write-number .ensures) (c .before .before .before .before .before .before .before .before .before .before .before .before .write-number2 .ensures) (c .before .before .before .before .before .before .before .before .write-number3 .ensures) (q .room))
@@ -94,7 +87,8 @@ loop-less c = omega (arith, c .before .loop-test .taken)
 loop-again : tie.Need-loop-again Inv-loop μ-loop
 loop-again c =
     λ ty x y w u m.
-    let h = joins (c .before .before .before .before .before .before .before .before .before .before .before .before .before .before .before .before .before .before .before .before .read-snapshot .ensures) (c .before .before .before .before .before .before .before .before .before .before .before .before .before .before .before .before .before .before .before .read-snapshot2 .ensures) w u m in
+    let q = c .before .before .before .before .before .before .before .before .before .before .before .before .before .before .before .before .before .before .before .before .before .before .before .pre in
+    let h = joins (q .left-is) (q .right-is) w u m in
     let g = c .before .before .loop .inv ty x y w u m in
     let k = c .before .loop-test .taken in
     ⊎-elim
@@ -104,14 +98,15 @@ loop-again c =
 
 same-length : tie.Need-same-length Inv-loop μ-loop
 same-length c =
-    let q = c .before .before .before .before .before .before .before .before .before .before .before .before .before .before .before .before .before .before .before .before .before .before .before .before .pre in
+    let q = c .before .before .before .before .before .before .before .before .before .before .before .before .before .before .before .before .before .before .before .before .before .before .pre in
     c .before .loop .inv (q .type) (q .left) (q .right) (q .typed) (q .unversioned) (q .meet) .long
     ∙ wrote-length (c .before .before .before .before .write-number3 .ensures) ∙ wrote-length (c .before .before .before .before .before .before .before .before .write-number2 .ensures) ∙ wrote-length (c .before .before .before .before .before .before .before .before .before .before .before .before .before .write-number .ensures)
 
 returns : tie.Need-returns Inv-loop μ-loop
 returns c =
     λ ty x y w u m.
-    joined-wrote (joins (c .before .before .before .before .before .before .before .before .before .before .before .before .before .before .before .before .before .before .before .read-snapshot .ensures) (c .before .before .before .before .before .before .before .before .before .before .before .before .before .before .before .before .before .before .read-snapshot2 .ensures) w u m) _ (c .before .before .before .before .before .before .before .before .before .before .before .before .before .before .before .joined-places .ensures) _ (c .before .before .before .before .before .before .before .before .before .number-of .ensures) (c .before .before .before .before .before .before .before .before .before .before .before .before .before .write-number .ensures) (c .before .before .before .before .before .before .before .before .write-number2 .ensures) (c .before .before .before .before .write-number3 .ensures)
+    let q = c .before .before .before .before .before .before .before .before .before .before .before .before .before .before .before .before .before .before .before .before .before .before .pre in
+    joined-wrote (joins (q .left-is) (q .right-is) w u m) _ (c .before .before .before .before .before .before .before .before .before .before .before .before .before .before .before .joined-places .ensures) _ (c .before .before .before .before .before .before .before .before .before .number-of .ensures) (c .before .before .before .before .before .before .before .before .before .before .before .before .before .write-number .ensures) (c .before .before .before .before .before .before .before .before .write-number2 .ensures) (c .before .before .before .before .write-number3 .ensures)
     (all-gone (c .before .loop .inv ty x y w u m) (sets-end ty x y _ (c .loop-test .left)))
 
 pub write-joined-spec : {M : Type 1} → statement M
@@ -120,8 +115,6 @@ write-joined-spec =
     (tie.spec
     Inv-loop
     μ-loop
-    read-snapshot-requires
-    read-snapshot-requires-2
     joined-places-requires
     write-number-requires
     number-of-requires

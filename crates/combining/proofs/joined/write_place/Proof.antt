@@ -2,8 +2,8 @@ use borrow.Author.Needs.{needs}
 use mathlib.Core.Path.{sym, ap, _∙_}
 use native.Mathlib.Omega.{arith}
 use lib.ListN.{length}
-use Rattle.packed.proofs.WriteLaws.{wrote-length}
-use Rattle.combining.proofs.JoinedLaws.{wrote-same, chosen-text, union-texts, union-room, place-room, place-wrote}
+use Rattle.packed.proofs.WriteLaws.{wrote-length, wrote-as}
+use Rattle.combining.proofs.JoinedLaws.{chosen-text, union-texts, union-room, place-room, place-wrote}
 use Rattle.combining.proofs.joined.write_place.Statement.{statement}
 use Rattle.combining.proofs.joined.write_place.Tie as tie
 use Rattle.combining.proofs.joined.write_place.Reads as reads
@@ -53,7 +53,7 @@ returns c =
     λ h.
     let q = c .before .before .before .before .before .before .before .before .before .before .before .before .before .before .before .before .pre .some in
     let e = sym (c .before .before .before .before .before .before .before .is-extreme .ensures (h .table) (h .type) (h .typed)) ∙ c .before .before .before .before .before .before .if1 .taken in
-    place-wrote _ _ _ _ _ _ q h _ (c .before .before .before .before .before .before .before .before .before .before .before .count-place .ensures (h .table) (h .type) (h .xs) (h .ys) (h .typed) (h .left) (h .right) (h .paired .left-rises) (h .paired .right-rises) (h .paired .few)) (c .before .before .before .before .before .before .before .before .before .before .write-number .ensures) (wrote-same (chosen-text _ _ _ _ _ _ q h e _ _ (c .before .before .before .before .chosen .ensures)) (c .before .before .write-text .ensures))
+    place-wrote _ _ _ _ _ _ q h _ (c .before .before .before .before .before .before .before .before .before .before .before .count-place .ensures (h .table) (h .type) (h .xs) (h .ys) (h .typed) (h .left) (h .right) (h .paired .left-rises) (h .paired .right-rises) (h .paired .few)) (c .before .before .before .before .before .before .before .before .before .before .write-number .ensures) (wrote-as (chosen-text _ _ _ _ _ _ q h e _ _ (c .before .before .before .before .chosen .ensures)) (c .before .before .write-text .ensures))
 
 set-part-requires : tie.Need-set-part-requires
 set-part-requires c κs = search needs
@@ -84,7 +84,7 @@ returns-2 c =
     let l = c .before .before .before .before .before .set-part .ensures (h .xs) (h .left) in
     let r = c .before .before .before .before .set-part2 .ensures (h .ys) (h .right) in
     place-wrote _ _ _ _ _ _ q h _ (c .before .before .before .before .before .before .before .before .before .before .before .count-place .ensures (h .table) (h .type) (h .xs) (h .ys) (h .typed) (h .left) (h .right) (h .paired .left-rises) (h .paired .right-rises) (h .paired .few)) (c .before .before .before .before .before .before .before .before .before .before .write-number .ensures)
-    (wrote-same (union-texts _ _ _ _ _ _ q h e _ _ l r) (c .before .before .write-union .ensures (h .xs) (h .ys) l r (h .paired .left-rises) (h .paired .right-rises)))
+    (wrote-as (union-texts _ _ _ _ _ _ q h e _ _ l r) (c .before .before .write-union .ensures (h .xs) (h .ys) l r (h .paired .left-rises) (h .paired .right-rises)))
 
 pub write-place-spec : {M : Type 1} → statement M
 write-place-spec =

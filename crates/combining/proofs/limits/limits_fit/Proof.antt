@@ -4,6 +4,7 @@ use lib.ListN.{length, take, getD}
 use Rattle.model.specs.Order.{numbers, texts}
 use Rattle.model.specs.Sets.{union}
 use Rattle.dossier.specs.DossierIndex.{noSnapshot}
+use Rattle.dossier.proofs.AskLaws.{first-stands}
 use Rattle.combining.specs.CombineIndex.{Combinable}
 use Rattle.combining.proofs.FitLaws.{left-hashes, right-hashes, left-rises, right-rises, unversioned, first-meet, first-start, fits-parents, fits-versions, fits-versioned, fits-objects}
 use Rattle.combining.proofs.limits.limits_fit.Statement.{statement}
@@ -15,15 +16,12 @@ use Rattle.combining.proofs.limits.hashes_part.Reads as hashes-part-rea
 use Rattle.combining.proofs.limits.objects_fit.Reads as objects-fit-reads
 use Rattle.unions.proofs.pair.count_hash_union.Reads as count-hash-union-reads
 
--- src/limits.rt:130:30
 hashes-part-requires : tie.Need-hashes-part-requires
 hashes-part-requires c κs = search needs
 
--- src/limits.rt:130:57
 hashes-part-requires-2 : tie.Need-hashes-part-requires-2
 hashes-part-requires-2 c κs = search needs
 
--- src/limits.rt:130:13
 count-hash-union-requires : tie.Need-count-hash-union-requires
 count-hash-union-requires c κs = search needs
 
@@ -44,11 +42,9 @@ module _ (c : tie.After-count-hash-union) where
       (c .before .hashes-part2 .ensures (h .right .headed .dossier .parents) (h .right-read .head .hashes))
       (x .0) (y .0) (x .1) (y .1)
 
--- src/limits.rt:131:9
 returns : tie.Need-returns
 returns c = λ h. fits-parents _ _ _ _ _ _ h (c .before .count-hash-union .result) (parents-counted (c .before) h) (c .if1 .taken)
 
--- src/limits.rt:135:12
 count-versions-requires : tie.Need-count-versions-requires
 count-versions-requires c κs = let h = c .before .before .before .before .before .before .before .before .before .before .before .pre in (h .left-read .few, h .right-read .few)
 
@@ -56,63 +52,52 @@ count-versions-requires c κs = let h = c .before .before .before .before .befor
 versions-counted : (c : tie.After-count-versions) (h : Asked (c .before .before .before .before)) → let a = start (c .before .before .before .before) .args in c .count-versions .result ≡ length (union numbers (take (a .t3 .count) (a .t3 .versions)) (take (a .t5 .count) (a .t5 .versions)))
 versions-counted c h = c .count-versions .ensures (left-rises _ _ _ _ _ _ h) (right-rises _ _ _ _ _ _ h)
 
--- src/limits.rt:136:9
 returns-2 : tie.Need-returns-2
 returns-2 c = λ h.
     let p = c .before .before .before .before .before in
     fits-versions _ _ _ _ _ _ h (p .count-hash-union .result) (parents-counted p h) (c .before .before .before .before .if1 .left) (c .before .count-versions .result) (versions-counted (c .before) h) (c .if2 .taken)
 
--- src/limits.rt:139:9
 returns-3 : tie.Need-returns-3
 returns-3 c = λ h.
     let p = c .before .before .before .before .before .before .before in
     let v = c .before .before .before in
     fits-versioned _ _ _ _ _ _ h (p .count-hash-union .result) (parents-counted p h) (c .before .before .before .before .before .before .if1 .left) (v .count-versions .result) (versions-counted v h) (c .before .before .if2 .left) (c .if3 .taken)
 
--- src/limits.rt:141:13
 element-copy-out-i : tie.Need-element-copy-out-i
 element-copy-out-i c = search needs
 
--- src/limits.rt:142:13
 element-copy-out-j : tie.Need-element-copy-out-j
 element-copy-out-j c = search needs
 
--- src/limits.rt:143:17
 sub-objects-fit : tie.Need-sub-objects-fit
-sub-objects-fit c = first-start _ _ _ _ _ _ (c .before .before .before .before .before .before .before .before .before .before .before .before .before .before .before .before .before .pre) .0
+sub-objects-fit c = first-start _ _ _ _ _ _ (c .before .before .before .before .before .before .before .before .before .before .before .before .before .before .before .before .before .before .before .pre) .0
 
--- src/limits.rt:143:17
 part-objects-fit-start : tie.Need-part-objects-fit-start
-part-objects-fit-start c = first-start _ _ _ _ _ _ (c .before .before .before .before .before .before .before .before .before .before .before .before .before .before .before .before .before .pre) .0
+part-objects-fit-start c = first-start _ _ _ _ _ _ (c .before .before .before .before .before .before .before .before .before .before .before .before .before .before .before .before .before .before .before .pre) .0
 
--- src/limits.rt:143:17
 part-objects-fit-end : tie.Need-part-objects-fit-end
 part-objects-fit-end c = search needs
 
--- src/limits.rt:143:26
 sub-objects-fit-2 : tie.Need-sub-objects-fit-2
-sub-objects-fit-2 c = first-start _ _ _ _ _ _ (c .before .before .before .before .before .before .before .before .before .before .before .before .before .before .before .before .before .before .pre) .1
+sub-objects-fit-2 c = first-start _ _ _ _ _ _ (c .before .before .before .before .before .before .before .before .before .before .before .before .before .before .before .before .before .before .before .before .pre) .1
 
--- src/limits.rt:143:26
 part-objects-fit-start-2 : tie.Need-part-objects-fit-start-2
-part-objects-fit-start-2 c = first-start _ _ _ _ _ _ (c .before .before .before .before .before .before .before .before .before .before .before .before .before .before .before .before .before .before .pre) .1
+part-objects-fit-start-2 c = first-start _ _ _ _ _ _ (c .before .before .before .before .before .before .before .before .before .before .before .before .before .before .before .before .before .before .before .before .pre) .1
 
--- src/limits.rt:143:26
 part-objects-fit-end-2 : tie.Need-part-objects-fit-end-2
 part-objects-fit-end-2 c = search needs
 
--- src/limits.rt:143:5
 objects-fit-requires : tie.Need-objects-fit-requires
-objects-fit-requires c κs = c .before .before .before .before .before .before .before .before .before .before .before .before .before .before .before .before .before .before .before .pre .typed .few
+objects-fit-requires c κs = c .before .before .before .before .before .before .before .before .before .before .before .before .before .before .before .before .before .before .before .before .before .pre .typed .few
 
--- src/limits.rt:117:1
 returns-4 : tie.Need-returns-4
 returns-4 c = λ h.
-    let p = c .before .before .before .before .before .before .before .before .before .before .before .before in
-    let v = c .before .before .before .before .before .before .before .before in
-    let un = c .before .before .before .before .before .if3 .left in
-    fits-objects _ _ _ _ _ _ h (p .count-hash-union .result) (parents-counted p h) (c .before .before .before .before .before .before .before .before .before .before .before .if1 .left) (v .count-versions .result) (versions-counted v h) (c .before .before .before .before .before .before .before .if2 .left) un
-    (c .objects-fit .ensures _ (h .left .type) (getD (h .left .headed .dossier .snapshots) 0 noSnapshot) (getD (h .right .headed .dossier .snapshots) 0 noSnapshot) (h .typed) (unversioned _ _ _ _ _ _ h un) (first-meet _ _ _ _ _ _ h un))
+    let p = c .before .before .before .before .before .before .before .before .before .before .before .before .before .before in
+    let v = c .before .before .before .before .before .before .before .before .before .before in
+    let un = c .before .before .before .before .before .before .before .if3 .left in
+    fits-objects _ _ _ _ _ _ h (p .count-hash-union .result) (parents-counted p h) (c .before .before .before .before .before .before .before .before .before .before .before .before .before .if1 .left) (v .count-versions .result) (versions-counted v h) (c .before .before .before .before .before .before .before .before .before .if2 .left) un
+    (c .objects-fit .ensures _ (h .left .type) (getD (h .left .headed .dossier .snapshots) 0 noSnapshot) (getD (h .right .headed .dossier .snapshots) 0 noSnapshot) (h .typed) (unversioned _ _ _ _ _ _ h un) (first-meet _ _ _ _ _ _ h un)
+    (first-stands _ (h .left .headed) _ (h .left-read)) (first-stands _ (h .right .headed) _ (h .right-read)))
 
 pub limits-fit-spec : {M : Type 1} → statement M
 limits-fit-spec =

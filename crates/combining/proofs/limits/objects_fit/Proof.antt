@@ -1,7 +1,7 @@
 use borrow.Author.Needs.{needs}
 use mathlib.Core.Path.{_≡_, refl, sym, _∙_}
 use mathlib.Core.Bool.{false}
-use mathlib.Core.List.{List, []}
+use mathlib.Core.List.{List, [], map}
 use Prim.Native.Nat.{ℕ, _-_}
 use lib.Dec.{leb}
 use lib.ListN.{length, drop, getD}
@@ -10,6 +10,8 @@ use Rattle.model.specs.Opening.{held}
 use Rattle.ontology.specs.Table.{EventType, isVersioned}
 use Rattle.ontology.specs.TypeIndex.{TypeIs}
 use Rattle.event.specs.Event.{view}
+use Rattle.event.specs.EventIndex.{SetsAre}
+use Rattle.event.specs.declared.sets.SetAt.{SetAt}
 use Rattle.combining.specs.CombineIndex.{Meet}
 use Rattle.combining.proofs.ObjectLaws.{objects-end, objects-large, objects-more, left-cell, right-cell, left-set, right-set}
 use Rattle.combining.proofs.limits.objects_fit.Statement.{statement}
@@ -17,50 +19,35 @@ use Rattle.combining.proofs.limits.objects_fit.Tie as tie
 use Rattle.combining.proofs.limits.objects_fit.Reads as reads
 use Rattle.combining.proofs.limits.objects_fit.Lts as lts
 use Rattle.combining.proofs.limits.count_place.Reads as count-place-reads
-use Rattle.dossier.proofs.snapshots.read_snapshot.Reads as read-snapshot-reads
 
 abbrev Inv-loop : tie.InvT-loop
-Inv-loop a b t left right room₀ k₀ room k = (u : List ℕ) (ty : EventType) (x y : Snapshot) → TypeIs u ty t → isVersioned ty ≡ false → Meet a b ty x y → leb (sizes (joinSnapshots (view ty) x y .cells)) 256 ≡ leb (sizes (drop k (joinSnapshots (view ty) x y .cells))) room
+Inv-loop a b t left right room₀ k₀ room k = (u : List ℕ) (ty : EventType) (x y : Snapshot) → TypeIs u ty t → isVersioned ty ≡ false → Meet a b ty x y → SetsAre a (map held (x .cells)) left → SetsAre b (map held (y .cells)) right → leb (sizes (joinSnapshots (view ty) x y .cells)) 256 ≡ leb (sizes (drop k (joinSnapshots (view ty) x y .cells))) room
 
 abbrev μ-loop : tie.MeasureT-loop
 μ-loop a b t left right room₀ k₀ room k = 32 - k
 
--- src/limits.rt:97:9
-read-snapshot-requires : tie.Need-read-snapshot-requires Inv-loop μ-loop
-read-snapshot-requires c κs = search needs
-
--- src/limits.rt:98:9
-read-snapshot-requires-2 : tie.Need-read-snapshot-requires-2 Inv-loop μ-loop
-read-snapshot-requires-2 c κs = search needs
-
--- src/limits.rt:103:5
 loop-holds : tie.Need-loop-holds Inv-loop μ-loop
-loop-holds c = λ u ty x y w un m. refl
+loop-holds c = λ u ty x y w un m v z. refl
 
--- src/limits.rt:104:17
 mul-v : tie.Need-mul-v Inv-loop μ-loop
 mul-v c = search needs
 
--- src/limits.rt:104:17
 array-copy-out-v : tie.Need-array-copy-out-v Inv-loop μ-loop
 array-copy-out-v c = search needs
 
--- src/limits.rt:105:17
 mul-w : tie.Need-mul-w Inv-loop μ-loop
 mul-w c = search needs
 
--- src/limits.rt:105:17
 array-copy-out-w : tie.Need-array-copy-out-w Inv-loop μ-loop
 array-copy-out-w c = search needs
 
--- src/limits.rt:106:13
 count-place-requires : tie.Need-count-place-requires Inv-loop μ-loop
 count-place-requires c κs = search needs
 
 -- what is counted at a place, for the snapshots that are there
 module _ (c : tie.After-count-place Inv-loop μ-loop) (u : List ℕ) (ty : EventType) (x y : Snapshot) where
   abbrev start : tie.Start Inv-loop μ-loop
-  start = c .before .before .before .before .before .before .before .before .before .before .before
+  start = c .before .before .before .before .before .before .before .before .before
 
   abbrev a : List ℕ
   a = start .args .a .now
@@ -68,44 +55,45 @@ module _ (c : tie.After-count-place Inv-loop μ-loop) (u : List ℕ) (ty : Event
   abbrev b : List ℕ
   b = start .args .b .now
 
+  abbrev left : List SetAt
+  left = start .args .x .sets
+
+  abbrev right : List SetAt
+  right = start .args .y .sets
+
   abbrev k : ℕ
   k = c .before .before .before .before .loop .k
 
   counted :
-      TypeIs u ty (start .args .t) → isVersioned ty ≡ false → Meet a b ty x y →
+      TypeIs u ty (start .args .t) → isVersioned ty ≡ false → Meet a b ty x y → SetsAre a (map held (x .cells)) left → SetsAre b (map held (y .cells)) right →
       c .count-place .result ≡ length (held (joinCell false (view ty .choice k) (holds (held (getD (x .cells) k (holds [])))) (holds (held (getD (y .cells) k (holds []))))))
-  counted w un m =
+  counted w un m v z =
       let h = c .before .before .before .loop-test .taken in
       let p = left-cell a b ty x y un m k h in
       let q = right-cell a b ty x y un m k h in
       c .count-place .ensures u ty (held (getD (x .cells) k (holds []))) (held (getD (y .cells) k (holds []))) w
-      (left-set a b ty x y un m k h (c .before .before .before .before .before .before .before .before .read-snapshot .result) (c .before .before .before .before .before .before .before .before .read-snapshot .ensures))
-      (right-set a b ty x y un m k h (c .before .before .before .before .before .before .before .read-snapshot2 .result) (c .before .before .before .before .before .before .before .read-snapshot2 .ensures))
+      (left-set a b ty x y un m k h left v)
+      (right-set a b ty x y un m k h right z)
       (p .rises) (q .rises) (λ e. (p .lone e, q .lone e))
 
--- src/limits.rt:108:13
 returns : tie.Need-returns Inv-loop μ-loop
-returns c = λ u ty x y w un m.
+returns c = λ u ty x y w un m v z.
     let l = c .before .before .before .before .before in
-    sym (l .loop .inv u ty x y w un m ∙ objects-large _ _ ty x y un m (l .loop .k) (c .before .before .before .before .loop-test .taken) (c .before .count-place .result) (l .loop .room) (counted (c .before) u ty x y w un m) (c .if1 .taken))
+    sym (l .loop .inv u ty x y w un m (v .sets) (z .sets) ∙ objects-large _ _ ty x y un m (l .loop .k) (c .before .before .before .before .loop-test .taken) (c .before .count-place .result) (l .loop .room) (counted (c .before) u ty x y w un m (v .sets) (z .sets)) (c .if1 .taken))
 
--- src/limits.rt:111:9
 add-k : tie.Need-add-k Inv-loop μ-loop
 add-k c = search needs
 
--- src/limits.rt:103:5
 loop-less : tie.Need-loop-less Inv-loop μ-loop
 loop-less c = search needs
 
--- src/limits.rt:103:5
 loop-again : tie.Need-loop-again Inv-loop μ-loop
-loop-again c = λ u ty x y w un m.
+loop-again c = λ u ty x y w un m v z.
     let l = c .before .before .before .before .before in
-    l .loop .inv u ty x y w un m ∙ objects-more _ _ ty x y un m (l .loop .k) (c .before .before .before .before .loop-test .taken) (c .before .count-place .result) (l .loop .room) (counted (c .before) u ty x y w un m) (c .if1 .left)
+    l .loop .inv u ty x y w un m v z ∙ objects-more _ _ ty x y un m (l .loop .k) (c .before .before .before .before .loop-test .taken) (c .before .count-place .result) (l .loop .room) (counted (c .before) u ty x y w un m v z) (c .if1 .left)
 
--- src/limits.rt:93:1
 returns-2 : tie.Need-returns-2 Inv-loop μ-loop
-returns-2 c = λ u ty x y w un m. objects-end _ _ ty x y un m (c .before .loop .k) (c .before .loop .room) (c .loop-test .left) ∙ sym (c .before .loop .inv u ty x y w un m)
+returns-2 c = λ u ty x y w un m v z. objects-end _ _ ty x y un m (c .before .loop .k) (c .before .loop .room) (c .loop-test .left) ∙ sym (c .before .loop .inv u ty x y w un m (v .sets) (z .sets))
 
 pub objects-fit-spec : {M : Type 1} → statement M
 objects-fit-spec =
@@ -113,8 +101,6 @@ objects-fit-spec =
     (tie.spec
     Inv-loop
     μ-loop
-    read-snapshot-requires
-    read-snapshot-requires-2
     loop-holds
     mul-v
     array-copy-out-v

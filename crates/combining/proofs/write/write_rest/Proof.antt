@@ -1,5 +1,6 @@
 use borrow.Author.Needs.{needs}
-use Rattle.combining.proofs.MergedLaws.{nothing-wrote, wrote-as, rest-none, rest-there, rest-part}
+use Rattle.packed.proofs.WriteLaws.{wrote-as}
+use Rattle.combining.proofs.MergedLaws.{nothing-wrote, rest-none, rest-there, rest-part}
 use Rattle.combining.proofs.write.write_rest.Statement.{statement}
 use Rattle.combining.proofs.write.write_rest.Tie as tie
 

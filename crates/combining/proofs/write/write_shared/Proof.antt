@@ -3,27 +3,21 @@ use Rattle.combining.proofs.MergedLaws.{is-versioned, not-versioned, ag
 use Rattle.combining.proofs.write.write_shared.Statement.{statement}
 use Rattle.combining.proofs.write.write_shared.Tie as tie
 
--- src/write.rt:44:9
 write-agreed-requires : tie.Need-write-agreed-requires
 write-agreed-requires c κs = agreed-room (c .before .before .before .before .before .before .before .pre) (c .before .if1 .taken)
 
--- src/write.rt:44:9
 same-length : tie.Need-same-length
 same-length c = search needs
 
--- src/write.rt:44:9
 returns : tie.Need-returns
 returns c = λ ty x y w m. c .before .before .write-agreed .ensures ty x y (is-versioned _ ty _ w (c .before .before .before .before .if1 .taken)) m
 
--- src/write.rt:46:5
 write-joined-requires : tie.Need-write-joined-requires
 write-joined-requires c κs = joined-room (c .before .before .before .before .before .before .before .pre) (c .before .if1 .left)
 
--- src/write.rt:32:1
 same-length-2 : tie.Need-same-length-2
 same-length-2 c = search needs
 
--- src/write.rt:32:1
 returns-2 : tie.Need-returns-2
 returns-2 c = λ ty x y w m. c .before .before .write-joined .ensures ty x y w (not-versioned _ ty _ w (c .before .before .before .before .if1 .left)) m
 

@@ -2,8 +2,9 @@ use borrow.Author.Needs.{needs}
 use native.Mathlib.Omega.{arith}
 use mathlib.Core.Path.{sym, _∙_}
 use Rattle.packed.proofs.ReadLaws.{number-stops, number-none, text-stops, text-none}
+use Rattle.ontology.proofs.RunLaws.{no-element}
 use Rattle.event.specs.Event.{setAt}
-use Rattle.event.proofs.LookupLaws.{no-place, no-element, value-no-count, value-no-text, value-stands}
+use Rattle.event.proofs.LookupLaws.{no-place, value-no-count, value-no-text, value-stands}
 use Rattle.event.proofs.lookup.find_value.Statement.{statement}
 use Rattle.event.proofs.lookup.find_value.Tie as tie
 

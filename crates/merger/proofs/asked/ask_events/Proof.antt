@@ -18,7 +18,7 @@ use Rattle.merger.proofs.asked.ask_events.Lts as lts
 use Rattle.event.proofs.ask.ask_event.Reads as ask-event-reads
 use Rattle.merger.proofs.asked.events_agree.Reads as events-agree-reads
 use Rattle.merger.proofs.asked.first_apart.Reads as first-apart-reads
-use Rattle.merger.proofs.asked.refuse.Reads as refuse-reads
+use Rattle.merger.proofs.asked.answer.Reads as answer-reads
 use Rattle.merger.proofs.frame.event_part.Reads as event-part-reads
 
 abbrev Inv-loop : tie.InvT-loop
@@ -36,17 +36,17 @@ ask-event-requires : tie.Need-ask-event-requires Inv-loop μ-loop
 ask-event-requires c κs = search needs
 
 -- src/asked.rt:71:9
-refuse-requires : tie.Need-refuse-requires Inv-loop μ-loop
-refuse-requires c κs = search needs
+answer-requires : tie.Need-answer-requires Inv-loop μ-loop
+answer-requires c κs = search needs
 
 -- src/asked.rt:71:9
 returns : tie.Need-returns Inv-loop μ-loop
 returns c =
     λ ts ss t w.
     let z : 0 < length ss = omega (arith, w .one, w .count) in
-    refusal-is _ _ 0 _
+    refusal-is _ ts ss _ _ 0 _
     (first-refused ts ss _ z (asked-of _ ts t _ _ _ (c .before .before .before .before .event-part .ensures ss w z) (refused-is narrow _ _ _ (c .before .before .before .ask-event .ensures) (c .before .if1 .taken))))
-    (c .refuse .ensures .0) (c .refuse .ensures .1) (omega (arith, c .before .if1 .taken))
+    (c .answer .ensures .0) (c .answer .ensures .1) (omega (arith, c .before .if1 .taken))
 
 -- src/asked.rt:77:5
 loop-holds : tie.Need-loop-holds Inv-loop μ-loop
@@ -64,8 +64,8 @@ ask-event-requires-2 : tie.Need-ask-event-requires-2 Inv-loop μ-loop
 ask-event-requires-2 c κs = search needs
 
 -- src/asked.rt:81:13
-refuse-requires-2 : tie.Need-refuse-requires-2 Inv-loop μ-loop
-refuse-requires-2 c κs = search needs
+answer-requires-2 : tie.Need-answer-requires-2 Inv-loop μ-loop
+answer-requires-2 c κs = search needs
 
 -- src/asked.rt:81:13
 returns-2 : tie.Need-returns-2 Inv-loop μ-loop
@@ -73,10 +73,10 @@ returns-2 c =
     λ ts ss t w.
     let a = accepted-is narrow _ _ _ (c .before .before .before .before .before .before .before .before .before .before .before .before .ask-event .ensures) (c .before .before .before .before .before .before .before .before .before .before .if1 .left) in
     let l : c .before .before .before .before .before .before .before .loop .i < length ss = omega (arith, c .before .before .before .before .before .if2 .taken, w .count) in
-    refusal-is _ _ _ _
+    refusal-is _ ts ss _ _ _ _
     (c .before .before .before .before .before .before .before .loop .inv .1 _ (a .is) ts ss t w
     ∙ next-refused ts _ _ _ ss _ l (asked-of _ ts t _ _ _ (c .before .before .before .before .event-part2 .ensures ss w l) (refused-is narrow _ _ _ (c .before .before .before .ask-event2 .ensures) (c .before .if3 .taken))))
-    (c .refuse2 .ensures .0) (c .refuse2 .ensures .1) (omega (arith, c .before .if3 .taken))
+    (c .answer2 .ensures .0) (c .answer2 .ensures .1) (omega (arith, c .before .if3 .taken))
 
 -- src/asked.rt:84:36
 events-agree-requires : tie.Need-events-agree-requires Inv-loop μ-loop
@@ -113,26 +113,29 @@ loop-again c = (
 )
 
 -- src/asked.rt:88:9
-refuse-requires-3 : tie.Need-refuse-requires-3 Inv-loop μ-loop
-refuse-requires-3 c κs = search needs
+answer-requires-3 : tie.Need-answer-requires-3 Inv-loop μ-loop
+answer-requires-3 c κs = search needs
 
 -- src/asked.rt:88:9
 returns-3 : tie.Need-returns-3 Inv-loop μ-loop
 returns-3 c =
     λ ts ss t w.
     let a = accepted-is narrow _ _ _ (c .before .before .before .before .before .before .before .before .before .ask-event .ensures) (c .before .before .before .before .before .before .before .if1 .left) in
-    no-refusal _ _ (c .before .before .before .before .loop .inv .1 _ (a .is) ts ss t w ∙ none-apart ts _ _ ss (omega (arith, c .before .before .if2 .left, w .count)) _ (c .before .if4 .taken)) (c .refuse3 .ensures .0)
+    let z : 0 < length ss = omega (arith, w .one, w .count) in
+    no-refusal _ ts ss _ (record { type = a .type; event = a .e }) _ _
+    (c .before .before .before .before .loop .inv .1 _ (a .is) ts ss t w ∙ none-apart ts _ _ ss (omega (arith, c .before .before .if2 .left, w .count)) _ (c .before .if4 .taken)) (c .answer3 .ensures .0) (c .answer3 .ensures .2)
+    (asked-of _ ts t _ _ _ (c .before .before .before .before .before .before .before .before .before .before .event-part .ensures ss w z) (a .is)) (a .type-is)
 
 -- src/asked.rt:90:5
-refuse-requires-4 : tie.Need-refuse-requires-4 Inv-loop μ-loop
-refuse-requires-4 c κs = search needs
+answer-requires-4 : tie.Need-answer-requires-4 Inv-loop μ-loop
+answer-requires-4 c κs = search needs
 
 -- src/asked.rt:64:1
 returns-4 : tie.Need-returns-4 Inv-loop μ-loop
 returns-4 c =
     λ ts ss t w.
     let a = accepted-is narrow _ _ _ (c .before .before .before .before .before .before .before .before .before .ask-event .ensures) (c .before .before .before .before .before .before .before .if1 .left) in
-    refusal-is _ 7 _ _ (c .before .before .before .before .loop .inv .1 _ (a .is) ts ss t w ∙ one-apart ts _ _ ss (omega (arith, c .before .before .if2 .left, w .count)) _ (c .before .if4 .left)) (c .refuse4 .ensures .0) (c .refuse4 .ensures .1) (omega arith)
+    refusal-is _ ts ss _ 7 _ _ (c .before .before .before .before .loop .inv .1 _ (a .is) ts ss t w ∙ one-apart ts _ _ ss (omega (arith, c .before .before .if2 .left, w .count)) _ (c .before .if4 .left)) (c .answer4 .ensures .0) (c .answer4 .ensures .1) (omega arith)
 
 pub ask-events-spec : {M : Type 1} → statement M
 ask-events-spec =
@@ -142,19 +145,19 @@ ask-events-spec =
     μ-loop
     event-part-requires
     ask-event-requires
-    refuse-requires
+    answer-requires
     returns
     loop-holds
     event-part-requires-2
     ask-event-requires-2
-    refuse-requires-2
+    answer-requires-2
     returns-2
     events-agree-requires
     first-apart-requires
     add-i
     loop-less
     loop-again
-    refuse-requires-3
+    answer-requires-3
     returns-3
-    refuse-requires-4
+    answer-requires-4
     returns-4)

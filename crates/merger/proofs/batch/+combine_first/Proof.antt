@@ -5,7 +5,7 @@ use Rattle.ontology.specs.Questions.{Outcome}
 use lib.ListN.{take}
 use Rattle.merger.specs.BatchIndex.{combinedAnswer}
 use Rattle.merger.specs.Demand3.{returned}
-use Rattle.merger.proofs.BatchLaws.{known, any-buffer, check-one, first-done, stopped, check-within, done-within, refused-within}
+use Rattle.merger.proofs.BatchLaws.{known, any-buffer, fewer, last-of, check-one, first-done, stopped, check-within, done-within, refused-within}
 use Prim.Native.Nat.{ℕ, _-_, _<_}
 use borrow.Fn.Kinds.{In}
 use borrow.Fn.PlainCycle.{Measures, is, falls, and}
@@ -19,7 +19,7 @@ use Rattle.merger.proofs.batch.+combine_first.{statement}
 use Rattle.merger.proofs.batch.+combine_first.Tie.{close}
 
 abbrev μ-combine-first : Measures 5 combine-first-kinds.ps ℕ
-μ-combine-first κs a = a .1 .1 .1 .0
+μ-combine-first κs a = a .1 .1 .1 .1 .0
 
 abbrev combine-first-at : ℕ → In 5 combine-first-kinds.ps
 combine-first-at t =
@@ -64,7 +64,7 @@ combine-first-returns t c = (
   check-within _ _ _ _ _ (c .before .before .check-event .ensures),
   λ ts ss g l.
       ap (λ (o : Outcome). returned o)
-      (check-one _ ts (g .isTable) ss (known ts ss (g .agreed)) (c .before .before .before .before .before .before .before .before .before .before .before .args .n) _ (c .before .before .before .before .before .before .before .before .before .before .before .args .a .now) (c .before .before .check-event .last .1 .1 .0) (c .before .before .check-event .result) (omega (arith, c .before .before .before .before .before .if1 .taken, c .before .before .before .before .before .before .before .before .before .before .before .pre .1 .0 .0)) (omega (arith, l, c .before .before .before .before .before .before .before .before .before .before .before .pre .1 .0 .0)) (c .before .before .before .before .before .before .before .before .before .before .before .pre .1 .1 .0)
+      (check-one _ ts (g .isTable) ss (known ts ss (g .agreed)) (c .before .before .before .before .before .before .before .before .before .before .before .args .n) _ (c .before .before .before .before .before .before .before .before .before .before .before .args .a .now) (c .before .before .check-event .last .1 .1 .0) (c .before .before .check-event .result) (omega (arith, c .before .before .before .before .before .if1 .taken, c .before .before .before .before .before .before .before .before .before .before .before .pre .1 .0 .0)) (omega (arith, l, c .before .before .before .before .before .before .before .before .before .before .before .pre .1 .0 .0)) (c .before .before .before .before .before .before .before .before .before .before .before .pre .1 .1 .0 .0)
       (c .before .before .before .before .event-part .ensures ss (g .isBatch) (omega (arith, l, c .before .before .before .before .before .before .before .before .before .before .before .pre .1 .0 .0))) (c .before .before .check-event .ensures)),
 )
 
@@ -74,7 +74,9 @@ combine-first-sub-combine-first t c = search needs
 
 -- src/batch.rt:69:9
 combine-first-combine-first-requires : (t : ℕ) → combine-first-lts.Need-combine-first-requires (claims t) (combine-first-at t) combine-first.Post
-combine-first-combine-first-requires t c κs = search needs
+combine-first-combine-first-requires t c κs =
+    let a = c .before .before .before .before .before .before .before .before .before .args in
+    (search needs, (search needs, (search needs, fewer _ _ _ _ (a .n) (c .before .before .before .before .before .before .before .before .before .pre .1 .1 .1))))
 
 -- src/batch.rt:70:21
 combine-first-enum-known-others : (t : ℕ) → combine-first-lts.Need-enum-known-others (claims t) (combine-first-at t) combine-first.Post
@@ -107,10 +109,15 @@ combine-first-returns-2 t c = (
 
 -- src/batch.rt:73:5
 combine-first-add-last-requires : (t : ℕ) → combine-first-lts.Need-add-last-requires (claims t) (combine-first-at t) combine-first.Post
-combine-first-add-last-requires t c κs = (
-  (c .before .before .before .before .before .before .before .before .before .before .before .before .before .before .before .before .before .before .before .before .before .before .pre .1 .0 .0, c .before .before .before .before .before .before .before .before .before .before .before .before .before .before .before .before .before .before .before .before .before .before .pre .1 .0 .1, done-within _ _ _ (c .before .before .before .before .before .before .before .before .before .before .before .before .combine-first .ensures .0) (c .before .before .before .before .others .given .1)),
-  (omega (arith, c .before .before .before .before .before .before .before .before .before .before .before .before .combine-first .kept .1 .1 .1 .1 .1 .0, c .before .before .before .before .before .before .before .before .before .before .before .before .before .before .before .before .before .before .before .before .before .before .pre .1 .1 .2), omega (arith, c .before .before .before .before .before .before .before .before .before .before .before .before .combine-first .kept .1 .1 .1 .1 .1 .1 .0, c .before .before .before .before .before .before .before .before .before .before .before .before .before .before .before .before .before .before .before .before .before .before .pre .1 .1 .0)),
-)
+combine-first-add-last-requires t c κs =
+    let a = c .before .before .before .before .before .before .before .before .before .before .before .before .before .before .before .before .before .before .before .before .before .before .args in
+    let i = c .before .before .before .before .before .before .before .before .before .before .before .before .combine-first in (
+      (c .before .before .before .before .before .before .before .before .before .before .before .before .before .before .before .before .before .before .before .before .before .before .pre .1 .0 .0, c .before .before .before .before .before .before .before .before .before .before .before .before .before .before .before .before .before .before .before .before .before .before .pre .1 .0 .1, done-within _ _ _ (c .before .before .before .before .before .before .before .before .before .before .before .before .combine-first .ensures .0) (c .before .before .before .before .others .given .1)),
+      (
+        (omega (arith, c .before .before .before .before .before .before .before .before .before .before .before .before .combine-first .kept .1 .1 .1 .1 .1 .1 .0, c .before .before .before .before .before .before .before .before .before .before .before .before .before .before .before .before .before .before .before .before .before .before .pre .1 .1 .0 .2), omega (arith, c .before .before .before .before .before .before .before .before .before .before .before .before .combine-first .kept .1 .1 .1 .1 .1 .1 .1 .0, c .before .before .before .before .before .before .before .before .before .before .before .before .before .before .before .before .before .before .before .before .before .before .pre .1 .1 .0 .0)),
+        last-of _ _ _ _ (a .n) (c .before .before .before .before .before .before .before .before .before .before .before .before .before .before .before .before .before .before .before .before .before .before .pre .1 .1 .1) _ _ _ (i .result) (omega (arith, c .before .before .before .before .before .before .before .before .before .before .before .before .before .before .before .before .if1 .left)) (i .ensures .1) (c .before .before .before .before .others .given .1),
+      ),
+    )
 
 -- src/batch.rt:52:1
 combine-first-same-length-5 : (t : ℕ) → combine-first-lts.Need-same-length-5 (claims t) (combine-first-at t) combine-first.Post
@@ -135,7 +142,7 @@ combine-first-returns-3 t c = (
       ap (λ (o : Outcome). returned o)
       (c .before .before .before .before .add-last .ensures .1 ts ss g (omega (arith, two)) l
       (first-done _ ts (g .isTable) ss (known ts ss (g .agreed)) (a .n - 1) (omega (arith, two)) (omega (arith, l)) (i .result) _ _ (i .ensures .1 ts ss g (omega (arith, l))) _ (c .before .before .before .before .before .before .before .before .before .others .given .1)))
-      ∙ any-buffer (combinedAnswer ts (take (a .n) ss)) (i .last .1 .1 .1 .1 .1 .1 .0) (a .a .now),
+      ∙ any-buffer (combinedAnswer ts (take (a .n) ss)) (i .last .1 .1 .1 .1 .1 .1 .1 .0) (a .a .now),
 )
 
 pub +combine-first-spec : {M : Type 1} → statement M

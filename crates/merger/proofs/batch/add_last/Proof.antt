@@ -1,13 +1,13 @@
 use borrow.Author.Needs.{needs}
 use mathlib.Core.Path.{_∙_}
 use native.Mathlib.Omega.{arith}
-use Rattle.merger.proofs.BatchLaws.{known, never-refused, add-next, check-within, combine-within, done-within, refused-within, taken-count}
+use Rattle.merger.proofs.BatchLaws.{known, never-refused, last-known, add-next, check-within, combine-within, done-within, refused-within, taken-count}
 use Rattle.merger.proofs.batch.add_last.Statement.{statement}
 use Rattle.merger.proofs.batch.add_last.Tie as tie
 use Rattle.merger.proofs.batch.add_last.Reads as reads
 use Rattle.merger.proofs.batch.add_last.Lts as lts
 use Rattle.combining.proofs.check.check_event.Reads as check-event-reads
-use Rattle.combining.proofs.combine.combine.Reads as combine-reads
+use Rattle.combining.proofs.combine.combine_known.Reads as combine-known-reads
 use Rattle.merger.proofs.frame.event_part.Reads as event-part-reads
 
 -- src/batch.rt:44:57
@@ -39,25 +39,32 @@ returns : tie.Need-returns
 returns c = (
   refused-within _ _ _ (c .enum-told .given .1),
   λ ts ss g h l e.
-      absurd (never-refused _ ts (g .isTable) ss (known ts ss (g .agreed)) (c .before .before .before .before .before .before .before .before .before .before .before .before .args .n) _ _ _ _ _ (omega (arith, h)) l (c .before .before .before .before .before .before .before .before .before .before .before .before .pre .1 .0)
+      absurd (never-refused _ ts (g .isTable) ss (known ts ss (g .agreed)) (c .before .before .before .before .before .before .before .before .before .before .before .before .args .n) _ _ _ _ _ (omega (arith, h)) l (c .before .before .before .before .before .before .before .before .before .before .before .before .pre .1 .0 .0)
       (c .before .before .before .before .before .before .event-part .ensures ss (g .isBatch) (omega (arith, h, l))) (c .before .before .before .before .check-event .ensures) (c .enum-told .given .1)),
 )
 
 -- src/batch.rt:48:20
-slice-aggregate-combine : tie.Need-slice-aggregate-combine
-slice-aggregate-combine c = taken-count (c .before .before .before .before .before .before .before .before .before .before .before .before .before .before .args .size) (c .before .before .before .before .before .before .before .before .before .before .before .before .before .before .args .sofar .now) (c .before .before .before .before .before .before .before .before .before .before .before .before .before .before .pre .0 .2)
+slice-aggregate-combine-known : tie.Need-slice-aggregate-combine-known
+slice-aggregate-combine-known c = taken-count (c .before .before .before .before .before .before .before .before .before .before .before .before .before .before .args .size) (c .before .before .before .before .before .before .before .before .before .before .before .before .before .before .args .sofar .now) (c .before .before .before .before .before .before .before .before .before .before .before .before .before .before .pre .0 .2)
 
 -- src/batch.rt:48:36
-slice-reshare-prefix-combine : tie.Need-slice-reshare-prefix-combine
-slice-reshare-prefix-combine c = done-within (c .before .before .before .before .before .before .check-event .result) (c .before .before .before .before .before .before .check-event .last .1 .1 .0) (c .before .before .added .given .0 .0) (check-within _ _ _ _ _ (c .before .before .before .before .before .before .check-event .ensures)) (c .before .before .added .given .1)
+slice-reshare-prefix-combine-known : tie.Need-slice-reshare-prefix-combine-known
+slice-reshare-prefix-combine-known c = done-within (c .before .before .before .before .before .before .check-event .result) (c .before .before .before .before .before .before .check-event .last .1 .1 .0) (c .before .before .added .given .0 .0) (check-within _ _ _ _ _ (c .before .before .before .before .before .before .check-event .ensures)) (c .before .before .added .given .1)
 
 -- src/batch.rt:48:36
-slice-aggregate-combine-2 : tie.Need-slice-aggregate-combine-2
-slice-aggregate-combine-2 c = taken-count (c .before .before .before .added .given .0 .0) (c .before .before .before .before .before .before .before .check-event .last .1 .1 .0) (done-within (c .before .before .before .before .before .before .before .check-event .result) (c .before .before .before .before .before .before .before .check-event .last .1 .1 .0) (c .before .before .before .added .given .0 .0) (check-within _ _ _ _ _ (c .before .before .before .before .before .before .before .check-event .ensures)) (c .before .before .before .added .given .1))
+slice-aggregate-combine-known-2 : tie.Need-slice-aggregate-combine-known-2
+slice-aggregate-combine-known-2 c = taken-count (c .before .before .before .added .given .0 .0) (c .before .before .before .before .before .before .before .check-event .last .1 .1 .0) (done-within (c .before .before .before .before .before .before .before .check-event .result) (c .before .before .before .before .before .before .before .check-event .last .1 .1 .0) (c .before .before .before .added .given .0 .0) (check-within _ _ _ _ _ (c .before .before .before .before .before .before .before .check-event .ensures)) (c .before .before .before .added .given .1))
 
 -- src/batch.rt:48:5
-combine-requires : tie.Need-combine-requires
-combine-requires c κs = search needs
+combine-known-requires : tie.Need-combine-known-requires
+combine-known-requires c κs =
+    let a = c .before .before .before .before .before .before .before .before .before .before .before .before .before .before .before .before .args in
+    let w = c .before .before .before .before .before .before .before .before .before .before .before .before .before .before .before .before .pre .1 .1 in
+    let g = w .all .agreed in (
+      last-known _ (w .all .types) (g .isTable) (w .all .events) (known (w .all .types) (w .all .events) (g .agreed)) (a .n) (a .size) (c .before .before .before .before .added .given .0 .0) _ (a .sofar .now) (a .lone .now) (c .before .before .before .before .before .before .before .before .check-event .last .1 .1 .0) (c .before .before .before .before .before .before .before .before .check-event .result) (w .more) (w .all .within) (c .before .before .before .before .before .before .before .before .before .before .before .before .before .before .before .before .pre .1 .0 .0)
+          (c .before .before .before .before .before .before .before .before .before .before .event-part .ensures (w .all .events) (g .isBatch) (omega (arith, w .more, w .all .within))) (w .before) (c .before .before .before .before .before .before .before .before .check-event .ensures) (c .before .before .before .before .added .given .1) (a .t) (w .all .typed),
+      c .before .before .before .before .before .before .before .before .before .before .before .before .before .before .before .before .pre .1 .0 .1,
+    )
 
 -- src/batch.rt:29:1
 same-length-2 : tie.Need-same-length-2
@@ -70,11 +77,11 @@ same-length-3 c = search needs
 -- src/batch.rt:29:1
 returns-2 : tie.Need-returns-2
 returns-2 c = (
-  combine-within _ _ _ _ _ _ (c .before .before .combine .ensures),
+  combine-within _ _ _ _ _ _ (c .before .before .combine-known .ensures),
   λ ts ss g h l e.
-      c .before .before .combine .ensures
-      ∙ add-next _ ts (g .isTable) ss (known ts ss (g .agreed)) (c .before .before .before .before .before .before .before .before .before .before .before .before .before .before .before .before .before .before .before .args .n) (c .before .before .before .before .before .before .before .before .before .before .before .before .before .before .before .before .before .before .before .args .size) (c .before .before .before .before .before .before .before .added .given .0 .0) _ (c .before .before .before .before .before .before .before .before .before .before .before .before .before .before .before .before .before .before .before .args .sofar .now) (c .before .before .before .before .before .before .before .before .before .before .before .before .before .before .before .before .before .before .before .args .lone .now) (c .before .before .before .before .before .before .before .before .before .before .before .check-event .last .1 .1 .0) (c .before .before .before .before .before .before .before .before .before .before .before .before .before .before .before .before .before .before .before .args .out .now) (c .before .before .before .before .before .before .before .before .before .before .before .check-event .result) h l (c .before .before .before .before .before .before .before .before .before .before .before .before .before .before .before .before .before .before .before .pre .1 .0) (c .before .before .before .before .before .before .before .before .before .before .before .before .before .before .before .before .before .before .before .pre .1 .1)
-      (c .before .before .before .before .before .before .before .before .before .before .before .before .before .event-part .ensures ss (g .isBatch) (omega (arith, h, l))) e (c .before .before .before .before .before .before .before .before .before .before .before .check-event .ensures) (c .before .before .before .before .before .before .before .added .given .1),
+      c .before .before .combine-known .ensures
+      ∙ add-next _ ts (g .isTable) ss (known ts ss (g .agreed)) (c .before .before .before .before .before .before .before .before .before .before .before .before .before .before .before .before .before .before .before .args .n) (c .before .before .before .before .before .before .before .before .before .before .before .before .before .before .before .before .before .before .before .args .size) (c .before .before .before .before .before .before .before .added .given .0 .0) _ (c .before .before .before .before .before .before .before .before .before .before .before .before .before .before .before .before .before .before .before .args .sofar .now) (c .before .before .before .before .before .before .before .before .before .before .before .before .before .before .before .before .before .before .before .args .lone .now) (c .before .before .before .before .before .before .before .before .before .before .before .check-event .last .1 .1 .0) (c .before .before .before .before .before .before .before .before .before .before .before .check-event .result) h l (c .before .before .before .before .before .before .before .before .before .before .before .before .before .before .before .before .before .before .before .pre .1 .0 .0)
+      (c .before .before .before .before .before .before .before .before .before .before .before .before .before .event-part .ensures ss (g .isBatch) (omega (arith, h, l))) e (c .before .before .before .before .before .before .before .before .before .before .before .check-event .ensures) (c .before .before .before .before .before .before .before .added .given .1) (c .before .before .before .before .before .before .before .before .before .before .before .before .before .before .before .before .before .before .before .args .out .now) (c .before .before .before .before .before .before .before .before .before .before .before .before .before .before .before .before .before .before .before .pre .1 .0 .1),
 )
 
 pub add-last-spec : {M : Type 1} → statement M
@@ -88,10 +95,10 @@ add-last-spec =
     enum-told
     same-length
     returns
-    slice-aggregate-combine
-    slice-reshare-prefix-combine
-    slice-aggregate-combine-2
-    combine-requires
+    slice-aggregate-combine-known
+    slice-reshare-prefix-combine-known
+    slice-aggregate-combine-known-2
+    combine-known-requires
     same-length-2
     same-length-3
     returns-2)

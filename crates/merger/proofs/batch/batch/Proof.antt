@@ -1,5 +1,6 @@
 use borrow.Author.Needs.{needs}
 use mathlib.Core.Path.{sym, _∙_}
+use native.Mathlib.Omega.{arith}
 use borrow.Author.Tests.{not-true, not-false}
 use Rattle.ontology.specs.Questions.{refusesAt}
 use Rattle.merger.proofs.BatchLaws.{placed-replies, given-placed, given-refused, refusal-was, all-agreed, table-there, table-none, framed, unframed, rooms-are, no-room, no-table, no-frame, all-asked-is, call-is}
@@ -58,13 +59,21 @@ returns-4 c =
     let f = framed _ _ (c .before .before .before .before .before .read-batch .ensures) (not-false _ (c .before .before .before .if2 .left)) in
     sym (call-is _ _ _ _ _
     (all-asked-is _ _ _ (sym (c .before .before .before .before .before .before .before .before .before .before .have-room .ensures) ∙ not-false _ (c .before .before .before .before .before .before .before .before .before .if1 .left)) (t .0) (t .1) (f .what) (f .is)
-    ∙ given-refused (t .0) (f .what) _ _ (refusal-was _ _ (c .before .before .ask-events .ensures (t .0) (f .what) (t .1) (f .stands)) (c .if3 .taken))))
+    ∙ given-refused (t .0) (f .what) _ _ (refusal-was _ (t .0) (f .what) _ _ (c .before .before .ask-events .ensures (t .0) (f .what) (t .1) (f .stands)) (c .if3 .taken))))
 
 -- src/batch.rt:152:17
 combine-all-requires : tie.Need-combine-all-requires
 combine-all-requires c κs =
-    let r = rooms-are _ (sym (c .before .before .before .before .before .before .before .before .before .before .before .before .before .before .have-room .ensures) ∙ not-false _ (c .before .before .before .before .before .before .before .before .before .before .before .before .before .if1 .left)) in
-    ((framed _ _ (c .before .before .before .before .before .before .before .before .before .read-batch .ensures) (not-false _ (c .before .before .before .before .before .before .before .if2 .left)) .stands .few, r .0), (r .1, r .2, r .3))
+    let t = table-there _ _ (c .before .before .before .before .before .before .before .before .before .before .before .before .check-table .ensures) (c .before .before .before .before .before .before .before .before .before .before .enum-told .given .1) in
+    let f = framed _ _ (c .before .before .before .before .before .before .before .before .before .read-batch .ensures) (not-false _ (c .before .before .before .before .before .before .before .if2 .left)) in
+    let a = all-agreed _ (t .0) (f .what) _ _ (c .before .before .before .before .before .before .ask-events .ensures (t .0) (f .what) (t .1) (f .stands)) (c .before .before .before .before .if3 .left) in
+    let r = rooms-are _ (sym (c .before .before .before .before .before .before .before .before .before .before .before .before .before .before .have-room .ensures) ∙ not-false _ (c .before .before .before .before .before .before .before .before .before .before .before .before .before .if1 .left)) in (
+      (f .stands .few, r .0),
+      (
+        (r .1, r .2, r .3),
+        record { types = t .0; events = f .what; agreed = record { isTable = t .1; isBatch = f .stands; agreed = a .0 }; typed = a .1; within = omega (arith, f .stands .count) },
+      ),
+    )
 
 -- src/batch.rt:152:5
 batch-reply-requires : tie.Need-batch-reply-requires
@@ -91,9 +100,9 @@ returns-5 : tie.Need-returns-5
 returns-5 c =
     let t = table-there _ _ (c .before .before .before .before .before .before .before .before .before .before .before .before .before .before .before .before .before .before .before .before .before .before .check-table .ensures) (c .before .before .before .before .before .before .before .before .before .before .before .before .before .before .before .before .before .before .before .before .enum-told .given .1) in
     let f = framed _ _ (c .before .before .before .before .before .before .before .before .before .before .before .before .before .before .before .before .before .before .before .read-batch .ensures) (not-false _ (c .before .before .before .before .before .before .before .before .before .before .before .before .before .before .before .before .before .if2 .left)) in
-    let a = all-agreed _ _ (c .before .before .before .before .before .before .before .before .before .before .before .before .before .before .before .before .ask-events .ensures (t .0) (f .what) (t .1) (f .stands)) (c .before .before .before .before .before .before .before .before .before .before .before .before .before .before .if3 .left) in
-    placed-replies (c .batch-reply .result) (c .before .before .before .before .before .before .before .before .before .combine-all .result) _ _ _ (c .batch-reply .ensures) (c .before .before .before .before .before .before .before .before .before .combine-all .ensures (t .0) (f .what) (record { isTable = t .1; isBatch = f .stands; agreed = a }))
-    ∙ sym (call-is _ _ _ _ _ (all-asked-is _ _ _ (sym (c .before .before .before .before .before .before .before .before .before .before .before .before .before .before .before .before .before .before .before .before .before .before .before .before .have-room .ensures) ∙ not-false _ (c .before .before .before .before .before .before .before .before .before .before .before .before .before .before .before .before .before .before .before .before .before .before .before .if1 .left)) (t .0) (t .1) (f .what) (f .is) ∙ given-placed (t .0) (f .what) a))
+    let a = all-agreed _ (t .0) (f .what) _ _ (c .before .before .before .before .before .before .before .before .before .before .before .before .before .before .before .before .ask-events .ensures (t .0) (f .what) (t .1) (f .stands)) (c .before .before .before .before .before .before .before .before .before .before .before .before .before .before .if3 .left) in
+    placed-replies (c .batch-reply .result) (c .before .before .before .before .before .before .before .before .before .combine-all .result) _ _ _ (c .batch-reply .ensures) (c .before .before .before .before .before .before .before .before .before .combine-all .ensures (t .0) (f .what) (record { isTable = t .1; isBatch = f .stands; agreed = a .0 }))
+    ∙ sym (call-is _ _ _ _ _ (all-asked-is _ _ _ (sym (c .before .before .before .before .before .before .before .before .before .before .before .before .before .before .before .before .before .before .before .before .before .before .before .before .have-room .ensures) ∙ not-false _ (c .before .before .before .before .before .before .before .before .before .before .before .before .before .before .before .before .before .before .before .before .before .before .before .if1 .left)) (t .0) (t .1) (f .what) (f .is) ∙ given-placed (t .0) (f .what) (a .0)))
 
 pub batch-spec : {M : Type 1} → statement M
 batch-spec =

@@ -2,7 +2,7 @@ use borrow.Author.Needs.{needs}
 use mathlib.Core.Path.{_∙_}
 use Prim.Native.Nat.{_-_}
 use native.Mathlib.Omega.{arith}
-use Rattle.merger.proofs.BatchLaws.{known, check-one, first-done, stopped-exact, done-within, all-taken}
+use Rattle.merger.proofs.BatchLaws.{known, check-one, first-done, fewer, last-of, stopped-exact, done-within, all-taken}
 use Rattle.merger.proofs.batch.combine_all.Statement.{statement}
 use Rattle.merger.proofs.batch.combine_all.Tie as tie
 use Rattle.merger.proofs.batch.combine_all.Reads as reads
@@ -38,7 +38,9 @@ sub-combine-first c = search needs
 
 -- src/batch.rt:94:9
 combine-first-requires : tie.Need-combine-first-requires
-combine-first-requires c κs = search needs
+combine-first-requires c κs =
+    let a = c .before .before .before .before .before .before .before .before .before .before .args in
+    (search needs, (search needs, fewer _ _ _ _ (a .x .count) (c .before .before .before .before .before .before .before .before .before .before .pre .1 .1)))
 
 -- src/batch.rt:95:21
 enum-known-others : tie.Need-enum-known-others
@@ -70,10 +72,15 @@ returns-2 c =
 
 -- src/batch.rt:98:5
 add-last-requires : tie.Need-add-last-requires
-add-last-requires c κs = (
-  (omega (arith, c .before .before .before .before .before .before .before .before .before .before .before .before .before .before .before .before .if1 .left), c .before .before .before .before .before .before .before .before .before .before .before .before .before .before .before .before .before .before .before .before .before .before .before .pre .0 .0, done-within _ _ _ (c .before .before .before .before .before .before .before .before .before .before .before .before .combine-first .ensures .0) (c .before .before .before .before .others .given .1)),
-  (omega (arith, c .before .before .before .before .before .before .before .before .before .before .before .before .combine-first .kept .1 .1 .1 .1 .1 .0, c .before .before .before .before .before .before .before .before .before .before .before .before .before .before .before .before .before .before .before .before .before .before .before .pre .1 .1), c .before .before .before .before .before .before .before .before .before .before .before .before .before .before .before .before .before .before .before .before .before .before .before .pre .0 .1),
-)
+add-last-requires c κs =
+    let a = c .before .before .before .before .before .before .before .before .before .before .before .before .before .before .before .before .before .before .before .before .before .before .before .args in
+    let i = c .before .before .before .before .before .before .before .before .before .before .before .before .combine-first in (
+      (omega (arith, c .before .before .before .before .before .before .before .before .before .before .before .before .before .before .before .before .if1 .left), c .before .before .before .before .before .before .before .before .before .before .before .before .before .before .before .before .before .before .before .before .before .before .before .pre .0 .0, done-within _ _ _ (c .before .before .before .before .before .before .before .before .before .before .before .before .combine-first .ensures .0) (c .before .before .before .before .others .given .1)),
+      (
+        (omega (arith, c .before .before .before .before .before .before .before .before .before .before .before .before .combine-first .kept .1 .1 .1 .1 .1 .1 .0, c .before .before .before .before .before .before .before .before .before .before .before .before .before .before .before .before .before .before .before .before .before .before .before .pre .1 .0 .1), c .before .before .before .before .before .before .before .before .before .before .before .before .before .before .before .before .before .before .before .before .before .before .before .pre .0 .1),
+        last-of _ _ _ _ (a .x .count) (c .before .before .before .before .before .before .before .before .before .before .before .before .before .before .before .before .before .before .before .before .before .before .before .pre .1 .1) _ _ _ (i .result) (omega (arith, c .before .before .before .before .before .before .before .before .before .before .before .before .before .before .before .before .if1 .left)) (i .ensures .1) (c .before .before .before .before .others .given .1),
+      ),
+    )
 
 -- src/batch.rt:77:1
 same-length-5 : tie.Need-same-length-5

@@ -6,22 +6,16 @@ use Rattle.opening.proofs.cells.runs_of.Statement.{statement}
 use Rattle.opening.proofs.cells.runs_of.Tie as tie
 
 abbrev Inv-loop : tie.InvT-loop
-Inv-loop place cells r₀ j₀ r j = RunsTo cells place (r .starts) (r .ends) j
+Inv-loop row r₀ j₀ r j = RunsTo row (r .starts) (r .ends) j
 
 abbrev μ-loop : tie.MeasureT-loop
-μ-loop place cells r₀ j₀ r j = 8 - j
+μ-loop row r₀ j₀ r j = 8 - j
 
 loop-holds : tie.Need-loop-holds Inv-loop μ-loop
-loop-holds c = runs-none _ _ _ _ refl refl
+loop-holds c = runs-none _ _ _ refl refl
 
 mul-x : tie.Need-mul-x Inv-loop μ-loop
 mul-x c = search needs
-
-add-x : tie.Need-add-x Inv-loop μ-loop
-add-x c = search needs
-
-mul-x-2 : tie.Need-mul-x-2 Inv-loop μ-loop
-mul-x-2 c = search needs
 
 array-copy-out-x : tie.Need-array-copy-out-x Inv-loop μ-loop
 array-copy-out-x c = search needs
@@ -45,10 +39,10 @@ loop-less : tie.Need-loop-less Inv-loop μ-loop
 loop-less c = search needs
 
 loop-again : tie.Need-loop-again Inv-loop μ-loop
-loop-again c = runs-more _ _ _ _ _ (c .before .loop-test .taken) (c .before .before .loop .inv)
+loop-again c = runs-more _ _ _ _ (c .before .loop-test .taken) (c .before .before .loop .inv)
 
 returns : tie.Need-returns Inv-loop μ-loop
-returns c = λ s ss w. runs-all s ss _ _ _ _ _ w (c .before .before .pre) (c .loop-test .left) (c .before .loop .inv)
+returns c = λ cells place s ss v w. runs-all s ss cells _ place _ _ _ v w (c .loop-test .left) (c .before .loop .inv)
 
 pub runs-of-spec : {M : Type 1} → statement M
 runs-of-spec =
@@ -58,8 +52,6 @@ runs-of-spec =
     μ-loop
     loop-holds
     mul-x
-    add-x
-    mul-x-2
     array-copy-out-x
     mul-r
     element-write-r

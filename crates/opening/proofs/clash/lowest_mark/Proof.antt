@@ -8,33 +8,30 @@ use Rattle.model.specs.Sets.{upFrom, upTo}
 use Rattle.model.specs.Rule.{Cell, holds}
 use Rattle.model.specs.Opening.{lowest, isMark}
 use Rattle.event.specs.EventLayout.{bitNumber}
-use Rattle.event.specs.declared.sets.SetAt.{SetAt}
 use Rattle.dossier.specs.DossierLayout.{differBit}
-use Rattle.dossier.specs.DossierIndex.{CellsAre}
-use Rattle.dossier.proofs.CellLaws.{bits-next}
-use Rattle.opening.proofs.ClashLaws.{lowest-start, lowest-here, lowest-next, lowest-end, bit-set, bit-clear}
+use Rattle.opening.proofs.ClashLaws.{lowest-start, lowest-here, lowest-next, lowest-end, bit-set, bit-clear, bits-next}
 use Rattle.opening.proofs.clash.lowest_mark.Statement.{statement}
 use Rattle.opening.proofs.clash.lowest_mark.Tie as tie
 use Rattle.opening.proofs.clash.lowest_mark.Reads as reads
 use Rattle.opening.proofs.clash.lowest_mark.Lts as lts
 
 abbrev Inv-loop : tie.InvT-loop
-Inv-loop differ bits₀ k₀ bits k = (s : List ℕ) (cs : List Cell) (ats : List SetAt) → CellsAre s cs differ ats → (bits ≡ bitNumber (map differBit (drop k cs))) × (lowest (λ p. isMark (getD cs p (holds []))) (upTo 32) ≡ lowest (λ p. isMark (getD cs p (holds []))) (upFrom k (32 - k)))
+Inv-loop differ bits₀ k₀ bits k = (cs : List Cell) → differ ≡ bitNumber (map differBit cs) → (bits ≡ bitNumber (map differBit (drop k cs))) × (lowest (λ p. isMark (getD cs p (holds []))) (upTo 32) ≡ lowest (λ p. isMark (getD cs p (holds []))) (upFrom k (32 - k)))
 
 abbrev μ-loop : tie.MeasureT-loop
 μ-loop differ bits₀ k₀ bits k = 32 - k
 
 -- src/clash.rt:35:5
 loop-holds : tie.Need-loop-holds Inv-loop μ-loop
-loop-holds c = λ s cs ats v. (v .bits, lowest-start (λ p. isMark (getD cs p (holds []))))
+loop-holds c = λ cs v. (v, lowest-start (λ p. isMark (getD cs p (holds []))))
 
 -- src/clash.rt:37:13
 returns : tie.Need-returns Inv-loop μ-loop
 returns c =
-    λ s cs ats v.
-    let i = c .before .before .loop .inv s cs ats v in
+    λ cs v.
+    let i = c .before .before .loop .inv cs v in
     let h = c .before .loop-test .taken in
-    sym (i .1 ∙ lowest-here (λ p. isMark (getD cs p (holds []))) _ h (bit-set s cs _ ats v _ _ h (i .0) (c .if1 .taken)))
+    sym (i .1 ∙ lowest-here (λ p. isMark (getD cs p (holds []))) _ h (bit-set cs _ _ (i .0) (c .if1 .taken)))
 
 -- src/clash.rt:40:9
 add-k : tie.Need-add-k Inv-loop μ-loop
@@ -47,14 +44,14 @@ loop-less c = omega (arith, c .before .loop-test .taken)
 -- src/clash.rt:35:5
 loop-again : tie.Need-loop-again Inv-loop μ-loop
 loop-again c =
-    λ s cs ats v.
-    let i = c .before .before .loop .inv s cs ats v in
+    λ cs v.
+    let i = c .before .before .loop .inv cs v in
     let h = c .before .loop-test .taken in
-    (bits-next s cs _ ats v _ _ h (i .0), i .1 ∙ lowest-next (λ p. isMark (getD cs p (holds []))) _ h (bit-clear s cs _ ats v _ _ h (i .0) (c .if1 .left)))
+    (bits-next cs (c .before .before .loop .k) _ (i .0), i .1 ∙ lowest-next (λ p. isMark (getD cs p (holds []))) _ h (bit-clear cs _ _ (i .0) (c .if1 .left)))
 
 -- src/clash.rt:30:1
 returns-2 : tie.Need-returns-2 Inv-loop μ-loop
-returns-2 c = λ s cs ats v. sym (c .before .loop .inv s cs ats v .1 ∙ lowest-end (λ p. isMark (getD cs p (holds []))) _ (c .loop-test .left))
+returns-2 c = λ cs v. sym (c .before .loop .inv cs v .1 ∙ lowest-end (λ p. isMark (getD cs p (holds []))) _ (c .loop-test .left))
 
 pub lowest-mark-spec : {M : Type 1} → statement M
 lowest-mark-spec =
