@@ -1,5 +1,6 @@
 -- The laws of the call check an event.
 use mathlib.Core.Path.{_≡_, refl, sym, ap, ap₂, _∙_, subst}
+use mathlib.Core.Bool.{true}
 use mathlib.Core.Option.{Option, none, some}
 use mathlib.Core.List.{List, [], _∷_, _++_, map, flatten, append-nil}
 use Prim.Native.Nat.{ℕ, _+_, _-_, _≤_, _<_}
@@ -21,11 +22,13 @@ use Rattle.packed.proofs.WriteLaws.{wrote-between}
 use Rattle.ontology.specs.Table.{EventType, Table}
 use Rattle.ontology.specs.TableLayout.{tableOf}
 use Rattle.ontology.specs.Questions.{Asked, refused, accepted, _>>=_, ask, refuses, answer}
+use Rattle.ontology.specs.declared.types.TypeIndex.{TypeIndex}
 use Rattle.ontology.proofs.TableLaws.{TypeKept, table-type, place-in}
 use Rattle.event.specs.Event.{Event, setAt, view, versionOf, objectCount}
-use Rattle.event.specs.EventLayout.{narrow, wide, headBytes, presenceBit, bitNumber, setsBytes}
+use Rattle.event.specs.EventLayout.{narrow, wide, eventOf, headBytes, presenceBit, bitNumber, setsBytes}
 use Rattle.event.specs.EventQuestions.{Typed, eventAsked}
-use Rattle.event.specs.EventIndex.{eventQuestions}
+use Rattle.event.specs.EventIndex.{eventQuestions, EventIs, EventReads, counts}
+use Rattle.event.specs.declared.read.EventIndex.{EventIndex}
 use Rattle.event.specs.declared.ask.EventAsked.{EventAsked}
 use Rattle.event.proofs.EventLayoutLaws.{EventWritten, written-larger, presence-below}
 use Rattle.event.proofs.EventSizeLaws.{head-size, sets-size, each-within, event-short}
@@ -33,7 +36,7 @@ use Rattle.event.proofs.EventQuestionLaws.{EventAccepted, event-accepted, Event
 use Rattle.event.proofs.AskLaws.{Accepted}
 use Rattle.dossier.specs.DossierLayout.{differBit, snapshotBytes, dossierBytes}
 use Rattle.combining.specs.CheckCall.{eventDossier, checkAnswer, checkCall}
-use Rattle.combining.specs.CheckIndex.{loneBytes, Checkable, LoneRoom}
+use Rattle.combining.specs.CheckIndex.{loneBytes, Checkable, LoneRoom, KnownEvent}
 use Rattle.ontology.specs.Replies.{replies}
 use Rattle.ontology.specs.declared.replies.Reply.the-variants.{Done, Refused}
 
@@ -147,6 +150,26 @@ module _ (table event : List ℕ) (r : EventAsked) (a : Accepted narrow table ev
     event = a .e;
     read = a .event-is;
     room = subst (λ (v : ℕ). length (loneBytes (a .e) v) ≤ room) (sym q) (omega (arith, lone-short));
+  }
+
+-- an event that is known to be accepted is as one that was asked, once it is read
+module _ (table event : List ℕ) (t : TypeIndex) (k : KnownEvent table event t) (x : EventIndex) (w : EventReads (eventOf (counts 8 32) event) event x) where
+  abbrev pub asAsked : EventAsked
+  asAsked = record { number = 0; kind = t; event = x }
+
+  pub known-read : (x .ok ≡ true) × EventIs event (k .event .event) x
+  unfolding EventReads narrow
+  known-read =
+      let a = event-accepted narrow (k .types) event (k .event .type) (k .event .event) (k .asked) in
+      subst (λ (o : Option Event). EventReads o event x) (a .read) w
+
+  abbrev pub known-accepted : Accepted narrow table event asAsked
+  known-accepted = record {
+    type = k .event .type;
+    e = k .event .event;
+    is = ap (λ (m : Option Table). ask 2 m >>= λ ts. eventAsked narrow ts event) (k .is) ∙ k .asked;
+    type-is = k .typed;
+    event-is = known-read .1;
   }
 
 -- ---- the questions

@@ -2,15 +2,19 @@
 use Prim.Native.Nat.{ℕ, _-_, _^_, _≤_, _<_}
 use mathlib.Core.Path.{_≡_}
 use mathlib.Core.Bool.{true}
+use mathlib.Core.Option.{some}
 use mathlib.Core.List.{List, [], _∷_, _++_, map}
 use lib.ListN.{length}
 use Rattle.packed.specs.Packed.{number}
 use Rattle.values.specs.Decimal.{inDecimal}
-use Rattle.ontology.specs.Table.{EventType, isVersioned}
+use Rattle.ontology.specs.Table.{EventType, Table, isVersioned}
+use Rattle.ontology.specs.TableLayout.{tableOf}
+use Rattle.ontology.specs.Questions.{accepted}
 use Rattle.ontology.specs.TypeIndex.{TypeIs}
 use Rattle.ontology.specs.declared.types.TypeIndex.{TypeIndex}
 use Rattle.event.specs.Event.{Event, setAt, versionOf}
-use Rattle.event.specs.EventLayout.{headBytes, presenceBit, bitNumber, setsBytes}
+use Rattle.event.specs.EventLayout.{narrow, headBytes, presenceBit, bitNumber, setsBytes}
+use Rattle.event.specs.EventQuestions.{Typed, eventAsked}
 use Rattle.event.specs.EventIndex.{EventIs}
 use Rattle.event.specs.declared.read.EventIndex.{EventIndex}
 
@@ -35,3 +39,11 @@ pub record LoneRoom (bytes : List ℕ) (e : EventIndex) (version size : ℕ) : T
   pub event : Event
   pub read : EventIs bytes event e
   pub room : length (loneBytes event version) ≤ size
+
+-- questions 2 to 6 are answered yes, and t is the index of the event's type
+pub record KnownEvent (table bytes : List ℕ) (t : TypeIndex) : Type 0 where
+  pub types : Table
+  pub is : tableOf table ≡ some types
+  pub event : Typed
+  pub asked : eventAsked narrow types bytes ≡ accepted event
+  pub typed : TypeIs table (event .type) t

@@ -7,10 +7,11 @@ ghost use Rattle.values.specs.Decimal.{areDigits, numeral};
 ghost use Rattle.event.specs.Event.{Event, versionOf};
 ghost use Rattle.event.specs.EventIndex.{EventIs};
 ghost use Rattle.combining.specs.CheckCall.{checkCall};
-ghost use Rattle.combining.specs.CheckIndex.{Checkable, LoneRoom, loneBytes};
+ghost use Rattle.combining.specs.CheckIndex.{Checkable, KnownEvent, LoneRoom, loneBytes};
 ghost use Rattle.ontology.specs.Replies.{replies};
 use event::ask::ask_event;
 use event::read::EventIndex;
+use event::read::read_event;
 use event::sets::set_part;
 use event::sets::value_in;
 use ontology::replies::Reply;
@@ -76,5 +77,15 @@ pub fn check_event(table: &[u8], event: &[u8], out: &mut [u8]) -> Reply
     let kind = asked.kind;
     let x = asked.event;
     let version = version_of(table, event, kind, x);
+    Reply::Done(write_lone(event, x, version, out))
+}
+
+// The same of an event that is known to be accepted, with the type t.
+pub fn check_known(table: &[u8], event: &[u8], t: TypeIndex, out: &mut [u8]) -> Reply
+    requires { ⌜ KnownEvent (now table) (now event) t × (32768 ≤ length (now out)) ⌝ }
+    ensures { λ r. ⌜ replies r (now (out .exit)) ≡ checkCall (now (table .entry)) (now (event .entry)) (now (out .entry)) ⌝ }
+{
+    let x = read_event(event, 8, 32);
+    let version = version_of(table, event, t, x);
     Reply::Done(write_lone(event, x, version, out))
 }

@@ -2,12 +2,12 @@
 use mathlib.Core.Path.{_≡_, refl, sym, ap, ap₂, _∙_}
 use mathlib.Core.Logic.{⊎-elim}
 use mathlib.Core.Bool.{Bool, true, false, cond, not, _&&_, _||_}
-use mathlib.Core.Option.{Option, some}
+use mathlib.Core.Option.{Option, none, some}
 use mathlib.Core.List.{List, [], _∷_, map}
 use Prim.Native.Nat.{ℕ, zero, suc, _+_, _-_, _*_, _/_, _%_, _≤_, _<_}
 use native.Mathlib.Omega.{arith}
 use native.Mathlib.Numerals.{add-one}
-use lib.Dec.{leb, eqb}
+use lib.Dec.{ltb, leb, eqb}
 use lib.ListN.{length, drop, getD, getElem?, drop-of-length-le, length-map}
 use lib.Seq.{drop-cons}
 use borrow.Author.Tests.{le-leb, lt-leb}
@@ -24,7 +24,7 @@ use Rattle.ontology.specs.declared.types.TypeIndex.{TypeIndex}
 use Rattle.ontology.proofs.RunLaws.{no-element}
 use Rattle.event.specs.EventLayout.{bitNumber}
 use Rattle.event.specs.EventQuestions.{matchCount}
-use Rattle.event.specs.EventIndex.{SetsAre, noSet}
+use Rattle.event.specs.EventIndex.{SetsAre, noSet, PlaceIs}
 use Rattle.event.specs.declared.sets.SetAt.{SetAt}
 use Rattle.event.proofs.EventLayoutLaws.{low-bit, high-bits}
 use Rattle.dossier.specs.DossierLayout.{differBit}
@@ -95,25 +95,28 @@ elem (a ∷ l) (suc k) h = elem-more a l k (elem l k (omega arith))
 
 -- ---- a place
 
-module _ (s : List ℕ) (ty : EventType) (t : TypeIndex) (c : Cell) (marked : Bool) (count k : ℕ) (w : TypeIs s ty t) (v : CellIs c marked count) where
-  pub place-of : k < t .count → Elem (ty .properties) k
-  place-of h = elem (ty .properties) k (omega (arith, w .count))
+pub place-has : (s : List ℕ) (o : Option Property) (p : PropertyAt) (c : Cell) (named versioned : Bool) {r : Bool} → PlaceIs s o named p → named ≡ true → ((q : Property) → PropertyIs s q p → r ≡ cellFits versioned q c) → r ≡ placeFits versioned o c
+unfolding PlaceIs placeFits
+place-has s none p c named versioned w h k = let y : _≡_ {A = ℕ} 0 1 = cc in absurd (omega arith)
+place-has s (some q) p c named versioned w h k = k q (w .1)
 
-  pub place-has : (h : k < t .count) {r : Bool} → r ≡ cellFits (isVersioned ty) (place-of h .what) c → r ≡ placeFits (isVersioned ty) (getElem? (ty .properties) k) c
-  unfolding placeFits
-  place-has h e = e ∙ ap (λ (o : Option Property). placeFits (isVersioned ty) o c) (sym (place-of h .is))
+past : (s : List ℕ) (o : Option Property) (p : PropertyAt) (c : Cell) (named versioned : Bool) → PlaceIs s o named p → named ≡ false → placeFits versioned o c ≡ isVacant c
+unfolding PlaceIs placeFits
+past s none p c named versioned w h = refl
+past s (some q) p c named versioned w h = let y : _≡_ {A = ℕ} 0 1 = cc (w .0) in absurd (omega arith)
 
-  past : t .count ≤ k → placeFits (isVersioned ty) (getElem? (ty .properties) k) c ≡ isVacant c
-  unfolding placeFits
-  past h = ap (λ (o : Option Property). placeFits (isVersioned ty) o c) (no-element (ty .properties) k (omega (arith, w .count)))
-
-  pub place-marked : t .count ≤ k → marked ≡ true → false ≡ placeFits (isVersioned ty) (getElem? (ty .properties) k) c
+module _ (s : List ℕ) (o : Option Property) (p : PropertyAt) (c : Cell) (named versioned marked : Bool) (count : ℕ) (w : PlaceIs s o named p) (v : CellIs c marked count) (n : named ≡ false) where
+  pub place-marked : marked ≡ true → false ≡ placeFits versioned o c
   unfolding isVacant
-  place-marked h e = let m : isMark c ≡ true = sym (v .mark) ∙ e in sym (past h ∙ rw m)
+  place-marked e = let m : isMark c ≡ true = sym (v .mark) ∙ e in sym (past s o p c named versioned w n ∙ rw m)
 
-  pub place-empty : t .count ≤ k → marked ≡ false → eqb count 0 ≡ placeFits (isVersioned ty) (getElem? (ty .properties) k) c
+  pub place-empty : marked ≡ false → eqb count 0 ≡ placeFits versioned o c
   unfolding isVacant
-  place-empty h e = let m : isMark c ≡ false = sym (v .mark) ∙ e in sym (past h ∙ rw m (ap (λ (n : ℕ). eqb n 0) (sym (v .size))))
+  place-empty e = let m : isMark c ≡ false = sym (v .mark) ∙ e in sym (past s o p c named versioned w n ∙ rw m (ap (λ (n : ℕ). eqb n 0) (sym (v .size))))
+
+-- what is asked by the index of a type is what is asked by the type
+pub place-typed : (s : List ℕ) (ty : EventType) (t : TypeIndex) (o : Option Property) (c : Cell) {r : Bool} → TypeIs s ty t → r ≡ placeFits (ltb 0 (t .mark)) o c → r ≡ placeFits (isVersioned ty) o c
+place-typed s ty t o c w e = e ∙ ap (λ (n : ℕ). placeFits (ltb 0 n) o c) (w .mark)
 
 -- ---- the cells
 

@@ -9,7 +9,6 @@ use native.Mathlib.Omega.{arith}
 use native.Mathlib.Numerals.{add-one, sub-one}
 use lib.ListN.{length, take, drop, getD, set, length-append, length-drop, length-set, List·getD-append}
 use lib.Seq.{drop-cons, drop-drop, drop-length, getD-at, getD-set-same, getD-set-other, getD-take, length-take-le, take-suc-set}
-use borrow.Author.Tests.{le-leb, lt-leb}
 use borrow.Author.Count.{below-more}
 use Rattle.model.specs.Order.{Text, numbers, rising, three}
 use Rattle.model.proofs.OrderLaws.{less-of, less-cmp}
@@ -19,8 +18,10 @@ use Rattle.model.proofs.PartLaws.{map-append}
 use Rattle.packed.specs.Parse.{Parse, fail, got, Layout, andThen, _>>=_, found, foundIf, suchThat, times, whole}
 use Rattle.packed.specs.Packed.{readNumber, readText}
 use Rattle.packed.proofs.LayoutLaws.{lt-or-ge, times-was}
-use Rattle.packed.proofs.ReadLaws.{drop-next, NumberStops, to-end}
+use Rattle.packed.proofs.ReadLaws.{drop-next, to-end}
 use Rattle.values.specs.Spaces.{isWithin}
+use Rattle.ontology.specs.TypeIndex.{Got}
+use Rattle.ontology.proofs.FieldLaws.{got-bounds}
 use Rattle.ontology.proofs.RunLaws.{prepend, prepend-nil, prepend-one}
 use Rattle.event.specs.EventLayout.{isSource, readParents, bitNumber}
 use Rattle.event.specs.EventIndex.{HeadOf, readHead, HeadStops}
@@ -367,71 +368,52 @@ no-dossier s e = rw e
 pub no-head : (s : List ℕ) → readHead 32 s ≡ fail → dossierOf standard s ≡ none
 no-head s e = no-dossier s (head-first s ∙ rw e)
 
-within-not : (n : ℕ) → n ≡ 0 → isWithin 1 8 n ≡ false
-within-not n h = rw h
-
-within-large : (n : ℕ) → 8 < n → isWithin 1 8 n ≡ false
-within-large n h = rw (le-leb 1 n (omega arith), lt-leb n 8 h)
-
-within-so : (n : ℕ) → (n ≡ 0 → ⊥) → n ≤ 8 → isWithin 1 8 n ≡ true
-within-so n h k = rw (le-leb 1 n (omega (arith, h)), le-leb n 8 k)
-
 module _ (s : List ℕ) (x : HeadAt) (w : HeadStops (readHead 32 s) s x) where
   head-step : readDossier standard s ≡ readBody (w .what) (drop (x .parents .end) s)
   head-step = head-first s ∙ rw (w .is)
 
-  pub no-count : readNumber (drop (x .parents .end) s) ≡ fail → dossierOf standard s ≡ none
-  no-count e = no-dossier s (head-step ∙ rw e)
+  pub no-count : suchThat (isWithin 1 8) readNumber (drop (x .parents .end) s) ≡ fail → dossierOf standard s ≡ none
+  no-count e = no-dossier s (head-step ∙ ap (λ (p : Parse ℕ). andThen p (counted (w .what))) e)
 
-  module _ (n at : ℕ) (c : NumberStops s (x .parents .end) n at) where
-    count-step : readDossier standard s ≡ andThen (foundIf (isWithin 1 8 n) n (drop at s)) (counted (w .what))
-    count-step = head-step ∙ ap (λ (p : Parse ℕ). andThen (andThen p (λ m. foundIf (isWithin 1 8 m) m)) (counted (w .what))) (c .is)
+  module _ (n at : ℕ) (c : Got (suchThat (isWithin 1 8) readNumber (drop (x .parents .end) s)) s (x .parents .end) n at) (r : SnapshotsRead) (v : SnapshotsReads (times readSnapshot n (drop at s)) s r) where
+    times-all : readDossier standard s ≡ andThen (times readSnapshot n (drop at s)) (risen (w .what))
+    times-all = head-step ∙ ap (λ (p : Parse ℕ). andThen p (counted (w .what))) (c .is)
 
-    pub count-zero : n ≡ 0 → dossierOf standard s ≡ none
-    count-zero h = no-dossier s (count-step ∙ rw (within-not n h))
+    pub no-snapshots : r .ok ≡ false → dossierOf standard s ≡ none
+    no-snapshots h = no-dossier s (times-all ∙ rw (snapshots-refused (times readSnapshot n (drop at s)) s r v h))
 
-    pub count-large : 8 < n → dossierOf standard s ≡ none
-    count-large h = no-dossier s (count-step ∙ rw (within-large n h))
+    module _ (ok : r .ok ≡ true) where
+      these : Found (times readSnapshot n (drop at s)) s r
+      these = snapshots-found (times readSnapshot n (drop at s)) s r v ok
 
-    module _ (one : n ≡ 0 → ⊥) (few : n ≤ 8) (r : SnapshotsRead) (v : SnapshotsReads (times readSnapshot n (drop at s)) s r) where
-      times-all : readDossier standard s ≡ andThen (times readSnapshot n (drop at s)) (risen (w .what))
-      times-all = count-step ∙ rw (within-so n one few)
+      last-step : readDossier standard s ≡ risen (w .what) (these .what) (drop (r .next) s)
+      last-step = times-all ∙ rw (these .is)
 
-      pub no-snapshots : r .ok ≡ false → dossierOf standard s ≡ none
-      no-snapshots h = no-dossier s (times-all ∙ rw (snapshots-refused (times readSnapshot n (drop at s)) s r v h))
+      pub not-whole : (r .next ≡ length s → ⊥) → dossierOf standard s ≡ none
+      unfolding dossierOf
+      not-whole ne =
+          let l : r .next < length s = omega (arith, these .within, ne) in
+          ap whole last-step ∙ go (rising numbers (map (λ (s : Snapshot). s .version) (these .what))) (drop-next s (r .next) l)
+        where
+          go : (b : Bool) {y : ℕ} {t u : List ℕ} → t ≡ y ∷ u → whole (foundIf b (headed (w .what) (these .what)) t) ≡ none
+          go true e = rw e
+          go false e = refl
 
-      module _ (ok : r .ok ≡ true) where
-        these : Found (times readSnapshot n (drop at s)) s r
-        these = snapshots-found (times readSnapshot n (drop at s)) s r v ok
+      -- as many as were asked for
+      many : length (these .what) ≡ n
+      many = times-was readSnapshot snapshotBytes SnapshotWritten snapshot-was n (drop at s) (these .what) (drop (r .next) s) (these .is) .1
 
-        last-step : readDossier standard s ≡ risen (w .what) (these .what) (drop (r .next) s)
-        last-step = times-all ∙ rw (these .is)
+      rises : (b : Bool) → b ≡ rising numbers (take n (r .versions)) → rising numbers (map (λ (s : Snapshot). s .version) (these .what)) ≡ b
+      rises b e = ap (rising numbers) (sym (these .are .numbers) ∙ ap (λ (k : ℕ). take k (r .versions)) many) ∙ sym e
 
-        pub not-whole : (r .next ≡ length s → ⊥) → dossierOf standard s ≡ none
-        unfolding dossierOf
-        not-whole ne =
-            let l : r .next < length s = omega (arith, these .within, ne) in
-            ap whole last-step ∙ go (rising numbers (map (λ (s : Snapshot). s .version) (these .what))) (drop-next s (r .next) l)
-          where
-            go : (b : Bool) {y : ℕ} {t u : List ℕ} → t ≡ y ∷ u → whole (foundIf b (headed (w .what) (these .what)) t) ≡ none
-            go true e = rw e
-            go false e = refl
+      pub not-rising : false ≡ rising numbers (take n (r .versions)) → dossierOf standard s ≡ none
+      not-rising e = no-dossier s (last-step ∙ rw (rises false e))
 
-        -- as many as were asked for
-        many : length (these .what) ≡ n
-        many = times-was readSnapshot snapshotBytes SnapshotWritten snapshot-was n (drop at s) (these .what) (drop (r .next) s) (these .is) .1
-
-        rises : (b : Bool) → b ≡ rising numbers (take n (r .versions)) → rising numbers (map (λ (s : Snapshot). s .version) (these .what)) ≡ b
-        rises b e = ap (rising numbers) (sym (these .are .numbers) ∙ ap (λ (k : ℕ). take k (r .versions)) many) ∙ sym e
-
-        pub not-rising : false ≡ rising numbers (take n (r .versions)) → dossierOf standard s ≡ none
-        not-rising e = no-dossier s (last-step ∙ rw (rises false e))
-
-        pub dossier-found : true ≡ rising numbers (take n (r .versions)) → r .next ≡ length s → DossierReads (dossierOf standard s) s (record { ok = true; head = x; count = n; starts = r .starts; ends = r .ends; versions = r .versions; differs = r .differs; first = r .first })
-        unfolding DossierReads dossierOf
-        dossier-found e z =
-            let g : readDossier standard s ≡ got (headed (w .what) (these .what)) [] =
-            last-step
-            ∙ ap (λ (b : Bool). foundIf b (headed (w .what) (these .what)) (drop (r .next) s)) (rises true e)
-            ∙ ap (got (headed (w .what) (these .what))) (ap (λ (k : ℕ). drop k s) z ∙ drop-length s) in
-            rw g (refl, record { head = w .stands; count = sym many; one = omega (arith, one); few = few; snapshots = these .are; differs = these .differs; first = these .first })
+      pub dossier-found : true ≡ rising numbers (take n (r .versions)) → r .next ≡ length s → DossierReads (dossierOf standard s) s (record { ok = true; head = x; count = n; starts = r .starts; ends = r .ends; versions = r .versions; differs = r .differs; first = r .first })
+      unfolding DossierReads dossierOf
+      dossier-found e z =
+          let g : readDossier standard s ≡ got (headed (w .what) (these .what)) [] =
+          last-step
+          ∙ ap (λ (b : Bool). foundIf b (headed (w .what) (these .what)) (drop (r .next) s)) (rises true e)
+          ∙ ap (got (headed (w .what) (these .what))) (ap (λ (k : ℕ). drop k s) z ∙ drop-length s) in
+          rw g (refl, record { head = w .stands; count = sym many; one = got-bounds 1 8 c .0; few = got-bounds 1 8 c .1; snapshots = these .are; differs = these .differs; first = these .first })

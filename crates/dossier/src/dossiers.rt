@@ -15,8 +15,8 @@ use event::read::HeadRead;
 use event::read::PartAt;
 use event::read::read_head;
 use event::sets::SetAt;
+use ontology::fields::read_within;
 use packed::read::NumberAt;
-use packed::read::read_number;
 
 // Where each of the snapshots stands, its version and its differ number, the index of the first, and the position after the last.
 struct SnapshotsRead {
@@ -129,15 +129,9 @@ pub fn read_dossier(s: &[u8]) -> DossierIndex
         return no_dossier();
     };
     let parents = head.parents;
-    let NumberAt::Number(number, at) = read_number(s, parents.end) else {
+    let NumberAt::Number(number, at) = read_within(s, parents.end, 1, 8) else {
         return no_dossier();
     };
-    if number == 0 {
-        return no_dossier();
-    }
-    if 8 < number {
-        return no_dossier();
-    }
     let count = number as usize;
     let all = read_snapshots(s, at, count);
     if !all.ok {

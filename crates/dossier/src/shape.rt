@@ -1,8 +1,8 @@
 ghost use Prim.Native.Nat.{ℕ, _-_, _≤_};
 ghost use mathlib.Core.Path.{_≡_};
 ghost use mathlib.Core.Bool.{true, false, cond, not, _&&_, _||_};
+ghost use mathlib.Core.Option.{Option};
 ghost use mathlib.Core.List.{List, [], _∷_};
-ghost use lib.ListN.{getElem?};
 ghost use lib.Dec.{leb, eqb};
 ghost use Rattle.model.specs.Order.{Text, texts, sets, lists, equal};
 ghost use Rattle.model.specs.Rule.{Cell, Snapshot};
@@ -11,7 +11,7 @@ ghost use Rattle.values.specs.Decimal.{inDecimal};
 ghost use Rattle.ontology.specs.Table.{Property, EventType, isMatch, isVersioned};
 ghost use Rattle.ontology.specs.TypeIndex.{PropertyIs, TypeIs};
 ghost use Rattle.event.specs.EventQuestions.{matchCount};
-ghost use Rattle.event.specs.EventIndex.{SetIs, SetsAre};
+ghost use Rattle.event.specs.EventIndex.{SetIs, SetsAre, PlaceIs};
 ghost use Rattle.dossier.specs.DossierQuestions.{eachCell, isVacant, holdsVersion, matchSets};
 ghost use Rattle.dossier.specs.DossierIndex.{CellIs, CellsAre, cellFits, placeFits, snapshotFits, versionFits, SnapshotIs};
 use crate::snapshots::SnapshotIndex;
@@ -90,14 +90,12 @@ fn cell_fits(p: PropertyAt, versioned: bool, marked: bool, count: usize) -> bool
     }
 }
 
-// The same of a place. Where there is no property the cell is empty.
-fn place_fits(t: TypeIndex, k: usize, marked: bool, count: usize) -> bool
-    requires { ⌜ t .count ≤ 32 ⌝ }
-    ensures { λ r. ⌜ ((s : List ℕ) (ty : EventType) (c : Cell) → TypeIs s ty t → CellIs c marked count → r ≡ placeFits (isVersioned ty) (getElem? (ty .properties) k) c) ⌝ }
+// The same of a place, which `named` says has a property. Where there is none the cell is empty.
+fn place_fits(p: PropertyAt, named: bool, versioned: bool, marked: bool, count: usize) -> bool
+    ensures { λ r. ⌜ ((s : List ℕ) (o : Option Property) (c : Cell) → PlaceIs s o named p → CellIs c marked count → r ≡ placeFits versioned o c) ⌝ }
 {
-    if k < t.count {
-        let p = t.properties[k];
-        return cell_fits(p, 0 < t.mark, marked, count);
+    if named {
+        return cell_fits(p, versioned, marked, count);
     }
     if marked {
         return false;
@@ -112,8 +110,9 @@ fn cells_fit(t: TypeIndex, differ: u64, sets: [SetAt; 32]) -> bool
     let mut bits = differ;
     let mut k: usize = 0;
     while k < 32 {
+        let p = t.properties[k];
         let x = sets[k];
-        if !place_fits(t, k, bits % 2 == 1, x.count) {
+        if !place_fits(p, k < t.count, 0 < t.mark, bits % 2 == 1, x.count) {
             return false;
         }
         bits = bits / 2;

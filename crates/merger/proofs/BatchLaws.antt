@@ -4,7 +4,7 @@ use mathlib.Core.Logic.{⊎-elim}
 use mathlib.Core.Bool.{Bool, true, false, cond, _&&_, and-eq-true-iff}
 use mathlib.Core.Option.{Option, none, some}
 use mathlib.Core.List.{List, [], _∷_, _++_, map, List·Memᴰ, List·Memᴰ·head, List·Memᴰ·tail, List·Memᴰ·cases-cons, List·Memᴰ·not-nil, List·Memᴰ·eq-of-singleton, Memᴰ·append-left, Memᴰ·append-right}
-use Prim.Native.Nat.{ℕ, zero, suc, _+_, _-_, _≤_}
+use Prim.Native.Nat.{ℕ, zero, suc, _+_, _-_, _≤_, _<_}
 use native.Mathlib.Omega.{arith}
 use native.Mathlib.Numerals.{sub-one}
 use lib.ListN.{length, take, drop, getD, take-append-drop, length-append}
@@ -41,6 +41,7 @@ use Rattle.dossier.specs.DossierLayout.{Headed, dossierBytes}
 use Rattle.dossier.specs.DossierQuestions.{TypedDossier, dossierAsked, dossiersAgree, matchSets}
 use Rattle.dossier.proofs.DossierQuestionLaws.{match-sets, agree-exact}
 use Rattle.combining.specs.CheckCall.{eventDossier, checkAnswer, checkCall}
+use Rattle.combining.specs.CheckIndex.{KnownEvent}
 use Rattle.combining.specs.CombineIndex as combining
 use Rattle.combining.specs.CombineCall.{headedAs, combined, combineAnswer, combineCall}
 use Rattle.merger.specs.Batch.{AskedAt, refusedAt, accepted, _>>=_, _>>_, at, eventsAsked, eventsAgree, agreeWith, batchOf, batchDossier, together, batchAsked, batchGiven, Rooms, haveRoom, batchAnswer, batchCall}
@@ -384,6 +385,15 @@ module _ (table : List ℕ) (ts : Table) (isTable : tableOf table ≡ some ts) (
       let e : questions.accepted (w .first) ≡ questions.accepted (typed (getD ss 0 [])) = sym (w .taken) ∙ last-is 1 (omega arith) l .taken in
       subst (λ (y : EventType). TypeIs table y x) (ap (λ (a : Typed). a .type) (accepted-same e)) (w .typed)
 
+  pub nth-known : (n : ℕ) (s : List ℕ) (x : TypeIndex) → 1 ≤ n → n ≤ length ss → s ≡ getD ss (n - 1) [] → FirstTyped table ts ss x → KnownEvent table s x
+  nth-known n s x h l q w = record {
+    types = ts;
+    is = isTable;
+    event = typed (getD ss (n - 1) []);
+    asked = ap (eventAsked narrow ts) q ∙ last-is n h l .taken;
+    typed = first-type x (omega arith) w;
+  }
+
   both-known : (es fs : List (List ℕ)) (x : TypeIndex) → Has es → Has fs → Each S es → Each S fs →
       fits standard (byteView t) (rules es) ≡ true → fits standard (byteView t) (rules fs) ≡ true → TypeIs table t x → combining.Known table (bytes es) (bytes fs) x
   unfolding dossiersAgree
@@ -474,6 +484,13 @@ module _ (table : List ℕ) (ts : Table) (isTable : tableOf table ≡ some ts) (
 module _ (table batch : List ℕ) (x : BatchIndex) (t : TypeIndex) (n : ℕ) (w : FirstOf table batch x t n) where
   pub fewer : FirstOf table batch x t (n - 1)
   fewer = record { types = w .types; events = w .events; agreed = w .agreed; typed = w .typed; within = omega (arith, w .within) }
+
+  -- the i-th event was accepted, with the type t
+  pub event-known : (i : ℕ) (s : List ℕ) → 1 ≤ i → i ≤ n → ((ss : List (List ℕ)) → BatchIs batch ss x → i - 1 < length ss → s ≡ getD ss (i - 1) []) → KnownEvent table s t
+  event-known i s h l e =
+      let g = w .agreed in
+      let m : i ≤ length (w .events) = omega (arith, w .within) in
+      nth-known table (w .types) (g .isTable) (w .events) (known (w .types) (w .events) (g .agreed)) i s t h m (e (w .events) (g .isBatch) (omega arith)) (w .typed)
 
   -- those before it are combined
   pub last-of : (m : ℕ) (after old : List ℕ) (r : reply.Reply) → 2 ≤ n →

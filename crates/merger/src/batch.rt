@@ -13,7 +13,7 @@ use crate::asked::ask_events;
 use crate::frame::BatchIndex;
 use crate::frame::event_part;
 use crate::frame::read_batch;
-use combining::check::check_event;
+use combining::check::check_known;
 use combining::combine::combine_known;
 use ontology::replies::Reply;
 use ontology::tables::TableReply;
@@ -26,7 +26,7 @@ pub enum BatchReply {
     Refused(u8, usize),
 }
 
-// The n-th event added to the dossier of those before it, the first `size` bytes of `sofar`: the dossier of all is the answer. Of both dossiers, which the batch made itself, questions 2 to 7 need not be asked.
+// The n-th event added to the dossier of those before it, the first `size` bytes of `sofar`: the dossier of all is the answer. Of the event, which was accepted, and of both dossiers, which the batch made itself, no question before the last need be asked again.
 fn add_last(
     table: &[u8],
     batch: &[u8],
@@ -44,7 +44,7 @@ fn add_last(
     ensures within { λ r. ⌜ DoneWithin r (now (out .exit)) ⌝ }
     ensures added { λ r. ⌜ ((ts : Table) (ss : List (List ℕ)) → Agreed (now (table .entry)) (now (batch .entry)) x ts ss → 2 ≤ n → n ≤ length ss → combinedAnswer ts (take (n - 1) ss) ≡ gives (take size (now (sofar .entry))) → replies r (now (out .exit)) ≡ outcome (combinedAnswer ts (take n ss)) (now (out .entry))) ⌝ }
 {
-    let added = check_event(table, event_part(batch, x, n - 1), lone);
+    let added = check_known(table, event_part(batch, x, n - 1), t, lone);
     let Reply::Done(m) = added else {
         return added;
     };
@@ -69,7 +69,7 @@ fn combine_first(
     ensures first { λ r. ⌜ ((ts : Table) (ss : List (List ℕ)) → Agreed (now (table .entry)) (now (batch .entry)) x ts ss → n ≤ length ss → dossierReturned (replied r) (now (a .exit)) ≡ returned (outcome (combinedAnswer ts (take n ss)) (now (a .entry)))) ⌝ }
 {
     if n <= 1 {
-        return check_event(table, event_part(batch, x, 0), a);
+        return check_known(table, event_part(batch, x, 0), t, a);
     }
     let others = combine_first(table, batch, x, t, n - 1, b, c, a);
     let Reply::Done(size) = others else {
@@ -96,7 +96,7 @@ fn combine_all(
 {
     let n = x.count;
     if n <= 1 {
-        return check_event(table, event_part(batch, x, 0), out);
+        return check_known(table, event_part(batch, x, 0), t, out);
     }
     let others = combine_first(table, batch, x, t, n - 1, a, b, c);
     let Reply::Done(size) = others else {

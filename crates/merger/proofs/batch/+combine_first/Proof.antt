@@ -5,14 +5,14 @@ use Rattle.ontology.specs.Questions.{Outcome}
 use lib.ListN.{take}
 use Rattle.merger.specs.BatchIndex.{combinedAnswer}
 use Rattle.merger.specs.Demand3.{returned}
-use Rattle.merger.proofs.BatchLaws.{known, any-buffer, fewer, last-of, check-one, first-done, stopped, check-within, done-within, refused-within}
+use Rattle.merger.proofs.BatchLaws.{known, event-known, any-buffer, fewer, last-of, check-one, first-done, stopped, check-within, done-within, refused-within}
 use Prim.Native.Nat.{ℕ, _-_, _<_}
 use borrow.Fn.Kinds.{In}
 use borrow.Fn.PlainCycle.{Measures, is, falls, and}
 use Rattle.merger.proofs.batch.combine_first.Reads as combine-first
 use Rattle.merger.proofs.batch.combine_first.Kinds as combine-first-kinds
 use Rattle.merger.proofs.batch.+combine_first.Lts-combine_first as combine-first-lts
-use Rattle.combining.proofs.check.check_event.Reads as check-event-reads
+use Rattle.combining.proofs.check.check_known.Reads as check-known-reads
 use Rattle.merger.proofs.batch.add_last.Reads as add-last-reads
 use Rattle.merger.proofs.frame.event_part.Reads as event-part-reads
 use Rattle.merger.proofs.batch.+combine_first.{statement}
@@ -38,8 +38,8 @@ abbrev claims : ℕ → combine-first-lts.Claims
 claims t = (
   event-part-reads.Asked,
   event-part-reads.Learnt,
-  check-event-reads.Asked,
-  check-event-reads.Learnt,
+  check-known-reads.Asked,
+  check-known-reads.Learnt,
   combine-first-below t,
   combine-first.Post,
   add-last-reads.Asked,
@@ -51,8 +51,10 @@ combine-first-event-part-requires : (t : ℕ) → combine-first-lts.Need-event-p
 combine-first-event-part-requires t c κs = search needs
 
 -- src/batch.rt:67:9
-combine-first-check-event-requires : (t : ℕ) → combine-first-lts.Need-check-event-requires (claims t) (combine-first-at t) combine-first.Post
-combine-first-check-event-requires t c κs = search needs
+combine-first-check-known-requires : (t : ℕ) → combine-first-lts.Need-check-known-requires (claims t) (combine-first-at t) combine-first.Post
+combine-first-check-known-requires t c κs =
+    let p = c .before .before .before .before .before .before .before .before .pre .1 in
+    (event-known _ _ _ _ _ (p .1 .1) 1 _ (omega arith) (p .0 .0) (c .before .event-part .ensures), p .1 .0 .0)
 
 -- src/batch.rt:67:9
 combine-first-same-length : (t : ℕ) → combine-first-lts.Need-same-length (claims t) (combine-first-at t) combine-first.Post
@@ -61,11 +63,11 @@ combine-first-same-length t c = search needs
 -- src/batch.rt:67:9
 combine-first-returns : (t : ℕ) → combine-first-lts.Need-returns (claims t) (combine-first-at t) combine-first.Post
 combine-first-returns t c = (
-  check-within _ _ _ _ _ (c .before .before .check-event .ensures),
+  check-within _ _ _ _ _ (c .before .before .check-known .ensures),
   λ ts ss g l.
       ap (λ (o : Outcome). returned o)
-      (check-one _ ts (g .isTable) ss (known ts ss (g .agreed)) (c .before .before .before .before .before .before .before .before .before .before .before .args .n) _ (c .before .before .before .before .before .before .before .before .before .before .before .args .a .now) (c .before .before .check-event .last .1 .1 .0) (c .before .before .check-event .result) (omega (arith, c .before .before .before .before .before .if1 .taken, c .before .before .before .before .before .before .before .before .before .before .before .pre .1 .0 .0)) (omega (arith, l, c .before .before .before .before .before .before .before .before .before .before .before .pre .1 .0 .0)) (c .before .before .before .before .before .before .before .before .before .before .before .pre .1 .1 .0 .0)
-      (c .before .before .before .before .event-part .ensures ss (g .isBatch) (omega (arith, l, c .before .before .before .before .before .before .before .before .before .before .before .pre .1 .0 .0))) (c .before .before .check-event .ensures)),
+      (check-one _ ts (g .isTable) ss (known ts ss (g .agreed)) (c .before .before .before .before .before .before .before .before .before .before .before .args .n) _ (c .before .before .before .before .before .before .before .before .before .before .before .args .a .now) (c .before .before .check-known .last .1 .1 .1 .0) (c .before .before .check-known .result) (omega (arith, c .before .before .before .before .before .if1 .taken, c .before .before .before .before .before .before .before .before .before .before .before .pre .1 .0 .0)) (omega (arith, l, c .before .before .before .before .before .before .before .before .before .before .before .pre .1 .0 .0)) (c .before .before .before .before .before .before .before .before .before .before .before .pre .1 .1 .0 .0)
+      (c .before .before .before .before .event-part .ensures ss (g .isBatch) (omega (arith, l, c .before .before .before .before .before .before .before .before .before .before .before .pre .1 .0 .0))) (c .before .before .check-known .ensures)),
 )
 
 -- src/batch.rt:69:49
@@ -150,7 +152,7 @@ pub +combine-first-spec : {M : Type 1} → statement M
     (combine-first-at t)
     combine-first.Post
     (combine-first-event-part-requires t)
-    (combine-first-check-event-requires t)
+    (combine-first-check-known-requires t)
     (combine-first-same-length t)
     (combine-first-returns t)
     (combine-first-sub-combine-first t)

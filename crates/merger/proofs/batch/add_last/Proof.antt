@@ -1,12 +1,12 @@
 use borrow.Author.Needs.{needs}
 use mathlib.Core.Path.{_∙_}
 use native.Mathlib.Omega.{arith}
-use Rattle.merger.proofs.BatchLaws.{known, never-refused, last-known, add-next, check-within, combine-within, done-within, refused-within, taken-count}
+use Rattle.merger.proofs.BatchLaws.{known, event-known, never-refused, last-known, add-next, check-within, combine-within, done-within, refused-within, taken-count}
 use Rattle.merger.proofs.batch.add_last.Statement.{statement}
 use Rattle.merger.proofs.batch.add_last.Tie as tie
 use Rattle.merger.proofs.batch.add_last.Reads as reads
 use Rattle.merger.proofs.batch.add_last.Lts as lts
-use Rattle.combining.proofs.check.check_event.Reads as check-event-reads
+use Rattle.combining.proofs.check.check_known.Reads as check-known-reads
 use Rattle.combining.proofs.combine.combine_known.Reads as combine-known-reads
 use Rattle.merger.proofs.frame.event_part.Reads as event-part-reads
 
@@ -19,8 +19,10 @@ event-part-requires : tie.Need-event-part-requires
 event-part-requires c κs = search needs
 
 -- src/batch.rt:44:9
-check-event-requires : tie.Need-check-event-requires
-check-event-requires c κs = search needs
+check-known-requires : tie.Need-check-known-requires
+check-known-requires c κs =
+    let p = c .before .before .before .before .before .before .before .pre in
+    (event-known _ _ _ _ _ (p .1 .1 .all) (c .before .before .before .before .before .before .before .args .n) _ (p .0 .0) (omega arith) (c .before .event-part .ensures), p .1 .0 .0)
 
 -- src/batch.rt:45:21
 enum-known-added : tie.Need-enum-known-added
@@ -40,7 +42,7 @@ returns c = (
   refused-within _ _ _ (c .enum-told .given .1),
   λ ts ss g h l e.
       absurd (never-refused _ ts (g .isTable) ss (known ts ss (g .agreed)) (c .before .before .before .before .before .before .before .before .before .before .before .before .args .n) _ _ _ _ _ (omega (arith, h)) l (c .before .before .before .before .before .before .before .before .before .before .before .before .pre .1 .0 .0)
-      (c .before .before .before .before .before .before .event-part .ensures ss (g .isBatch) (omega (arith, h, l))) (c .before .before .before .before .check-event .ensures) (c .enum-told .given .1)),
+      (c .before .before .before .before .before .before .event-part .ensures ss (g .isBatch) (omega (arith, h, l))) (c .before .before .before .before .check-known .ensures) (c .enum-told .given .1)),
 )
 
 -- src/batch.rt:48:20
@@ -49,11 +51,11 @@ slice-aggregate-combine-known c = taken-count (c .before .before .before .before
 
 -- src/batch.rt:48:36
 slice-reshare-prefix-combine-known : tie.Need-slice-reshare-prefix-combine-known
-slice-reshare-prefix-combine-known c = done-within (c .before .before .before .before .before .before .check-event .result) (c .before .before .before .before .before .before .check-event .last .1 .1 .0) (c .before .before .added .given .0 .0) (check-within _ _ _ _ _ (c .before .before .before .before .before .before .check-event .ensures)) (c .before .before .added .given .1)
+slice-reshare-prefix-combine-known c = done-within (c .before .before .before .before .before .before .check-known .result) (c .before .before .before .before .before .before .check-known .last .1 .1 .1 .0) (c .before .before .added .given .0 .0) (check-within _ _ _ _ _ (c .before .before .before .before .before .before .check-known .ensures)) (c .before .before .added .given .1)
 
 -- src/batch.rt:48:36
 slice-aggregate-combine-known-2 : tie.Need-slice-aggregate-combine-known-2
-slice-aggregate-combine-known-2 c = taken-count (c .before .before .before .added .given .0 .0) (c .before .before .before .before .before .before .before .check-event .last .1 .1 .0) (done-within (c .before .before .before .before .before .before .before .check-event .result) (c .before .before .before .before .before .before .before .check-event .last .1 .1 .0) (c .before .before .before .added .given .0 .0) (check-within _ _ _ _ _ (c .before .before .before .before .before .before .before .check-event .ensures)) (c .before .before .before .added .given .1))
+slice-aggregate-combine-known-2 c = taken-count (c .before .before .before .added .given .0 .0) (c .before .before .before .before .before .before .before .check-known .last .1 .1 .1 .0) (done-within (c .before .before .before .before .before .before .before .check-known .result) (c .before .before .before .before .before .before .before .check-known .last .1 .1 .1 .0) (c .before .before .before .added .given .0 .0) (check-within _ _ _ _ _ (c .before .before .before .before .before .before .before .check-known .ensures)) (c .before .before .before .added .given .1))
 
 -- src/batch.rt:48:5
 combine-known-requires : tie.Need-combine-known-requires
@@ -61,8 +63,8 @@ combine-known-requires c κs =
     let a = c .before .before .before .before .before .before .before .before .before .before .before .before .before .before .before .before .args in
     let w = c .before .before .before .before .before .before .before .before .before .before .before .before .before .before .before .before .pre .1 .1 in
     let g = w .all .agreed in (
-      last-known _ (w .all .types) (g .isTable) (w .all .events) (known (w .all .types) (w .all .events) (g .agreed)) (a .n) (a .size) (c .before .before .before .before .added .given .0 .0) _ (a .sofar .now) (a .lone .now) (c .before .before .before .before .before .before .before .before .check-event .last .1 .1 .0) (c .before .before .before .before .before .before .before .before .check-event .result) (w .more) (w .all .within) (c .before .before .before .before .before .before .before .before .before .before .before .before .before .before .before .before .pre .1 .0 .0)
-          (c .before .before .before .before .before .before .before .before .before .before .event-part .ensures (w .all .events) (g .isBatch) (omega (arith, w .more, w .all .within))) (w .before) (c .before .before .before .before .before .before .before .before .check-event .ensures) (c .before .before .before .before .added .given .1) (a .t) (w .all .typed),
+      last-known _ (w .all .types) (g .isTable) (w .all .events) (known (w .all .types) (w .all .events) (g .agreed)) (a .n) (a .size) (c .before .before .before .before .added .given .0 .0) _ (a .sofar .now) (a .lone .now) (c .before .before .before .before .before .before .before .before .check-known .last .1 .1 .1 .0) (c .before .before .before .before .before .before .before .before .check-known .result) (w .more) (w .all .within) (c .before .before .before .before .before .before .before .before .before .before .before .before .before .before .before .before .pre .1 .0 .0)
+          (c .before .before .before .before .before .before .before .before .before .before .event-part .ensures (w .all .events) (g .isBatch) (omega (arith, w .more, w .all .within))) (w .before) (c .before .before .before .before .before .before .before .before .check-known .ensures) (c .before .before .before .before .added .given .1) (a .t) (w .all .typed),
       c .before .before .before .before .before .before .before .before .before .before .before .before .before .before .before .before .pre .1 .0 .1,
     )
 
@@ -80,8 +82,8 @@ returns-2 c = (
   combine-within _ _ _ _ _ _ (c .before .before .combine-known .ensures),
   λ ts ss g h l e.
       c .before .before .combine-known .ensures
-      ∙ add-next _ ts (g .isTable) ss (known ts ss (g .agreed)) (c .before .before .before .before .before .before .before .before .before .before .before .before .before .before .before .before .before .before .before .args .n) (c .before .before .before .before .before .before .before .before .before .before .before .before .before .before .before .before .before .before .before .args .size) (c .before .before .before .before .before .before .before .added .given .0 .0) _ (c .before .before .before .before .before .before .before .before .before .before .before .before .before .before .before .before .before .before .before .args .sofar .now) (c .before .before .before .before .before .before .before .before .before .before .before .before .before .before .before .before .before .before .before .args .lone .now) (c .before .before .before .before .before .before .before .before .before .before .before .check-event .last .1 .1 .0) (c .before .before .before .before .before .before .before .before .before .before .before .check-event .result) h l (c .before .before .before .before .before .before .before .before .before .before .before .before .before .before .before .before .before .before .before .pre .1 .0 .0)
-      (c .before .before .before .before .before .before .before .before .before .before .before .before .before .event-part .ensures ss (g .isBatch) (omega (arith, h, l))) e (c .before .before .before .before .before .before .before .before .before .before .before .check-event .ensures) (c .before .before .before .before .before .before .before .added .given .1) (c .before .before .before .before .before .before .before .before .before .before .before .before .before .before .before .before .before .before .before .args .out .now) (c .before .before .before .before .before .before .before .before .before .before .before .before .before .before .before .before .before .before .before .pre .1 .0 .1),
+      ∙ add-next _ ts (g .isTable) ss (known ts ss (g .agreed)) (c .before .before .before .before .before .before .before .before .before .before .before .before .before .before .before .before .before .before .before .args .n) (c .before .before .before .before .before .before .before .before .before .before .before .before .before .before .before .before .before .before .before .args .size) (c .before .before .before .before .before .before .before .added .given .0 .0) _ (c .before .before .before .before .before .before .before .before .before .before .before .before .before .before .before .before .before .before .before .args .sofar .now) (c .before .before .before .before .before .before .before .before .before .before .before .before .before .before .before .before .before .before .before .args .lone .now) (c .before .before .before .before .before .before .before .before .before .before .before .check-known .last .1 .1 .1 .0) (c .before .before .before .before .before .before .before .before .before .before .before .check-known .result) h l (c .before .before .before .before .before .before .before .before .before .before .before .before .before .before .before .before .before .before .before .pre .1 .0 .0)
+      (c .before .before .before .before .before .before .before .before .before .before .before .before .before .event-part .ensures ss (g .isBatch) (omega (arith, h, l))) e (c .before .before .before .before .before .before .before .before .before .before .before .check-known .ensures) (c .before .before .before .before .before .before .before .added .given .1) (c .before .before .before .before .before .before .before .before .before .before .before .before .before .before .before .before .before .before .before .args .out .now) (c .before .before .before .before .before .before .before .before .before .before .before .before .before .before .before .before .before .before .before .pre .1 .0 .1),
 )
 
 pub add-last-spec : {M : Type 1} → statement M
@@ -90,7 +92,7 @@ add-last-spec =
     (tie.spec
     sub-event-part
     event-part-requires
-    check-event-requires
+    check-known-requires
     enum-known-added
     enum-told
     same-length

@@ -2,12 +2,12 @@ use borrow.Author.Needs.{needs}
 use mathlib.Core.Path.{_∙_}
 use Prim.Native.Nat.{_-_}
 use native.Mathlib.Omega.{arith}
-use Rattle.merger.proofs.BatchLaws.{known, check-one, first-done, fewer, last-of, stopped-exact, done-within, all-taken}
+use Rattle.merger.proofs.BatchLaws.{known, event-known, check-one, first-done, fewer, last-of, stopped-exact, done-within, all-taken}
 use Rattle.merger.proofs.batch.combine_all.Statement.{statement}
 use Rattle.merger.proofs.batch.combine_all.Tie as tie
 use Rattle.merger.proofs.batch.combine_all.Reads as reads
 use Rattle.merger.proofs.batch.combine_all.Lts as lts
-use Rattle.combining.proofs.check.check_event.Reads as check-event-reads
+use Rattle.combining.proofs.check.check_known.Reads as check-known-reads
 use Rattle.merger.proofs.batch.add_last.Reads as add-last-reads
 use Rattle.merger.proofs.batch.combine_first.Reads as combine-first-reads
 use Rattle.merger.proofs.frame.event_part.Reads as event-part-reads
@@ -17,8 +17,10 @@ event-part-requires : tie.Need-event-part-requires
 event-part-requires c κs = search needs
 
 -- src/batch.rt:92:9
-check-event-requires : tie.Need-check-event-requires
-check-event-requires c κs = search needs
+check-known-requires : tie.Need-check-known-requires
+check-known-requires c κs =
+    let p = c .before .before .before .before .before .before .before .before .before .pre in
+    (event-known _ _ _ _ _ (p .1 .1) 1 _ (omega arith) (omega (arith, p .1 .1 .agreed .isBatch .one)) (c .before .event-part .ensures), p .0 .1)
 
 -- src/batch.rt:92:9
 same-length : tie.Need-same-length
@@ -28,8 +30,8 @@ same-length c = search needs
 returns : tie.Need-returns
 returns c =
     λ ts ss g.
-    check-one _ ts (g .isTable) ss (known ts ss (g .agreed)) (c .before .before .before .before .before .before .before .before .before .before .before .before .args .x .count) _ (c .before .before .before .before .before .before .before .before .before .before .before .before .args .out .now) (c .before .before .check-event .last .1 .1 .0) (c .before .before .check-event .result) (omega (arith, c .before .before .before .before .before .if1 .taken, g .isBatch .one)) (omega (arith, g .isBatch .one, g .isBatch .count)) (c .before .before .before .before .before .before .before .before .before .before .before .before .pre .0 .1)
-    (c .before .before .before .before .event-part .ensures ss (g .isBatch) (omega (arith, g .isBatch .one, g .isBatch .count))) (c .before .before .check-event .ensures)
+    check-one _ ts (g .isTable) ss (known ts ss (g .agreed)) (c .before .before .before .before .before .before .before .before .before .before .before .before .args .x .count) _ (c .before .before .before .before .before .before .before .before .before .before .before .before .args .out .now) (c .before .before .check-known .last .1 .1 .1 .0) (c .before .before .check-known .result) (omega (arith, c .before .before .before .before .before .if1 .taken, g .isBatch .one)) (omega (arith, g .isBatch .one, g .isBatch .count)) (c .before .before .before .before .before .before .before .before .before .before .before .before .pre .0 .1)
+    (c .before .before .before .before .event-part .ensures ss (g .isBatch) (omega (arith, g .isBatch .one, g .isBatch .count))) (c .before .before .check-known .ensures)
     ∙ all-taken ts ss _ _ (g .isBatch .count)
 
 -- src/batch.rt:94:49
@@ -112,7 +114,7 @@ combine-all-spec =
     tie.close
     (tie.spec
     event-part-requires
-    check-event-requires
+    check-known-requires
     same-length
     returns
     sub-combine-first
