@@ -85,7 +85,7 @@ pub fn check_known(table: &[u8], event: &[u8], t: TypeIndex, out: &mut [u8]) -> 
     requires { ⌜ KnownEvent (now table) (now event) t × (32768 ≤ length (now out)) ⌝ }
     ensures { λ r. ⌜ replies r (now (out .exit)) ≡ checkCall (now (table .entry)) (now (event .entry)) (now (out .entry)) ⌝ }
 {
-    let x = read_event(event, 8, 32);
-    let version = version_of(table, event, t, x);
-    Reply::Done(write_lone(event, x, version, out))
+    let e = read_event(event, 8, 32);
+    let version = version_of(table, event, t, e);
+    Reply::Done(write_lone(event, e, version, out))
 }

@@ -385,7 +385,8 @@ module _ (table : List ℕ) (ts : Table) (isTable : tableOf table ≡ some ts) (
       let e : questions.accepted (w .first) ≡ questions.accepted (typed (getD ss 0 [])) = sym (w .taken) ∙ last-is 1 (omega arith) l .taken in
       subst (λ (y : EventType). TypeIs table y x) (ap (λ (a : Typed). a .type) (accepted-same e)) (w .typed)
 
-  pub nth-known : (n : ℕ) (s : List ℕ) (x : TypeIndex) → 1 ≤ n → n ≤ length ss → s ≡ getD ss (n - 1) [] → FirstTyped table ts ss x → KnownEvent table s x
+  -- the n-th event was accepted, with the type of the first
+  nth-known : (n : ℕ) (s : List ℕ) (x : TypeIndex) → 1 ≤ n → n ≤ length ss → s ≡ getD ss (n - 1) [] → FirstTyped table ts ss x → KnownEvent table s x
   nth-known n s x h l q w = record {
     types = ts;
     is = isTable;
