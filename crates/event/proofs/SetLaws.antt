@@ -1,14 +1,15 @@
 -- The laws of reading sets and hashes: rising texts one after the other, a place's set, and the sets of all places.
 use mathlib.Core.Path.{_≡_, refl, sym, ap, ap₂, _∙_, subst}
-use mathlib.Core.Bool.{true, false}
+use mathlib.Core.Bool.{Bool, true, false}
+use mathlib.Core.Logic.{_⊎_, inl, inr}
 use mathlib.Core.List.{List, [], _∷_, _++_, append-assoc, append-nil, map, flatten}
-use Prim.Native.Nat.{ℕ, suc, _+_, _-_, _/_, _%_, _^_, _≤_, _<_, Ordering, Ordering·lt, Ordering·eq, Ordering·gt}
+use Prim.Native.Nat.{ℕ, zero, suc, _+_, _-_, _/_, _%_, _^_, _≤_, _<_, Ordering, Ordering·lt, Ordering·eq, Ordering·gt}
 use native.Mathlib.Nat.{sub-self, le-refl}
 use native.Mathlib.Omega.{arith}
-use lib.ListN.{length, take, drop, getD, set, length-append, length-drop, length-set, List·getD-append}
+use lib.Dec.{eqb}
+use lib.ListN.{length, take, drop, getD, set, replicate, length-append, length-drop, length-set, length-replicate}
 use lib.Seq.{take-at, getD-at, getD-set-same, getD-set-other}
-use borrow.Author.Tests.{le-leb, eq-eqb, ne-eqb}
-use borrow.Author.Count.{below-more}
+use borrow.Author.Tests.{le-leb, eq-eqb, ne-eqb, eqb-true, eqb-false}
 use Rattle.model.specs.Order.{Text, texts, rising, pick}
 use Rattle.packed.specs.Parse.{Parse, fail, got, Layout, andThen, _>>=_, found, foundIf, times}
 use Rattle.packed.specs.Packed.{number, readNumber, text, readText}
@@ -177,10 +178,40 @@ sets-stop : (n presence : ℕ) (t : List ℕ) → readPlace (presence % 2) t ≡
 unfolding readSets
 sets-stop n presence t e = ap (λ (p : Parse (List Text)). andThen p (λ y o. andThen (readSets n (presence / 2) o) (λ xs u. got (y ∷ xs) u))) e
 
-objects-snoc : (xs : List (List Text)) (x : List Text) → objectCount (xs ++ (x ∷ [])) ≡ objectCount xs + length x
+-- where no bit is left, no place has objects
+sets-clear : (n : ℕ) (t : List ℕ) → readSets n 0 t ≡ got (replicate n []) t
+unfolding readSets readPlace
+sets-clear zero t = refl
+sets-clear (suc n) t = ap (λ (p : Parse (List (List Text))). andThen p (λ xs u. got ([] ∷ xs) u)) (sets-clear n t)
+
+objects-append : (xs ys : List (List Text)) → objectCount (xs ++ ys) ≡ objectCount xs + objectCount ys
 unfolding objectCount
-objects-snoc [] x = omega arith
-objects-snoc (y ∷ ys) x = let h = objects-snoc ys x in omega arith
+objects-append [] ys = omega arith
+objects-append (x ∷ xs) ys = let h = objects-append xs ys in omega arith
+
+objects-one : (x : List Text) → objectCount (x ∷ []) ≡ length x
+unfolding objectCount
+objects-one x = omega arith
+
+objects-clear : (n : ℕ) → objectCount (replicate n []) ≡ 0
+unfolding objectCount
+objects-clear zero = refl
+objects-clear (suc n) = omega (arith, objects-clear n)
+
+-- defaults after a list are read as its end is, and one more element changes its own place only
+module _ {A : Type 0} (d : A) where
+  getD-filled : (xs : List A) (n i : ℕ) → getD (xs ++ replicate n d) i d ≡ getD xs i d
+  getD-filled [] zero i = refl
+  getD-filled [] (suc n) zero = refl
+  getD-filled [] (suc n) (suc i) = getD-filled [] n i
+  getD-filled (x ∷ xs) n zero = refl
+  getD-filled (x ∷ xs) n (suc i) = getD-filled xs n i
+
+  getD-other : (xs : List A) (x : A) (i : ℕ) → (i ≡ length xs → ⊥) → getD (xs ++ (x ∷ [])) i d ≡ getD xs i d
+  getD-other [] x zero h = absurd (h refl)
+  getD-other [] x (suc i) h = refl
+  getD-other (y ∷ ys) x zero h = refl
+  getD-other (y ∷ ys) x (suc i) h = getD-other ys x i (λ e. h (ap suc e))
 
 -- a text has a byte at least
 pub texts-long : (vs : List Text) → length vs ≤ length (flatten (map text vs))
@@ -193,7 +224,15 @@ unfolding setBytes
 set-long [] = omega arith
 set-long (v ∷ vs) = omega (arith, texts-long (v ∷ vs), length-append (number (length (v ∷ vs))) (flatten (map text (v ∷ vs))))
 
--- The first k places are read: their sets are xs, and the others stand from `next` on
+pub sets-none : (p : Parse (List (List Text))) (s : List ℕ) (r : SetsRead) → p ≡ fail → r .ok ≡ false → SetsReads p s r
+unfolding SetsReads
+sets-none p s r e h = rw e h
+
+sets-got : (p : Parse (List (List Text))) (xs : List (List Text)) (t s : List ℕ) (r : SetsRead) → p ≡ got xs t → SetsStop xs t s r → SetsReads p s r
+unfolding SetsReads
+sets-got p xs t s r e w = rw e w
+
+-- The first k places are read: their sets are xs, and the others stand from `next` on. A place that is not read yet has the empty set
 pub record Sofar (p : Parse (List (List Text))) (s : List ℕ) (ats : List SetAt) (bits next objects k : ℕ) : Type 0 where
   pub xs : List (List Text)
   pub long : length xs ≡ k
@@ -202,12 +241,16 @@ pub record Sofar (p : Parse (List (List Text))) (s : List ℕ) (ats : List SetAt
   pub within : next ≤ length s
   pub summed : objects ≡ objectCount xs
   pub small : objects ≤ next
-  pub each : (i : ℕ) → i < k → SetIs s (getD xs i []) (getD ats i noSet)
+  pub each : (i : ℕ) → SetIs s (getD xs i []) (getD ats i noSet)
   pub ats-long : length ats ≡ 32
 
-pub sofar-none : (s : List ℕ) (ats : List SetAt) (bits at : ℕ) → at ≤ length s → length ats ≡ 32 → Sofar (readSets 32 bits (drop at s)) s ats bits at 0 0
+no-values : (s : List ℕ) → SetIs s [] noSet
+unfolding flatten
+no-values s = record { bytes = refl; count = refl; order = omega arith; within = omega arith }
+
+pub sofar-none : (s : List ℕ) (bits at : ℕ) → at ≤ length s → Sofar (readSets 32 bits (drop at s)) s (replicate 32 noSet) bits at 0 0
 unfolding objectCount
-sofar-none s ats bits at h l = record {
+sofar-none s bits at h = record {
   xs = [];
   long = refl;
   few = omega arith;
@@ -215,8 +258,8 @@ sofar-none s ats bits at h l = record {
   within = h;
   summed = refl;
   small = omega arith;
-  each = λ i k. absurd (omega arith);
-  ats-long = l;
+  each = λ i. subst (SetIs s []) (sym (getD-filled noSet [] 32 i)) (no-values s);
+  ats-long = refl;
 }
 
 module _ (p : Parse (List (List Text))) (s : List ℕ) (ats : List SetAt) (bits next objects k : ℕ) (w : Sofar p s ats bits next objects k) where
@@ -230,21 +273,19 @@ module _ (p : Parse (List (List Text))) (s : List ℕ) (ats : List SetAt) (bits 
       ∙ ap (prepend (w .xs)) (sets-stop (32 - (k + 1)) bits (drop next s) e)
 
   module _ (x : SetAt) (h : k < 32) (t : SetStops (readPlace (bits % 2) (drop next s)) s x) where
-    last-set : getD (w .xs ++ (t .what ∷ [])) k [] ≡ t .what
-    last-set = getD-at (w .xs) (t .what) [] [] k (w .long)
-
-    old-set : (i : ℕ) → i < k → getD (w .xs ++ (t .what ∷ [])) i [] ≡ getD (w .xs) i []
-    old-set i l = let m : i < length (w .xs) = omega (arith, w .long) in List·getD-append (w .xs) (t .what ∷ []) [] i m
-
-    stand-old : (i : ℕ) → i < k → SetIs s (getD (w .xs ++ (t .what ∷ [])) i []) (getD (set ats k x) i noSet)
-    stand-old i l =
-        let ne : i ≡ k → ⊥ = λ e. omega arith in
-        rw (getD-set-other ats k i x noSet ne, old-set i l) (w .each i l)
-
     stand-last : SetIs s (getD (w .xs ++ (t .what ∷ [])) k []) (getD (set ats k x) k noSet)
     stand-last =
         let a : k < length ats = omega (arith, w .ats-long) in
-        rw (getD-set-same ats k x noSet a, last-set) (t .stands)
+        rw (getD-set-same ats k x noSet a, getD-at (w .xs) (t .what) [] [] k (w .long)) (t .stands)
+
+    stand : (i : ℕ) → SetIs s (getD (w .xs ++ (t .what ∷ [])) i []) (getD (set ats k x) i noSet)
+    stand i = go (eqb i k) refl
+      where
+        go : (b : Bool) → eqb i k ≡ b → SetIs s (getD (w .xs ++ (t .what ∷ [])) i []) (getD (set ats k x) i noSet)
+        go true e = rw (eqb-true i k e) stand-last
+        go false e =
+            let ne = eqb-false i k e in
+            rw (getD-set-other ats k i x noSet ne, getD-other [] (w .xs) (t .what) i (λ q. ne (q ∙ w .long))) (w .each i)
 
     -- the objects of a set are no more than its bytes
     pub few-more : (next ≤ x .end) × (x .count ≤ x .end - next)
@@ -264,31 +305,37 @@ module _ (p : Parse (List (List Text))) (s : List ℕ) (ats : List SetAt) (bits 
           ∙ ap (prepend (w .xs)) (sets-step (32 - (k + 1)) bits (drop next s) (t .what) (drop (x .end) s) (t .is))
           ∙ prepend-one (w .xs) (t .what) (readSets (32 - (k + 1)) (bits / 2) (drop (x .end) s));
       within = t .stands .within;
-      summed = ap₂ (λ (a b : ℕ). a + b) (w .summed) (t .stands .count) ∙ sym (objects-snoc (w .xs) (t .what));
+      summed = omega (arith, w .summed, t .stands .count, objects-append (w .xs) (t .what ∷ []), objects-one (t .what));
       small = omega (arith, w .small, few-more .0, few-more .1);
-      each =
-          below-more (λ (i : ℕ). SetIs s (getD (w .xs ++ (t .what ∷ [])) i []) (getD (set ats k x) i noSet))
-          k stand-old stand-last;
+      each = stand;
       ats-long = length-set ats k x ∙ w .ats-long;
     }
 
-  module _ (full : 32 ≤ k) where
-    pub sofar-all : p ≡ got (w .xs) (drop next s)
-    unfolding readSets
-    sofar-all =
-        let z : 32 - k ≡ 0 = omega arith in
-        w .rest ∙ ap (λ (n : ℕ). prepend (w .xs) (readSets n bits (drop next s))) z ∙ ap (λ (l : List (List Text)). got l (drop next s)) (append-nil (w .xs))
+  left-clear : (32 ≤ k) ⊎ (bits ≤ 0) → readSets (32 - k) bits (drop next s) ≡ got (replicate (32 - k) []) (drop next s)
+  unfolding readSets
+  left-clear (inl f) = let z : 32 - k ≡ 0 = omega arith in rw z
+  left-clear (inr b) = let z : bits ≡ 0 = omega arith in rw z (sets-clear (32 - k) (drop next s))
 
-    pub sofar-sets : SetsAre s (w .xs) ats
-    sofar-sets = record { long = omega (arith, w .long, w .few); each = λ i h. w .each i (omega arith) }
+  module _ (end : (32 ≤ k) ⊎ (bits ≤ 0)) where
+    -- the places that are not read have no objects
+    abbrev all : List (List Text)
+    all = w .xs ++ replicate (32 - k) []
 
-pub sets-none : (p : Parse (List (List Text))) (s : List ℕ) (r : SetsRead) → p ≡ fail → r .ok ≡ false → SetsReads p s r
-unfolding SetsReads
-sets-none p s r e h = rw e h
+    all-sets : SetsAre s all ats
+    all-sets = record {
+      long = length-append (w .xs) (replicate (32 - k) []) ∙ omega (arith, w .long, w .few, length-replicate {A = List Text} (32 - k) []);
+      each = λ i h. rw (getD-filled [] (w .xs) (32 - k) i) (w .each i);
+    }
 
-pub sets-got : (p : Parse (List (List Text))) (xs : List (List Text)) (t s : List ℕ) (r : SetsRead) → p ≡ got xs t → SetsStop xs t s r → SetsReads p s r
-unfolding SetsReads
-sets-got p xs t s r e w = rw e w
+    pub sofar-found : SetsReads p s (record { ok = true; next = next; objects = objects; sets = ats })
+    sofar-found =
+        sets-got p all (drop next s) s _ (w .rest ∙ ap (prepend (w .xs)) (left-clear end)) (record {
+          right = refl;
+          rest = refl;
+          within = w .within;
+          objects = omega (arith, w .summed, objects-append (w .xs) (replicate (32 - k) []), objects-clear (32 - k));
+          stands = all-sets;
+        })
 
 -- ---- the text at an index
 

@@ -83,7 +83,7 @@ pub fn read_place(s: &[u8], at: usize, bit: u64) -> SetRead
     }
 }
 
-// The sets of a presence number. Each value takes a byte at least, so there are fewer objects than bytes.
+// The sets of a presence number. Each value takes a byte at least, so there are fewer objects than bytes. Where no bit is left, the places that follow have no objects.
 pub fn read_sets(s: &[u8], at: usize, presence: u64) -> SetsRead
     requires { ⌜ at ≤ length (now s) ⌝ }
     ensures { λ r. ⌜ SetsReads (readSets 32 presence (drop at (now (s .entry)))) (now (s .entry)) r ⌝ }
@@ -103,7 +103,7 @@ pub fn read_sets(s: &[u8], at: usize, presence: u64) -> SetsRead
     let mut next = at;
     let mut objects: usize = 0;
     let mut k: usize = 0;
-    while k < 32 {
+    while k < 32 && 0 < bits {
         let SetRead::Found(x) = read_place(s, next, bits % 2) else {
             return found;
         };

@@ -3,9 +3,11 @@ use native.Mathlib.Omega.{arith}
 use Prim.Native.Nat.{_-_}
 use mathlib.Core.Path.{_≡_, refl}
 use mathlib.Core.Bool.{false}
+use mathlib.Core.Logic.{inl, inr}
 use lib.ListN.{drop}
+use borrow.Author.Tests.{ltb-false}
 use Rattle.event.specs.EventLayout.{readSets}
-use Rattle.event.proofs.SetLaws.{Sofar, sofar-none, sofar-bad, sofar-more, sofar-all, sofar-sets, few-more, sets-none, sets-got, set-reads, set-refused}
+use Rattle.event.proofs.SetLaws.{Sofar, sofar-none, sofar-bad, sofar-more, sofar-found, few-more, sets-none, set-reads, set-refused}
 use Rattle.event.proofs.sets.read_sets.Statement.{statement}
 use Rattle.event.proofs.sets.read_sets.Tie as tie
 
@@ -17,10 +19,10 @@ abbrev μ-loop : tie.MeasureT-loop
 μ-loop s at presence found₀ bits₀ next₀ objects₀ k₀ found bits next objects k = 32 - k
 
 loop-holds : tie.Need-loop-holds Inv-loop μ-loop
-loop-holds c = (refl, sofar-none _ _ _ _ (c .before .pre) refl)
+loop-holds c = (refl, sofar-none _ _ _ (c .before .pre))
 
 read-place-requires : tie.Need-read-place-requires Inv-loop μ-loop
-read-place-requires c κs = c .before .loop .inv .1 .within
+read-place-requires c κs = c .before .before .loop .inv .1 .within
 
 enum-known-x : tie.Need-enum-known-x Inv-loop μ-loop
 enum-known-x c = search needs
@@ -30,8 +32,8 @@ enum-told c = search needs
 
 returns : tie.Need-returns Inv-loop μ-loop
 returns c =
-    let l = c .before .before .before .before .loop in
-    sets-none _ _ _ (sofar-bad _ _ _ _ _ _ _ (l .inv .1) (c .before .before .before .loop-test .taken) (set-refused _ (c .enum-told .given .1) (c .before .before .read-place .ensures))) (l .inv .0)
+    let l = c .before .before .before .before .before .loop in
+    sets-none _ _ _ (sofar-bad _ _ _ _ _ _ _ (l .inv .1) (c .before .before .before .before .loop-test .taken) (set-refused _ (c .enum-told .given .1) (c .before .before .read-place .ensures))) (l .inv .0)
 
 mul-x : tie.Need-mul-x Inv-loop μ-loop
 mul-x c = search needs
@@ -41,8 +43,8 @@ element-set-from-x c = search needs
 
 add-objects : tie.Need-add-objects Inv-loop μ-loop
 add-objects c =
-    let l = c .before .before .before .before .before .before .loop in
-    let f = few-more _ _ _ _ _ _ _ (l .inv .1) _ (c .before .before .before .before .before .loop-test .taken) (set-reads (c .before .before .x .given .1) (c .before .before .before .before .read-place .ensures)) in
+    let l = c .before .before .before .before .before .before .before .loop in
+    let f = few-more _ _ _ _ _ _ _ (l .inv .1) _ (c .before .before .before .before .before .before .loop-test .taken) (set-reads (c .before .before .x .given .1) (c .before .before .before .before .read-place .ensures)) in
     omega (arith, l .inv .1 .small, f .0, f .1)
 
 add-k : tie.Need-add-k Inv-loop μ-loop
@@ -53,14 +55,14 @@ loop-less c = search needs
 
 loop-again : tie.Need-loop-again Inv-loop μ-loop
 loop-again c =
-    let l = c .before .before .before .before .before .before .loop in
-    (l .inv .0, sofar-more _ _ _ _ _ _ _ (l .inv .1) _ (c .before .before .before .before .before .loop-test .taken) (set-reads (c .before .before .x .given .1) (c .before .before .before .before .read-place .ensures)))
+    let l = c .before .before .before .before .before .before .before .loop in
+    (l .inv .0, sofar-more _ _ _ _ _ _ _ (l .inv .1) _ (c .before .before .before .before .before .before .loop-test .taken) (set-reads (c .before .before .x .given .1) (c .before .before .before .before .read-place .ensures)))
 
 returns-2 : tie.Need-returns-2 Inv-loop μ-loop
-returns-2 c =
-    let w = c .before .loop .inv .1 in
-    let f = c .loop-test .left in
-    sets-got _ (w .xs) _ _ _ (sofar-all _ _ _ _ _ _ _ w f) (record { right = refl; rest = refl; within = w .within; objects = w .summed; stands = sofar-sets _ _ _ _ _ _ _ w f })
+returns-2 c = sofar-found _ _ _ _ _ _ _ (c .before .before .loop .inv .1) (inr (ltb-false _ _ (c .if1 .left)))
+
+returns-3 : tie.Need-returns-3 Inv-loop μ-loop
+returns-3 c = sofar-found _ _ _ _ _ _ _ (c .before .loop .inv .1) (inl (c .loop-test .left))
 
 pub read-sets-spec : {M : Type 1} → statement M
 read-sets-spec =
@@ -79,4 +81,5 @@ read-sets-spec =
     add-k
     loop-less
     loop-again
-    returns-2)
+    returns-2
+    returns-3)
