@@ -110,7 +110,7 @@ cells-was differ (x ∷ xs) l h =
 
 -- ---- a snapshot
 
-all-small : (xs : List (List Text)) → All (λ (x : List Text). length x ≤ 256) xs → areSmall xs ≡ true
+pub all-small : (xs : List (List Text)) → All (λ (x : List Text). length x ≤ 256) xs → areSmall xs ≡ true
 unfolding areSmall
 all-small [] h = refl
 all-small (x ∷ xs) h = rw (le-leb (length x) 256 (h .0)) (all-small xs (h .1))

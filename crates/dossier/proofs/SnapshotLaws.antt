@@ -1,6 +1,7 @@
 -- The laws of reading a snapshot.
 use mathlib.Core.Path.{_≡_, refl, sym, ap, _∙_, subst}
 use mathlib.Core.Bool.{Bool, true, false, not, _&&_}
+use mathlib.Core.Logic.{_⊎_, inl, inr}
 use mathlib.Core.List.{List, [], map}
 use Prim.Native.Nat.{ℕ, zero, suc, _+_, _-_, _/_, _%_, _^_, _≤_, _<_}
 use native.Mathlib.Nat.{sub-zero}
@@ -19,6 +20,7 @@ use Rattle.event.specs.Event.{objectCount}
 use Rattle.event.specs.EventLayout.{readBits, readSets, presenceBit, bitNumber, setsBytes}
 use Rattle.event.specs.EventIndex.{SetsAre, SetsStop, SetsReads, noSet}
 use Rattle.event.proofs.EventLayoutLaws.{SetsWas, sets-was}
+use Rattle.event.proofs.EventSizeLaws.{each-within}
 use Rattle.event.proofs.SetLaws.{stretch}
 use Rattle.event.specs.declared.sets.SetAt.{SetAt}
 use Rattle.event.specs.declared.sets.SetsRead.{SetsRead}
@@ -28,7 +30,7 @@ use Rattle.dossier.specs.DossierIndex.{afterNumbers, NumbersStop, Number
 use Rattle.dossier.specs.declared.snapshots.NumbersAt.{NumbersAt}
 use Rattle.dossier.specs.declared.snapshots.NumbersAt.the-variants.{Numbers, NoNumbers}
 use Rattle.dossier.specs.declared.snapshots.SnapshotIndex.{SnapshotIndex}
-use Rattle.dossier.proofs.DossierLayoutLaws.{CellsWas, cells-was, snapshot-was}
+use Rattle.dossier.proofs.DossierLayoutLaws.{CellsWas, cells-was, all-small, snapshot-was}
 use Rattle.dossier.proofs.DossierSizeLaws.{held-objects}
 
 -- ---- no bit in common
@@ -47,12 +49,20 @@ apart-step (suc k) m n h e = rw sub-one (ap (λ (b : Bool). not b && apart k (m 
     go true q = ne-eqb (n % 2) 1 (λ f. e (omega (arith, eqb-true (m % 2) 1 q)))
     go false q = refl
 
-pub apart-end : (left m n : ℕ) → left ≤ 0 → apart left m n ≡ true
+apart-none : (left m : ℕ) → apart left m 0 ≡ true
 unfolding apart
-apart-end zero m n h = refl
-apart-end (suc k) m n h = absurd (omega arith)
+apart-none zero m = refl
+apart-none (suc k) m = apart-step (suc k) m 0 (omega arith) (λ e. omega arith) ∙ rw sub-one (apart-none k (m / 2))
+
+pub apart-end : (left m n : ℕ) → (left ≤ 0) ⊎ (n ≤ 0) → apart left m n ≡ true
+unfolding apart
+apart-end left m n (inl h) = let z : left ≡ 0 = omega arith in rw z
+apart-end left m n (inr h) = let z : n ≡ 0 = omega arith in rw z (apart-none left m)
 
 -- ---- small sets
+
+pub few-small : (xs : List (List Text)) (objects : ℕ) → objects ≤ 256 → objects ≡ objectCount xs → true ≡ areSmall xs
+few-small xs objects h e = sym (all-small xs (each-within 256 xs (omega arith)))
 
 module _ (s : List ℕ) (xs : List (List Text)) (ats : List SetAt) (w : SetsAre s xs ats) (k : ℕ) where
   pub small-bad : k < 32 → 256 < getD ats k noSet .count → areSmall (drop k xs) ≡ false
@@ -161,12 +171,12 @@ module _ (s : List ℕ) (version presence differ first : ℕ) (n : NumbersStop s
       found : SetsFound (readSets 32 presence (drop first s)) s r
       found = sets-found (readSets 32 presence (drop first s)) s r w h
 
-      pub sets-large : ((t : List ℕ) (xs : List (List Text)) → SetsAre t xs (r .sets) → false ≡ areSmall xs) → readSnapshot s ≡ fail
-      sets-large b = let e = sym (b s (found .what) (found .stop .stands)) in n .is ∙ rw (found .is, e)
+      pub sets-large : ((t : List ℕ) (xs : List (List Text)) → SetsAre t xs (r .sets) → r .objects ≡ objectCount xs → false ≡ areSmall xs) → readSnapshot s ≡ fail
+      sets-large b = let e = sym (b s (found .what) (found .stop .stands) (found .stop .objects)) in n .is ∙ rw (found .is, e)
 
-      module _ (b : (t : List ℕ) (xs : List (List Text)) → SetsAre t xs (r .sets) → true ≡ areSmall xs) where
+      module _ (b : (t : List ℕ) (xs : List (List Text)) → SetsAre t xs (r .sets) → r .objects ≡ objectCount xs → true ≡ areSmall xs) where
         small : areSmall (found .what) ≡ true
-        small = sym (b s (found .what) (found .stop .stands))
+        small = sym (b s (found .what) (found .stop .stands) (found .stop .objects))
 
         was : SetsWas 32 presence (drop first s) (found .what) (drop (r .next) s)
         was = sets-was 32 presence (drop first s) (found .what) (drop (r .next) s) (n .presence-low) (found .is)

@@ -3,6 +3,7 @@ ghost use mathlib.Core.Bool.{false};
 ghost use mathlib.Core.List.{List};
 ghost use Prim.Native.Nat.{ℕ};
 ghost use Rattle.model.specs.Order.{Text};
+ghost use Rattle.event.specs.Event.{objectCount};
 ghost use Rattle.event.specs.EventIndex.{SetsAre};
 ghost use Rattle.dossier.specs.DossierLayout.{apart, areSmall, readSnapshot};
 ghost use Rattle.dossier.specs.DossierIndex.{NumbersRead, SnapshotReads};
@@ -35,14 +36,14 @@ enum NumbersAt {
     NoNumbers,
 }
 
-// Whether no bit of 32 is set in both.
+// Whether no bit of 32 is set in both. Where no differ bit is left, none is.
 fn are_apart(presence: u64, differ: u64) -> bool
     ensures { λ r. ⌜ r ≡ apart 32 presence differ ⌝ }
 {
     let mut m = presence;
     let mut n = differ;
     let mut left: usize = 32;
-    while 0 < left {
+    while 0 < left && 0 < n {
         if m % 2 + n % 2 == 2 {
             return false;
         }
@@ -83,10 +84,13 @@ fn read_numbers(s: &[u8]) -> NumbersAt
     }
 }
 
-// Whether each set has at most 256 values.
-fn are_small(sets: [SetAt; 32]) -> bool
-    ensures { λ r. ⌜ ((s : List ℕ) (xs : List (List Text)) → SetsAre s xs sets → r ≡ areSmall xs) ⌝ }
+// Whether each set has at most 256 values. None has more than there are objects in all.
+fn are_small(sets: [SetAt; 32], objects: usize) -> bool
+    ensures { λ r. ⌜ ((s : List ℕ) (xs : List (List Text)) → SetsAre s xs sets → objects ≡ objectCount xs → r ≡ areSmall xs) ⌝ }
 {
+    if objects <= 256 {
+        return true;
+    }
     let mut k: usize = 0;
     while k < 32 {
         let x = sets[k];
@@ -136,7 +140,7 @@ pub fn read_snapshot(s: &[u8]) -> SnapshotIndex
         return no_snapshot();
     }
     let sets = found.sets;
-    if !are_small(sets) {
+    if !are_small(sets, found.objects) {
         return no_snapshot();
     }
     SnapshotIndex {

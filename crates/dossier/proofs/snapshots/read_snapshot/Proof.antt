@@ -11,59 +11,47 @@ use Rattle.dossier.proofs.snapshots.no_snapshot.Reads as no-snapshot-re
 use Rattle.dossier.proofs.snapshots.read_numbers.Reads as read-numbers-reads
 use Rattle.event.proofs.sets.read_sets.Reads as read-sets-reads
 
--- src/snapshots.rt:122:67
 read-numbers-requires : tie.Need-read-numbers-requires
 read-numbers-requires c κs = search needs
 
--- src/snapshots.rt:122:30
 enum-known-version : tie.Need-enum-known-version
 enum-known-version c = search needs
 
--- src/snapshots.rt:123:9
 enum-told : tie.Need-enum-told
 enum-told c = search needs
 
--- src/snapshots.rt:123:9
 no-snapshot-requires : tie.Need-no-snapshot-requires
 no-snapshot-requires c κs = search needs
 
--- src/snapshots.rt:123:9
 returns : tie.Need-returns
 returns c = snapshot-none _ _ _ (numbers-refused _ (c .before .enum-told .given .1) (c .before .before .before .read-numbers .ensures)) (c .no-snapshot .ensures)
 
--- src/snapshots.rt:125:9
 read-sets-requires : tie.Need-read-sets-requires
 read-sets-requires c κs = numbers-read (c .before .version .given .1) (c .before .before .before .read-numbers .ensures) .within
 
--- src/snapshots.rt:127:9
 no-snapshot-requires-2 : tie.Need-no-snapshot-requires-2
 no-snapshot-requires-2 c κs = search needs
 
--- src/snapshots.rt:127:9
 returns-2 : tie.Need-returns-2
 returns-2 c =
     let n = numbers-read (c .before .before .before .before .before .version .given .1) (c .before .before .before .before .before .before .before .read-numbers .ensures) in
     snapshot-none _ _ _ (no-sets _ _ _ _ _ n _ (c .before .before .before .read-sets .ensures) (not-true _ (c .before .if1 .taken))) (c .no-snapshot2 .ensures)
 
--- src/snapshots.rt:130:9
 are-small-requires : tie.Need-are-small-requires
 are-small-requires c κs = search needs
 
--- src/snapshots.rt:131:9
 no-snapshot-requires-3 : tie.Need-no-snapshot-requires-3
 no-snapshot-requires-3 c κs = search needs
 
--- src/snapshots.rt:131:9
 returns-3 : tie.Need-returns-3
 returns-3 c =
     let n = numbers-read (c .before .before .before .before .before .before .before .before .version .given .1) (c .before .before .before .before .before .before .before .before .before .before .read-numbers .ensures) in
-    snapshot-none _ _ _ (sets-large _ _ _ _ _ n _ (c .before .before .before .before .before .before .read-sets .ensures) (not-false _ (c .before .before .before .before .if1 .left)) (λ t xs w. sym (not-true _ (c .before .if2 .taken)) ∙ c .before .before .are-small .ensures t xs w)) (c .no-snapshot3 .ensures)
+    snapshot-none _ _ _ (sets-large _ _ _ _ _ n _ (c .before .before .before .before .before .before .read-sets .ensures) (not-false _ (c .before .before .before .before .if1 .left)) (λ t xs w e. sym (not-true _ (c .before .if2 .taken)) ∙ c .before .before .are-small .ensures t xs w e)) (c .no-snapshot3 .ensures)
 
--- src/snapshots.rt:119:1
 returns-4 : tie.Need-returns-4
 returns-4 c =
     let n = numbers-read (c .before .before .before .before .before .before .before .version .given .1) (c .before .before .before .before .before .before .before .before .before .read-numbers .ensures) in
-    snapshot-some _ _ _ _ _ n _ (c .before .before .before .before .before .read-sets .ensures) (not-false _ (c .before .before .before .if1 .left)) (λ t xs w. sym (not-false _ (c .if2 .left)) ∙ c .before .are-small .ensures t xs w)
+    snapshot-some _ _ _ _ _ n _ (c .before .before .before .before .before .read-sets .ensures) (not-false _ (c .before .before .before .if1 .left)) (λ t xs w e. sym (not-false _ (c .if2 .left)) ∙ c .before .are-small .ensures t xs w e)
 
 pub read-snapshot-spec : {M : Type 1} → statement M
 read-snapshot-spec =
