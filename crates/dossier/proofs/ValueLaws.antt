@@ -1,7 +1,7 @@
 -- The laws of question 6: each value is in its space.
 use mathlib.Core.Path.{_≡_, refl, sym, ap, _∙_}
 use mathlib.Core.Bool.{Bool, true, false, _&&_}
-use mathlib.Core.List.{List, [], _∷_}
+use mathlib.Core.List.{List, []}
 use Prim.Native.Nat.{ℕ, _+_, _≤_, _<_}
 use native.Mathlib.Omega.{arith}
 use native.Mathlib.Numerals.{add-one}
@@ -15,6 +15,7 @@ use Rattle.ontology.specs.declared.types.TypeIndex.{TypeIndex}
 use Rattle.event.specs.EventQuestions.{eachPlace, areInSpace, valuesFit}
 use Rattle.event.specs.EventIndex.{SetIs, SetsAre, noSet}
 use Rattle.event.specs.declared.sets.SetAt.{SetAt}
+use Rattle.event.proofs.SpaceLaws.{free}
 use Rattle.dossier.proofs.CellLaws.{Elem, elem}
 
 -- what is asked of the places from k on
@@ -24,11 +25,6 @@ valuesFrom ty xs k = eachPlace (λ (p : Property) (s : List Text). areInSpace (p
 pub values-all : (ty : EventType) (xs : List (List Text)) → valuesFit ty xs ≡ valuesFrom ty xs 0
 unfolding valuesFit
 values-all ty xs = refl
-
-free : (f : Property → List Text → Bool) (xs : List (List Text)) → eachPlace f (λ (s : List Text). true) [] xs ≡ true
-unfolding eachPlace
-free f [] = refl
-free f (x ∷ xs) = free f xs
 
 pub values-end : (s : List ℕ) (ty : EventType) (t : TypeIndex) (xs : List (List Text)) (k : ℕ) → TypeIs s ty t → t .count ≤ k → valuesFrom ty xs k ≡ true
 values-end s ty t xs k w h =

@@ -5,22 +5,26 @@ use mathlib.Core.Option.{Option, some}
 use mathlib.Core.List.{List, [], _∷_, _++_, map, flatten}
 use Prim.Native.Nat.{ℕ, _+_, _^_, _≤_, _<_}
 use native.Mathlib.Omega.{arith}
-use lib.ListN.{length, drop, getD, getElem?, length-append, length-drop}
+use lib.Dec.{ltb}
+use lib.ListN.{length, drop, getD, getElem?, length-append, length-drop, drop-of-length-le}
 use Rattle.model.specs.Order.{Text}
 use Rattle.packed.specs.Parse.{fail}
 use Rattle.packed.specs.Packed.{text, readText}
 use Rattle.packed.specs.Located.{part}
 use Rattle.packed.proofs.ReadLaws.{TextStops}
 use Rattle.packed.proofs.LayoutLaws.{text-length, number-bounds}
-use Rattle.values.specs.Spaces.{Kind, inSpace}
+use Rattle.values.specs.Spaces.{Kind, isKind, inSpace}
 use Rattle.values.specs.KindNumbers.{kindOf}
 use Rattle.values.proofs.SpaceLaws.{kind-numbered}
 use Rattle.ontology.specs.Table.{Property, EventType}
-use Rattle.ontology.specs.TypeIndex.{KindIs}
+use Rattle.ontology.specs.TypeIndex.{KindIs, TypeIs}
+use Rattle.ontology.specs.declared.properties.PropertyAt.{PropertyAt}
+use Rattle.ontology.specs.declared.types.TypeIndex.{TypeIndex}
 use Rattle.event.specs.Event.{atPlace}
 use Rattle.event.specs.EventQuestions.{eachPlace, areInSpace, valuesFit}
+use Rattle.event.specs.EventIndex.{KindsAre}
 use Rattle.event.proofs.LookupLaws.{text-there, text-next}
-use Rattle.event.proofs.ShapeLaws.{each-step, each-end}
+use Rattle.event.proofs.ShapeLaws.{place-named, place-is, each-step}
 
 -- the kind that an index has the numbers of
 pub kind-of : (k : Kind) (kind first second third : ℕ) → KindIs k kind first second third → kindOf kind first second third ≡ some k
@@ -84,6 +88,21 @@ module _ (k : Kind) (b : Bool) (s : List ℕ) (at : ℕ) (w : InSpace k b s at) 
 abbrev pub placeSpace : Option Property → List Text → Bool
 placeSpace o s = atPlace true (λ q. areInSpace (q .kind) s) o
 
+-- what is asked of a place that has a property, by the type's index
+pub place-space :
+    (table : List ℕ) (y : EventType) (x : TypeIndex) (d : PropertyAt) (k : ℕ) (vs : List Text) (r : Bool) → TypeIs table y x → KindsAre y → ltb k (x .count) ≡ true →
+    let p = getD (x .properties) k d in
+    ((a : Kind) → kindOf (p .kind) (p .first) (p .second) (p .third) ≡ some a → isKind a ≡ true → r ≡ areInSpace a vs) → r ≡ placeSpace (getElem? (y .properties) k) vs
+place-space table y x d k vs r w n h f =
+    place-named table (getElem? (y .properties) k) (getD (x .properties) k d) true (λ q. areInSpace (q .kind) vs) r _ h (place-is table y x d k w)
+    (λ q e z. f (q .kind) (kind-of (q .kind) _ _ _ _ (z .kind)) (n k q e))
+
+-- where there is no property, nothing is asked
+pub free : (f : Property → List Text → Bool) (ss : List (List Text)) → eachPlace f (λ s. true) [] ss ≡ true
+unfolding eachPlace
+free f [] = refl
+free f (s ∷ ss) = free f ss
+
 -- the places below k are in their spaces
 pub record Fit (t : EventType) (ss : List (List Text)) (k : ℕ) : Type 0 where
   pub each : valuesFit t ss ≡ eachPlace (λ p s. areInSpace (p .kind) s) (λ s. true) (drop k (t .properties)) (drop k ss)
@@ -102,5 +121,7 @@ module _ (t : EventType) (ss : List (List Text)) (k : ℕ) (w : Fit t ss k) wher
   pub fit-more : k < length ss → true ≡ placeSpace (getElem? (t .properties) k) (getD ss k []) → Fit t ss (k + 1)
   fit-more h e = record { each = next h ∙ ap (λ (c : Bool). c && eachPlace (λ p s. areInSpace (p .kind) s) (λ s. true) (drop (k + 1) (t .properties)) (drop (k + 1) ss)) (sym e) }
 
-  pub fit-end : length ss ≤ k → length (t .properties) ≤ k → true ≡ valuesFit t ss
-  fit-end h l = sym (w .each ∙ each-end (λ p s. areInSpace (p .kind) s) (λ s. true) k (t .properties) ss h l)
+  pub fit-end : (table : List ℕ) (x : TypeIndex) → TypeIs table t x → x .count ≤ k → true ≡ valuesFit t ss
+  fit-end table x u h =
+      let l : length (t .properties) ≤ k = omega (arith, u .count) in
+      sym (w .each ∙ rw (drop-of-length-le (t .properties) l) (free (λ p s. areInSpace (p .kind) s) (drop k ss)))

@@ -1,21 +1,19 @@
 ghost use Prim.Native.Nat.{ℕ};
 ghost use mathlib.Core.Path.{_≡_};
 ghost use mathlib.Core.Bool.{true};
-ghost use mathlib.Core.Option.{Option, some};
+ghost use mathlib.Core.Option.{some};
 ghost use mathlib.Core.List.{List, map, flatten};
 ghost use Rattle.model.specs.Order.{Text};
 ghost use Rattle.packed.specs.Packed.{text};
 ghost use Rattle.values.specs.Spaces.{Kind, isKind};
 ghost use Rattle.values.specs.KindNumbers.{kindOf};
-ghost use Rattle.ontology.specs.Table.{Property, EventType};
+ghost use Rattle.ontology.specs.Table.{EventType};
 ghost use Rattle.ontology.specs.TypeIndex.{TypeIs};
-ghost use Rattle.event.specs.Event.{Event, atPlace};
+ghost use Rattle.event.specs.Event.{Event};
 ghost use Rattle.event.specs.EventQuestions.{areInSpace, valuesFit};
-ghost use Rattle.event.specs.EventIndex.{SetIs, EventIs, PlaceIs, KindsAre};
+ghost use Rattle.event.specs.EventIndex.{EventIs, KindsAre};
 use crate::read::EventIndex;
-use crate::sets::SetAt;
 use crate::sets::set_part;
-use ontology::properties::PropertyAt;
 use ontology::types::TypeIndex;
 use packed::read::TextAt;
 use packed::read::read_text;
@@ -38,26 +36,15 @@ pub fn are_in_space(v: &[u8], kind: u8, first: u8, second: u8, third: u8) -> boo
     true
 }
 
-// The same of a place's set; a place without a property is asked nothing.
-fn place_in_space(event: &[u8], set: SetAt, named: bool, p: PropertyAt) -> bool
-    ensures { λ r. ⌜ ((s : List ℕ) (o : Option Property) (vs : List Text) → PlaceIs s o named p → ((q : Property) → o ≡ some q → isKind (q .kind) ≡ true) → SetIs (now (event .entry)) vs set → r ≡ atPlace true (λ q. areInSpace (q .kind) vs) o) ⌝ }
-{
-    if named {
-        are_in_space(set_part(event, set), p.kind, p.first, p.second, p.third)
-    } else {
-        true
-    }
-}
-
-// Question 6.
+// Question 6. A place without a property is asked nothing.
 pub fn values_ok(event: &[u8], t: TypeIndex, e: EventIndex) -> bool
     ensures { λ r. ⌜ ((table : List ℕ) (y : EventType) (x : Event) → TypeIs table y t → KindsAre y → EventIs (now (event .entry)) x e → r ≡ valuesFit y (x .sets)) ⌝ }
 {
     let mut k: usize = 0;
-    while k < 32 {
+    while k < 32 && k < t.count {
         let p = t.properties[k];
         let set = e.sets[k];
-        if !place_in_space(event, set, k < t.count, p) {
+        if !are_in_space(set_part(event, set), p.kind, p.first, p.second, p.third) {
             return false;
         }
         k += 1;
