@@ -6,14 +6,15 @@ use mathlib.Core.List.{List, [], _∷_}
 use Prim.Native.Nat.{ℕ, zero, suc, _+_, _-_, _≤_, _<_}
 use native.Mathlib.Omega.{arith}
 use native.Mathlib.Numerals.{add-one}
-use native.Mathlib.Nat.{add-assoc}
-use lib.Dec.{ltb}
+use native.Mathlib.Nat.{add-assoc, zero-add}
+use lib.Dec.{ltb, eqb}
 use lib.ListN.{length, drop, getD, getElem?, drop-of-length-le}
+use lib.Seq.{drop-cons}
 use borrow.Author.Tests.{le-leb, lt-leb, lt-ltb, le-ltb, eq-eqb, ne-eqb}
 use Rattle.model.specs.Order.{Text}
 use Rattle.ontology.specs.Table.{Property, EventType, strategyNumber, isMatch}
 use Rattle.ontology.specs.TypeIndex.{PropertyIs, TypeIs}
-use Rattle.event.specs.Event.{Event, atPlace}
+use Rattle.event.specs.Event.{Event, objectCount, atPlace}
 use Rattle.event.specs.EventQuestions.{eachPlace, isEmpty, setFits, matchCount, eventShape}
 use Rattle.event.specs.EventIndex.{PlaceIs}
 use Rattle.ontology.specs.declared.properties.PropertyAt.{PropertyAt}
@@ -60,22 +61,14 @@ match-no q n h = rw (ne-eqb (strategyNumber (q .strategy)) 5 h)
 -- ---- a place
 
 module _ (s : List ℕ) (o : Option Property) (p : PropertyAt) where
-  -- what is said of a place that has a property, and of one that has none
-  pub place-named : {A : Type 0} (d : A) (f : Property → A) (a : A) (b : Bool) → b ≡ true → PlaceIs s o b p → ((q : Property) → o ≡ some q → PropertyIs s q p → a ≡ f q) → a ≡ atPlace d f o
+  -- what is said of a place that has a property
+  place-named : {A : Type 0} (d : A) (f : Property → A) (a : A) (b : Bool) → b ≡ true → PlaceIs s o b p → ((q : Property) → o ≡ some q → PropertyIs s q p → a ≡ f q) → a ≡ atPlace d f o
   unfolding PlaceIs atPlace
   place-named {A} d f a b h w k = go o refl w
     where
       go : (x : Option Property) → o ≡ x → PlaceIs s x b p → a ≡ atPlace d f x
       go none e w = let z : _≡_ {A = Bool} true false = sym h ∙ w in let y : _≡_ {A = ℕ} 0 1 = cc in absurd (omega arith)
       go (some q) e w = k q e (w .1)
-
-  pub place-unnamed : {A : Type 0} (d : A) (f : Property → A) (b : Bool) → b ≡ false → PlaceIs s o b p → d ≡ atPlace d f o
-  unfolding PlaceIs atPlace
-  place-unnamed {A} d f b h w = go o w
-    where
-      go : (x : Option Property) → PlaceIs s x b p → d ≡ atPlace d f x
-      go none w = refl
-      go (some q) w = let z : _≡_ {A = Bool} true false = sym (w .0) ∙ h in let y : _≡_ {A = ℕ} 0 1 = cc in absurd (omega arith)
 
 none-past : {A : Type 0} (xs : List A) (i : ℕ) → getElem? xs i ≡ none → length xs ≤ i
 none-past [] i e = omega arith
@@ -99,6 +92,12 @@ place-is s t x d k w = go (getElem? (t .properties) k) refl
     go : (o : Option Property) → getElem? (t .properties) k ≡ o → PlaceIs s o (ltb k (x .count)) (getD (x .properties) k d)
     go none e = le-ltb k (x .count) (omega (arith, w .count, none-past (t .properties) k e))
     go (some q) e = (lt-ltb k (x .count) (omega (arith, w .count, some-within (t .properties) k q e)), w .are .each k q d e)
+
+-- what is said of a place that has a property, by the type's index
+pub place-said :
+    {A : Type 0} (s : List ℕ) (t : EventType) (x : TypeIndex) (d : PropertyAt) (k : ℕ) (b : A) (f : Property → A) (a : A) → TypeIs s t x → ltb k (x .count) ≡ true →
+    ((q : Property) → getElem? (t .properties) k ≡ some q → PropertyIs s q (getD (x .properties) k d) → a ≡ f q) → a ≡ atPlace b f (getElem? (t .properties) k)
+place-said s t x d k b f a w h g = place-named s (getElem? (t .properties) k) (getD (x .properties) k d) b f a _ h (place-is s t x d k w) g
 
 -- ---- all places
 
@@ -126,10 +125,6 @@ module _ (f : Property → List Text → Bool) (g : List Text → Bool) where
       ≡ (atPlace (g (getD ss k [])) (λ q. f q (getD ss k [])) (getElem? ps k) && eachPlace f g (drop (k + 1) ps) (drop (k + 1) ss))
   each-step k ps ss h = rw (add-one k) (place-step k ps ss h)
 
-  pub each-end : (k : ℕ) (ps : List Property) (ss : List (List Text)) → length ss ≤ k → length ps ≤ k → eachPlace f g (drop k ps) (drop k ss) ≡ true
-  unfolding eachPlace
-  each-end k ps ss h l = rw (drop-of-length-le ps l, drop-of-length-le ss h)
-
 -- the match objects of a place
 abbrev pub matchesAt : Option Property → List Text → ℕ
 matchesAt o s = atPlace 0 (λ q. cond (isMatch q) (length s) 0) o
@@ -149,15 +144,27 @@ match-end : (k : ℕ) (ps : List Property) (ss : List (List Text)) → length ps
 unfolding matchCount
 match-end k ps ss l = rw (drop-of-length-le ps l)
 
--- The places below k fit, and have so many match objects
-pub record Shape (ps : List Property) (ss : List (List Text)) (matches k : ℕ) : Type 0 where
+objects-step : (k : ℕ) (ss : List (List Text)) → k < length ss → objectCount (drop k ss) ≡ length (getD ss k []) + objectCount (drop (k + 1) ss)
+unfolding objectCount
+objects-step k ss h = rw (drop-cons ss k [] h, add-one)
+
+-- where there is no property, there are no objects
+all-empty : (f : Property → List Text → Bool) (ss : List (List Text)) → eachPlace f isEmpty [] ss ≡ eqb (objectCount ss) 0
+unfolding eachPlace objectCount
+all-empty f [] = refl
+all-empty f ([] ∷ ss) = rw zero-add (all-empty f ss)
+all-empty f ((v ∷ vs) ∷ ss) = rw (ne-eqb (length (v ∷ vs)) 0 (λ e. omega arith), ne-eqb (length (v ∷ vs) + objectCount ss) 0 (λ e. omega arith))
+
+-- The places below k fit, and have so many match objects; the others have `left` objects
+pub record Shape (ps : List Property) (ss : List (List Text)) (left matches k : ℕ) : Type 0 where
   pub each : eachPlace setFits isEmpty ps ss ≡ eachPlace setFits isEmpty (drop k ps) (drop k ss)
   pub count : matchCount ps ss ≡ matches + matchCount (drop k ps) (drop k ss)
+  pub objects : left ≡ objectCount (drop k ss)
 
-pub shape-first : (ps : List Property) (ss : List (List Text)) → Shape ps ss 0 0
-shape-first ps ss = record { each = refl; count = omega arith }
+pub shape-first : (ps : List Property) (ss : List (List Text)) (left : ℕ) → left ≡ objectCount ss → Shape ps ss left 0 0
+shape-first ps ss left h = record { each = refl; count = omega arith; objects = h }
 
-module _ (t : EventType) (x : Event) (matches k : ℕ) (w : Shape (t .properties) (x .sets) matches k) where
+module _ (t : EventType) (x : Event) (left matches k : ℕ) (w : Shape (t .properties) (x .sets) left matches k) where
   module _ (h : k < length (x .sets)) where
     each-next : eachPlace setFits isEmpty (t .properties) (x .sets) ≡ (atPlace (isEmpty (getD (x .sets) k [])) (λ q. setFits q (getD (x .sets) k [])) (getElem? (t .properties) k) && eachPlace setFits isEmpty (drop (k + 1) (t .properties)) (drop (k + 1) (x .sets)))
     each-next = w .each ∙ each-step setFits isEmpty k (t .properties) (x .sets) h
@@ -178,16 +185,25 @@ module _ (t : EventType) (x : Event) (matches k : ℕ) (w : Shape (t .properties
         both true = refl
         both false = refl
 
-    pub shape-more : (n : ℕ) → true ≡ atPlace (isEmpty (getD (x .sets) k [])) (λ q. setFits q (getD (x .sets) k [])) (getElem? (t .properties) k) → n ≡ matchesAt (getElem? (t .properties) k) (getD (x .sets) k []) → Shape (t .properties) (x .sets) (matches + n) (k + 1)
-    shape-more n e f = record {
+    pub shape-few : (count : ℕ) → count ≡ length (getD (x .sets) k []) → left < count → ⊥
+    shape-few count e l = omega (arith, w .objects, objects-step k (x .sets) h)
+
+    pub shape-more : (count n : ℕ) → count ≡ length (getD (x .sets) k []) → true ≡ atPlace (isEmpty (getD (x .sets) k [])) (λ q. setFits q (getD (x .sets) k [])) (getElem? (t .properties) k) → n ≡ matchesAt (getElem? (t .properties) k) (getD (x .sets) k []) → Shape (t .properties) (x .sets) (left - count) (matches + n) (k + 1)
+    shape-more count n o e f = record {
       each = each-next ∙ rw (← e);
       count =
           w .count ∙ ap (λ (i : ℕ). matches + i) (match-step k (t .properties) (x .sets) h ∙ ap (λ (i : ℕ). i + matchCount (drop (k + 1) (t .properties)) (drop (k + 1) (x .sets))) (sym f))
           ∙ sym (add-assoc matches n (matchCount (drop (k + 1) (t .properties)) (drop (k + 1) (x .sets))));
+      objects = omega (arith, w .objects, objects-step k (x .sets) h);
     }
 
-  pub shape-end : length (x .sets) ≤ k → length (t .properties) ≤ k → matches ≤ 32 → true ≡ eventShape t x
+  pub shape-end : (table : List ℕ) (i : TypeIndex) → TypeIs table t i → i .count ≤ k → matches ≤ 32 → eqb left 0 ≡ eventShape t x
   unfolding eventShape
-  shape-end h l m =
+  shape-end table i u h m =
+      let l : length (t .properties) ≤ k = omega (arith, u .count) in
       let c : matchCount (t .properties) (x .sets) ≤ 32 = omega (arith, w .count, match-end k (t .properties) (x .sets) l) in
-      sym (rw (w .each, each-end setFits isEmpty k (t .properties) (x .sets) h l, le-leb _ _ c))
+      sym (rw (w .each, drop-of-length-le (t .properties) l, all-empty setFits (drop k (x .sets)), ← w .objects, le-leb _ _ c) (both (eqb left 0)))
+    where
+      both : (b : Bool) → (b && true) ≡ b
+      both true = refl
+      both false = refl

@@ -24,7 +24,7 @@ use Rattle.event.specs.Event.{atPlace}
 use Rattle.event.specs.EventQuestions.{eachPlace, areInSpace, valuesFit}
 use Rattle.event.specs.EventIndex.{KindsAre}
 use Rattle.event.proofs.LookupLaws.{text-there, text-next}
-use Rattle.event.proofs.ShapeLaws.{place-named, place-is, each-step}
+use Rattle.event.proofs.ShapeLaws.{place-said, each-step}
 
 -- the kind that an index has the numbers of
 pub kind-of : (k : Kind) (kind first second third : ℕ) → KindIs k kind first second third → kindOf kind first second third ≡ some k
@@ -93,9 +93,7 @@ pub place-space :
     (table : List ℕ) (y : EventType) (x : TypeIndex) (d : PropertyAt) (k : ℕ) (vs : List Text) (r : Bool) → TypeIs table y x → KindsAre y → ltb k (x .count) ≡ true →
     let p = getD (x .properties) k d in
     ((a : Kind) → kindOf (p .kind) (p .first) (p .second) (p .third) ≡ some a → isKind a ≡ true → r ≡ areInSpace a vs) → r ≡ placeSpace (getElem? (y .properties) k) vs
-place-space table y x d k vs r w n h f =
-    place-named table (getElem? (y .properties) k) (getD (x .properties) k d) true (λ q. areInSpace (q .kind) vs) r _ h (place-is table y x d k w)
-    (λ q e z. f (q .kind) (kind-of (q .kind) _ _ _ _ (z .kind)) (n k q e))
+place-space table y x d k vs r w n h f = place-said table y x d k true (λ q. areInSpace (q .kind) vs) r w h (λ q e z. f (q .kind) (kind-of (q .kind) _ _ _ _ (z .kind)) (n k q e))
 
 -- where there is no property, nothing is asked
 pub free : (f : Property → List Text → Bool) (ss : List (List Text)) → eachPlace f (λ s. true) [] ss ≡ true
