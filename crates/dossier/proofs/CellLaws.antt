@@ -2,34 +2,35 @@
 use mathlib.Core.Path.{_≡_, refl, sym, ap, ap₂, _∙_}
 use mathlib.Core.Logic.{⊎-elim}
 use mathlib.Core.Bool.{Bool, true, false, cond, not, _&&_, _||_}
-use mathlib.Core.Option.{Option, none, some}
+use mathlib.Core.Option.{some}
 use mathlib.Core.List.{List, [], _∷_, map}
 use Prim.Native.Nat.{ℕ, zero, suc, _+_, _-_, _*_, _/_, _%_, _≤_, _<_}
+use native.Mathlib.Nat.{zero-add}
 use native.Mathlib.Omega.{arith}
 use native.Mathlib.Numerals.{add-one}
 use lib.Dec.{ltb, leb, eqb}
 use lib.ListN.{length, drop, getD, getElem?, drop-of-length-le, length-map}
 use lib.Seq.{drop-cons}
-use borrow.Author.Tests.{le-leb, lt-leb}
+use borrow.Author.Tests.{le-leb, lt-leb, ne-eqb}
 use Rattle.model.specs.Order.{Text}
-use Rattle.model.specs.Rule.{Cell, holds, differs}
+use Rattle.model.specs.Rule.{Cell, holds, differs, size, sizes}
 use Rattle.model.specs.Opening.{held, isMark}
 pub use Rattle.model.proofs.Cases.{and-false}
 use Rattle.model.proofs.Cases.{and-true}
+use Rattle.model.proofs.SizeLaws.{held-size}
 use Rattle.packed.proofs.LayoutLaws.{lt-or-ge}
 use Rattle.ontology.specs.Table.{Property, EventType, isMin, isMax, isMatch, isVersioned}
 use Rattle.ontology.specs.TypeIndex.{PropertyIs, TypeIs}
 use Rattle.ontology.specs.declared.properties.PropertyAt.{PropertyAt}
 use Rattle.ontology.specs.declared.types.TypeIndex.{TypeIndex}
-use Rattle.ontology.proofs.RunLaws.{no-element}
 use Rattle.event.specs.EventLayout.{bitNumber}
 use Rattle.event.specs.EventQuestions.{matchCount}
-use Rattle.event.specs.EventIndex.{SetsAre, noSet, PlaceIs}
+use Rattle.event.specs.EventIndex.{SetsAre, noSet}
 use Rattle.event.specs.declared.sets.SetAt.{SetAt}
 use Rattle.event.proofs.EventLayoutLaws.{low-bit, high-bits}
 use Rattle.dossier.specs.DossierLayout.{differBit}
 use Rattle.dossier.specs.DossierQuestions.{eachCell, isVacant, isPresent, isLone, isLoneIfSingle, isLoneIfExtreme, isUnmarkedMatch}
-use Rattle.dossier.specs.DossierIndex.{CellIs, CellsAre, cellFits, placeFits}
+use Rattle.dossier.specs.DossierIndex.{CellIs, CellsAre, cellFits}
 use Rattle.dossier.proofs.DossierLayoutLaws.{differ-small}
 
 -- ---- a property's cell
@@ -93,30 +94,9 @@ elem [] k h = absurd (omega arith)
 elem (a ∷ l) zero h = record { what = a; is = refl; split = ap (λ (n : ℕ). a ∷ drop n (a ∷ l)) (sym (add-one 0)) }
 elem (a ∷ l) (suc k) h = elem-more a l k (elem l k (omega arith))
 
--- ---- a place
-
-pub place-has : (s : List ℕ) (o : Option Property) (p : PropertyAt) (c : Cell) (named versioned : Bool) {r : Bool} → PlaceIs s o named p → named ≡ true → ((q : Property) → PropertyIs s q p → r ≡ cellFits versioned q c) → r ≡ placeFits versioned o c
-unfolding PlaceIs placeFits
-place-has s none p c named versioned w h k = let y : _≡_ {A = ℕ} 0 1 = cc in absurd (omega arith)
-place-has s (some q) p c named versioned w h k = k q (w .1)
-
-past : (s : List ℕ) (o : Option Property) (p : PropertyAt) (c : Cell) (named versioned : Bool) → PlaceIs s o named p → named ≡ false → placeFits versioned o c ≡ isVacant c
-unfolding PlaceIs placeFits
-past s none p c named versioned w h = refl
-past s (some q) p c named versioned w h = let y : _≡_ {A = ℕ} 0 1 = cc (w .0) in absurd (omega arith)
-
-module _ (s : List ℕ) (o : Option Property) (p : PropertyAt) (c : Cell) (named versioned marked : Bool) (count : ℕ) (w : PlaceIs s o named p) (v : CellIs c marked count) (n : named ≡ false) where
-  pub place-marked : marked ≡ true → false ≡ placeFits versioned o c
-  unfolding isVacant
-  place-marked e = let m : isMark c ≡ true = sym (v .mark) ∙ e in sym (past s o p c named versioned w n ∙ rw m)
-
-  pub place-empty : marked ≡ false → eqb count 0 ≡ placeFits versioned o c
-  unfolding isVacant
-  place-empty e = let m : isMark c ≡ false = sym (v .mark) ∙ e in sym (past s o p c named versioned w n ∙ rw m (ap (λ (n : ℕ). eqb n 0) (sym (v .size))))
-
 -- what is asked by the index of a type is what is asked by the type
-pub place-typed : (s : List ℕ) (ty : EventType) (t : TypeIndex) (o : Option Property) (c : Cell) {r : Bool} → TypeIs s ty t → r ≡ placeFits (ltb 0 (t .mark)) o c → r ≡ placeFits (isVersioned ty) o c
-place-typed s ty t o c w e = e ∙ ap (λ (n : ℕ). placeFits (ltb 0 n) o c) (w .mark)
+pub cell-typed : (s : List ℕ) (ty : EventType) (t : TypeIndex) (q : Property) (c : Cell) {r : Bool} → TypeIs s ty t → r ≡ cellFits (ltb 0 (t .mark)) q c → r ≡ cellFits (isVersioned ty) q c
+cell-typed s ty t q c w e = e ∙ ap (λ (n : ℕ). cellFits (ltb 0 n) q c) (w .mark)
 
 -- ---- the cells
 
@@ -148,32 +128,54 @@ module _ (s : List ℕ) (cs : List Cell) (differ : ℕ) (ats : List SetAt) (v : 
   pub bits-next : bits / 2 ≡ bitNumber (map differBit (drop (k + 1) cs))
   bits-next = ap (λ (n : ℕ). n / 2) here ∙ high-bits (differBit (getD cs k (holds []))) (bitNumber (map differBit (drop (k + 1) cs))) (differ-small (getD cs k (holds [])))
 
-  -- the cells from k on
-  module _ (f : Bool) (ps : List Property) where
-    cells-step : eachCell (cellFits f) isVacant (drop k ps) (drop k cs) ≡ (placeFits f (getElem? ps k) (getD cs k (holds [])) && eachCell (cellFits f) isVacant (drop (k + 1) ps) (drop (k + 1) cs))
-    unfolding eachCell placeFits
-    cells-step =
-        ⊎-elim (λ (l : k < length ps).
-        let e = elem ps k l in
-        rw (e .split, drop-cons cs k (holds []) long, e .is, add-one))
-        (λ (g : length ps ≤ k).
-        let n : length ps ≤ k + 1 = omega arith in
-        rw (drop-of-length-le ps g, drop-of-length-le ps n, drop-cons cs k (holds []) long, no-element ps k g, add-one))
-        (lt-or-ge k (length ps))
+  -- the objects from k on
+  module _ (left : ℕ) (o : left ≡ sizes (drop k cs)) where
+    sizes-step : left ≡ getD ats k noSet .count + sizes (drop (k + 1) cs)
+    unfolding sizes
+    sizes-step =
+        let e : sizes (drop k cs) ≡ size (getD cs k (holds [])) + sizes (drop (k + 1) cs) = rw (drop-cons cs k (holds []) long, add-one) in
+        omega (arith, o, e, held-size (getD cs k (holds [])), cell-here .size)
 
-    pub cells-bad : {r : Bool} → r ≡ placeFits f (getElem? ps k) (getD cs k (holds [])) → r ≡ false → eachCell (cellFits f) isVacant (drop k ps) (drop k cs) ≡ false
+    pub left-few : left < getD ats k noSet .count → ⊥
+    left-few l = omega (arith, sizes-step)
+
+    pub left-next : left - getD ats k noSet .count ≡ sizes (drop (k + 1) cs)
+    left-next = omega (arith, sizes-step)
+
+  -- the cells from k on
+  module _ (f : Bool) (ps : List Property) (l : k < length ps) where
+    pub named : Elem ps k
+    named = elem ps k l
+
+    cells-step : eachCell (cellFits f) isVacant (drop k ps) (drop k cs) ≡ (cellFits f (named .what) (getD cs k (holds [])) && eachCell (cellFits f) isVacant (drop (k + 1) ps) (drop (k + 1) cs))
+    unfolding eachCell
+    cells-step = rw (named .split, drop-cons cs k (holds []) long, add-one)
+
+    pub cells-bad : {r : Bool} → r ≡ cellFits f (named .what) (getD cs k (holds [])) → r ≡ false → eachCell (cellFits f) isVacant (drop k ps) (drop k cs) ≡ false
     cells-bad a e = cells-step ∙ ap (λ (x : Bool). x && eachCell (cellFits f) isVacant (drop (k + 1) ps) (drop (k + 1) cs)) (sym a ∙ e)
 
-    pub cells-more : {r : Bool} → r ≡ placeFits f (getElem? ps k) (getD cs k (holds [])) → r ≡ true → eachCell (cellFits f) isVacant (drop k ps) (drop k cs) ≡ eachCell (cellFits f) isVacant (drop (k + 1) ps) (drop (k + 1) cs)
+    pub cells-more : {r : Bool} → r ≡ cellFits f (named .what) (getD cs k (holds [])) → r ≡ true → eachCell (cellFits f) isVacant (drop k ps) (drop k cs) ≡ eachCell (cellFits f) isVacant (drop (k + 1) ps) (drop (k + 1) cs)
     cells-more a e = cells-step ∙ ap (λ (x : Bool). x && eachCell (cellFits f) isVacant (drop (k + 1) ps) (drop (k + 1) cs)) (sym a ∙ e)
 
--- no place is left
-pub cells-end : (s : List ℕ) (cs : List Cell) (differ : ℕ) (ats : List SetAt) → CellsAre s cs differ ats → (f : Bool) (ps : List Property) (k : ℕ) → length ps ≤ 32 → 32 ≤ k → eachCell (cellFits f) isVacant (drop k ps) (drop k cs) ≡ true
-unfolding eachCell
-cells-end s cs differ ats v f ps k few h =
-    let l : length cs ≤ k = omega (arith, v .sets .long, length-map cs held) in
-    let m : length ps ≤ k = omega arith in
-    rw (drop-of-length-le cs l, drop-of-length-le ps m)
+double-zero : (n : ℕ) → eqb (0 + 2 * n) 0 ≡ eqb n 0
+double-zero zero = refl
+double-zero (suc n) = ne-eqb (0 + 2 * suc n) 0 (λ e. omega arith) ∙ sym (ne-eqb (suc n) 0 (λ e. omega arith))
+
+-- where there is no property, there is no bit and no object
+all-vacant : (f : Property → Cell → Bool) (cs : List Cell) → eachCell f isVacant [] cs ≡ (eqb (bitNumber (map differBit cs)) 0 && eqb (sizes cs) 0)
+unfolding eachCell isVacant bitNumber differBit size sizes isMark held
+all-vacant f [] = refl
+all-vacant f (differs ∷ cs) = rw (ne-eqb (1 + 2 * bitNumber (map differBit cs)) 0 (λ e. omega arith))
+all-vacant f (holds [] ∷ cs) = rw (double-zero (bitNumber (map differBit cs)), zero-add (sizes cs)) (all-vacant f cs)
+all-vacant f (holds (v ∷ vs) ∷ cs) = rw (ne-eqb (length (v ∷ vs)) 0 (λ e. omega arith), ne-eqb (length (v ∷ vs) + sizes cs) 0 (λ e. omega arith)) (sym (and-false (eqb (0 + 2 * bitNumber (map differBit cs)) 0)))
+
+-- no property is left
+pub cells-end :
+    (s : List ℕ) (ty : EventType) (t : TypeIndex) (cs : List Cell) (f : Bool) (k bits left : ℕ) → TypeIs s ty t → t .count ≤ k → bits ≡ bitNumber (map differBit (drop k cs)) → left ≡ sizes (drop k cs) →
+    eachCell (cellFits f) isVacant (drop k (ty .properties)) (drop k cs) ≡ (eqb bits 0 && eqb left 0)
+cells-end s ty t cs f k bits left w h b o =
+    let l : length (ty .properties) ≤ k = omega (arith, w .count) in
+    rw (drop-of-length-le (ty .properties) l, b, o) (all-vacant (cellFits f) (drop k cs))
 
 -- ---- the match objects
 

@@ -1,19 +1,18 @@
 ghost use Prim.Native.Nat.{ℕ, _-_, _≤_};
 ghost use mathlib.Core.Path.{_≡_};
 ghost use mathlib.Core.Bool.{true, false, cond, not, _&&_, _||_};
-ghost use mathlib.Core.Option.{Option};
 ghost use mathlib.Core.List.{List, [], _∷_};
 ghost use lib.Dec.{leb, eqb};
 ghost use Rattle.model.specs.Order.{Text, texts, sets, lists, equal};
-ghost use Rattle.model.specs.Rule.{Cell, Snapshot};
+ghost use Rattle.model.specs.Rule.{Cell, Snapshot, sizes};
 ghost use Rattle.model.specs.Opening.{cellAt};
 ghost use Rattle.values.specs.Decimal.{inDecimal};
 ghost use Rattle.ontology.specs.Table.{Property, EventType, isMatch, isVersioned};
 ghost use Rattle.ontology.specs.TypeIndex.{PropertyIs, TypeIs};
 ghost use Rattle.event.specs.EventQuestions.{matchCount};
-ghost use Rattle.event.specs.EventIndex.{SetIs, SetsAre, PlaceIs};
+ghost use Rattle.event.specs.EventIndex.{SetIs, SetsAre};
 ghost use Rattle.dossier.specs.DossierQuestions.{eachCell, isVacant, holdsVersion, matchSets};
-ghost use Rattle.dossier.specs.DossierIndex.{CellIs, CellsAre, cellFits, placeFits, snapshotFits, versionFits, SnapshotIs};
+ghost use Rattle.dossier.specs.DossierIndex.{CellIs, CellsAre, cellFits, snapshotFits, versionFits, SnapshotIs};
 use crate::snapshots::SnapshotIndex;
 use event::sets::SetAt;
 use event::sets::set_part;
@@ -90,35 +89,31 @@ fn cell_fits(p: PropertyAt, versioned: bool, marked: bool, count: usize) -> bool
     }
 }
 
-// The same of a place, which `named` says has a property. Where there is none the cell is empty.
-fn place_fits(p: PropertyAt, named: bool, versioned: bool, marked: bool, count: usize) -> bool
-    ensures { λ r. ⌜ ((s : List ℕ) (o : Option Property) (c : Cell) → PlaceIs s o named p → CellIs c marked count → r ≡ placeFits versioned o c) ⌝ }
-{
-    if named {
-        return cell_fits(p, versioned, marked, count);
-    }
-    if marked {
-        return false;
-    }
-    count == 0
-}
-
-fn cells_fit(t: TypeIndex, differ: u64, sets: [SetAt; 32]) -> bool
+// The same of each place. The differ bits and the objects that are left after the last property stand at places without one.
+fn cells_fit(t: TypeIndex, differ: u64, objects: usize, sets: [SetAt; 32]) -> bool
     requires { ⌜ t .count ≤ 32 ⌝ }
-    ensures { λ r. ⌜ ((s u : List ℕ) (ty : EventType) (cs : List Cell) → TypeIs s ty t → CellsAre u cs differ sets → r ≡ eachCell (cellFits (isVersioned ty)) isVacant (ty .properties) cs) ⌝ }
+    ensures { λ r. ⌜ ((s u : List ℕ) (ty : EventType) (cs : List Cell) → TypeIs s ty t → CellsAre u cs differ sets → objects ≡ sizes cs → r ≡ eachCell (cellFits (isVersioned ty)) isVacant (ty .properties) cs) ⌝ }
 {
     let mut bits = differ;
+    let mut left = objects;
     let mut k: usize = 0;
-    while k < 32 {
+    while k < t.count {
         let p = t.properties[k];
         let x = sets[k];
-        if !place_fits(p, k < t.count, 0 < t.mark, bits % 2 == 1, x.count) {
+        if !cell_fits(p, 0 < t.mark, bits % 2 == 1, x.count) {
+            return false;
+        }
+        if left < x.count {
             return false;
         }
         bits = bits / 2;
+        left -= x.count;
         k += 1;
     }
-    true
+    if bits != 0 {
+        return false;
+    }
+    left == 0
 }
 
 // How many of a place's objects are match objects.
@@ -215,7 +210,7 @@ pub fn snapshot_fits(s: &[u8], x: SnapshotIndex, t: TypeIndex) -> bool
     ensures { λ r. ⌜ ((u : List ℕ) (ty : EventType) (y : Snapshot) → TypeIs u ty t → SnapshotIs (now (s .entry)) y x → r ≡ snapshotFits ty y) ⌝ }
 {
     let sets = x.sets;
-    if !cells_fit(t, x.differ, sets) {
+    if !cells_fit(t, x.differ, x.objects, sets) {
         return false;
     }
     if !is_match_small(t, sets) {

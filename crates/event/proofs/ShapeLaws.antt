@@ -10,13 +10,13 @@ use native.Mathlib.Nat.{add-assoc, zero-add}
 use lib.Dec.{ltb, eqb}
 use lib.ListN.{length, drop, getD, getElem?, drop-of-length-le}
 use lib.Seq.{drop-cons}
-use borrow.Author.Tests.{le-leb, lt-leb, lt-ltb, le-ltb, eq-eqb, ne-eqb}
+use borrow.Author.Tests.{ltb-true, le-leb, lt-leb, eq-eqb, ne-eqb}
 use Rattle.model.specs.Order.{Text}
+use Rattle.model.proofs.Cases.{and-true, and-false}
 use Rattle.ontology.specs.Table.{Property, EventType, strategyNumber, isMatch}
 use Rattle.ontology.specs.TypeIndex.{PropertyIs, TypeIs}
 use Rattle.event.specs.Event.{Event, objectCount, atPlace}
 use Rattle.event.specs.EventQuestions.{eachPlace, isEmpty, setFits, matchCount, eventShape}
-use Rattle.event.specs.EventIndex.{PlaceIs}
 use Rattle.ontology.specs.declared.properties.PropertyAt.{PropertyAt}
 use Rattle.ontology.specs.declared.types.TypeIndex.{TypeIndex}
 
@@ -60,44 +60,25 @@ match-no q n h = rw (ne-eqb (strategyNumber (q .strategy)) 5 h)
 
 -- ---- a place
 
-module _ (s : List ℕ) (o : Option Property) (p : PropertyAt) where
-  -- what is said of a place that has a property
-  place-named : {A : Type 0} (d : A) (f : Property → A) (a : A) (b : Bool) → b ≡ true → PlaceIs s o b p → ((q : Property) → o ≡ some q → PropertyIs s q p → a ≡ f q) → a ≡ atPlace d f o
-  unfolding PlaceIs atPlace
-  place-named {A} d f a b h w k = go o refl w
-    where
-      go : (x : Option Property) → o ≡ x → PlaceIs s x b p → a ≡ atPlace d f x
-      go none e w = let z : _≡_ {A = Bool} true false = sym h ∙ w in let y : _≡_ {A = ℕ} 0 1 = cc in absurd (omega arith)
-      go (some q) e w = k q e (w .1)
-
 none-past : {A : Type 0} (xs : List A) (i : ℕ) → getElem? xs i ≡ none → length xs ≤ i
 none-past [] i e = omega arith
 none-past (x ∷ xs) zero e = let z : _≡_ {A = ℕ} 0 1 = cc in absurd (omega arith)
 none-past (x ∷ xs) (suc i) e = omega (arith, none-past xs i e)
 
-some-within : {A : Type 0} (xs : List A) (i : ℕ) (a : A) → getElem? xs i ≡ some a → i < length xs
-some-within [] i a e = let z : _≡_ {A = ℕ} 0 1 = cc in absurd (omega arith)
-some-within (x ∷ xs) zero a e = omega arith
-some-within (x ∷ xs) (suc i) a e = omega (arith, some-within xs i a e)
-
 -- no property, where an array begins
 abbrev pub noProperty : PropertyAt
 noProperty = record { start = 0; end = 0; kind = 0; first = 0; second = 0; third = 0; optional = false; multivalued = false; strategy = 0 }
-
--- a place of a type, as the type's index has it
-pub place-is : (s : List ℕ) (t : EventType) (x : TypeIndex) (d : PropertyAt) (k : ℕ) → TypeIs s t x → PlaceIs s (getElem? (t .properties) k) (ltb k (x .count)) (getD (x .properties) k d)
-unfolding PlaceIs
-place-is s t x d k w = go (getElem? (t .properties) k) refl
-  where
-    go : (o : Option Property) → getElem? (t .properties) k ≡ o → PlaceIs s o (ltb k (x .count)) (getD (x .properties) k d)
-    go none e = le-ltb k (x .count) (omega (arith, w .count, none-past (t .properties) k e))
-    go (some q) e = (lt-ltb k (x .count) (omega (arith, w .count, some-within (t .properties) k q e)), w .are .each k q d e)
 
 -- what is said of a place that has a property, by the type's index
 pub place-said :
     {A : Type 0} (s : List ℕ) (t : EventType) (x : TypeIndex) (d : PropertyAt) (k : ℕ) (b : A) (f : Property → A) (a : A) → TypeIs s t x → ltb k (x .count) ≡ true →
     ((q : Property) → getElem? (t .properties) k ≡ some q → PropertyIs s q (getD (x .properties) k d) → a ≡ f q) → a ≡ atPlace b f (getElem? (t .properties) k)
-place-said s t x d k b f a w h g = place-named s (getElem? (t .properties) k) (getD (x .properties) k d) b f a _ h (place-is s t x d k w) g
+unfolding atPlace
+place-said s t x d k b f a w h g = go (getElem? (t .properties) k) refl
+  where
+    go : (o : Option Property) → getElem? (t .properties) k ≡ o → a ≡ atPlace b f o
+    go none e = absurd (omega (arith, w .count, ltb-true k (x .count) h, none-past (t .properties) k e))
+    go (some q) e = g q e (w .are .each k q d e)
 
 -- ---- all places
 
@@ -179,11 +160,7 @@ module _ (t : EventType) (x : Event) (left matches k : ℕ) (w : Shape (t .prope
         let c : matchCount (t .properties) (x .sets) ≡ matches + (n + matchCount (drop (k + 1) (t .properties)) (drop (k + 1) (x .sets))) =
         w .count ∙ ap (λ (i : ℕ). matches + i) (match-step k (t .properties) (x .sets) h ∙ ap (λ (i : ℕ). i + matchCount (drop (k + 1) (t .properties)) (drop (k + 1) (x .sets))) (sym e)) in
         let y : 32 < matchCount (t .properties) (x .sets) = omega (arith, c) in
-        sym (ap (λ (b : Bool). eachPlace setFits isEmpty (t .properties) (x .sets) && b) (lt-leb _ _ y) ∙ both (eachPlace setFits isEmpty (t .properties) (x .sets)))
-      where
-        both : (b : Bool) → (b && false) ≡ false
-        both true = refl
-        both false = refl
+        sym (ap (λ (b : Bool). eachPlace setFits isEmpty (t .properties) (x .sets) && b) (lt-leb _ _ y) ∙ and-false (eachPlace setFits isEmpty (t .properties) (x .sets)))
 
     pub shape-few : (count : ℕ) → count ≡ length (getD (x .sets) k []) → left < count → ⊥
     shape-few count e l = omega (arith, w .objects, objects-step k (x .sets) h)
@@ -202,8 +179,4 @@ module _ (t : EventType) (x : Event) (left matches k : ℕ) (w : Shape (t .prope
   shape-end table i u h m =
       let l : length (t .properties) ≤ k = omega (arith, u .count) in
       let c : matchCount (t .properties) (x .sets) ≤ 32 = omega (arith, w .count, match-end k (t .properties) (x .sets) l) in
-      sym (rw (w .each, drop-of-length-le (t .properties) l, all-empty setFits (drop k (x .sets)), ← w .objects, le-leb _ _ c) (both (eqb left 0)))
-    where
-      both : (b : Bool) → (b && true) ≡ b
-      both true = refl
-      both false = refl
+      sym (rw (w .each, drop-of-length-le (t .properties) l, all-empty setFits (drop k (x .sets)), ← w .objects, le-leb _ _ c) (and-true (eqb left 0)))

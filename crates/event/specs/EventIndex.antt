@@ -15,8 +15,7 @@ use Rattle.ontology.specs.Table.{Property, EventType}
 use Rattle.ontology.specs.TableLayout.{tableOf}
 use Rattle.ontology.specs.Questions as questions
 use Rattle.ontology.specs.Questions.{Asked, refused, accepted, ask}
-use Rattle.ontology.specs.TypeIndex.{PropertyIs, TypeIs}
-use Rattle.ontology.specs.declared.properties.PropertyAt.{PropertyAt}
+use Rattle.ontology.specs.TypeIndex.{TypeIs}
 use Rattle.event.specs.Event.{Event, objectCount, setAt}
 use Rattle.event.specs.EventLayout.{isSource, readParents, Counts, narrow, wide, setsBytes, presenceBit, bitNumber, headBytes}
 use Rattle.event.specs.declared.sets.SetAt.{SetAt}
@@ -169,11 +168,6 @@ ValueFound s e place index (Value a z) = ValueStands s e place index a z
 ValueFound s e place index NoValue = getElem? (setAt e place) index ≡ none
 
 -- ---- the questions
-
--- the property of a place, where `named` says that the type has one there
-unfoldable pub PlaceIs : List ℕ → Option Property → Bool → PropertyAt → Type 0
-PlaceIs s none named p = named ≡ false
-PlaceIs s (some q) named p = (named ≡ true) × PropertyIs s q p
 
 -- each property's kind has its parameters in their ranges, as in every table that is accepted
 abbrev pub KindsAre : EventType → Type 0
