@@ -127,7 +127,7 @@ module _ (table a : List ℕ) (d : DossierIndex) (b : List ℕ) (e : DossierInde
 -- so of dossiers of which the questions are known to be answered yes
 pub known-read :
     {table a b : List ℕ} {t : TypeIndex} (d e : DossierIndex) → Known table a b t →
-    DossierReads (dossierOf standard a) a d → DossierReads (dossierOf standard b) b e → Combinable table a d b e t
+    ((h : Headed) → dossierOf standard a ≡ some h → DossierIs a h d) → ((h : Headed) → dossierOf standard b ≡ some h → DossierIs b h e) → Combinable table a d b e t
 known-read {table} {a} {b} {t} d e k v w = record {
   types = k .types;
   is = k .is;
@@ -137,8 +137,8 @@ known-read {table} {a} {b} {t} d e k v w = record {
   right-asked = k .right-asked;
   agree = k .agree;
   typed = k .typed;
-  left-read = reads-is a d (k .left .headed) v (dossier-taken (k .types) a (k .left) (k .left-asked) .read);
-  right-read = reads-is b e (k .right .headed) w (dossier-taken (k .types) b (k .right) (k .right-asked) .read);
+  left-read = v (k .left .headed) (dossier-taken (k .types) a (k .left) (k .left-asked) .read);
+  right-read = w (k .right .headed) (dossier-taken (k .types) b (k .right) (k .right-asked) .read);
 }
 
 -- ---- question 8

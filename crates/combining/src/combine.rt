@@ -11,6 +11,7 @@ use crate::limits::limits_fit;
 use crate::write::write_combined;
 use dossier::dossiers::DossierIndex;
 use dossier::dossiers::read_dossier;
+use dossier::known::read_known;
 use dossier::questions::ask_dossier;
 use dossier::questions::dossiers_agree;
 use dossier::questions::type_name;
@@ -89,7 +90,7 @@ pub fn combine_known<'a>(
     requires { ⌜ Known (now table) (now left) (now right) t × (32768 ≤ length (now out)) ⌝ }
     ensures { λ r. ⌜ replies r (now (out .exit)) ≡ combineCall standard (now (table .entry)) (now (left .entry)) (now (right .entry)) (now (out .entry)) ⌝ }
 {
-    let d = read_dossier(left);
-    let e = read_dossier(right);
+    let d = read_known(left);
+    let e = read_known(right);
     combine_read(table, left, d, right, e, t, out)
 }

@@ -121,16 +121,16 @@ small-all [] h = tt
 small-all (x ∷ xs) h = let a = and-parts (leb (length x) 256) (areSmall xs) h in (leb-true (length x) 256 (a .0), small-all xs (a .1))
 
 -- the presence and the differ number of a snapshot
-abbrev presenceOf : Snapshot → ℕ
+abbrev pub presenceOf : Snapshot → ℕ
 presenceOf s = bitNumber (map presenceBit (map held (s .cells)))
 
-abbrev differOf : Snapshot → ℕ
+abbrev pub differOf : Snapshot → ℕ
 differOf s = bitNumber (map differBit (s .cells))
 
 pub differ-below : (s : Snapshot) → SnapshotWritten s → bitNumber (map differBit (s .cells)) < 2 ^ 32
 differ-below s w = subst (λ (n : ℕ). differOf s < 2 ^ n) (snapshot-cells s w) (bits-small differBit (s .cells) differ-small)
 
-snapshot-parts : (s : Snapshot) (r : List ℕ) → snapshotBytes s ++ r ≡ number (s .version) ++ (number (presenceOf s) ++ (number (differOf s) ++ (setsBytes (map held (s .cells)) ++ r)))
+pub snapshot-parts : (s : Snapshot) (r : List ℕ) → snapshotBytes s ++ r ≡ number (s .version) ++ (number (presenceOf s) ++ (number (differOf s) ++ (setsBytes (map held (s .cells)) ++ r)))
 unfolding snapshotBytes
 snapshot-parts s r = simp append-assoc
 

@@ -89,6 +89,10 @@ times-stop : (n : ℕ) (t : List ℕ) → readSnapshot t ≡ fail → times read
 unfolding times
 times-stop n t e = ap (λ (p : Parse Snapshot). andThen p (λ y o. andThen (times readSnapshot n o) (λ xs u. got (y ∷ xs) u))) e
 
+-- as many as were asked for
+pub as-many : (n : ℕ) (t : List ℕ) (xs : List Snapshot) (r : List ℕ) → times readSnapshot n t ≡ got xs r → length xs ≡ n
+as-many n t xs r e = times-was readSnapshot snapshotBytes SnapshotWritten snapshot-was n t xs r e .1
+
 pub reads-at : (s : List ℕ) (at : ℕ) (i : SnapshotIndex) → SnapshotReads (readSnapshot (take (length s - at) (drop at s))) (take (length s - at) (drop at s)) i → SnapshotReads (readSnapshot (drop at s)) (drop at s) i
 reads-at s at i w = subst (λ (t : List ℕ). SnapshotReads (readSnapshot t) t i) (to-end s at) w
 
@@ -108,6 +112,10 @@ reads-some (got x t) s i w h = record { what = x; is = w .1 }
 
 abbrev differNumber : Snapshot → ℕ
 differNumber x = bitNumber (map differBit (x .cells))
+
+-- an array of which each element is the same
+abbrev pub eight : ℕ → List ℕ
+eight n = n ∷ n ∷ n ∷ n ∷ n ∷ n ∷ n ∷ n ∷ []
 
 -- The first j of n snapshots are read: they are xs, and the others stand from `next` on
 pub record Passed (p : Parse (List Snapshot)) (s starts ends versions differs : List ℕ) (first : SnapshotIndex) (n next j : ℕ) : Type 0 where
@@ -152,12 +160,103 @@ module _ (p : Parse (List Snapshot)) (s starts ends versions differs : List ℕ)
   one-more : j < n → suc (n - (j + 1)) ≡ n - j
   one-more h = omega arith
 
-  module _ (i : SnapshotIndex) (v : SnapshotReads (readSnapshot (drop next s)) (drop next s) i) (h : j < n) where
-    pub passed-bad : i .ok ≡ false → p ≡ fail
-    passed-bad b =
+  module _ (h : j < n) where
+    pub passed-stop : readSnapshot (drop next s) ≡ fail → p ≡ fail
+    passed-stop e =
         w .rest
         ∙ ap (λ (m : ℕ). prepend (w .xs) (times readSnapshot m (drop next s))) (sym (one-more h))
-        ∙ ap (prepend (w .xs)) (times-stop (n - (j + 1)) (drop next s) (reads-none (readSnapshot (drop next s)) (drop next s) i v b))
+        ∙ ap (prepend (w .xs)) (times-stop (n - (j + 1)) (drop next s) e)
+
+    -- the snapshot x stands at `next`
+    module _ (x : Snapshot) (end version differ : ℕ) (at-next : SnapshotAt s x next end) (v : version ≡ x .version) (d : differ ≡ differNumber x) (few : n ≤ 8) where
+      old : (m : ℕ) → m < j → m ≡ j → ⊥
+      old m l e = omega arith
+
+      each-old : (m : ℕ) → m < j → SnapshotAt s (getD (w .xs ++ (x ∷ [])) m noSnapshot) (getD (set starts j next) m 0) (getD (set ends j end) m 0)
+      each-old m l =
+          rw (getD-set-other starts j m next 0 (old m l), getD-set-other ends j m end 0 (old m l), List·getD-append (w .xs) (x ∷ []) noSnapshot m (omega (arith, w .long)))
+          (w .each m l)
+
+      each-last : SnapshotAt s (getD (w .xs ++ (x ∷ [])) j noSnapshot) (getD (set starts j next) j 0) (getD (set ends j end) j 0)
+      each-last =
+          let a : j < length starts = omega (arith, w .starts-long) in
+          let b : j < length ends = omega (arith, w .ends-long) in
+          rw (getD-set-same starts j next 0 a, getD-set-same ends j end 0 b, getD-at (w .xs) x [] noSnapshot j (w .long)) at-next
+
+      follows-on : (m : ℕ) → suc m < j + 1 → getD (set starts j next) (suc m) 0 ≡ getD (set ends j end) m 0
+      follows-on m l =
+          let ne : m ≡ j → ⊥ = λ e. omega arith in
+          let a : j < length starts = omega (arith, w .starts-long) in
+          ⊎-elim (λ (b : suc m < j). getD-set-other starts j (suc m) next 0 (old (suc m) b) ∙ w .follows m b ∙ sym (getD-set-other ends j m end 0 ne))
+          (λ (b : j ≤ suc m).
+          let e : suc m ≡ j = omega arith in
+          ap (λ (k : ℕ). getD (set starts j next) k 0) e ∙ getD-set-same starts j next 0 a ∙ sym (getD-set-other ends j m end 0 ne ∙ w .last m e))
+          (lt-or-ge (suc m) j)
+
+      last-on : (m : ℕ) → suc m ≡ j + 1 → getD (set ends j end) m 0 ≡ end
+      last-on m l =
+          let e : m ≡ j = omega arith in
+          let a : j < length ends = omega (arith, w .ends-long) in
+          ap (λ (k : ℕ). getD (set ends j end) k 0) e ∙ getD-set-same ends j end 0 a
+
+      numbers-on : take (j + 1) (set versions j version) ≡ map (λ (y : Snapshot). y .version) (w .xs ++ (x ∷ []))
+      numbers-on =
+          let a : j < length versions = omega (arith, w .versions-long) in
+          ap (λ (k : ℕ). take k (set versions j version)) (add-one j)
+          ∙ take-suc-set versions j version a
+          ∙ ap₂ (λ (l : List ℕ) (k : ℕ). l ++ (k ∷ [])) (w .numbers) v
+          ∙ sym (map-append (λ (y : Snapshot). y .version) (w .xs) (x ∷ []))
+
+      marks-on : take (j + 1) (set differs j differ) ≡ map differNumber (w .xs ++ (x ∷ []))
+      marks-on =
+          let a : j < length differs = omega (arith, w .differs-long) in
+          ap (λ (k : ℕ). take k (set differs j differ)) (add-one j)
+          ∙ take-suc-set differs j differ a
+          ∙ ap₂ (λ (l : List ℕ) (k : ℕ). l ++ (k ∷ [])) (w .marks) d
+          ∙ sym (map-append differNumber (w .xs) (x ∷ []))
+
+      -- the index of the first snapshot is that of the one that is read first
+      front-on : (j ≡ 0 → SnapshotIs (drop next s) x first) → SnapshotIs (drop (getD (set starts j next) 0 0) s) (getD (w .xs ++ (x ∷ [])) 0 noSnapshot) first
+      front-on is =
+          ⊎-elim (λ (b : 0 < j).
+          let o : 0 ≡ j → ⊥ = λ e. omega arith in
+          rw (getD-set-other starts j 0 next 0 o, List·getD-append (w .xs) (x ∷ []) noSnapshot 0 (omega (arith, w .long))) (w .front b))
+          (λ (b : j ≤ 0).
+          let e : j ≡ 0 = omega arith in
+          let a : j < length starts = omega (arith, w .starts-long) in
+          let g : SnapshotIs (drop (getD (set starts j next) j 0) s) (getD (w .xs ++ (x ∷ [])) j noSnapshot) first =
+          rw (getD-set-same starts j next 0 a, getD-at (w .xs) x [] noSnapshot j (w .long)) (is e) in
+          subst (λ (k : ℕ). SnapshotIs (drop (getD (set starts j next) k 0) s) (getD (w .xs ++ (x ∷ [])) k noSnapshot) first) e g)
+          (lt-or-ge 0 j)
+
+      pub passed-one : (j ≡ 0 → SnapshotIs (drop next s) x first) → Passed p s (set starts j next) (set ends j end) (set versions j version) (set differs j differ) first n end (j + 1)
+      passed-one is = record {
+        xs = w .xs ++ (x ∷ []);
+        long = length-append (w .xs) (x ∷ []) ∙ ap (λ (m : ℕ). m + 1) (w .long);
+        below = omega arith;
+        rest =
+            w .rest
+            ∙ ap (λ (m : ℕ). prepend (w .xs) (times readSnapshot m (drop next s))) (sym (one-more h))
+            ∙ ap (prepend (w .xs)) (times-step (n - (j + 1)) (drop next s) x (drop end s) (at-next .is))
+            ∙ prepend-one (w .xs) x (times readSnapshot (n - (j + 1)) (drop end s));
+        within = at-next .within;
+        each =
+            below-more (λ (m : ℕ). SnapshotAt s (getD (w .xs ++ (x ∷ [])) m noSnapshot) (getD (set starts j next) m 0) (getD (set ends j end) m 0))
+            j each-old each-last;
+        follows = follows-on;
+        last = last-on;
+        numbers = numbers-on;
+        marks = marks-on;
+        front = λ k. front-on is;
+        starts-long = length-set starts j next ∙ w .starts-long;
+        ends-long = length-set ends j end ∙ w .ends-long;
+        versions-long = length-set versions j version ∙ w .versions-long;
+        differs-long = length-set differs j differ ∙ w .differs-long;
+      }
+
+  module _ (i : SnapshotIndex) (v : SnapshotReads (readSnapshot (drop next s)) (drop next s) i) (h : j < n) where
+    pub passed-bad : i .ok ≡ false → p ≡ fail
+    passed-bad b = passed-stop h (reads-none (readSnapshot (drop next s)) (drop next s) i v b)
 
     module _ (ok : i .ok ≡ true) where
       one : SnapshotRead (drop next s) i
@@ -166,8 +265,8 @@ module _ (p : Parse (List Snapshot)) (s starts ends versions differs : List ℕ)
       pub next-within : next + i .next ≤ length s
       next-within = omega (arith, one .is .within, length-drop next s, w .within)
 
-      at-next : SnapshotAt s (one .what) next (next + i .next)
-      at-next =
+      here : SnapshotAt s (one .what) next (next + i .next)
+      here =
           let e : next + i .next - next ≡ i .next = omega arith in
           record {
             is = one .is .is ∙ ap (got (one .what)) (drop-drop (i .next) next s);
@@ -176,96 +275,10 @@ module _ (p : Parse (List Snapshot)) (s starts ends versions differs : List ℕ)
             within = next-within;
           }
 
-      module _ (few : n ≤ 8) where
-        old : (m : ℕ) → m < j → m ≡ j → ⊥
-        old m l e = omega arith
-
-        each-old : (m : ℕ) → m < j → SnapshotAt s (getD (w .xs ++ (one .what ∷ [])) m noSnapshot) (getD (set starts j next) m 0) (getD (set ends j (next + i .next)) m 0)
-        each-old m l =
-            rw (
-              getD-set-other starts j m next 0 (old m l),
-              getD-set-other ends j m (next + i .next) 0 (old m l),
-              List·getD-append (w .xs) (one .what ∷ []) noSnapshot m (omega (arith, w .long)),
-            )
-            (w .each m l)
-
-        each-last : SnapshotAt s (getD (w .xs ++ (one .what ∷ [])) j noSnapshot) (getD (set starts j next) j 0) (getD (set ends j (next + i .next)) j 0)
-        each-last =
-            let a : j < length starts = omega (arith, w .starts-long) in
-            let b : j < length ends = omega (arith, w .ends-long) in
-            rw (getD-set-same starts j next 0 a, getD-set-same ends j (next + i .next) 0 b, getD-at (w .xs) (one .what) [] noSnapshot j (w .long)) at-next
-
-        follows-on : (m : ℕ) → suc m < j + 1 → getD (set starts j next) (suc m) 0 ≡ getD (set ends j (next + i .next)) m 0
-        follows-on m l =
-            let ne : m ≡ j → ⊥ = λ e. omega arith in
-            let a : j < length starts = omega (arith, w .starts-long) in
-            ⊎-elim (λ (b : suc m < j). getD-set-other starts j (suc m) next 0 (old (suc m) b) ∙ w .follows m b ∙ sym (getD-set-other ends j m (next + i .next) 0 ne))
-            (λ (b : j ≤ suc m).
-            let e : suc m ≡ j = omega arith in
-            ap (λ (k : ℕ). getD (set starts j next) k 0) e ∙ getD-set-same starts j next 0 a ∙ sym (getD-set-other ends j m (next + i .next) 0 ne ∙ w .last m e))
-            (lt-or-ge (suc m) j)
-
-        last-on : (m : ℕ) → suc m ≡ j + 1 → getD (set ends j (next + i .next)) m 0 ≡ next + i .next
-        last-on m l =
-            let e : m ≡ j = omega arith in
-            let a : j < length ends = omega (arith, w .ends-long) in
-            ap (λ (k : ℕ). getD (set ends j (next + i .next)) k 0) e ∙ getD-set-same ends j (next + i .next) 0 a
-
-        numbers-on : take (j + 1) (set versions j (i .version .0)) ≡ map (λ (x : Snapshot). x .version) (w .xs ++ (one .what ∷ []))
-        numbers-on =
-            let a : j < length versions = omega (arith, w .versions-long) in
-            ap (λ (k : ℕ). take k (set versions j (i .version .0))) (add-one j)
-            ∙ take-suc-set versions j (i .version .0) a
-            ∙ ap₂ (λ (l : List ℕ) (v : ℕ). l ++ (v ∷ [])) (w .numbers) (one .is .version)
-            ∙ sym (map-append (λ (x : Snapshot). x .version) (w .xs) (one .what ∷ []))
-
-        marks-on : take (j + 1) (set differs j (i .differ)) ≡ map differNumber (w .xs ++ (one .what ∷ []))
-        marks-on =
-            let a : j < length differs = omega (arith, w .differs-long) in
-            ap (λ (k : ℕ). take k (set differs j (i .differ))) (add-one j)
-            ∙ take-suc-set differs j (i .differ) a
-            ∙ ap₂ (λ (l : List ℕ) (v : ℕ). l ++ (v ∷ [])) (w .marks) (one .is .differ)
-            ∙ sym (map-append differNumber (w .xs) (one .what ∷ []))
-
-        -- the index of the first snapshot is that of the one that is read first
-        front-on : (j ≡ 0 → i ≡ first) → SnapshotIs (drop (getD (set starts j next) 0 0) s) (getD (w .xs ++ (one .what ∷ [])) 0 noSnapshot) first
-        front-on same =
-            ⊎-elim (λ (b : 0 < j).
-            let o : 0 ≡ j → ⊥ = λ e. omega arith in
-            rw (getD-set-other starts j 0 next 0 o, List·getD-append (w .xs) (one .what ∷ []) noSnapshot 0 (omega (arith, w .long))) (w .front b))
-            (λ (b : j ≤ 0).
-            let e : j ≡ 0 = omega arith in
-            let a : j < length starts = omega (arith, w .starts-long) in
-            let g : SnapshotIs (drop (getD (set starts j next) j 0) s) (getD (w .xs ++ (one .what ∷ [])) j noSnapshot) i =
-            rw (getD-set-same starts j next 0 a, getD-at (w .xs) (one .what) [] noSnapshot j (w .long)) (one .is) in
-            subst (λ (x : SnapshotIndex). SnapshotIs (drop (getD (set starts j next) 0 0) s) (getD (w .xs ++ (one .what ∷ [])) 0 noSnapshot) x) (same e)
-            (subst (λ (k : ℕ). SnapshotIs (drop (getD (set starts j next) k 0) s) (getD (w .xs ++ (one .what ∷ [])) k noSnapshot) i) e g))
-            (lt-or-ge 0 j)
-
-        pub passed-more : (j ≡ 0 → i ≡ first) → Passed p s (set starts j next) (set ends j (next + i .next)) (set versions j (i .version .0)) (set differs j (i .differ)) first n (next + i .next) (j + 1)
-        passed-more same = record {
-          xs = w .xs ++ (one .what ∷ []);
-          long = length-append (w .xs) (one .what ∷ []) ∙ ap (λ (m : ℕ). m + 1) (w .long);
-          below = omega arith;
-          rest =
-              w .rest
-              ∙ ap (λ (m : ℕ). prepend (w .xs) (times readSnapshot m (drop next s))) (sym (one-more h))
-              ∙ ap (prepend (w .xs)) (times-step (n - (j + 1)) (drop next s) (one .what) (drop (next + i .next) s) (at-next .is))
-              ∙ prepend-one (w .xs) (one .what) (times readSnapshot (n - (j + 1)) (drop (next + i .next) s));
-          within = next-within;
-          each =
-              below-more (λ (m : ℕ). SnapshotAt s (getD (w .xs ++ (one .what ∷ [])) m noSnapshot) (getD (set starts j next) m 0) (getD (set ends j (next + i .next)) m 0))
-              j each-old each-last;
-          follows = follows-on;
-          last = last-on;
-          numbers = numbers-on;
-          marks = marks-on;
-          front = λ k. front-on same;
-          starts-long = length-set starts j next ∙ w .starts-long;
-          ends-long = length-set ends j (next + i .next) ∙ w .ends-long;
-          versions-long = length-set versions j (i .version .0) ∙ w .versions-long;
-          differs-long = length-set differs j (i .differ) ∙ w .differs-long;
-        }
+      pub passed-more : n ≤ 8 → (j ≡ 0 → i ≡ first) → Passed p s (set starts j next) (set ends j (next + i .next)) (set versions j (i .version .0)) (set differs j (i .differ)) first n (next + i .next) (j + 1)
+      passed-more few same =
+          passed-one h (one .what) (next + i .next) (i .version .0) (i .differ) here (one .is .version) (one .is .differ) few
+          (λ e. subst (SnapshotIs (drop next s) (one .what)) (same e) (one .is))
 
   module _ (full : n ≤ j) where
     all : p ≡ got (w .xs) (drop next s)
@@ -326,10 +339,10 @@ snapshots-found fail s r w h = let z : _≡_ {A = ℕ} 0 1 = cc in absurd (omega
 snapshots-found (got xs t) s r w h = record { what = xs; is = ap (got xs) (w .rest); within = w .within; are = w .are; differs = w .differs; first = w .first }
 
 -- what follows the head
-abbrev headed : HeadOf → List Snapshot → Headed
+abbrev pub headed : HeadOf → List Snapshot → Headed
 headed h ss = record { type = h .type; source = h .source; dossier = record { parents = h .parents; snapshots = ss } }
 
-abbrev risen : HeadOf → List Snapshot → Layout Headed
+abbrev pub risen : HeadOf → List Snapshot → Layout Headed
 risen h ss = foundIf (rising numbers (map (λ (s : Snapshot). s .version) ss)) (headed h ss)
 
 abbrev counted : HeadOf → ℕ → Layout Headed
@@ -375,19 +388,20 @@ module _ (s : List ℕ) (x : HeadAt) (w : HeadStops (readHead 32 s) s x) where
   pub no-count : suchThat (isWithin 1 8) readNumber (drop (x .parents .end) s) ≡ fail → dossierOf standard s ≡ none
   no-count e = no-dossier s (head-step ∙ ap (λ (p : Parse ℕ). andThen p (counted (w .what))) e)
 
-  module _ (n at : ℕ) (c : Got (suchThat (isWithin 1 8) readNumber (drop (x .parents .end) s)) s (x .parents .end) n at) (r : SnapshotsRead) (v : SnapshotsReads (times readSnapshot n (drop at s)) s r) where
-    times-all : readDossier standard s ≡ andThen (times readSnapshot n (drop at s)) (risen (w .what))
+  module _ (n at : ℕ) (c : Got (suchThat (isWithin 1 8) readNumber (drop (x .parents .end) s)) s (x .parents .end) n at) where
+    pub times-all : readDossier standard s ≡ andThen (times readSnapshot n (drop at s)) (risen (w .what))
     times-all = head-step ∙ ap (λ (p : Parse ℕ). andThen p (counted (w .what))) (c .is)
 
+  module _ (n at : ℕ) (c : Got (suchThat (isWithin 1 8) readNumber (drop (x .parents .end) s)) s (x .parents .end) n at) (r : SnapshotsRead) (v : SnapshotsReads (times readSnapshot n (drop at s)) s r) where
     pub no-snapshots : r .ok ≡ false → dossierOf standard s ≡ none
-    no-snapshots h = no-dossier s (times-all ∙ rw (snapshots-refused (times readSnapshot n (drop at s)) s r v h))
+    no-snapshots h = no-dossier s (times-all n at c ∙ rw (snapshots-refused (times readSnapshot n (drop at s)) s r v h))
 
     module _ (ok : r .ok ≡ true) where
       these : Found (times readSnapshot n (drop at s)) s r
       these = snapshots-found (times readSnapshot n (drop at s)) s r v ok
 
       last-step : readDossier standard s ≡ risen (w .what) (these .what) (drop (r .next) s)
-      last-step = times-all ∙ rw (these .is)
+      last-step = times-all n at c ∙ rw (these .is)
 
       pub not-whole : (r .next ≡ length s → ⊥) → dossierOf standard s ≡ none
       unfolding dossierOf
@@ -399,9 +413,8 @@ module _ (s : List ℕ) (x : HeadAt) (w : HeadStops (readHead 32 s) s x) where
           go true e = rw e
           go false e = refl
 
-      -- as many as were asked for
       many : length (these .what) ≡ n
-      many = times-was readSnapshot snapshotBytes SnapshotWritten snapshot-was n (drop at s) (these .what) (drop (r .next) s) (these .is) .1
+      many = as-many n (drop at s) (these .what) (drop (r .next) s) (these .is)
 
       rises : (b : Bool) → b ≡ rising numbers (take n (r .versions)) → rising numbers (map (λ (s : Snapshot). s .version) (these .what)) ≡ b
       rises b e = ap (rising numbers) (sym (these .are .numbers) ∙ ap (λ (k : ℕ). take k (r .versions)) many) ∙ sym e

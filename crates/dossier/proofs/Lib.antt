@@ -3,6 +3,7 @@ pub mod DossierLayoutLaws
 pub mod DossierSizeLaws
 pub mod SnapshotLaws
 pub mod DossierReadLaws
+pub mod KnownLaws
 pub mod CellLaws
 pub mod DigitLaws
 pub mod MatchLaws

@@ -24,6 +24,7 @@ use Rattle.dossier.specs.declared.snapshots.NumbersAt.the-variants.{Numb
 use Rattle.dossier.specs.declared.snapshots.SnapshotIndex.{SnapshotIndex}
 use Rattle.dossier.specs.declared.dossiers.SnapshotsRead.{SnapshotsRead}
 use Rattle.dossier.specs.declared.dossiers.DossierIndex.{DossierIndex}
+use Rattle.dossier.specs.declared.known.SnapshotSkipped.{SnapshotSkipped}
 use Rattle.dossier.specs.declared.questions.DossierAsked.{DossierAsked}
 
 -- ---- a snapshot
@@ -69,6 +70,12 @@ pub record SnapshotAt (s : List ℕ) (x : Snapshot) (start end : ℕ) : Type 0 w
   pub bytes : part s start end ≡ snapshotBytes x
   pub order : start ≤ end
   pub within : end ≤ length s
+
+-- the snapshot x stands from `start` on, and is skipped over
+pub record SkippedIs (s : List ℕ) (x : Snapshot) (start : ℕ) (r : SnapshotSkipped) : Type 0 where
+  pub stands : SnapshotAt s x start (r .next)
+  pub version : r .version ≡ x .version
+  pub differ : r .differ ≡ bitNumber (map differBit (x .cells))
 
 abbrev pub noSnapshot : Snapshot
 noSnapshot = record { version = 0; cells = [] }

@@ -19,14 +19,14 @@ use ontology::fields::read_within;
 use packed::read::NumberAt;
 
 // Where each of the snapshots stands, its version and its differ number, the index of the first, and the position after the last.
-struct SnapshotsRead {
-    ok: bool,
-    next: usize,
-    starts: [usize; 8],
-    ends: [usize; 8],
-    versions: [u64; 8],
-    differs: [u64; 8],
-    first: SnapshotIndex,
+pub struct SnapshotsRead {
+    pub ok: bool,
+    pub next: usize,
+    pub starts: [usize; 8],
+    pub ends: [usize; 8],
+    pub versions: [u64; 8],
+    pub differs: [u64; 8],
+    pub first: SnapshotIndex,
 }
 
 // Where each thing of a dossier stands: its head, and the start and the end of each of its `count` snapshots, with their versions and differ numbers. The
@@ -96,7 +96,7 @@ fn versions_rise(versions: [u64; 8], count: usize) -> bool
     true
 }
 
-fn no_dossier() -> DossierIndex
+pub fn no_dossier() -> DossierIndex
     ensures { λ r. ⌜ r .ok ≡ false ⌝ }
 {
     let part = PartAt { start: 0, end: 0 };

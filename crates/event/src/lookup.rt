@@ -37,7 +37,7 @@ fn skip_texts(s: &[u8], at: usize, count: usize) -> usize
 }
 
 // The position after the sets of `count` places with objects.
-fn skip_sets(s: &[u8], at: usize, count: u32) -> usize
+pub fn skip_sets(s: &[u8], at: usize, count: u32) -> usize
     ensures { λ to. ⌜ ((xs : List (List Text)) (r : List ℕ) → drop at (now (s .entry)) ≡ setsBytes xs ++ r → at ≤ length (now (s .entry)) → count ≡ present xs → Skipped (now (s .entry)) at (setsBytes xs) r to) ⌝ }
 {
     let mut pos = at;

@@ -1,7 +1,7 @@
 use borrow.Author.Needs.{needs}
 use mathlib.Core.Path.{_≡_, refl}
 use mathlib.Core.Bool.{false}
-use mathlib.Core.List.{List, [], _∷_}
+use mathlib.Core.List.{List}
 use Prim.Native.Nat.{ℕ, _-_, _≤_}
 use native.Mathlib.Omega.{arith}
 use lib.ListN.{drop}
@@ -9,7 +9,7 @@ use borrow.Author.Tests.{not-true, not-false}
 use Rattle.packed.specs.Parse.{times}
 use Rattle.dossier.specs.DossierLayout.{readSnapshot}
 use Rattle.dossier.specs.DossierIndex.{SnapshotReads}
-use Rattle.dossier.proofs.DossierReadLaws.{reads-at, Passed, passed-bad, passed-more, passed-all, next-within, first-bad, first-within, passed-first, snapshots-none}
+use Rattle.dossier.proofs.DossierReadLaws.{reads-at, eight, Passed, passed-bad, passed-more, passed-all, next-within, first-bad, first-within, passed-first, snapshots-none}
 use Rattle.dossier.proofs.dossiers.read_snapshots.Statement.{statement}
 use Rattle.dossier.proofs.dossiers.read_snapshots.Tie as tie
 use Rattle.dossier.proofs.dossiers.read_snapshots.Reads as reads
@@ -36,10 +36,6 @@ Read c = SnapshotReads (readSnapshot (drop (c .before .before .before .loop .nex
 
 read : (c : tie.After-read-snapshot2 Inv-loop μ-loop) → Read c
 read c = reads-at (bytes (c .before .before .before)) (c .before .before .before .loop .next) (c .read-snapshot2 .result) (c .read-snapshot2 .ensures)
-
--- an array of which each element is the same
-abbrev eight : ℕ → List ℕ
-eight n = n ∷ n ∷ n ∷ n ∷ n ∷ n ∷ n ∷ n ∷ []
 
 -- src/dossiers.rt:49:31
 sub-read-snapshot : tie.Need-sub-read-snapshot Inv-loop μ-loop

@@ -1,0 +1,123 @@
+use borrow.Author.Needs.{needs}
+use mathlib.Core.Path.{_≡_, refl, sym, _∙_}
+use mathlib.Core.List.{List}
+use Prim.Native.Nat.{ℕ, _-_, _≤_}
+use native.Mathlib.Omega.{arith}
+use lib.ListN.{drop}
+use borrow.Author.Tests.{not-true, not-false}
+use Rattle.model.specs.Rule.{Snapshot}
+use Rattle.packed.specs.Parse.{got, times}
+use Rattle.packed.proofs.LayoutLaws.{fail-got}
+use Rattle.dossier.specs.DossierLayout.{readSnapshot}
+use Rattle.dossier.specs.DossierIndex.{SnapshotReads}
+use Rattle.dossier.proofs.DossierReadLaws.{reads-at, eight, Passed, passed-all, first-bad, first-within, passed-first}
+use Rattle.dossier.proofs.KnownLaws.{skipped-more, snapshots-known}
+use Rattle.dossier.proofs.known.skip_snapshots.Statement.{statement}
+use Rattle.dossier.proofs.known.skip_snapshots.Tie as tie
+
+abbrev Inv-loop : tie.InvT-loop
+Inv-loop s at count r₀ next₀ j₀ r next j =
+    (1 ≤ j)
+    × ((xs : List Snapshot) (t : List ℕ) → times readSnapshot count (drop at s) ≡ got xs t → Passed (times readSnapshot count (drop at s)) s (r .starts) (r .ends) (r .versions) (r .differs) (r .first) count next j)
+
+abbrev μ-loop : tie.MeasureT-loop
+μ-loop s at count r₀ next₀ j₀ r next j = count - j
+
+-- the first snapshot, at the front of the bytes from `at` on
+first : (c : tie.After-read-snapshot Inv-loop μ-loop) → SnapshotReads (readSnapshot (drop (c .before .before .before .args .at) (c .before .before .before .args .s .now))) (drop (c .before .before .before .args .at) (c .before .before .before .args .s .now)) (c .read-snapshot .result)
+first c = reads-at (c .before .before .before .args .s .now) (c .before .before .before .args .at) (c .read-snapshot .result) (c .read-snapshot .ensures)
+
+sub-read-snapshot : tie.Need-sub-read-snapshot Inv-loop μ-loop
+sub-read-snapshot c = search needs
+
+part-read-snapshot-start : tie.Need-part-read-snapshot-start Inv-loop μ-loop
+part-read-snapshot-start c = search needs
+
+part-read-snapshot-end : tie.Need-part-read-snapshot-end Inv-loop μ-loop
+part-read-snapshot-end c = search needs
+
+read-snapshot-requires : tie.Need-read-snapshot-requires Inv-loop μ-loop
+read-snapshot-requires c κs = search needs
+
+returns : tie.Need-returns Inv-loop μ-loop
+returns c = λ xs t e.
+    let i = c .before .before .before .read-snapshot .result in
+    fail-got (sym (first-bad (c .before .before .before .before .before .before .args .s .now) (c .before .before .before .before .before .before .args .count) (c .before .before .before .before .before .before .args .at) i (c .before .before .before .before .before .before .pre .1) (first (c .before .before .before)) (not-true (i .ok) (c .if1 .taken))) ∙ e)
+
+add-next : tie.Need-add-next Inv-loop μ-loop
+add-next c =
+    let k = first-within _ _ _ (c .before .before .before .before .before .before .before .pre .0) (first (c .before .before .before .before)) (not-false _ (c .before .if1 .left)) in
+    omega (arith, k, c .before .before .before .before .before .before .before .good .0 .0)
+
+element-write-r : tie.Need-element-write-r Inv-loop μ-loop
+element-write-r c = search needs
+
+loop-holds : tie.Need-loop-holds Inv-loop μ-loop
+loop-holds c = (omega arith, λ xs t e. passed-first _ (eight (c .before .before .before .before .before .before .before .args .at)) (eight 0) (eight (c .before .before .before .before .read-snapshot .result .version .0)) (eight (c .before .before .before .before .read-snapshot .result .differ)) _ _ _ (c .before .before .before .before .before .before .before .pre .0) refl refl refl refl (first (c .before .before .before .before)) (c .before .before .before .before .before .before .before .pre .1) (not-false _ (c .before .if1 .left)) (c .before .before .before .before .before .before .before .pre .2))
+
+skip-snapshot-requires : tie.Need-skip-snapshot-requires Inv-loop μ-loop
+skip-snapshot-requires c κs = search needs
+
+mul-r : tie.Need-mul-r Inv-loop μ-loop
+mul-r c = search needs
+
+element-write-r-2 : tie.Need-element-write-r-2 Inv-loop μ-loop
+element-write-r-2 c = search needs
+
+mul-r-2 : tie.Need-mul-r-2 Inv-loop μ-loop
+mul-r-2 c = search needs
+
+element-write-r-3 : tie.Need-element-write-r-3 Inv-loop μ-loop
+element-write-r-3 c = search needs
+
+mul-r-3 : tie.Need-mul-r-3 Inv-loop μ-loop
+mul-r-3 c = search needs
+
+element-write-r-4 : tie.Need-element-write-r-4 Inv-loop μ-loop
+element-write-r-4 c = search needs
+
+mul-r-4 : tie.Need-mul-r-4 Inv-loop μ-loop
+mul-r-4 c = search needs
+
+element-write-r-5 : tie.Need-element-write-r-5 Inv-loop μ-loop
+element-write-r-5 c = search needs
+
+add-j : tie.Need-add-j Inv-loop μ-loop
+add-j c = search needs
+
+loop-less : tie.Need-loop-less Inv-loop μ-loop
+loop-less c = search needs
+
+loop-again : tie.Need-loop-again Inv-loop μ-loop
+loop-again c = (omega arith, λ xs t e. skipped-more _ _ _ _ _ _ _ _ _ _ (c .before .before .loop .inv .1 xs t e) xs t e (c .before .loop-test .taken) (c .before .before .before .before .before .before .before .before .before .before .pre .2) (c .before .before .loop .inv .0) _ (c .skip-snapshot .ensures))
+
+returns-2 : tie.Need-returns-2 Inv-loop μ-loop
+returns-2 c = λ xs t e. snapshots-known _ _ _ xs t (passed-all _ _ _ _ _ _ _ _ _ _ (c .before .loop .inv .1 xs t e) (c .loop-test .left) (c .before .loop .inv .0)) e
+
+pub skip-snapshots-spec : {M : Type 1} → statement M
+skip-snapshots-spec =
+    tie.close
+    (tie.spec
+    Inv-loop
+    μ-loop
+    sub-read-snapshot
+    part-read-snapshot-start
+    part-read-snapshot-end
+    read-snapshot-requires
+    returns
+    add-next
+    element-write-r
+    loop-holds
+    skip-snapshot-requires
+    mul-r
+    element-write-r-2
+    mul-r-2
+    element-write-r-3
+    mul-r-3
+    element-write-r-4
+    mul-r-4
+    element-write-r-5
+    add-j
+    loop-less
+    loop-again
+    returns-2)
