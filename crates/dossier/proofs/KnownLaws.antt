@@ -19,20 +19,20 @@ use Rattle.packed.proofs.ReadLaws.{NumberStops}
 use Rattle.values.specs.Spaces.{isWithin}
 use Rattle.ontology.specs.TypeIndex.{Got}
 use Rattle.ontology.proofs.FieldLaws.{got-bounds}
-use Rattle.event.specs.EventLayout.{presenceBit, bitNumber, setsBytes}
+use Rattle.event.specs.EventLayout.{setsBytes}
 use Rattle.event.specs.EventIndex.{present, Skipped, readHead, HeadStops}
 use Rattle.event.specs.declared.read.HeadAt.{HeadAt}
 use Rattle.event.proofs.EventLayoutLaws.{presence-below}
 use Rattle.event.proofs.LookupLaws.{number-there, number-next, ones-below}
 use Rattle.event.proofs.SetLaws.{stretch}
-use Rattle.dossier.specs.DossierLayout.{Headed, readSnapshot, readDossier, dossierOf, differBit, snapshotBytes}
+use Rattle.dossier.specs.DossierLayout.{Headed, readSnapshot, readDossier, dossierOf, snapshotBytes}
 use Rattle.dossier.specs.DossierIndex.{SkippedIs, SnapshotsStop, SnapshotsReads, DossierIs}
 use Rattle.dossier.specs.declared.snapshots.SnapshotIndex.{SnapshotIndex}
 use Rattle.dossier.specs.declared.dossiers.SnapshotsRead.{SnapshotsRead}
 use Rattle.dossier.specs.declared.dossiers.DossierIndex.{DossierIndex}
 use Rattle.dossier.specs.declared.known.SnapshotSkipped.{SnapshotSkipped}
 use Rattle.dossier.proofs.DossierLayoutLaws.{SnapshotWritten, presenceOf, differOf, differ-below, snapshot-parts, snapshot-was}
-use Rattle.dossier.proofs.DossierReadLaws.{Passed, passed-stop, passed-one, passed-all, as-many, headed, risen, times-all}
+use Rattle.dossier.proofs.DossierReadLaws.{Passed, passed-stop, passed-one, as-many, headed, risen, times-all}
 
 -- ---- a snapshot that is skipped over
 
