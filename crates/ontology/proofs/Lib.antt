@@ -6,6 +6,7 @@ pub mod RunLaws
 pub mod RuleLaws
 pub mod TypeLaws
 pub mod TableReadLaws
+pub mod TableLayoutLaws
 pub mod TypeIndexLaws
 pub mod TableLaws
 pub mod QuestionLaws

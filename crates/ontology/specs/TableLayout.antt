@@ -2,14 +2,14 @@
 use Prim.Native.Nat.{ℕ}
 use mathlib.Core.Bool.{Bool, true, false, cond}
 use mathlib.Core.Option.{Option, none, some}
-use mathlib.Core.List.{List, map}
+use mathlib.Core.List.{List, [], _++_, map, flatten}
 use lib.ListN.{length}
 use lib.Dec.{leb, eqb}
 use Rattle.model.specs.Order.{Text}
 use Rattle.packed.specs.Parse.{Parse, fail, got, Layout, _>>=_, found, foundIf, suchThat, times, whole}
-use Rattle.packed.specs.Packed.{readNumber, readText}
-use Rattle.values.specs.Spaces.{Kind, unsigned, signed, decimal, currency, sequence, datetime, boolean, string, hex, isWithin, isKind}
-use Rattle.ontology.specs.Table.{Strategy, min, max, add, replace, match, set, any, Property, EventType, Table, isNameWithin, namesRise, typeRules}
+use Rattle.packed.specs.Packed.{number, readNumber, text, readText}
+use Rattle.values.specs.Spaces.{Kind, unsigned, signed, decimal, currency, sequence, datetime, boolean, string, hex, kindNumber, isWithin, isKind}
+use Rattle.ontology.specs.Table.{Strategy, min, max, add, replace, match, set, any, strategyNumber, Property, EventType, Table, isNameWithin, namesRise, typeRules}
 
 -- 0 or 1
 unfoldable pub readFlag : Layout Bool
@@ -82,3 +82,33 @@ readTable = do
 -- the table that some bytes are; none where they break a rule
 unfoldable pub tableOf : List ℕ → Option Table
 tableOf s = whole (readTable s)
+
+-- The same layout, written
+
+unfoldable pub flagBytes : Bool → List ℕ
+flagBytes b = number (cond b 1 0)
+
+unfoldable pub parameterBytes : Kind → List ℕ
+parameterBytes (unsigned width) = number width
+parameterBytes (signed width) = number width
+parameterBytes (decimal total after sign) = number total ++ number after ++ flagBytes sign
+parameterBytes currency = []
+parameterBytes sequence = []
+parameterBytes datetime = []
+parameterBytes boolean = []
+parameterBytes (string most) = number most
+parameterBytes (hex bytes) = number bytes
+
+unfoldable pub kindBytes : Kind → List ℕ
+kindBytes k = number (kindNumber k) ++ parameterBytes k
+
+unfoldable pub propertyBytes : Property → List ℕ
+propertyBytes p =
+    text (p .name) ++ kindBytes (p .kind) ++ flagBytes (p .optional) ++ flagBytes (p .multivalued) ++ number (strategyNumber (p .strategy))
+
+unfoldable pub typeBytes : EventType → List ℕ
+typeBytes t =
+    text (t .name) ++ number (t .definition) ++ number (t .mark) ++ number (length (t .properties)) ++ flatten (map propertyBytes (t .properties))
+
+unfoldable pub tableBytes : Table → List ℕ
+tableBytes ts = number (length ts) ++ flatten (map typeBytes ts)
