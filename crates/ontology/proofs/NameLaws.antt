@@ -1,4 +1,4 @@
--- The laws of names: their bytes, and their order.
+-- The laws of names: their bytes, and how many.
 use mathlib.Core.Path.{_≡_, refl, ap, _∙_}
 use mathlib.Core.Bool.{Bool, true, false, _&&_, _||_}
 use mathlib.Core.List.{List, [], _∷_}
@@ -6,7 +6,9 @@ use Prim.Native.Nat.{ℕ, _+_, _≤_, _<_}
 use native.Mathlib.Omega.{arith}
 use lib.ListN.{length, drop, getD, drop-of-length-le}
 use lib.Dec.{leb, eqb}
-use borrow.Author.Tests.{le-leb, lt-leb, eq-eqb, ne-eqb, eqb-false}
+use borrow.Author.Tests.{le-leb, lt-leb, leb-true, eq-eqb, ne-eqb, eqb-false}
+use Rattle.model.specs.Order.{Text}
+use Rattle.model.proofs.Cases.{and-parts}
 use Rattle.packed.proofs.ReadLaws.{drop-next}
 use Rattle.ontology.specs.Table.{isLetter, isNameByte, areNameBytes, isName, isNameWithin}
 
@@ -49,6 +51,17 @@ pub byte-high : (b : ℕ) → 57 < b → isLetter b ≡ false → isNameByte b �
 unfolding isNameByte
 byte-high b h k =
     rw (k, le-leb 48 b (omega arith), lt-leb b 57 h, ne-eqb b 46 (λ e. omega arith), ne-eqb b 45 (λ e. omega arith))
+
+-- ---- how long a name is
+
+-- a name has a byte, and at most so many
+pub name-length : (most : ℕ) (v : Text) → isNameWithin most v ≡ true → (1 ≤ length v) × (length v ≤ most)
+unfolding isNameWithin isName
+name-length most v e = let b = and-parts (isName v) (leb (length v) most) e in (go v (b .0), leb-true (length v) most (b .1))
+  where
+    go : (v : Text) → isName v ≡ true → 1 ≤ length v
+    go [] e = let z : _≡_ {A = ℕ} 0 1 = cc in absurd (omega arith)
+    go (b ∷ v) e = omega arith
 
 -- ---- names, from their second byte on
 

@@ -1,12 +1,13 @@
 -- The laws of so many of a layout, read one by one: what was read, then what is left, gives the whole. And of places in lists.
-use mathlib.Core.Path.{_≡_, refl, sym, ap, _∙_}
+use mathlib.Core.Path.{_≡_, refl, sym, ap, _∙_, subst}
 use mathlib.Core.Logic.{_⊎_, inl, inr}
 use mathlib.Core.Option.{none, some}
 use mathlib.Core.List.{List, [], _∷_, _++_, append-assoc, map}
 use Prim.Native.Nat.{ℕ, zero, suc, _+_, _-_, _≤_, _<_}
 use native.Mathlib.Omega.{arith}
 use lib.ListN.{length, drop, getD, getElem?}
-use Rattle.packed.specs.Parse.{Parse, fail, got, Layout, andThen, times}
+use Rattle.model.proofs.Cases.{never}
+use Rattle.packed.specs.Parse.{All, Parse, fail, got, Layout, andThen, times}
 use Rattle.packed.proofs.LayoutLaws.{andThen-got}
 
 -- what is read is what was read before, and then what is read next
@@ -58,28 +59,6 @@ module _ {A : Type 0} (p : Layout A) where
       let a : (c .value) ∷ (d .value) ≡ xs = cc (d .second) in
       sym (ap length a) ∙ ap suc (times-length n (c .left) (d .value) (d .left) (d .first))
 
-  -- each was read somewhere
-  pub times-each :
-      (n : ℕ) (s : List ℕ) (xs : List A) (r : List ℕ) → times p n s ≡ got xs r →
-      (i : ℕ) (x : A) → getElem? xs i ≡ some x → (t : List ℕ) × (u : List ℕ) × (p t ≡ got x u)
-  unfolding times
-  times-each zero s xs r e i x h = let a : [] ≡ xs = cc in nothing a h
-    where
-      nothing : {B : Type 0} → [] ≡ xs → getElem? xs i ≡ some x → B
-      nothing a h = let z : none ≡ some x = ap (λ (l : List A). getElem? l i) a ∙ h in let y : _≡_ {A = ℕ} 0 1 = cc in absurd (omega arith)
-  times-each (suc n) s xs r e i x h =
-      let c = andThen-got (p s) _ xs r e in
-      let d = andThen-got (times p n (c .left)) _ xs r (c .second) in
-      let a : (c .value) ∷ (d .value) ≡ xs = cc (d .second) in
-      go (c .value) (c .left) (d .value) (c .first) (λ j y q. times-each n (c .left) (d .value) (d .left) (d .first) j y q) i (ap (λ (l : List A). getElem? l i) a ∙ h)
-    where
-      go :
-          (v : A) (l : List ℕ) (vs : List A) → p s ≡ got v l →
-          ((j : ℕ) (y : A) → getElem? vs j ≡ some y → (t : List ℕ) × (u : List ℕ) × (p t ≡ got y u)) →
-          (i : ℕ) → getElem? (v ∷ vs) i ≡ some x → (t : List ℕ) × (u : List ℕ) × (p t ≡ got x u)
-      go v l vs f rest zero q = let y : v ≡ x = cc in (s, l, f ∙ ap (λ (w : A). got w l) y)
-      go v l vs f rest (suc j) q = rest j x q
-
 -- ---- places in a list
 
 -- the element at a place of a list, and how a map f and the rest of the list have it
@@ -105,6 +84,12 @@ pub no-element : {A : Type 0} (xs : List A) (i : ℕ) → length xs ≤ i → ge
 no-element [] i h = refl
 no-element (x ∷ xs) zero h = absurd (omega arith)
 no-element (x ∷ xs) (suc i) h = no-element xs i (omega arith)
+
+-- what each element is, the one at a place is
+pub all-at : {A : Type 0} (ok : A → Type 0) (xs : List A) → All ok xs → (i : ℕ) (x : A) → getElem? xs i ≡ some x → ok x
+all-at ok [] h i x e = never (cc)
+all-at ok (y ∷ xs) h zero x e = let q : y ≡ x = cc in subst ok q (h .0)
+all-at ok (y ∷ xs) h (suc i) x e = all-at ok xs (h .1) i x e
 
 -- an element of a list with one more at its end
 pub snoc-at :

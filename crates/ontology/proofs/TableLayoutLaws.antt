@@ -19,10 +19,10 @@ use Rattle.ontology.specs.Table.{Strategy, min, max, add, replace, match
 use Rattle.ontology.specs.TableLayout.{readFlag, readDecimal, readParameters, readKind, readStrategy, readProperty, readType, readTable, tableOf, flagBytes, parameterBytes, kindBytes, propertyBytes, typeBytes, tableBytes}
 use Rattle.ontology.specs.TypeIndex.{parameterFits, propertyRules}
 use Rattle.ontology.proofs.FieldLaws.{within-bounds}
+use Rattle.ontology.proofs.NameLaws.{name-length}
 use Rattle.ontology.proofs.KindLaws.{fits-small, digits-small}
 use Rattle.ontology.proofs.RunLaws.{no-element}
 use Rattle.ontology.proofs.TypeLaws.{rules-hold, type-was}
-use Rattle.ontology.proofs.TypeIndexLaws.{name-length}
 
 -- ---- what can be written
 

@@ -1,12 +1,11 @@
 -- Document 01, "Ontology table": its bytes.
 use Prim.Native.Nat.{ℕ}
-use mathlib.Core.Bool.{Bool, true, false, cond}
-use mathlib.Core.Option.{Option, none, some}
+use mathlib.Core.Bool.{Bool, cond}
+use mathlib.Core.Option.{Option}
 use mathlib.Core.List.{List, [], _++_, map, flatten}
 use lib.ListN.{length}
 use lib.Dec.{leb, eqb}
-use Rattle.model.specs.Order.{Text}
-use Rattle.packed.specs.Parse.{Parse, fail, got, Layout, _>>=_, found, foundIf, suchThat, times, whole}
+use Rattle.packed.specs.Parse.{fail, Layout, _>>=_, found, foundIf, suchThat, times, whole}
 use Rattle.packed.specs.Packed.{number, readNumber, text, readText}
 use Rattle.values.specs.Spaces.{Kind, unsigned, signed, decimal, currency, sequence, datetime, boolean, string, hex, kindNumber, isWithin, isKind}
 use Rattle.ontology.specs.Table.{Strategy, min, max, add, replace, match, set, any, strategyNumber, Property, EventType, Table, isNameWithin, namesRise, typeRules}
