@@ -30,6 +30,7 @@ pub record PropertyWritten (p : Property) : Type 0 where
   pub name : isNameWithin 32 (p .name) ≡ true
   pub kind : isKind (p .kind) ≡ true
 
+-- the rules keep every number of a type below 2^64 but its definition version
 pub record TypeWritten (t : EventType) : Type 0 where
   pub rules : typeRules t ≡ true
   pub definition : t .definition < 2 ^ 64
@@ -66,13 +67,14 @@ flag-was s b r e =
         rw (← x, ← y) a
     go (suc (suc n)) t a h e = absurd (omega arith)
 
--- ---- a kind
+-- ---- a layout that is chosen by a number
 
--- a layout that is chosen by a number
 chosen :
     {A C : Type 0} (n i : ℕ) (p q : Layout A) (s : List ℕ) (a : A) (r : List ℕ) →
     (n ≡ i → p s ≡ got a r → C) → (q s ≡ got a r → C) → cond (eqb n i) p q s ≡ got a r → C
 chosen n i p q s a r f g e = truth (eqb n i) (λ h. f (eqb-true n i h) (rw h at e)) (λ h. g (rw h at e))
+
+-- ---- a kind
 
 parameters-read : (k : Kind) (r : List ℕ) → isKind k ≡ true → readParameters (kindNumber k) (parameterBytes k ++ r) ≡ got k r
 unfolding readParameters readDecimal parameterBytes isKind parameterFits
