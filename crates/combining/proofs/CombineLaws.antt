@@ -7,9 +7,8 @@ use Prim.Native.Nat.{ℕ, _+_, _≤_, _<_}
 use native.Mathlib.Omega.{arith}
 use lib.ListN.{length, drop}
 use borrow.Author.Tests.{le-leb, lt-leb}
-use Rattle.model.specs.Order.{Text, texts, equal}
+use Rattle.model.specs.Order.{Text}
 use Rattle.model.specs.Limits.{standard, fits}
-use Rattle.model.proofs.OrderLaws.{equal-true}
 use Rattle.packed.specs.Written.{Wrote}
 use Rattle.packed.proofs.WriteLaws.{wrote-between}
 use Rattle.ontology.specs.Table.{EventType, Table, typeNamed}
@@ -28,7 +27,7 @@ use Rattle.combining.specs.CombineCall.{headedAs, combined, combineAnswe
 use Rattle.combining.specs.CombineIndex.{Known, Combinable}
 use Rattle.ontology.specs.Replies.{replies}
 use Rattle.ontology.specs.declared.replies.Reply.the-variants.{Done, Refused}
-use Rattle.ontology.proofs.TypeIndexLaws.{table-refused, table-got, found-few}
+use Rattle.ontology.proofs.TypeIndexLaws.{table-refused, table-got, type-says, found-few}
 use Rattle.dossier.proofs.AcceptedLaws.{dossier-taken, one-type, asked-refused, asked-accepted}
 use Rattle.combining.proofs.RoomLaws.{combined-room}
 
@@ -42,17 +41,8 @@ module _ (table : List ℕ) (name : Text) (r : TableRead) (says : TableSays (tab
   pub tabled : r .ok ≡ true → Tabled table
   tabled h = let g = table-got table name r says h in record { types = g .what; is = g .is }
 
-  -- what was read of the type of that name
-  type-says : (k : Tabled table) → TypeSays (typeNamed name (k .types)) table r
-  unfolding TableSays
-  type-says k = subst (λ (o : Option Table). TableSays o table name r) (k .is) says .1
-
   pub type-few : Tabled table → r .found ≡ true → r .index .count ≤ 32
-  type-few k h = found-few (typeNamed name (k .types)) table r (type-says k) h
-
--- what was read for a name was read for the same name
-pub says-same : (table : List ℕ) (left right : Text) (r : TableRead) {b : Bool} → b ≡ equal texts left right → b ≡ true → TableSays (tableOf table) table left r → TableSays (tableOf table) table right r
-says-same table left right r e h = subst (λ (n : Text). TableSays (tableOf table) table n r) (equal-true texts left right .0 (sym e ∙ h))
+  type-few k h = found-few (typeNamed name (k .types)) table r (type-says table name r (k .types) (k .is) says) h
 
 -- ---- questions 3 to 6
 
@@ -77,7 +67,7 @@ module _
     (read : TableRead) (says : TableSays (tableOf table) table name read)
     (r : DossierAsked) (asks : Asks s d read r) where
   answers : DossierAnswers (dossierAsked standard (k .types) s) table s r
-  answers = asks table (k .types) (k .is) (λ h i. subst (λ (n : Text). TypeSays (typeNamed n (k .types)) table read) (names h i) (type-says table name read says k))
+  answers = asks table (k .types) (k .is) (λ h i. subst (λ (n : Text). TypeSays (typeNamed n (k .types)) table read) (names h i) (type-says table name read (k .types) (k .is) says))
 
   pub refused-by : (r .number ≡ 0 → ⊥) → dossierAsked standard (k .types) s ≡ refused (r .number)
   refused-by ne = asked-refused (k .types) table s r answers ne

@@ -2,8 +2,6 @@ ghost use Prim.Native.Nat.{_≤_};
 ghost use mathlib.Core.Path.{_≡_};
 ghost use lib.ListN.{length};
 ghost use Rattle.model.specs.Limits.{standard};
-ghost use Rattle.ontology.specs.TableLayout.{tableOf};
-ghost use Rattle.ontology.specs.TypeIndex.{TableSays};
 ghost use Rattle.combining.specs.CombineCall.{combineCall};
 ghost use Rattle.combining.specs.CombineIndex.{Known, Combinable};
 ghost use Rattle.ontology.specs.Replies.{replies};
@@ -16,20 +14,9 @@ use dossier::questions::ask_dossier;
 use dossier::questions::dossiers_agree;
 use dossier::questions::type_name;
 use ontology::replies::Reply;
-use ontology::tables::TableRead;
 use ontology::tables::read_table;
+use ontology::tables::table_for;
 use ontology::types::TypeIndex;
-use packed::order::same;
-
-// The table read for the name of the right side's type: what was read for the left one, where they have one name.
-fn table_for(table: &[u8], left: &[u8], right: &[u8], read: TableRead) -> TableRead
-    ensures { λ r. ⌜ (TableSays (tableOf (now (table .entry))) (now (table .entry)) (now (left .entry)) read → TableSays (tableOf (now (table .entry))) (now (table .entry)) (now (right .entry)) r) ⌝ }
-{
-    if same(left, right) {
-        return read;
-    }
-    read_table(table, right)
-}
 
 // Question 8, and two dossiers of which the others are answered yes, written together at the front of `out`.
 fn combine_read<'a>(

@@ -28,7 +28,7 @@ use Rattle.event.specs.declared.lookup.ValueAt.{ValueAt}
 use Rattle.event.specs.declared.lookup.ValueAt.the-variants.{Value, NoValue}
 use Rattle.event.specs.declared.read.EventIndex.{EventIndex}
 use Rattle.ontology.specs.declared.tables.TableRead.{TableRead}
-use Rattle.ontology.proofs.TypeIndexLaws.{table-refused, table-got, type-absent, type-found, properties-rules}
+use Rattle.ontology.proofs.TypeIndexLaws.{table-refused, type-says, type-absent, type-found, properties-rules}
 
 -- ---- the kinds of a table
 
@@ -60,15 +60,6 @@ name-part counts s e a z h t = let g = sym (t .is) ∙ name-there counts s e h .
 pub with-counts : (k : Counts) (event : List ℕ) (x : EventIndex) (parents objects : ℕ) → parents ≡ k .parents → objects ≡ k .objects → EventReads (eventOf (counts parents objects) event) event x → EventReads (eventOf k event) event x
 with-counts k event x parents objects p o w = subst (λ (c : Counts). EventReads (eventOf c event) event x) (ap₂ counts p o) w
 
--- a table and an event were read
-record Read (table event : List ℕ) (counts : Counts) (name : Text) (t : TableRead) (x : EventIndex) : Type 0 where
-  ts : Table
-  e : Event
-  is-table : tableOf table ≡ some ts
-  is-event : eventOf counts event ≡ some e
-  type-says : TypeSays (typeNamed (e .type) ts) table t
-  event-is : EventIs event e x
-
 -- the questions after 3, of a type and an event
 abbrev typed : EventType → Event → Asked Typed
 typed t e = accepted (record { type = t; event = e })
@@ -76,89 +67,85 @@ typed t e = accepted (record { type = t; event = e })
 abbrev later : EventType → Event → Asked Typed
 later t e = questions._>>_ (ensure 5 (eventShape t e)) (questions._>>_ (ensure 6 (valuesFit t (e .sets))) (typed t e))
 
--- and the table has the event's type
-pub record Met (table event : List ℕ) (counts : Counts) (t : TableRead) (x : EventIndex) : Type 0 where
+-- an event was read, and the table has its type
+pub record Met (table : List ℕ) (ts : Table) (event : List ℕ) (counts : Counts) (t : TableRead) (x : EventIndex) : Type 0 where
   pub type : EventType
   pub e : Event
-  pub is : eventQuestions counts table event ≡ later type e
+  pub is : eventAsked counts ts event ≡ later type e
   pub type-is : TypeIs table type (t .index)
   pub event-is : EventIs event e x
   pub kinds : KindsAre type
 
-module _ (table event : List ℕ) (counts : Counts) (name : Text) (t : TableRead) (x : EventIndex)
-    (says : TableSays (tableOf table) table name t) (reads : EventReads (eventOf counts event) event x)
-    (names : (e : Event) → eventOf counts event ≡ some e → name ≡ e .type) where
-  pub no-table : (r : EventAsked) → t .ok ≡ false → r .number ≡ 2 → EventAnswers (eventQuestions counts table event) table event r
-  unfolding EventAnswers
-  no-table r h n = rw (table-refused table name t says h) n
-
-  event-there : x .ok ≡ true → (e : Event) × (eventOf counts event ≡ some e) × EventIs event e x
-  unfolding EventReads
-  event-there h = go (eventOf counts event) refl reads
-    where
-      go : (o : Option Event) → eventOf counts event ≡ o → EventReads o event x → (e : Event) × (eventOf counts event ≡ some e) × EventIs event e x
-      go none e w = let z : _≡_ {A = Bool} true false = sym h ∙ w in let y : _≡_ {A = ℕ} 0 1 = cc in absurd (omega arith)
-      go (some u) e w = (u, e, w .1)
-
-  pub no-event : (r : EventAsked) → t .ok ≡ true → x .ok ≡ false → r .number ≡ 3 → EventAnswers (eventQuestions counts table event) table event r
+module _ (table : List ℕ) (ts : Table) (event : List ℕ) (counts : Counts) (x : EventIndex) (reads : EventReads (eventOf counts event) event x) where
+  pub no-event : (r : EventAsked) → x .ok ≡ false → r .number ≡ 3 → EventAnswers (eventAsked counts ts event) table event r
   unfolding EventReads EventAnswers eventAsked
-  no-event r h k n =
-      let a = table-got table name t says h in
-      subst (λ (o : Option Table). EventAnswers (questions._>>=_ (ask 2 o) (λ ts. eventAsked counts ts event)) table event r) (sym (a .is)) (go (a .what) (eventOf counts event) reads)
+  no-event r h n = go (eventOf counts event) reads
     where
-      go : (ts : Table) (o : Option Event) → EventReads o event x → EventAnswers (questions._>>=_ (ask 3 o) (λ e. questions._>>=_ (ask 4 (typeNamed (e .type) ts)) (λ t. later t e))) table event r
-      go ts none w = n
-      go ts (some u) w = let z : _≡_ {A = Bool} true false = sym (w .0) ∙ k in let y : _≡_ {A = ℕ} 0 1 = cc in absurd (omega arith)
+      go : (o : Option Event) → EventReads o event x → EventAnswers (questions._>>=_ (ask 3 o) (λ e. questions._>>=_ (ask 4 (typeNamed (e .type) ts)) (λ t. later t e))) table event r
+      go none w = n
+      go (some u) w = let z : _≡_ {A = Bool} true false = sym (w .0) ∙ h in let y : _≡_ {A = ℕ} 0 1 = cc in absurd (omega arith)
 
-  both-there : t .ok ≡ true → x .ok ≡ true → Read table event counts name t x
-  both-there h k =
-      let a = table-got table name t says h in
-      let b = event-there k in
-      record {
-        ts = a .what;
-        e = b .0;
-        is-table = a .is;
-        is-event = b .1;
-        type-says = subst (λ (n : Text). TypeSays (typeNamed n (a .what)) table t) (names (b .0) (b .1)) (a .says);
-        event-is = b .2;
-      }
+  module _ (ok : x .ok ≡ true) where
+    event-there : (e : Event) × (eventOf counts event ≡ some e) × EventIs event e x
+    unfolding EventReads
+    event-there = go (eventOf counts event) refl reads
+      where
+        go : (o : Option Event) → eventOf counts event ≡ o → EventReads o event x → (e : Event) × (eventOf counts event ≡ some e) × EventIs event e x
+        go none e w = let z : _≡_ {A = Bool} true false = sym ok ∙ w in let y : _≡_ {A = ℕ} 0 1 = cc in absurd (omega arith)
+        go (some u) e w = (u, e, w .1)
 
-  so-far : (w : Read table event counts name t x) → eventQuestions counts table event ≡ questions._>>=_ (ask 4 (typeNamed (w .e .type) (w .ts))) (λ y. later y (w .e))
-  unfolding eventAsked
-  so-far w = rw (w .is-table, w .is-event)
+    so-far : (o : Option EventType) → typeNamed (event-there .0 .type) ts ≡ o → eventAsked counts ts event ≡ questions._>>=_ (ask 4 o) (λ y. later y (event-there .0))
+    unfolding eventAsked
+    so-far o h = rw (event-there .1, h)
 
-  pub no-type : (r : EventAsked) → t .ok ≡ true → x .ok ≡ true → t .found ≡ false → r .number ≡ 4 → EventAnswers (eventQuestions counts table event) table event r
-  unfolding EventAnswers
-  no-type r h k f n =
-      let w = both-there h k in
-      let e = type-absent (typeNamed (w .e .type) (w .ts)) table t (w .type-says) f in
-      subst (λ (q : Asked Typed). EventAnswers q table event r) (sym (so-far w ∙ ap (λ (o : Option EventType). questions._>>=_ (ask 4 o) (λ y. later y (w .e))) e)) n
+    module _ (t : TableRead) (says : (e : Event) → eventOf counts event ≡ some e → TypeSays (typeNamed (e .type) ts) table t) where
+      type-there : TypeSays (typeNamed (event-there .0 .type) ts) table t
+      type-there = says (event-there .0) (event-there .1)
 
-  pub met : t .ok ≡ true → x .ok ≡ true → t .found ≡ true → Met table event counts t x
-  met h k f =
-      let w = both-there h k in
-      let y = type-found (typeNamed (w .e .type) (w .ts)) table t (w .type-says) f in
-      record {
-        type = y .what;
-        e = w .e;
-        is = so-far w ∙ ap (λ (o : Option EventType). questions._>>=_ (ask 4 o) (λ z. later z (w .e))) (y .is);
-        type-is = y .stands;
-        event-is = w .event-is;
-        kinds = table-kinds table (w .ts) (w .e .type) (y .what) (w .is-table) (y .is);
-      }
+      pub no-type : (r : EventAsked) → t .found ≡ false → r .number ≡ 4 → EventAnswers (eventAsked counts ts event) table event r
+      unfolding EventAnswers
+      no-type r f n = subst (λ (q : Asked Typed). EventAnswers q table event r) (sym (so-far none (type-absent (typeNamed (event-there .0 .type) ts) table t type-there f))) n
 
-module _ (table event : List ℕ) (counts : Counts) (t : TableRead) (x : EventIndex) (m : Met table event counts t x) (r : EventAsked) where
-  pub no-shape : false ≡ eventShape (m .type) (m .e) → r .number ≡ 5 → EventAnswers (eventQuestions counts table event) table event r
+      pub met : tableOf table ≡ some ts → t .found ≡ true → Met table ts event counts t x
+      met h f =
+          let y = type-found (typeNamed (event-there .0 .type) ts) table t type-there f in
+          record {
+            type = y .what;
+            e = event-there .0;
+            is = so-far (some (y .what)) (y .is);
+            type-is = y .stands;
+            event-is = event-there .2;
+            kinds = table-kinds table ts (event-there .0 .type) (y .what) h (y .is);
+          }
+
+module _ (table : List ℕ) (ts : Table) (event : List ℕ) (counts : Counts) (t : TableRead) (x : EventIndex) (m : Met table ts event counts t x) (r : EventAsked) where
+  pub no-shape : false ≡ eventShape (m .type) (m .e) → r .number ≡ 5 → EventAnswers (eventAsked counts ts event) table event r
   unfolding EventAnswers
   no-shape h n = rw (m .is, ← h) n
 
-  pub no-values : true ≡ eventShape (m .type) (m .e) → false ≡ valuesFit (m .type) (m .e .sets) → r .number ≡ 6 → EventAnswers (eventQuestions counts table event) table event r
+  pub no-values : true ≡ eventShape (m .type) (m .e) → false ≡ valuesFit (m .type) (m .e .sets) → r .number ≡ 6 → EventAnswers (eventAsked counts ts event) table event r
   unfolding EventAnswers
   no-values h k n = rw (m .is, ← h, ← k) n
 
-  pub all-met : true ≡ eventShape (m .type) (m .e) → true ≡ valuesFit (m .type) (m .e .sets) → r .number ≡ 0 → TypeIs table (m .type) (r .kind) → EventIs event (m .e) (r .event) → EventAnswers (eventQuestions counts table event) table event r
+  pub all-met : true ≡ eventShape (m .type) (m .e) → true ≡ valuesFit (m .type) (m .e .sets) → r .number ≡ 0 → TypeIs table (m .type) (r .kind) → EventIs event (m .e) (r .event) → EventAnswers (eventAsked counts ts event) table event r
   unfolding EventAnswers
   all-met h k n u v = rw (m .is, ← h, ← k) (n, u, v)
+
+-- ---- question 2
+
+module _ (table event : List ℕ) (counts : Counts) (name : Text) (t : TableRead) (says : TableSays (tableOf table) table name t) (r : EventAsked) where
+  pub no-table : t .ok ≡ false → r .number ≡ 2 → EventAnswers (eventQuestions counts table event) table event r
+  unfolding EventAnswers
+  no-table h n = rw (table-refused table name t says h) n
+
+  -- what `ask_typed` answers, where the table was read for the name of the event's type
+  pub by-table :
+      (ts : Table) → tableOf table ≡ some ts → ((e : Event) → eventOf counts event ≡ some e → name ≡ e .type) →
+      ((u : List ℕ) (us : Table) → tableOf u ≡ some us → ((e : Event) → eventOf counts event ≡ some e → TypeSays (typeNamed (e .type) us) u t) → EventAnswers (eventAsked counts us event) u event r) →
+      EventAnswers (eventQuestions counts table event) table event r
+  by-table ts h names asks =
+      subst (λ (o : Option Table). EventAnswers (questions._>>=_ (ask 2 o) (λ us. eventAsked counts us event)) table event r) (sym h)
+      (asks table ts h (λ e k. subst (λ (n : Text). TypeSays (typeNamed n ts) table t) (names e k) (type-says table name t ts h says)))
 
 -- ---- what is known after asking
 

@@ -1,16 +1,23 @@
-ghost use Prim.Native.Nat.{_+_};
+ghost use Prim.Native.Nat.{ℕ, _+_};
 ghost use mathlib.Core.Path.{_≡_};
 ghost use mathlib.Core.Option.{some};
+ghost use mathlib.Core.List.{List};
+ghost use Rattle.ontology.specs.Table.{Table, typeNamed};
+ghost use Rattle.ontology.specs.TableLayout.{tableOf};
+ghost use Rattle.ontology.specs.TypeIndex.{TypeSays};
 ghost use Rattle.event.specs.Event.{Event};
 ghost use Rattle.event.specs.EventLayout.{Counts, eventOf};
+ghost use Rattle.event.specs.EventQuestions.{eventAsked};
 ghost use Rattle.event.specs.Value.{valueCall};
 ghost use Rattle.event.specs.EventIndex.{countsOf, eventQuestions, EventAnswers};
 use crate::lookup::ValueAt;
 use crate::lookup::find_value;
 use crate::read::EventIndex;
+use crate::read::no_event;
 use crate::read::read_event;
 use crate::shape::shape_ok;
 use crate::spaces::values_ok;
+use ontology::tables::TableRead;
 use ontology::tables::read_table;
 use ontology::types::TypeIndex;
 use packed::read::TextAt;
@@ -36,7 +43,7 @@ fn most_objects(wide: bool) -> usize
 }
 
 // The type name that an event begins with; the empty name, which no type has, where it cannot be read.
-fn name_of(event: &[u8]) -> &[u8]
+pub fn type_name(event: &[u8]) -> &[u8]
     ensures { λ r. ⌜ ((counts : Counts) (e : Event) → eventOf counts (now (event .entry)) ≡ some e → now r ≡ e .type) ⌝ }
 {
     let TextAt::Text(start, end) = read_text(event, 0) else {
@@ -45,27 +52,22 @@ fn name_of(event: &[u8]) -> &[u8]
     &event[start..end]
 }
 
-// Questions 2 to 6. Table and event are each read once, the event's type name first, so that its type is found while the table is read.
-pub fn ask_event(table: &[u8], event: &[u8], wide: bool) -> EventAsked
-    ensures { λ r. ⌜ EventAnswers (eventQuestions (countsOf wide) (now (table .entry)) (now (event .entry))) (now (table .entry)) (now (event .entry)) r ⌝ }
+// Questions 3 to 6 of an event. The table was read for the name of its type, and is read once for all events of that type.
+pub fn ask_typed(event: &[u8], read: TableRead, wide: bool) -> EventAsked
+    ensures { λ r. ⌜ ((table : List ℕ) (ts : Table) → tableOf table ≡ some ts → ((e : Event) → eventOf (countsOf wide) (now (event .entry)) ≡ some e → TypeSays (typeNamed (e .type) ts) table read) → EventAnswers (eventAsked (countsOf wide) ts (now (event .entry))) table (now (event .entry)) r) ⌝ }
 {
-    let t = read_table(table, name_of(event));
     let e = read_event(event, most_parents(wide), most_objects(wide));
-    let kind = t.index;
+    let kind = read.index;
     let mut asked = EventAsked {
-        number: 2,
+        number: 3,
         kind,
         event: e,
     };
-    if !t.ok {
-        return asked;
-    }
-    asked.number = 3;
     if !e.ok {
         return asked;
     }
     asked.number = 4;
-    if !t.found {
+    if !read.found {
         return asked;
     }
     asked.number = 5;
@@ -78,6 +80,22 @@ pub fn ask_event(table: &[u8], event: &[u8], wide: bool) -> EventAsked
     }
     asked.number = 0;
     asked
+}
+
+// Questions 2 to 6. Table and event are each read once, the event's type name first, so that its type is found while the table is read.
+pub fn ask_event(table: &[u8], event: &[u8], wide: bool) -> EventAsked
+    ensures { λ r. ⌜ EventAnswers (eventQuestions (countsOf wide) (now (table .entry)) (now (event .entry))) (now (table .entry)) (now (event .entry)) r ⌝ }
+{
+    let read = read_table(table, type_name(event));
+    let kind = read.index;
+    if !read.ok {
+        return EventAsked {
+            number: 2,
+            kind,
+            event: no_event(),
+        };
+    }
+    ask_typed(event, read, wide)
 }
 
 // The value at a place and an index: its own bytes in the event. A refused table or event, or no value there, gives a part of 0 bytes.

@@ -138,7 +138,7 @@ pub fn read_head(s: &[u8], most: usize) -> HeadRead
     })
 }
 
-fn no_event() -> EventIndex
+pub fn no_event() -> EventIndex
     ensures { λ r. ⌜ r .ok ≡ false ⌝ }
 {
     let part = PartAt { start: 0, end: 0 };

@@ -1,6 +1,6 @@
 -- What is known of a type that a table has, and of its properties: for the callers of `read_table`.
-use mathlib.Core.Path.{_≡_, refl, sym, ap, _∙_}
-use mathlib.Core.Bool.{true, false}
+use mathlib.Core.Path.{_≡_, refl, sym, ap, _∙_, subst}
+use mathlib.Core.Bool.{Bool, true, false}
 use mathlib.Core.Option.{Option, none, some}
 use mathlib.Core.List.{List, [], _∷_}
 use Prim.Native.Nat.{ℕ, suc, _≤_}
@@ -60,6 +60,15 @@ table-got s n r w h = go (tableOf s) refl w
     go : (o : Option Table) → tableOf s ≡ o → TableSays o s n r → TableGot s n r
     go none e k = never (cc)
     go (some ts) e k = record { what = ts; is = e; says = k .1 }
+
+-- so of the types that the table is known to have
+pub type-says : (s : List ℕ) (n : Text) (r : TableRead) (ts : Table) → tableOf s ≡ some ts → TableSays (tableOf s) s n r → TypeSays (typeNamed n ts) s r
+unfolding TableSays
+type-says s n r ts e w = subst (λ (o : Option Table). TableSays o s n r) e w .1
+
+-- what was read for a name was read for the same name
+pub says-same : (s : List ℕ) (n m : Text) (r : TableRead) {b : Bool} → b ≡ equal texts n m → b ≡ true → TableSays (tableOf s) s n r → TableSays (tableOf s) s m r
+says-same s n m r e h = subst (λ (x : Text). TableSays (tableOf s) s x r) (texts-equal n m .0 (sym e ∙ h))
 
 -- the type that was asked for, where there is one
 pub type-absent : (o : Option EventType) (s : List ℕ) (r : TableRead) → TypeSays o s r → r .found ≡ false → o ≡ none

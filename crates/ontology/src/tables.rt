@@ -86,6 +86,16 @@ pub fn read_table(table: &[u8], name: &[u8]) -> TableRead
     r
 }
 
+// The table read for another name: what was read for `name`, where the two are the same.
+pub fn table_for(table: &[u8], name: &[u8], other: &[u8], read: TableRead) -> TableRead
+    ensures { λ r. ⌜ (TableSays (tableOf (now (table .entry))) (now (table .entry)) (now (name .entry)) read → TableSays (tableOf (now (table .entry))) (now (table .entry)) (now (other .entry)) r) ⌝ }
+{
+    if same(name, other) {
+        return read;
+    }
+    read_table(table, other)
+}
+
 pub fn check_table(table: &[u8]) -> TableReply
     ensures { λ r. ⌜ tableReply r ≡ tableCall (now (table .entry)) ⌝ }
 {

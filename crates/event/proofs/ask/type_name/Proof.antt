@@ -2,8 +2,8 @@ use borrow.Author.Needs.{needs}
 use mathlib.Core.Path.{sym, _∙_}
 use Rattle.packed.proofs.ReadLaws.{text-stops, text-none}
 use Rattle.event.proofs.AskLaws.{no-name-there, name-part}
-use Rattle.event.proofs.ask.name_of.Statement.{statement}
-use Rattle.event.proofs.ask.name_of.Tie as tie
+use Rattle.event.proofs.ask.type_name.Statement.{statement}
+use Rattle.event.proofs.ask.type_name.Tie as tie
 
 read-text-requires : tie.Need-read-text-requires
 read-text-requires c κs = search needs
@@ -38,8 +38,8 @@ part-result-end-2 c = text-stops _ _ _ _ (sym (c .before .before .before .read-t
 returns-2 : tie.Need-returns-2
 returns-2 c = λ counts e h. name-part counts _ e _ _ h (text-stops _ _ _ _ (sym (c .before .before .before .before .read-text .ensures) ∙ c .before .before .start .given .1))
 
-pub name-of-spec : {M : Type 1} → statement M
-name-of-spec =
+pub type-name-spec : {M : Type 1} → statement M
+type-name-spec =
     tie.close
     (tie.spec
     read-text-requires
