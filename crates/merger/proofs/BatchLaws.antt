@@ -26,11 +26,8 @@ use Rattle.ontology.specs.TableLayout.{tableOf}
 use Rattle.ontology.specs.Questions as questions
 use Rattle.ontology.specs.Questions.{Asked, ask, ensure, leastRoom, Answer, gives, refuses, refusesAt, replyOf, laid, answer, Outcome, outcome}
 use Rattle.ontology.specs.Replies.{replied, replies}
-use Rattle.ontology.specs.TableCall.{replyToTable, tableCall}
-use Rattle.ontology.specs.TypeIndex.{TypeIs, tableReply}
+use Rattle.ontology.specs.TypeIndex.{TypeIs}
 use Rattle.ontology.specs.declared.types.TypeIndex.{TypeIndex}
-use Rattle.ontology.specs.declared.tables.TableReply.{TableReply}
-use Rattle.ontology.specs.declared.tables.TableReply.the-variants as checked
 use Rattle.ontology.specs.declared.replies.Reply as reply
 use Rattle.ontology.specs.declared.replies.Reply.the-variants as variant
 use Rattle.event.specs.Event.{Event, view}
@@ -629,22 +626,6 @@ module _ (table : List ℕ) (ts : Table) (ss : List (List ℕ)) (q : AskedAt (Un
       go : (q : AskedAt (Unit {0})) → RefusalIs table ts ss q r → (q ≡ accepted tt) × FirstTyped table ts ss (r .kind)
       go (refusedAt n i) w = absurd (omega (arith, w .0, w .2))
       go (accepted u) w = (refl, w .1)
-
-pub table-there : (table : List ℕ) (r : TableReply) → tableReply r ≡ tableCall table → r ≡ checked.Accepted → (ts : Table) × (tableOf table ≡ some ts)
-unfolding tableReply tableCall replyToTable
-table-there table r e f = go (tableOf table) refl (ap tableReply (sym f) ∙ e)
-  where
-    go : (o : Option Table) → tableOf table ≡ o → questions.Reply.done 0 ≡ replyToTable o → (ts : Table) × (tableOf table ≡ some ts)
-    go none h e = never (cc)
-    go (some ts) h e = (ts, h)
-
-pub table-none : (table : List ℕ) (r : TableReply) (n : ℕ) → tableReply r ≡ tableCall table → r ≡ checked.Refused n → tableOf table ≡ none
-unfolding tableReply tableCall replyToTable
-table-none table r n e f = go (tableOf table) refl (ap tableReply (sym f) ∙ e)
-  where
-    go : (o : Option Table) → tableOf table ≡ o → questions.Reply.refused n ≡ replyToTable o → tableOf table ≡ none
-    go none h e = h
-    go (some ts) h e = never (cc)
 
 -- the events of a frame that was read
 pub record Framed (batch : List ℕ) (x : BatchIndex) : Type 0 where

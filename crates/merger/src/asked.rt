@@ -1,20 +1,26 @@
 ghost use Prim.Native.Nat.{ℕ, _≤_};
 ghost use mathlib.Core.Path.{_≡_};
+ghost use mathlib.Core.Bool.{true};
 ghost use mathlib.Core.Option.{some};
 ghost use mathlib.Core.List.{List};
 ghost use Rattle.ontology.specs.Table.{EventType, Table};
 ghost use Rattle.ontology.specs.TableLayout.{tableOf};
-ghost use Rattle.ontology.specs.TypeIndex.{TypeIs};
+ghost use Rattle.ontology.specs.TypeIndex.{TypeIs, TableSays};
 ghost use Rattle.event.specs.Event.{Event};
-ghost use Rattle.event.specs.EventIndex.{EventIs};
+ghost use Rattle.event.specs.EventLayout.{narrow};
+ghost use Rattle.event.specs.EventIndex.{EventIs, eventQuestions, EventAnswers};
 ghost use Rattle.merger.specs.Batch.{eventsAgree};
 ghost use Rattle.merger.specs.BatchIndex.{BatchIs, eventsTogether, RefusalIs, firstApart};
 use crate::frame::BatchIndex;
 use crate::frame::event_part;
 use dossier::parts::text_part;
 use dossier::shape::is_match_same;
-use event::ask::ask_event;
+use event::ask::EventAsked;
+use event::ask::ask_typed;
+use event::ask::type_name;
 use event::read::EventIndex;
+use ontology::tables::TableRead;
+use ontology::tables::table_for;
 use ontology::types::TypeIndex;
 use packed::order::same;
 
@@ -66,13 +72,28 @@ fn first_apart(apart: usize, agrees: bool, position: usize) -> usize
     apart
 }
 
-// Questions 3 to 6 of each event in turn, then 7 of each against the first. Each event is read once.
-pub fn ask_events(table: &[u8], batch: &[u8], x: BatchIndex) -> EventsAsked
+// Questions 3 to 6 of an event. The table was read for a name, and is read again only where the event's type has another one.
+fn ask_one(table: &[u8], name: &[u8], read: TableRead, event: &[u8]) -> EventAsked
+    requires { ⌜ TableSays (tableOf (now table)) (now table) (now name) read × (read .ok ≡ true) ⌝ }
+    ensures { λ r. ⌜ EventAnswers (eventQuestions narrow (now (table .entry)) (now (event .entry))) (now (table .entry)) (now (event .entry)) r ⌝ }
+{
+    ask_typed(event, table_for(table, name, type_name(event), read), false)
+}
+
+// Questions 3 to 6 of each event in turn, then 7 of each against the first. Each event is read once, and the table was read for a name.
+pub fn ask_events(
+    table: &[u8],
+    batch: &[u8],
+    x: BatchIndex,
+    name: &[u8],
+    read: TableRead,
+) -> EventsAsked
     requires { ⌜ x .count ≤ 16 ⌝ }
+    requires { ⌜ TableSays (tableOf (now table)) (now table) (now name) read × (read .ok ≡ true) ⌝ }
     ensures { λ r. ⌜ ((ts : Table) (ss : List (List ℕ)) → tableOf (now (table .entry)) ≡ some ts → BatchIs (now (batch .entry)) ss x → RefusalIs (now (table .entry)) ts ss (eventsTogether ts ss) r) ⌝ }
 {
     let head = event_part(batch, x, 0);
-    let first = ask_event(table, head, false);
+    let first = ask_one(table, name, read, head);
     if first.number != 0 {
         return answer(first.number, 0, first.kind);
     }
@@ -82,7 +103,7 @@ pub fn ask_events(table: &[u8], batch: &[u8], x: BatchIndex) -> EventsAsked
     let mut i: usize = 1;
     while i < x.count {
         let event = event_part(batch, x, i);
-        let asked = ask_event(table, event, false);
+        let asked = ask_one(table, name, read, event);
         if asked.number != 0 {
             return answer(asked.number, i, t);
         }

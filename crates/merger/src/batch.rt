@@ -15,9 +15,9 @@ use crate::frame::event_part;
 use crate::frame::read_batch;
 use combining::check::check_known;
 use combining::combine::combine_known;
+use event::ask::type_name;
 use ontology::replies::Reply;
-use ontology::tables::TableReply;
-use ontology::tables::check_table;
+use ontology::tables::read_table;
 use ontology::types::TypeIndex;
 
 // The length of the batch's dossier, or the number of the first question that is answered no and the position of its event.
@@ -145,14 +145,17 @@ pub fn batch(
     if !have_room(out.len(), a.len(), b.len(), c.len()) {
         return BatchReply::Refused(1, 0);
     }
-    let TableReply::Accepted = check_table(table) else {
-        return BatchReply::Refused(2, 0);
-    };
     let x = read_batch(batch);
+    // the table is read for the name of the first event's type; where the frame is bad, for any name, as question 2 asks for none
+    let name = type_name(event_part(batch, x, 0));
+    let read = read_table(table, name);
+    if !read.ok {
+        return BatchReply::Refused(2, 0);
+    }
     if !x.ok {
         return BatchReply::Refused(9, 0);
     }
-    let asked = ask_events(table, batch, x);
+    let asked = ask_events(table, batch, x, name, read);
     if asked.number != 0 {
         return BatchReply::Refused(asked.number, asked.position);
     }

@@ -15,126 +15,108 @@ use Rattle.merger.proofs.asked.ask_events.Statement.{statement}
 use Rattle.merger.proofs.asked.ask_events.Tie as tie
 use Rattle.merger.proofs.asked.ask_events.Reads as reads
 use Rattle.merger.proofs.asked.ask_events.Lts as lts
-use Rattle.event.proofs.ask.ask_event.Reads as ask-event-reads
+use Rattle.merger.proofs.asked.ask_one.Reads as ask-one-reads
 use Rattle.merger.proofs.asked.events_agree.Reads as events-agree-reads
 use Rattle.merger.proofs.asked.first_apart.Reads as first-apart-reads
 use Rattle.merger.proofs.asked.answer.Reads as answer-reads
 use Rattle.merger.proofs.frame.event_part.Reads as event-part-reads
 
 abbrev Inv-loop : tie.InvT-loop
-Inv-loop table batch x head t d apart₀ i₀ apart i = (1 ≤ i) × ((a : Typed) → eventQuestions narrow table head ≡ accepted a → GoesOn table batch x a i apart)
+Inv-loop table batch x name read head t d apart₀ i₀ apart i = (1 ≤ i) × ((a : Typed) → eventQuestions narrow table head ≡ accepted a → GoesOn table batch x a i apart)
 
 abbrev μ-loop : tie.MeasureT-loop
-μ-loop table batch x head t d apart₀ i₀ apart i = x .count - i
+μ-loop table batch x name read head t d apart₀ i₀ apart i = x .count - i
 
--- src/asked.rt:68:9
 event-part-requires : tie.Need-event-part-requires Inv-loop μ-loop
 event-part-requires c κs = search needs
 
--- src/asked.rt:69:9
-ask-event-requires : tie.Need-ask-event-requires Inv-loop μ-loop
-ask-event-requires c κs = search needs
+ask-one-requires : tie.Need-ask-one-requires Inv-loop μ-loop
+ask-one-requires c κs = c .before .before .before .before .pre .1
 
--- src/asked.rt:71:9
 answer-requires : tie.Need-answer-requires Inv-loop μ-loop
 answer-requires c κs = search needs
 
--- src/asked.rt:71:9
 returns : tie.Need-returns Inv-loop μ-loop
 returns c =
     λ ts ss t w.
     let z : 0 < length ss = omega (arith, w .one, w .count) in
     refusal-is _ ts ss _ _ 0 _
-    (first-refused ts ss _ z (asked-of _ ts t _ _ _ (c .before .before .before .before .event-part .ensures ss w z) (refused-is narrow _ _ _ (c .before .before .before .ask-event .ensures) (c .before .if1 .taken))))
+    (first-refused ts ss _ z (asked-of _ ts t _ _ _ (c .before .before .before .before .event-part .ensures ss w z) (refused-is narrow _ _ _ (c .before .before .before .ask-one .ensures) (c .before .if1 .taken))))
     (c .answer .ensures .0) (c .answer .ensures .1) (omega (arith, c .before .if1 .taken))
 
--- src/asked.rt:77:5
 loop-holds : tie.Need-loop-holds Inv-loop μ-loop
 loop-holds c = (
   omega arith,
   λ a h ts ss t w. let z : 0 < length ss = omega (arith, w .one, w .count) in first-accepted ts ss a z (asked-of _ ts t _ _ _ (c .before .before .before .before .before .event-part .ensures ss w z) h),
 )
 
--- src/asked.rt:78:13
 event-part-requires-2 : tie.Need-event-part-requires-2 Inv-loop μ-loop
-event-part-requires-2 c κs = omega (arith, c .if2 .taken, c .before .before .before .before .before .before .before .before .before .before .before .pre)
+event-part-requires-2 c κs = omega (arith, c .if2 .taken, c .before .before .before .before .before .before .before .before .before .before .before .before .pre .0)
 
--- src/asked.rt:79:13
-ask-event-requires-2 : tie.Need-ask-event-requires-2 Inv-loop μ-loop
-ask-event-requires-2 c κs = search needs
+ask-one-requires-2 : tie.Need-ask-one-requires-2 Inv-loop μ-loop
+ask-one-requires-2 c κs = c .before .before .before .before .before .before .before .before .before .before .before .before .before .pre .1
 
--- src/asked.rt:81:13
 answer-requires-2 : tie.Need-answer-requires-2 Inv-loop μ-loop
 answer-requires-2 c κs = search needs
 
--- src/asked.rt:81:13
 returns-2 : tie.Need-returns-2 Inv-loop μ-loop
 returns-2 c =
     λ ts ss t w.
-    let a = accepted-is narrow _ _ _ (c .before .before .before .before .before .before .before .before .before .before .before .before .ask-event .ensures) (c .before .before .before .before .before .before .before .before .before .before .if1 .left) in
+    let a = accepted-is narrow _ _ _ (c .before .before .before .before .before .before .before .before .before .before .before .before .ask-one .ensures) (c .before .before .before .before .before .before .before .before .before .before .if1 .left) in
     let l : c .before .before .before .before .before .before .before .loop .i < length ss = omega (arith, c .before .before .before .before .before .if2 .taken, w .count) in
     refusal-is _ ts ss _ _ _ _
     (c .before .before .before .before .before .before .before .loop .inv .1 _ (a .is) ts ss t w
-    ∙ next-refused ts _ _ _ ss _ l (asked-of _ ts t _ _ _ (c .before .before .before .before .event-part2 .ensures ss w l) (refused-is narrow _ _ _ (c .before .before .before .ask-event2 .ensures) (c .before .if3 .taken))))
+    ∙ next-refused ts _ _ _ ss _ l (asked-of _ ts t _ _ _ (c .before .before .before .before .event-part2 .ensures ss w l) (refused-is narrow _ _ _ (c .before .before .before .ask-one2 .ensures) (c .before .if3 .taken))))
     (c .answer2 .ensures .0) (c .answer2 .ensures .1) (omega (arith, c .before .if3 .taken))
 
--- src/asked.rt:84:36
 events-agree-requires : tie.Need-events-agree-requires Inv-loop μ-loop
-events-agree-requires c κs = accepted-is narrow _ _ _ (c .before .before .before .before .before .before .before .before .before .before .before .before .ask-event .ensures) (c .before .before .before .before .before .before .before .before .before .before .if1 .left) .type-is .few
+events-agree-requires c κs = accepted-is narrow _ _ _ (c .before .before .before .before .before .before .before .before .before .before .before .before .ask-one .ensures) (c .before .before .before .before .before .before .before .before .before .before .if1 .left) .type-is .few
 
--- src/asked.rt:84:9
 first-apart-requires : tie.Need-first-apart-requires Inv-loop μ-loop
 first-apart-requires c κs = search needs
 
--- src/asked.rt:85:9
 add-i : tie.Need-add-i Inv-loop μ-loop
-add-i c = omega (arith, c .before .before .before .before .before .before .before .if2 .taken, c .before .before .before .before .before .before .before .before .before .before .before .before .before .before .before .before .before .before .pre)
+add-i c = omega (arith, c .before .before .before .before .before .before .before .if2 .taken, c .before .before .before .before .before .before .before .before .before .before .before .before .before .before .before .before .before .before .before .pre .0)
 
--- src/asked.rt:77:5
 loop-less : tie.Need-loop-less Inv-loop μ-loop
-loop-less c = omega (arith, c .before .before .before .before .before .before .before .if2 .taken, c .before .before .before .before .before .before .before .before .before .before .before .before .before .before .before .before .before .before .pre)
+loop-less c = omega (arith, c .before .before .before .before .before .before .before .if2 .taken, c .before .before .before .before .before .before .before .before .before .before .before .before .before .before .before .before .before .before .before .pre .0)
 
--- src/asked.rt:77:5
 loop-again : tie.Need-loop-again Inv-loop μ-loop
 loop-again c = (
   omega arith,
   λ a h ts ss t w.
       let z : 0 < length ss = omega (arith, w .one, w .count) in
       let l : c .before .before .before .before .before .before .before .before .before .loop .i < length ss = omega (arith, c .before .before .before .before .before .before .before .if2 .taken, w .count) in
-      let k = accepted-is narrow _ _ _ (c .before .before .before .before .before .ask-event2 .ensures) (c .before .before .before .if3 .left) in
+      let k = accepted-is narrow _ _ _ (c .before .before .before .before .before .ask-one2 .ensures) (c .before .before .before .if3 .left) in
       let b : Typed = record { type = k .type; event = k .e } in
       let p = asked-of _ ts t _ _ _ (c .before .before .before .before .before .before .before .before .before .before .before .before .before .before .before .event-part .ensures ss w z) h in
       let q = asked-of _ ts t _ _ _ (c .before .before .before .before .before .before .event-part2 .ensures ss w l) (k .is) in
-      let f = answers-accepted _ _ _ a (c .before .before .before .before .before .before .before .before .before .before .before .before .before .before .ask-event .ensures) h in
+      let f = answers-accepted _ _ _ a (c .before .before .before .before .before .before .before .before .before .before .before .before .before .before .ask-one .ensures) h in
       let g = c .before .events-agree .ensures _ (a .type) (b .type) (a .event) (b .event) (f .0) (f .1) (k .event-is) (same-type ts _ _ a b p q) in
       c .before .before .before .before .before .before .before .before .before .loop .inv .1 a h ts ss t w
       ∙ (next-accepted ts a _ _ ss b (c .before .before .before .before .before .before .before .before .before .loop .inv .0) l q
       ∙ ap (λ (n : ℕ). goingOn ts a (c .before .before .before .before .before .before .before .before .before .loop .i + 1) n (drop (c .before .before .before .before .before .before .before .before .before .loop .i + 1) ss)) (sym (c .first-apart .ensures ∙ ap (λ (r : Bool). firstApart (c .before .before .before .before .before .before .before .before .before .loop .apart) r (c .before .before .before .before .before .before .before .before .before .loop .i)) g))),
 )
 
--- src/asked.rt:88:9
 answer-requires-3 : tie.Need-answer-requires-3 Inv-loop μ-loop
 answer-requires-3 c κs = search needs
 
--- src/asked.rt:88:9
 returns-3 : tie.Need-returns-3 Inv-loop μ-loop
 returns-3 c =
     λ ts ss t w.
-    let a = accepted-is narrow _ _ _ (c .before .before .before .before .before .before .before .before .before .ask-event .ensures) (c .before .before .before .before .before .before .before .if1 .left) in
+    let a = accepted-is narrow _ _ _ (c .before .before .before .before .before .before .before .before .before .ask-one .ensures) (c .before .before .before .before .before .before .before .if1 .left) in
     let z : 0 < length ss = omega (arith, w .one, w .count) in
     no-refusal _ ts ss _ (record { type = a .type; event = a .e }) _ _
     (c .before .before .before .before .loop .inv .1 _ (a .is) ts ss t w ∙ none-apart ts _ _ ss (omega (arith, c .before .before .if2 .left, w .count)) _ (c .before .if4 .taken)) (c .answer3 .ensures .0) (c .answer3 .ensures .2)
     (asked-of _ ts t _ _ _ (c .before .before .before .before .before .before .before .before .before .before .event-part .ensures ss w z) (a .is)) (a .type-is)
 
--- src/asked.rt:90:5
 answer-requires-4 : tie.Need-answer-requires-4 Inv-loop μ-loop
 answer-requires-4 c κs = search needs
 
--- src/asked.rt:64:1
 returns-4 : tie.Need-returns-4 Inv-loop μ-loop
 returns-4 c =
     λ ts ss t w.
-    let a = accepted-is narrow _ _ _ (c .before .before .before .before .before .before .before .before .before .ask-event .ensures) (c .before .before .before .before .before .before .before .if1 .left) in
+    let a = accepted-is narrow _ _ _ (c .before .before .before .before .before .before .before .before .before .ask-one .ensures) (c .before .before .before .before .before .before .before .if1 .left) in
     refusal-is _ ts ss _ 7 _ _ (c .before .before .before .before .loop .inv .1 _ (a .is) ts ss t w ∙ one-apart ts _ _ ss (omega (arith, c .before .before .if2 .left, w .count)) _ (c .before .if4 .left)) (c .answer4 .ensures .0) (c .answer4 .ensures .1) (omega arith)
 
 pub ask-events-spec : {M : Type 1} → statement M
@@ -144,12 +126,12 @@ ask-events-spec =
     Inv-loop
     μ-loop
     event-part-requires
-    ask-event-requires
+    ask-one-requires
     answer-requires
     returns
     loop-holds
     event-part-requires-2
-    ask-event-requires-2
+    ask-one-requires-2
     answer-requires-2
     returns-2
     events-agree-requires
