@@ -2,21 +2,24 @@
 use mathlib.Core.Path.{_≡_, refl, sym, ap, ap₂, _∙_, subst}
 use mathlib.Core.Option.{Option, none, some}
 use mathlib.Core.List.{List, [], _∷_, _++_}
-use Prim.Native.Nat.{ℕ, suc, _+_, _≤_, _<_}
+use Prim.Native.Nat.{ℕ, suc, _+_, _-_, _≤_, _<_}
 use native.Mathlib.Omega.{arith}
-use lib.ListN.{length, drop, getElem?}
-use lib.Seq.{sets, sets-eq}
+use lib.ListN.{length, take, drop, getElem?, length-append}
+use lib.Seq.{sets, sets-eq, take-at}
 use borrow.Author.Tests.{le-leb, lt-leb}
 use Rattle.model.specs.Order.{Text}
 use Rattle.model.proofs.Cases.{never}
+use Rattle.packed.specs.Located.{part}
 use Rattle.packed.specs.Written.{Wrote}
 use Rattle.packed.proofs.LayoutLaws.{All}
+use Rattle.packed.proofs.ReadLaws.{part-length}
 use Rattle.packed.proofs.WriteLaws.{wrote-between}
 use Rattle.sha1.specs.Fips.{sha1Of}
 use Rattle.sha1.proofs.Laws.{length-sha1Of}
 use Rattle.ontology.specs.Table.{Property, EventType, Table}
 use Rattle.ontology.specs.TableLayout.{tableOf}
-use Rattle.ontology.specs.Questions.{Asked, refused, accepted, _>>=_, ask}
+use Rattle.ontology.specs.Questions as questions
+use Rattle.ontology.specs.Questions.{Asked, refused, accepted, _>>=_, ask, answer, Outcome, outcome}
 use Rattle.ontology.proofs.TableLaws.{table-type}
 use Rattle.ontology.proofs.TypeIndexLaws.{name-length, type-rules, properties-rules}
 use Rattle.event.specs.Event.{Event}
@@ -31,6 +34,7 @@ use Rattle.event.proofs.AskLaws.{Accepted}
 use Rattle.hashing.specs.HashText.{hashText}
 use Rattle.hashing.specs.HashCalls.{hashTextAsked, hashTextAnswer, hashAnswer, hashTextCall, hashCall}
 use Rattle.ontology.specs.Replies.{replies}
+use Rattle.ontology.specs.declared.replies.Reply.{Reply}
 use Rattle.ontology.specs.declared.replies.Reply.the-variants.{Done, Refused}
 use Rattle.hashing.specs.HashIndex.{Hashable}
 use Rattle.hashing.proofs.HashSizeLaws.{hash-fits}
@@ -108,14 +112,6 @@ module _ (table event out : List ℕ) where
   unfolding hashTextCall hashTextAnswer
   text-refused n h e = rw (asked-refused table event 8192 (length out) n h e)
 
-  pub hash-small : length out < 20 → replies (Refused 1) out ≡ hashCall table event out
-  unfolding hashCall hashAnswer
-  hash-small h = rw (asked-small table event 20 (length out) h)
-
-  pub hash-refused : (n : ℕ) → 20 ≤ length out → eventQuestions wide table event ≡ refused n → replies (Refused n) out ≡ hashCall table event out
-  unfolding hashCall hashAnswer
-  hash-refused n h e = rw (asked-refused table event 20 (length out) n h e)
-
   module _ (r : EventAsked) (a : Accepted wide table event r) (new : List ℕ) where
     pub text-done : (n : ℕ) → 8192 ≤ length out → Wrote out 0 (hashText (a .type) (a .e)) new n → replies (Done n) new ≡ hashTextCall table event out
     unfolding hashTextCall hashTextAnswer
@@ -126,11 +122,62 @@ module _ (table event out : List ℕ) where
         rw (asked-accepted table event 8192 (length out) (a .type) (a .e) h (a .is))
         (ap₂ (λ (k : ℕ) (l : List ℕ). replies (Done k) l) m (wrote-between s w ∙ ap (λ (k : ℕ). x ++ drop k out) m))
 
-    pub hash-done : 20 ≤ length out → new ≡ sets out 0 (sha1Of (hashText (a .type) (a .e))) → replies (Done 20) new ≡ hashCall table event out
+-- ---- the replies of hash, which hashes what hash text wrote in an output of its own
+
+pub hash-small : (table event out : List ℕ) → length out < 20 → replies (Refused 1) out ≡ hashCall table event out
+unfolding hashCall hashAnswer
+hash-small table event out h = rw (asked-small table event 20 (length out) h)
+
+module _ (table event text written : List ℕ) (r : Reply) (told : replies r written ≡ hashTextCall table event text) where
+  pub text-within : {n : ℕ} → r ≡ Done n → n ≤ length written
+  unfolding hashTextCall hashTextAnswer
+  text-within {n} e = go (hashTextAsked 8192 (length text) table event) (ap (λ (x : Reply). replies x written) (sym e) ∙ told)
+    where
+      go : (q : Asked (List ℕ)) → replies (Done n) written ≡ outcome (answer q) text → n ≤ length written
+      go (refused m) h = let z = ap (λ (x : Outcome). x .reply) h in never (cc)
+      go (accepted m) h =
+          let z : questions.Reply.done n ≡ questions.Reply.done (length m) = ap (λ (x : Outcome). x .reply) h in
+          let k : n ≡ length m = cc in
+          omega (arith, ap (λ (x : Outcome). length (x .bytes)) h, length-append m (drop (length m) text))
+
+  pub text-length : {n : ℕ} → r ≡ Done n → length (part written 0 n) ≡ n
+  text-length {n} e = omega (arith, part-length written 0 n (omega arith) (text-within e))
+
+  module _ (out : List ℕ) (room : 20 ≤ length out) (text-room : 8192 ≤ length text) where
+    abbrev asked : Asked (List ℕ)
+    asked = hashTextAsked 20 (length out) table event
+
+    -- both calls ask the same after question 1
+    text-told : replies r written ≡ outcome (answer asked) text
+    unfolding hashTextCall hashTextAnswer
+    text-told =
+        told
+        ∙ ap (λ (q : Asked (List ℕ)). outcome (answer q) text)
+        (asked-is table event 8192 (length text) text-room ∙ sym (asked-is table event 20 (length out) room))
+
+    pub hash-refused : {n : ℕ} → r ≡ Refused n → replies (Refused n) out ≡ hashCall table event out
     unfolding hashCall hashAnswer
-    hash-done h w =
-        let x = sha1Of (hashText (a .type) (a .e)) in
-        let l : length x ≡ 20 = length-sha1Of (hashText (a .type) (a .e)) in
+    hash-refused {n} e = rw (go asked (ap (λ (x : Reply). replies x written) (sym e) ∙ text-told))
+      where
+        go : (q : Asked (List ℕ)) → replies (Refused n) written ≡ outcome (answer q) text → q ≡ refused n
+        go (refused m) h = let z : questions.Reply.refused n ≡ questions.Reply.refused m = ap (λ (x : Outcome). x .reply) h in cc
+        go (accepted m) h = let z = ap (λ (x : Outcome). x .reply) h in never (cc)
+
+    text-front : {n : ℕ} → r ≡ Done n → asked ≡ accepted (part written 0 n)
+    text-front {n} e = go asked (ap (λ (x : Reply). replies x written) (sym e) ∙ text-told)
+      where
+        go : (q : Asked (List ℕ)) → replies (Done n) written ≡ outcome (answer q) text → q ≡ accepted (part written 0 n)
+        go (refused m) h = let z = ap (λ (x : Outcome). x .reply) h in never (cc)
+        go (accepted m) h =
+            let z : questions.Reply.done n ≡ questions.Reply.done (length m) = ap (λ (x : Outcome). x .reply) h in
+            let k : n ≡ length m = cc in
+            ap accepted (sym (ap (λ (x : Outcome). take (n - 0) (x .bytes)) h ∙ take-at m (drop (length m) text) (n - 0) (omega arith)))
+
+    pub hash-done : {n : ℕ} {new : List ℕ} → r ≡ Done n → new ≡ sets out 0 (sha1Of (part written 0 n)) → replies (Done 20) new ≡ hashCall table event out
+    unfolding hashCall hashAnswer
+    hash-done {n} e w =
+        let x = sha1Of (part written 0 n) in
+        let l : length x ≡ 20 = length-sha1Of (part written 0 n) in
         let z : 0 + length x ≡ length x = omega arith in
-        rw (asked-accepted table event 20 (length out) (a .type) (a .e) h (a .is))
+        rw (text-front e)
         (ap₂ (λ (k : ℕ) (b : List ℕ). replies (Done k) b) (sym l) (w ∙ sets-eq x out 0 (omega arith) ∙ ap (λ (k : ℕ). x ++ drop k out) z))

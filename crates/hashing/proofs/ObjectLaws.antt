@@ -11,6 +11,7 @@ use Rattle.model.specs.Order.{Text, texts, pick}
 use Rattle.packed.specs.Located.{part}
 use Rattle.packed.proofs.LayoutLaws.{All}
 use Rattle.packed.specs.Written.{Wrote}
+use Rattle.packed.proofs.OrderLaws.{order-step, order-less, order-more, order-first, order-second, order-same}
 use Rattle.packed.proofs.ReadLaws.{part-length}
 use Rattle.packed.proofs.WriteLaws.{wrote-length, wrote-then, ToGo, all-gone}
 use Rattle.hashing.specs.HashText.{insert, separated}
@@ -75,6 +76,50 @@ pub wrote-string :
     Wrote l₂ c (part event (x .value) (x .end)) l₃ d → Wrote l at (stringOf table event x) l₃ d
 unfolding stringOf
 wrote-string table event x p q r = wrote-then p (wrote-then q r)
+
+-- ---- the comparison of two strings
+
+-- the strings have n and m bytes, and compare as they do from byte i on
+pub record ComparesFrom (table event : List ℕ) (x y : ObjectAt) (n m i : ℕ) : Type 0 where
+  pub first : n ≡ length (stringOf table event x)
+  pub second : m ≡ length (stringOf table event y)
+  pub within : i ≤ n
+  pub is : texts .cmp (stringOf table event x) (stringOf table event y) ≡ texts .cmp (drop i (stringOf table event x)) (drop i (stringOf table event y))
+
+pub compares-all : {table event : List ℕ} {x y : ObjectAt} {n m : ℕ} → n ≡ length (stringOf table event x) → m ≡ length (stringOf table event y) → ComparesFrom table event x y n m 0
+compares-all e f = record { first = e; second = f; within = omega arith; is = refl }
+
+module _ {table event : List ℕ} {x y : ObjectAt} {n m i : ℕ} (w : ComparesFrom table event x y n m i) where
+  abbrev X : Text
+  X = stringOf table event x
+
+  abbrev Y : Text
+  Y = stringOf table event y
+
+  pub first-ends : n ≤ i → i < m → Ordering·lt ≡ texts .cmp X Y
+  first-ends h k = sym (w .is ∙ order-first X Y i (omega (arith, w .first)) (omega (arith, w .second)))
+
+  pub second-ends : i < n → m ≤ i → Ordering·gt ≡ texts .cmp X Y
+  second-ends h k = sym (w .is ∙ order-second X Y i (omega (arith, w .first)) (omega (arith, w .second)))
+
+  pub both-end : n ≤ i → m ≤ i → Ordering·eq ≡ texts .cmp X Y
+  both-end h k = sym (w .is ∙ order-same X Y i (omega (arith, w .first)) (omega (arith, w .second)))
+
+  -- both have a byte i
+  module _ (h : i < n) (k : i < m) {a b : ℕ} (e : a ≡ getD X i 0) (f : b ≡ getD Y i 0) where
+    pub byte-less : a < b → Ordering·lt ≡ texts .cmp X Y
+    byte-less l = sym (w .is ∙ order-less X Y i (omega (arith, w .first)) (omega (arith, w .second)) (omega arith))
+
+    pub byte-more : b < a → Ordering·gt ≡ texts .cmp X Y
+    byte-more l = sym (w .is ∙ order-more X Y i (omega (arith, w .first)) (omega (arith, w .second)) (omega arith))
+
+    pub byte-same : a ≡ b → ComparesFrom table event x y n m (i + 1)
+    byte-same l = record {
+      first = w .first;
+      second = w .second;
+      within = omega arith;
+      is = w .is ∙ order-step X Y i (omega (arith, w .first)) (omega (arith, w .second)) (omega arith);
+    }
 
 -- ---- parts of a list
 

@@ -1,14 +1,13 @@
--- The laws of writing a hash text from its parts, and of hashing it.
+-- The laws of writing a hash text from its parts.
 use mathlib.Core.Path.{_≡_, sym, ap, _∙_}
 use mathlib.Core.List.{List, [], _∷_, _++_, append-assoc}
-use Prim.Native.Nat.{ℕ, _+_, _-_, _≤_}
+use Prim.Native.Nat.{ℕ, _+_, _≤_}
 use native.Mathlib.Omega.{arith}
-use lib.ListN.{length, take, drop, length-append}
-use lib.Seq.{take-at}
+use lib.ListN.{length, length-append}
 use Rattle.model.specs.Order.{texts}
 use Rattle.packed.specs.Located.{part}
 use Rattle.packed.specs.Written.{Wrote}
-use Rattle.packed.proofs.WriteLaws.{wrote-then, wrote-between}
+use Rattle.packed.proofs.WriteLaws.{wrote-then}
 use Rattle.ontology.specs.declared.types.TypeIndex.{TypeIndex}
 use Rattle.event.specs.declared.read.EventIndex.{EventIndex}
 use Rattle.hashing.specs.HashText.{objectStrings, sorted, separated, hashText}
@@ -51,9 +50,3 @@ module _
         {l l₁ l₂ l₃ : List ℕ} {a b c d : ℕ} → Wrote l a (sourceLine event e) l₁ b → Wrote l₁ b (nameLine event e) l₂ c →
         Wrote l₂ c (separated (stringsOf table event objects)) l₃ d → Wrote l a (hashText (h .type) (h .event)) l₃ d
     wrote-hash-text p q r = rw text-parts (wrote-then (wrote-then p q) r)
-
--- what was written at the front is there
-pub front-is : (l xs l′ : List ℕ) (n : ℕ) → length xs ≤ length l → Wrote l 0 xs l′ n → part l′ 0 n ≡ xs
-front-is l xs l′ n h w =
-    let k : 0 + length xs ≤ length l = omega arith in
-    ap (take (n - 0)) (wrote-between k w) ∙ take-at xs (drop n l) (n - 0) (omega (arith, w .after))

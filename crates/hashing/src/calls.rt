@@ -1,10 +1,10 @@
 ghost use mathlib.Core.Path.{_≡_};
 ghost use Rattle.hashing.specs.HashCalls.{hashTextCall, hashCall};
 ghost use Rattle.ontology.specs.Replies.{replies};
-use crate::text::write_hash;
 use crate::text::write_hash_text;
 use event::ask::ask_event;
 use ontology::replies::Reply;
+use sha1::write_digest;
 
 // The hash text of an event, written at the front of `out`.
 pub fn hash_text(table: &[u8], event: &[u8], out: &mut [u8]) -> Reply
@@ -22,19 +22,19 @@ pub fn hash_text(table: &[u8], event: &[u8], out: &mut [u8]) -> Reply
     Reply::Done(write_hash_text(table, event, kind, x, out))
 }
 
-// The hash of an event, written at the front of `out`.
+// The hash of an event, SHA-1 of its hash text, written at the front of `out`.
 pub fn hash(table: &[u8], event: &[u8], out: &mut [u8]) -> Reply
     ensures { λ r. ⌜ replies r (now (out .exit)) ≡ hashCall (now (table .entry)) (now (event .entry)) (now (out .entry)) ⌝ }
 {
     if out.len() < 20 {
         return Reply::Refused(1);
     }
-    let asked = ask_event(table, event, true);
-    if asked.number != 0 {
-        return Reply::Refused(asked.number);
+    let mut text = [0u8; 8192];
+    match hash_text(table, event, &mut text) {
+        Reply::Done(n) => {
+            write_digest(&text[0..n], out, 0);
+            Reply::Done(20)
+        }
+        Reply::Refused(number) => Reply::Refused(number),
     }
-    let kind = asked.kind;
-    let x = asked.event;
-    write_hash(table, event, kind, x, out);
-    Reply::Done(20)
 }

@@ -1,11 +1,8 @@
 ghost use Prim.Native.Nat.{_+_, _≤_};
-ghost use mathlib.Core.Path.{_≡_};
 ghost use mathlib.Core.List.{[], _∷_, _++_};
 ghost use lib.ListN.{length};
-ghost use lib.Seq.{sets};
 ghost use Rattle.packed.specs.Located.{part};
 ghost use Rattle.packed.specs.Written.{Wrote};
-ghost use Rattle.sha1.specs.Fips.{sha1Of};
 ghost use Rattle.hashing.specs.HashText.{hashText};
 ghost use Rattle.hashing.specs.HashIndex.{Hashable};
 use crate::gather::gather;
@@ -14,7 +11,6 @@ use event::read::EventIndex;
 use ontology::types::TypeIndex;
 use packed::write::copy;
 use packed::write::copy_part;
-use sha1::write_digest;
 
 // A part of the event, and byte 0A.
 fn write_line(event: &[u8], from: usize, to: usize, out: &mut [u8], at: usize) -> usize
@@ -43,14 +39,4 @@ pub fn write_hash_text(
     let second = write_line(event, source.start, source.end, out, 0);
     let third = write_line(event, name.start, name.end, out, second);
     write_objects(table, event, objects, out, third)
-}
-
-// Writes the hash, SHA-1 of the hash text, at the front of `out`.
-pub fn write_hash(table: &[u8], event: &[u8], t: TypeIndex, e: EventIndex, out: &mut [u8])
-    requires { ⌜ Hashable (now table) (now event) t e × (20 ≤ length (now out)) ⌝ }
-    ensures { λ _. ⌜ ((h : Hashable (now (table .entry)) (now (event .entry)) t e) → now (out .exit) ≡ sets (now (out .entry)) 0 (sha1Of (hashText (h .type) (h .event)))) ⌝ }
-{
-    let mut text = [0u8; 8192];
-    let n = write_hash_text(table, event, t, e, &mut text);
-    write_digest(&text[0..n], out, 0);
 }

@@ -1,7 +1,5 @@
 use native.Mathlib.Omega.{arith}
-use Rattle.event.specs.EventLayout.{wide}
-use Rattle.event.proofs.AskLaws.{accepted-is, refused-is}
-use Rattle.hashing.proofs.CallLaws.{hashable, hash-small, hash-refused, hash-done}
+use Rattle.hashing.proofs.CallLaws.{hash-small, hash-refused, text-within, text-length, hash-done}
 use borrow.Author.Needs.{needs}
 use Rattle.hashing.proofs.calls.hash.Statement.{statement}
 use Rattle.hashing.proofs.calls.hash.Tie as tie
@@ -9,24 +7,60 @@ use Rattle.hashing.proofs.calls.hash.Tie as tie
 returns : tie.Need-returns
 returns c = hash-small _ _ _ (c .if1 .taken)
 
-ask-event-requires : tie.Need-ask-event-requires
-ask-event-requires c κs = search needs
+slice-aggregate-hash-text : tie.Need-slice-aggregate-hash-text
+slice-aggregate-hash-text c = search needs
 
-returns-2 : tie.Need-returns-2
-returns-2 c = hash-refused _ _ _ _ (omega (arith, c .before .before .before .if1 .left)) (refused-is wide _ _ _ (c .before .before .ask-event .ensures) (c .if2 .taken))
+hash-text-requires : tie.Need-hash-text-requires
+hash-text-requires c κs = search needs
 
-write-hash-requires : tie.Need-write-hash-requires
-write-hash-requires c κs = (hashable _ _ _ (accepted-is wide _ _ _ (c .before .before .before .before .before .ask-event .ensures) (c .before .before .before .if2 .left)), omega (arith, c .before .before .before .before .before .before .if1 .left))
+enum-known-n : tie.Need-enum-known-n
+enum-known-n c = search needs
+
+sub-write-digest : tie.Need-sub-write-digest
+sub-write-digest c = search needs
+
+part-write-digest-start : tie.Need-part-write-digest-start
+part-write-digest-start c = search needs
+
+part-write-digest-end : tie.Need-part-write-digest-end
+part-write-digest-end c = let t = c .before .before .before .before .before .hash-text in text-within _ _ _ _ (t .result) (t .ensures) (c .before .before .n .given .1)
+
+write-digest-requires : tie.Need-write-digest-requires
+write-digest-requires c κs =
+    let l = c .before .before .before .before .before .before .before in
+    let e = c .before .before .before .before .n .given .1 in
+    let t = l .hash-text in
+    (omega (arith, text-within _ _ _ _ (t .result) (t .ensures) e, text-length _ _ _ _ (t .result) (t .ensures) e), omega (arith, l .before .before .if1 .left))
+
+enum-known-number : tie.Need-enum-known-number
+enum-known-number c = search needs
 
 same-length : tie.Need-same-length
 same-length c = search needs
 
+returns-2 : tie.Need-returns-2
+returns-2 c =
+    let l = c .before .before .before .before .before .before .before .before .before .before in
+    hash-done _ _ _ _ (l .hash-text .result) (l .hash-text .ensures) _ (omega (arith, l .before .before .if1 .left)) (omega arith) (c .before .before .before .before .before .before .before .n .given .1) (c .before .before .write-digest .ensures)
+
 returns-3 : tie.Need-returns-3
 returns-3 c =
-    let a = accepted-is wide _ _ _ (c .before .before .before .before .before .before .before .before .ask-event .ensures) (c .before .before .before .before .before .before .if2 .left) in
-    hash-done _ _ _ _ a _ (omega (arith, c .before .before .before .before .before .before .before .before .before .if1 .left)) (c .before .before .write-hash .ensures (hashable _ _ _ a))
+    let l = c .before .before .before .before in
+    hash-refused _ _ _ _ (l .hash-text .result) (l .hash-text .ensures) _ (omega (arith, l .before .before .if1 .left)) (omega arith) (c .before .number .given .1)
 
 pub hash-spec : {M : Type 1} → statement M
 hash-spec =
     tie.close
-    (tie.spec returns ask-event-requires returns-2 write-hash-requires same-length returns-3)
+    (tie.spec
+    returns
+    slice-aggregate-hash-text
+    hash-text-requires
+    enum-known-n
+    sub-write-digest
+    part-write-digest-start
+    part-write-digest-end
+    write-digest-requires
+    enum-known-number
+    same-length
+    returns-2
+    returns-3)
