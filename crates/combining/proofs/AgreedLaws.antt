@@ -20,7 +20,7 @@ use Rattle.packed.proofs.WriteLaws.{wrote-then, ToGo, gone, all-gone}
 use Rattle.ontology.specs.Table.{EventType, isVersioned}
 use Rattle.event.specs.Event.{Event, view}
 use Rattle.event.specs.EventLayout.{presenceBit, bitNumber, setBytes, setsBytes}
-use Rattle.event.specs.EventIndex.{SetIs, SetsAre, noSet}
+use Rattle.event.specs.EventIndex.{SetIs, SetsAre, bitOf, noSet}
 use Rattle.event.specs.declared.sets.SetAt.{SetAt}
 use Rattle.dossier.specs.DossierLayout.{differBit, readSnapshot, snapshotBytes}
 use Rattle.dossier.specs.DossierIndex.{CellsAre, SnapshotIs, SnapshotReads}
@@ -28,7 +28,7 @@ use Rattle.dossier.specs.declared.snapshots.SnapshotIndex.{SnapshotIndex}
 use Rattle.dossier.proofs.CellLaws.{held-at, cell-here, bits-next}
 use Rattle.dossier.proofs.AskLaws.{reads-got}
 use Rattle.dossier.proofs.VersionLaws.{cells-are}
-use Rattle.combining.specs.CombineIndex.{bitOf, Meet}
+use Rattle.combining.specs.CombineIndex.{Meet}
 use Rattle.combining.specs.AgreedIndex.{isAgreed, isFilled, PlacesAre, placeBytes, presentBytes}
 use Rattle.combining.specs.declared.agreed.Places.{Places}
 

@@ -1,9 +1,9 @@
--- The laws of counting: the number of some bits, and the versions of two dossiers.
+-- The laws of counting the versions of two dossiers.
 use mathlib.Core.Path.{_≡_, sym, ap, ap₂, _∙_, subst, subst₂}
 use mathlib.Core.Logic.{_⊎_, ⊎-elim}
-use mathlib.Core.Bool.{Bool, true, false}
-use mathlib.Core.List.{List, [], _∷_, map}
-use Prim.Native.Nat.{ℕ, zero, suc, _+_, _-_, _*_, _^_, _≤_, _<_}
+use mathlib.Core.Bool.{true}
+use mathlib.Core.List.{List, [], _∷_}
+use Prim.Native.Nat.{ℕ, zero, suc, _+_, _-_, _≤_, _<_}
 use native.Mathlib.Omega.{arith}
 use native.Mathlib.Numerals.{add-one}
 use lib.ListN.{length, take, drop, getD, length-drop, drop-of-length-le}
@@ -13,65 +13,6 @@ use Rattle.model.specs.Sets.{Ups, union}
 use Rattle.model.proofs.OrderLaws.{less-turn, less-cmp}
 use Rattle.model.proofs.SetLaws.{rising-ups}
 use Rattle.model.proofs.StepLaws.{union-left-nil, union-right-nil, union-step}
-use Rattle.event.specs.EventLayout.{bitNumber}
-use Rattle.event.proofs.EventLayoutLaws.{bits-small}
-use Rattle.combining.specs.CombineIndex.{bitOf}
-
--- ---- the number of some bits
-
-bit-small : (b : Bool) → bitOf b < 2
-unfolding bitOf
-bit-small true = omega arith
-bit-small false = omega arith
-
--- the bits from k on are no more than all of them
-bits-least : (bits : List Bool) (k : ℕ) → bitNumber (map bitOf (drop k bits)) ≤ bitNumber (map bitOf bits)
-unfolding bitNumber
-bits-least [] zero = omega arith
-bits-least [] (suc k) = omega arith
-bits-least (b ∷ bits) zero = omega arith
-bits-least (b ∷ bits) (suc k) = omega (arith, bits-least bits k)
-
-bits-below : (bits : List Bool) → length bits ≡ 32 → bitNumber (map bitOf bits) < 4294967296
-bits-below bits h = omega (arith, bits-small bitOf bits bit-small, ap (λ (n : ℕ). 2 ^ n) h)
-
--- n is the number of the bits from k on
-pub record BitsFrom (bits : List Bool) (n k : ℕ) : Type 0 where
-  pub is : n ≡ bitNumber (map bitOf (drop k bits))
-  pub within : k ≤ 32
-
-module _ (bits : List Bool) (long : length bits ≡ 32) where
-  pub bits-none : BitsFrom bits 0 32
-  unfolding bitNumber
-  bits-none = record { is = sym (ap (λ (l : List Bool). bitNumber (map bitOf l)) (drop-of-length-le bits {i = 32} (omega arith))); within = omega arith }
-
-  module _ (n k : ℕ) (w : BitsFrom bits n k) (l : 0 < k) where
-    bits-step : bitOf (getD bits (k - 1) false) + 2 * n ≡ bitNumber (map bitOf (drop (k - 1) bits))
-    unfolding bitNumber
-    bits-step =
-        let e : suc (k - 1) ≡ k = omega arith in
-        sym (ap (λ (l : List Bool). bitNumber (map bitOf l)) (drop-cons bits (k - 1) false (omega (arith, w .within)))
-        ∙ ap (λ (m : ℕ). bitOf (getD bits (k - 1) false) + 2 * bitNumber (map bitOf (drop m bits))) e
-        ∙ ap (λ (m : ℕ). bitOf (getD bits (k - 1) false) + 2 * m) (sym (w .is)))
-
-    pub bits-room : 2 * n + 1 < 8589934592
-    bits-room = omega (arith, w .is, bits-least bits k, bits-below bits long)
-
-    pub bits-set : getD bits (k - 1) false ≡ true → BitsFrom bits (2 * n + 1) (k - 1)
-    unfolding bitOf
-    bits-set h = record { is = let e = ap bitOf h in omega (arith, e) ∙ bits-step; within = omega (arith, w .within) }
-
-    pub bits-clear : getD bits (k - 1) false ≡ false → BitsFrom bits (2 * n) (k - 1)
-    unfolding bitOf
-    bits-clear h = record { is = let e = ap bitOf h in omega (arith, e) ∙ bits-step; within = omega (arith, w .within) }
-
-pub bits-all : (bits : List Bool) (n k : ℕ) → BitsFrom bits n k → k ≤ 0 → n ≡ bitNumber (map bitOf bits)
-bits-all bits n k w h = w .is ∙ ap (λ (m : ℕ). bitNumber (map bitOf (drop m bits))) (the-front k h)
-  where
-    the-front : (k : ℕ) → k ≤ 0 → k ≡ 0
-    the-front k h = omega arith
-
--- ---- the versions of two dossiers
 
 -- count versions have been counted, and those from i and from j on are left
 pub record VersionsLeft (xs ys : List ℕ) (i j count : ℕ) : Type 0 where

@@ -1,102 +1,83 @@
 -- The laws of joining two unversioned snapshots.
 use mathlib.Core.Path.{_≡_, refl, sym, ap, ap₂, _∙_, subst}
-use mathlib.Core.Logic.{⊎-elim}
-use mathlib.Core.Bool.{Bool, true, false, cond, not, _&&_, _||_}
+use mathlib.Core.Bool.{Bool, true, false, not, _&&_, _||_}
 use mathlib.Core.Option.{Option, none, some}
 use mathlib.Core.List.{List, [], _∷_, _++_, map, flatten, append-nil, List·Memᴰ, List·Memᴰ·head, List·Memᴰ·tail}
 use Prim.Native.Nat.{ℕ, zero, suc, _+_, _-_, _≤_, _<_}
 use native.Mathlib.Omega.{arith}
 use native.Mathlib.Numerals.{add-one}
 use lib.Dec.{ltb, leb, eqb}
-use lib.ListN.{length, take, drop, set, getD, getElem?, length-append, length-map, length-set}
-use lib.Seq.{take-all, getD-set-same, getD-set-other}
+use lib.ListN.{length, take, drop, set, getD, getElem?, length-append, length-map}
+use lib.Seq.{take-all}
 use borrow.Author.Tests.{lt-ltb, le-ltb, leb-true, eqb-true, not-true}
-use Rattle.model.specs.Order.{Order, Text, texts, rising, reversed}
+use Rattle.model.specs.Order.{Order, Text, texts, rising}
 use Rattle.model.specs.Sets.{union, upFrom, upTo}
 use Rattle.model.specs.Rule.{Choice, every, least, Cell, holds, differs, joinCell, places, Snapshot, joinSnapshots}
 use Rattle.model.specs.Opening.{held, isMark, cellAt}
 use Rattle.model.proofs.Cases.{never, and-parts}
 use Rattle.model.proofs.SetLaws.{rising-ups, union-in}
-use Rattle.model.proofs.PartLaws.{map-same, map-getD, in-upTo}
+use Rattle.model.proofs.PartLaws.{map-same}
 use Rattle.model.proofs.StepLaws.{union-left-nil, union-right-nil, join-map}
 use Rattle.packed.specs.Parse.{got}
 use Rattle.packed.specs.Packed.{number, text}
 use Rattle.packed.specs.Written.{Wrote}
-use Rattle.packed.proofs.LayoutLaws.{lt-or-ge}
 use Rattle.packed.proofs.WriteLaws.{wrote-length, wrote-then, ToGo, wrote-as}
 use Rattle.unions.specs.Runs.{TextsRoom}
 use Rattle.values.specs.Spaces.{Kind, kindNumber, inSpace}
-use Rattle.values.specs.ValueOrder.{valueOrder}
+use Rattle.values.specs.ValueOrder.{extremeOrder}
 use Rattle.ontology.specs.Table.{Property, EventType, isMin, isMax, isVersioned}
-use Rattle.ontology.specs.Table as table
 use Rattle.ontology.specs.TypeIndex.{PropertyIs, TypeIs}
 use Rattle.ontology.specs.declared.properties.PropertyAt.{PropertyAt}
 use Rattle.ontology.specs.declared.types.TypeIndex.{TypeIndex}
 use Rattle.event.specs.Event.{atPlace, view}
 use Rattle.event.specs.EventLayout.{setBytes, setsBytes, presenceBit, bitNumber}
 use Rattle.event.specs.EventQuestions.{areInSpace, matchCount, valuesFit}
-use Rattle.event.specs.EventIndex.{SetIs, noSet}
+use Rattle.event.specs.EventIndex.{SetIs, noSet, bitOf}
 use Rattle.event.specs.declared.sets.SetAt.{SetAt}
+use Rattle.event.proofs.BitLaws.{FilledTo, presence-bits}
 use Rattle.event.proofs.EventLayoutLaws.{SetWritten}
-use Rattle.event.proofs.EventQuestionLaws.{all-at, each-place-at, empty-written, choice-least}
+use Rattle.event.proofs.EventQuestionLaws.{all-at, each-place-at, empty-written, choice-least, no-value, one-value, one-in-space}
 use Rattle.dossier.specs.DossierLayout.{readSnapshot, differBit, snapshotBytes}
 use Rattle.dossier.specs.DossierQuestions.{eachCell, isVacant, isPresent, isLone, isLoneIfExtreme, snapshotValues}
 use Rattle.dossier.specs.DossierIndex.{SnapshotIs, cellFits, placeFits, versionFits, snapshotFits}
 use Rattle.dossier.specs.declared.snapshots.SnapshotIndex.{SnapshotIndex}
 use Rattle.dossier.proofs.DossierLayoutLaws.{snapshot-was}
 use Rattle.dossier.proofs.CellLaws.{held-at}
-use Rattle.combining.specs.CombineIndex.{bitOf, isExtremeAt, Fitting, Meet}
-use Rattle.combining.specs.JoinedIndex.{haveObjects, PresentAre, extremeOrder, Extremes, joinedSet, Paired, PlaceIs, PlaceRoom}
+use Rattle.combining.specs.CombineIndex.{isExtremeAt, Fitting, Meet}
+use Rattle.combining.specs.JoinedIndex.{haveObjects, PresentAre, Extremes, joinedSet, Paired, PlaceIs, PlaceRoom}
 use Rattle.combining.proofs.PlaceLaws.{set-room, wrote-set}
 use Rattle.combining.proofs.CheckLaws.{sets-held, none-differ}
 use Rattle.combining.proofs.ObjectLaws.{keeps-every}
 
 -- ---- the smaller or larger of two values
 
-none-of : {A : Type 0} (l : List A) → length l ≡ 0 → l ≡ []
-none-of [] h = refl
-none-of (a ∷ l) h = absurd (omega arith)
-
-one-of : (l : List Text) → length l ≤ 1 → 1 ≤ length l → l ≡ getD l 0 [] ∷ []
-one-of [] h k = absurd (omega arith)
-one-of (a ∷ []) h k = refl
-one-of (a ∷ b ∷ l) h k = absurd (omega arith)
-
 whole-part : (v : Text) → take (length v - 0) (drop 0 v) ≡ v
 whole-part v = take-all (length v - 0) v (omega arith)
-
-lone-value : (k : Kind) (xs : List Text) (v : Text) → xs ≡ v ∷ [] → areInSpace k xs ≡ true → inSpace k v ≡ true
-unfolding areInSpace
-lone-value k xs v e h = and-parts (inSpace k v) true (rw e at h) .0
 
 module _ (k : Kind) (kind : ℕ) (xs ys : List Text) (e : Extremes k kind xs ys) where
   pub chosen-right : (O : Order Text) (w : Text) → length xs ≡ 0 → w ≡ getD ys 0 [] → w ∷ [] ≡ take 1 (union O xs ys)
   chosen-right O w n q =
-      let y : ys ≡ getD ys 0 [] ∷ [] = one-of ys (e .right-one) (omega (arith, e .some)) in
-      ap (λ (v : Text). v ∷ []) q ∙ sym (ap (take 1) (ap (λ (l : List Text). union O l ys) (none-of xs n) ∙ union-left-nil O ys ∙ y))
+      let y : ys ≡ getD ys 0 [] ∷ [] = one-value ys (λ z. omega (arith, e .some)) (e .right-one) in
+      ap (λ (v : Text). v ∷ []) q ∙ sym (ap (take 1) (ap (λ (l : List Text). union O l ys) (no-value xs n) ∙ union-left-nil O ys ∙ y))
 
   pub chosen-left : (O : Order Text) (v : Text) → length ys ≡ 0 → v ≡ getD xs 0 [] → v ∷ [] ≡ take 1 (union O xs ys)
   unfolding rising
   chosen-left O v n q =
-      let x : xs ≡ v ∷ [] = one-of xs (e .left-one) (omega (arith, e .some)) ∙ ap (λ (v : Text). v ∷ []) (sym q) in
-      sym (ap (take 1) (ap₂ (union O) x (none-of ys n) ∙ union-right-nil O (v ∷ []) (rising-ups O (v ∷ []) .0 refl)))
+      let x : xs ≡ v ∷ [] = one-value xs (λ z. omega (arith, e .some)) (e .left-one) ∙ ap (λ (v : Text). v ∷ []) (sym q) in
+      sym (ap (take 1) (ap₂ (union O) x (no-value ys n) ∙ union-right-nil O (v ∷ []) (rising-ups O (v ∷ []) .0 refl)))
 
   pub chosen-both :
       (largest : Bool) (r v w : Text) → (length xs ≡ 0 → ⊥) → (length ys ≡ 0 → ⊥) → v ≡ getD xs 0 [] → w ≡ getD ys 0 [] →
       ((k : Kind) → kindNumber k ≡ kind → kind ≤ 6 → inSpace k (take (length v - 0) (drop 0 v)) ≡ true → inSpace k (take (length w - 0) (drop 0 w)) ≡ true →
-      r ∷ [] ≡ take 1 (union (cond largest (reversed (valueOrder k)) (valueOrder k)) (take (length v - 0) (drop 0 v) ∷ []) (take (length w - 0) (drop 0 w) ∷ []))) →
+      r ∷ [] ≡ take 1 (union (extremeOrder largest k) (take (length v - 0) (drop 0 v) ∷ []) (take (length w - 0) (drop 0 w) ∷ []))) →
       r ∷ [] ≡ take 1 (union (extremeOrder largest k) xs ys)
   chosen-both largest r v w m n p q c =
-      let x : xs ≡ v ∷ [] = one-of xs (e .left-one) (positive (length xs) m) ∙ ap (λ (v : Text). v ∷ []) (sym p) in
-      let y : ys ≡ w ∷ [] = one-of ys (e .right-one) (positive (length ys) n) ∙ ap (λ (v : Text). v ∷ []) (sym q) in
+      let x : xs ≡ v ∷ [] = one-value xs m (e .left-one) ∙ ap (λ (v : Text). v ∷ []) (sym p) in
+      let y : ys ≡ w ∷ [] = one-value ys n (e .right-one) ∙ ap (λ (v : Text). v ∷ []) (sym q) in
       c k (e .number) (e .ordered)
-      (ap (inSpace k) (whole-part v) ∙ lone-value k xs v x (e .left-values))
-      (ap (inSpace k) (whole-part w) ∙ lone-value k ys w y (e .right-values))
+      (ap (inSpace k) (whole-part v ∙ p) ∙ one-in-space k xs m (e .left-one) (e .left-values))
+      (ap (inSpace k) (whole-part w ∙ q) ∙ one-in-space k ys n (e .right-one) (e .right-values))
       ∙ ap₂ (λ (a b : List Text). take 1 (union (extremeOrder largest k) a b)) (ap (λ (a : Text). a ∷ []) (whole-part v) ∙ sym x) (ap (λ (a : Text). a ∷ []) (whole-part w) ∙ sym y)
-    where
-      positive : (n : ℕ) → (n ≡ 0 → ⊥) → 1 ≤ n
-      positive zero h = absurd (h refl)
-      positive (suc n) h = omega arith
 
 -- ---- the set of a place
 
@@ -166,7 +147,7 @@ module _ (a : List ℕ) (x : SetAt) (b : List ℕ) (y : SetAt) (xs ys : List Tex
   have-none h = go (x .count) (y .count) (v .count) (w .count) h
     where
       go : (m n : ℕ) → m ≡ length xs → n ≡ length ys → (ltb 0 m || ltb 0 n) ≡ false → (xs ≡ []) × (ys ≡ [])
-      go zero zero p q h = (none-of xs (sym p), none-of ys (sym q))
+      go zero zero p q h = (no-value xs (sym p), no-value ys (sym q))
       go zero (suc n) p q h = let z : ltb 0 (suc n) ≡ true = lt-ltb 0 (suc n) (omega arith) in never (cc)
       go (suc m) n p q h = let z : ltb 0 (suc m) ≡ true = lt-ltb 0 (suc m) (omega arith) in never (cc (rw z at h))
 
@@ -267,30 +248,8 @@ to-go-same g e f = rw (e, f) g
 
 -- ---- the places that have objects
 
--- the same of the places below k
-pub record PlacesTo (left right : List SetAt) (l : List Bool) (k : ℕ) : Type 0 where
-  pub long : length l ≡ 32
-  pub each : (p : ℕ) → p < k → getD l p false ≡ haveObjects (getD left p noSet) (getD right p noSet)
-
-pub places-none : (left right : List SetAt) (l : List Bool) → length l ≡ 32 → PlacesTo left right l 0
-places-none left right l h = record { long = h; each = λ p k. absurd (omega arith) }
-
-module _ (left right : List SetAt) (l : List Bool) (k : ℕ) (w : PlacesTo left right l k) where
-  pub places-more : (b : Bool) → k < 32 → b ≡ haveObjects (getD left k noSet) (getD right k noSet) → PlacesTo left right (set l k b) (k + 1)
-  places-more b h e = record {
-    long = length-set l k b ∙ w .long;
-    each = λ p m.
-        ⊎-elim
-        (λ (n : p < k). let d : p ≡ k → ⊥ = λ q. omega arith in getD-set-other l k p b false d ∙ w .each p n)
-        (λ (n : k ≤ p).
-        let q : p ≡ k = omega arith in
-        let o : k < length l = omega (arith, w .long) in
-        ap (λ (i : ℕ). getD (set l k b) i false) q ∙ getD-set-same l k b false o ∙ e ∙ ap (λ (i : ℕ). haveObjects (getD left i noSet) (getD right i noSet)) (sym q))
-        (lt-or-ge p k);
-  }
-
-  pub places-all : 32 ≤ k → PresentAre left right l
-  places-all h = record { long = w .long; each = λ p m. w .each p (omega arith) }
+pub places-all : {left right : List SetAt} {l : List Bool} {k : ℕ} → FilledTo (λ p. haveObjects (getD left p noSet) (getD right p noSet)) l k → 32 ≤ k → PresentAre left right l
+places-all w h = record { long = w .long; each = λ p m. w .each p (omega arith) }
 
 -- ---- an unversioned snapshot
 
@@ -457,25 +416,19 @@ module _ {table a b : List ℕ} {t : TypeIndex} {i j : SnapshotIndex} {ty : Even
   joined-version = plain-version ty x (f .left-fits) (h .unversioned)
 
   module _ (present : List Bool) (w : PresentAre (i .sets) (j .sets) present) where
-    presence-bits : map presenceBit (map joined (upTo 32)) ≡ map bitOf present
-    presence-bits =
-        go (upTo 32) (λ p m. in-upTo 32 p .1 m) ∙ ap (map bitOf) (map-getD present false 32 (w .long))
-      where
-        go : (ps : List ℕ) → ((p : ℕ) → List·Memᴰ p ps → p < 32) → map presenceBit (map joined ps) ≡ map bitOf (map (λ p. getD present p false) ps)
-        go [] l = refl
-        go (p ∷ ps) l =
-            let m = l p (List·Memᴰ·head refl) in
-            ap₂ (λ (n : ℕ) (ns : List ℕ). n ∷ ns)
-            (presence-is a (getD (i .sets) p noSet) b (getD (j .sets) p noSet) (setOf x p) (setOf y p) (h .left .sets .each p m) (h .right .sets .each p m) ty p
-            ∙ ap bitOf (sym (w .each p m)))
-            (go ps (λ q n. l q (List·Memᴰ·tail n)))
+    joined-bits : map presenceBit (map joined (upTo 32)) ≡ map bitOf present
+    joined-bits =
+        presence-bits joined present (w .long)
+        (λ p m.
+        presence-is a (getD (i .sets) p noSet) b (getD (j .sets) p noSet) (setOf x p) (setOf y p) (h .left .sets .each p m) (h .right .sets .each p m) ty p
+        ∙ ap bitOf (sym (w .each p m)))
 
     pub joined-bytes : snapshotBytes (joinSnapshots (view ty) x y) ≡ number 0 ++ number (bitNumber (map bitOf present)) ++ number 0 ++ setsFrom ty x y 0
     unfolding snapshotBytes setsFrom upTo
     joined-bytes =
         ap₂ (λ (v : ℕ) (cs : List Cell). number v ++ number (bitNumber (map presenceBit (map held cs))) ++ number (bitNumber (map differBit cs)) ++ setsBytes (map held cs)) joined-version joined-cells
         ∙ ap₂ (λ (ss : List (List Text)) (n : ℕ). number 0 ++ number (bitNumber (map presenceBit ss)) ++ number n ++ setsBytes ss) (sets-held joined (upTo 32)) (none-differ joined (upTo 32))
-        ∙ ap (λ (bs : List ℕ). number 0 ++ number (bitNumber bs) ++ number 0 ++ setsBytes (map joined (upTo 32))) presence-bits
+        ∙ ap (λ (bs : List ℕ). number 0 ++ number (bitNumber bs) ++ number 0 ++ setsBytes (map joined (upTo 32))) joined-bits
 
     -- its length, part by part
     pub joined-length : length (snapshotBytes (joinSnapshots (view ty) x y)) ≡ length (number 0) + length (number (bitNumber (map bitOf present))) + length (number 0) + length (setsFrom ty x y 0)

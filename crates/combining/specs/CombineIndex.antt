@@ -25,11 +25,6 @@ use Rattle.dossier.specs.DossierIndex.{snapshotFits, SnapshotIs, DossierIs}
 use Rattle.dossier.specs.declared.snapshots.SnapshotIndex.{SnapshotIndex}
 use Rattle.dossier.specs.declared.dossiers.DossierIndex.{DossierIndex}
 
--- a bit
-unfoldable pub bitOf : Bool → ℕ
-bitOf true = 1
-bitOf false = 0
-
 -- a set, written with its count, has its room in an output of `size` bytes
 pub record SetRoom (s : List ℕ) (x : SetAt) (at size : ℕ) : Type 0 where
   pub values : List Text

@@ -1,16 +1,15 @@
 -- Two unversioned snapshots of one type that are joined, place by place, as the code has them.
 use Prim.Native.Nat.{ℕ, _+_, _≤_, _<_}
 use mathlib.Core.Path.{_≡_}
-use mathlib.Core.Bool.{Bool, true, false, cond, _||_}
+use mathlib.Core.Bool.{Bool, true, false, _||_}
 use mathlib.Core.Option.{some}
 use mathlib.Core.List.{List}
 use lib.Dec.{ltb}
 use lib.ListN.{length, getD, getElem?}
-use Rattle.model.specs.Order.{Order, Text, texts, rising, reversed}
+use Rattle.model.specs.Order.{Text, texts, rising}
 use Rattle.model.specs.Rule.{holds, joinCell}
 use Rattle.model.specs.Opening.{held}
 use Rattle.values.specs.Spaces.{Kind, kindNumber}
-use Rattle.values.specs.ValueOrder.{valueOrder}
 use Rattle.ontology.specs.Table.{Property, EventType, isMin, isMax}
 use Rattle.ontology.specs.TypeIndex.{TypeIs}
 use Rattle.ontology.specs.declared.types.TypeIndex.{TypeIndex}
@@ -29,10 +28,6 @@ haveObjects x y = ltb 0 (x .count) || ltb 0 (y .count)
 pub record PresentAre (left right : List SetAt) (r : List Bool) : Type 0 where
   pub long : length r ≡ 32
   pub each : (p : ℕ) → p < 32 → getD r p false ≡ haveObjects (getD left p noSet) (getD right p noSet)
-
--- max takes the first in the order of the values from its other end
-abbrev pub extremeOrder : Bool → Kind → Order Text
-extremeOrder largest k = cond largest (reversed (valueOrder k)) (valueOrder k)
 
 -- at most one value on each side and one at least, in the space of an ordered kind of this number
 pub record Extremes (k : Kind) (kind : ℕ) (xs ys : List Text) : Type 0 where

@@ -1,6 +1,5 @@
 // The calls that give a dossier: check an event, and combine.
 pub mod agreed;
-pub mod bits;
 pub mod check;
 pub mod combine;
 pub mod joined;

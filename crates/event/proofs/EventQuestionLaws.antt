@@ -9,17 +9,17 @@ use native.Mathlib.Omega.{arith}
 use lib.Dec.{leb, eqb}
 use lib.ListN.{length, getD, getElem?, length-append, List·getD-eq-default}
 use borrow.Author.Tests.{leb-true, eqb-true, not-true}
-use Rattle.model.specs.Order.{Order, Text, texts, rising, reversed}
+use Rattle.model.specs.Order.{Order, Text, texts, rising}
 use Rattle.model.specs.Sets.{Ups, upTo}
 use Rattle.model.specs.Rule.{every, least, places, count}
 use Rattle.model.specs.Ways.{Has}
-use Rattle.model.proofs.Cases.{never, truth, found, or-part}
+use Rattle.model.proofs.Cases.{never, truth, found, and-parts, or-part}
 use Rattle.model.proofs.SetLaws.{rising-ups}
 use Rattle.model.proofs.PartLaws.{map-getD}
 use Rattle.packed.proofs.LayoutLaws.{All, lt-or-ge}
 use Rattle.values.specs.Decimal.{numeral, inDecimal}
 use Rattle.values.specs.Spaces.{Kind, sequence, isUnsigned, isOfKind, inSpace}
-use Rattle.values.specs.ValueOrder.{valueOrder}
+use Rattle.values.specs.ValueOrder.{extremeOrder}
 use Rattle.values.proofs.NumberOrderLaws.{unsigned-below, in-decimal-sequence}
 use Rattle.ontology.specs.Table.{Strategy, min, max, add, replace, match, set, any, strategyNumber, Property, EventType, Table, isMin, isMax, isMatch, isVersioned, typeNamed}
 use Rattle.ontology.specs.Questions.{accepted, _>>=_, _>>_, ask}
@@ -181,7 +181,7 @@ choice-every match q h = refl
 choice-every set q h = refl
 choice-every any q h = refl
 
-pub choice-least : (s : Strategy) (q : Property) → (eqb (strategyNumber s) 1 || eqb (strategyNumber s) 2) ≡ true → choiceOf s q ≡ least (cond (eqb (strategyNumber s) 2) (reversed (valueOrder (q .kind))) (valueOrder (q .kind)))
+pub choice-least : (s : Strategy) (q : Property) → (eqb (strategyNumber s) 1 || eqb (strategyNumber s) 2) ≡ true → choiceOf s q ≡ least (extremeOrder (eqb (strategyNumber s) 2) (q .kind))
 unfolding choiceOf
 choice-least min q h = refl
 choice-least max q h = refl
@@ -228,7 +228,7 @@ module _ (t : EventType) (p : ℕ) where
 
     pub extreme-least : (isMin q || isMax q) ≡ true → (O : Order Text) × (view t .choice p ≡ least O)
     unfolding view atPlace
-    extreme-least h = (cond (isMax q) (reversed (valueOrder (q .kind))) (valueOrder (q .kind)), rw n (choice-least (q .strategy) q h))
+    extreme-least h = (extremeOrder (isMax q) (q .kind), rw n (choice-least (q .strategy) q h))
 
     least-extreme : (O : Order Text) → view t .choice p ≡ least O → (isMin q || isMax q) ≡ true
     unfolding view atPlace
@@ -258,12 +258,24 @@ single-few t e a p h =
     (λ q n. fits-single q (setAt e p) (a .fits p q n) (not-true (q .multivalued) (sym (single-at t p q n) ∙ h)))
     (λ n. let z : false ≡ true = rw n at h in never (cc))
 
--- ---- the event's version
+-- ---- sets of at most one value
 
-one-value : (s : List Text) → Has s → length s ≤ 1 → s ≡ getD s 0 [] ∷ []
-one-value [] h l = absurd (List·Memᴰ·not-nil (h .1))
+pub no-value : (s : List Text) → length s ≡ 0 → s ≡ []
+no-value [] h = refl
+no-value (v ∷ s) h = absurd (omega arith)
+
+pub one-value : (s : List Text) → (length s ≡ 0 → ⊥) → length s ≤ 1 → s ≡ getD s 0 [] ∷ []
+one-value [] h l = absurd (h refl)
 one-value (v ∷ []) h l = refl
 one-value (v ∷ w ∷ s) h l = absurd (omega arith)
+
+pub one-in-space : (k : Kind) (s : List Text) → (length s ≡ 0 → ⊥) → length s ≤ 1 → areInSpace k s ≡ true → inSpace k (getD s 0 []) ≡ true
+unfolding areInSpace
+one-in-space k [] h l e = absurd (h refl)
+one-in-space k (v ∷ []) h l e = and-parts (inSpace k v) true e .0
+one-in-space k (v ∷ w ∷ s) h l e = absurd (omega arith)
+
+-- ---- the event's version
 
 sequence-value : (k : Kind) (v : Text) → k ≡ sequence → inSpace k v ≡ true → isUnsigned 8 v ≡ true
 unfolding inSpace isOfKind
@@ -277,7 +289,9 @@ module _ (t : EventType) (e : Event) (k : TypeKept t) (a : EventFits t e) where
       let p = t .mark - 1 in
       let s = setAt e p in
       let fit = a .fits p (m .property) (m .at) in
-      let q : s ≡ getD s 0 [] ∷ [] = one-value s (fits-some (m .property) s fit (m .can .mandatory)) (fits-single (m .property) s fit (m .can .single)) in
+      let (v, there) = fits-some (m .property) s fit (m .can .mandatory) in
+      let some : length s ≡ 0 → ⊥ = λ z. List·Memᴰ·not-nil (subst (List·Memᴰ v) (no-value s z) there) in
+      let q : s ≡ getD s 0 [] ∷ [] = one-value s some (fits-single (m .property) s fit (m .can .single)) in
       let i : List·Memᴰ (getD s 0 []) s = subst (List·Memᴰ (getD s 0 [])) (sym q) (List·Memᴰ·head refl) in
       (q, sequence-value (m .property .kind) (getD s 0 []) (m .can .kind) (a .values p (m .property) (m .at) (getD s 0 []) i))
 

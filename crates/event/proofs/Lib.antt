@@ -1,5 +1,6 @@
 -- The laws of packed events.
 pub mod EventLayoutLaws
+pub mod BitLaws
 pub mod EventSizeLaws
 pub mod SetLaws
 pub mod HeadLaws

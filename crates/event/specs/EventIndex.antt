@@ -51,6 +51,11 @@ pub record SetsAre (s : List ℕ) (xs : List (List Text)) (ats : List SetAt) : T
   pub long : length xs ≡ 32
   pub each : (i : ℕ) → i < 32 → SetIs s (getD xs i []) (getD ats i noSet)
 
+-- a bit of a presence or differ number
+unfoldable pub bitOf : Bool → ℕ
+bitOf true = 1
+bitOf false = 0
+
 -- a set was read, and what is left starts at its end
 pub record SetStops (p : Parse (List Text)) (s : List ℕ) (x : SetAt) : Type 0 where
   pub what : List Text

@@ -1,5 +1,6 @@
 // A packed event, read where it stands into an index of positions, and the questions asked of it.
 pub mod ask;
+pub mod bits;
 pub mod lookup;
 pub mod read;
 pub mod sets;

@@ -5,9 +5,9 @@ use lib.ListN.{length}
 use lib.Dec.{leb}
 use Rattle.sha1.specs.Fips.{sha1Of}
 use Rattle.ontology.specs.TableLayout.{tableOf}
-use Rattle.ontology.specs.Questions.{Asked, refused, accepted, _>>=_, _>>_, ask, ensure, Answer, answer, Outcome, outcome}
+use Rattle.ontology.specs.Questions.{Asked, accepted, _>>=_, _>>_, ask, ensure, Answer, answer, Outcome, outcome}
 use Rattle.event.specs.EventLayout.{wide}
-use Rattle.event.specs.EventQuestions.{Typed, eventAsked}
+use Rattle.event.specs.EventQuestions.{eventAsked}
 use Rattle.hashing.specs.HashText.{hashText}
 
 -- the hash text of an event under a table, after the questions that both calls ask; `least` is the output's least size, `room` its size

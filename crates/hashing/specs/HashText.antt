@@ -1,6 +1,6 @@
 -- Document 01, "Hash text".
 use Prim.Native.Nat.{ℕ}
-use mathlib.Core.Bool.{Bool, true, false, cond}
+use mathlib.Core.Bool.{cond}
 use mathlib.Core.List.{List, [], _∷_, _++_, map}
 use Rattle.model.specs.Order.{Order, Text, texts, pick}
 use Rattle.ontology.specs.Table.{Property, EventType, isMatch}

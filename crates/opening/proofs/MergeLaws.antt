@@ -3,38 +3,37 @@ use mathlib.Core.Path.{_≡_, refl, sym, ap, ap₂, _∙_, subst}
 use mathlib.Core.Bool.{Bool, true, false, cond, not, _&&_, _||_}
 use mathlib.Core.Option.{Option, none, some}
 use mathlib.Core.List.{List, [], _∷_, map, flatten, append-nil}
-use Prim.Native.Nat.{ℕ, zero, suc, _+_, _-_, _*_, _^_, _≤_, _<_, Ordering}
+use Prim.Native.Nat.{ℕ, zero, suc, _+_, _-_, _^_, _≤_, _<_, Ordering}
 use native.Mathlib.Omega.{arith}
 use native.Mathlib.Numerals.{add-one}
-use lib.Dec.{leb, eqb}
-use lib.Pow.{pow-mono}
-use lib.ListN.{length, take, drop, getD, getElem?, length-drop}
+use lib.Dec.{ltb, leb, eqb}
+use lib.ListN.{length, take, drop, getD, getElem?}
 use lib.ListN as lists
-use lib.Seq.{take-suc, take-all, drop-cons, drop-length, getD-set-same, getD-set-other}
+use lib.Seq.{take-suc, take-all, drop-cons, getD-set-same, getD-set-other}
 use borrow.Author.Count.{below-more}
-use borrow.Author.Tests.{eq-eqb, ne-eqb}
-use Rattle.model.specs.Order.{Text, Order, texts, rising, reversed, pick}
+use borrow.Author.Tests.{lt-ltb, eq-eqb, ne-eqb}
+use Rattle.model.specs.Order.{Text, texts, rising, pick}
 use Rattle.model.specs.Keyed.{put, merge}
 use Rattle.model.specs.Sets.{upFrom, upTo, canon, union, smallest}
 use Rattle.model.specs.Rule.{Choice, every, least, places, Snapshot, Dossier}
 use Rattle.model.specs.Opening.{column, lastOf, lowest, mergedSet, mergedAt, mergedSets, overfull}
 use Rattle.model.proofs.StepLaws.{smallest-snoc}
 use Rattle.model.proofs.SetLaws.{rising-ups, canon-ups}
-use Rattle.model.proofs.Cases.{and-parts, or-part, never}
+use Rattle.model.proofs.Cases.{never}
 use Rattle.values.specs.Spaces.{Kind, inSpace}
-use Rattle.values.specs.ValueOrder.{valueOrder}
+use Rattle.values.specs.ValueOrder.{valueOrder, extremeOrder}
 use Rattle.values.proofs.SpaceLaws.{chosen}
 use Rattle.ontology.specs.Table.{set, Property, EventType, isReplace, isSingle}
 use Rattle.event.specs.Event.{choiceOf, atPlace, view}
 use Rattle.event.specs.EventLayout.{presenceBit, bitNumber}
 use Rattle.event.specs.EventQuestions.{areInSpace}
-use Rattle.event.specs.EventIndex.{SetIs, noSet}
+use Rattle.event.specs.EventIndex.{SetIs, noSet, bitOf}
 use Rattle.event.specs.declared.sets.SetAt.{SetAt}
-use Rattle.event.proofs.EventLayoutLaws.{bits-small}
-use Rattle.event.proofs.EventQuestionLaws.{choice-every, choice-least}
+use Rattle.event.proofs.BitLaws.{FilledTo, presence-bits}
+use Rattle.event.proofs.EventQuestionLaws.{choice-every, choice-least, no-value, one-value, one-in-space}
 use Rattle.unions.specs.Merging.{SetRuns}
 use Rattle.opening.specs.OpenIndex.{CellsStand, RuleOf, RuleIs, Lone, Chooses, Mergeable, CountsMerged}
-use Rattle.opening.specs.CellIndex.{countBit, isStanding, RowIs}
+use Rattle.opening.specs.CellIndex.{isStanding, RowIs}
 use Rattle.opening.proofs.StandLaws.{column-long, column-at, row-stands}
 use Rattle.opening.specs.declared.strategies.PlaceRule.{PlaceRule}
 
@@ -63,96 +62,41 @@ module _ (ty : EventType) (d : Dossier) (counts : List ℕ) (w : CountsMerged ty
 
 -- ---- the presence number
 
-pub bit-none : (n : ℕ) → n ≡ 0 → 0 ≡ countBit n
-unfolding countBit
-bit-none n e = rw e
-
-pub bit-some : (n : ℕ) → (n ≡ 0 → ⊥) → 1 ≡ countBit n
-unfolding countBit
-bit-some zero h = absurd (h refl)
-bit-some (suc n) h = refl
-
-pub bit-small : (n : ℕ) → countBit n < 2
-unfolding countBit
-bit-small zero = omega arith
-bit-small (suc n) = omega arith
-
-pub bits-none : (counts : List ℕ) → length counts ≡ 32 → 0 ≡ bitNumber (map countBit (drop 32 counts))
-unfolding bitNumber
-bits-none counts long =
-    let d : drop 32 counts ≡ [] = ap (λ (n : ℕ). drop n counts) (sym long) ∙ drop-length counts in
-    rw d
-
--- the number of the bits from place p on, with the bit before them
-module _ (counts : List ℕ) (p bits : ℕ) (long : length counts ≡ 32) (within : p ≤ 32) (e : bits ≡ bitNumber (map countBit (drop p counts))) where
-  pub bits-below : bits < 4294967296
-  bits-below =
-      let l : length (drop p counts) ≤ 32 = omega (arith, length-drop p counts) in
-      omega (arith, e, bits-small countBit (drop p counts) bit-small, pow-mono l)
-
-  pub bits-more : 0 < p → (b : ℕ) → b ≡ countBit (getD counts (p - 1) 0) → bits * 2 + b ≡ bitNumber (map countBit (drop (p - 1) counts))
-  unfolding bitNumber
-  bits-more h b f =
-      let k : suc (p - 1) ≡ p = omega arith in
-      let d : drop (p - 1) counts ≡ getD counts (p - 1) 0 ∷ drop p counts = drop-cons counts (p - 1) 0 (omega arith) ∙ ap (λ (i : ℕ). getD counts (p - 1) 0 ∷ drop i counts) k in
-      rw d (omega (arith, e, f))
-
-bit-of : (vs : List Text) (n : ℕ) → n ≡ length vs → countBit n ≡ presenceBit vs
-unfolding countBit presenceBit
+-- the bit of a set of n values
+bit-of : (vs : List Text) (n : ℕ) → n ≡ length vs → presenceBit vs ≡ bitOf (ltb 0 n)
+unfolding presenceBit bitOf
 bit-of [] n e = rw e
-bit-of (v ∷ vs) n e = rw e
+bit-of (v ∷ vs) n e = sym (ap bitOf (lt-ltb 0 n (omega arith)))
 
-bits-same : (f : ℕ → List Text) (counts : List ℕ) (k : ℕ) → ((i : ℕ) → i < length counts → getD counts i 0 ≡ length (f (k + i))) → map countBit counts ≡ map presenceBit (map f (upFrom k (length counts)))
-unfolding upFrom
-bits-same f [] k h = refl
-bits-same f (n ∷ counts) k h =
-    ap₂ {C = List ℕ} (λ b bs. b ∷ bs) (bit-of (f k) n (h 0 (omega arith) ∙ ap (λ (i : ℕ). length (f i)) (omega arith)))
-    (bits-same f counts (suc k) (λ i l. h (suc i) (omega arith) ∙ ap (λ (i : ℕ). length (f i)) (omega arith)))
-
-pub presence-is : (ty : EventType) (d : Dossier) (counts : List ℕ) → length counts ≡ 32 → CountsMerged ty d counts → (p bits : ℕ) → p ≤ 0 → bits ≡ bitNumber (map countBit (drop p counts)) → bits ≡ bitNumber (map presenceBit (mergedSets (view ty) d))
-unfolding mergedSets places upTo view
-presence-is ty d counts long w p bits h e =
-    let z : p ≡ 0 = omega arith in
-    e ∙ ap (λ (i : ℕ). bitNumber (map countBit (drop i counts))) z
-    ∙ ap bitNumber (bits-same (mergedAt (view ty) d) counts 0 (λ i l. w .each i (omega arith) ∙ ap (λ (k : ℕ). length (mergedAt (view ty) d k)) (omega arith)))
-    ∙ ap (λ (n : ℕ). bitNumber (map presenceBit (map (mergedAt (view ty) d) (upFrom 0 n)))) long
+pub presence-is :
+    {ty : EventType} {d : Dossier} {counts : List ℕ} {present : List Bool} {p n : ℕ} → CountsMerged ty d counts → FilledTo (λ i. ltb 0 (getD counts i 0)) present p → 32 ≤ p →
+    n ≡ bitNumber (map bitOf present) → n ≡ bitNumber (map presenceBit (mergedSets (view ty) d))
+unfolding mergedSets places view
+presence-is {ty} {d} {counts} {present} w b h e =
+    e
+    ∙ ap bitNumber (sym (presence-bits (mergedAt (view ty) d) present (b .long)
+    (λ i l. bit-of (mergedAt (view ty) d i) (getD counts i 0) (w .each i l) ∙ ap bitOf (sym (b .each i (omega arith))))))
 
 -- ---- the chosen value
 
--- the order in which the least value is chosen
-abbrev pub orderOf : Bool → Kind → Order Text
-orderOf largest k = cond largest (reversed (valueOrder k)) (valueOrder k)
-
-pub lone-none : (k : Kind) → Lone k []
-lone-none k = record { one = omega arith; in-space = unfold areInSpace in refl }
-
-pub lone-one : (k : Kind) (v : Text) → inSpace k v ≡ true → Lone k (v ∷ [])
+lone-one : (k : Kind) (v : Text) → inSpace k v ≡ true → Lone k (v ∷ [])
 unfolding areInSpace
 lone-one k v h = record { one = omega arith; in-space = rw h }
-
-lone-value : (k : Kind) (v : Text) → Lone k (v ∷ []) → inSpace k v ≡ true
-unfolding areInSpace
-lone-value k v w = and-parts (inSpace k v) true (w .in-space) .0
 
 -- the value of a set of one
 module _ (k : Kind) (vs : List Text) (w : Lone k vs) (h : length vs ≡ 0 → ⊥) where
   lone-is : vs ≡ getD vs 0 [] ∷ []
-  lone-is = shape vs w h
-    where
-      shape : (vs : List Text) → Lone k vs → (length vs ≡ 0 → ⊥) → vs ≡ getD vs 0 [] ∷ []
-      shape [] w h = absurd (h refl)
-      shape (v ∷ []) w h = refl
-      shape (v ∷ u ∷ r) w h = absurd (omega (arith, w .one))
+  lone-is = one-value vs h (w .one)
 
   lone-in : inSpace k (getD vs 0 []) ≡ true
-  lone-in = lone-value k (getD vs 0 []) (subst (Lone k) lone-is w)
+  lone-in = one-in-space k vs h (w .one) (w .in-space)
 
 module _ (k : Kind) (largest : Bool) where
-  union-lone-none : (vs : List Text) → Lone k vs → take 1 (union (orderOf largest k) [] vs) ≡ vs
+  union-lone-none : (vs : List Text) → Lone k vs → take 1 (union (extremeOrder largest k) [] vs) ≡ vs
   unfolding union merge
   union-lone-none vs w = take-all 1 vs (w .one)
 
-  union-none-lone : (vs : List Text) → Lone k vs → take 1 (union (orderOf largest k) vs []) ≡ vs
+  union-none-lone : (vs : List Text) → Lone k vs → take 1 (union (extremeOrder largest k) vs []) ≡ vs
   unfolding union merge put
   union-none-lone [] w = refl
   union-none-lone (v ∷ []) w = refl
@@ -162,17 +106,17 @@ module _ (k : Kind) (largest : Bool) where
   cond-in true v w p q = p
   cond-in false v w p q = q
 
-  pub lone-union : (vs ws : List Text) → Lone k vs → Lone k ws → Lone k (take 1 (union (orderOf largest k) vs ws))
+  pub lone-union : (vs ws : List Text) → Lone k vs → Lone k ws → Lone k (take 1 (union (extremeOrder largest k) vs ws))
   lone-union [] ws p q = subst (Lone k) (sym (union-lone-none ws q)) q
   lone-union (v ∷ vs) [] p q = subst (Lone k) (sym (union-none-lone (v ∷ vs) p)) p
   lone-union (v ∷ []) (w ∷ []) p q =
       let o = valueOrder k .cmp v w in
-      subst (Lone k) (chosen largest (valueOrder k) v w o refl)
-      (lone-one k (cond (pick o (not largest) true largest) v w) (cond-in (pick o (not largest) true largest) v w (lone-value k v p) (lone-value k w q)))
+      subst (Lone k) (chosen largest k v w o refl)
+      (lone-one k (cond (pick o (not largest) true largest) v w) (cond-in (pick o (not largest) true largest) v w (lone-in k (v ∷ []) p (λ z. omega arith)) (lone-in k (w ∷ []) q (λ z. omega arith))))
   lone-union (v ∷ []) (w ∷ u ∷ r) p q = absurd (omega (arith, q .one))
   lone-union (v ∷ u ∷ r) (w ∷ ws) p q = absurd (omega (arith, p .one))
 
-  pub lone-smallest : (vs : List Text) → Lone k vs → smallest (orderOf largest k) vs ≡ vs
+  pub lone-smallest : (vs : List Text) → Lone k vs → smallest (extremeOrder largest k) vs ≡ vs
   unfolding smallest canon put
   lone-smallest [] w = refl
   lone-smallest (v ∷ []) w = refl
@@ -180,19 +124,15 @@ module _ (k : Kind) (largest : Bool) where
 
 -- two sets of at most one value, where they stand
 module _ (s : List ℕ) (k : Kind) (largest : Bool) (vs ws : List Text) (a b : SetAt) (p : SetIs s vs a) (q : SetIs s ws b) (v : Lone k vs) (w : Lone k ws) where
-  no-values : (xs : List Text) → length xs ≡ 0 → xs ≡ []
-  no-values [] e = refl
-  no-values (x ∷ xs) e = absurd (omega arith)
-
-  pub better-none : a .count ≡ 0 → SetIs s (take 1 (union (orderOf largest k) vs ws)) b
+  pub better-none : a .count ≡ 0 → SetIs s (take 1 (union (extremeOrder largest k) vs ws)) b
   better-none e =
-      let z : vs ≡ [] = no-values vs (omega (arith, p .count)) in
-      subst (λ (l : List Text). SetIs s l b) (sym (ap (λ (l : List Text). take 1 (union (orderOf largest k) l ws)) z ∙ union-lone-none k largest ws w)) q
+      let z : vs ≡ [] = no-value vs (omega (arith, p .count)) in
+      subst (λ (l : List Text). SetIs s l b) (sym (ap (λ (l : List Text). take 1 (union (extremeOrder largest k) l ws)) z ∙ union-lone-none k largest ws w)) q
 
-  pub better-only : b .count ≡ 0 → SetIs s (take 1 (union (orderOf largest k) vs ws)) a
+  pub better-only : b .count ≡ 0 → SetIs s (take 1 (union (extremeOrder largest k) vs ws)) a
   better-only e =
-      let z : ws ≡ [] = no-values ws (omega (arith, q .count)) in
-      subst (λ (l : List Text). SetIs s l a) (sym (ap (λ (l : List Text). take 1 (union (orderOf largest k) vs l)) z ∙ union-none-lone k largest vs v)) p
+      let z : ws ≡ [] = no-value ws (omega (arith, q .count)) in
+      subst (λ (l : List Text). SetIs s l a) (sym (ap (λ (l : List Text). take 1 (union (extremeOrder largest k) vs l)) z ∙ union-none-lone k largest vs v)) p
 
   module _ (m : a .count ≡ 0 → ⊥) (n : b .count ≡ 0 → ⊥) where
     one-first : vs ≡ getD vs 0 [] ∷ []
@@ -207,37 +147,37 @@ module _ (s : List ℕ) (k : Kind) (largest : Bool) (vs ws : List Text) (a b : S
         sym (h (ap (inSpace k) e ∙ lone-in k vs v (λ z. m (p .count ∙ z))) (ap (inSpace k) f ∙ lone-in k ws w (λ z. n (q .count ∙ z))) ∙ ap₂ (λ (x y : Text). valueOrder k .cmp x y) e f)
 
     module _ (o : Ordering) (c : valueOrder k .cmp (getD vs 0 []) (getD ws 0 []) ≡ o) where
-      union-is : (t : Bool) → pick o (not largest) true largest ≡ t → take 1 (union (orderOf largest k) vs ws) ≡ cond t (getD vs 0 []) (getD ws 0 []) ∷ []
+      union-is : (t : Bool) → pick o (not largest) true largest ≡ t → take 1 (union (extremeOrder largest k) vs ws) ≡ cond t (getD vs 0 []) (getD ws 0 []) ∷ []
       union-is t e =
-          ap₂ (λ (x y : List Text). take 1 (union (orderOf largest k) x y)) one-first one-second
-          ∙ sym (chosen largest (valueOrder k) (getD vs 0 []) (getD ws 0 []) o c)
+          ap₂ (λ (x y : List Text). take 1 (union (extremeOrder largest k) x y)) one-first one-second
+          ∙ sym (chosen largest k (getD vs 0 []) (getD ws 0 []) o c)
           ∙ ap (λ (t : Bool). cond t (getD vs 0 []) (getD ws 0 []) ∷ []) e
 
-      pub better-first : pick o (not largest) true largest ≡ true → SetIs s (take 1 (union (orderOf largest k) vs ws)) a
+      pub better-first : pick o (not largest) true largest ≡ true → SetIs s (take 1 (union (extremeOrder largest k) vs ws)) a
       better-first e = subst (λ (l : List Text). SetIs s l a) (one-first ∙ sym (union-is true e)) p
 
-      pub better-second : pick o (not largest) true largest ≡ false → SetIs s (take 1 (union (orderOf largest k) vs ws)) b
+      pub better-second : pick o (not largest) true largest ≡ false → SetIs s (take 1 (union (extremeOrder largest k) vs ws)) b
       better-second e = subst (λ (l : List Text). SetIs s l b) (one-second ∙ sym (union-is false e)) q
 
 -- the least value of the first j snapshots, where it stands
 pub record Chosen (s : List ℕ) (k : Kind) (largest : Bool) (xss : List (List Text)) (best : SetAt) (j : ℕ) : Type 0 where
-  pub is : SetIs s (smallest (orderOf largest k) (flatten (take j xss))) best
-  pub lone : Lone k (smallest (orderOf largest k) (flatten (take j xss)))
+  pub is : SetIs s (smallest (extremeOrder largest k) (flatten (take j xss))) best
+  pub lone : Lone k (smallest (extremeOrder largest k) (flatten (take j xss)))
 
 module _ (s : List ℕ) (k : Kind) (largest : Bool) (xss : List (List Text)) where
   chosen-start : (xs : List Text) (yss : List (List Text)) (x : SetAt) → Lone k xs → SetIs s xs x → Chosen s k largest (xs ∷ yss) x 1
   unfolding flatten
   chosen-start xs yss x l w =
-      let e : smallest (orderOf largest k) (flatten (take 1 (xs ∷ yss))) ≡ xs = ap (smallest (orderOf largest k)) (append-nil xs) ∙ lone-smallest k largest xs l in
+      let e : smallest (extremeOrder largest k) (flatten (take 1 (xs ∷ yss))) ≡ xs = ap (smallest (extremeOrder largest k)) (append-nil xs) ∙ lone-smallest k largest xs l in
       record { is = rw e w; lone = rw e l }
 
   pub chosen-first : (x : SetAt) → 1 ≤ length xss → Lone k (getD xss 0 []) → SetIs s (getD xss 0 []) x → Chosen s k largest xss x 1
   chosen-first x h l w = subst (λ (yss : List (List Text)). Chosen s k largest yss x 1) (sym (drop-cons xss 0 [] h)) (chosen-start (getD xss 0 []) (drop 1 xss) x l w)
 
   pub chosen-more : (j : ℕ) (best r : SetAt) → j < length xss → Chosen s k largest xss best j → Lone k (getD xss j []) →
-      SetIs s (take 1 (union (orderOf largest k) (smallest (orderOf largest k) (flatten (take j xss))) (getD xss j []))) r → Chosen s k largest xss r (j + 1)
+      SetIs s (take 1 (union (extremeOrder largest k) (smallest (extremeOrder largest k) (flatten (take j xss))) (getD xss j []))) r → Chosen s k largest xss r (j + 1)
   chosen-more j best r h c l w =
-      let O = orderOf largest k in
+      let O = extremeOrder largest k in
       let e : smallest O (flatten (take (j + 1) xss)) ≡ take 1 (union O (smallest O (flatten (take j xss))) (getD xss j [])) =
       ap (λ (n : ℕ). smallest O (flatten (take n xss))) (add-one j)
       ∙ ap (λ (yss : List (List Text)). smallest O (flatten yss)) (take-suc xss j [] h)
@@ -245,7 +185,7 @@ module _ (s : List ℕ) (k : Kind) (largest : Bool) (xss : List (List Text)) whe
       ∙ ap (λ (vs : List Text). take 1 (union O (smallest O (flatten (take j xss))) vs)) (lone-smallest k largest (getD xss j []) l) in
       record { is = rw e w; lone = rw e (lone-union k largest (smallest O (flatten (take j xss))) (getD xss j []) (c .lone) l) }
 
-  pub chosen-all : (j : ℕ) (best : SetAt) → length xss ≤ j → Chosen s k largest xss best j → SetIs s (smallest (orderOf largest k) (flatten xss)) best
+  pub chosen-all : (j : ℕ) (best : SetAt) → length xss ≤ j → Chosen s k largest xss best j → SetIs s (smallest (extremeOrder largest k) (flatten xss)) best
   chosen-all j best h c = let e = take-all j xss h in rw e at (c .is)
 
 -- ---- the merged set of each strategy
@@ -287,15 +227,15 @@ module _ (t : EventType) (d : Dossier) (p : ℕ) (r : PlaceRule) (w : RuleIs (ge
   unfolding mergedSet
   merged-every e f = merged-by false every e (every-at (getElem? (t .properties) p) r w f)
 
-  merged-least : r .replaces ≡ false → r .extreme ≡ true → (x : Extremal (getElem? (t .properties) p) r) → mergedAt (view t) d p ≡ smallest (orderOf (r .largest) (x .what .kind)) (flatten (column (d .snapshots) p))
+  merged-least : r .replaces ≡ false → r .extreme ≡ true → (x : Extremal (getElem? (t .properties) p) r) → mergedAt (view t) d p ≡ smallest (extremeOrder (r .largest) (x .what .kind)) (flatten (column (d .snapshots) p))
   unfolding mergedSet atPlace
   merged-least e f x =
       let q = x .what in
-      let c : choiceAt (getElem? (t .properties) p) ≡ least (orderOf (r .largest) (q .kind)) =
+      let c : choiceAt (getElem? (t .properties) p) ≡ least (extremeOrder (r .largest) (q .kind)) =
       ap choiceAt (x .is)
       ∙ choice-least (q .strategy) q (sym (x .rule .extreme) ∙ f)
-      ∙ ap (λ (b : Bool). least (orderOf b (q .kind))) (sym (x .rule .largest)) in
-      merged-by false (least (orderOf (r .largest) (q .kind))) e c
+      ∙ ap (λ (b : Bool). least (extremeOrder b (q .kind))) (sym (x .rule .largest)) in
+      merged-by false (least (extremeOrder (r .largest) (q .kind))) e c
 
 last-at : (xss : List (List Text)) (j : ℕ) → length xss ≡ suc j → lastOf xss ≡ getD xss j []
 unfolding lastOf
@@ -375,7 +315,7 @@ module _ (s : List ℕ) (cells row : List SetAt) (n : ℕ) (t : EventType) (d : 
     only-least e f =
         let y = extremal (getElem? (t .properties) p) r w f in
         let o = sym (y .rule .extreme) ∙ f in
-        merged-least t d p r w e f y ∙ ap (smallest (orderOf (r .largest) (y .what .kind))) only-flat
+        merged-least t d p r w e f y ∙ ap (smallest (extremeOrder (r .largest) (y .what .kind))) only-flat
         ∙ lone-smallest (y .what .kind) (r .largest) (getD (column (d .snapshots) p) 0 []) (m .lone p (y .what) (y .is) o 0 (omega arith))
 
     pub stands-only : SetIs s (mergedAt (view t) d p) (getD row (n - 1) noSet)
@@ -387,7 +327,7 @@ module _ (s : List ℕ) (cells row : List SetAt) (n : ℕ) (t : EventType) (d : 
         by false false e f = only-stands (only-union e f)
 
   pub stands-chosen : (x : SetAt) → (n ≡ 1 → ⊥) → r .replaces ≡ false → isStanding r n ≡ true →
-      ((ss : List Snapshot) (k : Kind) → CellsStand s ss cells → length ss ≡ n → Chooses k (r .kind) → ((j : ℕ) → j < n → Lone k (getD (column ss p) j [])) → SetIs s (smallest (orderOf (r .largest) k) (flatten (column ss p))) x) →
+      ((ss : List Snapshot) (k : Kind) → CellsStand s ss cells → length ss ≡ n → Chooses k (r .kind) → ((j : ℕ) → j < n → Lone k (getD (column ss p) j [])) → SetIs s (smallest (extremeOrder (r .largest) k) (flatten (column ss p))) x) →
       SetIs s (mergedAt (view t) d p) x
   stands-chosen x z e f h =
       let g = standing-chosen r n z e ∙ f in

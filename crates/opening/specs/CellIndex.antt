@@ -1,5 +1,5 @@
--- What the code counts of merged sets, which of them stand already, and the cells of one place.
-use Prim.Native.Nat.{ℕ, zero, suc, _+_, _*_, _<_}
+-- Which of the merged sets stand already, and the cells of one place.
+use Prim.Native.Nat.{ℕ, _+_, _*_, _<_}
 use mathlib.Core.Path.{_≡_}
 use mathlib.Core.Bool.{Bool, _||_}
 use mathlib.Core.List.{List}
@@ -9,11 +9,6 @@ use Rattle.event.specs.EventIndex.{noSet}
 use Rattle.event.specs.declared.sets.SetAt.{SetAt}
 use Rattle.opening.specs.OpenIndex.{PlaceRoom}
 use Rattle.opening.specs.declared.strategies.PlaceRule.{PlaceRule}
-
--- the presence bit of a set of so many objects
-unfoldable pub countBit : ℕ → ℕ
-countBit zero = 0
-countBit (suc n) = 1
 
 -- the merged set of n snapshots is the set of one of them
 unfoldable pub isStanding : PlaceRule → ℕ → Bool

@@ -1,15 +1,15 @@
 ghost use Prim.Native.Nat.{ℕ, _<_, _≤_};
 ghost use mathlib.Core.Path.{_≡_};
-ghost use mathlib.Core.Bool.{true, cond, _&&_};
+ghost use mathlib.Core.Bool.{true, _&&_};
 ghost use mathlib.Core.List.{List, [], map, flatten};
 ghost use lib.ListN.{length, take, getD, getElem?};
 ghost use lib.Dec.{leb};
-ghost use Rattle.model.specs.Order.{Text, reversed};
+ghost use Rattle.model.specs.Order.{Text};
 ghost use Rattle.model.specs.Sets.{union, smallest};
 ghost use Rattle.model.specs.Rule.{Snapshot, Dossier};
 ghost use Rattle.model.specs.Opening.{column, mergedAt, mergedSets, overfull};
 ghost use Rattle.values.specs.Spaces.{Kind};
-ghost use Rattle.values.specs.ValueOrder.{valueOrder};
+ghost use Rattle.values.specs.ValueOrder.{extremeOrder};
 ghost use Rattle.ontology.specs.Table.{EventType};
 ghost use Rattle.ontology.specs.TypeIndex.{TypeIs};
 ghost use Rattle.event.specs.Event.{view};
@@ -17,11 +17,12 @@ ghost use Rattle.event.specs.EventLayout.{presenceBit, bitNumber};
 ghost use Rattle.event.specs.EventIndex.{SetIs};
 ghost use Rattle.event.specs.declared.sets.SetAt.{SetAt};
 ghost use Rattle.opening.specs.OpenIndex.{lowestOf, CellsStand, RuleIs, Lone, Chooses, CountsMerged, Mergeable};
-ghost use Rattle.opening.specs.CellIndex.{countBit, isStanding, RowIs};
+ghost use Rattle.opening.specs.CellIndex.{isStanding, RowIs};
 use crate::cells::runs_of;
 use crate::clash::Lowest;
 use crate::strategies::PlaceRule;
 use crate::strategies::rule_of;
+use event::bits::number_of;
 use event::sets::SetAt;
 use event::sets::set_part;
 use event::sets::value_in;
@@ -32,7 +33,7 @@ use values::spaces::compare_values;
 
 // The smaller of the values of two sets of at most one, or the larger, where it stands.
 fn better(s: &[u8], kind: u8, largest: bool, a: SetAt, b: SetAt) -> SetAt
-    ensures { λ r. ⌜ ((k : Kind) (vs ws : List Text) → Chooses k kind → SetIs (now (s .entry)) vs a → SetIs (now (s .entry)) ws b → Lone k vs → Lone k ws → SetIs (now (s .entry)) (take 1 (union (cond largest (reversed (valueOrder k)) (valueOrder k)) vs ws)) r) ⌝ }
+    ensures { λ r. ⌜ ((k : Kind) (vs ws : List Text) → Chooses k kind → SetIs (now (s .entry)) vs a → SetIs (now (s .entry)) ws b → Lone k vs → Lone k ws → SetIs (now (s .entry)) (take 1 (union (extremeOrder largest k) vs ws)) r) ⌝ }
 {
     if a.count == 0 {
         return b;
@@ -52,7 +53,7 @@ fn better(s: &[u8], kind: u8, largest: bool, a: SetAt, b: SetAt) -> SetAt
 // The smallest or the largest value of a place in n snapshots.
 fn extreme_of(s: &[u8], row: [SetAt; 8], n: usize, kind: u8, largest: bool) -> SetAt
     requires { ⌜ (1 ≤ n) × (n ≤ 8) ⌝ }
-    ensures { λ r. ⌜ ((cells : List SetAt) (place : ℕ) (ss : List Snapshot) (k : Kind) → RowIs cells place row → CellsStand (now (s .entry)) ss cells → length ss ≡ n → Chooses k kind → ((j : ℕ) → j < n → Lone k (getD (column ss place) j [])) → SetIs (now (s .entry)) (smallest (cond largest (reversed (valueOrder k)) (valueOrder k)) (flatten (column ss place))) r) ⌝ }
+    ensures { λ r. ⌜ ((cells : List SetAt) (place : ℕ) (ss : List Snapshot) (k : Kind) → RowIs cells place row → CellsStand (now (s .entry)) ss cells → length ss ≡ n → Chooses k kind → ((j : ℕ) → j < n → Lone k (getD (column ss place) j [])) → SetIs (now (s .entry)) (smallest (extremeOrder largest k) (flatten (column ss place))) r) ⌝ }
 {
     let mut best = row[0];
     let mut j: usize = 1;
@@ -154,25 +155,15 @@ pub fn find_overfull(t: TypeIndex, counts: [usize; 32]) -> Lowest
     Lowest::NoPlace
 }
 
-// The presence bit of a set of so many objects.
-fn presence_bit(count: usize) -> u64
-    ensures { λ r. ⌜ r ≡ countBit count ⌝ }
-{
-    if count == 0 {
-        return 0;
-    }
-    1
-}
-
-// The presence number, from its highest bit down.
+// The presence number of merged sets of so many objects.
 pub fn presence_of(counts: [usize; 32]) -> u64
     ensures { λ r. ⌜ ((ty : EventType) (d : Dossier) → CountsMerged ty d counts → r ≡ bitNumber (map presenceBit (mergedSets (view ty) d))) ⌝ }
 {
-    let mut bits: u64 = 0;
-    let mut p: usize = 32;
-    while 0 < p {
-        p -= 1;
-        bits = bits * 2 + presence_bit(counts[p]);
+    let mut present = [false; 32];
+    let mut p: usize = 0;
+    while p < 32 {
+        present[p] = 0 < counts[p];
+        p += 1;
     }
-    bits
+    number_of(present)
 }

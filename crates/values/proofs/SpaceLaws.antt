@@ -10,14 +10,14 @@ use native.Mathlib.Omega.{arith}
 use lib.Dec.{leb}
 use lib.ListN.{length, getD, take, drop, drop-of-length-le}
 use borrow.Author.Tests.{le-leb, lt-leb, ne-eqb}
-use Rattle.model.specs.Order.{Text, Order, pick, reversed}
+use Rattle.model.specs.Order.{Text, pick, reversed}
 use Rattle.model.specs.Keyed.{put, merge}
 use Rattle.model.specs.Sets.{union}
 use Rattle.packed.proofs.LayoutLaws.{lt-or-ge}
 use Rattle.packed.proofs.ReadLaws.{drop-next}
 use Rattle.values.specs.Calendar.{instant}
 use Rattle.values.specs.Spaces.{Kind, unsigned, signed, decimal, currency, sequence, datetime, boolean, string, hex, kindNumber, isKind, isHexDigit, areHexDigits, isOfKind, inSpace}
-use Rattle.values.specs.ValueOrder.{valueNumber}
+use Rattle.values.specs.ValueOrder.{valueNumber, valueOrder, extremeOrder}
 use Rattle.values.specs.KindNumbers.{kindOf, firstParameter, secondParameter, thirdParameter}
 use Rattle.values.proofs.NumeralLaws.{and-right}
 use Rattle.values.proofs.NumberOrderLaws.{equal-number-equal-bytes}
@@ -128,12 +128,12 @@ equal-values-equal-bytes k a b n p q e = ⊎-elim
     datetimes a b p q e = let s : instant a ≡ instant b = cc in equal-instant-equal-bytes a b p q s
 
 pub chosen :
-    (largest : Bool) (O : Order Text) (x y : Text) (o : Ordering) → O .cmp x y ≡ o →
-    cond (pick o (not largest) true largest) x y ∷ [] ≡ take 1 (union (cond largest (reversed O) O) (x ∷ []) (y ∷ []))
+    (largest : Bool) (k : Kind) (x y : Text) (o : Ordering) → valueOrder k .cmp x y ≡ o →
+    cond (pick o (not largest) true largest) x y ∷ [] ≡ take 1 (union (extremeOrder largest k) (x ∷ []) (y ∷ []))
 unfolding union merge put reversed
-chosen true O x y Ordering·lt e = rw (O .turn x y, e)
-chosen true O x y Ordering·eq e = rw (O .turn x y, e)
-chosen true O x y Ordering·gt e = rw (O .turn x y, e)
-chosen false O x y Ordering·lt e = rw e
-chosen false O x y Ordering·eq e = rw e
-chosen false O x y Ordering·gt e = rw e
+chosen true k x y Ordering·lt e = rw (valueOrder k .turn x y, e)
+chosen true k x y Ordering·eq e = rw (valueOrder k .turn x y, e)
+chosen true k x y Ordering·gt e = rw (valueOrder k .turn x y, e)
+chosen false k x y Ordering·lt e = rw e
+chosen false k x y Ordering·eq e = rw e
+chosen false k x y Ordering·gt e = rw e

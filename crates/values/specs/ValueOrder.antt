@@ -1,7 +1,7 @@
 -- "Kinds 1 to 6 are ordered by their numbers or instants, so equal values have equal bytes."
 use Prim.Native.Nat.{ℕ, zero, suc}
-use mathlib.Core.Bool.{cond}
-use Rattle.model.specs.Order.{Text, texts, Order, Integer, below, from, integers, ranked}
+use mathlib.Core.Bool.{Bool, cond}
+use Rattle.model.specs.Order.{Text, texts, Order, Integer, below, from, integers, ranked, reversed}
 use Rattle.values.specs.Decimal.{numeral, isNegative, magnitude}
 use Rattle.values.specs.Calendar.{instant}
 use Rattle.values.specs.Spaces.{Kind, unsigned, signed, decimal, currency, sequence, datetime, boolean, string, hex, unscaled}
@@ -29,3 +29,7 @@ valueNumber (hex bytes) v = from 0
 -- by number or instant, and then by bytes: a total order of all texts
 unfoldable pub valueOrder : Kind → Order Text
 valueOrder k = ranked (valueNumber k) integers texts
+
+-- min takes the first value in the order of its kind, max the first from the order's other end
+abbrev pub extremeOrder : Bool → Kind → Order Text
+extremeOrder largest k = cond largest (reversed (valueOrder k)) (valueOrder k)

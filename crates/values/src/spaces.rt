@@ -1,17 +1,17 @@
 // The value spaces of the nine kinds, and the order of the values of kinds 1 to 6.
 ghost use mathlib.Core.Path.{_≡_};
-ghost use mathlib.Core.Bool.{true, cond, not, _&&_, _||_};
+ghost use mathlib.Core.Bool.{true, not, _&&_, _||_};
 ghost use mathlib.Core.Option.{some};
 ghost use mathlib.Core.List.{[], _∷_};
 ghost use Prim.Native.Nat.{_-_, _*_, _≤_};
 ghost use lib.Dec.{leb, eqb};
 ghost use lib.ListN.{length, take, drop};
-ghost use Rattle.model.specs.Order.{texts, equal, pick, reversed};
+ghost use Rattle.model.specs.Order.{texts, equal, pick};
 ghost use Rattle.model.specs.Sets.{union};
 ghost use Rattle.packed.specs.Ascii.{ascii};
 ghost use Rattle.values.specs.Unicode.{isUtf8};
 ghost use Rattle.values.specs.Spaces.{Kind, kindNumber, isKind, isHexDigit, areHexDigits, isOfKind, inSpace};
-ghost use Rattle.values.specs.ValueOrder.{valueOrder};
+ghost use Rattle.values.specs.ValueOrder.{valueOrder, extremeOrder};
 ghost use Rattle.packed.specs.Comparison.{ordering};
 ghost use Rattle.values.specs.KindNumbers.{kindOf};
 use crate::calendar::compare_moments;
@@ -136,7 +136,7 @@ pub fn choose<'a>(
 ) -> &'a [u8]
     requires { ⌜ (a ≤ e) × (e ≤ length (now left)) ⌝ }
     requires { ⌜ (b ≤ f) × (f ≤ length (now right)) ⌝ }
-    ensures { λ r. ⌜ ((k : Kind) → kindNumber k ≡ kind → kind ≤ 6 → inSpace k (take (e - a) (drop a (now (left .entry)))) ≡ true → inSpace k (take (f - b) (drop b (now (right .entry)))) ≡ true → now r ∷ [] ≡ take 1 (union (cond largest (reversed (valueOrder k)) (valueOrder k)) (take (e - a) (drop a (now (left .entry))) ∷ []) (take (f - b) (drop b (now (right .entry))) ∷ []))) ⌝ }
+    ensures { λ r. ⌜ ((k : Kind) → kindNumber k ≡ kind → kind ≤ 6 → inSpace k (take (e - a) (drop a (now (left .entry)))) ≡ true → inSpace k (take (f - b) (drop b (now (right .entry)))) ≡ true → now r ∷ [] ≡ take 1 (union (extremeOrder largest k) (take (e - a) (drop a (now (left .entry))) ∷ []) (take (f - b) (drop b (now (right .entry))) ∷ []))) ⌝ }
 {
     let order = compare_values(kind, &left[a..e], &right[b..f]);
     if takes_first(order, largest) {

@@ -14,13 +14,6 @@ use Rattle.combining.specs.CombineIndex.{Meet}
 use Rattle.combining.proofs.AgreedLaws.{BothRead, both-read, both-length, wrote-both}
 use Rattle.combining.proofs.agreed.write_agreed.Statement.{statement}
 use Rattle.combining.proofs.agreed.write_agreed.Tie as tie
-use Rattle.combining.proofs.agreed.write_agreed.Reads as reads
-use Rattle.combining.proofs.agreed.write_agreed.Lts as lts
-use Rattle.combining.proofs.agreed.agreed_places.Reads as agreed-places-reads
-use Rattle.combining.proofs.agreed.write_present.Reads as write-present-reads
-use Rattle.combining.proofs.bits.number_of.Reads as number-of-reads
-use Rattle.dossier.proofs.snapshots.read_snapshot.Reads as read-snapshot-reads
-use Rattle.packed.proofs.write.write_number.Reads as write-number-reads
 
 both :
     (c : tie.After-agreed-places) (ty : EventType) (x y : Snapshot) →

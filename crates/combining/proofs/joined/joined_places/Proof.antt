@@ -2,21 +2,22 @@ use borrow.Author.Needs.{needs}
 use mathlib.Core.Path.{refl}
 use Prim.Native.Nat.{_-_}
 use native.Mathlib.Omega.{arith}
-use Rattle.combining.proofs.JoinedLaws.{PlacesTo, places-none, places-more, places-all}
+use lib.ListN.{getD}
+use Rattle.event.specs.EventIndex.{noSet}
+use Rattle.event.proofs.BitLaws.{FilledTo, filled-none, filled-more}
+use Rattle.combining.specs.JoinedIndex.{haveObjects}
+use Rattle.combining.proofs.JoinedLaws.{places-all}
 use Rattle.combining.proofs.joined.joined_places.Statement.{statement}
 use Rattle.combining.proofs.joined.joined_places.Tie as tie
-use Rattle.combining.proofs.joined.joined_places.Reads as reads
-use Rattle.combining.proofs.joined.joined_places.Lts as lts
-use Rattle.combining.proofs.joined.have_objects.Reads as have-objects-reads
 
 abbrev Inv-loop : tie.InvT-loop
-Inv-loop left right present₀ k₀ present k = PlacesTo left right present k
+Inv-loop left right present₀ k₀ present k = FilledTo (λ p. haveObjects (getD left p noSet) (getD right p noSet)) present k
 
 abbrev μ-loop : tie.MeasureT-loop
 μ-loop left right present₀ k₀ present k = 32 - k
 
 loop-holds : tie.Need-loop-holds Inv-loop μ-loop
-loop-holds c = places-none _ _ _ refl
+loop-holds c = filled-none refl
 
 mul-v : tie.Need-mul-v Inv-loop μ-loop
 mul-v c = search needs
@@ -43,10 +44,10 @@ loop-less : tie.Need-loop-less Inv-loop μ-loop
 loop-less c = omega (arith, c .before .before .before .loop-test .taken)
 
 loop-again : tie.Need-loop-again Inv-loop μ-loop
-loop-again c = places-more _ _ _ _ (c .before .before .before .before .loop .inv) _ (c .before .before .before .loop-test .taken) (c .have-objects .ensures)
+loop-again c = filled-more (c .before .before .before .before .loop .inv) (c .before .before .before .loop-test .taken) (c .have-objects .ensures)
 
 returns : tie.Need-returns Inv-loop μ-loop
-returns c = places-all _ _ _ _ (c .before .loop .inv) (c .loop-test .left)
+returns c = places-all (c .before .loop .inv) (c .loop-test .left)
 
 pub joined-places-spec : {M : Type 1} → statement M
 joined-places-spec =

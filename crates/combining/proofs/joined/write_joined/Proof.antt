@@ -14,12 +14,6 @@ use Rattle.combining.specs.CombineIndex.{Meet}
 use Rattle.combining.proofs.JoinedLaws.{to-go-same, joins, setsFrom, sets-step, sets-end, joined-place, joined-length, sets-room, joined-wrote, place-next, place-past}
 use Rattle.combining.proofs.joined.write_joined.Statement.{statement}
 use Rattle.combining.proofs.joined.write_joined.Tie as tie
-use Rattle.combining.proofs.joined.write_joined.Reads as reads
-use Rattle.combining.proofs.joined.write_joined.Lts as lts
-use Rattle.combining.proofs.bits.number_of.Reads as number-of-reads
-use Rattle.combining.proofs.joined.joined_places.Reads as joined-places-reads
-use Rattle.combining.proofs.joined.write_place.Reads as write-place-reads
-use Rattle.packed.proofs.write.write_number.Reads as write-number-reads
 
 abbrev Inv-loop : tie.InvT-loop
 Inv-loop table a b t out₀ at left right present second third next₀ k₀ out next k =

@@ -23,7 +23,7 @@ part-write-digest-start : tie.Need-part-write-digest-start
 part-write-digest-start c = search needs
 
 part-write-digest-end : tie.Need-part-write-digest-end
-part-write-digest-end c = let t = c .before .before .before .before .before .hash-text in text-within _ _ _ _ (t .result) (t .ensures) (c .before .before .n .given .1)
+part-write-digest-end c = let t = c .before .before .before .before .before .hash-text in omega (arith, text-within _ _ _ _ (t .result) (t .ensures) (c .before .before .n .given .1))
 
 write-digest-requires : tie.Need-write-digest-requires
 write-digest-requires c κs =

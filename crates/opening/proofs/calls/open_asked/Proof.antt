@@ -2,10 +2,6 @@ use borrow.Author.Needs.{needs}
 use Rattle.opening.proofs.OpenLaws.{replies-conflict, no-conflict}
 use Rattle.opening.proofs.calls.open_asked.Statement.{statement}
 use Rattle.opening.proofs.calls.open_asked.Tie as tie
-use Rattle.opening.proofs.calls.open_asked.Reads as reads
-use Rattle.opening.proofs.calls.open_asked.Lts as lts
-use Rattle.opening.proofs.calls.open_merged.Reads as open-merged-reads
-use Rattle.opening.proofs.clash.find_conflict.Reads as find-conflict-reads
 
 find-conflict-requires : tie.Need-find-conflict-requires
 find-conflict-requires c κs = c .before .before .pre .0 .is .few

@@ -5,15 +5,8 @@ use borrow.Author.Tests.{not-true, not-false}
 use Rattle.opening.proofs.OpenLaws.{found-low, type-says, open-small, open-table, open-refused, open-done, asked-open}
 use Rattle.opening.proofs.calls.open_dossier.Statement.{statement}
 use Rattle.opening.proofs.calls.open_dossier.Tie as tie
-use Rattle.opening.proofs.calls.open_dossier.Reads as reads
-use Rattle.opening.proofs.calls.open_dossier.Lts as lts
-use Rattle.dossier.proofs.dossiers.read_dossier.Reads as read-dossier-reads
-use Rattle.dossier.proofs.questions.ask_dossier.Reads as ask-dossier-reads
-use Rattle.dossier.proofs.questions.type_name.Reads as type-name-reads
-use Rattle.ontology.proofs.tables.read_table.Reads as read-table-reads
 use Rattle.ontology.proofs.TypeIndexLaws.{table-refused, table-got}
 use Rattle.dossier.proofs.AcceptedLaws.{asked-refused}
-use Rattle.opening.proofs.calls.open_asked.Reads as open-asked-reads
 
 returns : tie.Need-returns
 returns c = open-small _ _ _ (c .if1 .taken)

@@ -3,12 +3,6 @@ use Rattle.opening.proofs.AcceptedLaws.{mergeable}
 use Rattle.opening.proofs.OpenLaws.{is-dossier, writable, replies-overfull, replies-merged}
 use Rattle.opening.proofs.calls.open_merged.Statement.{statement}
 use Rattle.opening.proofs.calls.open_merged.Tie as tie
-use Rattle.opening.proofs.calls.open_merged.Reads as reads
-use Rattle.opening.proofs.calls.open_merged.Lts as lts
-use Rattle.opening.proofs.cells.cells_of.Reads as cells-of-reads
-use Rattle.opening.proofs.merge.find_overfull.Reads as find-overfull-reads
-use Rattle.opening.proofs.merge.merged_counts.Reads as merged-counts-reads
-use Rattle.opening.proofs.write.write_event.Reads as write-event-reads
 
 cells-of-requires : tie.Need-cells-of-requires
 cells-of-requires c κs = is-dossier _ _ _ (c .before .before .pre .0)

@@ -9,10 +9,6 @@ use Rattle.dossier.proofs.AskLaws.{start-within}
 use Rattle.opening.proofs.StandLaws.{FilledTo, filled-none, filled-more, filled-all, own-cell, StandTo, stand-none, stand-more, stand-all}
 use Rattle.opening.proofs.cells.cells_of.Statement.{statement}
 use Rattle.opening.proofs.cells.cells_of.Tie as tie
-use Rattle.opening.proofs.cells.cells_of.Reads as reads
-use Rattle.opening.proofs.cells.cells_of.Lts as lts
-use Rattle.opening.proofs.cells.shifted.Reads as shifted-reads
-use Rattle.opening.proofs.cells.snapshot_at.Reads as snapshot-at-reads
 
 abbrev Inv-loop2 : tie.InvT-loop2
 Inv-loop2 s d cells₀ j at x p₀ cells p = (length cells ≡ 256) × ((h : Headed) → DossierIs s h d → FilledTo s (getD (h .dossier .snapshots) j noSnapshot) j cells₀ cells p)

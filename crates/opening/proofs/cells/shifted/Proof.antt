@@ -2,30 +2,22 @@ use borrow.Author.Needs.{needs}
 use native.Mathlib.Omega.{arith}
 use Rattle.opening.proofs.cells.shifted.Statement.{statement}
 use Rattle.opening.proofs.cells.shifted.Tie as tie
-use Rattle.opening.proofs.cells.shifted.Reads as reads
-use Rattle.opening.proofs.cells.shifted.Lts as lts
 
--- src/cells.rt:28:9
 returns : tie.Need-returns
 returns c = record { is = λ a b. absurd (omega (arith, a, b, c .if1 .taken)) }
 
--- src/cells.rt:31:9
 returns-2 : tie.Need-returns-2
 returns-2 c = record { is = λ a b. absurd (omega (arith, a, b, c .before .before .if1 .left, c .if2 .taken)) }
 
--- src/cells.rt:34:9
 returns-3 : tie.Need-returns-3
 returns-3 c = record { is = λ a b. absurd (omega (arith, a, b, c .before .before .before .before .if1 .left, c .if3 .taken)) }
 
--- src/cells.rt:37:16
 add-t5 : tie.Need-add-t5
 add-t5 c = search needs
 
--- src/cells.rt:38:14
 add-t6 : tie.Need-add-t6
 add-t6 c = search needs
 
--- src/cells.rt:24:1
 returns-4 : tie.Need-returns-4
 returns-4 c = search needs
 

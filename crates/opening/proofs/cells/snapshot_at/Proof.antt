@@ -4,9 +4,6 @@ use Rattle.dossier.proofs.AskLaws.{in-count, start-within}
 use Rattle.opening.proofs.StandLaws.{first-is, rest-read}
 use Rattle.opening.proofs.cells.snapshot_at.Statement.{statement}
 use Rattle.opening.proofs.cells.snapshot_at.Tie as tie
-use Rattle.opening.proofs.cells.snapshot_at.Reads as reads
-use Rattle.opening.proofs.cells.snapshot_at.Lts as lts
-use Rattle.dossier.proofs.snapshots.read_snapshot.Reads as read-snapshot-reads
 
 returns : tie.Need-returns
 returns c = λ h w. first-is _ h _ _ w (c .before .if1 .taken)

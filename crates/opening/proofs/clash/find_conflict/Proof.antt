@@ -13,9 +13,6 @@ use Rattle.opening.specs.OpenIndex.{clashOf}
 use Rattle.opening.proofs.ClashLaws.{version-at, differ-at, clash-not, conflict-later, conflict-here, conflict-end}
 use Rattle.opening.proofs.clash.find_conflict.Statement.{statement}
 use Rattle.opening.proofs.clash.find_conflict.Tie as tie
-use Rattle.opening.proofs.clash.find_conflict.Reads as reads
-use Rattle.opening.proofs.clash.find_conflict.Lts as lts
-use Rattle.opening.proofs.clash.snapshot_clash.Reads as snapshot-clash-reads
 
 abbrev Inv-loop : tie.InvT-loop
 Inv-loop d j₀ j = (s : List ℕ) (h : Headed) → DossierIs s h d → conflict (upTo 32) (h .dossier .snapshots) ≡ conflict (upTo 32) (drop j (h .dossier .snapshots))

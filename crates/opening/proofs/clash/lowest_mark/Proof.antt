@@ -12,8 +12,6 @@ use Rattle.dossier.specs.DossierLayout.{differBit}
 use Rattle.opening.proofs.ClashLaws.{lowest-start, lowest-here, lowest-next, lowest-end, bit-set, bit-clear, bits-next}
 use Rattle.opening.proofs.clash.lowest_mark.Statement.{statement}
 use Rattle.opening.proofs.clash.lowest_mark.Tie as tie
-use Rattle.opening.proofs.clash.lowest_mark.Reads as reads
-use Rattle.opening.proofs.clash.lowest_mark.Lts as lts
 
 abbrev Inv-loop : tie.InvT-loop
 Inv-loop differ bits₀ k₀ bits k = (cs : List Cell) → differ ≡ bitNumber (map differBit cs) → (bits ≡ bitNumber (map differBit (drop k cs))) × (lowest (λ p. isMark (getD cs p (holds []))) (upTo 32) ≡ lowest (λ p. isMark (getD cs p (holds []))) (upFrom k (32 - k)))
@@ -21,11 +19,9 @@ Inv-loop differ bits₀ k₀ bits k = (cs : List Cell) → differ ≡ bitNumber 
 abbrev μ-loop : tie.MeasureT-loop
 μ-loop differ bits₀ k₀ bits k = 32 - k
 
--- src/clash.rt:35:5
 loop-holds : tie.Need-loop-holds Inv-loop μ-loop
 loop-holds c = λ cs v. (v, lowest-start (λ p. isMark (getD cs p (holds []))))
 
--- src/clash.rt:37:13
 returns : tie.Need-returns Inv-loop μ-loop
 returns c =
     λ cs v.
@@ -33,15 +29,12 @@ returns c =
     let h = c .before .loop-test .taken in
     sym (i .1 ∙ lowest-here (λ p. isMark (getD cs p (holds []))) _ h (bit-set cs _ _ (i .0) (c .if1 .taken)))
 
--- src/clash.rt:40:9
 add-k : tie.Need-add-k Inv-loop μ-loop
 add-k c = search needs
 
--- src/clash.rt:35:5
 loop-less : tie.Need-loop-less Inv-loop μ-loop
 loop-less c = omega (arith, c .before .loop-test .taken)
 
--- src/clash.rt:35:5
 loop-again : tie.Need-loop-again Inv-loop μ-loop
 loop-again c =
     λ cs v.
@@ -49,7 +42,6 @@ loop-again c =
     let h = c .before .loop-test .taken in
     (bits-next cs (c .before .before .loop .k) _ (i .0), i .1 ∙ lowest-next (λ p. isMark (getD cs p (holds []))) _ h (bit-clear cs _ _ (i .0) (c .if1 .left)))
 
--- src/clash.rt:30:1
 returns-2 : tie.Need-returns-2 Inv-loop μ-loop
 returns-2 c = λ cs v. sym (c .before .loop .inv cs v .1 ∙ lowest-end (λ p. isMark (getD cs p (holds []))) _ (c .loop-test .left))
 

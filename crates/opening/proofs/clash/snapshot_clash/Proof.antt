@@ -4,9 +4,6 @@ use Rattle.opening.specs.OpenIndex.{lowestOf}
 use Rattle.opening.proofs.ClashLaws.{snapshot-differs, snapshot-clear}
 use Rattle.opening.proofs.clash.snapshot_clash.Statement.{statement}
 use Rattle.opening.proofs.clash.snapshot_clash.Tie as tie
-use Rattle.opening.proofs.clash.snapshot_clash.Reads as reads
-use Rattle.opening.proofs.clash.snapshot_clash.Lts as lts
-use Rattle.opening.proofs.clash.lowest_mark.Reads as lowest-mark-reads
 
 lowest-mark-requires : tie.Need-lowest-mark-requires
 lowest-mark-requires c κs = search needs

@@ -8,10 +8,10 @@ use Rattle.model.specs.Sets.{union}
 use Rattle.packed.specs.Comparison.{ordering}
 use Rattle.packed.specs.declared.order.Compared.{Compared}
 use Rattle.values.specs.Spaces.{Kind}
-use Rattle.values.specs.ValueOrder.{valueOrder}
+use Rattle.values.specs.ValueOrder.{valueOrder, extremeOrder}
 use Rattle.event.specs.EventIndex.{SetIs}
 use Rattle.opening.specs.OpenIndex.{Chooses, Lone}
-use Rattle.opening.proofs.MergeLaws.{orderOf, better-none, better-only, value-order, better-first, better-second}
+use Rattle.opening.proofs.MergeLaws.{better-none, better-only, value-order, better-first, better-second}
 use Rattle.opening.proofs.merge.better.Statement.{statement}
 use Rattle.opening.proofs.merge.better.Tie as tie
 
@@ -57,7 +57,7 @@ module _ (c : tie.After-compare-values) (k : Kind) (vs ws : List Text) where
   keeps :
       let g = c .before .before .before .before .before .before .before .before .before .before .args in
       pick (ordering (c .compare-values .result)) (not (g .largest)) true (g .largest) ≡ true →
-      Chooses k (g .kind) → SetIs (g .s .now) vs (g .a) → SetIs (g .s .now) ws (g .b) → Lone k vs → Lone k ws → SetIs (g .s .now) (take 1 (union (orderOf (g .largest) k) vs ws)) (g .a)
+      Chooses k (g .kind) → SetIs (g .s .now) vs (g .a) → SetIs (g .s .now) ws (g .b) → Lone k vs → Lone k ws → SetIs (g .s .now) (take 1 (union (extremeOrder (g .largest) k) vs ws)) (g .a)
   keeps e ch p q v w =
       let g = c .before .before .before .before .before .before .before .before .before .before .args in
       better-first (g .s .now) k (g .largest) vs ws (g .a) (g .b) p q v w (c .before .before .before .before .before .before .before .if1 .left) (c .before .before .before .before .before .if2 .left) (ordering (c .compare-values .result)) (compared ch p q v w) e
@@ -65,7 +65,7 @@ module _ (c : tie.After-compare-values) (k : Kind) (vs ws : List Text) where
   takes :
       let g = c .before .before .before .before .before .before .before .before .before .before .args in
       pick (ordering (c .compare-values .result)) (not (g .largest)) true (g .largest) ≡ false →
-      Chooses k (g .kind) → SetIs (g .s .now) vs (g .a) → SetIs (g .s .now) ws (g .b) → Lone k vs → Lone k ws → SetIs (g .s .now) (take 1 (union (orderOf (g .largest) k) vs ws)) (g .b)
+      Chooses k (g .kind) → SetIs (g .s .now) vs (g .a) → SetIs (g .s .now) ws (g .b) → Lone k vs → Lone k ws → SetIs (g .s .now) (take 1 (union (extremeOrder (g .largest) k) vs ws)) (g .b)
   takes e ch p q v w =
       let g = c .before .before .before .before .before .before .before .before .before .before .args in
       better-second (g .s .now) k (g .largest) vs ws (g .a) (g .b) p q v w (c .before .before .before .before .before .before .before .if1 .left) (c .before .before .before .before .before .if2 .left) (ordering (c .compare-values .result)) (compared ch p q v w) e

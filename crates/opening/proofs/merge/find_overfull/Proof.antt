@@ -14,8 +14,6 @@ use Rattle.opening.proofs.ClashLaws.{lowest-here, lowest-next, lowest-e
 use Rattle.opening.proofs.MergeLaws.{isOverfull, overfull-start, place-overfull}
 use Rattle.opening.proofs.merge.find_overfull.Statement.{statement}
 use Rattle.opening.proofs.merge.find_overfull.Tie as tie
-use Rattle.opening.proofs.merge.find_overfull.Reads as reads
-use Rattle.opening.proofs.merge.find_overfull.Lts as lts
 
 abbrev Inv-loop : tie.InvT-loop
 Inv-loop t counts p₀ p = (u : List ℕ) (ty : EventType) (d : Dossier) → TypeIs u ty t → CountsMerged ty d counts → overfull (view ty) d ≡ lowest (isOverfull ty d) (upFrom p (32 - p))

@@ -2,14 +2,10 @@ use borrow.Author.Needs.{needs}
 use Rattle.opening.proofs.MergeLaws.{single-overfull}
 use Rattle.opening.proofs.merge.is_overfull.Statement.{statement}
 use Rattle.opening.proofs.merge.is_overfull.Tie as tie
-use Rattle.opening.proofs.merge.is_overfull.Reads as reads
-use Rattle.opening.proofs.merge.is_overfull.Lts as lts
 
--- src/merge.rt:145:9
 returns : tie.Need-returns
 returns c = single-overfull _ (c .before .args .count) (c .if1 .taken)
 
--- src/merge.rt:141:1
 returns-2 : tie.Need-returns-2
 returns-2 c = search needs
 

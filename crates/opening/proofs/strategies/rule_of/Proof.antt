@@ -1,24 +1,17 @@
 use borrow.Author.Needs.{needs}
-use native.Mathlib.Omega.{arith}
 use Rattle.opening.proofs.StrategyLaws.{rule-none, rule-some}
 use Rattle.opening.proofs.strategies.rule_of.Statement.{statement}
 use Rattle.opening.proofs.strategies.rule_of.Tie as tie
-use Rattle.opening.proofs.strategies.rule_of.Reads as reads
-use Rattle.opening.proofs.strategies.rule_of.Lts as lts
 
--- src/strategies.rt:24:9
 returns : tie.Need-returns
 returns c = λ s ty w. rule-none s ty _ w _ (c .if1 .taken)
 
--- src/strategies.rt:32:13
 mul-p : tie.Need-mul-p
 mul-p c = search needs
 
--- src/strategies.rt:32:13
 element-copy-out-p : tie.Need-element-copy-out-p
 element-copy-out-p c = search needs
 
--- src/strategies.rt:19:1
 returns-2 : tie.Need-returns-2
 returns-2 c = λ s ty w. rule-some s ty _ w _ _ (c .before .before .before .before .before .if1 .left)
 

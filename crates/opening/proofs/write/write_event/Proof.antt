@@ -3,12 +3,6 @@ use mathlib.Core.Path.{refl}
 use Rattle.opening.proofs.WriteRoomLaws.{head-room, presence-room, sets-room, wrote-event}
 use Rattle.opening.proofs.write.write_event.Statement.{statement}
 use Rattle.opening.proofs.write.write_event.Tie as tie
-use Rattle.opening.proofs.write.write_event.Reads as reads
-use Rattle.opening.proofs.write.write_event.Lts as lts
-use Rattle.opening.proofs.merge.presence_of.Reads as presence-of-reads
-use Rattle.opening.proofs.write.write_head.Reads as write-head-reads
-use Rattle.opening.proofs.write.write_sets.Reads as write-sets-reads
-use Rattle.packed.proofs.write.write_number.Reads as write-number-reads
 
 write-head-requires : tie.Need-write-head-requires
 write-head-requires c κs = head-room (c .before .before .before .before .pre)

@@ -7,12 +7,6 @@ use Rattle.packed.proofs.WriteLaws.{wrote-length}
 use Rattle.opening.proofs.WriteRoomLaws.{head-length, hashes-order, wrote-head}
 use Rattle.opening.proofs.write.write_head.Statement.{statement}
 use Rattle.opening.proofs.write.write_head.Tie as tie
-use Rattle.opening.proofs.write.write_head.Reads as reads
-use Rattle.opening.proofs.write.write_head.Lts as lts
-use Rattle.dossier.proofs.parts.text_part.Reads as text-part-reads
-use Rattle.packed.proofs.write.copy_part.Reads as copy-part-reads
-use Rattle.packed.proofs.write.write_number.Reads as write-number-reads
-use Rattle.packed.proofs.write.write_text.Reads as write-text-reads
 
 text-part-requires : tie.Need-text-part-requires
 text-part-requires c κs = search needs

@@ -13,11 +13,6 @@ use Rattle.opening.proofs.StandLaws.{row-is}
 use Rattle.opening.proofs.WriteRoomLaws.{setsFrom, sets-start, sets-end, count-room, place-room, row-room, set-room, absent-gone, present-gone}
 use Rattle.opening.proofs.write.write_sets.Statement.{statement}
 use Rattle.opening.proofs.write.write_sets.Tie as tie
-use Rattle.opening.proofs.write.write_sets.Reads as reads
-use Rattle.opening.proofs.write.write_sets.Lts as lts
-use Rattle.opening.proofs.strategies.rule_of.Reads as rule-of-reads
-use Rattle.opening.proofs.write.write_values.Reads as write-values-reads
-use Rattle.packed.proofs.write.write_number.Reads as write-number-reads
 
 abbrev Inv-loop : tie.InvT-loop
 Inv-loop s n t out₀ at cells counts next₀ p₀ out next p = (q : SetsRoom s cells n t counts at (length out₀)) → ToGo out₀ at (setsBytes (mergedSets (view (q .type)) (q .dossier))) out next (setsFrom (q .type) (q .dossier) p)

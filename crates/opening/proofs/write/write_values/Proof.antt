@@ -4,13 +4,6 @@ use Rattle.opening.proofs.MergeLaws.{made-no-last, made-no-chosen}
 use Rattle.opening.proofs.WriteRoomLaws.{standing-room, wrote-standing, runs-here, union-room, wrote-union}
 use Rattle.opening.proofs.write.write_values.Statement.{statement}
 use Rattle.opening.proofs.write.write_values.Tie as tie
-use Rattle.opening.proofs.write.write_values.Reads as reads
-use Rattle.opening.proofs.write.write_values.Lts as lts
-use Rattle.opening.proofs.cells.runs_of.Reads as runs-of-reads
-use Rattle.opening.proofs.merge.is_standing.Reads as is-standing-reads
-use Rattle.opening.proofs.merge.standing.Reads as standing-reads
-use Rattle.packed.proofs.write.copy_part.Reads as copy-part-reads
-use Rattle.unions.proofs.many.write_merged.Reads as write-merged-reads
 
 is-standing-requires : tie.Need-is-standing-requires
 is-standing-requires c κs = search needs

@@ -5,10 +5,9 @@ use Prim.Native.Nat.{_≤_, _-_}
 use lib.ListN.{take, drop}
 use borrow.Author.Needs.{needs}
 use Rattle.model.specs.Sets.{union}
-use Rattle.model.specs.Order.{reversed}
 use Rattle.values.specs.Spaces.{Kind, kindNumber, inSpace}
 use Rattle.packed.specs.Comparison.{ordering}
-use Rattle.values.specs.ValueOrder.{valueOrder}
+use Rattle.values.specs.ValueOrder.{extremeOrder}
 use Rattle.values.proofs.SpaceLaws.{chosen}
 use Rattle.values.proofs.spaces.choose.Statement.{statement}
 use Rattle.values.proofs.spaces.choose.Tie as tie
@@ -61,13 +60,13 @@ chosen-part : (c : tie.After-takes-first) {t : Bool} → c .takes-first .result 
     let x = take (g .e - g .a) (drop (g .a) (g .left .now)) in
     let y = take (g .f - g .b) (drop (g .b) (g .right .now)) in
     (k : Kind) → kindNumber k ≡ g .kind → g .kind ≤ 6 → inSpace k x ≡ true → inSpace k y ≡ true →
-    cond t x y ∷ [] ≡ take 1 (union (cond (g .largest) (reversed (valueOrder k)) (valueOrder k)) (x ∷ []) (y ∷ []))
+    cond t x y ∷ [] ≡ take 1 (union (extremeOrder (g .largest) k) (x ∷ []) (y ∷ []))
 chosen-part c {t} s k n l p q =
     let g = c .before .before .before .before .before .before .args in
     let x = take (g .e - g .a) (drop (g .a) (g .left .now)) in
     let y = take (g .f - g .b) (drop (g .b) (g .right .now)) in
     ap (λ (t : Bool). cond t x y ∷ []) (sym s ∙ c .takes-first .ensures)
-    ∙ chosen (g .largest) (valueOrder k) x y (ordering (c .before .compare-values .result)) (sym (c .before .compare-values .ensures k n l p q))
+    ∙ chosen (g .largest) k x y (ordering (c .before .compare-values .result)) (sym (c .before .compare-values .ensures k n l p q))
 
 returns : tie.Need-returns
 returns c = chosen-part (c .before .before) (c .before .if1 .taken)

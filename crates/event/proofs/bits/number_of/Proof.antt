@@ -2,11 +2,9 @@ use borrow.Author.Needs.{needs}
 use mathlib.Core.Path.{_≡_}
 use native.Mathlib.Omega.{arith}
 use lib.ListN.{length}
-use Rattle.combining.proofs.CountLaws.{BitsFrom, bits-none, bits-room, bits-set, bits-clear, bits-all}
-use Rattle.combining.proofs.bits.number_of.Statement.{statement}
-use Rattle.combining.proofs.bits.number_of.Tie as tie
-use Rattle.combining.proofs.bits.number_of.Reads as reads
-use Rattle.combining.proofs.bits.number_of.Lts as lts
+use Rattle.event.proofs.BitLaws.{BitsFrom, bits-none, bits-room, bits-set, bits-clear, bits-all}
+use Rattle.event.proofs.bits.number_of.Statement.{statement}
+use Rattle.event.proofs.bits.number_of.Tie as tie
 
 abbrev Inv-loop : tie.InvT-loop
 Inv-loop bits n₀ k₀ n k = BitsFrom bits n k
@@ -18,43 +16,33 @@ abbrev μ-loop : tie.MeasureT-loop
 long : (c : tie.Start Inv-loop μ-loop) → length (c .args .t1) ≡ 32
 long c = search needs
 
--- src/bits.rt:12:5
 loop-holds : tie.Need-loop-holds Inv-loop μ-loop
 loop-holds c = bits-none (c .args .t1) (long c)
 
--- src/bits.rt:13:9
 sub-k : tie.Need-sub-k Inv-loop μ-loop
 sub-k c = search needs
 
--- src/bits.rt:14:13
 mul-n : tie.Need-mul-n Inv-loop μ-loop
 mul-n c = let l = c .before in omega (arith, bits-room (l .before .args .t1) (long (l .before)) (l .loop .n) (l .loop .k) (l .loop .inv) (c .loop-test .taken))
 
--- src/bits.rt:15:12
 array-read-if1 : tie.Need-array-read-if1 Inv-loop μ-loop
 array-read-if1 c = omega (arith, c .loop-test .taken, c .before .loop .inv .within)
 
--- src/bits.rt:16:13
 add-n : tie.Need-add-n Inv-loop μ-loop
 add-n c = let l = c .before .before in omega (arith, bits-room (l .before .args .t1) (long (l .before)) (l .loop .n) (l .loop .k) (l .loop .inv) (c .before .loop-test .taken))
 
--- src/bits.rt:12:5
 loop-less : tie.Need-loop-less Inv-loop μ-loop
 loop-less c = search needs
 
--- src/bits.rt:12:5
 loop-again : tie.Need-loop-again Inv-loop μ-loop
 loop-again c = let l = c .before .before in bits-set (l .before .args .t1) (long (l .before)) (l .loop .n) (l .loop .k) (l .loop .inv) (c .before .loop-test .taken) (c .if1 .taken)
 
--- src/bits.rt:12:5
 loop-less-2 : tie.Need-loop-less-2 Inv-loop μ-loop
 loop-less-2 c = search needs
 
--- src/bits.rt:12:5
 loop-again-2 : tie.Need-loop-again-2 Inv-loop μ-loop
 loop-again-2 c = let l = c .before .before in bits-clear (l .before .args .t1) (long (l .before)) (l .loop .n) (l .loop .k) (l .loop .inv) (c .before .loop-test .taken) (c .if1 .left)
 
--- src/bits.rt:7:1
 returns : tie.Need-returns Inv-loop μ-loop
 returns c = bits-all (c .before .before .args .t1) (c .before .loop .n) (c .before .loop .k) (c .before .loop .inv) (omega (arith, c .loop-test .left))
 
