@@ -1,5 +1,5 @@
 use borrow.Author.Needs.{needs}
-use mathlib.Core.Path.{_≡_, sym, ap, _∙_}
+use mathlib.Core.Path.{sym, ap, _∙_}
 use Rattle.opening.specs.OpenIndex.{lowestOf}
 use Rattle.opening.proofs.ClashLaws.{snapshot-differs, snapshot-clear}
 use Rattle.opening.proofs.clash.snapshot_clash.Statement.{statement}
