@@ -138,26 +138,37 @@ pub fn read_head(s: &[u8], most: usize) -> HeadRead
     })
 }
 
+// The head of what is no event and no dossier.
+pub fn no_head() -> HeadAt
+    ensures { λ r. ⌜ r .parents .count ≡ 0 ⌝ }
+{
+    let none = PartAt { start: 0, end: 0 };
+    HeadAt {
+        name: none,
+        source: none,
+        parents: SetAt {
+            start: 0,
+            end: 0,
+            count: 0,
+        },
+    }
+}
+
 pub fn no_event() -> EventIndex
     ensures { λ r. ⌜ r .ok ≡ false ⌝ }
 {
-    let part = PartAt { start: 0, end: 0 };
-    let set = SetAt {
+    let none = SetAt {
         start: 0,
         end: 0,
         count: 0,
     };
     EventIndex {
         ok: false,
-        head: HeadAt {
-            name: part,
-            source: part,
-            parents: set,
-        },
+        head: no_head(),
         presence: 0,
         first: 0,
         objects: 0,
-        sets: [set; 32],
+        sets: [none; 32],
     }
 }
 

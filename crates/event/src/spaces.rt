@@ -11,8 +11,9 @@ ghost use Rattle.ontology.specs.Table.{EventType};
 ghost use Rattle.ontology.specs.TypeIndex.{TypeIs};
 ghost use Rattle.event.specs.Event.{Event};
 ghost use Rattle.event.specs.EventQuestions.{areInSpace, valuesFit};
-ghost use Rattle.event.specs.EventIndex.{EventIs, KindsAre};
+ghost use Rattle.event.specs.EventIndex.{SetsAre, EventIs, KindsAre};
 use crate::read::EventIndex;
+use crate::sets::SetAt;
 use crate::sets::set_part;
 use ontology::types::TypeIndex;
 use packed::read::TextAt;
@@ -36,18 +37,26 @@ pub fn are_in_space(v: &[u8], kind: u8, first: u8, second: u8, third: u8) -> boo
     true
 }
 
-// Question 6. A place without a property is asked nothing.
-pub fn values_ok(event: &[u8], t: TypeIndex, e: EventIndex) -> bool
-    ensures { λ r. ⌜ ((table : List ℕ) (y : EventType) (x : Event) → TypeIs table y t → KindsAre y → EventIs (now (event .entry)) x e → r ≡ valuesFit y (x .sets)) ⌝ }
+// Whether each value of the sets is in its property's space. A place without a property is asked nothing.
+pub fn sets_in_space(s: &[u8], sets: [SetAt; 32], t: TypeIndex) -> bool
+    ensures { λ r. ⌜ ((u : List ℕ) (ty : EventType) (xs : List (List Text)) → TypeIs u ty t → KindsAre ty → SetsAre (now (s .entry)) xs sets → r ≡ valuesFit ty xs) ⌝ }
 {
     let mut k: usize = 0;
     while k < 32 && k < t.count {
         let p = t.properties[k];
-        let set = e.sets[k];
-        if !are_in_space(set_part(event, set), p.kind, p.first, p.second, p.third) {
+        let x = sets[k];
+        if !are_in_space(set_part(s, x), p.kind, p.first, p.second, p.third) {
             return false;
         }
         k += 1;
     }
     true
+}
+
+// Question 6.
+pub fn values_ok(event: &[u8], t: TypeIndex, e: EventIndex) -> bool
+    ensures { λ r. ⌜ ((table : List ℕ) (y : EventType) (x : Event) → TypeIs table y t → KindsAre y → EventIs (now (event .entry)) x e → r ≡ valuesFit y (x .sets)) ⌝ }
+{
+    let sets = e.sets;
+    sets_in_space(event, sets, t)
 }
