@@ -10,7 +10,7 @@ use Rattle.model.specs.Order.{texts, sets, lists, equal}
 use Rattle.model.proofs.OrderLaws.{equal-true}
 use Rattle.model.specs.Rule.{Snapshot}
 use Rattle.model.specs.Limits.{standard}
-use Rattle.model.proofs.Cases.{and-false}
+use Rattle.model.proofs.Cases.{and-parts}
 use Rattle.ontology.specs.Table.{EventType, Table, typeNamed}
 use Rattle.ontology.specs.TableLayout.{tableOf}
 use Rattle.ontology.specs.TypeIndex.{TypeIs, TypeSays}
@@ -91,22 +91,19 @@ module _ (ty tz : EventType) (h g : Headed) where
   abbrev both : Bool
   both = dossiersAgree (record { type = ty; headed = h }) (record { type = tz; headed = g })
 
-  pub agree-type : {r : Bool} → r ≡ equal texts (h .type) (g .type) → r ≡ false → false ≡ both
-  unfolding dossiersAgree agree
-  agree-type e f = sym (ap (λ (b : Bool). b && equal texts (h .source) (g .source) && equal (lists sets) (dossierMatch ty (h .dossier .snapshots)) (dossierMatch tz (g .dossier .snapshots))) (sym e ∙ f))
+  abbrev heads : Bool
+  heads = equal texts (h .type) (g .type) && equal texts (h .source) (g .source)
 
-  pub agree-source : {r : Bool} → r ≡ equal texts (h .source) (g .source) → r ≡ false → false ≡ both
+  pub agree-heads : {r : Bool} → r ≡ heads → r ≡ false → false ≡ both
   unfolding dossiersAgree agree
-  agree-source e f =
-      sym (ap (λ (b : Bool). equal texts (h .type) (g .type) && b && equal (lists sets) (dossierMatch ty (h .dossier .snapshots)) (dossierMatch tz (g .dossier .snapshots))) (sym e ∙ f)
-      ∙ ap (λ (b : Bool). b && equal (lists sets) (dossierMatch ty (h .dossier .snapshots)) (dossierMatch tz (g .dossier .snapshots))) (and-false (equal texts (h .type) (g .type))))
+  agree-heads e f = sym (ap (λ (b : Bool). b && equal (lists sets) (dossierMatch ty (h .dossier .snapshots)) (dossierMatch tz (g .dossier .snapshots))) (sym e ∙ f))
 
-  module _ {a b : Bool} (d : a ≡ equal texts (h .type) (g .type)) (e : a ≡ true) (f : b ≡ equal texts (h .source) (g .source)) (k : b ≡ true) (one : 1 ≤ length (h .dossier .snapshots)) (two : 1 ≤ length (g .dossier .snapshots)) where
+  module _ {a : Bool} (d : a ≡ heads) (e : a ≡ true) (one : 1 ≤ length (h .dossier .snapshots)) (two : 1 ≤ length (g .dossier .snapshots)) where
     pub agree-match : (h .type ≡ g .type → ty ≡ tz) → {r : Bool} → r ≡ equal (lists sets) (snapshotMatch ty (getD (h .dossier .snapshots) 0 noSnapshot)) (snapshotMatch ty (getD (g .dossier .snapshots) 0 noSnapshot)) → r ≡ both
     unfolding dossiersAgree agree
     agree-match l n =
-        let q : ty ≡ tz = l (equal-true texts (h .type) (g .type) .0 (sym d ∙ e)) in
+        let q : ty ≡ tz = l (equal-true texts (h .type) (g .type) .0 (and-parts (equal texts (h .type) (g .type)) (equal texts (h .source) (g .source)) (sym d ∙ e) .0)) in
         n
-        ∙ sym (ap₂ (λ (x y : Bool). x && y && equal (lists sets) (dossierMatch ty (h .dossier .snapshots)) (dossierMatch tz (g .dossier .snapshots))) (sym d ∙ e) (sym f ∙ k)
+        ∙ sym (ap (λ (b : Bool). b && equal (lists sets) (dossierMatch ty (h .dossier .snapshots)) (dossierMatch tz (g .dossier .snapshots))) (sym d ∙ e)
         ∙ ap (λ (t : EventType). equal (lists sets) (dossierMatch ty (h .dossier .snapshots)) (dossierMatch t (g .dossier .snapshots))) (sym q)
         ∙ ap₂ (equal (lists sets)) (first-match ty (h .dossier .snapshots) one) (first-match ty (g .dossier .snapshots) two))

@@ -1,24 +1,25 @@
 -- The laws of reading a dossier: its snapshots one after the other, their versions, and the whole.
 use mathlib.Core.Path.{_≡_, refl, sym, ap, ap₂, _∙_, subst}
-use mathlib.Core.Logic.{⊎-elim}
+use mathlib.Core.Logic.{_⊎_, inl, inr, ⊎-elim}
 use mathlib.Core.Bool.{Bool, true, false}
-use mathlib.Core.Option.{Option, none}
+use mathlib.Core.Option.{Option, none, some}
 use mathlib.Core.List.{List, [], _∷_, _++_, append-nil, map}
 use Prim.Native.Nat.{ℕ, zero, suc, _+_, _-_, _≤_, _<_}
 use native.Mathlib.Omega.{arith}
 use native.Mathlib.Numerals.{add-one, sub-one}
 use lib.ListN.{length, take, drop, getD, set, length-append, length-drop, length-set, List·getD-append}
-use lib.Seq.{drop-cons, drop-drop, drop-length, getD-at, getD-set-same, getD-set-other, getD-take, length-take-le, take-suc-set}
+use lib.Seq.{drop-cons, drop-length, getD-at, getD-set-same, getD-set-other, getD-take, length-take-le, take-suc-set}
 use borrow.Author.Count.{below-more}
 use Rattle.model.specs.Order.{Text, numbers, rising, three}
 use Rattle.model.proofs.OrderLaws.{less-of, less-cmp}
 use Rattle.model.specs.Rule.{Snapshot}
 use Rattle.model.specs.Limits.{standard}
+use Rattle.model.proofs.Cases.{never}
 use Rattle.model.proofs.PartLaws.{map-append}
 use Rattle.packed.specs.Parse.{Parse, fail, got, Layout, andThen, _>>=_, found, foundIf, suchThat, times, whole}
 use Rattle.packed.specs.Packed.{readNumber, readText}
-use Rattle.packed.proofs.LayoutLaws.{lt-or-ge, times-was}
-use Rattle.packed.proofs.ReadLaws.{drop-next, to-end}
+use Rattle.packed.proofs.LayoutLaws.{fail-got, lt-or-ge, times-was}
+use Rattle.packed.proofs.ReadLaws.{drop-next}
 use Rattle.values.specs.Spaces.{isWithin}
 use Rattle.ontology.specs.TypeIndex.{Got}
 use Rattle.ontology.proofs.FieldLaws.{got-bounds}
@@ -27,11 +28,13 @@ use Rattle.event.specs.EventLayout.{isSource, readParents, bitNumber}
 use Rattle.event.specs.EventIndex.{HeadOf, readHead, HeadStops}
 use Rattle.event.specs.declared.read.HeadAt.{HeadAt}
 use Rattle.dossier.specs.DossierLayout.{Headed, readSnapshot, readDossier, dossierOf, differBit, snapshotBytes}
-use Rattle.dossier.specs.DossierIndex.{SnapshotIs, SnapshotReads, SnapshotAt, noSnapshot, SnapshotsAre, SnapshotsReads, DossierReads}
+use Rattle.dossier.specs.DossierIndex.{SnapshotIs, SnapshotReads, SnapshotAt, PassedIs, PassedSays, noSnapshot, SnapshotsAre, SnapshotsSay, DossierIs, DossierReads, DossierSays}
 use Rattle.dossier.specs.declared.snapshots.SnapshotIndex.{SnapshotIndex}
+use Rattle.dossier.specs.declared.snapshots.SnapshotPassed.{SnapshotPassed}
 use Rattle.dossier.specs.declared.dossiers.SnapshotsRead.{SnapshotsRead}
 use Rattle.dossier.specs.declared.dossiers.DossierIndex.{DossierIndex}
 use Rattle.dossier.proofs.DossierLayoutLaws.{SnapshotWritten, snapshot-was}
+use Rattle.dossier.proofs.PassLaws.{reads-none, passedAt, read-one, read-passed, pass-refused}
 
 -- ---- versions that rise
 
@@ -90,25 +93,8 @@ unfolding times
 times-stop n t e = ap (λ (p : Parse Snapshot). andThen p (λ y o. andThen (times readSnapshot n o) (λ xs u. got (y ∷ xs) u))) e
 
 -- as many as were asked for
-pub as-many : (n : ℕ) (t : List ℕ) (xs : List Snapshot) (r : List ℕ) → times readSnapshot n t ≡ got xs r → length xs ≡ n
+as-many : (n : ℕ) (t : List ℕ) (xs : List Snapshot) (r : List ℕ) → times readSnapshot n t ≡ got xs r → length xs ≡ n
 as-many n t xs r e = times-was readSnapshot snapshotBytes SnapshotWritten snapshot-was n t xs r e .1
-
-pub reads-at : (s : List ℕ) (at : ℕ) (i : SnapshotIndex) → SnapshotReads (readSnapshot (take (length s - at) (drop at s))) (take (length s - at) (drop at s)) i → SnapshotReads (readSnapshot (drop at s)) (drop at s) i
-reads-at s at i w = subst (λ (t : List ℕ). SnapshotReads (readSnapshot t) t i) (to-end s at) w
-
-reads-none : (p : Parse Snapshot) (s : List ℕ) (i : SnapshotIndex) → SnapshotReads p s i → i .ok ≡ false → p ≡ fail
-unfolding SnapshotReads
-reads-none fail s i w h = refl
-reads-none (got x t) s i w h = let z : _≡_ {A = ℕ} 0 1 = cc (w .0) in absurd (omega arith)
-
-pub record SnapshotRead (s : List ℕ) (i : SnapshotIndex) : Type 0 where
-  pub what : Snapshot
-  pub is : SnapshotIs s what i
-
-pub reads-some : (p : Parse Snapshot) (s : List ℕ) (i : SnapshotIndex) → SnapshotReads p s i → i .ok ≡ true → SnapshotRead s i
-unfolding SnapshotReads
-reads-some fail s i w h = let z : _≡_ {A = ℕ} 0 1 = cc in absurd (omega arith)
-reads-some (got x t) s i w h = record { what = x; is = w .1 }
 
 abbrev differNumber : Snapshot → ℕ
 differNumber x = bitNumber (map differBit (x .cells))
@@ -135,7 +121,7 @@ pub record Passed (p : Parse (List Snapshot)) (s starts ends versions differs : 
   pub versions-long : length versions ≡ 8
   pub differs-long : length differs ≡ 8
 
-pub passed-none : (s starts ends versions differs : List ℕ) (first : SnapshotIndex) (n at : ℕ) → at ≤ length s → length starts ≡ 8 → length ends ≡ 8 → length versions ≡ 8 → length differs ≡ 8 → Passed (times readSnapshot n (drop at s)) s starts ends versions differs first n at 0
+passed-none : (s starts ends versions differs : List ℕ) (first : SnapshotIndex) (n at : ℕ) → at ≤ length s → length starts ≡ 8 → length ends ≡ 8 → length versions ≡ 8 → length differs ≡ 8 → Passed (times readSnapshot n (drop at s)) s starts ends versions differs first n at 0
 passed-none s starts ends versions differs first n at h a b c d =
     let z : n - 0 ≡ n = omega arith in
     record {
@@ -161,58 +147,58 @@ module _ (p : Parse (List Snapshot)) (s starts ends versions differs : List ℕ)
   one-more h = omega arith
 
   module _ (h : j < n) where
-    pub passed-stop : readSnapshot (drop next s) ≡ fail → p ≡ fail
+    passed-stop : readSnapshot (drop next s) ≡ fail → p ≡ fail
     passed-stop e =
         w .rest
         ∙ ap (λ (m : ℕ). prepend (w .xs) (times readSnapshot m (drop next s))) (sym (one-more h))
         ∙ ap (prepend (w .xs)) (times-stop (n - (j + 1)) (drop next s) e)
 
     -- the snapshot x stands at `next`
-    module _ (x : Snapshot) (end version differ : ℕ) (at-next : SnapshotAt s x next end) (v : version ≡ x .version) (d : differ ≡ differNumber x) (few : n ≤ 8) where
+    module _ (x : Snapshot) (r : SnapshotPassed) (k : PassedIs s x next r) (few : n ≤ 8) where
       old : (m : ℕ) → m < j → m ≡ j → ⊥
       old m l e = omega arith
 
-      each-old : (m : ℕ) → m < j → SnapshotAt s (getD (w .xs ++ (x ∷ [])) m noSnapshot) (getD (set starts j next) m 0) (getD (set ends j end) m 0)
+      each-old : (m : ℕ) → m < j → SnapshotAt s (getD (w .xs ++ (x ∷ [])) m noSnapshot) (getD (set starts j next) m 0) (getD (set ends j (r .next)) m 0)
       each-old m l =
-          rw (getD-set-other starts j m next 0 (old m l), getD-set-other ends j m end 0 (old m l), List·getD-append (w .xs) (x ∷ []) noSnapshot m (omega (arith, w .long)))
+          rw (getD-set-other starts j m next 0 (old m l), getD-set-other ends j m (r .next) 0 (old m l), List·getD-append (w .xs) (x ∷ []) noSnapshot m (omega (arith, w .long)))
           (w .each m l)
 
-      each-last : SnapshotAt s (getD (w .xs ++ (x ∷ [])) j noSnapshot) (getD (set starts j next) j 0) (getD (set ends j end) j 0)
+      each-last : SnapshotAt s (getD (w .xs ++ (x ∷ [])) j noSnapshot) (getD (set starts j next) j 0) (getD (set ends j (r .next)) j 0)
       each-last =
           let a : j < length starts = omega (arith, w .starts-long) in
           let b : j < length ends = omega (arith, w .ends-long) in
-          rw (getD-set-same starts j next 0 a, getD-set-same ends j end 0 b, getD-at (w .xs) x [] noSnapshot j (w .long)) at-next
+          rw (getD-set-same starts j next 0 a, getD-set-same ends j (r .next) 0 b, getD-at (w .xs) x [] noSnapshot j (w .long)) (k .stands)
 
-      follows-on : (m : ℕ) → suc m < j + 1 → getD (set starts j next) (suc m) 0 ≡ getD (set ends j end) m 0
+      follows-on : (m : ℕ) → suc m < j + 1 → getD (set starts j next) (suc m) 0 ≡ getD (set ends j (r .next)) m 0
       follows-on m l =
           let ne : m ≡ j → ⊥ = λ e. omega arith in
           let a : j < length starts = omega (arith, w .starts-long) in
-          ⊎-elim (λ (b : suc m < j). getD-set-other starts j (suc m) next 0 (old (suc m) b) ∙ w .follows m b ∙ sym (getD-set-other ends j m end 0 ne))
+          ⊎-elim (λ (b : suc m < j). getD-set-other starts j (suc m) next 0 (old (suc m) b) ∙ w .follows m b ∙ sym (getD-set-other ends j m (r .next) 0 ne))
           (λ (b : j ≤ suc m).
           let e : suc m ≡ j = omega arith in
-          ap (λ (k : ℕ). getD (set starts j next) k 0) e ∙ getD-set-same starts j next 0 a ∙ sym (getD-set-other ends j m end 0 ne ∙ w .last m e))
+          ap (λ (k : ℕ). getD (set starts j next) k 0) e ∙ getD-set-same starts j next 0 a ∙ sym (getD-set-other ends j m (r .next) 0 ne ∙ w .last m e))
           (lt-or-ge (suc m) j)
 
-      last-on : (m : ℕ) → suc m ≡ j + 1 → getD (set ends j end) m 0 ≡ end
+      last-on : (m : ℕ) → suc m ≡ j + 1 → getD (set ends j (r .next)) m 0 ≡ r .next
       last-on m l =
           let e : m ≡ j = omega arith in
           let a : j < length ends = omega (arith, w .ends-long) in
-          ap (λ (k : ℕ). getD (set ends j end) k 0) e ∙ getD-set-same ends j end 0 a
+          ap (λ (k : ℕ). getD (set ends j (r .next)) k 0) e ∙ getD-set-same ends j (r .next) 0 a
 
-      numbers-on : take (j + 1) (set versions j version) ≡ map (λ (y : Snapshot). y .version) (w .xs ++ (x ∷ []))
+      numbers-on : take (j + 1) (set versions j (r .version)) ≡ map (λ (y : Snapshot). y .version) (w .xs ++ (x ∷ []))
       numbers-on =
           let a : j < length versions = omega (arith, w .versions-long) in
-          ap (λ (k : ℕ). take k (set versions j version)) (add-one j)
-          ∙ take-suc-set versions j version a
-          ∙ ap₂ (λ (l : List ℕ) (k : ℕ). l ++ (k ∷ [])) (w .numbers) v
+          ap (λ (k : ℕ). take k (set versions j (r .version))) (add-one j)
+          ∙ take-suc-set versions j (r .version) a
+          ∙ ap₂ (λ (l : List ℕ) (k : ℕ). l ++ (k ∷ [])) (w .numbers) (k .version)
           ∙ sym (map-append (λ (y : Snapshot). y .version) (w .xs) (x ∷ []))
 
-      marks-on : take (j + 1) (set differs j differ) ≡ map differNumber (w .xs ++ (x ∷ []))
+      marks-on : take (j + 1) (set differs j (r .differ)) ≡ map differNumber (w .xs ++ (x ∷ []))
       marks-on =
           let a : j < length differs = omega (arith, w .differs-long) in
-          ap (λ (k : ℕ). take k (set differs j differ)) (add-one j)
-          ∙ take-suc-set differs j differ a
-          ∙ ap₂ (λ (l : List ℕ) (k : ℕ). l ++ (k ∷ [])) (w .marks) d
+          ap (λ (k : ℕ). take k (set differs j (r .differ))) (add-one j)
+          ∙ take-suc-set differs j (r .differ) a
+          ∙ ap₂ (λ (l : List ℕ) (k : ℕ). l ++ (k ∷ [])) (w .marks) (k .differ)
           ∙ sym (map-append differNumber (w .xs) (x ∷ []))
 
       -- the index of the first snapshot is that of the one that is read first
@@ -229,7 +215,7 @@ module _ (p : Parse (List Snapshot)) (s starts ends versions differs : List ℕ)
           subst (λ (k : ℕ). SnapshotIs (drop (getD (set starts j next) k 0) s) (getD (w .xs ++ (x ∷ [])) k noSnapshot) first) e g)
           (lt-or-ge 0 j)
 
-      pub passed-one : (j ≡ 0 → SnapshotIs (drop next s) x first) → Passed p s (set starts j next) (set ends j end) (set versions j version) (set differs j differ) first n end (j + 1)
+      passed-one : (j ≡ 0 → SnapshotIs (drop next s) x first) → Passed p s (set starts j next) (set ends j (r .next)) (set versions j (r .version)) (set differs j (r .differ)) first n (r .next) (j + 1)
       passed-one is = record {
         xs = w .xs ++ (x ∷ []);
         long = length-append (w .xs) (x ∷ []) ∙ ap (λ (m : ℕ). m + 1) (w .long);
@@ -237,48 +223,35 @@ module _ (p : Parse (List Snapshot)) (s starts ends versions differs : List ℕ)
         rest =
             w .rest
             ∙ ap (λ (m : ℕ). prepend (w .xs) (times readSnapshot m (drop next s))) (sym (one-more h))
-            ∙ ap (prepend (w .xs)) (times-step (n - (j + 1)) (drop next s) x (drop end s) (at-next .is))
-            ∙ prepend-one (w .xs) x (times readSnapshot (n - (j + 1)) (drop end s));
-        within = at-next .within;
+            ∙ ap (prepend (w .xs)) (times-step (n - (j + 1)) (drop next s) x (drop (r .next) s) (k .stands .is))
+            ∙ prepend-one (w .xs) x (times readSnapshot (n - (j + 1)) (drop (r .next) s));
+        within = k .stands .within;
         each =
-            below-more (λ (m : ℕ). SnapshotAt s (getD (w .xs ++ (x ∷ [])) m noSnapshot) (getD (set starts j next) m 0) (getD (set ends j end) m 0))
+            below-more (λ (m : ℕ). SnapshotAt s (getD (w .xs ++ (x ∷ [])) m noSnapshot) (getD (set starts j next) m 0) (getD (set ends j (r .next)) m 0))
             j each-old each-last;
         follows = follows-on;
         last = last-on;
         numbers = numbers-on;
         marks = marks-on;
-        front = λ k. front-on is;
+        front = λ l. front-on is;
         starts-long = length-set starts j next ∙ w .starts-long;
-        ends-long = length-set ends j end ∙ w .ends-long;
-        versions-long = length-set versions j version ∙ w .versions-long;
-        differs-long = length-set differs j differ ∙ w .differs-long;
+        ends-long = length-set ends j (r .next) ∙ w .ends-long;
+        versions-long = length-set versions j (r .version) ∙ w .versions-long;
+        differs-long = length-set differs j (r .differ) ∙ w .differs-long;
       }
 
-  module _ (i : SnapshotIndex) (v : SnapshotReads (readSnapshot (drop next s)) (drop next s) i) (h : j < n) where
-    pub passed-bad : i .ok ≡ false → p ≡ fail
-    passed-bad b = passed-stop h (reads-none (readSnapshot (drop next s)) (drop next s) i v b)
+  -- `known` is true only of snapshots that are there
+  module _ (known : Bool) (there : p ≡ fail → known ≡ false) (h : j < n) (r : SnapshotPassed) (says : next ≤ length s → PassedSays known (readSnapshot (drop next s)) s next r) where
+    pub passed-bad : r .ok ≡ false → p ≡ fail
+    passed-bad b = passed-stop h (pass-refused known (readSnapshot (drop next s)) s next r (says (w .within)) b)
 
-    module _ (ok : i .ok ≡ true) where
-      one : SnapshotRead (drop next s) i
-      one = reads-some (readSnapshot (drop next s)) (drop next s) i v ok
-
-      pub next-within : next + i .next ≤ length s
-      next-within = omega (arith, one .is .within, length-drop next s, w .within)
-
-      here : SnapshotAt s (one .what) next (next + i .next)
-      here =
-          let e : next + i .next - next ≡ i .next = omega arith in
-          record {
-            is = one .is .is ∙ ap (got (one .what)) (drop-drop (i .next) next s);
-            bytes = ap (λ (k : ℕ). take k (drop next s)) e ∙ one .is .bytes;
-            order = omega arith;
-            within = next-within;
-          }
-
-      pub passed-more : n ≤ 8 → (j ≡ 0 → i ≡ first) → Passed p s (set starts j next) (set ends j (next + i .next)) (set versions j (i .version .0)) (set differs j (i .differ)) first n (next + i .next) (j + 1)
-      passed-more few same =
-          passed-one h (one .what) (next + i .next) (i .version .0) (i .differ) here (one .is .version) (one .is .differ) few
-          (λ e. subst (SnapshotIs (drop next s) (one .what)) (same e) (one .is))
+    pub passed-more : n ≤ 8 → 1 ≤ j → r .ok ≡ true → Passed p s (set starts j next) (set ends j (r .next)) (set versions j (r .version)) (set differs j (r .differ)) first n (r .next) (j + 1)
+    unfolding PassedSays
+    passed-more few o ok = go (readSnapshot (drop next s)) refl (says (w .within))
+      where
+        go : (q : Parse Snapshot) → readSnapshot (drop next s) ≡ q → PassedSays known q s next r → Passed p s (set starts j next) (set ends j (r .next)) (set versions j (r .version)) (set differs j (r .differ)) first n (r .next) (j + 1)
+        go fail e u = let z : false ≡ true = sym (u (there (passed-stop h e))) ∙ ok in never (cc)
+        go (got x t) e u = passed-one h x r u few (λ z. absurd (omega arith))
 
   module _ (full : n ≤ j) where
     all : p ≡ got (w .xs) (drop next s)
@@ -287,9 +260,9 @@ module _ (p : Parse (List Snapshot)) (s starts ends versions differs : List ℕ)
         let z : n - j ≡ 0 = omega arith in
         w .rest ∙ ap (λ (m : ℕ). prepend (w .xs) (times readSnapshot m (drop next s))) z ∙ ap (λ (l : List Snapshot). got l (drop next s)) (append-nil (w .xs))
 
-    pub passed-all : 1 ≤ j → SnapshotsReads p s (record { ok = true; next = next; starts = starts; ends = ends; versions = versions; differs = differs; first = first })
-    unfolding SnapshotsReads
-    passed-all o =
+    pub passed-all : 1 ≤ j → (known : Bool) → SnapshotsSay known p s (record { ok = true; next = next; starts = starts; ends = ends; versions = versions; differs = differs; first = first })
+    unfolding SnapshotsSay
+    passed-all o known =
         rw all (record {
           right = refl;
           rest = refl;
@@ -308,22 +281,34 @@ pub first-bad : (s : List ℕ) (n at : ℕ) (i : SnapshotIndex) → 1 ≤ n → 
 first-bad s zero at i o v b = absurd (omega arith)
 first-bad s (suc n) at i o v b = times-stop n (drop at s) (reads-none (readSnapshot (drop at s)) (drop at s) i v b)
 
-pub first-within : (s : List ℕ) (at : ℕ) (i : SnapshotIndex) → at ≤ length s → SnapshotReads (readSnapshot (drop at s)) (drop at s) i → i .ok ≡ true → at + i .next ≤ length s
-first-within s at i h v ok = omega (arith, reads-some (readSnapshot (drop at s)) (drop at s) i v ok .is .within, length-drop at s, h)
-
 pub passed-first : (s starts ends versions differs : List ℕ) (i : SnapshotIndex) (n at : ℕ) → at ≤ length s → length starts ≡ 8 → length ends ≡ 8 → length versions ≡ 8 → length differs ≡ 8 → SnapshotReads (readSnapshot (drop at s)) (drop at s) i → 1 ≤ n → i .ok ≡ true → n ≤ 8 → Passed (times readSnapshot n (drop at s)) s (set starts 0 at) (set ends 0 (at + i .next)) (set versions 0 (i .version .0)) (set differs 0 (i .differ)) i n (at + i .next) 1
-passed-first s starts ends versions differs i n at h a b c d v o ok few = passed-more (times readSnapshot n (drop at s)) s starts ends versions differs i n at 0 (passed-none s starts ends versions differs i n at h a b c d) i v o ok few (λ e. refl)
+passed-first s starts ends versions differs i n at h a b c d v o ok few =
+    passed-one (times readSnapshot n (drop at s)) s starts ends versions differs i n at 0 (passed-none s starts ends versions differs i n at h a b c d) o (read-one s at h i v ok .what) (passedAt at i) (read-passed s at h i v ok) few
+    (λ e. read-one s at h i v ok .is)
 
-pub snapshots-none : (p : Parse (List Snapshot)) (s : List ℕ) (r : SnapshotsRead) → p ≡ fail → r .ok ≡ false → SnapshotsReads p s r
-unfolding SnapshotsReads
-snapshots-none p s r e h = rw e h
+pub snapshots-none : (known : Bool) (p : Parse (List Snapshot)) (s : List ℕ) (r : SnapshotsRead) → p ≡ fail → r .ok ≡ false → SnapshotsSay known p s r
+unfolding SnapshotsSay
+snapshots-none known p s r e h = rw e (λ (k : known ≡ false). h)
+
+-- of snapshots that are known to be there and are not, nothing is said
+pub snapshots-there : (known : Bool) (p : Parse (List Snapshot)) (s : List ℕ) (r : SnapshotsRead) → ((p ≡ fail → known ≡ false) → SnapshotsSay known p s r) → SnapshotsSay known p s r
+unfolding SnapshotsSay
+snapshots-there true fail s r f = λ e. never (cc)
+snapshots-there false fail s r f = f (λ e. refl)
+snapshots-there true (got xs t) s r f = f (λ e. fail-got (sym e))
+snapshots-there false (got xs t) s r f = f (λ e. refl)
 
 -- ---- the whole
 
-snapshots-refused : (p : Parse (List Snapshot)) (s : List ℕ) (r : SnapshotsRead) → SnapshotsReads p s r → r .ok ≡ false → p ≡ fail
-unfolding SnapshotsReads
-snapshots-refused fail s r w h = refl
-snapshots-refused (got xs t) s r w h = let z : _≡_ {A = ℕ} 0 1 = cc (w .right) in absurd (omega arith)
+snapshots-refused : (known : Bool) (p : Parse (List Snapshot)) (s : List ℕ) (r : SnapshotsRead) → SnapshotsSay known p s r → r .ok ≡ false → p ≡ fail
+unfolding SnapshotsSay
+snapshots-refused known fail s r w h = refl
+snapshots-refused known (got xs t) s r w h = let z : _≡_ {A = ℕ} 0 1 = cc (w .right) in absurd (omega arith)
+
+snapshots-fail : (known : Bool) (p : Parse (List Snapshot)) (s : List ℕ) (r : SnapshotsRead) → SnapshotsSay known p s r → p ≡ fail → known ≡ false → r .ok ≡ false
+unfolding SnapshotsSay
+snapshots-fail known fail s r w e k = w k
+snapshots-fail known (got xs t) s r w e k = fail-got (sym e)
 
 record Found (p : Parse (List Snapshot)) (s : List ℕ) (r : SnapshotsRead) : Type 0 where
   what : List Snapshot
@@ -333,16 +318,16 @@ record Found (p : Parse (List Snapshot)) (s : List ℕ) (r : SnapshotsRead) : Ty
   differs : take (length what) (r .differs) ≡ map differNumber what
   first : SnapshotIs (drop (getD (r .starts) 0 0) s) (getD what 0 noSnapshot) (r .first)
 
-snapshots-found : (p : Parse (List Snapshot)) (s : List ℕ) (r : SnapshotsRead) → SnapshotsReads p s r → r .ok ≡ true → Found p s r
-unfolding SnapshotsReads
-snapshots-found fail s r w h = let z : _≡_ {A = ℕ} 0 1 = cc in absurd (omega arith)
-snapshots-found (got xs t) s r w h = record { what = xs; is = ap (got xs) (w .rest); within = w .within; are = w .are; differs = w .differs; first = w .first }
+snapshots-found : (known : Bool) (p : Parse (List Snapshot)) (s : List ℕ) (r : SnapshotsRead) → SnapshotsSay known p s r → (p ≡ fail) ⊎ Found p s r
+unfolding SnapshotsSay
+snapshots-found known fail s r w = inl refl
+snapshots-found known (got xs t) s r w = inr (record { what = xs; is = ap (got xs) (w .rest); within = w .within; are = w .are; differs = w .differs; first = w .first })
 
 -- what follows the head
-abbrev pub headed : HeadOf → List Snapshot → Headed
+abbrev headed : HeadOf → List Snapshot → Headed
 headed h ss = record { type = h .type; source = h .source; dossier = record { parents = h .parents; snapshots = ss } }
 
-abbrev pub risen : HeadOf → List Snapshot → Layout Headed
+abbrev risen : HeadOf → List Snapshot → Layout Headed
 risen h ss = foundIf (rising numbers (map (λ (s : Snapshot). s .version) ss)) (headed h ss)
 
 abbrev counted : HeadOf → ℕ → Layout Headed
@@ -370,9 +355,20 @@ head-first s = go (readText s)
     go fail = refl
     go (got type t) = second type (suchThat isSource readText t)
 
-pub dossier-none : (o : Option Headed) (s : List ℕ) (i : DossierIndex) → o ≡ none → i .ok ≡ false → DossierReads o s i
-unfolding DossierReads
-dossier-none o s i e h = rw e h
+pub dossier-none : (known : Bool) (o : Option Headed) (s : List ℕ) (i : DossierIndex) → o ≡ none → (known ≡ false → i .ok ≡ false) → DossierSays known o s i
+unfolding DossierSays
+dossier-none known o s i e h = rw e h
+
+-- where nothing is known of the bytes
+pub dossier-reads : (o : Option Headed) (s : List ℕ) (i : DossierIndex) → DossierSays false o s i → DossierReads o s i
+unfolding DossierSays DossierReads
+dossier-reads none s i w = w refl
+dossier-reads (some h) s i w = w
+
+pub dossier-is : (known : Bool) (o : Option Headed) (s : List ℕ) (i : DossierIndex) → DossierSays known o s i → (h : Headed) → o ≡ some h → DossierIs s h i
+unfolding DossierSays
+dossier-is known none s i w h e = never (cc)
+dossier-is known (some g) s i w h e = let z : g ≡ h = cc in subst (λ (f : Headed). DossierIs s f i) z (w .1)
 
 no-dossier : (s : List ℕ) → readDossier standard s ≡ fail → dossierOf standard s ≡ none
 unfolding dossierOf
@@ -389,23 +385,19 @@ module _ (s : List ℕ) (x : HeadAt) (w : HeadStops (readHead 32 s) s x) where
   no-count e = no-dossier s (head-step ∙ ap (λ (p : Parse ℕ). andThen p (counted (w .what))) e)
 
   module _ (n at : ℕ) (c : Got (suchThat (isWithin 1 8) readNumber (drop (x .parents .end) s)) s (x .parents .end) n at) where
-    pub times-all : readDossier standard s ≡ andThen (times readSnapshot n (drop at s)) (risen (w .what))
+    times-all : readDossier standard s ≡ andThen (times readSnapshot n (drop at s)) (risen (w .what))
     times-all = head-step ∙ ap (λ (p : Parse ℕ). andThen p (counted (w .what))) (c .is)
 
-  module _ (n at : ℕ) (c : Got (suchThat (isWithin 1 8) readNumber (drop (x .parents .end) s)) s (x .parents .end) n at) (r : SnapshotsRead) (v : SnapshotsReads (times readSnapshot n (drop at s)) s r) where
-    pub no-snapshots : r .ok ≡ false → dossierOf standard s ≡ none
-    no-snapshots h = no-dossier s (times-all n at c ∙ rw (snapshots-refused (times readSnapshot n (drop at s)) s r v h))
+    none-there : times readSnapshot n (drop at s) ≡ fail → dossierOf standard s ≡ none
+    none-there e = no-dossier s (times-all ∙ rw e)
 
-    module _ (ok : r .ok ≡ true) where
-      these : Found (times readSnapshot n (drop at s)) s r
-      these = snapshots-found (times readSnapshot n (drop at s)) s r v ok
-
+    module _ (r : SnapshotsRead) (these : Found (times readSnapshot n (drop at s)) s r) where
       last-step : readDossier standard s ≡ risen (w .what) (these .what) (drop (r .next) s)
-      last-step = times-all n at c ∙ rw (these .is)
+      last-step = times-all ∙ rw (these .is)
 
-      pub not-whole : (r .next ≡ length s → ⊥) → dossierOf standard s ≡ none
+      found-more : (r .next ≡ length s → ⊥) → dossierOf standard s ≡ none
       unfolding dossierOf
-      not-whole ne =
+      found-more ne =
           let l : r .next < length s = omega (arith, these .within, ne) in
           ap whole last-step ∙ go (rising numbers (map (λ (s : Snapshot). s .version) (these .what))) (drop-next s (r .next) l)
         where
@@ -419,14 +411,34 @@ module _ (s : List ℕ) (x : HeadAt) (w : HeadStops (readHead 32 s) s x) where
       rises : (b : Bool) → b ≡ rising numbers (take n (r .versions)) → rising numbers (map (λ (s : Snapshot). s .version) (these .what)) ≡ b
       rises b e = ap (rising numbers) (sym (these .are .numbers) ∙ ap (λ (k : ℕ). take k (r .versions)) many) ∙ sym e
 
-      pub not-rising : false ≡ rising numbers (take n (r .versions)) → dossierOf standard s ≡ none
-      not-rising e = no-dossier s (last-step ∙ rw (rises false e))
+      found-mixed : false ≡ rising numbers (take n (r .versions)) → dossierOf standard s ≡ none
+      found-mixed e = no-dossier s (last-step ∙ rw (rises false e))
 
-      pub dossier-found : true ≡ rising numbers (take n (r .versions)) → r .next ≡ length s → DossierReads (dossierOf standard s) s (record { ok = true; head = x; count = n; starts = r .starts; ends = r .ends; versions = r .versions; differs = r .differs; first = r .first })
-      unfolding DossierReads dossierOf
-      dossier-found e z =
+      found-all : (known : Bool) → true ≡ rising numbers (take n (r .versions)) → r .next ≡ length s → DossierSays known (dossierOf standard s) s (record { ok = true; head = x; count = n; starts = r .starts; ends = r .ends; versions = r .versions; differs = r .differs; first = r .first })
+      unfolding DossierSays dossierOf
+      found-all known e z =
           let g : readDossier standard s ≡ got (headed (w .what) (these .what)) [] =
           last-step
           ∙ ap (λ (b : Bool). foundIf b (headed (w .what) (these .what)) (drop (r .next) s)) (rises true e)
           ∙ ap (got (headed (w .what) (these .what))) (ap (λ (k : ℕ). drop k s) z ∙ drop-length s) in
           rw g (refl, record { head = w .stands; count = sym many; one = got-bounds 1 8 c .0; few = got-bounds 1 8 c .1; snapshots = these .are; differs = these .differs; first = these .first })
+
+    module _ (known : Bool) (r : SnapshotsRead) (v : SnapshotsSay known (times readSnapshot n (drop at s)) s r) where
+      either : (times readSnapshot n (drop at s) ≡ fail) ⊎ Found (times readSnapshot n (drop at s)) s r
+      either = snapshots-found known (times readSnapshot n (drop at s)) s r v
+
+      pub no-snapshots : r .ok ≡ false → dossierOf standard s ≡ none
+      no-snapshots h = none-there (snapshots-refused known (times readSnapshot n (drop at s)) s r v h)
+
+      pub not-whole : (r .next ≡ length s → ⊥) → dossierOf standard s ≡ none
+      not-whole ne = ⊎-elim none-there (λ these. found-more r these ne) either
+
+      pub not-rising : false ≡ rising numbers (take n (r .versions)) → dossierOf standard s ≡ none
+      not-rising e = ⊎-elim none-there (λ these. found-mixed r these e) either
+
+      pub dossier-found : r .ok ≡ true → true ≡ rising numbers (take n (r .versions)) → r .next ≡ length s → DossierSays known (dossierOf standard s) s (record { ok = true; head = x; count = n; starts = r .starts; ends = r .ends; versions = r .versions; differs = r .differs; first = r .first })
+      dossier-found ok e z =
+          ⊎-elim
+          (λ f. dossier-none known (dossierOf standard s) s _ (none-there f) (λ k. sym ok ∙ snapshots-fail known (times readSnapshot n (drop at s)) s r v f k))
+          (λ these. found-all r these known e z)
+          either

@@ -2,13 +2,12 @@
 pub mod DossierLayoutLaws
 pub mod DossierSizeLaws
 pub mod SnapshotLaws
+pub mod PassLaws
 pub mod DossierReadLaws
-pub mod KnownLaws
 pub mod CellLaws
 pub mod DigitLaws
 pub mod MatchLaws
 pub mod VersionLaws
-pub mod ValueLaws
 pub mod AskLaws
 pub mod AnswerLaws
 pub mod DossierQuestionLaws

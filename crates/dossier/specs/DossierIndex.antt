@@ -22,9 +22,9 @@ use Rattle.event.specs.declared.sets.SetAt.{SetAt}
 use Rattle.dossier.specs.declared.snapshots.NumbersAt.{NumbersAt}
 use Rattle.dossier.specs.declared.snapshots.NumbersAt.the-variants.{Numbers, NoNumbers}
 use Rattle.dossier.specs.declared.snapshots.SnapshotIndex.{SnapshotIndex}
+use Rattle.dossier.specs.declared.snapshots.SnapshotPassed.{SnapshotPassed}
 use Rattle.dossier.specs.declared.dossiers.SnapshotsRead.{SnapshotsRead}
 use Rattle.dossier.specs.declared.dossiers.DossierIndex.{DossierIndex}
-use Rattle.dossier.specs.declared.known.SnapshotSkipped.{SnapshotSkipped}
 use Rattle.dossier.specs.declared.questions.DossierAsked.{DossierAsked}
 
 -- ---- a snapshot
@@ -71,11 +71,17 @@ pub record SnapshotAt (s : List ℕ) (x : Snapshot) (start end : ℕ) : Type 0 w
   pub order : start ≤ end
   pub within : end ≤ length s
 
--- the snapshot x stands from `start` on, and is skipped over
-pub record SkippedIs (s : List ℕ) (x : Snapshot) (start : ℕ) (r : SnapshotSkipped) : Type 0 where
+-- the snapshot x stands from `start` on, and is passed
+pub record PassedIs (s : List ℕ) (x : Snapshot) (start : ℕ) (r : SnapshotPassed) : Type 0 where
+  pub right : r .ok ≡ true
   pub stands : SnapshotAt s x start (r .next)
   pub version : r .version ≡ x .version
   pub differ : r .differ ≡ bitNumber (map differBit (x .cells))
+
+-- what is answered of the snapshot at `start`; of bytes that are known to be one, nothing is said where they are none
+unfoldable pub PassedSays : Bool → Parse Snapshot → List ℕ → ℕ → SnapshotPassed → Type 0
+PassedSays known fail s start r = known ≡ false → r .ok ≡ false
+PassedSays known (got x t) s start r = PassedIs s x start r
 
 abbrev pub noSnapshot : Snapshot
 noSnapshot = record { version = 0; cells = [] }
@@ -94,9 +100,10 @@ pub record SnapshotsStop (s : List ℕ) (xs : List Snapshot) (t : List ℕ) (r :
   pub differs : take (length xs) (r .differs) ≡ map (λ (x : Snapshot). bitNumber (map differBit (x .cells))) xs
   pub first : SnapshotIs (drop (getD (r .starts) 0 0) s) (getD xs 0 noSnapshot) (r .first)
 
-unfoldable pub SnapshotsReads : Parse (List Snapshot) → List ℕ → SnapshotsRead → Type 0
-SnapshotsReads fail s r = r .ok ≡ false
-SnapshotsReads (got xs t) s r = SnapshotsStop s xs t r
+-- the same of several snapshots
+unfoldable pub SnapshotsSay : Bool → Parse (List Snapshot) → List ℕ → SnapshotsRead → Type 0
+SnapshotsSay known fail s r = known ≡ false → r .ok ≡ false
+SnapshotsSay known (got xs t) s r = SnapshotsStop s xs t r
 
 -- ---- a dossier
 
@@ -113,6 +120,11 @@ pub record DossierIs (s : List ℕ) (h : Headed) (i : DossierIndex) : Type 0 whe
 unfoldable pub DossierReads : Option Headed → List ℕ → DossierIndex → Type 0
 DossierReads none s i = i .ok ≡ false
 DossierReads (some h) s i = (i .ok ≡ true) × DossierIs s h i
+
+-- what is answered of bytes; of those that are known to be a dossier, nothing is said where they are none
+unfoldable pub DossierSays : Bool → Option Headed → List ℕ → DossierIndex → Type 0
+DossierSays known none s i = known ≡ false → i .ok ≡ false
+DossierSays known (some h) s i = (i .ok ≡ true) × DossierIs s h i
 
 -- d is the index of some dossier
 pub record IsDossier (s : List ℕ) (i : DossierIndex) : Type 0 where

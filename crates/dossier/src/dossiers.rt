@@ -1,20 +1,21 @@
 ghost use mathlib.Core.Path.{_≡_};
 ghost use mathlib.Core.Bool.{false};
+ghost use mathlib.Core.Option.{some};
 ghost use Prim.Native.Nat.{_≤_};
 ghost use lib.ListN.{length, take, drop};
 ghost use Rattle.model.specs.Order.{numbers, rising};
 ghost use Rattle.model.specs.Limits.{standard};
 ghost use Rattle.packed.specs.Parse.{times};
-ghost use Rattle.dossier.specs.DossierLayout.{readSnapshot, dossierOf};
-ghost use Rattle.dossier.specs.DossierIndex.{SnapshotsReads, DossierReads};
+ghost use Rattle.dossier.specs.DossierLayout.{Headed, readSnapshot, dossierOf};
+ghost use Rattle.dossier.specs.DossierIndex.{SnapshotsSay, DossierIs, DossierReads, DossierSays};
 use crate::snapshots::SnapshotIndex;
 use crate::snapshots::no_snapshot;
+use crate::snapshots::pass_snapshot;
 use crate::snapshots::read_snapshot;
 use event::read::HeadAt;
 use event::read::HeadRead;
-use event::read::PartAt;
+use event::read::no_head;
 use event::read::read_head;
-use event::sets::SetAt;
 use ontology::fields::read_within;
 use packed::read::NumberAt;
 
@@ -42,10 +43,10 @@ pub struct DossierIndex {
     pub first: SnapshotIndex,
 }
 
-// So many snapshots, from `at` on. The first is read before the others, since its index is kept.
-fn read_snapshots(s: &[u8], at: usize, count: usize) -> SnapshotsRead
+// So many snapshots, from `at` on. Of the first the whole index is kept, so it is read in full, and the others are passed.
+fn read_snapshots(s: &[u8], at: usize, count: usize, known: bool) -> SnapshotsRead
     requires { ⌜ (at ≤ length (now s)) × (1 ≤ count) × (count ≤ 8) ⌝ }
-    ensures { λ r. ⌜ SnapshotsReads (times readSnapshot count (drop at (now (s .entry)))) (now (s .entry)) r ⌝ }
+    ensures { λ r. ⌜ SnapshotsSay known (times readSnapshot count (drop at (now (s .entry)))) (now (s .entry)) r ⌝ }
 {
     let first = read_snapshot(&s[at..]);
     let version = first.version;
@@ -65,15 +66,14 @@ fn read_snapshots(s: &[u8], at: usize, count: usize) -> SnapshotsRead
     r.ends[0] = next;
     let mut j: usize = 1;
     while j < count {
-        let x = read_snapshot(&s[next..]);
+        let x = pass_snapshot(s, next, known);
         if !x.ok {
             return r;
         }
-        let version = x.version;
         r.starts[j] = next;
-        next = next + x.next;
+        next = x.next;
         r.ends[j] = next;
-        r.versions[j] = version.0;
+        r.versions[j] = x.version;
         r.differs[j] = x.differ;
         j += 1;
     }
@@ -96,22 +96,12 @@ fn versions_rise(versions: [u64; 8], count: usize) -> bool
     true
 }
 
-pub fn no_dossier() -> DossierIndex
+fn no_dossier() -> DossierIndex
     ensures { λ r. ⌜ r .ok ≡ false ⌝ }
 {
-    let part = PartAt { start: 0, end: 0 };
-    let set = SetAt {
-        start: 0,
-        end: 0,
-        count: 0,
-    };
     DossierIndex {
         ok: false,
-        head: HeadAt {
-            name: part,
-            source: part,
-            parents: set,
-        },
+        head: no_head(),
         count: 0,
         starts: [0; 8],
         ends: [0; 8],
@@ -121,9 +111,9 @@ pub fn no_dossier() -> DossierIndex
     }
 }
 
-// The index of a dossier that the bytes are, to their exact end.
-pub fn read_dossier(s: &[u8]) -> DossierIndex
-    ensures { λ r. ⌜ DossierReads (dossierOf standard (now (s .entry))) (now (s .entry)) r ⌝ }
+// The index of a dossier that the bytes are, to their exact end. Where they are known to be one, its snapshots but the first are not checked.
+fn index_dossier(s: &[u8], known: bool) -> DossierIndex
+    ensures { λ r. ⌜ DossierSays known (dossierOf standard (now (s .entry))) (now (s .entry)) r ⌝ }
 {
     let HeadRead::Head(head) = read_head(s, 32) else {
         return no_dossier();
@@ -133,7 +123,7 @@ pub fn read_dossier(s: &[u8]) -> DossierIndex
         return no_dossier();
     };
     let count = number as usize;
-    let all = read_snapshots(s, at, count);
+    let all = read_snapshots(s, at, count, known);
     if !all.ok {
         return no_dossier();
     }
@@ -158,4 +148,18 @@ pub fn read_dossier(s: &[u8]) -> DossierIndex
         differs,
         first,
     }
+}
+
+// The index of a dossier that the bytes are.
+pub fn read_dossier(s: &[u8]) -> DossierIndex
+    ensures { λ r. ⌜ DossierReads (dossierOf standard (now (s .entry))) (now (s .entry)) r ⌝ }
+{
+    index_dossier(s, false)
+}
+
+// The index of bytes that are known to be a dossier.
+pub fn read_known(s: &[u8]) -> DossierIndex
+    ensures { λ r. ⌜ ((h : Headed) → dossierOf standard (now (s .entry)) ≡ some h → DossierIs (now (s .entry)) h r) ⌝ }
+{
+    index_dossier(s, true)
 }

@@ -16,16 +16,16 @@ ghost use Rattle.dossier.specs.DossierLayout.{Headed, readSnapshot, doss
 ghost use Rattle.dossier.specs.DossierQuestions.{matchSets, snapshotMatch, dossierShape, eachSnapshot, snapshotValues, dossierAsked, dossiersAgree};
 ghost use Rattle.dossier.specs.DossierIndex.{SnapshotIs, snapshotFits, shapeNumber, IsDossier, DossierIs, DossierReads, DossierAnswers};
 use crate::dossiers::DossierIndex;
+use crate::parts::heads_agree;
 use crate::parts::text_part;
 use crate::shape::is_match_same;
 use crate::shape::snapshot_fits;
 use crate::snapshots::SnapshotIndex;
 use crate::snapshots::read_snapshot;
-use crate::spaces::sets_in_space;
 use event::sets::SetAt;
+use event::spaces::sets_in_space;
 use ontology::tables::TableRead;
 use ontology::types::TypeIndex;
-use packed::order::same;
 
 // The number of the first question of 5 and 6 that the snapshot at the front of b, whose index is y, is refused by, or 0. The sets x of the bytes a are
 // those of the first snapshot, which all have the match sets of.
@@ -148,10 +148,7 @@ pub fn dossiers_agree(a: &[u8], d: DossierIndex, b: &[u8], e: DossierIndex, t: T
 {
     let x = d.head;
     let y = e.head;
-    if !same(text_part(a, x.name), text_part(b, y.name)) {
-        return false;
-    }
-    if !same(text_part(a, x.source), text_part(b, y.source)) {
+    if !heads_agree(a, x, b, y) {
         return false;
     }
     let left = d.starts[0];

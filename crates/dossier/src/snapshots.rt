@@ -1,12 +1,16 @@
 ghost use mathlib.Core.Path.{_≡_};
 ghost use mathlib.Core.Bool.{false};
 ghost use mathlib.Core.List.{List};
-ghost use Prim.Native.Nat.{ℕ};
+ghost use Prim.Native.Nat.{ℕ, _≤_};
+ghost use lib.ListN.{length, drop};
 ghost use Rattle.model.specs.Order.{Text};
+ghost use Rattle.model.specs.Rule.{Snapshot};
+ghost use Rattle.packed.specs.Parse.{got};
 ghost use Rattle.event.specs.Event.{objectCount};
 ghost use Rattle.event.specs.EventIndex.{SetsAre};
 ghost use Rattle.dossier.specs.DossierLayout.{apart, areSmall, readSnapshot};
-ghost use Rattle.dossier.specs.DossierIndex.{NumbersRead, SnapshotReads};
+ghost use Rattle.dossier.specs.DossierIndex.{NumbersRead, SnapshotReads, PassedIs, PassedSays};
+use event::lookup::skip_sets;
 use event::sets::SetAt;
 use event::sets::read_sets;
 use packed::read::NumberAt;
@@ -23,6 +27,14 @@ pub struct SnapshotIndex {
     pub first: usize,
     pub objects: usize,
     pub sets: [SetAt; 32],
+}
+
+// Whether a snapshot stands at a place, its version and differ number, and the position after it.
+pub struct SnapshotPassed {
+    pub ok: bool,
+    pub version: u64,
+    pub differ: u64,
+    pub next: usize,
 }
 
 // The numbers that a snapshot begins with, and the position after them.
@@ -152,5 +164,59 @@ pub fn read_snapshot(s: &[u8]) -> SnapshotIndex
         first,
         objects: found.objects,
         sets,
+    }
+}
+
+// The snapshot that is known to stand at `at`. Its values are not compared.
+fn skip_snapshot(s: &[u8], at: usize) -> SnapshotPassed
+    ensures { λ r. ⌜ ((x : Snapshot) (t : List ℕ) → at ≤ length (now (s .entry)) → readSnapshot (drop at (now (s .entry))) ≡ got x t → PassedIs (now (s .entry)) x at r) ⌝ }
+{
+    let none = SnapshotPassed {
+        ok: false,
+        version: 0,
+        differ: 0,
+        next: at,
+    };
+    let NumberAt::Number(version, second) = read_number(s, at) else {
+        return none;
+    };
+    let NumberAt::Number(presence, third) = read_number(s, second) else {
+        return none;
+    };
+    let NumberAt::Number(differ, first) = read_number(s, third) else {
+        return none;
+    };
+    let sets = u32::count_ones((presence % 4294967296) as u32);
+    SnapshotPassed {
+        ok: true,
+        version,
+        differ,
+        next: skip_sets(s, first, sets),
+    }
+}
+
+// The snapshot at `at`, which is skipped over where it is known to stand there, and otherwise read.
+pub fn pass_snapshot(s: &[u8], at: usize, known: bool) -> SnapshotPassed
+    requires { ⌜ (known ≡ false → at ≤ length (now s)) ⌝ }
+    ensures { λ r. ⌜ (at ≤ length (now (s .entry)) → PassedSays known (readSnapshot (drop at (now (s .entry)))) (now (s .entry)) at r) ⌝ }
+{
+    if known {
+        return skip_snapshot(s, at);
+    }
+    let x = read_snapshot(&s[at..]);
+    let version = x.version;
+    if x.ok {
+        return SnapshotPassed {
+            ok: true,
+            version: version.0,
+            differ: x.differ,
+            next: at + x.next,
+        };
+    }
+    SnapshotPassed {
+        ok: false,
+        version: 0,
+        differ: 0,
+        next: at,
     }
 }

@@ -27,7 +27,7 @@ use Rattle.event.proofs.LookupLaws.{text-there, text-next}
 use Rattle.event.proofs.ShapeLaws.{place-said, each-step}
 
 -- the kind that an index has the numbers of
-pub kind-of : (k : Kind) (kind first second third : ℕ) → KindIs k kind first second third → kindOf kind first second third ≡ some k
+kind-of : (k : Kind) (kind first second third : ℕ) → KindIs k kind first second third → kindOf kind first second third ≡ some k
 kind-of k kind first second third w = rw (w .number, w .one, w .two, w .three) (kind-numbered k)
 
 -- ---- texts
@@ -96,7 +96,7 @@ pub place-space :
 place-space table y x d k vs r w n h f = place-said table y x d k true (λ q. areInSpace (q .kind) vs) r w h (λ q e z. f (q .kind) (kind-of (q .kind) _ _ _ _ (z .kind)) (n k q e))
 
 -- where there is no property, nothing is asked
-pub free : (f : Property → List Text → Bool) (ss : List (List Text)) → eachPlace f (λ s. true) [] ss ≡ true
+free : (f : Property → List Text → Bool) (ss : List (List Text)) → eachPlace f (λ s. true) [] ss ≡ true
 unfolding eachPlace
 free f [] = refl
 free f (s ∷ ss) = free f ss

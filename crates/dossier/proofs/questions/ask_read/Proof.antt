@@ -9,7 +9,7 @@ use Rattle.dossier.proofs.questions.ask_read.Reads as reads
 use Rattle.dossier.proofs.questions.ask_read.Lts as lts
 use Rattle.dossier.proofs.shape.is_match_same.Reads as is-match-same-reads
 use Rattle.dossier.proofs.shape.snapshot_fits.Reads as snapshot-fits-reads
-use Rattle.dossier.proofs.spaces.sets_in_space.Reads as sets-in-space-reads
+use Rattle.event.proofs.spaces.sets_in_space.Reads as sets-in-space-reads
 
 -- src/questions.rt:36:9
 snapshot-fits-requires : tie.Need-snapshot-fits-requires

@@ -2,9 +2,9 @@ use borrow.Author.Needs.{needs}
 use mathlib.Core.Path.{refl, sym, _∙_}
 use native.Mathlib.Omega.{arith}
 use Rattle.packed.proofs.ReadLaws.{number-stops, number-none}
-use Rattle.dossier.proofs.KnownLaws.{skip-no-version, skip-no-presence, skip-no-differ, skip-all}
-use Rattle.dossier.proofs.known.skip_snapshot.Statement.{statement}
-use Rattle.dossier.proofs.known.skip_snapshot.Tie as tie
+use Rattle.dossier.proofs.PassLaws.{skip-no-version, skip-no-presence, skip-no-differ, skip-all}
+use Rattle.dossier.proofs.snapshots.skip_snapshot.Statement.{statement}
+use Rattle.dossier.proofs.snapshots.skip_snapshot.Tie as tie
 
 read-number-requires : tie.Need-read-number-requires
 read-number-requires c κs = search needs
