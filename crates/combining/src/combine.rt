@@ -9,7 +9,7 @@ use crate::limits::limits_fit;
 use crate::write::write_combined;
 use dossier::dossiers::DossierIndex;
 use dossier::dossiers::read_dossier;
-use dossier::known::read_known;
+use dossier::dossiers::read_known;
 use dossier::questions::ask_dossier;
 use dossier::questions::dossiers_agree;
 use dossier::questions::type_name;

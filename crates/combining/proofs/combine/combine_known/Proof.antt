@@ -5,7 +5,7 @@ use Rattle.combining.proofs.combine.combine_known.Tie as tie
 use Rattle.combining.proofs.combine.combine_known.Reads as reads
 use Rattle.combining.proofs.combine.combine_known.Lts as lts
 use Rattle.combining.proofs.combine.combine_read.Reads as combine-read-reads
-use Rattle.dossier.proofs.known.read_known.Reads as read-known-reads
+use Rattle.dossier.proofs.dossiers.read_known.Reads as read-known-reads
 
 read-known-requires : tie.Need-read-known-requires
 read-known-requires c κs = search needs

@@ -5,38 +5,26 @@ use Rattle.dossier.specs.DossierIndex.{snapshotFits}
 use Rattle.dossier.proofs.AskLaws.{number-shape, number-match, number-all, number-values}
 use Rattle.dossier.proofs.questions.ask_read.Statement.{statement}
 use Rattle.dossier.proofs.questions.ask_read.Tie as tie
-use Rattle.dossier.proofs.questions.ask_read.Reads as reads
-use Rattle.dossier.proofs.questions.ask_read.Lts as lts
-use Rattle.dossier.proofs.shape.is_match_same.Reads as is-match-same-reads
-use Rattle.dossier.proofs.shape.snapshot_fits.Reads as snapshot-fits-reads
-use Rattle.event.proofs.spaces.sets_in_space.Reads as sets-in-space-reads
 
--- src/questions.rt:36:9
 snapshot-fits-requires : tie.Need-snapshot-fits-requires
 snapshot-fits-requires c κs = search needs
 
--- src/questions.rt:37:9
 returns : tie.Need-returns
 returns c = λ u ty xs y w g x i. number-shape _ _ _ (c .before .snapshot-fits .ensures u ty y w i) (not-true _ (c .if1 .taken))
 
--- src/questions.rt:40:9
 is-match-same-requires : tie.Need-is-match-same-requires
 is-match-same-requires c κs = search needs
 
--- src/questions.rt:41:9
 returns-2 : tie.Need-returns-2
 returns-2 c = λ u ty xs y w g x i. number-match (snapshotFits ty y) _ (snapshotValues ty y) (c .before .is-match-same .ensures u ty xs _ w x (i .sets)) (not-true _ (c .if2 .taken))
 
--- src/questions.rt:43:8
 sets-in-space-requires : tie.Need-sets-in-space-requires
 sets-in-space-requires c κs = search needs
 
--- src/questions.rt:32:1
 returns-3 : tie.Need-returns-3
 unfolding snapshotValues
 returns-3 c = λ u ty xs y w g x i. number-all _ _ _ (c .before .before .before .before .before .before .snapshot-fits .ensures u ty y w i) (not-false _ (c .before .before .before .before .before .if1 .left)) (c .before .before .before .is-match-same .ensures u ty xs _ w x (i .sets)) (not-false _ (c .before .before .if2 .left)) (c .before .sets-in-space .ensures u ty _ w g (i .sets)) (c .if3 .taken)
 
--- src/questions.rt:32:1
 returns-4 : tie.Need-returns-4
 unfolding snapshotValues
 returns-4 c = λ u ty xs y w g x i. number-values _ _ _ (c .before .before .before .before .before .before .snapshot-fits .ensures u ty y w i) (not-false _ (c .before .before .before .before .before .if1 .left)) (c .before .before .before .is-match-same .ensures u ty xs _ w x (i .sets)) (not-false _ (c .before .before .if2 .left)) (c .before .sets-in-space .ensures u ty _ w g (i .sets)) (c .if3 .left)
