@@ -11,33 +11,26 @@ use Rattle.combining.proofs.check.version_of.Reads as version-of-reads
 use Rattle.combining.proofs.check.write_lone.Reads as write-lone-reads
 use Rattle.event.proofs.ask.ask_event.Reads as ask-event-reads
 
--- src/check.rt:70:9
 returns : tie.Need-returns
 returns c = check-small _ _ _ (c .if1 .taken)
 
--- src/check.rt:72:9
 ask-event-requires : tie.Need-ask-event-requires
 ask-event-requires c κs = search needs
 
--- src/check.rt:74:9
 returns-2 : tie.Need-returns-2
 returns-2 c = check-refused _ _ _ _ (omega (arith, c .before .before .before .if1 .left)) (refused-is narrow _ _ _ (c .before .before .ask-event .ensures) (c .if2 .taken))
 
--- src/check.rt:78:9
 version-of-requires : tie.Need-version-of-requires
 version-of-requires c κs = checkable _ _ _ (accepted-is narrow _ _ _ (c .before .before .before .before .ask-event .ensures) (c .before .before .if2 .left))
 
--- src/check.rt:79:17
 write-lone-requires : tie.Need-write-lone-requires
 write-lone-requires c κs =
     let a = accepted-is narrow _ _ _ (c .before .before .before .before .before .before .ask-event .ensures) (c .before .before .before .before .if2 .left) in
     lone-room _ _ _ a _ _ (c .before .version-of .ensures (checkable _ _ _ a)) (omega (arith, c .before .before .before .before .before .before .before .if1 .left))
 
--- src/check.rt:66:1
 same-length : tie.Need-same-length
 same-length c = search needs
 
--- src/check.rt:66:1
 returns-3 : tie.Need-returns-3
 returns-3 c =
     let a = accepted-is narrow _ _ _ (c .before .before .before .before .before .before .before .before .before .ask-event .ensures) (c .before .before .before .before .before .before .before .if2 .left) in

@@ -8,25 +8,20 @@ use Rattle.combining.proofs.check.version_of.Reads as version-of-reads
 use Rattle.combining.proofs.check.write_lone.Reads as write-lone-reads
 use Rattle.event.proofs.read.read_event.Reads as read-event-reads
 
--- src/check.rt:88:9
 read-event-requires : tie.Need-read-event-requires
 read-event-requires c κs = search needs
 
--- src/check.rt:89:9
 version-of-requires : tie.Need-version-of-requires
 version-of-requires c κs = checkable _ _ _ (known-accepted _ _ _ (c .before .before .before .before .pre .0) _ (c .read-event .ensures))
 
--- src/check.rt:90:17
 write-lone-requires : tie.Need-write-lone-requires
 write-lone-requires c κs =
     let a = known-accepted _ _ _ (c .before .before .before .before .before .before .pre .0) _ (c .before .before .read-event .ensures) in
     lone-room _ _ _ a _ _ (c .before .version-of .ensures (checkable _ _ _ a)) (c .before .before .before .before .before .before .pre .1)
 
--- src/check.rt:84:1
 same-length : tie.Need-same-length
 same-length c = search needs
 
--- src/check.rt:84:1
 returns : tie.Need-returns
 returns c =
     let a = known-accepted _ _ _ (c .before .before .before .before .before .before .before .before .before .pre .0) _ (c .before .before .before .before .before .read-event .ensures) in

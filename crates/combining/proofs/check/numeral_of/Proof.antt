@@ -14,43 +14,33 @@ Inv-loop v n₀ i₀ n i = Counted v n i
 abbrev μ-loop : tie.MeasureT-loop
 μ-loop v n₀ i₀ n i = length v - i
 
--- src/check.rt:29:5
 loop-holds : tie.Need-loop-holds Inv-loop μ-loop
 loop-holds c = counted-none _
 
--- src/check.rt:30:17
 shared-slice-read-b : tie.Need-shared-slice-read-b Inv-loop μ-loop
 shared-slice-read-b c = search needs
 
--- src/check.rt:31:13
 mul-n : tie.Need-mul-n Inv-loop μ-loop
 mul-n c = let l = c .before .before in omega (arith, counted-small (l .before .args .v .now) (l .loop .n) (l .loop .i) (l .loop .inv) (c .before .loop-test .taken) (l .before .pre .1))
 
--- src/check.rt:31:23
 cast-n : tie.Need-cast-n Inv-loop μ-loop
 cast-n c = omega (arith, c .shared-slice-known .given (c .before .before .loop .i))
 
--- src/check.rt:31:23
 sub-n : tie.Need-sub-n Inv-loop μ-loop
 sub-n c = let l = c .before .before in counted-digit (l .before .args .v .now) (l .loop .n) (l .loop .i) (l .loop .inv) (l .before .pre .0) (c .before .loop-test .taken)
 
--- src/check.rt:31:13
 add-n : tie.Need-add-n Inv-loop μ-loop
 add-n c = let l = c .before .before in omega (arith, counted-small (l .before .args .v .now) (l .loop .n) (l .loop .i) (l .loop .inv) (c .before .loop-test .taken) (l .before .pre .1))
 
--- src/check.rt:32:9
 add-i : tie.Need-add-i Inv-loop μ-loop
 add-i c = search needs
 
--- src/check.rt:29:5
 loop-less : tie.Need-loop-less Inv-loop μ-loop
 loop-less c = search needs
 
--- src/check.rt:29:5
 loop-again : tie.Need-loop-again Inv-loop μ-loop
 loop-again c = let l = c .before .before in counted-more (l .before .args .v .now) (l .loop .n) (l .loop .i) (l .loop .inv) (c .before .loop-test .taken)
 
--- src/check.rt:23:1
 returns : tie.Need-returns Inv-loop μ-loop
 returns c = let l = c .before in counted-all (l .before .args .v .now) (l .loop .n) (l .loop .i) (l .loop .inv) (omega arith)
 

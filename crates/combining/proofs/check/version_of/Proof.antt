@@ -12,38 +12,30 @@ use Rattle.combining.proofs.check.numeral_of.Reads as numeral-of-reads
 use Rattle.event.proofs.sets.set_part.Reads as set-part-reads
 use Rattle.event.proofs.sets.value_in.Reads as value-in-reads
 
--- src/check.rt:44:9
 returns : tie.Need-returns
 returns c = λ h. no-version _ _ _ _ h (c .if1 .taken)
 
--- src/check.rt:46:20
 sub-x : tie.Need-sub-x
 sub-x c = mark-low _ _ _ _ (c .before .before .before .pre) (c .if1 .left) .0
 
--- src/check.rt:46:13
 mul-x : tie.Need-mul-x
 mul-x c = omega (arith, mark-low _ _ _ _ (c .before .before .before .pre) (c .if1 .left) .0, mark-low _ _ _ _ (c .before .before .before .pre) (c .if1 .left) .1)
 
--- src/check.rt:46:13
 element-copy-out-x : tie.Need-element-copy-out-x
 element-copy-out-x c = omega (arith, mark-low _ _ _ _ (c .before .before .before .pre) (c .if1 .left) .0, mark-low _ _ _ _ (c .before .before .before .pre) (c .if1 .left) .1)
 
--- src/check.rt:47:25
 set-part-requires : tie.Need-set-part-requires
 set-part-requires c κs = search needs
 
--- src/check.rt:47:16
 value-in-requires : tie.Need-value-in-requires
 value-in-requires c κs = search needs
 
--- src/check.rt:47:5
 numeral-of-requires : tie.Need-numeral-of-requires
 numeral-of-requires c κs =
     let h = c .before .before .before .before .before .before .pre in
     let n = c .before .before .before .if1 .left in
     version-digits _ _ _ _ h _ n (c .value-in .ensures (setAt (h .event) (c .before .before .before .before .before .before .args .t .mark - 1)) (c .before .set-part .ensures _ (marked-set _ _ _ _ h n)))
 
--- src/check.rt:38:1
 returns-2 : tie.Need-returns-2
 returns-2 c =
     let n = c .before .before .before .before .if1 .left in

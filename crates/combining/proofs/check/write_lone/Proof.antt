@@ -12,26 +12,21 @@ use Rattle.packed.proofs.write.copy_part.Reads as copy-part-reads
 use Rattle.packed.proofs.write.number_size.Reads as number-size-reads
 use Rattle.packed.proofs.write.write_number.Reads as write-number-reads
 
--- src/check.rt:57:44
 number-size-requires : tie.Need-number-size-requires
 number-size-requires c κs = search needs
 
--- src/check.rt:57:36
 sub-copy-part : tie.Need-sub-copy-part
 sub-copy-part c = let p = c .before .before .before .pre in omega (arith, head-length _ _ _ (p .read), c .number-size .ensures)
 
--- src/check.rt:57:9
 copy-part-requires : tie.Need-copy-part-requires
 copy-part-requires c κs = let p = c .before .before .before .before .pre in head-there _ _ _ (p .read) _ (c .before .number-size .ensures) _ _ (p .room)
 
--- src/check.rt:58:9
 write-number-requires : tie.Need-write-number-requires
 write-number-requires c κs =
     let p = c .before .before .before .before .before .before .before .before .pre in
     let w0 = c .before .before .before .copy-part .ensures in
     omega (arith, p .room, lone-length _ _ _ (p .read) (c .before .before .before .before .before .before .before .before .args .version), ap length (head-is _ _ _ (p .read) _ (c .before .before .before .before .before .number-size .ensures)), w0 .after, wrote-length w0)
 
--- src/check.rt:59:9
 write-number-requires-2 : tie.Need-write-number-requires-2
 write-number-requires-2 c κs =
     let p = c .before .before .before .before .before .before .before .before .before .before .before .before .pre in
@@ -39,7 +34,6 @@ write-number-requires-2 c κs =
     let w0 = c .before .before .before .before .before .before .before .copy-part .ensures in
     omega (arith, p .room, lone-length _ _ _ (p .read) (c .before .before .before .before .before .before .before .before .before .before .before .before .args .version), ap length (head-is _ _ _ (p .read) _ (c .before .before .before .before .before .before .before .before .before .number-size .ensures)), w0 .after, wrote-length w0, w1 .after, wrote-length w1)
 
--- src/check.rt:60:9
 write-number-requires-3 : tie.Need-write-number-requires-3
 write-number-requires-3 c κs =
     let p = c .before .before .before .before .before .before .before .before .before .before .before .before .before .before .before .before .pre in
@@ -48,7 +42,6 @@ write-number-requires-3 c κs =
     let w0 = c .before .before .before .before .before .before .before .before .before .before .before .copy-part .ensures in
     omega (arith, p .room, lone-length _ _ _ (p .read) (c .before .before .before .before .before .before .before .before .before .before .before .before .before .before .before .before .args .version), ap length (head-is _ _ _ (p .read) _ (c .before .before .before .before .before .before .before .before .before .before .before .before .before .number-size .ensures)), w0 .after, wrote-length w0, w1 .after, wrote-length w1, w2 .after, wrote-length w2)
 
--- src/check.rt:61:9
 write-number-requires-4 : tie.Need-write-number-requires-4
 write-number-requires-4 c κs =
     let p = c .before .before .before .before .before .before .before .before .before .before .before .before .before .before .before .before .before .before .before .before .pre in
@@ -58,7 +51,6 @@ write-number-requires-4 c κs =
     let w0 = c .before .before .before .before .before .before .before .before .before .before .before .before .before .before .before .copy-part .ensures in
     omega (arith, p .room, lone-length _ _ _ (p .read) (c .before .before .before .before .before .before .before .before .before .before .before .before .before .before .before .before .before .before .before .before .args .version), ap length (head-is _ _ _ (p .read) _ (c .before .before .before .before .before .before .before .before .before .before .before .before .before .before .before .before .before .number-size .ensures)), w0 .after, wrote-length w0, w1 .after, wrote-length w1, w2 .after, wrote-length w2, w3 .after, wrote-length w3)
 
--- src/check.rt:62:5
 copy-part-requires-2 : tie.Need-copy-part-requires-2
 copy-part-requires-2 c κs =
     let p = c .before .before .before .before .before .before .before .before .before .before .before .before .before .before .before .before .before .before .before .before .before .before .before .before .pre in
@@ -69,11 +61,9 @@ copy-part-requires-2 c κs =
     let w0 = c .before .before .before .before .before .before .before .before .before .before .before .before .before .before .before .before .before .before .before .copy-part .ensures in
     (p .read .within, omega arith, omega (arith, p .room, lone-length _ _ _ (p .read) (c .before .before .before .before .before .before .before .before .before .before .before .before .before .before .before .before .before .before .before .before .before .before .before .before .args .version), ap length (head-is _ _ _ (p .read) _ (c .before .before .before .before .before .before .before .before .before .before .before .before .before .before .before .before .before .before .before .before .before .number-size .ensures)), w0 .after, wrote-length w0, w1 .after, wrote-length w1, w2 .after, wrote-length w2, w3 .after, wrote-length w3, w4 .after, wrote-length w4, ap length (sets-part _ _ _ (p .read))))
 
--- src/check.rt:51:1
 same-length : tie.Need-same-length
 same-length c = search needs
 
--- src/check.rt:51:1
 returns : tie.Need-returns
 returns c = λ h r. wrote-lone _ _ h r _ (c .before .before .before .before .before .before .before .before .before .before .before .before .before .before .before .before .before .before .before .before .before .before .before .before .number-size .ensures) _ (c .before .before .before .before .before .before .before .before .before .before .before .before .before .before .before .before .before .before .before .before .before .before .copy-part .ensures) (c .before .before .before .before .before .before .before .before .before .before .before .before .before .before .before .before .before .before .write-number .ensures) (c .before .before .before .before .before .before .before .before .before .before .before .before .before .before .write-number2 .ensures) (c .before .before .before .before .before .before .before .before .before .before .write-number3 .ensures) (c .before .before .before .before .before .before .write-number4 .ensures) (c .before .before .copy-part2 .ensures)
 

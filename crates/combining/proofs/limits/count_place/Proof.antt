@@ -9,31 +9,24 @@ use Rattle.combining.proofs.limits.is_extreme.Reads as is-extreme-reads
 use Rattle.event.proofs.sets.set_part.Reads as set-part-reads
 use Rattle.unions.proofs.pair.count_union.Reads as count-union-reads
 
--- src/limits.rt:83:8
 is-extreme-requires : tie.Need-is-extreme-requires
 is-extreme-requires c κs = search needs
 
--- src/limits.rt:85:13
 returns : tie.Need-returns
 returns c = let d = c .before .before .before in let k = d .before .before .before .args .k in λ u ty xs ys w v z p q l. let e = sym (d .is-extreme .ensures u ty w) ∙ c .before .before .if1 .taken in count-right ty k xs ys e _ (sym (v .count) ∙ c .if2 .taken) (z .count) (l e .1)
 
--- src/limits.rt:87:9
 returns-2 : tie.Need-returns-2
 returns-2 c = let d = c .before .before .before in let k = d .before .before .before .args .k in λ u ty xs ys w v z p q l. count-one ty k xs ys (sym (d .is-extreme .ensures u ty w) ∙ c .before .before .if1 .taken) (λ e. c .if2 .left (v .count ∙ e))
 
--- src/limits.rt:89:17
 set-part-requires : tie.Need-set-part-requires
 set-part-requires c κs = search needs
 
--- src/limits.rt:89:33
 set-part-requires-2 : tie.Need-set-part-requires-2
 set-part-requires-2 c κs = search needs
 
--- src/limits.rt:89:5
 count-union-requires : tie.Need-count-union-requires
 count-union-requires c κs = search needs
 
--- src/limits.rt:79:1
 returns-3 : tie.Need-returns-3
 returns-3 c = let d = c .before .before .before .before in let k = d .before .before .before .args .k in λ u ty xs ys w v z p q l. c .count-union .ensures xs ys (c .before .before .set-part .ensures xs v) (c .before .set-part2 .ensures ys z) p q ∙ count-every ty k xs ys (sym (d .is-extreme .ensures u ty w) ∙ c .before .before .before .if1 .left)
 

@@ -24,43 +24,33 @@ long c = (search needs, search needs)
 within : (c : tie.At-loop Inv-loop μ-loop) → (c .loop .i ≤ c .before .args .m) × (c .loop .j ≤ c .before .args .n) × (c .loop .count ≤ c .loop .i + c .loop .j)
 within c = let a = c .before .args in counted-within (a .m) (a .n) (a .t1) (a .t3) (long (c .before)) (c .before .pre) (c .loop .i) (c .loop .j) (c .loop .count) (c .loop .inv)
 
--- src/limits.rt:49:5
 loop-holds : tie.Need-loop-holds Inv-loop μ-loop
 loop-holds c = let a = c .args in versions-none (take (a .m) (a .t1)) (take (a .n) (a .t3))
 
--- src/limits.rt:51:29
 sub-result : tie.Need-sub-result Inv-loop μ-loop
 sub-result c = within (c .before .before) .0
 
--- src/limits.rt:51:20
 add-result : tie.Need-add-result Inv-loop μ-loop
 add-result c = let l = c .before .before in omega (arith, within l, l .before .pre)
 
--- src/limits.rt:51:13
 returns : tie.Need-returns Inv-loop μ-loop
 returns c = let l = c .before .before in let a = l .before .args in counted-left (a .m) (a .n) (a .t1) (a .t3) (long (l .before)) (l .before .pre) (l .loop .i) (l .loop .j) (l .loop .count) (l .loop .inv) (c .if1 .taken)
 
--- src/limits.rt:53:17
 mul-a : tie.Need-mul-a Inv-loop μ-loop
 mul-a c = search needs
 
--- src/limits.rt:53:17
 array-read-a : tie.Need-array-read-a Inv-loop μ-loop
 array-read-a c = search needs
 
--- src/limits.rt:54:17
 mul-b : tie.Need-mul-b Inv-loop μ-loop
 mul-b c = search needs
 
--- src/limits.rt:54:17
 array-read-b : tie.Need-array-read-b Inv-loop μ-loop
 array-read-b c = search needs
 
--- src/limits.rt:56:13
 add-i : tie.Need-add-i Inv-loop μ-loop
 add-i c = search needs
 
--- src/limits.rt:59:13
 add-j : tie.Need-add-j Inv-loop μ-loop
 add-j c = search needs
 
@@ -71,27 +61,21 @@ left-passed c = ⊎-elim (λ w. inl (w .0 .taken, w .1)) (λ w. inr (w .0 .left,
 right-passed : (c : tie.Joined3 Inv-loop μ-loop) → let l = c .before .before .before .before in let a = l .before .args in Passed (getD (a .t3) (l .loop .j) 0) (getD (a .t1) (l .loop .i) 0) (l .loop .j) (c .if3 .j)
 right-passed c = ⊎-elim (λ w. inl (w .0 .taken, w .1)) (λ w. inr (w .0 .left, w .1)) (c .if3 .came)
 
--- src/limits.rt:61:9
 add-count : tie.Need-add-count Inv-loop μ-loop
 add-count c = let l = c .before .before .before .before in omega (arith, within l, l .before .pre)
 
--- src/limits.rt:49:5
 loop-less : tie.Need-loop-less Inv-loop μ-loop
 loop-less c = let l = c .before .before .before .before in let a = l .before .args in omega (arith, within l, c .before .before .before .loop-test .taken, c .before .before .if1 .left, counted-passed (a .m) (a .n) (a .t1) (a .t3) (long (l .before)) (l .before .pre) (l .loop .i) (l .loop .j) (l .loop .count) (l .loop .inv) (c .before .before .before .loop-test .taken) (c .before .before .if1 .left) (c .before .if2 .i) (c .if3 .j) (left-passed c) (right-passed c))
 
--- src/limits.rt:49:5
 loop-again : tie.Need-loop-again Inv-loop μ-loop
 loop-again c = let l = c .before .before .before .before in let a = l .before .args in counted-more (a .m) (a .n) (a .t1) (a .t3) (long (l .before)) (l .before .pre) (l .loop .i) (l .loop .j) (l .loop .count) (l .loop .inv) (c .before .before .before .loop-test .taken) (c .before .before .if1 .left) (c .before .if2 .i) (c .if3 .j) (left-passed c) (right-passed c)
 
--- src/limits.rt:63:14
 sub-result-2 : tie.Need-sub-result-2 Inv-loop μ-loop
 sub-result-2 c = within (c .before) .1
 
--- src/limits.rt:63:5
 add-result-2 : tie.Need-add-result-2 Inv-loop μ-loop
 add-result-2 c = let l = c .before in omega (arith, within l, l .before .pre)
 
--- src/limits.rt:42:1
 returns-2 : tie.Need-returns-2 Inv-loop μ-loop
 returns-2 c = let l = c .before in let a = l .before .args in counted-right (a .m) (a .n) (a .t1) (a .t3) (long (l .before)) (l .before .pre) (l .loop .i) (l .loop .j) (l .loop .count) (l .loop .inv) (c .loop-test .left)
 

@@ -5,23 +5,18 @@ use Rattle.combining.proofs.limits.is_extreme.Tie as tie
 use Rattle.combining.proofs.limits.is_extreme.Reads as reads
 use Rattle.combining.proofs.limits.is_extreme.Lts as lts
 
--- src/limits.rt:72:9
 returns : tie.Need-returns
 returns c = λ u ty w. extreme-past u ty (c .before .args .t1) (c .before .args .k) w (c .if1 .taken)
 
--- src/limits.rt:74:13
 mul-p : tie.Need-mul-p
 mul-p c = search needs
 
--- src/limits.rt:74:13
 element-copy-out-p : tie.Need-element-copy-out-p
 element-copy-out-p c = search needs
 
--- src/limits.rt:67:1
 returns-2 : tie.Need-returns-2
 returns-2 c = let b = c .before .before .before in λ u ty w. extreme-min u ty (b .before .args .t1) (b .before .args .k) w _ (b .if1 .left) (c .if2 .taken)
 
--- src/limits.rt:67:1
 returns-3 : tie.Need-returns-3
 returns-3 c = let b = c .before .before .before .before in λ u ty w. extreme-max u ty (b .before .args .t1) (b .before .args .k) w _ (b .if1 .left) (c .before .if2 .left)
 

@@ -3,11 +3,9 @@ use Rattle.combining.proofs.MergedLaws.{step-on, step-none}
 use Rattle.combining.proofs.write.step_by.Statement.{statement}
 use Rattle.combining.proofs.write.step_by.Tie as tie
 
--- src/write.rt:94:1
 returns : tie.Need-returns
 returns c = sym (step-on _ _ (c .if1 .taken))
 
--- src/write.rt:94:1
 returns-2 : tie.Need-returns-2
 returns-2 c = sym (step-none _ _ (c .if1 .left))
 

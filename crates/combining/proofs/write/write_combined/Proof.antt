@@ -7,7 +7,6 @@ use Rattle.combining.proofs.MergedLaws.{heads-are, versions-counted, co
 use Rattle.combining.proofs.write.write_combined.Statement.{statement}
 use Rattle.combining.proofs.write.write_combined.Tie as tie
 
--- src/write.rt:160:9
 write-head-requires : tie.Need-write-head-requires
 write-head-requires c κs =
     let p = c .before .before .before .before .before .before .before .pre in
@@ -21,11 +20,9 @@ write-head-requires c κs =
       room = omega (arith, p .0 h, combined-length h _ refl);
     }
 
--- src/write.rt:161:42
 count-versions-requires : tie.Need-count-versions-requires
 count-versions-requires c κs = let h = c .before .before .before .before .before .before .before .before .before .before .before .pre .1 in (h .left-read .few, h .right-read .few)
 
--- src/write.rt:161:9
 write-number-requires : tie.Need-write-number-requires
 write-number-requires c κs =
     let p = c .before .before .before .before .before .before .before .before .before .before .before .before .pre in
@@ -33,7 +30,6 @@ write-number-requires c κs =
     let w = c .before .before .before .before .write-head .ensures _ _ _ _ (heads-are h) in
     omega (arith, p .0 h, combined-length h _ (versions-counted h _ (c .count-versions .ensures (left-rises _ _ _ _ _ _ h) (right-rises _ _ _ _ _ _ h))), w .after, wrote-length w)
 
--- src/write.rt:162:5
 write-snapshots-requires : tie.Need-write-snapshots-requires
 write-snapshots-requires c κs =
     let p = c .before .before .before .before .before .before .before .before .before .before .before .before .before .before .before .before .pre in
@@ -42,11 +38,9 @@ write-snapshots-requires c κs =
     let n = c .before .before .before .write-number .ensures in
     record { both = h; room = omega (arith, p .0 h, combined-length h _ (versions-counted h _ (c .before .before .before .before .count-versions .ensures (left-rises _ _ _ _ _ _ h) (right-rises _ _ _ _ _ _ h))), w .after, wrote-length w, n .after, wrote-length n) }
 
--- src/write.rt:146:1
 same-length : tie.Need-same-length
 same-length c = search needs
 
--- src/write.rt:146:1
 returns : tie.Need-returns
 returns c = λ h. wrote-combined h _ (versions-counted h _ (c .before .before .before .before .before .before .before .count-versions .ensures (left-rises _ _ _ _ _ _ h) (right-rises _ _ _ _ _ _ h))) (c .before .before .before .before .before .before .before .before .before .before .before .write-head .ensures _ _ _ _ (heads-are h)) (c .before .before .before .before .before .before .write-number .ensures) (c .before .before .write-snapshots .ensures h)
 

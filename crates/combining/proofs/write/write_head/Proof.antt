@@ -11,40 +11,32 @@ use Rattle.combining.proofs.MergedLaws.{head-length, wrote-head}
 use Rattle.combining.proofs.write.write_head.Statement.{statement}
 use Rattle.combining.proofs.write.write_head.Tie as tie
 
--- src/write.rt:137:9
 hashes-part-requires : tie.Need-hashes-part-requires
 hashes-part-requires c κs = search needs
 
--- src/write.rt:138:9
 hashes-part-requires-2 : tie.Need-hashes-part-requires-2
 hashes-part-requires-2 c κs = search needs
 
--- src/write.rt:139:29
 text-part-requires : tie.Need-text-part-requires
 text-part-requires c κs = search needs
 
--- src/write.rt:139:9
 write-text-requires : tie.Need-write-text-requires
 write-text-requires c κs =
     let p = c .before .before .before .before .before .before .before .before .before .pre in
     omega (arith, p .room, head-length (p .type) (p .source) (union texts (p .parents) (p .parents′)), ap (λ (v : Text). length (text v)) (c .before .text-part .ensures (p .type) (p .are .left .name)))
 
--- src/write.rt:140:30
 text-part-requires-2 : tie.Need-text-part-requires-2
 text-part-requires-2 c κs = search needs
 
--- src/write.rt:140:9
 write-text-requires-2 : tie.Need-write-text-requires-2
 write-text-requires-2 c κs =
     let p = c .before .before .before .before .before .before .before .before .before .before .before .before .before .before .pre in
     let w = c .before .before .before .before .write-text .ensures in
     omega (arith, p .room, head-length (p .type) (p .source) (union texts (p .parents) (p .parents′)), ap (λ (v : Text). length (text v)) (c .before .before .before .before .before .before .text-part .ensures (p .type) (p .are .left .name)), ap (λ (v : Text). length (text v)) (c .before .text-part2 .ensures (p .source) (p .are .left .uri)), w .after, wrote-length w)
 
--- src/write.rt:141:45
 count-hash-union-requires : tie.Need-count-hash-union-requires
 count-hash-union-requires c κs = search needs
 
--- src/write.rt:141:9
 write-number-requires : tie.Need-write-number-requires
 write-number-requires c κs =
     let p = c .before .before .before .before .before .before .before .before .before .before .before .before .before .before .before .before .before .before .before .pre in
@@ -53,7 +45,6 @@ write-number-requires c κs =
     let n = c .count-hash-union .ensures (p .parents) (p .parents′) (c .before .before .before .before .before .before .before .before .before .before .before .before .before .hashes-part .ensures (p .parents) (p .are .left .hashes)) (c .before .before .before .before .before .before .before .before .before .before .before .before .hashes-part2 .ensures (p .parents′) (p .are .right .hashes)) (p .are .left-each) (p .are .right-each) (p .are .left-rise) (p .are .right-rise) in
     omega (arith, p .room, head-length (p .type) (p .source) (union texts (p .parents) (p .parents′)), ap (λ (v : Text). length (text v)) (c .before .before .before .before .before .before .before .before .before .before .before .text-part .ensures (p .type) (p .are .left .name)), ap (λ (v : Text). length (text v)) (c .before .before .before .before .before .before .text-part2 .ensures (p .source) (p .are .left .uri)), ap (λ (k : ℕ). length (number k)) n, w .after, wrote-length w, w₂ .after, wrote-length w₂)
 
--- src/write.rt:142:5
 write-hash-union-requires : tie.Need-write-hash-union-requires
 write-hash-union-requires c κs =
     let p = c .before .before .before .before .before .before .before .before .before .before .before .before .before .before .before .before .before .before .before .before .before .before .before .pre in
@@ -75,11 +66,9 @@ write-hash-union-requires c κs =
       room = omega (arith, p .room, head-length (p .type) (p .source) (union texts (p .parents) (p .parents′)), ap (λ (v : Text). length (text v)) (c .before .before .before .before .before .before .before .before .before .before .before .before .before .before .before .text-part .ensures (p .type) (p .are .left .name)), ap (λ (v : Text). length (text v)) (c .before .before .before .before .before .before .before .before .before .before .text-part2 .ensures (p .source) (p .are .left .uri)), ap (λ (k : ℕ). length (number k)) n, w .after, wrote-length w, w₂ .after, wrote-length w₂, w₃ .after, wrote-length w₃);
     }
 
--- src/write.rt:131:1
 same-length : tie.Need-same-length
 same-length c = search needs
 
--- src/write.rt:131:1
 returns : tie.Need-returns
 returns c = λ type source hs ks h.
     let x = c .before .before .before .before .before .before .before .before .before .before .before .before .before .before .before .before .before .before .before .before .hashes-part .ensures hs (h .left .hashes) in

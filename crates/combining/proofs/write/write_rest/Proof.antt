@@ -4,39 +4,30 @@ use Rattle.combining.proofs.MergedLaws.{nothing-wrote, rest-none, rest-
 use Rattle.combining.proofs.write.write_rest.Statement.{statement}
 use Rattle.combining.proofs.write.write_rest.Tie as tie
 
--- src/write.rt:55:9
 returns : tie.Need-returns
 returns c = λ h w. nothing-wrote (rest-none _ _ h w _ (c .if1 .taken))
 
--- src/write.rt:57:17
 mul-start : tie.Need-mul-start
 mul-start c = search needs
 
--- src/write.rt:57:17
 element-copy-out-start : tie.Need-element-copy-out-start
 element-copy-out-start c = search needs
 
--- src/write.rt:58:22
 sub-end : tie.Need-sub-end
 sub-end c = search needs
 
--- src/write.rt:58:15
 mul-end : tie.Need-mul-end
 mul-end c = search needs
 
--- src/write.rt:58:15
 element-copy-out-end : tie.Need-element-copy-out-end
 element-copy-out-end c = search needs
 
--- src/write.rt:59:5
 copy-part-requires : tie.Need-copy-part-requires
 copy-part-requires c κs = let p = c .before .before .before .before .before .before .pre in rest-there _ _ (p .what) (p .is) _ (c .before .before .before .if1 .left) _ _ (p .room)
 
--- src/write.rt:50:1
 same-length : tie.Need-same-length
 same-length c = search needs
 
--- src/write.rt:50:1
 returns-2 : tie.Need-returns-2
 returns-2 c = λ h w. wrote-as (rest-part _ _ h w _ (c .before .before .before .before .before .before .if1 .left)) (c .before .before .copy-part .ensures)
 

@@ -20,47 +20,36 @@ Inv-loop table a b t out₀ at d e i₀ j₀ next₀ out i j next =
 abbrev μ-loop : tie.MeasureT-loop
 μ-loop table a b t out₀ at d e i₀ j₀ next₀ out i j next = d .count + e .count - (i + j)
 
--- src/write.rt:117:5
 loop-holds : tie.Need-loop-holds Inv-loop μ-loop
 loop-holds c = (omega arith, omega arith, refl, λ h. merged-to-go h)
 
--- src/write.rt:119:13
 write-rest-requires : tie.Need-write-rest-requires Inv-loop μ-loop
 write-rest-requires c κs = let p = c .before .before .before .before .before .before .before .before .pre in left-room (p .both) (c .before .before .before .loop .i) (c .before .before .before .loop .j) (c .before .before .before .loop .inv .3 (p .both)) (p .room) (c .before .if1 .taken)
 
--- src/write.rt:119:13
 same-length : tie.Need-same-length Inv-loop μ-loop
 same-length c = search needs
 
--- src/write.rt:119:13
 returns : tie.Need-returns Inv-loop μ-loop
 returns c = λ h. left-wrote h (c .before .before .before .before .before .before .loop .i) (c .before .before .before .before .before .before .loop .j) (c .before .before .before .before .before .before .loop .inv .3 h) (c .before .before .before .before .if1 .taken) (c .before .before .write-rest .ensures (h .left .headed) (h .left-read))
 
--- src/write.rt:121:9
 write-next-requires : tie.Need-write-next-requires Inv-loop μ-loop
 write-next-requires c κs = let p = c .before .before .before .before .before .before .before .before .pre in next-room (p .both) (c .before .before .before .loop .i) (c .before .before .before .loop .j) (c .before .before .before .loop .inv .3 (p .both)) (p .room) (c .before .before .loop-test .taken) (c .before .if1 .left)
 
--- src/write.rt:122:17
 mul-v : tie.Need-mul-v Inv-loop μ-loop
 mul-v c = search needs
 
--- src/write.rt:122:17
 element-copy-out-v : tie.Need-element-copy-out-v Inv-loop μ-loop
 element-copy-out-v c = search needs
 
--- src/write.rt:123:17
 mul-w : tie.Need-mul-w Inv-loop μ-loop
 mul-w c = search needs
 
--- src/write.rt:123:17
 element-copy-out-w : tie.Need-element-copy-out-w Inv-loop μ-loop
 element-copy-out-w c = search needs
 
--- src/write.rt:124:14
 step-by-requires : tie.Need-step-by-requires Inv-loop μ-loop
 step-by-requires c κs = search needs
 
--- src/write.rt:124:9
 add-i : tie.Need-add-i Inv-loop μ-loop
 add-i c =
     let p = c .before .before .before .before .before .before .before .before .before .before .before .before .before .before .pre in
@@ -68,11 +57,9 @@ add-i c =
     let w = getD (c .before .before .before .before .before .before .before .before .before .before .before .before .before .before .args .t5 .versions) (c .before .before .before .before .before .before .before .before .before .loop .j) 0 in
     omega (arith, p .both .left-read .few, c .before .before .before .before .before .before .before .before .before .loop .inv .0, step-least v w, c .step-by .ensures)
 
--- src/write.rt:125:14
 step-by-requires-2 : tie.Need-step-by-requires-2 Inv-loop μ-loop
 step-by-requires-2 c κs = search needs
 
--- src/write.rt:125:9
 add-j : tie.Need-add-j Inv-loop μ-loop
 add-j c =
     let p = c .before .before .before .before .before .before .before .before .before .before .before .before .before .before .before .pre in
@@ -80,14 +67,12 @@ add-j c =
     let w = getD (c .before .before .before .before .before .before .before .before .before .before .before .before .before .before .before .args .t5 .versions) (c .before .before .before .before .before .before .before .before .before .before .loop .j) 0 in
     omega (arith, p .both .right-read .few, c .before .before .before .before .before .before .before .before .before .before .loop .inv .1, step-least w v, c .step-by2 .ensures)
 
--- src/write.rt:117:5
 loop-less : tie.Need-loop-less Inv-loop μ-loop
 loop-less c =
     let v = getD (c .before .before .before .before .before .before .before .before .before .before .before .before .before .before .before .args .t3 .versions) (c .before .before .before .before .before .before .before .before .before .before .loop .i) 0 in
     let w = getD (c .before .before .before .before .before .before .before .before .before .before .before .before .before .before .before .args .t5 .versions) (c .before .before .before .before .before .before .before .before .before .before .loop .j) 0 in
     omega (arith, step-one v w, step-least v w, step-least w v, c .before .step-by .ensures, c .step-by2 .ensures)
 
--- src/write.rt:117:5
 loop-again : tie.Need-loop-again Inv-loop μ-loop
 loop-again c =
     let v = getD (c .before .before .before .before .before .before .before .before .before .before .before .before .before .before .before .args .t3 .versions) (c .before .before .before .before .before .before .before .before .before .before .loop .i) 0 in
@@ -98,15 +83,12 @@ loop-again c =
       λ h. next-wrote h (c .before .before .before .before .before .before .before .before .before .before .loop .i) (c .before .before .before .before .before .before .before .before .before .before .loop .j) (c .before .before .before .before .before .before .before .before .before .before .loop .inv .3 h) _ _ (c .before .before .before .before .before .before .before .before .before .loop-test .taken) (c .before .before .before .before .before .before .before .before .if1 .left) (c .before .step-by .ensures) (c .step-by2 .ensures) (c .before .before .before .before .before .before .write-next .ensures h),
     )
 
--- src/write.rt:127:5
 write-rest-requires-2 : tie.Need-write-rest-requires-2 Inv-loop μ-loop
 write-rest-requires-2 c κs = let p = c .before .before .before .before .before .before .before .pre in right-room (p .both) (c .before .before .loop .i) (c .before .before .loop .j) (c .before .before .loop .inv .3 (p .both)) (p .room) (c .before .loop-test .left)
 
--- src/write.rt:101:1
 same-length-2 : tie.Need-same-length-2 Inv-loop μ-loop
 same-length-2 c = search needs
 
--- src/write.rt:101:1
 returns-2 : tie.Need-returns-2 Inv-loop μ-loop
 returns-2 c = λ h. right-wrote h (c .before .before .before .before .before .loop .i) (c .before .before .before .before .before .loop .j) (c .before .before .before .before .before .loop .inv .3 h) (c .before .before .before .before .loop-test .left) (c .before .before .write-rest2 .ensures (h .right .headed) (h .right-read))
 

@@ -11,43 +11,33 @@ use Rattle.dossier.proofs.parts.text_part.Reads as text-part-reads
 use Rattle.dossier.proofs.shape.is_match_same.Reads as is-match-same-reads
 use Rattle.packed.proofs.order.same.Reads as same-reads
 
--- src/asked.rt:34:14
 text-part-requires : tie.Need-text-part-requires
 text-part-requires c κs = search needs
 
--- src/asked.rt:34:36
 text-part-requires-2 : tie.Need-text-part-requires-2
 text-part-requires-2 c κs = search needs
 
--- src/asked.rt:34:9
 same-requires : tie.Need-same-requires
 same-requires c κs = search needs
 
--- src/asked.rt:35:9
 returns : tie.Need-returns
 returns c = λ u ty tz f g w x y e. agree-type ty tz f g (c .before .same .ensures ∙ ap₂ (equal texts) (c .before .before .before .text-part .ensures (f .type) (x .head .name)) (c .before .before .text-part2 .ensures (g .type) (y .head .name))) (not-true _ (c .if1 .taken))
 
--- src/asked.rt:37:14
 text-part-requires-3 : tie.Need-text-part-requires-3
 text-part-requires-3 c κs = search needs
 
--- src/asked.rt:37:38
 text-part-requires-4 : tie.Need-text-part-requires-4
 text-part-requires-4 c κs = search needs
 
--- src/asked.rt:37:9
 same-requires-2 : tie.Need-same-requires-2
 same-requires-2 c κs = search needs
 
--- src/asked.rt:38:9
 returns-2 : tie.Need-returns-2
 returns-2 c = λ u ty tz f g w x y e. agree-source ty tz f g (c .before .same2 .ensures ∙ ap₂ (equal texts) (c .before .before .before .text-part3 .ensures (f .source) (x .head .uri)) (c .before .before .text-part4 .ensures (g .source) (y .head .uri))) (not-true _ (c .if2 .taken))
 
--- src/asked.rt:42:5
 is-match-same-requires : tie.Need-is-match-same-requires
 is-match-same-requires c κs = search needs
 
--- src/asked.rt:28:1
 returns-3 : tie.Need-returns-3
 returns-3 c =
     λ u ty tz f g w x y e.

@@ -5,17 +5,14 @@ use Rattle.merger.proofs.asked.first_apart.Tie as tie
 use Rattle.merger.proofs.asked.first_apart.Reads as reads
 use Rattle.merger.proofs.asked.first_apart.Lts as lts
 
--- src/asked.rt:51:13
 returns : tie.Need-returns
 unfolding firstApart
 returns c = rw (eq-eqb _ 0 (c .before .if1 .taken), not-true (c .before .before .args .agrees) (c .if2 .taken))
 
--- src/asked.rt:46:1
 returns-2 : tie.Need-returns-2
 unfolding firstApart
 returns-2 c = rw (eq-eqb _ 0 (c .before .if1 .taken), not-false (c .before .before .args .agrees) (c .if2 .left))
 
--- src/asked.rt:46:1
 returns-3 : tie.Need-returns-3
 unfolding firstApart
 returns-3 c = rw (ne-eqb _ 0 (c .if1 .left))

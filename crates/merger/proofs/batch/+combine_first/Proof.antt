@@ -46,21 +46,17 @@ claims t = (
   add-last-reads.Learnt,
 )
 
--- src/batch.rt:67:35
 combine-first-event-part-requires : (t : ℕ) → combine-first-lts.Need-event-part-requires (claims t) (combine-first-at t) combine-first.Post
 combine-first-event-part-requires t c κs = search needs
 
--- src/batch.rt:67:9
 combine-first-check-known-requires : (t : ℕ) → combine-first-lts.Need-check-known-requires (claims t) (combine-first-at t) combine-first.Post
 combine-first-check-known-requires t c κs =
     let p = c .before .before .before .before .before .before .before .before .pre .1 in
     (event-known _ _ _ _ _ (p .1 .1) 1 _ (omega arith) (p .0 .0) (c .before .event-part .ensures), p .1 .0 .0)
 
--- src/batch.rt:67:9
 combine-first-same-length : (t : ℕ) → combine-first-lts.Need-same-length (claims t) (combine-first-at t) combine-first.Post
 combine-first-same-length t c = search needs
 
--- src/batch.rt:67:9
 combine-first-returns : (t : ℕ) → combine-first-lts.Need-returns (claims t) (combine-first-at t) combine-first.Post
 combine-first-returns t c = (
   check-within _ _ _ _ _ (c .before .before .check-known .ensures),
@@ -70,37 +66,29 @@ combine-first-returns t c = (
       (c .before .before .before .before .event-part .ensures ss (g .isBatch) (omega (arith, l, c .before .before .before .before .before .before .before .before .before .before .before .pre .1 .0 .0))) (c .before .before .check-known .ensures)),
 )
 
--- src/batch.rt:69:49
 combine-first-sub-combine-first : (t : ℕ) → combine-first-lts.Need-sub-combine-first (claims t) (combine-first-at t) combine-first.Post
 combine-first-sub-combine-first t c = search needs
 
--- src/batch.rt:69:9
 combine-first-combine-first-requires : (t : ℕ) → combine-first-lts.Need-combine-first-requires (claims t) (combine-first-at t) combine-first.Post
 combine-first-combine-first-requires t c κs =
     let a = c .before .before .before .before .before .before .before .before .before .args in
     (search needs, (search needs, (search needs, fewer _ _ _ _ (a .n) (c .before .before .before .before .before .before .before .before .before .pre .1 .1 .1))))
 
--- src/batch.rt:70:21
 combine-first-enum-known-others : (t : ℕ) → combine-first-lts.Need-enum-known-others (claims t) (combine-first-at t) combine-first.Post
 combine-first-enum-known-others t c = search needs
 
--- src/batch.rt:71:9
 combine-first-enum-told : (t : ℕ) → combine-first-lts.Need-enum-told (claims t) (combine-first-at t) combine-first.Post
 combine-first-enum-told t c = search needs
 
--- src/batch.rt:71:9
 combine-first-same-length-2 : (t : ℕ) → combine-first-lts.Need-same-length-2 (claims t) (combine-first-at t) combine-first.Post
 combine-first-same-length-2 t c = search needs
 
--- src/batch.rt:71:9
 combine-first-same-length-3 : (t : ℕ) → combine-first-lts.Need-same-length-3 (claims t) (combine-first-at t) combine-first.Post
 combine-first-same-length-3 t c = search needs
 
--- src/batch.rt:71:9
 combine-first-same-length-4 : (t : ℕ) → combine-first-lts.Need-same-length-4 (claims t) (combine-first-at t) combine-first.Post
 combine-first-same-length-4 t c = search needs
 
--- src/batch.rt:71:9
 combine-first-returns-2 : (t : ℕ) → combine-first-lts.Need-returns-2 (claims t) (combine-first-at t) combine-first.Post
 combine-first-returns-2 t c = (
   refused-within _ _ _ (c .enum-told .given .1),
@@ -109,7 +97,6 @@ combine-first-returns-2 t c = (
       (c .before .before .before .before .before .before .before .before .before .before .before .before .before .before .before .before .before .before .args .n) _ _ _ (omega (arith, c .before .before .before .before .before .before .before .before .before .before .before .before .if1 .left)) l (c .enum-told .given .1),
 )
 
--- src/batch.rt:73:5
 combine-first-add-last-requires : (t : ℕ) → combine-first-lts.Need-add-last-requires (claims t) (combine-first-at t) combine-first.Post
 combine-first-add-last-requires t c κs =
     let a = c .before .before .before .before .before .before .before .before .before .before .before .before .before .before .before .before .before .before .before .before .before .before .args in
@@ -121,19 +108,15 @@ combine-first-add-last-requires t c κs =
       ),
     )
 
--- src/batch.rt:52:1
 combine-first-same-length-5 : (t : ℕ) → combine-first-lts.Need-same-length-5 (claims t) (combine-first-at t) combine-first.Post
 combine-first-same-length-5 t c = search needs
 
--- src/batch.rt:52:1
 combine-first-same-length-6 : (t : ℕ) → combine-first-lts.Need-same-length-6 (claims t) (combine-first-at t) combine-first.Post
 combine-first-same-length-6 t c = search needs
 
--- src/batch.rt:52:1
 combine-first-same-length-7 : (t : ℕ) → combine-first-lts.Need-same-length-7 (claims t) (combine-first-at t) combine-first.Post
 combine-first-same-length-7 t c = search needs
 
--- src/batch.rt:52:1
 combine-first-returns-3 : (t : ℕ) → combine-first-lts.Need-returns-3 (claims t) (combine-first-at t) combine-first.Post
 combine-first-returns-3 t c = (
   c .before .before .before .before .add-last .ensures .0,

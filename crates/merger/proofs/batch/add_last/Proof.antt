@@ -10,33 +10,26 @@ use Rattle.combining.proofs.check.check_known.Reads as check-known-reads
 use Rattle.combining.proofs.combine.combine_known.Reads as combine-known-reads
 use Rattle.merger.proofs.frame.event_part.Reads as event-part-reads
 
--- src/batch.rt:44:57
 sub-event-part : tie.Need-sub-event-part
 sub-event-part c = search needs
 
--- src/batch.rt:44:36
 event-part-requires : tie.Need-event-part-requires
 event-part-requires c κs = search needs
 
--- src/batch.rt:44:9
 check-known-requires : tie.Need-check-known-requires
 check-known-requires c κs =
     let p = c .before .before .before .before .before .before .before .pre in
     (event-known _ _ _ _ _ (p .1 .1 .all) (c .before .before .before .before .before .before .before .args .n) _ (p .0 .0) (omega arith) (c .before .event-part .ensures), p .1 .0 .0)
 
--- src/batch.rt:45:21
 enum-known-added : tie.Need-enum-known-added
 enum-known-added c = search needs
 
--- src/batch.rt:46:9
 enum-told : tie.Need-enum-told
 enum-told c = search needs
 
--- src/batch.rt:46:9
 same-length : tie.Need-same-length
 same-length c = search needs
 
--- src/batch.rt:46:9
 returns : tie.Need-returns
 returns c = (
   refused-within _ _ _ (c .enum-told .given .1),
@@ -45,19 +38,15 @@ returns c = (
       (c .before .before .before .before .before .before .event-part .ensures ss (g .isBatch) (omega (arith, h, l))) (c .before .before .before .before .check-known .ensures) (c .enum-told .given .1)),
 )
 
--- src/batch.rt:48:20
 slice-aggregate-combine-known : tie.Need-slice-aggregate-combine-known
 slice-aggregate-combine-known c = taken-count (c .before .before .before .before .before .before .before .before .before .before .before .before .before .before .args .size) (c .before .before .before .before .before .before .before .before .before .before .before .before .before .before .args .sofar .now) (c .before .before .before .before .before .before .before .before .before .before .before .before .before .before .pre .0 .2)
 
--- src/batch.rt:48:36
 slice-reshare-prefix-combine-known : tie.Need-slice-reshare-prefix-combine-known
 slice-reshare-prefix-combine-known c = done-within (c .before .before .before .before .before .before .check-known .result) (c .before .before .before .before .before .before .check-known .last .1 .1 .1 .0) (c .before .before .added .given .0 .0) (check-within _ _ _ _ _ (c .before .before .before .before .before .before .check-known .ensures)) (c .before .before .added .given .1)
 
--- src/batch.rt:48:36
 slice-aggregate-combine-known-2 : tie.Need-slice-aggregate-combine-known-2
 slice-aggregate-combine-known-2 c = taken-count (c .before .before .before .added .given .0 .0) (c .before .before .before .before .before .before .before .check-known .last .1 .1 .1 .0) (done-within (c .before .before .before .before .before .before .before .check-known .result) (c .before .before .before .before .before .before .before .check-known .last .1 .1 .1 .0) (c .before .before .before .added .given .0 .0) (check-within _ _ _ _ _ (c .before .before .before .before .before .before .before .check-known .ensures)) (c .before .before .before .added .given .1))
 
--- src/batch.rt:48:5
 combine-known-requires : tie.Need-combine-known-requires
 combine-known-requires c κs =
     let a = c .before .before .before .before .before .before .before .before .before .before .before .before .before .before .before .before .args in
@@ -68,15 +57,12 @@ combine-known-requires c κs =
       c .before .before .before .before .before .before .before .before .before .before .before .before .before .before .before .before .pre .1 .0 .1,
     )
 
--- src/batch.rt:29:1
 same-length-2 : tie.Need-same-length-2
 same-length-2 c = search needs
 
--- src/batch.rt:29:1
 same-length-3 : tie.Need-same-length-3
 same-length-3 c = search needs
 
--- src/batch.rt:29:1
 returns-2 : tie.Need-returns-2
 returns-2 c = (
   combine-within _ _ _ _ _ _ (c .before .before .combine-known .ensures),

@@ -8,19 +8,15 @@ use Rattle.merger.proofs.batch.batch_reply.Tie as tie
 use Rattle.merger.proofs.batch.batch_reply.Reads as reads
 use Rattle.merger.proofs.batch.batch_reply.Lts as lts
 
--- src/batch.rt:106:21
 enum-known-r : tie.Need-enum-known-r
 enum-known-r c = search needs
 
--- src/batch.rt:107:24
 enum-known-r-2 : tie.Need-enum-known-r-2
 enum-known-r-2 c = search needs
 
--- src/batch.rt:102:1
 returns : tie.Need-returns
 returns c = ap (λ (q : Reply). atFirst (replied q)) (sym (c .before .r .given .1))
 
--- src/batch.rt:102:1
 returns-2 : tie.Need-returns-2
 returns-2 c = ap (λ (q : Reply). atFirst (replied q)) (sym (c .before .r2 .given .1))
 

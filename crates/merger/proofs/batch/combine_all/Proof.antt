@@ -12,21 +12,17 @@ use Rattle.merger.proofs.batch.add_last.Reads as add-last-reads
 use Rattle.merger.proofs.batch.combine_first.Reads as combine-first-reads
 use Rattle.merger.proofs.frame.event_part.Reads as event-part-reads
 
--- src/batch.rt:92:35
 event-part-requires : tie.Need-event-part-requires
 event-part-requires c κs = search needs
 
--- src/batch.rt:92:9
 check-known-requires : tie.Need-check-known-requires
 check-known-requires c κs =
     let p = c .before .before .before .before .before .before .before .before .before .pre in
     (event-known _ _ _ _ _ (p .1 .1) 1 _ (omega arith) (omega (arith, p .1 .1 .agreed .isBatch .one)) (c .before .event-part .ensures), p .0 .1)
 
--- src/batch.rt:92:9
 same-length : tie.Need-same-length
 same-length c = search needs
 
--- src/batch.rt:92:9
 returns : tie.Need-returns
 returns c =
     λ ts ss g.
@@ -34,37 +30,29 @@ returns c =
     (c .before .before .before .before .event-part .ensures ss (g .isBatch) (omega (arith, g .isBatch .one, g .isBatch .count))) (c .before .before .check-known .ensures)
     ∙ all-taken ts ss _ _ (g .isBatch .count)
 
--- src/batch.rt:94:49
 sub-combine-first : tie.Need-sub-combine-first
 sub-combine-first c = search needs
 
--- src/batch.rt:94:9
 combine-first-requires : tie.Need-combine-first-requires
 combine-first-requires c κs =
     let a = c .before .before .before .before .before .before .before .before .before .before .args in
     (search needs, (search needs, fewer _ _ _ _ (a .x .count) (c .before .before .before .before .before .before .before .before .before .before .pre .1 .1)))
 
--- src/batch.rt:95:21
 enum-known-others : tie.Need-enum-known-others
 enum-known-others c = search needs
 
--- src/batch.rt:96:9
 enum-told : tie.Need-enum-told
 enum-told c = search needs
 
--- src/batch.rt:96:9
 same-length-2 : tie.Need-same-length-2
 same-length-2 c = search needs
 
--- src/batch.rt:96:9
 same-length-3 : tie.Need-same-length-3
 same-length-3 c = search needs
 
--- src/batch.rt:96:9
 same-length-4 : tie.Need-same-length-4
 same-length-4 c = search needs
 
--- src/batch.rt:96:9
 returns-2 : tie.Need-returns-2
 returns-2 c =
     λ ts ss g.
@@ -72,7 +60,6 @@ returns-2 c =
     (c .before .before .before .before .before .before .before .before .combine-first .ensures .1 ts ss g (omega (arith, g .isBatch .count))) (c .before .before .before .before .before .before .before .before .before .before .before .before .before .before .before .before .before .before .before .args .x .count) _ _ (omega (arith, c .before .before .before .before .before .before .before .before .before .before .before .before .if1 .left)) (omega (arith, g .isBatch .count)) (c .enum-told .given .1)
     ∙ all-taken ts ss _ _ (g .isBatch .count)
 
--- src/batch.rt:98:5
 add-last-requires : tie.Need-add-last-requires
 add-last-requires c κs =
     let a = c .before .before .before .before .before .before .before .before .before .before .before .before .before .before .before .before .before .before .before .before .before .before .before .args in
@@ -84,23 +71,18 @@ add-last-requires c κs =
       ),
     )
 
--- src/batch.rt:77:1
 same-length-5 : tie.Need-same-length-5
 same-length-5 c = search needs
 
--- src/batch.rt:77:1
 same-length-6 : tie.Need-same-length-6
 same-length-6 c = search needs
 
--- src/batch.rt:77:1
 same-length-7 : tie.Need-same-length-7
 same-length-7 c = search needs
 
--- src/batch.rt:77:1
 same-length-8 : tie.Need-same-length-8
 same-length-8 c = search needs
 
--- src/batch.rt:77:1
 returns-3 : tie.Need-returns-3
 returns-3 c =
     λ ts ss g.

@@ -5,22 +5,18 @@ use Rattle.merger.proofs.batch.have_room.Tie as tie
 use Rattle.merger.proofs.batch.have_room.Reads as reads
 use Rattle.merger.proofs.batch.have_room.Lts as lts
 
--- src/batch.rt:116:9
 returns : tie.Need-returns
 unfolding haveRoom
 returns c = rw (lt-leb 32768 (c .before .args .out) (c .if1 .taken))
 
--- src/batch.rt:119:9
 returns-2 : tie.Need-returns-2
 unfolding haveRoom
 returns-2 c = rw (le-leb 32768 (c .before .before .args .out) (c .before .if1 .left), lt-leb 32768 (c .before .before .args .a) (c .if2 .taken))
 
--- src/batch.rt:122:9
 returns-3 : tie.Need-returns-3
 unfolding haveRoom
 returns-3 c = rw (le-leb 32768 (c .before .before .before .args .out) (c .before .before .if1 .left), le-leb 32768 (c .before .before .before .args .a) (c .before .if2 .left), lt-leb 32768 (c .before .before .before .args .b) (c .if3 .taken))
 
--- src/batch.rt:112:1
 returns-4 : tie.Need-returns-4
 unfolding haveRoom
 returns-4 c = rw (le-leb 32768 (c .before .before .before .args .out) (c .before .before .if1 .left), le-leb 32768 (c .before .before .before .args .a) (c .before .if2 .left), le-leb 32768 (c .before .before .before .args .b) (c .if3 .left))

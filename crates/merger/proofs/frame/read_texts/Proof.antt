@@ -20,63 +20,48 @@ Inv-loop batch first count x₀ at₀ i₀ x at i = Passed (times readText count
 abbrev μ-loop : tie.MeasureT-loop
 μ-loop batch first count x₀ at₀ i₀ x at i = count - i
 
--- src/frame.rt:40:17
 no-batch-requires : tie.Need-no-batch-requires Inv-loop μ-loop
 no-batch-requires c κs = search needs
 
--- src/frame.rt:43:5
 loop-holds : tie.Need-loop-holds Inv-loop μ-loop
 loop-holds c = passed-none _ _ _ _ _ (c .before .before .pre .0) (c .no-batch .ensures .1) (c .no-batch .ensures .2)
 
--- src/frame.rt:44:40
 read-text-requires : tie.Need-read-text-requires Inv-loop μ-loop
 read-text-requires c κs = search needs
 
--- src/frame.rt:44:26
 enum-known-start : tie.Need-enum-known-start Inv-loop μ-loop
 enum-known-start c = search needs
 
--- src/frame.rt:45:13
 enum-told : tie.Need-enum-told Inv-loop μ-loop
 enum-told c = search needs
 
--- src/frame.rt:45:13
 no-batch-requires-2 : tie.Need-no-batch-requires-2 Inv-loop μ-loop
 no-batch-requires-2 c κs = search needs
 
--- src/frame.rt:45:13
 returns : tie.Need-returns Inv-loop μ-loop
 returns c = batch-none _ _ _ (passed-bad _ _ _ _ _ _ _ (c .before .before .before .before .before .loop .inv) (c .before .before .before .before .loop-test .taken) (text-none _ _ (sym (c .before .before .before .read-text .ensures) ∙ c .before .enum-told .given .1))) (c .no-batch2 .ensures .0)
 
--- src/frame.rt:47:9
 mul-x : tie.Need-mul-x Inv-loop μ-loop
 mul-x c = omega (arith, c .before .before .before .before .loop-test .taken, c .before .before .before .before .before .before .before .before .pre .2)
 
--- src/frame.rt:47:9
 element-write-x : tie.Need-element-write-x Inv-loop μ-loop
 element-write-x c = omega (arith, c .before .before .before .before .loop-test .taken, c .before .before .before .before .before .before .before .before .pre .2)
 
--- src/frame.rt:48:9
 mul-x-2 : tie.Need-mul-x-2 Inv-loop μ-loop
 mul-x-2 c = omega (arith, c .before .before .before .before .loop-test .taken, c .before .before .before .before .before .before .before .before .pre .2)
 
--- src/frame.rt:48:9
 element-write-x-2 : tie.Need-element-write-x-2 Inv-loop μ-loop
 element-write-x-2 c = omega (arith, c .before .before .before .before .loop-test .taken, c .before .before .before .before .before .before .before .before .pre .2)
 
--- src/frame.rt:50:9
 add-i : tie.Need-add-i Inv-loop μ-loop
 add-i c = omega (arith, c .before .before .before .before .loop-test .taken, c .before .before .before .before .before .before .before .before .pre .2)
 
--- src/frame.rt:43:5
 loop-less : tie.Need-loop-less Inv-loop μ-loop
 loop-less c = omega (arith, c .before .before .before .before .loop-test .taken)
 
--- src/frame.rt:43:5
 loop-again : tie.Need-loop-again Inv-loop μ-loop
 loop-again c = passed-more _ _ _ _ _ _ _ (c .before .before .before .before .before .loop .inv) (c .before .before .before .before .loop-test .taken) (c .before .before .before .before .before .before .before .before .pre .2) _ _ (text-stops _ _ _ _ (sym (c .before .before .before .read-text .ensures) ∙ c .before .start .given .1))
 
--- src/frame.rt:36:1
 returns-2 : tie.Need-returns-2 Inv-loop μ-loop
 returns-2 c = passed-all _ _ _ _ _ _ _ (c .before .loop .inv) (c .loop-test .left) (c .before .before .before .before .pre .1) (c .before .before .before .before .pre .2)
 
