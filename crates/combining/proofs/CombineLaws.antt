@@ -13,7 +13,7 @@ use Rattle.packed.specs.Written.{Wrote}
 use Rattle.packed.proofs.WriteLaws.{wrote-between}
 use Rattle.ontology.specs.Table.{EventType, Table, typeNamed}
 use Rattle.ontology.specs.TableLayout.{tableOf}
-use Rattle.ontology.specs.Questions.{refused, accepted, _>>=_, _>>_, gives}
+use Rattle.ontology.specs.Questions.{refused, accepted, gives}
 use Rattle.ontology.specs.TypeIndex.{TypeIs, TypeSays, TableSays}
 use Rattle.ontology.specs.declared.tables.TableRead.{TableRead}
 use Rattle.ontology.specs.declared.types.TypeIndex.{TypeIndex}
@@ -29,6 +29,7 @@ use Rattle.ontology.specs.Replies.{replies}
 use Rattle.ontology.specs.declared.replies.Reply.the-variants.{Done, Refused}
 use Rattle.ontology.proofs.TypeIndexLaws.{table-refused, table-got, type-says, found-few}
 use Rattle.dossier.proofs.AcceptedLaws.{dossier-taken, one-type, asked-refused, asked-accepted}
+use Rattle.combining.proofs.MeetLaws.{left-taken, right-taken}
 use Rattle.combining.proofs.RoomLaws.{combined-room}
 
 -- ---- the table
@@ -102,14 +103,16 @@ module _ (table a : List ℕ) (d : DossierIndex) (b : List ℕ) (e : DossierInde
 
     abbrev pub combinable : r ≡ true → Combinable table a d b e t
     combinable y = record {
-      types = h .known .types;
-      is = h .known .is;
-      left = h .left .what;
-      right = h .right .what;
-      left-asked = h .left .asked;
-      right-asked = h .right .asked;
-      agree = sym agree-is ∙ y;
-      typed = h .left .typed;
+      known = record {
+        types = h .known .types;
+        is = h .known .is;
+        left = h .left .what;
+        right = h .right .what;
+        left-asked = h .left .asked;
+        right-asked = h .right .asked;
+        agree = sym agree-is ∙ y;
+        typed = h .left .typed;
+      };
       left-read = h .left .stands;
       right-read = h .right .stands;
     }
@@ -118,24 +121,17 @@ module _ (table a : List ℕ) (d : DossierIndex) (b : List ℕ) (e : DossierInde
 pub known-read :
     {table a b : List ℕ} {t : TypeIndex} (d e : DossierIndex) → Known table a b t →
     ((h : Headed) → dossierOf standard a ≡ some h → DossierIs a h d) → ((h : Headed) → dossierOf standard b ≡ some h → DossierIs b h e) → Combinable table a d b e t
-known-read {table} {a} {b} {t} d e k v w = record {
-  types = k .types;
-  is = k .is;
-  left = k .left;
-  right = k .right;
-  left-asked = k .left-asked;
-  right-asked = k .right-asked;
-  agree = k .agree;
-  typed = k .typed;
-  left-read = v (k .left .headed) (dossier-taken (k .types) a (k .left) (k .left-asked) .read);
-  right-read = w (k .right .headed) (dossier-taken (k .types) b (k .right) (k .right-asked) .read);
+known-read d e k v w = record {
+  known = k;
+  left-read = v (k .left .headed) (left-taken k .read);
+  right-read = w (k .right .headed) (right-taken k .read);
 }
 
 -- ---- question 8
 
 pub combine-room :
-    (table a b : List ℕ) {d e : DossierIndex} {t : TypeIndex} (h : Combinable table a d b e t) {r : Bool} → r ≡ fits standard (view (h .left .type)) (combined (h .left) (h .right)) → r ≡ true →
-    (size : ℕ) → 32768 ≤ size → length (dossierBytes (headedAs (h .left .headed) (combined (h .left) (h .right)))) ≤ size
+    (table a b : List ℕ) {d e : DossierIndex} {t : TypeIndex} (h : Combinable table a d b e t) {r : Bool} → r ≡ fits standard (view (h .known .left .type)) (combined (h .known .left) (h .known .right)) → r ≡ true →
+    (size : ℕ) → 32768 ≤ size → length (dossierBytes (headedAs (h .known .left .headed) (combined (h .known .left) (h .known .right)))) ≤ size
 combine-room table a b {d} {e} {t} h p y size l = omega (arith, combined-room h (sym p ∙ y))
 
 -- ---- the replies
@@ -162,17 +158,17 @@ module _ (table left right out : List ℕ) where
     unfolding combineCall combineAnswer
     combine-apart h p n = let q = sym p ∙ n in rw (le-leb 32768 (length out) room, h .known .is, h .left .asked, h .right .asked, q)
 
-    module _ {d e : DossierIndex} {t : TypeIndex} (h : Combinable table left d right e t) {r : Bool} (p : r ≡ fits standard (view (h .left .type)) (combined (h .left) (h .right))) where
+    module _ {d e : DossierIndex} {t : TypeIndex} (h : Combinable table left d right e t) {r : Bool} (p : r ≡ fits standard (view (h .known .left .type)) (combined (h .known .left) (h .known .right))) where
       pub combine-full : r ≡ false → replies (Refused 8) out ≡ combineCall standard table left right out
       unfolding combineCall combineAnswer
-      combine-full n = let q = sym p ∙ n in rw (le-leb 32768 (length out) room, h .is, h .left-asked, h .right-asked, h .agree, q)
+      combine-full n = let q = sym p ∙ n in rw (le-leb 32768 (length out) room, h .known .is, h .known .left-asked, h .known .right-asked, h .known .agree, q)
 
       abbrev whole : List ℕ
-      whole = dossierBytes (headedAs (h .left .headed) (combined (h .left) (h .right)))
+      whole = dossierBytes (headedAs (h .known .left .headed) (combined (h .known .left) (h .known .right)))
 
       answer-whole : r ≡ true → combineAnswer standard (length out) table left right ≡ gives whole
       unfolding combineAnswer
-      answer-whole y = let q = sym p ∙ y in rw (le-leb 32768 (length out) room, h .is, h .left-asked, h .right-asked, h .agree, q)
+      answer-whole y = let q = sym p ∙ y in rw (le-leb 32768 (length out) room, h .known .is, h .known .left-asked, h .known .right-asked, h .known .agree, q)
 
       pub combine-done : r ≡ true → (new : List ℕ) (n : ℕ) → Wrote out 0 whole new n → replies (Done n) new ≡ combineCall standard table left right out
       unfolding combineCall

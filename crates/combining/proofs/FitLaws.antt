@@ -29,7 +29,7 @@ use Rattle.dossier.proofs.DossierLayoutLaws.{DossierWritten}
 use Rattle.dossier.proofs.AcceptedLaws.{DossierTaken, taken-written, taken-lone, taken-fits}
 use Rattle.combining.specs.CombineCall.{combined}
 use Rattle.combining.specs.CombineIndex.{Combinable, Meet}
-use Rattle.combining.proofs.MeetLaws.{left-taken, right-taken, same-type, meet}
+use Rattle.combining.proofs.MeetLaws.{versionIn, left-taken, right-taken, same-type, meet}
 
 -- ---- the keys of a merge
 
@@ -55,7 +55,7 @@ abbrev snapshots : TypedDossier → List Snapshot
 snapshots a = a .headed .dossier .snapshots
 
 abbrev versions : List Snapshot → List ℕ
-versions xs = map (λ (s : Snapshot). s .version) xs
+versions xs = map versionIn xs
 
 fits-parts : (ty : EventType) (d : Dossier) → fits standard (view ty) d ≡ (leb (length (d .parents)) 32 && (leb (length (d .snapshots)) 8 && (isVersioned ty || leb (objects (d .snapshots)) 256)))
 unfolding fits standard view
@@ -84,7 +84,7 @@ version-none ty s un h =
     eqb-true (s .version) 0 (and-parts (eqb (s .version) 0) (leb (sizes (s .cells)) 256) b .0)
 
 -- two snapshots of one version, merged
-merge-alone : (join : Snapshot → Snapshot → Snapshot) (x y : Snapshot) → x .version ≡ y .version → merge numbers (λ (s : Snapshot). s .version) join (x ∷ []) (y ∷ []) ≡ join x y ∷ []
+merge-alone : (join : Snapshot → Snapshot → Snapshot) (x y : Snapshot) → x .version ≡ y .version → merge numbers versionIn join (x ∷ []) (y ∷ []) ≡ join x y ∷ []
 unfolding merge put
 merge-alone join x y e = rw (ap (numbers .cmp (x .version)) (sym e) ∙ numbers .self (x .version))
 
@@ -92,29 +92,29 @@ merge-alone join x y e = rw (ap (numbers .cmp (x .version)) (sym e) ∙ numbers 
 
 module _ (table a : List ℕ) (d : DossierIndex) (b : List ℕ) (e : DossierIndex) (t : TypeIndex) (c : Combinable table a d b e t) where
   abbrev ty : EventType
-  ty = c .left .type
+  ty = c .known .left .type
 
   abbrev whole : Dossier
-  whole = combined (c .left) (c .right)
+  whole = combined (c .known .left) (c .known .right)
 
-  left-written : DossierWritten standard (c .left .headed)
-  left-written = taken-written (left-taken c)
+  left-written : DossierWritten standard (c .known .left .headed)
+  left-written = taken-written (left-taken (c .known))
 
-  right-written : DossierWritten standard (c .right .headed)
-  right-written = taken-written (right-taken c)
+  right-written : DossierWritten standard (c .known .right .headed)
+  right-written = taken-written (right-taken (c .known))
 
   -- the parents of each are hashes and rise
-  pub left-hashes : Hashes (c .left .headed .dossier .parents) × (rising texts (c .left .headed .dossier .parents) ≡ true)
-  left-hashes = (all-hashes (c .left .headed .dossier .parents) (left-written .head .parents .each), left-written .head .parents .rises)
+  pub left-hashes : Hashes (c .known .left .headed .dossier .parents) × (rising texts (c .known .left .headed .dossier .parents) ≡ true)
+  left-hashes = (all-hashes (c .known .left .headed .dossier .parents) (left-written .head .parents .each), left-written .head .parents .rises)
 
-  pub right-hashes : Hashes (c .right .headed .dossier .parents) × (rising texts (c .right .headed .dossier .parents) ≡ true)
-  right-hashes = (all-hashes (c .right .headed .dossier .parents) (right-written .head .parents .each), right-written .head .parents .rises)
+  pub right-hashes : Hashes (c .known .right .headed .dossier .parents) × (rising texts (c .known .right .headed .dossier .parents) ≡ true)
+  right-hashes = (all-hashes (c .known .right .headed .dossier .parents) (right-written .head .parents .each), right-written .head .parents .rises)
 
   -- and so do the versions
-  left-versions : take (d .count) (d .versions) ≡ versions (snapshots (c .left))
+  left-versions : take (d .count) (d .versions) ≡ versions (snapshots (c .known .left))
   left-versions = ap (λ (n : ℕ). take n (d .versions)) (c .left-read .count) ∙ c .left-read .snapshots .numbers
 
-  right-versions : take (e .count) (e .versions) ≡ versions (snapshots (c .right))
+  right-versions : take (e .count) (e .versions) ≡ versions (snapshots (c .known .right))
   right-versions = ap (λ (n : ℕ). take n (e .versions)) (c .right-read .count) ∙ c .right-read .snapshots .numbers
 
   pub left-rises : rising numbers (take (d .count) (d .versions)) ≡ true
@@ -123,42 +123,42 @@ module _ (table a : List ℕ) (d : DossierIndex) (b : List ℕ) (e : DossierInde
   pub right-rises : rising numbers (take (e .count) (e .versions)) ≡ true
   right-rises = ap (rising numbers) right-versions ∙ right-written .rises
 
-  whole-parents : whole .parents ≡ union texts (c .left .headed .dossier .parents) (c .right .headed .dossier .parents)
+  whole-parents : whole .parents ≡ union texts (c .known .left .headed .dossier .parents) (c .known .right .headed .dossier .parents)
   unfolding combined combine
   whole-parents = refl
 
-  whole-snapshots : whole .snapshots ≡ merge numbers (λ (s : Snapshot). s .version) (joinSnapshots (view ty)) (snapshots (c .left)) (snapshots (c .right))
+  whole-snapshots : whole .snapshots ≡ merge numbers versionIn (joinSnapshots (view ty)) (snapshots (c .known .left)) (snapshots (c .known .right))
   unfolding combined combine
   whole-snapshots = refl
 
   pub whole-versions : length (whole .snapshots) ≡ length (union numbers (take (d .count) (d .versions)) (take (e .count) (e .versions)))
   whole-versions =
-      sym (length-map (whole .snapshots) (λ (s : Snapshot). s .version))
+      sym (length-map (whole .snapshots) versionIn)
       ∙ ap (λ (ss : List Snapshot). length (versions ss)) whole-snapshots
-      ∙ ap length (merge-keys numbers (λ (s : Snapshot). s .version) (joinSnapshots (view ty)) (λ x y. unfold joinSnapshots in refl) (snapshots (c .left)) (snapshots (c .right)))
+      ∙ ap length (merge-keys numbers versionIn (joinSnapshots (view ty)) (λ x y. unfold joinSnapshots in refl) (snapshots (c .known .left)) (snapshots (c .known .right)))
       ∙ sym (ap₂ (λ (v w : List ℕ). length (union numbers v w)) left-versions right-versions)
 
   -- the first snapshots of an unversioned type, from where they start
   module _ (un : t .mark ≤ 0) where
     pub unversioned : isVersioned ty ≡ false
-    unversioned = le-ltb 0 (ty .mark) (omega (arith, c .typed .mark))
+    unversioned = le-ltb 0 (ty .mark) (omega (arith, c .known .typed .mark))
 
-    pub left-one : length (snapshots (c .left)) ≡ 1
-    left-one = one-snapshot (left-taken c) unversioned
+    pub left-one : length (snapshots (c .known .left)) ≡ 1
+    left-one = one-snapshot (left-taken (c .known)) unversioned
 
-    pub right-one : length (snapshots (c .right)) ≡ 1
-    right-one = one-snapshot (right-taken c) (ap isVersioned (sym (same-type c)) ∙ unversioned)
+    pub right-one : length (snapshots (c .known .right)) ≡ 1
+    right-one = one-snapshot (right-taken (c .known)) (ap isVersioned (sym (same-type (c .known))) ∙ unversioned)
 
     abbrev x : Snapshot
-    x = getD (snapshots (c .left)) 0 noSnapshot
+    x = getD (snapshots (c .known .left)) 0 noSnapshot
 
     abbrev y : Snapshot
-    y = getD (snapshots (c .right)) 0 noSnapshot
+    y = getD (snapshots (c .known .right)) 0 noSnapshot
 
     same-version : x .version ≡ y .version
     same-version =
-        version-none ty x unversioned (taken-fits (left-taken c) 0 (omega (arith, left-one)))
-        ∙ sym (version-none (c .right .type) y (ap isVersioned (sym (same-type c)) ∙ unversioned) (taken-fits (right-taken c) 0 (omega (arith, right-one))))
+        version-none ty x unversioned (taken-fits (left-taken (c .known)) 0 (omega (arith, left-one)))
+        ∙ sym (version-none (c .known .right .type) y (ap isVersioned (sym (same-type (c .known))) ∙ unversioned) (taken-fits (right-taken (c .known)) 0 (omega (arith, right-one))))
 
     pub first-meet : Meet (take (length a - getD (d .starts) 0 0) (drop (getD (d .starts) 0 0) a)) (take (length b - getD (e .starts) 0 0) (drop (getD (e .starts) 0 0) b)) ty x y
     first-meet =
@@ -169,20 +169,20 @@ module _ (table a : List ℕ) (d : DossierIndex) (b : List ℕ) (e : DossierInde
     unfolding objects
     whole-objects =
         ap objects (whole-snapshots
-        ∙ ap₂ (merge numbers (λ (s : Snapshot). s .version) (joinSnapshots (view ty))) (alone (snapshots (c .left)) left-one) (alone (snapshots (c .right)) right-one)
+        ∙ ap₂ (merge numbers versionIn (joinSnapshots (view ty))) (alone (snapshots (c .known .left)) left-one) (alone (snapshots (c .known .right)) right-one)
         ∙ merge-alone (joinSnapshots (view ty)) x y same-version)
         ∙ omega arith
 
   -- where they start
   pub first-start : (getD (d .starts) 0 0 ≤ length a) × (getD (e .starts) 0 0 ≤ length b)
-  first-start = (start-within a (c .left .headed) d (c .left-read) 0 (omega (arith, c .left-read .one)), start-within b (c .right .headed) e (c .right-read) 0 (omega (arith, c .right-read .one)))
+  first-start = (start-within a (c .known .left .headed) d (c .left-read) 0 (omega (arith, c .left-read .one)), start-within b (c .known .right .headed) e (c .right-read) 0 (omega (arith, c .right-read .one)))
 
   -- ---- the answers
 
   abbrev asked : Bool
   asked = fits standard (view ty) whole
 
-  module _ (n : ℕ) (p : n ≡ length (union texts (c .left .headed .dossier .parents) (c .right .headed .dossier .parents))) where
+  module _ (n : ℕ) (p : n ≡ length (union texts (c .known .left .headed .dossier .parents) (c .known .right .headed .dossier .parents))) where
     pub fits-parents : 32 < n → false ≡ asked
     fits-parents l =
         sym (fits-parts ty whole
@@ -202,9 +202,9 @@ module _ (table a : List ℕ) (d : DossierIndex) (b : List ℕ) (e : DossierInde
         then-objects = then-versions ∙ ap (λ (z : Bool). z && (isVersioned ty || leb (objects (whole .snapshots)) 256)) (le-leb (length (whole .snapshots)) 8 (omega (arith, q, whole-versions)))
 
         pub fits-versioned : 0 < t .mark → true ≡ asked
-        fits-versioned h = sym (then-objects ∙ ap (λ (z : Bool). z || leb (objects (whole .snapshots)) 256) (lt-ltb 0 (ty .mark) (omega (arith, c .typed .mark))))
+        fits-versioned h = sym (then-objects ∙ ap (λ (z : Bool). z || leb (objects (whole .snapshots)) 256) (lt-ltb 0 (ty .mark) (omega (arith, c .known .typed .mark))))
 
-        pub fits-objects : (un : t .mark ≤ 0) {r : Bool} → r ≡ leb (sizes (joinSnapshots (view ty) (getD (snapshots (c .left)) 0 noSnapshot) (getD (snapshots (c .right)) 0 noSnapshot) .cells)) 256 → r ≡ asked
+        pub fits-objects : (un : t .mark ≤ 0) {r : Bool} → r ≡ leb (sizes (joinSnapshots (view ty) (getD (snapshots (c .known .left)) 0 noSnapshot) (getD (snapshots (c .known .right)) 0 noSnapshot) .cells)) 256 → r ≡ asked
         fits-objects un h =
             h
             ∙ sym (then-objects

@@ -8,13 +8,12 @@ use lib.Dec.{leb}
 use lib.ListN.{length, take, drop, getD, length-append, drop-of-length-le, List·getD-map}
 use lib.Seq.{drop-cons, drop-drop, getD-take}
 use borrow.Author.Tests.{lt-ltb, le-ltb, le-leb, lt-leb}
-use Rattle.model.specs.Order.{Text, texts, numbers, rising, pick, three}
+use Rattle.model.specs.Order.{Text, texts, numbers, pick, three}
 use Rattle.model.specs.Keyed.{Rising, merge}
 use Rattle.model.specs.Sets.{union}
 use Rattle.model.specs.Rule.{Snapshot, joinSnapshots, combine}
 use Rattle.model.proofs.OrderLaws.{less-of, less-cmp, less-turn, more-turn}
-use Rattle.model.proofs.KeyedLaws.{merge-left, merge-right, merge-meet, merge-nil, above-trans, rising-keys}
-use Rattle.model.proofs.SetLaws.{rising-ups}
+use Rattle.model.proofs.KeyedLaws.{merge-left, merge-right, merge-meet, merge-nil, above-trans}
 use Rattle.packed.specs.Packed.{number, text}
 use Rattle.packed.specs.Located.{part}
 use Rattle.packed.specs.Written.{Wrote}
@@ -32,11 +31,10 @@ use Rattle.dossier.specs.DossierIndex.{noSnapshot, SnapshotIs, SnapshotsAre, Do
 use Rattle.dossier.specs.declared.snapshots.SnapshotIndex.{SnapshotIndex}
 use Rattle.dossier.specs.declared.dossiers.DossierIndex.{DossierIndex}
 use Rattle.dossier.proofs.AskLaws.{first-stands}
-use Rattle.dossier.proofs.AcceptedLaws.{taken-written}
 use Rattle.combining.specs.CombineCall.{headedAs, combined}
 use Rattle.combining.specs.CombineIndex.{Combinable, Meet, AgreedRoom, JoinedRoom}
 use Rattle.combining.specs.WriteIndex.{SharedRoom, bytesFrom, RestRoom, nextSnapshot, stepBy, nextBytes, NextRoom, HeadsAre}
-use Rattle.combining.proofs.MeetLaws.{left-taken, right-taken, meet}
+use Rattle.combining.proofs.MeetLaws.{versionIn, taken-rises, left-taken, right-taken, meet}
 use Rattle.combining.proofs.FitLaws.{left-hashes, right-hashes, whole-versions, left-one, right-one}
 
 -- ---- writes
@@ -62,15 +60,8 @@ module _ {table a b : List ℕ} {x y : SnapshotIndex} {t : TypeIndex} {at size :
 
 -- ---- the snapshots of one side
 
-abbrev versionIn : Snapshot → ℕ
-versionIn s = s .version
-
 abbrev Rises : List Snapshot → Type 0
 Rises = Rising numbers versionIn
-
--- the versions of the snapshots rise
-versions-rise : (ss : List Snapshot) → rising numbers (map versionIn ss) ≡ true → Rises ss
-versions-rise ss h = rising-keys numbers versionIn ss .1 (rising-ups numbers (map versionIn ss) .0 h)
 
 rising-drop : (i : ℕ) (ss : List Snapshot) → Rises ss → Rises (drop i ss)
 rising-drop zero ss h = h
@@ -228,40 +219,40 @@ merge-at ty xs ys i j l m hx hy =
 
 module _ {table a b : List ℕ} {d e : DossierIndex} {t : TypeIndex} (c : Combinable table a d b e t) where
   abbrev lefts : List Snapshot
-  lefts = c .left .headed .dossier .snapshots
+  lefts = c .known .left .headed .dossier .snapshots
 
   abbrev rights : List Snapshot
-  rights = c .right .headed .dossier .snapshots
+  rights = c .known .right .headed .dossier .snapshots
 
   -- the bytes of them all
   abbrev snapshotsPart : List ℕ
-  snapshotsPart = flatten (map snapshotBytes (combined (c .left) (c .right) .snapshots))
+  snapshotsPart = flatten (map snapshotBytes (combined (c .known .left) (c .known .right) .snapshots))
 
   -- what is to be written when the sides have come to their i-th and their j-th
   abbrev pub mergedBytes : ℕ → ℕ → List ℕ
-  mergedBytes i j = flatten (map snapshotBytes (mergedOf (c .left .type) (drop i lefts) (drop j rights)))
+  mergedBytes i j = flatten (map snapshotBytes (mergedOf (c .known .left .type) (drop i lefts) (drop j rights)))
 
   merged-all : snapshotsPart ≡ mergedBytes 0 0
   unfolding combined combine
   merged-all = refl
 
   left-rising : (i : ℕ) → Rises (drop i lefts)
-  left-rising i = rising-drop i lefts (versions-rise lefts (taken-written (left-taken c) .rises))
+  left-rising i = rising-drop i lefts (taken-rises (left-taken (c .known)))
 
   right-rising : (j : ℕ) → Rises (drop j rights)
-  right-rising j = rising-drop j rights (versions-rise rights (taken-written (right-taken c) .rises))
+  right-rising j = rising-drop j rights (taken-rises (right-taken (c .known)))
 
   -- one side alone is left
   pub merged-left : (i j : ℕ) → e .count ≤ j → mergedBytes i j ≡ bytesFrom lefts i
   merged-left i j h =
       ap (λ (ss : List Snapshot). flatten (map snapshotBytes ss))
-      (ap (mergedOf (c .left .type) (drop i lefts)) (drop-of-length-le rights {i = j} (omega (arith, c .right-read .count)))
-      ∙ merge-nil numbers versionIn (joinSnapshots (view (c .left .type))) (join-keeps (c .left .type)) (drop i lefts) (left-rising i))
+      (ap (mergedOf (c .known .left .type) (drop i lefts)) (drop-of-length-le rights {i = j} (omega (arith, c .right-read .count)))
+      ∙ merge-nil numbers versionIn (joinSnapshots (view (c .known .left .type))) (join-keeps (c .known .left .type)) (drop i lefts) (left-rising i))
 
   pub merged-right : (i j : ℕ) → d .count ≤ i → mergedBytes i j ≡ bytesFrom rights j
   unfolding merge
   merged-right i j h =
-      ap (λ (ss : List Snapshot). flatten (map snapshotBytes (mergedOf (c .left .type) ss (drop j rights)))) (drop-of-length-le lefts {i = i} (omega (arith, c .left-read .count)))
+      ap (λ (ss : List Snapshot). flatten (map snapshotBytes (mergedOf (c .known .left .type) ss (drop j rights)))) (drop-of-length-le lefts {i = i} (omega (arith, c .left-read .count)))
 
   left-version : (i : ℕ) → i < d .count → getD (d .versions) i 0 ≡ getD lefts i noSnapshot .version
   left-version i l = version-at a lefts (d .starts) (d .ends) (d .versions) (c .left-read .snapshots) i (omega (arith, c .left-read .count))
@@ -281,20 +272,20 @@ module _ {table a b : List ℕ} {d e : DossierIndex} {t : TypeIndex} (c : Combin
     unfolding flatten
     merged-next x y p q =
         ap (λ (ss : List Snapshot). flatten (map snapshotBytes ss))
-        (merge-at (c .left .type) lefts rights i j (omega (arith, c .left-read .count)) (omega (arith, c .right-read .count)) (left-rising i) (right-rising j)
-        ∙ ap₂ (λ (u v : ℕ). nextSnapshot (c .left .type) leftOne rightOne ∷ mergedOf (c .left .type) (drop (i + u) lefts) (drop (j + v) rights))
+        (merge-at (c .known .left .type) lefts rights i j (omega (arith, c .left-read .count)) (omega (arith, c .right-read .count)) (left-rising i) (right-rising j)
+        ∙ ap₂ (λ (u v : ℕ). nextSnapshot (c .known .left .type) leftOne rightOne ∷ mergedOf (c .known .left .type) (drop (i + u) lefts) (drop (j + v) rights))
         (sym (p ∙ ap₂ stepBy (left-version i l) (right-version j m)))
         (sym (q ∙ ap₂ stepBy (right-version j m) (left-version i l))))
 
     pub next-left : getD (d .versions) i 0 < getD (e .versions) j 0 → part a (getD (d .starts) i 0) (getD (d .ends) i 0) ≡ nextBytes c i j
     next-left h =
         c .left-read .snapshots .each i (omega (arith, c .left-read .count)) .bytes
-        ∙ ap snapshotBytes (sym (next-less (c .left .type) leftOne rightOne (omega (arith, left-version i l, right-version j m))))
+        ∙ ap snapshotBytes (sym (next-less (c .known .left .type) leftOne rightOne (omega (arith, left-version i l, right-version j m))))
 
     pub next-right : getD (e .versions) j 0 < getD (d .versions) i 0 → part b (getD (e .starts) j 0) (getD (e .ends) j 0) ≡ nextBytes c i j
     next-right h =
         c .right-read .snapshots .each j (omega (arith, c .right-read .count)) .bytes
-        ∙ ap snapshotBytes (sym (next-more (c .left .type) leftOne rightOne (omega (arith, left-version i l, right-version j m))))
+        ∙ ap snapshotBytes (sym (next-more (c .known .left .type) leftOne rightOne (omega (arith, left-version i l, right-version j m))))
 
     module _ (at size : ℕ) (room : at + length (nextBytes c i j) ≤ size) where
       pub left-there : getD (d .versions) i 0 < getD (e .versions) j 0 → (getD (d .starts) i 0 ≤ getD (d .ends) i 0) × (getD (d .ends) i 0 ≤ length a) × (at + length (part a (getD (d .starts) i 0) (getD (d .ends) i 0)) ≤ size)
@@ -306,34 +297,34 @@ module _ {table a b : List ℕ} {d e : DossierIndex} {t : TypeIndex} (c : Combin
     one-version : getD (e .versions) j 0 ≤ getD (d .versions) i 0 → getD (d .versions) i 0 ≤ getD (e .versions) j 0 → leftOne .version ≡ rightOne .version
     one-version h k = omega (arith, left-version i l, right-version j m)
 
-    pub next-both : getD (e .versions) j 0 ≤ getD (d .versions) i 0 → getD (d .versions) i 0 ≤ getD (e .versions) j 0 → snapshotBytes (joinSnapshots (view (c .left .type)) leftOne rightOne) ≡ nextBytes c i j
-    next-both h k = ap snapshotBytes (sym (next-same (c .left .type) leftOne rightOne (one-version h k)))
+    pub next-both : getD (e .versions) j 0 ≤ getD (d .versions) i 0 → getD (d .versions) i 0 ≤ getD (e .versions) j 0 → snapshotBytes (joinSnapshots (view (c .known .left .type)) leftOne rightOne) ≡ nextBytes c i j
+    next-both h k = ap snapshotBytes (sym (next-same (c .known .left .type) leftOne rightOne (one-version h k)))
 
     -- the two of one version meet where they start
     pub next-meet : getD (e .versions) j 0 ≤ getD (d .versions) i 0 → getD (d .versions) i 0 ≤ getD (e .versions) j 0 →
-        Meet (take (length a - getD (d .starts) i 0) (drop (getD (d .starts) i 0) a)) (take (length b - getD (e .starts) j 0) (drop (getD (e .starts) j 0) b)) (c .left .type) leftOne rightOne
+        Meet (take (length a - getD (d .starts) i 0) (drop (getD (d .starts) i 0) a)) (take (length b - getD (e .starts) j 0) (drop (getD (e .starts) j 0) b)) (c .known .left .type) leftOne rightOne
     next-meet h k =
-        subst₂ (λ (x y : List ℕ). Meet x y (c .left .type) leftOne rightOne) (sym (to-end a (getD (d .starts) i 0))) (sym (to-end b (getD (e .starts) j 0)))
+        subst₂ (λ (x y : List ℕ). Meet x y (c .known .left .type) leftOne rightOne) (sym (to-end a (getD (d .starts) i 0))) (sym (to-end b (getD (e .starts) j 0)))
         (meet c i j (omega (arith, c .left-read .count)) (omega (arith, c .right-read .count)) (one-version h k))
 
     -- an unversioned side has come to its first snapshot, which stands as its index says
     left-first : t .mark ≤ 0 → SnapshotIs (take (length a - getD (d .starts) i 0) (drop (getD (d .starts) i 0) a)) leftOne (d .first)
     left-first un =
         let z : 0 ≡ i = omega (arith, left-one table a d b e t c un, c .left-read .count, l) in
-        subst (λ (n : ℕ). SnapshotIs (take (length a - getD (d .starts) n 0) (drop (getD (d .starts) n 0) a)) (getD lefts n noSnapshot) (d .first)) z (first-stands a (c .left .headed) d (c .left-read))
+        subst (λ (n : ℕ). SnapshotIs (take (length a - getD (d .starts) n 0) (drop (getD (d .starts) n 0) a)) (getD lefts n noSnapshot) (d .first)) z (first-stands a (c .known .left .headed) d (c .left-read))
 
     right-first : t .mark ≤ 0 → SnapshotIs (take (length b - getD (e .starts) j 0) (drop (getD (e .starts) j 0) b)) rightOne (e .first)
     right-first un =
         let z : 0 ≡ j = omega (arith, right-one table a d b e t c un, c .right-read .count, m) in
-        subst (λ (n : ℕ). SnapshotIs (take (length b - getD (e .starts) n 0) (drop (getD (e .starts) n 0) b)) (getD rights n noSnapshot) (e .first)) z (first-stands b (c .right .headed) e (c .right-read))
+        subst (λ (n : ℕ). SnapshotIs (take (length b - getD (e .starts) n 0) (drop (getD (e .starts) n 0) b)) (getD rights n noSnapshot) (e .first)) z (first-stands b (c .known .right .headed) e (c .right-read))
 
     pub shared-room : (at size : ℕ) → at + length (nextBytes c i j) ≤ size → getD (e .versions) j 0 ≤ getD (d .versions) i 0 → getD (d .versions) i 0 ≤ getD (e .versions) j 0 →
         SharedRoom table (take (length a - getD (d .starts) i 0) (drop (getD (d .starts) i 0) a)) (d .first) (take (length b - getD (e .starts) j 0) (drop (getD (e .starts) j 0) b)) (e .first) t at size
     shared-room at size room h k = record {
-      type = c .left .type;
+      type = c .known .left .type;
       left = leftOne;
       right = rightOne;
-      typed = c .typed;
+      typed = c .known .typed;
       meet = next-meet h k;
       left-is = left-first;
       right-is = right-first;
@@ -345,10 +336,10 @@ module _ {table a b : List ℕ} {d e : DossierIndex} {t : TypeIndex} (c : Combin
   module _ {l₀ l : List ℕ} {at next : ℕ} (i j : ℕ) (g : ToGo l₀ at snapshotsPart l next (mergedBytes i j)) where
     module _ (room : at + length snapshotsPart ≤ length l₀) where
       pub left-room : e .count ≤ j → RestRoom a d i next (length l)
-      left-room h = record { what = c .left .headed; is = c .left-read; room = omega (arith, g .after, g .long, ap length (merged-left i j h)) }
+      left-room h = record { what = c .known .left .headed; is = c .left-read; room = omega (arith, g .after, g .long, ap length (merged-left i j h)) }
 
       pub right-room : d .count ≤ i → RestRoom b e j next (length l)
-      right-room h = record { what = c .right .headed; is = c .right-read; room = omega (arith, g .after, g .long, ap length (merged-right i j h)) }
+      right-room h = record { what = c .known .right .headed; is = c .right-read; room = omega (arith, g .after, g .long, ap length (merged-right i j h)) }
 
       pub next-room : i < d .count → j < e .count → NextRoom table a d i b e j t next (length l)
       next-room p q =
@@ -376,14 +367,14 @@ module _ {table a b : List ℕ} {d e : DossierIndex} {t : TypeIndex} (c : Combin
 
   -- ---- the head
 
-  pub heads-are : HeadsAre a d b e (c .left .headed .type) (c .left .headed .source) (c .left .headed .dossier .parents) (c .right .headed .dossier .parents)
+  pub heads-are : HeadsAre a d b e (c .known .left .headed .type) (c .known .left .headed .source) (c .known .left .headed .dossier .parents) (c .known .right .headed .dossier .parents)
   heads-are =
       let x = left-hashes table a d b e t c in
       let y = right-hashes table a d b e t c in
       record {
         left = c .left-read .head;
-        type′ = c .right .headed .type;
-        source′ = c .right .headed .source;
+        type′ = c .known .right .headed .type;
+        source′ = c .known .right .headed .source;
         right = c .right-read .head;
         left-each = x .0;
         right-each = y .0;
@@ -394,17 +385,17 @@ module _ {table a b : List ℕ} {d e : DossierIndex} {t : TypeIndex} (c : Combin
   -- ---- the whole
 
   abbrev headPart : List ℕ
-  headPart = headBytes (c .left .headed .type) (c .left .headed .source) (union texts (c .left .headed .dossier .parents) (c .right .headed .dossier .parents))
+  headPart = headBytes (c .known .left .headed .type) (c .known .left .headed .source) (union texts (c .known .left .headed .dossier .parents) (c .known .right .headed .dossier .parents))
 
-  pub versions-counted : (n : ℕ) → n ≡ length (union numbers (take (d .count) (d .versions)) (take (e .count) (e .versions))) → n ≡ length (combined (c .left) (c .right) .snapshots)
+  pub versions-counted : (n : ℕ) → n ≡ length (union numbers (take (d .count) (d .versions)) (take (e .count) (e .versions))) → n ≡ length (combined (c .known .left) (c .known .right) .snapshots)
   versions-counted n h = h ∙ sym (whole-versions table a d b e t c)
 
-  module _ (n : ℕ) (is : n ≡ length (combined (c .left) (c .right) .snapshots)) where
-    pub combined-length : length (dossierBytes (headedAs (c .left .headed) (combined (c .left) (c .right)))) ≡ length headPart + length (number n) + length snapshotsPart
+  module _ (n : ℕ) (is : n ≡ length (combined (c .known .left) (c .known .right) .snapshots)) where
+    pub combined-length : length (dossierBytes (headedAs (c .known .left .headed) (combined (c .known .left) (c .known .right)))) ≡ length headPart + length (number n) + length snapshotsPart
     unfolding dossierBytes combined combine
     combined-length = rw is (simp length-append refl)
 
-    pub wrote-combined : {l l₁ l₂ l₃ : List ℕ} {x y z : ℕ} → Wrote l 0 headPart l₁ x → Wrote l₁ x (number n) l₂ y → Wrote l₂ y snapshotsPart l₃ z → Wrote l 0 (dossierBytes (headedAs (c .left .headed) (combined (c .left) (c .right)))) l₃ z
+    pub wrote-combined : {l l₁ l₂ l₃ : List ℕ} {x y z : ℕ} → Wrote l 0 headPart l₁ x → Wrote l₁ x (number n) l₂ y → Wrote l₂ y snapshotsPart l₃ z → Wrote l 0 (dossierBytes (headedAs (c .known .left .headed) (combined (c .known .left) (c .known .right)))) l₃ z
     unfolding dossierBytes combined combine
     wrote-combined {l} {l₁} {l₂} {l₃} {x} {y} {z} p q r = wrote-then (wrote-then p (subst (λ (k : ℕ). Wrote l₁ x (number k) l₂ y) is q)) r
 

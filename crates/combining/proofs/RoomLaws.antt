@@ -19,7 +19,6 @@ use Rattle.model.proofs.LimitLaws.{fits-bounds}
 use Rattle.model.proofs.ValidLaws.{ups-take}
 use Rattle.packed.proofs.LayoutLaws.{All}
 use Rattle.ontology.specs.Table.{EventType, isVersioned}
-use Rattle.ontology.specs.Questions.{_>>=_, _>>_}
 use Rattle.ontology.specs.declared.types.TypeIndex.{TypeIndex}
 use Rattle.event.specs.Event.{view}
 use Rattle.event.proofs.EventLayoutLaws.{SetWritten}
@@ -31,7 +30,7 @@ use Rattle.dossier.proofs.DossierSizeLaws.{held-objects, dossier-size, versione
 use Rattle.dossier.proofs.AcceptedLaws.{taken-written, taken-name, taken-short, taken-sizes}
 use Rattle.combining.specs.CombineCall.{headedAs, combined}
 use Rattle.combining.specs.CombineIndex.{Combinable}
-use Rattle.combining.proofs.MeetLaws.{left-taken, right-taken, same-type}
+use Rattle.combining.proofs.MeetLaws.{versionIn, taken-rises, left-taken, right-taken, same-type}
 
 -- ---- what is so of all entries of two lists is so of all that they are together
 
@@ -179,9 +178,6 @@ short-snapshots : (ss : List Snapshot) → All SnapshotWritten ss → All (λ (s
 short-snapshots [] w v = tt
 short-snapshots (s ∷ ss) w v = (record { version = w .0 .version; long = snapshot-cells s (w .0); each = cells-each (s .cells) (w .0 .sets .each) (v .0) }, short-snapshots ss (w .1) (v .1))
 
-abbrev versionIn : Snapshot → ℕ
-versionIn s = s .version
-
 -- ---- two dossiers that are combined
 
 put-some : {E K : Type 0} (O : Order K) (key : E → K) (join : E → E → E) (e : E) (xs : List E) → 1 ≤ length (put O key join e xs)
@@ -196,58 +192,58 @@ merge-some O key join (x ∷ xs) ys h = put-some O key join x (merge O key join 
 
 module _ {table a b : List ℕ} {d e : DossierIndex} {t : TypeIndex} (h : Combinable table a d b e t) where
   abbrev together : Dossier
-  together = combined (h .left) (h .right)
+  together = combined (h .known .left) (h .known .right)
 
-  abbrev x : DossierWritten standard (h .left .headed)
-  x = taken-written (left-taken h)
+  abbrev x : DossierWritten standard (h .known .left .headed)
+  x = taken-written (left-taken (h .known))
 
-  abbrev y : DossierWritten standard (h .right .headed)
-  y = taken-written (right-taken h)
+  abbrev y : DossierWritten standard (h .known .right .headed)
+  y = taken-written (right-taken (h .known))
 
   together-short : All ShortSnapshot (together .snapshots)
   unfolding combined combine
   together-short =
-      all-merge numbers versionIn (joinSnapshots (view (h .left .type))) ShortSnapshot (snapshots-joined (h .left .type))
-      (h .left .headed .dossier .snapshots) (h .right .headed .dossier .snapshots)
-      (short-snapshots (h .left .headed .dossier .snapshots) (x .snapshots) (taken-short (left-taken h))) (short-snapshots (h .right .headed .dossier .snapshots) (y .snapshots) (taken-short (right-taken h)))
+      all-merge numbers versionIn (joinSnapshots (view (h .known .left .type))) ShortSnapshot (snapshots-joined (h .known .left .type))
+      (h .known .left .headed .dossier .snapshots) (h .known .right .headed .dossier .snapshots)
+      (short-snapshots (h .known .left .headed .dossier .snapshots) (x .snapshots) (taken-short (left-taken (h .known)))) (short-snapshots (h .known .right .headed .dossier .snapshots) (y .snapshots) (taken-short (right-taken (h .known))))
 
-  together-sizes : isVersioned (h .left .type) ≡ true → All (λ (z : Snapshot). sizes (z .cells) ≤ 32) (together .snapshots)
+  together-sizes : isVersioned (h .known .left .type) ≡ true → All (λ (z : Snapshot). sizes (z .cells) ≤ 32) (together .snapshots)
   unfolding combined combine
   together-sizes v =
-      all-merge numbers versionIn (joinSnapshots (view (h .left .type))) (λ (z : Snapshot). sizes (z .cells) ≤ 32) (sizes-joined (h .left .type) v)
-      (h .left .headed .dossier .snapshots) (h .right .headed .dossier .snapshots)
-      (taken-sizes (left-taken h) v) (taken-sizes (right-taken h) (ap isVersioned (sym (same-type h)) ∙ v))
+      all-merge numbers versionIn (joinSnapshots (view (h .known .left .type))) (λ (z : Snapshot). sizes (z .cells) ≤ 32) (sizes-joined (h .known .left .type) v)
+      (h .known .left .headed .dossier .snapshots) (h .known .right .headed .dossier .snapshots)
+      (taken-sizes (left-taken (h .known)) v) (taken-sizes (right-taken (h .known)) (ap isVersioned (sym (same-type (h .known))) ∙ v))
 
   together-rises : Rising numbers versionIn (together .snapshots)
   unfolding combined combine joinSnapshots
   together-rises =
-      rising-merge numbers versionIn (joinSnapshots (view (h .left .type))) (λ r s q. refl) (h .left .headed .dossier .snapshots) (h .right .headed .dossier .snapshots)
-      (rising-keys numbers versionIn (h .right .headed .dossier .snapshots) .1 (rising-ups numbers (map versionIn (h .right .headed .dossier .snapshots)) .0 (y .rises)))
+      rising-merge numbers versionIn (joinSnapshots (view (h .known .left .type))) (λ r s q. refl) (h .known .left .headed .dossier .snapshots) (h .known .right .headed .dossier .snapshots)
+      (taken-rises (right-taken (h .known)))
 
   together-one : 1 ≤ length (together .snapshots)
   unfolding combined combine
-  together-one = merge-some numbers versionIn (joinSnapshots (view (h .left .type))) (h .left .headed .dossier .snapshots) (h .right .headed .dossier .snapshots) (x .one)
+  together-one = merge-some numbers versionIn (joinSnapshots (view (h .known .left .type))) (h .known .left .headed .dossier .snapshots) (h .known .right .headed .dossier .snapshots) (x .one)
 
   parents-each : All (λ (v : Text). length v ≡ 20) (together .parents)
   unfolding combined combine
-  parents-each = all-union texts (λ (v : Text). length v ≡ 20) (h .left .headed .dossier .parents) (h .right .headed .dossier .parents) (x .head .parents .each) (y .head .parents .each)
+  parents-each = all-union texts (λ (v : Text). length v ≡ 20) (h .known .left .headed .dossier .parents) (h .known .right .headed .dossier .parents) (x .head .parents .each) (y .head .parents .each)
 
   parents-rise : Ups texts (together .parents)
   unfolding combined combine
-  parents-rise = ups-union texts (h .left .headed .dossier .parents) (h .right .headed .dossier .parents) (rising-ups texts (h .right .headed .dossier .parents) .0 (y .head .parents .rises))
+  parents-rise = ups-union texts (h .known .left .headed .dossier .parents) (h .known .right .headed .dossier .parents) (rising-ups texts (h .known .right .headed .dossier .parents) .0 (y .head .parents .rises))
 
-  module _ (f : fits standard (view (h .left .type)) together ≡ true) where
-    abbrev bounds : (length (together .parents) ≤ standard .parents) × (length (together .snapshots) ≤ standard .versions) × (view (h .left .type) .versioned ≡ false → objects (together .snapshots) ≤ standard .objects)
-    bounds = fits-bounds standard (view (h .left .type)) together f
+  module _ (f : fits standard (view (h .known .left .type)) together ≡ true) where
+    abbrev bounds : (length (together .parents) ≤ standard .parents) × (length (together .snapshots) ≤ standard .versions) × (view (h .known .left .type) .versioned ≡ false → objects (together .snapshots) ≤ standard .objects)
+    bounds = fits-bounds standard (view (h .known .left .type)) together f
 
     together-objects : objects (together .snapshots) ≤ 256
     unfolding standard view
     together-objects =
-        truth (isVersioned (h .left .type))
+        truth (isVersioned (h .known .left .type))
         (λ v. versioned-objects (together .snapshots) (together-sizes v) (bounds .1))
         (λ v. bounds .2 v)
 
-    together-written : DossierWritten standard (headedAs (h .left .headed) together)
+    together-written : DossierWritten standard (headedAs (h .known .left .headed) together)
     unfolding standard
     together-written = record {
       head = record {
@@ -262,9 +258,9 @@ module _ {table a b : List ℕ} {d e : DossierIndex} {t : TypeIndex} (h : Combin
       rises = rising-ups numbers (map versionIn (together .snapshots)) .1 (rising-keys numbers versionIn (together .snapshots) .0 together-rises);
     }
 
-    pub combined-room : length (dossierBytes (headedAs (h .left .headed) together)) ≤ 32768
+    pub combined-room : length (dossierBytes (headedAs (h .known .left .headed) together)) ≤ 32768
     combined-room =
-        dossier-size (headedAs (h .left .headed) together) together-written
+        dossier-size (headedAs (h .known .left .headed) together) together-written
         (all-each ShortSnapshot (λ (s : Snapshot). ValuesShort (map held (s .cells))) (λ s k. values-short (s .cells) (k .each)) (together .snapshots) together-short)
-        (taken-name (left-taken h) table (h .is))
+        (taken-name (left-taken (h .known)) table (h .known .is))
         together-objects

@@ -44,16 +44,9 @@ pub record Known (table a b : List ℕ) (t : TypeIndex) : Type 0 where
 
 -- and both dossiers are read
 pub record Combinable (table a : List ℕ) (d : DossierIndex) (b : List ℕ) (e : DossierIndex) (t : TypeIndex) : Type 0 where
-  pub types : Table
-  pub is : tableOf table ≡ some types
-  pub left : TypedDossier
-  pub right : TypedDossier
-  pub left-asked : dossierAsked standard types a ≡ accepted left
-  pub right-asked : dossierAsked standard types b ≡ accepted right
-  pub agree : dossiersAgree left right ≡ true
-  pub typed : TypeIs table (left .type) t
-  pub left-read : DossierIs a (left .headed) d
-  pub right-read : DossierIs b (right .headed) e
+  pub known : Known table a b t
+  pub left-read : DossierIs a (known .left .headed) d
+  pub right-read : DossierIs b (known .right .headed) e
 
 -- strategy min or max at a place
 unfoldable pub isExtremeAt : EventType → ℕ → Bool

@@ -54,7 +54,7 @@ stepBy v w = cond (leb v w) 1 0
 -- the bytes of the next snapshot, where the sides have come to their i-th and their j-th
 abbrev pub nextBytes : {table a b : List ℕ} {d e : DossierIndex} {t : TypeIndex} → Combinable table a d b e t → ℕ → ℕ → List ℕ
 nextBytes h i j =
-    snapshotBytes (nextSnapshot (h .left .type) (getD (h .left .headed .dossier .snapshots) i noSnapshot) (getD (h .right .headed .dossier .snapshots) j noSnapshot))
+    snapshotBytes (nextSnapshot (h .known .left .type) (getD (h .known .left .headed .dossier .snapshots) i noSnapshot) (getD (h .known .right .headed .dossier .snapshots) j noSnapshot))
 
 pub record NextRoom (table a : List ℕ) (d : DossierIndex) (i : ℕ) (b : List ℕ) (e : DossierIndex) (j : ℕ) (t : TypeIndex) (at size : ℕ) : Type 0 where
   pub both : Combinable table a d b e t
@@ -85,4 +85,4 @@ pub record HeadRoom (a : List ℕ) (d : DossierIndex) (b : List ℕ) (e : Dossie
 -- the snapshots of both sides have their room
 pub record SnapshotsRoom (table a : List ℕ) (d : DossierIndex) (b : List ℕ) (e : DossierIndex) (t : TypeIndex) (at size : ℕ) : Type 0 where
   pub both : Combinable table a d b e t
-  pub room : at + length (flatten (map snapshotBytes (combined (both .left) (both .right) .snapshots))) ≤ size
+  pub room : at + length (flatten (map snapshotBytes (combined (both .known .left) (both .known .right) .snapshots))) ≤ size

@@ -115,7 +115,7 @@ pub fn limits_fit(
     t: TypeIndex,
 ) -> bool
     requires { ⌜ Combinable (now table) (now a) d (now b) e t ⌝ }
-    ensures { λ r. ⌜ ((h : Combinable (now (table .entry)) (now (a .entry)) d (now (b .entry)) e t) → r ≡ fits standard (view (h .left .type)) (combined (h .left) (h .right))) ⌝ }
+    ensures { λ r. ⌜ ((h : Combinable (now (table .entry)) (now (a .entry)) d (now (b .entry)) e t) → r ≡ fits standard (view (h .known .left .type)) (combined (h .known .left) (h .known .right))) ⌝ }
 {
     let x = d.head;
     let y = e.head;

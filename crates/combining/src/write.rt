@@ -114,7 +114,7 @@ fn write_snapshots<'a>(
     at: usize,
 ) -> usize
     requires { ⌜ SnapshotsRoom (now table) (now a) d (now b) e t at (length (now out)) ⌝ }
-    ensures { λ r. ⌜ ((h : Combinable (now (table .entry)) (now (a .entry)) d (now (b .entry)) e t) → Wrote (now (out .entry)) at (flatten (map snapshotBytes (combined (h .left) (h .right) .snapshots))) (now (out .exit)) r) ⌝ }
+    ensures { λ r. ⌜ ((h : Combinable (now (table .entry)) (now (a .entry)) d (now (b .entry)) e t) → Wrote (now (out .entry)) at (flatten (map snapshotBytes (combined (h .known .left) (h .known .right) .snapshots))) (now (out .exit)) r) ⌝ }
 {
     let mut i: usize = 0;
     let mut j: usize = 0;
@@ -157,8 +157,8 @@ pub fn write_combined<'a>(
     t: TypeIndex,
     out: &mut [u8],
 ) -> usize
-    requires { ⌜ ((h : Combinable (now table) (now a) d (now b) e t) → length (dossierBytes (headedAs (h .left .headed) (combined (h .left) (h .right)))) ≤ length (now out)) × Combinable (now table) (now a) d (now b) e t ⌝ }
-    ensures { λ r. ⌜ ((h : Combinable (now (table .entry)) (now (a .entry)) d (now (b .entry)) e t) → Wrote (now (out .entry)) 0 (dossierBytes (headedAs (h .left .headed) (combined (h .left) (h .right)))) (now (out .exit)) r) ⌝ }
+    requires { ⌜ ((h : Combinable (now table) (now a) d (now b) e t) → length (dossierBytes (headedAs (h .known .left .headed) (combined (h .known .left) (h .known .right)))) ≤ length (now out)) × Combinable (now table) (now a) d (now b) e t ⌝ }
+    ensures { λ r. ⌜ ((h : Combinable (now (table .entry)) (now (a .entry)) d (now (b .entry)) e t) → Wrote (now (out .entry)) 0 (dossierBytes (headedAs (h .known .left .headed) (combined (h .known .left) (h .known .right)))) (now (out .exit)) r) ⌝ }
 {
     let v = d.versions;
     let w = e.versions;

@@ -33,13 +33,13 @@ module _ (c : tie.After-count-hash-union) where
   abbrev Asked : Type 0
   Asked = Combinable (start .args .table .now) (start .args .a .now) (start .args .t3) (start .args .b .now) (start .args .t5) (start .args .t)
 
-  parents-counted : (h : Asked) → c .count-hash-union .result ≡ length (union texts (h .left .headed .dossier .parents) (h .right .headed .dossier .parents))
+  parents-counted : (h : Asked) → c .count-hash-union .result ≡ length (union texts (h .known .left .headed .dossier .parents) (h .known .right .headed .dossier .parents))
   parents-counted h =
       let x = left-hashes _ _ _ _ _ _ h in
       let y = right-hashes _ _ _ _ _ _ h in
-      c .count-hash-union .ensures (h .left .headed .dossier .parents) (h .right .headed .dossier .parents)
-      (c .before .before .hashes-part .ensures (h .left .headed .dossier .parents) (h .left-read .head .hashes))
-      (c .before .hashes-part2 .ensures (h .right .headed .dossier .parents) (h .right-read .head .hashes))
+      c .count-hash-union .ensures (h .known .left .headed .dossier .parents) (h .known .right .headed .dossier .parents)
+      (c .before .before .hashes-part .ensures (h .known .left .headed .dossier .parents) (h .left-read .head .hashes))
+      (c .before .hashes-part2 .ensures (h .known .right .headed .dossier .parents) (h .right-read .head .hashes))
       (x .0) (y .0) (x .1) (y .1)
 
 returns : tie.Need-returns
@@ -88,7 +88,7 @@ part-objects-fit-end-2 : tie.Need-part-objects-fit-end-2
 part-objects-fit-end-2 c = search needs
 
 objects-fit-requires : tie.Need-objects-fit-requires
-objects-fit-requires c κs = c .before .before .before .before .before .before .before .before .before .before .before .before .before .before .before .before .before .before .before .before .before .pre .typed .few
+objects-fit-requires c κs = c .before .before .before .before .before .before .before .before .before .before .before .before .before .before .before .before .before .before .before .before .before .pre .known .typed .few
 
 returns-4 : tie.Need-returns-4
 returns-4 c = λ h.
@@ -96,8 +96,8 @@ returns-4 c = λ h.
     let v = c .before .before .before .before .before .before .before .before .before .before in
     let un = c .before .before .before .before .before .before .before .if3 .left in
     fits-objects _ _ _ _ _ _ h (p .count-hash-union .result) (parents-counted p h) (c .before .before .before .before .before .before .before .before .before .before .before .before .before .if1 .left) (v .count-versions .result) (versions-counted v h) (c .before .before .before .before .before .before .before .before .before .if2 .left) un
-    (c .objects-fit .ensures _ (h .left .type) (getD (h .left .headed .dossier .snapshots) 0 noSnapshot) (getD (h .right .headed .dossier .snapshots) 0 noSnapshot) (h .typed) (unversioned _ _ _ _ _ _ h un) (first-meet _ _ _ _ _ _ h un)
-    (first-stands _ (h .left .headed) _ (h .left-read)) (first-stands _ (h .right .headed) _ (h .right-read)))
+    (c .objects-fit .ensures _ (h .known .left .type) (getD (h .known .left .headed .dossier .snapshots) 0 noSnapshot) (getD (h .known .right .headed .dossier .snapshots) 0 noSnapshot) (h .known .typed) (unversioned _ _ _ _ _ _ h un) (first-meet _ _ _ _ _ _ h un)
+    (first-stands _ (h .known .left .headed) _ (h .left-read)) (first-stands _ (h .known .right .headed) _ (h .right-read)))
 
 pub limits-fit-spec : {M : Type 1} → statement M
 limits-fit-spec =

@@ -12,10 +12,10 @@ write-head-requires c κs =
     let p = c .before .before .before .before .before .before .before .pre in
     let h = p .1 in
     record {
-      type = h .left .headed .type;
-      source = h .left .headed .source;
-      parents = h .left .headed .dossier .parents;
-      parents′ = h .right .headed .dossier .parents;
+      type = h .known .left .headed .type;
+      source = h .known .left .headed .source;
+      parents = h .known .left .headed .dossier .parents;
+      parents′ = h .known .right .headed .dossier .parents;
       are = heads-are h;
       room = omega (arith, p .0 h, combined-length h _ refl);
     }

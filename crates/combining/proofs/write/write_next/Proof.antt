@@ -89,7 +89,7 @@ returns-3 c = λ h.
     let p = c .before .before .before .before .before .before .before .before .before .before .before .before .before .before .before .before .before .before .pre in
     let i = c .before .before .before .before .before .before .before .before .before .before .before .before .before .before .before .before .before .before .args .i in
     let j = c .before .before .before .before .before .before .before .before .before .before .before .before .before .before .before .before .before .before .args .j in
-    wrote-as (next-both h i j (p .left-in) (p .right-in) (c .before .before .before .before .before .before .before .before .before .if1 .left) (c .before .before .before .before .before .before .before .before .if2 .left)) (c .before .before .write-shared .ensures (h .left .type) _ _ (h .typed) (next-meet h i j (p .left-in) (p .right-in) (c .before .before .before .before .before .before .before .before .before .if1 .left) (c .before .before .before .before .before .before .before .before .if2 .left)))
+    wrote-as (next-both h i j (p .left-in) (p .right-in) (c .before .before .before .before .before .before .before .before .before .if1 .left) (c .before .before .before .before .before .before .before .before .if2 .left)) (c .before .before .write-shared .ensures (h .known .left .type) _ _ (h .known .typed) (next-meet h i j (p .left-in) (p .right-in) (c .before .before .before .before .before .before .before .before .before .if1 .left) (c .before .before .before .before .before .before .before .before .if2 .left)))
 
 pub write-next-spec : {M : Type 1} → statement M
 write-next-spec =

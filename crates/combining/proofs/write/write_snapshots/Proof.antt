@@ -15,7 +15,7 @@ use Rattle.combining.proofs.write.write_snapshots.Tie as tie
 abbrev Inv-loop : tie.InvT-loop
 Inv-loop table a b t out₀ at d e i₀ j₀ next₀ out i j next =
     (i ≤ d .count) × (j ≤ e .count) × (length out ≡ length out₀)
-    × ((h : Combinable table a d b e t) → ToGo out₀ at (flatten (map snapshotBytes (combined (h .left) (h .right) .snapshots))) out next (mergedBytes h i j))
+    × ((h : Combinable table a d b e t) → ToGo out₀ at (flatten (map snapshotBytes (combined (h .known .left) (h .known .right) .snapshots))) out next (mergedBytes h i j))
 
 abbrev μ-loop : tie.MeasureT-loop
 μ-loop table a b t out₀ at d e i₀ j₀ next₀ out i j next = d .count + e .count - (i + j)
@@ -30,7 +30,7 @@ same-length : tie.Need-same-length Inv-loop μ-loop
 same-length c = search needs
 
 returns : tie.Need-returns Inv-loop μ-loop
-returns c = λ h. left-wrote h (c .before .before .before .before .before .before .loop .i) (c .before .before .before .before .before .before .loop .j) (c .before .before .before .before .before .before .loop .inv .3 h) (c .before .before .before .before .if1 .taken) (c .before .before .write-rest .ensures (h .left .headed) (h .left-read))
+returns c = λ h. left-wrote h (c .before .before .before .before .before .before .loop .i) (c .before .before .before .before .before .before .loop .j) (c .before .before .before .before .before .before .loop .inv .3 h) (c .before .before .before .before .if1 .taken) (c .before .before .write-rest .ensures (h .known .left .headed) (h .left-read))
 
 write-next-requires : tie.Need-write-next-requires Inv-loop μ-loop
 write-next-requires c κs = let p = c .before .before .before .before .before .before .before .before .pre in next-room (p .both) (c .before .before .before .loop .i) (c .before .before .before .loop .j) (c .before .before .before .loop .inv .3 (p .both)) (p .room) (c .before .before .loop-test .taken) (c .before .if1 .left)
@@ -90,7 +90,7 @@ same-length-2 : tie.Need-same-length-2 Inv-loop μ-loop
 same-length-2 c = search needs
 
 returns-2 : tie.Need-returns-2 Inv-loop μ-loop
-returns-2 c = λ h. right-wrote h (c .before .before .before .before .before .loop .i) (c .before .before .before .before .before .loop .j) (c .before .before .before .before .before .loop .inv .3 h) (c .before .before .before .before .loop-test .left) (c .before .before .write-rest2 .ensures (h .right .headed) (h .right-read))
+returns-2 c = λ h. right-wrote h (c .before .before .before .before .before .loop .i) (c .before .before .before .before .before .loop .j) (c .before .before .before .before .before .loop .inv .3 h) (c .before .before .before .before .loop-test .left) (c .before .before .write-rest2 .ensures (h .known .right .headed) (h .right-read))
 
 pub write-snapshots-spec : {M : Type 1} → statement M
 write-snapshots-spec =
