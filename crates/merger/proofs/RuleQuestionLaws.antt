@@ -8,14 +8,13 @@ use native.Mathlib.Omega.{arith}
 use lib.ListN.{length, getD, getElem?, length-map, List·getD-map}
 use borrow.Author.Tests.{le-leb, eq-eqb}
 use Rattle.model.specs.Order.{Text, numbers, texts, sets}
-use Rattle.model.specs.Keyed.{Above, Rising}
-use Rattle.model.specs.Sets.{Ups, itself}
 use Rattle.model.specs.Rule.{Cell, holds, differs, places, Snapshot, Dossier, rule, sizes, count}
 use Rattle.model.specs.Limits.{standard, fits}
 use Rattle.model.specs.Opening.{held, isMark, cellAt}
 use Rattle.model.specs.Ways.{Each, Has}
 use Rattle.model.proofs.Cases.{truth}
 use Rattle.model.proofs.OrderLaws.{equal-true}
+use Rattle.model.proofs.KeyedLaws.{rising-keys}
 use Rattle.model.proofs.SetLaws.{rising-ups}
 use Rattle.model.proofs.RuleLaws.{rising-snapshots}
 use Rattle.model.proofs.LimitLaws.{fits-bounds}
@@ -44,15 +43,6 @@ use Rattle.merger.specs.Demand3.{SameMatch}
 cell-is : {C : Type 0} (c : Cell) → (c ≡ differs → C) → ((s : List Text) → c ≡ holds s → C) → C
 cell-is differs f g = f refl
 cell-is (holds s) f g = g s refl
-
--- rising by a key, as the keys themselves
-above-keys : (k : ℕ) (zs : List Snapshot) → Above numbers (λ s. s .version) k zs → Above numbers itself k (map (λ (s : Snapshot). s .version) zs)
-above-keys k [] h = tt
-above-keys k (z ∷ zs) h = (h .0, above-keys k zs (h .1))
-
-rising-keys : (zs : List Snapshot) → Rising numbers (λ s. s .version) zs → Ups numbers (map (λ (s : Snapshot). s .version) zs)
-rising-keys [] h = tt
-rising-keys (z ∷ zs) h = (above-keys (z .version) zs (h .0), rising-keys zs (h .1))
 
 held-at : (z : Snapshot) (p : ℕ) → getD (map held (z .cells)) p [] ≡ held (cellAt z p)
 unfolding cellAt held
@@ -282,7 +272,7 @@ module _ (t : EventType) (uri : Text) (d : Event) (es : List Event) (g : Gathere
         within = y;
         few = omega arith;
         snapshots = member-all SnapshotWritten (ruled .snapshots) snapshot-written;
-        rises = rising-ups numbers (map (λ (z : Snapshot). z .version) (ruled .snapshots)) .1 (rising-keys (ruled .snapshots) (rising-snapshots (view t) es));
+        rises = rising-ups numbers (map (λ (z : Snapshot). z .version) (ruled .snapshots)) .1 (rising-keys numbers (λ (z : Snapshot). z .version) (ruled .snapshots) .0 (rising-snapshots (view t) es));
       }
 
   -- questions 3 to 6 of the rule's bytes

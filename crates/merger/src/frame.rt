@@ -9,6 +9,7 @@ ghost use Rattle.merger.specs.Batch.{batchOf};
 ghost use Rattle.merger.specs.BatchIndex.{BatchIs, BatchReads};
 use packed::read::NumberAt;
 use packed::read::TextAt;
+use packed::read::part_of;
 use packed::read::read_number;
 use packed::read::read_text;
 
@@ -77,11 +78,5 @@ pub fn event_part(batch: &[u8], x: BatchIndex, i: usize) -> &[u8]
 {
     let start = x.starts[i];
     let end = x.ends[i];
-    if end < start {
-        return &batch[0..0];
-    }
-    if batch.len() < end {
-        return &batch[0..0];
-    }
-    &batch[start..end]
+    part_of(batch, start, end)
 }
