@@ -20,47 +20,36 @@ abbrev μ-loop : tie.MeasureT-loop
 long : (c : tie.Start Inv-loop μ-loop) → (c .args .count ≤ length (c .args .t1))
 long c = let l : length (c .args .t1) ≡ 8 = search needs in omega (arith, c .pre, l)
 
--- src/dossiers.rt:73:5
 loop-holds : tie.Need-loop-holds Inv-loop μ-loop
 loop-holds c = (omega arith, refl)
 
--- src/dossiers.rt:74:12
 mul-if1 : tie.Need-mul-if1 Inv-loop μ-loop
 mul-if1 c = search needs
 
--- src/dossiers.rt:74:12
 array-read-if1 : tie.Need-array-read-if1 Inv-loop μ-loop
 array-read-if1 c = search needs
 
--- src/dossiers.rt:74:36
 sub-if1 : tie.Need-sub-if1 Inv-loop μ-loop
 sub-if1 c = c .before .loop .inv .0
 
--- src/dossiers.rt:74:27
 mul-if1-2 : tie.Need-mul-if1-2 Inv-loop μ-loop
 mul-if1-2 c = search needs
 
--- src/dossiers.rt:74:27
 array-read-if1-2 : tie.Need-array-read-if1-2 Inv-loop μ-loop
 array-read-if1-2 c = search needs
 
--- src/dossiers.rt:75:13
 returns : tie.Need-returns Inv-loop μ-loop
 returns c = sym (c .before .before .loop .inv .1 ∙ rise-bad _ _ (long (c .before .before .before)) _ (c .before .before .loop .inv .0) (c .before .loop-test .taken) (c .if1 .taken))
 
--- src/dossiers.rt:77:9
 add-k : tie.Need-add-k Inv-loop μ-loop
 add-k c = search needs
 
--- src/dossiers.rt:73:5
 loop-less : tie.Need-loop-less Inv-loop μ-loop
 loop-less c = omega (arith, c .before .loop-test .taken)
 
--- src/dossiers.rt:73:5
 loop-again : tie.Need-loop-again Inv-loop μ-loop
 loop-again c = (omega arith, c .before .before .loop .inv .1 ∙ rise-step _ _ (long (c .before .before .before)) _ (c .before .before .loop .inv .0) (c .before .loop-test .taken) (c .if1 .left))
 
--- src/dossiers.rt:68:1
 returns-2 : tie.Need-returns-2 Inv-loop μ-loop
 returns-2 c = sym (c .before .loop .inv .1 ∙ rise-end _ _ (long (c .before .before)) _ (c .loop-test .left))
 

@@ -7,19 +7,15 @@ use Rattle.dossier.proofs.questions.ask_dossier.Reads as reads
 use Rattle.dossier.proofs.questions.ask_dossier.Lts as lts
 use Rattle.dossier.proofs.questions.ask_snapshots.Reads as ask-snapshots-reads
 
--- src/questions.rt:123:9
 returns : tie.Need-returns
 returns c = λ table ts e f. answer-layout table ts _ _ (c .before .before .before .before .pre .0) (not-true _ (c .if1 .taken)) _
 
--- src/questions.rt:130:9
 returns-2 : tie.Need-returns-2
 returns-2 c = λ table ts e f. answer-type table ts _ _ (c .before .before .before .before .before .before .pre .0) (not-false _ (c .before .before .if1 .left)) _ f (not-true _ (c .if2 .taken)) _
 
--- src/questions.rt:137:17
 ask-snapshots-requires : tie.Need-ask-snapshots-requires
 ask-snapshots-requires c κs = (c .before .before .before .before .before .before .pre .1 (not-false _ (c .if2 .left)), is-dossier _ _ _ (c .before .before .before .before .before .before .pre .0) (not-false _ (c .before .before .if1 .left)))
 
--- src/questions.rt:117:1
 returns-3 : tie.Need-returns-3
 returns-3 c = λ table ts e f. answer-rest table ts _ _ (c .before .before .before .before .before .before .before .pre .0) (not-false _ (c .before .before .before .if1 .left)) _ f e (not-false _ (c .before .if2 .left)) _ (c .ask-snapshots .ensures)
 

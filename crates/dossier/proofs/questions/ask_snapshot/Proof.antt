@@ -7,15 +7,12 @@ use Rattle.dossier.proofs.questions.ask_snapshot.Lts as lts
 use Rattle.dossier.proofs.questions.ask_read.Reads as ask-read-reads
 use Rattle.dossier.proofs.snapshots.read_snapshot.Reads as read-snapshot-reads
 
--- src/questions.rt:51:9
 read-snapshot-requires : tie.Need-read-snapshot-requires
 read-snapshot-requires c κs = search needs
 
--- src/questions.rt:52:5
 ask-read-requires : tie.Need-ask-read-requires
 ask-read-requires c κs = search needs
 
--- src/questions.rt:47:1
 returns : tie.Need-returns
 returns c = λ u v ty xs y w g x e. c .ask-read .ensures u ty xs y w g x (reads-got _ _ _ y v (c .before .read-snapshot .ensures) e)
 

@@ -28,47 +28,36 @@ Inv-loop s t d front sets asked number₀ j₀ number j = ((u : List ℕ) (ty : 
 abbrev μ-loop : tie.MeasureT-loop
 μ-loop s t d front sets asked number₀ j₀ number j = d .count - j
 
--- src/questions.rt:77:9
 is-lone-requires : tie.Need-is-lone-requires Inv-loop μ-loop
 is-lone-requires c κs = search needs
 
--- src/questions.rt:78:9
 returns : tie.Need-returns Inv-loop μ-loop
 returns c = λ u ty h w g x. not-lone _ h _ x u ty _ w (c .before .is-lone .ensures) (not-true _ (c .if1 .taken))
 
--- src/questions.rt:80:17
 element-copy-out-front : tie.Need-element-copy-out-front Inv-loop μ-loop
 element-copy-out-front c = search needs
 
--- src/questions.rt:83:26
 sub-ask-read : tie.Need-sub-ask-read Inv-loop μ-loop
 sub-ask-read c = let p = c .before .before .before .before .before .before .pre .1 in start-within _ (p .what) _ (p .is) 0 (p .is .one)
 
--- src/questions.rt:83:26
 part-ask-read-start : tie.Need-part-ask-read-start Inv-loop μ-loop
 part-ask-read-start c = let p = c .before .before .before .before .before .before .pre .1 in start-within _ (p .what) _ (p .is) 0 (p .is .one)
 
--- src/questions.rt:83:26
 part-ask-read-end : tie.Need-part-ask-read-end Inv-loop μ-loop
 part-ask-read-end c = search needs
 
--- src/questions.rt:83:45
 sub-ask-read-2 : tie.Need-sub-ask-read-2 Inv-loop μ-loop
 sub-ask-read-2 c = let p = c .before .before .before .before .before .before .before .pre .1 in start-within _ (p .what) _ (p .is) 0 (p .is .one)
 
--- src/questions.rt:83:45
 part-ask-read-start-2 : tie.Need-part-ask-read-start-2 Inv-loop μ-loop
 part-ask-read-start-2 c = let p = c .before .before .before .before .before .before .before .pre .1 in start-within _ (p .what) _ (p .is) 0 (p .is .one)
 
--- src/questions.rt:83:45
 part-ask-read-end-2 : tie.Need-part-ask-read-end-2 Inv-loop μ-loop
 part-ask-read-end-2 c = search needs
 
--- src/questions.rt:83:9
 ask-read-requires : tie.Need-ask-read-requires Inv-loop μ-loop
 ask-read-requires c κs = c .before .before .before .before .before .before .before .before .pre .0
 
--- src/questions.rt:85:9
 returns-2 : tie.Need-returns-2 Inv-loop μ-loop
 returns-2 c =
     λ u ty h w g x.
@@ -76,11 +65,9 @@ returns-2 c =
     let n = c .before .ask-read .ensures u ty _ _ w g (f .sets) f in
     number-five ty (h .dossier .snapshots) 0 0 (in-count _ h _ x 0 (x .one)) _ n (c .if2 .taken) ∙ sym (is-lone _ h _ x u ty _ w (c .before .before .before .before .before .before .before .before .is-lone .ensures) (not-false _ (c .before .before .before .before .before .before .before .if1 .left)))
 
--- src/questions.rt:87:9
 first-number-requires : tie.Need-first-number-requires Inv-loop μ-loop
 first-number-requires c κs = search needs
 
--- src/questions.rt:89:5
 loop-holds : tie.Need-loop-holds Inv-loop μ-loop
 loop-holds c = (
   λ u ty h w g x.
@@ -90,43 +77,33 @@ loop-holds c = (
   number-kept (c .before .before .ask-read .result) 0 (c .first-number .ensures) (inl refl),
 )
 
--- src/questions.rt:90:18
 mul-at : tie.Need-mul-at Inv-loop μ-loop
 mul-at c = omega (arith, c .loop-test .taken, c .before .before .before .before .before .before .before .before .before .before .before .before .before .pre .1 .is .few)
 
--- src/questions.rt:90:18
 element-copy-out-at : tie.Need-element-copy-out-at Inv-loop μ-loop
 element-copy-out-at c = omega (arith, c .loop-test .taken, c .before .before .before .before .before .before .before .before .before .before .before .before .before .pre .1 .is .few)
 
--- src/questions.rt:91:33
 sub-ask-snapshot : tie.Need-sub-ask-snapshot Inv-loop μ-loop
 sub-ask-snapshot c = let p = c .before .before .before .before .before .before .before .before .before .before .before .before .before .before .pre .1 in start-within _ (p .what) _ (p .is) 0 (p .is .one)
 
--- src/questions.rt:91:33
 part-ask-snapshot-start : tie.Need-part-ask-snapshot-start Inv-loop μ-loop
 part-ask-snapshot-start c = let p = c .before .before .before .before .before .before .before .before .before .before .before .before .before .before .pre .1 in start-within _ (p .what) _ (p .is) 0 (p .is .one)
 
--- src/questions.rt:91:33
 part-ask-snapshot-end : tie.Need-part-ask-snapshot-end Inv-loop μ-loop
 part-ask-snapshot-end c = search needs
 
--- src/questions.rt:91:52
 sub-ask-snapshot-2 : tie.Need-sub-ask-snapshot-2 Inv-loop μ-loop
 sub-ask-snapshot-2 c = let p = c .before .before .before .before .before .before .before .before .before .before .before .before .before .before .before .pre .1 in start-within _ (p .what) _ (p .is) _ (c .before .before .loop-test .taken)
 
--- src/questions.rt:91:52
 part-ask-snapshot-start-2 : tie.Need-part-ask-snapshot-start-2 Inv-loop μ-loop
 part-ask-snapshot-start-2 c = let p = c .before .before .before .before .before .before .before .before .before .before .before .before .before .before .before .pre .1 in start-within _ (p .what) _ (p .is) _ (c .before .before .loop-test .taken)
 
--- src/questions.rt:91:52
 part-ask-snapshot-end-2 : tie.Need-part-ask-snapshot-end-2 Inv-loop μ-loop
 part-ask-snapshot-end-2 c = search needs
 
--- src/questions.rt:91:13
 ask-snapshot-requires : tie.Need-ask-snapshot-requires Inv-loop μ-loop
 ask-snapshot-requires c κs = c .before .before .before .before .before .before .before .before .before .before .before .before .before .before .before .before .pre .0
 
--- src/questions.rt:93:13
 returns-3 : tie.Need-returns-3 Inv-loop μ-loop
 returns-3 c =
     λ u ty h w g x.
@@ -135,19 +112,15 @@ returns-3 c =
     let n = c .before .ask-snapshot .ensures u _ ty _ _ w g (f .sets) (start-reads _ h _ x _ l) in
     number-five ty (h .dossier .snapshots) (c .before .before .before .before .before .before .loop .number) (c .before .before .before .before .before .before .loop .j) (in-count _ h _ x _ l) _ n (c .if3 .taken) ∙ sym (c .before .before .before .before .before .before .loop .inv .0 u ty h w g x)
 
--- src/questions.rt:95:9
 first-number-requires-2 : tie.Need-first-number-requires-2 Inv-loop μ-loop
 first-number-requires-2 c κs = search needs
 
--- src/questions.rt:96:9
 add-j : tie.Need-add-j Inv-loop μ-loop
 add-j c = omega (arith, c .before .before .before .before .before .before .loop-test .taken, c .before .before .before .before .before .before .before .before .before .before .before .before .before .before .before .before .before .before .before .pre .1 .is .few)
 
--- src/questions.rt:89:5
 loop-less : tie.Need-loop-less Inv-loop μ-loop
 loop-less c = omega (arith, c .before .before .before .before .before .before .loop-test .taken)
 
--- src/questions.rt:89:5
 loop-again : tie.Need-loop-again Inv-loop μ-loop
 loop-again c = (
   λ u ty h w g x.
@@ -158,7 +131,6 @@ loop-again c = (
   number-kept (c .before .before .ask-snapshot .result) (c .before .before .before .before .before .before .before .loop .number) (c .first-number2 .ensures) (c .before .before .before .before .before .before .before .loop .inv .1),
 )
 
--- src/questions.rt:73:1
 returns-4 : tie.Need-returns-4 Inv-loop μ-loop
 returns-4 c = λ u ty h w g x. number-end ty (h .dossier .snapshots) (c .before .loop .number) (c .before .loop .j) (past-count _ h _ x _ (c .loop-test .left)) (c .before .loop .inv .1) ∙ sym (c .before .loop .inv .0 u ty h w g x)
 

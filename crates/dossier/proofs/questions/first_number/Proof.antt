@@ -5,11 +5,9 @@ use Rattle.dossier.proofs.questions.first_number.Tie as tie
 use Rattle.dossier.proofs.questions.first_number.Reads as reads
 use Rattle.dossier.proofs.questions.first_number.Lts as lts
 
--- src/questions.rt:42:1
 returns : tie.Need-returns
 returns c = rw (eq-eqb _ 6 (c .if1 .taken))
 
--- src/questions.rt:42:1
 returns-2 : tie.Need-returns-2
 returns-2 c = rw (ne-eqb _ 6 (c .if1 .left))
 

@@ -5,11 +5,9 @@ use Rattle.dossier.proofs.questions.is_lone.Tie as tie
 use Rattle.dossier.proofs.questions.is_lone.Reads as reads
 use Rattle.dossier.proofs.questions.is_lone.Lts as lts
 
--- src/questions.rt:53:9
 returns : tie.Need-returns
 returns c = rw (lt-ltb 0 _ (c .if1 .taken))
 
--- src/questions.rt:49:1
 returns-2 : tie.Need-returns-2
 returns-2 c = rw (le-ltb 0 _ (c .if1 .left))
 

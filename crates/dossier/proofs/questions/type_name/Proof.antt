@@ -5,11 +5,9 @@ use Rattle.dossier.proofs.questions.type_name.Reads as reads
 use Rattle.dossier.proofs.questions.type_name.Lts as lts
 use Rattle.dossier.proofs.parts.text_part.Reads as text-part-reads
 
--- src/questions.rt:113:5
 text-part-requires : tie.Need-text-part-requires
 text-part-requires c κs = search needs
 
--- src/questions.rt:108:1
 returns : tie.Need-returns
 returns c = λ h w. c .text-part .ensures (h .type) (w .head .name)
 

@@ -10,35 +10,27 @@ use Rattle.dossier.proofs.shape.is_lone_if_single.Reads as is-lone-if-s
 use Rattle.dossier.proofs.shape.is_present.Reads as is-present-reads
 use Rattle.dossier.proofs.shape.is_unmarked_match.Reads as is-unmarked-match-reads
 
--- src/shape.rt:95:9
 is-present-requires : tie.Need-is-present-requires
 is-present-requires c κs = search needs
 
--- src/shape.rt:96:9
 returns : tie.Need-returns
 returns c = λ s q d w v. cell-absent s q _ d _ _ w v _ (c .before .is-present .ensures) (not-true _ (c .if1 .taken))
 
--- src/shape.rt:98:9
 is-unmarked-match-requires : tie.Need-is-unmarked-match-requires
 is-unmarked-match-requires c κs = search needs
 
--- src/shape.rt:99:9
 returns-2 : tie.Need-returns-2
 returns-2 c = λ s q d w v. cell-match s q _ d _ _ w v _ (c .before .is-unmarked-match .ensures) (not-true _ (c .if2 .taken))
 
--- src/shape.rt:102:9
 is-lone-if-single-requires : tie.Need-is-lone-if-single-requires
 is-lone-if-single-requires c κs = search needs
 
--- src/shape.rt:104:9
 fits-unversioned-requires : tie.Need-fits-unversioned-requires
 fits-unversioned-requires c κs = search needs
 
--- src/shape.rt:92:1
 returns-3 : tie.Need-returns-3
 returns-3 c = λ s q d w v. cell-versioned s q _ d _ _ w v _ (c .before .before .before .before .before .is-present .ensures) (not-false _ (c .before .before .before .before .if1 .left)) (c .before .before .before .is-unmarked-match .ensures) (not-false _ (c .before .before .if2 .left)) (c .before .if3 .taken) (c .is-lone-if-single .ensures)
 
--- src/shape.rt:92:1
 returns-4 : tie.Need-returns-4
 returns-4 c = λ s q d w v. cell-plain s q _ d _ _ w v _ (c .before .before .before .before .before .is-present .ensures) (not-false _ (c .before .before .before .before .if1 .left)) (c .before .before .before .is-unmarked-match .ensures) (not-false _ (c .before .before .if2 .left)) (c .before .if3 .left) (c .fits-unversioned .ensures)
 

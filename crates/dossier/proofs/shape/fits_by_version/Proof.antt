@@ -7,23 +7,18 @@ use Rattle.dossier.proofs.shape.fits_by_version.Reads as reads
 use Rattle.dossier.proofs.shape.fits_by_version.Lts as lts
 use Rattle.dossier.proofs.shape.holds_version.Reads as holds-version-reads
 
--- src/shape.rt:218:13
 returns : tie.Need-returns
 returns c = λ y ty m w. plain-not _ y _ w _ ty m (c .before .before .if1 .taken) (c .if2 .taken)
 
--- src/shape.rt:220:9
 returns-2 : tie.Need-returns-2
 returns-2 c = λ y ty m w. plain-so _ y _ w _ ty m (c .before .before .before .if1 .taken) (c .before .if2 .left)
 
--- src/shape.rt:223:9
 returns-3 : tie.Need-returns-3
 returns-3 c = λ y ty m w. dated-large _ y _ w _ ty m (c .before .before .if1 .left) (c .if3 .taken)
 
--- src/shape.rt:225:5
 holds-version-requires : tie.Need-holds-version-requires
 holds-version-requires c κs = omega (arith, c .before .before .if1 .left)
 
--- src/shape.rt:212:1
 returns-4 : tie.Need-returns-4
 returns-4 c = λ y ty m w. dated-so _ y _ w _ ty m (c .before .before .before .if1 .left) (c .before .if3 .left) (c .holds-version .ensures y w)
 

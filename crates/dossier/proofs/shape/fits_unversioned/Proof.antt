@@ -5,19 +5,15 @@ use Rattle.dossier.proofs.shape.fits_unversioned.Tie as tie
 use Rattle.dossier.proofs.shape.fits_unversioned.Reads as reads
 use Rattle.dossier.proofs.shape.fits_unversioned.Lts as lts
 
--- src/shape.rt:67:9
 returns : tie.Need-returns
 returns c = rw (c .if1 .taken)
 
--- src/shape.rt:70:9
 returns-2 : tie.Need-returns-2
 returns-2 c = rw (c .before .before .if1 .left, eq-eqb _ 1 (c .if2 .taken))
 
--- src/shape.rt:73:9
 returns-3 : tie.Need-returns-3
 returns-3 c = rw (c .before .before .before .before .if1 .left, ne-eqb _ 1 (c .before .before .if2 .left), eq-eqb _ 2 (c .if3 .taken))
 
--- src/shape.rt:63:1
 returns-4 : tie.Need-returns-4
 returns-4 c = rw (c .before .before .before .before .if1 .left, ne-eqb _ 1 (c .before .before .if2 .left), ne-eqb _ 2 (c .if3 .left))
 

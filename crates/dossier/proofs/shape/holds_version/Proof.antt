@@ -7,27 +7,21 @@ use Rattle.dossier.proofs.shape.holds_version.Reads as reads
 use Rattle.dossier.proofs.shape.holds_version.Lts as lts
 use Rattle.dossier.proofs.shape.is_version.Reads as is-version-reads
 
--- src/shape.rt:205:9
 returns : tie.Need-returns
 returns c = λ y w. holds-far _ y _ w _ (c .if1 .taken)
 
--- src/shape.rt:207:22
 sub-set : tie.Need-sub-set
 sub-set c = c .before .before .pre
 
--- src/shape.rt:207:15
 mul-set : tie.Need-mul-set
 mul-set c = omega (arith, c .if1 .left, c .before .before .pre)
 
--- src/shape.rt:207:15
 element-copy-out-set : tie.Need-element-copy-out-set
 element-copy-out-set c = omega (arith, c .if1 .left, c .before .before .pre)
 
--- src/shape.rt:209:5
 is-version-requires : tie.Need-is-version-requires
 is-version-requires c κs = search needs
 
--- src/shape.rt:200:1
 returns-2 : tie.Need-returns-2
 returns-2 c = λ y w. holds-here _ y _ w _ (c .is-version .ensures _ (holds-set _ y _ w _ (c .before .before .before .before .before .pre) (c .before .before .before .if1 .left)))
 

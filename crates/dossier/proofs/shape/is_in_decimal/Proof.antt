@@ -14,63 +14,48 @@ Inv-loop v n m₀ k₀ m k = Left v n m k
 abbrev μ-loop : tie.MeasureT-loop
 μ-loop v n m₀ k₀ m k = k
 
--- src/shape.rt:173:5
 loop-holds : tie.Need-loop-holds Inv-loop μ-loop
 loop-holds c = left-all _ _ (omega arith)
 
--- src/shape.rt:175:13
 returns : tie.Need-returns Inv-loop μ-loop
 returns c = sym (digit-none _ _ _ _ (c .before .before .loop .inv) (c .before .loop-test .taken) (c .if1 .taken))
 
--- src/shape.rt:177:14
 sub-if2 : tie.Need-sub-if2 Inv-loop μ-loop
 sub-if2 c = omega (arith, c .if1 .left)
 
--- src/shape.rt:177:12
 shared-slice-read-if2 : tie.Need-shared-slice-read-if2 Inv-loop μ-loop
 shared-slice-read-if2 c = omega (arith, c .before .if1 .left, c .before .before .before .loop .inv .within)
 
--- src/shape.rt:177:12
 cast-if2 : tie.Need-cast-if2 Inv-loop μ-loop
 cast-if2 c = omega (arith, c .shared-slice-known .given (c .before .before .before .loop .k - 1))
 
--- src/shape.rt:177:31
 add-if2 : tie.Need-add-if2 Inv-loop μ-loop
 add-if2 c = search needs
 
--- src/shape.rt:178:13
 returns-2 : tie.Need-returns-2 Inv-loop μ-loop
 returns-2 c = sym (digit-other _ _ _ _ (c .before .before .before .before .loop .inv) (c .before .before .before .loop-test .taken) (c .before .before .if1 .left) (c .if2 .taken))
 
--- src/shape.rt:181:9
 sub-k : tie.Need-sub-k Inv-loop μ-loop
 sub-k c = omega (arith, c .before .before .if1 .left)
 
--- src/shape.rt:173:5
 loop-less : tie.Need-loop-less Inv-loop μ-loop
 loop-less c = omega (arith, c .before .before .if1 .left)
 
--- src/shape.rt:173:5
 loop-again : tie.Need-loop-again Inv-loop μ-loop
 loop-again c = digit-same _ _ _ _ (c .before .before .before .before .loop .inv) (c .before .before .before .loop-test .taken) (c .before .before .if1 .left) (c .if2 .left)
 
--- src/shape.rt:184:9
 returns-3 : tie.Need-returns-3 Inv-loop μ-loop
 returns-3 c = sym (digit-far _ _ _ _ (c .before .before .loop .inv) (c .before .loop-test .left) (c .if3 .taken))
 
--- src/shape.rt:186:5
 shared-slice-read-result : tie.Need-shared-slice-read-result Inv-loop μ-loop
 shared-slice-read-result c = omega (arith, c .before .if3 .left, c .before .before .before .loop .inv .within)
 
--- src/shape.rt:186:5
 cast-result : tie.Need-cast-result Inv-loop μ-loop
 cast-result c = omega (arith, c .shared-slice-known2 .given 0)
 
--- src/shape.rt:186:20
 add-result : tie.Need-add-result Inv-loop μ-loop
 add-result c = search needs
 
--- src/shape.rt:168:1
 returns-4 : tie.Need-returns-4 Inv-loop μ-loop
 returns-4 c = digit-one _ _ _ _ (c .before .before .before .loop .inv) (c .before .before .loop-test .left) (c .before .if3 .left)
 

@@ -4,11 +4,9 @@ use Rattle.dossier.proofs.shape.is_lone_if_single.Tie as tie
 use Rattle.dossier.proofs.shape.is_lone_if_single.Reads as reads
 use Rattle.dossier.proofs.shape.is_lone_if_single.Lts as lts
 
--- src/shape.rt:57:9
 returns : tie.Need-returns
 returns c = rw (c .if1 .taken)
 
--- src/shape.rt:53:1
 returns-2 : tie.Need-returns-2
 returns-2 c = rw (c .if1 .left)
 

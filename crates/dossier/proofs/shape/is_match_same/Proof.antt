@@ -23,39 +23,30 @@ Inv-loop a b t x y k₀ k = (s : List ℕ) (ty : EventType) (xs ys : List (List 
 abbrev μ-loop : tie.MeasureT-loop
 μ-loop a b t x y k₀ k = t .count - k
 
--- src/shape.rt:259:5
 loop-holds : tie.Need-loop-holds Inv-loop μ-loop
 loop-holds c = λ s ty xs ys w u v. refl
 
--- src/shape.rt:260:17
 mul-p : tie.Need-mul-p Inv-loop μ-loop
 mul-p c = omega (arith, c .loop-test .taken, c .before .before .before .before .pre)
 
--- src/shape.rt:260:17
 element-copy-out-p : tie.Need-element-copy-out-p Inv-loop μ-loop
 element-copy-out-p c = omega (arith, c .loop-test .taken, c .before .before .before .before .pre)
 
--- src/shape.rt:261:17
 mul-v : tie.Need-mul-v Inv-loop μ-loop
 mul-v c = omega (arith, c .before .loop-test .taken, c .before .before .before .before .before .pre)
 
--- src/shape.rt:261:17
 array-copy-out-v : tie.Need-array-copy-out-v Inv-loop μ-loop
 array-copy-out-v c = omega (arith, c .before .loop-test .taken, c .before .before .before .before .before .pre)
 
--- src/shape.rt:262:17
 mul-w : tie.Need-mul-w Inv-loop μ-loop
 mul-w c = omega (arith, c .before .before .loop-test .taken, c .before .before .before .before .before .before .pre)
 
--- src/shape.rt:262:17
 array-copy-out-w : tie.Need-array-copy-out-w Inv-loop μ-loop
 array-copy-out-w c = omega (arith, c .before .before .loop-test .taken, c .before .before .before .before .before .before .pre)
 
--- src/shape.rt:263:13
 place-same-requires : tie.Need-place-same-requires Inv-loop μ-loop
 place-same-requires c κs = search needs
 
--- src/shape.rt:264:13
 returns : tie.Need-returns Inv-loop μ-loop
 returns c =
     λ s ty xs ys w u v.
@@ -63,15 +54,12 @@ returns c =
     let l = in-all s ty _ w _ h in
     sym (c .before .before .before .before .before .before .loop .inv s ty xs ys w u v ∙ same-bad s ty _ w _ h _ _ xs ys _ _ u v (c .before .place-same .ensures s (this s ty _ w _ h .what) _ _ (this-is s ty _ w _ h _) (u .each _ l) (v .each _ l)) (not-true _ (c .if1 .taken)))
 
--- src/shape.rt:266:9
 add-k : tie.Need-add-k Inv-loop μ-loop
 add-k c = omega (arith, c .before .before .before .before .before .loop-test .taken, c .before .before .before .before .before .before .before .before .before .pre)
 
--- src/shape.rt:259:5
 loop-less : tie.Need-loop-less Inv-loop μ-loop
 loop-less c = omega (arith, c .before .before .before .before .before .loop-test .taken)
 
--- src/shape.rt:259:5
 loop-again : tie.Need-loop-again Inv-loop μ-loop
 loop-again c =
     λ s ty xs ys w u v.
@@ -79,7 +67,6 @@ loop-again c =
     let l = in-all s ty _ w _ h in
     c .before .before .before .before .before .before .loop .inv s ty xs ys w u v ∙ same-more s ty _ w _ h _ _ xs ys _ _ u v (c .before .place-same .ensures s (this s ty _ w _ h .what) _ _ (this-is s ty _ w _ h _) (u .each _ l) (v .each _ l)) (not-false _ (c .if1 .left))
 
--- src/shape.rt:254:1
 returns-2 : tie.Need-returns-2 Inv-loop μ-loop
 returns-2 c = λ s ty xs ys w u v. sym (c .before .loop .inv s ty xs ys w u v ∙ same-end s ty _ xs ys _ w (c .loop-test .left))
 

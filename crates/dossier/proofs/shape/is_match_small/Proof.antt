@@ -23,47 +23,36 @@ Inv-loop t sets left₀ k₀ left k = (s u : List ℕ) (ty : EventType) (xs : Li
 abbrev μ-loop : tie.MeasureT-loop
 μ-loop t sets left₀ k₀ left k = t .count - k
 
--- src/shape.rt:154:5
 loop-holds : tie.Need-loop-holds Inv-loop μ-loop
 loop-holds c = λ s u ty xs w v. refl
 
--- src/shape.rt:155:17
 mul-p : tie.Need-mul-p Inv-loop μ-loop
 mul-p c = omega (arith, c .loop-test .taken, c .before .before .pre)
 
--- src/shape.rt:155:17
 element-copy-out-p : tie.Need-element-copy-out-p Inv-loop μ-loop
 element-copy-out-p c = omega (arith, c .loop-test .taken, c .before .before .pre)
 
--- src/shape.rt:156:17
 mul-x : tie.Need-mul-x Inv-loop μ-loop
 mul-x c = omega (arith, c .before .loop-test .taken, c .before .before .before .pre)
 
--- src/shape.rt:156:17
 array-copy-out-x : tie.Need-array-copy-out-x Inv-loop μ-loop
 array-copy-out-x c = omega (arith, c .before .loop-test .taken, c .before .before .before .pre)
 
--- src/shape.rt:157:13
 match-size-requires : tie.Need-match-size-requires Inv-loop μ-loop
 match-size-requires c κs = search needs
 
--- src/shape.rt:159:13
 returns : tie.Need-returns Inv-loop μ-loop
 returns c = λ s u ty xs w v. sym (c .before .before .before .before .before .loop .inv s u ty xs w v ∙ match-large s u ty _ xs _ _ w v _ _ (c .before .before .before .before .loop-test .taken) _ (c .before .match-size .ensures) (c .if1 .taken))
 
--- src/shape.rt:162:9
 add-k : tie.Need-add-k Inv-loop μ-loop
 add-k c = omega (arith, c .before .before .before .before .loop-test .taken, c .before .before .before .before .before .before .pre)
 
--- src/shape.rt:154:5
 loop-less : tie.Need-loop-less Inv-loop μ-loop
 loop-less c = omega (arith, c .before .before .before .before .loop-test .taken)
 
--- src/shape.rt:154:5
 loop-again : tie.Need-loop-again Inv-loop μ-loop
 loop-again c = λ s u ty xs w v. c .before .before .before .before .before .loop .inv s u ty xs w v ∙ match-more s u ty _ xs _ _ w v _ _ (c .before .before .before .before .loop-test .taken) _ (c .before .match-size .ensures) (c .if1 .left)
 
--- src/shape.rt:148:1
 returns-2 : tie.Need-returns-2 Inv-loop μ-loop
 returns-2 c = λ s u ty xs w v. sym (c .before .loop .inv s u ty xs w v ∙ match-end s ty _ xs _ _ w (c .loop-test .left))
 

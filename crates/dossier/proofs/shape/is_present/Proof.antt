@@ -4,15 +4,12 @@ use Rattle.dossier.proofs.shape.is_present.Tie as tie
 use Rattle.dossier.proofs.shape.is_present.Reads as reads
 use Rattle.dossier.proofs.shape.is_present.Lts as lts
 
--- src/shape.rt:45:9
 returns : tie.Need-returns
 returns c = rw (c .if1 .taken)
 
--- src/shape.rt:48:9
 returns-2 : tie.Need-returns-2
 returns-2 c = rw (c .before .if1 .left, c .if2 .taken)
 
--- src/shape.rt:41:1
 returns-3 : tie.Need-returns-3
 returns-3 c = rw (c .before .if1 .left, c .if2 .left)
 

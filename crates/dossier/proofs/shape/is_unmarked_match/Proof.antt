@@ -6,19 +6,15 @@ use Rattle.dossier.proofs.shape.is_unmarked_match.Reads as reads
 use Rattle.dossier.proofs.shape.is_unmarked_match.Lts as lts
 use Rattle.dossier.proofs.shape.is_lone_if_single.Reads as is-lone-if-single-reads
 
--- src/shape.rt:83:9
 returns : tie.Need-returns
 returns c = rw (ne-eqb _ 5 (c .if1 .taken))
 
--- src/shape.rt:86:9
 returns-2 : tie.Need-returns-2
 returns-2 c = rw (eq-eqb _ 5 (c .before .if1 .left), c .if2 .taken)
 
--- src/shape.rt:88:5
 is-lone-if-single-requires : tie.Need-is-lone-if-single-requires
 is-lone-if-single-requires c κs = search needs
 
--- src/shape.rt:79:1
 returns-3 : tie.Need-returns-3
 returns-3 c = rw (eq-eqb _ 5 (c .before .before .if1 .left), c .before .if2 .left) (c .is-lone-if-single .ensures)
 

@@ -11,23 +11,18 @@ use Rattle.dossier.proofs.shape.is_in_decimal.Reads as is-in-decimal-re
 use Rattle.event.proofs.sets.set_part.Reads as set-part-reads
 use Rattle.event.proofs.sets.value_in.Reads as value-in-reads
 
--- src/shape.rt:193:9
 returns : tie.Need-returns
 returns c = λ vs w. version-many vs _ _ (w .count) (c .if1 .taken)
 
--- src/shape.rt:195:22
 set-part-requires : tie.Need-set-part-requires
 set-part-requires c κs = search needs
 
--- src/shape.rt:195:9
 value-in-requires : tie.Need-value-in-requires
 value-in-requires c κs = search needs
 
--- src/shape.rt:196:5
 is-in-decimal-requires : tie.Need-is-in-decimal-requires
 is-in-decimal-requires c κs = search needs
 
--- src/shape.rt:189:1
 returns-2 : tie.Need-returns-2
 returns-2 c =
     λ vs w.

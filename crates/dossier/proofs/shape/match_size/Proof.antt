@@ -5,11 +5,9 @@ use Rattle.dossier.proofs.shape.match_size.Tie as tie
 use Rattle.dossier.proofs.shape.match_size.Reads as reads
 use Rattle.dossier.proofs.shape.match_size.Lts as lts
 
--- src/shape.rt:141:1
 returns : tie.Need-returns
 returns c = rw (eq-eqb _ 5 (c .if1 .taken))
 
--- src/shape.rt:141:1
 returns-2 : tie.Need-returns-2
 returns-2 c = rw (ne-eqb _ 5 (c .if1 .left))
 

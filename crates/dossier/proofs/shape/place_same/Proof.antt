@@ -9,23 +9,18 @@ use Rattle.dossier.proofs.shape.place_same.Lts as lts
 use Rattle.event.proofs.sets.set_part.Reads as set-part-reads
 use Rattle.packed.proofs.order.same.Reads as same-reads
 
--- src/shape.rt:248:9
 returns : tie.Need-returns
 returns c = λ s q vs ws w x y. place-free s q _ w _ (c .if1 .taken)
 
--- src/shape.rt:250:10
 set-part-requires : tie.Need-set-part-requires
 set-part-requires c κs = search needs
 
--- src/shape.rt:250:26
 set-part-requires-2 : tie.Need-set-part-requires-2
 set-part-requires-2 c κs = search needs
 
--- src/shape.rt:250:5
 same-requires : tie.Need-same-requires
 same-requires c κs = search needs
 
--- src/shape.rt:244:1
 returns-2 : tie.Need-returns-2
 returns-2 c =
     λ s q vs ws w x y.

@@ -13,27 +13,21 @@ use Rattle.event.proofs.ask.type_name.Reads as type-name-reads
 use Rattle.event.proofs.read.no_event.Reads as no-event-reads
 use Rattle.ontology.proofs.tables.read_table.Reads as read-table-reads
 
--- src/ask.rt:89:34
 type-name-requires : tie.Need-type-name-requires
 type-name-requires c κs = search needs
 
--- src/ask.rt:89:9
 read-table-requires : tie.Need-read-table-requires
 read-table-requires c κs = search needs
 
--- src/ask.rt:95:20
 no-event-requires : tie.Need-no-event-requires
 no-event-requires c κs = search needs
 
--- src/ask.rt:92:9
 returns : tie.Need-returns
 returns c = no-table _ _ (countsOf (c .before .before .before .before .before .before .before .before .args .wide)) _ _ (c .before .before .before .before .read-table .ensures) _ (not-true _ (c .before .if1 .taken)) refl
 
--- src/ask.rt:98:5
 ask-typed-requires : tie.Need-ask-typed-requires
 ask-typed-requires c κs = search needs
 
--- src/ask.rt:86:1
 returns-2 : tie.Need-returns-2
 returns-2 c =
     let g = table-got _ _ _ (c .before .before .before .before .read-table .ensures) (not-false _ (c .before .if1 .left)) in

@@ -13,46 +13,37 @@ use Rattle.event.proofs.read.read_event.Reads as read-event-reads
 use Rattle.event.proofs.shape.shape_ok.Reads as shape-ok-reads
 use Rattle.event.proofs.spaces.values_ok.Reads as values-ok-reads
 
--- src/ask.rt:59:31
 most-parents-requires : tie.Need-most-parents-requires
 most-parents-requires c κs = search needs
 
--- src/ask.rt:59:51
 most-objects-requires : tie.Need-most-objects-requires
 most-objects-requires c κs = search needs
 
--- src/ask.rt:59:9
 read-event-requires : tie.Need-read-event-requires
 read-event-requires c κs = search needs
 
--- src/ask.rt:67:9
 returns : tie.Need-returns
 returns c =
     λ table ts e f.
     no-event table ts _ (countsOf (c .before .before .before .before .before .before .before .args .wide)) _ (with-counts _ _ _ _ _ (c .before .before .before .before .before .most-parents .ensures) (c .before .before .before .before .most-objects .ensures) (c .before .before .before .read-event .ensures)) _ (not-true _ (c .if1 .taken)) refl
 
--- src/ask.rt:71:9
 returns-2 : tie.Need-returns-2
 returns-2 c =
     λ table ts e f.
     no-type table ts _ (countsOf (c .before .before .before .before .before .before .before .before .before .args .wide)) _ (with-counts _ _ _ _ _ (c .before .before .before .before .before .before .before .most-parents .ensures) (c .before .before .before .before .before .before .most-objects .ensures) (c .before .before .before .before .before .read-event .ensures)) (not-false _ (c .before .before .if1 .left)) _ f _ (not-true _ (c .if2 .taken)) refl
 
--- src/ask.rt:74:9
 shape-ok-requires : tie.Need-shape-ok-requires
 shape-ok-requires c κs = search needs
 
--- src/ask.rt:75:9
 returns-3 : tie.Need-returns-3
 returns-3 c =
     λ table ts e f.
     let m = met table ts _ (countsOf (c .before .before .before .before .before .before .before .before .before .before .before .args .wide)) _ (with-counts _ _ _ _ _ (c .before .before .before .before .before .before .before .before .before .most-parents .ensures) (c .before .before .before .before .before .before .before .before .most-objects .ensures) (c .before .before .before .before .before .before .before .read-event .ensures)) (not-false _ (c .before .before .before .before .if1 .left)) _ f e (not-false _ (c .before .before .if2 .left)) in
     no-shape table ts _ _ _ _ m _ (sym (not-true _ (c .if3 .taken)) ∙ c .before .shape-ok .ensures _ _ (m .type) (m .e) (m .type-is) (m .event-is)) refl
 
--- src/ask.rt:78:9
 values-ok-requires : tie.Need-values-ok-requires
 values-ok-requires c κs = search needs
 
--- src/ask.rt:79:9
 returns-4 : tie.Need-returns-4
 returns-4 c =
     λ table ts e f.
@@ -60,7 +51,6 @@ returns-4 c =
     let h = sym (not-false _ (c .before .before .if3 .left)) ∙ c .before .before .before .shape-ok .ensures _ _ (m .type) (m .e) (m .type-is) (m .event-is) in
     no-values table ts _ _ _ _ m _ h (sym (not-true _ (c .if4 .taken)) ∙ c .before .values-ok .ensures _ (m .type) (m .e) (m .type-is) (m .kinds) (m .event-is)) refl
 
--- src/ask.rt:56:1
 returns-5 : tie.Need-returns-5
 returns-5 c =
     λ table ts e f.
