@@ -16,7 +16,7 @@ use crate::read::EventIndex;
 use crate::read::no_event;
 use crate::read::read_event;
 use crate::shape::shape_ok;
-use crate::spaces::values_ok;
+use crate::spaces::sets_in_space;
 use ontology::tables::TableRead;
 use ontology::tables::read_table;
 use ontology::types::TypeIndex;
@@ -75,7 +75,8 @@ pub fn ask_typed(event: &[u8], read: TableRead, wide: bool) -> EventAsked
         return asked;
     }
     asked.number = 6;
-    if !values_ok(event, kind, e) {
+    let sets = e.sets;
+    if !sets_in_space(event, sets, kind) {
         return asked;
     }
     asked.number = 0;

@@ -9,10 +9,8 @@ ghost use Rattle.values.specs.Spaces.{Kind, isKind};
 ghost use Rattle.values.specs.KindNumbers.{kindOf};
 ghost use Rattle.ontology.specs.Table.{EventType};
 ghost use Rattle.ontology.specs.TypeIndex.{TypeIs};
-ghost use Rattle.event.specs.Event.{Event};
 ghost use Rattle.event.specs.EventQuestions.{areInSpace, valuesFit};
-ghost use Rattle.event.specs.EventIndex.{SetsAre, EventIs, KindsAre};
-use crate::read::EventIndex;
+ghost use Rattle.event.specs.EventIndex.{SetsAre, KindsAre};
 use crate::sets::SetAt;
 use crate::sets::set_part;
 use ontology::types::TypeIndex;
@@ -51,12 +49,4 @@ pub fn sets_in_space(s: &[u8], sets: [SetAt; 32], t: TypeIndex) -> bool
         k += 1;
     }
     true
-}
-
-// Question 6.
-pub fn values_ok(event: &[u8], t: TypeIndex, e: EventIndex) -> bool
-    ensures { λ r. ⌜ ((table : List ℕ) (y : EventType) (x : Event) → TypeIs table y t → KindsAre y → EventIs (now (event .entry)) x e → r ≡ valuesFit y (x .sets)) ⌝ }
-{
-    let sets = e.sets;
-    sets_in_space(event, sets, t)
 }

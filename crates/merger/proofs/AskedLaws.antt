@@ -24,7 +24,7 @@ use Rattle.event.specs.EventIndex.{EventIs, eventQuestions, EventAnswers}
 use Rattle.event.specs.declared.ask.EventAsked.{EventAsked}
 use Rattle.event.proofs.EventQuestionLaws.{event-accepted}
 use Rattle.dossier.specs.DossierQuestions.{matchSets, agree}
-use Rattle.model.proofs.Cases.{and-false}
+use Rattle.model.proofs.Cases.{and-parts}
 use Rattle.merger.specs.Batch.{AskedAt, refusedAt, accepted, _>>=_, _>>_, at, eventsAsked, eventsAgree, agreeWith}
 use Rattle.merger.specs.BatchIndex.{BatchIs, eventsAgreed, eventsTogether, RefusalIs, firstApart}
 use Rattle.merger.specs.declared.asked.EventsAsked.{EventsAsked}
@@ -36,27 +36,24 @@ module _ (ty tz : EventType) (f g : Event) where
   abbrev both : Bool
   both = eventsAgree (record { type = ty; event = f }) (record { type = tz; event = g })
 
+  abbrev heads : Bool
+  heads = equal texts (f .type) (g .type) && equal texts (f .source) (g .source)
+
   abbrev match-same : Bool
   match-same = equal (lists sets) (matchSets (ty .properties) (f .sets)) (matchSets (tz .properties) (g .sets))
 
-  pub agree-type : {r : Bool} → r ≡ equal texts (f .type) (g .type) → r ≡ false → false ≡ both
+  pub agree-heads : {r : Bool} → r ≡ heads → r ≡ false → false ≡ both
   unfolding eventsAgree agree
-  agree-type e k = sym (ap (λ (b : Bool). b && equal texts (f .source) (g .source) && match-same) (sym e ∙ k))
-
-  pub agree-source : {r : Bool} → r ≡ equal texts (f .source) (g .source) → r ≡ false → false ≡ both
-  unfolding eventsAgree agree
-  agree-source e k =
-      sym (ap (λ (b : Bool). equal texts (f .type) (g .type) && b && match-same) (sym e ∙ k)
-      ∙ ap (λ (b : Bool). b && match-same) (and-false (equal texts (f .type) (g .type))))
+  agree-heads e k = sym (ap (λ (b : Bool). b && match-same) (sym e ∙ k))
 
   pub agree-match :
-      {a b : Bool} → a ≡ equal texts (f .type) (g .type) → a ≡ true → b ≡ equal texts (f .source) (g .source) → b ≡ true → (f .type ≡ g .type → ty ≡ tz) →
+      {a : Bool} → a ≡ heads → a ≡ true → (f .type ≡ g .type → ty ≡ tz) →
       {r : Bool} → r ≡ equal (lists sets) (matchSets (ty .properties) (f .sets)) (matchSets (ty .properties) (g .sets)) → r ≡ both
   unfolding eventsAgree agree
-  agree-match d e h k l n =
-      let q : ty ≡ tz = l (equal-true texts (f .type) (g .type) .0 (sym d ∙ e)) in
+  agree-match d e l n =
+      let q : ty ≡ tz = l (equal-true texts (f .type) (g .type) .0 (and-parts (equal texts (f .type) (g .type)) (equal texts (f .source) (g .source)) (sym d ∙ e) .0)) in
       n
-      ∙ sym (ap₂ (λ (x y : Bool). x && y && match-same) (sym d ∙ e) (sym h ∙ k)
+      ∙ sym (ap (λ (b : Bool). b && match-same) (sym d ∙ e)
       ∙ ap (λ (t : EventType). equal (lists sets) (matchSets (ty .properties) (f .sets)) (matchSets (t .properties) (g .sets))) (sym q))
 
 -- ---- questions 3 to 6 of one event

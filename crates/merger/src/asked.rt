@@ -13,7 +13,7 @@ ghost use Rattle.merger.specs.Batch.{eventsAgree};
 ghost use Rattle.merger.specs.BatchIndex.{BatchIs, eventsTogether, RefusalIs, firstApart};
 use crate::frame::BatchIndex;
 use crate::frame::event_part;
-use dossier::parts::text_part;
+use dossier::parts::heads_agree;
 use dossier::shape::is_match_same;
 use event::ask::EventAsked;
 use event::ask::ask_typed;
@@ -22,7 +22,6 @@ use event::read::EventIndex;
 use ontology::tables::TableRead;
 use ontology::tables::table_for;
 use ontology::types::TypeIndex;
-use packed::order::same;
 
 // The number of a question that is answered no and the position of its event; 0 where all are answered yes, and then the type of the events.
 pub struct EventsAsked {
@@ -49,10 +48,7 @@ fn events_agree(a: &[u8], d: EventIndex, b: &[u8], e: EventIndex, t: TypeIndex) 
 {
     let x = d.head;
     let y = e.head;
-    if !same(text_part(a, x.name), text_part(b, y.name)) {
-        return false;
-    }
-    if !same(text_part(a, x.source), text_part(b, y.source)) {
+    if !heads_agree(a, x, b, y) {
         return false;
     }
     let left = d.sets;

@@ -11,7 +11,6 @@ use Rattle.event.proofs.ask.most_objects.Reads as most-objects-reads
 use Rattle.event.proofs.ask.most_parents.Reads as most-parents-reads
 use Rattle.event.proofs.read.read_event.Reads as read-event-reads
 use Rattle.event.proofs.shape.shape_ok.Reads as shape-ok-reads
-use Rattle.event.proofs.spaces.values_ok.Reads as values-ok-reads
 
 most-parents-requires : tie.Need-most-parents-requires
 most-parents-requires c κs = search needs
@@ -41,22 +40,22 @@ returns-3 c =
     let m = met table ts _ (countsOf (c .before .before .before .before .before .before .before .before .before .before .before .args .wide)) _ (with-counts _ _ _ _ _ (c .before .before .before .before .before .before .before .before .before .most-parents .ensures) (c .before .before .before .before .before .before .before .before .most-objects .ensures) (c .before .before .before .before .before .before .before .read-event .ensures)) (not-false _ (c .before .before .before .before .if1 .left)) _ f e (not-false _ (c .before .before .if2 .left)) in
     no-shape table ts _ _ _ _ m _ (sym (not-true _ (c .if3 .taken)) ∙ c .before .shape-ok .ensures _ _ (m .type) (m .e) (m .type-is) (m .event-is)) refl
 
-values-ok-requires : tie.Need-values-ok-requires
-values-ok-requires c κs = search needs
+sets-in-space-requires : tie.Need-sets-in-space-requires
+sets-in-space-requires c κs = search needs
 
 returns-4 : tie.Need-returns-4
 returns-4 c =
     λ table ts e f.
-    let m = met table ts _ (countsOf (c .before .before .before .before .before .before .before .before .before .before .before .before .before .args .wide)) _ (with-counts _ _ _ _ _ (c .before .before .before .before .before .before .before .before .before .before .before .most-parents .ensures) (c .before .before .before .before .before .before .before .before .before .before .most-objects .ensures) (c .before .before .before .before .before .before .before .before .before .read-event .ensures)) (not-false _ (c .before .before .before .before .before .before .if1 .left)) _ f e (not-false _ (c .before .before .before .before .if2 .left)) in
-    let h = sym (not-false _ (c .before .before .if3 .left)) ∙ c .before .before .before .shape-ok .ensures _ _ (m .type) (m .e) (m .type-is) (m .event-is) in
-    no-values table ts _ _ _ _ m _ h (sym (not-true _ (c .if4 .taken)) ∙ c .before .values-ok .ensures _ (m .type) (m .e) (m .type-is) (m .kinds) (m .event-is)) refl
+    let m = met table ts _ (countsOf (c .before .before .before .before .before .before .before .before .before .before .before .before .before .before .args .wide)) _ (with-counts _ _ _ _ _ (c .before .before .before .before .before .before .before .before .before .before .before .before .most-parents .ensures) (c .before .before .before .before .before .before .before .before .before .before .before .most-objects .ensures) (c .before .before .before .before .before .before .before .before .before .before .read-event .ensures)) (not-false _ (c .before .before .before .before .before .before .before .if1 .left)) _ f e (not-false _ (c .before .before .before .before .before .if2 .left)) in
+    let h = sym (not-false _ (c .before .before .before .if3 .left)) ∙ c .before .before .before .before .shape-ok .ensures _ _ (m .type) (m .e) (m .type-is) (m .event-is) in
+    no-values table ts _ _ _ _ m _ h (sym (not-true _ (c .if4 .taken)) ∙ c .before .sets-in-space .ensures _ (m .type) (m .e .sets) (m .type-is) (m .kinds) (m .event-is .sets)) refl
 
 returns-5 : tie.Need-returns-5
 returns-5 c =
     λ table ts e f.
-    let m = met table ts _ (countsOf (c .before .before .before .before .before .before .before .before .before .before .before .before .before .args .wide)) _ (with-counts _ _ _ _ _ (c .before .before .before .before .before .before .before .before .before .before .before .most-parents .ensures) (c .before .before .before .before .before .before .before .before .before .before .most-objects .ensures) (c .before .before .before .before .before .before .before .before .before .read-event .ensures)) (not-false _ (c .before .before .before .before .before .before .if1 .left)) _ f e (not-false _ (c .before .before .before .before .if2 .left)) in
-    let h = sym (not-false _ (c .before .before .if3 .left)) ∙ c .before .before .before .shape-ok .ensures _ _ (m .type) (m .e) (m .type-is) (m .event-is) in
-    all-met table ts _ _ _ _ m _ h (sym (not-false _ (c .if4 .left)) ∙ c .before .values-ok .ensures _ (m .type) (m .e) (m .type-is) (m .kinds) (m .event-is)) refl (m .type-is) (m .event-is)
+    let m = met table ts _ (countsOf (c .before .before .before .before .before .before .before .before .before .before .before .before .before .before .args .wide)) _ (with-counts _ _ _ _ _ (c .before .before .before .before .before .before .before .before .before .before .before .before .most-parents .ensures) (c .before .before .before .before .before .before .before .before .before .before .before .most-objects .ensures) (c .before .before .before .before .before .before .before .before .before .before .read-event .ensures)) (not-false _ (c .before .before .before .before .before .before .before .if1 .left)) _ f e (not-false _ (c .before .before .before .before .before .if2 .left)) in
+    let h = sym (not-false _ (c .before .before .before .if3 .left)) ∙ c .before .before .before .before .shape-ok .ensures _ _ (m .type) (m .e) (m .type-is) (m .event-is) in
+    all-met table ts _ _ _ _ m _ h (sym (not-false _ (c .if4 .left)) ∙ c .before .sets-in-space .ensures _ (m .type) (m .e .sets) (m .type-is) (m .kinds) (m .event-is .sets)) refl (m .type-is) (m .event-is)
 
 pub ask-typed-spec : {M : Type 1} → statement M
 ask-typed-spec =
@@ -69,6 +68,6 @@ ask-typed-spec =
     returns-2
     shape-ok-requires
     returns-3
-    values-ok-requires
+    sets-in-space-requires
     returns-4
     returns-5)
