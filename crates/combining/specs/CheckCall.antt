@@ -5,8 +5,8 @@ use lib.ListN.{length}
 use lib.Dec.{leb}
 use Rattle.model.specs.Rule.{rule}
 use Rattle.ontology.specs.TableLayout.{tableOf}
-use Rattle.ontology.specs.Questions.{Asked, refused, accepted, _>>=_, _>>_, ask, ensure, leastRoom, Answer, answer, Outcome, outcome}
-use Rattle.event.specs.Event.{Event, view}
+use Rattle.ontology.specs.Questions.{accepted, _>>=_, _>>_, ask, ensure, leastRoom, Answer, answer, Outcome, outcome}
+use Rattle.event.specs.Event.{view}
 use Rattle.event.specs.EventLayout.{narrow}
 use Rattle.event.specs.EventQuestions.{Typed, eventAsked}
 use Rattle.dossier.specs.DossierLayout.{Headed, dossierBytes}

@@ -6,7 +6,7 @@ use lib.Dec.{leb}
 use Rattle.model.specs.Rule.{Dossier, combine}
 use Rattle.model.specs.Limits.{Limits, fits}
 use Rattle.ontology.specs.TableLayout.{tableOf}
-use Rattle.ontology.specs.Questions.{Asked, refused, accepted, _>>=_, _>>_, ask, ensure, leastRoom, Answer, answer, Outcome, outcome}
+use Rattle.ontology.specs.Questions.{accepted, _>>=_, _>>_, ask, ensure, leastRoom, Answer, answer, Outcome, outcome}
 use Rattle.event.specs.Event.{view}
 use Rattle.dossier.specs.DossierLayout.{Headed, dossierBytes}
 use Rattle.dossier.specs.DossierQuestions.{TypedDossier, dossierAsked, dossiersAgree}

@@ -15,8 +15,7 @@ use borrow.Author.Tests.{le-leb, lt-leb, ne-eqb}
 use Rattle.model.specs.Order.{Text}
 use Rattle.model.specs.Rule.{Cell, holds, differs, size, sizes}
 use Rattle.model.specs.Opening.{held, isMark}
-pub use Rattle.model.proofs.Cases.{and-false}
-use Rattle.model.proofs.Cases.{and-true}
+use Rattle.model.proofs.Cases.{and-false, and-true}
 use Rattle.model.proofs.SizeLaws.{held-size}
 use Rattle.packed.proofs.LayoutLaws.{lt-or-ge}
 use Rattle.ontology.specs.Table.{Property, EventType, isMin, isMax, isMatch, isVersioned}

@@ -1,7 +1,7 @@
 -- Document 01, "Dossier": its bytes.
-use Prim.Native.Nat.{ℕ, zero, suc, _+_, _/_, _%_}
-use mathlib.Core.Bool.{Bool, true, false, cond, not, _&&_}
-use mathlib.Core.Option.{Option, none, some}
+use Prim.Native.Nat.{ℕ, zero, suc, _/_, _%_}
+use mathlib.Core.Bool.{Bool, true, cond, not, _&&_}
+use mathlib.Core.Option.{Option}
 use mathlib.Core.List.{List, [], _∷_, _++_, map, flatten}
 use lib.ListN.{length}
 use lib.Dec.{leb, eqb}
@@ -9,8 +9,8 @@ use Rattle.model.specs.Order.{Text, numbers, rising}
 use Rattle.model.specs.Rule.{Cell, holds, differs, Snapshot, Dossier}
 use Rattle.model.specs.Limits.{Limits}
 use Rattle.model.specs.Opening.{held}
-use Rattle.packed.specs.Parse.{Parse, fail, got, Layout, andThen, _>>=_, found, foundIf, suchThat, times, whole}
-use Rattle.packed.specs.Packed.{number, readNumber, text, readText}
+use Rattle.packed.specs.Parse.{Layout, _>>=_, found, foundIf, suchThat, times, whole}
+use Rattle.packed.specs.Packed.{number, readNumber, readText}
 use Rattle.values.specs.Spaces.{isWithin}
 use Rattle.event.specs.EventLayout.{isSource, readParents, readBits, readSets, headBytes, presenceBit, bitNumber, setsBytes}
 

@@ -1,17 +1,16 @@
 -- Document 01, questions 3 to 6 of a dossier, and 7 of two.
-use Prim.Native.Nat.{ℕ, _+_, _-_}
+use Prim.Native.Nat.{ℕ, _-_}
 use mathlib.Core.Bool.{Bool, true, false, cond, not, _&&_, _||_}
-use mathlib.Core.Option.{Option, none, some}
 use mathlib.Core.List.{List, [], _∷_, map}
 use lib.ListN.{length}
 use lib.Dec.{leb, eqb}
-use Rattle.model.specs.Order.{Order, Text, texts, sets, lists, equal}
-use Rattle.model.specs.Rule.{Cell, holds, differs, Snapshot, Dossier, sizes}
+use Rattle.model.specs.Order.{Text, texts, sets, lists, equal}
+use Rattle.model.specs.Rule.{Cell, holds, differs, Snapshot, sizes}
 use Rattle.model.specs.Limits.{Limits}
 use Rattle.model.specs.Opening.{held, isMark, cellAt}
 use Rattle.values.specs.Decimal.{inDecimal}
 use Rattle.ontology.specs.Table.{Property, EventType, Table, isMin, isMax, isMatch, isVersioned, typeNamed}
-use Rattle.ontology.specs.Questions.{Asked, refused, accepted, _>>=_, _>>_, ask, ensure}
+use Rattle.ontology.specs.Questions.{Asked, accepted, _>>=_, _>>_, ask, ensure}
 use Rattle.event.specs.EventQuestions.{isEmpty, matchCount, valuesFit}
 use Rattle.dossier.specs.DossierLayout.{Headed, dossierOf}
 

@@ -1,6 +1,6 @@
 ghost use Prim.Native.Nat.{ℕ, _-_, _≤_};
 ghost use mathlib.Core.Path.{_≡_};
-ghost use mathlib.Core.Bool.{true, false, cond, not, _&&_, _||_};
+ghost use mathlib.Core.Bool.{cond, not, _&&_, _||_};
 ghost use mathlib.Core.List.{List, [], _∷_};
 ghost use lib.Dec.{leb, eqb};
 ghost use Rattle.model.specs.Order.{Text, texts, sets, lists, equal};

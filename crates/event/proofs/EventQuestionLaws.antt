@@ -22,7 +22,7 @@ use Rattle.values.specs.Spaces.{Kind, sequence, isUnsigned, isOfKind, inSpace}
 use Rattle.values.specs.ValueOrder.{extremeOrder}
 use Rattle.values.proofs.NumberOrderLaws.{unsigned-below, in-decimal-sequence}
 use Rattle.ontology.specs.Table.{Strategy, min, max, add, replace, match, set, any, strategyNumber, Property, EventType, Table, isMin, isMax, isMatch, isVersioned, typeNamed}
-use Rattle.ontology.specs.Questions.{accepted, _>>=_, _>>_, ask}
+use Rattle.ontology.specs.Questions.{accepted, ask}
 use Rattle.ontology.proofs.TableLaws.{TypeKept, extreme-single}
 use Rattle.ontology.proofs.QuestionLaws.{asked-then, ask-some, ensured, accepted-same}
 use Rattle.ontology.proofs.TypeIndexLaws.{named-at}

@@ -1,12 +1,12 @@
 -- Document 01, "Packed event": its bytes.
 use Prim.Native.Nat.{ℕ, zero, suc, _+_, _*_, _/_, _%_, _^_}
-use mathlib.Core.Bool.{Bool, true, false, cond, _&&_}
-use mathlib.Core.Option.{Option, none, some}
+use mathlib.Core.Bool.{Bool, true, cond, _&&_}
+use mathlib.Core.Option.{Option}
 use mathlib.Core.List.{List, [], _∷_, _++_, map, flatten}
 use lib.ListN.{length}
 use lib.Dec.{leb, ltb, eqb}
 use Rattle.model.specs.Order.{Text, texts, rising}
-use Rattle.packed.specs.Parse.{Parse, fail, got, Layout, andThen, _>>=_, found, foundIf, suchThat, times, whole}
+use Rattle.packed.specs.Parse.{got, Layout, andThen, _>>=_, found, foundIf, suchThat, times, whole}
 use Rattle.packed.specs.Packed.{number, readNumber, text, readText, readBytes}
 use Rattle.event.specs.Event.{Event, objectCount}
 

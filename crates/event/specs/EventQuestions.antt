@@ -1,14 +1,13 @@
 -- Document 01, questions 3 to 6 of an event.
 use Prim.Native.Nat.{ℕ, _+_}
-use mathlib.Core.Bool.{Bool, true, false, cond, _&&_, _||_}
-use mathlib.Core.Option.{Option, none, some}
+use mathlib.Core.Bool.{Bool, true, cond, _&&_, _||_}
 use mathlib.Core.List.{List, [], _∷_}
 use lib.ListN.{length}
 use lib.Dec.{leb, eqb}
 use Rattle.model.specs.Order.{Text}
 use Rattle.values.specs.Spaces.{Kind, inSpace}
 use Rattle.ontology.specs.Table.{Property, EventType, Table, isMatch, typeNamed}
-use Rattle.ontology.specs.Questions.{Asked, refused, accepted, _>>=_, _>>_, ask, ensure}
+use Rattle.ontology.specs.Questions.{Asked, accepted, _>>=_, _>>_, ask, ensure}
 use Rattle.event.specs.Event.{Event}
 use Rattle.event.specs.EventLayout.{Counts, eventOf}
 

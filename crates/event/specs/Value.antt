@@ -1,9 +1,8 @@
 -- Document 01: "A reader who asks for the value at a place and an index from 0 gets the value's own bytes in the caller's event, not a copy; a refused table
 -- or event, or no value there, gives a part of 0 bytes".
 use Prim.Native.Nat.{ℕ}
-use mathlib.Core.Bool.{Bool, true, false, cond}
 use mathlib.Core.Option.{Option, none, some}
-use mathlib.Core.List.{List, [], _∷_, _++_, map, flatten}
+use mathlib.Core.List.{List, [], _++_, map, flatten}
 use lib.ListN.{length, take, getD, getElem?}
 use Rattle.model.specs.Order.{Text}
 use Rattle.packed.specs.Packed.{number, text}

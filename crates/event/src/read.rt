@@ -1,5 +1,5 @@
 ghost use mathlib.Core.Path.{_≡_};
-ghost use mathlib.Core.Bool.{true, false};
+ghost use mathlib.Core.Bool.{false};
 ghost use lib.ListN.{drop};
 ghost use Rattle.event.specs.EventLayout.{isSource, readParents, eventOf};
 ghost use Rattle.event.specs.EventIndex.{ParentsReads, HeadReads, readHead, EventReads, counts};

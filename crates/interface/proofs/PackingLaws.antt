@@ -1,9 +1,8 @@
 -- The laws of the numbers that replies are packed into.
-use Prim.Native.Nat.{ℕ, _+_, _*_, _-_, _%_, _^_, _≤_}
+use Prim.Native.Nat.{ℕ, _+_, _*_, _-_, _%_}
 use native.Mathlib.Nat.{zero-add}
 use mathlib.Core.Path.{_≡_, refl, sym, ap, _∙_}
 use mathlib.Core.List.{List}
-use lib.ListN.{length}
 use Rattle.packed.specs.Located.{part}
 use Rattle.packed.proofs.ReadLaws.{part-length}
 use Rattle.ontology.specs.Questions as questions

@@ -1,5 +1,5 @@
 -- The lines marked * in document 01, as one theorem about the calls' answers on packed bytes: tables, events and dossiers are bytes throughout.
-use Prim.Native.Nat.{ℕ, Ordering, Ordering·lt}
+use Prim.Native.Nat.{ℕ, Ordering·lt}
 use mathlib.Core.Path.{_≡_, refl}
 use mathlib.Core.List.{List, [], _∷_, _++_, map, flatten}
 use lib.ListN.{replicate}

@@ -1,22 +1,21 @@
 -- Document 01: the batch. "A batch asks 3 to 6 of each event in turn, then 7 of each against the first, then 8 of all; its refusal has the event's position
 -- from 0 (0 for 1, 2, 8, 9)."
 use Prim.Native.Nat.{ℕ, suc}
-use mathlib.Core.Bool.{Bool, true, false, _&&_}
-use mathlib.Core.Option.{Option, none, some}
+use mathlib.Core.Bool.{Bool, _&&_}
+use mathlib.Core.Option.{Option}
 use mathlib.Core.List.{List, [], _∷_, map}
-use lib.ListN.{length}
 use lib.Dec.{leb}
-use Rattle.model.specs.Rule.{Dossier, rule}
+use Rattle.model.specs.Rule.{rule}
 use Rattle.model.specs.Limits.{Limits, fits}
 use Rattle.packed.specs.Parse as layout
-use Rattle.packed.specs.Parse.{Parse, fail, got, Layout, suchThat, times, whole}
+use Rattle.packed.specs.Parse.{Layout, suchThat, times, whole}
 use Rattle.packed.specs.Packed.{readNumber, readText}
-use Rattle.ontology.specs.Table.{EventType, Table}
+use Rattle.ontology.specs.Table.{Table}
 use Rattle.values.specs.Spaces.{isWithin}
 use Rattle.ontology.specs.TableLayout.{tableOf}
 use Rattle.ontology.specs.Questions as asked
 use Rattle.ontology.specs.Questions.{Asked, ask, ensure, leastRoom, Answer, gives, refusesAt, Outcome, outcome}
-use Rattle.event.specs.Event.{Event, view}
+use Rattle.event.specs.Event.{view}
 use Rattle.event.specs.EventLayout.{narrow}
 use Rattle.event.specs.EventQuestions.{Typed, eventAsked}
 use Rattle.dossier.specs.DossierLayout.{Headed, dossierBytes}

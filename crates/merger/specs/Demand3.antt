@@ -4,19 +4,19 @@ use mathlib.Core.Path.{_≡_}
 use mathlib.Core.Logic.{_↔_}
 use mathlib.Core.Bool.{true, false, cond}
 use mathlib.Core.Option.{Option, none, some}
-use mathlib.Core.List.{List, [], _∷_, List·Memᴰ}
+use mathlib.Core.List.{List, [], List·Memᴰ}
 use lib.ListN.{length, take, getElem?}
 use Rattle.model.specs.Order.{Text, texts}
 use Rattle.model.specs.Sets.{Same}
 use Rattle.model.specs.Rule.{View, Dossier, rule}
-use Rattle.model.specs.Limits.{Limits, fits, standard}
-use Rattle.model.specs.Opening.{Opened, opening}
+use Rattle.model.specs.Limits.{fits, standard}
+use Rattle.model.specs.Opening.{opening}
 use Rattle.model.specs.Clashes.{FirstClash, NoClash}
 use Rattle.model.specs.Ways as ways
 use Rattle.model.specs.Ways.{Way, wrote, said, events, buffers, eventSet, calls}
 use Rattle.ontology.specs.Table.{Property, EventType, Table, isMatch}
 use Rattle.ontology.specs.TableLayout.{tableOf}
-use Rattle.ontology.specs.Questions.{Asked, accepted, leastRoom, Answer, gives, Reply, Outcome, outcome}
+use Rattle.ontology.specs.Questions.{accepted, leastRoom, gives, Reply, Outcome, outcome}
 use Rattle.event.specs.Event.{Event, setAt, view}
 use Rattle.event.specs.EventLayout.{narrow, eventOf}
 use Rattle.event.specs.EventQuestions.{eventAsked}

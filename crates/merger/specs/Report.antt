@@ -1,13 +1,12 @@
 -- Document 01: what the merge program prints. "The merge program reads standard input (at most 65,536 bytes, else 9): table as a text, then a batch. A table
 -- text that doesn't read to its length gives 9, before question 2."
-use Prim.Native.Nat.{ℕ, _+_, _-_, _/_, _%_}
-use mathlib.Core.Bool.{Bool, true, false, cond}
-use mathlib.Core.Option.{Option, none, some}
+use Prim.Native.Nat.{ℕ, _+_, _/_, _%_}
+use mathlib.Core.Bool.{cond}
 use mathlib.Core.List.{List, [], _∷_, _++_, map, flatten}
 use lib.ListN.{length, getElem?}
 use lib.Dec.{leb, ltb}
 use Rattle.model.specs.Order.{Text}
-use Rattle.model.specs.Limits.{Limits, standard}
+use Rattle.model.specs.Limits.{standard}
 use Rattle.model.specs.Opening.{Opened, conflictAt, overfullAt, merged, opening}
 use Rattle.packed.specs.Parse.{Parse, fail, got}
 use Rattle.packed.specs.Packed.{readText}

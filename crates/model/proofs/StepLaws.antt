@@ -5,11 +5,11 @@ use Prim.Native.Nat.{ℕ, _<_}
 use lib.ListN.{length, take, getD}
 use Rattle.model.specs.Order.{Order, pick}
 use Rattle.model.specs.Keyed.{merge}
-use Rattle.model.specs.Sets.{Ups, itself, first, canon, union, smallest, upTo}
+use Rattle.model.specs.Sets.{Ups, itself, first, union, smallest, upTo}
 use Rattle.model.specs.Rule.{Cell, holds, View, places, Snapshot, joinCell, joinCells, joinSnapshots}
 use Rattle.model.specs.Opening.{cellAt}
 use Rattle.model.proofs.KeyedLaws.{merge-nil, merge-step}
-use Rattle.model.proofs.SetLaws.{canon-ups, union-canon, smallest-append}
+use Rattle.model.proofs.SetLaws.{smallest-append}
 use Rattle.model.proofs.PartLaws.{flatten-append, map-getD, getD-upTo}
 use Rattle.model.proofs.RuleLaws.{join-cells-map}
 
@@ -28,20 +28,7 @@ module _ {K : Type 0} (O : Order K) where
   unfolding union
   union-step x xs y ys hx hy = merge-step O itself first (λ a b e. refl) x xs y ys hx hy
 
-  -- one more rising set, before or after the others
-  pub canon-cons : (s : List K) (ss : List (List K)) → Ups O s → canon O (flatten (s ∷ ss)) ≡ union O s (canon O (flatten ss))
-  unfolding flatten
-  canon-cons s ss h = rw (← union-canon O s (flatten ss), canon-ups O s h)
-
-  pub canon-snoc : (ss : List (List K)) (s : List K) → Ups O s → canon O (flatten (ss ++ (s ∷ []))) ≡ union O (canon O (flatten ss)) s
-  unfolding flatten
-  canon-snoc ss s h = rw (flatten-append ss (s ∷ []), append-nil s, ← union-canon O (flatten ss) s, canon-ups O s h)
-
-  -- the smallest, with one more set before or after the others
-  pub smallest-cons : (s : List K) (ss : List (List K)) → smallest O (flatten (s ∷ ss)) ≡ take 1 (union O (smallest O s) (smallest O (flatten ss)))
-  unfolding flatten
-  smallest-cons s ss = sym (smallest-append O s (flatten ss))
-
+  -- the smallest, with one more set after the others
   pub smallest-snoc : (ss : List (List K)) (s : List K) → smallest O (flatten (ss ++ (s ∷ []))) ≡ take 1 (union O (smallest O (flatten ss)) (smallest O s))
   unfolding flatten
   smallest-snoc ss s = rw (flatten-append ss (s ∷ []), append-nil s) (sym (smallest-append O (flatten ss) s))

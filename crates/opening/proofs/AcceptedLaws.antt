@@ -13,7 +13,6 @@ use Rattle.model.specs.Opening.{held, isMark, cellAt, column}
 use Rattle.model.proofs.Cases.{never, and-parts, or-part, where-so}
 use Rattle.model.proofs.SizeLaws.{size-at, held-size}
 use Rattle.ontology.specs.Table.{Property, isMin, isMax, isVersioned}
-use Rattle.ontology.specs.Questions.{_>>=_, _>>_}
 use Rattle.ontology.specs.declared.types.TypeIndex.{TypeIndex}
 use Rattle.ontology.proofs.TableLaws.{extreme-single, extreme-ordered}
 use Rattle.event.specs.EventQuestions.{areInSpace, valuesFit}

@@ -20,7 +20,7 @@ use Rattle.values.specs.declared.versions.EventVersion.{EventVersion}
 use Rattle.ontology.specs.Table.{Table, typeNamed}
 use Rattle.ontology.specs.TableLayout.{tableOf}
 use Rattle.ontology.specs.TypeIndex.{TypeSays}
-use Rattle.ontology.specs.Questions.{refused, _>>=_, _>>_, outcome}
+use Rattle.ontology.specs.Questions.{refused, outcome}
 use Rattle.ontology.specs.declared.tables.TableRead.{TableRead}
 use Rattle.ontology.specs.declared.types.TypeIndex.{TypeIndex}
 use Rattle.ontology.proofs.TypeIndexLaws.{TableGot, found-few}

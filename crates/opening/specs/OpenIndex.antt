@@ -1,12 +1,12 @@
 -- What the code holds of a dossier that is opened, and what it answers.
 use Prim.Native.Nat.{ℕ, _+_, _*_, _^_, _≤_, _<_}
 use mathlib.Core.Path.{_≡_}
-use mathlib.Core.Bool.{Bool, true, false, _||_}
+use mathlib.Core.Bool.{true, false, _||_}
 use mathlib.Core.Option.{Option, none, some}
 use mathlib.Core.List.{List, [], map, flatten}
 use lib.ListN.{length, getD, getElem?}
 use Rattle.model.specs.Order.{Text, texts, rising}
-use Rattle.model.specs.Rule.{View, Snapshot, Dossier}
+use Rattle.model.specs.Rule.{Snapshot, Dossier}
 use Rattle.model.specs.Limits.{standard}
 use Rattle.model.specs.Opening as model
 use Rattle.model.specs.Opening.{held, cellAt, column, mergedAt, mergedSets}
@@ -18,7 +18,7 @@ use Rattle.ontology.specs.TypeIndex.{TypeIs}
 use Rattle.ontology.specs.declared.types.TypeIndex.{TypeIndex}
 use Rattle.ontology.specs.Questions as questions
 use Rattle.ontology.specs.Questions.{accepted, Outcome}
-use Rattle.event.specs.Event.{Event, view}
+use Rattle.event.specs.Event.{view}
 use Rattle.event.specs.EventLayout.{headBytes, setsBytes, eventBytes}
 use Rattle.event.specs.EventQuestions.{areInSpace}
 use Rattle.event.specs.EventIndex.{SetIs, noSet, HeadIs}

@@ -1,10 +1,8 @@
 ghost use Prim.Native.Nat.{ℕ, _<_};
-ghost use mathlib.Core.Path.{_≡_};
 ghost use mathlib.Core.List.{List};
 ghost use lib.ListN.{length, drop, getD};
 ghost use Rattle.model.specs.Rule.{Snapshot};
 ghost use Rattle.model.specs.Opening.{column};
-ghost use Rattle.event.specs.EventIndex.{SetIs, noSet};
 ghost use Rattle.unions.specs.Merging.{SetRuns};
 ghost use Rattle.dossier.specs.DossierLayout.{Headed};
 ghost use Rattle.dossier.specs.DossierIndex.{SnapshotIs, noSnapshot, DossierIs, IsDossier};

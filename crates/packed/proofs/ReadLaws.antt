@@ -1,19 +1,19 @@
 -- The laws of the readers' answers: from positions to layouts and back.
 use mathlib.Core.Path.{_≡_, refl, sym, ap, ap₂, _∙_}
 use mathlib.Core.Bool.{Bool, true, false, cond, _&&_}
-use mathlib.Core.Option.{none, some}
+use mathlib.Core.Option.{none}
 use mathlib.Core.List.{List, _∷_, _++_, append-assoc}
 use Prim.Native.Nat.{ℕ, zero, suc, _+_, _-_, _*_, _^_, _≤_, _<_}
 use native.Mathlib.Omega.{arith}
 use native.Mathlib.Numerals.{add-one, sub-one}
 use lib.Dec.{ltb}
 use lib.ListN.{length, take, drop, getD, length-drop, length-append, drop-of-length-le}
-use lib.Seq.{drop-cons, drop-drop, drop-append-seam, drop-length, length-take-le, take-append-seam, take-all}
+use lib.Seq.{drop-cons, drop-drop, drop-append-seam, length-take-le, take-append-seam, take-all}
 use borrow.Author.Tests.{lt-ltb, le-ltb, le-leb, lt-leb}
 use Rattle.packed.specs.declared.read.NumberAt.{NumberAt}
 use Rattle.packed.specs.declared.read.NumberAt.the-variants.{Number, NoNumber}
 use Rattle.packed.specs.declared.read.TextAt.the-variants.{Text, NoText}
-use Rattle.packed.specs.Parse.{Parse, fail, got, Layout, andThen, whole}
+use Rattle.packed.specs.Parse.{Parse, fail, got, whole}
 use Rattle.packed.specs.Packed.{number, more, readGroups, readNumber, text, readBytes, readText}
 use Rattle.packed.specs.Located.{part, locatedNumber, numberAt, locatedText, textAt, Stops}
 use Rattle.packed.proofs.LayoutLaws.{read-last, read-more, number-was, number-bounds, text-was, text-length}
@@ -206,19 +206,6 @@ module _ {A : Type 0} {p : Parse A} {s : List ℕ} {e : ℕ} where
   pub stops-got : {a : A} → p ≡ got a (drop e s) → e ≤ length s → Stops A p s e
   stops-got {a} h k = record { what = a; is = h; within = k }
 
-  -- the layouts one after the other stop where the second does
-  pub stops-then : {B : Type 0} {f : ℕ} (k : A → Layout B) (w : Stops A p s e) → Stops B (k (w .what) (drop e s)) s f → Stops B (andThen p k) s f
-  stops-then k w v = record { what = v .what; is = rw (w .is) (v .is); within = v .within }
-
-  -- the whole is read just where nothing is left
-  pub stops-whole : (w : Stops A p s e) → e ≡ length s → whole p ≡ some (w .what)
-  stops-whole w h = rw (w .is, h, drop-length s)
-
+  -- the whole is not read where something is left
   pub stops-early : Stops A p s e → e < length s → whole p ≡ none
   stops-early w h = rw (w .is, drop-next s e h)
-
-pub stops-number : (s : List ℕ) (at n next : ℕ) → numberAt s at ≡ Number n next → Stops ℕ (readNumber (drop at s)) s next
-stops-number s at n next e = let w = number-stops s at n next e in stops-got (w .is) (w .within)
-
-pub stops-text : (s : List ℕ) (at a e : ℕ) → textAt s at ≡ Text a e → Stops (List ℕ) (readText (drop at s)) s e
-stops-text s at a e q = let w = text-stops s at a e q in stops-got (w .is) (w .within)

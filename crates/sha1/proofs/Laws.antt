@@ -10,7 +10,7 @@ use lib.Seq.{length-take-le, drop-append-le, sets, sets-eq, paste, getD-append-a
 use lib.Bits.{bitXor}
 use borrow.Author.Tests.{lt-ltb, le-ltb}
 use Rattle.sha1.specs.declared.State.{State}
-use Rattle.sha1.specs.Fips.{plus, zeros, bigEndian, padded, block, wordAt, W, ROTL, schedule, round, rounds, sum, compressed, hash, digest, sha1Of}
+use Rattle.sha1.specs.Fips.{plus, zeros, bigEndian, padded, block, wordAt, W, ROTL, schedule, round, rounds, compressed, hash, digest, sha1Of}
 
 -- two lists that agree below n agree at each place below n
 pub same-at : (n : ℕ) (a b : List ℕ) → take n a ≡ take n b → (k : ℕ) → k < n → getD a k 0 ≡ getD b k 0

@@ -3,7 +3,7 @@ use mathlib.Core.Path.{_≡_, refl, sym, ap, ap₂, _∙_, subst}
 use mathlib.Core.Logic.{_⊎_, inl, inr}
 use mathlib.Core.Bool.{Bool, true, false, cond}
 use mathlib.Core.List.{List, [], _∷_, _++_, append-assoc, append-nil, map, flatten}
-use Prim.Native.Nat.{ℕ, suc, _+_, _-_, _*_, _^_, _≤_, _<_, Ordering·lt, Ordering·eq, Ordering·gt}
+use Prim.Native.Nat.{ℕ, suc, _+_, _-_, _^_, _≤_, _<_, Ordering·lt, Ordering·eq, Ordering·gt}
 use native.Mathlib.Omega.{arith}
 use lib.ListN.{length, take, drop, length-append, length-drop, take-append-drop}
 use lib.Seq.{drop-drop, take-at, drop-at}
@@ -20,8 +20,6 @@ use Rattle.packed.proofs.LayoutLaws.{All, text-read, text-was, text-length, num
 use Rattle.packed.proofs.ReadLaws.{text-stops, text-none, part-length, to-end}
 use Rattle.packed.specs.Written.{Wrote}
 use Rattle.packed.proofs.WriteLaws.{ToGo, gone, all-gone}
-use Rattle.event.specs.EventIndex.{HashesAre}
-use Rattle.event.specs.declared.sets.SetAt.{SetAt}
 use Rattle.event.proofs.SetLaws.{stretch}
 use Rattle.event.proofs.HeadLaws.{flat}
 use Rattle.unions.specs.declared.heads.Form.{Form}
@@ -317,13 +315,6 @@ hash-run s hs e k h = record {
   each = hashes-fit hs k;
   rises = rising-ups texts hs .0 h;
 }
-
--- the hashes that an event's reader found
-pub hashes-are : (s : List ℕ) (hs : List Text) (x : SetAt) → HashesAre s hs x → Hashes hs
-hashes-are s hs x w i h =
-    let k : x .start + 20 * i + 20 ≤ length s = omega (arith, w .size, w .count, w .within) in
-    let n : x .start + 20 * i + 20 - (x .start + 20 * i) ≡ 20 = omega arith in
-    sym (ap length (w .each i h)) ∙ part-length s (x .start + 20 * i) (x .start + 20 * i + 20) (omega arith) k ∙ n
 
 -- the rooms that the callers give
 pub texts-room : {a b : List ℕ} {at size : ℕ} → length a < 2 ^ 64 → length b < 2 ^ 64 → TextsRoom a b at size → Room form.Texts a b at size

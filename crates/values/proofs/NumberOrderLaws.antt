@@ -10,13 +10,13 @@ use lib.Dec.{ltb, leb, eqb}
 use lib.ListN.{length, drop, take-append-drop, length-append}
 use borrow.Author.Tests.{lt-ltb, le-ltb, ne-eqb, ltb-true, eqb-true}
 use Rattle.model.specs.Order.{Text, texts, numbers, lists, lex, pick, three, nat-same, ranked, rankCmp, from, integers, integerCmp}
-use Rattle.model.proofs.OrderLaws.{lt-compare, gt-compare, eq-compare, compare-lt, compare-gt}
+use Rattle.model.proofs.OrderLaws.{lt-compare, gt-compare, eq-compare, compare-lt, compare-gt, rank-decides}
 use Rattle.packed.proofs.LayoutLaws.{lt-or-ge}
 use Rattle.values.specs.Decimal.{areDigits, numeralAfter, numeral, isNatural, inDecimal, isNegative, magnitude}
 use Rattle.values.specs.Spaces.{Kind, unsigned, signed, decimal, currency, sequence, datetime, boolean, string, hex, isUnsigned, isSigned, wholePart, pointPart, isFraction, unscaled, isDecimal, isOfKind}
 use Rattle.values.specs.ValueOrder.{minus, withSign, valueNumber, valueOrder}
 use Rattle.values.specs.NumberAnswer.{isNumber, sizeOrder, isMagnitude, hasNonzero}
-use Rattle.values.proofs.NumeralLaws.{and-left, and-right, digit-least, digits-head, digits-append, natural-digits, natural-nonempty, natural-first, digits-order, longer-larger, natural-order, size-same, natural-in-decimal, numeral-in-decimal, in-decimal-numeral}
+use Rattle.values.proofs.NumeralLaws.{and-left, and-right, digit-least, digits-head, digits-append, natural-digits, natural-nonempty, natural-first, digits-order, longer-larger, natural-order, size-same, in-decimal-numeral}
 
 -- ---- by length, and then by bytes
 
@@ -209,11 +209,7 @@ pub unsigned-below : (width : ℕ) (v : Text) → isUnsigned width v ≡ true �
 unfolding isUnsigned
 unsigned-below width v e = ltb-true (numeral v) (2 ^ (8 * width)) (and-right (isNatural v) _ e)
 
--- a number below 2^64 in decimal is a sequence value, and each sequence value is its number in decimal
-pub sequence-in-decimal : (n : ℕ) → n < 2 ^ 64 → isUnsigned 8 (inDecimal n) ≡ true
-unfolding isUnsigned
-sequence-in-decimal n h = rw (natural-in-decimal n (omega arith), numeral-in-decimal n (omega arith)) (lt-ltb n (2 ^ 64) h)
-
+-- each sequence value is its number in decimal
 pub in-decimal-sequence : (v : Text) → isUnsigned 8 v ≡ true → inDecimal (numeral v) ≡ v
 in-decimal-sequence v e = let h = unsigned-below 8 v e in in-decimal-numeral v (unsigned-natural 8 v e) (omega arith)
 
@@ -282,15 +278,7 @@ equal-number-equal-bytes k a b n p q e =
     signed-same a b (sym (number-order k a b n p q) ∙ ap (integers .cmp (valueNumber k a)) (sym e) ∙ integers .self (valueNumber k a))
 
 -- the number alone decides the order
-pub rank-decides :
-    (k : Kind) (a b : Text) → isNumber k ≡ true → isOfKind k a ≡ true → isOfKind k b ≡ true →
-    valueOrder k .cmp a b ≡ integers .cmp (valueNumber k a) (valueNumber k b)
-unfolding valueOrder ranked rankCmp
-rank-decides k a b n p q = three (integers .cmp (valueNumber k a) (valueNumber k b))
-    (λ l. rw l)
-    (λ s. rw s (rw (equal-number-equal-bytes k a b n p q (integers .same (valueNumber k a) (valueNumber k b) s)) (texts .self b)))
-    (λ g. rw g)
-
 pub value-order-signed :
     (k : Kind) (a b : Text) → isNumber k ≡ true → isOfKind k a ≡ true → isOfKind k b ≡ true → valueOrder k .cmp a b ≡ signedOrder a b
-value-order-signed k a b n p q = rank-decides k a b n p q ∙ number-order k a b n p q
+unfolding valueOrder ranked
+value-order-signed k a b n p q = rank-decides (valueNumber k) integers texts a b (equal-number-equal-bytes k a b n p q) ∙ number-order k a b n p q

@@ -7,14 +7,13 @@ use mathlib.Core.List.{[], _∷_, _++_}
 use Prim.Native.Nat.{ℕ, zero, suc, _+_, _-_, _*_, _/_, _%_, _^_, _≤_, _<_, compare, Ordering·lt, Ordering·eq, Ordering·gt}
 use native.Mathlib.Nat.{pow-suc, pow-zero, div-lt-iff-lt-mul, mul-le-mul-right}
 use native.Mathlib.Omega.{arith}
-use native.Mathlib.Numerals.{sub-one}
 use lib.Dec.{leb, eqb}
 use lib.ListN.{length}
 use borrow.Author.Tests.{lt-ltb, le-ltb, le-leb, eq-eqb, ne-eqb, leb-true}
 use Rattle.model.specs.Order.{Text, texts, numbers, lists, lex, pick, three, nat-same, ranked, rankCmp, rank-same}
 use Rattle.model.proofs.Cases.{and-parts}
 use Rattle.model.proofs.OrderLaws.{lt-compare, gt-compare, eq-compare, compare-lt, compare-gt}
-pub use Rattle.packed.proofs.LayoutLaws.{lt-or-ge}
+use Rattle.packed.proofs.LayoutLaws.{lt-or-ge}
 use Rattle.values.specs.Decimal.{isDigit, areDigits, numeralAfter, numeral, isNatural, digitsBefore, inDecimal}
 use Rattle.values.specs.NumberAnswer.{sizeOrder}
 
@@ -174,15 +173,6 @@ numeral-below (b ∷ v) p =
     let s = pow-suc 10 (length v) in
     let l = mul-le-mul-right {m = 10 * 0 + (b - 48)} {n = 9} (10 ^ length v) (omega arith) in
     omega arith
-
-pub natural-least : (v : Text) → isNatural v ≡ true → 1 < length v → 10 ^ (length v - 1) ≤ numeral v
-unfolding numeral numeralAfter
-natural-least [] p h = absurd (omega arith)
-natural-least (b ∷ v) p h =
-    let k = natural-first b v p (omega arith) in
-    let e = numeral-after (10 * 0 + (b - 48)) v in
-    let l = mul-le-mul-right {m = 1} {n = 10 * 0 + (b - 48)} (10 ^ length v) (omega arith) in
-    rw sub-one (omega arith)
 
 -- ---- a number in decimal
 
