@@ -19,6 +19,7 @@ pub struct Row {
 pub fn rows() -> Vec<Row> {
     let fours = [host_dossier([1, 3, 5, 7]), host_dossier([2, 4, 6, 8])];
     let seven_and_one = [host_dossier(1..=7), host_dossier([8])];
+    let eights = [host_dossier(1..=8), host_dossier(1..=8)];
     let halves = [port_dossier(0), port_dossier(1)];
     vec![
         check_event(),
@@ -27,6 +28,7 @@ pub fn rows() -> Vec<Row> {
             "combine, 7 snapshots and a newer one",
             seven_and_one.clone(),
         ),
+        combine("combine, 8 and 8 snapshots of the same versions", eights),
         combine("combine, 128 and 128 objects, unversioned", halves.clone()),
         open("open, of 4 and 4 snapshots", fours),
         open("open, of 7 snapshots and a newer one", seven_and_one),
