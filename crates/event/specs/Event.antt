@@ -1,13 +1,13 @@
 -- Document 01, "Packed event": what an event has, and what the rule reads of it.
 use Prim.Native.Nat.{ℕ, _+_, _-_}
-use mathlib.Core.Bool.{false, cond}
+use mathlib.Core.Bool.{true, false, cond}
 use mathlib.Core.Option.{Option, none, some}
 use mathlib.Core.List.{List, [], _∷_}
 use lib.ListN.{length, getD, getElem?}
-use Rattle.model.specs.Order.{Text, reversed}
+use Rattle.model.specs.Order.{Text}
 use Rattle.model.specs.Rule.{View, Choice, every, least}
 use Rattle.values.specs.Decimal.{numeral}
-use Rattle.values.specs.ValueOrder.{valueOrder}
+use Rattle.values.specs.ValueOrder.{extremeOrder}
 use Rattle.ontology.specs.Table.{Strategy, min, max, add, replace, match, set, any, Property, EventType, isVersioned, isReplace, isSingle}
 
 -- An event: its sets are by place, one for each of the 32 bits of the presence number; a place without objects has the empty set
@@ -32,8 +32,8 @@ versionOf t e = cond (isVersioned t) (numeral (getD (setAt e (t .mark - 1)) 0 []
 
 -- "min and max have the smallest or largest value, other properties the union"
 unfoldable pub choiceOf : Strategy → Property → Choice
-choiceOf min p = least (valueOrder (p .kind))
-choiceOf max p = least (reversed (valueOrder (p .kind)))
+choiceOf min p = least (extremeOrder false (p .kind))
+choiceOf max p = least (extremeOrder true (p .kind))
 choiceOf add p = every
 choiceOf replace p = every
 choiceOf match p = every
