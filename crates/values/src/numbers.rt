@@ -11,7 +11,7 @@ ghost use Rattle.packed.specs.Comparison.{ordering};
 use packed::order::Compared;
 use packed::order::compare;
 
-pub fn are_digits(v: &[u8]) -> bool
+fn are_digits(v: &[u8]) -> bool
     ensures { λ r. ⌜ r ≡ areDigits (now (v .entry)) ⌝ }
 {
     let mut i = 0;
@@ -29,7 +29,7 @@ pub fn are_digits(v: &[u8]) -> bool
 }
 
 // Digits, and no leading zero but a lone 0.
-pub fn is_natural(v: &[u8]) -> bool
+fn is_natural(v: &[u8]) -> bool
     ensures { λ r. ⌜ r ≡ isNatural (now (v .entry)) ⌝ }
 {
     if v.len() == 0 {
@@ -44,7 +44,7 @@ pub fn is_natural(v: &[u8]) -> bool
     are_digits(v)
 }
 
-pub fn is_negative(v: &[u8]) -> bool
+fn is_negative(v: &[u8]) -> bool
     ensures { λ r. ⌜ r ≡ isNegative (now (v .entry)) ⌝ }
 {
     if v.len() == 0 {
@@ -54,7 +54,7 @@ pub fn is_negative(v: &[u8]) -> bool
 }
 
 // By length, then by bytes: so natural numerals come by their numbers.
-pub fn by_size(a: &[u8], b: &[u8]) -> Compared
+fn by_size(a: &[u8], b: &[u8]) -> Compared
     ensures { λ r. ⌜ ordering r ≡ sizeOrder (now (a .entry)) (now (b .entry)) ⌝ }
 {
     if a.len() < b.len() {
@@ -67,7 +67,7 @@ pub fn by_size(a: &[u8], b: &[u8]) -> Compared
 }
 
 // Of two natural numerals, the first is at most the second.
-pub fn at_most(v: &[u8], most: &[u8]) -> bool
+fn at_most(v: &[u8], most: &[u8]) -> bool
     ensures { λ r. ⌜ (isNatural (now (v .entry)) ≡ true → isNatural (now (most .entry)) ≡ true → r ≡ leb (numeral (now (v .entry))) (numeral (now (most .entry)))) ⌝ }
 {
     match by_size(v, most) {

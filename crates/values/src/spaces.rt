@@ -26,7 +26,7 @@ use crate::unicode::is_utf8;
 use packed::order::Compared;
 
 // A form without 0 is a text itself.
-pub fn is_boolean(v: &[u8]) -> bool
+fn is_boolean(v: &[u8]) -> bool
     ensures { λ r. ⌜ r ≡ (equal texts (now (v .entry)) (ascii "true") || equal texts (now (v .entry)) (ascii "false")) ⌝ }
 {
     has_form(b"true", v) || has_form(b"false", v)
@@ -38,7 +38,7 @@ fn is_hex_digit(b: u8) -> bool
     is_digit(b) || (b'a' <= b && b <= b'f')
 }
 
-pub fn is_hex(bytes: u8, v: &[u8]) -> bool
+fn is_hex(bytes: u8, v: &[u8]) -> bool
     ensures { λ r. ⌜ r ≡ (eqb (length (now (v .entry))) (2 * bytes) && areHexDigits (now (v .entry))) ⌝ }
 {
     if v.len() != 2 * (bytes as usize) {
