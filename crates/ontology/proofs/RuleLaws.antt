@@ -11,7 +11,7 @@ use borrow.Author.Tests.{lt-ltb, eq-eqb, ne-eqb, eqb-false}
 use Rattle.model.specs.Order.{Text, texts, rising, pick}
 use Rattle.model.proofs.Cases.{and-true, and-false}
 use Rattle.packed.specs.Located.{part}
-use Rattle.values.specs.Spaces.{kindNumber}
+use Rattle.values.specs.Spaces.{Kind, unsigned, signed, decimal, currency, sequence, datetime, boolean, string, hex, kindNumber}
 use Rattle.ontology.specs.Table.{Property, EventType, strategyNumber, isVersioned, isOrdered, strategyFits, allFit, canBeMarked, markFits, namesRise}
 use Rattle.ontology.specs.declared.properties.PropertyAt.{PropertyAt}
 use Rattle.ontology.specs.declared.types.TypeIndex.{TypeIndex}
@@ -33,6 +33,18 @@ picked-not Ordering·gt b e = refl
 
 unfoldable fitsBy : ℕ → Bool → Bool → Bool → Bool → Bool
 fitsBy n o m d v = (not (eqb n 1 || eqb n 2) || (not o && not m && d)) && (not (eqb n 4) || (o && not m && v))
+
+-- no kind has a number below 1
+from-one : (k : Kind) → leb 1 (kindNumber k) ≡ true
+from-one (unsigned w) = refl
+from-one (signed w) = refl
+from-one (decimal t a g) = refl
+from-one currency = refl
+from-one sequence = refl
+from-one datetime = refl
+from-one boolean = refl
+from-one (string n) = refl
+from-one (hex n) = refl
 
 module _ (s : List ℕ) (q : Property) (x : PropertyAt) (v : Bool) (w : PropertyIs s q x) where
   fits-by : strategyFits v q ≡ fitsBy (x .strategy) (x .optional) (x .multivalued) (leb (x .kind) 6) v
@@ -80,8 +92,8 @@ module _ (s : List ℕ) (q : Property) (x : PropertyAt) (v : Bool) (w : Property
   pub replace-mandatory : x .strategy ≡ 4 → x .optional ≡ false → strategyFits v q ≡ false
   replace-mandatory h l = fits-replace h ∙ ap (λ (o : Bool). o && not (x .multivalued) && v) l
 
-  pub ordered-is : 1 ≤ x .strategy → x .strategy ≤ 2 → (not (x .optional) && not (x .multivalued)) ≡ true → strategyFits v q ≡ leb (x .kind) 6
-  ordered-is h k l = fits-ordered h k ∙ ap (λ (b : Bool). b && leb (x .kind) 6) l
+  pub ordered-is : 1 ≤ x .strategy → x .strategy ≤ 2 → (not (x .optional) && not (x .multivalued)) ≡ true → strategyFits v q ≡ (leb 1 (x .kind) && leb (x .kind) 6)
+  ordered-is h k l = fits-ordered h k ∙ ap (λ (b : Bool). b && leb (x .kind) 6) (l ∙ sym (ap (leb 1) (w .kind .number) ∙ from-one (q .kind)))
 
   pub ordered-not : 1 ≤ x .strategy → x .strategy ≤ 2 → (not (x .optional) && not (x .multivalued)) ≡ false → strategyFits v q ≡ false
   ordered-not h k l = fits-ordered h k ∙ ap (λ (b : Bool). b && leb (x .kind) 6) l

@@ -16,6 +16,7 @@ use super::properties::read_property;
 use packed::read::NumberAt;
 use packed::read::TextAt;
 use packed::read::read_number;
+use values::spaces::is_ordered;
 use values::versions::DefinitionVersion;
 
 // A type: where its name stands in the table, its definition version, its event-version mark, and its first `count` properties.
@@ -168,7 +169,7 @@ fn strategy_fits(p: PropertyAt, versioned: bool) -> bool
     match strategy {
         1 | 2 => {
             if is_mandatory_single(p) {
-                p.kind <= 6
+                is_ordered(p.kind)
             } else {
                 false
             }

@@ -14,6 +14,9 @@ returns c = λ s q w. sym (replace-many s q _ _ w (c .before .match .keys1) (c .
 is-mandatory-single-requires : tie.Need-is-mandatory-single-requires
 is-mandatory-single-requires c κs = search needs
 
+is-ordered-requires : tie.Need-is-ordered-requires
+is-ordered-requires c κs = search needs
+
 returns-2 : tie.Need-returns-2
 returns-2 c = λ s q w. sym (replace-optional s q _ _ w (c .before .before .match .keys1) (c .before .if1 .left) (c .if2 .taken))
 
@@ -21,7 +24,7 @@ returns-3 : tie.Need-returns-3
 returns-3 c = λ s q w. sym (replace-mandatory s q _ _ w (c .before .before .match .keys1) (c .if2 .left))
 
 returns-4 : tie.Need-returns-4
-returns-4 c = λ s q w. sym (ordered-is s q _ _ w (omega arith) (omega arith) (sym (c .before .before .is-mandatory-single .ensures) ∙ c .before .if5 .taken))
+returns-4 c = λ s q w. c .is-ordered .ensures ∙ sym (ordered-is s q _ _ w (omega arith) (omega arith) (sym (c .before .before .is-mandatory-single .ensures) ∙ c .before .if5 .taken))
 
 returns-5 : tie.Need-returns-5
 returns-5 c = λ s q w. sym (ordered-not s q _ _ w (omega arith) (omega arith) (sym (c .before .is-mandatory-single .ensures) ∙ c .if5 .left))
@@ -38,6 +41,7 @@ strategy-fits-spec =
     (tie.spec
     returns
     is-mandatory-single-requires
+    is-ordered-requires
     returns-2
     returns-3
     returns-4
