@@ -45,7 +45,7 @@ pub struct EventIndex {
 }
 
 // 1 to 120 bytes from 21 to 7E hexadecimal.
-pub fn is_source(v: &[u8]) -> bool
+fn is_source(v: &[u8]) -> bool
     ensures { λ r. ⌜ r ≡ isSource (now (v .entry)) ⌝ }
 {
     if v.len() == 0 {
@@ -69,7 +69,7 @@ pub fn is_source(v: &[u8]) -> bool
 }
 
 // A count of at most `most`, and as many rising hashes of 20 bytes.
-pub fn read_parents(s: &[u8], at: usize, most: usize) -> ParentsRead
+fn read_parents(s: &[u8], at: usize, most: usize) -> ParentsRead
     ensures { λ r. ⌜ ParentsReads (readParents most (drop at (now (s .entry)))) (now (s .entry)) r ⌝ }
 {
     let NumberAt::Number(number, start) = read_number(s, at) else {

@@ -34,7 +34,7 @@ pub struct SetsRead {
 }
 
 // A count of at least 1, and as many rising values. Each value is compared with the one before it where they stand.
-pub fn read_set(s: &[u8], at: usize) -> SetRead
+fn read_set(s: &[u8], at: usize) -> SetRead
     ensures { λ r. ⌜ SetReads (readSet (drop at (now (s .entry)))) (now (s .entry)) r ⌝ }
 {
     let NumberAt::Number(count, start) = read_number(s, at) else {
@@ -68,7 +68,7 @@ pub fn read_set(s: &[u8], at: usize) -> SetRead
 }
 
 // The set of a place whose bit of the presence number is `bit`.
-pub fn read_place(s: &[u8], at: usize, bit: u64) -> SetRead
+fn read_place(s: &[u8], at: usize, bit: u64) -> SetRead
     requires { ⌜ at ≤ length (now s) ⌝ }
     ensures { λ r. ⌜ SetReads (readPlace bit (drop at (now (s .entry)))) (now (s .entry)) r ⌝ }
 {

@@ -14,7 +14,7 @@ use ontology::properties::PropertyAt;
 use ontology::types::TypeIndex;
 
 // Whether a property may have so many objects.
-pub fn set_fits(p: PropertyAt, count: usize) -> bool
+fn set_fits(p: PropertyAt, count: usize) -> bool
     ensures { λ r. ⌜ ((s : List ℕ) (q : Property) (vs : List Text) → PropertyIs s q p → count ≡ length vs → r ≡ setFits q vs) ⌝ }
 {
     if count == 0 {

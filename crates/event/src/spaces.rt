@@ -19,7 +19,7 @@ use packed::read::read_text;
 use values::spaces::in_space;
 
 // Whether each text of those that v is made of is in the space of a kind.
-pub fn are_in_space(v: &[u8], kind: u8, first: u8, second: u8, third: u8) -> bool
+fn are_in_space(v: &[u8], kind: u8, first: u8, second: u8, third: u8) -> bool
     ensures { λ r. ⌜ ((k : Kind) (vs : List Text) → kindOf kind first second third ≡ some k → isKind k ≡ true → now (v .entry) ≡ flatten (map text vs) → r ≡ areInSpace k vs) ⌝ }
 {
     let mut at: usize = 0;
