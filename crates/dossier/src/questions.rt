@@ -70,7 +70,7 @@ fn is_lone(mark: usize, count: usize) -> bool
 }
 
 // Questions 5 and 6 of a dossier's snapshots.
-pub fn ask_snapshots(s: &[u8], d: DossierIndex, t: TypeIndex) -> u8
+fn ask_snapshots(s: &[u8], d: DossierIndex, t: TypeIndex) -> u8
     requires { ⌜ (t .count ≤ 32) × IsDossier (now s) d ⌝ }
     ensures { λ r. ⌜ ((u : List ℕ) (ty : EventType) (h : Headed) → TypeIs u ty t → KindsAre ty → DossierIs (now (s .entry)) h d → r ≡ shapeNumber (dossierShape standard ty (h .dossier .snapshots)) (eachSnapshot (snapshotValues ty) (h .dossier .snapshots))) ⌝ }
 {
