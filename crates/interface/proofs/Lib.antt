@@ -1,2 +1,3 @@
 pub mod PackingLaws
+pub mod UnpackingLaws
 pub mod PackingExamples
