@@ -84,7 +84,7 @@ pub fn count_place(t: TypeIndex, k: usize, a: &[u8], x: SetAt, b: &[u8], y: SetA
 }
 
 // Whether two unversioned snapshots, at the front of a and b, have at most 256 objects when they are joined.
-pub fn objects_fit(a: &[u8], x: SnapshotIndex, b: &[u8], y: SnapshotIndex, t: TypeIndex) -> bool
+fn objects_fit(a: &[u8], x: SnapshotIndex, b: &[u8], y: SnapshotIndex, t: TypeIndex) -> bool
     requires { ⌜ t .count ≤ 32 ⌝ }
     ensures { λ r. ⌜ ((u : List ℕ) (ty : EventType) (p q : Snapshot) → TypeIs u ty t → isVersioned ty ≡ false → Meet (now (a .entry)) (now (b .entry)) ty p q → SnapshotIs (now (a .entry)) p x → SnapshotIs (now (b .entry)) q y → r ≡ leb (sizes (joinSnapshots (view ty) p q .cells)) 256) ⌝ }
 {
