@@ -5,6 +5,7 @@ use mathlib.Core.Option.{some}
 use mathlib.Core.List.{List, [], _∷_, List·Memᴰ, List·Memᴰ·eq-of-singleton}
 use Prim.Native.Nat.{ℕ, _≤_}
 use lib.ListN.{length, take, drop}
+use lib.Dec.{leb}
 use lib.Seq.{take-append-seam}
 use Rattle.model.specs.Order.{Text, texts}
 use Rattle.model.specs.Keyed.{put}
@@ -24,7 +25,8 @@ use Rattle.model.proofs.WayLaws.{has-event}
 use Rattle.ontology.specs.Table.{EventType, Table}
 use Rattle.ontology.specs.TableLayout.{tableOf}
 use Rattle.ontology.specs.Questions as asked
-use Rattle.ontology.specs.Questions.{accepted, Answer, gives, refuses, refusesAt, replyOf, laid, outcome}
+use Rattle.ontology.specs.Questions.{Asked, refused, accepted, ask, leastRoom, Answer, gives, refuses, refusesAt, answer, replyOf, laid, outcome}
+use Rattle.ontology.proofs.QuestionLaws.{asked-then, ask-some, ensured}
 use Rattle.ontology.proofs.TableLaws.{TypeKept, table-type}
 use Rattle.event.specs.Event.{Event, view}
 use Rattle.event.specs.EventLayout.{narrow, eventBytes}
@@ -34,8 +36,9 @@ use Rattle.event.proofs.EventQuestionLaws.{EventAccepted, event-accepted, Event
 use Rattle.hashing.specs.HashText.{hashText}
 use Rattle.hashing.specs.HashCalls.{hashTextAnswer, hashTextCall}
 use Rattle.dossier.specs.DossierLayout.{Headed}
+use Rattle.combining.specs.CheckCall.{checkAnswer, checkCall}
 use Rattle.opening.specs.OpenCall.{mergedEvent, openedAnswer, openAnswer, openCall}
-use Rattle.merger.specs.Demand3.{eventOr, eventAt, byteView, wayAnswer, HasRoom, Given, wayRule, wayDossier, Demand3, OpensAsItself}
+use Rattle.merger.specs.Demand3.{eventOr, eventAt, byteView, returned, wayAnswer, HasRoom, Given, wayRule, wayDossier, Demand3, OpensAsItself}
 use Rattle.merger.proofs.CallLaws.{rule-bytes, opening-bytes, Colliding, headed, shown-as, byte-calls, byte-texts}
 
 -- a reply tells its answer
@@ -172,9 +175,31 @@ module _ (table event : List ℕ) (types : Table) (a : Typed) (isTable : tableOf
       ∙ ap gives (ap eventBytes (λ i. record { type = sym (fitting .named) i; source = it .source; parents = alone-parents i; sets = it .sets })
       ∙ sym (event-was narrow event it (facts .read) .0))
 
-  -- "A dossier of one event opens as that event, byte for byte."
-  pub opens-as-itself : OpensAsItself table event
+  opens-alone : (d out old : List ℕ) → HasRoom out → HasRoom old → returned (checkCall table event out) ≡ wrote d → openCall standard table d old ≡ outcome (gives event) old
   unfolding wayAnswer calls events eventSet canon put alone
-  opens-as-itself = record {
-    opens = λ d out old r o e. demand3 table (leaf out event) (alone out r) .opened d old e o ∙ ap (λ (x : Answer). outcome x old) alone-gives;
-  }
+  opens-alone d out old r o e = demand3 table (leaf out event) (alone out r) .opened d old e o ∙ ap (λ (x : Answer). outcome x old) alone-gives
+
+-- a call that returned a dossier was answered yes to its questions
+returned-accepted : (q : Asked (List ℕ)) (out d : List ℕ) → returned (outcome (answer q) out) ≡ wrote d → (x : List ℕ) × (q ≡ accepted x)
+returned-accepted (refused n) out d e = never (cc)
+returned-accepted (accepted x) out d e = (x, refl)
+
+-- checking returns a dossier only of an event that is accepted under a table
+check-accepted :
+    (table event out d : List ℕ) → returned (checkCall table event out) ≡ wrote d →
+    (types : Table) × (a : Typed) × (tableOf table ≡ some types) × (eventAsked narrow types event ≡ accepted a)
+unfolding checkCall checkAnswer
+check-accepted table event out d e =
+    let (x, q) = returned-accepted _ out d e in
+    let (room, q) = ensured 1 (leb leastRoom (length out)) _ x q in
+    let (types, isTable, q) = asked-then (ask 2 (tableOf table)) _ x q in
+    let (a, taken, given) = asked-then (eventAsked narrow types event) _ x q in
+    (types, a, ask-some 2 (tableOf table) types isTable, taken)
+
+-- "A dossier of one event opens as that event, byte for byte."
+pub opens-as-itself : (table event : List ℕ) → OpensAsItself table event
+opens-as-itself table event = record {
+  opens = λ d out old r o e.
+      let (types, a, isTable, taken) = check-accepted table event out d e in
+      opens-alone table event types a isTable taken d out old r o e;
+}
