@@ -4,6 +4,7 @@ pub mod RuleQuestionLaws
 pub mod MergedEventLaws
 pub mod ViewLaws
 pub mod CallLaws
+pub mod Demand1Laws
 pub mod DemandLaws
 pub mod FrameLaws
 pub mod AskedLaws
