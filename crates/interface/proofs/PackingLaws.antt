@@ -8,7 +8,7 @@ use Rattle.packed.proofs.ReadLaws.{part-length}
 use Rattle.ontology.specs.Questions as questions
 use Rattle.ontology.specs.Questions.{Outcome}
 use Rattle.ontology.specs.Replies as ontology
-use Rattle.ontology.specs.TypeIndex.{tableReply}
+use Rattle.ontology.specs.Replies.{tableReply}
 use Rattle.ontology.specs.declared.replies.Reply.{Reply}
 use Rattle.ontology.specs.declared.replies.Reply.the-variants as reply
 use Rattle.ontology.specs.declared.tables.TableReply.{TableReply}
@@ -18,10 +18,10 @@ use Rattle.event.specs.Value.{Part}
 use Rattle.event.specs.EventIndex.{ValueStands}
 use Rattle.event.proofs.AskLaws.{nothing}
 use Rattle.values.specs.declared.versions.EventVersion.{EventVersion}
-use Rattle.opening.specs.OpenIndex as opening
+use Rattle.opening.specs.Replies as opening
 use Rattle.opening.specs.declared.calls.Opened.{Opened}
 use Rattle.opening.specs.declared.calls.Opened.the-variants.{Merged, Conflict, Overfull, Refused}
-use Rattle.merger.specs.BatchIndex.{batchReplied}
+use Rattle.merger.specs.Replies.{batchReplied}
 use Rattle.merger.specs.declared.batch.BatchReply.{BatchReply}
 use Rattle.merger.specs.declared.batch.BatchReply.the-variants as batch
 use Rattle.interface.specs.Packing.{low, kinded, packedRefusal, packedAs, packed, packedOpened, versionAfter, packedPart}

@@ -8,7 +8,7 @@ ghost use Rattle.hashing.specs.HashCalls.{hashTextCall, hashCall};
 ghost use Rattle.combining.specs.CheckCall.{checkCall};
 ghost use Rattle.combining.specs.CombineCall.{combineCall};
 ghost use Rattle.opening.specs.OpenCall.{openCall};
-ghost use Rattle.opening.specs.OpenIndex.{replied};
+ghost use Rattle.opening.specs.Replies.{replied};
 ghost use Rattle.merger.specs.Batch.{batchCall};
 ghost use Rattle.merger.specs.Report.{reportCall};
 ghost use Rattle.interface.specs.Packing.{packed, packedOpened, versionAfter, packedPart};

@@ -1,8 +1,8 @@
 // The numbers that replies are packed into.
 ghost use mathlib.Core.Path.{_≡_};
 ghost use Rattle.ontology.specs.Replies.{replied};
-ghost use Rattle.opening.specs.OpenIndex as opening;
-ghost use Rattle.merger.specs.BatchIndex.{batchReplied};
+ghost use Rattle.opening.specs.Replies as opening;
+ghost use Rattle.merger.specs.Replies.{batchReplied};
 ghost use Rattle.interface.specs.Packing.{low, packedRefusal, packed, packedOpened};
 use merger::batch::BatchReply;
 use ontology::replies::Reply;

@@ -42,7 +42,8 @@ use Rattle.combining.specs.CheckIndex.{KnownEvent}
 use Rattle.combining.specs.CombineIndex as combining
 use Rattle.combining.specs.CombineCall.{headedAs, combined, combineAnswer, combineCall}
 use Rattle.merger.specs.Batch.{AskedAt, refusedAt, accepted, _>>=_, _>>_, at, eventsAsked, eventsAgree, agreeWith, batchOf, batchDossier, together, batchAsked, batchGiven, Rooms, haveRoom, batchAnswer, batchCall}
-use Rattle.merger.specs.BatchIndex.{BatchIs, BatchReads, eventsAgreed, eventsTogether, FirstTyped, RefusalIs, combinedGiven, combinedAnswer, Agreed, FirstOf, LastOf, DoneWithin, atFirst, batchReplied, batchReplies}
+use Rattle.merger.specs.Replies.{batchReplied, batchReplies}
+use Rattle.merger.specs.BatchIndex.{BatchIs, BatchReads, eventsAgreed, eventsTogether, FirstTyped, RefusalIs, combinedGiven, combinedAnswer, Agreed, FirstOf, LastOf, DoneWithin, atFirst}
 use Rattle.merger.specs.Demand3.{eventOr, eventAt, byteView, dossierReturned, returned, wayAnswer, HasRoom, SameMatch}
 use Rattle.merger.specs.declared.asked.EventsAsked.{EventsAsked}
 use Rattle.merger.specs.declared.batch.BatchReply.{BatchReply}

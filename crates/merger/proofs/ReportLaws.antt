@@ -53,11 +53,11 @@ use Rattle.dossier.specs.DossierIndex.{DossierIs, DossierReads}
 use Rattle.dossier.specs.declared.dossiers.DossierIndex.{DossierIndex}
 use Rattle.dossier.proofs.DossierQuestionLaws.{match-sets, agree-exact}
 use Rattle.opening.specs.OpenCall.{mergedEvent, openedAnswer, askedOpening, openAnswer, openCall}
-use Rattle.opening.specs.OpenIndex as openIndex
+use Rattle.opening.specs.Replies as openReplies
 use Rattle.opening.specs.declared.calls.Opened.{Opened}
 use Rattle.opening.specs.declared.calls.Opened.the-variants as opened
 use Rattle.merger.specs.Batch.{AskedAt, refusedAt, accepted, _>>=_, _>>_, at, eventsAsked, eventsAgree, agreeWith, batchOf, batchDossier, together, batchAsked, batchGiven, Rooms, haveRoom, batchAnswer, batchCall}
-use Rattle.merger.specs.BatchIndex.{batchReplies}
+use Rattle.merger.specs.Replies.{batchReplies}
 use Rattle.merger.specs.declared.batch.BatchReply.{BatchReply}
 use Rattle.merger.specs.declared.batch.BatchReply.the-variants as batch
 use Rattle.merger.specs.Demand3.{SameMatch}
@@ -179,15 +179,15 @@ pub record OpensMerged (d : TypedDossier) (new : List ℕ) (n : ℕ) : Type 0 wh
 front : (x y : List ℕ) (n : ℕ) (new : List ℕ) → n ≡ length x → new ≡ x ++ y → (take n new ≡ x) × (n ≤ length new)
 front x y n new h e = (ap₂ (λ (k : ℕ) (l : List ℕ). take k l) h e ∙ take-append-seam x y, omega (arith, h, ap length e, length-append x y))
 
-module _ (table bytes old new : List ℕ) {d : TypedDossier} {room : ℕ} (w : DossierOpens table bytes d room) (big : 32768 ≤ length old) (r : Opened) (e : openIndex.replies r new ≡ openCall standard table bytes old) where
-  told : openIndex.replies r new ≡ outcome (openedAnswer (d .headed) (opens d)) old
+module _ (table bytes old new : List ℕ) {d : TypedDossier} {room : ℕ} (w : DossierOpens table bytes d room) (big : 32768 ≤ length old) (r : Opened) (e : openReplies.replies r new ≡ openCall standard table bytes old) where
+  told : openReplies.replies r new ≡ outcome (openedAnswer (d .headed) (opens d)) old
   told = e ∙ opened-call table bytes old w big
 
   pub opened-merged : {n : ℕ} → r ≡ opened.Merged n → OpensMerged d new n
   unfolding openedAnswer
-  opened-merged {n} q = go (opens d) refl (ap (λ (x : Opened). openIndex.replies x new) (sym q) ∙ told)
+  opened-merged {n} q = go (opens d) refl (ap (λ (x : Opened). openReplies.replies x new) (sym q) ∙ told)
     where
-      go : (o : model.Opened) → opens d ≡ o → openIndex.replies (opened.Merged n) new ≡ outcome (openedAnswer (d .headed) o) old → OpensMerged d new n
+      go : (o : model.Opened) → opens d ≡ o → openReplies.replies (opened.Merged n) new ≡ outcome (openedAnswer (d .headed) o) old → OpensMerged d new n
       go (conflictAt v p) f h = let z = ap (λ (x : Outcome). x .reply) h in never (cc)
       go (overfullAt p) f h = let z = ap (λ (x : Outcome). x .reply) h in never (cc)
       go (merged ss) f h =
@@ -197,27 +197,27 @@ module _ (table bytes old new : List ℕ) {d : TypedDossier} {room : ℕ} (w : D
 
   pub opened-conflict : {v : EventVersion} {p : ℕ} → r ≡ opened.Conflict v p → opens d ≡ conflictAt (v .0) p
   unfolding openedAnswer
-  opened-conflict {v} {p} q = go (opens d) (ap (λ (x : Opened). openIndex.replies x new) (sym q) ∙ told)
+  opened-conflict {v} {p} q = go (opens d) (ap (λ (x : Opened). openReplies.replies x new) (sym q) ∙ told)
     where
-      go : (o : model.Opened) → openIndex.replies (opened.Conflict v p) new ≡ outcome (openedAnswer (d .headed) o) old → o ≡ conflictAt (v .0) p
+      go : (o : model.Opened) → openReplies.replies (opened.Conflict v p) new ≡ outcome (openedAnswer (d .headed) o) old → o ≡ conflictAt (v .0) p
       go (conflictAt u k) h = let z : questions.Reply.conflict (v .0) p ≡ questions.Reply.conflict u k = ap (λ (x : Outcome). x .reply) h in cc
       go (overfullAt k) h = let z = ap (λ (x : Outcome). x .reply) h in never (cc)
       go (merged ss) h = let z = ap (λ (x : Outcome). x .reply) h in never (cc)
 
   pub opened-overfull : {p : ℕ} → r ≡ opened.Overfull p → opens d ≡ overfullAt p
   unfolding openedAnswer
-  opened-overfull {p} q = go (opens d) (ap (λ (x : Opened). openIndex.replies x new) (sym q) ∙ told)
+  opened-overfull {p} q = go (opens d) (ap (λ (x : Opened). openReplies.replies x new) (sym q) ∙ told)
     where
-      go : (o : model.Opened) → openIndex.replies (opened.Overfull p) new ≡ outcome (openedAnswer (d .headed) o) old → o ≡ overfullAt p
+      go : (o : model.Opened) → openReplies.replies (opened.Overfull p) new ≡ outcome (openedAnswer (d .headed) o) old → o ≡ overfullAt p
       go (conflictAt u k) h = let z = ap (λ (x : Outcome). x .reply) h in never (cc)
       go (overfullAt k) h = let z : questions.Reply.overfull p ≡ questions.Reply.overfull k = ap (λ (x : Outcome). x .reply) h in cc
       go (merged ss) h = let z = ap (λ (x : Outcome). x .reply) h in never (cc)
 
   pub opened-refused : {n : ℕ} → r ≡ opened.Refused n → ⊥
   unfolding openedAnswer
-  opened-refused {n} q = go (opens d) (ap (λ (x : Opened). openIndex.replies x new) (sym q) ∙ told)
+  opened-refused {n} q = go (opens d) (ap (λ (x : Opened). openReplies.replies x new) (sym q) ∙ told)
     where
-      go : (o : model.Opened) → openIndex.replies (opened.Refused n) new ≡ outcome (openedAnswer (d .headed) o) old → ⊥
+      go : (o : model.Opened) → openReplies.replies (opened.Refused n) new ≡ outcome (openedAnswer (d .headed) o) old → ⊥
       go (conflictAt u k) h = let z = ap (λ (x : Outcome). x .reply) h in never (cc)
       go (overfullAt k) h = let z = ap (λ (x : Outcome). x .reply) h in never (cc)
       go (merged ss) h = let z = ap (λ (x : Outcome). x .reply) h in never (cc)

@@ -11,7 +11,7 @@ use Rattle.packed.specs.Located.{part}
 use Rattle.ontology.specs.Table.{Table}
 use Rattle.ontology.specs.TableLayout.{tableOf}
 use Rattle.ontology.specs.Questions as questions
-use Rattle.ontology.specs.Questions.{Answer, gives, refuses, Outcome}
+use Rattle.ontology.specs.Questions.{Answer, gives, refuses}
 use Rattle.ontology.specs.declared.replies.Reply as reply
 use Rattle.ontology.specs.declared.replies.Reply.the-variants as replied
 use Rattle.ontology.specs.TypeIndex.{TypeIs}
@@ -22,8 +22,6 @@ use Rattle.dossier.specs.DossierLayout.{dossierBytes}
 use Rattle.dossier.specs.DossierQuestions.{TypedDossier}
 use Rattle.merger.specs.Batch.{AskedAt, refusedAt, accepted, _>>=_, eventsAsked, agreeWith, together}
 use Rattle.merger.specs.declared.asked.EventsAsked.{EventsAsked}
-use Rattle.merger.specs.declared.batch.BatchReply.{BatchReply}
-use Rattle.merger.specs.declared.batch.BatchReply.the-variants.{Done, Refused}
 use Rattle.merger.specs.declared.frame.BatchIndex.{BatchIndex}
 
 -- The bytes s are a batch of the events ss, each of which stands where the index says
@@ -58,15 +56,6 @@ pub record FirstTyped (table : List ℕ) (ts : Table) (ss : List (List ℕ)) (t 
 unfoldable pub RefusalIs : List ℕ → Table → List (List ℕ) → AskedAt (Unit {0}) → EventsAsked → Type 0
 RefusalIs table ts ss (refusedAt n i) r = (r .number ≡ n) × (r .position ≡ i) × (1 ≤ n)
 RefusalIs table ts ss (accepted u) r = (r .number ≡ 0) × FirstTyped table ts ss (r .kind)
-
--- the numbers of a reply
-abbrev pub batchReplied : BatchReply → questions.Reply
-batchReplied (Done n) = questions.Reply.done n
-batchReplied (Refused n i) = questions.Reply.refusedAt n i
-
--- a reply with the output after it
-abbrev pub batchReplies : BatchReply → List ℕ → Outcome
-batchReplies r bytes = record { reply = batchReplied r; bytes = bytes }
 
 -- the position of the first event that does not agree with the first one, or 0: as it was, or of the event that was asked now
 unfoldable pub firstApart : ℕ → Bool → ℕ → ℕ

@@ -22,7 +22,8 @@ use Rattle.ontology.specs.TableCall.{replyToTable, tableCall}
 use Rattle.ontology.specs.declared.types.TypeRead.{TypeRead}
 use Rattle.ontology.specs.declared.tables.TableRead.{TableRead}
 use Rattle.ontology.specs.declared.tables.TableReply.the-variants.{Accepted, Refused}
-use Rattle.ontology.specs.TypeIndex.{Got, precedes, TypeIs, TypeReads, TypeSays, TableSays, tableReply}
+use Rattle.ontology.specs.TypeIndex.{Got, precedes, TypeIs, TypeReads, TypeSays, TableSays}
+use Rattle.ontology.specs.Replies.{tableReply}
 use Rattle.ontology.proofs.RunLaws.{prepend, prepend-nil, prepend-two, times-more, times-stop, times-end}
 use Rattle.ontology.proofs.RuleLaws.{picked, picked-not}
 use Rattle.ontology.proofs.TypeLaws.{rules-hold}

@@ -18,7 +18,6 @@ use Rattle.values.specs.KindNumbers.{firstParameter, secondParameter, thirdPara
 use Rattle.values.specs.declared.versions.DefinitionVersion.{DefinitionVersion}
 use Rattle.ontology.specs.Table.{Property, EventType, Table, strategyNumber, namesRise, allFit, markFits, typeRules, typeNamed}
 use Rattle.ontology.specs.TableLayout.{readProperty, readType}
-use Rattle.ontology.specs.Questions.{Reply}
 use Rattle.ontology.specs.declared.fields.FlagAt.{FlagAt}
 use Rattle.ontology.specs.declared.fields.FlagAt.the-variants.{Flag, NoFlag}
 use Rattle.ontology.specs.declared.kinds.KindRead.{KindRead}
@@ -32,8 +31,6 @@ use Rattle.ontology.specs.declared.types.PropertiesRead.{PropertiesRead}
 use Rattle.ontology.specs.declared.types.TypeIndex.{TypeIndex}
 use Rattle.ontology.specs.declared.types.TypeRead.{TypeRead}
 use Rattle.ontology.specs.declared.tables.TableRead.{TableRead}
-use Rattle.ontology.specs.declared.tables.TableReply.{TableReply}
-use Rattle.ontology.specs.declared.tables.TableReply.the-variants.{Accepted, Refused}
 
 -- ---- fields
 
@@ -185,7 +182,3 @@ TypeSays (some t) s r = (r .found ≡ true) × TypeIs s t (r .index)
 unfoldable pub TableSays : Option Table → List ℕ → Text → TableRead → Type 0
 TableSays none s name r = r .ok ≡ false
 TableSays (some ts) s name r = (r .ok ≡ true) × TypeSays (typeNamed name ts) s r
-
-unfoldable pub tableReply : TableReply → Reply
-tableReply Accepted = Reply.done 0
-tableReply (Refused n) = Reply.refused n

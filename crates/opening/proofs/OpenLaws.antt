@@ -33,7 +33,8 @@ use Rattle.dossier.specs.declared.dossiers.DossierIndex.{DossierIndex}
 use Rattle.dossier.specs.declared.questions.DossierAsked.{DossierAsked}
 use Rattle.dossier.proofs.AcceptedLaws.{asked-accepted}
 use Rattle.opening.specs.OpenCall.{mergedEvent, openedAnswer, askedOpening, openAnswer, openCall}
-use Rattle.opening.specs.OpenIndex.{lowestOf, clashOf, replies, CellsStand, CountsMerged, Writable, Openable}
+use Rattle.opening.specs.Replies.{replies}
+use Rattle.opening.specs.OpenIndex.{lowestOf, clashOf, CellsStand, CountsMerged, Writable, Openable}
 use Rattle.opening.specs.declared.calls.Opened.the-variants.{Merged, Conflict, Overfull, Refused}
 use Rattle.opening.specs.declared.clash.Clash.{Clash}
 use Rattle.opening.specs.declared.clash.Clash.the-variants.{Differs, NoClash}

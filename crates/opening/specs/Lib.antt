@@ -1,3 +1,4 @@
 pub mod OpenCall
+pub mod Replies
 pub mod OpenIndex
 pub mod CellIndex

@@ -1,4 +1,4 @@
--- What the code holds of a dossier that is opened, and what it answers.
+-- What the code holds of a dossier that is opened.
 use Prim.Native.Nat.{ℕ, _+_, _*_, _^_, _≤_, _<_}
 use mathlib.Core.Path.{_≡_}
 use mathlib.Core.Bool.{true, false, _||_}
@@ -16,8 +16,7 @@ use Rattle.ontology.specs.Table.{Property, EventType, Table, isMin, isMax, isRe
 use Rattle.ontology.specs.TableLayout.{tableOf}
 use Rattle.ontology.specs.TypeIndex.{TypeIs}
 use Rattle.ontology.specs.declared.types.TypeIndex.{TypeIndex}
-use Rattle.ontology.specs.Questions as questions
-use Rattle.ontology.specs.Questions.{accepted, Outcome}
+use Rattle.ontology.specs.Questions.{accepted}
 use Rattle.event.specs.Event.{view}
 use Rattle.event.specs.EventLayout.{headBytes, setsBytes, eventBytes}
 use Rattle.event.specs.EventQuestions.{areInSpace}
@@ -29,26 +28,11 @@ use Rattle.dossier.specs.DossierQuestions.{dossierAsked}
 use Rattle.dossier.specs.DossierIndex.{noSnapshot, DossierIs}
 use Rattle.dossier.specs.declared.dossiers.DossierIndex.{DossierIndex}
 use Rattle.opening.specs.OpenCall.{mergedEvent}
-use Rattle.opening.specs.declared.calls.Opened.{Opened}
-use Rattle.opening.specs.declared.calls.Opened.the-variants.{Merged, Conflict, Overfull, Refused}
 use Rattle.opening.specs.declared.clash.Clash.{Clash}
 use Rattle.opening.specs.declared.clash.Clash.the-variants.{Differs, NoClash}
 use Rattle.opening.specs.declared.clash.Lowest.{Lowest}
 use Rattle.opening.specs.declared.clash.Lowest.the-variants.{Place, NoPlace}
 use Rattle.opening.specs.declared.strategies.PlaceRule.{PlaceRule}
-
--- ---- the call's reply
-
--- the numbers of a reply
-abbrev pub replied : Opened → questions.Reply
-replied (Merged n) = questions.Reply.done n
-replied (Conflict v p) = questions.Reply.conflict (v .0) p
-replied (Overfull p) = questions.Reply.overfull p
-replied (Refused n) = questions.Reply.refused n
-
--- a reply with the output after it
-abbrev pub replies : Opened → List ℕ → Outcome
-replies r bytes = record { reply = replied r; bytes = bytes }
 
 -- ---- conflict
 
