@@ -1,5 +1,6 @@
 //! Damaged copies: of bytes, and of events and dossiers field by field.
 
+use crate::edge::Edges;
 use crate::random::Random;
 use crate::value::spoil;
 use independent::dossier::Dossier;
@@ -25,44 +26,43 @@ pub fn damage_bytes(random: &mut Random, bytes: &[u8]) -> Vec<u8> {
     damaged
 }
 
-/// A copy of a packed event with a field changed, or damaged as bytes where it does not read.
-pub fn damage_event(random: &mut Random, bytes: &[u8]) -> Vec<u8> {
-    let odd = Odd::random(random, bytes);
-    match Event::read(bytes, Counts::MERGED) {
-        Some(mut event) if !random.one_in(3) => {
-            match random.below(4) {
-                0 => odd.change_head(random, &mut event.head),
-                _ => odd.change_sets(random, &mut event.sets),
-            }
-            event.write()
-        }
-        _ => damage_bytes(random, bytes),
+/// A copy of a packed event with a field changed, or damaged as bytes. `edges` are by place.
+pub fn damage_event(random: &mut Random, bytes: &[u8], edges: &[Edges]) -> Vec<u8> {
+    let read = Event::read(bytes, Counts::MERGED).filter(|_| !random.one_in(3));
+    let Some(event) = read else {
+        return damage_bytes(random, bytes);
+    };
+    let odd = Odd::random(random, &event.sets, edges);
+    let mut damaged = event;
+    match random.below(4) {
+        0 => odd.change_head(random, &mut damaged.head),
+        _ => odd.change_sets(random, &mut damaged.sets),
     }
+    damaged.write()
 }
 
-/// A copy of a packed dossier with a field changed, or damaged as bytes where it does not read.
-pub fn damage_dossier(random: &mut Random, bytes: &[u8]) -> Vec<u8> {
-    let odd = Odd::random(random, bytes);
-    match Dossier::read(bytes) {
-        Some(mut dossier) if !random.one_in(3) => {
-            match random.below(6) {
-                0 => odd.change_head(random, &mut dossier.head),
-                1 | 2 => change_snapshots(random, &mut dossier),
-                _ => {
-                    let mut snapshots: Vec<_> = dossier.snapshots.values_mut().collect();
-                    let chosen = random.draw(&mut snapshots);
-                    odd.change_sets(random, &mut chosen.sets);
-                }
-            }
-            dossier.write()
-        }
-        _ => damage_bytes(random, bytes),
-    }
-}
-
-fn change_snapshots(random: &mut Random, dossier: &mut Dossier) {
+/// A copy of a packed dossier with a field changed, or damaged as bytes. `edges` are by place.
+pub fn damage_dossier(random: &mut Random, bytes: &[u8], edges: &[Edges]) -> Vec<u8> {
+    let read = Dossier::read(bytes).filter(|_| !random.one_in(3));
+    let Some(dossier) = read else {
+        return damage_bytes(random, bytes);
+    };
     let versions: Vec<u64> = dossier.snapshots.keys().copied().collect();
     let version = *random.pick(&versions);
+    let odd = Odd::random(random, &dossier.snapshots[&version].sets, edges);
+    let mut damaged = dossier;
+    match random.below(6) {
+        0 => odd.change_head(random, &mut damaged.head),
+        1 | 2 => change_snapshots(random, &mut damaged, version),
+        _ => {
+            let chosen = damaged.snapshots.get_mut(&version).expect("a version");
+            odd.change_sets(random, &mut chosen.sets);
+        }
+    }
+    damaged.write()
+}
+
+fn change_snapshots(random: &mut Random, dossier: &mut Dossier, version: u64) {
     let place = random.below(34);
     let other = random.number_of_bits(64);
     let snapshot = dossier.snapshots.get_mut(&version).expect("a version");
@@ -96,6 +96,9 @@ fn change_snapshots(random: &mut Random, dossier: &mut Dossier) {
 
 /// What damage puts into an event or a dossier.
 struct Odd {
+    /// The place of the set that is changed.
+    place: usize,
+    /// Values next to the edges of the space at this place, and spoilt ones.
     values: Vec<Vec<u8>>,
     sources: Vec<Vec<u8>>,
     names: Vec<Vec<u8>>,
@@ -103,13 +106,23 @@ struct Odd {
 }
 
 impl Odd {
-    fn random(random: &mut Random, bytes: &[u8]) -> Self {
-        let place = random.below(bytes.len().max(1));
-        let part = &bytes[place.min(bytes.len())..];
-        let part = &part[..part.len().min(6)];
+    fn random(random: &mut Random, sets: &Sets, edges: &[Edges]) -> Self {
+        let places: Vec<usize> = sets.keys().copied().collect();
+        let place = match places.len() {
+            0 => 0,
+            _ => *random.pick(&places),
+        };
+        let old = sets.get(&place).and_then(BTreeSet::first);
+        let old = old.copied().unwrap_or_default();
         let parents = random.between(1, 33);
         Odd {
-            values: (0..40).map(|_| spoil(random, part)).collect(),
+            place,
+            values: (0..40)
+                .map(|_| match edges.get(place) {
+                    Some(edges) if random.one_in(2) => edges.pick(random).clone(),
+                    _ => spoil(random, old),
+                })
+                .collect(),
             sources: vec![
                 vec![],
                 b"/other/".to_vec(),
@@ -131,11 +144,7 @@ impl Odd {
     }
 
     fn change_sets<'s>(&'s self, random: &mut Random, sets: &mut Sets<'s>) {
-        let places: Vec<usize> = sets.keys().copied().collect();
-        let chosen = match places.len() {
-            0 => 0,
-            _ => *random.pick(&places),
-        };
+        let chosen = self.place;
         let other = random.below(34);
         let odd = random.pick(&self.values).as_slice();
         match random.below(7) {

@@ -5,11 +5,15 @@ use crate::value::{is_ordered, random_kind};
 use independent::packed::{put_count, put_number, put_text};
 use std::collections::BTreeSet;
 
-pub const MATCH: u64 = 5;
-const MIN: u64 = 1;
-const MAX: u64 = 2;
+/// Strategies by number, as a table has them.
+pub const MIN: u64 = 1;
+pub const MAX: u64 = 2;
+pub const ADD: u64 = 3;
 const REPLACE: u64 = 4;
-const SEQUENCE: u64 = 5;
+pub const MATCH: u64 = 5;
+
+/// The kind of an event version.
+pub const SEQUENCE: u64 = 5;
 
 #[derive(Clone)]
 pub struct TableDraft {
@@ -60,11 +64,10 @@ impl TableDraft {
     pub fn broken(&self, random: &mut Random) -> Self {
         let mut broken = self.clone();
         let place = random.below(broken.types.len());
-        match random.below(8) {
+        match random.below(7) {
             0 => broken.types.clear(),
             1 => broken.types.push(self.types[place].clone()),
             2 => broken.types.reverse(),
-            3 => broken.types.resize(17, self.types[place].clone()),
             _ => broken.types[place].break_one(random),
         }
         broken
@@ -190,7 +193,7 @@ fn random_name(random: &mut Random, length: usize) -> Vec<u8> {
     name
 }
 
-/// Too short, too long or with a character that no name has, or sound for once.
+/// Too short, too long or with a character that no name has; some are names all the same.
 fn random_odd_name(random: &mut Random, longest: usize) -> Vec<u8> {
     let length = *random.pick(&[1, longest, longest + 1]);
     let mut name = random_name(random, length);

@@ -1,6 +1,7 @@
 //! Families of colliding events: one table, type, source and match values.
 
 use crate::draft::{PropertyDraft, TableDraft, TypeDraft};
+use crate::edge::Edges;
 use crate::random::Random;
 use crate::value::random_value;
 use independent::event::{Event, Head, Sets};
@@ -18,6 +19,8 @@ pub struct Family {
     source: Vec<u8>,
     /// The values that events of this family have, by place.
     pools: Vec<Vec<Vec<u8>>>,
+    /// The values next to the edges of each place's space.
+    pub edges: Vec<Edges>,
     parents: Vec<Vec<u8>>,
     /// A large family passes the limits; a small one opens as a merged event more often.
     is_large: bool,
@@ -30,7 +33,9 @@ impl Family {
         let draft = TableDraft::random(random);
         let event_type = random.pick(&draft.types).clone();
         let is_large = random.one_in(4);
-        let pools = random_pools(random, &event_type, is_large);
+        let kinds = event_type.properties.iter().map(|each| &each.kind);
+        let edges: Vec<_> = kinds.map(|kind| Edges::of(kind)).collect();
+        let pools = random_pools(random, &event_type, &edges, is_large);
         let parents = *random.pick(&[FEW_PARENTS, FEW_PARENTS, FEW_PARENTS, 34, 48]);
         let source_length = *random.pick(&[1, 5, 120]);
         Family {
@@ -41,6 +46,7 @@ impl Family {
             draft,
             event_type,
             pools,
+            edges,
             is_large,
         }
     }
@@ -117,16 +123,24 @@ impl Family {
     }
 }
 
-/// The values of each property.
-fn random_pools(random: &mut Random, event_type: &TypeDraft, is_large: bool) -> Vec<Vec<Vec<u8>>> {
+/// The values of each property: now and then next to an edge.
+fn random_pools(
+    random: &mut Random,
+    event_type: &TypeDraft,
+    edges: &[Edges],
+    is_large: bool,
+) -> Vec<Vec<Vec<u8>>> {
     let mut pools = Vec::new();
-    for (mark, property) in (1..).zip(&event_type.properties) {
+    for ((mark, property), edges) in (1..).zip(&event_type.properties).zip(edges) {
         let size = if mark == event_type.mark {
             random.between(1, if is_large { 12 } else { 3 })
         } else {
             pool_size(random, property, is_large)
         };
-        let values = (0..size).map(|_| random_value(random, &property.kind));
+        let values = (0..size).map(|_| match random.below(4) {
+            0 => random.pick(&edges.inside).clone(),
+            _ => random_value(random, &property.kind),
+        });
         pools.push(values.collect());
     }
     pools

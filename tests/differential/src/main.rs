@@ -7,11 +7,13 @@
 mod compare;
 mod damage;
 mod draft;
+mod edge;
 mod family;
 mod proved;
 mod random;
 mod round;
 mod summary;
+mod sweep;
 mod value;
 
 use compare::{Comparison, Difference};
@@ -95,6 +97,9 @@ fn read_script(name: &String) -> Result<Vec<u8>, String> {
 
 fn make_up(seed: u64, count: usize, comparison: &mut Comparison) -> Result<(), Difference> {
     println!("seed {seed}");
+    for case in sweep::cases() {
+        comparison.run(&case)?;
+    }
     let mut random = Random::new(seed);
     while comparison.summary.calls() < count {
         Round::new(&mut random, comparison).run()?;

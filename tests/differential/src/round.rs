@@ -6,7 +6,7 @@ use crate::family::Family;
 use crate::random::Random;
 use independent::calls::{DOSSIER_ROOM, HASH_ROOM, HASH_TEXT_ROOM};
 use independent::case::{Case, MOST_ROOM};
-use independent::packed::{put_count, put_text};
+use independent::packed::{put_batch, put_text};
 use independent::script::{Outcome, Reply};
 
 /// Calls with free choice of inputs, beside the trees.
@@ -56,11 +56,13 @@ impl<'r> Round<'r> {
             .map(|_| self.family.event(self.random).write())
             .collect();
         let way = self.way(&events)?;
+        let mut batch = Vec::new();
+        put_batch(&mut batch, &events);
         let batch = Case::Batch {
             room: DOSSIER_ROOM,
             scratch: [DOSSIER_ROOM; 3],
             table: self.family.table.clone(),
-            batch: frame(&events),
+            batch,
         };
         let outcome = self.comparison.run(&batch)?;
         if outcome.reply == way.reply && outcome.written() == way.written() {
@@ -221,7 +223,7 @@ impl<'r> Round<'r> {
             self.random.pick(&self.events).clone()
         };
         if self.random.one_in(5) {
-            damage_event(self.random, &event)
+            damage_event(self.random, &event, &self.family.edges)
         } else {
             event
         }
@@ -233,7 +235,7 @@ impl<'r> Round<'r> {
         }
         let dossier = self.random.pick(&self.dossiers).clone();
         if self.random.one_in(6) {
-            damage_dossier(self.random, &dossier)
+            damage_dossier(self.random, &dossier, &self.family.edges)
         } else {
             dossier
         }
@@ -252,7 +254,8 @@ impl<'r> Round<'r> {
             let place = self.random.below(count);
             events[place] = self.event();
         }
-        let batch = frame(&events);
+        let mut batch = Vec::new();
+        put_batch(&mut batch, &events);
         if self.random.one_in(12) {
             damage_bytes(self.random, &batch)
         } else {
@@ -273,14 +276,4 @@ impl<'r> Round<'r> {
             _ => input,
         }
     }
-}
-
-/// The events as a batch.
-fn frame(events: &[Vec<u8>]) -> Vec<u8> {
-    let mut batch = Vec::new();
-    put_count(&mut batch, events.len());
-    for event in events {
-        put_text(&mut batch, event);
-    }
-    batch
 }

@@ -1,4 +1,4 @@
-//! Values of every kind, inside their spaces and just outside.
+//! Values of every kind, inside their spaces and likely outside.
 
 use crate::random::Random;
 
@@ -72,6 +72,7 @@ fn digit(random: &mut Random) -> u8 {
 fn datetime(random: &mut Random) -> Vec<u8> {
     let year = *random.pick(&[1, 1900, 1999, 2000, 2023, 2024, 9999]);
     let month = random.between(1, 12);
+    // Each month has these; the days after them are among the edges.
     let day = random.between(1, 28);
     let hour = *random.pick(&[0, 9, 10, 23]);
     let [minute, second] = [0; 2].map(|_: i32| *random.pick(&[0, 30, 59]));

@@ -107,6 +107,14 @@ pub fn put_text(out: &mut Vec<u8>, text: &[u8]) {
     out.extend_from_slice(text);
 }
 
+/// The events as a batch.
+pub fn put_batch(out: &mut Vec<u8>, events: &[Vec<u8>]) {
+    put_count(out, events.len());
+    for event in events {
+        put_text(out, event);
+    }
+}
+
 /// The number whose set bits are `places`.
 pub fn put_places<'p>(out: &mut Vec<u8>, places: impl IntoIterator<Item = &'p usize>) {
     put_number(out, places.into_iter().map(|place| 1 << place).sum());
