@@ -17,10 +17,11 @@ pub struct Comparison {
     noise: Vec<u8>,
 }
 
-/// A case on which the two sides are not of one mind.
+/// Calls whose answers differ where they have to be the same.
 #[derive(Debug)]
 pub struct Difference {
-    pub case: Case,
+    /// The failing case, or the calls of two ways over the same events.
+    script: Vec<Case>,
     what: &'static str,
 }
 
@@ -36,44 +37,59 @@ impl Comparison {
     pub fn run(&mut self, case: &Case) -> Result<Outcome, Difference> {
         let before = case.clone();
         let old = self.old(case);
-        let expected = Outcome::of(&Independent, case, old);
+        let expected = catch_unwind(|| Outcome::of(&Independent, case, old));
         // The binding panics on a reply that the interface does not have.
-        let what = match catch_unwind(|| Outcome::of(&Proved, case, old)) {
-            Err(_) => Some("the archive's reply makes no sense"),
-            Ok(_) if *case != before => Some("an input was written to"),
-            Ok(found) if found.reply != expected.reply => Some("the replies differ"),
-            Ok(found) if found != expected => Some("bytes in or around the output differ"),
-            Ok(_) => None,
+        let found = catch_unwind(|| Outcome::of(&Proved, case, old));
+        let what = match (expected, found) {
+            (Err(_), _) => "the independent implementation panics",
+            (_, Err(_)) => "the archive's reply makes no sense, or it wrote beside its scratch",
+            _ if *case != before => "an input was written to",
+            (Ok(expected), Ok(found)) if found.reply != expected.reply => "the replies differ",
+            (Ok(expected), Ok(found)) if found != expected => {
+                "bytes in or around the output differ"
+            }
+            (Ok(expected), _) => {
+                self.summary.count(case, &expected);
+                return Ok(expected);
+            }
         };
-        self.summary.count(case, &expected.reply);
-        match what {
-            None => Ok(expected),
-            Some(what) => Err(Difference { case: before, what }),
-        }
+        let script = vec![before];
+        Err(Difference { script, what })
     }
 
-    /// An output buffer with its margins before the call: other noise for each call.
+    /// An output buffer with its margins before the call: noise that depends on the case alone, so
+    /// that a replay finds the same.
     fn old(&self, case: &Case) -> &[u8] {
         let length = Outcome::length(case);
-        let start = self.summary.calls() % (NOISE - length);
+        let sum: usize = case.write().into_iter().map(usize::from).sum();
+        let start = sum % (NOISE - length);
         &self.noise[start..start + length]
     }
 }
 
 impl Difference {
-    /// Two ways over the same events, the last call of one being `case`, gave different answers.
-    pub fn between_ways(case: Case) -> Self {
-        let what = "this batch and a tree of calls over its events differ";
-        Difference { case, what }
+    /// The last two calls, which end two ways over the same events, gave different answers.
+    pub fn between_ways(script: Vec<Case>) -> Self {
+        let what = "a tree of calls and the batch of its events, the last two calls, differ";
+        Difference { script, what }
+    }
+
+    /// The script that repeats the calls.
+    pub fn write(&self) -> Vec<u8> {
+        self.script.iter().flat_map(Case::write).collect()
     }
 }
 
 impl fmt::Display for Difference {
     fn fmt(&self, text: &mut fmt::Formatter) -> fmt::Result {
-        let proved = catch_unwind(|| line(&Proved, &self.case));
-        writeln!(text, "{}", self.what)?;
-        writeln!(text, "independent: {}", line(&Independent, &self.case))?;
-        writeln!(text, "proved:      {}", proved.unwrap_or_default())?;
-        write!(text, "script:      {}", hex(&self.case.write()))
+        write!(text, "{}", self.what)?;
+        for case in self.script.iter().rev().take(2).rev() {
+            let independent = catch_unwind(|| line(&Independent, case));
+            let proved = catch_unwind(|| line(&Proved, case));
+            write!(text, "\nindependent: {}", independent.unwrap_or_default())?;
+            write!(text, "\nproved:      {}", proved.unwrap_or_default())?;
+            write!(text, "\ncase:        {}", hex(&case.write()))?;
+        }
+        Ok(())
     }
 }

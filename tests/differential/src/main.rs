@@ -32,7 +32,7 @@ const FAILING: &str = "target/differential/failing.bin";
 /// Where the calls come from.
 enum Task {
     MakeUp { seed: u64, count: usize },
-    Replay { scripts: Vec<Vec<u8>> },
+    Replay { cases: Vec<Case> },
 }
 
 fn main() -> ExitCode {
@@ -55,7 +55,7 @@ fn main() -> ExitCode {
             ExitCode::SUCCESS
         }
         Err(difference) => {
-            println!("call {calls} differs: {difference}");
+            println!("after {calls} calls: {difference}");
             tell_where(save(&difference));
             ExitCode::FAILURE
         }
@@ -67,7 +67,11 @@ impl Task {
         let number = |word: &String| word.parse().map_err(|_| format!("{word} is no number"));
         Ok(match words {
             [word, names @ ..] if word == "replay" => Task::Replay {
-                scripts: names.iter().map(read_script).collect::<Result<_, _>>()?,
+                cases: names
+                    .iter()
+                    .map(read_script)
+                    .collect::<Result<Vec<_>, _>>()?
+                    .concat(),
             },
             [] | [_] | [_, _] => Task::MakeUp {
                 seed: words.first().map_or(Ok(DEFAULT_SEED), number)?,
@@ -83,23 +87,29 @@ impl Task {
     fn run(&self, comparison: &mut Comparison) -> Result<(), Difference> {
         match self {
             Task::MakeUp { seed, count } => make_up(*seed, *count, comparison),
-            Task::Replay { scripts } => {
-                let mut scripts = scripts.iter();
-                scripts.try_for_each(|script| replay(script, comparison))
-            }
+            Task::Replay { cases } => run_all(cases, comparison),
         }
     }
 }
 
-fn read_script(name: &String) -> Result<Vec<u8>, String> {
-    fs::read(name).map_err(|error| format!("{name}: {error}"))
+fn read_script(name: &String) -> Result<Vec<Case>, String> {
+    let script = fs::read(name).map_err(|error| format!("{name}: {error}"))?;
+    let mut reader = Reader::new(&script);
+    let mut cases = Vec::new();
+    while !reader.is_at_end() {
+        cases.push(Case::read(&mut reader).ok_or_else(|| format!("{name}: not a script"))?);
+    }
+    Ok(cases)
+}
+
+fn run_all(cases: &[Case], comparison: &mut Comparison) -> Result<(), Difference> {
+    let mut cases = cases.iter();
+    cases.try_for_each(|case| comparison.run(case).map(drop))
 }
 
 fn make_up(seed: u64, count: usize, comparison: &mut Comparison) -> Result<(), Difference> {
     println!("seed {seed}");
-    for case in sweep::cases() {
-        comparison.run(&case)?;
-    }
+    run_all(&sweep::cases(), comparison)?;
     let mut random = Random::new(seed);
     while comparison.summary.calls() < count {
         Round::new(&mut random, comparison).run()?;
@@ -107,20 +117,11 @@ fn make_up(seed: u64, count: usize, comparison: &mut Comparison) -> Result<(), D
     Ok(())
 }
 
-/// Compares the cases of a script, up to its end or to what is no case.
-fn replay(script: &[u8], comparison: &mut Comparison) -> Result<(), Difference> {
-    let mut reader = Reader::new(script);
-    while let Some(case) = Case::read(&mut reader) {
-        comparison.run(&case)?;
-    }
-    Ok(())
-}
-
-/// Writes the failing case as a script of one case.
+/// Writes the calls that differ as a script.
 fn save(difference: &Difference) -> io::Result<()> {
     let script = Path::new(FAILING);
     fs::create_dir_all(script.parent().expect("a folder"))?;
-    fs::write(script, difference.case.write())
+    fs::write(script, difference.write())
 }
 
 fn tell_where(saved: io::Result<()>) {

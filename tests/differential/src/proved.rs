@@ -1,5 +1,6 @@
 //! The proved archive, as an implementation that cases can be put to.
 
+use crate::random::Random;
 use independent::case::Case;
 use independent::script::{range_in, Merger, Reply};
 use merger::{Opened, Refusal};
@@ -33,13 +34,42 @@ impl Merger for Proved {
                 batch,
                 ..
             } => {
-                // Scratch may hold anything before.
-                let mut buffers = scratch.map(|room| vec![0xA5; room]);
-                let scratch = buffers.each_mut().map(Vec::as_mut_slice);
-                done(merger::batch(table, batch, out, scratch))
+                let mut buffers = scratch.map(Scratch::new);
+                let scratch = buffers.each_mut().map(Scratch::lend);
+                let reply = done(merger::batch(table, batch, out, scratch));
+                buffers.iter().for_each(Scratch::check);
+                reply
             }
             Report { input } => done(merger::report(input, out)),
         }
+    }
+}
+
+/// Bytes on either side of a scratch buffer, which no call may touch.
+const MARGIN: usize = 64;
+
+/// A scratch buffer between margins. It may hold anything before a call: noise.
+struct Scratch {
+    noise: Vec<u8>,
+    bytes: Vec<u8>,
+}
+
+impl Scratch {
+    fn new(room: usize) -> Self {
+        let noise = Random::new(room as u64).bytes(MARGIN + room + MARGIN);
+        let bytes = noise.clone();
+        Scratch { noise, bytes }
+    }
+
+    fn lend(&mut self) -> &mut [u8] {
+        let end = self.bytes.len() - MARGIN;
+        &mut self.bytes[MARGIN..end]
+    }
+
+    fn check(&self) {
+        let end = self.bytes.len() - MARGIN;
+        let margins = |bytes: &[u8]| [&bytes[..MARGIN], &bytes[end..]].concat();
+        assert_eq!(margins(&self.bytes), margins(&self.noise), "beside scratch");
     }
 }
 

@@ -55,7 +55,8 @@ impl<'r> Round<'r> {
         let events: Vec<_> = (0..count)
             .map(|_| self.family.event(self.random).write())
             .collect();
-        let way = self.way(&events)?;
+        let mut calls = Vec::new();
+        let way = self.way(&events, &mut calls)?;
         let mut batch = Vec::new();
         put_batch(&mut batch, &events);
         let batch = Case::Batch {
@@ -68,20 +69,23 @@ impl<'r> Round<'r> {
         if outcome.reply == way.reply && outcome.written() == way.written() {
             Ok(())
         } else {
-            Err(Difference::between_ways(batch))
+            calls.push(batch);
+            Err(Difference::between_ways(calls))
         }
     }
 
-    /// The last call of a random tree over the events, or the first refused one.
-    fn way(&mut self, events: &[Vec<u8>]) -> Result<Outcome, Difference> {
+    /// The last call of a random tree over good events, or the first combination that is refused.
+    /// All `calls` up to it are kept.
+    fn way(&mut self, events: &[Vec<u8>], calls: &mut Vec<Case>) -> Result<Outcome, Difference> {
         let mut outcomes = Vec::new();
         for event in events {
-            let outcome = self.comparison.run(&Case::CheckEvent {
+            let case = Case::CheckEvent {
                 room: DOSSIER_ROOM,
                 table: self.family.table.clone(),
                 event: event.clone(),
-            })?;
-            outcomes.push(outcome);
+            };
+            outcomes.push(self.comparison.run(&case)?);
+            calls.push(case);
         }
         while outcomes.len() > 1 {
             let left = self.random.draw(&mut outcomes);
@@ -94,6 +98,7 @@ impl<'r> Round<'r> {
             };
             let both = self.comparison.run(&case)?;
             self.keep(&case, &both);
+            calls.push(case);
             if let Reply::Refused { .. } = both.reply {
                 return Ok(both);
             }
@@ -246,7 +251,7 @@ impl<'r> Round<'r> {
             0 => self.random.below(20),
             _ => self.random.between(1, 16),
         };
-        // One damaged event in most batches: with one in five, hardly a batch would be whole.
+        // At most one event may be damaged: with each of them, hardly a batch would be whole.
         let mut events: Vec<_> = (0..count)
             .map(|_| self.family.event(self.random).write())
             .collect();

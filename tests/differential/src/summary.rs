@@ -1,7 +1,7 @@
 //! How often each call gave each reply.
 
 use independent::case::Case;
-use independent::script::Reply;
+use independent::script::{Outcome, Reply};
 use std::collections::BTreeMap;
 use std::fmt;
 
@@ -30,9 +30,13 @@ pub struct Summary {
 }
 
 impl Summary {
-    pub fn count(&mut self, case: &Case, reply: &Reply) {
+    pub fn count(&mut self, case: &Case, outcome: &Outcome) {
         let call = case.number() as usize - 1;
-        *self.counts.entry((call, column(reply))).or_default() += 1;
+        let column = match case {
+            Case::Report { .. } => line_column(outcome.written()),
+            _ => column(&outcome.reply),
+        };
+        *self.counts.entry((call, column)).or_default() += 1;
         self.calls += 1;
     }
 
@@ -51,6 +55,15 @@ fn column(reply: &Reply) -> usize {
         Reply::Value(None) => 5,
         Reply::Refused { number, .. } => 5 + usize::from(*number),
     }
+}
+
+/// A report counts as the reply that its first line names.
+fn line_column(lines: &[u8]) -> usize {
+    let mut words = lines.split(|byte| b" \n".contains(byte));
+    let named = words.find(|word| *word != b"refused").unwrap_or_default();
+    let mut replies = REPLIES.iter();
+    let found = replies.position(|reply| reply.as_bytes() == named);
+    found.expect("a report begins with a reply")
 }
 
 impl fmt::Display for Summary {

@@ -13,11 +13,12 @@ use independent::event::Event;
 const TYPE: &str = "t";
 const SOURCE: &str = "/";
 
-pub fn cases() -> impl Iterator<Item = Case> {
+pub fn cases() -> Vec<Case> {
     let tables = tables::all().map(|table| Case::CheckTable {
         table: table.pack(),
     });
-    tables.chain(values::cases()).chain(counts::cases())
+    let inputs = values::cases().chain(counts::cases());
+    tables.chain(inputs).collect()
 }
 
 fn table_of(event_type: TypeDraft) -> TableDraft {
