@@ -20,6 +20,17 @@ static const char TABLE[] =
 static const char E1[] = HEAD "\1\2up" "\1\1a";
 static const char E4[] = HEAD "\1\4down" "\1\1a";
 
+/* A type without versions, whose one property is single-valued: two values are overfull. */
+static const char PART_TABLE[] = "\1\4part\1\0\1" "\6serial\10\24\0\0\7";
+/* A part in a batch: its serial, of one byte, follows. */
+#define PART "\20" "\4part\5/lab/\0\1" "\1\1"
+static const char PARTS[] = "\2" PART "1" PART "2";
+
+static const uint8_t E1_HASH[MERGER_HASH_ROOM] = {
+    0xb5, 0x77, 0xea, 0x6d, 0xf2, 0x28, 0xb2, 0xae, 0xdf, 0xe3,
+    0x87, 0x52, 0xfc, 0xbe, 0x01, 0xb4, 0x72, 0xab, 0xcf, 0x14,
+};
+
 static uint8_t left[MERGER_DOSSIER_ROOM], right[MERGER_DOSSIER_ROOM];
 static uint8_t both[MERGER_DOSSIER_ROOM], event[MERGER_DOSSIER_ROOM];
 static uint8_t lines[MERGER_REPORT_ROOM];
@@ -49,7 +60,22 @@ static void expect_itself(size_t left_len) {
     expect(MERGER_KIND(reply) == MERGER_MERGED, "E1 opens as a merged event");
     expect(MERGER_LENGTH(reply) == sizeof E1 - 1 && memcmp(event, E1, sizeof E1 - 1) == 0,
            "E1 opens as itself");
-    expect(version == UNWRITTEN, "only a conflict writes the version");
+    expect(version == UNWRITTEN, "merged leaves the version");
+}
+
+static void expect_unwritten_version(void) {
+    uint64_t version = UNWRITTEN;
+    uint64_t reply = merger_batch(BYTES(PART_TABLE), BYTES(PARTS), both, sizeof both,
+                                  left, sizeof left, right, sizeof right, event, sizeof event);
+    expect(MERGER_KIND(reply) == MERGER_DONE, "two parts are a batch");
+    reply = merger_open(BYTES(PART_TABLE), both, MERGER_LENGTH(reply), event, sizeof event,
+                        &version);
+    expect(MERGER_KIND(reply) == MERGER_OVERFULL && MERGER_PLACE(reply) == 0,
+           "two serials are overfull");
+    expect(version == UNWRITTEN, "overfull leaves the version");
+    reply = merger_open(BYTES(PART_TABLE), BYTES("x"), event, sizeof event, &version);
+    expect(MERGER_KIND(reply) == MERGER_REFUSED && MERGER_NUMBER(reply) == 3, "3: no dossier");
+    expect(version == UNWRITTEN, "refused leaves the version");
 }
 
 static void expect_value(void) {
@@ -62,9 +88,10 @@ static void expect_value(void) {
 static void expect_refusals(void) {
     uint64_t reply = merger_check_table(BYTES("\0"));
     expect(MERGER_KIND(reply) == MERGER_REFUSED && MERGER_NUMBER(reply) == 2, "2: no table");
-    reply = merger_batch(BYTES(TABLE), BYTES("\2\1x\1x"), both, sizeof both, left, sizeof left,
-                         right, sizeof right, event, sizeof event);
-    expect(MERGER_NUMBER(reply) == 3 && MERGER_POSITION(reply) == 0, "3 0: no event");
+    reply = merger_batch(BYTES(PART_TABLE), BYTES("\2" PART "1" "\1x"), both, sizeof both,
+                         left, sizeof left, right, sizeof right, event, sizeof event);
+    expect(MERGER_KIND(reply) == MERGER_REFUSED && MERGER_NUMBER(reply) == 3
+               && MERGER_POSITION(reply) == 1, "3 1: the second is no event");
     reply = merger_report(BYTES("\1"), lines, sizeof lines);
     expect(MERGER_LENGTH(reply) == 12 && memcmp(lines, "refused 9 0\n", 12) == 0, "9: no table");
 }
@@ -74,7 +101,8 @@ static void expect_hash(void) {
     expect(MERGER_LENGTH(reply) == 22 && memcmp(lines, "/lab/\nnet.host\naddr:h1", 22) == 0,
            "the hash text of E1");
     reply = merger_hash(BYTES(TABLE), BYTES(E1), lines, MERGER_HASH_ROOM);
-    expect(MERGER_KIND(reply) == MERGER_DONE && MERGER_LENGTH(reply) == 20, "a hash has 20 bytes");
+    expect(MERGER_KIND(reply) == MERGER_DONE && MERGER_LENGTH(reply) == sizeof E1_HASH
+               && memcmp(lines, E1_HASH, sizeof E1_HASH) == 0, "the hash of E1");
 }
 
 int main(void) {
@@ -84,6 +112,7 @@ int main(void) {
            "E1 and E4 are accepted");
     expect_conflict(MERGER_LENGTH(first), MERGER_LENGTH(fourth));
     expect_itself(MERGER_LENGTH(first));
+    expect_unwritten_version();
     expect_value();
     expect_hash();
     expect_refusals();
