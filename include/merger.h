@@ -2,7 +2,8 @@
  * dossier is opened as one merged event or as a named conflict.
  *
  * Every call is proved to stay in the buffers that it is lent, to end, and to answer what the
- * profile says, for good and bad input alike. It keeps no state and takes nothing from a heap.
+ * profile says, for good and bad input alike. It keeps no state and takes nothing from a heap. The
+ * report takes about 170 KB of stack, opening about 36 KB, and each other call about 25 KB.
  *
  * Buffers. A buffer is a pointer and a length. The pointer is not null, even where the length is
  * 0; inputs are only read; an output or scratch buffer overlaps no other buffer of the call.
@@ -23,6 +24,9 @@
  *   3  an input breaks its layout     8  the events pass a limit
  *   4  the table has no such type     9  the batch or standard input is not framed right
  *   5  presence, counts or marks do not fit the type
+ *
+ * They are asked in this order, but for 9, which is asked after 2; a standard input without a
+ * table is refused with 9 before.
  *
  * What stays. A refused call leaves its output unchanged, and so do conflict and overfull. A call
  * that is done leaves the bytes past the returned length unchanged. */

@@ -1,4 +1,4 @@
-//! The C interface (include/merger.h) and its packed replies: the one module that knows them.
+//! The C interface (include/merger.h) and its packed replies. No other module calls it.
 //!
 //! Each call is safe for the same reason: pointers and lengths are those of slices, so they are
 //! valid and not null; what a call writes to is lent to it alone, so it overlaps nothing.

@@ -60,13 +60,14 @@ pub struct Refusal {
     pub position: usize,
 }
 
+/// A position of 0 is left out: the calls that take no batch have it too.
 impl fmt::Display for Refusal {
     fn fmt(&self, text: &mut fmt::Formatter) -> fmt::Result {
         let number = self.question.number();
         write!(text, "refused, no to question {number}: {}", self.question)?;
         match self.position {
             0 => Ok(()),
-            position => write!(text, " (event {position} of the batch)"),
+            position => write!(text, " (position {position}, from 0)"),
         }
     }
 }

@@ -14,6 +14,9 @@ use pack::{
 const STATE: usize = 3;
 const TAGS: usize = 4;
 
+/// The sticky hash of E1 to E4, as the profile has it.
+const HASH: &str = "b577ea6df228b2aedfe38752fcbe01b472abcf14";
+
 /// The table, and E1 to E4.
 struct Host {
     table: Vec<u8>,
@@ -259,8 +262,9 @@ fn the_report_prints_what_the_batch_opens_as() {
     let mut digest = [0; HASH_ROOM];
     hash(&table, &e1, &mut digest).unwrap();
     let digits: String = digest.iter().map(|byte| format!("{byte:02x}")).collect();
+    assert_eq!(digits, HASH);
     let merged = "merged 5\naddr:h1\nrev:2\nseen:2024-03-01T10:00:00Z\ntags:a\ntags:b\nhash ";
-    assert_eq!(printed(&table, &[&e1, &e2]), format!("{merged}{digits}\n"));
+    assert_eq!(printed(&table, &[&e1, &e2]), format!("{merged}{HASH}\n"));
     assert_eq!(printed(&table, &[&e2, &e1, &e3]), "conflict 2 tags\n");
     assert_eq!(printed(&table, &[&e3, &e4, &e1, &e2]), "conflict 1 state\n");
 }
@@ -292,4 +296,25 @@ fn a_refusal_leaves_the_output_and_says_why_in_words() {
     assert!(out.iter().all(|byte| *byte == 0xEE));
     let small = check_event(&table, &e1, &mut out[1..]).unwrap_err();
     assert_eq!(small, refused(Question::Room));
+}
+
+#[test]
+fn a_report_asks_for_its_room() {
+    let Host { table, events } = host();
+    let mut out = [0xEE; REPORT_ROOM - 1];
+    let small = report(&input(&table, &[&events[0]]), &mut out).unwrap_err();
+    assert_eq!(small, refused(Question::Room));
+    assert!(out.iter().all(|byte| *byte == 0xEE));
+}
+
+#[test]
+fn a_refusal_of_a_batch_names_the_position() {
+    let refusal = Refusal {
+        question: Question::Type,
+        position: 1,
+    };
+    assert_eq!(
+        refusal.to_string(),
+        "refused, no to question 4: has the table the input's type? (position 1, from 0)"
+    );
 }
