@@ -1,7 +1,9 @@
 //! The rows of the table: the same call on both sides, with buffers that are not cleared between.
 
-use crate::workload::{batch, host, host_dossier, port_dossier, table};
+use crate::workload::{host, host_dossier, port_dossier, table};
 use independent::calls::{self, Opening, DOSSIER_ROOM, HASH_ROOM, HASH_TEXT_ROOM};
+use independent::packed::put_batch;
+use independent::question;
 use merger::Opened;
 
 /// A call that gives the length of what it wrote to the buffer.
@@ -22,7 +24,12 @@ pub fn rows() -> Vec<Row> {
     let eights = [host_dossier(1..=8), host_dossier(1..=8)];
     let halves = [port_dossier(0), port_dossier(1)];
     vec![
-        check_event(),
+        of_event(
+            "check event, 14 objects",
+            DOSSIER_ROOM,
+            merger::check_event,
+            calls::check_event,
+        ),
         combine("combine, 4 and 4 snapshots", fours.clone()),
         combine(
             "combine, 7 snapshots and a newer one",
@@ -33,20 +40,34 @@ pub fn rows() -> Vec<Row> {
         open("open, of 4 and 4 snapshots", fours),
         open("open, of 7 snapshots and a newer one", seven_and_one),
         open("open, of 128 and 128 objects, unversioned", halves),
-        hash_text(),
-        hash(),
+        of_event(
+            "hash text, 14 objects",
+            HASH_TEXT_ROOM,
+            merger::hash_text,
+            calls::hash_text,
+        ),
+        of_event("hash, 14 objects", HASH_ROOM, merger::hash, calls::hash),
         batch_of_16(),
     ]
 }
 
-fn check_event() -> Row {
+type ArchiveCall = for<'o> fn(&[u8], &[u8], &'o mut [u8]) -> Result<&'o [u8], merger::Refusal>;
+type IndependentCall = fn(&[u8], &[u8], &mut [u8]) -> Result<usize, question::Refusal>;
+
+/// A call that takes one event: a host's.
+fn of_event(
+    name: &'static str,
+    room: usize,
+    archive: ArchiveCall,
+    independent: IndependentCall,
+) -> Row {
     let (table, event) = (table(), host(1));
     let inputs = (table.clone(), event.clone());
     Row {
-        name: "check event, 14 objects",
-        room: DOSSIER_ROOM,
-        archive: Box::new(move |out| merger::check_event(&table, &event, out).unwrap().len()),
-        independent: Box::new(move |out| calls::check_event(&inputs.0, &inputs.1, out).unwrap()),
+        name,
+        room,
+        archive: Box::new(move |out| archive(&table, &event, out).unwrap().len()),
+        independent: Box::new(move |out| independent(&inputs.0, &inputs.1, out).unwrap()),
         copied: None,
     }
 }
@@ -90,35 +111,12 @@ fn open(name: &'static str, [left, right]: [Vec<u8>; 2]) -> Row {
     }
 }
 
-fn hash_text() -> Row {
-    let (table, event) = (table(), host(1));
-    let inputs = (table.clone(), event.clone());
-    Row {
-        name: "hash text, 14 objects",
-        room: HASH_TEXT_ROOM,
-        archive: Box::new(move |out| merger::hash_text(&table, &event, out).unwrap().len()),
-        independent: Box::new(move |out| calls::hash_text(&inputs.0, &inputs.1, out).unwrap()),
-        copied: None,
-    }
-}
-
-fn hash() -> Row {
-    let (table, event) = (table(), host(1));
-    let inputs = (table.clone(), event.clone());
-    Row {
-        name: "hash, 14 objects",
-        room: HASH_ROOM,
-        archive: Box::new(move |out| merger::hash(&table, &event, out).unwrap().len()),
-        independent: Box::new(move |out| calls::hash(&inputs.0, &inputs.1, out).unwrap()),
-        copied: None,
-    }
-}
-
 /// Events of eight versions, each twice.
 fn batch_of_16() -> Row {
     let table = table();
     let events: Vec<_> = (1..=8).chain(1..=8).map(host).collect();
-    let frames = batch(&events);
+    let mut frames = Vec::new();
+    put_batch(&mut frames, &events);
     let inputs = (table.clone(), frames.clone());
     let scratch = || [(); 3].map(|()| vec![0; DOSSIER_ROOM]);
     let (mut own, mut other) = (scratch(), scratch());

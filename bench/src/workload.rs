@@ -1,7 +1,7 @@
 //! What is timed: hosts, which are versioned, and ports, which are not.
 
 use independent::calls::{self, DOSSIER_ROOM};
-use independent::packed::{put_count, put_text};
+use independent::packed::{put_batch, put_count, put_text};
 
 /// Objects of a set, as text.
 type Objects = Vec<String>;
@@ -121,16 +121,9 @@ fn dossier(events: Vec<Vec<u8>>) -> Vec<u8> {
     let mut out = vec![0; DOSSIER_ROOM];
     let mut scratch = [(); 3].map(|()| vec![0; DOSSIER_ROOM]);
     let scratch = scratch.each_mut().map(Vec::as_mut_slice);
-    let length = calls::batch(&table(), &batch(&events), &mut out, scratch);
+    let mut batch = Vec::new();
+    put_batch(&mut batch, &events);
+    let length = calls::batch(&table(), &batch, &mut out, scratch);
     out.truncate(length.expect("a dossier"));
     out
-}
-
-pub fn batch(events: &[Vec<u8>]) -> Vec<u8> {
-    let mut batch = Vec::new();
-    put_count(&mut batch, events.len());
-    for event in events {
-        put_text(&mut batch, event);
-    }
-    batch
 }
