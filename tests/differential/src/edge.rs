@@ -49,8 +49,8 @@ impl Edges {
             [5] => unsigned(64),
             [6] => datetime(),
             [7] => Edges::default()
-                .with(["true", "false"])
-                .without(["", "0", "1", "True", "FALSE", "tru", "truee", "false "]),
+                .with_inside(["true", "false"])
+                .with_outside(["", "0", "1", "True", "FALSE", "tru", "truee", "false "]),
             [8, most] => string(most as usize),
             [9, bytes] => hex(bytes as usize),
             _ => unreachable!("no such kind: {kind:?}"),
@@ -65,12 +65,12 @@ impl Edges {
         }
     }
 
-    fn with<V: Into<Vec<u8>>>(mut self, values: impl IntoIterator<Item = V>) -> Self {
+    fn with_inside<V: Into<Vec<u8>>>(mut self, values: impl IntoIterator<Item = V>) -> Self {
         self.inside.extend(values.into_iter().map(Into::into));
         self
     }
 
-    fn without<V: Into<Vec<u8>>>(mut self, values: impl IntoIterator<Item = V>) -> Self {
+    fn with_outside<V: Into<Vec<u8>>>(mut self, values: impl IntoIterator<Item = V>) -> Self {
         self.outside.extend(values.into_iter().map(Into::into));
         self
     }
@@ -85,20 +85,20 @@ fn unsigned(bits: u64) -> Edges {
         "340282366920938463463374607431768211457",
     ];
     Edges::default()
-        .with([0, 1, 9, 10, limit - 1].map(|number| number.to_string()))
-        .without([limit, limit + 1, 10 * limit].map(|number| number.to_string()))
-        .without(past_words)
-        .without(["", "-", "-0", "-1", "+1", "00", "01", "1.0", " 1", "1a"])
+        .with_inside([0, 1, 9, 10, limit - 1].map(|number| number.to_string()))
+        .with_outside([limit, limit + 1, 10 * limit].map(|number| number.to_string()))
+        .with_outside(past_words)
+        .with_outside(["", "-", "-0", "-1", "+1", "00", "01", "1.0", " 1", "1a"])
 }
 
 /// From -2^bits to 2^bits - 1.
 fn signed(bits: u64) -> Edges {
     let limit = 1_i128 << bits;
     Edges::default()
-        .with([0, 1, -1, 9, -10, limit - 1, -limit].map(|number| number.to_string()))
-        .without([limit, -limit - 1, 10 * limit, -10 * limit].map(|number| number.to_string()))
-        .without(["18446744073709551617", "-18446744073709551617"])
-        .without(["", "-", "-0", "--1", "+1", "00", "01", "-01", "1.0"])
+        .with_inside([0, 1, -1, 9, -10, limit - 1, -limit].map(|number| number.to_string()))
+        .with_outside([limit, -limit - 1, 10 * limit, -10 * limit].map(|number| number.to_string()))
+        .with_outside(["18446744073709551617", "-18446744073709551617"])
+        .with_outside(["", "-", "-0", "--1", "+1", "00", "01", "-01", "1.0"])
 }
 
 fn decimal(before: usize, after: usize, signed: u64) -> Edges {
@@ -109,9 +109,9 @@ fn decimal(before: usize, after: usize, signed: u64) -> Edges {
     let positive = [&least, &format!("1.{zero}"), &format!("{nines}.{last}")];
     let negative = positive.map(|value| format!("-{value}"));
     let all = Edges::default()
-        .with([format!("0.{zero}")])
-        .with(positive.map(String::as_str))
-        .without([
+        .with_inside([format!("0.{zero}")])
+        .with_inside(positive.map(String::as_str))
+        .with_outside([
             format!("-0.{zero}"),
             format!("1{nines}.{last}"),
             format!("-1{nines}.{last}"),
@@ -129,57 +129,62 @@ fn decimal(before: usize, after: usize, signed: u64) -> Edges {
             "".into(),
         ]);
     if signed == 1 {
-        all.with(negative)
+        all.with_inside(negative)
     } else {
-        all.without(negative)
+        all.with_outside(negative)
     }
 }
 
-fn datetime() -> Edges {
+/// The days next to the ends of months and years.
+fn days() -> Edges {
     let noon =
         |year: u32, month: usize, day: u32| format!("{year:04}-{month:02}-{day:02}T12:00:00Z");
     let lasts = [31, 28, 31, 30, 31, 30, 31, 31, 30, 31, 30, 31];
     let ends = || (1..).zip(lasts);
-    let days = Edges::default()
-        .with(ends().map(|(month, last)| noon(2023, month, last)))
-        .without(ends().map(|(month, last)| noon(2023, month, last + 1)))
-        .without([
+    Edges::default()
+        .with_inside(ends().map(|(month, last)| noon(2023, month, last)))
+        .with_outside(ends().map(|(month, last)| noon(2023, month, last + 1)))
+        .with_outside([
             noon(2023, 1, 0),
             noon(2023, 0, 1),
             noon(2023, 13, 1),
             noon(0, 1, 1),
         ])
-        .with([4, 2000, 2024].map(|year| noon(year, 2, 29)))
-        .without([1, 1900, 2023, 2100].map(|year| noon(year, 2, 29)))
-        .without([noon(2024, 2, 30), noon(10_000, 1, 1)]);
-    days.with([
-        "0001-01-01T00:00:00Z",
-        "9999-12-31T23:59:59.999999Z",
-        "2024-02-29T23:59:59Z",
-        "2024-02-29T23:59:59.000001Z",
-        "2024-02-29T23:59:59.100000Z",
-        "2024-02-29T23:59:59.999999Z",
-        "2024-03-01T00:00:00Z",
-        "2024-03-01T00:00:00.000001Z",
-    ])
-    .without([
-        "",
-        "2024-02-29",
-        "2024-02-29T24:00:00Z",
-        "2024-02-29T23:60:00Z",
-        "2024-02-29T23:59:60Z",
-        "2024-02-29T23:59:59",
-        "2024-02-29T23:59:59z",
-        "2024-02-29 23:59:59Z",
-        "2024-02-29T23:59:59+00:00",
-        "2024-02-29T23:59:59.Z",
-        "2024-02-29T23:59:59.000000Z",
-        "2024-02-29T23:59:59.00001Z",
-        "2024-02-29T23:59:59.0000001Z",
-        "2024-02-29T23:59:59.000001",
-        "2024-02-29T23:59:59,000001Z",
-        "-024-02-29T23:59:59Z",
-    ])
+        .with_inside([4, 2000, 2024].map(|year| noon(year, 2, 29)))
+        .with_outside([1, 1900, 2023, 2100].map(|year| noon(year, 2, 29)))
+        .with_outside([noon(2024, 2, 30), noon(10_000, 1, 1)])
+}
+
+fn datetime() -> Edges {
+    days()
+        .with_inside([
+            "0001-01-01T00:00:00Z",
+            "9999-12-31T23:59:59.999999Z",
+            "2024-02-29T23:59:59Z",
+            "2024-02-29T23:59:59.000001Z",
+            "2024-02-29T23:59:59.100000Z",
+            "2024-02-29T23:59:59.999999Z",
+            "2024-03-01T00:00:00Z",
+            "2024-03-01T00:00:00.000001Z",
+        ])
+        .with_outside([
+            "",
+            "2024-02-29",
+            "2024-02-29T24:00:00Z",
+            "2024-02-29T23:60:00Z",
+            "2024-02-29T23:59:60Z",
+            "2024-02-29T23:59:59",
+            "2024-02-29T23:59:59z",
+            "2024-02-29 23:59:59Z",
+            "2024-02-29T23:59:59+00:00",
+            "2024-02-29T23:59:59.Z",
+            "2024-02-29T23:59:59.000000Z",
+            "2024-02-29T23:59:59.00001Z",
+            "2024-02-29T23:59:59.0000001Z",
+            "2024-02-29T23:59:59.000001",
+            "2024-02-29T23:59:59,000001Z",
+            "-024-02-29T23:59:59Z",
+        ])
 }
 
 fn string(most: usize) -> Edges {
@@ -190,11 +195,11 @@ fn string(most: usize) -> Edges {
         .map(String::from)
         .partition(|character| character.len() <= most);
     Edges::default()
-        .with(["a".repeat(most)])
-        .with(short)
-        .without(long)
-        .without(["a".repeat(most + 1), "a".repeat(121), "".into()])
-        .without([
+        .with_inside(["a".repeat(most)])
+        .with_inside(short)
+        .with_outside(long)
+        .with_outside(["a".repeat(most + 1), "a".repeat(121), "".into()])
+        .with_outside([
             &b"\x80"[..],
             b"\xC3",
             b"\xC1\xBF",
@@ -211,8 +216,8 @@ fn hex(bytes: usize) -> Edges {
     let all = |digit: &str| digit.repeat(2 * bytes);
     let begin = "0".repeat(2 * bytes - 1);
     Edges::default()
-        .with(["0", "9", "a", "f"].map(all))
-        .without(["A", "F", "g"].map(all))
-        .without(["", "00", "/", ":", "`", "G"].map(|end| format!("{begin}{end}")))
-        .without([&begin[1..]])
+        .with_inside(["0", "9", "a", "f"].map(all))
+        .with_outside(["A", "F", "g"].map(all))
+        .with_outside(["", "00", "/", ":", "`", "G"].map(|end| format!("{begin}{end}")))
+        .with_outside([&begin[1..]])
 }

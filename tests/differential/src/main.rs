@@ -1,8 +1,8 @@
 //! The differential test: the proved archive beside the independent implementation.
 //!
-//! `differential [SEED [COUNT]]` makes up calls; `differential replay SCRIPT...` takes them from
-//! scripts. On the first difference the case is printed and written to a script, and the exit status
-//! is 1.
+//! `differential [SEED [COUNT]]` goes through the edges, and makes up calls until COUNT are compared;
+//! `differential replay SCRIPT...` takes them from scripts. On the first difference the case is
+//! printed and written to a script, and the exit status is 1.
 
 mod compare;
 mod damage;

@@ -251,7 +251,7 @@ impl<'r> Round<'r> {
             0 => self.random.below(20),
             _ => self.random.between(1, 16),
         };
-        // At most one event may be damaged: with each of them, hardly a batch would be whole.
+        // At most one event is damaged: were it one in five, hardly a batch would be whole.
         let mut events: Vec<_> = (0..count)
             .map(|_| self.family.event(self.random).write())
             .collect();

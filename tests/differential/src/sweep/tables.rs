@@ -3,6 +3,7 @@
 use super::{property, table_of, unversioned, versioned};
 use crate::draft::{PropertyDraft, TableDraft, TypeDraft, ADD, MAX};
 use crate::edge::KINDS;
+use crate::value::is_ordered;
 
 pub fn all() -> impl Iterator<Item = TableDraft> {
     let types = properties()
@@ -84,9 +85,7 @@ fn marks() -> impl Iterator<Item = TypeDraft> {
     let properties = KINDS.iter().zip(10..);
     let properties =
         properties.map(|(kind, number)| property(&format!("a{number}"), kind, [0, 0, MAX]));
-    let ordered: Vec<_> = properties
-        .filter(|each| crate::value::is_ordered(&each.kind))
-        .collect();
+    let ordered: Vec<_> = properties.filter(|each| is_ordered(&each.kind)).collect();
     let marked = (0..=33).map(move |mark| {
         let mut event_type = versioned(ordered.clone());
         event_type.mark = mark;
