@@ -21,7 +21,7 @@ pub struct BatchIndex {
     pub ends: [usize; 16],
 }
 
-// No batch.
+// The index that reading begins with, and that a refused batch answers.
 fn no_batch() -> BatchIndex
     ensures { λ r. ⌜ (r .ok ≡ false) × (length (r .starts) ≡ 16) × (length (r .ends) ≡ 16) ⌝ }
 {

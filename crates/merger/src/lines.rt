@@ -18,7 +18,7 @@ use packed::write::copy;
 use packed::write::copy_part;
 
 // A number in decimal: the digits before the last are those of a tenth.
-pub fn write_decimal(n: u64, out: &mut [u8], at: usize) -> usize
+fn write_decimal(n: u64, out: &mut [u8], at: usize) -> usize
     requires { ⌜ at + length (inDecimal n) ≤ length (now out) ⌝ }
     ensures { λ r. ⌜ Wrote (now (out .entry)) at (inDecimal n) (now (out .exit)) r ⌝ }
 {
