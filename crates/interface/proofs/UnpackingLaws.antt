@@ -1,9 +1,9 @@
--- That packing loses nothing: the macros of include/merger.h give back what the call answers.
-use mathlib.Core.Path.{_≡_, refl, sym, ap, _∙_, subst}
+-- What the macros of include/merger.h give back: of the value call its whole answer, of a reply its kind and its numbers where they have room in their bits.
+use mathlib.Core.Path.{_≡_, refl, sym, ap, ap₂, _∙_, subst}
 use mathlib.Core.Logic.{⊎-elim}
 use mathlib.Core.Option.{Option, none, some}
 use mathlib.Core.List.{List, [], _∷_, map, flatten}
-use Prim.Native.Nat.{ℕ, zero, suc, _+_, _*_, _/_, _%_, _^_, _≤_, _<_}
+use Prim.Native.Nat.{ℕ, zero, suc, _+_, _/_, _%_, _^_, _≤_, _<_}
 use native.Mathlib.Omega.{arith}
 use lib.ListN.{length, take, getD, getElem?, length-append}
 use Rattle.model.specs.Order.{Text}
@@ -16,7 +16,7 @@ use Rattle.ontology.specs.Questions.{Asked, refused, accepted, _>>=_, ask, Repl
 use Rattle.ontology.proofs.TableLaws.{table-type}
 use Rattle.ontology.proofs.TypeIndexLaws.{type-rules}
 use Rattle.event.specs.Event.{Event, setAt}
-use Rattle.event.specs.EventLayout.{wide, setBytes, setsBytes, headBytes, presenceBit, bitNumber, eventBytes}
+use Rattle.event.specs.EventLayout.{wide, setBytes, setsBytes, eventBytes}
 use Rattle.event.specs.EventQuestions.{Typed, eventAsked}
 use Rattle.event.specs.Value.{Part, bytesBefore, partOf, askedPart, valueCall}
 use Rattle.event.proofs.EventLayoutLaws.{event-was}
@@ -82,6 +82,42 @@ reply-tells kind (Reply.overfull p) h = (omega arith, omega arith)
 reply-tells kind (Reply.refused n) h = refusal-tells n 0 h (omega arith)
 reply-tells kind (Reply.refusedAt n i) h = refusal-tells n i (h .0) (h .1)
 
+-- what a program reads from a number of this kind by the macros; the event version of a conflict is not in the number
+unfoldable pub readAs : ℕ → ℕ → Reply
+readAs zero reply = Reply.done (lowOf reply)
+readAs (suc zero) reply = Reply.done (lowOf reply)
+readAs (suc (suc zero)) reply = Reply.conflict 0 (lowOf reply)
+readAs (suc (suc (suc zero))) reply = Reply.overfull (lowOf reply)
+readAs (suc (suc (suc (suc kind)))) reply = Reply.refusedAt (numberOf reply) (positionOf reply)
+
+-- a reply as far as its number tells it: without the event version of a conflict, and a refusal outside a batch with the position 0
+abbrev pub inNumber : Reply → Reply
+inNumber (Reply.done n) = Reply.done n
+inNumber (Reply.conflict v p) = Reply.conflict 0 p
+inNumber (Reply.overfull p) = Reply.overfull p
+inNumber (Reply.refused n) = Reply.refusedAt n 0
+inNumber (Reply.refusedAt n i) = Reply.refusedAt n i
+
+reply-read : (kind : ℕ) → kind < 2 → (r : Reply) → HasBits r → readAs (kindOf (packedAs kind r)) (packedAs kind r) ≡ inNumber r
+unfolding readAs
+reply-read kind k r h = go r (packedAs kind r) (reply-tells kind r h)
+  where
+    of-done : (kind reply : ℕ) → kind < 2 → readAs kind reply ≡ Reply.done (lowOf reply)
+    of-done zero reply k = refl
+    of-done (suc zero) reply k = refl
+    of-done (suc (suc kind)) reply k = absurd (omega arith)
+
+    go : (r : Reply) (reply : ℕ) → Tells kind r reply → readAs (kindOf reply) reply ≡ inNumber r
+    go (Reply.done n) reply t = ap (λ (k : ℕ). readAs k reply) (t .0) ∙ of-done kind reply k ∙ ap Reply.done (t .1)
+    go (Reply.conflict v p) reply t = ap (λ (k : ℕ). readAs k reply) (t .0) ∙ ap (Reply.conflict 0) (t .1)
+    go (Reply.overfull p) reply t = ap (λ (k : ℕ). readAs k reply) (t .0) ∙ ap Reply.overfull (t .1)
+    go (Reply.refused n) reply t = ap (λ (k : ℕ). readAs k reply) (t .0) ∙ ap₂ Reply.refusedAt (t .1) (t .2)
+    go (Reply.refusedAt n i) reply t = ap (λ (k : ℕ). readAs k reply) (t .0) ∙ ap₂ Reply.refusedAt (t .1) (t .2)
+
+-- Replies of one call with the same number are the same reply, as far as a number tells it.
+pub same-number : (kind : ℕ) → kind < 2 → (r s : Reply) → HasBits r → HasBits s → packedAs kind r ≡ packedAs kind s → inNumber r ≡ inNumber s
+same-number kind k r s h i e = sym (reply-read kind k r h) ∙ ap (λ (n : ℕ). readAs (kindOf n) n) e ∙ reply-read kind k s i
+
 -- ---- the part of an event that has a value
 
 -- what is written before an element, and the element's own bytes, are no longer than the whole
@@ -128,11 +164,11 @@ accepted-size table event ts a t h =
     event-size (a .event) (event-was wide event (a .event) (w .read) .1) (event-short (a .type) (a .event) (w .shape) (w .values)) n
 
 -- a part that ends within the first 32,768 bytes
-abbrev Ends : Part → Type 0
+abbrev pub Ends : Part → Type 0
 Ends x = x .start + length (x .bytes) ≤ 32768
 
 -- The value call's part ends within the first 32,768 bytes of the event, whatever the table, event, place and index.
-value-ends : (table event : List ℕ) (place index : ℕ) → Ends (valueCall table event place index)
+pub value-ends : (table event : List ℕ) (place index : ℕ) → Ends (valueCall table event place index)
 unfolding valueCall askedPart partOf
 value-ends table event place index = tabled (tableOf table) refl
   where
