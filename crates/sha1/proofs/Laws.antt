@@ -9,8 +9,7 @@ use lib.ListN.{length, getD, take, drop, set, replicate, length-append, length-d
 use lib.Seq.{length-take-le, drop-append-le, sets, sets-eq, paste, getD-append-add, getD-append-seam, getD-take, getD-drop, take-all, take-suc, take-suc-set, take-append-le}
 use lib.Bits.{bitXor}
 use borrow.Author.Tests.{lt-ltb, le-ltb}
-use Rattle.sha1.specs.declared.State.{State}
-use Rattle.sha1.specs.Fips.{plus, zeros, bigEndian, padded, block, wordAt, W, ROTL, schedule, round, rounds, compressed, hash, digest, sha1Of}
+use Rattle.sha1.specs.Fips.{HashValue, plus, zeros, bigEndian, padded, block, wordAt, W, ROTL, schedule, round, rounds, compressed, hash, digest, sha1Of}
 
 -- two lists that agree below n agree at each place below n
 pub same-at : (n : ℕ) (a b : List ℕ) → take n a ≡ take n b → (k : ℕ) → k < n → getD a k 0 ≡ getD b k 0
@@ -142,7 +141,7 @@ pub sum-order : (r f e k w : ℕ) → plus (plus (plus (plus e k) w) f) r ≡ pl
 unfolding plus
 sum-order r f e k w = simp plus-rest (ap (λ (n : ℕ). n % 2 ^ 32) (omega arith))
 
-pub rounds-more : (ws : List ℕ) (t : ℕ) (s : State) → round t (getD ws t 0) (rounds ws t s) ≡ rounds ws (t + 1) s
+pub rounds-more : (ws : List ℕ) (t : ℕ) (s : HashValue) → round t (getD ws t 0) (rounds ws t s) ≡ rounds ws (t + 1) s
 unfolding rounds
 rounds-more ws t s = ap (λ (n : ℕ). rounds ws n s) (sym (add-one t))
 

@@ -6,7 +6,6 @@ use Prim.Native.Nat.{ℕ, zero, suc, _+_, _-_, _*_, _/_, _%_, _^_}
 use lib.ListN.{length, getD, take, drop, replicate}
 use lib.Bits.{bitAnd, bitOr, bitXor}
 use lib.Dec.{ltb}
-use Rattle.sha1.specs.declared.State.{State}
 
 abbrev pub pick : Bool → ℕ → ℕ → ℕ
 pick true x y = x
@@ -63,8 +62,16 @@ block p i = take 64 (drop (64 * i) p)
 unfoldable pub wordAt : List ℕ → ℕ → ℕ
 wordAt m k = getD m k 0 * 2 ^ 24 + getD m (k + 1) 0 * 2 ^ 16 + getD m (k + 2) 0 * 2 ^ 8 + getD m (k + 3) 0
 
+-- FIPS 180-4, 2.2.1: the five words of a hash value, under the names of the working variables that become it
+pub record HashValue : Type 0 where
+  pub a : ℕ
+  pub b : ℕ
+  pub c : ℕ
+  pub d : ℕ
+  pub e : ℕ
+
 -- FIPS 180-4, 5.3.1: the initial hash value
-unfoldable pub H0 : State
+unfoldable pub H0 : HashValue
 H0 = record { a = 0x6745_2301; b = 0xefcd_ab89; c = 0x98ba_dcfe; d = 0x1032_5476; e = 0xc3d2_e1f0 }
 
 -- FIPS 180-4, 6.1.2, step 1: word t of the message schedule of the block m, from the words ws before it
@@ -79,30 +86,30 @@ schedule m zero = []
 schedule m (suc t) = let ws = schedule m t in ws ++ (W m ws t ∷ [])
 
 -- FIPS 180-4, 6.1.2, step 3: round t, with the word w of the message schedule; its sum is T
-unfoldable pub round : ℕ → ℕ → State → State
+unfoldable pub round : ℕ → ℕ → HashValue → HashValue
 round t w s =
     record { a = plus (plus (plus (plus (ROTL 5 (s .a)) (f t (s .b) (s .c) (s .d))) (s .e)) (K t)) w; b = s .a; c = ROTL 30 (s .b); d = s .c; e = s .d }
 
 -- the rounds below n, with the words ws
-unfoldable pub rounds : List ℕ → ℕ → State → State
+unfoldable pub rounds : List ℕ → ℕ → HashValue → HashValue
 rounds ws zero s = s
 rounds ws (suc t) s = round t (getD ws t 0) (rounds ws t s)
 
 -- FIPS 180-4, 6.1.2, step 4: the sums of the hash value s before the block and the working variables r after its rounds
-unfoldable pub sum : State → State → State
+unfoldable pub sum : HashValue → HashValue → HashValue
 sum s r = record { a = plus (r .a) (s .a); b = plus (r .b) (s .b); c = plus (r .c) (s .c); d = plus (r .d) (s .d); e = plus (r .e) (s .e) }
 
 -- FIPS 180-4, 6.1.2, steps 1 to 4: the hash value after the block m, from the hash value s before it
-unfoldable pub compressed : List ℕ → State → State
+unfoldable pub compressed : List ℕ → HashValue → HashValue
 compressed m s = sum s (rounds (schedule m 80) 80 s)
 
 -- FIPS 180-4, 6.1.2: the hash value after the blocks below n of the padded message p
-unfoldable pub hash : List ℕ → ℕ → State
+unfoldable pub hash : List ℕ → ℕ → HashValue
 hash p zero = H0
 hash p (suc i) = let s = hash p i in compressed (block p i) s
 
 -- FIPS 180-4, 6.1.2, at its end: the message digest of the last hash value
-unfoldable pub digest : State → List ℕ
+unfoldable pub digest : HashValue → List ℕ
 digest s = bigEndian 4 (s .a) ++ bigEndian 4 (s .b) ++ bigEndian 4 (s .c) ++ bigEndian 4 (s .d) ++ bigEndian 4 (s .e)
 
 -- FIPS 180-4, 6.1: SHA-1 of the message m

@@ -4,8 +4,8 @@ ghost use mathlib.Core.List.{List};
 ghost use Prim.Native.Nat.{ℕ, _+_, _*_, _/_, _%_, _^_, _≤_, _<_};
 ghost use lib.ListN.{length, getD, take};
 ghost use lib.Seq.{sets};
-ghost use Rattle.sha1.specs.Fips.{ROTL, f, K, zeros, padded, block, schedule, round, rounds, sum, compressed, digest, sha1Of};
-ghost use Rattle.sha1.specs.declared.State.{State};
+ghost use Rattle.sha1.specs.Fips.{HashValue, ROTL, f, K, zeros, padded, block, schedule, round, rounds, sum, compressed, digest, sha1Of};
+ghost use Rattle.sha1.specs.StateWords.{wordsOf};
 
 // Five words: the hash value, and the working variables.
 pub struct State {
@@ -58,7 +58,7 @@ fn constant(t: usize) -> u32
 
 // Round `t` with the word `w`. The rotated `a`, which the round before makes last, is added last.
 fn round_of(t: usize, w: u32, s: State) -> State
-    ensures { λ r. ⌜ r ≡ round t w s ⌝ }
+    ensures { λ r. ⌜ wordsOf r ≡ round t w (wordsOf s) ⌝ }
 {
     let x = std::num::wrapping_add_u32(s.e, constant(t));
     let y = std::num::wrapping_add_u32(x, w);
@@ -157,7 +157,8 @@ fn extend(w: &mut [u32; 80], from: usize, to: usize)
 // `from`, so that the compiler knows which function its rounds take.
 fn twenty(w: &[u32; 80], from: usize, s: State) -> State
     requires { ⌜ from + 20 ≤ 80 ⌝ }
-    ensures { λ r. ⌜ ((ws : List ℕ) (h : State) → take (from + 20) (now (w .entry)) ≡ take (from + 20) ws → s ≡ rounds ws from h → r ≡ rounds ws (from + 20) h) ⌝ }
+    ensures { λ r. ⌜ ((ws : List ℕ) (h : HashValue) → take (from + 20) (now (w .entry)) ≡ take (from + 20) ws
+        → wordsOf s ≡ rounds ws from h → wordsOf r ≡ rounds ws (from + 20) h) ⌝ }
 {
     let mut r = s;
     let mut t = from;
@@ -170,7 +171,7 @@ fn twenty(w: &[u32; 80], from: usize, s: State) -> State
 
 // The hash value `s` before a block and the working variables `r` after its rounds, added.
 fn sum_of(s: State, r: State) -> State
-    ensures { λ v. ⌜ v ≡ sum s r ⌝ }
+    ensures { λ v. ⌜ wordsOf v ≡ sum (wordsOf s) (wordsOf r) ⌝ }
 {
     State {
         a: std::num::wrapping_add_u32(r.a, s.a),
@@ -185,7 +186,7 @@ fn sum_of(s: State, r: State) -> State
 // rounds: the processor then works on both at once.
 fn compress(m: &[u8], s: State) -> State
     requires { ⌜ length (now m) ≡ 64 ⌝ }
-    ensures { λ r. ⌜ r ≡ compressed (now (m .entry)) s ⌝ }
+    ensures { λ r. ⌜ wordsOf r ≡ compressed (now (m .entry)) (wordsOf s) ⌝ }
 {
     let mut w = [0u32; 80];
     block_words(m, &mut w);
@@ -204,7 +205,7 @@ fn compress(m: &[u8], s: State) -> State
 // read there.
 fn add_block(message: &[u8], i: usize, s: State) -> State
     requires { ⌜ (length (now message) < 2 ^ 61) × (64 * i + 64 ≤ length (padded (now message))) ⌝ }
-    ensures { λ r. ⌜ r ≡ compressed (block (padded (now (message .entry))) i) s ⌝ }
+    ensures { λ r. ⌜ wordsOf r ≡ compressed (block (padded (now (message .entry))) i) (wordsOf s) ⌝ }
 {
     let start = 64 * i;
     let end = start + 64;
@@ -217,7 +218,7 @@ fn add_block(message: &[u8], i: usize, s: State) -> State
 
 // The hash value as bytes.
 fn digest_of(s: State) -> [u8; 20]
-    ensures { λ r. ⌜ r ≡ digest s ⌝ }
+    ensures { λ r. ⌜ r ≡ digest (wordsOf s) ⌝ }
 {
     [
         ((s.a >> 24) % 256) as u8,

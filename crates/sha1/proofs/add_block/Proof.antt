@@ -4,6 +4,7 @@ use mathlib.Core.List.{List}
 use Prim.Native.Nat.{ℕ}
 use native.Mathlib.Omega.{arith}
 use Rattle.sha1.specs.Fips.{compressed}
+use Rattle.sha1.specs.StateWords.{wordsOf}
 use Rattle.sha1.proofs.Laws.{padded-most, block-in}
 use borrow.Author.Needs.{needs}
 use Rattle.sha1.proofs.add_block.Statement.{statement}
@@ -30,7 +31,7 @@ compress-requires c κs = search needs
 returns : tie.Need-returns
 returns c =
     let a = c .before .before .before .before .args in
-    c .compress .ensures ∙ ap (λ (m : List ℕ). compressed m (a .s)) (block-in (a .message .now) (a .i) (omega arith))
+    c .compress .ensures ∙ ap (λ (m : List ℕ). compressed m (wordsOf (a .s))) (block-in (a .message .now) (a .i) (omega arith))
 
 padded-block-requires : tie.Need-padded-block-requires
 padded-block-requires c κs = search needs
@@ -44,7 +45,7 @@ compress-requires-2 c κs = search needs
 returns-2 : tie.Need-returns-2
 returns-2 c =
     let a = c .before .before .before .before .before .args in
-    c .compress2 .ensures ∙ ap (λ (m : List ℕ). compressed m (a .s)) (c .before .before .padded-block .ensures)
+    c .compress2 .ensures ∙ ap (λ (m : List ℕ). compressed m (wordsOf (a .s))) (c .before .before .padded-block .ensures)
 
 pub add-block-spec : {M : Type 1} → statement M
 add-block-spec =

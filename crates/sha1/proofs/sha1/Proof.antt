@@ -4,13 +4,14 @@ use Prim.Native.Nat.{ℕ, _-_, _/_, _≤_}
 use native.Mathlib.Omega.{arith}
 use lib.ListN.{length}
 use Rattle.sha1.specs.Fips.{padded, block, H0, compressed, hash, digest, sha1Of}
+use Rattle.sha1.specs.StateWords.{wordsOf}
 use Rattle.sha1.proofs.Laws.{length-padded, hash-more}
 use borrow.Author.Needs.{needs}
 use Rattle.sha1.proofs.sha1.Statement.{statement}
 use Rattle.sha1.proofs.sha1.Tie as tie
 
 abbrev Inv-loop : tie.InvT-loop
-Inv-loop message blocks s₀ i₀ s i = (i ≤ blocks) × (s ≡ hash (padded message) i)
+Inv-loop message blocks s₀ i₀ s i = (i ≤ blocks) × (wordsOf s ≡ hash (padded message) i)
 
 abbrev μ-loop : tie.MeasureT-loop
 μ-loop message blocks s₀ i₀ s i = blocks - i

@@ -5,8 +5,8 @@ use mathlib.Core.List.{List}
 use Prim.Native.Nat.{ℕ, _+_, _-_, _≤_}
 use native.Mathlib.Omega.{arith}
 use lib.ListN.{getD, take}
-use Rattle.sha1.specs.declared.State.{State}
-use Rattle.sha1.specs.Fips.{rounds, round}
+use Rattle.sha1.specs.Fips.{HashValue, rounds, round}
+use Rattle.sha1.specs.StateWords.{wordsOf}
 use Rattle.sha1.proofs.Laws.{same-at, rounds-more}
 use borrow.Author.Needs.{needs}
 use Rattle.sha1.proofs.twenty.Statement.{statement}
@@ -14,7 +14,8 @@ use Rattle.sha1.proofs.twenty.Tie as tie
 
 abbrev Inv-loop : tie.InvT-loop
 Inv-loop w from r₀ t₀ r t =
-    (from ≤ t) × (t ≤ from + 20) × ((ws : List ℕ) (h : State) → take (from + 20) w ≡ take (from + 20) ws → r₀ ≡ rounds ws from h → r ≡ rounds ws t h)
+    (from ≤ t) × (t ≤ from + 20)
+    × ((ws : List ℕ) (h : HashValue) → take (from + 20) w ≡ take (from + 20) ws → wordsOf r₀ ≡ rounds ws from h → wordsOf r ≡ rounds ws t h)
 
 abbrev μ-loop : tie.MeasureT-loop
 μ-loop w from r₀ t₀ r t = from + 20 - t
