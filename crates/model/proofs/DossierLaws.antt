@@ -8,12 +8,12 @@ use native.Mathlib.Omega.{arith}
 use Rattle.model.specs.Order.{Order, Text, numbers, texts}
 use Rattle.model.specs.Keyed.{put}
 use Rattle.model.specs.Sets.{Ups, canon, only}
-use Rattle.model.specs.Rule.{holds, differs, Choice, every, least, View, places, Snapshot, cell, ofVersion, cellOf, snapshot, ruleAt, rule, sizes, count}
+use Rattle.model.specs.Rule.{holds, differs, Choice, every, least, View, places, Snapshot, cell, ofVersion, cellOf, snapshot, ruleAt, rule, sizes}
+use Rattle.model.proofs.PartLaws.{count, map-same, flatten-of, only-in, only-of, length-upTo}
 use Rattle.model.specs.Opening.{cellAt}
-use Rattle.model.specs.Ways.{Each, Has}
+use Rattle.model.proofs.WayClaims.{Each, Has}
 use Rattle.model.proofs.Cases.{never}
 use Rattle.model.proofs.SetLaws.{ups-canon, canon-ups, canon-in, canon-of}
-use Rattle.model.proofs.PartLaws.{map-same, flatten-of, only-in, only-of, length-upTo}
 use Rattle.model.proofs.ValidLaws.{agreed-holds, agreed-all, held-value, held-rises, held-some, held-least, not-unversioned, alike, cell-one, in-places, cell-at-snapshot, sizes-held}
 
 module _ {Event : Type 0} (t : View Event) (es : List Event) where

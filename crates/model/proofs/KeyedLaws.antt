@@ -4,11 +4,28 @@ use mathlib.Core.Logic.{_↔_}
 use mathlib.Core.Option.{Option, none, some}
 use mathlib.Core.List.{List, [], _∷_, map, List·Memᴰ, List·Memᴰ·head, List·Memᴰ·tail}
 use Prim.Native.Nat.{Ordering·lt, Ordering·gt}
-use Rattle.model.specs.Order.{Order, pick, three}
-use Rattle.model.specs.Keyed.{joined, both, Above, Rising, look, put, merge}
+use Rattle.model.specs.Order.{Order, pick}
+use Rattle.model.proofs.Cases.{three, never}
+use Rattle.model.specs.Keyed.{Above, Rising, put, merge}
 use Rattle.model.specs.Sets.{itself, Ups}
-use Rattle.model.proofs.Cases.{never}
 use Rattle.model.proofs.OrderLaws.{less-turn, more-turn}
+
+module _ {E : Type 0} (join : E → E → E) where
+  -- an entry, joined with the other one of its key, if there is one
+  unfoldable pub joined : E → Option E → E
+  joined e none = e
+  joined e (some x) = join e x
+
+  -- what two lists have at a key, together
+  unfoldable pub both : Option E → Option E → Option E
+  both none m = m
+  both (some e) m = some (joined e m)
+
+module _ {E K : Type 0} (O : Order K) (key : E → K) where
+  -- the entry at a key
+  unfoldable pub look : K → List E → Option E
+  look k [] = none
+  look k (x ∷ xs) = pick (O .cmp k (key x)) none (some x) (look k xs)
 
 module _ {E : Type 0} (join : E → E → E) where
   pub joined-keep : ((a b : E) → join a b ≡ a) → (e : E) (m : Option E) → joined join e m ≡ e

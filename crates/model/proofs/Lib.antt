@@ -1,5 +1,6 @@
 pub mod Cases
 pub mod OrderLaws
+pub mod WayClaims
 pub mod KeyedLaws
 pub mod SetLaws
 pub mod PartLaws

@@ -9,11 +9,11 @@ use borrow.Author.Tests.{leb-true, le-leb}
 use native.Mathlib.Omega.{arith}
 use Rattle.model.specs.Order.{Text, numbers, texts}
 use Rattle.model.specs.Sets.{Within, canon, smallest}
-use Rattle.model.specs.Rule.{allAre, agreed, Choice, every, least, View, places, Snapshot, Dossier, cell, ofVersion, cellOf, snapshot, ruleAt, rule, size, sizes, objects, count}
+use Rattle.model.specs.Rule.{allAre, agreed, Choice, every, least, View, places, Snapshot, Dossier, cell, ofVersion, cellOf, snapshot, ruleAt, rule, size, sizes, objects}
+use Rattle.model.proofs.PartLaws.{count, map-within, flatten-within, only-within}
 use Rattle.model.specs.Limits.{Limits, fits}
 use Rattle.model.proofs.Cases.{and-parts, or-part}
 use Rattle.model.proofs.SetLaws.{ups-canon, canon-in, canon-of, total, total-within, length-canon-within, length-canon}
-use Rattle.model.proofs.PartLaws.{map-within, flatten-within, only-within}
 use Rattle.model.proofs.ValidLaws.{one-snapshot}
 
 -- the limits as bounds

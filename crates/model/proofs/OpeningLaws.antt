@@ -14,7 +14,7 @@ use Rattle.model.specs.Sets.{Within, Ups, canon, smallest}
 use Rattle.model.specs.Rule.{Cell, holds, differs, Choice, every, least, View, places, Snapshot, Dossier, cellOf, snapshot, rule}
 use Rattle.model.specs.Opening.{cellAt, held, Conflict, noConflict, differsAt, conflict, column, lastOf, mergedSet, conflictAt, overfullAt, merged, firstOf, mergedAt, mergedSets, overfull, opening}
 use Rattle.model.specs.Clashes.{NoClash}
-use Rattle.model.specs.Ways.{Each, Has}
+use Rattle.model.proofs.WayClaims.{Each, Has}
 use Rattle.model.proofs.Cases.{never, truth}
 use Rattle.model.proofs.SetLaws.{ups-canon, canon-in, canon-of}
 use Rattle.model.proofs.PartLaws.{map-same, flatten-in, flatten-of, getD-upTo}

@@ -5,10 +5,17 @@ use mathlib.Core.List.{List, [], _∷_, _++_, map, flatten, append-assoc, List·
 use Prim.Native.Nat.{ℕ, zero, suc, _+_, _≤_, _<_, Ordering·eq}
 use lib.ListN.{length, getD}
 use native.Mathlib.Omega.{arith}
-use Rattle.model.specs.Order.{Order, three, numbers}
+use Rattle.model.specs.Order.{Order, numbers}
+use Rattle.model.proofs.Cases.{three}
 use Rattle.model.specs.Keyed.{Above}
+use Rattle.model.specs.Rule.{View}
 use Rattle.model.specs.Sets.{Within, only, itself, Ups, upFrom, upTo}
 use Rattle.model.proofs.OrderLaws.{less-of, less-cmp, more-turn}
+
+-- how many objects an event has at the places of a list
+unfoldable pub count : {Event : Type 0} → View Event → Event → List ℕ → ℕ
+count t e [] = 0
+count t e (p ∷ ps) = length (t .set e p) + count t e ps
 
 module _ {A B : Type 0} (f : A → B) where
   pub map-append : (xs ys : List A) → map f (xs ++ ys) ≡ map f xs ++ map f ys

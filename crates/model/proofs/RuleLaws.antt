@@ -5,12 +5,12 @@ use mathlib.Core.Bool.{Bool, true, false, cond, _&&_}
 use mathlib.Core.Option.{Option, none, some}
 use mathlib.Core.List.{List, [], _∷_, _++_, map, flatten, append-nil, List·Memᴰ, List·Memᴰ·head, List·Memᴰ·tail, List·Memᴰ·cases-cons, List·Memᴰ·not-nil}
 use Prim.Native.Nat.{ℕ}
-use Rattle.model.specs.Order.{three, Text, numbers, texts, sets, equal}
-use Rattle.model.specs.Keyed.{Rising, look, merge, both, joined}
+use Rattle.model.specs.Order.{Text, numbers, texts, sets, equal}
+use Rattle.model.proofs.Cases.{three, never}
+use Rattle.model.specs.Keyed.{Rising, merge}
+use Rattle.model.proofs.KeyedLaws.{look, both, joined, joined-keep, rising-merge, look-put, look-merge, by-look}
 use Rattle.model.specs.Sets.{Within, Same, canon, union, smallest, only}
 use Rattle.model.specs.Rule.{Cell, holds, differs, Choice, every, least, View, places, Snapshot, allAre, agreed, cell, joinCell, ofVersion, cellOf, snapshot, ruleAt, rule, joinCells, joinSnapshots, combine}
-use Rattle.model.proofs.Cases.{never}
-use Rattle.model.proofs.KeyedLaws.{joined-keep, rising-merge, look-put, look-merge, by-look}
 use Rattle.model.proofs.SetLaws.{ups-canon, canon-same, union-canon, smallest-append, made?, look-map, rising-map}
 use Rattle.model.proofs.PartLaws.{map-append, map-same, map-within, flatten-append, flatten-within, only-append, only-within}
 

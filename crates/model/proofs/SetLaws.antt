@@ -7,12 +7,12 @@ use mathlib.Core.List.{List, [], _∷_, _++_, map, List·Memᴰ, List·Memᴰ·h
 use Prim.Native.Nat.{ℕ, suc, _+_, Ordering·lt, _≤_, zero-le}
 use lib.ListN.{length, take}
 use native.Mathlib.Omega.{arith}
-use Rattle.model.specs.Order.{Order, pick, three, rising}
-use Rattle.model.specs.Keyed.{Above, Rising, look, put, merge}
+use Rattle.model.specs.Order.{Order, pick, rising}
+use Rattle.model.proofs.Cases.{three, never}
+use Rattle.model.specs.Keyed.{Above, Rising, put, merge}
+use Rattle.model.proofs.KeyedLaws.{look, above-trans, rising-put, rising-merge, by-look, look-member, member-look, above-member}
 use Rattle.model.specs.Sets.{Within, Same, itself, first, Ups, canon, union, smallest}
 use Rattle.model.proofs.OrderLaws.{less-turn, more-turn}
-use Rattle.model.proofs.Cases.{never}
-use Rattle.model.proofs.KeyedLaws.{above-trans, rising-put, rising-merge, by-look, look-member, member-look, above-member}
 
 module _ {K : Type 0} (O : Order K) where
   -- the test by neighbours

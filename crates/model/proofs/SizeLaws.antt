@@ -8,13 +8,13 @@ use lib.ListN.{length, getD, length-append, length-take}
 use native.Mathlib.Omega.{arith}
 use Rattle.model.specs.Order.{Text, texts}
 use Rattle.model.specs.Sets.{smallest, upTo}
-use Rattle.model.specs.Rule.{Cell, holds, differs, Choice, every, least, View, places, Snapshot, Dossier, rule, size, sizes, objects, count}
+use Rattle.model.specs.Rule.{Cell, holds, differs, Choice, every, least, View, places, Snapshot, Dossier, rule, size, sizes, objects}
+use Rattle.model.proofs.PartLaws.{count, map-getD}
 use Rattle.model.specs.Limits.{Limits, fits}
 use Rattle.model.specs.Opening.{cellAt, held, column, lastOf, mergedSet, mergedAt, mergedSets}
-use Rattle.model.specs.Ways.{Each}
+use Rattle.model.proofs.WayClaims.{Each}
 use Rattle.model.proofs.Cases.{truth}
 use Rattle.model.proofs.SetLaws.{length-canon}
-use Rattle.model.proofs.PartLaws.{map-getD}
 use Rattle.model.proofs.LimitLaws.{fits-bounds}
 use Rattle.model.proofs.DossierLaws.{cells-length, snapshot-objects}
 

@@ -6,15 +6,15 @@ use mathlib.Core.List.{List, [], _∷_, map, flatten, List·Memᴰ, List·Memᴰ
 use Prim.Native.Nat.{ℕ, _≤_, _<_, zero-le, Ordering·eq}
 use lib.ListN.{length, take, length-take}
 use native.Mathlib.Omega.{arith}
-use Rattle.model.specs.Order.{Order, three, Text, numbers, texts, sets, equal}
+use Rattle.model.specs.Order.{Order, Text, numbers, texts, sets, equal}
+use Rattle.model.proofs.Cases.{three, never}
 use Rattle.model.specs.Keyed.{put}
 use Rattle.model.specs.Sets.{Within, Ups, canon, smallest, only}
-use Rattle.model.specs.Rule.{Cell, holds, differs, Choice, every, least, View, places, allAre, agreed, cell, ofVersion, cellOf, snapshot, ruleAt, rule, size, sizes, count}
+use Rattle.model.specs.Rule.{Cell, holds, differs, Choice, every, least, View, places, allAre, agreed, cell, ofVersion, cellOf, snapshot, ruleAt, rule, size, sizes}
+use Rattle.model.proofs.PartLaws.{count, flatten-in, flatten-of, ups-upTo, in-upTo, getD-upTo}
 use Rattle.model.specs.Opening.{cellAt}
-use Rattle.model.specs.Ways.{Each, Has}
-use Rattle.model.proofs.Cases.{never}
+use Rattle.model.proofs.WayClaims.{Each, Has}
 use Rattle.model.proofs.SetLaws.{ups-canon, canon-in, canon-of, by-members}
-use Rattle.model.proofs.PartLaws.{flatten-in, flatten-of, ups-upTo, in-upTo, getD-upTo}
 use Rattle.model.proofs.RuleLaws.{all-are-member, member-all-are}
 
 -- sets that are not all one

@@ -11,7 +11,8 @@ use Rattle.model.specs.Sets.{Within, itself, upFrom, upTo}
 use Rattle.model.specs.Rule.{View, Dossier, rule, combine}
 use Rattle.model.specs.Limits.{Limits, fits}
 use Rattle.model.specs.Opening.{Opened, conflictAt, opening}
-use Rattle.model.specs.Ways.{Way, leaf, node, Reply, wrote, said, events, buffers, eventSet, next, calls, limited, Each, Has, Calls, answer, Demand3, HashCalls, WholeDemand3, batch, firstEvents}
+use Rattle.model.specs.Ways.{Way, leaf, node, Reply, wrote, said, events, buffers, eventSet, next, calls, limited, batch}
+use Rattle.model.proofs.WayClaims.{Each, Has, Calls, answer, Demand3, HashCalls, WholeDemand3, firstEvents}
 use Rattle.model.proofs.SetLaws.{canon-in, canon-of}
 use Rattle.model.proofs.PartLaws.{map-append, map-getD, upFrom-last}
 use Rattle.model.proofs.RuleLaws.{rule-append, rule-same}

@@ -1,4 +1,5 @@
--- Demand 3's words for a conflict: "two of the events share an event version and differ in a property", "the lowest such version and the first such property there".
+-- Demand 3's words for a conflict: "two of the events share an event version and differ in a property", "the lowest such version and the first such property
+-- there".
 use mathlib.Core.Path.{_≡_}
 use mathlib.Core.Logic.{_⊎_, _≢_}
 use mathlib.Core.Bool.{true}
@@ -7,7 +8,8 @@ use Prim.Native.Nat.{ℕ, _≤_, _<_}
 use Rattle.model.specs.Rule.{View}
 
 -- Two events share the event version v and differ in the property at place p.
--- "An event of an unversioned type has no event version, so it never conflicts"; "Two events differ in a property when their sets there are unequal (empty counts)".
+-- "An event of an unversioned type has no event version, so it never conflicts"; "Two events differ in a property when their sets there are unequal (empty
+-- counts)".
 pub record Clash {Event : Type 0} (t : View Event) (es : List Event) (v p : ℕ) : Type 0 where
   pub versioned : t .versioned ≡ true
   pub one : Event

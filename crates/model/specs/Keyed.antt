@@ -1,21 +1,9 @@
 -- Lists of entries by rising key: one notion for parents and values (an entry is its own key) and for snapshots (the key is the event version).
 -- `put` brings an entry in, and joins it with the entry of its key where there is one; `merge` brings in a whole list.
 use mathlib.Core.Path.{_≡_}
-use mathlib.Core.Option.{Option, none, some}
 use mathlib.Core.List.{List, [], _∷_}
 use Prim.Native.Nat.{Ordering·lt}
 use Rattle.model.specs.Order.{Order, pick}
-
-module _ {E : Type 0} (join : E → E → E) where
-  -- an entry, joined with the other one of its key, if there is one
-  unfoldable pub joined : E → Option E → E
-  joined e none = e
-  joined e (some x) = join e x
-
-  -- what two lists have at a key, together
-  unfoldable pub both : Option E → Option E → Option E
-  both none m = m
-  both (some e) m = some (joined e m)
 
 module _ {E K : Type 0} (O : Order K) (key : E → K) where
   -- every key is above k
@@ -27,11 +15,6 @@ module _ {E K : Type 0} (O : Order K) (key : E → K) where
   abbrev pub Rising : List E → Type 0
   Rising [] = Unit {0}
   Rising (x ∷ xs) = Above (key x) xs × Rising xs
-
-  -- the entry at a key
-  unfoldable pub look : K → List E → Option E
-  look k [] = none
-  look k (x ∷ xs) = pick (O .cmp k (key x)) none (some x) (look k xs)
 
   module _ (join : E → E → E) where
     unfoldable pub put : E → List E → List E

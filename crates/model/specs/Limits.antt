@@ -17,4 +17,5 @@ standard = record { versions = 8; parents = 32; objects = 256 }
 -- "The set passes one when its events have more distinct versions or parents, or the rule's snapshot more objects": the dossier passes none.
 -- The rule has a snapshot for each distinct version and each distinct parent once.
 unfoldable pub fits : {Event : Type 0} → Limits → View Event → Dossier → Bool
-fits l t d = leb (length (d .parents)) (l .parents) && (leb (length (d .snapshots)) (l .versions) && (t .versioned || leb (objects (d .snapshots)) (l .objects)))
+fits l t d =
+    leb (length (d .parents)) (l .parents) && (leb (length (d .snapshots)) (l .versions) && (t .versioned || leb (objects (d .snapshots)) (l .objects)))

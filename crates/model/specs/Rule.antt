@@ -126,8 +126,3 @@ sizes (c ∷ cs) = size c + sizes cs
 unfoldable pub objects : List Snapshot → ℕ
 objects [] = 0
 objects (s ∷ ss) = sizes (s .cells) + objects ss
-
--- how many objects an event has at the places of a list
-unfoldable pub count : {Event : Type 0} → View Event → Event → List ℕ → ℕ
-count t e [] = 0
-count t e (p ∷ ps) = length (t .set e p) + count t e ps
