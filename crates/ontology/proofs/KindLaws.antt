@@ -101,19 +101,19 @@ record OneParameter (kind : ℕ) : Type 0 where
 
 one-1 : OneParameter 1
 unfolding readParameters isKind parameterFits
-one-1 = record { make = unsigned; layout = λ t. refl; fits = λ n. refl; are = λ n. record { number = refl; one = refl; two = refl; three = refl } }
+one-1 = record { make = unsigned; layout = λ t. refl; fits = λ n. refl; are = λ n. record { number = refl; size-is = refl; after-is = refl; sign-is = refl } }
 
 one-2 : OneParameter 2
 unfolding readParameters isKind parameterFits
-one-2 = record { make = signed; layout = λ t. refl; fits = λ n. refl; are = λ n. record { number = refl; one = refl; two = refl; three = refl } }
+one-2 = record { make = signed; layout = λ t. refl; fits = λ n. refl; are = λ n. record { number = refl; size-is = refl; after-is = refl; sign-is = refl } }
 
 one-8 : OneParameter 8
 unfolding readParameters isKind parameterFits
-one-8 = record { make = string; layout = λ t. refl; fits = λ n. refl; are = λ n. record { number = refl; one = refl; two = refl; three = refl } }
+one-8 = record { make = string; layout = λ t. refl; fits = λ n. refl; are = λ n. record { number = refl; size-is = refl; after-is = refl; sign-is = refl } }
 
 one-9 : OneParameter 9
 unfolding readParameters isKind parameterFits
-one-9 = record { make = hex; layout = λ t. refl; fits = λ n. refl; are = λ n. record { number = refl; one = refl; two = refl; three = refl } }
+one-9 = record { make = hex; layout = λ t. refl; fits = λ n. refl; are = λ n. record { number = refl; size-is = refl; after-is = refl; sign-is = refl } }
 
 abbrev pub HasOne : ℕ → Type 0
 HasOne kind = (kind ≡ 1) ⊎ (kind ≡ 2) ⊎ (kind ≡ 8) ⊎ (kind ≡ 9)
@@ -220,7 +220,7 @@ module _ (s : List ℕ) (at : ℕ) where
               rw decimal-layout
               (then-got after-first g (then-got (after-second total) h (then-found (signed-last total after) k
               (ap (λ (t : Bool). cond t (got (decimal total after sign) (drop n s)) fail) b))));
-          are = record { number = refl; one = refl; two = refl; three = sign-byte sign };
+          are = record { number = refl; size-is = refl; after-is = refl; sign-is = sign-byte sign };
         }
 
 -- ---- a kind
@@ -236,10 +236,10 @@ plain zero h k = absurd (omega arith)
 plain (suc zero) h k = absurd (omega arith)
 plain (suc (suc zero)) h k = absurd (omega arith)
 plain (suc (suc (suc zero))) h k = absurd (omega arith)
-plain (suc (suc (suc (suc zero)))) h k = record { what = currency; layout = λ t. refl; are = record { number = refl; one = refl; two = refl; three = refl } }
-plain (suc (suc (suc (suc (suc zero))))) h k = record { what = sequence; layout = λ t. refl; are = record { number = refl; one = refl; two = refl; three = refl } }
-plain (suc (suc (suc (suc (suc (suc zero)))))) h k = record { what = datetime; layout = λ t. refl; are = record { number = refl; one = refl; two = refl; three = refl } }
-plain (suc (suc (suc (suc (suc (suc (suc zero))))))) h k = record { what = boolean; layout = λ t. refl; are = record { number = refl; one = refl; two = refl; three = refl } }
+plain (suc (suc (suc (suc zero)))) h k = record { what = currency; layout = λ t. refl; are = record { number = refl; size-is = refl; after-is = refl; sign-is = refl } }
+plain (suc (suc (suc (suc (suc zero))))) h k = record { what = sequence; layout = λ t. refl; are = record { number = refl; size-is = refl; after-is = refl; sign-is = refl } }
+plain (suc (suc (suc (suc (suc (suc zero)))))) h k = record { what = datetime; layout = λ t. refl; are = record { number = refl; size-is = refl; after-is = refl; sign-is = refl } }
+plain (suc (suc (suc (suc (suc (suc (suc zero))))))) h k = record { what = boolean; layout = λ t. refl; are = record { number = refl; size-is = refl; after-is = refl; sign-is = refl } }
 plain (suc (suc (suc (suc (suc (suc (suc (suc n)))))))) h k = absurd (omega arith)
 
 -- no kind has a number below 1 or above 9

@@ -146,13 +146,13 @@ module _ (s : List ℕ) (at : ℕ) where
 
 -- the property that was read, as the index has it
 pub property-is :
-    {s : List ℕ} {at start end kind first second third f l n z strategy : ℕ} {o m : Bool} →
+    {s : List ℕ} {at start end kind size after sign f l n z strategy : ℕ} {o m : Bool} →
     NameStops (suchThat (isNameWithin 32) readText (drop at s)) s at start end →
-    KindStops (readKind (drop end s)) s end kind first second third f →
+    KindStops (readKind (drop end s)) s end kind size after sign f →
     Got (readFlag (drop f s)) s f o l → Got (readFlag (drop l s)) s l m n → StrategyStops s n strategy z →
     PropertyStops (readProperty (drop at s)) s at
-    (record { start = start; end = end; kind = kind; first = first; second = second; third = third; optional = o; multivalued = m; strategy = strategy }) z
-property-is {s} {at} {start} {end} {kind} {first} {second} {third} {f} {l} {n} {z} {strategy} {o} {m} g k i j y = record {
+    (record { start = start; end = end; kind = kind; size = size; after = after; sign = sign; optional = o; multivalued = m; strategy = strategy }) z
+property-is {s} {at} {start} {end} {kind} {size} {after} {sign} {f} {l} {n} {z} {strategy} {o} {m} g k i j y = record {
   what = property (part s start end) (k .what) o m (y .what);
   stops = property-stops s at (g .stops) (k .stops) i j (y .stops);
   is = record {

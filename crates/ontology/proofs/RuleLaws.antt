@@ -12,7 +12,8 @@ use Rattle.model.specs.Order.{Text, texts, rising, pick}
 use Rattle.model.proofs.Cases.{and-true, and-false}
 use Rattle.packed.specs.Located.{part}
 use Rattle.values.specs.Spaces.{Kind, unsigned, signed, decimal, currency, sequence, datetime, boolean, string, hex, kindNumber}
-use Rattle.ontology.specs.Table.{Property, EventType, strategyNumber, isVersioned, isOrdered, strategyFits, allFit, canBeMarked, markFits, namesRise}
+use Rattle.values.specs.ValueOrder.{isOrdered}
+use Rattle.ontology.specs.Table.{Property, EventType, strategyNumber, isVersioned, strategyFits, allFit, canBeMarked, markFits, namesRise}
 use Rattle.ontology.specs.declared.properties.PropertyAt.{PropertyAt}
 use Rattle.ontology.specs.declared.types.TypeIndex.{TypeIndex}
 use Rattle.ontology.specs.TypeIndex.{precedes, PropertyIs, propertyRules, TypeIs}
@@ -113,16 +114,16 @@ module _ (s : List ℕ) (q : Property) (x : PropertyAt) (w : PropertyIs s q x) w
       go : (a b : Bool) → b ≡ false → (a && b && eqb (x .strategy) 2) ≡ false
       go a b h = ap (λ (b : Bool). a && b && eqb (x .strategy) 2) h ∙ ap (λ (b : Bool). b && eqb (x .strategy) 2) (and-false a)
 
-  pub marked-strategy : (x .strategy ≡ 2 → ⊥) → canBeMarked q ≡ false
+  pub marked-strategy : eqb (x .strategy) 2 ≡ false → canBeMarked q ≡ false
   marked-strategy h =
       marked-by
-      ∙ ap (λ (b : Bool). not (x .optional) && not (x .multivalued) && eqb (x .kind) 5 && b) (ne-eqb (x .strategy) 2 h)
+      ∙ ap (λ (b : Bool). not (x .optional) && not (x .multivalued) && eqb (x .kind) 5 && b) h
       ∙ and-false (not (x .optional) && not (x .multivalued) && eqb (x .kind) 5)
 
-  pub marked-is : x .kind ≡ 5 → x .strategy ≡ 2 → canBeMarked q ≡ (not (x .optional) && not (x .multivalued))
+  pub marked-is : x .kind ≡ 5 → eqb (x .strategy) 2 ≡ true → canBeMarked q ≡ (not (x .optional) && not (x .multivalued))
   marked-is h k =
       marked-by
-      ∙ ap₂ (λ (b d : Bool). not (x .optional) && not (x .multivalued) && b && d) (eq-eqb (x .kind) 5 h) (eq-eqb (x .strategy) 2 k)
+      ∙ ap₂ (λ (b d : Bool). not (x .optional) && not (x .multivalued) && b && d) (eq-eqb (x .kind) 5 h) k
       ∙ and-true (not (x .optional) && not (x .multivalued) && true)
       ∙ and-true (not (x .optional) && not (x .multivalued))
 

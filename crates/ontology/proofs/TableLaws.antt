@@ -11,7 +11,8 @@ use borrow.Author.Tests.{leb-true, not-true}
 use Rattle.model.specs.Order.{Text}
 use Rattle.model.proofs.Cases.{never, where-so, and-parts}
 use Rattle.values.specs.Spaces.{Kind, unsigned, signed, decimal, currency, sequence, datetime, boolean, string, hex, kindNumber}
-use Rattle.ontology.specs.Table.{Property, EventType, Table, isMandatory, isSingle, isMin, isMax, isReplace, isVersioned, isName, isNameWithin, isOrdered, strategyFits, allFit, canBeMarked, markFits, namesRise, typeRules, typeNamed}
+use Rattle.values.specs.ValueOrder.{isOrdered}
+use Rattle.ontology.specs.Table.{Property, EventType, Table, isMandatory, isSingle, isMin, isMax, isReplace, isVersioned, isName, isNameWithin, strategyFits, allFit, canBeMarked, markFits, namesRise, typeRules, typeNamed}
 use Rattle.ontology.specs.TableLayout.{tableOf}
 use Rattle.ontology.proofs.TypeIndexLaws.{type-rules}
 
@@ -110,6 +111,5 @@ extreme-parts b q h e =
 pub extreme-single : (b : Bool) (q : Property) → strategyFits b q ≡ true → (isMin q || isMax q) ≡ true → q .multivalued ≡ false
 extreme-single b q h e = not-true (q .multivalued) (and-parts (isMandatory q) _ (extreme-parts b q h e .0) .1)
 
-pub extreme-ordered : (b : Bool) (q : Property) → strategyFits b q ≡ true → (isMin q || isMax q) ≡ true → kindNumber (q .kind) ≤ 6
-unfolding isOrdered
-extreme-ordered b q h e = leb-true (kindNumber (q .kind)) 6 (extreme-parts b q h e .1)
+pub extreme-ordered : (b : Bool) (q : Property) → strategyFits b q ≡ true → (isMin q || isMax q) ≡ true → isOrdered (q .kind) ≡ true
+extreme-ordered b q h e = extreme-parts b q h e .1

@@ -7,6 +7,7 @@ use lib.ListN.{length, getElem?}
 use lib.Dec.{leb, ltb, eqb}
 use Rattle.model.specs.Order.{Text, texts, equal, rising}
 use Rattle.values.specs.Spaces.{Kind, kindNumber}
+use Rattle.values.specs.ValueOrder.{isOrdered}
 
 -- "strategy 1 min, 2 max, 3 add, 4 replace, 5 match, 6 set, 7 any"
 pub data Strategy : Type 0 where
@@ -90,10 +91,6 @@ isName (b ∷ v) = isLetter b && areNameBytes v
 unfoldable pub isNameWithin : ℕ → Text → Bool
 isNameWithin most v = isName v && leb (length v) most
 
--- "Kinds 1 to 6" are ordered
-unfoldable pub isOrdered : Kind → Bool
-isOrdered k = leb (kindNumber k) 6
-
 -- "Min and max need a mandatory single-valued property of kind 1 to 6. Replace needs an optional single-valued one and a type with an event-version mark."
 unfoldable pub strategyFits : Bool → Property → Bool
 strategyFits versioned p =
@@ -116,6 +113,8 @@ markFits (some p) = canBeMarked p
 unfoldable pub namesRise : List Text → Bool
 namesRise ns = rising texts ns
 
+-- "A type is: name (text, 1 to 64 bytes), definition version (number, at least 1), .. property count 1 to 32, the properties by rising name."; each property's
+-- strategy fits, and so does the mark
 unfoldable pub typeRules : EventType → Bool
 typeRules t =
     isNameWithin 64 (t .name) && leb 1 (t .definition)

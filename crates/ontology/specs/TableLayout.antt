@@ -8,7 +8,8 @@ use lib.Dec.{leb, eqb}
 use Rattle.packed.specs.Parse.{fail, Layout, _>>=_, found, foundIf, suchThat, times, whole}
 use Rattle.packed.specs.Packed.{number, readNumber, text, readText}
 use Rattle.values.specs.Spaces.{Kind, unsigned, signed, decimal, currency, sequence, datetime, boolean, string, hex, kindNumber, isWithin, isKind}
-use Rattle.ontology.specs.Table.{Strategy, min, max, add, replace, match, set, any, strategyNumber, Property, EventType, Table, isNameWithin, namesRise, typeRules}
+use Rattle.ontology.specs.Table.{Strategy, min, max, add, replace, match, set, any, strategyNumber, Property, EventType, Table}
+use Rattle.ontology.specs.Table.{isNameWithin, namesRise, typeRules}
 
 -- 0 or 1
 unfoldable pub readFlag : Layout Bool
@@ -53,6 +54,7 @@ readStrategy = readNumber >>= λ n.
     (cond (eqb n 7) (found any)
     (λ s. fail)))))))
 
+-- "A property is: name (text, 1 to 32 bytes), data kind with its parameters, optional 0 or 1, multivalued 0 or 1, strategy"
 unfoldable pub readProperty : Layout Property
 readProperty = do
   name ← suchThat (isNameWithin 32) readText
@@ -62,6 +64,7 @@ readProperty = do
   strategy ← readStrategy
   found (record { name = name; kind = kind; optional = optional; multivalued = multivalued; strategy = strategy })
 
+-- "A type is: name (text, ..), definition version (number, ..), event-version mark (..), property count .., the properties"
 unfoldable pub readType : Layout EventType
 readType = do
   name ← readText
@@ -71,14 +74,14 @@ readType = do
   properties ← times readProperty count
   found (record { name = name; definition = definition; mark = mark; properties = properties })
 
--- "A count of types 1 to 16; the types by rising name. .. Nothing follows the last type."
+-- "A count of types 1 to 16; the types by rising name."
 unfoldable pub readTable : Layout Table
 readTable = do
   count ← suchThat (isWithin 1 16) readNumber
   types ← times (suchThat typeRules readType) count
   foundIf (namesRise (map (λ (t : EventType). t .name) types)) types
 
--- the table that some bytes are; none where they break a rule
+-- The table that some bytes are; none where they break a rule. "Nothing follows the last type."
 unfoldable pub tableOf : List ℕ → Option Table
 tableOf s = whole (readTable s)
 

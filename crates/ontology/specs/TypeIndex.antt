@@ -14,7 +14,7 @@ use Rattle.packed.specs.declared.read.NumberAt.the-variants.{Number, NoNumber}
 use Rattle.packed.specs.declared.read.TextAt.{TextAt}
 use Rattle.packed.specs.declared.read.TextAt.the-variants as text
 use Rattle.values.specs.Spaces.{Kind, kindNumber, isWithin, isWidth}
-use Rattle.values.specs.KindNumbers.{firstParameter, secondParameter, thirdParameter}
+use Rattle.values.specs.KindNumbers.{sizeParameter, afterParameter, signParameter}
 use Rattle.values.specs.declared.versions.DefinitionVersion.{DefinitionVersion}
 use Rattle.ontology.specs.Table.{Property, EventType, Table, strategyNumber, namesRise, allFit, markFits, typeRules, typeNamed}
 use Rattle.ontology.specs.TableLayout.{readProperty, readType}
@@ -68,19 +68,19 @@ unfoldable pub parameterFits : ℕ → ℕ → Bool
 parameterFits kind n = cond (leb kind 2) (isWidth n) (isWithin 1 (cond (eqb kind 8) 120 60) n)
 
 -- A kind as its number and its parameters
-pub record KindIs (k : Kind) (kind first second third : ℕ) : Type 0 where
+pub record KindIs (k : Kind) (kind size after sign : ℕ) : Type 0 where
   pub number : kind ≡ kindNumber k
-  pub one : first ≡ firstParameter k
-  pub two : second ≡ secondParameter k
-  pub three : third ≡ thirdParameter k
+  pub size-is : size ≡ sizeParameter k
+  pub after-is : after ≡ afterParameter k
+  pub sign-is : sign ≡ signParameter k
 
-pub record KindStops (p : Parse Kind) (s : List ℕ) (at kind first second third next : ℕ) : Type 0 where
+pub record KindStops (p : Parse Kind) (s : List ℕ) (at kind size after sign next : ℕ) : Type 0 where
   pub what : Kind
   pub stops : Got p s at what next
-  pub are : KindIs what kind first second third
+  pub are : KindIs what kind size after sign
 
 abbrev pub KindReads : Parse Kind → List ℕ → ℕ → KindRead → Type 0
-KindReads p s at (OfKind kind first second third next) = KindStops p s at kind first second third next
+KindReads p s at (OfKind kind size after sign next) = KindStops p s at kind size after sign next
 KindReads p s at NoKind = p ≡ fail
 
 -- ---- properties
@@ -90,7 +90,7 @@ pub record PropertyIs (s : List ℕ) (q : Property) (x : PropertyAt) : Type 0 wh
   pub name : part s (x .start) (x .end) ≡ q .name
   pub order : x .start ≤ x .end
   pub within : x .end ≤ length s
-  pub kind : KindIs (q .kind) (x .kind) (x .first) (x .second) (x .third)
+  pub kind : KindIs (q .kind) (x .kind) (x .size) (x .after) (x .sign)
   pub optional : x .optional ≡ q .optional
   pub multivalued : x .multivalued ≡ q .multivalued
   pub strategy : x .strategy ≡ strategyNumber (q .strategy)

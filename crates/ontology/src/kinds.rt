@@ -16,9 +16,9 @@ use packed::read::read_number;
 pub enum KindRead {
     OfKind {
         kind: u8,
-        first: u8,
-        second: u8,
-        third: u8,
+        size: u8,
+        after: u8,
+        sign: u8,
         next: usize,
     },
     NoKind,
@@ -65,9 +65,9 @@ fn read_parameter(s: &[u8], at: usize, kind: u8) -> KindRead
     if parameter_fits(kind, n) {
         KindRead::OfKind {
             kind: kind,
-            first: n as u8,
-            second: 0,
-            third: 0,
+            size: n as u8,
+            after: 0,
+            sign: 0,
             next: next,
         }
     } else {
@@ -92,21 +92,21 @@ fn digits_fit(total: u64, after: u64) -> bool
 fn read_decimal(s: &[u8], at: usize) -> KindRead
     ensures { λ r. ⌜ KindReads (suchThat isKind (readParameters 3) (drop at (now (s .entry)))) (now (s .entry)) at r ⌝ }
 {
-    let NumberAt::Number(total, second) = read_number(s, at) else {
+    let NumberAt::Number(total, after_total) = read_number(s, at) else {
         return KindRead::NoKind;
     };
-    let NumberAt::Number(after, third) = read_number(s, second) else {
+    let NumberAt::Number(after, after_point) = read_number(s, after_total) else {
         return KindRead::NoKind;
     };
-    let FlagAt::Flag(sign, next) = read_flag(s, third) else {
+    let FlagAt::Flag(sign, next) = read_flag(s, after_point) else {
         return KindRead::NoKind;
     };
     if digits_fit(total, after) {
         KindRead::OfKind {
             kind: 3,
-            first: total as u8,
-            second: after as u8,
-            third: sign as u8,
+            size: total as u8,
+            after: after as u8,
+            sign: sign as u8,
             next: next,
         }
     } else {
@@ -127,9 +127,9 @@ pub fn read_kind(s: &[u8], at: usize) -> KindRead
         3 => read_decimal(s, next),
         4..=7 => KindRead::OfKind {
             kind: n as u8,
-            first: 0,
-            second: 0,
-            third: 0,
+            size: 0,
+            after: 0,
+            sign: 0,
             next: next,
         },
         8 => read_parameter(s, next, 8),

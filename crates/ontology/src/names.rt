@@ -6,7 +6,7 @@ ghost use Rattle.packed.specs.Packed.{readText};
 ghost use Rattle.packed.specs.Located.{part};
 ghost use Rattle.ontology.specs.Table.{isLetter, isNameByte, isNameWithin};
 ghost use Rattle.ontology.specs.TypeIndex.{precedes, NameReads};
-use packed::order::Compared;
+use packed::order::Ordering;
 use packed::order::compare_parts;
 use packed::read::TextAt;
 use packed::read::read_text;
@@ -74,8 +74,8 @@ pub fn is_before(s: &[u8], a: usize, e: usize, b: usize, f: usize) -> bool
     ensures { λ r. ⌜ r ≡ precedes (part (now (s .entry)) a e) (part (now (s .entry)) b f) ⌝ }
 {
     match compare_parts(s, a, e, s, b, f) {
-        Compared::Less => true,
-        Compared::Same => false,
-        Compared::More => false,
+        Ordering::Less => true,
+        Ordering::Equal => false,
+        Ordering::Greater => false,
     }
 }

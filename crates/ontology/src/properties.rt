@@ -1,4 +1,7 @@
+ghost use mathlib.Core.Path.{_≡_};
+ghost use mathlib.Core.Bool.{_||_};
 ghost use lib.ListN.{drop};
+ghost use lib.Dec.{eqb};
 ghost use Rattle.ontology.specs.TableLayout.{readProperty};
 ghost use Rattle.ontology.specs.TypeIndex.{PropertyReads};
 use super::fields::FlagAt;
@@ -15,9 +18,9 @@ pub struct PropertyAt {
     pub start: usize,
     pub end: usize,
     pub kind: u8,
-    pub first: u8,
-    pub second: u8,
-    pub third: u8,
+    pub size: u8,
+    pub after: u8,
+    pub sign: u8,
     pub optional: bool,
     pub multivalued: bool,
     pub strategy: u8,
@@ -29,6 +32,32 @@ pub enum PropertyRead {
     NoProperty,
 }
 
+// "strategy 1 min, 2 max, 3 add, 4 replace, 5 match, 6 set, 7 any"
+pub fn is_max(p: PropertyAt) -> bool
+    ensures { λ r. ⌜ r ≡ eqb (p .strategy) 2 ⌝ }
+{
+    p.strategy == 2
+}
+
+// Strategy min or max.
+pub fn is_extreme(p: PropertyAt) -> bool
+    ensures { λ r. ⌜ r ≡ (eqb (p .strategy) 1 || eqb (p .strategy) 2) ⌝ }
+{
+    p.strategy == 1 || p.strategy == 2
+}
+
+pub fn is_replace(p: PropertyAt) -> bool
+    ensures { λ r. ⌜ r ≡ eqb (p .strategy) 4 ⌝ }
+{
+    p.strategy == 4
+}
+
+pub fn is_match(p: PropertyAt) -> bool
+    ensures { λ r. ⌜ r ≡ eqb (p .strategy) 5 ⌝ }
+{
+    p.strategy == 5
+}
+
 pub fn read_property(table: &[u8], at: usize) -> PropertyRead
     ensures { λ r. ⌜ PropertyReads (readProperty (drop at (now (table .entry)))) (now (table .entry)) at r ⌝ }
 {
@@ -37,30 +66,30 @@ pub fn read_property(table: &[u8], at: usize) -> PropertyRead
     };
     let KindRead::OfKind {
         kind,
-        first,
-        second,
-        third,
-        next: flags,
+        size,
+        after,
+        sign,
+        next: after_kind,
     } = read_kind(table, end)
     else {
         return PropertyRead::NoProperty;
     };
-    let FlagAt::Flag(optional, more) = read_flag(table, flags) else {
+    let FlagAt::Flag(optional, after_optional) = read_flag(table, after_kind) else {
         return PropertyRead::NoProperty;
     };
-    let FlagAt::Flag(multivalued, last) = read_flag(table, more) else {
+    let FlagAt::Flag(multivalued, after_multivalued) = read_flag(table, after_optional) else {
         return PropertyRead::NoProperty;
     };
-    let NumberAt::Number(strategy, next) = read_within(table, last, 1, 7) else {
+    let NumberAt::Number(strategy, next) = read_within(table, after_multivalued, 1, 7) else {
         return PropertyRead::NoProperty;
     };
     let p = PropertyAt {
         start: start,
         end: end,
         kind: kind,
-        first: first,
-        second: second,
-        third: third,
+        size: size,
+        after: after,
+        sign: sign,
         optional: optional,
         multivalued: multivalued,
         strategy: strategy as u8,

@@ -58,11 +58,11 @@ pub fn read_table(table: &[u8], name: &[u8]) -> TableRead
         found: false,
         index: no_type(),
     };
-    let NumberAt::Number(count, first) = read_within(table, 0, 1, 16) else {
+    let NumberAt::Number(count, after_count) = read_within(table, 0, 1, 16) else {
         return r;
     };
     let mut left = count;
-    let mut at = first;
+    let mut at = after_count;
     let mut start: usize = 0;
     let mut end: usize = 0;
     while 0 < left {

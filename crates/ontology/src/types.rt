@@ -12,6 +12,7 @@ use super::names::is_before;
 use super::names::read_name;
 use super::properties::PropertyAt;
 use super::properties::PropertyRead;
+use super::properties::is_max;
 use super::properties::read_property;
 use packed::read::NumberAt;
 use packed::read::TextAt;
@@ -63,9 +64,9 @@ fn no_properties() -> PropertiesRead
         start: 0,
         end: 0,
         kind: 0,
-        first: 0,
-        second: 0,
-        third: 0,
+        size: 0,
+        after: 0,
+        sign: 0,
         optional: false,
         multivalued: false,
         strategy: 0,
@@ -98,16 +99,16 @@ fn read_head(table: &[u8], at: usize) -> HeadRead
     let TextAt::Text(start, end) = read_name(table, at, 64) else {
         return HeadRead::NoHead;
     };
-    let NumberAt::Number(definition, second) = read_number(table, end) else {
+    let NumberAt::Number(definition, after_definition) = read_number(table, end) else {
         return HeadRead::NoHead;
     };
     if definition == 0 {
         return HeadRead::NoHead;
     }
-    let NumberAt::Number(mark, third) = read_number(table, second) else {
+    let NumberAt::Number(mark, after_mark) = read_number(table, after_definition) else {
         return HeadRead::NoHead;
     };
-    let NumberAt::Number(count, next) = read_within(table, third, 1, 32) else {
+    let NumberAt::Number(count, next) = read_within(table, after_mark, 1, 32) else {
         return HeadRead::NoHead;
     };
     HeadRead::Head {
@@ -205,7 +206,7 @@ fn can_be_marked(p: PropertyAt) -> bool
     if p.kind != 5 {
         return false;
     }
-    if p.strategy != 2 {
+    if !is_max(p) {
         return false;
     }
     is_mandatory_single(p)

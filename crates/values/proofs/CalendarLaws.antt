@@ -9,7 +9,8 @@ use lib.Dec.{eqb}
 use lib.ListN.{length, getD, take, drop, drop-of-length-le, take-append-drop}
 use lib.Seq.{take-add, drop-drop}
 use borrow.Author.Tests.{eqb-true, eqb-false}
-use Rattle.model.specs.Order.{texts, lists, numbers, lex, equal, three, nat-turn}
+use Rattle.model.specs.Order.{texts, lists, numbers, lex, equal, nat-turn}
+use Rattle.model.proofs.Cases.{three}
 use Rattle.model.proofs.OrderLaws.{eq-compare}
 use Rattle.packed.proofs.ReadLaws.{drop-next}
 use Rattle.values.specs.Decimal.{isDigit, areDigits, numeralAfter, numeral}

@@ -9,13 +9,14 @@ use native.Mathlib.Omega.{arith}
 use lib.Dec.{ltb, leb, eqb}
 use lib.ListN.{length, drop, take-append-drop, length-append}
 use borrow.Author.Tests.{lt-ltb, le-ltb, ne-eqb, ltb-true, eqb-true}
-use Rattle.model.specs.Order.{Text, texts, numbers, lists, lex, pick, three, nat-same, ranked, rankCmp, from, integers, integerCmp}
+use Rattle.model.specs.Order.{Text, texts, numbers, lists, lex, pick, nat-same, ranked, rankCmp, from, integers, integerCmp}
+use Rattle.model.proofs.Cases.{three}
 use Rattle.model.proofs.OrderLaws.{lt-compare, gt-compare, eq-compare, compare-lt, compare-gt, rank-decides}
 use Rattle.packed.proofs.LayoutLaws.{lt-or-ge}
 use Rattle.values.specs.Decimal.{areDigits, numeralAfter, numeral, isNatural, inDecimal, isNegative, magnitude}
-use Rattle.values.specs.Spaces.{Kind, unsigned, signed, decimal, currency, sequence, datetime, boolean, string, hex, isUnsigned, isSigned, wholePart, pointPart, isFraction, unscaled, isDecimal, isOfKind}
+use Rattle.values.specs.Spaces.{Kind, unsigned, signed, decimal, currency, sequence, datetime, boolean, string, hex, isUnsigned, isSigned, wholePart, pointPart, isFraction, unscaled, isMagnitude, isDecimal, isOfKind}
 use Rattle.values.specs.ValueOrder.{minus, withSign, valueNumber, valueOrder}
-use Rattle.values.specs.NumberAnswer.{isNumber, sizeOrder, isMagnitude, hasNonzero}
+use Rattle.values.specs.NumberAnswer.{isNumber, sizeOrder, hasNonzero}
 use Rattle.values.proofs.NumeralLaws.{and-left, and-right, digit-least, digits-head, digits-append, natural-digits, natural-nonempty, natural-first, digits-order, longer-larger, natural-order, size-same, in-decimal-numeral}
 
 -- ---- by length, and then by bytes

@@ -10,8 +10,8 @@ use native.Mathlib.Omega.{arith}
 use lib.Dec.{leb, eqb}
 use lib.ListN.{length}
 use borrow.Author.Tests.{lt-ltb, le-ltb, le-leb, eq-eqb, ne-eqb, leb-true}
-use Rattle.model.specs.Order.{Text, texts, numbers, lists, lex, pick, three, nat-same, ranked, rankCmp, rank-same}
-use Rattle.model.proofs.Cases.{and-parts}
+use Rattle.model.specs.Order.{Text, texts, numbers, lists, lex, pick, nat-same, ranked, rankCmp, rank-same}
+use Rattle.model.proofs.Cases.{three, and-parts}
 use Rattle.model.proofs.OrderLaws.{lt-compare, gt-compare, eq-compare, compare-lt, compare-gt}
 use Rattle.packed.proofs.LayoutLaws.{lt-or-ge}
 use Rattle.values.specs.Decimal.{isDigit, areDigits, numeralAfter, numeral, isNatural, digitsBefore, inDecimal}
@@ -186,11 +186,11 @@ numeral-before (suc f) n v h =
     ∙ ap (λ (k : ℕ). numeralAfter k v) (omega arith)))
     (lt-or-ge n 10)
 
-digits-last : (f n : ℕ) (v : Text) → n < 10 → digitsBefore (suc f) n v ≡ (48 + n) ∷ v
+pub digits-last : (f n : ℕ) (v : Text) → n < 10 → digitsBefore (suc f) n v ≡ (48 + n) ∷ v
 unfolding digitsBefore
 digits-last f n v h = rw (lt-ltb n 10 h)
 
-digits-more : (f n : ℕ) (v : Text) → 10 ≤ n → digitsBefore (suc f) n v ≡ digitsBefore f (n / 10) ((48 + n % 10) ∷ v)
+pub digits-more : (f n : ℕ) (v : Text) → 10 ≤ n → digitsBefore (suc f) n v ≡ digitsBefore f (n / 10) ((48 + n % 10) ∷ v)
 unfolding digitsBefore
 digits-more f n v h = rw (le-ltb n 10 h)
 

@@ -9,7 +9,7 @@ use Prim.Native.Nat.{ℕ, _+_, _<_, _≤_, Ordering, Ordering·lt, Ordering·eq,
 use native.Mathlib.Omega.{arith}
 use lib.Dec.{leb}
 use lib.ListN.{length, getD, take, drop, drop-of-length-le}
-use borrow.Author.Tests.{le-leb, lt-leb, ne-eqb}
+use borrow.Author.Tests.{le-leb, leb-true, lt-leb, ne-eqb}
 use Rattle.model.specs.Order.{Text, pick, reversed}
 use Rattle.model.specs.Keyed.{put, merge}
 use Rattle.model.specs.Sets.{union}
@@ -17,8 +17,8 @@ use Rattle.packed.proofs.LayoutLaws.{lt-or-ge}
 use Rattle.packed.proofs.ReadLaws.{drop-next}
 use Rattle.values.specs.Calendar.{instant}
 use Rattle.values.specs.Spaces.{Kind, unsigned, signed, decimal, currency, sequence, datetime, boolean, string, hex, kindNumber, isKind, isHexDigit, areHexDigits, isOfKind, inSpace}
-use Rattle.values.specs.ValueOrder.{valueNumber, valueOrder, extremeOrder}
-use Rattle.values.specs.KindNumbers.{kindOf, firstParameter, secondParameter, thirdParameter}
+use Rattle.values.specs.ValueOrder.{isOrdered, valueNumber, valueOrder, extremeOrder}
+use Rattle.values.specs.KindNumbers.{kindOf, sizeParameter, afterParameter, signParameter}
 use Rattle.values.proofs.NumeralLaws.{and-right}
 use Rattle.values.proofs.NumberOrderLaws.{equal-number-equal-bytes}
 use Rattle.values.proofs.InstantLaws.{equal-instant-equal-bytes}
@@ -33,7 +33,7 @@ hex-end v i h = rw (drop-of-length-le v h)
 
 -- ---- kinds by their numbers
 
-pub kind-numbered : (k : Kind) → kindOf (kindNumber k) (firstParameter k) (secondParameter k) (thirdParameter k) ≡ some k
+pub kind-numbered : (k : Kind) → kindOf (kindNumber k) (sizeParameter k) (afterParameter k) (signParameter k) ≡ some k
 unfolding kindOf
 kind-numbered (unsigned width) = refl
 kind-numbered (signed width) = refl
@@ -48,19 +48,19 @@ kind-numbered (hex bytes) = refl
 
 -- an answer that is right of the kind that the number has is right of each kind that it has
 pub answered :
-    (kind first second third n : ℕ) (j : Kind) {r : Bool} (v : Text) → kind ≡ n → kindOf n first second third ≡ some j → (isKind j ≡ true → r ≡ isOfKind j v) →
-    (k : Kind) → kindOf kind first second third ≡ some k → isKind k ≡ true → r ≡ isOfKind k v
-answered kind first second third n j {r} v e p h k q w =
+    (kind size after sign n : ℕ) (j : Kind) {r : Bool} (v : Text) → kind ≡ n → kindOf n size after sign ≡ some j → (isKind j ≡ true → r ≡ isOfKind j v) →
+    (k : Kind) → kindOf kind size after sign ≡ some k → isKind k ≡ true → r ≡ isOfKind k v
+answered kind size after sign n j {r} v e p h k q w =
     let s : j ≡ k = cc in
     subst (λ (x : Kind). isKind x ≡ true → r ≡ isOfKind x v) s h w
 
 -- a number of no kind
 pub kind-none :
-    (kind first second third : ℕ) → (kind ≡ 1 → ⊥) → (kind ≡ 2 → ⊥) → (kind ≡ 3 → ⊥) → (kind ≡ 4 → ⊥) → (kind ≡ 5 → ⊥) →
+    (kind size after sign : ℕ) → (kind ≡ 1 → ⊥) → (kind ≡ 2 → ⊥) → (kind ≡ 3 → ⊥) → (kind ≡ 4 → ⊥) → (kind ≡ 5 → ⊥) →
     (kind ≡ 6 → ⊥) → (kind ≡ 7 → ⊥) → (kind ≡ 8 → ⊥) → (kind ≡ 9 → ⊥) →
-    kindOf kind first second third ≡ none
+    kindOf kind size after sign ≡ none
 unfolding kindOf
-kind-none kind first second third n1 n2 n3 n4 n5 n6 n7 n8 n9 =
+kind-none kind size after sign n1 n2 n3 n4 n5 n6 n7 n8 n9 =
     rw (
       ne-eqb kind 1 n1,
       ne-eqb kind 2 n2,
@@ -113,15 +113,20 @@ is-datetime-kind boolean e = absurd (omega arith)
 is-datetime-kind (string most) e = absurd (omega arith)
 is-datetime-kind (hex bytes) e = absurd (omega arith)
 
+-- "Kinds 1 to 6 are ordered"
+pub ordered-low : (k : Kind) → isOrdered k ≡ true → kindNumber k ≤ 6
+unfolding isOrdered
+ordered-low k h = leb-true (kindNumber k) 6 h
+
 -- "Kinds 1 to 6 are ordered by their numbers or instants, so equal values have equal bytes."
 pub equal-values-equal-bytes :
-    (k : Kind) (a b : Text) → kindNumber k ≤ 6 → inSpace k a ≡ true → inSpace k b ≡ true → valueNumber k a ≡ valueNumber k b → a ≡ b
+    (k : Kind) (a b : Text) → isOrdered k ≡ true → inSpace k a ≡ true → inSpace k b ≡ true → valueNumber k a ≡ valueNumber k b → a ≡ b
 unfolding isOfKind valueNumber
 equal-values-equal-bytes k a b n p q e = ⊎-elim
     (λ (l : kindNumber k < 6). equal-number-equal-bytes k a b (le-leb (kindNumber k) 5 (omega arith)) (of-kind k a p) (of-kind k b q) e)
     (λ (g : 6 ≤ kindNumber k).
     subst (λ (x : Kind). isOfKind x a ≡ true → isOfKind x b ≡ true → valueNumber x a ≡ valueNumber x b → a ≡ b)
-    (sym (is-datetime-kind k (omega arith))) (datetimes a b) (of-kind k a p) (of-kind k b q) e)
+    (sym (is-datetime-kind k (omega (arith, ordered-low k n)))) (datetimes a b) (of-kind k a p) (of-kind k b q) e)
     (lt-or-ge (kindNumber k) 6)
   where
     datetimes : (a b : Text) → isOfKind datetime a ≡ true → isOfKind datetime b ≡ true → valueNumber datetime a ≡ valueNumber datetime b → a ≡ b

@@ -57,7 +57,8 @@ daysIn y m = cond (eqb m 2) (cond (isLeap y) 29 28) (cond (eqb m 4 || eqb m 6 ||
 -- "years 0001 to 9999, Gregorian days, hours 00 to 23, minutes and seconds 00 to 59"
 unfoldable pub isMoment : Text → Bool
 isMoment v =
-    leb 1 (year v) && leb 1 (month v) && leb (month v) 12 && leb 1 (day v) && leb (day v) (daysIn (year v) (month v)) && leb (hour v) 23 && leb (minute v) 59 && leb (second v) 59
+    leb 1 (year v) && leb 1 (month v) && leb (month v) 12 && leb 1 (day v) && leb (day v) (daysIn (year v) (month v))
+    && leb (hour v) 23 && leb (minute v) 59 && leb (second v) 59
 
 -- "YYYY-MM-DDThh:mm:ssZ, or with a point and six digits, not all zero, before Z"
 unfoldable pub isDatetime : Text → Bool

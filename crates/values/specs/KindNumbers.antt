@@ -5,50 +5,53 @@ use Prim.Native.Nat.{ℕ}
 use lib.Dec.{eqb}
 use Rattle.values.specs.Spaces.{Kind, unsigned, signed, decimal, currency, sequence, datetime, boolean, string, hex}
 
--- the parameters of a kind: 0 where it has none
-abbrev pub firstParameter : Kind → ℕ
-firstParameter (unsigned width) = width
-firstParameter (signed width) = width
-firstParameter (decimal total after sign) = total
-firstParameter currency = 0
-firstParameter sequence = 0
-firstParameter datetime = 0
-firstParameter boolean = 0
-firstParameter (string most) = most
-firstParameter (hex bytes) = bytes
+-- The parameters of a kind, 0 where it has none
 
-abbrev pub secondParameter : Kind → ℕ
-secondParameter (unsigned width) = 0
-secondParameter (signed width) = 0
-secondParameter (decimal total after sign) = after
-secondParameter currency = 0
-secondParameter sequence = 0
-secondParameter datetime = 0
-secondParameter boolean = 0
-secondParameter (string most) = 0
-secondParameter (hex bytes) = 0
+-- its size: the width of an integer, the total digits of a decimal, the most bytes of a string, the bytes of a hex
+abbrev pub sizeParameter : Kind → ℕ
+sizeParameter (unsigned width) = width
+sizeParameter (signed width) = width
+sizeParameter (decimal total after sign) = total
+sizeParameter currency = 0
+sizeParameter sequence = 0
+sizeParameter datetime = 0
+sizeParameter boolean = 0
+sizeParameter (string most) = most
+sizeParameter (hex bytes) = bytes
 
--- "signed 0 or 1"
-abbrev pub thirdParameter : Kind → ℕ
-thirdParameter (unsigned width) = 0
-thirdParameter (signed width) = 0
-thirdParameter (decimal total after sign) = cond sign 1 0
-thirdParameter currency = 0
-thirdParameter sequence = 0
-thirdParameter datetime = 0
-thirdParameter boolean = 0
-thirdParameter (string most) = 0
-thirdParameter (hex bytes) = 0
+-- the digits after the point
+abbrev pub afterParameter : Kind → ℕ
+afterParameter (unsigned width) = 0
+afterParameter (signed width) = 0
+afterParameter (decimal total after sign) = after
+afterParameter currency = 0
+afterParameter sequence = 0
+afterParameter datetime = 0
+afterParameter boolean = 0
+afterParameter (string most) = 0
+afterParameter (hex bytes) = 0
+
+-- whether it is signed, 0 or 1
+abbrev pub signParameter : Kind → ℕ
+signParameter (unsigned width) = 0
+signParameter (signed width) = 0
+signParameter (decimal total after sign) = cond sign 1 0
+signParameter currency = 0
+signParameter sequence = 0
+signParameter datetime = 0
+signParameter boolean = 0
+signParameter (string most) = 0
+signParameter (hex bytes) = 0
 
 -- the kind of a number and parameters, if the number is one of a kind
 unfoldable pub kindOf : ℕ → ℕ → ℕ → ℕ → Option Kind
-kindOf kind first second third =
-    cond (eqb kind 1) (some (unsigned first))
-    (cond (eqb kind 2) (some (signed first))
-    (cond (eqb kind 3) (some (decimal first second (eqb third 1)))
+kindOf kind size after sign =
+    cond (eqb kind 1) (some (unsigned size))
+    (cond (eqb kind 2) (some (signed size))
+    (cond (eqb kind 3) (some (decimal size after (eqb sign 1)))
     (cond (eqb kind 4) (some currency)
     (cond (eqb kind 5) (some sequence)
     (cond (eqb kind 6) (some datetime)
     (cond (eqb kind 7) (some boolean)
-    (cond (eqb kind 8) (some (string first))
-    (cond (eqb kind 9) (some (hex first)) none))))))))
+    (cond (eqb kind 8) (some (string size))
+    (cond (eqb kind 9) (some (hex size)) none))))))))

@@ -1,12 +1,11 @@
 -- What the functions on numbers answer, in the terms of the definitions.
-use Prim.Native.Nat.{ℕ, _-_, Ordering}
-use mathlib.Core.Bool.{Bool, false, _&&_, _||_}
+use Prim.Native.Nat.{Ordering}
+use mathlib.Core.Bool.{Bool, false, _||_}
 use mathlib.Core.List.{[], _∷_}
 use lib.ListN.{length}
 use lib.Dec.{ltb, leb}
 use Rattle.model.specs.Order.{Text, texts, numbers, ranked}
-use Rattle.values.specs.Decimal.{isNatural}
-use Rattle.values.specs.Spaces.{Kind, kindNumber, wholePart, pointPart, isFraction}
+use Rattle.values.specs.Spaces.{Kind, kindNumber}
 
 -- "Kinds: 1 unsigned and 2 signed integer ..; 3 decimal ..; 4 currency ..; 5 sequence": the kinds whose values are numbers
 abbrev pub isNumber : Kind → Bool
@@ -15,10 +14,6 @@ isNumber k = leb (kindNumber k) 5
 -- by length, and then by bytes
 unfoldable pub sizeOrder : Text → Text → Ordering
 sizeOrder = ranked length numbers texts .cmp
-
--- a decimal without its sign
-unfoldable pub isMagnitude : ℕ → ℕ → Text → Bool
-isMagnitude total after m = isNatural (wholePart after m) && leb (length (wholePart after m)) (total - after) && isFraction after (pointPart after m)
 
 -- some digit is not 0: the minus sign and the point are below the digits
 unfoldable pub hasNonzero : Text → Bool

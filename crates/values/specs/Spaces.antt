@@ -82,13 +82,14 @@ isFraction after (b ∷ v) = eqb b 46 && eqb (length v) after && areDigits v
 unfoldable pub unscaled : ℕ → Text → ℕ
 unscaled after m = numeral (wholePart after m ++ drop 1 (pointPart after m))
 
--- "Decimal: at least one and at most total minus after digits before the point, no leading zero but a lone 0, exactly the set digits after, zero without
--- sign, minus only where signed is 1."
+-- "Decimal: at least one and at most total minus after digits before the point, no leading zero but a lone 0, exactly the set digits after, .."
+unfoldable pub isMagnitude : ℕ → ℕ → Text → Bool
+isMagnitude total after m = isNatural (wholePart after m) && leb (length (wholePart after m)) (total - after) && isFraction after (pointPart after m)
+
+-- ".. zero without sign, minus only where signed is 1."
 unfoldable pub isDecimal : ℕ → ℕ → Bool → Text → Bool
 isDecimal total after sign v =
-    let m = magnitude v in
-    isNatural (wholePart after m) && leb (length (wholePart after m)) (total - after) && isFraction after (pointPart after m)
-    && (not (isNegative v) || (sign && ltb 0 (unscaled after m)))
+    isMagnitude total after (magnitude v) && (not (isNegative v) || (sign && ltb 0 (unscaled after (magnitude v))))
 
 -- "two digits 0 to 9, a to f for each byte"
 unfoldable pub isHexDigit : ℕ → Bool

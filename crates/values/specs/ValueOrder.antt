@@ -1,10 +1,15 @@
--- "Kinds 1 to 6 are ordered by their numbers or instants, so equal values have equal bytes."
+-- Document 01: the order of values.
 use Prim.Native.Nat.{ℕ, zero, suc}
 use mathlib.Core.Bool.{Bool, cond}
+use lib.Dec.{leb}
 use Rattle.model.specs.Order.{Text, texts, Order, Integer, below, from, integers, ranked, reversed}
 use Rattle.values.specs.Decimal.{numeral, isNegative, magnitude}
 use Rattle.values.specs.Calendar.{instant}
-use Rattle.values.specs.Spaces.{Kind, unsigned, signed, decimal, currency, sequence, datetime, boolean, string, hex, unscaled}
+use Rattle.values.specs.Spaces.{Kind, kindNumber, unsigned, signed, decimal, currency, sequence, datetime, boolean, string, hex, unscaled}
+
+-- "Kinds 1 to 6 are ordered by their numbers or instants, so equal values have equal bytes."
+unfoldable pub isOrdered : Kind → Bool
+isOrdered k = leb (kindNumber k) 6
 
 -- the integer of a sign and a magnitude
 unfoldable pub minus : ℕ → Integer

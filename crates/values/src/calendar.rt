@@ -10,7 +10,7 @@ ghost use Rattle.values.specs.Calendar.{hasForm, field, year, month, day
 ghost use Rattle.values.specs.Spaces.{datetime};
 ghost use Rattle.values.specs.ValueOrder.{valueOrder};
 ghost use Rattle.packed.specs.Comparison.{ordering};
-use packed::order::Compared;
+use packed::order::Ordering;
 
 pub fn is_digit(b: u8) -> bool
     ensures { λ r. ⌜ r ≡ isDigit b ⌝ }
@@ -130,35 +130,35 @@ fn stamp(v: &[u8]) -> u64
     (hour * 100 + two(v, 14) as u64) * 100 + two(v, 17) as u64
 }
 
-fn compare_fractions(f: u32, g: u32) -> Compared
+fn compare_fractions(f: u32, g: u32) -> Ordering
     ensures { λ r. ⌜ ordering r ≡ compare f g ⌝ }
 {
     if f < g {
-        return Compared::Less;
+        return Ordering::Less;
     }
     if g < f {
-        return Compared::More;
+        return Ordering::Greater;
     }
-    Compared::Same
+    Ordering::Equal
 }
 
 // Two datetimes by their instants. No days are counted: moments come by the digits of date and time, and within a second by the fraction.
-pub fn compare_moments(a: &[u8], b: &[u8]) -> Compared
+pub fn compare_moments(a: &[u8], b: &[u8]) -> Ordering
     ensures { λ r. ⌜ (isDatetime (now (a .entry)) ≡ true → isDatetime (now (b .entry)) ≡ true → ordering r ≡ valueOrder datetime .cmp (now (a .entry)) (now (b .entry))) ⌝ }
 {
     if a.len() < 20 {
-        return Compared::Same;
+        return Ordering::Equal;
     }
     if b.len() < 20 {
-        return Compared::Same;
+        return Ordering::Equal;
     }
     let x = stamp(a);
     let y = stamp(b);
     if x < y {
-        return Compared::Less;
+        return Ordering::Less;
     }
     if y < x {
-        return Compared::More;
+        return Ordering::Greater;
     }
     compare_fractions(fraction(a), fraction(b))
 }

@@ -4,11 +4,11 @@ ghost use mathlib.Core.Bool.{true, _&&_};
 ghost use Prim.Native.Nat.{_*_, _-_, _^_};
 ghost use lib.Dec.{leb, ltb};
 ghost use Rattle.values.specs.Decimal.{areDigits, isNatural, isNegative, numeral};
-ghost use Rattle.values.specs.Spaces.{Kind, isWidth, isUnsigned, isSigned, isDecimal, isOfKind};
+ghost use Rattle.values.specs.Spaces.{Kind, isWidth, isUnsigned, isSigned, isMagnitude, isDecimal, isOfKind};
 ghost use Rattle.values.specs.ValueOrder.{valueOrder};
-ghost use Rattle.values.specs.NumberAnswer.{isNumber, sizeOrder, isMagnitude, hasNonzero};
+ghost use Rattle.values.specs.NumberAnswer.{isNumber, sizeOrder, hasNonzero};
 ghost use Rattle.packed.specs.Comparison.{ordering};
-use packed::order::Compared;
+use packed::order::Ordering;
 use packed::order::compare;
 
 fn are_digits(v: &[u8]) -> bool
@@ -54,14 +54,14 @@ fn is_negative(v: &[u8]) -> bool
 }
 
 // By length, then by bytes: so natural numerals come by their numbers.
-fn by_size(a: &[u8], b: &[u8]) -> Compared
+fn by_size(a: &[u8], b: &[u8]) -> Ordering
     ensures { λ r. ⌜ ordering r ≡ sizeOrder (now (a .entry)) (now (b .entry)) ⌝ }
 {
     if a.len() < b.len() {
-        return Compared::Less;
+        return Ordering::Less;
     }
     if b.len() < a.len() {
-        return Compared::More;
+        return Ordering::Greater;
     }
     compare(a, b)
 }
@@ -71,9 +71,9 @@ fn at_most(v: &[u8], most: &[u8]) -> bool
     ensures { λ r. ⌜ (isNatural (now (v .entry)) ≡ true → isNatural (now (most .entry)) ≡ true → r ≡ leb (numeral (now (v .entry))) (numeral (now (most .entry)))) ⌝ }
 {
     match by_size(v, most) {
-        Compared::Less => true,
-        Compared::Same => true,
-        Compared::More => false,
+        Ordering::Less => true,
+        Ordering::Equal => true,
+        Ordering::Greater => false,
     }
 }
 
@@ -196,17 +196,17 @@ pub fn is_decimal(total: u8, after: u8, sign: bool, v: &[u8]) -> bool
 }
 
 // Two numbers of one kind: by sign, then by length, then by bytes.
-pub fn compare_numbers(a: &[u8], b: &[u8]) -> Compared
+pub fn compare_numbers(a: &[u8], b: &[u8]) -> Ordering
     ensures { λ r. ⌜ ((k : Kind) → isNumber k ≡ true → isOfKind k (now (a .entry)) ≡ true → isOfKind k (now (b .entry)) ≡ true → ordering r ≡ valueOrder k .cmp (now (a .entry)) (now (b .entry))) ⌝ }
 {
     if is_negative(a) {
         if is_negative(b) {
             return by_size(b, a);
         }
-        return Compared::Less;
+        return Ordering::Less;
     }
     if is_negative(b) {
-        return Compared::More;
+        return Ordering::Greater;
     }
     by_size(a, b)
 }

@@ -11,7 +11,7 @@ ghost use Rattle.model.specs.Sets.{union};
 ghost use Rattle.packed.specs.Ascii.{ascii};
 ghost use Rattle.values.specs.Unicode.{isUtf8};
 ghost use Rattle.values.specs.Spaces.{Kind, kindNumber, isKind, isHexDigit, areHexDigits, isOfKind, inSpace};
-ghost use Rattle.values.specs.ValueOrder.{valueOrder, extremeOrder};
+ghost use Rattle.values.specs.ValueOrder.{isOrdered, valueOrder, extremeOrder};
 ghost use Rattle.packed.specs.Comparison.{ordering};
 ghost use Rattle.values.specs.KindNumbers.{kindOf};
 use crate::calendar::compare_moments;
@@ -23,7 +23,7 @@ use crate::numbers::is_decimal;
 use crate::numbers::is_signed;
 use crate::numbers::is_unsigned;
 use crate::unicode::is_utf8;
-use packed::order::Compared;
+use packed::order::Ordering;
 
 // A form without 0 is a text itself.
 fn is_boolean(v: &[u8]) -> bool
@@ -61,26 +61,26 @@ fn is_string(most: u8, v: &[u8]) -> bool
 }
 
 // The value space of each kind, without the bounds of all values.
-fn is_of_kind(kind: u8, first: u8, second: u8, third: u8, v: &[u8]) -> bool
-    ensures { λ r. ⌜ ((k : Kind) → kindOf kind first second third ≡ some k → isKind k ≡ true → r ≡ isOfKind k (now (v .entry))) ⌝ }
+fn is_of_kind(kind: u8, size: u8, after: u8, sign: u8, v: &[u8]) -> bool
+    ensures { λ r. ⌜ ((k : Kind) → kindOf kind size after sign ≡ some k → isKind k ≡ true → r ≡ isOfKind k (now (v .entry))) ⌝ }
 {
     match kind {
-        1 => is_unsigned(first, v),
-        2 => is_signed(first, v),
-        3 => is_decimal(first, second, third == 1, v),
+        1 => is_unsigned(size, v),
+        2 => is_signed(size, v),
+        3 => is_decimal(size, after, sign == 1, v),
         4 => is_decimal(19, 4, true, v),
         5 => is_unsigned(8, v),
         6 => is_datetime(v),
         7 => is_boolean(v),
-        8 => is_string(first, v),
-        9 => is_hex(first, v),
+        8 => is_string(size, v),
+        9 => is_hex(size, v),
         _ => false,
     }
 }
 
 // The value is in the space of its kind.
-pub fn in_space(kind: u8, first: u8, second: u8, third: u8, v: &[u8]) -> bool
-    ensures { λ r. ⌜ ((k : Kind) → kindOf kind first second third ≡ some k → isKind k ≡ true → r ≡ inSpace k (now (v .entry))) ⌝ }
+pub fn in_space(kind: u8, size: u8, after: u8, sign: u8, v: &[u8]) -> bool
+    ensures { λ r. ⌜ ((k : Kind) → kindOf kind size after sign ≡ some k → isKind k ≡ true → r ≡ inSpace k (now (v .entry))) ⌝ }
 {
     if v.len() < 1 {
         return false;
@@ -88,7 +88,7 @@ pub fn in_space(kind: u8, first: u8, second: u8, third: u8, v: &[u8]) -> bool
     if 120 < v.len() {
         return false;
     }
-    is_of_kind(kind, first, second, third, v)
+    is_of_kind(kind, size, after, sign, v)
 }
 
 // "Kinds 1 to 6 are ordered by their numbers or instants"
@@ -102,24 +102,24 @@ pub fn is_ordered(kind: u8) -> bool
 }
 
 // Two values of an ordered kind by number or instant; of no other kind is anything said.
-pub fn compare_values(kind: u8, a: &[u8], b: &[u8]) -> Compared
-    ensures { λ r. ⌜ ((k : Kind) → kindNumber k ≡ kind → kind ≤ 6 → inSpace k (now (a .entry)) ≡ true → inSpace k (now (b .entry)) ≡ true → ordering r ≡ valueOrder k .cmp (now (a .entry)) (now (b .entry))) ⌝ }
+pub fn compare_values(kind: u8, a: &[u8], b: &[u8]) -> Ordering
+    ensures { λ r. ⌜ ((k : Kind) → kindNumber k ≡ kind → isOrdered k ≡ true → inSpace k (now (a .entry)) ≡ true → inSpace k (now (b .entry)) ≡ true → ordering r ≡ valueOrder k .cmp (now (a .entry)) (now (b .entry))) ⌝ }
 {
     match kind {
         1..=5 => compare_numbers(a, b),
         6 => compare_moments(a, b),
-        _ => Compared::Same,
+        _ => Ordering::Equal,
     }
 }
 
 // Whether the first of two values is the chosen one.
-fn takes_first(order: Compared, largest: bool) -> bool
+pub fn takes_first(order: Ordering, largest: bool) -> bool
     ensures { λ r. ⌜ r ≡ pick (ordering order) (not largest) true largest ⌝ }
 {
     match order {
-        Compared::Less => !largest,
-        Compared::Same => true,
-        Compared::More => largest,
+        Ordering::Less => !largest,
+        Ordering::Equal => true,
+        Ordering::Greater => largest,
     }
 }
 
@@ -136,7 +136,7 @@ pub fn choose<'a>(
 ) -> &'a [u8]
     requires { ⌜ (a ≤ e) × (e ≤ length (now left)) ⌝ }
     requires { ⌜ (b ≤ f) × (f ≤ length (now right)) ⌝ }
-    ensures { λ r. ⌜ ((k : Kind) → kindNumber k ≡ kind → kind ≤ 6 → inSpace k (take (e - a) (drop a (now (left .entry)))) ≡ true → inSpace k (take (f - b) (drop b (now (right .entry)))) ≡ true → now r ∷ [] ≡ take 1 (union (extremeOrder largest k) (take (e - a) (drop a (now (left .entry))) ∷ []) (take (f - b) (drop b (now (right .entry))) ∷ []))) ⌝ }
+    ensures { λ r. ⌜ ((k : Kind) → kindNumber k ≡ kind → isOrdered k ≡ true → inSpace k (take (e - a) (drop a (now (left .entry)))) ≡ true → inSpace k (take (f - b) (drop b (now (right .entry)))) ≡ true → now r ∷ [] ≡ take 1 (union (extremeOrder largest k) (take (e - a) (drop a (now (left .entry))) ∷ []) (take (f - b) (drop b (now (right .entry))) ∷ []))) ⌝ }
 {
     let order = compare_values(kind, &left[a..e], &right[b..f]);
     if takes_first(order, largest) {

@@ -1,8 +1,8 @@
 use mathlib.Core.Bool.{Bool, true, false}
-use Prim.Native.Nat.{Ordering}
+use Prim.Native.Nat as nat
 use Rattle.model.specs.Order.{pick}
 use Rattle.packed.specs.Comparison.{ordering}
-use Rattle.packed.specs.declared.order.Compared.{Compared}
+use Rattle.packed.specs.declared.order.Ordering.{Ordering}
 use mathlib.Core.Path.{sym, ap, _∙_}
 use borrow.Author.Needs.{needs}
 use Rattle.ontology.proofs.names.is_before.Statement.{statement}
@@ -12,10 +12,10 @@ use Rattle.ontology.proofs.names.is_before.Lts as lts
 use Rattle.packed.proofs.order.compare_parts.Reads as compare-parts-reads
 
 -- the answer, by the comparison
-abbrev earlier : Ordering → Bool
+abbrev earlier : nat.Ordering → Bool
 earlier o = pick o true false false
 
-abbrev first : Compared → Bool
+abbrev first : Ordering → Bool
 first x = earlier (ordering x)
 
 compare-parts-requires : tie.Need-compare-parts-requires

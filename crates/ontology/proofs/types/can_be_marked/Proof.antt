@@ -2,23 +2,28 @@ use Rattle.ontology.proofs.RuleLaws.{marked-kind, marked-strategy, mark
 use mathlib.Core.Path.{sym, _∙_}
 use native.Mathlib.Omega.{arith}
 use borrow.Author.Needs.{needs}
+use borrow.Author.Tests.{not-true, not-false}
 use Rattle.ontology.proofs.types.can_be_marked.Statement.{statement}
 use Rattle.ontology.proofs.types.can_be_marked.Tie as tie
 use Rattle.ontology.proofs.types.can_be_marked.Reads as reads
 use Rattle.ontology.proofs.types.can_be_marked.Lts as lts
+use Rattle.ontology.proofs.properties.is_max.Reads as is-max-reads
 use Rattle.ontology.proofs.types.is_mandatory_single.Reads as is-mandatory-single-reads
 
 returns : tie.Need-returns
 returns c = λ s q w. sym (marked-kind s q _ w (c .if1 .taken))
 
+is-max-requires : tie.Need-is-max-requires
+is-max-requires c κs = search needs
+
 returns-2 : tie.Need-returns-2
-returns-2 c = λ s q w. sym (marked-strategy s q _ w (c .if2 .taken))
+returns-2 c = λ s q w. sym (marked-strategy s q _ w (sym (c .before .is-max .ensures) ∙ not-true _ (c .if2 .taken)))
 
 is-mandatory-single-requires : tie.Need-is-mandatory-single-requires
 is-mandatory-single-requires c κs = search needs
 
 returns-3 : tie.Need-returns-3
-returns-3 c = λ s q w. c .is-mandatory-single .ensures ∙ sym (marked-is s q _ w (omega arith) (omega arith))
+returns-3 c = λ s q w. c .is-mandatory-single .ensures ∙ sym (marked-is s q _ w (omega arith) (sym (c .before .before .is-max .ensures) ∙ not-false _ (c .before .if2 .left)))
 
 pub can-be-marked-spec : {M : Type 1} → statement M
-can-be-marked-spec = tie.close (tie.spec returns returns-2 is-mandatory-single-requires returns-3)
+can-be-marked-spec = tie.close (tie.spec returns is-max-requires returns-2 is-mandatory-single-requires returns-3)

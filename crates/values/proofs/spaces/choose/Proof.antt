@@ -1,13 +1,13 @@
 use mathlib.Core.Bool.{true, Bool, cond}
 use mathlib.Core.List.{[], _∷_}
 use mathlib.Core.Path.{_≡_, sym, ap, _∙_}
-use Prim.Native.Nat.{_≤_, _-_}
+use Prim.Native.Nat.{_-_}
 use lib.ListN.{take, drop}
 use borrow.Author.Needs.{needs}
 use Rattle.model.specs.Sets.{union}
 use Rattle.values.specs.Spaces.{Kind, kindNumber, inSpace}
 use Rattle.packed.specs.Comparison.{ordering}
-use Rattle.values.specs.ValueOrder.{extremeOrder}
+use Rattle.values.specs.ValueOrder.{isOrdered, extremeOrder}
 use Rattle.values.proofs.SpaceLaws.{chosen}
 use Rattle.values.proofs.spaces.choose.Statement.{statement}
 use Rattle.values.proofs.spaces.choose.Tie as tie
@@ -59,7 +59,7 @@ chosen-part : (c : tie.After-takes-first) {t : Bool} → c .takes-first .result 
     let g = c .before .before .before .before .before .before .args in
     let x = take (g .e - g .a) (drop (g .a) (g .left .now)) in
     let y = take (g .f - g .b) (drop (g .b) (g .right .now)) in
-    (k : Kind) → kindNumber k ≡ g .kind → g .kind ≤ 6 → inSpace k x ≡ true → inSpace k y ≡ true →
+    (k : Kind) → kindNumber k ≡ g .kind → isOrdered k ≡ true → inSpace k x ≡ true → inSpace k y ≡ true →
     cond t x y ∷ [] ≡ take 1 (union (extremeOrder (g .largest) k) (x ∷ []) (y ∷ []))
 chosen-part c {t} s k n l p q =
     let g = c .before .before .before .before .before .before .args in

@@ -6,7 +6,7 @@ use borrow.Author.Needs.{needs}
 use Rattle.packed.specs.Comparison.{ordering}
 use Rattle.values.specs.ValueOrder.{valueOrder}
 use Rattle.values.specs.Spaces.{Kind, kindNumber, isOfKind}
-use Rattle.values.proofs.SpaceLaws.{of-kind, is-datetime-kind, kind-least}
+use Rattle.values.proofs.SpaceLaws.{of-kind, is-datetime-kind, kind-least, ordered-low}
 use Rattle.values.proofs.spaces.compare_values.Statement.{statement}
 use Rattle.values.proofs.spaces.compare_values.Tie as tie
 
@@ -34,7 +34,7 @@ returns-3 : tie.Need-returns-3
 returns-3 c = λ k n l p q. absurd (omega (arith, kind-least k))
 
 returns-4 : tie.Need-returns-4
-returns-4 c = λ k n l p q. absurd (c .before .before .match .rest .1 (omega arith))
+returns-4 c = λ k n l p q. absurd (c .before .before .match .rest .1 (omega (arith, ordered-low k l)))
 
 pub compare-values-spec : {M : Type 1} → statement M
 compare-values-spec =

@@ -41,55 +41,55 @@ returns : tie.Need-returns
 unfolding kindOf isOfKind isKind
 returns c =
     let a = c .before .before .before .args in
-    answered (a .kind) (a .first) (a .second) (a .third) 1 (unsigned (a .first)) (a .v .now) (c .before .match .keys1) refl (λ w. c .is-unsigned .ensures w)
+    answered (a .kind) (a .size) (a .after) (a .sign) 1 (unsigned (a .size)) (a .v .now) (c .before .match .keys1) refl (λ w. c .is-unsigned .ensures w)
 
 returns-2 : tie.Need-returns-2
 unfolding kindOf isOfKind isKind
 returns-2 c =
     let a = c .before .before .before .args in
-    answered (a .kind) (a .first) (a .second) (a .third) 2 (signed (a .first)) (a .v .now) (c .before .match .keys2) refl (λ w. c .is-signed .ensures w)
+    answered (a .kind) (a .size) (a .after) (a .sign) 2 (signed (a .size)) (a .v .now) (c .before .match .keys2) refl (λ w. c .is-signed .ensures w)
 
 returns-3 : tie.Need-returns-3
 unfolding kindOf isOfKind
 returns-3 c =
     let a = c .before .before .before .args in
-    answered (a .kind) (a .first) (a .second) (a .third) 3 (decimal (a .first) (a .second) (eqb (a .third) 1)) (a .v .now) (c .before .match .keys3) refl (λ w. c .is-decimal .ensures)
+    answered (a .kind) (a .size) (a .after) (a .sign) 3 (decimal (a .size) (a .after) (eqb (a .sign) 1)) (a .v .now) (c .before .match .keys3) refl (λ w. c .is-decimal .ensures)
 
 returns-4 : tie.Need-returns-4
 unfolding kindOf isOfKind
 returns-4 c =
     let a = c .before .before .before .args in
-    answered (a .kind) (a .first) (a .second) (a .third) 4 currency (a .v .now) (c .before .match .keys4) refl (λ w. c .is-decimal2 .ensures)
+    answered (a .kind) (a .size) (a .after) (a .sign) 4 currency (a .v .now) (c .before .match .keys4) refl (λ w. c .is-decimal2 .ensures)
 
 returns-5 : tie.Need-returns-5
 unfolding kindOf isOfKind isWidth
 returns-5 c =
     let a = c .before .before .before .args in
-    answered (a .kind) (a .first) (a .second) (a .third) 5 sequence (a .v .now) (c .before .match .keys5) refl (λ w. c .is-unsigned2 .ensures refl)
+    answered (a .kind) (a .size) (a .after) (a .sign) 5 sequence (a .v .now) (c .before .match .keys5) refl (λ w. c .is-unsigned2 .ensures refl)
 
 returns-6 : tie.Need-returns-6
 unfolding kindOf isOfKind
 returns-6 c =
     let a = c .before .before .before .args in
-    answered (a .kind) (a .first) (a .second) (a .third) 6 datetime (a .v .now) (c .before .match .keys6) refl (λ w. c .is-datetime .ensures)
+    answered (a .kind) (a .size) (a .after) (a .sign) 6 datetime (a .v .now) (c .before .match .keys6) refl (λ w. c .is-datetime .ensures)
 
 returns-7 : tie.Need-returns-7
 unfolding kindOf isOfKind
 returns-7 c =
     let a = c .before .before .before .args in
-    answered (a .kind) (a .first) (a .second) (a .third) 7 boolean (a .v .now) (c .before .match .keys7) refl (λ w. c .is-boolean .ensures)
+    answered (a .kind) (a .size) (a .after) (a .sign) 7 boolean (a .v .now) (c .before .match .keys7) refl (λ w. c .is-boolean .ensures)
 
 returns-8 : tie.Need-returns-8
 unfolding kindOf isOfKind
 returns-8 c =
     let a = c .before .before .before .args in
-    answered (a .kind) (a .first) (a .second) (a .third) 8 (string (a .first)) (a .v .now) (c .before .match .keys8) refl (λ w. c .is-string .ensures)
+    answered (a .kind) (a .size) (a .after) (a .sign) 8 (string (a .size)) (a .v .now) (c .before .match .keys8) refl (λ w. c .is-string .ensures)
 
 returns-9 : tie.Need-returns-9
 unfolding kindOf isOfKind
 returns-9 c =
     let a = c .before .before .before .args in
-    answered (a .kind) (a .first) (a .second) (a .third) 9 (hex (a .first)) (a .v .now) (c .before .match .keys9) refl (λ w. c .is-hex .ensures)
+    answered (a .kind) (a .size) (a .after) (a .sign) 9 (hex (a .size)) (a .v .now) (c .before .match .keys9) refl (λ w. c .is-hex .ensures)
 
 returns-10 : tie.Need-returns-10
 returns-10 c =
@@ -97,7 +97,7 @@ returns-10 c =
     let r = c .match .rest in
     λ k e w.
     let z : none ≡ some k =
-    sym (kind-none (a .kind) (a .first) (a .second) (a .third) (r .0 .0 .0 .0 .0 .0 .0 .0 .1) (r .0 .0 .0 .0 .0 .0 .0 .1) (r .0 .0 .0 .0 .0 .0 .1) (r .0 .0 .0 .0 .0 .1) (r .0 .0 .0 .0 .1) (r .0 .0 .0 .1) (r .0 .0 .1) (r .0 .1) (r .1))
+    sym (kind-none (a .kind) (a .size) (a .after) (a .sign) (r .0 .0 .0 .0 .0 .0 .0 .0 .1) (r .0 .0 .0 .0 .0 .0 .0 .1) (r .0 .0 .0 .0 .0 .0 .1) (r .0 .0 .0 .0 .0 .1) (r .0 .0 .0 .0 .1) (r .0 .0 .0 .1) (r .0 .0 .1) (r .0 .1) (r .1))
     ∙ e in
     let o : _≡_ {A = ℕ} 0 1 = cc in
     absurd (omega arith)
