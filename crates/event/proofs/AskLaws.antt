@@ -127,7 +127,7 @@ module _ (table : List ℕ) (ts : Table) (event : List ℕ) (counts : Counts) (t
   unfolding EventAnswers
   no-values h k n = rw (m .is, ← h, ← k) n
 
-  pub all-met : true ≡ eventShape (m .type) (m .e) → true ≡ valuesFit (m .type) (m .e .sets) → r .number ≡ 0 → TypeIs table (m .type) (r .kind) → EventIs event (m .e) (r .event) → EventAnswers (eventAsked counts ts event) table event r
+  pub all-met : true ≡ eventShape (m .type) (m .e) → true ≡ valuesFit (m .type) (m .e .sets) → r .number ≡ 0 → TypeIs table (m .type) (r .«event_type») → EventIs event (m .e) (r .event) → EventAnswers (eventAsked counts ts event) table event r
   unfolding EventAnswers
   all-met h k n u v = rw (m .is, ← h, ← k) (n, u, v)
 
@@ -154,7 +154,7 @@ pub record Accepted (counts : Counts) (table event : List ℕ) (r : EventAsked) 
   pub type : EventType
   pub e : Event
   pub is : eventQuestions counts table event ≡ accepted (record { type = type; event = e })
-  pub type-is : TypeIs table type (r .kind)
+  pub type-is : TypeIs table type (r .«event_type»)
   pub event-is : EventIs event e (r .event)
 
 -- no question has the number 0

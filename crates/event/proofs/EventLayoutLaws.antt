@@ -1,6 +1,6 @@
 -- The laws of the event's layout: what is written is read (`-read`), and what is read was written so (`-was`). The head, the parents and the sets are the
 -- dossier's too.
-use mathlib.Core.Path.{_≡_, refl, sym, ap, _∙_, subst, subst₂}
+use mathlib.Core.Path.{_≡_, refl, sym, ap, ap₂, _∙_, subst, subst₂}
 use mathlib.Core.Bool.{Bool, true, false, cond, _&&_}
 use mathlib.Core.Option.{some}
 use mathlib.Core.List.{List, [], _∷_, _++_, append-assoc, append-nil, map, flatten, map-id}
@@ -12,11 +12,11 @@ use lib.ListN.{length}
 use borrow.Author.Tests.{lt-ltb, le-leb, ltb-true, leb-true, eqb-true, eqb-false}
 use Rattle.model.specs.Order.{Text, texts, rising}
 use Rattle.model.proofs.Cases.{and-parts}
-use Rattle.packed.specs.Parse.{got, Layout, _>>=_, found, foundIf, suchThat, times}
+use Rattle.packed.specs.Parse.{Parse, got, Layout, andThen, _>>=_, found, foundIf, suchThat, times}
 use Rattle.packed.specs.Packed.{number, readNumber, text, readText, readBytes}
 use Rattle.packed.proofs.LayoutLaws.{All, andThen-got, foundIf-got, suchThat-got, whole-some, number-read, number-was, text-read, text-was, bytes-read, bytes-was, times-read, times-was}
 use Rattle.event.specs.Event.{Event, objectCount}
-use Rattle.event.specs.EventLayout.{areSourceBytes, isSource, readParents, readSet, readPlace, readSets, readBits, Counts, narrow, wide, readEvent, eventOf, parentsBytes, setBytes, setsBytes, presenceBit, bitNumber, headBytes, eventBytes}
+use Rattle.event.specs.EventLayout.{areSourceBytes, isSource, readParents, HeadOf, readHead, readSet, readPlace, readSets, readBits, Counts, narrow, wide, readEvent, eventOf, parentsBytes, setBytes, setsBytes, presenceBit, bitNumber, headBytes, eventBytes}
 
 -- ---- what can be written
 
@@ -102,16 +102,11 @@ parents-was most s hs r e =
 
 -- ---- the head, before whatever follows it
 
-abbrev pub readHead : {A : Type 0} → ℕ → (Text → Text → List Text → Layout A) → Layout A
-readHead most k = do
-  type ← readText
-  source ← suchThat isSource readText
-  parents ← readParents most
-  k type source parents
-
-pub head-read : {A : Type 0} (most : ℕ) (k : Text → Text → List Text → Layout A) (type source : Text) (parents : List Text) (r : List ℕ) → HeadWritten most type source parents → readHead most k (headBytes type source parents ++ r) ≡ k type source parents r
-unfolding headBytes
-head-read most k type source parents r w =
+pub head-read :
+    (most : ℕ) (type source : Text) (parents : List Text) (r : List ℕ) → HeadWritten most type source parents →
+    readHead most (headBytes type source parents ++ r) ≡ got (record { type = type; source = source; parents = parents }) r
+unfolding headBytes readHead
+head-read most type source parents r w =
     rw (
       append-assoc (text type ++ text source) (parentsBytes parents) r,
       append-assoc (text type) (text source) (parentsBytes parents ++ r),
@@ -121,38 +116,36 @@ head-read most k type source parents r w =
       parents-read most parents r (w .parents),
     )
 
-pub record HeadWas {A : Type 0} (most : ℕ) (k : Text → Text → List Text → Layout A) (s : List ℕ) (a : A) (r : List ℕ) : Type 0 where
-  pub type : Text
-  pub source : Text
-  pub parents : List Text
-  pub left : List ℕ
-  pub bytes : s ≡ headBytes type source parents ++ left
-  pub written : HeadWritten most type source parents
-  pub rest : k type source parents left ≡ got a r
-
 head-bytes : (s t u r : List ℕ) (type source : Text) (parents : List Text) → s ≡ text type ++ t → t ≡ text source ++ u → u ≡ parentsBytes parents ++ r → s ≡ headBytes type source parents ++ r
 unfolding headBytes
 head-bytes s t u r type source parents a b c =
     a ∙ rw (b, c) (sym (rw (append-assoc (text type ++ text source) (parentsBytes parents) r) (append-assoc (text type) (text source) (parentsBytes parents ++ r))))
 
-pub head-was : {A : Type 0} (most : ℕ) (k : Text → Text → List Text → Layout A) (s : List ℕ) (a : A) (r : List ℕ) → readHead most k s ≡ got a r → HeadWas most k s a r
-head-was most k s a r e =
-    let c = andThen-got (readText s) _ a r e in
-    let d = andThen-got (suchThat isSource readText (c .left)) _ a r (c .second) in
-    let f = andThen-got (readParents most (d .left)) _ a r (d .second) in
+pub head-was :
+    (most : ℕ) (s : List ℕ) (h : HeadOf) (r : List ℕ) → readHead most s ≡ got h r →
+    (s ≡ headBytes (h .type) (h .source) (h .parents) ++ r) × HeadWritten most (h .type) (h .source) (h .parents)
+unfolding readHead
+head-was most s h r e =
+    let c = andThen-got (readText s) _ h r e in
+    let d = andThen-got (suchThat isSource readText (c .left)) _ h r (c .second) in
+    let f = andThen-got (readParents most (d .left)) _ h r (d .second) in
     let n = suchThat-got isSource readText (c .left) (d .value) (d .left) (d .first) in
     let x = text-was s (c .value) (c .left) (c .first) in
     let y = text-was (c .left) (d .value) (d .left) (n .was) in
     let z = parents-was most (d .left) (f .value) (f .left) (f .first) in
-    record {
-      type = c .value;
-      source = d .value;
-      parents = f .value;
-      left = f .left;
-      bytes = head-bytes s (c .left) (d .left) (f .left) (c .value) (d .value) (f .value) (x .0) (y .0) (z .0);
-      written = record { type = x .1; source = n .test; parents = z .1 };
-      rest = f .second;
-    }
+    go (c .value) (d .value) (f .value) (f .left) (f .second)
+    (head-bytes s (c .left) (d .left) (f .left) (c .value) (d .value) (f .value) (x .0) (y .0) (z .0))
+    (record { type = x .1; source = n .test; parents = z .1 })
+  where
+    go : (type source : Text) (parents : List Text) (left : List ℕ) → got (record { type = type; source = source; parents = parents }) left ≡ got h r →
+        s ≡ headBytes type source parents ++ left → HeadWritten most type source parents →
+        (s ≡ headBytes (h .type) (h .source) (h .parents) ++ r) × HeadWritten most (h .type) (h .source) (h .parents)
+    go type source parents left e b w =
+        let f : (record { type = type; source = source; parents = parents }) ≡ h = cc in
+        let g : left ≡ r = cc in (
+          b ∙ ap₂ (λ (x : HeadOf) (o : List ℕ). headBytes (x .type) (x .source) (x .parents) ++ o) f g,
+          subst (λ (x : HeadOf). HeadWritten most (x .type) (x .source) (x .parents)) f w,
+        )
 
 -- ---- a set
 
@@ -307,11 +300,11 @@ all-sets-read xs r w =
 -- ---- the event
 
 -- what follows the head
-abbrev readBody : Counts → Text → Text → List Text → Layout Event
-readBody counts type source parents = do
+abbrev pub readBody : Counts → HeadOf → Layout Event
+readBody counts h = do
   presence ← readBits
   sets ← readSets 32 presence
-  foundIf (leb (objectCount sets) (counts .objects)) (record { type = type; source = source; parents = parents; sets = sets })
+  foundIf (leb (objectCount sets) (counts .objects)) (record { type = h .type; source = h .source; parents = h .parents; sets = sets })
 
 event-parts : (e : Event) → eventBytes e ≡ headBytes (e .type) (e .source) (e .parents) ++ (number (bitNumber (map presenceBit (e .sets))) ++ (setsBytes (e .sets) ++ []))
 unfolding eventBytes
@@ -324,7 +317,8 @@ unfolding eventOf readEvent
 event-read counts e w =
     whole-some (readEvent counts (eventBytes e)) e .1
     (ap (readEvent counts) (event-parts e)
-    ∙ head-read (counts .parents) (readBody counts) (e .type) (e .source) (e .parents) (number (bitNumber (map presenceBit (e .sets))) ++ (setsBytes (e .sets) ++ [])) (w .head)
+    ∙ ap (λ (p : Parse HeadOf). andThen p (readBody counts))
+    (head-read (counts .parents) (e .type) (e .source) (e .parents) (number (bitNumber (map presenceBit (e .sets))) ++ (setsBytes (e .sets) ++ [])) (w .head))
     ∙ rw (
       bits-read (bitNumber (map presenceBit (e .sets))) (setsBytes (e .sets) ++ []) (presence-below (e .sets) (w .sets .long)),
       all-sets-read (e .sets) [] (w .sets),
@@ -341,13 +335,14 @@ event-is counts presence s t u v type source parents sets e a h b x o p q =
 pub event-was : (counts : Counts) (s : List ℕ) (e : Event) → eventOf counts s ≡ some e → (s ≡ eventBytes e) × EventWritten counts e
 unfolding eventOf readEvent
 event-was counts s e h =
-    let a = head-was (counts .parents) (readBody counts) s e [] (whole-some (readEvent counts s) e .0 h) in
-    let c = andThen-got (readBits (a .left)) _ e [] (a .rest) in
+    let a = andThen-got (readHead (counts .parents) s) (readBody counts) e [] (whole-some (readEvent counts s) e .0 h) in
+    let x = head-was (counts .parents) s (a .value) (a .left) (a .first) in
+    let c = andThen-got (readBits (a .left)) _ e [] (a .second) in
     let d = andThen-got (readSets 32 (c .value) (c .left)) _ e [] (c .second) in
     let f = foundIf-got (leb (objectCount (d .value)) (counts .objects)) _ (d .left) e [] (d .second) in
     let b = bits-was (a .left) (c .value) (c .left) (c .first) in
-    event-is counts (c .value) s (a .left) (c .left) (d .left) (a .type) (a .source) (a .parents) (d .value) e
-    (a .bytes) (a .written) (b .0)
+    event-is counts (c .value) s (a .left) (c .left) (d .left) (a .value .type) (a .value .source) (a .value .parents) (d .value) e
+    (x .0) (x .1) (b .0)
     (sets-was 32 (c .value) (c .left) (d .value) (d .left) (b .1) (d .first))
     (leb-true (objectCount (d .value)) (counts .objects) (f .test))
     (f .value) (f .rest)

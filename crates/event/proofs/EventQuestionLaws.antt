@@ -11,11 +11,11 @@ use lib.ListN.{length, getD, getElem?, length-append, List·getD-eq-default}
 use borrow.Author.Tests.{leb-true, eqb-true, not-true}
 use Rattle.model.specs.Order.{Order, Text, texts, rising}
 use Rattle.model.specs.Sets.{Ups, upTo}
-use Rattle.model.specs.Rule.{every, least, places, count}
-use Rattle.model.specs.Ways.{Has}
+use Rattle.model.specs.Rule.{every, least, places}
+use Rattle.model.proofs.PartLaws.{count, map-getD}
+use Rattle.model.proofs.WayClaims.{Has}
 use Rattle.model.proofs.Cases.{never, truth, found, and-parts, or-part}
 use Rattle.model.proofs.SetLaws.{rising-ups}
-use Rattle.model.proofs.PartLaws.{map-getD}
 use Rattle.packed.proofs.LayoutLaws.{All, lt-or-ge}
 use Rattle.values.specs.Decimal.{numeral, inDecimal}
 use Rattle.values.specs.Spaces.{Kind, sequence, isUnsigned, isOfKind, inSpace}
@@ -171,25 +171,13 @@ event-fits table s t e a =
     }
 
 -- what a strategy chooses
-pub choice-every : (s : Strategy) (q : Property) → (eqb (strategyNumber s) 1 || eqb (strategyNumber s) 2) ≡ false → choiceOf s q ≡ every
+pub choice-every : (q : Property) → (isMin q || isMax q) ≡ false → choiceOf q ≡ every
 unfolding choiceOf
-choice-every min q h = never (cc)
-choice-every max q h = never (cc)
-choice-every add q h = refl
-choice-every replace q h = refl
-choice-every match q h = refl
-choice-every set q h = refl
-choice-every any q h = refl
+choice-every q h = rw h
 
-pub choice-least : (s : Strategy) (q : Property) → (eqb (strategyNumber s) 1 || eqb (strategyNumber s) 2) ≡ true → choiceOf s q ≡ least (extremeOrder (eqb (strategyNumber s) 2) (q .kind))
+pub choice-least : (q : Property) → (isMin q || isMax q) ≡ true → choiceOf q ≡ least (extremeOrder (isMax q) (q .kind))
 unfolding choiceOf
-choice-least min q h = refl
-choice-least max q h = refl
-choice-least add q h = never (cc)
-choice-least replace q h = never (cc)
-choice-least match q h = never (cc)
-choice-least set q h = never (cc)
-choice-least any q h = never (cc)
+choice-least q h = rw h
 
 pub empty-written : SetWritten []
 empty-written = record { rises = unfold rising in refl; few = omega arith; short = tt }
@@ -211,14 +199,14 @@ module _ (t : EventType) (p : ℕ) where
   module _ (q : Property) (n : getElem? (t .properties) p ≡ some q) where
     pub choice-match : isMatch q ≡ true → (view t .choice p ≡ every) × (view t .replaces p ≡ false)
     unfolding view atPlace
-    choice-match m = (rw n (go (q .strategy) m .0), rw n (go (q .strategy) m .1))
+    choice-match m = (rw n (choice-every q (go (q .strategy) m .0)), rw n (go (q .strategy) m .1))
       where
-        go : (s : Strategy) → eqb (strategyNumber s) 5 ≡ true → (choiceOf s q ≡ every) × (eqb (strategyNumber s) 4 ≡ false)
+        go : (s : Strategy) → eqb (strategyNumber s) 5 ≡ true → ((eqb (strategyNumber s) 1 || eqb (strategyNumber s) 2) ≡ false) × (eqb (strategyNumber s) 4 ≡ false)
         go min h = never (cc)
         go max h = never (cc)
         go add h = never (cc)
         go replace h = never (cc)
-        go match h = unfold choiceOf in (refl, refl)
+        go match h = (refl, refl)
         go set h = never (cc)
         go any h = never (cc)
 
@@ -228,20 +216,15 @@ module _ (t : EventType) (p : ℕ) where
 
     pub extreme-least : (isMin q || isMax q) ≡ true → (O : Order Text) × (view t .choice p ≡ least O)
     unfolding view atPlace
-    extreme-least h = (extremeOrder (isMax q) (q .kind), rw n (choice-least (q .strategy) q h))
+    extreme-least h = (extremeOrder (isMax q) (q .kind), rw n (choice-least q h))
 
     least-extreme : (O : Order Text) → view t .choice p ≡ least O → (isMin q || isMax q) ≡ true
     unfolding view atPlace
-    least-extreme O h = go (q .strategy) (rw n at h)
+    least-extreme O h = go (isMin q || isMax q) refl (rw n at h)
       where
-        go : (s : Strategy) → choiceOf s q ≡ least O → (eqb (strategyNumber s) 1 || eqb (strategyNumber s) 2) ≡ true
-        go min h = refl
-        go max h = refl
-        go add h = unfold choiceOf in never (cc)
-        go replace h = unfold choiceOf in never (cc)
-        go match h = unfold choiceOf in never (cc)
-        go set h = unfold choiceOf in never (cc)
-        go any h = unfold choiceOf in never (cc)
+        go : (b : Bool) → (isMin q || isMax q) ≡ b → choiceOf q ≡ least O → b ≡ true
+        go true e h = refl
+        go false e h = never (cc (choice-every q e))
 
 -- a place at which the rule chooses has at most one value in each event
 pub least-few : (t : EventType) (e : Event) → TypeKept t → EventFits t e → (p : ℕ) (O : Order Text) → view t .choice p ≡ least O → length (setAt e p) ≤ 1

@@ -1,5 +1,5 @@
 -- The laws of reading a whole event: its head, its presence number and its sets.
-use mathlib.Core.Path.{_≡_, refl, sym, ap, ap₂, _∙_}
+use mathlib.Core.Path.{_≡_, refl, sym, ap, _∙_}
 use mathlib.Core.Bool.{Bool, true, false}
 use mathlib.Core.Option.{Option, none}
 use mathlib.Core.List.{List, [], _∷_, _++_, append-assoc, append-nil}
@@ -9,14 +9,14 @@ use lib.Dec.{leb}
 use lib.ListN.{length, take, drop, drop-of-length-le}
 use borrow.Author.Tests.{le-leb, lt-leb, lt-ltb, le-ltb}
 use Rattle.model.specs.Order.{Text}
-use Rattle.packed.specs.Parse.{Parse, fail, got, Layout, andThen, _>>=_, found, foundIf, suchThat, whole}
-use Rattle.packed.specs.Packed.{number, readNumber, readText}
+use Rattle.packed.specs.Parse.{Parse, fail, got, andThen, foundIf, whole}
+use Rattle.packed.specs.Packed.{number, readNumber}
 use Rattle.packed.proofs.LayoutLaws.{number-was}
 use Rattle.packed.proofs.ReadLaws.{drop-next, NumberStops}
 use Rattle.event.specs.Event.{Event, objectCount}
-use Rattle.event.specs.EventLayout.{isSource, readParents, readBits, readSets, Counts, readEvent, eventOf, setsBytes, headBytes}
-use Rattle.event.specs.EventIndex.{SetsAre, SetsReads, HeadOf, readHead, HeadStops, EventReads}
-use Rattle.event.proofs.EventLayoutLaws.{head-was, sets-was}
+use Rattle.event.specs.EventLayout.{HeadOf, readHead, readBits, readSets, Counts, readEvent, eventOf, setsBytes, headBytes}
+use Rattle.event.specs.EventIndex.{SetsAre, SetsReads, HeadStops, EventReads}
+use Rattle.event.proofs.EventLayoutLaws.{head-was, readBody, sets-was}
 use Rattle.event.proofs.SetLaws.{stretch}
 use Rattle.event.specs.declared.sets.SetsRead.{SetsRead}
 use Rattle.event.specs.declared.read.HeadAt.{HeadAt}
@@ -24,57 +24,15 @@ use Rattle.event.specs.declared.read.EventIndex.{EventIndex}
 
 -- ---- the head, and what follows it
 
--- the three parts of a head, each on its own, are the head
-pub head-then : {A : Type 0} (most : ℕ) (k : Text → Text → List Text → Layout A) (s : List ℕ) →
-    (readText >>= λ t. suchThat isSource readText >>= λ u. readParents most >>= λ hs. k t u hs) s
-    ≡ andThen (readHead most s) (λ h. k (h .type) (h .source) (h .parents))
-unfolding readHead
-head-then {A} most k s = name (readText s)
-  where
-    all : Text → Text → List Text → Layout HeadOf
-    all t u hs = found (record { type = t; source = u; parents = hs })
-
-    head : Text → Text → Layout HeadOf
-    head t u = readParents most >>= all t u
-
-    parents : (t u : Text) (p : Parse (List Text)) → andThen p (λ hs. k t u hs) ≡ andThen (andThen p (all t u)) (λ h. k (h .type) (h .source) (h .parents))
-    parents t u fail = refl
-    parents t u (got hs r) = refl
-
-    source : (t : Text) (p : Parse Text) → andThen p (λ u. readParents most >>= λ hs. k t u hs) ≡ andThen (andThen p (head t)) (λ h. k (h .type) (h .source) (h .parents))
-    source t fail = refl
-    source t (got u r) = parents t u (readParents most r)
-
-    name : (p : Parse Text) →
-        andThen p (λ t. suchThat isSource readText >>= λ u. readParents most >>= λ hs. k t u hs)
-        ≡ andThen (andThen p (λ t. suchThat isSource readText >>= head t)) (λ h. k (h .type) (h .source) (h .parents))
-    name fail = refl
-    name (got t r) = source t (suchThat isSource readText r)
-
 -- the bytes of a head
 pub head-bytes : (most : ℕ) (s : List ℕ) (h : HeadAt) (w : HeadStops (readHead most s) s h) → s ≡ headBytes (w .what .type) (w .what .source) (w .what .parents) ++ drop (h .parents .end) s
-unfolding readHead
-head-bytes most s h w =
-    let b = head-was most (λ t u hs. found (record { type = t; source = u; parents = hs })) s (w .what) (drop (h .parents .end) s) (w .is) in
-    same (w .what) (b .type) (b .source) (b .parents) (drop (h .parents .end) s) (b .left) (b .rest) (b .bytes)
-  where
-    same : (x : HeadOf) (t u : Text) (hs : List Text) (r l : List ℕ) → got (record { type = t; source = u; parents = hs }) l ≡ got x r → s ≡ headBytes t u hs ++ l → s ≡ headBytes (x .type) (x .source) (x .parents) ++ r
-    same x t u hs r l e b =
-        let f : (record { type = t; source = u; parents = hs }) ≡ x = cc in
-        let g : l ≡ r = cc in
-        b ∙ ap₂ (λ (y : HeadOf) (o : List ℕ). headBytes (y .type) (y .source) (y .parents) ++ o) f g
+head-bytes most s h w = head-was most s (w .what) (drop (h .parents .end) s) (w .is) .0
 
 -- ---- the event
 
-abbrev body : Counts → HeadOf → Layout Event
-body counts h = do
-  presence ← readBits
-  sets ← readSets 32 presence
-  foundIf (leb (objectCount sets) (counts .objects)) (record { type = h .type; source = h .source; parents = h .parents; sets = sets })
-
-event-then : (counts : Counts) (s : List ℕ) → readEvent counts s ≡ andThen (readHead (counts .parents) s) (body counts)
+event-then : (counts : Counts) (s : List ℕ) → readEvent counts s ≡ andThen (readHead (counts .parents) s) (readBody counts)
 unfolding readEvent
-event-then counts s = head-then (counts .parents) (λ t u hs. body counts (record { type = t; source = u; parents = hs })) s
+event-then counts s = refl
 
 -- what is known of the sets that were read, and that none were read
 pub record Sets (p : Parse (List (List Text))) (s : List ℕ) (r : SetsRead) : Type 0 where
@@ -103,8 +61,8 @@ unfolding eventOf
 no-head counts s e = rw (event-then counts s, e)
 
 module _ (counts : Counts) (s : List ℕ) (h : HeadAt) (w : HeadStops (readHead (counts .parents) s) s h) where
-  after-head : readEvent counts s ≡ body counts (w .what) (drop (h .parents .end) s)
-  after-head = event-then counts s ∙ ap (λ (p : Parse HeadOf). andThen p (body counts)) (w .is)
+  after-head : readEvent counts s ≡ readBody counts (w .what) (drop (h .parents .end) s)
+  after-head = event-then counts s ∙ ap (λ (p : Parse HeadOf). andThen p (readBody counts)) (w .is)
 
   pub no-presence : readNumber (drop (h .parents .end) s) ≡ fail → eventOf counts s ≡ none
   unfolding eventOf readBits

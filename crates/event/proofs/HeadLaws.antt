@@ -13,8 +13,8 @@ use Rattle.packed.specs.Packed.{readNumber, readText, readBytes}
 use Rattle.packed.specs.Located.{part}
 use Rattle.packed.proofs.LayoutLaws.{All, times-was, bytes-was}
 use Rattle.packed.proofs.ReadLaws.{drop-next, TextStops}
-use Rattle.event.specs.EventLayout.{areSourceBytes, isSource, readParents}
-use Rattle.event.specs.EventIndex.{ParentsStop, ParentsReads, HeadOf, readHead, HeadStops, HeadReads}
+use Rattle.event.specs.EventLayout.{areSourceBytes, isSource, readParents, HeadOf, readHead}
+use Rattle.event.specs.EventIndex.{ParentsStop, ParentsReads, HeadStops, HeadReads}
 use Rattle.event.proofs.SetLaws.{stretch, risen, risen-was}
 use Rattle.event.specs.declared.sets.SetAt.{SetAt}
 use Rattle.event.specs.declared.read.HeadAt.{HeadAt}

@@ -10,3 +10,4 @@ pub mod ShapeLaws
 pub mod SpaceLaws
 pub mod AskLaws
 pub mod EventQuestionLaws
+pub mod ValueLaws

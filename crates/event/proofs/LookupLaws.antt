@@ -254,18 +254,18 @@ ones-below k xs = ap ones (bits-below k xs) ∙ ones-bits (take k xs)
 -- ---- the value
 
 -- what is written one after the other, up to an index and from it on
-flat-split : {A : Type 0} (w : A → List ℕ) (k : ℕ) (xs : List A) → flatten (map w xs) ≡ flatten (map w (take k xs)) ++ flatten (map w (drop k xs))
+pub flat-split : {A : Type 0} (w : A → List ℕ) (k : ℕ) (xs : List A) → flatten (map w xs) ≡ flatten (map w (take k xs)) ++ flatten (map w (drop k xs))
 unfolding flatten
 flat-split w zero xs = refl
 flat-split w (suc k) [] = refl
 flat-split w (suc k) (x ∷ xs) = ap (λ (l : List ℕ). w x ++ l) (flat-split w k xs) ∙ sym (append-assoc (w x) (flatten (map w (take k xs))) (flatten (map w (drop k xs))))
 
-set-bytes : (vs : List Text) → 0 < length vs → setBytes vs ≡ number (length vs) ++ flatten (map text vs)
+pub set-bytes : (vs : List Text) → 0 < length vs → setBytes vs ≡ number (length vs) ++ flatten (map text vs)
 unfolding setBytes
 set-bytes [] h = absurd (omega arith)
 set-bytes (v ∷ vs) h = refl
 
-pub element : {A : Type 0} (xs : List A) (i : ℕ) (d : A) → i < length xs → getElem? xs i ≡ some (getD xs i d)
+element : {A : Type 0} (xs : List A) (i : ℕ) (d : A) → i < length xs → getElem? xs i ≡ some (getD xs i d)
 element [] i d h = absurd (omega arith)
 element (x ∷ xs) zero d h = refl
 element (x ∷ xs) (suc i) d h = element xs i d (omega arith)

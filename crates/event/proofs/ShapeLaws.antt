@@ -1,5 +1,5 @@
 -- The laws of question 5, place by place.
-use mathlib.Core.Path.{_≡_, refl, sym, ap, _∙_}
+use mathlib.Core.Path.{_≡_, refl, sym, ap, ap₂, _∙_}
 use mathlib.Core.Bool.{Bool, true, false, cond, _&&_, _||_}
 use mathlib.Core.Option.{Option, none, some}
 use mathlib.Core.List.{List, [], _∷_}
@@ -10,7 +10,7 @@ use native.Mathlib.Nat.{add-assoc, zero-add}
 use lib.Dec.{ltb, eqb}
 use lib.ListN.{length, drop, getD, getElem?, drop-of-length-le}
 use lib.Seq.{drop-cons}
-use borrow.Author.Tests.{ltb-true, le-leb, lt-leb, eq-eqb, ne-eqb}
+use borrow.Author.Tests.{ltb-true, le-leb, lt-leb, ne-eqb}
 use Rattle.model.specs.Order.{Text}
 use Rattle.model.proofs.Cases.{and-true, and-false}
 use Rattle.ontology.specs.Table.{Property, EventType, strategyNumber, isMatch}
@@ -52,11 +52,9 @@ module _ (q : Property) (vs : List Text) where
       go false true = refl
       go false false = refl
 
-pub match-yes : (q : Property) (n : ℕ) → strategyNumber (q .strategy) ≡ 5 → cond (isMatch q) n 0 ≡ n
-match-yes q n h = rw (eq-eqb (strategyNumber (q .strategy)) 5 h)
-
-pub match-no : (q : Property) (n : ℕ) → (strategyNumber (q .strategy) ≡ 5 → ⊥) → cond (isMatch q) n 0 ≡ 0
-match-no q n h = rw (ne-eqb (strategyNumber (q .strategy)) 5 h)
+-- the match objects of a property, by its strategy's number
+pub matches-are : {n s : ℕ} (q : Property) (vs : List Text) → s ≡ strategyNumber (q .strategy) → n ≡ length vs → cond (eqb s 5) n 0 ≡ cond (isMatch q) (length vs) 0
+matches-are q vs e f = ap₂ (λ (s n : ℕ). cond (eqb s 5) n 0) e f
 
 -- ---- a place
 
@@ -67,7 +65,7 @@ none-past (x ∷ xs) (suc i) e = omega (arith, none-past xs i e)
 
 -- no property, where an array begins
 abbrev pub noProperty : PropertyAt
-noProperty = record { start = 0; end = 0; kind = 0; first = 0; second = 0; third = 0; optional = false; multivalued = false; strategy = 0 }
+noProperty = record { start = 0; end = 0; kind = 0; size = 0; after = 0; sign = 0; optional = false; multivalued = false; strategy = 0 }
 
 -- what is said of a place that has a property, by the type's index
 pub place-said :

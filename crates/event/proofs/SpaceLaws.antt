@@ -27,8 +27,8 @@ use Rattle.event.proofs.LookupLaws.{text-there, text-next}
 use Rattle.event.proofs.ShapeLaws.{place-said, each-step}
 
 -- the kind that an index has the numbers of
-kind-of : (k : Kind) (kind first second third : ℕ) → KindIs k kind first second third → kindOf kind first second third ≡ some k
-kind-of k kind first second third w = rw (w .number, w .one, w .two, w .three) (kind-numbered k)
+kind-of : (k : Kind) (kind size after sign : ℕ) → KindIs k kind size after sign → kindOf kind size after sign ≡ some k
+kind-of k kind size after sign w = rw (w .number, w .size-is, w .after-is, w .sign-is) (kind-numbered k)
 
 -- ---- texts
 
@@ -92,7 +92,7 @@ placeSpace o s = atPlace true (λ q. areInSpace (q .kind) s) o
 pub place-space :
     (table : List ℕ) (y : EventType) (x : TypeIndex) (d : PropertyAt) (k : ℕ) (vs : List Text) (r : Bool) → TypeIs table y x → KindsAre y → ltb k (x .count) ≡ true →
     let p = getD (x .properties) k d in
-    ((a : Kind) → kindOf (p .kind) (p .first) (p .second) (p .third) ≡ some a → isKind a ≡ true → r ≡ areInSpace a vs) → r ≡ placeSpace (getElem? (y .properties) k) vs
+    ((a : Kind) → kindOf (p .kind) (p .size) (p .after) (p .sign) ≡ some a → isKind a ≡ true → r ≡ areInSpace a vs) → r ≡ placeSpace (getElem? (y .properties) k) vs
 place-space table y x d k vs r w n h f = place-said table y x d k true (λ q. areInSpace (q .kind) vs) r w h (λ q e z. f (q .kind) (kind-of (q .kind) _ _ _ _ (z .kind)) (n k q e))
 
 -- where there is no property, nothing is asked

@@ -1,6 +1,6 @@
 -- Document 01, "Packed event": what an event has, and what the rule reads of it.
 use Prim.Native.Nat.{ℕ, _+_, _-_}
-use mathlib.Core.Bool.{true, false, cond}
+use mathlib.Core.Bool.{false, cond, _||_}
 use mathlib.Core.Option.{Option, none, some}
 use mathlib.Core.List.{List, [], _∷_}
 use lib.ListN.{length, getD, getElem?}
@@ -8,7 +8,7 @@ use Rattle.model.specs.Order.{Text}
 use Rattle.model.specs.Rule.{View, Choice, every, least}
 use Rattle.values.specs.Decimal.{numeral}
 use Rattle.values.specs.ValueOrder.{extremeOrder}
-use Rattle.ontology.specs.Table.{Strategy, min, max, add, replace, match, set, any, Property, EventType, isVersioned, isReplace, isSingle}
+use Rattle.ontology.specs.Table.{Property, EventType, isMin, isMax, isVersioned, isReplace, isSingle}
 
 -- An event: its sets are by place, one for each of the 32 bits of the presence number; a place without objects has the empty set
 pub record Event : Type 0 where
@@ -31,14 +31,8 @@ unfoldable pub versionOf : EventType → Event → ℕ
 versionOf t e = cond (isVersioned t) (numeral (getD (setAt e (t .mark - 1)) 0 [])) 0
 
 -- "min and max have the smallest or largest value, other properties the union"
-unfoldable pub choiceOf : Strategy → Property → Choice
-choiceOf min p = least (extremeOrder false (p .kind))
-choiceOf max p = least (extremeOrder true (p .kind))
-choiceOf add p = every
-choiceOf replace p = every
-choiceOf match p = every
-choiceOf set p = every
-choiceOf any p = every
+unfoldable pub choiceOf : Property → Choice
+choiceOf p = cond (isMin p || isMax p) (least (extremeOrder (isMax p) (p .kind))) every
 
 -- what is said of a place through its property; of a place without one, the default
 unfoldable pub atPlace : {A : Type 0} → A → (Property → A) → Option Property → A
@@ -53,7 +47,7 @@ view t = record {
   set = setAt;
   versioned = isVersioned t;
   width = 32;
-  choice = λ p. atPlace every (λ q. choiceOf (q .strategy) q) (getElem? (t .properties) p);
+  choice = λ p. atPlace every choiceOf (getElem? (t .properties) p);
   replaces = λ p. atPlace false isReplace (getElem? (t .properties) p);
   single = λ p. atPlace false isSingle (getElem? (t .properties) p);
 }

@@ -7,8 +7,8 @@ use mathlib.Core.Option.{Option, none, some}
 use mathlib.Core.List.{List, [], _∷_, _++_, map, flatten}
 use lib.ListN.{length, take, drop, getD, getElem?}
 use Rattle.model.specs.Order.{Text}
-use Rattle.packed.specs.Parse.{Parse, fail, got, Layout, _>>=_, found, suchThat}
-use Rattle.packed.specs.Packed.{number, text, readText}
+use Rattle.packed.specs.Parse.{Parse, fail, got}
+use Rattle.packed.specs.Packed.{number, text}
 use Rattle.packed.specs.Located.{part}
 use Rattle.values.specs.Spaces.{isKind}
 use Rattle.ontology.specs.Table.{Property, EventType}
@@ -17,7 +17,7 @@ use Rattle.ontology.specs.Questions as questions
 use Rattle.ontology.specs.Questions.{Asked, refused, accepted, ask}
 use Rattle.ontology.specs.TypeIndex.{TypeIs}
 use Rattle.event.specs.Event.{Event, objectCount, setAt}
-use Rattle.event.specs.EventLayout.{isSource, readParents, Counts, narrow, wide, setsBytes, presenceBit, bitNumber, headBytes}
+use Rattle.event.specs.EventLayout.{HeadOf, Counts, narrow, wide, setsBytes, presenceBit, bitNumber, headBytes}
 use Rattle.event.specs.declared.sets.SetAt.{SetAt}
 use Rattle.event.specs.declared.sets.SetRead.{SetRead}
 use Rattle.event.specs.declared.sets.SetRead.the-variants.{Found, NoSet}
@@ -102,19 +102,6 @@ pub record TextIs (s : List ℕ) (v : Text) (x : PartAt) : Type 0 where
   pub order : x .start ≤ x .end
   pub within : x .end ≤ length s
 
--- What an event and a dossier begin with
-pub record HeadOf : Type 0 where
-  pub type : Text
-  pub source : Text
-  pub parents : List Text
-
-unfoldable pub readHead : ℕ → Layout HeadOf
-readHead most = do
-  type ← readText
-  source ← suchThat isSource readText
-  parents ← readParents most
-  found (record { type = type; source = source; parents = parents })
-
 pub record HeadIs (s : List ℕ) (type source : Text) (parents : List Text) (h : HeadAt) : Type 0 where
   pub name : TextIs s type (h .name)
   pub uri : TextIs s source (h .source)
@@ -190,4 +177,4 @@ eventQuestions counts table event = questions._>>=_ (ask 2 (tableOf table)) (λ 
 -- what asking answers, where the questions come to a
 unfoldable pub EventAnswers : Asked Typed → List ℕ → List ℕ → EventAsked → Type 0
 EventAnswers (refused n) table event r = r .number ≡ n
-EventAnswers (accepted a) table event r = (r .number ≡ 0) × TypeIs table (a .type) (r .kind) × EventIs event (a .event) (r .event)
+EventAnswers (accepted a) table event r = (r .number ≡ 0) × TypeIs table (a .type) (r .«event_type») × EventIs event (a .event) (r .event)

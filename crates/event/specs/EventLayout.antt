@@ -25,6 +25,19 @@ readParents most = do
   hashes ← times (readBytes 20) count
   foundIf (rising texts hashes) hashes
 
+-- What an event and a dossier begin with: "Type name (text), source URI .., parent count .. hashes rising"; the most parents that are taken are given
+pub record HeadOf : Type 0 where
+  pub type : Text
+  pub source : Text
+  pub parents : List Text
+
+unfoldable pub readHead : ℕ → Layout HeadOf
+readHead most = do
+  type ← readText
+  source ← suchThat isSource readText
+  parents ← readParents most
+  found (record { type = type; source = source; parents = parents })
+
 -- "a count of at least 1 and that many values as texts, rising"
 unfoldable pub readSet : Layout (List Text)
 readSet = do
@@ -59,14 +72,14 @@ narrow = record { parents = 8; objects = 32 }
 unfoldable pub wide : Counts
 wide = record { parents = 32; objects = 256 }
 
+-- "Type name (text), source URI (text, ..), parent count 0 to 8, that many 20-byte hashes rising, a presence number .., then for each set bit in rising place
+-- a count of at least 1 and that many values as texts, rising. At most 32 objects in all."
 unfoldable pub readEvent : Counts → Layout Event
 readEvent counts = do
-  type ← readText
-  source ← suchThat isSource readText
-  parents ← readParents (counts .parents)
+  head ← readHead (counts .parents)
   presence ← readBits
   sets ← readSets 32 presence
-  foundIf (leb (objectCount sets) (counts .objects)) (record { type = type; source = source; parents = parents; sets = sets })
+  foundIf (leb (objectCount sets) (counts .objects)) (record { type = head .type; source = head .source; parents = head .parents; sets = sets })
 
 -- the event that some bytes are, to their exact end
 unfoldable pub eventOf : Counts → List ℕ → Option Event

@@ -1,11 +1,13 @@
 -- Document 01: "A reader who asks for the value at a place and an index from 0 gets the value's own bytes in the caller's event, not a copy; a refused table
 -- or event, or no value there, gives a part of 0 bytes".
-use Prim.Native.Nat.{ℕ}
+use Prim.Native.Nat.{ℕ, _+_, _≤_}
+use mathlib.Core.Path.{_≡_}
 use mathlib.Core.Option.{Option, none, some}
 use mathlib.Core.List.{List, [], _++_, map, flatten}
 use lib.ListN.{length, take, getD, getElem?}
 use Rattle.model.specs.Order.{Text}
 use Rattle.packed.specs.Packed.{number, text}
+use Rattle.packed.specs.Located.{part}
 use Rattle.ontology.specs.TableLayout.{tableOf}
 use Rattle.ontology.specs.Questions.{Asked, refused, accepted, _>>=_, ask}
 use Rattle.event.specs.Event.{Event, setAt}
@@ -16,6 +18,11 @@ use Rattle.event.specs.EventQuestions.{Typed, eventAsked}
 pub record Part : Type 0 where
   pub bytes : List ℕ
   pub start : ℕ
+
+-- "the value's own bytes in the caller's event": they stand in it from the start on
+pub record StandsIn (event : List ℕ) (x : Part) : Type 0 where
+  pub within : x .start + length (x .bytes) ≤ length event
+  pub bytes : part event (x .start) (x .start + length (x .bytes)) ≡ x .bytes
 
 -- what stands in an event before the value at a place and an index
 unfoldable pub bytesBefore : Event → ℕ → ℕ → List ℕ
@@ -34,3 +41,11 @@ askedPart place index (accepted a) = partOf (a .event) place index (getElem? (se
 -- the value call
 unfoldable pub valueCall : List ℕ → List ℕ → ℕ → ℕ → Part
 valueCall table event place index = askedPart place index (ask 2 (tableOf table) >>= λ ts. eventAsked wide ts event)
+
+-- A lent slice: its bytes, and the block and the offset in memory at which they start
+abbrev pub Lent : Type 0
+Lent = List ℕ × (ℕ × ℕ)
+
+-- "in the caller's event, not a copy": a part, lent from the event that starts at this block and offset
+abbrev pub lentFrom : ℕ × ℕ → Part → Lent
+lentFrom at x = (x .bytes, (at .0, at .1 + x .start))

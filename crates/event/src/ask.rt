@@ -1,4 +1,4 @@
-ghost use Prim.Native.Nat.{ℕ, _+_};
+ghost use Prim.Native.Nat.{ℕ};
 ghost use mathlib.Core.Path.{_≡_};
 ghost use mathlib.Core.Option.{some};
 ghost use mathlib.Core.List.{List};
@@ -8,7 +8,7 @@ ghost use Rattle.ontology.specs.TypeIndex.{TypeSays};
 ghost use Rattle.event.specs.Event.{Event};
 ghost use Rattle.event.specs.EventLayout.{Counts, eventOf};
 ghost use Rattle.event.specs.EventQuestions.{eventAsked};
-ghost use Rattle.event.specs.Value.{valueCall};
+ghost use Rattle.event.specs.Value.{lentFrom, valueCall};
 ghost use Rattle.event.specs.EventIndex.{countsOf, eventQuestions, EventAnswers};
 use crate::lookup::ValueAt;
 use crate::lookup::find_value;
@@ -26,7 +26,7 @@ use packed::read::read_text;
 // The number of the first question that is answered no, or 0; and then the event and its type.
 pub struct EventAsked {
     pub number: u8,
-    pub kind: TypeIndex,
+    pub event_type: TypeIndex,
     pub event: EventIndex,
 }
 
@@ -57,10 +57,10 @@ pub fn ask_typed(event: &[u8], read: TableRead, wide: bool) -> EventAsked
     ensures { λ r. ⌜ ((table : List ℕ) (ts : Table) → tableOf table ≡ some ts → ((e : Event) → eventOf (countsOf wide) (now (event .entry)) ≡ some e → TypeSays (typeNamed (e .type) ts) table read) → EventAnswers (eventAsked (countsOf wide) ts (now (event .entry))) table (now (event .entry)) r) ⌝ }
 {
     let e = read_event(event, most_parents(wide), most_objects(wide));
-    let kind = read.index;
+    let event_type = read.index;
     let mut asked = EventAsked {
         number: 3,
-        kind,
+        event_type,
         event: e,
     };
     if !e.ok {
@@ -71,12 +71,12 @@ pub fn ask_typed(event: &[u8], read: TableRead, wide: bool) -> EventAsked
         return asked;
     }
     asked.number = 5;
-    if !shape_ok(kind, e) {
+    if !shape_ok(event_type, e) {
         return asked;
     }
     asked.number = 6;
     let sets = e.sets;
-    if !sets_in_space(event, sets, kind) {
+    if !sets_in_space(event, sets, event_type) {
         return asked;
     }
     asked.number = 0;
@@ -88,11 +88,11 @@ pub fn ask_event(table: &[u8], event: &[u8], wide: bool) -> EventAsked
     ensures { λ r. ⌜ EventAnswers (eventQuestions (countsOf wide) (now (table .entry)) (now (event .entry))) (now (table .entry)) (now (event .entry)) r ⌝ }
 {
     let read = read_table(table, type_name(event));
-    let kind = read.index;
+    let event_type = read.index;
     if !read.ok {
         return EventAsked {
             number: 2,
-            kind,
+            event_type,
             event: no_event(),
         };
     }
@@ -101,9 +101,7 @@ pub fn ask_event(table: &[u8], event: &[u8], wide: bool) -> EventAsked
 
 // The value at a place and an index: its own bytes in the event. A refused table or event, or no value there, gives a part of 0 bytes.
 pub fn value<'a>(table: &[u8], event: &'a [u8], place: usize, index: usize) -> &'a [u8]
-    ensures bytes { λ r. ⌜ now r ≡ valueCall (now (table .entry)) (now (event .entry)) place index .bytes ⌝ }
-    ensures block { λ r. ⌜ r .ptr .0 ≡ event .entry .ptr .0 ⌝ }
-    ensures offset { λ r. ⌜ r .ptr .1 ≡ event .entry .ptr .1 + valueCall (now (table .entry)) (now (event .entry)) place index .start ⌝ }
+    ensures { λ r. ⌜ (now r, r .ptr) ≡ lentFrom (event .entry .ptr) (valueCall (now (table .entry)) (now (event .entry)) place index) ⌝ }
 {
     let asked = ask_event(table, event, true);
     if asked.number != 0 {

@@ -1,8 +1,8 @@
 ghost use mathlib.Core.Path.{_≡_};
 ghost use mathlib.Core.Bool.{false};
 ghost use lib.ListN.{drop};
-ghost use Rattle.event.specs.EventLayout.{isSource, readParents, eventOf};
-ghost use Rattle.event.specs.EventIndex.{ParentsReads, HeadReads, readHead, EventReads, counts};
+ghost use Rattle.event.specs.EventLayout.{readHead, isSource, readParents, eventOf};
+ghost use Rattle.event.specs.EventIndex.{ParentsReads, HeadReads, EventReads, counts};
 use crate::sets::SetAt;
 use crate::sets::read_sets;
 use ontology::names::is_before;

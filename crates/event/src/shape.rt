@@ -2,15 +2,17 @@ ghost use Prim.Native.Nat.{ℕ};
 ghost use mathlib.Core.Path.{_≡_};
 ghost use mathlib.Core.Bool.{cond};
 ghost use mathlib.Core.List.{List};
+ghost use lib.Dec.{eqb};
 ghost use lib.ListN.{length};
 ghost use Rattle.model.specs.Order.{Text};
-ghost use Rattle.ontology.specs.Table.{Property, EventType, isMatch};
+ghost use Rattle.ontology.specs.Table.{Property, EventType};
 ghost use Rattle.ontology.specs.TypeIndex.{PropertyIs, TypeIs};
 ghost use Rattle.event.specs.Event.{Event};
 ghost use Rattle.event.specs.EventQuestions.{setFits, eventShape};
 ghost use Rattle.event.specs.EventIndex.{EventIs};
 use crate::read::EventIndex;
 use ontology::properties::PropertyAt;
+use ontology::properties::is_match;
 use ontology::types::TypeIndex;
 
 // Whether a property may have so many objects.
@@ -27,10 +29,10 @@ fn set_fits(p: PropertyAt, count: usize) -> bool
 }
 
 // How many of a property's objects are match objects.
-fn matches_at(p: PropertyAt, count: usize) -> usize
-    ensures { λ r. ⌜ ((s : List ℕ) (q : Property) (vs : List Text) → PropertyIs s q p → count ≡ length vs → r ≡ cond (isMatch q) (length vs) 0) ⌝ }
+pub fn matches_at(p: PropertyAt, count: usize) -> usize
+    ensures { λ r. ⌜ r ≡ cond (eqb (p .strategy) 5) count 0 ⌝ }
 {
-    if p.strategy == 5 { count } else { 0 }
+    if is_match(p) { count } else { 0 }
 }
 
 // Question 5. The match objects are counted no further than 32. The objects that are left after the last property stand at places without one.

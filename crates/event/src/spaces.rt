@@ -19,15 +19,15 @@ use packed::read::read_text;
 use values::spaces::in_space;
 
 // Whether each text of those that v is made of is in the space of a kind.
-fn are_in_space(v: &[u8], kind: u8, first: u8, second: u8, third: u8) -> bool
-    ensures { λ r. ⌜ ((k : Kind) (vs : List Text) → kindOf kind first second third ≡ some k → isKind k ≡ true → now (v .entry) ≡ flatten (map text vs) → r ≡ areInSpace k vs) ⌝ }
+fn are_in_space(v: &[u8], kind: u8, size: u8, after: u8, sign: u8) -> bool
+    ensures { λ r. ⌜ ((k : Kind) (vs : List Text) → kindOf kind size after sign ≡ some k → isKind k ≡ true → now (v .entry) ≡ flatten (map text vs) → r ≡ areInSpace k vs) ⌝ }
 {
     let mut at: usize = 0;
     while at < v.len() {
         let TextAt::Text(value, end) = read_text(v, at) else {
             return false;
         };
-        if !in_space(kind, first, second, third, &v[value..end]) {
+        if !in_space(kind, size, after, sign, &v[value..end]) {
             return false;
         }
         at = end;
@@ -43,7 +43,7 @@ pub fn sets_in_space(s: &[u8], sets: [SetAt; 32], t: TypeIndex) -> bool
     while k < 32 && k < t.count {
         let p = t.properties[k];
         let x = sets[k];
-        if !are_in_space(set_part(s, x), p.kind, p.first, p.second, p.third) {
+        if !are_in_space(set_part(s, x), p.kind, p.size, p.after, p.sign) {
             return false;
         }
         k += 1;

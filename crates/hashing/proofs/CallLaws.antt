@@ -41,7 +41,7 @@ use Rattle.hashing.proofs.HashSizeLaws.{hash-fits}
 
 -- ---- an accepted event has a hash text
 
-all-elements : {A : Type 0} (P : A → Type 0) (xs : List A) → ((i : ℕ) (a : A) → getElem? xs i ≡ some a → P a) → All P xs
+pub all-elements : {A : Type 0} (P : A → Type 0) (xs : List A) → ((i : ℕ) (a : A) → getElem? xs i ≡ some a → P a) → All P xs
 all-elements P [] h = tt
 all-elements P (x ∷ xs) h = (h 0 x refl, all-elements P xs (λ i a k. h (suc i) a k))
 
@@ -70,7 +70,7 @@ text-short table event r a =
     (λ i q k. name-length 32 (q .name) (properties-rules table (a .e .type) (o .what) (a .type) (o .is) (w .typed) i q k .name) .1) in
     (event-match (a .type) (a .e) (w .shape), hash-fits (a .type) (a .e) (event-was wide event (a .e) (w .read) .1) (w .shape) (w .values) n p)
 
-abbrev pub hashable : (table event : List ℕ) (r : EventAsked) → Accepted wide table event r → Hashable table event (r .kind) (r .event)
+abbrev pub hashable : (table event : List ℕ) (r : EventAsked) → Accepted wide table event r → Hashable table event (r .«event_type») (r .event)
 hashable table event r a = record {
   type = a .type;
   event = a .e;

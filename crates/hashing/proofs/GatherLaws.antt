@@ -1,21 +1,21 @@
 -- The laws of gathering the objects of the match properties.
 use mathlib.Core.Path.{_≡_, refl, sym, ap, ap₂, _∙_, subst}
-use mathlib.Core.Bool.{Bool, true, cond}
+use mathlib.Core.Bool.{Bool, true, false, cond}
 use mathlib.Core.Option.{some}
 use mathlib.Core.List.{List, [], _∷_, _++_, append-assoc, append-nil, map, flatten}
 use Prim.Native.Nat.{ℕ, zero, suc, _+_, _-_, _^_, _≤_, _<_}
 use native.Mathlib.Omega.{arith}
 use native.Mathlib.Numerals.{add-one}
+use lib.Dec.{eqb}
 use lib.ListN.{length, take, drop, getD, getElem?, length-append, length-map, take-append-drop, drop-of-length-le}
 use lib.Seq.{drop-drop, drop-cons}
-use borrow.Author.Tests.{eq-eqb, ne-eqb}
 use Rattle.model.specs.Order.{Text, texts}
 use Rattle.model.proofs.PartLaws.{map-append}
 use Rattle.packed.specs.Parse.{fail}
 use Rattle.packed.specs.Packed.{text, readText}
 use Rattle.packed.specs.Located.{part}
 use Rattle.packed.proofs.ReadLaws.{TextStops}
-use Rattle.ontology.specs.Table.{Property, strategyNumber, isMatch}
+use Rattle.ontology.specs.Table.{Property, isMatch}
 use Rattle.ontology.specs.TypeIndex.{PropertyIs}
 use Rattle.ontology.specs.declared.properties.PropertyAt.{PropertyAt}
 use Rattle.ontology.specs.declared.types.TypeIndex.{TypeIndex}
@@ -23,7 +23,7 @@ use Rattle.event.specs.EventIndex.{SetIs, noSet}
 use Rattle.event.specs.declared.sets.SetAt.{SetAt}
 use Rattle.event.specs.declared.read.EventIndex.{EventIndex}
 use Rattle.event.proofs.LookupLaws.{text-there, text-next}
-use Rattle.hashing.specs.HashText.{insert, sorted, objectStrings}
+use Rattle.hashing.specs.HashText.{objectString, objectStrings, insert, sorted}
 use Rattle.hashing.specs.HashIndex.{stringOf, stringsOf, ObjectsFit, Inserted, Gathered, Hashable}
 use Rattle.hashing.specs.declared.objects.ObjectAt.{ObjectAt}
 use Rattle.hashing.specs.declared.objects.Objects.{Objects}
@@ -56,7 +56,7 @@ pub record Gathering (table event : List ℕ) (name colon : ℕ) (xs r : Objects
   pub bytes : drop at event ≡ flatten (map text rest) ++ tail
   pub within : at ≤ length event
   pub long : left ≡ length rest
-  pub have : Gathered table event xs r (map (λ (v : Text). part table name colon ++ (58 ∷ v)) done)
+  pub have : Gathered table event xs r (map (objectString (part table name colon)) done)
 
 module _ (table event : List ℕ) (name colon : ℕ) (xs : Objects) (vs : List Text) where
   pub gathering-none : (x : SetAt) → SetIs event vs x → Gathering table event name colon xs xs vs (x .start) (x .count) (drop (x .end) event)
@@ -102,10 +102,10 @@ module _ (table event : List ℕ) (name colon : ℕ) (xs : Objects) (vs : List T
     gathering-more h a z t q i =
         let f = first h in
         let n = text-next event small at (w .within) (f .v) (flatten (map text (f .us)) ++ tail) (f .bytes) a z t in
-        let g = gathered-more table event xs r q (record { name = name; colon = colon; value = a; end = z }) (map (λ (v : Text). part table name colon ++ (58 ∷ v)) (w .done)) (w .have) i in
-        let e : map (λ (v : Text). part table name colon ++ (58 ∷ v)) (w .done) ++ ((part table name colon ++ (58 ∷ part event a z)) ∷ []) ≡ map (λ (v : Text). part table name colon ++ (58 ∷ v)) (w .done ++ (f .v ∷ [])) =
-        ap (λ (u : Text). map (λ (v : Text). part table name colon ++ (58 ∷ v)) (w .done) ++ ((part table name colon ++ (58 ∷ u)) ∷ [])) (n .0)
-        ∙ sym (map-append (λ (v : Text). part table name colon ++ (58 ∷ v)) (w .done) (f .v ∷ [])) in
+        let g = gathered-more table event xs r q (record { name = name; colon = colon; value = a; end = z }) (map (objectString (part table name colon)) (w .done)) (w .have) i in
+        let e : map (objectString (part table name colon)) (w .done) ++ (objectString (part table name colon) (part event a z) ∷ []) ≡ map (objectString (part table name colon)) (w .done ++ (f .v ∷ [])) =
+        ap (λ (u : Text). map (objectString (part table name colon)) (w .done) ++ (objectString (part table name colon) u ∷ [])) (n .0)
+        ∙ sym (map-append (objectString (part table name colon)) (w .done) (f .v ∷ [])) in
         record {
           done = w .done ++ (f .v ∷ []);
           rest = f .us;
@@ -116,25 +116,25 @@ module _ (table event : List ℕ) (name colon : ℕ) (xs : Objects) (vs : List T
           have = subst (Gathered table event xs q) e g;
         }
 
-    pub gathering-all : left ≤ 0 → Gathered table event xs r (map (λ (v : Text). part table name colon ++ (58 ∷ v)) vs)
+    pub gathering-all : left ≤ 0 → Gathered table event xs r (map (objectString (part table name colon)) vs)
     gathering-all h = go (w .rest) (w .all) (w .long)
       where
-        go : (rest : List Text) → vs ≡ w .done ++ rest → left ≡ length rest → Gathered table event xs r (map (λ (v : Text). part table name colon ++ (58 ∷ v)) vs)
-        go [] a l = subst (λ (us : List Text). Gathered table event xs r (map (λ (v : Text). part table name colon ++ (58 ∷ v)) us)) (sym (a ∙ append-nil (w .done))) (w .have)
+        go : (rest : List Text) → vs ≡ w .done ++ rest → left ≡ length rest → Gathered table event xs r (map (objectString (part table name colon)) vs)
+        go [] a l = subst (λ (us : List Text). Gathered table event xs r (map (objectString (part table name colon)) us)) (sym (a ∙ append-nil (w .done))) (w .have)
         go (v ∷ us) a l = absurd (omega arith)
 
 -- ---- a place
 
 module _ (table event : List ℕ) (q : Property) (p : PropertyAt) (is : PropertyIs table q p) where
-  pub match-true : p .strategy ≡ 5 → isMatch q ≡ true
-  match-true e = eq-eqb (strategyNumber (q .strategy)) 5 (sym (is .strategy) ∙ e)
+  pub match-is : {b : Bool} → eqb (p .strategy) 5 ≡ b → isMatch q ≡ b
+  match-is e = ap (λ (n : ℕ). eqb n 5) (sym (is .strategy)) ∙ e
 
-  pub gathered-match : (xs r : Objects) (vs : List Text) → p .strategy ≡ 5 → Gathered table event xs r (map (λ (v : Text). part table (p .start) (p .end) ++ (58 ∷ v)) vs) → Gathered table event xs r (cond (isMatch q) (map (λ (v : Text). q .name ++ (58 ∷ v)) vs) [])
+  pub gathered-match : (xs r : Objects) (vs : List Text) → eqb (p .strategy) 5 ≡ true → Gathered table event xs r (map (objectString (part table (p .start) (p .end))) vs) → Gathered table event xs r (cond (isMatch q) (map (objectString (q .name)) vs) [])
   gathered-match xs r vs e g =
-      rw (match-true e) (subst (λ (n : Text). Gathered table event xs r (map (λ (v : Text). n ++ (58 ∷ v)) vs)) (is .name) g)
+      rw (match-is e) (subst (λ (n : Text). Gathered table event xs r (map (objectString n) vs)) (is .name) g)
 
-  pub gathered-other : (xs : Objects) (vs : List Text) → (p .strategy ≡ 5 → ⊥) → Gathered table event xs xs (cond (isMatch q) (map (λ (v : Text). q .name ++ (58 ∷ v)) vs) [])
-  gathered-other xs vs n = rw (ne-eqb (strategyNumber (q .strategy)) 5 (λ e. n (is .strategy ∙ e))) (gathered-none table event xs)
+  pub gathered-other : (xs : Objects) (vs : List Text) → eqb (p .strategy) 5 ≡ false → Gathered table event xs xs (cond (isMatch q) (map (objectString (q .name)) vs) [])
+  gathered-other xs vs e = rw (match-is e) (gathered-none table event xs)
 
 -- ---- all places
 
@@ -150,7 +150,7 @@ at (x ∷ xs) (suc i) h = let w = at xs i (omega arith) in record { what = w .wh
 
 -- the strings of a property and its set
 abbrev strings : Property → List Text → List Text
-strings q s = cond (isMatch q) (map (λ (v : Text). q .name ++ (58 ∷ v)) s) []
+strings q s = cond (isMatch q) (map (objectString (q .name)) s) []
 
 strings-step : (ps : List Property) (ss : List (List Text)) (i : ℕ) (w : At ps i) → i < length ss → objectStrings (drop i ps) (drop i ss) ≡ strings (w .what) (getD ss i []) ++ objectStrings (drop (i + 1) ps) (drop (i + 1) ss)
 unfolding objectStrings
@@ -197,11 +197,11 @@ module _ (table event : List ℕ) where
       property-is = h .typed .are .each place (property .what) d (property .is)
 
       -- room for the objects of this place, which question 5 has answered
-      room : getD (t .properties) place d .strategy ≡ 5 → r .count + getD (e .sets) place noSet .count ≤ 32
+      room : eqb (getD (t .properties) place d .strategy) 5 ≡ true → r .count + getD (e .sets) place noSet .count ≤ 32
       room m =
           let q = property .what in
           let vs = getD (h .event .sets) place [] in
-          let a : strings q vs ≡ map (λ (v : Text). q .name ++ (58 ∷ v)) vs = ap (λ (b : Bool). cond b (map (λ (v : Text). q .name ++ (58 ∷ v)) vs) []) (match-true table event q (getD (t .properties) place d) property-is m) in
+          let a : strings q vs ≡ map (objectString (q .name)) vs = ap (λ (b : Bool). cond b (map (objectString (q .name)) vs) []) (match-is table event q (getD (t .properties) place d) property-is m) in
           omega (
             arith,
             h .few,
@@ -210,7 +210,7 @@ module _ (table event : List ℕ) where
             length-append (w .done ++ strings q vs) (objectStrings (drop (place + 1) (h .type .properties)) (drop (place + 1) (h .event .sets))),
             length-append (w .done) (strings q vs),
             ap length a,
-            length-map vs (λ (v : Text). q .name ++ (58 ∷ v)),
+            length-map vs (objectString (q .name)),
             w .count,
             set-is .count,
           )
@@ -218,12 +218,12 @@ module _ (table event : List ℕ) where
       pub place-ready :
           ObjectsFit table event r →
           ObjectsFit table event r × (getD (t .properties) place d .start ≤ getD (t .properties) place d .end) × (getD (t .properties) place d .end ≤ length table)
-          × (getD (t .properties) place d .strategy ≡ 5 → r .count + getD (e .sets) place noSet .count ≤ 32)
+          × (eqb (getD (t .properties) place d .strategy) 5 ≡ true → r .count + getD (e .sets) place noSet .count ≤ 32)
       place-ready f = (f, property-is .order, property-is .within, room)
 
       pub so-far-more :
           (q : Objects) →
-          ((p : Property) (vs : List Text) → PropertyIs table p (getD (t .properties) place d) → SetIs event vs (getD (e .sets) place noSet) → Gathered table event r q (cond (isMatch p) (map (λ (v : Text). p .name ++ (58 ∷ v)) vs) [])) →
+          ((p : Property) (vs : List Text) → PropertyIs table p (getD (t .properties) place d) → SetIs event vs (getD (e .sets) place noSet) → Gathered table event r q (cond (isMatch p) (map (objectString (p .name)) vs) [])) →
           SoFar table event (h .type .properties) (h .event .sets) q (place + 1)
       so-far-more q f =
           let g = f (property .what) (getD (h .event .sets) place []) property-is set-is in

@@ -5,14 +5,15 @@ use mathlib.Core.List.{List, [], _∷_, _++_, map, flatten}
 use Prim.Native.Nat.{suc, _+_, _*_, _≤_}
 use native.Mathlib.Omega.{arith}
 use lib.ListN.{length, length-append, length-map}
-use Rattle.model.specs.Order.{Order, Text, texts, three}
+use Rattle.model.specs.Order.{Order, Text, texts}
+use Rattle.model.proofs.Cases.{three}
 use Rattle.ontology.specs.Table.{Property, EventType, isMatch}
 use Rattle.event.specs.Event.{Event}
 use Rattle.event.specs.EventLayout.{wide}
 use Rattle.event.specs.EventQuestions.{matchCount, eventShape, valuesFit}
 use Rattle.event.proofs.EventLayoutLaws.{EventWritten, source-length}
 use Rattle.event.proofs.EventSizeLaws.{All, ValuesShort, event-short, event-match}
-use Rattle.hashing.specs.HashText.{objectStrings, insert, sorted, separated, hashText}
+use Rattle.hashing.specs.HashText.{objectString, objectStrings, insert, sorted, separated, hashText}
 
 -- ---- sorting keeps the number of texts and of their bytes
 
@@ -54,7 +55,7 @@ strings-length [] xs = refl
 strings-length (p ∷ ps) [] = refl
 strings-length (p ∷ ps) (x ∷ xs) = go (isMatch p) (strings-length ps xs)
   where
-    go : (t : Bool) → length (objectStrings ps xs) ≡ matchCount ps xs → length (cond t (map (λ v. p .name ++ (58 ∷ v)) x) [] ++ objectStrings ps xs) ≡ cond t (length x) 0 + matchCount ps xs
+    go : (t : Bool) → length (objectStrings ps xs) ≡ matchCount ps xs → length (cond t (map (objectString (p .name)) x) [] ++ objectStrings ps xs) ≡ cond t (length x) 0 + matchCount ps xs
     go true h = simp (length-append, length-map) (omega arith)
     go false h = omega arith
 
@@ -64,7 +65,7 @@ flatten-append [] ys = omega arith
 flatten-append (x ∷ xs) ys = simp length-append (omega (arith, flatten-append xs ys))
 
 -- name, colon and value: 32 + 1 + 120 bytes
-named-size : (name : Text) (x : List Text) → length name ≤ 32 → All (λ (v : Text). length v ≤ 120) x → length (flatten (map (λ (v : Text). name ++ (58 ∷ v)) x)) ≤ 153 * length x
+named-size : (name : Text) (x : List Text) → length name ≤ 32 → All (λ (v : Text). length v ≤ 120) x → length (flatten (map (objectString name) x)) ≤ 153 * length x
 unfolding flatten
 named-size name [] n h = omega arith
 named-size name (v ∷ x) n h = simp length-append (omega (arith, h .0, named-size name x n (h .1)))
@@ -75,7 +76,7 @@ strings-size [] xs n v = omega arith
 strings-size (p ∷ ps) [] n v = omega arith
 strings-size (p ∷ ps) (x ∷ xs) n v = go (isMatch p) (strings-size ps xs (n .1) (v .1))
   where
-    go : (t : Bool) → length (flatten (objectStrings ps xs)) ≤ 153 * matchCount ps xs → length (flatten (cond t (map (λ v. p .name ++ (58 ∷ v)) x) [] ++ objectStrings ps xs)) ≤ 153 * (cond t (length x) 0 + matchCount ps xs)
+    go : (t : Bool) → length (flatten (objectStrings ps xs)) ≤ 153 * matchCount ps xs → length (flatten (cond t (map (objectString (p .name)) x) [] ++ objectStrings ps xs)) ≤ 153 * (cond t (length x) 0 + matchCount ps xs)
     go true h = simp flatten-append (omega (arith, named-size (p .name) x (n .0) (v .0)))
     go false h = omega arith
 

@@ -5,3 +5,4 @@ pub mod ObjectLaws
 pub mod GatherLaws
 pub mod TextLaws
 pub mod CallLaws
+pub mod StringLaws

@@ -14,8 +14,8 @@ use Rattle.packed.specs.Written.{Wrote}
 use Rattle.packed.proofs.OrderLaws.{order-step, order-less, order-more, order-first, order-second, order-same}
 use Rattle.packed.proofs.ReadLaws.{part-length}
 use Rattle.packed.proofs.WriteLaws.{wrote-length, wrote-then, ToGo, all-gone}
-use Rattle.hashing.specs.HashText.{insert, separated}
-use Rattle.hashing.specs.HashIndex.{stringOf, stringsOf, ObjectFits, noObject, ObjectsFit, Inserted, separator}
+use Rattle.hashing.specs.HashText.{insert, separator, separated}
+use Rattle.hashing.specs.HashIndex.{stringOf, stringsOf, ObjectFits, noObject, ObjectsFit, Inserted}
 use Rattle.hashing.specs.declared.objects.ObjectAt.{ObjectAt}
 use Rattle.hashing.specs.declared.objects.Objects.{Objects}
 use Rattle.hashing.proofs.SortLaws.{Ascends, sorted-ascends, past-one}

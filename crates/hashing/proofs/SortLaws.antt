@@ -1,16 +1,26 @@
 -- Sorting by insertion: what is inserted last stands where it would stand had it been inserted first, and its place may be looked for from the end.
+-- Where no two are equal, what is sorted rises.
 use mathlib.Core.Path.{_≡_, refl, sym, ap, _∙_}
+use mathlib.Core.Bool.{true}
 use mathlib.Core.List.{List, [], _∷_, _++_, append-assoc}
 use Prim.Native.Nat.{ℕ, suc, _+_, _≤_, _<_, Ordering·lt, Ordering·eq, Ordering·gt}
 use native.Mathlib.Omega.{arith}
 use native.Mathlib.Numerals.{add-one}
 use lib.ListN.{length, take, drop, getD}
 use lib.Seq.{split-at, take-suc}
-use Rattle.model.specs.Order.{Order, three}
+use Rattle.model.specs.Order.{Order, rising}
+use Rattle.model.specs.Keyed.{Above}
+use Rattle.model.specs.Sets.{itself, Ups}
+use Rattle.model.proofs.Cases.{three, never}
 use Rattle.model.proofs.OrderLaws.{less-turn, more-turn}
-use Rattle.model.proofs.Cases.{never}
+use Rattle.model.proofs.SetLaws.{rising-ups}
 use Rattle.packed.proofs.LayoutLaws.{All}
 use Rattle.hashing.specs.HashText.{insert, sorted}
+
+-- each differs from those after it
+unfoldable pub Apart : {A : Type 0} → List A → Type 0
+Apart [] = Unit {0}
+Apart (a ∷ xs) = All (λ b. a ≡ b → ⊥) xs × Apart xs
 
 module _ {A : Type 0} (O : Order A) where
   -- ---- from either end
@@ -114,3 +124,47 @@ module _ {A : Type 0} (O : Order A) where
       ∙ insert-past a (take j ss) (getD ss j d) (drop (suc j) ss) (rw (← q) s) g
       ∙ sym (append-assoc (take j ss) (getD ss j d ∷ []) (insert O a (drop (suc j) ss)))
       ∙ ap (λ (l : List A). l ++ insert O a (drop (suc j) ss)) (sym (take-suc ss j d i)))
+
+  -- ---- where no two are equal
+
+  pub rising-apart : (xs : List A) → rising O xs ≡ true → Apart xs
+  unfolding Apart
+  rising-apart xs h = go xs (rising-ups O xs .0 h)
+    where
+      above : (a : A) (xs : List A) → Above O itself a xs → All (λ b. a ≡ b → ⊥) xs
+      above a [] h = tt
+      above a (b ∷ xs) h = ((λ e. never (cc (O .self a, h .0, e))), above a xs (h .1))
+
+      go : (xs : List A) → Ups O xs → Apart xs
+      go [] h = tt
+      go (a ∷ xs) h = (above a xs (h .0), go xs (h .1))
+
+  sorted-all : (P : A → Type 0) (xs : List A) → All P xs → All P (sorted O xs)
+  unfolding sorted
+  sorted-all P [] h = tt
+  sorted-all P (a ∷ xs) h = insert-all P a (sorted O xs) (h .0) (sorted-all P xs (h .1))
+
+  insert-apart : (a : A) (xs : List A) → All (λ b. a ≡ b → ⊥) xs → Apart xs → Apart (insert O a xs)
+  unfolding insert Apart
+  insert-apart a [] h k = (tt, tt)
+  insert-apart a (b ∷ xs) h k = three (O .cmp a b)
+      (λ l. rw l (h, k))
+      (λ e. rw e (h, k))
+      (λ g. rw g (insert-all (λ c. b ≡ c → ⊥) a xs (λ e. h .0 (sym e)) (k .0), insert-apart a xs (h .1) (k .1)))
+
+  sorted-apart : (xs : List A) → Apart xs → Apart (sorted O xs)
+  unfolding sorted Apart
+  sorted-apart [] h = tt
+  sorted-apart (a ∷ xs) h = insert-apart a (sorted O xs) (sorted-all (λ b. a ≡ b → ⊥) xs (h .0)) (sorted-apart xs (h .1))
+
+  pub sorted-rises : (xs : List A) → Apart xs → rising O (sorted O xs) ≡ true
+  unfolding Ascends Apart rising
+  sorted-rises xs h = go (sorted O xs) (sorted-ascends xs) (sorted-apart xs h)
+    where
+      go : (xs : List A) → Ascends xs → Apart xs → rising O xs ≡ true
+      go [] h k = refl
+      go (a ∷ []) h k = refl
+      go (a ∷ b ∷ xs) h k = three (O .cmp a b)
+          (λ l. rw l (go (b ∷ xs) (h .1) (k .1)))
+          (λ e. absurd (k .0 .0 (O .same a b e)))
+          (λ g. absurd (h .0 .0 g))

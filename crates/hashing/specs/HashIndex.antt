@@ -1,7 +1,7 @@
 -- What the code holds of a hash text's objects, and what it stands for.
 use Prim.Native.Nat.{ℕ, _+_, _≤_, _<_}
 use mathlib.Core.Path.{_≡_}
-use mathlib.Core.List.{List, [], _∷_, _++_, map}
+use mathlib.Core.List.{List, _++_, map}
 use lib.ListN.{length, take, getD}
 use Rattle.model.specs.Order.{Text, texts}
 use Rattle.packed.specs.Located.{part}
@@ -12,13 +12,13 @@ use Rattle.event.specs.Event.{Event}
 use Rattle.event.specs.EventQuestions.{matchCount}
 use Rattle.event.specs.EventIndex.{EventIs}
 use Rattle.event.specs.declared.read.EventIndex.{EventIndex}
-use Rattle.hashing.specs.HashText.{insert, sorted, hashText}
+use Rattle.hashing.specs.HashText.{objectString, insert, sorted, hashText}
 use Rattle.hashing.specs.declared.objects.ObjectAt.{ObjectAt}
 use Rattle.hashing.specs.declared.objects.Objects.{Objects}
 
--- "name, colon and value"
+-- an object's string: the name stands in the table, the value in the event
 unfoldable pub stringOf : List ℕ → List ℕ → ObjectAt → Text
-stringOf table event x = part table (x .name) (x .colon) ++ (58 ∷ part event (x .value) (x .end))
+stringOf table event x = objectString (part table (x .name) (x .colon)) (part event (x .value) (x .end))
 
 unfoldable pub stringsOf : List ℕ → List ℕ → Objects → List Text
 stringsOf table event xs = map (stringOf table event) (take (xs .count) (xs .at))
@@ -42,11 +42,8 @@ pub record ObjectsFit (table event : List ℕ) (xs : Objects) : Type 0 where
 pub record Inserted (table event : List ℕ) (xs : Objects) (x : ObjectAt) (r : Objects) : Type 0 where
   pub fit : ObjectsFit table event r
   pub more : r .count ≡ xs .count + 1
-  pub is : (ws : List Text) → stringsOf table event xs ≡ sorted texts ws → stringsOf table event r ≡ insert texts (stringOf table event x) (stringsOf table event xs)
-
--- "FF FF FF FF"
-abbrev pub separator : List ℕ
-separator = 0xff ∷ 0xff ∷ 0xff ∷ 0xff ∷ []
+  pub is : (ws : List Text) → stringsOf table event xs ≡ sorted texts ws →
+      stringsOf table event r ≡ insert texts (stringOf table event x) (stringsOf table event xs)
 
 -- r are the objects xs with some whose strings are `added`
 pub record Gathered (table event : List ℕ) (xs r : Objects) (added : List Text) : Type 0 where

@@ -17,9 +17,9 @@ pub fn hash_text(table: &[u8], event: &[u8], out: &mut [u8]) -> Reply
     if asked.number != 0 {
         return Reply::Refused(asked.number);
     }
-    let kind = asked.kind;
+    let event_type = asked.event_type;
     let x = asked.event;
-    Reply::Done(write_hash_text(table, event, kind, x, out))
+    Reply::Done(write_hash_text(table, event, event_type, x, out))
 }
 
 // The hash of an event, SHA-1 of its hash text, written at the front of `out`.

@@ -1,14 +1,15 @@
 ghost use Prim.Native.Nat.{_+_, _≤_};
 ghost use mathlib.Core.Path.{_≡_};
-ghost use mathlib.Core.Bool.{cond};
-ghost use mathlib.Core.List.{List, [], _∷_, _++_, map};
+ghost use mathlib.Core.Bool.{true, cond};
+ghost use mathlib.Core.List.{List, [], map};
+ghost use lib.Dec.{eqb};
 ghost use lib.ListN.{length};
 ghost use Rattle.model.specs.Order.{Text, texts};
 ghost use Rattle.packed.specs.Located.{part};
 ghost use Rattle.ontology.specs.Table.{Property, isMatch};
 ghost use Rattle.ontology.specs.TypeIndex.{PropertyIs};
 ghost use Rattle.event.specs.EventIndex.{SetIs};
-ghost use Rattle.hashing.specs.HashText.{objectStrings, sorted};
+ghost use Rattle.hashing.specs.HashText.{objectString, objectStrings, sorted};
 ghost use Rattle.hashing.specs.HashIndex.{stringsOf, ObjectsFit, Gathered, Hashable};
 use crate::objects::ObjectAt;
 use crate::objects::Objects;
@@ -17,6 +18,7 @@ use crate::objects::no_objects;
 use event::read::EventIndex;
 use event::sets::SetAt;
 use ontology::properties::PropertyAt;
+use ontology::properties::is_match;
 use ontology::types::TypeIndex;
 use packed::read::TextAt;
 use packed::read::read_text;
@@ -32,7 +34,7 @@ fn gather_set(
 ) -> Objects
     requires { ⌜ ObjectsFit (now table) (now event) objects × (name ≤ colon) × (colon ≤ length (now table)) × (objects .count + set .count ≤ 32) ⌝ }
     ensures fit { λ r. ⌜ ObjectsFit (now (table .entry)) (now (event .entry)) r ⌝ }
-    ensures { λ r. ⌜ ((vs : List Text) → SetIs (now (event .entry)) vs set → Gathered (now (table .entry)) (now (event .entry)) objects r (map (λ (v : Text). part (now (table .entry)) name colon ++ (58 ∷ v)) vs)) ⌝ }
+    ensures { λ r. ⌜ ((vs : List Text) → SetIs (now (event .entry)) vs set → Gathered (now (table .entry)) (now (event .entry)) objects r (map (objectString (part (now (table .entry)) name colon)) vs)) ⌝ }
 {
     let mut r = objects;
     let mut at = set.start;
@@ -56,11 +58,11 @@ fn gather_set(
 
 // The same, where it is a match property.
 fn gather_place(table: &[u8], event: &[u8], p: PropertyAt, set: SetAt, objects: Objects) -> Objects
-    requires { ⌜ ObjectsFit (now table) (now event) objects × (p .start ≤ p .end) × (p .end ≤ length (now table)) × (p .strategy ≡ 5 → objects .count + set .count ≤ 32) ⌝ }
+    requires { ⌜ ObjectsFit (now table) (now event) objects × (p .start ≤ p .end) × (p .end ≤ length (now table)) × (eqb (p .strategy) 5 ≡ true → objects .count + set .count ≤ 32) ⌝ }
     ensures fit { λ r. ⌜ ObjectsFit (now (table .entry)) (now (event .entry)) r ⌝ }
-    ensures { λ r. ⌜ ((q : Property) (vs : List Text) → PropertyIs (now (table .entry)) q p → SetIs (now (event .entry)) vs set → Gathered (now (table .entry)) (now (event .entry)) objects r (cond (isMatch q) (map (λ (v : Text). q .name ++ (58 ∷ v)) vs) [])) ⌝ }
+    ensures { λ r. ⌜ ((q : Property) (vs : List Text) → PropertyIs (now (table .entry)) q p → SetIs (now (event .entry)) vs set → Gathered (now (table .entry)) (now (event .entry)) objects r (cond (isMatch q) (map (objectString (q .name)) vs) [])) ⌝ }
 {
-    if p.strategy == 5 {
+    if is_match(p) {
         gather_set(table, event, p.start, p.end, set, objects)
     } else {
         objects

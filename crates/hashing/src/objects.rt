@@ -6,9 +6,9 @@ ghost use lib.ListN.{length, getD, set};
 ghost use Rattle.model.specs.Order.{texts, pick};
 ghost use Rattle.packed.specs.Comparison.{ordering};
 ghost use Rattle.packed.specs.Written.{Wrote};
-ghost use Rattle.hashing.specs.HashText.{separated};
-ghost use Rattle.hashing.specs.HashIndex.{stringOf, stringsOf, ObjectFits, ObjectsFit, Inserted, separator};
-use packed::order::Compared;
+ghost use Rattle.hashing.specs.HashText.{separator, separated};
+ghost use Rattle.hashing.specs.HashIndex.{stringOf, stringsOf, ObjectFits, ObjectsFit, Inserted};
+use packed::order::Ordering;
 use packed::write::copy;
 use packed::write::copy_part;
 
@@ -67,7 +67,7 @@ fn string_byte(table: &[u8], event: &[u8], x: ObjectAt, i: usize) -> u8
 }
 
 // Compares the strings of two objects, where they stand.
-fn compare_objects(table: &[u8], event: &[u8], x: ObjectAt, y: ObjectAt) -> Compared
+fn compare_objects(table: &[u8], event: &[u8], x: ObjectAt, y: ObjectAt) -> Ordering
     requires { ⌜ ObjectFits (now table) (now event) x × ObjectFits (now table) (now event) y ⌝ }
     ensures { λ r. ⌜ ordering r ≡ texts .cmp (stringOf (now (table .entry)) (now (event .entry)) x) (stringOf (now (table .entry)) (now (event .entry)) y) ⌝ }
 {
@@ -76,22 +76,22 @@ fn compare_objects(table: &[u8], event: &[u8], x: ObjectAt, y: ObjectAt) -> Comp
     let mut i: usize = 0;
     while i < n {
         if m <= i {
-            return Compared::More;
+            return Ordering::Greater;
         }
         let a = string_byte(table, event, x, i);
         let b = string_byte(table, event, y, i);
         if a < b {
-            return Compared::Less;
+            return Ordering::Less;
         }
         if b < a {
-            return Compared::More;
+            return Ordering::Greater;
         }
         i += 1;
     }
     if i < m {
-        Compared::Less
+        Ordering::Less
     } else {
-        Compared::Same
+        Ordering::Equal
     }
 }
 
@@ -100,9 +100,9 @@ fn is_after(table: &[u8], event: &[u8], x: ObjectAt, y: ObjectAt) -> bool
     ensures { λ r. ⌜ r ≡ pick (texts .cmp (stringOf (now (table .entry)) (now (event .entry)) x) (stringOf (now (table .entry)) (now (event .entry)) y)) false false true ⌝ }
 {
     match compare_objects(table, event, x, y) {
-        Compared::Less => false,
-        Compared::Same => false,
-        Compared::More => true,
+        Ordering::Less => false,
+        Ordering::Equal => false,
+        Ordering::Greater => true,
     }
 }
 
@@ -139,9 +139,9 @@ fn write_object(table: &[u8], event: &[u8], x: ObjectAt, out: &mut [u8], at: usi
     requires { ⌜ ObjectFits (now table) (now event) x × (at + length (stringOf (now table) (now event) x) ≤ length (now out)) ⌝ }
     ensures { λ r. ⌜ Wrote (now (out .entry)) at (stringOf (now (table .entry)) (now (event .entry)) x) (now (out .exit)) r ⌝ }
 {
-    let colon = copy_part(table, x.name, x.colon, out, at);
-    let value = copy(b":", out, colon);
-    copy_part(event, x.value, x.end, out, value)
+    let after_name = copy_part(table, x.name, x.colon, out, at);
+    let after_colon = copy(b":", out, after_name);
+    copy_part(event, x.value, x.end, out, after_colon)
 }
 
 // Four bytes FF, and then an object's string.
@@ -149,8 +149,8 @@ fn write_next(table: &[u8], event: &[u8], x: ObjectAt, out: &mut [u8], at: usize
     requires { ⌜ ObjectFits (now table) (now event) x × (at + length (separator ++ stringOf (now table) (now event) x) ≤ length (now out)) ⌝ }
     ensures { λ r. ⌜ Wrote (now (out .entry)) at (separator ++ stringOf (now (table .entry)) (now (event .entry)) x) (now (out .exit)) r ⌝ }
 {
-    let start = copy(b"\xff\xff\xff\xff", out, at);
-    write_object(table, event, x, out, start)
+    let after_separator = copy(b"\xff\xff\xff\xff", out, at);
+    write_object(table, event, x, out, after_separator)
 }
 
 // The strings of the objects, with four bytes FF between.

@@ -17,8 +17,8 @@ fn write_line(event: &[u8], from: usize, to: usize, out: &mut [u8], at: usize) -
     requires { ⌜ (from ≤ to) × (to ≤ length (now event)) × (at + length (part (now event) from to ++ (10 ∷ [])) ≤ length (now out)) ⌝ }
     ensures { λ r. ⌜ Wrote (now (out .entry)) at (part (now (event .entry)) from to ++ (10 ∷ [])) (now (out .exit)) r ⌝ }
 {
-    let end = copy_part(event, from, to, out, at);
-    copy(b"\n", out, end)
+    let after_part = copy_part(event, from, to, out, at);
+    copy(b"\n", out, after_part)
 }
 
 // Writes the hash text at the front of `out`.
@@ -36,7 +36,7 @@ pub fn write_hash_text(
     let head = e.head;
     let source = head.source;
     let name = head.name;
-    let second = write_line(event, source.start, source.end, out, 0);
-    let third = write_line(event, name.start, name.end, out, second);
-    write_objects(table, event, objects, out, third)
+    let after_source = write_line(event, source.start, source.end, out, 0);
+    let after_name = write_line(event, name.start, name.end, out, after_source);
+    write_objects(table, event, objects, out, after_name)
 }

@@ -1,14 +1,18 @@
-use mathlib.Core.Path.{sym, _∙_}
-use lib.ListN.{length}
-use Rattle.event.proofs.ShapeLaws.{match-yes, match-no}
+use borrow.Author.Needs.{needs}
 use Rattle.event.proofs.shape.matches_at.Statement.{statement}
 use Rattle.event.proofs.shape.matches_at.Tie as tie
+use Rattle.event.proofs.shape.matches_at.Reads as reads
+use Rattle.event.proofs.shape.matches_at.Lts as lts
+use Rattle.ontology.proofs.properties.is_match.Reads as is-match-reads
+
+is-match-requires : tie.Need-is-match-requires
+is-match-requires c κs = search needs
 
 returns : tie.Need-returns
-returns c = λ s q vs w n. n ∙ sym (match-yes q (length vs) (sym (w .strategy) ∙ c .if1 .taken))
+returns c = rw (← c .before .is-match .ensures, c .if1 .taken)
 
 returns-2 : tie.Need-returns-2
-returns-2 c = λ s q vs w n. sym (match-no q (length vs) (λ f. c .if1 .left (w .strategy ∙ f)))
+returns-2 c = rw (← c .before .is-match .ensures, c .if1 .left)
 
 pub matches-at-spec : {M : Type 1} → statement M
-matches-at-spec = tie.close (tie.spec returns returns-2)
+matches-at-spec = tie.close (tie.spec is-match-requires returns returns-2)
