@@ -5,10 +5,10 @@ use mathlib.Core.List.{List, [], _∷_, _++_, map, flatten}
 use Prim.Native.Nat.{ℕ, zero, suc, _+_, _/_, _%_, _≤_, _<_}
 use native.Mathlib.Omega.{arith}
 use native.Mathlib.Numerals.{add-one}
-use lib.Dec.{ltb, eqb}
+use lib.Dec.{ltb}
 use lib.ListN.{length, take, drop, set, getD, length-append, length-map, List·getD-map, drop-of-length-le}
 use lib.Seq.{take-suc, take-suc-set, take-all}
-use borrow.Author.Tests.{lt-ltb, eqb-true, eqb-false}
+use borrow.Author.Tests.{lt-ltb}
 use Rattle.model.specs.Order.{Text, sets, equal}
 use Rattle.model.specs.Rule.{Cell, holds, differs, Choice, View, Snapshot, places, joinCell, joinCells, joinSnapshots}
 use Rattle.model.specs.Opening.{held, isMark, cellAt}
@@ -25,7 +25,7 @@ use Rattle.event.specs.declared.sets.SetAt.{SetAt}
 use Rattle.dossier.specs.DossierLayout.{differBit, readSnapshot, snapshotBytes}
 use Rattle.dossier.specs.DossierIndex.{CellsAre, SnapshotIs, SnapshotReads}
 use Rattle.dossier.specs.declared.snapshots.SnapshotIndex.{SnapshotIndex}
-use Rattle.dossier.proofs.CellLaws.{held-at, cell-here, bits-next}
+use Rattle.dossier.proofs.CellLaws.{held-at, bit-here, bits-next}
 use Rattle.dossier.proofs.AskLaws.{reads-got}
 use Rattle.dossier.proofs.VersionLaws.{cells-are}
 use Rattle.combining.specs.CombineIndex.{Meet}
@@ -107,12 +107,6 @@ mark-bits (holds s ∷ cs) = ap (λ (l : List ℕ). 0 ∷ l) (mark-bits cs)
 take-step : {A : Type 0} (l w : List A) (k : ℕ) (a d : A) → k < length l → k < length w → a ≡ getD w k d → take k l ≡ take k w → take (k + 1) (set l k a) ≡ take (k + 1) w
 take-step {A} l w k a d h i e q = rw add-one (take-suc-set l k a h ∙ ap₂ (λ (r : List A) (z : A). r ++ (z ∷ [])) q e ∙ sym (take-suc w k d i))
 
--- a differ bit, by whether it is set
-mark-bit : (c : Cell) (n : ℕ) → n < 2 → eqb n 1 ≡ isMark c → n ≡ differBit c
-unfolding isMark differBit
-mark-bit (holds s) n h e = let ne : n ≡ 1 → ⊥ = eqb-false n 1 e in omega (arith, ne)
-mark-bit differs n h e = eqb-true n 1 e
-
 -- The first k places are found; m and n have the differ bits of the others
 pub record PlacesSofar (ty : EventType) (left right : Snapshot) (present marked : List Bool) (m n k : ℕ) : Type 0 where
   pub filled : take k present ≡ take k (map isFilled (joinSnapshots (view ty) left right .cells))
@@ -149,7 +143,7 @@ module _ (a b : List ℕ) (e f : ℕ) (ats bts : List SetAt) (ty : EventType) (l
     rightCell = getD (right .cells) k (holds [])
 
     pub places-marks : m % 2 + n % 2 ≡ differBit leftCell + differBit rightCell
-    places-marks = ap₂ (λ (c d : ℕ). c + d) (mark-bit leftCell (m % 2) (omega arith) (cell-here a (left .cells) e ats x k m h (t .left-bits) .mark)) (mark-bit rightCell (n % 2) (omega arith) (cell-here b (right .cells) f bts y k n h (t .right-bits) .mark))
+    places-marks = ap₂ (λ (c d : ℕ). c + d) (bit-here (left .cells) k m (t .left-bits)) (bit-here (right .cells) k n (t .right-bits))
 
     pub left-set : SetIs a (held leftCell) (getD ats k noSet)
     left-set = subst (λ (s : List Text). SetIs a s (getD ats k noSet)) (held-at (left .cells) k) (x .sets .each k h)
@@ -165,8 +159,8 @@ module _ (a b : List ℕ) (e f : ℕ) (ats bts : List SetAt) (ty : EventType) (l
       differing = take-step marked (map isMark joined) k (not kept) (isMark (holds [])) (omega arith) (omega (arith, length-map joined isMark, joined-long))
           (ap not g ∙ sym (join-mark (view ty .choice k) leftCell rightCell) ∙ ap isMark (sym (joined-at k h)) ∙ sym (List·getD-map isMark joined k (holds [])))
           (t .differing);
-      left-bits = bits-next a (left .cells) e ats x k m h (t .left-bits);
-      right-bits = bits-next b (right .cells) f bts y k n h (t .right-bits);
+      left-bits = bits-next (left .cells) k m (t .left-bits);
+      right-bits = bits-next (right .cells) k n (t .right-bits);
     }
 
   pub places-all : (p : Places) (m n k : ℕ) → 32 ≤ k → length (p .present) ≡ 32 → length (p .marked) ≡ 32 → PlacesSofar ty left right (p .present) (p .marked) m n k → PlacesAre joined p

@@ -21,7 +21,7 @@ use Rattle.packed.proofs.LayoutLaws.{number-bounds, number-length-1, number-len
 use Rattle.packed.proofs.WriteLaws.{wrote-between}
 use Rattle.ontology.specs.Table.{EventType, Table}
 use Rattle.ontology.specs.TableLayout.{tableOf}
-use Rattle.ontology.specs.Questions.{Asked, refused, accepted, _>>=_, ask, refuses, answer}
+use Rattle.ontology.specs.Questions.{Asked, refused, accepted, _>>=_, ask}
 use Rattle.ontology.specs.declared.types.TypeIndex.{TypeIndex}
 use Rattle.ontology.proofs.TableLaws.{TypeKept, table-type, place-in}
 use Rattle.event.specs.Event.{Event, setAt, view, versionOf, objectCount}
@@ -35,7 +35,7 @@ use Rattle.event.proofs.EventSizeLaws.{head-size, sets-size, each-within, event
 use Rattle.event.proofs.EventQuestionLaws.{EventAccepted, event-accepted, EventFits, event-fits, set-rises, least-few, version-set, version-below}
 use Rattle.event.proofs.AskLaws.{Accepted}
 use Rattle.dossier.specs.DossierLayout.{differBit, snapshotBytes, dossierBytes}
-use Rattle.combining.specs.CheckCall.{eventDossier, checkAnswer, checkCall}
+use Rattle.combining.specs.CheckCall.{eventDossier, checkAsked, checkAnswer, checkCall}
 use Rattle.combining.specs.CheckIndex.{loneBytes, Checkable, LoneRoom, KnownEvent}
 use Rattle.ontology.specs.Replies.{replies}
 use Rattle.ontology.specs.declared.replies.Reply.the-variants.{Done, Refused}
@@ -110,7 +110,7 @@ module _ (table event : List ℕ) (r : EventAsked) (a : Accepted narrow table ev
   pub kept : TypeKept (a .type)
   kept = table-type table (from .what) (from .is) (a .e .type) (a .type) (taken .typed)
 
-  abbrev pub checkable : Checkable table event (r .kind) (r .event)
+  abbrev pub checkable : Checkable table event (r .«event_type») (r .event)
   checkable = record {
     type = a .type;
     event = a .e;
@@ -155,7 +155,7 @@ module _ (table event : List ℕ) (r : EventAsked) (a : Accepted narrow table ev
 -- an event that is known to be accepted is as one that was asked, once it is read
 module _ (table event : List ℕ) (t : TypeIndex) (k : KnownEvent table event t) (x : EventIndex) (w : EventReads (eventOf (counts 8 32) event) event x) where
   abbrev pub asAsked : EventAsked
-  asAsked = record { number = 0; kind = t; event = x }
+  asAsked = record { number = 0; «event_type» = t; event = x }
 
   pub known-read : (x .ok ≡ true) × EventIs event (k .event .event) x
   unfolding EventReads narrow
@@ -174,42 +174,44 @@ module _ (table event : List ℕ) (t : TypeIndex) (k : KnownEvent table event t)
 
 -- ---- the questions
 
--- what the call answers where there is room
-abbrev bytesAsked : List ℕ → List ℕ → Asked (List ℕ)
-bytesAsked table event = eventQuestions narrow table event >>= λ a. accepted (dossierBytes (eventDossier a))
+module _ (table event : List ℕ) (room : ℕ) where
+  asked-small : room < 32768 → checkAsked room table event ≡ refused 1
+  unfolding checkAsked
+  asked-small h = rw (lt-leb 32768 room h)
 
-answer-small : (table event : List ℕ) (room : ℕ) → room < 32768 → checkAnswer room table event ≡ refuses 1
-unfolding checkAnswer
-answer-small table event room h = rw (lt-leb 32768 room h)
+  asked-is : 32768 ≤ room → checkAsked room table event ≡ (eventQuestions narrow table event >>= λ a. accepted (dossierBytes (eventDossier a)))
+  unfolding checkAsked
+  asked-is h = rw (le-leb 32768 room h) (go (tableOf table))
+    where
+      go :
+          (m : Option Table) →
+          (ask 2 m >>= λ ts. (eventAsked narrow ts event >>= λ a. accepted (dossierBytes (eventDossier a))))
+          ≡ ((ask 2 m >>= λ ts. eventAsked narrow ts event) >>= λ a. accepted (dossierBytes (eventDossier a)))
+      go none = refl
+      go (some ts) = refl
 
-answer-is : (table event : List ℕ) (room : ℕ) → 32768 ≤ room → checkAnswer room table event ≡ answer (bytesAsked table event)
-unfolding checkAnswer
-answer-is table event room h = rw (le-leb 32768 room h) (go (tableOf table))
-  where
-    go : (m : Option Table) → answer (ask 2 m >>= λ ts. (eventAsked narrow ts event >>= λ a. accepted (dossierBytes (eventDossier a)))) ≡ answer ((ask 2 m >>= λ ts. eventAsked narrow ts event) >>= λ a. accepted (dossierBytes (eventDossier a)))
-    go none = refl
-    go (some ts) = refl
-
-answer-of : (table event : List ℕ) (room : ℕ) (q : Asked Typed) → 32768 ≤ room → eventQuestions narrow table event ≡ q → checkAnswer room table event ≡ answer (q >>= λ a. accepted (dossierBytes (eventDossier a)))
-answer-of table event room q h e = answer-is table event room h ∙ ap (λ (q : Asked Typed). answer (q >>= λ a. accepted (dossierBytes (eventDossier a)))) e
+  asked-of :
+      (q : Asked Typed) → 32768 ≤ room → eventQuestions narrow table event ≡ q →
+      checkAsked room table event ≡ (q >>= λ a. accepted (dossierBytes (eventDossier a)))
+  asked-of q h e = asked-is h ∙ ap (λ (q : Asked Typed). q >>= λ a. accepted (dossierBytes (eventDossier a))) e
 
 -- ---- the replies
 
 module _ (table event out : List ℕ) where
   pub check-small : length out < 32768 → replies (Refused 1) out ≡ checkCall table event out
-  unfolding checkCall
-  check-small h = rw (answer-small table event (length out) h)
+  unfolding checkCall checkAnswer
+  check-small h = rw (asked-small table event (length out) h)
 
   pub check-refused : (n : ℕ) → 32768 ≤ length out → eventQuestions narrow table event ≡ refused n → replies (Refused n) out ≡ checkCall table event out
-  unfolding checkCall
-  check-refused n h e = rw (answer-of table event (length out) (refused n) h e)
+  unfolding checkCall checkAnswer
+  check-refused n h e = rw (asked-of table event (length out) (refused n) h e)
 
   pub check-done : (r : EventAsked) (a : Accepted narrow table event r) (new : List ℕ) (n version : ℕ) → 32768 ≤ length out → version ≡ versionOf (a .type) (a .e) → Wrote out 0 (loneBytes (a .e) version) new n → replies (Done n) new ≡ checkCall table event out
-  unfolding checkCall
+  unfolding checkCall checkAnswer
   check-done r a new n version h q w₀ =
       let x = dossierBytes (eventDossier (record { type = a .type; event = a .e })) in
       let w : Wrote out 0 x new n = subst (λ (z : List ℕ). Wrote out 0 z new n) (ap (loneBytes (a .e)) q ∙ sym (lone-is table event r a)) w₀ in
       let s : 0 + length x ≤ length out = omega (arith, lone-short table event r a, ap length (lone-is table event r a)) in
       let m : n ≡ length x = omega (arith, w .after) in
-      rw (answer-of table event (length out) (accepted (record { type = a .type; event = a .e })) h (a .is))
+      rw (asked-of table event (length out) (accepted (record { type = a .type; event = a .e })) h (a .is))
       (ap₂ (λ (k : ℕ) (l : List ℕ). replies (Done k) l) m (wrote-between s w ∙ ap (λ (k : ℕ). x ++ drop k out) m))

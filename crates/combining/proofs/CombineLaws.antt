@@ -1,7 +1,7 @@
 -- The laws of the call combine.
 use mathlib.Core.Path.{_≡_, sym, ap, ap₂, _∙_, subst}
 use mathlib.Core.Bool.{Bool, true, false}
-use mathlib.Core.Option.{Option, some}
+use mathlib.Core.Option.{some}
 use mathlib.Core.List.{List, _++_}
 use Prim.Native.Nat.{ℕ, _+_, _≤_, _<_}
 use native.Mathlib.Omega.{arith}
@@ -13,7 +13,7 @@ use Rattle.packed.specs.Written.{Wrote}
 use Rattle.packed.proofs.WriteLaws.{wrote-between}
 use Rattle.ontology.specs.Table.{EventType, Table, typeNamed}
 use Rattle.ontology.specs.TableLayout.{tableOf}
-use Rattle.ontology.specs.Questions.{refused, accepted, gives}
+use Rattle.ontology.specs.Questions.{refused, accepted}
 use Rattle.ontology.specs.TypeIndex.{TypeIs, TypeSays, TableSays}
 use Rattle.ontology.specs.declared.tables.TableRead.{TableRead}
 use Rattle.ontology.specs.declared.types.TypeIndex.{TypeIndex}
@@ -23,11 +23,12 @@ use Rattle.dossier.specs.DossierQuestions.{TypedDossier, dossierAsked, dossiers
 use Rattle.dossier.specs.DossierIndex.{DossierIs, IsDossier, DossierReads, DossierAnswers}
 use Rattle.dossier.specs.declared.dossiers.DossierIndex.{DossierIndex}
 use Rattle.dossier.specs.declared.questions.DossierAsked.{DossierAsked}
-use Rattle.combining.specs.CombineCall.{headedAs, combined, combineAnswer, combineCall}
+use Rattle.combining.specs.CombineCall.{headedAs, combined, combineAsked, combineAnswer, combineCall}
 use Rattle.combining.specs.CombineIndex.{Known, Combinable}
 use Rattle.ontology.specs.Replies.{replies}
 use Rattle.ontology.specs.declared.replies.Reply.the-variants.{Done, Refused}
 use Rattle.ontology.proofs.TypeIndexLaws.{table-refused, table-got, type-says, found-few}
+use Rattle.dossier.proofs.AnswerLaws.{reads-is}
 use Rattle.dossier.proofs.AcceptedLaws.{dossier-taken, one-type, asked-refused, asked-accepted}
 use Rattle.combining.proofs.MeetLaws.{left-taken, right-taken}
 use Rattle.combining.proofs.RoomLaws.{combined-room}
@@ -54,26 +55,24 @@ pub record Taken (table : List ℕ) (types : Table) (s : List ℕ) (d : DossierI
   pub typed : TypeIs table (what .type) t
   pub stands : DossierIs s (what .headed) d
 
-reads-is : (s : List ℕ) (d : DossierIndex) (h : Headed) → DossierReads (dossierOf standard s) s d → dossierOf standard s ≡ some h → DossierIs s h d
-unfolding DossierReads
-reads-is s d h w e = subst (λ (o : Option Headed). DossierReads o s d) e w .1
-
 -- what `ask_dossier` answers
 abbrev Asks : List ℕ → DossierIndex → TableRead → DossierAsked → Type 0
-Asks s d read r = (table : List ℕ) (ts : Table) → tableOf table ≡ some ts → ((h : Headed) → DossierIs s h d → TypeSays (typeNamed (h .type) ts) table read) → DossierAnswers (dossierAsked standard ts s) table s r
+Asks s d read r =
+    (table : List ℕ) (ts : Table) → tableOf table ≡ some ts → ((h : Headed) → DossierIs s h d → TypeSays (typeNamed (h .type) ts) table read) →
+    DossierAnswers (dossierAsked standard ts s) table r
 
 module _
     (table s : List ℕ) (k : Tabled table) (d : DossierIndex) (w : DossierReads (dossierOf standard s) s d)
     (name : Text) (names : (h : Headed) → DossierIs s h d → name ≡ h .type)
     (read : TableRead) (says : TableSays (tableOf table) table name read)
     (r : DossierAsked) (asks : Asks s d read r) where
-  answers : DossierAnswers (dossierAsked standard (k .types) s) table s r
+  answers : DossierAnswers (dossierAsked standard (k .types) s) table r
   answers = asks table (k .types) (k .is) (λ h i. subst (λ (n : Text). TypeSays (typeNamed n (k .types)) table read) (names h i) (type-says table name read (k .types) (k .is) says))
 
   pub refused-by : (r .number ≡ 0 → ⊥) → dossierAsked standard (k .types) s ≡ refused (r .number)
   refused-by ne = asked-refused (k .types) table s r answers ne
 
-  pub taken-by : r .number ≡ 0 → Taken table (k .types) s d (r .kind)
+  pub taken-by : r .number ≡ 0 → Taken table (k .types) s d (r .«event_type»)
   taken-by e =
       let a = asked-accepted (k .types) table s r answers e in
       record { what = a .what; asked = a .asked; typed = a .typed; stands = reads-is s d (a .what .headed) w (dossier-taken (k .types) s (a .what) (a .asked) .read) }
@@ -83,12 +82,12 @@ module _
 -- both dossiers were asked questions 3 to 6
 pub record BothTaken (table a : List ℕ) (d : DossierIndex) (b : List ℕ) (e : DossierIndex) (t : TypeIndex) : Type 0 where
   pub known : Tabled table
-  pub kind : TypeIndex
+  pub right-type : TypeIndex
   pub left : Taken table (known .types) a d t
-  pub right : Taken table (known .types) b e kind
+  pub right : Taken table (known .types) b e right-type
 
 abbrev pub both-taken : {table a b : List ℕ} {d e : DossierIndex} {t u : TypeIndex} (k : Tabled table) → Taken table (k .types) a d t → Taken table (k .types) b e u → BothTaken table a d b e t
-both-taken {u = u} k x y = record { known = k; kind = u; left = x; right = y }
+both-taken {u = u} k x y = record { known = k; right-type = u; left = x; right = y }
 
 module _ (table a : List ℕ) (d : DossierIndex) (b : List ℕ) (e : DossierIndex) (t : TypeIndex) (h : BothTaken table a d b e t) where
   pub agree-asks : (t .count ≤ 32) × IsDossier a d × IsDossier b e
@@ -138,42 +137,42 @@ combine-room table a b {d} {e} {t} h p y size l = omega (arith, combined-room h 
 
 module _ (table left right out : List ℕ) where
   pub combine-small : length out < 32768 → replies (Refused 1) out ≡ combineCall standard table left right out
-  unfolding combineCall combineAnswer
+  unfolding combineCall combineAnswer combineAsked
   combine-small h = rw (lt-leb 32768 (length out) h)
 
   module _ (room : 32768 ≤ length out) where
     pub combine-untabled : (name : Text) (r : TableRead) → TableSays (tableOf table) table name r → r .ok ≡ false → replies (Refused 2) out ≡ combineCall standard table left right out
-    unfolding combineCall combineAnswer
+    unfolding combineCall combineAnswer combineAsked
     combine-untabled name r w h = rw (le-leb 32768 (length out) room, table-refused table name r w h)
 
     pub combine-left : (k : Tabled table) (n : ℕ) → dossierAsked standard (k .types) left ≡ refused n → replies (Refused n) out ≡ combineCall standard table left right out
-    unfolding combineCall combineAnswer
+    unfolding combineCall combineAnswer combineAsked
     combine-left k n e = rw (le-leb 32768 (length out) room, k .is, e)
 
     pub combine-right : (k : Tabled table) {d : DossierIndex} {t : TypeIndex} → Taken table (k .types) left d t → (n : ℕ) → dossierAsked standard (k .types) right ≡ refused n → replies (Refused n) out ≡ combineCall standard table left right out
-    unfolding combineCall combineAnswer
+    unfolding combineCall combineAnswer combineAsked
     combine-right k x n e = rw (le-leb 32768 (length out) room, k .is, x .asked, e)
 
     pub combine-apart : {d e : DossierIndex} {t : TypeIndex} (h : BothTaken table left d right e t) {r : Bool} → r ≡ dossiersAgree (h .left .what) (h .right .what) → r ≡ false → replies (Refused 7) out ≡ combineCall standard table left right out
-    unfolding combineCall combineAnswer
+    unfolding combineCall combineAnswer combineAsked
     combine-apart h p n = let q = sym p ∙ n in rw (le-leb 32768 (length out) room, h .known .is, h .left .asked, h .right .asked, q)
 
     module _ {d e : DossierIndex} {t : TypeIndex} (h : Combinable table left d right e t) {r : Bool} (p : r ≡ fits standard (view (h .known .left .type)) (combined (h .known .left) (h .known .right))) where
       pub combine-full : r ≡ false → replies (Refused 8) out ≡ combineCall standard table left right out
-      unfolding combineCall combineAnswer
+      unfolding combineCall combineAnswer combineAsked
       combine-full n = let q = sym p ∙ n in rw (le-leb 32768 (length out) room, h .known .is, h .known .left-asked, h .known .right-asked, h .known .agree, q)
 
       abbrev whole : List ℕ
       whole = dossierBytes (headedAs (h .known .left .headed) (combined (h .known .left) (h .known .right)))
 
-      answer-whole : r ≡ true → combineAnswer standard (length out) table left right ≡ gives whole
-      unfolding combineAnswer
-      answer-whole y = let q = sym p ∙ y in rw (le-leb 32768 (length out) room, h .known .is, h .known .left-asked, h .known .right-asked, h .known .agree, q)
+      asked-whole : r ≡ true → combineAsked standard (length out) table left right ≡ accepted whole
+      unfolding combineAsked
+      asked-whole y = let q = sym p ∙ y in rw (le-leb 32768 (length out) room, h .known .is, h .known .left-asked, h .known .right-asked, h .known .agree, q)
 
       pub combine-done : r ≡ true → (new : List ℕ) (n : ℕ) → Wrote out 0 whole new n → replies (Done n) new ≡ combineCall standard table left right out
-      unfolding combineCall
+      unfolding combineCall combineAnswer
       combine-done y new n w =
           let s : 0 + length whole ≤ length out = omega (arith, combine-room table left right h p y (length out) room) in
           let m : n ≡ length whole = omega (arith, w .after) in
-          rw (answer-whole y)
+          rw (asked-whole y)
           (ap₂ (λ (k : ℕ) (l : List ℕ). replies (Done k) l) m (wrote-between s w ∙ ap (λ (k : ℕ). whole ++ drop k out) m))

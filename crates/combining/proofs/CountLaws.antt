@@ -6,13 +6,15 @@ use mathlib.Core.List.{List, [], _∷_}
 use Prim.Native.Nat.{ℕ, zero, suc, _+_, _-_, _≤_, _<_}
 use native.Mathlib.Omega.{arith}
 use native.Mathlib.Numerals.{add-one}
-use lib.ListN.{length, take, drop, getD, length-drop, drop-of-length-le}
+use lib.ListN.{length, take, drop, getD, length-drop, length-map, drop-of-length-le, List·getD-map}
 use lib.Seq.{drop-cons, getD-take, length-take-le}
 use Rattle.model.specs.Order.{numbers, rising}
 use Rattle.model.specs.Sets.{Ups, union}
 use Rattle.model.proofs.OrderLaws.{less-turn, less-cmp}
 use Rattle.model.proofs.SetLaws.{rising-ups}
 use Rattle.model.proofs.StepLaws.{union-left-nil, union-right-nil, union-step}
+use Rattle.values.specs.declared.versions.EventVersion.{EventVersion}
+use Rattle.dossier.specs.DossierIndex.{versionNumbers, noVersion}
 
 -- count versions have been counted, and those from i and from j on are left
 pub record VersionsLeft (xs ys : List ℕ) (i j count : ℕ) : Type 0 where
@@ -124,38 +126,52 @@ module _ (xs ys : List ℕ) (i j count : ℕ) (w : VersionsLeft xs ys i j count)
       few = omega (arith, passed-some, w .few);
     }
 
--- the same of the first m and n versions of two arrays
-module _ (m n : ℕ) (v w : List ℕ) (long : (length v ≡ 8) × (length w ≡ 8)) (few : (m ≤ 8) × (n ≤ 8)) (i j count : ℕ) (z : VersionsLeft (take m v) (take n w) i j count) where
-  left-length : length (take m v) ≡ m
-  left-length = length-take-le m v (omega (arith, long, few))
+-- ---- the versions of two arrays
 
-  right-length : length (take n w) ≡ n
-  right-length = length-take-le n w (omega (arith, long, few))
+abbrev pub versionAt : List EventVersion → ℕ → ℕ
+versionAt vs i = getD vs i noVersion .0
 
-  pub counted-within : (i ≤ m) × (j ≤ n) × (count ≤ i + j)
-  counted-within = (omega (arith, z .left, left-length), omega (arith, z .right, right-length), z .few)
+pub version-at : (n : ℕ) (vs : List EventVersion) (i : ℕ) → i < n → versionAt vs i ≡ getD (versionNumbers (take n vs)) i 0
+version-at n vs i l =
+    sym (List·getD-map (λ (v : EventVersion). v .0) (take n vs) i noVersion
+    ∙ ap (λ (v : EventVersion). v .0) (getD-take n vs i noVersion l))
 
-  pub counted-left : n ≤ j → rising numbers (take m v) ≡ true → rising numbers (take n w) ≡ true → count + (m - i) ≡ length (union numbers (take m v) (take n w))
-  counted-left l h k = omega (arith, left-length, versions-left (take m v) (take n w) i j count z (omega (arith, right-length)) h k)
+many : (n : ℕ) (vs : List EventVersion) → n ≤ length vs → length (versionNumbers (take n vs)) ≡ n
+many n vs l = length-map (take n vs) (λ (v : EventVersion). v .0) ∙ length-take-le n vs l
 
-  pub counted-right : m ≤ i → rising numbers (take m v) ≡ true → rising numbers (take n w) ≡ true → count + (n - j) ≡ length (union numbers (take m v) (take n w))
-  counted-right l h k = omega (arith, right-length, versions-right (take m v) (take n w) i j count z (omega (arith, left-length)) h k)
+module _ (m n : ℕ) (v w : List EventVersion) (long : (length v ≡ 8) × (length w ≡ 8)) (few : (m ≤ 8) × (n ≤ 8)) (i j count : ℕ) where
+  -- the first m of one and the first n of the other
+  abbrev lefts : List ℕ
+  lefts = versionNumbers (take m v)
 
-  module _ (l : i < m) (k : j < n) (i′ j′ : ℕ) (p : Passed (getD v i 0) (getD w j 0) i i′) (q : Passed (getD w j 0) (getD v i 0) j j′) where
-    left-at : getD v i 0 ≡ getD (take m v) i 0
-    left-at = sym (getD-take m v i 0 l)
+  abbrev rights : List ℕ
+  rights = versionNumbers (take n w)
 
-    right-at : getD w j 0 ≡ getD (take n w) j 0
-    right-at = sym (getD-take n w j 0 k)
+  left-length : length lefts ≡ m
+  left-length = many m v (omega (arith, long, few))
 
-    left-passed : Passed (getD (take m v) i 0) (getD (take n w) j 0) i i′
-    left-passed = subst₂ (λ (a b : ℕ). Passed a b i i′) left-at right-at p
+  right-length : length rights ≡ n
+  right-length = many n w (omega (arith, long, few))
 
-    right-passed : Passed (getD (take n w) j 0) (getD (take m v) i 0) j j′
-    right-passed = subst₂ (λ (a b : ℕ). Passed a b j j′) right-at left-at q
+  module _ (z : VersionsLeft lefts rights i j count) where
+    pub counted-within : (i ≤ m) × (j ≤ n) × (count ≤ i + j)
+    counted-within = (omega (arith, z .left, left-length), omega (arith, z .right, right-length), z .few)
 
-    pub counted-passed : (i + j + 1 ≤ i′ + j′) × (i ≤ i′) × (i′ ≤ i + 1) × (j ≤ j′) × (j′ ≤ j + 1)
-    counted-passed = passed-some (take m v) (take n w) i j count z (omega (arith, left-length)) (omega (arith, right-length)) i′ j′ left-passed right-passed
+    pub counted-left : n ≤ j → rising numbers lefts ≡ true → rising numbers rights ≡ true → count + (m - i) ≡ length (union numbers lefts rights)
+    counted-left l h k = omega (arith, left-length, versions-left lefts rights i j count z (omega (arith, right-length)) h k)
 
-    pub counted-more : VersionsLeft (take m v) (take n w) i′ j′ (count + 1)
-    counted-more = versions-more (take m v) (take n w) i j count z (omega (arith, left-length)) (omega (arith, right-length)) i′ j′ left-passed right-passed
+    pub counted-right : m ≤ i → rising numbers lefts ≡ true → rising numbers rights ≡ true → count + (n - j) ≡ length (union numbers lefts rights)
+    counted-right l h k = omega (arith, right-length, versions-right lefts rights i j count z (omega (arith, left-length)) h k)
+
+    module _ (l : i < m) (k : j < n) (i′ j′ : ℕ) (p : Passed (versionAt v i) (versionAt w j) i i′) (q : Passed (versionAt w j) (versionAt v i) j j′) where
+      left-passed : Passed (getD lefts i 0) (getD rights j 0) i i′
+      left-passed = subst₂ (λ (a b : ℕ). Passed a b i i′) (version-at m v i l) (version-at n w j k) p
+
+      right-passed : Passed (getD rights j 0) (getD lefts i 0) j j′
+      right-passed = subst₂ (λ (a b : ℕ). Passed a b j j′) (version-at n w j k) (version-at m v i l) q
+
+      pub counted-passed : (i + j + 1 ≤ i′ + j′) × (i ≤ i′) × (i′ ≤ i + 1) × (j ≤ j′) × (j′ ≤ j + 1)
+      counted-passed = passed-some lefts rights i j count z (omega (arith, left-length)) (omega (arith, right-length)) i′ j′ left-passed right-passed
+
+      pub counted-more : VersionsLeft lefts rights i′ j′ (count + 1)
+      counted-more = versions-more lefts rights i j count z (omega (arith, left-length)) (omega (arith, right-length)) i′ j′ left-passed right-passed

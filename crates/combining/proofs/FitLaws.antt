@@ -7,13 +7,13 @@ use native.Mathlib.Omega.{arith}
 use lib.Dec.{leb, eqb}
 use lib.ListN.{length, take, drop, getD, length-map}
 use borrow.Author.Tests.{lt-ltb, le-ltb, le-leb, lt-leb, eqb-true}
-use Rattle.model.specs.Order.{Order, Text, numbers, texts, rising, three}
+use Rattle.model.specs.Order.{Order, Text, numbers, texts, rising}
+use Rattle.model.proofs.Cases.{three, and-parts, or-part}
 use Rattle.model.specs.Keyed.{put, merge}
 use Rattle.model.specs.Sets.{itself, first, union}
 use Rattle.model.specs.Rule.{Snapshot, joinSnapshots, Dossier, combine, sizes, objects}
 use Rattle.model.specs.Limits.{standard, fits}
 use Rattle.model.specs.Opening.{cellAt, held}
-use Rattle.model.proofs.Cases.{and-parts, or-part}
 use Rattle.packed.proofs.LayoutLaws.{All}
 use Rattle.packed.proofs.ReadLaws.{to-end}
 use Rattle.ontology.specs.Table.{EventType, Table, isVersioned}
@@ -22,7 +22,7 @@ use Rattle.event.specs.Event.{view}
 use Rattle.event.specs.EventQuestions.{matchCount}
 use Rattle.unions.specs.Runs.{Hashes}
 use Rattle.dossier.specs.DossierQuestions.{eachCell, isVacant, holdsVersion, TypedDossier}
-use Rattle.dossier.specs.DossierIndex.{noSnapshot, cellFits, versionFits, snapshotFits}
+use Rattle.dossier.specs.DossierIndex.{noSnapshot, versionNumbers, cellFits, versionFits, snapshotFits}
 use Rattle.dossier.specs.declared.dossiers.DossierIndex.{DossierIndex}
 use Rattle.dossier.proofs.AskLaws.{start-within}
 use Rattle.dossier.proofs.DossierLayoutLaws.{DossierWritten}
@@ -111,16 +111,16 @@ module _ (table a : List ℕ) (d : DossierIndex) (b : List ℕ) (e : DossierInde
   right-hashes = (all-hashes (c .known .right .headed .dossier .parents) (right-written .head .parents .each), right-written .head .parents .rises)
 
   -- and so do the versions
-  left-versions : take (d .count) (d .versions) ≡ versions (snapshots (c .known .left))
-  left-versions = ap (λ (n : ℕ). take n (d .versions)) (c .left-read .count) ∙ c .left-read .snapshots .numbers
+  left-versions : versionNumbers (take (d .count) (d .versions)) ≡ versions (snapshots (c .known .left))
+  left-versions = ap (λ (n : ℕ). versionNumbers (take n (d .versions))) (c .left-read .count) ∙ c .left-read .snapshots .numbers
 
-  right-versions : take (e .count) (e .versions) ≡ versions (snapshots (c .known .right))
-  right-versions = ap (λ (n : ℕ). take n (e .versions)) (c .right-read .count) ∙ c .right-read .snapshots .numbers
+  right-versions : versionNumbers (take (e .count) (e .versions)) ≡ versions (snapshots (c .known .right))
+  right-versions = ap (λ (n : ℕ). versionNumbers (take n (e .versions))) (c .right-read .count) ∙ c .right-read .snapshots .numbers
 
-  pub left-rises : rising numbers (take (d .count) (d .versions)) ≡ true
+  pub left-rises : rising numbers (versionNumbers (take (d .count) (d .versions))) ≡ true
   left-rises = ap (rising numbers) left-versions ∙ left-written .rises
 
-  pub right-rises : rising numbers (take (e .count) (e .versions)) ≡ true
+  pub right-rises : rising numbers (versionNumbers (take (e .count) (e .versions))) ≡ true
   right-rises = ap (rising numbers) right-versions ∙ right-written .rises
 
   whole-parents : whole .parents ≡ union texts (c .known .left .headed .dossier .parents) (c .known .right .headed .dossier .parents)
@@ -131,7 +131,9 @@ module _ (table a : List ℕ) (d : DossierIndex) (b : List ℕ) (e : DossierInde
   unfolding combined combine
   whole-snapshots = refl
 
-  pub whole-versions : length (whole .snapshots) ≡ length (union numbers (take (d .count) (d .versions)) (take (e .count) (e .versions)))
+  pub whole-versions :
+      length (whole .snapshots)
+      ≡ length (union numbers (versionNumbers (take (d .count) (d .versions))) (versionNumbers (take (e .count) (e .versions))))
   whole-versions =
       sym (length-map (whole .snapshots) versionIn)
       ∙ ap (λ (ss : List Snapshot). length (versions ss)) whole-snapshots
@@ -188,7 +190,9 @@ module _ (table a : List ℕ) (d : DossierIndex) (b : List ℕ) (e : DossierInde
         sym (fits-parts ty whole
         ∙ ap (λ (z : Bool). z && (leb (length (whole .snapshots)) 8 && (isVersioned ty || leb (objects (whole .snapshots)) 256))) (lt-leb (length (whole .parents)) 32 (omega (arith, p, ap length whole-parents))))
 
-    module _ (l : n ≤ 32) (m : ℕ) (q : m ≡ length (union numbers (take (d .count) (d .versions)) (take (e .count) (e .versions)))) where
+    module _
+        (l : n ≤ 32) (m : ℕ)
+        (q : m ≡ length (union numbers (versionNumbers (take (d .count) (d .versions))) (versionNumbers (take (e .count) (e .versions))))) where
       then-versions : asked ≡ (leb (length (whole .snapshots)) 8 && (isVersioned ty || leb (objects (whole .snapshots)) 256))
       then-versions =
           fits-parts ty whole

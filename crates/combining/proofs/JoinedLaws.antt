@@ -24,7 +24,7 @@ use Rattle.packed.specs.Written.{Wrote}
 use Rattle.packed.proofs.WriteLaws.{wrote-length, wrote-then, ToGo, wrote-as}
 use Rattle.unions.specs.Runs.{TextsRoom}
 use Rattle.values.specs.Spaces.{Kind, kindNumber, inSpace}
-use Rattle.values.specs.ValueOrder.{extremeOrder}
+use Rattle.values.specs.ValueOrder.{isOrdered, extremeOrder}
 use Rattle.ontology.specs.Table.{Property, EventType, isMin, isMax, isVersioned}
 use Rattle.ontology.specs.TypeIndex.{PropertyIs, TypeIs}
 use Rattle.ontology.specs.declared.properties.PropertyAt.{PropertyAt}
@@ -39,7 +39,7 @@ use Rattle.event.proofs.EventLayoutLaws.{SetWritten}
 use Rattle.event.proofs.EventQuestionLaws.{all-at, each-place-at, empty-written, choice-least, no-value, one-value, one-in-space}
 use Rattle.dossier.specs.DossierLayout.{readSnapshot, differBit, snapshotBytes}
 use Rattle.dossier.specs.DossierQuestions.{eachCell, isVacant, isPresent, isLone, isLoneIfExtreme, snapshotValues}
-use Rattle.dossier.specs.DossierIndex.{SnapshotIs, cellFits, placeFits, versionFits, snapshotFits}
+use Rattle.dossier.specs.DossierIndex.{SnapshotIs, cellFits, versionFits, snapshotFits}
 use Rattle.dossier.specs.declared.snapshots.SnapshotIndex.{SnapshotIndex}
 use Rattle.dossier.proofs.DossierLayoutLaws.{snapshot-was}
 use Rattle.dossier.proofs.CellLaws.{held-at}
@@ -47,7 +47,7 @@ use Rattle.combining.specs.CombineIndex.{isExtremeAt, Fitting, Meet}
 use Rattle.combining.specs.JoinedIndex.{haveObjects, PresentAre, Extremes, joinedSet, Paired, PlaceIs, PlaceRoom}
 use Rattle.combining.proofs.PlaceLaws.{set-room, wrote-set}
 use Rattle.combining.proofs.CheckLaws.{sets-held, none-differ}
-use Rattle.combining.proofs.ObjectLaws.{keeps-every}
+use Rattle.combining.proofs.ObjectLaws.{keeps-every, placeFits, fits-at}
 
 -- ---- the smaller or larger of two values
 
@@ -68,7 +68,7 @@ module _ (k : Kind) (kind : ℕ) (xs ys : List Text) (e : Extremes k kind xs ys)
 
   pub chosen-both :
       (largest : Bool) (r v w : Text) → (length xs ≡ 0 → ⊥) → (length ys ≡ 0 → ⊥) → v ≡ getD xs 0 [] → w ≡ getD ys 0 [] →
-      ((k : Kind) → kindNumber k ≡ kind → kind ≤ 6 → inSpace k (take (length v - 0) (drop 0 v)) ≡ true → inSpace k (take (length w - 0) (drop 0 w)) ≡ true →
+      ((k : Kind) → kindNumber k ≡ kind → isOrdered k ≡ true → inSpace k (take (length v - 0) (drop 0 v)) ≡ true → inSpace k (take (length w - 0) (drop 0 w)) ≡ true →
       r ∷ [] ≡ take 1 (union (extremeOrder largest k) (take (length v - 0) (drop 0 v) ∷ []) (take (length w - 0) (drop 0 w) ∷ []))) →
       r ∷ [] ≡ take 1 (union (extremeOrder largest k) xs ys)
   chosen-both largest r v w m n p q c =
@@ -97,7 +97,7 @@ extreme-at ty p h = go (getElem? (ty .properties) p) refl h
 
 least-at : (ty : EventType) (p : ℕ) (e : ExtremeAt ty p) → view ty .choice p ≡ least (extremeOrder (isMax (e .what)) (e .what .kind))
 unfolding view atPlace
-least-at ty p e = rw (e .is) (choice-least (e .what .strategy) (e .what) (e .extreme))
+least-at ty p e = rw (e .is) (choice-least (e .what) (e .extreme))
 
 module _ (ty : EventType) (p : ℕ) (xs ys : List Text) where
   pub joined-every : isExtremeAt ty p ≡ false → joinedSet ty p xs ys ≡ union texts xs ys
@@ -198,7 +198,7 @@ module _ (t : TypeIndex) (p : ℕ) (a : List ℕ) (x : SetAt) (b : List ℕ) (y 
     extremes : (d : PropertyAt) → Extremes (here .what .kind) (getD (t .properties) p d .kind) (h .xs) (h .ys)
     extremes d = record {
       number = sym (property d .kind .number);
-      ordered = subst (λ (n : ℕ). n ≤ 6) (sym (property d .kind .number)) (h .paired .ordered (here .what) (here .is) (here .extreme));
+      ordered = h .paired .ordered (here .what) (here .is) (here .extreme);
       left-one = h .paired .few e .0;
       right-one = h .paired .few e .1;
       left-values = h .paired .values (here .what) (here .is) .0;
@@ -256,16 +256,6 @@ places-all w h = record { long = w .long; each = λ p m. w .each p (omega arith)
 -- the set of a place
 abbrev pub setOf : Snapshot → ℕ → List Text
 setOf x p = getD (map held (x .cells)) p []
-
-fits-at : (f : Bool) (ps : List Property) (cs : List Cell) → eachCell (cellFits f) isVacant ps cs ≡ true → (p : ℕ) → placeFits f (getElem? ps p) (getD cs p (holds [])) ≡ true
-unfolding eachCell placeFits isVacant isMark held
-fits-at f [] [] h p = refl
-fits-at f [] (c ∷ cs) h zero = and-parts (isVacant c) _ h .0
-fits-at f [] (c ∷ cs) h (suc p) = fits-at f [] cs (and-parts (isVacant c) _ h .1) p
-fits-at f (q ∷ ps) [] h zero = and-parts (cellFits f q (holds [])) _ h .0
-fits-at f (q ∷ ps) [] h (suc p) = fits-at f ps [] (and-parts (cellFits f q (holds [])) _ h .1) p
-fits-at f (q ∷ ps) (c ∷ cs) h zero = and-parts (cellFits f q c) _ h .0
-fits-at f (q ∷ ps) (c ∷ cs) h (suc p) = fits-at f ps cs (and-parts (cellFits f q c) _ h .1) p
 
 plain-parts : (f : Bool) (q : Property) (c : Cell) → f ≡ false → cellFits f q c ≡ true → (not (isMark c) ≡ true) × (isLoneIfExtreme q c ≡ true)
 unfolding cellFits

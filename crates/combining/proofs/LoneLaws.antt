@@ -12,7 +12,7 @@ use Rattle.packed.specs.Packed.{number}
 use Rattle.packed.specs.Located.{part}
 use Rattle.packed.specs.Written.{Wrote}
 use Rattle.packed.proofs.ReadLaws.{drop-next}
-use Rattle.packed.proofs.WriteLaws.{wrote-then}
+use Rattle.packed.proofs.WriteLaws.{wrote-length, wrote-then}
 use Rattle.values.specs.Decimal.{areDigits, numeralAfter, numeral, inDecimal}
 use Rattle.values.proofs.NumeralLaws.{digit-least, digits-head, digits-tail, natural-digits, natural-in-decimal, numeral-in-decimal}
 use Rattle.ontology.specs.Table.{isVersioned}
@@ -133,21 +133,53 @@ module _ (bytes : List ℕ) (x : EventIndex) (e : Event) (w : EventIs bytes e x)
           cut [] (suc k) (suc n) h = refl
           cut (b ∷ l) (suc k) (suc n) h = ap (λ (m : List ℕ). b ∷ m) (cut l k n (omega arith))
 
-  pub sets-part : part bytes (x .first) (length bytes) ≡ setsBytes (e .sets)
+  sets-part : part bytes (x .first) (length bytes) ≡ setsBytes (e .sets)
   sets-part = take-all (length bytes - x .first) (drop (x .first) bytes) (omega (arith, length-drop (x .first) bytes)) ∙ w .rest
 
   -- their lengths, one after the other
-  pub lone-length : (version : ℕ) → length (loneBytes e version) ≡ length head + length (number 1) + length (number version) + length (number (x .presence)) + length (number 0) + length (setsBytes (e .sets))
+  lone-length : (version : ℕ) → length (loneBytes e version) ≡ length head + length (number 1) + length (number version) + length (number (x .presence)) + length (number 0) + length (setsBytes (e .sets))
   unfolding loneBytes
   lone-length version = rw (w .presence) (simp length-append (omega arith))
 
   -- the same with the size of the presence number as the code has it
   module _ (n : ℕ) (size : n ≡ length (number (x .presence))) where
-    pub head-is : part bytes 0 (x .first - n) ≡ head
+    head-is : part bytes 0 (x .first - n) ≡ head
     head-is = ap (λ (k : ℕ). part bytes 0 (x .first - k)) size ∙ head-part
 
     pub head-there : (version room : ℕ) → length (loneBytes e version) ≤ room → (0 ≤ x .first - n) × (x .first - n ≤ length bytes) × (0 + length (part bytes 0 (x .first - n)) ≤ room)
     head-there version room h = (omega arith, omega (arith, w .within), omega (arith, ap length head-is, lone-length version))
+
+    -- each part has its room after those before it
+    module _ (version : ℕ) {l l₁ : List ℕ} {a : ℕ} (room : length (loneBytes e version) ≤ length l) (p : Wrote l 0 (part bytes 0 (x .first - n)) l₁ a) where
+      after-head : (a ≡ length head) × (length l₁ ≡ length l)
+      after-head = (omega (arith, p .after, ap length head-is), wrote-length p)
+
+      pub count-room : a + length (number 1) ≤ length l₁
+      count-room = omega (arith, room, lone-length version, after-head)
+
+      module _ {l₂ : List ℕ} {b : ℕ} (q : Wrote l₁ a (number 1) l₂ b) where
+        after-count : (b ≡ length head + length (number 1)) × (length l₂ ≡ length l)
+        after-count = (omega (arith, q .after, after-head), wrote-length q ∙ after-head .1)
+
+        pub version-room : b + length (number version) ≤ length l₂
+        version-room = omega (arith, room, lone-length version, after-count)
+
+        module _ {l₃ : List ℕ} {c : ℕ} (r : Wrote l₂ b (number version) l₃ c) where
+          after-version : (c ≡ length head + length (number 1) + length (number version)) × (length l₃ ≡ length l)
+          after-version = (omega (arith, r .after, after-count), wrote-length r ∙ after-count .1)
+
+          pub presence-room : c + length (number (x .presence)) ≤ length l₃
+          presence-room = omega (arith, room, lone-length version, after-version)
+
+          module _ {l₄ : List ℕ} {d : ℕ} (s : Wrote l₃ c (number (x .presence)) l₄ d) where
+            after-presence : (d ≡ length head + length (number 1) + length (number version) + length (number (x .presence))) × (length l₄ ≡ length l)
+            after-presence = (omega (arith, s .after, after-version), wrote-length s ∙ after-version .1)
+
+            pub differ-room : d + length (number 0) ≤ length l₄
+            differ-room = omega (arith, room, lone-length version, after-presence)
+
+            pub sets-room : {l₅ : List ℕ} {f : ℕ} → Wrote l₄ d (number 0) l₅ f → f + length (part bytes (x .first) (length bytes)) ≤ length l₅
+            sets-room u = omega (arith, room, lone-length version, after-presence, u .after, wrote-length u, ap length sets-part)
 
     pub wrote-lone :
         (version : ℕ) {l l₁ l₂ l₃ l₄ l₅ l₆ : List ℕ} {a b c d f g : ℕ} →

@@ -6,9 +6,10 @@ use Prim.Native.Nat.{ℕ, zero, suc, _+_, _-_, _≤_, _<_, Ordering·lt}
 use native.Mathlib.Omega.{arith}
 use lib.Dec.{leb}
 use lib.ListN.{length, take, drop, getD, length-append, drop-of-length-le, List·getD-map}
-use lib.Seq.{drop-cons, drop-drop, getD-take}
+use lib.Seq.{drop-cons, drop-drop}
 use borrow.Author.Tests.{lt-ltb, le-ltb, le-leb, lt-leb}
-use Rattle.model.specs.Order.{Text, texts, numbers, pick, three}
+use Rattle.model.specs.Order.{Text, texts, numbers, pick}
+use Rattle.model.proofs.Cases.{three}
 use Rattle.model.specs.Keyed.{Rising, merge}
 use Rattle.model.specs.Sets.{union}
 use Rattle.model.specs.Rule.{Snapshot, joinSnapshots, combine}
@@ -19,6 +20,7 @@ use Rattle.packed.specs.Located.{part}
 use Rattle.packed.specs.Written.{Wrote}
 use Rattle.packed.proofs.WriteLaws.{wrote-then, ToGo, to-go, gone, all-gone}
 use Rattle.packed.proofs.ReadLaws.{to-end}
+use Rattle.values.specs.declared.versions.EventVersion.{EventVersion}
 use Rattle.ontology.specs.Table.{EventType, isVersioned}
 use Rattle.ontology.specs.TypeIndex.{TypeIs}
 use Rattle.ontology.specs.declared.types.TypeIndex.{TypeIndex}
@@ -27,7 +29,7 @@ use Rattle.event.specs.EventLayout.{parentsBytes, headBytes}
 use Rattle.event.proofs.SetLaws.{stretch}
 use Rattle.unions.proofs.RunLaws.{part-then}
 use Rattle.dossier.specs.DossierLayout.{Headed, snapshotBytes, dossierBytes}
-use Rattle.dossier.specs.DossierIndex.{noSnapshot, SnapshotIs, SnapshotsAre, DossierIs}
+use Rattle.dossier.specs.DossierIndex.{noSnapshot, versionNumbers, SnapshotIs, SnapshotsAre, DossierIs}
 use Rattle.dossier.specs.declared.snapshots.SnapshotIndex.{SnapshotIndex}
 use Rattle.dossier.specs.declared.dossiers.DossierIndex.{DossierIndex}
 use Rattle.dossier.proofs.AskLaws.{first-stands}
@@ -35,6 +37,7 @@ use Rattle.combining.specs.CombineCall.{headedAs, combined}
 use Rattle.combining.specs.CombineIndex.{Combinable, Meet, AgreedRoom, JoinedRoom}
 use Rattle.combining.specs.WriteIndex.{SharedRoom, bytesFrom, RestRoom, nextSnapshot, stepBy, nextBytes, NextRoom, HeadsAre}
 use Rattle.combining.proofs.MeetLaws.{versionIn, taken-rises, left-taken, right-taken, meet}
+use Rattle.combining.proofs.CountLaws.{versionAt, version-at}
 use Rattle.combining.proofs.FitLaws.{left-hashes, right-hashes, whole-versions, left-one, right-one}
 
 -- ---- writes
@@ -76,7 +79,7 @@ bytes-none : (ss : List Snapshot) (i : ℕ) → length ss ≤ i → bytesFrom ss
 unfolding flatten
 bytes-none ss i l = ap (λ (z : List Snapshot). flatten (map snapshotBytes z)) (drop-of-length-le ss l)
 
-module _ (s : List ℕ) (xs : List Snapshot) (starts ends versions : List ℕ) (w : SnapshotsAre s xs starts ends versions) where
+module _ (s : List ℕ) (xs : List Snapshot) (starts ends : List ℕ) (versions : List EventVersion) (w : SnapshotsAre s xs starts ends versions) where
   -- from the start of one on they stand one after the other; n others follow it
   run-from : (n i last : ℕ) → i + suc n ≡ length xs → last + 1 ≡ length xs → drop (getD starts i 0) s ≡ bytesFrom xs i ++ drop (getD ends last 0) s
   run-from zero i last e f =
@@ -94,9 +97,9 @@ module _ (s : List ℕ) (xs : List Snapshot) (starts ends versions : List ℕ) (
       ∙ sym (append-assoc (snapshotBytes (getD xs i noSnapshot)) (bytesFrom xs (suc i)) (drop (getD ends last 0) s))
       ∙ ap (λ (x : List ℕ). x ++ drop (getD ends last 0) s) (sym (bytes-cons xs i (omega arith)))
 
-  pub version-at : (i : ℕ) → i < length xs → getD versions i 0 ≡ getD xs i noSnapshot .version
-  version-at i l =
-      sym (getD-take (length xs) versions i 0 l)
+  version-is : (i : ℕ) → i < length xs → versionAt versions i ≡ getD xs i noSnapshot .version
+  version-is i l =
+      version-at (length xs) versions i l
       ∙ ap (λ (v : List ℕ). getD v i 0) (w .numbers)
       ∙ List·getD-map versionIn xs i noSnapshot
 
@@ -254,11 +257,11 @@ module _ {table a b : List ℕ} {d e : DossierIndex} {t : TypeIndex} (c : Combin
   merged-right i j h =
       ap (λ (ss : List Snapshot). flatten (map snapshotBytes (mergedOf (c .known .left .type) ss (drop j rights)))) (drop-of-length-le lefts {i = i} (omega (arith, c .left-read .count)))
 
-  left-version : (i : ℕ) → i < d .count → getD (d .versions) i 0 ≡ getD lefts i noSnapshot .version
-  left-version i l = version-at a lefts (d .starts) (d .ends) (d .versions) (c .left-read .snapshots) i (omega (arith, c .left-read .count))
+  left-version : (i : ℕ) → i < d .count → versionAt (d .versions) i ≡ getD lefts i noSnapshot .version
+  left-version i l = version-is a lefts (d .starts) (d .ends) (d .versions) (c .left-read .snapshots) i (omega (arith, c .left-read .count))
 
-  right-version : (j : ℕ) → j < e .count → getD (e .versions) j 0 ≡ getD rights j noSnapshot .version
-  right-version j l = version-at b rights (e .starts) (e .ends) (e .versions) (c .right-read .snapshots) j (omega (arith, c .right-read .count))
+  right-version : (j : ℕ) → j < e .count → versionAt (e .versions) j ≡ getD rights j noSnapshot .version
+  right-version j l = version-is b rights (e .starts) (e .ends) (e .versions) (c .right-read .snapshots) j (omega (arith, c .right-read .count))
 
   module _ (i j : ℕ) (l : i < d .count) (m : j < e .count) where
     abbrev leftOne : Snapshot
@@ -268,7 +271,9 @@ module _ {table a b : List ℕ} {d e : DossierIndex} {t : TypeIndex} (c : Combin
     rightOne = getD rights j noSnapshot
 
     -- the next one is written, and both sides have gone on
-    pub merged-next : (x y : ℕ) → x ≡ stepBy (getD (d .versions) i 0) (getD (e .versions) j 0) → y ≡ stepBy (getD (e .versions) j 0) (getD (d .versions) i 0) → mergedBytes i j ≡ nextBytes c i j ++ mergedBytes (i + x) (j + y)
+    pub merged-next :
+        (x y : ℕ) → x ≡ stepBy (versionAt (d .versions) i) (versionAt (e .versions) j) → y ≡ stepBy (versionAt (e .versions) j) (versionAt (d .versions) i) →
+        mergedBytes i j ≡ nextBytes c i j ++ mergedBytes (i + x) (j + y)
     unfolding flatten
     merged-next x y p q =
         ap (λ (ss : List Snapshot). flatten (map snapshotBytes ss))
@@ -277,31 +282,40 @@ module _ {table a b : List ℕ} {d e : DossierIndex} {t : TypeIndex} (c : Combin
         (sym (p ∙ ap₂ stepBy (left-version i l) (right-version j m)))
         (sym (q ∙ ap₂ stepBy (right-version j m) (left-version i l))))
 
-    pub next-left : getD (d .versions) i 0 < getD (e .versions) j 0 → part a (getD (d .starts) i 0) (getD (d .ends) i 0) ≡ nextBytes c i j
+    pub next-left : versionAt (d .versions) i < versionAt (e .versions) j → part a (getD (d .starts) i 0) (getD (d .ends) i 0) ≡ nextBytes c i j
     next-left h =
         c .left-read .snapshots .each i (omega (arith, c .left-read .count)) .bytes
         ∙ ap snapshotBytes (sym (next-less (c .known .left .type) leftOne rightOne (omega (arith, left-version i l, right-version j m))))
 
-    pub next-right : getD (e .versions) j 0 < getD (d .versions) i 0 → part b (getD (e .starts) j 0) (getD (e .ends) j 0) ≡ nextBytes c i j
+    pub next-right : versionAt (e .versions) j < versionAt (d .versions) i → part b (getD (e .starts) j 0) (getD (e .ends) j 0) ≡ nextBytes c i j
     next-right h =
         c .right-read .snapshots .each j (omega (arith, c .right-read .count)) .bytes
         ∙ ap snapshotBytes (sym (next-more (c .known .left .type) leftOne rightOne (omega (arith, left-version i l, right-version j m))))
 
     module _ (at size : ℕ) (room : at + length (nextBytes c i j) ≤ size) where
-      pub left-there : getD (d .versions) i 0 < getD (e .versions) j 0 → (getD (d .starts) i 0 ≤ getD (d .ends) i 0) × (getD (d .ends) i 0 ≤ length a) × (at + length (part a (getD (d .starts) i 0) (getD (d .ends) i 0)) ≤ size)
+      pub left-there :
+          versionAt (d .versions) i < versionAt (e .versions) j →
+          (getD (d .starts) i 0 ≤ getD (d .ends) i 0) × (getD (d .ends) i 0 ≤ length a)
+          × (at + length (part a (getD (d .starts) i 0) (getD (d .ends) i 0)) ≤ size)
       left-there h = let s = c .left-read .snapshots .each i (omega (arith, c .left-read .count)) in (s .order, s .within, omega (arith, ap length (next-left h)))
 
-      pub right-there : getD (e .versions) j 0 < getD (d .versions) i 0 → (getD (e .starts) j 0 ≤ getD (e .ends) j 0) × (getD (e .ends) j 0 ≤ length b) × (at + length (part b (getD (e .starts) j 0) (getD (e .ends) j 0)) ≤ size)
+      pub right-there :
+          versionAt (e .versions) j < versionAt (d .versions) i →
+          (getD (e .starts) j 0 ≤ getD (e .ends) j 0) × (getD (e .ends) j 0 ≤ length b)
+          × (at + length (part b (getD (e .starts) j 0) (getD (e .ends) j 0)) ≤ size)
       right-there h = let s = c .right-read .snapshots .each j (omega (arith, c .right-read .count)) in (s .order, s .within, omega (arith, ap length (next-right h)))
 
-    one-version : getD (e .versions) j 0 ≤ getD (d .versions) i 0 → getD (d .versions) i 0 ≤ getD (e .versions) j 0 → leftOne .version ≡ rightOne .version
+    one-version :
+        versionAt (e .versions) j ≤ versionAt (d .versions) i → versionAt (d .versions) i ≤ versionAt (e .versions) j → leftOne .version ≡ rightOne .version
     one-version h k = omega (arith, left-version i l, right-version j m)
 
-    pub next-both : getD (e .versions) j 0 ≤ getD (d .versions) i 0 → getD (d .versions) i 0 ≤ getD (e .versions) j 0 → snapshotBytes (joinSnapshots (view (c .known .left .type)) leftOne rightOne) ≡ nextBytes c i j
+    pub next-both :
+        versionAt (e .versions) j ≤ versionAt (d .versions) i → versionAt (d .versions) i ≤ versionAt (e .versions) j →
+        snapshotBytes (joinSnapshots (view (c .known .left .type)) leftOne rightOne) ≡ nextBytes c i j
     next-both h k = ap snapshotBytes (sym (next-same (c .known .left .type) leftOne rightOne (one-version h k)))
 
     -- the two of one version meet where they start
-    pub next-meet : getD (e .versions) j 0 ≤ getD (d .versions) i 0 → getD (d .versions) i 0 ≤ getD (e .versions) j 0 →
+    pub next-meet : versionAt (e .versions) j ≤ versionAt (d .versions) i → versionAt (d .versions) i ≤ versionAt (e .versions) j →
         Meet (take (length a - getD (d .starts) i 0) (drop (getD (d .starts) i 0) a)) (take (length b - getD (e .starts) j 0) (drop (getD (e .starts) j 0) b)) (c .known .left .type) leftOne rightOne
     next-meet h k =
         subst₂ (λ (x y : List ℕ). Meet x y (c .known .left .type) leftOne rightOne) (sym (to-end a (getD (d .starts) i 0))) (sym (to-end b (getD (e .starts) j 0)))
@@ -318,7 +332,9 @@ module _ {table a b : List ℕ} {d e : DossierIndex} {t : TypeIndex} (c : Combin
         let z : 0 ≡ j = omega (arith, right-one table a d b e t c un, c .right-read .count, m) in
         subst (λ (n : ℕ). SnapshotIs (take (length b - getD (e .starts) n 0) (drop (getD (e .starts) n 0) b)) (getD rights n noSnapshot) (e .first)) z (first-stands b (c .known .right .headed) e (c .right-read))
 
-    pub shared-room : (at size : ℕ) → at + length (nextBytes c i j) ≤ size → getD (e .versions) j 0 ≤ getD (d .versions) i 0 → getD (d .versions) i 0 ≤ getD (e .versions) j 0 →
+    pub shared-room :
+        (at size : ℕ) → at + length (nextBytes c i j) ≤ size →
+        versionAt (e .versions) j ≤ versionAt (d .versions) i → versionAt (d .versions) i ≤ versionAt (e .versions) j →
         SharedRoom table (take (length a - getD (d .starts) i 0) (drop (getD (d .starts) i 0) a)) (d .first) (take (length b - getD (e .starts) j 0) (drop (getD (e .starts) j 0) b)) (e .first) t at size
     shared-room at size room h k = record {
       type = c .known .left .type;
@@ -343,8 +359,8 @@ module _ {table a b : List ℕ} {d e : DossierIndex} {t : TypeIndex} (c : Combin
 
       pub next-room : i < d .count → j < e .count → NextRoom table a d i b e j t next (length l)
       next-room p q =
-          let x = stepBy (getD (d .versions) i 0) (getD (e .versions) j 0) in
-          let y = stepBy (getD (e .versions) j 0) (getD (d .versions) i 0) in
+          let x = stepBy (versionAt (d .versions) i) (versionAt (e .versions) j) in
+          let y = stepBy (versionAt (e .versions) j) (versionAt (d .versions) i) in
           record {
             both = c;
             left-in = p;
@@ -358,7 +374,9 @@ module _ {table a b : List ℕ} {d e : DossierIndex} {t : TypeIndex} (c : Combin
     pub right-wrote : {l₁ : List ℕ} {to : ℕ} → d .count ≤ i → Wrote l next (bytesFrom rights j) l₁ to → Wrote l₀ at snapshotsPart l₁ to
     right-wrote h w = all-gone (gone (bytesFrom rights j) [] g (merged-right i j h ∙ sym (append-nil (bytesFrom rights j))) w) refl
 
-    pub next-wrote : {l₁ : List ℕ} {to : ℕ} (x y : ℕ) → i < d .count → j < e .count → x ≡ stepBy (getD (d .versions) i 0) (getD (e .versions) j 0) → y ≡ stepBy (getD (e .versions) j 0) (getD (d .versions) i 0) →
+    pub next-wrote :
+        {l₁ : List ℕ} {to : ℕ} (x y : ℕ) → i < d .count → j < e .count →
+        x ≡ stepBy (versionAt (d .versions) i) (versionAt (e .versions) j) → y ≡ stepBy (versionAt (e .versions) j) (versionAt (d .versions) i) →
         Wrote l next (nextBytes c i j) l₁ to → ToGo l₀ at snapshotsPart l₁ to (mergedBytes (i + x) (j + y))
     next-wrote x y p q u v w = gone (nextBytes c i j) (mergedBytes (i + x) (j + y)) g (merged-next i j p q x y u v) w
 
@@ -387,7 +405,9 @@ module _ {table a b : List ℕ} {d e : DossierIndex} {t : TypeIndex} (c : Combin
   abbrev headPart : List ℕ
   headPart = headBytes (c .known .left .headed .type) (c .known .left .headed .source) (union texts (c .known .left .headed .dossier .parents) (c .known .right .headed .dossier .parents))
 
-  pub versions-counted : (n : ℕ) → n ≡ length (union numbers (take (d .count) (d .versions)) (take (e .count) (e .versions))) → n ≡ length (combined (c .known .left) (c .known .right) .snapshots)
+  pub versions-counted :
+      (n : ℕ) → n ≡ length (union numbers (versionNumbers (take (d .count) (d .versions))) (versionNumbers (take (e .count) (e .versions)))) →
+      n ≡ length (combined (c .known .left) (c .known .right) .snapshots)
   versions-counted n h = h ∙ sym (whole-versions table a d b e t c)
 
   module _ (n : ℕ) (is : n ≡ length (combined (c .known .left) (c .known .right) .snapshots)) where

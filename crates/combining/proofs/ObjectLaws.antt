@@ -9,13 +9,13 @@ use native.Mathlib.Numerals.{add-one}
 use lib.Dec.{leb, eqb}
 use lib.ListN.{length, take, drop, getD, getElem?, length-map, drop-of-length-le}
 use lib.Seq.{drop-cons}
-use borrow.Author.Tests.{eq-eqb, ne-eqb, le-leb, lt-leb, leb-true}
-use Rattle.model.specs.Order.{Order, Text, texts, rising, three}
+use borrow.Author.Tests.{le-leb, lt-leb, leb-true}
+use Rattle.model.specs.Order.{Order, Text, texts, rising}
+use Rattle.model.proofs.Cases.{three, never, and-parts}
 use Rattle.model.specs.Keyed.{put, merge}
 use Rattle.model.specs.Sets.{itself, first, union, upTo}
 use Rattle.model.specs.Rule.{Cell, holds, differs, Choice, every, least, places, Snapshot, joinCell, joinSnapshots, sizes}
 use Rattle.model.specs.Opening.{cellAt, isMark, held}
-use Rattle.model.proofs.Cases.{never, and-parts}
 use Rattle.model.proofs.PartLaws.{length-upTo}
 use Rattle.model.proofs.StepLaws.{join-map, join-at}
 use Rattle.model.proofs.SizeLaws.{held-size}
@@ -31,18 +31,12 @@ use Rattle.event.specs.EventQuestions.{isEmpty, matchCount}
 use Rattle.event.proofs.EventLayoutLaws.{SetWritten}
 use Rattle.event.proofs.EventQuestionLaws.{all-at, empty-written, choice-every, choice-least}
 use Rattle.dossier.specs.DossierQuestions.{eachCell, isVacant, isPresent, isLone, isLoneIfExtreme, isUnmarkedMatch}
-use Rattle.dossier.specs.DossierIndex.{cellFits, placeFits, versionFits, snapshotFits}
+use Rattle.dossier.specs.DossierIndex.{cellFits, versionFits, snapshotFits}
 use Rattle.dossier.proofs.CellLaws.{elem, held-at, leb-sub}
 use Rattle.dossier.proofs.DossierLayoutLaws.{SnapshotWritten, snapshot-cells, snapshot-was}
 use Rattle.combining.specs.CombineIndex.{isExtremeAt, Meet}
 
 -- ---- strategy min or max
-
-or-first : (n : ℕ) → n ≡ 1 → (eqb n 1 || eqb n 2) ≡ eqb n 1
-or-first n e = rw (eq-eqb n 1 e)
-
-or-second : (n : ℕ) → (n ≡ 1 → ⊥) → (eqb n 1 || eqb n 2) ≡ eqb n 2
-or-second n e = rw (ne-eqb n 1 e)
 
 module _ (u : List ℕ) (ty : EventType) (t : TypeIndex) (k : ℕ) (w : TypeIs u ty t) where
   pub extreme-past : t .count ≤ k → false ≡ isExtremeAt ty k
@@ -53,18 +47,12 @@ module _ (u : List ℕ) (ty : EventType) (t : TypeIndex) (k : ℕ) (w : TypeIs u
     abbrev strategy : ℕ
     strategy = getD (t .properties) k d .strategy
 
-    extreme-here : isExtremeAt ty k ≡ (eqb strategy 1 || eqb strategy 2)
+    pub extreme-here : isExtremeAt ty k ≡ (eqb strategy 1 || eqb strategy 2)
     unfolding isExtremeAt atPlace
     extreme-here =
         let e = elem (ty .properties) k (omega (arith, w .count)) in
         ap (atPlace false (λ (q : Property). isMin q || isMax q)) (e .is)
         ∙ ap (λ (n : ℕ). eqb n 1 || eqb n 2) (sym (w .are .each k (e .what) d (e .is) .strategy))
-
-    pub extreme-min : strategy ≡ 1 → eqb strategy 1 ≡ isExtremeAt ty k
-    extreme-min e = sym (extreme-here ∙ or-first strategy e)
-
-    pub extreme-max : (strategy ≡ 1 → ⊥) → eqb strategy 2 ≡ isExtremeAt ty k
-    extreme-max e = sym (extreme-here ∙ or-second strategy e)
 
 -- ---- which values such a place keeps
 
@@ -77,17 +65,17 @@ module _ (ty : EventType) (k : ℕ) where
   unfolding isExtremeAt atPlace view
   keeps-least h = go (getElem? (ty .properties) k) h
     where
-      go : (m : Option Property) → atPlace false (λ (q : Property). isMin q || isMax q) m ≡ true → KeepsLeast (atPlace every (λ (q : Property). choiceOf (q .strategy) q) m)
+      go : (m : Option Property) → atPlace false (λ (q : Property). isMin q || isMax q) m ≡ true → KeepsLeast (atPlace every choiceOf m)
       go none h = never (cc)
-      go (some q) h = record { order = _; is = choice-least (q .strategy) q h }
+      go (some q) h = record { order = _; is = choice-least q h }
 
   pub keeps-every : isExtremeAt ty k ≡ false → view ty .choice k ≡ every
   unfolding isExtremeAt atPlace view
   keeps-every h = go (getElem? (ty .properties) k) h
     where
-      go : (m : Option Property) → atPlace false (λ (q : Property). isMin q || isMax q) m ≡ false → atPlace every (λ (q : Property). choiceOf (q .strategy) q) m ≡ every
+      go : (m : Option Property) → atPlace false (λ (q : Property). isMin q || isMax q) m ≡ false → atPlace every choiceOf m ≡ every
       go none h = refl
-      go (some q) h = choice-every (q .strategy) q h
+      go (some q) h = choice-every q h
 
 -- ---- how many values a place has
 
@@ -130,14 +118,22 @@ module _ (ty : EventType) (k : ℕ) (xs ys : List Text) where
 
 -- ---- the cells of an unversioned snapshot of which question 5 is answered yes
 
-each-cell-at : (f : Bool) (ps : List Property) (cs : List Cell) → eachCell (cellFits f) isVacant ps cs ≡ true → (k : ℕ) → k < length cs → placeFits f (getElem? ps k) (getD cs k (holds [])) ≡ true
-unfolding eachCell placeFits
-each-cell-at f [] [] h k l = absurd (omega arith)
-each-cell-at f [] (c ∷ cs) h zero l = and-parts (isVacant c) _ h .0
-each-cell-at f [] (c ∷ cs) h (suc k) l = each-cell-at f [] cs (and-parts (isVacant c) _ h .1) k (omega arith)
-each-cell-at f (p ∷ ps) [] h k l = absurd (omega arith)
-each-cell-at f (p ∷ ps) (c ∷ cs) h zero l = and-parts (cellFits f p c) _ h .0
-each-cell-at f (p ∷ ps) (c ∷ cs) h (suc k) l = each-cell-at f ps cs (and-parts (cellFits f p c) _ h .1) k (omega arith)
+-- what is asked of the cell of a place, which has no property where there is none
+unfoldable pub placeFits : Bool → Option Property → Cell → Bool
+placeFits versioned none c = isVacant c
+placeFits versioned (some p) c = cellFits versioned p c
+
+pub fits-at :
+    (f : Bool) (ps : List Property) (cs : List Cell) → eachCell (cellFits f) isVacant ps cs ≡ true → (p : ℕ) →
+    placeFits f (getElem? ps p) (getD cs p (holds [])) ≡ true
+unfolding eachCell placeFits isVacant isMark held
+fits-at f [] [] h p = refl
+fits-at f [] (c ∷ cs) h zero = and-parts (isVacant c) _ h .0
+fits-at f [] (c ∷ cs) h (suc p) = fits-at f [] cs (and-parts (isVacant c) _ h .1) p
+fits-at f (q ∷ ps) [] h zero = and-parts (cellFits f q (holds [])) _ h .0
+fits-at f (q ∷ ps) [] h (suc p) = fits-at f ps [] (and-parts (cellFits f q (holds [])) _ h .1) p
+fits-at f (q ∷ ps) (c ∷ cs) h zero = and-parts (cellFits f q c) _ h .0
+fits-at f (q ∷ ps) (c ∷ cs) h (suc p) = fits-at f ps cs (and-parts (cellFits f q c) _ h .1) p
 
 -- a cell at a place: it is not marked, and where its strategy is min or max it has one value at most
 pub record PlainCell (ty : EventType) (k : ℕ) (c : Cell) : Type 0 where
@@ -176,7 +172,7 @@ module _ (ty : EventType) (x : Snapshot) (w : SnapshotWritten x) (un : isVersion
   fits-here =
       let a = and-parts (eachCell (cellFits (isVersioned ty)) isVacant (ty .properties) (x .cells) && leb (matchCount (ty .properties) (map held (x .cells))) 32) (versionFits ty x) fits .0 in
       let b = and-parts (eachCell (cellFits (isVersioned ty)) isVacant (ty .properties) (x .cells)) (leb (matchCount (ty .properties) (map held (x .cells))) 32) a .0 in
-      each-cell-at false (ty .properties) (x .cells) (subst (λ (f : Bool). eachCell (cellFits f) isVacant (ty .properties) (x .cells) ≡ true) un b) k (omega (arith, snapshot-cells x w))
+      fits-at false (ty .properties) (x .cells) (subst (λ (f : Bool). eachCell (cellFits f) isVacant (ty .properties) (x .cells) ≡ true) un b) k
 
   pub plain-cell : PlainCell ty k cell
   unfolding isExtremeAt

@@ -10,7 +10,7 @@ use Rattle.model.specs.Rule.{Snapshot, joinSnapshots}
 use Rattle.model.specs.Limits.{standard}
 use Rattle.packed.specs.Parse.{got}
 use Rattle.packed.specs.Packed.{number, text}
-use Rattle.values.specs.Spaces.{kindNumber}
+use Rattle.values.specs.ValueOrder.{isOrdered}
 use Rattle.ontology.specs.Table.{Property, EventType, Table, isMin, isMax, isVersioned}
 use Rattle.ontology.specs.TableLayout.{tableOf}
 use Rattle.ontology.specs.Questions.{accepted}
@@ -60,7 +60,7 @@ pub record Fitting (type : EventType) (left right : Snapshot) : Type 0 where
   pub right-values : snapshotValues type right ≡ true
   pub same : left .version ≡ right .version
   pub below : left .version < 2 ^ 64
-  pub ordered : (p : ℕ) (q : Property) → getElem? (type .properties) p ≡ some q → (isMin q || isMax q) ≡ true → kindNumber (q .kind) ≤ 6
+  pub ordered : (p : ℕ) (q : Property) → getElem? (type .properties) p ≡ some q → (isMin q || isMax q) ≡ true → isOrdered (q .kind) ≡ true
 
 -- they stand at the front of a and b
 pub record Meet (a b : List ℕ) (type : EventType) (left right : Snapshot) : Type 0 where

@@ -10,6 +10,7 @@ use Rattle.model.specs.Order.{Text, texts, rising}
 use Rattle.model.specs.Rule.{holds, joinCell}
 use Rattle.model.specs.Opening.{held}
 use Rattle.values.specs.Spaces.{Kind, kindNumber}
+use Rattle.values.specs.ValueOrder.{isOrdered}
 use Rattle.ontology.specs.Table.{Property, EventType, isMin, isMax}
 use Rattle.ontology.specs.TypeIndex.{TypeIs}
 use Rattle.ontology.specs.declared.types.TypeIndex.{TypeIndex}
@@ -32,7 +33,7 @@ pub record PresentAre (left right : List SetAt) (r : List Bool) : Type 0 where
 -- at most one value on each side and one at least, in the space of an ordered kind of this number
 pub record Extremes (k : Kind) (kind : ℕ) (xs ys : List Text) : Type 0 where
   pub number : kindNumber k ≡ kind
-  pub ordered : kind ≤ 6
+  pub ordered : isOrdered k ≡ true
   pub left-one : length xs ≤ 1
   pub right-one : length ys ≤ 1
   pub left-values : areInSpace k xs ≡ true
@@ -49,7 +50,7 @@ pub record Paired (ty : EventType) (p : ℕ) (xs ys : List Text) : Type 0 where
   pub right-rises : rising texts ys ≡ true
   pub few : isExtremeAt ty p ≡ true → (length xs ≤ 1) × (length ys ≤ 1)
   pub values : (q : Property) → getElem? (ty .properties) p ≡ some q → (areInSpace (q .kind) xs ≡ true) × (areInSpace (q .kind) ys ≡ true)
-  pub ordered : (q : Property) → getElem? (ty .properties) p ≡ some q → (isMin q || isMax q) ≡ true → kindNumber (q .kind) ≤ 6
+  pub ordered : (q : Property) → getElem? (ty .properties) p ≡ some q → (isMin q || isMax q) ≡ true → isOrdered (q .kind) ≡ true
 
 -- they stand in a and b where x and y say
 pub record PlaceIs (t : TypeIndex) (p : ℕ) (a : List ℕ) (x : SetAt) (b : List ℕ) (y : SetAt) : Type 0 where

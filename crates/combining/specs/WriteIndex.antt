@@ -54,7 +54,9 @@ stepBy v w = cond (leb v w) 1 0
 -- the bytes of the next snapshot, where the sides have come to their i-th and their j-th
 abbrev pub nextBytes : {table a b : List ℕ} {d e : DossierIndex} {t : TypeIndex} → Combinable table a d b e t → ℕ → ℕ → List ℕ
 nextBytes h i j =
-    snapshotBytes (nextSnapshot (h .known .left .type) (getD (h .known .left .headed .dossier .snapshots) i noSnapshot) (getD (h .known .right .headed .dossier .snapshots) j noSnapshot))
+    let left = h .known .left in
+    let right = h .known .right in
+    snapshotBytes (nextSnapshot (left .type) (getD (left .headed .dossier .snapshots) i noSnapshot) (getD (right .headed .dossier .snapshots) j noSnapshot))
 
 pub record NextRoom (table a : List ℕ) (d : DossierIndex) (i : ℕ) (b : List ℕ) (e : DossierIndex) (j : ℕ) (t : TypeIndex) (at size : ℕ) : Type 0 where
   pub both : Combinable table a d b e t

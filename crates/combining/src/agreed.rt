@@ -79,8 +79,8 @@ fn write_set(s: &[u8], x: SetAt, out: &mut [u8], at: usize) -> usize
     requires { ⌜ SetRoom (now s) x at (length (now out)) ⌝ }
     ensures { λ r. ⌜ ((vs : List Text) → SetIs (now (s .entry)) vs x → Wrote (now (out .entry)) at (number (length vs) ++ flatten (map text vs)) (now (out .exit)) r) ⌝ }
 {
-    let values = write_number(out, at, x.count as u64);
-    copy(set_part(s, x), out, values)
+    let after_count = write_number(out, at, x.count as u64);
+    copy(set_part(s, x), out, after_count)
 }
 
 // The set of a place, if it is present.
@@ -127,9 +127,9 @@ pub fn write_agreed(a: &[u8], b: &[u8], out: &mut [u8], at: usize) -> usize
     let present = p.present;
     let marked = p.marked;
     let version = x.version;
-    let second = write_number(out, at, version.0);
-    let third = write_number(out, second, number_of(present));
-    let first = write_number(out, third, number_of(marked));
+    let after_version = write_number(out, at, version.0);
+    let after_presence = write_number(out, after_version, number_of(present));
+    let after_differ = write_number(out, after_presence, number_of(marked));
     let sets = x.sets;
-    write_present(a, sets, present, out, first)
+    write_present(a, sets, present, out, after_differ)
 }

@@ -19,6 +19,7 @@ use ontology::types::TypeIndex;
 use packed::write::copy_part;
 use packed::write::number_size;
 use packed::write::write_number;
+use values::versions::EventVersion;
 
 // The number that digits write.
 fn numeral_of(v: &[u8]) -> u64
@@ -36,31 +37,31 @@ fn numeral_of(v: &[u8]) -> u64
 }
 
 // An event's version: the number in its marked property, or 0 where its type has none.
-fn version_of(table: &[u8], event: &[u8], t: TypeIndex, e: EventIndex) -> u64
+fn version_of(table: &[u8], event: &[u8], t: TypeIndex, e: EventIndex) -> EventVersion
     requires { ⌜ Checkable (now table) (now event) t e ⌝ }
-    ensures { λ r. ⌜ ((h : Checkable (now (table .entry)) (now (event .entry)) t e) → r ≡ versionOf (h .type) (h .event)) ⌝ }
+    ensures { λ r. ⌜ ((h : Checkable (now (table .entry)) (now (event .entry)) t e) → r .0 ≡ versionOf (h .type) (h .event)) ⌝ }
 {
     let mark = t.mark;
     if mark == 0 {
-        return 0;
+        return EventVersion(0);
     }
     let x = e.sets[mark - 1];
-    numeral_of(value_in(set_part(event, x), 0))
+    EventVersion(numeral_of(value_in(set_part(event, x), 0)))
 }
 
 // Writes the dossier of one event at the front of `out`: its head as it stands, the numbers of its snapshot, and its sets as they stand.
-fn write_lone(event: &[u8], e: EventIndex, version: u64, out: &mut [u8]) -> usize
-    requires { ⌜ LoneRoom (now event) e version (length (now out)) ⌝ }
-    ensures { λ r. ⌜ ((h : Event) → EventIs (now (event .entry)) h e → Wrote (now (out .entry)) 0 (loneBytes h version) (now (out .exit)) r) ⌝ }
+fn write_lone(event: &[u8], e: EventIndex, version: EventVersion, out: &mut [u8]) -> usize
+    requires { ⌜ LoneRoom (now event) e (version .0) (length (now out)) ⌝ }
+    ensures { λ r. ⌜ ((h : Event) → EventIs (now (event .entry)) h e → Wrote (now (out .entry)) 0 (loneBytes h (version .0)) (now (out .exit)) r) ⌝ }
 {
     let first = e.first;
     let presence = e.presence;
-    let head = copy_part(event, 0, first - number_size(presence), out, 0);
-    let one = write_number(out, head, 1);
-    let dated = write_number(out, one, version);
-    let present = write_number(out, dated, presence);
-    let differ = write_number(out, present, 0);
-    copy_part(event, first, event.len(), out, differ)
+    let after_head = copy_part(event, 0, first - number_size(presence), out, 0);
+    let after_count = write_number(out, after_head, 1);
+    let after_version = write_number(out, after_count, version.0);
+    let after_presence = write_number(out, after_version, presence);
+    let after_differ = write_number(out, after_presence, 0);
+    copy_part(event, first, event.len(), out, after_differ)
 }
 
 // The dossier of an event, written at the front of `out`.
@@ -74,9 +75,9 @@ pub fn check_event(table: &[u8], event: &[u8], out: &mut [u8]) -> Reply
     if asked.number != 0 {
         return Reply::Refused(asked.number);
     }
-    let kind = asked.kind;
+    let event_type = asked.event_type;
     let x = asked.event;
-    let version = version_of(table, event, kind, x);
+    let version = version_of(table, event, event_type, x);
     Reply::Done(write_lone(event, x, version, out))
 }
 

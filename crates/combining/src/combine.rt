@@ -25,16 +25,16 @@ fn combine_read<'a>(
     d: DossierIndex,
     right: &'a [u8],
     e: DossierIndex,
-    kind: TypeIndex,
+    t: TypeIndex,
     out: &mut [u8],
 ) -> Reply
-    requires { ⌜ Combinable (now table) (now left) d (now right) e kind × (32768 ≤ length (now out)) ⌝ }
+    requires { ⌜ Combinable (now table) (now left) d (now right) e t × (32768 ≤ length (now out)) ⌝ }
     ensures { λ r. ⌜ replies r (now (out .exit)) ≡ combineCall standard (now (table .entry)) (now (left .entry)) (now (right .entry)) (now (out .entry)) ⌝ }
 {
-    if !limits_fit(table, left, d, right, e, kind) {
+    if !limits_fit(table, left, d, right, e, t) {
         return Reply::Refused(8);
     }
-    Reply::Done(write_combined(table, left, d, right, e, kind, out))
+    Reply::Done(write_combined(table, left, d, right, e, t, out))
 }
 
 // Two dossiers together, written at the front of `out`.
@@ -59,11 +59,11 @@ pub fn combine<'a>(table: &[u8], left: &'a [u8], right: &'a [u8], out: &mut [u8]
     if b.number != 0 {
         return Reply::Refused(b.number);
     }
-    let kind = a.kind;
-    if !dossiers_agree(left, d, right, e, kind) {
+    let event_type = a.event_type;
+    if !dossiers_agree(left, d, right, e, event_type) {
         return Reply::Refused(7);
     }
-    combine_read(table, left, d, right, e, kind, out)
+    combine_read(table, left, d, right, e, event_type, out)
 }
 
 // The same of two dossiers of which questions 2 to 7 are known to be answered yes.

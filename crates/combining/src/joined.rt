@@ -18,13 +18,14 @@ ghost use Rattle.dossier.specs.DossierLayout.{snapshotBytes};
 ghost use Rattle.combining.specs.CombineIndex.{Meet, JoinedRoom};
 ghost use Rattle.combining.specs.JoinedIndex.{haveObjects, PresentAre, Extremes, joinedSet, PlaceIs, PlaceRoom};
 use crate::limits::count_place;
-use crate::limits::is_extreme;
+use crate::limits::is_extreme_at;
 use dossier::snapshots::SnapshotIndex;
 use event::bits::number_of;
 use event::sets::SetAt;
 use event::sets::set_part;
 use event::sets::value_in;
 use ontology::properties::PropertyAt;
+use ontology::properties::is_max;
 use ontology::types::TypeIndex;
 use packed::write::write_number;
 use packed::write::write_text;
@@ -50,7 +51,7 @@ fn chosen<'a>(p: PropertyAt, a: &'a [u8], x: SetAt, b: &'a [u8], y: SetAt) -> &'
     if y.count == 0 {
         return v;
     }
-    choose(p.kind, p.strategy == 2, v, 0, v.len(), w, 0, w.len())
+    choose(p.kind, is_max(p), v, 0, v.len(), w, 0, w.len())
 }
 
 // Writes the set of a place of two unversioned snapshots, one of which has objects there.
@@ -67,12 +68,12 @@ fn write_place<'a>(
     requires { ⌜ PlaceRoom t k (now a) x (now b) y at (length (now out)) ⌝ }
     ensures { λ r. ⌜ ((h : PlaceIs t k (now (a .entry)) x (now (b .entry)) y) → Wrote (now (out .entry)) at (setBytes (joinedSet (h .type) k (h .xs) (h .ys))) (now (out .exit)) r) ⌝ }
 {
-    let values = write_number(out, at, count_place(t, k, a, x, b, y) as u64);
-    if is_extreme(t, k) {
+    let after_count = write_number(out, at, count_place(t, k, a, x, b, y) as u64);
+    if is_extreme_at(t, k) {
         let p = t.properties[k];
-        return write_text(chosen(p, a, x, b, y), out, values);
+        return write_text(chosen(p, a, x, b, y), out, after_count);
     }
-    write_union(set_part(a, x), set_part(b, y), out, values)
+    write_union(set_part(a, x), set_part(b, y), out, after_count)
 }
 
 // The places at which one of two unversioned snapshots has objects.
@@ -107,9 +108,9 @@ pub fn write_joined<'a>(
     let left = x.sets;
     let right = y.sets;
     let present = joined_places(left, right);
-    let second = write_number(out, at, 0);
-    let third = write_number(out, second, number_of(present));
-    let mut next = write_number(out, third, 0);
+    let after_version = write_number(out, at, 0);
+    let after_presence = write_number(out, after_version, number_of(present));
+    let mut next = write_number(out, after_presence, 0);
     let mut k: usize = 0;
     while k < 32 {
         if present[k] {

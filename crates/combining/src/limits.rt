@@ -13,17 +13,19 @@ ghost use Rattle.ontology.specs.Table.{EventType, isVersioned};
 ghost use Rattle.ontology.specs.TypeIndex.{TypeIs};
 ghost use Rattle.event.specs.Event.{view};
 ghost use Rattle.event.specs.EventIndex.{HashesAre, SetIs};
-ghost use Rattle.dossier.specs.DossierIndex.{SnapshotIs};
+ghost use Rattle.dossier.specs.DossierIndex.{versionNumbers, SnapshotIs};
 ghost use Rattle.combining.specs.CombineCall.{combined};
 ghost use Rattle.combining.specs.CombineIndex.{isExtremeAt, Combinable, Meet};
 use dossier::dossiers::DossierIndex;
 use dossier::snapshots::SnapshotIndex;
 use event::sets::SetAt;
 use event::sets::set_part;
+use ontology::properties::is_extreme;
 use ontology::types::TypeIndex;
 use packed::read::part_of;
 use unions::pair::count_hash_union;
 use unions::pair::count_union;
+use values::versions::EventVersion;
 
 // The hashes of some parents where they stand; nothing where the positions are not of these bytes.
 pub fn hashes_part(s: &[u8], x: SetAt) -> &[u8]
@@ -33,9 +35,9 @@ pub fn hashes_part(s: &[u8], x: SetAt) -> &[u8]
 }
 
 // How many versions two dossiers have together, where each has its versions rising.
-pub fn count_versions(v: [u64; 8], m: usize, w: [u64; 8], n: usize) -> usize
+pub fn count_versions(v: [EventVersion; 8], m: usize, w: [EventVersion; 8], n: usize) -> usize
     requires { ⌜ (m ≤ 8) × (n ≤ 8) ⌝ }
-    ensures { λ r. ⌜ (rising numbers (take m v) ≡ true → rising numbers (take n w) ≡ true → r ≡ length (union numbers (take m v) (take n w))) ⌝ }
+    ensures { λ r. ⌜ (rising numbers (versionNumbers (take m v)) ≡ true → rising numbers (versionNumbers (take n w)) ≡ true → r ≡ length (union numbers (versionNumbers (take m v)) (versionNumbers (take n w)))) ⌝ }
 {
     let mut i: usize = 0;
     let mut j: usize = 0;
@@ -46,10 +48,10 @@ pub fn count_versions(v: [u64; 8], m: usize, w: [u64; 8], n: usize) -> usize
         }
         let a = v[i];
         let b = w[j];
-        if a <= b {
+        if a.0 <= b.0 {
             i += 1;
         }
-        if b <= a {
+        if b.0 <= a.0 {
             j += 1;
         }
         count += 1;
@@ -58,7 +60,7 @@ pub fn count_versions(v: [u64; 8], m: usize, w: [u64; 8], n: usize) -> usize
 }
 
 // A place of strategy min or max has one value.
-pub fn is_extreme(t: TypeIndex, k: usize) -> bool
+pub fn is_extreme_at(t: TypeIndex, k: usize) -> bool
     requires { ⌜ t .count ≤ 32 ⌝ }
     ensures { λ r. ⌜ ((u : List ℕ) (ty : EventType) → TypeIs u ty t → r ≡ isExtremeAt ty k) ⌝ }
 {
@@ -66,7 +68,7 @@ pub fn is_extreme(t: TypeIndex, k: usize) -> bool
         return false;
     }
     let p = t.properties[k];
-    p.strategy == 1 || p.strategy == 2
+    is_extreme(p)
 }
 
 // How many objects a place has where two unversioned snapshots are joined.
@@ -74,7 +76,7 @@ pub fn count_place(t: TypeIndex, k: usize, a: &[u8], x: SetAt, b: &[u8], y: SetA
     requires { ⌜ t .count ≤ 32 ⌝ }
     ensures { λ r. ⌜ ((u : List ℕ) (ty : EventType) (xs ys : List Text) → TypeIs u ty t → SetIs (now (a .entry)) xs x → SetIs (now (b .entry)) ys y → rising texts xs ≡ true → rising texts ys ≡ true → (isExtremeAt ty k ≡ true → (length xs ≤ 1) × (length ys ≤ 1)) → r ≡ length (held (joinCell false (view ty .choice k) (holds xs) (holds ys)))) ⌝ }
 {
-    if is_extreme(t, k) {
+    if is_extreme_at(t, k) {
         if x.count == 0 {
             return y.count;
         }

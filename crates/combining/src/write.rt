@@ -28,6 +28,7 @@ use packed::write::write_number;
 use packed::write::write_text;
 use unions::pair::count_hash_union;
 use unions::pair::write_hash_union;
+use values::versions::EventVersion;
 
 // Writes what two snapshots of one version, at the front of a and b, are together. Unversioned ones stand there as the indexes say.
 fn write_shared<'a>(
@@ -78,28 +79,28 @@ fn write_next<'a>(
     requires { ⌜ NextRoom (now table) (now a) d i (now b) e j t at (length (now out)) ⌝ }
     ensures { λ r. ⌜ ((h : Combinable (now (table .entry)) (now (a .entry)) d (now (b .entry)) e t) → Wrote (now (out .entry)) at (nextBytes h i j) (now (out .exit)) r) ⌝ }
 {
-    let left = d.starts[i];
-    let right = e.starts[j];
+    let left_start = d.starts[i];
+    let right_start = e.starts[j];
     let v = d.versions[i];
     let w = e.versions[j];
-    if v < w {
+    if v.0 < w.0 {
         let end = d.ends[i];
-        return copy_part(a, left, end, out, at);
+        return copy_part(a, left_start, end, out, at);
     }
-    if w < v {
+    if w.0 < v.0 {
         let end = e.ends[j];
-        return copy_part(b, right, end, out, at);
+        return copy_part(b, right_start, end, out, at);
     }
     let x = d.first;
     let y = e.first;
-    write_shared(table, &a[left..], x, &b[right..], y, t, out, at)
+    write_shared(table, &a[left_start..], x, &b[right_start..], y, t, out, at)
 }
 
 // How many snapshots a side of version v goes on by, where the other one has version w.
-fn step_by(v: u64, w: u64) -> usize
-    ensures { λ r. ⌜ r ≡ stepBy v w ⌝ }
+fn step_by(v: EventVersion, w: EventVersion) -> usize
+    ensures { λ r. ⌜ r ≡ stepBy (v .0) (w .0) ⌝ }
 {
-    if v <= w { 1 } else { 0 }
+    if v.0 <= w.0 { 1 } else { 0 }
 }
 
 // The snapshots of both sides by rising version.
@@ -141,10 +142,10 @@ fn write_head(a: &[u8], d: DossierIndex, b: &[u8], e: DossierIndex, out: &mut [u
     let y = e.head;
     let left = hashes_part(a, x.parents);
     let right = hashes_part(b, y.parents);
-    let source = write_text(text_part(a, x.name), out, 0);
-    let parents = write_text(text_part(a, x.source), out, source);
-    let hashes = write_number(out, parents, count_hash_union(left, right) as u64);
-    write_hash_union(left, right, out, hashes)
+    let after_type = write_text(text_part(a, x.name), out, 0);
+    let after_source = write_text(text_part(a, x.source), out, after_type);
+    let after_count = write_number(out, after_source, count_hash_union(left, right) as u64);
+    write_hash_union(left, right, out, after_count)
 }
 
 // Writes the combined dossier at the front of `out`.
@@ -162,7 +163,11 @@ pub fn write_combined<'a>(
 {
     let v = d.versions;
     let w = e.versions;
-    let count = write_head(a, d, b, e, out);
-    let first = write_number(out, count, count_versions(v, d.count, w, e.count) as u64);
-    write_snapshots(table, a, d, b, e, t, out, first)
+    let after_head = write_head(a, d, b, e, out);
+    let after_count = write_number(
+        out,
+        after_head,
+        count_versions(v, d.count, w, e.count) as u64,
+    );
+    write_snapshots(table, a, d, b, e, t, out, after_count)
 }

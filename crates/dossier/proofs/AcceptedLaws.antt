@@ -23,7 +23,7 @@ use Rattle.ontology.proofs.TypeIndexLaws.{named-at}
 use Rattle.event.proofs.EventSizeLaws.{ValuesShort}
 use Rattle.dossier.specs.DossierLayout.{dossierOf, Headed}
 use Rattle.dossier.specs.DossierQuestions.{eachSnapshot, dossierShape, snapshotValues, TypedDossier, dossierAsked}
-use Rattle.dossier.specs.DossierIndex.{noSnapshot, snapshotFits, DossierIs, DossierAnswers}
+use Rattle.dossier.specs.DossierIndex.{noSnapshot, snapshotFits, DossierAnswers}
 use Rattle.dossier.specs.declared.questions.DossierAsked.{DossierAsked}
 use Rattle.dossier.proofs.DossierLayoutLaws.{DossierWritten, dossier-was}
 use Rattle.dossier.proofs.DossierSizeLaws.{snapshots-short, versioned-sizes, shape-parts, shape-objects}
@@ -77,15 +77,14 @@ asked-number types s e = at-layout (dossierOf standard s) e
 pub record Answered (types : Table) (table s : List ℕ) (r : DossierAsked) : Type 0 where
   pub what : TypedDossier
   pub asked : dossierAsked standard types s ≡ accepted what
-  pub typed : TypeIs table (what .type) (r .kind)
-  pub stands : DossierIs s (what .headed) (r .dossier)
+  pub typed : TypeIs table (what .type) (r .«event_type»)
 
-module _ (types : Table) (table s : List ℕ) (r : DossierAsked) (w : DossierAnswers (dossierAsked standard types s) table s r) where
+module _ (types : Table) (table s : List ℕ) (r : DossierAsked) (w : DossierAnswers (dossierAsked standard types s) table r) where
   pub asked-refused : (r .number ≡ 0 → ⊥) → dossierAsked standard types s ≡ refused (r .number)
   unfolding DossierAnswers
   asked-refused h = go (dossierAsked standard types s) w
     where
-      go : (q : Asked TypedDossier) → DossierAnswers q table s r → q ≡ refused (r .number)
+      go : (q : Asked TypedDossier) → DossierAnswers q table r → q ≡ refused (r .number)
       go (refused n) w = ap refused (sym w)
       go (accepted a) w = absurd (h (w .0))
 
@@ -93,9 +92,9 @@ module _ (types : Table) (table s : List ℕ) (r : DossierAsked) (w : DossierAns
   unfolding DossierAnswers
   asked-accepted h = go (dossierAsked standard types s) refl w
     where
-      go : (q : Asked TypedDossier) → dossierAsked standard types s ≡ q → DossierAnswers q table s r → Answered types table s r
+      go : (q : Asked TypedDossier) → dossierAsked standard types s ≡ q → DossierAnswers q table r → Answered types table s r
       go (refused n) e w = absurd (asked-number types s (e ∙ ap refused (sym w ∙ h)))
-      go (accepted a) e w = record { what = a; asked = e; typed = w .1; stands = w .2 }
+      go (accepted a) e w = record { what = a; asked = e; typed = w .1 }
 
 -- ---- one of its snapshots, and all of them
 

@@ -1,5 +1,5 @@
 -- The laws of questions 3 to 7 of dossiers.
-use mathlib.Core.Path.{_≡_, refl, sym, ap, ap₂, _∙_}
+use mathlib.Core.Path.{_≡_, refl, sym, ap, ap₂, _∙_, subst}
 use mathlib.Core.Bool.{Bool, true, false, _&&_}
 use mathlib.Core.Option.{Option, none, some}
 use mathlib.Core.List.{List, [], _∷_}
@@ -42,11 +42,16 @@ unfolding DossierReads
 dossier-no none s d w h = refl
 dossier-no (some h) s d w e = let z : _≡_ {A = ℕ} 0 1 = cc (w .0) in absurd (omega arith)
 
+-- the dossier that was read stands as its index says
+pub reads-is : (s : List ℕ) (d : DossierIndex) (h : Headed) → DossierReads (dossierOf standard s) s d → dossierOf standard s ≡ some h → DossierIs s h d
+unfolding DossierReads
+reads-is s d h w e = subst (λ (o : Option Headed). DossierReads o s d) e w .1
+
 pub is-dossier : (o : Option Headed) (s : List ℕ) (d : DossierIndex) → DossierReads o s d → d .ok ≡ true → IsDossier s d
 is-dossier o s d w h = let k = dossier-known o s d w h in record { what = k .what; is = k .stands }
 
 module _ (table : List ℕ) (ts : Table) (s : List ℕ) (d : DossierIndex) (w : DossierReads (dossierOf standard s) s d) where
-  pub answer-layout : d .ok ≡ false → (k : TypeIndex) → DossierAnswers (dossierAsked standard ts s) table s (record { number = 3; kind = k; dossier = d })
+  pub answer-layout : d .ok ≡ false → (k : TypeIndex) → DossierAnswers (dossierAsked standard ts s) table (record { number = 3; «event_type» = k })
   unfolding dossierAsked DossierAnswers
   answer-layout h k = let e : dossierOf standard s ≡ none = dossier-no (dossierOf standard s) s d w h in rw e refl
 
@@ -55,7 +60,7 @@ module _ (table : List ℕ) (ts : Table) (s : List ℕ) (d : DossierIndex) (w : 
     it = dossier-known (dossierOf standard s) s d w ok
 
     module _ (read : TableRead) (says : (h : Headed) → DossierIs s h d → TypeSays (typeNamed (h .type) ts) table read) where
-      pub answer-type : read .found ≡ false → (k : TypeIndex) → DossierAnswers (dossierAsked standard ts s) table s (record { number = 4; kind = k; dossier = d })
+      pub answer-type : read .found ≡ false → (k : TypeIndex) → DossierAnswers (dossierAsked standard ts s) table (record { number = 4; «event_type» = k })
       unfolding dossierAsked DossierAnswers
       answer-type h k = let e : typeNamed (it .what .type) ts ≡ none = type-absent (typeNamed (it .what .type) ts) table read (says (it .what) (it .stands)) h in rw (it .is, e) refl
 
@@ -66,7 +71,7 @@ module _ (table : List ℕ) (ts : Table) (s : List ℕ) (d : DossierIndex) (w : 
         pub answer-rest :
             (n : ℕ) →
             ((u : List ℕ) (ty : EventType) (h : Headed) → TypeIs u ty (read .index) → KindsAre ty → DossierIs s h d → n ≡ shapeNumber (dossierShape standard ty (h .dossier .snapshots)) (eachSnapshot (snapshotValues ty) (h .dossier .snapshots))) →
-            DossierAnswers (dossierAsked standard ts s) table s (record { number = n; kind = read .index; dossier = d })
+            DossierAnswers (dossierAsked standard ts s) table (record { number = n; «event_type» = read .index })
         unfolding dossierAsked DossierAnswers shapeNumber
         answer-rest n a =
             rw (it .is, type .is)
@@ -75,10 +80,10 @@ module _ (table : List ℕ) (ts : Table) (s : List ℕ) (d : DossierIndex) (w : 
           where
             go :
                 (x y : Bool) → n ≡ shapeNumber x y →
-                DossierAnswers (ensure 5 x >> (ensure 6 y >> accepted (record { type = type .what; headed = it .what }))) table s (record { number = n; kind = read .index; dossier = d })
+                DossierAnswers (ensure 5 x >> (ensure 6 y >> accepted (record { type = type .what; headed = it .what }))) table (record { number = n; «event_type» = read .index })
             go false y h = h
             go true false h = h
-            go true true h = (h, type .stands, it .stands)
+            go true true h = (h, type .stands)
 
 -- ---- question 7
 

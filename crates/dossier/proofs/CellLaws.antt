@@ -110,22 +110,41 @@ unfolding differBit isMark
 mark-bit (holds x) = refl
 mark-bit differs = refl
 
+bits-split :
+    (cs : List Cell) (k : ℕ) →
+    bitNumber (map differBit (drop k cs)) ≡ differBit (getD cs k (holds [])) + 2 * bitNumber (map differBit (drop (suc k) cs))
+unfolding bitNumber differBit
+bits-split [] zero = refl
+bits-split [] (suc k) = refl
+bits-split (c ∷ cs) zero = refl
+bits-split (c ∷ cs) (suc k) = bits-split cs k
+
+-- the differ bit of place k, and those after it
+module _ (cs : List Cell) (k bits : ℕ) (b : bits ≡ bitNumber (map differBit (drop k cs))) where
+  abbrev bit : ℕ
+  bit = differBit (getD cs k (holds []))
+
+  abbrev after : ℕ
+  after = bitNumber (map differBit (drop (k + 1) cs))
+
+  bits-here : bits ≡ bit + 2 * after
+  bits-here = b ∙ rw add-one (bits-split cs k)
+
+  pub bit-here : bits % 2 ≡ bit
+  bit-here = ap (λ (n : ℕ). n % 2) bits-here ∙ low-bit bit after (differ-small (getD cs k (holds [])))
+
+  pub mark-here : eqb (bits % 2) 1 ≡ isMark (getD cs k (holds []))
+  mark-here = ap (λ (n : ℕ). eqb n 1) bit-here ∙ mark-bit (getD cs k (holds []))
+
+  pub bits-next : bits / 2 ≡ bitNumber (map differBit (drop (k + 1) cs))
+  bits-next = ap (λ (n : ℕ). n / 2) bits-here ∙ high-bits bit after (differ-small (getD cs k (holds [])))
+
 module _ (s : List ℕ) (cs : List Cell) (differ : ℕ) (ats : List SetAt) (v : CellsAre s cs differ ats) (k bits : ℕ) (h : k < 32) (b : bits ≡ bitNumber (map differBit (drop k cs))) where
   long : k < length cs
   long = omega (arith, v .sets .long, length-map cs held)
 
-  here : bits ≡ differBit (getD cs k (holds [])) + 2 * bitNumber (map differBit (drop (k + 1) cs))
-  unfolding bitNumber
-  here = b ∙ rw (drop-cons cs k (holds []) long, add-one)
-
   pub cell-here : CellIs (getD cs k (holds [])) (eqb (bits % 2) 1) (getD ats k noSet .count)
-  cell-here = record {
-    mark = ap (λ (n : ℕ). eqb (n % 2) 1) here ∙ ap (λ (n : ℕ). eqb n 1) (low-bit (differBit (getD cs k (holds []))) (bitNumber (map differBit (drop (k + 1) cs))) (differ-small (getD cs k (holds [])))) ∙ mark-bit (getD cs k (holds []));
-    size = v .sets .each k h .count ∙ ap length (held-at cs k);
-  }
-
-  pub bits-next : bits / 2 ≡ bitNumber (map differBit (drop (k + 1) cs))
-  bits-next = ap (λ (n : ℕ). n / 2) here ∙ high-bits (differBit (getD cs k (holds []))) (bitNumber (map differBit (drop (k + 1) cs))) (differ-small (getD cs k (holds [])))
+  cell-here = record { mark = mark-here cs k bits b; size = v .sets .each k h .count ∙ ap length (held-at cs k) }
 
   -- the objects from k on
   module _ (left : ℕ) (o : left ≡ sizes (drop k cs)) where
@@ -178,7 +197,7 @@ cells-end s ty t cs f k bits left w h b o =
 
 -- ---- the match objects
 
-match-of : (s : List ℕ) (q : Property) (x : PropertyAt) → PropertyIs s q x → eqb (x .strategy) 5 ≡ isMatch q
+pub match-of : (s : List ℕ) (q : Property) (x : PropertyAt) → PropertyIs s q x → eqb (x .strategy) 5 ≡ isMatch q
 match-of s q x w = ap (λ (n : ℕ). eqb n 5) (w .strategy)
 
 -- a limit of a sum is a limit of the rest

@@ -9,10 +9,11 @@ use native.Mathlib.Omega.{arith}
 use lib.Dec.{ltb, eqb}
 use lib.ListN.{length, drop, getD, length-append, length-drop, drop-of-length-le}
 use lib.Seq.{getD-at, drop-cons}
-use borrow.Author.Tests.{lt-ltb, le-ltb, eq-eqb, ne-eqb, eqb-true, eqb-false}
+use borrow.Author.Tests.{eq-eqb, ne-eqb, eqb-true, eqb-false}
 use Rattle.model.specs.Order.{Text, texts, equal}
 use Rattle.model.proofs.OrderLaws.{equal-true, equal-false}
 use Rattle.values.specs.Decimal.{digitsBefore, inDecimal}
+use Rattle.values.proofs.NumeralLaws.{digits-last, digits-more}
 
 same-or : (a b : ℕ) → (a ≡ b) ⊎ (a ≡ b → ⊥)
 same-or a b = go (eqb a b) refl
@@ -20,15 +21,6 @@ same-or a b = go (eqb a b) refl
     go : (t : Bool) → eqb a b ≡ t → (a ≡ b) ⊎ (a ≡ b → ⊥)
     go true e = inl (eqb-true a b e)
     go false e = inr (eqb-false a b e)
-
--- a number of several digits, and of one
-digits-more : (most n : ℕ) (t : Text) → 9 < n → digitsBefore (suc most) n t ≡ digitsBefore most (n / 10) ((48 + n % 10) ∷ t)
-unfolding digitsBefore
-digits-more most n t h = rw (le-ltb n 10 (omega arith))
-
-digits-last : (most n : ℕ) (t : Text) → n ≤ 9 → digitsBefore (suc most) n t ≡ (48 + n) ∷ t
-unfolding digitsBefore
-digits-last most n t h = rw (lt-ltb n 10 (omega arith))
 
 -- what stands before t, one digit at least
 record Before (d t : Text) : Type 0 where
@@ -76,7 +68,7 @@ module _ (v : Text) (n m k : ℕ) (w : Left v n m k) where
     last = (48 + m % 10) ∷ drop k v
 
     step : equal texts v (inDecimal n) ≡ equal texts v (digitsBefore (w .most) (m / 10) last)
-    step = w .is ∙ ap (equal texts v) (digits-more (w .most) m (drop k v) h)
+    step = w .is ∙ ap (equal texts v) (digits-more (w .most) m (drop k v) (omega arith))
 
     -- were the two equal, so would be what stands at the place before k
     pub digit-none : k ≡ 0 → equal texts v (inDecimal n) ≡ false
@@ -115,7 +107,7 @@ module _ (v : Text) (n m k : ℕ) (w : Left v n m k) where
   -- m is one digit
   module _ (h : m ≤ 9) where
     final : equal texts v (inDecimal n) ≡ equal texts v ((48 + m) ∷ drop k v)
-    final = w .is ∙ ap (equal texts v) (digits-last (w .most) m (drop k v) h)
+    final = w .is ∙ ap (equal texts v) (digits-last (w .most) m (drop k v) (omega arith))
 
     pub digit-far : (k ≡ 1 → ⊥) → equal texts v (inDecimal n) ≡ false
     digit-far ne = final ∙ not-equal ((48 + m) ∷ drop k v) (λ e. ne (omega (arith, ap length e, length-drop k v, w .within)))

@@ -13,11 +13,11 @@ use Rattle.model.specs.Rule.{Cell, holds, differs, Snapshot}
 use Rattle.model.specs.Limits.{Limits}
 use Rattle.model.specs.Opening.{held}
 use Rattle.model.proofs.Cases.{and-parts}
-use Rattle.packed.specs.Parse.{got, Layout, _>>=_, foundIf, suchThat, times}
+use Rattle.packed.specs.Parse.{Parse, got, Layout, andThen, _>>=_, foundIf, suchThat, times}
 use Rattle.packed.specs.Packed.{number, readNumber}
 use Rattle.packed.proofs.LayoutLaws.{All, andThen-got, foundIf-got, suchThat-got, whole-some, number-read, number-was, times-read, times-was}
 use Rattle.values.specs.Spaces.{isWithin}
-use Rattle.event.specs.EventLayout.{readBits, readSets, headBytes, presenceBit, bitNumber, setsBytes}
+use Rattle.event.specs.EventLayout.{HeadOf, readHead, readBits, readSets, headBytes, presenceBit, bitNumber, setsBytes}
 use Rattle.event.proofs.EventLayoutLaws.{SetsWritten, HeadWritten, head-read, head-was, presence-small, bits-small, low-bit, high-bits, half-small, SetsWas, sets-was, bits-read, bits-was, presence-below, all-sets-read}
 use Rattle.dossier.specs.DossierLayout.{Headed, apart, cellsOf, areSmall, readSnapshot, readDossier, dossierOf, differBit, snapshotBytes, dossierBytes}
 
@@ -181,12 +181,12 @@ snapshot-was s x r e =
 -- ---- the dossier
 
 -- what follows the head
-abbrev readBody : Limits → Text → Text → List Text → Layout Headed
-readBody limits type source parents = do
+abbrev readBody : Limits → HeadOf → Layout Headed
+readBody limits head = do
   count ← suchThat (isWithin 1 (limits .versions)) readNumber
   snapshots ← times readSnapshot count
   foundIf (rising numbers (map (λ (s : Snapshot). s .version) snapshots))
-      (record { type = type; source = source; dossier = record { parents = parents; snapshots = snapshots } })
+      (record { type = head .type; source = head .source; dossier = record { parents = head .parents; snapshots = snapshots } })
 
 dossier-parts : (h : Headed) → dossierBytes h ≡ headBytes (h .type) (h .source) (h .dossier .parents) ++ (number (length (h .dossier .snapshots)) ++ (flatten (map snapshotBytes (h .dossier .snapshots)) ++ []))
 unfolding dossierBytes
@@ -201,7 +201,8 @@ dossier-read limits h w =
     let body = flatten (map snapshotBytes ss) ++ [] in
     whole-some (readDossier limits (dossierBytes h)) h .1
     (ap (readDossier limits) (dossier-parts h)
-    ∙ head-read (limits .parents) (readBody limits) (h .type) (h .source) (h .dossier .parents) (number (length ss) ++ body) (w .head)
+    ∙ ap (λ (p : Parse HeadOf). andThen p (readBody limits))
+    (head-read (limits .parents) (h .type) (h .source) (h .dossier .parents) (number (length ss) ++ body) (w .head))
     ∙ rw (
       number-read (length ss) body (w .few),
       le-leb 1 (length ss) (w .one),
@@ -220,14 +221,15 @@ dossier-is limits n s t u v type source parents ss h a w b m x up p q =
 pub dossier-was : (limits : Limits) (s : List ℕ) (h : Headed) → dossierOf limits s ≡ some h → (s ≡ dossierBytes h) × DossierWritten limits h
 unfolding dossierOf readDossier
 dossier-was limits s h e =
-    let a = head-was (limits .parents) (readBody limits) s h [] (whole-some (readDossier limits s) h .0 e) in
-    let c = andThen-got (suchThat (isWithin 1 (limits .versions)) readNumber (a .left)) _ h [] (a .rest) in
+    let a = andThen-got (readHead (limits .parents) s) (readBody limits) h [] (whole-some (readDossier limits s) h .0 e) in
+    let x = head-was (limits .parents) s (a .value) (a .left) (a .first) in
+    let c = andThen-got (suchThat (isWithin 1 (limits .versions)) readNumber (a .left)) _ h [] (a .second) in
     let n = suchThat-got (isWithin 1 (limits .versions)) readNumber (a .left) (c .value) (c .left) (c .first) in
     let d = andThen-got (times readSnapshot (c .value) (c .left)) _ h [] (c .second) in
     let f = foundIf-got (rising numbers (map (λ (s : Snapshot). s .version) (d .value))) _ (d .left) h [] (d .second) in
     let t = and-parts (leb 1 (c .value)) (leb (c .value) (limits .versions)) (n .test) in
-    dossier-is limits (c .value) s (a .left) (c .left) (d .left) (a .type) (a .source) (a .parents) (d .value) h
-    (a .bytes) (a .written)
+    dossier-is limits (c .value) s (a .left) (c .left) (d .left) (a .value .type) (a .value .source) (a .value .parents) (d .value) h
+    (x .0) (x .1)
     (number-was (a .left) (c .value) (c .left) (n .was))
     (leb-true 1 (c .value) (t .0), leb-true (c .value) (limits .versions) (t .1))
     (times-was readSnapshot snapshotBytes SnapshotWritten snapshot-was (c .value) (c .left) (d .value) (d .left) (d .first))

@@ -7,28 +7,29 @@ use mathlib.Core.List.{List, [], _∷_, _++_, append-nil, map}
 use Prim.Native.Nat.{ℕ, zero, suc, _+_, _-_, _≤_, _<_}
 use native.Mathlib.Omega.{arith}
 use native.Mathlib.Numerals.{add-one, sub-one}
-use lib.ListN.{length, take, drop, getD, set, length-append, length-drop, length-set, List·getD-append}
+use lib.ListN.{length, take, drop, getD, set, length-append, length-drop, length-map, length-set, List·getD-append, List·getD-map}
 use lib.Seq.{drop-cons, drop-length, getD-at, getD-set-same, getD-set-other, getD-take, length-take-le, take-suc-set}
 use borrow.Author.Count.{below-more}
-use Rattle.model.specs.Order.{Text, numbers, rising, three}
+use Rattle.model.specs.Order.{numbers, rising}
+use Rattle.model.proofs.Cases.{three, never}
 use Rattle.model.proofs.OrderLaws.{less-of, less-cmp}
 use Rattle.model.specs.Rule.{Snapshot}
 use Rattle.model.specs.Limits.{standard}
-use Rattle.model.proofs.Cases.{never}
 use Rattle.model.proofs.PartLaws.{map-append}
-use Rattle.packed.specs.Parse.{Parse, fail, got, Layout, andThen, _>>=_, found, foundIf, suchThat, times, whole}
-use Rattle.packed.specs.Packed.{readNumber, readText}
+use Rattle.packed.specs.Parse.{Parse, fail, got, Layout, andThen, _>>=_, foundIf, suchThat, times, whole}
+use Rattle.packed.specs.Packed.{readNumber}
 use Rattle.packed.proofs.LayoutLaws.{fail-got, lt-or-ge, times-was}
 use Rattle.packed.proofs.ReadLaws.{drop-next}
 use Rattle.values.specs.Spaces.{isWithin}
 use Rattle.ontology.specs.TypeIndex.{Got}
 use Rattle.ontology.proofs.FieldLaws.{got-bounds}
 use Rattle.ontology.proofs.RunLaws.{prepend, prepend-nil, prepend-one}
-use Rattle.event.specs.EventLayout.{isSource, readParents, bitNumber}
-use Rattle.event.specs.EventIndex.{HeadOf, readHead, HeadStops}
+use Rattle.event.specs.EventLayout.{HeadOf, readHead, bitNumber}
+use Rattle.event.specs.EventIndex.{HeadStops}
+use Rattle.values.specs.declared.versions.EventVersion.{EventVersion}
 use Rattle.event.specs.declared.read.HeadAt.{HeadAt}
 use Rattle.dossier.specs.DossierLayout.{Headed, readSnapshot, readDossier, dossierOf, differBit, snapshotBytes}
-use Rattle.dossier.specs.DossierIndex.{SnapshotIs, SnapshotReads, SnapshotAt, PassedIs, PassedSays, noSnapshot, SnapshotsAre, SnapshotsSay, DossierIs, DossierReads, DossierSays}
+use Rattle.dossier.specs.DossierIndex.{SnapshotIs, SnapshotReads, SnapshotAt, PassedIs, PassedSays, noSnapshot, versionNumbers, noVersion, SnapshotsAre, SnapshotsSay, DossierIs, DossierReads, DossierSays}
 use Rattle.dossier.specs.declared.snapshots.SnapshotIndex.{SnapshotIndex}
 use Rattle.dossier.specs.declared.snapshots.SnapshotPassed.{SnapshotPassed}
 use Rattle.dossier.specs.declared.dossiers.SnapshotsRead.{SnapshotsRead}
@@ -53,34 +54,40 @@ rise-few (a ∷ []) h = refl
 rise-few (a ∷ b ∷ l) h = absurd (omega arith)
 
 -- of the first `count` versions, those from the one before k on
-module _ (vs : List ℕ) (count : ℕ) (few : count ≤ length vs) where
-  long : length (take count vs) ≡ count
-  long = length-take-le count vs few
+module _ (vs : List EventVersion) (count : ℕ) (few : count ≤ length vs) where
+  abbrev ns : List ℕ
+  ns = versionNumbers (take count vs)
 
-  two : (j : ℕ) → suc j < count → drop j (take count vs) ≡ getD vs j 0 ∷ getD vs (suc j) 0 ∷ drop (suc (suc j)) (take count vs)
-  two j h =
-      drop-cons (take count vs) j 0 (omega (arith, long))
-      ∙ ap (λ (l : List ℕ). getD (take count vs) j 0 ∷ l) (drop-cons (take count vs) (suc j) 0 (omega (arith, long)))
-      ∙ ap₂ (λ (a b : ℕ). a ∷ b ∷ drop (suc (suc j)) (take count vs)) (getD-take count vs j 0 (omega arith)) (getD-take count vs (suc j) 0 h)
+  abbrev numberAt : ℕ → ℕ
+  numberAt j = getD vs j noVersion .0
 
-  pub rise-bad : (k : ℕ) → 1 ≤ k → k < count → getD vs k 0 ≤ getD vs (k - 1) 0 → rising numbers (drop (k - 1) (take count vs)) ≡ false
+  long : length ns ≡ count
+  long = length-map (take count vs) (λ (v : EventVersion). v .0) ∙ length-take-le count vs few
+
+  split : (j : ℕ) → j < count → drop j ns ≡ numberAt j ∷ drop (suc j) ns
+  split j h =
+      drop-cons ns j 0 (omega (arith, long))
+      ∙ ap (λ (a : ℕ). a ∷ drop (suc j) ns)
+      (List·getD-map (λ (v : EventVersion). v .0) (take count vs) j noVersion ∙ ap (λ (v : EventVersion). v .0) (getD-take count vs j noVersion h))
+
+  two : (j : ℕ) → suc j < count → drop j ns ≡ numberAt j ∷ numberAt (suc j) ∷ drop (suc (suc j)) ns
+  two j h = split j (omega arith) ∙ ap (λ (l : List ℕ). numberAt j ∷ l) (split (suc j) h)
+
+  pub rise-bad : (k : ℕ) → 1 ≤ k → k < count → numberAt k ≤ numberAt (k - 1) → rising numbers (drop (k - 1) ns) ≡ false
   rise-bad zero o h b = absurd (omega arith)
   rise-bad (suc j) o h b =
-      let g : getD vs (suc j) 0 ≤ getD vs j 0 = rw sub-one at b in
-      rw (sub-one, two j h) (rise-not (getD vs j 0) (getD vs (suc j) 0) _ g)
+      let g : numberAt (suc j) ≤ numberAt j = rw sub-one at b in
+      rw (sub-one, two j h) (rise-not (numberAt j) (numberAt (suc j)) _ g)
 
-  pub rise-step : (k : ℕ) → 1 ≤ k → k < count → getD vs (k - 1) 0 < getD vs k 0 → rising numbers (drop (k - 1) (take count vs)) ≡ rising numbers (drop (k + 1 - 1) (take count vs))
+  pub rise-step : (k : ℕ) → 1 ≤ k → k < count → numberAt (k - 1) < numberAt k → rising numbers (drop (k - 1) ns) ≡ rising numbers (drop (k + 1 - 1) ns)
   rise-step zero o h b = absurd (omega arith)
   rise-step (suc j) o h b =
-      let g : getD vs j 0 < getD vs (suc j) 0 = rw sub-one at b in
+      let g : numberAt j < numberAt (suc j) = rw sub-one at b in
       let e : suc j + 1 - 1 ≡ suc j = omega arith in
-      rw (sub-one, e)
-      (ap (rising numbers) (two j h)
-      ∙ rise-on (getD vs j 0) (getD vs (suc j) 0) _ g
-      ∙ ap (rising numbers) (sym (drop-cons (take count vs) (suc j) 0 (omega (arith, long)) ∙ ap (λ (a : ℕ). a ∷ drop (suc (suc j)) (take count vs)) (getD-take count vs (suc j) 0 h))))
+      rw (sub-one, e) (ap (rising numbers) (two j h) ∙ rise-on (numberAt j) (numberAt (suc j)) _ g ∙ ap (rising numbers) (sym (split (suc j) h)))
 
-  pub rise-end : (k : ℕ) → count ≤ k → rising numbers (drop (k - 1) (take count vs)) ≡ true
-  rise-end k h = rise-few (drop (k - 1) (take count vs)) (simp (length-drop, long) (omega arith))
+  pub rise-end : (k : ℕ) → count ≤ k → rising numbers (drop (k - 1) ns) ≡ true
+  rise-end k h = rise-few (drop (k - 1) ns) (simp (length-drop, long) (omega arith))
 
 -- ---- snapshots, one after the other
 
@@ -100,11 +107,11 @@ abbrev differNumber : Snapshot → ℕ
 differNumber x = bitNumber (map differBit (x .cells))
 
 -- an array of which each element is the same
-abbrev pub eight : ℕ → List ℕ
+abbrev pub eight : {A : Type 0} → A → List A
 eight n = n ∷ n ∷ n ∷ n ∷ n ∷ n ∷ n ∷ n ∷ []
 
 -- The first j of n snapshots are read: they are xs, and the others stand from `next` on
-pub record Passed (p : Parse (List Snapshot)) (s starts ends versions differs : List ℕ) (first : SnapshotIndex) (n next j : ℕ) : Type 0 where
+pub record Passed (p : Parse (List Snapshot)) (s starts ends : List ℕ) (versions : List EventVersion) (differs : List ℕ) (first : SnapshotIndex) (n next j : ℕ) : Type 0 where
   pub xs : List Snapshot
   pub long : length xs ≡ j
   pub below : j ≤ n
@@ -113,7 +120,7 @@ pub record Passed (p : Parse (List Snapshot)) (s starts ends versions differs : 
   pub each : (i : ℕ) → i < j → SnapshotAt s (getD xs i noSnapshot) (getD starts i 0) (getD ends i 0)
   pub follows : (i : ℕ) → suc i < j → getD starts (suc i) 0 ≡ getD ends i 0
   pub last : (i : ℕ) → suc i ≡ j → getD ends i 0 ≡ next
-  pub numbers : take j versions ≡ map (λ (x : Snapshot). x .version) xs
+  pub numbers : versionNumbers (take j versions) ≡ map (λ (x : Snapshot). x .version) xs
   pub marks : take j differs ≡ map differNumber xs
   pub front : 1 ≤ j → SnapshotIs (drop (getD starts 0 0) s) (getD xs 0 noSnapshot) first
   pub starts-long : length starts ≡ 8
@@ -121,7 +128,7 @@ pub record Passed (p : Parse (List Snapshot)) (s starts ends versions differs : 
   pub versions-long : length versions ≡ 8
   pub differs-long : length differs ≡ 8
 
-passed-none : (s starts ends versions differs : List ℕ) (first : SnapshotIndex) (n at : ℕ) → at ≤ length s → length starts ≡ 8 → length ends ≡ 8 → length versions ≡ 8 → length differs ≡ 8 → Passed (times readSnapshot n (drop at s)) s starts ends versions differs first n at 0
+passed-none : (s starts ends : List ℕ) (versions : List EventVersion) (differs : List ℕ) (first : SnapshotIndex) (n at : ℕ) → at ≤ length s → length starts ≡ 8 → length ends ≡ 8 → length versions ≡ 8 → length differs ≡ 8 → Passed (times readSnapshot n (drop at s)) s starts ends versions differs first n at 0
 passed-none s starts ends versions differs first n at h a b c d =
     let z : n - 0 ≡ n = omega arith in
     record {
@@ -142,7 +149,7 @@ passed-none s starts ends versions differs first n at h a b c d =
       differs-long = d;
     }
 
-module _ (p : Parse (List Snapshot)) (s starts ends versions differs : List ℕ) (first : SnapshotIndex) (n next j : ℕ) (w : Passed p s starts ends versions differs first n next j) where
+module _ (p : Parse (List Snapshot)) (s starts ends : List ℕ) (versions : List EventVersion) (differs : List ℕ) (first : SnapshotIndex) (n next j : ℕ) (w : Passed p s starts ends versions differs first n next j) where
   one-more : j < n → suc (n - (j + 1)) ≡ n - j
   one-more h = omega arith
 
@@ -185,11 +192,12 @@ module _ (p : Parse (List Snapshot)) (s starts ends versions differs : List ℕ)
           let a : j < length ends = omega (arith, w .ends-long) in
           ap (λ (k : ℕ). getD (set ends j (r .next)) k 0) e ∙ getD-set-same ends j (r .next) 0 a
 
-      numbers-on : take (j + 1) (set versions j (r .version)) ≡ map (λ (y : Snapshot). y .version) (w .xs ++ (x ∷ []))
+      numbers-on : versionNumbers (take (j + 1) (set versions j (r .version))) ≡ map (λ (y : Snapshot). y .version) (w .xs ++ (x ∷ []))
       numbers-on =
           let a : j < length versions = omega (arith, w .versions-long) in
-          ap (λ (k : ℕ). take k (set versions j (r .version))) (add-one j)
-          ∙ take-suc-set versions j (r .version) a
+          ap (λ (k : ℕ). versionNumbers (take k (set versions j (r .version)))) (add-one j)
+          ∙ ap versionNumbers (take-suc-set versions j (r .version) a)
+          ∙ map-append (λ (v : EventVersion). v .0) (take j versions) (r .version ∷ [])
           ∙ ap₂ (λ (l : List ℕ) (k : ℕ). l ++ (k ∷ [])) (w .numbers) (k .version)
           ∙ sym (map-append (λ (y : Snapshot). y .version) (w .xs) (x ∷ []))
 
@@ -270,7 +278,7 @@ module _ (p : Parse (List Snapshot)) (s starts ends versions differs : List ℕ)
           are = record {
             each = λ i l. w .each i (omega (arith, w .long));
             follows = λ i l. w .follows i (omega (arith, w .long));
-            numbers = ap (λ (k : ℕ). take k versions) (w .long) ∙ w .numbers;
+            numbers = ap (λ (k : ℕ). versionNumbers (take k versions)) (w .long) ∙ w .numbers;
           };
           differs = ap (λ (k : ℕ). take k differs) (w .long) ∙ w .marks;
           first = w .front o;
@@ -281,7 +289,7 @@ pub first-bad : (s : List ℕ) (n at : ℕ) (i : SnapshotIndex) → 1 ≤ n → 
 first-bad s zero at i o v b = absurd (omega arith)
 first-bad s (suc n) at i o v b = times-stop n (drop at s) (reads-none (readSnapshot (drop at s)) (drop at s) i v b)
 
-pub passed-first : (s starts ends versions differs : List ℕ) (i : SnapshotIndex) (n at : ℕ) → at ≤ length s → length starts ≡ 8 → length ends ≡ 8 → length versions ≡ 8 → length differs ≡ 8 → SnapshotReads (readSnapshot (drop at s)) (drop at s) i → 1 ≤ n → i .ok ≡ true → n ≤ 8 → Passed (times readSnapshot n (drop at s)) s (set starts 0 at) (set ends 0 (at + i .next)) (set versions 0 (i .version .0)) (set differs 0 (i .differ)) i n (at + i .next) 1
+pub passed-first : (s starts ends : List ℕ) (versions : List EventVersion) (differs : List ℕ) (i : SnapshotIndex) (n at : ℕ) → at ≤ length s → length starts ≡ 8 → length ends ≡ 8 → length versions ≡ 8 → length differs ≡ 8 → SnapshotReads (readSnapshot (drop at s)) (drop at s) i → 1 ≤ n → i .ok ≡ true → n ≤ 8 → Passed (times readSnapshot n (drop at s)) s (set starts 0 at) (set ends 0 (at + i .next)) (set versions 0 (i .version)) (set differs 0 (i .differ)) i n (at + i .next) 1
 passed-first s starts ends versions differs i n at h a b c d v o ok few =
     passed-one (times readSnapshot n (drop at s)) s starts ends versions differs i n at 0 (passed-none s starts ends versions differs i n at h a b c d) o (read-one s at h i v ok .what) (passedAt at i) (read-passed s at h i v ok) few
     (λ e. read-one s at h i v ok .is)
@@ -336,24 +344,9 @@ counted h count = times readSnapshot count >>= risen h
 abbrev readBody : HeadOf → Layout Headed
 readBody h = suchThat (isWithin 1 8) readNumber >>= counted h
 
-abbrev headOf : Text → Text → List Text → HeadOf
-headOf type source parents = record { type = type; source = source; parents = parents }
-
 head-first : (s : List ℕ) → readDossier standard s ≡ andThen (readHead 32 s) readBody
-unfolding readDossier readHead standard
-head-first s = go (readText s)
-  where
-    third : (type source : Text) (p : Parse (List Text)) → andThen p (λ parents. readBody (headOf type source parents)) ≡ andThen (andThen p (λ parents. found (headOf type source parents))) readBody
-    third type source fail = refl
-    third type source (got hs t) = refl
-
-    second : (type : Text) (p : Parse Text) → andThen p (λ source t. andThen (readParents 32 t) (λ parents. readBody (headOf type source parents))) ≡ andThen (andThen p (λ source t. andThen (readParents 32 t) (λ parents. found (headOf type source parents)))) readBody
-    second type fail = refl
-    second type (got source t) = third type source (readParents 32 t)
-
-    go : (p : Parse Text) → andThen p (λ type t. andThen (suchThat isSource readText t) (λ source u. andThen (readParents 32 u) (λ parents. readBody (headOf type source parents)))) ≡ andThen (andThen p (λ type t. andThen (suchThat isSource readText t) (λ source u. andThen (readParents 32 u) (λ parents. found (headOf type source parents))))) readBody
-    go fail = refl
-    go (got type t) = second type (suchThat isSource readText t)
+unfolding readDossier standard
+head-first s = refl
 
 pub dossier-none : (known : Bool) (o : Option Headed) (s : List ℕ) (i : DossierIndex) → o ≡ none → (known ≡ false → i .ok ≡ false) → DossierSays known o s i
 unfolding DossierSays
@@ -408,13 +401,13 @@ module _ (s : List ℕ) (x : HeadAt) (w : HeadStops (readHead 32 s) s x) where
       many : length (these .what) ≡ n
       many = as-many n (drop at s) (these .what) (drop (r .next) s) (these .is)
 
-      rises : (b : Bool) → b ≡ rising numbers (take n (r .versions)) → rising numbers (map (λ (s : Snapshot). s .version) (these .what)) ≡ b
-      rises b e = ap (rising numbers) (sym (these .are .numbers) ∙ ap (λ (k : ℕ). take k (r .versions)) many) ∙ sym e
+      rises : (b : Bool) → b ≡ rising numbers (versionNumbers (take n (r .versions))) → rising numbers (map (λ (s : Snapshot). s .version) (these .what)) ≡ b
+      rises b e = ap (rising numbers) (sym (these .are .numbers) ∙ ap (λ (k : ℕ). versionNumbers (take k (r .versions))) many) ∙ sym e
 
-      found-mixed : false ≡ rising numbers (take n (r .versions)) → dossierOf standard s ≡ none
+      found-mixed : false ≡ rising numbers (versionNumbers (take n (r .versions))) → dossierOf standard s ≡ none
       found-mixed e = no-dossier s (last-step ∙ rw (rises false e))
 
-      found-all : (known : Bool) → true ≡ rising numbers (take n (r .versions)) → r .next ≡ length s → DossierSays known (dossierOf standard s) s (record { ok = true; head = x; count = n; starts = r .starts; ends = r .ends; versions = r .versions; differs = r .differs; first = r .first })
+      found-all : (known : Bool) → true ≡ rising numbers (versionNumbers (take n (r .versions))) → r .next ≡ length s → DossierSays known (dossierOf standard s) s (record { ok = true; head = x; count = n; starts = r .starts; ends = r .ends; versions = r .versions; differs = r .differs; first = r .first })
       unfolding DossierSays dossierOf
       found-all known e z =
           let g : readDossier standard s ≡ got (headed (w .what) (these .what)) [] =
@@ -433,10 +426,10 @@ module _ (s : List ℕ) (x : HeadAt) (w : HeadStops (readHead 32 s) s x) where
       pub not-whole : (r .next ≡ length s → ⊥) → dossierOf standard s ≡ none
       not-whole ne = ⊎-elim none-there (λ these. found-more r these ne) either
 
-      pub not-rising : false ≡ rising numbers (take n (r .versions)) → dossierOf standard s ≡ none
+      pub not-rising : false ≡ rising numbers (versionNumbers (take n (r .versions))) → dossierOf standard s ≡ none
       not-rising e = ⊎-elim none-there (λ these. found-mixed r these e) either
 
-      pub dossier-found : r .ok ≡ true → true ≡ rising numbers (take n (r .versions)) → r .next ≡ length s → DossierSays known (dossierOf standard s) s (record { ok = true; head = x; count = n; starts = r .starts; ends = r .ends; versions = r .versions; differs = r .differs; first = r .first })
+      pub dossier-found : r .ok ≡ true → true ≡ rising numbers (versionNumbers (take n (r .versions))) → r .next ≡ length s → DossierSays known (dossierOf standard s) s (record { ok = true; head = x; count = n; starts = r .starts; ends = r .ends; versions = r .versions; differs = r .differs; first = r .first })
       dossier-found ok e z =
           ⊎-elim
           (λ f. dossier-none known (dossierOf standard s) s _ (none-there f) (λ k. sym ok ∙ snapshots-fail known (times readSnapshot n (drop at s)) s r v f k))

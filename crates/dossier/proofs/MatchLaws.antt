@@ -8,8 +8,8 @@ use native.Mathlib.Numerals.{add-one}
 use lib.Dec.{eqb}
 use lib.ListN.{length, drop, getD, length-append, drop-of-length-le}
 use lib.Seq.{drop-cons}
-use borrow.Author.Tests.{eq-eqb, ne-eqb}
-use Rattle.model.specs.Order.{Text, texts, sets, lists, lex, equal, three}
+use Rattle.model.specs.Order.{Text, texts, sets, lists, lex, equal}
+use Rattle.model.proofs.Cases.{three}
 use Rattle.model.proofs.OrderLaws.{equal-true}
 use Rattle.packed.specs.Parse.{got}
 use Rattle.packed.specs.Packed.{text, readText}
@@ -22,7 +22,7 @@ use Rattle.ontology.specs.declared.types.TypeIndex.{TypeIndex}
 use Rattle.event.specs.EventIndex.{SetIs, SetsAre}
 use Rattle.event.specs.declared.sets.SetAt.{SetAt}
 use Rattle.dossier.specs.DossierQuestions.{matchSets}
-use Rattle.dossier.proofs.CellLaws.{Elem, elem}
+use Rattle.dossier.proofs.CellLaws.{Elem, elem, match-of}
 
 pub bool-iff : (a b : Bool) → (a ≡ true → b ≡ true) → (b ≡ true → a ≡ true) → a ≡ b
 bool-iff true b f g = sym (f refl)
@@ -62,11 +62,11 @@ set-short s vs x w h = omega (arith, ap length (w .bytes), part-length s (x .sta
 -- ---- the set of a place
 
 module _ (s : List ℕ) (q : Property) (x : PropertyAt) (w : PropertyIs s q x) (b : Bool) where
-  pub place-free : (x .strategy ≡ 5 → ⊥) → true ≡ (not (isMatch q) || b)
-  place-free h = let e : isMatch q ≡ false = ap (λ (n : ℕ). eqb n 5) (sym (w .strategy)) ∙ ne-eqb (x .strategy) 5 h in sym (ap (λ (m : Bool). not m || b) e)
+  pub place-free : eqb (x .strategy) 5 ≡ false → true ≡ (not (isMatch q) || b)
+  place-free h = sym (ap (λ (m : Bool). not m || b) (sym (match-of s q x w) ∙ h))
 
-  pub place-held : x .strategy ≡ 5 → b ≡ (not (isMatch q) || b)
-  place-held h = let e : isMatch q ≡ true = ap (λ (n : ℕ). eqb n 5) (sym (w .strategy)) ∙ eq-eqb (x .strategy) 5 h in sym (ap (λ (m : Bool). not m || b) e)
+  pub place-held : eqb (x .strategy) 5 ≡ true → b ≡ (not (isMatch q) || b)
+  place-held h = sym (ap (λ (m : Bool). not m || b) (sym (match-of s q x w) ∙ h))
 
 -- ---- the match sets, from a place on
 

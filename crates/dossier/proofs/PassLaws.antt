@@ -69,7 +69,7 @@ module _ (s : List ℕ) (small : length s < 2 ^ 64) (at : ℕ) (within : at ≤ 
         pub skip-all :
             (count next : ℕ) → count ≡ ones (presence % 4294967296) →
             ((xs : List (List Text)) (r : List ℕ) → drop first s ≡ setsBytes xs ++ r → first ≤ length s → count ≡ present xs → Skipped s first (setsBytes xs) r next) →
-            PassedIs s x at (record { ok = true; version = version; differ = differ; next = next })
+            PassedIs s x at (record { ok = true; version = record { 0 = version }; differ = differ; next = next })
         skip-all count next e skip =
             let k = skip sets t (after-differ .1 .rest) (c .within) (e ∙ sets-present) in
             let z = stretch s (snapshotBytes x) at next within (k .within) (snapshot-was (drop at s) x t read .0 ∙ ap (λ (l : List ℕ). snapshotBytes x ++ l) (sym (k .rest))) in
@@ -92,7 +92,7 @@ reads-none (got x t) s i w h = let z : _≡_ {A = ℕ} 0 1 = cc (w .0) in absurd
 
 -- what is said of it where it is passed
 abbrev pub passedAt : ℕ → SnapshotIndex → SnapshotPassed
-passedAt at i = record { ok = true; version = i .version .0; differ = i .differ; next = at + i .next }
+passedAt at i = record { ok = true; version = i .version; differ = i .differ; next = at + i .next }
 
 pub record SnapshotRead (s : List ℕ) (i : SnapshotIndex) : Type 0 where
   pub what : Snapshot

@@ -22,6 +22,7 @@ use Rattle.event.specs.EventIndex.{SetsAre, SetsStop, SetsReads, noSet}
 use Rattle.event.proofs.EventLayoutLaws.{SetsWas, sets-was}
 use Rattle.event.proofs.EventSizeLaws.{each-within}
 use Rattle.event.proofs.SetLaws.{stretch}
+use Rattle.values.specs.declared.versions.EventVersion.{EventVersion}
 use Rattle.event.specs.declared.sets.SetAt.{SetAt}
 use Rattle.event.specs.declared.sets.SetsRead.{SetsRead}
 use Rattle.event.proofs.EventReadLaws.{sets-wrong}
@@ -140,7 +141,7 @@ module _ (s : List ℕ) (version a : ℕ) (x : NumberStops s 0 version a) where
 -- ---- the snapshot
 
 -- what is known of a call's answer in the arm of a `match`
-pub numbers-read : {s : List ℕ} {r : NumbersAt} {version presence differ first : ℕ} → r ≡ Numbers version presence differ first → NumbersRead s r → NumbersStop s version presence differ first
+pub numbers-read : {s : List ℕ} {r : NumbersAt} {version : EventVersion} {presence differ first : ℕ} → r ≡ Numbers version presence differ first → NumbersRead s r → NumbersStop s (version .0) presence differ first
 numbers-read {s} h w = subst (NumbersRead s) h w
 
 pub numbers-refused : (s : List ℕ) {r : NumbersAt} → r ≡ NoNumbers → NumbersRead s r → readSnapshot s ≡ fail
@@ -162,7 +163,7 @@ sets-found fail s r w h = let z : _≡_ {A = ℕ} 0 1 = cc in absurd (omega arit
 sets-found (got xs t) s r w h = record { what = xs; is = ap (got xs) (w .rest); stop = subst (λ (u : List ℕ). SetsStop xs u s r) (w .rest) w }
 
 -- the snapshot of some sets
-module _ (s : List ℕ) (version presence differ first : ℕ) (n : NumbersStop s version presence differ first) where
+module _ (s : List ℕ) (version : EventVersion) (presence differ first : ℕ) (n : NumbersStop s (version .0) presence differ first) where
   module _ (r : SetsRead) (w : SetsReads (readSets 32 presence (drop first s)) s r) where
     pub no-sets : r .ok ≡ false → readSnapshot s ≡ fail
     no-sets h = n .is ∙ rw (sets-wrong (readSets 32 presence (drop first s)) s r w h)
@@ -188,12 +189,12 @@ module _ (s : List ℕ) (version presence differ first : ℕ) (n : NumbersStop s
         cells = cells-are (found .what) (was .long) (was .present)
 
         abbrev it : Snapshot
-        it = record { version = version; cells = cellsOf differ (found .what) }
+        it = record { version = version .0; cells = cellsOf differ (found .what) }
 
         reads : readSnapshot s ≡ got it (drop (r .next) s)
         reads = n .is ∙ rw (found .is, small)
 
-        snapshot-found : SnapshotIs s it (record { ok = true; next = r .next; version = record { 0 = version }; presence = presence; differ = differ; first = first; objects = r .objects; sets = r .sets })
+        snapshot-found : SnapshotIs s it (record { ok = true; next = r .next; version = version; presence = presence; differ = differ; first = first; objects = r .objects; sets = r .sets })
         snapshot-found = record {
           is = reads;
           bytes = ap (λ (k : ℕ). take k s) (sym (sub-zero (r .next))) ∙ stretch s (snapshotBytes it) 0 (r .next) (omega arith) (found .stop .within) (snapshot-was s it (drop (r .next) s) reads .0) .0;
@@ -207,6 +208,6 @@ module _ (s : List ℕ) (version presence differ first : ℕ) (n : NumbersStop s
           sets = subst (λ (l : List (List Text)). SetsAre s l (r .sets)) (sym (cells .sets)) (found .stop .stands);
         }
 
-        pub snapshot-some : SnapshotReads (readSnapshot s) s (record { ok = true; next = r .next; version = record { 0 = version }; presence = presence; differ = differ; first = first; objects = r .objects; sets = r .sets })
+        pub snapshot-some : SnapshotReads (readSnapshot s) s (record { ok = true; next = r .next; version = version; presence = presence; differ = differ; first = first; objects = r .objects; sets = r .sets })
         unfolding SnapshotReads
         snapshot-some = rw reads (refl, snapshot-found)

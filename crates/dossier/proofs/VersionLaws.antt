@@ -7,11 +7,11 @@ use native.Mathlib.Omega.{arith}
 use lib.Dec.{ltb, leb, eqb}
 use lib.ListN.{length, getD, length-map, List·getD-eq-default}
 use borrow.Author.Tests.{lt-ltb, le-leb, lt-leb, eq-eqb, ne-eqb}
-use Rattle.model.specs.Order.{Text, texts, sets, lists, lex, equal, three}
+use Rattle.model.specs.Order.{Text, texts, sets, lists, lex, equal}
+use Rattle.model.proofs.Cases.{three, and-false}
 use Rattle.model.proofs.OrderLaws.{equal-false}
 use Rattle.model.specs.Rule.{Cell, holds, differs, Snapshot, sizes}
 use Rattle.model.specs.Opening.{held, cellAt}
-use Rattle.model.proofs.Cases.{and-false}
 use Rattle.values.specs.Decimal.{inDecimal}
 use Rattle.ontology.specs.Table.{EventType, isVersioned}
 use Rattle.event.specs.EventQuestions.{matchCount}

@@ -18,6 +18,7 @@ use Rattle.event.specs.EventLayout.{readSets, presenceBit, bitNumber, setsBytes
 use Rattle.event.specs.EventIndex.{SetsAre, HeadIs}
 use Rattle.dossier.specs.DossierLayout.{Headed, apart, cellsOf, areSmall, readSnapshot, differBit, snapshotBytes}
 use Rattle.dossier.specs.DossierQuestions.{eachCell, isVacant, isPresent, isLoneIfSingle, isLoneIfExtreme, isUnmarkedMatch, holdsVersion, TypedDossier}
+use Rattle.values.specs.declared.versions.EventVersion.{EventVersion}
 use Rattle.event.specs.declared.sets.SetAt.{SetAt}
 use Rattle.dossier.specs.declared.snapshots.NumbersAt.{NumbersAt}
 use Rattle.dossier.specs.declared.snapshots.NumbersAt.the-variants.{Numbers, NoNumbers}
@@ -42,7 +43,7 @@ pub record NumbersStop (s : List ℕ) (version presence differ first : ℕ) : Ty
   pub clear : apart 32 presence differ ≡ true
 
 abbrev pub NumbersRead : List ℕ → NumbersAt → Type 0
-NumbersRead s (Numbers version presence differ first) = NumbersStop s version presence differ first
+NumbersRead s (Numbers version presence differ first) = NumbersStop s (version .0) presence differ first
 NumbersRead s NoNumbers = readSnapshot s ≡ fail
 
 -- The bytes s begin with the snapshot x, as the index says
@@ -75,7 +76,7 @@ pub record SnapshotAt (s : List ℕ) (x : Snapshot) (start end : ℕ) : Type 0 w
 pub record PassedIs (s : List ℕ) (x : Snapshot) (start : ℕ) (r : SnapshotPassed) : Type 0 where
   pub right : r .ok ≡ true
   pub stands : SnapshotAt s x start (r .next)
-  pub version : r .version ≡ x .version
+  pub version : r .version .0 ≡ x .version
   pub differ : r .differ ≡ bitNumber (map differBit (x .cells))
 
 -- what is answered of the snapshot at `start`; of bytes that are known to be one, nothing is said where they are none
@@ -86,11 +87,18 @@ PassedSays known (got x t) s start r = PassedIs s x start r
 abbrev pub noSnapshot : Snapshot
 noSnapshot = record { version = 0; cells = [] }
 
+-- event versions as numbers, which rise by size
+abbrev pub versionNumbers : List EventVersion → List ℕ
+versionNumbers vs = map (λ (v : EventVersion). v .0) vs
+
+abbrev pub noVersion : EventVersion
+noVersion = record { 0 = 0 }
+
 -- each of the snapshots xs has its place, and the next one starts where it ends
-pub record SnapshotsAre (s : List ℕ) (xs : List Snapshot) (starts ends versions : List ℕ) : Type 0 where
+pub record SnapshotsAre (s : List ℕ) (xs : List Snapshot) (starts ends : List ℕ) (versions : List EventVersion) : Type 0 where
   pub each : (j : ℕ) → j < length xs → SnapshotAt s (getD xs j noSnapshot) (getD starts j 0) (getD ends j 0)
   pub follows : (j : ℕ) → suc j < length xs → getD starts (suc j) 0 ≡ getD ends j 0
-  pub numbers : take (length xs) versions ≡ map (λ (x : Snapshot). x .version) xs
+  pub numbers : versionNumbers (take (length xs) versions) ≡ map (λ (x : Snapshot). x .version) xs
 
 pub record SnapshotsStop (s : List ℕ) (xs : List Snapshot) (t : List ℕ) (r : SnapshotsRead) : Type 0 where
   pub right : r .ok ≡ true
@@ -148,11 +156,6 @@ unfoldable pub cellFits : Bool → Property → Cell → Bool
 cellFits versioned p c =
     isPresent p c && cond versioned (isLoneIfSingle p c) (not (isMark c) && isLoneIfExtreme p c) && isUnmarkedMatch p c
 
--- and of the cell of a place, which has no property where there is none
-unfoldable pub placeFits : Bool → Option Property → Cell → Bool
-placeFits versioned none c = isVacant c
-placeFits versioned (some p) c = cellFits versioned p c
-
 -- what is asked of a versioned snapshot and of an unversioned one, besides its cells
 unfoldable pub versionFits : EventType → Snapshot → Bool
 versionFits t s =
@@ -174,6 +177,6 @@ shapeNumber true true = 0
 -- ---- questions 3 to 6
 
 -- what is answered where the questions come to a number or to a dossier with its type
-unfoldable pub DossierAnswers : Asked TypedDossier → List ℕ → List ℕ → DossierAsked → Type 0
-DossierAnswers (refused n) table s r = r .number ≡ n
-DossierAnswers (accepted a) table s r = (r .number ≡ 0) × TypeIs table (a .type) (r .kind) × DossierIs s (a .headed) (r .dossier)
+unfoldable pub DossierAnswers : Asked TypedDossier → List ℕ → DossierAsked → Type 0
+DossierAnswers (refused n) table r = r .number ≡ n
+DossierAnswers (accepted a) table r = (r .number ≡ 0) × TypeIs table (a .type) (r .«event_type»)

@@ -9,10 +9,10 @@ use Rattle.model.specs.Order.{Text, numbers, rising}
 use Rattle.model.specs.Rule.{Cell, holds, differs, Snapshot, Dossier}
 use Rattle.model.specs.Limits.{Limits}
 use Rattle.model.specs.Opening.{held}
-use Rattle.packed.specs.Parse.{Layout, _>>=_, found, foundIf, suchThat, times, whole}
-use Rattle.packed.specs.Packed.{number, readNumber, readText}
+use Rattle.packed.specs.Parse.{Layout, _>>=_, foundIf, suchThat, times, whole}
+use Rattle.packed.specs.Packed.{number, readNumber}
 use Rattle.values.specs.Spaces.{isWithin}
-use Rattle.event.specs.EventLayout.{isSource, readParents, readBits, readSets, headBytes, presenceBit, bitNumber, setsBytes}
+use Rattle.event.specs.EventLayout.{readHead, readBits, readSets, headBytes, presenceBit, bitNumber, setsBytes}
 
 -- A dossier with the head that all its events share
 pub record Headed : Type 0 where
@@ -48,13 +48,11 @@ readSnapshot = do
 -- "Type name, source URI, parent count 0 to 32 with the hashes rising, snapshot count 1 to 8, snapshots by rising event version."
 unfoldable pub readDossier : Limits → Layout Headed
 readDossier limits = do
-  type ← readText
-  source ← suchThat isSource readText
-  parents ← readParents (limits .parents)
+  head ← readHead (limits .parents)
   count ← suchThat (isWithin 1 (limits .versions)) readNumber
   snapshots ← times readSnapshot count
   foundIf (rising numbers (map (λ (s : Snapshot). s .version) snapshots))
-      (record { type = type; source = source; dossier = record { parents = parents; snapshots = snapshots } })
+      (record { type = head .type; source = head .source; dossier = record { parents = head .parents; snapshots = snapshots } })
 
 -- the dossier that some bytes are, to their exact end
 unfoldable pub dossierOf : Limits → List ℕ → Option Headed

@@ -7,7 +7,7 @@ ghost use Rattle.model.specs.Order.{numbers, rising};
 ghost use Rattle.model.specs.Limits.{standard};
 ghost use Rattle.packed.specs.Parse.{times};
 ghost use Rattle.dossier.specs.DossierLayout.{Headed, readSnapshot, dossierOf};
-ghost use Rattle.dossier.specs.DossierIndex.{SnapshotsSay, DossierIs, DossierReads, DossierSays};
+ghost use Rattle.dossier.specs.DossierIndex.{versionNumbers, SnapshotsSay, DossierIs, DossierReads, DossierSays};
 use crate::snapshots::SnapshotIndex;
 use crate::snapshots::no_snapshot;
 use crate::snapshots::pass_snapshot;
@@ -18,6 +18,7 @@ use event::read::no_head;
 use event::read::read_head;
 use ontology::fields::read_within;
 use packed::read::NumberAt;
+use values::versions::EventVersion;
 
 // Where each of the snapshots stands, its version and its differ number, the index of the first, and the position after the last.
 pub struct SnapshotsRead {
@@ -25,7 +26,7 @@ pub struct SnapshotsRead {
     pub next: usize,
     pub starts: [usize; 8],
     pub ends: [usize; 8],
-    pub versions: [u64; 8],
+    pub versions: [EventVersion; 8],
     pub differs: [u64; 8],
     pub first: SnapshotIndex,
 }
@@ -38,7 +39,7 @@ pub struct DossierIndex {
     pub count: usize,
     pub starts: [usize; 8],
     pub ends: [usize; 8],
-    pub versions: [u64; 8],
+    pub versions: [EventVersion; 8],
     pub differs: [u64; 8],
     pub first: SnapshotIndex,
 }
@@ -55,7 +56,7 @@ fn read_snapshots(s: &[u8], at: usize, count: usize, known: bool) -> SnapshotsRe
         next: 0,
         starts: [at; 8],
         ends: [0; 8],
-        versions: [version.0; 8],
+        versions: [version; 8],
         differs: [first.differ; 8],
         first,
     };
@@ -73,7 +74,8 @@ fn read_snapshots(s: &[u8], at: usize, count: usize, known: bool) -> SnapshotsRe
         r.starts[j] = next;
         next = x.next;
         r.ends[j] = next;
-        r.versions[j] = x.version;
+        let later = x.version;
+        r.versions[j] = later;
         r.differs[j] = x.differ;
         j += 1;
     }
@@ -82,13 +84,15 @@ fn read_snapshots(s: &[u8], at: usize, count: usize, known: bool) -> SnapshotsRe
     r
 }
 
-fn versions_rise(versions: [u64; 8], count: usize) -> bool
+fn versions_rise(versions: [EventVersion; 8], count: usize) -> bool
     requires { ⌜ count ≤ 8 ⌝ }
-    ensures { λ r. ⌜ r ≡ rising numbers (take count versions) ⌝ }
+    ensures { λ r. ⌜ r ≡ rising numbers (versionNumbers (take count versions)) ⌝ }
 {
     let mut k: usize = 1;
     while k < count {
-        if versions[k] <= versions[k - 1] {
+        let here = versions[k];
+        let before = versions[k - 1];
+        if here.0 <= before.0 {
             return false;
         }
         k += 1;
@@ -105,7 +109,7 @@ fn no_dossier() -> DossierIndex
         count: 0,
         starts: [0; 8],
         ends: [0; 8],
-        versions: [0; 8],
+        versions: [EventVersion(0); 8],
         differs: [0; 8],
         first: no_snapshot(),
     }
@@ -119,11 +123,11 @@ fn index_dossier(s: &[u8], known: bool) -> DossierIndex
         return no_dossier();
     };
     let parents = head.parents;
-    let NumberAt::Number(number, at) = read_within(s, parents.end, 1, 8) else {
+    let NumberAt::Number(number, after_count) = read_within(s, parents.end, 1, 8) else {
         return no_dossier();
     };
     let count = number as usize;
-    let all = read_snapshots(s, at, count, known);
+    let all = read_snapshots(s, after_count, count, known);
     if !all.ok {
         return no_dossier();
     }

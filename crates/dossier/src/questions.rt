@@ -98,11 +98,10 @@ fn ask_snapshots(s: &[u8], d: DossierIndex, t: TypeIndex) -> u8
     number
 }
 
-// A dossier that was asked questions 3 to 6: the number of the first that is answered no, or 0; and its type and its index, where it is 0.
+// A dossier that was asked questions 3 to 6: the number of the first that is answered no, or 0; and its type, where it is 0.
 pub struct DossierAsked {
     pub number: u8,
-    pub kind: TypeIndex,
-    pub dossier: DossierIndex,
+    pub event_type: TypeIndex,
 }
 
 // The name of a dossier's type, by which the table is read.
@@ -117,27 +116,24 @@ pub fn type_name(s: &[u8], d: DossierIndex) -> &[u8]
 // Questions 3 to 6 of the dossier s, whose index is d. The table was read for the name of its type, and is read once for all dossiers of that type.
 pub fn ask_dossier(s: &[u8], d: DossierIndex, read: TableRead) -> DossierAsked
     requires { ⌜ DossierReads (dossierOf standard (now s)) (now s) d × (read .found ≡ true → read .index .count ≤ 32) ⌝ }
-    ensures { λ r. ⌜ ((table : List ℕ) (ts : Table) → tableOf table ≡ some ts → ((h : Headed) → DossierIs (now (s .entry)) h d → TypeSays (typeNamed (h .type) ts) table read) → DossierAnswers (dossierAsked standard ts (now (s .entry))) table (now (s .entry)) r) ⌝ }
+    ensures { λ r. ⌜ ((table : List ℕ) (ts : Table) → tableOf table ≡ some ts → ((h : Headed) → DossierIs (now (s .entry)) h d → TypeSays (typeNamed (h .type) ts) table read) → DossierAnswers (dossierAsked standard ts (now (s .entry))) table r) ⌝ }
 {
-    let kind = read.index;
+    let event_type = read.index;
     if !d.ok {
         return DossierAsked {
             number: 3,
-            kind,
-            dossier: d,
+            event_type,
         };
     }
     if !read.found {
         return DossierAsked {
             number: 4,
-            kind,
-            dossier: d,
+            event_type,
         };
     }
     DossierAsked {
-        number: ask_snapshots(s, d, kind),
-        kind,
-        dossier: d,
+        number: ask_snapshots(s, d, event_type),
+        event_type,
     }
 }
 

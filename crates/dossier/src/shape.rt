@@ -1,6 +1,6 @@
 ghost use Prim.Native.Nat.{ℕ, _-_, _≤_};
 ghost use mathlib.Core.Path.{_≡_};
-ghost use mathlib.Core.Bool.{cond, not, _&&_, _||_};
+ghost use mathlib.Core.Bool.{not, _&&_, _||_};
 ghost use mathlib.Core.List.{List, [], _∷_};
 ghost use lib.Dec.{leb, eqb};
 ghost use Rattle.model.specs.Order.{Text, texts, sets, lists, equal};
@@ -17,9 +17,13 @@ use crate::snapshots::SnapshotIndex;
 use event::sets::SetAt;
 use event::sets::set_part;
 use event::sets::value_in;
+use event::shape::matches_at;
 use ontology::properties::PropertyAt;
+use ontology::properties::is_extreme;
+use ontology::properties::is_match;
 use ontology::types::TypeIndex;
 use packed::order::same;
+use values::versions::EventVersion;
 
 // A mandatory one is present or marked.
 fn is_present(p: PropertyAt, marked: bool, count: usize) -> bool
@@ -50,10 +54,7 @@ fn fits_unversioned(p: PropertyAt, marked: bool, count: usize) -> bool
     if marked {
         return false;
     }
-    if p.strategy == 1 {
-        return count <= 1;
-    }
-    if p.strategy == 2 {
+    if is_extreme(p) {
         return count <= 1;
     }
     true
@@ -63,7 +64,7 @@ fn fits_unversioned(p: PropertyAt, marked: bool, count: usize) -> bool
 fn is_unmarked_match(p: PropertyAt, marked: bool, count: usize) -> bool
     ensures { λ r. ⌜ r ≡ (not (eqb (p .strategy) 5) || (not marked && (p .multivalued || leb count 1))) ⌝ }
 {
-    if p.strategy != 5 {
+    if !is_match(p) {
         return true;
     }
     if marked {
@@ -116,13 +117,6 @@ fn cells_fit(t: TypeIndex, differ: u64, objects: usize, sets: [SetAt; 32]) -> bo
     left == 0
 }
 
-// How many of a place's objects are match objects.
-fn match_size(p: PropertyAt, count: usize) -> usize
-    ensures { λ r. ⌜ r ≡ cond (eqb (p .strategy) 5) count 0 ⌝ }
-{
-    if p.strategy == 5 { count } else { 0 }
-}
-
 // At most 32 match objects.
 fn is_match_small(t: TypeIndex, sets: [SetAt; 32]) -> bool
     requires { ⌜ t .count ≤ 32 ⌝ }
@@ -133,7 +127,7 @@ fn is_match_small(t: TypeIndex, sets: [SetAt; 32]) -> bool
     while k < t.count {
         let p = t.properties[k];
         let x = sets[k];
-        let n = match_size(p, x.count);
+        let n = matches_at(p, x.count);
         if left < n {
             return false;
         }
@@ -165,14 +159,14 @@ fn is_in_decimal(v: &[u8], n: u64) -> bool
     v[0] as u64 == 48 + m
 }
 
-fn is_version(s: &[u8], x: SetAt, version: u64) -> bool
-    ensures { λ r. ⌜ ((vs : List Text) → SetIs (now (s .entry)) vs x → r ≡ equal sets vs (inDecimal version ∷ [])) ⌝ }
+fn is_version(s: &[u8], x: SetAt, version: EventVersion) -> bool
+    ensures { λ r. ⌜ ((vs : List Text) → SetIs (now (s .entry)) vs x → r ≡ equal sets vs (inDecimal (version .0) ∷ [])) ⌝ }
 {
     if x.count != 1 {
         return false;
     }
     let v = value_in(set_part(s, x), 0);
-    is_in_decimal(v, version)
+    is_in_decimal(v, version.0)
 }
 
 // The version property holds the snapshot's version. A marked one holds nothing.
@@ -185,7 +179,7 @@ fn holds_version(s: &[u8], x: SnapshotIndex, mark: usize) -> bool
     }
     let set = x.sets[mark - 1];
     let version = x.version;
-    is_version(s, set, version.0)
+    is_version(s, set, version)
 }
 
 fn fits_by_version(s: &[u8], x: SnapshotIndex, mark: usize) -> bool
@@ -223,7 +217,7 @@ pub fn snapshot_fits(s: &[u8], x: SnapshotIndex, t: TypeIndex) -> bool
 fn place_same(p: PropertyAt, a: &[u8], x: SetAt, b: &[u8], y: SetAt) -> bool
     ensures { λ r. ⌜ ((s : List ℕ) (q : Property) (vs ws : List Text) → PropertyIs s q p → SetIs (now (a .entry)) vs x → SetIs (now (b .entry)) ws y → r ≡ (not (isMatch q) || equal sets vs ws)) ⌝ }
 {
-    if p.strategy != 5 {
+    if !is_match(p) {
         return true;
     }
     same(set_part(a, x), set_part(b, y))

@@ -32,7 +32,7 @@ pub struct SnapshotIndex {
 // Whether a snapshot stands at a place, its version and differ number, and the position after it.
 pub struct SnapshotPassed {
     pub ok: bool,
-    pub version: u64,
+    pub version: EventVersion,
     pub differ: u64,
     pub next: usize,
 }
@@ -40,7 +40,7 @@ pub struct SnapshotPassed {
 // The numbers that a snapshot begins with, and the position after them.
 enum NumbersAt {
     Numbers {
-        version: u64,
+        version: EventVersion,
         presence: u64,
         differ: u64,
         first: usize,
@@ -69,16 +69,16 @@ fn are_apart(presence: u64, differ: u64) -> bool
 fn read_numbers(s: &[u8]) -> NumbersAt
     ensures { λ r. ⌜ NumbersRead (now (s .entry)) r ⌝ }
 {
-    let NumberAt::Number(version, second) = read_number(s, 0) else {
+    let NumberAt::Number(version, after_version) = read_number(s, 0) else {
         return NumbersAt::NoNumbers;
     };
-    let NumberAt::Number(presence, third) = read_number(s, second) else {
+    let NumberAt::Number(presence, after_presence) = read_number(s, after_version) else {
         return NumbersAt::NoNumbers;
     };
     if 4294967296 <= presence {
         return NumbersAt::NoNumbers;
     }
-    let NumberAt::Number(differ, first) = read_number(s, third) else {
+    let NumberAt::Number(differ, after_differ) = read_number(s, after_presence) else {
         return NumbersAt::NoNumbers;
     };
     if 4294967296 <= differ {
@@ -86,10 +86,10 @@ fn read_numbers(s: &[u8]) -> NumbersAt
     }
     if are_apart(presence, differ) {
         NumbersAt::Numbers {
-            version,
+            version: EventVersion(version),
             presence,
             differ,
-            first,
+            first: after_differ,
         }
     } else {
         NumbersAt::NoNumbers
@@ -158,7 +158,7 @@ pub fn read_snapshot(s: &[u8]) -> SnapshotIndex
     SnapshotIndex {
         ok: true,
         next: found.next,
-        version: EventVersion(version),
+        version,
         presence,
         differ,
         first,
@@ -173,25 +173,25 @@ fn skip_snapshot(s: &[u8], at: usize) -> SnapshotPassed
 {
     let none = SnapshotPassed {
         ok: false,
-        version: 0,
+        version: EventVersion(0),
         differ: 0,
         next: at,
     };
-    let NumberAt::Number(version, second) = read_number(s, at) else {
+    let NumberAt::Number(version, after_version) = read_number(s, at) else {
         return none;
     };
-    let NumberAt::Number(presence, third) = read_number(s, second) else {
+    let NumberAt::Number(presence, after_presence) = read_number(s, after_version) else {
         return none;
     };
-    let NumberAt::Number(differ, first) = read_number(s, third) else {
+    let NumberAt::Number(differ, after_differ) = read_number(s, after_presence) else {
         return none;
     };
     let sets = u32::count_ones((presence % 4294967296) as u32);
     SnapshotPassed {
         ok: true,
-        version,
+        version: EventVersion(version),
         differ,
-        next: skip_sets(s, first, sets),
+        next: skip_sets(s, after_differ, sets),
     }
 }
 
@@ -208,14 +208,14 @@ pub fn pass_snapshot(s: &[u8], at: usize, known: bool) -> SnapshotPassed
     if x.ok {
         return SnapshotPassed {
             ok: true,
-            version: version.0,
+            version,
             differ: x.differ,
             next: at + x.next,
         };
     }
     SnapshotPassed {
         ok: false,
-        version: 0,
+        version: EventVersion(0),
         differ: 0,
         next: at,
     }

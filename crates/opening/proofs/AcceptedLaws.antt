@@ -91,6 +91,9 @@ module _ (s : List ℕ) (d : DossierIndex) (t : TypeIndex) (o : Openable s d t) 
     stand = w;
     count = sym (o .is .count);
     small = λ p. omega (arith, column-size snapshots p, taken-objects taken);
-    chosen = λ p q e x. record { number = refl; ordered = extreme-ordered (isVersioned (o .type)) q (taken-kept taken (o .table) (o .read) .fits p q e) x };
+    chosen = λ p q e x. record {
+      number = refl;
+      ordered = extreme-ordered (isVersioned (o .type)) q (taken-kept taken (o .table) (o .read) .fits p q e) x;
+    };
     lone = λ p q e x j l. lone-there p q e x j (omega (arith, o .is .count));
   }

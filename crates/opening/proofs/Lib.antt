@@ -1,5 +1,5 @@
 -- The laws of opening.
-pub mod ClashLaws
+pub mod ConflictLaws
 pub mod StrategyLaws
 pub mod MergeLaws
 pub mod StandLaws

@@ -196,12 +196,12 @@ replaces-at none r w = w .replaces
 replaces-at (some q) r w = w .replaces
 
 abbrev choiceAt : Option Property → Choice
-choiceAt o = atPlace every (λ q. choiceOf (q .strategy) q) o
+choiceAt o = atPlace every choiceOf o
 
 every-at : (o : Option Property) (r : PlaceRule) → RuleIs o r → r .extreme ≡ false → choiceAt o ≡ every
 unfolding RuleIs atPlace
 every-at none r w e = refl
-every-at (some q) r w e = choice-every (q .strategy) q (sym (w .extreme) ∙ e)
+every-at (some q) r w e = choice-every q (sym (w .extreme) ∙ e)
 
 -- the property of a place whose least value is chosen
 record Extremal (o : Option Property) (r : PlaceRule) : Type 0 where
@@ -223,7 +223,7 @@ module _ (t : EventType) (d : Dossier) (p : ℕ) (r : PlaceRule) (w : RuleIs (ge
   unfolding mergedSet
   merged-last e = merged-by true (choiceAt (getElem? (t .properties) p)) e refl
 
-  merged-every : r .replaces ≡ false → r .extreme ≡ false → mergedAt (view t) d p ≡ canon texts (flatten (column (d .snapshots) p))
+  pub merged-every : r .replaces ≡ false → r .extreme ≡ false → mergedAt (view t) d p ≡ canon texts (flatten (column (d .snapshots) p))
   unfolding mergedSet
   merged-every e f = merged-by false every e (every-at (getElem? (t .properties) p) r w f)
 
@@ -233,7 +233,7 @@ module _ (t : EventType) (d : Dossier) (p : ℕ) (r : PlaceRule) (w : RuleIs (ge
       let q = x .what in
       let c : choiceAt (getElem? (t .properties) p) ≡ least (extremeOrder (r .largest) (q .kind)) =
       ap choiceAt (x .is)
-      ∙ choice-least (q .strategy) q (sym (x .rule .extreme) ∙ f)
+      ∙ choice-least q (sym (x .rule .extreme) ∙ f)
       ∙ ap (λ (b : Bool). least (extremeOrder b (q .kind))) (sym (x .rule .largest)) in
       merged-by false (least (extremeOrder (r .largest) (q .kind))) e c
 

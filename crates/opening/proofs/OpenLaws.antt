@@ -28,18 +28,20 @@ use Rattle.event.specs.Event.{view}
 use Rattle.event.specs.EventLayout.{eventBytes}
 use Rattle.event.specs.declared.sets.SetAt.{SetAt}
 use Rattle.dossier.specs.DossierQuestions.{dossierAsked}
-use Rattle.dossier.specs.DossierIndex.{IsDossier, DossierAnswers}
+use Rattle.dossier.specs.DossierLayout.{dossierOf}
+use Rattle.dossier.specs.DossierIndex.{IsDossier, DossierReads, DossierAnswers}
 use Rattle.dossier.specs.declared.dossiers.DossierIndex.{DossierIndex}
 use Rattle.dossier.specs.declared.questions.DossierAsked.{DossierAsked}
-use Rattle.dossier.proofs.AcceptedLaws.{asked-accepted}
+use Rattle.dossier.proofs.AcceptedLaws.{dossier-taken, asked-accepted}
+use Rattle.dossier.proofs.AnswerLaws.{reads-is}
 use Rattle.opening.specs.OpenCall.{mergedEvent, openedAnswer, askedOpening, openAnswer, openCall}
 use Rattle.opening.specs.Replies.{replies}
-use Rattle.opening.specs.OpenIndex.{lowestOf, clashOf, CellsStand, CountsMerged, Writable, Openable}
+use Rattle.opening.specs.OpenIndex.{lowestOf, conflictOf, CellsStand, CountsMerged, Writable, Openable}
 use Rattle.opening.specs.declared.calls.Opened.the-variants.{Merged, Conflict, Overfull, Refused}
-use Rattle.opening.specs.declared.clash.Clash.{Clash}
-use Rattle.opening.specs.declared.clash.Clash.the-variants.{Differs, NoClash}
-use Rattle.opening.specs.declared.clash.Lowest.{Lowest}
-use Rattle.opening.specs.declared.clash.Lowest.the-variants.{Place, NoPlace}
+use Rattle.opening.specs.declared.conflict.Conflict as found
+use Rattle.opening.specs.declared.conflict.Conflict.the-variants.{Differs, NoConflict}
+use Rattle.opening.specs.declared.conflict.Lowest.{Lowest}
+use Rattle.opening.specs.declared.conflict.Lowest.the-variants.{Place, NoPlace}
 use Rattle.opening.proofs.AcceptedLaws.{mergeable}
 use Rattle.opening.proofs.SizeLaws.{merged-size}
 
@@ -70,14 +72,14 @@ module _ (s : List ℕ) (d : DossierIndex) (t : TypeIndex) (o : Openable s d t) 
   abbrev opens : model.Opened
   opens = opening (view (o .type)) dossier
 
-  module _ (v : EventVersion) (p : ℕ) {r : Clash} (e : r ≡ Differs v p) (f : clashOf r ≡ conflict (upTo 32) (dossier .snapshots)) (out : List ℕ) where
+  module _ (v : EventVersion) (p : ℕ) {r : found.Conflict} (e : r ≡ Differs v p) (f : conflictOf r ≡ conflict (upTo 32) (dossier .snapshots)) (out : List ℕ) where
     pub replies-conflict : replies (Conflict v p) out ≡ outcome (openedAnswer (o .headed) opens) out
     unfolding openedAnswer opening firstOf places view
     replies-conflict =
-        ap (λ (c : model.Conflict). outcome (openedAnswer (o .headed) (firstOf c (overfull (view (o .type)) dossier) (mergedSets (view (o .type)) dossier))) out) (sym (ap clashOf e) ∙ f)
+        ap (λ (c : model.Conflict). outcome (openedAnswer (o .headed) (firstOf c (overfull (view (o .type)) dossier) (mergedSets (view (o .type)) dossier))) out) (sym (ap conflictOf e) ∙ f)
 
-  pub no-conflict : {r : Clash} → r ≡ NoClash → clashOf r ≡ conflict (upTo 32) (dossier .snapshots) → conflict (upTo 32) (dossier .snapshots) ≡ noConflict
-  no-conflict e f = sym f ∙ ap clashOf e
+  pub no-conflict : {r : found.Conflict} → r ≡ NoConflict → conflictOf r ≡ conflict (upTo 32) (dossier .snapshots) → conflict (upTo 32) (dossier .snapshots) ≡ noConflict
+  no-conflict e f = sym f ∙ ap conflictOf e
 
   module _ (free : conflict (upTo 32) (dossier .snapshots) ≡ noConflict) where
     opens-free : opens ≡ firstOf noConflict (overfull (view (o .type)) dossier) (mergedSets (view (o .type)) dossier)
@@ -117,16 +119,27 @@ module _ (table : List ℕ) (name : Text) (r : TableRead) (w : TableGot table na
 -- ---- the questions of the dossier
 
 -- a dossier that is accepted can be opened, by the types of this table
-pub record Accepted (table s : List ℕ) (r : DossierAsked) : Type 0 where
-  pub openable : Openable s (r .dossier) (r .kind)
+pub record Accepted (table s : List ℕ) (d : DossierIndex) (r : DossierAsked) : Type 0 where
+  pub openable : Openable s d (r .«event_type»)
   pub from : tableOf table ≡ some (openable .types)
 
-module _ (ts : Table) (table s : List ℕ) (r : DossierAsked) (w : DossierAnswers (dossierAsked standard ts s) table s r) where
-  pub asked-open : tableOf table ≡ some ts → r .number ≡ 0 → Accepted table s r
+module _
+    (ts : Table) (table s : List ℕ) (d : DossierIndex) (v : DossierReads (dossierOf standard s) s d)
+    (r : DossierAsked) (w : DossierAnswers (dossierAsked standard ts s) table r) where
+  pub asked-open : tableOf table ≡ some ts → r .number ≡ 0 → Accepted table s d r
   asked-open i h =
       let a = asked-accepted ts table s r w h in
       record {
-        openable = record { table = table; types = ts; type = a .what .type; headed = a .what .headed; read = i; asked = a .asked; typed = a .typed; is = a .stands };
+        openable = record {
+          table = table;
+          types = ts;
+          type = a .what .type;
+          headed = a .what .headed;
+          read = i;
+          asked = a .asked;
+          typed = a .typed;
+          is = reads-is s d (a .what .headed) v (dossier-taken ts s (a .what) (a .asked) .read);
+        };
         from = i;
       }
 
@@ -147,7 +160,7 @@ module _ (table s out : List ℕ) where
     open-refused ts n e f = rw (le-leb 32768 (length out) h, e, f)
 
     pub open-done :
-        (r : DossierAsked) (a : Accepted table s r) →
+        (d : DossierIndex) (r : DossierAsked) (a : Accepted table s d r) →
         outcome (openedAnswer (a .openable .headed) (opening (view (a .openable .type)) (a .openable .headed .dossier))) out ≡ openCall standard table s out
     unfolding openCall openAnswer askedOpening
-    open-done r a = rw (le-leb 32768 (length out) h, a .from, a .openable .asked)
+    open-done d r a = rw (le-leb 32768 (length out) h, a .from, a .openable .asked)

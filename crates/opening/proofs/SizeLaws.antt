@@ -1,13 +1,14 @@
--- The merged event of a dossier that is opened has room in an output of 32,768 bytes.
+-- The merged event of an accepted dossier has room in the output that document 01 asks for.
 use mathlib.Core.Path.{_≡_, _∙_, subst}
 use mathlib.Core.Bool.{Bool, true, false}
+use mathlib.Core.Option.{some}
 use mathlib.Core.List.{List, [], _∷_, map, flatten, List·Memᴰ}
 use Prim.Native.Nat.{ℕ, _≤_}
 use native.Mathlib.Omega.{arith}
 use lib.ListN.{length, length-append, length-map}
 use Rattle.model.specs.Order.{Text, texts}
 use Rattle.model.specs.Sets.{canon, smallest}
-use Rattle.model.specs.Rule.{Choice, every, least, places, Snapshot}
+use Rattle.model.specs.Rule.{Choice, every, least, View, places, Snapshot, Dossier}
 use Rattle.model.specs.Limits.{standard}
 use Rattle.model.specs.Opening.{held, cellAt, column, lastOf, mergedSet, mergedAt, mergedSets}
 use Rattle.model.proofs.SetLaws.{canon-of}
@@ -15,17 +16,21 @@ use Rattle.model.proofs.ValidLaws.{take-of}
 use Rattle.model.proofs.PartLaws.{flatten-of, length-upTo}
 use Rattle.model.proofs.SizeLaws.{merged-objects}
 use Rattle.packed.proofs.LayoutLaws.{All, number-length-5}
+use Rattle.ontology.specs.Table.{Table}
+use Rattle.ontology.specs.TableLayout.{tableOf}
+use Rattle.ontology.specs.Questions.{leastRoom}
 use Rattle.ontology.specs.declared.types.TypeIndex.{TypeIndex}
-use Rattle.event.specs.Event.{objectCount, view}
+use Rattle.event.specs.Event.{Event, objectCount, view}
 use Rattle.event.specs.EventLayout.{presenceBit, bitNumber, eventBytes}
 use Rattle.event.proofs.EventLayoutLaws.{HeadWritten, presence-below}
 use Rattle.event.proofs.EventSizeLaws.{ValuesShort, head-size, sets-size, each-within}
 use Rattle.event.proofs.EventQuestionLaws.{all-member, member-all, all-at, flat-objects}
 use Rattle.dossier.specs.DossierLayout.{Headed}
+use Rattle.dossier.specs.DossierQuestions.{TypedDossier}
 use Rattle.dossier.specs.declared.dossiers.DossierIndex.{DossierIndex}
 use Rattle.dossier.proofs.CellLaws.{held-at}
 use Rattle.dossier.proofs.DossierLayoutLaws.{SnapshotWritten, snapshot-cells}
-use Rattle.dossier.proofs.AcceptedLaws.{taken-written, taken-name, taken-objects, taken-short}
+use Rattle.dossier.proofs.AcceptedLaws.{DossierTaken, taken-written, taken-name, taken-objects, taken-short}
 use Rattle.opening.specs.OpenCall.{mergedEvent}
 use Rattle.opening.specs.OpenIndex.{Openable}
 use Rattle.opening.proofs.AcceptedLaws.{taken}
@@ -70,37 +75,42 @@ event-short h ss w t n o v =
       sets-size ss v (each-within 256 ss o),
     ))
 
--- ---- a dossier that is opened
+-- ---- the merged event of an accepted dossier
 
-module _ (s : List ℕ) (d : DossierIndex) (t : TypeIndex) (o : Openable s d t) where
-  abbrev snapshots : List Snapshot
-  snapshots = o .headed .dossier .snapshots
+module _ (table s : List ℕ) (types : Table) (a : TypedDossier) (t : tableOf table ≡ some types) (w : DossierTaken types s a) where
+  abbrev d : Dossier
+  d = a .headed .dossier
 
-  abbrev sets : List (List Text)
-  sets = mergedSets (view (o .type)) (o .headed .dossier)
+  abbrev v : View Event
+  v = view (a .type)
 
-  sets-short : ValuesShort sets
+  sets-short : ValuesShort (mergedSets v d)
   unfolding mergedSets mergedAt
-  sets-short = go (places (view (o .type)))
+  sets-short = go (places v)
     where
-      go : (ps : List ℕ) → ValuesShort (map (mergedAt (view (o .type)) (o .headed .dossier)) ps)
+      go : (ps : List ℕ) → ValuesShort (map (mergedAt v d) ps)
       go [] = tt
-      go (p ∷ ps) = (merged-short (view (o .type) .replaces p) (view (o .type) .choice p) (column snapshots p) (column-short snapshots p (taken-short (taken s d t o))), go ps)
+      go (p ∷ ps) = (merged-short (v .replaces p) (v .choice p) (column (d .snapshots) p) (column-short (d .snapshots) p (taken-short w)), go ps)
 
-  sets-long : length sets ≡ 32
+  sets-long : length (mergedSets v d) ≡ 32
   unfolding mergedSets places view
-  sets-long = length-map (places (view (o .type))) (mergedAt (view (o .type)) (o .headed .dossier)) ∙ length-upTo 32
+  sets-long = length-map (places v) (mergedAt v d) ∙ length-upTo 32
 
-  sets-few : objectCount sets ≤ 256
+  sets-few : objectCount (mergedSets v d) ≤ 256
   unfolding view
   sets-few =
       omega (
         arith,
-        flat-objects sets,
-        merged-objects (view (o .type)) (o .headed .dossier) (λ z i. snapshot-cells z (all-member SnapshotWritten snapshots (taken-written (taken s d t o) .snapshots) z i)),
-        taken-objects (taken s d t o),
+        flat-objects (mergedSets v d),
+        merged-objects v d (λ z i. snapshot-cells z (all-member SnapshotWritten (d .snapshots) (taken-written w .snapshots) z i)),
+        taken-objects w,
       )
 
-  pub merged-size : length (eventBytes (mergedEvent (o .headed) sets)) ≤ 32768
+  pub merged-room : length (eventBytes (mergedEvent (a .headed) (mergedSets v d))) ≤ leastRoom
   unfolding standard
-  merged-size = event-short (o .headed) sets (taken-written (taken s d t o) .head) (taken-name (taken s d t o) (o .table) (o .read)) sets-long sets-few sets-short
+  merged-room = event-short (a .headed) (mergedSets v d) (taken-written w .head) (taken-name w table t) sets-long sets-few sets-short
+
+-- the same of a dossier that is opened
+pub merged-size : (s : List ℕ) (d : DossierIndex) (t : TypeIndex) (o : Openable s d t) →
+    length (eventBytes (mergedEvent (o .headed) (mergedSets (view (o .type)) (o .headed .dossier)))) ≤ leastRoom
+merged-size s d t o = merged-room (o .table) s (o .types) (record { type = o .type; headed = o .headed }) (o .read) (taken s d t o)

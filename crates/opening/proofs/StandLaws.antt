@@ -23,7 +23,7 @@ use Rattle.dossier.specs.declared.dossiers.DossierIndex.{DossierIndex}
 use Rattle.dossier.proofs.CellLaws.{held-at}
 use Rattle.dossier.proofs.AskLaws.{reads-got}
 use Rattle.dossier.proofs.DossierLayoutLaws.{snapshot-was}
-use Rattle.opening.specs.OpenIndex.{CellStands, Shifted, CellsFilled, CellsStand}
+use Rattle.opening.specs.OpenIndex.{CellStands, Shifted, CellsStand}
 use Rattle.opening.specs.CellIndex.{RowIs}
 
 -- ---- the column of a place
@@ -93,6 +93,11 @@ shifted-set s at vs x r h w v =
       order = omega (arith, w .order);
       within = omega (arith, l, w .within);
     })
+
+-- the cells of snapshot j are those of x, and the others are as they were
+pub record CellsFilled (s : List ℕ) (x : Snapshot) (j : ℕ) (old r : List SetAt) : Type 0 where
+  pub own : (p : ℕ) → p < 32 → CellStands s (held (cellAt x p)) (getD r (p * 8 + j) noSet)
+  pub others : (p i : ℕ) → p < 32 → i < 8 → (i ≡ j → ⊥) → getD r (p * 8 + i) noSet ≡ getD old (p * 8 + i) noSet
 
 -- the cells of the first p places of snapshot j are those of x, and those of the other snapshots are as they were
 pub record FilledTo (s : List ℕ) (x : Snapshot) (j : ℕ) (old cells : List SetAt) (p : ℕ) : Type 0 where

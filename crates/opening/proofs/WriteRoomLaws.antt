@@ -1,27 +1,24 @@
 -- The laws of writing a merged event: its head, the set of a place, and the sets of all places.
 use mathlib.Core.Path.{_≡_, refl, sym, ap, _∙_, subst, subst₂}
-use mathlib.Core.Bool.{false, _||_}
-use mathlib.Core.Option.{Option, none, some}
+use mathlib.Core.Bool.{false}
 use mathlib.Core.List.{List, [], _∷_, _++_, map, flatten}
 use Prim.Native.Nat.{ℕ, suc, _+_, _-_, _≤_, _<_}
 use native.Mathlib.Omega.{arith}
 use native.Mathlib.Numerals.{add-one}
-use lib.Dec.{eqb}
 use lib.ListN.{length, getD, getElem?, length-append}
 use Rattle.model.specs.Order.{Text, texts}
 use Rattle.model.specs.Sets.{canon, upFrom, upTo}
-use Rattle.model.specs.Rule.{every, places, Dossier}
-use Rattle.model.specs.Opening.{column, mergedSet, mergedAt, mergedSets}
-use Rattle.model.proofs.Cases.{never}
+use Rattle.model.specs.Rule.{places, Dossier}
+use Rattle.model.specs.Opening.{column, mergedAt, mergedSets}
 use Rattle.packed.specs.Packed.{number, text}
 use Rattle.packed.specs.Located.{part}
 use Rattle.packed.specs.Written.{Wrote}
 use Rattle.packed.proofs.WriteLaws.{wrote-length, wrote-then, ToGo, to-go, gone, wrote-none}
 use Rattle.unions.specs.Merging.{SetRuns, MergedRoom}
-use Rattle.ontology.specs.Table.{Strategy, min, max, add, replace, match, set, any, strategyNumber, Property, EventType, isReplace}
+use Rattle.ontology.specs.Table.{EventType}
 use Rattle.ontology.specs.TypeIndex.{TypeIs}
 use Rattle.ontology.specs.declared.types.TypeIndex.{TypeIndex}
-use Rattle.event.specs.Event.{choiceOf, atPlace, view}
+use Rattle.event.specs.Event.{view}
 use Rattle.event.specs.EventLayout.{parentsBytes, headBytes, setBytes, setsBytes, presenceBit, bitNumber, eventBytes}
 use Rattle.event.specs.EventIndex.{SetIs, HeadIs}
 use Rattle.event.specs.declared.sets.SetAt.{SetAt}
@@ -31,6 +28,7 @@ use Rattle.opening.specs.OpenCall.{mergedEvent}
 use Rattle.opening.specs.OpenIndex.{Mergeable, RuleIs, HeadRoom, PlaceRoom, SetsRoom, Writable}
 use Rattle.opening.specs.CellIndex.{RowIs, RowRoom}
 use Rattle.opening.specs.declared.strategies.PlaceRule.{PlaceRule}
+use Rattle.opening.proofs.MergeLaws.{merged-every}
 
 -- ---- the head
 
@@ -56,30 +54,6 @@ module _ (s : List ℕ) (type source : Text) (parents : List Text) (x : HeadAt) 
 
 -- ---- the values of a place
 
--- a set that is neither replaced nor chosen from is the union
-module _ (ty : EventType) (d : Dossier) (place : ℕ) (r : PlaceRule) where
-  abbrev sets-there : List (List Text)
-  sets-there = column (d .snapshots) place
-
-  union-by : (q : Property) (st : Strategy) → eqb (strategyNumber st) 4 ≡ false → (eqb (strategyNumber st) 1 || eqb (strategyNumber st) 2) ≡ false → mergedSet (eqb (strategyNumber st) 4) (choiceOf st q) sets-there ≡ canon texts (flatten sets-there)
-  unfolding choiceOf mergedSet
-  union-by q min a b = never (cc)
-  union-by q max a b = never (cc)
-  union-by q add a b = refl
-  union-by q replace a b = never (cc)
-  union-by q match a b = refl
-  union-by q set a b = refl
-  union-by q any a b = refl
-
-  union-at : (o : Option Property) → RuleIs o r → r .replaces ≡ false → r .extreme ≡ false → mergedSet (atPlace false isReplace o) (atPlace every (λ q. choiceOf (q .strategy) q) o) sets-there ≡ canon texts (flatten sets-there)
-  unfolding RuleIs atPlace mergedSet
-  union-at none w a b = refl
-  union-at (some q) w a b = union-by q (q .strategy) (sym (w .replaces) ∙ a) (sym (w .extreme) ∙ b)
-
-  pub merged-union : RuleIs (getElem? (ty .properties) place) r → r .replaces ≡ false → r .extreme ≡ false → mergedAt (view ty) d place ≡ canon texts (flatten sets-there)
-  unfolding mergedAt view
-  merged-union w a b = union-at (getElem? (ty .properties) place) w a b
-
 module _ {s : List ℕ} {cells : List SetAt} {place n : ℕ} {rule : PlaceRule} {at size : ℕ} (p : PlaceRoom s cells place n rule at size) where
   abbrev pub values : List Text
   values = mergedAt (view (p .type)) (p .dossier) place
@@ -94,7 +68,7 @@ module _ {s : List ℕ} {cells : List SetAt} {place n : ℕ} {rule : PlaceRule} 
   -- a union
   module _ (a : rule .replaces ≡ false) (b : rule .extreme ≡ false) where
     is-union : values ≡ canon texts (flatten (column (p .dossier .snapshots) place))
-    is-union = merged-union (p .type) (p .dossier) place rule (p .rules) a b
+    is-union = merged-every (p .type) (p .dossier) place rule (p .rules) a b
 
     pub union-room : (starts ends : List ℕ) → SetRuns s starts ends n (column (p .dossier .snapshots) place) → MergedRoom s starts ends n at size
     union-room starts ends w = record {

@@ -12,6 +12,7 @@ use Rattle.model.specs.Opening as model
 use Rattle.model.specs.Opening.{held, cellAt, column, mergedAt, mergedSets}
 use Rattle.packed.specs.Packed.{text}
 use Rattle.values.specs.Spaces.{Kind, kindNumber}
+use Rattle.values.specs.ValueOrder.{isOrdered}
 use Rattle.ontology.specs.Table.{Property, EventType, Table, isMin, isMax, isReplace, isSingle}
 use Rattle.ontology.specs.TableLayout.{tableOf}
 use Rattle.ontology.specs.TypeIndex.{TypeIs}
@@ -28,10 +29,10 @@ use Rattle.dossier.specs.DossierQuestions.{dossierAsked}
 use Rattle.dossier.specs.DossierIndex.{noSnapshot, DossierIs}
 use Rattle.dossier.specs.declared.dossiers.DossierIndex.{DossierIndex}
 use Rattle.opening.specs.OpenCall.{mergedEvent}
-use Rattle.opening.specs.declared.clash.Clash.{Clash}
-use Rattle.opening.specs.declared.clash.Clash.the-variants.{Differs, NoClash}
-use Rattle.opening.specs.declared.clash.Lowest.{Lowest}
-use Rattle.opening.specs.declared.clash.Lowest.the-variants.{Place, NoPlace}
+use Rattle.opening.specs.declared.conflict.Conflict.{Conflict}
+use Rattle.opening.specs.declared.conflict.Conflict.the-variants.{Differs, NoConflict}
+use Rattle.opening.specs.declared.conflict.Lowest.{Lowest}
+use Rattle.opening.specs.declared.conflict.Lowest.the-variants.{Place, NoPlace}
 use Rattle.opening.specs.declared.strategies.PlaceRule.{PlaceRule}
 
 -- ---- conflict
@@ -40,9 +41,9 @@ abbrev pub lowestOf : Lowest → Option ℕ
 lowestOf (Place p) = some p
 lowestOf NoPlace = none
 
-abbrev pub clashOf : Clash → model.Conflict
-clashOf (Differs v p) = model.differsAt (v .0) p
-clashOf NoClash = model.noConflict
+abbrev pub conflictOf : Conflict → model.Conflict
+conflictOf (Differs v p) = model.differsAt (v .0) p
+conflictOf NoConflict = model.noConflict
 
 -- ---- cells
 
@@ -54,11 +55,6 @@ pub record CellStands (s : List ℕ) (vs : List Text) (x : SetAt) : Type 0 where
 -- r is x, `at` bytes further on
 pub record Shifted (x : SetAt) (at size : ℕ) (r : SetAt) : Type 0 where
   pub is : at + x .start ≤ size → at + x .end ≤ size → r ≡ record { start = at + x .start; end = at + x .end; count = x .count }
-
--- the cells of snapshot j are those of x, and the others are as they were
-pub record CellsFilled (s : List ℕ) (x : Snapshot) (j : ℕ) (old r : List SetAt) : Type 0 where
-  pub own : (p : ℕ) → p < 32 → CellStands s (held (cellAt x p)) (getD r (p * 8 + j) noSet)
-  pub others : (p i : ℕ) → p < 32 → i < 8 → (i ≡ j → ⊥) → getD r (p * 8 + i) noSet ≡ getD old (p * 8 + i) noSet
 
 -- the set of place p in snapshot j is cell p * 8 + j
 pub record CellsStand (s : List ℕ) (ss : List Snapshot) (cells : List SetAt) : Type 0 where
@@ -92,7 +88,7 @@ pub record Lone (k : Kind) (vs : List Text) : Type 0 where
 -- the number of a kind that is ordered
 pub record Chooses (k : Kind) (kind : ℕ) : Type 0 where
   pub number : kindNumber k ≡ kind
-  pub ordered : kind ≤ 6
+  pub ordered : isOrdered k ≡ true
 
 -- the n snapshots of a dossier have their cells, and their sets of min and max can be chosen from
 pub record Mergeable (s : List ℕ) (cells : List SetAt) (n : ℕ) (t : EventType) (d : Dossier) : Type 0 where

@@ -10,9 +10,9 @@ ghost use Rattle.opening.specs.OpenCall.{openedAnswer, openCall};
 ghost use Rattle.opening.specs.Replies.{replies};
 ghost use Rattle.opening.specs.OpenIndex.{Openable};
 use crate::cells::cells_of;
-use crate::clash::Clash;
-use crate::clash::Lowest;
-use crate::clash::find_conflict;
+use crate::conflict::Conflict;
+use crate::conflict::Lowest;
+use crate::conflict::find_conflict;
 use crate::merge::find_overfull;
 use crate::merge::merged_counts;
 use crate::write::write_event;
@@ -52,8 +52,8 @@ fn open_asked(s: &[u8], d: DossierIndex, t: TypeIndex, out: &mut [u8]) -> Opened
     ensures { λ r. ⌜ ((o : Openable (now (s .entry)) d t) → replies r (now (out .exit)) ≡ outcome (openedAnswer (o .headed) (opening (view (o .type)) (o .headed .dossier))) (now (out .entry))) ⌝ }
 {
     match find_conflict(d) {
-        Clash::Differs(version, place) => Opened::Conflict(version, place),
-        Clash::NoClash => open_merged(s, d, t, out),
+        Conflict::Differs(version, place) => Opened::Conflict(version, place),
+        Conflict::NoConflict => open_merged(s, d, t, out),
     }
 }
 // The merged event of a dossier, written at the front of `out`.
@@ -72,7 +72,6 @@ pub fn open_dossier(table: &[u8], dossier: &[u8], out: &mut [u8]) -> Opened
     if asked.number != 0 {
         return Opened::Refused(asked.number);
     }
-    let kind = asked.kind;
-    let x = asked.dossier;
-    open_asked(dossier, x, kind, out)
+    let event_type = asked.event_type;
+    open_asked(dossier, d, event_type, out)
 }

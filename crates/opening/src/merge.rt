@@ -19,7 +19,7 @@ ghost use Rattle.event.specs.declared.sets.SetAt.{SetAt};
 ghost use Rattle.opening.specs.OpenIndex.{lowestOf, CellsStand, RuleIs, Lone, Chooses, CountsMerged, Mergeable};
 ghost use Rattle.opening.specs.CellIndex.{isStanding, RowIs};
 use crate::cells::runs_of;
-use crate::clash::Lowest;
+use crate::conflict::Lowest;
 use crate::strategies::PlaceRule;
 use crate::strategies::rule_of;
 use event::bits::number_of;
@@ -27,9 +27,9 @@ use event::sets::SetAt;
 use event::sets::set_part;
 use event::sets::value_in;
 use ontology::types::TypeIndex;
-use packed::order::Compared;
 use unions::many::count_merged;
 use values::spaces::compare_values;
+use values::spaces::takes_first;
 
 // The smaller of the values of two sets of at most one, or the larger, where it stands.
 fn better(s: &[u8], kind: u8, largest: bool, a: SetAt, b: SetAt) -> SetAt
@@ -43,10 +43,10 @@ fn better(s: &[u8], kind: u8, largest: bool, a: SetAt, b: SetAt) -> SetAt
     }
     let v = value_in(set_part(s, a), 0);
     let w = value_in(set_part(s, b), 0);
-    match compare_values(kind, v, w) {
-        Compared::Less => { if largest { b } else { a } }
-        Compared::Same => a,
-        Compared::More => { if largest { a } else { b } }
+    if takes_first(compare_values(kind, v, w), largest) {
+        a
+    } else {
+        b
     }
 }
 

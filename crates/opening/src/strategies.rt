@@ -4,6 +4,9 @@ ghost use lib.ListN.{getElem?};
 ghost use Rattle.ontology.specs.Table.{EventType};
 ghost use Rattle.ontology.specs.TypeIndex.{TypeIs};
 ghost use Rattle.opening.specs.OpenIndex.{RuleIs};
+use ontology::properties::is_extreme;
+use ontology::properties::is_max;
+use ontology::properties::is_replace;
 use ontology::types::TypeIndex;
 
 // How the sets of a place are merged: the last one, the smallest or the largest value by the order of a kind, or the union.
@@ -32,9 +35,9 @@ pub fn rule_of(t: TypeIndex, place: usize) -> PlaceRule
     let p = t.properties[place];
     PlaceRule {
         single: !p.multivalued,
-        replaces: p.strategy == 4,
-        extreme: p.strategy <= 2,
-        largest: p.strategy == 2,
+        replaces: is_replace(p),
+        extreme: is_extreme(p),
+        largest: is_max(p),
         kind: p.kind,
     }
 }

@@ -35,10 +35,10 @@ fn write_head(s: &[u8], head: HeadAt, out: &mut [u8]) -> usize
     let name = head.name;
     let source = head.source;
     let parents = head.parents;
-    let second = write_text(text_part(s, name), out, 0);
-    let third = write_text(text_part(s, source), out, second);
-    let hashes = write_number(out, third, parents.count as u64);
-    copy_part(s, parents.start, parents.end, out, hashes)
+    let after_name = write_text(text_part(s, name), out, 0);
+    let after_source = write_text(text_part(s, source), out, after_name);
+    let after_count = write_number(out, after_source, parents.count as u64);
+    copy_part(s, parents.start, parents.end, out, after_count)
 }
 
 // A merged set that stands already is copied; a union is written.
@@ -82,7 +82,7 @@ fn write_sets(
         let count = counts[p];
         if count != 0 {
             let rule = rule_of(t, p);
-            let first = write_number(out, next, count as u64);
+            let after_count = write_number(out, next, count as u64);
             let row = [
                 cells[p * 8],
                 cells[p * 8 + 1],
@@ -93,7 +93,7 @@ fn write_sets(
                 cells[p * 8 + 6],
                 cells[p * 8 + 7],
             ];
-            next = write_values(s, row, n, rule, out, first);
+            next = write_values(s, row, n, rule, out, after_count);
         }
         p += 1;
     }
@@ -113,7 +113,7 @@ pub fn write_event(
     ensures { λ r. ⌜ ((w : Writable (now (s .entry)) d t cells counts (length (now (out .entry)))) → Wrote (now (out .entry)) 0 (eventBytes (mergedEvent (w .headed) (mergedSets (view (w .type)) (w .headed .dossier)))) (now (out .exit)) r) ⌝ }
 {
     let head = d.head;
-    let at = write_head(s, head, out);
-    let first = write_number(out, at, presence_of(counts));
-    write_sets(s, cells, d.count, t, counts, out, first)
+    let after_head = write_head(s, head, out);
+    let after_presence = write_number(out, after_head, presence_of(counts));
+    write_sets(s, cells, d.count, t, counts, out, after_presence)
 }

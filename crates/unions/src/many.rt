@@ -10,7 +10,7 @@ ghost use Rattle.packed.specs.Written.{Wrote};
 ghost use Rattle.unions.specs.Merging.{passed, SetRun, SetRuns, RightLeast, Lesser, IsLeast, MergedRoom};
 use crate::heads::Form;
 use crate::heads::head_at;
-use packed::order::Compared;
+use packed::order::Ordering;
 use packed::order::compare_parts;
 use packed::order::same;
 use packed::read::TextAt;
@@ -37,9 +37,9 @@ fn lesser(s: &[u8], best: Least, at: usize, end: usize) -> Least
         return Least::At(at, p, q);
     };
     match compare_parts(s, a, e, s, p, q) {
-        Compared::Less => best,
-        Compared::Same => best,
-        Compared::More => Least::At(at, p, q),
+        Ordering::Less => best,
+        Ordering::Equal => best,
+        Ordering::Greater => Least::At(at, p, q),
     }
 }
 

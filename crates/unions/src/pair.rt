@@ -12,7 +12,7 @@ ghost use Rattle.unions.specs.Runs.{run, Run, Hashes, Steps, Room, Texts
 use crate::heads::Form;
 use crate::heads::count_rest;
 use crate::heads::head_at;
-use packed::order::Compared;
+use packed::order::Ordering;
 use packed::order::compare_parts;
 use packed::read::TextAt;
 use packed::write::copy_part;
@@ -34,9 +34,9 @@ fn next_of(form: Form, a: &[u8], i: usize, b: &[u8], j: usize) -> Step
         return Step::Alone;
     };
     match compare_parts(a, p, x, b, q, y) {
-        Compared::Less => Step::Next(true, x, j),
-        Compared::Same => Step::Next(true, x, y),
-        Compared::More => Step::Next(false, i, y),
+        Ordering::Less => Step::Next(true, x, j),
+        Ordering::Equal => Step::Next(true, x, y),
+        Ordering::Greater => Step::Next(false, i, y),
     }
 }
 

@@ -10,7 +10,7 @@ use Rattle.combining.proofs.joined.write_place.Reads as reads
 use Rattle.combining.proofs.joined.write_place.Lts as lts
 use Rattle.combining.proofs.joined.chosen.Reads as chosen-reads
 use Rattle.combining.proofs.limits.count_place.Reads as count-place-reads
-use Rattle.combining.proofs.limits.is_extreme.Reads as is-extreme-reads
+use Rattle.combining.proofs.limits.is_extreme_at.Reads as is-extreme-at-reads
 use Rattle.event.proofs.sets.set_part.Reads as set-part-reads
 use Rattle.packed.proofs.write.write_number.Reads as write-number-reads
 use Rattle.packed.proofs.write.write_text.Reads as write-text-reads
@@ -25,8 +25,8 @@ write-number-requires c κs =
     let h = q .place in
     omega (arith, place-room _ _ _ _ _ _ (q .some) h _ _ _ (c .count-place .ensures (h .table) (h .type) (h .xs) (h .ys) (h .typed) (h .left) (h .right) (h .paired .left-rises) (h .paired .right-rises) (h .paired .few)) (q .room))
 
-is-extreme-requires : tie.Need-is-extreme-requires
-is-extreme-requires c κs = c .before .before .before .before .before .before .before .before .pre .place .typed .few
+is-extreme-at-requires : tie.Need-is-extreme-at-requires
+is-extreme-at-requires c κs = c .before .before .before .before .before .before .before .before .pre .place .typed .few
 
 mul-p : tie.Need-mul-p
 mul-p c = omega (arith, c .before .before .before .before .before .before .before .before .before .before .pre .low)
@@ -41,7 +41,7 @@ write-text-requires : tie.Need-write-text-requires
 write-text-requires c κs =
     let q = c .before .before .before .before .before .before .before .before .before .before .before .before .before .pre in
     let h = q .place in
-    let e = sym (c .before .before .before .before .is-extreme .ensures (h .table) (h .type) (h .typed)) ∙ c .before .before .before .if1 .taken in
+    let e = sym (c .before .before .before .before .is-extreme-at .ensures (h .table) (h .type) (h .typed)) ∙ c .before .before .before .if1 .taken in
     let w = c .before .before .before .before .before .before .before .write-number .ensures in
     omega (arith, place-room _ _ _ _ _ _ (q .some) h _ _ _ (c .before .before .before .before .before .before .before .before .count-place .ensures (h .table) (h .type) (h .xs) (h .ys) (h .typed) (h .left) (h .right) (h .paired .left-rises) (h .paired .right-rises) (h .paired .few)) (q .room), w .after, wrote-length w, ap length (chosen-text _ _ _ _ _ _ (q .some) h e _ _ (c .before .chosen .ensures)))
 
@@ -52,7 +52,7 @@ returns : tie.Need-returns
 returns c =
     λ h.
     let q = c .before .before .before .before .before .before .before .before .before .before .before .before .before .before .before .before .pre .some in
-    let e = sym (c .before .before .before .before .before .before .before .is-extreme .ensures (h .table) (h .type) (h .typed)) ∙ c .before .before .before .before .before .before .if1 .taken in
+    let e = sym (c .before .before .before .before .before .before .before .is-extreme-at .ensures (h .table) (h .type) (h .typed)) ∙ c .before .before .before .before .before .before .if1 .taken in
     place-wrote _ _ _ _ _ _ q h _ (c .before .before .before .before .before .before .before .before .before .before .before .count-place .ensures (h .table) (h .type) (h .xs) (h .ys) (h .typed) (h .left) (h .right) (h .paired .left-rises) (h .paired .right-rises) (h .paired .few)) (c .before .before .before .before .before .before .before .before .before .before .write-number .ensures) (wrote-as (chosen-text _ _ _ _ _ _ q h e _ _ (c .before .before .before .before .chosen .ensures)) (c .before .before .write-text .ensures))
 
 set-part-requires : tie.Need-set-part-requires
@@ -65,7 +65,7 @@ write-union-requires : tie.Need-write-union-requires
 write-union-requires c κs =
     let q = c .before .before .before .before .before .before .before .before .before .before .before .before .before .pre in
     let h = q .place in
-    let e = sym (c .before .before .before .before .is-extreme .ensures (h .table) (h .type) (h .typed)) ∙ c .before .before .before .if1 .left in
+    let e = sym (c .before .before .before .before .is-extreme-at .ensures (h .table) (h .type) (h .typed)) ∙ c .before .before .before .if1 .left in
     let w = c .before .before .before .before .before .before .before .write-number .ensures in
     union-room _ _ _ _ _ _ (q .some) h e _ _ (c .before .before .set-part .ensures (h .xs) (h .left)) (c .before .set-part2 .ensures (h .ys) (h .right)) _ _
     (omega (arith, place-room _ _ _ _ _ _ (q .some) h _ _ _ (c .before .before .before .before .before .before .before .before .count-place .ensures (h .table) (h .type) (h .xs) (h .ys) (h .typed) (h .left) (h .right) (h .paired .left-rises) (h .paired .right-rises) (h .paired .few)) (q .room), w .after, wrote-length w))
@@ -80,7 +80,7 @@ returns-2 : tie.Need-returns-2
 returns-2 c =
     λ h.
     let q = c .before .before .before .before .before .before .before .before .before .before .before .before .before .before .before .before .pre .some in
-    let e = sym (c .before .before .before .before .before .before .before .is-extreme .ensures (h .table) (h .type) (h .typed)) ∙ c .before .before .before .before .before .before .if1 .left in
+    let e = sym (c .before .before .before .before .before .before .before .is-extreme-at .ensures (h .table) (h .type) (h .typed)) ∙ c .before .before .before .before .before .before .if1 .left in
     let l = c .before .before .before .before .before .set-part .ensures (h .xs) (h .left) in
     let r = c .before .before .before .before .set-part2 .ensures (h .ys) (h .right) in
     place-wrote _ _ _ _ _ _ q h _ (c .before .before .before .before .before .before .before .before .before .before .before .count-place .ensures (h .table) (h .type) (h .xs) (h .ys) (h .typed) (h .left) (h .right) (h .paired .left-rises) (h .paired .right-rises) (h .paired .few)) (c .before .before .before .before .before .before .before .before .before .before .write-number .ensures)
@@ -92,7 +92,7 @@ write-place-spec =
     (tie.spec
     count-place-requires
     write-number-requires
-    is-extreme-requires
+    is-extreme-at-requires
     mul-p
     element-copy-out-p
     chosen-requires

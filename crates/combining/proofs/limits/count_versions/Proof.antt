@@ -3,15 +3,16 @@ use mathlib.Core.Path.{_≡_}
 use mathlib.Core.Logic.{⊎-elim, inl, inr}
 use Prim.Native.Nat.{_+_, _-_, _≤_}
 use native.Mathlib.Omega.{arith}
-use lib.ListN.{length, take, getD}
-use Rattle.combining.proofs.CountLaws.{VersionsLeft, Passed, versions-none, counted-within, counted-left, counted-right, counted-passed, counted-more}
+use lib.ListN.{length, take}
+use Rattle.dossier.specs.DossierIndex.{versionNumbers}
+use Rattle.combining.proofs.CountLaws.{VersionsLeft, Passed, versionAt, versions-none, counted-within, counted-left, counted-right, counted-passed, counted-more}
 use Rattle.combining.proofs.limits.count_versions.Statement.{statement}
 use Rattle.combining.proofs.limits.count_versions.Tie as tie
 use Rattle.combining.proofs.limits.count_versions.Reads as reads
 use Rattle.combining.proofs.limits.count_versions.Lts as lts
 
 abbrev Inv-loop : tie.InvT-loop
-Inv-loop m n v w i₀ j₀ count₀ i j count = VersionsLeft (take m v) (take n w) i j count
+Inv-loop m n v w i₀ j₀ count₀ i j count = VersionsLeft (versionNumbers (take m v)) (versionNumbers (take n w)) i j count
 
 abbrev μ-loop : tie.MeasureT-loop
 μ-loop m n v w i₀ j₀ count₀ i j count = (m - i) + (n - j)
@@ -25,7 +26,7 @@ within : (c : tie.At-loop Inv-loop μ-loop) → (c .loop .i ≤ c .before .args 
 within c = let a = c .before .args in counted-within (a .m) (a .n) (a .t1) (a .t3) (long (c .before)) (c .before .pre) (c .loop .i) (c .loop .j) (c .loop .count) (c .loop .inv)
 
 loop-holds : tie.Need-loop-holds Inv-loop μ-loop
-loop-holds c = let a = c .args in versions-none (take (a .m) (a .t1)) (take (a .n) (a .t3))
+loop-holds c = let a = c .args in versions-none (versionNumbers (take (a .m) (a .t1))) (versionNumbers (take (a .n) (a .t3)))
 
 sub-result : tie.Need-sub-result Inv-loop μ-loop
 sub-result c = within (c .before .before) .0
@@ -39,14 +40,14 @@ returns c = let l = c .before .before in let a = l .before .args in counted-left
 mul-a : tie.Need-mul-a Inv-loop μ-loop
 mul-a c = search needs
 
-array-read-a : tie.Need-array-read-a Inv-loop μ-loop
-array-read-a c = search needs
+array-copy-out-a : tie.Need-array-copy-out-a Inv-loop μ-loop
+array-copy-out-a c = search needs
 
 mul-b : tie.Need-mul-b Inv-loop μ-loop
 mul-b c = search needs
 
-array-read-b : tie.Need-array-read-b Inv-loop μ-loop
-array-read-b c = search needs
+array-copy-out-b : tie.Need-array-copy-out-b Inv-loop μ-loop
+array-copy-out-b c = search needs
 
 add-i : tie.Need-add-i Inv-loop μ-loop
 add-i c = search needs
@@ -55,20 +56,39 @@ add-j : tie.Need-add-j Inv-loop μ-loop
 add-j c = search needs
 
 -- where each side goes on
-left-passed : (c : tie.Joined3 Inv-loop μ-loop) → let l = c .before .before .before .before in let a = l .before .args in Passed (getD (a .t1) (l .loop .i) 0) (getD (a .t3) (l .loop .j) 0) (l .loop .i) (c .before .if2 .i)
-left-passed c = ⊎-elim (λ w. inl (w .0 .taken, w .1)) (λ w. inr (w .0 .left, w .1)) (c .before .if2 .came)
+module _ (c : tie.Joined3 Inv-loop μ-loop) where
+  abbrev l : tie.At-loop Inv-loop μ-loop
+  l = c .before .before .before .before .before .before .before .before .before .before
 
-right-passed : (c : tie.Joined3 Inv-loop μ-loop) → let l = c .before .before .before .before in let a = l .before .args in Passed (getD (a .t3) (l .loop .j) 0) (getD (a .t1) (l .loop .i) 0) (l .loop .j) (c .if3 .j)
-right-passed c = ⊎-elim (λ w. inl (w .0 .taken, w .1)) (λ w. inr (w .0 .left, w .1)) (c .if3 .came)
+  left-passed :
+      let a = l .before .args in
+      Passed (versionAt (a .t1) (l .loop .i)) (versionAt (a .t3) (l .loop .j)) (l .loop .i) (c .before .before .before .if2 .i)
+  left-passed = ⊎-elim (λ w. inl (w .0 .taken, w .1)) (λ w. inr (w .0 .left, w .1)) (c .before .before .before .if2 .came)
+
+  right-passed :
+      let a = l .before .args in
+      Passed (versionAt (a .t3) (l .loop .j)) (versionAt (a .t1) (l .loop .i)) (l .loop .j) (c .if3 .j)
+  right-passed = ⊎-elim (λ w. inl (w .0 .taken, w .1)) (λ w. inr (w .0 .left, w .1)) (c .if3 .came)
 
 add-count : tie.Need-add-count Inv-loop μ-loop
-add-count c = let l = c .before .before .before .before in omega (arith, within l, l .before .pre)
+add-count c = omega (arith, within (l c), l c .before .pre)
 
 loop-less : tie.Need-loop-less Inv-loop μ-loop
-loop-less c = let l = c .before .before .before .before in let a = l .before .args in omega (arith, within l, c .before .before .before .loop-test .taken, c .before .before .if1 .left, counted-passed (a .m) (a .n) (a .t1) (a .t3) (long (l .before)) (l .before .pre) (l .loop .i) (l .loop .j) (l .loop .count) (l .loop .inv) (c .before .before .before .loop-test .taken) (c .before .before .if1 .left) (c .before .if2 .i) (c .if3 .j) (left-passed c) (right-passed c))
+loop-less c =
+    let l = l c in
+    let a = l .before .args in
+    let i = c .before .before .before .before .before .before .before .before .before .loop-test .taken in
+    let j = c .before .before .before .before .before .before .before .before .if1 .left in
+    let q = counted-passed (a .m) (a .n) (a .t1) (a .t3) (long (l .before)) (l .before .pre) (l .loop .i) (l .loop .j) (l .loop .count) (l .loop .inv) in
+    omega (arith, within l, i, j, q i j _ _ (left-passed c) (right-passed c))
 
 loop-again : tie.Need-loop-again Inv-loop μ-loop
-loop-again c = let l = c .before .before .before .before in let a = l .before .args in counted-more (a .m) (a .n) (a .t1) (a .t3) (long (l .before)) (l .before .pre) (l .loop .i) (l .loop .j) (l .loop .count) (l .loop .inv) (c .before .before .before .loop-test .taken) (c .before .before .if1 .left) (c .before .if2 .i) (c .if3 .j) (left-passed c) (right-passed c)
+loop-again c =
+    let l = l c in
+    let a = l .before .args in
+    counted-more (a .m) (a .n) (a .t1) (a .t3) (long (l .before)) (l .before .pre) (l .loop .i) (l .loop .j) (l .loop .count) (l .loop .inv)
+    (c .before .before .before .before .before .before .before .before .before .loop-test .taken)
+    (c .before .before .before .before .before .before .before .before .if1 .left) _ _ (left-passed c) (right-passed c)
 
 sub-result-2 : tie.Need-sub-result-2 Inv-loop μ-loop
 sub-result-2 c = within (c .before) .1
@@ -90,9 +110,9 @@ count-versions-spec =
     add-result
     returns
     mul-a
-    array-read-a
+    array-copy-out-a
     mul-b
-    array-read-b
+    array-copy-out-b
     add-i
     add-j
     add-count

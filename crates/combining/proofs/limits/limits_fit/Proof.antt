@@ -3,7 +3,7 @@ use mathlib.Core.Path.{_≡_}
 use lib.ListN.{length, take, getD}
 use Rattle.model.specs.Order.{numbers, texts}
 use Rattle.model.specs.Sets.{union}
-use Rattle.dossier.specs.DossierIndex.{noSnapshot}
+use Rattle.dossier.specs.DossierIndex.{noSnapshot, versionNumbers}
 use Rattle.dossier.proofs.AskLaws.{first-stands}
 use Rattle.combining.specs.CombineIndex.{Combinable}
 use Rattle.combining.proofs.FitLaws.{left-hashes, right-hashes, left-rises, right-rises, unversioned, first-meet, first-start, fits-parents, fits-versions, fits-versioned, fits-objects}
@@ -49,7 +49,10 @@ count-versions-requires : tie.Need-count-versions-requires
 count-versions-requires c κs = let h = c .before .before .before .before .before .before .before .before .before .before .before .pre in (h .left-read .few, h .right-read .few)
 
 -- how many versions the two have
-versions-counted : (c : tie.After-count-versions) (h : Asked (c .before .before .before .before)) → let a = start (c .before .before .before .before) .args in c .count-versions .result ≡ length (union numbers (take (a .t3 .count) (a .t3 .versions)) (take (a .t5 .count) (a .t5 .versions)))
+versions-counted :
+    (c : tie.After-count-versions) (h : Asked (c .before .before .before .before)) → let a = start (c .before .before .before .before) .args in
+    c .count-versions .result
+    ≡ length (union numbers (versionNumbers (take (a .t3 .count) (a .t3 .versions))) (versionNumbers (take (a .t5 .count) (a .t5 .versions))))
 versions-counted c h = c .count-versions .ensures (left-rises _ _ _ _ _ _ h) (right-rises _ _ _ _ _ _ h)
 
 returns-2 : tie.Need-returns-2

@@ -6,17 +6,17 @@ use Rattle.combining.proofs.MergedLaws.{left-there, right-there, next-l
 use Rattle.combining.proofs.write.write_next.Statement.{statement}
 use Rattle.combining.proofs.write.write_next.Tie as tie
 
-mul-left : tie.Need-mul-left
-mul-left c = search needs
+mul-left-start : tie.Need-mul-left-start
+mul-left-start c = search needs
 
-element-copy-out-left : tie.Need-element-copy-out-left
-element-copy-out-left c = search needs
+element-copy-out-left-start : tie.Need-element-copy-out-left-start
+element-copy-out-left-start c = search needs
 
-mul-right : tie.Need-mul-right
-mul-right c = search needs
+mul-right-start : tie.Need-mul-right-start
+mul-right-start c = search needs
 
-element-copy-out-right : tie.Need-element-copy-out-right
-element-copy-out-right c = search needs
+element-copy-out-right-start : tie.Need-element-copy-out-right-start
+element-copy-out-right-start c = search needs
 
 mul-v : tie.Need-mul-v
 mul-v c = search needs
@@ -36,14 +36,29 @@ mul-end c = search needs
 element-copy-out-end : tie.Need-element-copy-out-end
 element-copy-out-end c = search needs
 
+-- the call's start, from where both versions are known; past the first test; and past both, where they are one
+abbrev start : tie.After-w → tie.Start
+start c = c .before .before .before .before .before .before .before .before
+
+abbrev startUnlessLess : tie.Else1 → tie.Start
+startUnlessLess c = start (c .before .before .before)
+
+abbrev startIfSame : tie.Else2 → tie.Start
+startIfSame c = startUnlessLess (c .before .before .before)
+
 copy-part-requires : tie.Need-copy-part-requires
-copy-part-requires c κs = let p = c .before .before .before .before .before .before .before .before .before .before .before .pre in left-there (p .both) (c .before .before .before .before .before .before .before .before .before .before .before .args .i) (c .before .before .before .before .before .before .before .before .before .before .before .args .j) (p .left-in) (p .right-in) _ _ (p .room) (c .before .before .if1 .taken)
+copy-part-requires c κs =
+    let s = start (c .before .before .before .before .before) in
+    left-there (s .pre .both) (s .args .i) (s .args .j) (s .pre .left-in) (s .pre .right-in) _ _ (s .pre .room) (c .before .before .if1 .taken)
 
 same-length : tie.Need-same-length
 same-length c = search needs
 
 returns : tie.Need-returns
-returns c = λ h. let p = c .before .before .before .before .before .before .before .before .before .before .before .before .before .before .pre in wrote-as (next-left h (c .before .before .before .before .before .before .before .before .before .before .before .before .before .before .args .i) (c .before .before .before .before .before .before .before .before .before .before .before .before .before .before .args .j) (p .left-in) (p .right-in) (c .before .before .before .before .before .if1 .taken)) (c .before .before .copy-part .ensures)
+returns c = λ h.
+    let less = c .before .before .before .before .before in
+    let s = start (less .before .before .before) in
+    wrote-as (next-left h (s .args .i) (s .args .j) (s .pre .left-in) (s .pre .right-in) (less .if1 .taken)) (c .before .before .copy-part .ensures)
 
 mul-end-2 : tie.Need-mul-end-2
 mul-end-2 c = search needs
@@ -52,53 +67,73 @@ element-copy-out-end-2 : tie.Need-element-copy-out-end-2
 element-copy-out-end-2 c = search needs
 
 copy-part-requires-2 : tie.Need-copy-part-requires-2
-copy-part-requires-2 c κs = let p = c .before .before .before .before .before .before .before .before .before .before .before .before .pre in right-there (p .both) (c .before .before .before .before .before .before .before .before .before .before .before .before .args .i) (c .before .before .before .before .before .before .before .before .before .before .before .before .args .j) (p .left-in) (p .right-in) _ _ (p .room) (c .before .before .if2 .taken)
+copy-part-requires-2 c κs =
+    let s = startUnlessLess (c .before .before .before .before .before) in
+    right-there (s .pre .both) (s .args .i) (s .args .j) (s .pre .left-in) (s .pre .right-in) _ _ (s .pre .room) (c .before .before .if2 .taken)
 
 same-length-2 : tie.Need-same-length-2
 same-length-2 c = search needs
 
 returns-2 : tie.Need-returns-2
-returns-2 c = λ h. let p = c .before .before .before .before .before .before .before .before .before .before .before .before .before .before .before .pre in wrote-as (next-right h (c .before .before .before .before .before .before .before .before .before .before .before .before .before .before .before .args .i) (c .before .before .before .before .before .before .before .before .before .before .before .before .before .before .before .args .j) (p .left-in) (p .right-in) (c .before .before .before .before .before .if2 .taken)) (c .before .before .copy-part2 .ensures)
+returns-2 c = λ h.
+    let more = c .before .before .before .before .before in
+    let s = startUnlessLess (more .before .before .before) in
+    wrote-as (next-right h (s .args .i) (s .args .j) (s .pre .left-in) (s .pre .right-in) (more .if2 .taken)) (c .before .before .copy-part2 .ensures)
 
 sub-write-shared : tie.Need-sub-write-shared
-sub-write-shared c = let p = c .before .before .before .before .before .before .before .before .before .before .before .before .pre in omega (arith, start-within _ _ _ (p .both .left-read) (c .before .before .before .before .before .before .before .before .before .before .before .before .args .i) (p .left-in))
+sub-write-shared c =
+    let s = startIfSame (c .before .before) in
+    omega (arith, start-within _ _ _ (s .pre .both .left-read) (s .args .i) (s .pre .left-in))
 
 part-write-shared-start : tie.Need-part-write-shared-start
-part-write-shared-start c = let p = c .before .before .before .before .before .before .before .before .before .before .before .before .pre in omega (arith, start-within _ _ _ (p .both .left-read) (c .before .before .before .before .before .before .before .before .before .before .before .before .args .i) (p .left-in))
+part-write-shared-start c =
+    let s = startIfSame (c .before .before) in
+    omega (arith, start-within _ _ _ (s .pre .both .left-read) (s .args .i) (s .pre .left-in))
 
 part-write-shared-end : tie.Need-part-write-shared-end
 part-write-shared-end c = search needs
 
 sub-write-shared-2 : tie.Need-sub-write-shared-2
-sub-write-shared-2 c = let p = c .before .before .before .before .before .before .before .before .before .before .before .before .before .pre in omega (arith, start-within _ _ _ (p .both .right-read) (c .before .before .before .before .before .before .before .before .before .before .before .before .before .args .j) (p .right-in))
+sub-write-shared-2 c =
+    let s = startIfSame (c .before .before .before) in
+    omega (arith, start-within _ _ _ (s .pre .both .right-read) (s .args .j) (s .pre .right-in))
 
 part-write-shared-start-2 : tie.Need-part-write-shared-start-2
-part-write-shared-start-2 c = let p = c .before .before .before .before .before .before .before .before .before .before .before .before .before .pre in omega (arith, start-within _ _ _ (p .both .right-read) (c .before .before .before .before .before .before .before .before .before .before .before .before .before .args .j) (p .right-in))
+part-write-shared-start-2 c =
+    let s = startIfSame (c .before .before .before) in
+    omega (arith, start-within _ _ _ (s .pre .both .right-read) (s .args .j) (s .pre .right-in))
 
 part-write-shared-end-2 : tie.Need-part-write-shared-end-2
 part-write-shared-end-2 c = search needs
 
 write-shared-requires : tie.Need-write-shared-requires
-write-shared-requires c κs = let p = c .before .before .before .before .before .before .before .before .before .before .before .before .before .before .before .pre in shared-room (p .both) (c .before .before .before .before .before .before .before .before .before .before .before .before .before .before .before .args .i) (c .before .before .before .before .before .before .before .before .before .before .before .before .before .before .before .args .j) (p .left-in) (p .right-in) _ _ (p .room) (c .before .before .before .before .before .before .if1 .left) (c .before .before .before .before .before .if2 .left)
+write-shared-requires c κs =
+    let same = c .before .before .before .before .before in
+    let s = startIfSame same in
+    shared-room (s .pre .both) (s .args .i) (s .args .j) (s .pre .left-in) (s .pre .right-in) _ _ (s .pre .room)
+    (same .before .before .before .if1 .left) (same .if2 .left)
 
 same-length-3 : tie.Need-same-length-3
 same-length-3 c = search needs
 
 returns-3 : tie.Need-returns-3
 returns-3 c = λ h.
-    let p = c .before .before .before .before .before .before .before .before .before .before .before .before .before .before .before .before .before .before .pre in
-    let i = c .before .before .before .before .before .before .before .before .before .before .before .before .before .before .before .before .before .before .args .i in
-    let j = c .before .before .before .before .before .before .before .before .before .before .before .before .before .before .before .before .before .before .args .j in
-    wrote-as (next-both h i j (p .left-in) (p .right-in) (c .before .before .before .before .before .before .before .before .before .if1 .left) (c .before .before .before .before .before .before .before .before .if2 .left)) (c .before .before .write-shared .ensures (h .known .left .type) _ _ (h .known .typed) (next-meet h i j (p .left-in) (p .right-in) (c .before .before .before .before .before .before .before .before .before .if1 .left) (c .before .before .before .before .before .before .before .before .if2 .left)))
+    let same = c .before .before .before .before .before .before .before .before in
+    let s = startIfSame same in
+    let m = same .before .before .before .if1 .left in
+    let n = same .if2 .left in
+    wrote-as (next-both h (s .args .i) (s .args .j) (s .pre .left-in) (s .pre .right-in) m n)
+    (c .before .before .write-shared .ensures (h .known .left .type) _ _ (h .known .typed)
+    (next-meet h (s .args .i) (s .args .j) (s .pre .left-in) (s .pre .right-in) m n))
 
 pub write-next-spec : {M : Type 1} → statement M
 write-next-spec =
     tie.close
     (tie.spec
-    mul-left
-    element-copy-out-left
-    mul-right
-    element-copy-out-right
+    mul-left-start
+    element-copy-out-left-start
+    mul-right-start
+    element-copy-out-right-start
     mul-v
     element-copy-out-v
     mul-w

@@ -2,12 +2,13 @@ use borrow.Author.Needs.{needs}
 use native.Mathlib.Omega.{arith}
 use mathlib.Core.Path.{_≡_, refl, _∙_}
 use mathlib.Core.List.{map, flatten}
-use Prim.Native.Nat.{_+_, _-_, _≤_}
-use lib.ListN.{length, getD}
+use Prim.Native.Nat.{ℕ, _+_, _-_, _≤_}
+use lib.ListN.{length}
 use Rattle.packed.proofs.WriteLaws.{ToGo, wrote-length}
 use Rattle.dossier.specs.DossierLayout.{snapshotBytes}
 use Rattle.combining.specs.CombineCall.{combined}
 use Rattle.combining.specs.CombineIndex.{Combinable}
+use Rattle.combining.proofs.CountLaws.{versionAt}
 use Rattle.combining.proofs.MergedLaws.{step-least, step-one, mergedBytes, merged-to-go, left-room, right-room, next-room, left-wrote, right-wrote, next-wrote}
 use Rattle.combining.proofs.write.write_snapshots.Statement.{statement}
 use Rattle.combining.proofs.write.write_snapshots.Tie as tie
@@ -50,37 +51,48 @@ element-copy-out-w c = search needs
 step-by-requires : tie.Need-step-by-requires Inv-loop μ-loop
 step-by-requires c κs = search needs
 
+-- the call's start, and the versions that the sides have come to
+abbrev start : tie.At-loop Inv-loop μ-loop → tie.Start Inv-loop μ-loop
+start l = l .before .before .before .before .before
+
+abbrev leftVersion : tie.At-loop Inv-loop μ-loop → ℕ
+leftVersion l = versionAt (start l .args .t3 .versions) (l .loop .i)
+
+abbrev rightVersion : tie.At-loop Inv-loop μ-loop → ℕ
+rightVersion l = versionAt (start l .args .t5 .versions) (l .loop .j)
+
 add-i : tie.Need-add-i Inv-loop μ-loop
 add-i c =
-    let p = c .before .before .before .before .before .before .before .before .before .before .before .before .before .before .pre in
-    let v = getD (c .before .before .before .before .before .before .before .before .before .before .before .before .before .before .args .t3 .versions) (c .before .before .before .before .before .before .before .before .before .loop .i) 0 in
-    let w = getD (c .before .before .before .before .before .before .before .before .before .before .before .before .before .before .args .t5 .versions) (c .before .before .before .before .before .before .before .before .before .loop .j) 0 in
-    omega (arith, p .both .left-read .few, c .before .before .before .before .before .before .before .before .before .loop .inv .0, step-least v w, c .step-by .ensures)
+    let l = c .before .before .before .before .before .before .before .before .before in
+    omega (arith, start l .pre .both .left-read .few, l .loop .inv .0, step-least (leftVersion l) (rightVersion l), c .step-by .ensures)
 
 step-by-requires-2 : tie.Need-step-by-requires-2 Inv-loop μ-loop
 step-by-requires-2 c κs = search needs
 
 add-j : tie.Need-add-j Inv-loop μ-loop
 add-j c =
-    let p = c .before .before .before .before .before .before .before .before .before .before .before .before .before .before .before .pre in
-    let v = getD (c .before .before .before .before .before .before .before .before .before .before .before .before .before .before .before .args .t3 .versions) (c .before .before .before .before .before .before .before .before .before .before .loop .i) 0 in
-    let w = getD (c .before .before .before .before .before .before .before .before .before .before .before .before .before .before .before .args .t5 .versions) (c .before .before .before .before .before .before .before .before .before .before .loop .j) 0 in
-    omega (arith, p .both .right-read .few, c .before .before .before .before .before .before .before .before .before .before .loop .inv .1, step-least w v, c .step-by2 .ensures)
+    let l = c .before .before .before .before .before .before .before .before .before .before in
+    omega (arith, start l .pre .both .right-read .few, l .loop .inv .1, step-least (rightVersion l) (leftVersion l), c .step-by2 .ensures)
 
 loop-less : tie.Need-loop-less Inv-loop μ-loop
 loop-less c =
-    let v = getD (c .before .before .before .before .before .before .before .before .before .before .before .before .before .before .before .args .t3 .versions) (c .before .before .before .before .before .before .before .before .before .before .loop .i) 0 in
-    let w = getD (c .before .before .before .before .before .before .before .before .before .before .before .before .before .before .before .args .t5 .versions) (c .before .before .before .before .before .before .before .before .before .before .loop .j) 0 in
+    let l = c .before .before .before .before .before .before .before .before .before .before in
+    let v = leftVersion l in
+    let w = rightVersion l in
     omega (arith, step-one v w, step-least v w, step-least w v, c .before .step-by .ensures, c .step-by2 .ensures)
 
 loop-again : tie.Need-loop-again Inv-loop μ-loop
 loop-again c =
-    let v = getD (c .before .before .before .before .before .before .before .before .before .before .before .before .before .before .before .args .t3 .versions) (c .before .before .before .before .before .before .before .before .before .before .loop .i) 0 in
-    let w = getD (c .before .before .before .before .before .before .before .before .before .before .before .before .before .before .before .args .t5 .versions) (c .before .before .before .before .before .before .before .before .before .before .loop .j) 0 in (
-      omega (arith, step-least v w, c .before .step-by .ensures),
-      omega (arith, step-least w v, c .step-by2 .ensures),
-      wrote-length (c .before .before .before .before .before .before .write-next .ensures (c .before .before .before .before .before .before .before .before .before .before .before .before .before .before .before .pre .both)) ∙ c .before .before .before .before .before .before .before .before .before .before .loop .inv .2,
-      λ h. next-wrote h (c .before .before .before .before .before .before .before .before .before .before .loop .i) (c .before .before .before .before .before .before .before .before .before .before .loop .j) (c .before .before .before .before .before .before .before .before .before .before .loop .inv .3 h) _ _ (c .before .before .before .before .before .before .before .before .before .loop-test .taken) (c .before .before .before .before .before .before .before .before .if1 .left) (c .before .step-by .ensures) (c .step-by2 .ensures) (c .before .before .before .before .before .before .write-next .ensures h),
+    let l = c .before .before .before .before .before .before .before .before .before .before in
+    let wrote = c .before .before .before .before .before .before .write-next .ensures in (
+      omega (arith, step-least (leftVersion l) (rightVersion l), c .before .step-by .ensures),
+      omega (arith, step-least (rightVersion l) (leftVersion l), c .step-by2 .ensures),
+      wrote-length (wrote (start l .pre .both)) ∙ l .loop .inv .2,
+      λ h.
+          next-wrote h (l .loop .i) (l .loop .j) (l .loop .inv .3 h) _ _
+          (c .before .before .before .before .before .before .before .before .before .loop-test .taken)
+          (c .before .before .before .before .before .before .before .before .if1 .left)
+          (c .before .step-by .ensures) (c .step-by2 .ensures) (wrote h),
     )
 
 write-rest-requires-2 : tie.Need-write-rest-requires-2 Inv-loop μ-loop

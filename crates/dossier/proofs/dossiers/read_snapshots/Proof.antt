@@ -42,7 +42,7 @@ returns : tie.Need-returns Inv-loop μ-loop
 returns c =
     let i = c .before .before .before .read-snapshot .result in
     let e = first-bad (c .before .before .before .before .before .before .args .s .now) (c .before .before .before .before .before .before .args .count) (c .before .before .before .before .before .before .args .at) i (c .before .before .before .before .before .before .pre .1) (first (c .before .before .before)) (not-true (i .ok) (c .if1 .taken)) in
-    snapshots-none _ (times readSnapshot (c .before .before .before .before .before .before .args .count) (drop (c .before .before .before .before .before .before .args .at) (c .before .before .before .before .before .before .args .s .now))) (c .before .before .before .before .before .before .args .s .now) (record { ok = false; next = 0; starts = eight (c .before .before .before .before .before .before .args .at); ends = eight 0; versions = eight (i .version .0); differs = eight (i .differ); first = i }) e refl
+    snapshots-none _ (times readSnapshot (c .before .before .before .before .before .before .args .count) (drop (c .before .before .before .before .before .before .args .at) (c .before .before .before .before .before .before .args .s .now))) (c .before .before .before .before .before .before .args .s .now) (record { ok = false; next = 0; starts = eight (c .before .before .before .before .before .before .args .at); ends = eight 0; versions = eight (i .version); differs = eight (i .differ); first = i }) e refl
 
 add-next : tie.Need-add-next Inv-loop μ-loop
 add-next c =
@@ -53,7 +53,7 @@ element-write-r : tie.Need-element-write-r Inv-loop μ-loop
 element-write-r c = search needs
 
 loop-holds : tie.Need-loop-holds Inv-loop μ-loop
-loop-holds c = (refl, omega arith, λ k. passed-first _ (eight (c .before .before .before .before .before .before .before .args .at)) (eight 0) (eight (c .before .before .before .before .read-snapshot .result .version .0)) (eight (c .before .before .before .before .read-snapshot .result .differ)) _ _ _ (c .before .before .before .before .before .before .before .pre .0) refl refl refl refl (first (c .before .before .before .before)) (c .before .before .before .before .before .before .before .pre .1) (not-false _ (c .before .if1 .left)) (c .before .before .before .before .before .before .before .pre .2))
+loop-holds c = (refl, omega arith, λ k. passed-first _ (eight (c .before .before .before .before .before .before .before .args .at)) (eight 0) (eight (c .before .before .before .before .read-snapshot .result .version)) (eight (c .before .before .before .before .read-snapshot .result .differ)) _ _ _ (c .before .before .before .before .before .before .before .pre .0) refl refl refl refl (first (c .before .before .before .before)) (c .before .before .before .before .before .before .before .pre .1) (not-false _ (c .before .if1 .left)) (c .before .before .before .before .before .before .before .pre .2))
 
 pass-snapshot-requires : tie.Need-pass-snapshot-requires Inv-loop μ-loop
 pass-snapshot-requires c κs = λ e. c .before .loop .inv .2 (λ f. e) .within
@@ -76,17 +76,17 @@ mul-r-2 c = search needs
 element-write-r-3 : tie.Need-element-write-r-3 Inv-loop μ-loop
 element-write-r-3 c = search needs
 
+mul-later : tie.Need-mul-later Inv-loop μ-loop
+mul-later c = search needs
+
+element-set-from-later : tie.Need-element-set-from-later Inv-loop μ-loop
+element-set-from-later c = search needs
+
 mul-r-3 : tie.Need-mul-r-3 Inv-loop μ-loop
 mul-r-3 c = search needs
 
 element-write-r-4 : tie.Need-element-write-r-4 Inv-loop μ-loop
 element-write-r-4 c = search needs
-
-mul-r-4 : tie.Need-mul-r-4 Inv-loop μ-loop
-mul-r-4 c = search needs
-
-element-write-r-5 : tie.Need-element-write-r-5 Inv-loop μ-loop
-element-write-r-5 c = search needs
 
 add-j : tie.Need-add-j Inv-loop μ-loop
 add-j c = search needs
@@ -96,8 +96,8 @@ loop-less c = search needs
 
 loop-again : tie.Need-loop-again Inv-loop μ-loop
 loop-again c =
-    let l = c .before .before .before .before .loop in
-    (l .inv .0, omega arith, λ k. passed-more _ _ _ _ _ _ _ _ _ _ (l .inv .2 k) _ k (c .before .before .before .loop-test .taken) _ (c .before .before .pass-snapshot .ensures) (c .before .before .before .before .before .before .before .before .before .before .before .before .pre .2) (l .inv .1) (not-false _ (c .if2 .left)))
+    let l = c .before .before .before .before .before .loop in
+    (l .inv .0, omega arith, λ k. passed-more _ _ _ _ _ _ _ _ _ _ (l .inv .2 k) _ k (c .before .before .before .before .loop-test .taken) _ (c .before .before .before .pass-snapshot .ensures) (c .before .before .before .before .before .before .before .before .before .before .before .before .before .pre .2) (l .inv .1) (not-false _ (c .before .if2 .left)))
 
 returns-3 : tie.Need-returns-3 Inv-loop μ-loop
 returns-3 c = snapshots-there _ _ _ _ (λ k. passed-all _ _ _ _ _ _ _ _ _ _ (c .before .loop .inv .2 k) (c .loop-test .left) (c .before .loop .inv .1) _)
@@ -122,10 +122,10 @@ read-snapshots-spec =
     element-write-r-2
     mul-r-2
     element-write-r-3
+    mul-later
+    element-set-from-later
     mul-r-3
     element-write-r-4
-    mul-r-4
-    element-write-r-5
     add-j
     loop-less
     loop-again

@@ -4,6 +4,7 @@ use Prim.Native.Nat.{_-_, _≤_}
 use native.Mathlib.Omega.{arith}
 use lib.ListN.{length, take, drop}
 use Rattle.model.specs.Order.{numbers, rising}
+use Rattle.dossier.specs.DossierIndex.{versionNumbers}
 use Rattle.dossier.proofs.DossierReadLaws.{rise-bad, rise-step, rise-end}
 use Rattle.dossier.proofs.dossiers.versions_rise.Statement.{statement}
 use Rattle.dossier.proofs.dossiers.versions_rise.Tie as tie
@@ -11,7 +12,9 @@ use Rattle.dossier.proofs.dossiers.versions_rise.Reads as reads
 use Rattle.dossier.proofs.dossiers.versions_rise.Lts as lts
 
 abbrev Inv-loop : tie.InvT-loop
-Inv-loop count versions k₀ k = (1 ≤ k) × (rising numbers (take count versions) ≡ rising numbers (drop (k - 1) (take count versions)))
+Inv-loop count versions k₀ k =
+    (1 ≤ k)
+    × (rising numbers (versionNumbers (take count versions)) ≡ rising numbers (drop (k - 1) (versionNumbers (take count versions))))
 
 abbrev μ-loop : tie.MeasureT-loop
 μ-loop count versions k₀ k = count - k
@@ -23,32 +26,38 @@ long c = let l : length (c .args .t1) ≡ 8 = search needs in omega (arith, c .p
 loop-holds : tie.Need-loop-holds Inv-loop μ-loop
 loop-holds c = (omega arith, refl)
 
-mul-if1 : tie.Need-mul-if1 Inv-loop μ-loop
-mul-if1 c = search needs
+mul-here : tie.Need-mul-here Inv-loop μ-loop
+mul-here c = search needs
 
-array-read-if1 : tie.Need-array-read-if1 Inv-loop μ-loop
-array-read-if1 c = search needs
+array-copy-out-here : tie.Need-array-copy-out-here Inv-loop μ-loop
+array-copy-out-here c = search needs
 
-sub-if1 : tie.Need-sub-if1 Inv-loop μ-loop
-sub-if1 c = c .before .loop .inv .0
+sub-before : tie.Need-sub-before Inv-loop μ-loop
+sub-before c = c .before .before .loop .inv .0
 
-mul-if1-2 : tie.Need-mul-if1-2 Inv-loop μ-loop
-mul-if1-2 c = search needs
+mul-before : tie.Need-mul-before Inv-loop μ-loop
+mul-before c = search needs
 
-array-read-if1-2 : tie.Need-array-read-if1-2 Inv-loop μ-loop
-array-read-if1-2 c = search needs
+array-copy-out-before : tie.Need-array-copy-out-before Inv-loop μ-loop
+array-copy-out-before c = search needs
 
 returns : tie.Need-returns Inv-loop μ-loop
-returns c = sym (c .before .before .loop .inv .1 ∙ rise-bad _ _ (long (c .before .before .before)) _ (c .before .before .loop .inv .0) (c .before .loop-test .taken) (c .if1 .taken))
+returns c =
+    let t = c .before .before .before .before .before in
+    let l = t .before .loop in
+    sym (l .inv .1 ∙ rise-bad _ _ (long (t .before .before)) _ (l .inv .0) (t .loop-test .taken) (c .if1 .taken))
 
 add-k : tie.Need-add-k Inv-loop μ-loop
 add-k c = search needs
 
 loop-less : tie.Need-loop-less Inv-loop μ-loop
-loop-less c = omega (arith, c .before .loop-test .taken)
+loop-less c = omega (arith, c .before .before .before .before .before .loop-test .taken)
 
 loop-again : tie.Need-loop-again Inv-loop μ-loop
-loop-again c = (omega arith, c .before .before .loop .inv .1 ∙ rise-step _ _ (long (c .before .before .before)) _ (c .before .before .loop .inv .0) (c .before .loop-test .taken) (c .if1 .left))
+loop-again c =
+    let t = c .before .before .before .before .before in
+    let l = t .before .loop in
+    (omega arith, l .inv .1 ∙ rise-step _ _ (long (t .before .before)) _ (l .inv .0) (t .loop-test .taken) (c .if1 .left))
 
 returns-2 : tie.Need-returns-2 Inv-loop μ-loop
 returns-2 c = sym (c .before .loop .inv .1 ∙ rise-end _ _ (long (c .before .before)) _ (c .loop-test .left))
@@ -60,11 +69,11 @@ versions-rise-spec =
     Inv-loop
     μ-loop
     loop-holds
-    mul-if1
-    array-read-if1
-    sub-if1
-    mul-if1-2
-    array-read-if1-2
+    mul-here
+    array-copy-out-here
+    sub-before
+    mul-before
+    array-copy-out-before
     returns
     add-k
     loop-less

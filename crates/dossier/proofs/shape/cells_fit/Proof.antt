@@ -80,7 +80,7 @@ loop-again c =
     let m : l .k < 32 = omega (arith, h, w .few) in
     let a : l .k < length (ty .properties) = omega (arith, h, w .count) in
     let q = named u cs _ _ v _ _ m (i .0) (isVersioned ty) (ty .properties) a in (
-      bits-next u cs _ _ v _ _ m (i .0),
+      bits-next cs (l .k) _ (i .0),
       left-next u cs _ _ v _ _ m (i .0) _ (i .1),
       i .2 ∙ cells-more u cs _ _ v _ _ m (i .0) (isVersioned ty) (ty .properties) a (cell-typed s ty _ (q .what) (getD cs (l .k) (holds [])) w (c .before .before .before .before .cell-fits .ensures s (q .what) (getD cs (l .k) (holds [])) (w .are .each (l .k) (q .what) noProperty (q .is)) (cell-here u cs _ _ v _ _ m (i .0)))) (not-false _ (c .before .before .before .if1 .left)),
     )

@@ -15,7 +15,6 @@ use Rattle.dossier.proofs.shape.is_match_small.Statement.{statement}
 use Rattle.dossier.proofs.shape.is_match_small.Tie as tie
 use Rattle.dossier.proofs.shape.is_match_small.Reads as reads
 use Rattle.dossier.proofs.shape.is_match_small.Lts as lts
-use Rattle.dossier.proofs.shape.match_size.Reads as match-size-reads
 
 abbrev Inv-loop : tie.InvT-loop
 Inv-loop t sets left₀ k₀ left k = (s u : List ℕ) (ty : EventType) (xs : List (List Text)) → TypeIs s ty t → SetsAre u xs sets → leb (matchCount (ty .properties) xs) 32 ≡ leb (matchCount (drop k (ty .properties)) (drop k xs)) left
@@ -38,11 +37,11 @@ mul-x c = omega (arith, c .before .loop-test .taken, c .before .before .before .
 array-copy-out-x : tie.Need-array-copy-out-x Inv-loop μ-loop
 array-copy-out-x c = omega (arith, c .before .loop-test .taken, c .before .before .before .pre)
 
-match-size-requires : tie.Need-match-size-requires Inv-loop μ-loop
-match-size-requires c κs = search needs
+matches-at-requires : tie.Need-matches-at-requires Inv-loop μ-loop
+matches-at-requires c κs = search needs
 
 returns : tie.Need-returns Inv-loop μ-loop
-returns c = λ s u ty xs w v. sym (c .before .before .before .before .before .loop .inv s u ty xs w v ∙ match-large s u ty _ xs _ _ w v _ _ (c .before .before .before .before .loop-test .taken) _ (c .before .match-size .ensures) (c .if1 .taken))
+returns c = λ s u ty xs w v. sym (c .before .before .before .before .before .loop .inv s u ty xs w v ∙ match-large s u ty _ xs _ _ w v _ _ (c .before .before .before .before .loop-test .taken) _ (c .before .matches-at .ensures) (c .if1 .taken))
 
 add-k : tie.Need-add-k Inv-loop μ-loop
 add-k c = omega (arith, c .before .before .before .before .loop-test .taken, c .before .before .before .before .before .before .pre)
@@ -51,7 +50,7 @@ loop-less : tie.Need-loop-less Inv-loop μ-loop
 loop-less c = omega (arith, c .before .before .before .before .loop-test .taken)
 
 loop-again : tie.Need-loop-again Inv-loop μ-loop
-loop-again c = λ s u ty xs w v. c .before .before .before .before .before .loop .inv s u ty xs w v ∙ match-more s u ty _ xs _ _ w v _ _ (c .before .before .before .before .loop-test .taken) _ (c .before .match-size .ensures) (c .if1 .left)
+loop-again c = λ s u ty xs w v. c .before .before .before .before .before .loop .inv s u ty xs w v ∙ match-more s u ty _ xs _ _ w v _ _ (c .before .before .before .before .loop-test .taken) _ (c .before .matches-at .ensures) (c .if1 .left)
 
 returns-2 : tie.Need-returns-2 Inv-loop μ-loop
 returns-2 c = λ s u ty xs w v. sym (c .before .loop .inv s u ty xs w v ∙ match-end s ty _ xs _ _ w (c .loop-test .left))
@@ -67,7 +66,7 @@ is-match-small-spec =
     element-copy-out-p
     mul-x
     array-copy-out-x
-    match-size-requires
+    matches-at-requires
     returns
     add-k
     loop-less

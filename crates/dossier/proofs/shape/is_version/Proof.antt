@@ -27,7 +27,8 @@ returns-2 : tie.Need-returns-2
 returns-2 c =
     λ vs w.
     c .is-in-decimal .ensures
-    ∙ ap (λ (v : Text). equal texts v (inDecimal (c .before .before .before .before .before .before .args .version))) (c .before .value-in .ensures vs (c .before .before .set-part .ensures vs w))
+    ∙ ap (λ (v : Text). equal texts v (inDecimal (c .before .before .before .before .before .before .args .version .0)))
+    (c .before .value-in .ensures vs (c .before .before .set-part .ensures vs w))
     ∙ version-one vs _ _ (w .count) (c .before .before .before .if1 .left)
 
 pub is-version-spec : {M : Type 1} → statement M

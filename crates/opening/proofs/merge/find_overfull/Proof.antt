@@ -10,7 +10,7 @@ use Rattle.ontology.specs.Table.{EventType}
 use Rattle.ontology.specs.TypeIndex.{TypeIs}
 use Rattle.event.specs.Event.{view}
 use Rattle.opening.specs.OpenIndex.{CountsMerged}
-use Rattle.opening.proofs.ClashLaws.{lowest-here, lowest-next, lowest-end}
+use Rattle.opening.proofs.ConflictLaws.{lowest-here, lowest-next, lowest-end}
 use Rattle.opening.proofs.MergeLaws.{isOverfull, overfull-start, place-overfull}
 use Rattle.opening.proofs.merge.find_overfull.Statement.{statement}
 use Rattle.opening.proofs.merge.find_overfull.Tie as tie

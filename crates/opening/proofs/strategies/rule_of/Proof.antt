@@ -12,8 +12,22 @@ mul-p c = search needs
 element-copy-out-p : tie.Need-element-copy-out-p
 element-copy-out-p c = search needs
 
+is-replace-requires : tie.Need-is-replace-requires
+is-replace-requires c κs = search needs
+
+is-extreme-requires : tie.Need-is-extreme-requires
+is-extreme-requires c κs = search needs
+
+is-max-requires : tie.Need-is-max-requires
+is-max-requires c κs = search needs
+
 returns-2 : tie.Need-returns-2
-returns-2 c = λ s ty w. rule-some s ty _ w _ _ (c .before .before .before .before .before .if1 .left)
+returns-2 c =
+    λ s ty w.
+    rule-some s ty _ w _ _ (c .before .before .before .before .before .if1 .left)
+    (c .before .before .is-replace .ensures) (c .before .is-extreme .ensures) (c .is-max .ensures)
 
 pub rule-of-spec : {M : Type 1} → statement M
-rule-of-spec = tie.close (tie.spec returns mul-p element-copy-out-p returns-2)
+rule-of-spec =
+    tie.close
+    (tie.spec returns mul-p element-copy-out-p is-replace-requires is-extreme-requires is-max-requires returns-2)

@@ -8,7 +8,7 @@ ghost use Rattle.model.specs.Opening.{lowest, isMark, conflict};
 ghost use Rattle.event.specs.EventLayout.{bitNumber};
 ghost use Rattle.dossier.specs.DossierLayout.{Headed, differBit};
 ghost use Rattle.dossier.specs.DossierIndex.{DossierIs};
-ghost use Rattle.opening.specs.OpenIndex.{lowestOf, clashOf};
+ghost use Rattle.opening.specs.OpenIndex.{lowestOf, conflictOf};
 use dossier::dossiers::DossierIndex;
 use values::versions::EventVersion;
 
@@ -19,9 +19,9 @@ pub enum Lowest {
 }
 
 // A conflict, at an event version and a place, if any.
-pub enum Clash {
+pub enum Conflict {
     Differs(EventVersion, usize),
-    NoClash,
+    NoConflict,
 }
 
 // The lowest place whose differ bit is set.
@@ -41,27 +41,28 @@ fn lowest_mark(differ: u64) -> Lowest
 }
 
 // The conflict of a snapshot, from its version and its differ number.
-fn snapshot_clash(version: u64, differ: u64) -> Clash
-    ensures { λ r. ⌜ ((x : Snapshot) → version ≡ x .version → differ ≡ bitNumber (map differBit (x .cells)) → clashOf r ≡ conflict (upTo 32) (x ∷ [])) ⌝ }
+fn snapshot_conflict(version: EventVersion, differ: u64) -> Conflict
+    ensures { λ r. ⌜ ((x : Snapshot) → version .0 ≡ x .version → differ ≡ bitNumber (map differBit (x .cells)) → conflictOf r ≡ conflict (upTo 32) (x ∷ [])) ⌝ }
 {
     match lowest_mark(differ) {
-        Lowest::Place(place) => Clash::Differs(EventVersion(version), place),
-        Lowest::NoPlace => Clash::NoClash,
+        Lowest::Place(place) => Conflict::Differs(version, place),
+        Lowest::NoPlace => Conflict::NoConflict,
     }
 }
 
 // The lowest snapshot with a differ bit, and its lowest place.
-pub fn find_conflict(d: DossierIndex) -> Clash
+pub fn find_conflict(d: DossierIndex) -> Conflict
     requires { ⌜ d .count ≤ 8 ⌝ }
-    ensures { λ r. ⌜ ((s : List ℕ) (h : Headed) → DossierIs s h d → clashOf r ≡ conflict (upTo 32) (h .dossier .snapshots)) ⌝ }
+    ensures { λ r. ⌜ ((s : List ℕ) (h : Headed) → DossierIs s h d → conflictOf r ≡ conflict (upTo 32) (h .dossier .snapshots)) ⌝ }
 {
     let mut j: usize = 0;
     while j < d.count {
-        let found = snapshot_clash(d.versions[j], d.differs[j]);
-        let Clash::NoClash = found else {
+        let version = d.versions[j];
+        let found = snapshot_conflict(version, d.differs[j]);
+        let Conflict::NoConflict = found else {
             return found;
         };
         j += 1;
     }
-    Clash::NoClash
+    Conflict::NoConflict
 }

@@ -9,10 +9,10 @@ use Rattle.model.specs.Opening.{conflict}
 use Rattle.dossier.specs.DossierLayout.{Headed}
 use Rattle.dossier.specs.DossierIndex.{DossierIs}
 use Rattle.dossier.proofs.AskLaws.{in-count, past-count}
-use Rattle.opening.specs.OpenIndex.{clashOf}
-use Rattle.opening.proofs.ClashLaws.{version-at, differ-at, clash-not, conflict-later, conflict-here, conflict-end}
-use Rattle.opening.proofs.clash.find_conflict.Statement.{statement}
-use Rattle.opening.proofs.clash.find_conflict.Tie as tie
+use Rattle.opening.specs.OpenIndex.{conflictOf}
+use Rattle.opening.proofs.ConflictLaws.{version-at, differ-at, conflict-not, conflict-later, conflict-here, conflict-end}
+use Rattle.opening.proofs.conflict.find_conflict.Statement.{statement}
+use Rattle.opening.proofs.conflict.find_conflict.Tie as tie
 
 abbrev Inv-loop : tie.InvT-loop
 Inv-loop d j₀ j = (s : List ℕ) (h : Headed) → DossierIs s h d → conflict (upTo 32) (h .dossier .snapshots) ≡ conflict (upTo 32) (drop j (h .dossier .snapshots))
@@ -23,20 +23,20 @@ abbrev μ-loop : tie.MeasureT-loop
 loop-holds : tie.Need-loop-holds Inv-loop μ-loop
 loop-holds c = λ s h w. refl
 
-mul-snapshot-clash : tie.Need-mul-snapshot-clash Inv-loop μ-loop
-mul-snapshot-clash c = omega (arith, c .loop-test .taken, c .before .before .pre)
+mul-version : tie.Need-mul-version Inv-loop μ-loop
+mul-version c = omega (arith, c .loop-test .taken, c .before .before .pre)
 
-element-copy-out-snapshot-clash : tie.Need-element-copy-out-snapshot-clash Inv-loop μ-loop
-element-copy-out-snapshot-clash c = omega (arith, c .loop-test .taken, c .before .before .pre)
+element-copy-out-version : tie.Need-element-copy-out-version Inv-loop μ-loop
+element-copy-out-version c = omega (arith, c .loop-test .taken, c .before .before .pre)
 
-mul-snapshot-clash-2 : tie.Need-mul-snapshot-clash-2 Inv-loop μ-loop
-mul-snapshot-clash-2 c = omega (arith, c .before .loop-test .taken, c .before .before .before .pre)
+mul-snapshot-conflict : tie.Need-mul-snapshot-conflict Inv-loop μ-loop
+mul-snapshot-conflict c = omega (arith, c .before .loop-test .taken, c .before .before .before .pre)
 
-element-copy-out-snapshot-clash-2 : tie.Need-element-copy-out-snapshot-clash-2 Inv-loop μ-loop
-element-copy-out-snapshot-clash-2 c = omega (arith, c .before .loop-test .taken, c .before .before .before .pre)
+element-copy-out-snapshot-conflict : tie.Need-element-copy-out-snapshot-conflict Inv-loop μ-loop
+element-copy-out-snapshot-conflict c = omega (arith, c .before .loop-test .taken, c .before .before .before .pre)
 
-snapshot-clash-requires : tie.Need-snapshot-clash-requires Inv-loop μ-loop
-snapshot-clash-requires c κs = search needs
+snapshot-conflict-requires : tie.Need-snapshot-conflict-requires Inv-loop μ-loop
+snapshot-conflict-requires c κs = search needs
 
 enum-told : tie.Need-enum-told Inv-loop μ-loop
 enum-told c = search needs
@@ -48,7 +48,7 @@ returns : tie.Need-returns Inv-loop μ-loop
 returns c =
     λ s h w.
     let l = in-count s h _ w _ (c .before .before .before .before .before .loop-test .taken) in
-    conflict-here (upTo 32) (h .dossier .snapshots) _ l _ (c .before .before .snapshot-clash .ensures _ (version-at s h _ w _ l) (differ-at s h _ w _ l)) (clash-not _ (c .enum-told2 .given .1))
+    conflict-here (upTo 32) (h .dossier .snapshots) _ l _ (c .before .before .snapshot-conflict .ensures _ (version-at s h _ w _ l) (differ-at s h _ w _ l)) (conflict-not _ (c .enum-told2 .given .1))
     ∙ sym (c .before .before .before .before .before .before .loop .inv s h w)
 
 add-j : tie.Need-add-j Inv-loop μ-loop
@@ -62,7 +62,7 @@ loop-again c =
     λ s h w.
     let l = in-count s h _ w _ (c .before .before .before .before .before .loop-test .taken) in
     c .before .before .before .before .before .before .loop .inv s h w
-    ∙ conflict-later (upTo 32) (h .dossier .snapshots) _ l (sym (ap clashOf (c .enum-told .given .1)) ∙ c .before .before .snapshot-clash .ensures _ (version-at s h _ w _ l) (differ-at s h _ w _ l))
+    ∙ conflict-later (upTo 32) (h .dossier .snapshots) _ l (sym (ap conflictOf (c .enum-told .given .1)) ∙ c .before .before .snapshot-conflict .ensures _ (version-at s h _ w _ l) (differ-at s h _ w _ l))
 
 returns-2 : tie.Need-returns-2 Inv-loop μ-loop
 returns-2 c = λ s h w. conflict-end (upTo 32) (h .dossier .snapshots) _ (past-count s h _ w _ (c .loop-test .left)) ∙ sym (c .before .loop .inv s h w)
@@ -74,11 +74,11 @@ find-conflict-spec =
     Inv-loop
     μ-loop
     loop-holds
-    mul-snapshot-clash
-    element-copy-out-snapshot-clash
-    mul-snapshot-clash-2
-    element-copy-out-snapshot-clash-2
-    snapshot-clash-requires
+    mul-version
+    element-copy-out-version
+    mul-snapshot-conflict
+    element-copy-out-snapshot-conflict
+    snapshot-conflict-requires
     enum-told
     enum-told-2
     returns

@@ -1,9 +1,9 @@
 use borrow.Author.Needs.{needs}
 use mathlib.Core.Path.{sym, ap, _∙_}
 use Rattle.opening.specs.OpenIndex.{lowestOf}
-use Rattle.opening.proofs.ClashLaws.{snapshot-differs, snapshot-clear}
-use Rattle.opening.proofs.clash.snapshot_clash.Statement.{statement}
-use Rattle.opening.proofs.clash.snapshot_clash.Tie as tie
+use Rattle.opening.proofs.ConflictLaws.{snapshot-differs, snapshot-clear}
+use Rattle.opening.proofs.conflict.snapshot_conflict.Statement.{statement}
+use Rattle.opening.proofs.conflict.snapshot_conflict.Tie as tie
 
 lowest-mark-requires : tie.Need-lowest-mark-requires
 lowest-mark-requires c κs = search needs
@@ -20,8 +20,8 @@ returns c = λ x v e. snapshot-differs x _ v _ (sym (ap lowestOf (c .before .pla
 returns-2 : tie.Need-returns-2
 returns-2 c = λ x v e. snapshot-clear x _ v (sym (ap lowestOf (c .enum-told .given .1)) ∙ c .before .before .lowest-mark .ensures (x .cells) e)
 
-pub snapshot-clash-spec : {M : Type 1} → statement M
-snapshot-clash-spec =
+pub snapshot-conflict-spec : {M : Type 1} → statement M
+snapshot-conflict-spec =
     tie.close
     (tie.spec
     lowest-mark-requires

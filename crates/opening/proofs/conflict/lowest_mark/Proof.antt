@@ -9,9 +9,10 @@ use Rattle.model.specs.Rule.{Cell, holds}
 use Rattle.model.specs.Opening.{lowest, isMark}
 use Rattle.event.specs.EventLayout.{bitNumber}
 use Rattle.dossier.specs.DossierLayout.{differBit}
-use Rattle.opening.proofs.ClashLaws.{lowest-start, lowest-here, lowest-next, lowest-end, bit-set, bit-clear, bits-next}
-use Rattle.opening.proofs.clash.lowest_mark.Statement.{statement}
-use Rattle.opening.proofs.clash.lowest_mark.Tie as tie
+use Rattle.dossier.proofs.CellLaws.{bits-next}
+use Rattle.opening.proofs.ConflictLaws.{lowest-start, lowest-here, lowest-next, lowest-end, bit-set, bit-clear}
+use Rattle.opening.proofs.conflict.lowest_mark.Statement.{statement}
+use Rattle.opening.proofs.conflict.lowest_mark.Tie as tie
 
 abbrev Inv-loop : tie.InvT-loop
 Inv-loop differ bits₀ k₀ bits k = (cs : List Cell) → differ ≡ bitNumber (map differBit cs) → (bits ≡ bitNumber (map differBit (drop k cs))) × (lowest (λ p. isMark (getD cs p (holds []))) (upTo 32) ≡ lowest (λ p. isMark (getD cs p (holds []))) (upFrom k (32 - k)))

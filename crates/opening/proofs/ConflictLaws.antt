@@ -3,27 +3,26 @@ use mathlib.Core.Path.{_≡_, refl, sym, ap, ap₂, _∙_}
 use mathlib.Core.Bool.{Bool, true, false, cond}
 use mathlib.Core.Option.{Option, none, some}
 use mathlib.Core.List.{List, [], _∷_, map}
-use Prim.Native.Nat.{ℕ, zero, suc, _+_, _-_, _*_, _/_, _%_, _≤_, _<_}
+use Prim.Native.Nat.{ℕ, suc, _+_, _-_, _%_, _≤_, _<_}
 use native.Mathlib.Omega.{arith}
 use native.Mathlib.Numerals.{add-one}
-use lib.Dec.{eqb}
-use lib.ListN.{length, drop, getD, drop-of-length-le, List·getD-map}
+use lib.ListN.{length, take, drop, getD, drop-of-length-le, List·getD-map}
 use lib.Seq.{drop-cons, getD-take}
 use borrow.Author.Tests.{eq-eqb, ne-eqb}
 use Rattle.model.specs.Sets.{upFrom, upTo}
-use Rattle.model.specs.Rule.{Cell, holds, differs, Snapshot}
-use Rattle.model.specs.Opening.{lowest, isMark, cellAt, Conflict, noConflict, differsAt, marked, orLater, conflict}
+use Rattle.model.specs.Rule.{Cell, holds, Snapshot}
+use Rattle.model.specs.Opening as model
+use Rattle.model.specs.Opening.{lowest, isMark, cellAt, noConflict, differsAt, marked, orLater, conflict}
 use Rattle.model.proofs.Cases.{never}
 use Rattle.event.specs.EventLayout.{bitNumber}
-use Rattle.event.proofs.EventLayoutLaws.{low-bit, high-bits}
 use Rattle.dossier.specs.DossierLayout.{Headed, differBit}
-use Rattle.dossier.specs.DossierIndex.{noSnapshot, DossierIs}
+use Rattle.dossier.specs.DossierIndex.{noSnapshot, noVersion, DossierIs}
 use Rattle.dossier.specs.declared.dossiers.DossierIndex.{DossierIndex}
-use Rattle.dossier.proofs.DossierLayoutLaws.{differ-small}
+use Rattle.dossier.proofs.CellLaws.{mark-here}
 use Rattle.values.specs.declared.versions.EventVersion.{EventVersion}
-use Rattle.opening.specs.OpenIndex.{clashOf}
-use Rattle.opening.specs.declared.clash.Clash.{Clash}
-use Rattle.opening.specs.declared.clash.Clash.the-variants.{Differs, NoClash}
+use Rattle.opening.specs.OpenIndex.{conflictOf}
+use Rattle.opening.specs.declared.conflict.Conflict.{Conflict}
+use Rattle.opening.specs.declared.conflict.Conflict.the-variants.{Differs, NoConflict}
 
 -- ---- the lowest of 32 places
 
@@ -48,41 +47,18 @@ module _ (test : ℕ → Bool) where
 
 -- ---- the differ bit of a place
 
-mark-bit : (c : Cell) → eqb (differBit c) 1 ≡ isMark c
-unfolding differBit isMark
-mark-bit (holds x) = refl
-mark-bit differs = refl
-
-bits-split : (cs : List Cell) (k : ℕ) → bitNumber (map differBit (drop k cs)) ≡ differBit (getD cs k (holds [])) + 2 * bitNumber (map differBit (drop (suc k) cs))
-unfolding bitNumber differBit
-bits-split [] zero = refl
-bits-split [] (suc k) = refl
-bits-split (c ∷ cs) zero = refl
-bits-split (c ∷ cs) (suc k) = bits-split cs k
-
 module _ (cs : List Cell) (k bits : ℕ) (b : bits ≡ bitNumber (map differBit (drop k cs))) where
-  bits-here : bits ≡ differBit (getD cs k (holds [])) + 2 * bitNumber (map differBit (drop (suc k) cs))
-  bits-here = b ∙ bits-split cs k
-
-  mark-here : isMark (getD cs k (holds [])) ≡ eqb (bits % 2) 1
-  mark-here = sym (ap (λ (n : ℕ). eqb (n % 2) 1) bits-here ∙ ap (λ (n : ℕ). eqb n 1) (low-bit (differBit (getD cs k (holds []))) (bitNumber (map differBit (drop (suc k) cs))) (differ-small (getD cs k (holds [])))) ∙ mark-bit (getD cs k (holds [])))
-
   pub bit-set : bits % 2 ≡ 1 → isMark (getD cs k (holds [])) ≡ true
-  bit-set e = mark-here ∙ eq-eqb (bits % 2) 1 e
+  bit-set e = sym (mark-here cs k bits b) ∙ eq-eqb (bits % 2) 1 e
 
   pub bit-clear : (bits % 2 ≡ 1 → ⊥) → isMark (getD cs k (holds [])) ≡ false
-  bit-clear e = mark-here ∙ ne-eqb (bits % 2) 1 e
-
-  pub bits-next : bits / 2 ≡ bitNumber (map differBit (drop (k + 1) cs))
-  bits-next =
-      ap (λ (n : ℕ). n / 2) bits-here
-      ∙ high-bits (differBit (getD cs k (holds []))) (bitNumber (map differBit (drop (suc k) cs))) (differ-small (getD cs k (holds [])))
-      ∙ ap (λ (n : ℕ). bitNumber (map differBit (drop n cs))) (sym (add-one k))
+  bit-clear e = sym (mark-here cs k bits b) ∙ ne-eqb (bits % 2) 1 e
 
 -- ---- a snapshot
 
-module _ (y : Snapshot) (version : ℕ) (w : version ≡ y .version) where
-  pub snapshot-differs : (p : ℕ) → some p ≡ lowest (λ q. isMark (getD (y .cells) q (holds []))) (upTo 32) → differsAt version p ≡ conflict (upTo 32) (y ∷ [])
+module _ (y : Snapshot) (version : EventVersion) (w : version .0 ≡ y .version) where
+  pub snapshot-differs :
+      (p : ℕ) → some p ≡ lowest (λ q. isMark (getD (y .cells) q (holds []))) (upTo 32) → differsAt (version .0) p ≡ conflict (upTo 32) (y ∷ [])
   unfolding conflict orLater marked cellAt
   snapshot-differs p e = ap₂ (λ (v : ℕ) (o : Option ℕ). orLater v o noConflict) w e
 
@@ -92,9 +68,10 @@ module _ (y : Snapshot) (version : ℕ) (w : version ≡ y .version) where
 
 -- the numbers of a snapshot, as the index has them
 module _ (s : List ℕ) (h : Headed) (d : DossierIndex) (w : DossierIs s h d) (j : ℕ) (l : j < length (h .dossier .snapshots)) where
-  pub version-at : getD (d .versions) j 0 ≡ getD (h .dossier .snapshots) j noSnapshot .version
+  pub version-at : getD (d .versions) j noVersion .0 ≡ getD (h .dossier .snapshots) j noSnapshot .version
   version-at =
-      sym (getD-take (length (h .dossier .snapshots)) (d .versions) j 0 l)
+      ap (λ (v : EventVersion). v .0) (sym (getD-take (length (h .dossier .snapshots)) (d .versions) j noVersion l))
+      ∙ sym (List·getD-map (λ (v : EventVersion). v .0) (take (length (h .dossier .snapshots)) (d .versions)) j noVersion)
       ∙ ap (λ (v : List ℕ). getD v j 0) (w .snapshots .numbers)
       ∙ List·getD-map (λ (x : Snapshot). x .version) (h .dossier .snapshots) j noSnapshot
 
@@ -107,16 +84,16 @@ module _ (s : List ℕ) (h : Headed) (d : DossierIndex) (w : DossierIs s h d) (j
 
 -- ---- the snapshots, from one on
 
-pub clash-not : {v : EventVersion} {p : ℕ} (r : Clash) → r ≡ Differs v p → r ≡ NoClash → ⊥
-clash-not r e f = never (cc)
+pub conflict-not : {v : EventVersion} {p : ℕ} (r : Conflict) → r ≡ Differs v p → r ≡ NoConflict → ⊥
+conflict-not r e f = never (cc)
 
 module _ (ps : List ℕ) where
-  later : (v : ℕ) (o : Option ℕ) (c : Conflict) → orLater v o noConflict ≡ noConflict → orLater v o c ≡ c
+  later : (v : ℕ) (o : Option ℕ) (c : model.Conflict) → orLater v o noConflict ≡ noConflict → orLater v o c ≡ c
   unfolding orLater
   later v (some p) c e = never (cc)
   later v none c e = refl
 
-  sooner : (v w p : ℕ) (o : Option ℕ) (c : Conflict) → differsAt w p ≡ orLater v o noConflict → differsAt w p ≡ orLater v o c
+  sooner : (v w p : ℕ) (o : Option ℕ) (c : model.Conflict) → differsAt w p ≡ orLater v o noConflict → differsAt w p ≡ orLater v o c
   unfolding orLater
   sooner v w p (some q) c e = e
   sooner v w p none c e = never (cc)
@@ -129,10 +106,10 @@ module _ (ps : List ℕ) where
     unfolding conflict
     conflict-later e = conflict-split ∙ later (getD ss j noSnapshot .version) (marked ps (getD ss j noSnapshot)) (conflict ps (drop (j + 1) ss)) (sym e)
 
-    pub conflict-here : (r : Clash) → clashOf r ≡ conflict ps (getD ss j noSnapshot ∷ []) → (r ≡ NoClash → ⊥) → clashOf r ≡ conflict ps (drop j ss)
+    pub conflict-here : (r : Conflict) → conflictOf r ≡ conflict ps (getD ss j noSnapshot ∷ []) → (r ≡ NoConflict → ⊥) → conflictOf r ≡ conflict ps (drop j ss)
     unfolding conflict
     conflict-here (Differs v p) e n = sooner (getD ss j noSnapshot .version) (v .0) p (marked ps (getD ss j noSnapshot)) (conflict ps (drop (j + 1) ss)) e ∙ sym conflict-split
-    conflict-here NoClash e n = absurd (n refl)
+    conflict-here NoConflict e n = absurd (n refl)
 
   pub conflict-end : (ss : List Snapshot) (j : ℕ) → length ss ≤ j → noConflict ≡ conflict ps (drop j ss)
   unfolding conflict
