@@ -89,6 +89,7 @@ pub extern "C" fn merger_open(
     pack_opened(r)
 }
 
+// The start and the length that C reads from the number are a part of the event that has the value's bytes (`Told` of specs/Unpacking, proved in proofs/UnpackingLaws).
 #[no_mangle]
 pub extern "C" fn merger_value(table: &[u8], event: &[u8], place: usize, index: usize) -> u64
     ensures { λ r. ⌜ r ≡ packedPart (valueCall (now (table .entry)) (now (event .entry)) place index) ⌝ }

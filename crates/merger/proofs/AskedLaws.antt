@@ -67,7 +67,7 @@ module _ (table : List ℕ) (ts : Table) (isTable : tableOf table ≡ some ts) w
 
 pub answers-accepted :
     (table event : List ℕ) (r : EventAsked) (a : Typed) → EventAnswers (eventQuestions narrow table event) table event r → eventQuestions narrow table event ≡ questions.accepted a →
-    TypeIs table (a .type) (r .kind) × EventIs event (a .event) (r .event)
+    TypeIs table (a .type) (r .«event_type») × EventIs event (a .event) (r .event)
 unfolding EventAnswers
 answers-accepted table event r a w e = let g = rw e at w in (g .1, g .2)
 
@@ -166,7 +166,7 @@ module _ (table : List ℕ) (ts : Table) (ss : List (List ℕ)) (q : AskedAt (Un
   refusal-is n i r e a b h = rw e (a, b, h)
 
   pub no-refusal :
-      (a : Typed) (t : TypeIndex) (r : EventsAsked) → q ≡ accepted tt → r .number ≡ 0 → r .kind ≡ t → eventAsked narrow ts (getD ss 0 []) ≡ questions.accepted a → TypeIs table (a .type) t →
+      (a : Typed) (t : TypeIndex) (r : EventsAsked) → q ≡ accepted tt → r .number ≡ 0 → r .«event_type» ≡ t → eventAsked narrow ts (getD ss 0 []) ≡ questions.accepted a → TypeIs table (a .type) t →
       RefusalIs table ts ss q r
   unfolding RefusalIs
   no-refusal a t r e n k h w = rw e (n, record { first = a; taken = h; typed = subst (λ (x : TypeIndex). TypeIs table (a .type) x) (sym k) w })

@@ -16,7 +16,8 @@ use Rattle.model.specs.Sets.{Within}
 use Rattle.model.specs.Rule.{Dossier, rule}
 use Rattle.model.specs.Limits.{standard, fits}
 use Rattle.model.specs.Ways as ways
-use Rattle.model.specs.Ways.{Each, Has, wrote, said, limited}
+use Rattle.model.specs.Ways.{wrote, said, limited}
+use Rattle.model.proofs.WayClaims.{Each, Has, firstEvents}
 use Rattle.model.proofs.Cases.{never}
 use Rattle.model.proofs.RuleLaws.{rule-append}
 use Rattle.model.proofs.LimitLaws.{fits-within}
@@ -24,7 +25,7 @@ use Rattle.model.proofs.WayLaws.{upto-list, batch-answer}
 use Rattle.ontology.specs.Table.{EventType, Table}
 use Rattle.ontology.specs.TableLayout.{tableOf}
 use Rattle.ontology.specs.Questions as questions
-use Rattle.ontology.specs.Questions.{Asked, ask, ensure, leastRoom, Answer, gives, refuses, refusesAt, replyOf, laid, answer, Outcome, outcome}
+use Rattle.ontology.specs.Questions.{Asked, ensure, leastRoom, Answer, gives, refuses, refusesAt, replyOf, laid, answer, Outcome, outcome}
 use Rattle.ontology.specs.Replies.{replied, replies}
 use Rattle.ontology.specs.TypeIndex.{TypeIs}
 use Rattle.ontology.specs.declared.types.TypeIndex.{TypeIndex}
@@ -35,12 +36,12 @@ use Rattle.event.specs.EventLayout.{narrow}
 use Rattle.event.specs.EventQuestions.{Typed, eventAsked}
 use Rattle.event.proofs.EventQuestionLaws.{EventFits, event-accepted, event-fits}
 use Rattle.dossier.specs.DossierLayout.{Headed, dossierBytes}
-use Rattle.dossier.specs.DossierQuestions.{TypedDossier, dossierAsked, dossiersAgree, matchSets}
+use Rattle.dossier.specs.DossierQuestions.{TypedDossier, dossiersAgree, matchSets}
 use Rattle.dossier.proofs.DossierQuestionLaws.{match-sets, agree-exact}
-use Rattle.combining.specs.CheckCall.{eventDossier, checkAnswer, checkCall}
+use Rattle.combining.specs.CheckCall.{checkAsked, checkAnswer, checkCall}
 use Rattle.combining.specs.CheckIndex.{KnownEvent}
 use Rattle.combining.specs.CombineIndex as combining
-use Rattle.combining.specs.CombineCall.{headedAs, combined, combineAnswer, combineCall}
+use Rattle.combining.specs.CombineCall.{combined, combineAsked, combineAnswer, combineCall}
 use Rattle.merger.specs.Batch.{AskedAt, refusedAt, accepted, _>>=_, _>>_, at, eventsAsked, eventsAgree, agreeWith, batchOf, batchDossier, together, batchAsked, batchGiven, Rooms, haveRoom, batchAnswer, batchCall}
 use Rattle.merger.specs.Replies.{batchReplied, batchReplies}
 use Rattle.merger.specs.BatchIndex.{BatchIs, BatchReads, eventsAgreed, eventsTogether, FirstTyped, RefusalIs, combinedGiven, combinedAnswer, Agreed, FirstOf, LastOf, DoneWithin, atFirst}
@@ -175,26 +176,13 @@ unfolding answerFor
 answer-for (questions.refused n) out = refl
 answer-for (questions.accepted x) out = sym (ap answerFor (returned-gives x out))
 
--- the questions of the calls, as their definitions write them
-abbrev checkAsked : ℕ → List ℕ → List ℕ → Asked (List ℕ)
-checkAsked room table s =
-    questions._>>_ (ensure 1 (leb leastRoom room))
-    (questions._>>=_ (ask 2 (tableOf table)) λ ts. questions._>>=_ (eventAsked narrow ts s) λ a. questions.accepted (dossierBytes (eventDossier a)))
-
-abbrev combineAsked : ℕ → List ℕ → List ℕ → List ℕ → Asked (List ℕ)
-combineAsked room table x y =
-    questions._>>_ (ensure 1 (leb leastRoom room))
-    (questions._>>=_ (ask 2 (tableOf table)) λ ts. questions._>>=_ (dossierAsked standard ts x) λ a. questions._>>=_ (dossierAsked standard ts y) λ b.
-    questions._>>_ (ensure 7 (dossiersAgree a b))
-    (questions._>>_ (ensure 8 (fits standard (view (a .type)) (combined a b))) (questions.accepted (dossierBytes (headedAs (a .headed) (combined a b))))))
-
 check-for : (table s out : List ℕ) → checkCall table s out ≡ outcome (answerFor (returned (checkCall table s out))) out
 unfolding checkCall checkAnswer
 check-for table s out = ap (λ (a : Answer). outcome a out) (answer-for (checkAsked (length out) table s) out)
 
 combine-for : (table x y out : List ℕ) → combineCall standard table x y out ≡ outcome (answerFor (returned (combineCall standard table x y out))) out
 unfolding combineCall combineAnswer
-combine-for table x y out = ap (λ (a : Answer). outcome a out) (answer-for (combineAsked (length out) table x y) out)
+combine-for table x y out = ap (λ (a : Answer). outcome a out) (answer-for (combineAsked standard (length out) table x y) out)
 
 -- what was in the buffer before does not matter
 pub any-buffer : (a : Answer) (x y : List ℕ) → returned (outcome a x) ≡ returned (outcome a y)
@@ -620,11 +608,11 @@ module _ (table : List ℕ) (ts : Table) (ss : List (List ℕ)) (q : AskedAt (Un
       go (refusedAt n i) w = sym (ap₂ (λ (x y : ℕ). refusedAt x y) (w .0) (w .1))
       go (accepted u) w = absurd (h (w .0))
 
-  pub all-agreed : r .number ≡ 0 → (q ≡ accepted tt) × FirstTyped table ts ss (r .kind)
+  pub all-agreed : r .number ≡ 0 → (q ≡ accepted tt) × FirstTyped table ts ss (r .«event_type»)
   unfolding RefusalIs
   all-agreed h = go q w
     where
-      go : (q : AskedAt (Unit {0})) → RefusalIs table ts ss q r → (q ≡ accepted tt) × FirstTyped table ts ss (r .kind)
+      go : (q : AskedAt (Unit {0})) → RefusalIs table ts ss q r → (q ≡ accepted tt) × FirstTyped table ts ss (r .«event_type»)
       go (refusedAt n i) w = absurd (omega (arith, w .0, w .2))
       go (accepted u) w = (refl, w .1)
 
@@ -722,7 +710,7 @@ module _ (rooms : Rooms) (table batch out : List ℕ) (ts : Table) (ss : List (L
   batch-way checked combined f g =
       let n = length ss - 1 in
       let long : length ss ≡ suc n = omega (arith, has-length ss (known-has ts ss agreed)) in
-      let all : ways.firstEvents (λ i. getD ss i []) n ≡ ss = upto-list ss [] n long in
+      let all : firstEvents (λ i. getD ss i []) n ≡ ss = upto-list ss [] n long in
       let c = byte-calls table ts isTable batchType batchSource (these .first) (these .model) in
       let way = batch-answer standard (byteView batchType) c (λ i. getD ss i []) checked combined n (rw all (these .each)) f g in
       call-is rooms table batch out _

@@ -12,7 +12,8 @@ use Rattle.model.specs.Order.{Text}
 use Rattle.model.specs.Rule.{Dossier, rule, combine}
 use Rattle.model.specs.Limits.{standard, fits}
 use Rattle.model.specs.Opening.{Opened, conflictAt, overfullAt, merged, opening}
-use Rattle.model.specs.Ways.{Each, Has, wrote, said, limited, Calls, HashCalls}
+use Rattle.model.specs.Ways.{wrote, said, limited}
+use Rattle.model.proofs.WayClaims.{Each, Has, Calls, HashCalls}
 use Rattle.model.proofs.Cases.{never}
 use Rattle.model.proofs.LimitLaws.{fits-one}
 use Rattle.ontology.specs.Table.{EventType, Table, typeNamed}
@@ -29,8 +30,8 @@ use Rattle.hashing.specs.HashCalls.{hashTextAsked, hashTextAnswer}
 use Rattle.dossier.specs.DossierLayout.{Headed, dossierBytes}
 use Rattle.dossier.specs.DossierQuestions.{dossierAsked, dossiersAgree, matchSets, dossierMatch}
 use Rattle.dossier.proofs.DossierQuestionLaws.{agree-exact}
-use Rattle.combining.specs.CheckCall.{eventDossier, checkAnswer, checkCall}
-use Rattle.combining.specs.CombineCall.{combined, combineAnswer, combineCall}
+use Rattle.combining.specs.CheckCall.{eventDossier, checkAsked, checkAnswer, checkCall}
+use Rattle.combining.specs.CombineCall.{combined, combineAsked, combineAnswer, combineCall}
 use Rattle.opening.specs.OpenCall.{mergedEvent, openedAnswer, askedOpening, openAnswer}
 use Rattle.merger.specs.Demand3.{eventAt, byteView, returned, HasRoom, SameMatch}
 use Rattle.merger.proofs.RuleQuestionLaws.{Gathered, rule-match, rule-asked}
@@ -153,7 +154,7 @@ module _ (table : List ℕ) (types : Table) (isTable : tableOf table ≡ some ty
   eight false x out = refl
 
   pub checked-one : (out s : List ℕ) → HasRoom out → S s → returned (checkCall table s out) ≡ wrote (bytesOf (s ∷ []))
-  unfolding checkCall checkAnswer eventDossier
+  unfolding checkCall checkAnswer checkAsked eventDossier
   checked-one out s r k =
       rw (le-leb leastRoom (length out) r, isTable, k .taken)
       (returned-gives _ out ∙ ap wrote (ap dossierBytes (λ i. record { type = fits-at s k .named i; source = k .source i; dossier = sym (rule-bytes t (s ∷ [])) i })))
@@ -169,7 +170,7 @@ module _ (table : List ℕ) (types : Table) (isTable : tableOf table ≡ some ty
   pub two-joined :
       (out : List ℕ) (es fs : List (List ℕ)) → HasRoom out → Has es → Has fs → Each S es → Each S fs → Inside es → Inside fs →
       returned (combineCall standard table (bytesOf es) (bytesOf fs) out) ≡ limited standard (byteView t) (λ x. dossierBytes (headed t uri x)) (combine (byteView t) (ruleOf es) (ruleOf fs))
-  unfolding combineCall combineAnswer combined limited dossiersAgree
+  unfolding combineCall combineAnswer combineAsked combined limited dossiersAgree
   two-joined out es fs r n o h g p q =
       let ms = matchSets (t .properties) (eventAt d .sets) in
       rw (le-leb leastRoom (length out) r, isTable, asked es n h p, asked fs o g q, same-match es n h p, same-match fs o g q, agree-exact (t .name) uri ms (t .name) uri ms .1 (refl, refl, refl))

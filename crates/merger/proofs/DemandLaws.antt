@@ -13,13 +13,13 @@ use Rattle.model.specs.Sets.{canon}
 use Rattle.model.specs.Rule.{places, Dossier, rule}
 use Rattle.model.specs.Limits.{standard}
 use Rattle.model.specs.Opening.{Opened, conflictAt, overfullAt, merged, opening}
-use Rattle.model.specs.Ways as ways
 use Rattle.model.specs.Ways.{Way, leaf, Reply, wrote, events, buffers, eventSet, calls, limited}
 use Rattle.model.proofs.Cases.{never}
 use Rattle.model.proofs.SetLaws.{rising-ups}
 use Rattle.model.proofs.PartLaws.{map-getD}
 use Rattle.model.proofs.DossierLaws.{rule-one}
 use Rattle.model.proofs.OpeningLaws.{opening-one}
+use Rattle.model.proofs.WayClaims.{WholeDemand3}
 use Rattle.model.proofs.WayLaws as model
 use Rattle.model.proofs.WayLaws.{has-event}
 use Rattle.ontology.specs.Table.{EventType, Table}
@@ -36,7 +36,7 @@ use Rattle.event.proofs.EventQuestionLaws.{EventAccepted, event-accepted, Event
 use Rattle.hashing.specs.HashText.{hashText}
 use Rattle.hashing.specs.HashCalls.{hashTextAnswer, hashTextCall}
 use Rattle.dossier.specs.DossierLayout.{Headed}
-use Rattle.combining.specs.CheckCall.{checkAnswer, checkCall}
+use Rattle.combining.specs.CheckCall.{checkAsked, checkAnswer, checkCall}
 use Rattle.opening.specs.OpenCall.{mergedEvent, openedAnswer, openAnswer, openCall}
 use Rattle.merger.specs.Demand3.{eventOr, eventAt, byteView, returned, wayAnswer, HasRoom, Given, wayRule, wayDossier, Demand3, OpensAsItself}
 use Rattle.merger.proofs.CallLaws.{rule-bytes, opening-bytes, Colliding, headed, shown-as, byte-calls, byte-texts}
@@ -76,7 +76,7 @@ module _ (table : List ℕ) (w : Way (List ℕ) (List ℕ)) (g : Given table w) 
   colliding s m = record { taken = g .isAccepted s m; source = g .sameSource s m; alike = g .sameMatch s first m (has-event w .1) }
 
   -- the model's theorem, of these calls
-  whole : ways.WholeDemand3 _ (byte-texts table (g .types) (g .isTable) t (g .source) first (colliding first (has-event w .1))) texts w
+  whole : WholeDemand3 _ (byte-texts table (g .types) (g .isTable) t (g .source) first (colliding first (has-event w .1))) texts w
   whole = model.whole-demand3 standard (byteView t) _ texts w colliding (g .haveRoom) _
 
   opens-to : (d out : List ℕ) → wayAnswer table w ≡ wrote d → HasRoom out →
@@ -188,7 +188,7 @@ returned-accepted (accepted x) out d e = (x, refl)
 check-accepted :
     (table event out d : List ℕ) → returned (checkCall table event out) ≡ wrote d →
     (types : Table) × (a : Typed) × (tableOf table ≡ some types) × (eventAsked narrow types event ≡ accepted a)
-unfolding checkCall checkAnswer
+unfolding checkCall checkAnswer checkAsked
 check-accepted table event out d e =
     let (x, q) = returned-accepted _ out d e in
     let (room, q) = ensured 1 (leb leastRoom (length out)) _ x q in

@@ -11,4 +11,6 @@ pub mod AskedLaws
 pub mod BatchLaws
 pub mod LineLaws
 pub mod ReportSizeLaws
+pub mod ReplySizeLaws
 pub mod ReportLaws
+pub mod ReplyBoundLaws

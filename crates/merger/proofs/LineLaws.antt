@@ -31,8 +31,8 @@ use Rattle.event.specs.EventIndex.{SetIs, noSet}
 use Rattle.event.specs.declared.sets.SetAt.{SetAt}
 use Rattle.event.specs.declared.read.EventIndex.{EventIndex}
 use Rattle.event.proofs.LookupLaws.{text-there, text-next}
-use Rattle.merger.specs.Report.{hexDigit, hexOf, objectLines, nameAt, refusedLine}
-use Rattle.merger.specs.ReportIndex.{conflictLine, overfullLine, valueLine, valueLines, hashedLines, PlaceNamed, ValuesRoom, ObjectsRoom, LinesRoom}
+use Rattle.merger.specs.Report.{hexDigit, hexOf, valueLine, valueLines, objectLines, nameAt, hashedLines, conflictLine, overfullLine, refusedLine}
+use Rattle.merger.specs.ReportIndex.{PlaceNamed, ValuesRoom, ObjectsRoom, LinesRoom}
 
 -- ---- a number in decimal
 
@@ -178,7 +178,7 @@ some-below (x ∷ xs) (suc i) a e = omega (arith, some-below xs i a e)
 
 -- what an index holds where it has no property
 abbrev pub noProperty : PropertyAt
-noProperty = record { start = 0; end = 0; kind = 0; first = 0; second = 0; third = 0; optional = false; multivalued = false; strategy = 0 }
+noProperty = record { start = 0; end = 0; kind = 0; size = 0; after = 0; sign = 0; optional = false; multivalued = false; strategy = 0 }
 
 module _ {table : List ℕ} {t : TypeIndex} {place : ℕ} (p : PlaceNamed table t place) where
   name-is : nameAt (p .type) place ≡ p .property .name
@@ -319,7 +319,7 @@ at-place (x ∷ xs) zero h = record { what = x; is = refl; rest = refl }
 at-place (x ∷ xs) (suc i) h = let w = at-place xs i (omega arith) in record { what = w .what; is = w .is; rest = w .rest }
 
 objects-step : (ps : List Property) (ss : List (List Text)) (k : ℕ) (w : At ps k) → k < length ss → objectLines (drop k ps) (drop k ss) ≡ valueLines (w .what .name) (getD ss k []) ++ objectLines (drop (k + 1) ps) (drop (k + 1) ss)
-unfolding objectLines valueLines
+unfolding objectLines
 objects-step ps ss k w h = rw (w .rest, drop-cons ss k [] h, add-one)
 
 pub objects-end : (ps : List Property) (ss : List (List Text)) (k : ℕ) → length ps ≤ k → objectLines (drop k ps) (drop k ss) ≡ []

@@ -12,7 +12,7 @@ use Rattle.model.specs.Order.{Text, texts}
 use Rattle.model.specs.Rule.{places, Dossier, rule}
 use Rattle.model.specs.Limits.{standard, fits}
 use Rattle.model.specs.Opening.{merged, mergedAt, mergedSets, opening}
-use Rattle.model.specs.Ways.{Has}
+use Rattle.model.proofs.WayClaims.{Has}
 use Rattle.model.proofs.Cases.{truth}
 use Rattle.model.proofs.SetLaws.{rising-ups}
 use Rattle.model.proofs.PartLaws.{length-upTo}
@@ -27,7 +27,7 @@ use Rattle.event.specs.EventQuestions.{isEmpty, setFits, eventShape, areInSpace
 use Rattle.event.proofs.EventLayoutLaws.{SetWritten, EventWritten, event-read}
 use Rattle.event.proofs.EventQuestionLaws.{all-member, member-all, all-at, at-all, place-each, are-in-space, MatchAlike, match-count, fits-some, set-written, set-rises, choice-none, choice-match, single-at, flat-objects, accepted-event}
 use Rattle.event.proofs.EventSizeLaws.{each-within}
-use Rattle.hashing.specs.HashText.{objectStrings, hashText}
+use Rattle.hashing.specs.HashText.{objectString, objectStrings, hashText}
 use Rattle.opening.specs.OpenCall.{mergedEvent}
 use Rattle.merger.specs.Demand3.{SameMatch}
 use Rattle.merger.proofs.RuleQuestionLaws.{has-length, few-objects, Gathered, parents-written}
@@ -42,7 +42,7 @@ object-strings (x ∷ ps) [] (t ∷ ts) l h = absurd (omega arith)
 object-strings (x ∷ ps) (s ∷ ss) [] l h = absurd (omega arith)
 object-strings (x ∷ ps) (s ∷ ss) (t ∷ ts) l h =
     ap₂ (λ (a b : List Text). a ++ b)
-    (truth (isMatch x) (λ y. ap (λ (r : List Text). cond (isMatch x) (map (λ v. x .name ++ (58 ∷ v)) r) []) (h 0 x refl y)) (λ n. rw n))
+    (truth (isMatch x) (λ y. ap (λ (r : List Text). cond (isMatch x) (map (objectString (x .name)) r) []) (h 0 x refl y)) (λ n. rw n))
     (object-strings ps ss ts (omega arith) (λ p q e y. h (suc p) q e y))
 
 pub hash-same : (t : EventType) (e f : Event) → e .type ≡ f .type → e .source ≡ f .source → length (e .sets) ≡ length (f .sets) → SameMatch t e f → hashText t e ≡ hashText t f

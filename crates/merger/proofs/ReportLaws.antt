@@ -1,6 +1,6 @@
 -- The laws of the report: what a batch, a dossier and a merged event come to.
 use mathlib.Core.Path.{_≡_, refl, sym, ap, ap₂, _∙_, subst}
-use mathlib.Core.Bool.{Bool, true, false, and-eq-true-iff}
+use mathlib.Core.Bool.{Bool, true, false, cond, and-eq-true-iff}
 use mathlib.Core.Option.{Option, none, some}
 use mathlib.Core.List.{List, [], _∷_, _++_, append-nil, map, List·Memᴰ·head}
 use Prim.Native.Nat.{ℕ, suc, _+_, _-_, _≤_, _<_}
@@ -13,13 +13,14 @@ use Rattle.model.specs.Order.{Text}
 use Rattle.model.specs.Rule.{places, rule}
 use Rattle.model.specs.Limits.{standard, fits}
 use Rattle.model.specs.Opening as model
-use Rattle.model.specs.Opening.{conflictAt, overfullAt, merged, noConflict, differsAt, firstOf, conflict, overfull, mergedAt, mergedSets, opening}
+use Rattle.model.specs.Opening.{conflictAt, overfullAt, merged, overfull, mergedAt}
 use Rattle.model.proofs.Cases.{never}
 use Rattle.model.proofs.RuleLaws.{rising-snapshots}
 use Rattle.model.proofs.ValidLaws.{in-places, ups-places}
 use Rattle.model.proofs.ClashLaws.{lowest-found, conflict-found, opening-conflict}
+use Rattle.model.proofs.OpeningLaws.{opening-overfull}
 use Rattle.model.proofs.DossierLaws.{match-cells}
-use Rattle.packed.specs.Parse.{fail, got}
+use Rattle.packed.specs.Parse.{Parse, fail, got}
 use Rattle.packed.specs.Packed.{readText}
 use Rattle.packed.specs.Located.{part}
 use Rattle.packed.specs.Written.{Wrote}
@@ -61,12 +62,12 @@ use Rattle.merger.specs.Replies.{batchReplies}
 use Rattle.merger.specs.declared.batch.BatchReply.{BatchReply}
 use Rattle.merger.specs.declared.batch.BatchReply.the-variants as batch
 use Rattle.merger.specs.Demand3.{SameMatch}
-use Rattle.merger.specs.Report.{mergedLines, openedLines, refusedLine, askedLines, framedLines, report, reportRoom, reportAnswer, reportCall}
-use Rattle.merger.specs.ReportIndex.{conflictLine, overfullLine, hashedLines, PlaceNamed, LinesRoom, MergedAsked, opens, HasProperty, DossierOpens}
+use Rattle.merger.specs.Report.{hashedLines, mergedLines, conflictLine, overfullLine, openedLines, refusedLine, askedLines, framedLines, mostInput, report, reportRoom, reportAnswer, reportCall}
+use Rattle.merger.specs.ReportIndex.{PlaceNamed, LinesRoom, MergedAsked, opens, HasProperty, DossierOpens}
 use Rattle.merger.proofs.RuleQuestionLaws.{Gathered, rule-asked}
 use Rattle.merger.proofs.MergedEventLaws.{merged-asked}
 use Rattle.merger.proofs.LineLaws.{refused-short}
-use Rattle.merger.proofs.ReportSizeLaws.{merged-hashed, merged-short, conflict-short, overfull-short}
+use Rattle.merger.proofs.ReportSizeLaws.{merged-short, conflict-short, overfull-short}
 
 -- ---- a merged event
 
@@ -82,7 +83,7 @@ module _ {table bytes : List ℕ} {t : EventType} {e : Event} {room : ℕ} (m : 
       hashed = unfold hashCall hashAnswer hashTextAsked in (rw (le-leb 20 (length old) (omega arith), m .tabled, m .asked))
 
   -- its questions are answered with the indexes
-  pub answers-are : (r : EventAsked) → EventAnswers (eventQuestions wide table bytes) table bytes r → TypeIs table t (r .kind) × EventIs bytes e (r .event)
+  pub answers-are : (r : EventAsked) → EventAnswers (eventQuestions wide table bytes) table bytes r → TypeIs table t (r .«event_type») × EventIs bytes e (r .event)
   unfolding EventAnswers
   answers-are r a = let x = subst (λ (q : Asked Typed). EventAnswers q table bytes r) asked a in (x .1, x .2)
     where
@@ -92,17 +93,17 @@ module _ {table bytes : List ℕ} {t : EventType} {e : Event} {room : ℕ} (m : 
   -- what the writer of its lines needs
   abbrev pub lines-ready :
       (r : EventAsked) {hash : List ℕ} → EventAnswers (eventQuestions wide table bytes) table bytes r → hash ≡ sha1Of (hashText t e) →
-      LinesRoom table (r .kind) bytes (r .event) hash room
+      LinesRoom table (r .«event_type») bytes (r .event) hash room
   lines-ready r {hash} a h = record {
     type = t;
     event = e;
     typed = answers-are r a .0;
     read = answers-are r a .1;
-    fits = omega (arith, m .fits, ap length (ap (hashedLines t e) h ∙ merged-hashed t e));
+    fits = omega (arith, m .fits, ap length (ap (hashedLines t e) h));
   }
 
   pub lines-merged : {hash out new : List ℕ} {n : ℕ} → hash ≡ sha1Of (hashText t e) → Wrote out 0 (hashedLines t e hash) new n → Wrote out 0 (mergedLines t e) new n
-  lines-merged {hash} {out} {new} {n} h w = subst (λ (x : List ℕ). Wrote out 0 x new n) (ap (hashedLines t e) h ∙ merged-hashed t e) w
+  lines-merged {hash} {out} {new} {n} h w = subst (λ (x : List ℕ). Wrote out 0 (hashedLines t e x) new n) h w
 
 -- ---- the type of a dossier
 
@@ -247,11 +248,11 @@ module _ {table bytes : List ℕ} {d : TypedDossier} {room : ℕ} (w : DossierOp
     conflict-place i = record { type = d .type; property = w .conflicts v p o .0; typed = i; named = w .conflicts v p o .1 }
 
     pub conflict-room : length (conflictLine (d .type) v p) ≤ room
-    unfolding openedLines conflictLine
+    unfolding openedLines
     conflict-room = subst (λ (x : model.Opened). length (openedLines (d .type) (d .headed) x) ≤ room) o (w .fits)
 
     pub conflict-lines : {out out₁ : List ℕ} {z : ℕ} → Wrote out 0 (conflictLine (d .type) v p) out₁ z → Wrote out 0 (openedLines (d .type) (d .headed) (opens d)) out₁ z
-    unfolding openedLines conflictLine
+    unfolding openedLines
     conflict-lines {out} {out₁} {z} u = subst (λ (x : model.Opened). Wrote out 0 (openedLines (d .type) (d .headed) x) out₁ z) (sym o) u
 
   -- an overfull place
@@ -260,11 +261,11 @@ module _ {table bytes : List ℕ} {d : TypedDossier} {room : ℕ} (w : DossierOp
     overfull-place i = record { type = d .type; property = w .overfills p o .0; typed = i; named = w .overfills p o .1 }
 
     pub overfull-room : length (overfullLine (d .type) p) ≤ room
-    unfolding openedLines overfullLine
+    unfolding openedLines
     overfull-room = subst (λ (x : model.Opened). length (openedLines (d .type) (d .headed) x) ≤ room) o (w .fits)
 
     pub overfull-lines : {out out₁ : List ℕ} {z : ℕ} → Wrote out 0 (overfullLine (d .type) p) out₁ z → Wrote out 0 (openedLines (d .type) (d .headed) (opens d)) out₁ z
-    unfolding openedLines overfullLine
+    unfolding openedLines
     overfull-lines {out} {out₁} {z} u = subst (λ (x : model.Opened). Wrote out 0 (openedLines (d .type) (d .headed) x) out₁ z) (sym o) u
 
 -- ---- the rule over gathered events
@@ -285,19 +286,10 @@ module _ (t : EventType) (uri : Text) (f : Event) (es : List Event) (g : Gathere
           let y = match-cells (view t) es s m p (in-places (view t) p .1 n) [] (choice-none t p c .0) tt (λ e i. g .fit e i .vacant p c) in
           never (cc)
 
-  is-overfull : (p : ℕ) → opens ruled ≡ overfullAt p → overfull (view t) (rule (view t) es) ≡ some p
-  unfolding opening firstOf
-  is-overfull p o = go (conflict (places (view t)) (rule (view t) es .snapshots)) (overfull (view t) (rule (view t) es)) refl refl
-    where
-      go : (c : model.Conflict) (m : Option ℕ) → conflict (places (view t)) (rule (view t) es .snapshots) ≡ c → overfull (view t) (rule (view t) es) ≡ m → overfull (view t) (rule (view t) es) ≡ some p
-      go (differsAt w q) m a b = let h : conflictAt w q ≡ overfullAt p = rw a at o in never (cc)
-      go noConflict none a b = let h : merged (mergedSets (view t) (rule (view t) es)) ≡ overfullAt p = rw (a, b) at o in never (cc)
-      go noConflict (some x) a b = let h : overfullAt x ≡ overfullAt p = rw (a, b) at o in b ∙ ap some (let k : x ≡ p = cc in k)
-
   -- an overfull place has a property: other places are not single
   overfull-names : (p : ℕ) → opens ruled ≡ overfullAt p → HasProperty t p
   unfolding overfull view atPlace
-  overfull-names p o = go (getElem? (t .properties) p) refl (and-eq-true-iff (view t .single p) (leb 2 (length (mergedAt (view t) (rule (view t) es) p))) .0 (lowest-found _ (places (view t)) p (ups-places (view t)) (is-overfull p o) .1) .0)
+  overfull-names p o = go (getElem? (t .properties) p) refl (and-eq-true-iff (view t .single p) (leb 2 (length (mergedAt (view t) (rule (view t) es) p))) .0 (lowest-found _ (places (view t)) p (ups-places (view t)) (opening-overfull (view t) (rule (view t) es) p .0 o .1) .1) .0)
     where
       go : (m : Option Property) → getElem? (t .properties) p ≡ m → atPlace false isSingle (getElem? (t .properties) p) ≡ true → HasProperty t p
       go (some q) c h = (q, c)
@@ -308,7 +300,7 @@ module _ (t : EventType) (uri : Text) (f : Event) (es : List Event) (g : Gathere
     merged-passes ss o = merged-asked t uri f es g ss o types named
 
     lines-short : length (openedLines t (ruled .headed) (opens ruled)) ≤ 65536
-    unfolding openedLines conflictLine overfullLine
+    unfolding openedLines
     lines-short = go (opens ruled) refl
       where
         go : (o : model.Opened) → opens ruled ≡ o → length (openedLines t (ruled .headed) o) ≤ 65536
@@ -337,7 +329,7 @@ all-with : {A : Type 0} (P Q R : A → Type 0) → ((x : A) → P x → Q x → 
 all-with P Q R k [] h g = tt
 all-with P Q R k (x ∷ xs) h g = (k x (h .0) (g .0), all-with P Q R k xs (h .1) (g .1))
 
-abbrev TypedOf : Table → Typed → Type 0
+abbrev pub TypedOf : Table → Typed → Type 0
 TypedOf ts a = (s : List ℕ) × (eventAsked narrow ts s ≡ questions.accepted a)
 
 all-typed : (ts : Table) (i : ℕ) (ss : List (List ℕ)) (xs : List Typed) → eventsAsked ts i ss ≡ accepted xs → All (TypedOf ts) xs
@@ -365,7 +357,7 @@ record Like (a b : Typed) : Type 0 where
   from : b .event .source ≡ a .event .source
 
 module _ (ts : Table) (a : Typed) (x : TypedOf ts a) where
-  fits-self : EventFits (a .type) (a .event)
+  pub fits-self : EventFits (a .type) (a .event)
   fits-self = event-fits ts (x .0) (a .type) (a .event) (event-accepted narrow ts (x .0) (a .type) (a .event) (x .1))
 
   named-self : typeNamed (a .event .type) ts ≡ some (a .type)
@@ -389,9 +381,9 @@ module _ (ts : Table) (a : Typed) (x : TypedOf ts a) where
         from = sym source;
       }
 
--- what a batch is refused or accepted with, question by question
-module _ (table batch : List ℕ) (d : TypedDossier) (e : batchAsked standard table batch ≡ accepted d) (room : ℕ) (big : 65536 ≤ room) where
-  typed-opens : (ts : Table) → tableOf table ≡ some ts → (xs : List Typed) → All (TypedOf ts) xs → together standard xs ≡ accepted d → DossierOpens table (dossierBytes (d .headed)) d room
+-- the events of a batch, which are accepted one by one
+module _ (table : List ℕ) (d : TypedDossier) (room : ℕ) (big : 65536 ≤ room) where
+  pub typed-opens : (ts : Table) → tableOf table ≡ some ts → (xs : List Typed) → All (TypedOf ts) xs → together standard xs ≡ accepted d → DossierOpens table (dossierBytes (d .headed)) d room
   unfolding together batchDossier
   typed-opens ts isTable [] w h = never (cc)
   typed-opens ts isTable (a ∷ bs) w h =
@@ -422,13 +414,15 @@ module _ (table batch : List ℕ) (d : TypedDossier) (e : batchAsked standard ta
       accepted-same : (m n : TypedDossier) → accepted m ≡ accepted n → m ≡ n
       accepted-same m n h = cc
 
+-- what a batch is refused or accepted with, question by question
+module _ (table batch : List ℕ) (d : TypedDossier) (e : batchAsked standard table batch ≡ accepted d) (room : ℕ) (big : 65536 ≤ room) where
   pub batch-opens : DossierOpens table (dossierBytes (d .headed)) d room
   unfolding batchAsked
   batch-opens =
       let (ts, x, y) = at-then (at 0 (ask 2 (tableOf table))) _ d e in
       let (ss, z, q) = at-then (at 0 (ask 9 (batchOf batch))) _ d y in
       let (xs, k, l) = at-then (eventsAsked ts 0 ss) _ d q in
-      typed-opens ts (ask-some 2 (tableOf table) ts (at-accepted 0 (ask 2 (tableOf table)) ts x)) xs (all-typed ts 0 ss xs k) l
+      typed-opens table d room big ts (ask-some 2 (tableOf table) ts (at-accepted 0 (ask 2 (tableOf table)) ts x)) xs (all-typed ts 0 ss xs k) l
 
 -- ---- the call batch
 
@@ -479,7 +473,7 @@ module _ (table events : List ℕ) {out new : List ℕ} {n : ℕ} where
 
 -- ---- the report
 
-pub asked-short : (table batch : List ℕ) → length (askedLines (batchAsked standard table batch)) ≤ 65536
+asked-short : (table batch : List ℕ) → length (askedLines (batchAsked standard table batch)) ≤ 65536
 unfolding askedLines
 asked-short table batch = go (batchAsked standard table batch) refl
   where
@@ -487,30 +481,40 @@ asked-short table batch = go (batchAsked standard table batch) refl
     go (refusedAt n i) e = omega (arith, refused-short n i)
     go (accepted d) e = batch-opens table batch d e 65536 (omega arith) .fits
 
+-- every report has its room
+pub report-short : (input : List ℕ) → length (report input) ≤ reportRoom
+unfolding report framedLines reportRoom
+report-short input = go (leb (length input) mostInput) (readText input)
+  where
+    go : (b : Bool) (p : Parse (List ℕ)) → length (cond b (framedLines p) (refusedLine 9 0)) ≤ 65536
+    go true fail = omega (arith, refused-short 9 0)
+    go true (got table batch) = asked-short table batch
+    go false p = omega (arith, refused-short 9 0)
+
 pub report-small : (input out : List ℕ) → length out < 65536 → replies (reply.Refused 1) out ≡ reportCall input out
 unfolding reportCall reportAnswer reportRoom
 report-small input out h = rw (lt-leb 65536 (length out) h)
 
-written : (input out lines : List ℕ) {new : List ℕ} {n : ℕ} → 65536 ≤ length out → report input ≡ lines → length lines ≤ 65536 → Wrote out 0 lines new n → replies (reply.Done n) new ≡ reportCall input out
+written : (input out lines : List ℕ) {new : List ℕ} {n : ℕ} → 65536 ≤ length out → report input ≡ lines → Wrote out 0 lines new n → replies (reply.Done n) new ≡ reportCall input out
 unfolding reportCall reportAnswer reportRoom
-written input out lines {new} {n} h e s w =
+written input out lines {new} {n} h e w =
     let m : n ≡ length lines = omega (arith, w .after) in
-    let room : 0 + length lines ≤ length out = omega (arith, s, h) in
+    let room : 0 + length lines ≤ length out = omega (arith, ap length e, report-short input, h) in
     rw (le-leb 65536 (length out) h, e)
     (ap₂ (λ (k : ℕ) (l : List ℕ). replies (reply.Done k) l) m (wrote-between room w ∙ ap (λ (k : ℕ). lines ++ drop k out) m))
 
 module _ (input out : List ℕ) {new : List ℕ} {n : ℕ} (room : 65536 ≤ length out) where
   pub report-long : 65536 < length input → Wrote out 0 (refusedLine 9 0) new n → replies (reply.Done n) new ≡ reportCall input out
-  report-long h w = written input out (refusedLine 9 0) room (unfold report in (rw (lt-leb (length input) 65536 h))) (omega (arith, refused-short 9 0)) w
+  report-long h w = written input out (refusedLine 9 0) room (unfold report in (rw (lt-leb (length input) 65536 h))) w
 
   module _ (few : length input ≤ 65536) where
     pub report-unread : readText input ≡ fail → Wrote out 0 (refusedLine 9 0) new n → replies (reply.Done n) new ≡ reportCall input out
-    report-unread e w = written input out (refusedLine 9 0) room (unfold report framedLines in (rw (le-leb (length input) 65536 few, e))) (omega (arith, refused-short 9 0)) w
+    report-unread e w = written input out (refusedLine 9 0) room (unfold report framedLines in (rw (le-leb (length input) 65536 few, e))) w
 
     report-read :
         (table events : List ℕ) → readText input ≡ got table events → Wrote out 0 (askedLines (batchAsked standard table events)) new n →
         replies (reply.Done n) new ≡ reportCall input out
-    report-read table events e w = written input out (askedLines (batchAsked standard table events)) room (unfold report framedLines in (rw (le-leb (length input) 65536 few, e))) (asked-short table events) w
+    report-read table events e w = written input out (askedLines (batchAsked standard table events)) room (unfold report framedLines in (rw (le-leb (length input) 65536 few, e))) w
 
     -- the table's part of the input, and what follows it
     pub report-parts :

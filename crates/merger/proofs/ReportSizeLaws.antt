@@ -21,8 +21,7 @@ use Rattle.event.proofs.EventLayoutLaws.{event-was}
 use Rattle.event.proofs.EventQuestionLaws.{event-accepted}
 use Rattle.event.proofs.EventSizeLaws.{ValuesShort, event-short}
 use Rattle.hashing.specs.HashText.{hashText}
-use Rattle.merger.specs.Report.{objectLines, nameAt, mergedLines}
-use Rattle.merger.specs.ReportIndex.{conflictLine, overfullLine, valueLines, hashedLines}
+use Rattle.merger.specs.Report.{valueLines, objectLines, nameAt, mergedLines, conflictLine, overfullLine}
 use Rattle.merger.proofs.LineLaws.{decimal-length, hashed-length}
 
 -- the names of a type's properties
@@ -39,7 +38,7 @@ values-size name [] h w = omega arith
 values-size name (v ∷ vs) h w = simp length-append (omega (arith, h, w .0, values-size name vs h (w .1)))
 
 objects-size : (ps : List Property) (ss : List (List Text)) → Named ps → ValuesShort ss → length (objectLines ps ss) ≤ 154 * objectCount ss
-unfolding objectLines objectCount valueLines
+unfolding objectLines objectCount
 objects-size [] ss n w = omega arith
 objects-size (p ∷ ps) [] n w = omega arith
 objects-size (p ∷ ps) (s ∷ ss) n w =
@@ -50,11 +49,6 @@ objects-size (p ∷ ps) (s ∷ ss) n w =
       objects-size ps ss (λ i q k. n (suc i) q k) (w .1),
     )
 
--- the lines of a merged event are those with its hash
-pub merged-hashed : (t : EventType) (e : Event) → hashedLines t e (sha1Of (hashText t e)) ≡ mergedLines t e
-unfolding hashedLines mergedLines
-merged-hashed t e = refl
-
 module _ (table : List ℕ) (types : Table) (isTable : tableOf table ≡ some types) (t : EventType) where
   pub merged-short : (s : List ℕ) (e : Event) → eventAsked wide types s ≡ accepted (record { type = t; event = e }) → length (mergedLines t e) ≤ 65536
   unfolding wide
@@ -62,7 +56,6 @@ module _ (table : List ℕ) (types : Table) (isTable : tableOf table ≡ some ty
       let w = event-accepted wide types s t e a in
       omega (
         arith,
-        ap length (merged-hashed t e),
         hashed-length t e (sha1Of (hashText t e)),
         length-sha1Of (hashText t e),
         decimal-length (objectCount (e .sets)),

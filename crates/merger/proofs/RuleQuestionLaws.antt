@@ -8,10 +8,11 @@ use native.Mathlib.Omega.{arith}
 use lib.ListN.{length, getD, getElem?, length-map, List·getD-map}
 use borrow.Author.Tests.{le-leb, eq-eqb}
 use Rattle.model.specs.Order.{Text, numbers, texts, sets}
-use Rattle.model.specs.Rule.{Cell, holds, differs, places, Snapshot, Dossier, rule, sizes, count}
+use Rattle.model.specs.Rule.{Cell, holds, differs, places, Snapshot, Dossier, rule, sizes}
+use Rattle.model.proofs.PartLaws.{count}
 use Rattle.model.specs.Limits.{standard, fits}
 use Rattle.model.specs.Opening.{held, isMark, cellAt}
-use Rattle.model.specs.Ways.{Each, Has}
+use Rattle.model.proofs.WayClaims.{Each, Has}
 use Rattle.model.proofs.Cases.{truth}
 use Rattle.model.proofs.OrderLaws.{equal-true}
 use Rattle.model.proofs.KeyedLaws.{rising-keys}

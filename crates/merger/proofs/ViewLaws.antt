@@ -2,7 +2,8 @@
 use mathlib.Core.Path.{_≡_, refl, sym, ap, _∙_}
 use mathlib.Core.List.{List, [], _∷_, _++_, map, flatten}
 use Prim.Native.Nat.{ℕ}
-use Rattle.model.specs.Order.{texts, numbers, three}
+use Rattle.model.specs.Order.{texts, numbers}
+use Rattle.model.proofs.Cases.{three}
 use Rattle.model.specs.Sets.{canon, only}
 use Rattle.model.specs.Rule.{View, places, Dossier, cell, ofVersion, cellOf, snapshot, ruleAt, rule, combine}
 use Rattle.model.specs.Limits.{Limits, fits}

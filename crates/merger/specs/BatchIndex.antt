@@ -55,7 +55,7 @@ pub record FirstTyped (table : List ℕ) (ts : Table) (ss : List (List ℕ)) (t 
 -- the number and the position of a refusal; 0 where there is none, and then the type of the events
 unfoldable pub RefusalIs : List ℕ → Table → List (List ℕ) → AskedAt (Unit {0}) → EventsAsked → Type 0
 RefusalIs table ts ss (refusedAt n i) r = (r .number ≡ n) × (r .position ≡ i) × (1 ≤ n)
-RefusalIs table ts ss (accepted u) r = (r .number ≡ 0) × FirstTyped table ts ss (r .kind)
+RefusalIs table ts ss (accepted u) r = (r .number ≡ 0) × FirstTyped table ts ss (r .«event_type»)
 
 -- the position of the first event that does not agree with the first one, or 0: as it was, or of the event that was asked now
 unfoldable pub firstApart : ℕ → Bool → ℕ → ℕ

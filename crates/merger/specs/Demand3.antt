@@ -2,7 +2,7 @@
 use Prim.Native.Nat.{ℕ, _≤_}
 use mathlib.Core.Path.{_≡_}
 use mathlib.Core.Logic.{_↔_}
-use mathlib.Core.Bool.{true, false, cond}
+use mathlib.Core.Bool.{true, false}
 use mathlib.Core.Option.{Option, none, some}
 use mathlib.Core.List.{List, [], List·Memᴰ}
 use lib.ListN.{length, take, getElem?}
@@ -13,7 +13,7 @@ use Rattle.model.specs.Limits.{fits, standard}
 use Rattle.model.specs.Opening.{opening}
 use Rattle.model.specs.Clashes.{FirstClash, NoClash}
 use Rattle.model.specs.Ways as ways
-use Rattle.model.specs.Ways.{Way, wrote, said, events, buffers, eventSet, calls}
+use Rattle.model.specs.Ways.{Way, wrote, said, events, buffers, eventSet, calls, limited}
 use Rattle.ontology.specs.Table.{Property, EventType, Table, isMatch}
 use Rattle.ontology.specs.TableLayout.{tableOf}
 use Rattle.ontology.specs.Questions.{accepted, leastRoom, gives, Reply, Outcome, outcome}
@@ -91,12 +91,19 @@ module _ (table : List ℕ) (w : Way (List ℕ) (List ℕ)) (g : Given table w) 
   abbrev pub wayRule : Dossier
   wayRule = rule (byteView (g .type)) (eventSet texts w)
 
+  -- a dossier under the head that the way's events share, and its bytes
+  abbrev pub wayHeaded : Dossier → Headed
+  wayHeaded d = record { type = g .type .name; source = g .source; dossier = d }
+
+  abbrev pub wayBytes : Dossier → List ℕ
+  wayBytes d = dossierBytes (wayHeaded d)
+
   abbrev pub wayDossier : Headed
-  wayDossier = record { type = g .type .name; source = g .source; dossier = wayRule }
+  wayDossier = wayHeaded wayRule
 
   pub record Demand3 : Type 0 where
     -- "the way gives exactly the bytes of 01's rule over the set of its distinct events, or is refused with 8"
-    pub result : wayAnswer table w ≡ cond (fits standard (byteView (g .type)) wayRule) (wrote (dossierBytes wayDossier)) (said 8)
+    pub result : wayAnswer table w ≡ limited standard (byteView (g .type)) wayBytes wayRule
     -- "It is refused exactly when that set passes a limit."
     pub refusedExactly : (wayAnswer table w ≡ said 8) ↔ (fits standard (byteView (g .type)) wayRule ≡ false)
     pub refusedOnly : (n : ℕ) → wayAnswer table w ≡ said n → n ≡ 8

@@ -16,7 +16,7 @@ use Rattle.sha1.specs.Fips.{sha1Of}
 use Rattle.ontology.specs.Table.{Property, EventType}
 use Rattle.ontology.specs.Questions.{Answer, gives, refuses, Outcome, outcome}
 use Rattle.event.specs.Event.{Event, view, objectCount, atPlace}
-use Rattle.hashing.specs.HashText.{hashText}
+use Rattle.hashing.specs.HashText.{objectString, hashText}
 use Rattle.dossier.specs.DossierLayout.{Headed}
 use Rattle.dossier.specs.DossierQuestions.{TypedDossier}
 use Rattle.opening.specs.OpenCall.{mergedEvent}
@@ -34,25 +34,43 @@ unfoldable pub hexOf : List ℕ → List ℕ
 hexOf [] = []
 hexOf (b ∷ s) = hexDigit (b / 16) ∷ hexDigit (b % 16) ∷ hexOf s
 
--- `addr:h1`: the objects, by place and then by value
+-- `addr:h1`
+abbrev pub valueLine : Text → Text → List ℕ
+valueLine name v = line (objectString name v)
+
+-- the lines of a property's values
+unfoldable pub valueLines : Text → List Text → List ℕ
+valueLines name vs = flatten (map (valueLine name) vs)
+
+-- the objects, by place and then by value
 unfoldable pub objectLines : List Property → List (List Text) → List ℕ
 objectLines [] ss = []
 objectLines (p ∷ ps) [] = []
-objectLines (p ∷ ps) (s ∷ ss) = flatten (map (λ v. line (p .name ++ (58 ∷ v))) s) ++ objectLines ps ss
+objectLines (p ∷ ps) (s ∷ ss) = valueLines (p .name) s ++ objectLines ps ss
 
 -- the name of the property at a place
 unfoldable pub nameAt : EventType → ℕ → Text
 nameAt t p = atPlace [] (λ (q : Property). q .name) (getElem? (t .properties) p)
 
 -- "`merged 5` (objects), .. then `hash ` and 40 lower-case hex digits"
-unfoldable pub mergedLines : EventType → Event → List ℕ
-mergedLines t e =
-    line (ascii "merged " ++ inDecimal (objectCount (e .sets))) ++ objectLines (t .properties) (e .sets) ++ line (ascii "hash " ++ hexOf (sha1Of (hashText t e)))
+unfoldable pub hashedLines : EventType → Event → List ℕ → List ℕ
+hashedLines t e hash =
+    line (ascii "merged " ++ inDecimal (objectCount (e .sets))) ++ objectLines (t .properties) (e .sets) ++ line (ascii "hash " ++ hexOf hash)
 
--- "`conflict 1 state` (version, property), `overfull serial` (property, of another type)"
+abbrev pub mergedLines : EventType → Event → List ℕ
+mergedLines t e = hashedLines t e (sha1Of (hashText t e))
+
+-- "`conflict 1 state` (version, property)"
+unfoldable pub conflictLine : EventType → ℕ → ℕ → List ℕ
+conflictLine t v p = line (ascii "conflict " ++ inDecimal v ++ ascii " " ++ nameAt t p)
+
+-- "`overfull serial` (property, of another type)"
+unfoldable pub overfullLine : EventType → ℕ → List ℕ
+overfullLine t p = line (ascii "overfull " ++ nameAt t p)
+
 unfoldable pub openedLines : EventType → Headed → Opened → List ℕ
-openedLines t h (conflictAt v p) = line (ascii "conflict " ++ inDecimal v ++ ascii " " ++ nameAt t p)
-openedLines t h (overfullAt p) = line (ascii "overfull " ++ nameAt t p)
+openedLines t h (conflictAt v p) = conflictLine t v p
+openedLines t h (overfullAt p) = overfullLine t p
 openedLines t h (merged ss) = mergedLines t (mergedEvent h ss)
 
 -- "`refused 7 1` (number, position)"
@@ -67,9 +85,13 @@ unfoldable pub framedLines : Parse (List ℕ) → List ℕ
 framedLines fail = refusedLine 9 0
 framedLines (got table batch) = askedLines (batchAsked standard table batch)
 
+-- "at most 65,536 bytes, else 9"
+abbrev pub mostInput : ℕ
+mostInput = 65536
+
 -- what the program prints for its input
 unfoldable pub report : List ℕ → List ℕ
-report input = cond (leb (length input) 65536) (framedLines (readText input)) (refusedLine 9 0)
+report input = cond (leb (length input) mostInput) (framedLines (readText input)) (refusedLine 9 0)
 
 -- The report as a call: an output of at least 65,536 bytes holds every report
 unfoldable pub reportRoom : ℕ

@@ -1,21 +1,19 @@
--- What the writers of the report's lines are given, and what they write.
+-- What the writers of the report's lines are given, and what the report is made of.
 use Prim.Native.Nat.{ℕ, _+_, _≤_}
 use mathlib.Core.Path.{_≡_}
 use mathlib.Core.Option.{some}
-use mathlib.Core.List.{List, _∷_, _++_, map, flatten}
+use mathlib.Core.List.{List}
 use lib.ListN.{length, getElem?}
 use Rattle.model.specs.Order.{Text}
 use Rattle.model.specs.Limits.{standard}
 use Rattle.model.specs.Opening.{Opened, conflictAt, overfullAt, merged, opening}
-use Rattle.packed.specs.Ascii.{ascii}
-use Rattle.values.specs.Decimal.{inDecimal}
 use Rattle.ontology.specs.Table.{Property, EventType, Table}
 use Rattle.ontology.specs.TableLayout.{tableOf}
 use Rattle.ontology.specs.Questions.{accepted}
 use Rattle.ontology.specs.TypeIndex.{PropertyIs, TypeIs}
 use Rattle.ontology.specs.declared.properties.PropertyAt.{PropertyAt}
 use Rattle.ontology.specs.declared.types.TypeIndex.{TypeIndex}
-use Rattle.event.specs.Event.{Event, objectCount, view}
+use Rattle.event.specs.Event.{Event, view}
 use Rattle.event.specs.EventLayout.{wide, eventBytes}
 use Rattle.event.specs.EventQuestions.{eventAsked}
 use Rattle.event.specs.EventIndex.{SetIs, EventIs}
@@ -23,28 +21,7 @@ use Rattle.event.specs.declared.sets.SetAt.{SetAt}
 use Rattle.event.specs.declared.read.EventIndex.{EventIndex}
 use Rattle.dossier.specs.DossierQuestions.{TypedDossier, dossierAsked}
 use Rattle.opening.specs.OpenCall.{mergedEvent}
-use Rattle.merger.specs.Report.{line, hexOf, objectLines, nameAt, mergedLines, openedLines}
-
--- ---- what is written
-
-unfoldable pub conflictLine : EventType → ℕ → ℕ → List ℕ
-conflictLine t v p = line (ascii "conflict " ++ inDecimal v ++ ascii " " ++ nameAt t p)
-
-unfoldable pub overfullLine : EventType → ℕ → List ℕ
-overfullLine t p = line (ascii "overfull " ++ nameAt t p)
-
--- `addr:h1`
-abbrev pub valueLine : Text → Text → List ℕ
-valueLine name v = line (name ++ (58 ∷ v))
-
--- the lines of a property's values
-unfoldable pub valueLines : Text → List Text → List ℕ
-valueLines name vs = flatten (map (valueLine name) vs)
-
--- the lines of an event whose hash is given
-unfoldable pub hashedLines : EventType → Event → List ℕ → List ℕ
-hashedLines t e hash =
-    line (ascii "merged " ++ inDecimal (objectCount (e .sets))) ++ objectLines (t .properties) (e .sets) ++ line (ascii "hash " ++ hexOf hash)
+use Rattle.merger.specs.Report.{valueLines, objectLines, hashedLines, mergedLines, openedLines}
 
 -- ---- what the writers are given
 

@@ -27,17 +27,17 @@ use ontology::types::TypeIndex;
 pub struct EventsAsked {
     pub number: u8,
     pub position: usize,
-    pub kind: TypeIndex,
+    pub event_type: TypeIndex,
 }
 
 // What asking answers; no refusal where the number is 0.
-fn answer(number: u8, position: usize, kind: TypeIndex) -> EventsAsked
-    ensures { λ r. ⌜ (r .number ≡ number) × (r .position ≡ position) × (r .kind ≡ kind) ⌝ }
+fn answer(number: u8, position: usize, event_type: TypeIndex) -> EventsAsked
+    ensures { λ r. ⌜ (r .number ≡ number) × (r .position ≡ position) × (r .«event_type» ≡ «event_type») ⌝ }
 {
     EventsAsked {
         number,
         position,
-        kind,
+        event_type,
     }
 }
 
@@ -91,9 +91,9 @@ pub fn ask_events(
     let head = event_part(batch, x, 0);
     let first = ask_one(table, name, read, head);
     if first.number != 0 {
-        return answer(first.number, 0, first.kind);
+        return answer(first.number, 0, first.event_type);
     }
-    let t = first.kind;
+    let t = first.event_type;
     let d = first.event;
     let mut apart: usize = 0;
     let mut i: usize = 1;

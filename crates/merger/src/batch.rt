@@ -160,5 +160,5 @@ pub fn batch(
     if asked.number != 0 {
         return BatchReply::Refused(asked.number, asked.position);
     }
-    batch_reply(combine_all(table, batch, x, asked.kind, out, a, b, c))
+    batch_reply(combine_all(table, batch, x, asked.event_type, out, a, b, c))
 }

@@ -6,8 +6,8 @@ ghost use lib.ListN.{length};
 ghost use Rattle.packed.specs.Located.{part};
 ghost use Rattle.packed.specs.Written.{Wrote};
 ghost use Rattle.values.specs.Decimal.{inDecimal};
-ghost use Rattle.merger.specs.Report.{hexDigit, hexOf, objectLines, refusedLine};
-ghost use Rattle.merger.specs.ReportIndex.{conflictLine, overfullLine, valueLine, valueLines, hashedLines, PlaceNamed, ValuesRoom, ObjectsRoom, LinesRoom};
+ghost use Rattle.merger.specs.Report.{hexDigit, hexOf, valueLine, valueLines, objectLines, hashedLines, conflictLine, overfullLine, refusedLine};
+ghost use Rattle.merger.specs.ReportIndex.{PlaceNamed, ValuesRoom, ObjectsRoom, LinesRoom};
 use event::read::EventIndex;
 use event::sets::SetAt;
 use ontology::properties::PropertyAt;
@@ -16,6 +16,7 @@ use packed::read::TextAt;
 use packed::read::read_text;
 use packed::write::copy;
 use packed::write::copy_part;
+use values::versions::EventVersion;
 
 // A number in decimal: the digits before the last are those of a tenth.
 fn write_decimal(n: u64, out: &mut [u8], at: usize) -> usize
@@ -66,11 +67,11 @@ pub fn write_refused(number: u8, position: usize, out: &mut [u8]) -> usize
     requires { ⌜ length (refusedLine number position) ≤ length (now out) ⌝ }
     ensures { λ r. ⌜ Wrote (now (out .entry)) 0 (refusedLine number position) (now (out .exit)) r ⌝ }
 {
-    let first = copy(b"refused ", out, 0);
-    let second = write_decimal(number as u64, out, first);
-    let third = copy(b" ", out, second);
-    let end = write_decimal(position as u64, out, third);
-    write_end(out, end)
+    let after_word = copy(b"refused ", out, 0);
+    let after_number = write_decimal(number as u64, out, after_word);
+    let after_space = copy(b" ", out, after_number);
+    let after_position = write_decimal(position as u64, out, after_space);
+    write_end(out, after_position)
 }
 
 // The name of a property.
@@ -87,19 +88,19 @@ fn write_name(table: &[u8], p: PropertyAt, out: &mut [u8], at: usize) -> usize
 pub fn write_conflict(
     table: &[u8],
     t: TypeIndex,
-    version: u64,
+    version: EventVersion,
     place: usize,
     out: &mut [u8],
 ) -> usize
-    requires { ⌜ ((p : PlaceNamed (now table) t place) × (length (conflictLine (p .type) version place) ≤ length (now out))) ⌝ }
-    ensures { λ r. ⌜ ((p : PlaceNamed (now (table .entry)) t place) → Wrote (now (out .entry)) 0 (conflictLine (p .type) version place) (now (out .exit)) r) ⌝ }
+    requires { ⌜ ((p : PlaceNamed (now table) t place) × (length (conflictLine (p .type) (version .0) place) ≤ length (now out))) ⌝ }
+    ensures { λ r. ⌜ ((p : PlaceNamed (now (table .entry)) t place) → Wrote (now (out .entry)) 0 (conflictLine (p .type) (version .0) place) (now (out .exit)) r) ⌝ }
 {
-    let first = copy(b"conflict ", out, 0);
-    let second = write_decimal(version, out, first);
-    let third = copy(b" ", out, second);
+    let after_word = copy(b"conflict ", out, 0);
+    let after_version = write_decimal(version.0, out, after_word);
+    let after_space = copy(b" ", out, after_version);
     let p = t.properties[place];
-    let end = write_name(table, p, out, third);
-    write_end(out, end)
+    let after_name = write_name(table, p, out, after_space);
+    write_end(out, after_name)
 }
 
 // `overfull serial`: the property.
@@ -107,10 +108,10 @@ pub fn write_overfull(table: &[u8], t: TypeIndex, place: usize, out: &mut [u8]) 
     requires { ⌜ ((p : PlaceNamed (now table) t place) × (length (overfullLine (p .type) place) ≤ length (now out))) ⌝ }
     ensures { λ r. ⌜ ((p : PlaceNamed (now (table .entry)) t place) → Wrote (now (out .entry)) 0 (overfullLine (p .type) place) (now (out .exit)) r) ⌝ }
 {
-    let first = copy(b"overfull ", out, 0);
+    let after_word = copy(b"overfull ", out, 0);
     let p = t.properties[place];
-    let end = write_name(table, p, out, first);
-    write_end(out, end)
+    let after_name = write_name(table, p, out, after_word);
+    write_end(out, after_name)
 }
 
 // `addr:h1`: the line of a value, which stands in the event from `start` up to `end`.
@@ -126,10 +127,10 @@ fn write_value(
     requires { ⌜ (p .start ≤ p .end) × (p .end ≤ length (now table)) × (start ≤ end) × (end ≤ length (now event)) × (at + length (valueLine (part (now table) (p .start) (p .end)) (part (now event) start end)) ≤ length (now out)) ⌝ }
     ensures { λ r. ⌜ Wrote (now (out .entry)) at (valueLine (part (now (table .entry)) (p .start) (p .end)) (part (now (event .entry)) start end)) (now (out .exit)) r ⌝ }
 {
-    let colon = write_name(table, p, out, at);
-    let value = copy(b":", out, colon);
-    let line = copy_part(event, start, end, out, value);
-    write_end(out, line)
+    let after_name = write_name(table, p, out, at);
+    let after_colon = copy(b":", out, after_name);
+    let after_value = copy_part(event, start, end, out, after_colon);
+    write_end(out, after_value)
 }
 
 // The lines of a property's values.
@@ -193,12 +194,12 @@ pub fn write_merged(
     requires { ⌜ LinesRoom (now table) t (now event) e (now hash) (length (now out)) ⌝ }
     ensures { λ r. ⌜ ((l : LinesRoom (now (table .entry)) t (now (event .entry)) e (now (hash .entry)) (length (now (out .entry)))) → Wrote (now (out .entry)) 0 (hashedLines (l .type) (l .event) (now (hash .entry))) (now (out .exit)) r) ⌝ }
 {
-    let first = copy(b"merged ", out, 0);
+    let after_merged = copy(b"merged ", out, 0);
     let objects = e.objects;
-    let second = write_decimal(objects as u64, out, first);
-    let third = write_end(out, second);
-    let fourth = write_objects(table, t, event, e, out, third);
-    let fifth = copy(b"hash ", out, fourth);
-    let last = write_hex(hash, out, fifth);
-    write_end(out, last)
+    let after_count = write_decimal(objects as u64, out, after_merged);
+    let after_line = write_end(out, after_count);
+    let after_objects = write_objects(table, t, event, e, out, after_line);
+    let after_word = copy(b"hash ", out, after_objects);
+    let after_hash = write_hex(hash, out, after_word);
+    write_end(out, after_hash)
 }

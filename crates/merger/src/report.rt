@@ -47,7 +47,7 @@ fn report_merged(table: &[u8], event: &[u8], out: &mut [u8]) -> usize
     let mut digest = [0u8; 20];
     hash(table, event, &mut digest);
     let asked = ask_event(table, event, true);
-    let t = asked.kind;
+    let t = asked.event_type;
     let e = asked.event;
     write_merged(table, t, event, e, &digest, out)
 }
@@ -69,7 +69,7 @@ fn report_opened(table: &[u8], dossier: &[u8], opened: &mut [u8], out: &mut [u8]
         Opened::Merged(n) => report_merged(table, &opened[..n], out),
         Opened::Conflict(version, place) => {
             let t = type_of(table, dossier);
-            write_conflict(table, t, version.0, place, out)
+            write_conflict(table, t, version, place, out)
         }
         Opened::Overfull(place) => {
             let t = type_of(table, dossier);
