@@ -1,4 +1,4 @@
-# archive  proves and builds the archive; it and its header stand in target/merger/
+# archive  proves and builds the archive libmerger.a; it and its header stand in target/merger/
 # test     every test over the archive
 # bench    the archive's times beside the independent implementation's
 
@@ -7,7 +7,8 @@
 archive:
 	rt staticlib interface
 	mkdir -p target/merger
-	cp target/staticlib/libinterface.a include/merger.h target/merger/
+	cp target/staticlib/libinterface.a target/merger/libmerger.a
+	cp include/merger.h target/merger/
 
 test:
 	tests/run
