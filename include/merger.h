@@ -93,8 +93,9 @@ uint64_t merger_open(const uint8_t *table, size_t table_len,
 
 /* Where in the event does the value at this place and index (both from 0) stand?
  * Takes merged events too. Always answers done: bits 0..27 hold the value's length and bits 28..55
- * its start in the event. The length is 0 where there is no such value and where the table or the
- * event is refused (hash text gives the number). Writes nothing. */
+ * its start in the event. The value's bytes stand there, and start + length is at most event_len.
+ * The length is 0 where there is no such value and where the table or the event is refused (hash
+ * text gives the number). Writes nothing. */
 uint64_t merger_value(const uint8_t *table, size_t table_len,
                       const uint8_t *event, size_t event_len,
                       size_t place, size_t index);
