@@ -24,7 +24,7 @@ use Rattle.event.specs.Event.{objectCount, view}
 use Rattle.event.specs.EventLayout.{presenceBit, bitNumber}
 use Rattle.event.proofs.EventLayoutLaws.{ParentsWritten}
 use Rattle.event.proofs.EventSizeLaws.{ValuesShort, head-size, sets-size, each-within}
-use Rattle.event.proofs.EventQuestionLaws.{all-member, member-all}
+use Rattle.event.proofs.EventQuestionLaws.{all-member, all-append, member-all}
 use Rattle.dossier.specs.DossierLayout.{differBit, snapshotBytes, dossierBytes}
 use Rattle.dossier.specs.DossierQuestions.{TypedDossier, dossiersAgree}
 use Rattle.dossier.proofs.DossierLayoutLaws.{SnapshotWritten, snapshot-cells}
@@ -48,10 +48,6 @@ Short = All IsShort
 all-within : {A : Type 0} (ok : A → Type 0) (xs ys : List A) → Within xs ys → All ok ys → All ok xs
 all-within ok xs ys w h = member-all ok xs (λ a m. all-member ok ys h a (w a m))
 
-all-both : {A : Type 0} (ok : A → Type 0) (xs ys : List A) → All ok xs → All ok ys → All ok (xs ++ ys)
-all-both ok [] ys h g = g
-all-both ok (x ∷ xs) ys h g = (h .0, all-both ok xs ys (h .1) g)
-
 -- ---- two dossiers together
 
 short-joined : (b : Bool) (c : Choice) (x y : Cell) → Short (held x) → Short (held y) → Short (held (joinCell b c x y))
@@ -64,9 +60,9 @@ short-joined true c (holds s) (holds t) h g = go (equal sets s t)
     go true = h
     go false = tt
 short-joined false every (holds s) (holds t) h g =
-    all-within IsShort (union texts s t) (s ++ t) (union-of texts s t) (all-both IsShort s t h g)
+    all-within IsShort (union texts s t) (s ++ t) (union-of texts s t) (all-append IsShort s t h g)
 short-joined false (least O) (holds s) (holds t) h g =
-    all-within IsShort (take 1 (union O s t)) (s ++ t) (λ v m. union-of O s t v (take-of (union O s t) v m)) (all-both IsShort s t h g)
+    all-within IsShort (take 1 (union O s t)) (s ++ t) (λ v m. union-of O s t v (take-of (union O s t) v m)) (all-append IsShort s t h g)
 
 -- "two unequal sets (empty counts) or a mark on either side give the mark": no more objects than the left side has
 size-joined : (c : Choice) (x y : Cell) → size (joinCell true c x y) ≤ size x
@@ -186,7 +182,7 @@ module _ (table r s : List ℕ) (types : Table) (a b : TypedDossier) (t : tableO
       let within = fits-bounds standard (view (a .type)) (combined a b) f .0 in record {
         within = within;
         few = omega (arith, within);
-        each = all-within hash (union texts ps qs) (ps ++ qs) (union-of texts ps qs) (all-both hash ps qs (p .each) (q .each));
+        each = all-within hash (union texts ps qs) (ps ++ qs) (union-of texts ps qs) (all-append hash ps qs (p .each) (q .each));
         rises = rising-ups texts (union texts ps qs) .1 (ups-union texts ps qs (rising-ups texts qs .0 (q .rises)));
       }
 

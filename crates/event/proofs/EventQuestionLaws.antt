@@ -3,7 +3,7 @@ use mathlib.Core.Path.{_≡_, refl, sym, ap, ap₂, _∙_, subst, subst₂}
 use mathlib.Core.Logic.{⊎-elim}
 use mathlib.Core.Bool.{Bool, true, false, cond, not, _&&_, _||_, and-eq-true-iff}
 use mathlib.Core.Option.{none, some}
-use mathlib.Core.List.{List, [], _∷_, map, flatten, List·Memᴰ, List·Memᴰ·head, List·Memᴰ·tail, List·Memᴰ·not-nil}
+use mathlib.Core.List.{List, [], _∷_, _++_, map, flatten, List·Memᴰ, List·Memᴰ·head, List·Memᴰ·tail, List·Memᴰ·not-nil}
 use Prim.Native.Nat.{ℕ, zero, suc, _+_, _-_, _^_, _≤_, _<_}
 use native.Mathlib.Omega.{arith}
 use lib.Dec.{leb, eqb}
@@ -38,6 +38,10 @@ module _ {A : Type 0} (ok : A → Type 0) where
   pub all-member : (xs : List A) → All ok xs → (a : A) → List·Memᴰ a xs → ok a
   all-member (x ∷ xs) h a (List·Memᴰ·head q) = rw q (h .0)
   all-member (x ∷ xs) h a (List·Memᴰ·tail m) = all-member xs (h .1) a m
+
+  pub all-append : (xs ys : List A) → All ok xs → All ok ys → All ok (xs ++ ys)
+  all-append [] ys h k = k
+  all-append (x ∷ xs) ys h k = (h .0, all-append xs ys (h .1) k)
 
   pub member-all : (xs : List A) → ((a : A) → List·Memᴰ a xs → ok a) → All ok xs
   member-all [] h = tt

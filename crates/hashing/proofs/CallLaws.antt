@@ -58,17 +58,27 @@ of-table table event a e = go (tableOf table) refl e
     go none q e = never (cc)
     go (some ts) q e = record { what = ts; is = q; asked = e }
 
-pub text-short : (table event : List ℕ) (r : EventAsked) (a : Accepted wide table event r) → (matchCount (a .type .properties) (a .e .sets) ≤ 32) × (length (hashText (a .type) (a .e)) ≤ 8192)
+-- it has room in the output that document 01 asks for
+pub hash-short :
+    (table event : List ℕ) (ts : Table) (a : Typed) → tableOf table ≡ some ts → eventAsked wide ts event ≡ accepted a →
+    length (hashText (a .type) (a .event)) ≤ 8192
+hash-short table event ts a t h =
+    let w = event-accepted wide ts event (a .type) (a .event) h in
+    let n : length (a .event .type) ≤ 64 =
+    subst (λ (v : Text). length v ≤ 64) (type-rules table (a .event .type) ts (a .type) t (w .typed) .0)
+    (table-type table ts t (a .event .type) (a .type) (w .typed) .short) in
+    let p : All (λ (q : Property). length (q .name) ≤ 32) (a .type .properties) =
+    all-elements (λ (q : Property). length (q .name) ≤ 32) (a .type .properties)
+    (λ i q k. name-length 32 (q .name) (properties-rules table (a .event .type) ts (a .type) t (w .typed) i q k .name) .1) in
+    hash-fits (a .type) (a .event) (event-was wide event (a .event) (w .read) .1) (w .shape) (w .values) n p
+
+pub text-short :
+    (table event : List ℕ) (r : EventAsked) (a : Accepted wide table event r) →
+    (matchCount (a .type .properties) (a .e .sets) ≤ 32) × (length (hashText (a .type) (a .e)) ≤ 8192)
 text-short table event r a =
     let o = of-table table event (record { type = a .type; event = a .e }) (a .is) in
     let w = event-accepted wide (o .what) event (a .type) (a .e) (o .asked) in
-    let n : length (a .e .type) ≤ 64 =
-    subst (λ (v : Text). length v ≤ 64) (type-rules table (a .e .type) (o .what) (a .type) (o .is) (w .typed) .0)
-    (table-type table (o .what) (o .is) (a .e .type) (a .type) (w .typed) .short) in
-    let p : All (λ (q : Property). length (q .name) ≤ 32) (a .type .properties) =
-    all-elements (λ (q : Property). length (q .name) ≤ 32) (a .type .properties)
-    (λ i q k. name-length 32 (q .name) (properties-rules table (a .e .type) (o .what) (a .type) (o .is) (w .typed) i q k .name) .1) in
-    (event-match (a .type) (a .e) (w .shape), hash-fits (a .type) (a .e) (event-was wide event (a .e) (w .read) .1) (w .shape) (w .values) n p)
+    (event-match (a .type) (a .e) (w .shape), hash-short table event (o .what) (record { type = a .type; event = a .e }) (o .is) (o .asked))
 
 abbrev pub hashable : (table event : List ℕ) (r : EventAsked) → Accepted wide table event r → Hashable table event (r .«event_type») (r .event)
 hashable table event r a = record {

@@ -14,7 +14,7 @@ use Rattle.ontology.specs.Table.{isLetter, isNameByte, areNameBytes, isName, is
 use Rattle.ontology.specs.TableLayout.{tableOf}
 use Rattle.ontology.proofs.TypeIndexLaws.{type-rules, properties-rules}
 use Rattle.event.proofs.EventLayoutLaws.{SetWritten, event-was}
-use Rattle.event.proofs.EventQuestionLaws.{event-accepted}
+use Rattle.event.proofs.EventQuestionLaws.{all-append, event-accepted}
 use Rattle.hashing.specs.HashText.{objectString, objectStrings}
 use Rattle.hashing.specs.NoDuplicates.{NoDuplicates}
 use Rattle.hashing.proofs.SortLaws.{Apart, rising-apart, sorted-rises}
@@ -73,10 +73,6 @@ string-parts (c ∷ n) (d ∷ m) v u a b e =
     let t : objectString n v ≡ objectString m u = cc in
     let (p, q) = string-parts n m v u (a .1) (b .1) t in
     (ap₂ (λ (x : ℕ) (xs : Text). x ∷ xs) h p, q)
-
-all-append : {A : Type 0} (P : A → Type 0) (xs ys : List A) → All P xs → All P ys → All P (xs ++ ys)
-all-append P [] ys h k = k
-all-append P (x ∷ xs) ys h k = (h .0, all-append P xs ys (h .1) k)
 
 apart-append : {A : Type 0} (xs ys : List A) → Apart xs → Apart ys → All (λ x. All (λ y. x ≡ y → ⊥) ys) xs → Apart (xs ++ ys)
 unfolding Apart

@@ -24,7 +24,7 @@ use Rattle.event.specs.Event.{view}
 use Rattle.event.specs.EventLayout.{narrow, wide}
 use Rattle.event.specs.EventQuestions.{Typed, eventAsked}
 use Rattle.event.proofs.EventQuestionLaws.{count-objects}
-use Rattle.hashing.specs.HashText.{hashText}
+use Rattle.hashing.proofs.CallLaws.{hash-short}
 use Rattle.hashing.specs.HashCalls.{hashTextAsked, hashTextAnswer, hashTextCall, hashAnswer, hashCall}
 use Rattle.dossier.specs.DossierLayout.{dossierBytes}
 use Rattle.dossier.specs.DossierQuestions.{TypedDossier, dossierAsked, dossiersAgree}
@@ -40,7 +40,7 @@ use Rattle.merger.specs.ReplyBounds.{Bounded, RepliesBounded}
 use Rattle.merger.proofs.Demand1Laws.{Asks, asks-whether, accepts, asks-then, asks-more, asks-next, asks-event, asks-dossier, asks-table, AsksAt, asks-batch}
 use Rattle.merger.proofs.ReportLaws.{fits-self, typed-opens, batch-opens, report-short}
 use Rattle.combining.proofs.RoomLaws.{combined-short}
-use Rattle.merger.proofs.ReplySizeLaws.{dossier-short, merged-short, text-short}
+use Rattle.merger.proofs.ReplySizeLaws.{dossier-short, merged-short}
 
 -- where the questions accept something, they come to it
 asks-itself : {A : Type 0} {P : A → Type 0} {q : Asked A} → Asks P q → Asks (λ a. q ≡ questions.accepted a) q
@@ -121,7 +121,7 @@ asked-dossier ts s = asks-more (λ a e. dossier-taken ts s a e) (asks-itself (as
 hashed-short : (least room : ℕ) (table event : List ℕ) → Asks (λ x. length x ≤ 8192) (hashTextAsked least room table event)
 unfolding hashTextAsked
 hashed-short least room table event =
-    asks-table least room table λ ts t. asks-then (asks-itself (asks-event wide ts event)) λ a e. accepts (text-short table event ts a t e)
+    asks-table least room table λ ts t. asks-then (asks-itself (asks-event wide ts event)) λ a e. accepts (hash-short table event ts a t e)
 
 pub replies-bounded : RepliesBounded
 unfolding tableCall checkCall checkAnswer checkAsked combineCall combineAnswer combineAsked openCall openAnswer
