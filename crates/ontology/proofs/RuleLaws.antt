@@ -7,7 +7,7 @@ use native.Mathlib.Omega.{arith}
 use lib.ListN.{length, drop, getD, getElem?, length-drop, drop-of-length-le}
 use lib.Seq.{drop-cons}
 use lib.Dec.{ltb, leb, eqb}
-use borrow.Author.Tests.{lt-ltb, eq-eqb, ne-eqb, eqb-false}
+use borrow.Author.Tests.{lt-ltb, eq-eqb, ne-eqb, eqb-true}
 use Rattle.model.specs.Order.{Text, texts, rising, pick}
 use Rattle.model.proofs.Cases.{and-true, and-false}
 use Rattle.packed.specs.Located.{part}
@@ -47,6 +47,14 @@ from-one boolean = refl
 from-one (string n) = refl
 from-one (hex n) = refl
 
+-- min and max are not replace
+not-replace : (n : ℕ) → (eqb n 1 || eqb n 2) ≡ true → eqb n 4 ≡ false
+not-replace n h = one (eqb n 1) refl h
+  where
+    one : (t : Bool) → eqb n 1 ≡ t → (t || eqb n 2) ≡ true → eqb n 4 ≡ false
+    one true e k = ne-eqb n 4 (λ z. omega (arith, eqb-true n 1 e))
+    one false e k = ne-eqb n 4 (λ z. omega (arith, eqb-true n 2 k))
+
 module _ (s : List ℕ) (q : Property) (x : PropertyAt) (v : Bool) (w : PropertyIs s q x) where
   fits-by : strategyFits v q ≡ fitsBy (x .strategy) (x .optional) (x .multivalued) (leb (x .kind) 6) v
   unfolding strategyFits isOrdered fitsBy
@@ -58,46 +66,43 @@ module _ (s : List ℕ) (q : Property) (x : PropertyAt) (v : Bool) (w : Property
       model = refl
 
   -- min and max
-  fits-ordered : 1 ≤ x .strategy → x .strategy ≤ 2 → strategyFits v q ≡ (not (x .optional) && not (x .multivalued) && leb (x .kind) 6)
+  fits-ordered : (eqb (x .strategy) 1 || eqb (x .strategy) 2) ≡ true → strategyFits v q ≡ (not (x .optional) && not (x .multivalued) && leb (x .kind) 6)
   unfolding fitsBy
-  fits-ordered h k = fits-by ∙ go (x .strategy) (x .optional) (x .multivalued) (leb (x .kind) 6) h k
+  fits-ordered h = fits-by ∙ go (x .strategy) (x .optional) (x .multivalued) (leb (x .kind) 6) h
     where
-      go : (n : ℕ) (o m d : Bool) → 1 ≤ n → n ≤ 2 → fitsBy n o m d v ≡ (not o && not m && d)
-      go n o m d h k = rw (ne-eqb n 4 (λ e. omega arith)) (and-true (not (eqb n 1 || eqb n 2) || (not o && not m && d)) ∙ one (eqb n 1) refl)
-        where
-          one : (t : Bool) → eqb n 1 ≡ t → (not (t || eqb n 2) || (not o && not m && d)) ≡ (not o && not m && d)
-          one true e = refl
-          one false e = rw (eq-eqb n 2 (omega (arith, eqb-false n 1 e)))
+      go : (n : ℕ) (o m d : Bool) → (eqb n 1 || eqb n 2) ≡ true → fitsBy n o m d v ≡ (not o && not m && d)
+      go n o m d h = rw (h, not-replace n h) (and-true (not o && not m && d))
 
-  fits-replace : x .strategy ≡ 4 → strategyFits v q ≡ (x .optional && not (x .multivalued) && v)
+  fits-replace : eqb (x .strategy) 4 ≡ true → strategyFits v q ≡ (x .optional && not (x .multivalued) && v)
   unfolding fitsBy
-  fits-replace h = fits-by ∙ go (x .strategy) (x .optional) (x .multivalued) (leb (x .kind) 6) h
+  fits-replace h = fits-by ∙ go (x .strategy) (x .optional) (x .multivalued) (leb (x .kind) 6) (eqb-true (x .strategy) 4 h)
     where
       go : (n : ℕ) (o m d : Bool) → n ≡ 4 → fitsBy n o m d v ≡ (o && not m && v)
       go n o m d h = rw h
 
-  pub fits-free : (x .strategy ≡ 1 → ⊥) → (x .strategy ≡ 2 → ⊥) → (x .strategy ≡ 4 → ⊥) → strategyFits v q ≡ true
+  pub fits-free : (eqb (x .strategy) 1 || eqb (x .strategy) 2) ≡ false → eqb (x .strategy) 4 ≡ false → strategyFits v q ≡ true
   unfolding fitsBy
-  fits-free h k l = fits-by ∙ go (x .strategy) (x .optional) (x .multivalued) (leb (x .kind) 6) h k l
+  fits-free h k = fits-by ∙ go (x .strategy) (x .optional) (x .multivalued) (leb (x .kind) 6) h k
     where
-      go : (n : ℕ) (o m d : Bool) → (n ≡ 1 → ⊥) → (n ≡ 2 → ⊥) → (n ≡ 4 → ⊥) → fitsBy n o m d v ≡ true
-      go n o m d h k l = rw (ne-eqb n 1 h, ne-eqb n 2 k, ne-eqb n 4 l)
+      go : (n : ℕ) (o m d : Bool) → (eqb n 1 || eqb n 2) ≡ false → eqb n 4 ≡ false → fitsBy n o m d v ≡ true
+      go n o m d h k = rw (h, k)
 
-  pub replace-many : x .strategy ≡ 4 → x .multivalued ≡ true → strategyFits v q ≡ false
+  pub replace-many : eqb (x .strategy) 4 ≡ true → x .multivalued ≡ true → strategyFits v q ≡ false
   replace-many h k =
       fits-replace h ∙ ap (λ (m : Bool). x .optional && not m && v) k ∙ ap (λ (b : Bool). b && v) (and-false (x .optional))
 
-  pub replace-optional : x .strategy ≡ 4 → x .multivalued ≡ false → x .optional ≡ true → strategyFits v q ≡ v
+  pub replace-optional : eqb (x .strategy) 4 ≡ true → x .multivalued ≡ false → x .optional ≡ true → strategyFits v q ≡ v
   replace-optional h k l = fits-replace h ∙ ap₂ (λ (o m : Bool). o && not m && v) l k
 
-  pub replace-mandatory : x .strategy ≡ 4 → x .optional ≡ false → strategyFits v q ≡ false
+  pub replace-mandatory : eqb (x .strategy) 4 ≡ true → x .optional ≡ false → strategyFits v q ≡ false
   replace-mandatory h l = fits-replace h ∙ ap (λ (o : Bool). o && not (x .multivalued) && v) l
 
-  pub ordered-is : 1 ≤ x .strategy → x .strategy ≤ 2 → (not (x .optional) && not (x .multivalued)) ≡ true → strategyFits v q ≡ (leb 1 (x .kind) && leb (x .kind) 6)
-  ordered-is h k l = fits-ordered h k ∙ ap (λ (b : Bool). b && leb (x .kind) 6) (l ∙ sym (ap (leb 1) (w .kind .number) ∙ from-one (q .kind)))
+  module _ (h : (eqb (x .strategy) 1 || eqb (x .strategy) 2) ≡ true) where
+    pub ordered-is : (not (x .optional) && not (x .multivalued)) ≡ true → strategyFits v q ≡ (leb 1 (x .kind) && leb (x .kind) 6)
+    ordered-is l = fits-ordered h ∙ ap (λ (b : Bool). b && leb (x .kind) 6) (l ∙ sym (ap (leb 1) (w .kind .number) ∙ from-one (q .kind)))
 
-  pub ordered-not : 1 ≤ x .strategy → x .strategy ≤ 2 → (not (x .optional) && not (x .multivalued)) ≡ false → strategyFits v q ≡ false
-  ordered-not h k l = fits-ordered h k ∙ ap (λ (b : Bool). b && leb (x .kind) 6) l
+    pub ordered-not : (not (x .optional) && not (x .multivalued)) ≡ false → strategyFits v q ≡ false
+    ordered-not l = fits-ordered h ∙ ap (λ (b : Bool). b && leb (x .kind) 6) l
 
 -- ---- the marked property, by numbers
 

@@ -64,11 +64,11 @@ fn read_parameter(s: &[u8], at: usize, kind: u8) -> KindRead
     };
     if parameter_fits(kind, n) {
         KindRead::OfKind {
-            kind: kind,
+            kind,
             size: n as u8,
             after: 0,
             sign: 0,
-            next: next,
+            next,
         }
     } else {
         KindRead::NoKind
@@ -107,7 +107,7 @@ fn read_decimal(s: &[u8], at: usize) -> KindRead
             size: total as u8,
             after: after as u8,
             sign: sign as u8,
-            next: next,
+            next,
         }
     } else {
         KindRead::NoKind
@@ -130,7 +130,7 @@ pub fn read_kind(s: &[u8], at: usize) -> KindRead
             size: 0,
             after: 0,
             sign: 0,
-            next: next,
+            next,
         },
         8 => read_parameter(s, next, 8),
         9 => read_parameter(s, next, 9),

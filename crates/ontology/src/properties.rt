@@ -80,19 +80,20 @@ pub fn read_property(table: &[u8], at: usize) -> PropertyRead
     let FlagAt::Flag(multivalued, after_multivalued) = read_flag(table, after_optional) else {
         return PropertyRead::NoProperty;
     };
-    let NumberAt::Number(strategy, next) = read_within(table, after_multivalued, 1, 7) else {
+    let NumberAt::Number(strategy, after_strategy) = read_within(table, after_multivalued, 1, 7)
+    else {
         return PropertyRead::NoProperty;
     };
     let p = PropertyAt {
-        start: start,
-        end: end,
-        kind: kind,
-        size: size,
-        after: after,
-        sign: sign,
-        optional: optional,
-        multivalued: multivalued,
+        start,
+        end,
+        kind,
+        size,
+        after,
+        sign,
+        optional,
+        multivalued,
         strategy: strategy as u8,
     };
-    PropertyRead::Property(p, next)
+    PropertyRead::Property(p, after_strategy)
 }

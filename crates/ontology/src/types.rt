@@ -12,7 +12,9 @@ use super::names::is_before;
 use super::names::read_name;
 use super::properties::PropertyAt;
 use super::properties::PropertyRead;
+use super::properties::is_extreme;
 use super::properties::is_max;
+use super::properties::is_replace;
 use super::properties::read_property;
 use packed::read::NumberAt;
 use packed::read::TextAt;
@@ -88,7 +90,7 @@ pub fn no_type() -> TypeIndex {
         definition: DefinitionVersion(0),
         mark: 0,
         count: 0,
-        properties: properties,
+        properties,
     }
 }
 
@@ -108,16 +110,16 @@ fn read_head(table: &[u8], at: usize) -> HeadRead
     let NumberAt::Number(mark, after_mark) = read_number(table, after_definition) else {
         return HeadRead::NoHead;
     };
-    let NumberAt::Number(count, next) = read_within(table, after_mark, 1, 32) else {
+    let NumberAt::Number(count, after_count) = read_within(table, after_mark, 1, 32) else {
         return HeadRead::NoHead;
     };
     HeadRead::Head {
-        start: start,
-        end: end,
+        start,
+        end,
         definition: DefinitionVersion(definition),
         mark: mark as usize,
         count: count as usize,
-        next: next,
+        next: after_count,
     }
 }
 
@@ -166,23 +168,19 @@ fn is_mandatory_single(p: PropertyAt) -> bool
 fn strategy_fits(p: PropertyAt, versioned: bool) -> bool
     ensures { λ r. ⌜ ((s : List ℕ) (q : Property) → PropertyIs s q p → r ≡ strategyFits versioned q) ⌝ }
 {
-    let strategy = p.strategy;
-    match strategy {
-        1 | 2 => {
-            if is_mandatory_single(p) {
-                is_ordered(p.kind)
-            } else {
-                false
-            }
+    if is_extreme(p) {
+        if is_mandatory_single(p) {
+            return is_ordered(p.kind);
         }
-        4 => {
-            if p.multivalued {
-                return false;
-            }
-            if p.optional { versioned } else { false }
-        }
-        _ => true,
+        return false;
     }
+    if is_replace(p) {
+        if p.multivalued {
+            return false;
+        }
+        return if p.optional { versioned } else { false };
+    }
+    true
 }
 
 fn all_fit(x: TypeIndex) -> bool
@@ -266,12 +264,12 @@ pub fn read_type(table: &[u8], at: usize) -> TypeRead
     }
     let properties = all.properties;
     let x = TypeIndex {
-        start: start,
-        end: end,
-        definition: definition,
-        mark: mark,
-        count: count,
-        properties: properties,
+        start,
+        end,
+        definition,
+        mark,
+        count,
+        properties,
     };
     r.index = x;
     r.next = all.next;
