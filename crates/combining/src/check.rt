@@ -54,14 +54,13 @@ fn write_lone(event: &[u8], e: EventIndex, version: EventVersion, out: &mut [u8]
     requires { ⌜ LoneRoom (now event) e (version .0) (length (now out)) ⌝ }
     ensures { λ r. ⌜ ((h : Event) → EventIs (now (event .entry)) h e → Wrote (now (out .entry)) 0 (loneBytes h (version .0)) (now (out .exit)) r) ⌝ }
 {
-    let first = e.first;
     let presence = e.presence;
-    let after_head = copy_part(event, 0, first - number_size(presence), out, 0);
+    let after_head = copy_part(event, 0, e.after_presence - number_size(presence), out, 0);
     let after_count = write_number(out, after_head, 1);
     let after_version = write_number(out, after_count, version.0);
     let after_presence = write_number(out, after_version, presence);
     let after_differ = write_number(out, after_presence, 0);
-    copy_part(event, first, event.len(), out, after_differ)
+    copy_part(event, e.after_presence, event.len(), out, after_differ)
 }
 
 // The dossier of an event, written at the front of `out`.

@@ -194,7 +194,7 @@ module _ (s : List ℕ) (version : EventVersion) (presence differ first : ℕ) (
         reads : readSnapshot s ≡ got it (drop (r .next) s)
         reads = n .is ∙ rw (found .is, small)
 
-        snapshot-found : SnapshotIs s it (record { ok = true; next = r .next; version = version; presence = presence; differ = differ; first = first; objects = r .objects; sets = r .sets })
+        snapshot-found : SnapshotIs s it (record { ok = true; next = r .next; version = version; presence = presence; differ = differ; «after_differ» = first; objects = r .objects; sets = r .sets })
         snapshot-found = record {
           is = reads;
           bytes = ap (λ (k : ℕ). take k s) (sym (sub-zero (r .next))) ∙ stretch s (snapshotBytes it) 0 (r .next) (omega arith) (found .stop .within) (snapshot-was s it (drop (r .next) s) reads .0) .0;
@@ -208,6 +208,6 @@ module _ (s : List ℕ) (version : EventVersion) (presence differ first : ℕ) (
           sets = subst (λ (l : List (List Text)). SetsAre s l (r .sets)) (sym (cells .sets)) (found .stop .stands);
         }
 
-        pub snapshot-some : SnapshotReads (readSnapshot s) s (record { ok = true; next = r .next; version = version; presence = presence; differ = differ; first = first; objects = r .objects; sets = r .sets })
+        pub snapshot-some : SnapshotReads (readSnapshot s) s (record { ok = true; next = r .next; version = version; presence = presence; differ = differ; «after_differ» = first; objects = r .objects; sets = r .sets })
         unfolding SnapshotReads
         snapshot-some = rw reads (refl, snapshot-found)

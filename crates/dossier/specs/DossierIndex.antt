@@ -54,8 +54,8 @@ pub record SnapshotIs (s : List ℕ) (x : Snapshot) (i : SnapshotIndex) : Type 0
   pub version : i .version .0 ≡ x .version
   pub presence : i .presence ≡ bitNumber (map presenceBit (map held (x .cells)))
   pub differ : i .differ ≡ bitNumber (map differBit (x .cells))
-  pub body : part s (i .first) (i .next) ≡ setsBytes (map held (x .cells))
-  pub order : i .first ≤ i .next
+  pub body : part s (i .«after_differ») (i .next) ≡ setsBytes (map held (x .cells))
+  pub order : i .«after_differ» ≤ i .next
   pub objects : i .objects ≡ sizes (x .cells)
   pub sets : SetsAre s (map held (x .cells)) (i .sets)
 

@@ -17,14 +17,14 @@ use packed::read::NumberAt;
 use packed::read::read_number;
 use values::versions::EventVersion;
 
-// Where each thing of a snapshot stands, from its first byte; `first` is the position of the first set's count, and `next` that of what follows.
+// Where each thing of a snapshot stands, from its first byte; `next` is the position of what follows.
 pub struct SnapshotIndex {
     pub ok: bool,
     pub next: usize,
     pub version: EventVersion,
     pub presence: u64,
     pub differ: u64,
-    pub first: usize,
+    pub after_differ: usize,
     pub objects: usize,
     pub sets: [SetAt; 32],
 }
@@ -43,7 +43,7 @@ enum NumbersAt {
         version: EventVersion,
         presence: u64,
         differ: u64,
-        first: usize,
+        after_differ: usize,
     },
     NoNumbers,
 }
@@ -89,7 +89,7 @@ fn read_numbers(s: &[u8]) -> NumbersAt
             version: EventVersion(version),
             presence,
             differ,
-            first: after_differ,
+            after_differ,
         }
     } else {
         NumbersAt::NoNumbers
@@ -128,7 +128,7 @@ pub fn no_snapshot() -> SnapshotIndex
         version: EventVersion(0),
         presence: 0,
         differ: 0,
-        first: 0,
+        after_differ: 0,
         objects: 0,
         sets: [none; 32],
     }
@@ -142,12 +142,12 @@ pub fn read_snapshot(s: &[u8]) -> SnapshotIndex
         version,
         presence,
         differ,
-        first,
+        after_differ,
     } = read_numbers(s)
     else {
         return no_snapshot();
     };
-    let found = read_sets(s, first, presence);
+    let found = read_sets(s, after_differ, presence);
     if !found.ok {
         return no_snapshot();
     }
@@ -161,7 +161,7 @@ pub fn read_snapshot(s: &[u8]) -> SnapshotIndex
         version,
         presence,
         differ,
-        first,
+        after_differ,
         objects: found.objects,
         sets,
     }

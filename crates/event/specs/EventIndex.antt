@@ -120,9 +120,9 @@ HeadReads p s NoHead = p ≡ fail
 pub record EventIs (s : List ℕ) (e : Event) (x : EventIndex) : Type 0 where
   pub head : HeadIs s (e .type) (e .source) (e .parents) (x .head)
   pub presence : x .presence ≡ bitNumber (map presenceBit (e .sets))
-  pub front : take (x .first) s ≡ headBytes (e .type) (e .source) (e .parents) ++ number (x .presence)
-  pub rest : drop (x .first) s ≡ setsBytes (e .sets)
-  pub within : x .first ≤ length s
+  pub front : take (x .«after_presence») s ≡ headBytes (e .type) (e .source) (e .parents) ++ number (x .presence)
+  pub rest : drop (x .«after_presence») s ≡ setsBytes (e .sets)
+  pub within : x .«after_presence» ≤ length s
   pub objects : x .objects ≡ objectCount (e .sets)
   pub sets : SetsAre s (e .sets) (x .sets)
 

@@ -43,10 +43,10 @@ pub fn skip_sets(s: &[u8], at: usize, count: u32) -> usize
     let mut pos = at;
     let mut left = count;
     while 0 < left {
-        let NumberAt::Number(values, start) = read_number(s, pos) else {
+        let NumberAt::Number(values, after_count) = read_number(s, pos) else {
             return pos;
         };
-        pos = skip_texts(s, start, values as usize);
+        pos = skip_texts(s, after_count, values as usize);
         left -= 1;
     }
     pos
@@ -71,11 +71,11 @@ pub fn find_value(event: &[u8], x: EventIndex, place: usize, index: usize) -> Va
     if set.count <= index {
         return ValueAt::NoValue;
     }
-    let at = skip_sets(event, x.first, sets_below(x.presence, place));
-    let NumberAt::Number(_, start) = read_number(event, at) else {
+    let at = skip_sets(event, x.after_presence, sets_below(x.presence, place));
+    let NumberAt::Number(_, after_count) = read_number(event, at) else {
         return ValueAt::NoValue;
     };
-    let to = skip_texts(event, start, index);
+    let to = skip_texts(event, after_count, index);
     let TextAt::Text(value, end) = read_text(event, to) else {
         return ValueAt::NoValue;
     };

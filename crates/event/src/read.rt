@@ -34,12 +34,12 @@ pub enum HeadRead {
     NoHead,
 }
 
-// Where each thing of an event stands; `first` is the position of the first set's count.
+// Where each thing of an event stands.
 pub struct EventIndex {
     pub ok: bool,
     pub head: HeadAt,
     pub presence: u64,
-    pub first: usize,
+    pub after_presence: usize,
     pub objects: usize,
     pub sets: [SetAt; 32],
 }
@@ -72,7 +72,7 @@ fn is_source(v: &[u8]) -> bool
 fn read_parents(s: &[u8], at: usize, most: usize) -> ParentsRead
     ensures { λ r. ⌜ ParentsReads (readParents most (drop at (now (s .entry)))) (now (s .entry)) r ⌝ }
 {
-    let NumberAt::Number(number, start) = read_number(s, at) else {
+    let NumberAt::Number(number, after_count) = read_number(s, at) else {
         return ParentsRead::NoParents;
     };
     let count = number as usize;
@@ -81,16 +81,16 @@ fn read_parents(s: &[u8], at: usize, most: usize) -> ParentsRead
     }
     if count == 0 {
         return ParentsRead::Parents(SetAt {
-            start,
-            end: start,
+            start: after_count,
+            end: after_count,
             count,
         });
     }
-    if s.len() - start < 20 {
+    if s.len() - after_count < 20 {
         return ParentsRead::NoParents;
     }
-    let mut from = start;
-    let mut to = start + 20;
+    let mut from = after_count;
+    let mut to = after_count + 20;
     let mut left = count - 1;
     while 0 < left {
         if s.len() - to < 20 {
@@ -104,7 +104,7 @@ fn read_parents(s: &[u8], at: usize, most: usize) -> ParentsRead
         left -= 1;
     }
     ParentsRead::Parents(SetAt {
-        start,
+        start: after_count,
         end: to,
         count,
     })
@@ -166,7 +166,7 @@ pub fn no_event() -> EventIndex
         ok: false,
         head: no_head(),
         presence: 0,
-        first: 0,
+        after_presence: 0,
         objects: 0,
         sets: [none; 32],
     }
@@ -180,13 +180,13 @@ pub fn read_event(s: &[u8], most_parents: usize, most_objects: usize) -> EventIn
         return no_event();
     };
     let parents = head.parents;
-    let NumberAt::Number(presence, first) = read_number(s, parents.end) else {
+    let NumberAt::Number(presence, after_presence) = read_number(s, parents.end) else {
         return no_event();
     };
     if 4294967296 <= presence {
         return no_event();
     }
-    let found = read_sets(s, first, presence);
+    let found = read_sets(s, after_presence, presence);
     if !found.ok {
         return no_event();
     }
@@ -201,7 +201,7 @@ pub fn read_event(s: &[u8], most_parents: usize, most_objects: usize) -> EventIn
         ok: true,
         head,
         presence,
-        first,
+        after_presence,
         objects: found.objects,
         sets,
     }

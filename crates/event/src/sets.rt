@@ -37,13 +37,13 @@ pub struct SetsRead {
 fn read_set(s: &[u8], at: usize) -> SetRead
     ensures { λ r. ⌜ SetReads (readSet (drop at (now (s .entry)))) (now (s .entry)) r ⌝ }
 {
-    let NumberAt::Number(count, start) = read_number(s, at) else {
+    let NumberAt::Number(count, after_count) = read_number(s, at) else {
         return SetRead::NoSet;
     };
     if count == 0 {
         return SetRead::NoSet;
     }
-    let TextAt::Text(first, first_end) = read_text(s, start) else {
+    let TextAt::Text(first, first_end) = read_text(s, after_count) else {
         return SetRead::NoSet;
     };
     let mut from = first;
@@ -61,7 +61,7 @@ fn read_set(s: &[u8], at: usize) -> SetRead
         left -= 1;
     }
     SetRead::Found(SetAt {
-        start,
+        start: after_count,
         end: to,
         count: count as usize,
     })

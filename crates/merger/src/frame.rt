@@ -33,25 +33,25 @@ fn no_batch() -> BatchIndex
     }
 }
 
-// The texts of a batch, `count` of them from `first` on, up to its exact end.
-fn read_texts(batch: &[u8], first: usize, count: usize) -> BatchIndex
-    requires { ⌜ (first ≤ length (now batch)) × (1 ≤ count) × (count ≤ 16) ⌝ }
-    ensures { λ r. ⌜ BatchReads (whole (times readText count (drop first (now (batch .entry))))) (now (batch .entry)) r ⌝ }
+// The texts of a batch, `count` of them from `at` on, up to its exact end.
+fn read_texts(batch: &[u8], at: usize, count: usize) -> BatchIndex
+    requires { ⌜ (at ≤ length (now batch)) × (1 ≤ count) × (count ≤ 16) ⌝ }
+    ensures { λ r. ⌜ BatchReads (whole (times readText count (drop at (now (batch .entry))))) (now (batch .entry)) r ⌝ }
 {
     let mut x = no_batch();
-    let mut at = first;
+    let mut next = at;
     let mut i: usize = 0;
     while i < count {
-        let TextAt::Text(start, end) = read_text(batch, at) else {
+        let TextAt::Text(start, end) = read_text(batch, next) else {
             return no_batch();
         };
         x.starts[i] = start;
         x.ends[i] = end;
-        at = end;
+        next = end;
         i += 1;
     }
     x.count = count;
-    x.ok = at == batch.len();
+    x.ok = next == batch.len();
     x
 }
 
@@ -59,7 +59,7 @@ fn read_texts(batch: &[u8], first: usize, count: usize) -> BatchIndex
 pub fn read_batch(batch: &[u8]) -> BatchIndex
     ensures { λ r. ⌜ BatchReads (batchOf (now (batch .entry))) (now (batch .entry)) r ⌝ }
 {
-    let NumberAt::Number(count, first) = read_number(batch, 0) else {
+    let NumberAt::Number(count, after_count) = read_number(batch, 0) else {
         return no_batch();
     };
     if count < 1 {
@@ -68,7 +68,7 @@ pub fn read_batch(batch: &[u8]) -> BatchIndex
     if 16 < count {
         return no_batch();
     }
-    read_texts(batch, first, count as usize)
+    read_texts(batch, after_count, count as usize)
 }
 
 // The bytes of the i-th event; nothing where the index is not of these bytes.

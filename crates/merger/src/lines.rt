@@ -27,9 +27,9 @@ fn write_decimal(n: u64, out: &mut [u8], at: usize) -> usize
         out[at] = 48 + n as u8;
         return at + 1;
     }
-    let last = write_decimal(n / 10, out, at);
-    out[last] = 48 + (n % 10) as u8;
-    last + 1
+    let after_tenth = write_decimal(n / 10, out, at);
+    out[after_tenth] = 48 + (n % 10) as u8;
+    after_tenth + 1
 }
 
 fn hex_digit(n: u8) -> u8

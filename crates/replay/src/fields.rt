@@ -15,8 +15,8 @@ pub fn read_field(script: &[u8], at: usize) -> Field {
     match read_text(script, at) {
         TextAt::Text(start, end) => Field {
             ok: true,
-            start: start,
-            end: end,
+            start,
+            end,
         },
         TextAt::NoText => Field {
             ok: false,
@@ -48,7 +48,7 @@ pub fn read_count(script: &[u8], at: usize) -> Count {
         NumberAt::Number(n, end) => Count {
             ok: true,
             n: n as usize,
-            end: end,
+            end,
         },
         NumberAt::NoNumber => Count {
             ok: false,

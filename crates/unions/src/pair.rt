@@ -101,8 +101,8 @@ fn write_runs(form: Form, a: &[u8], b: &[u8], out: &mut [u8], at: usize) -> usiz
     let mut next = at;
     loop {
         let Step::Next(left, x, y) = next_of(form, a, i, b, j) else {
-            let middle = copy_part(a, i, a.len(), out, next);
-            return copy_part(b, j, b.len(), out, middle);
+            let after_left = copy_part(a, i, a.len(), out, next);
+            return copy_part(b, j, b.len(), out, after_left);
         };
         next = copy_head(left, a, i, x, b, j, y, out, next);
         i = x;

@@ -31,8 +31,8 @@ skip-sets-requires c κs = search needs
 read-number-requires : tie.Need-read-number-requires
 read-number-requires c κs = search needs
 
-enum-known-start : tie.Need-enum-known-start
-enum-known-start c = search needs
+enum-known-after-count : tie.Need-enum-known-after-count
+enum-known-after-count c = search needs
 
 enum-told : tie.Need-enum-told
 enum-told c = search needs
@@ -62,7 +62,7 @@ returns-4 c = λ e w.
     let p = c .before .before .before .before .before .before .before .before .before .before .before .before .before .if1 .left in
     let n = w .sets .each (a .place) (omega (arith, p)) .count in
     absurd (value-no-text _ (omega arith) e _ w (a .place) (a .index) (omega (arith, p)) (omega (arith, n, c .before .before .before .before .before .before .before .before .before .before .if2 .left)) _ _ (c .before .before .before .before .before .before .before .before .before .sets-below .ensures) (c .before .before .before .before .before .before .before .before .skip-sets .ensures)
-    _ _ _ (number-stops _ _ _ _ (sym (c .before .before .before .before .before .before .before .read-number .ensures) ∙ c .before .before .before .before .before .start .given .1)) (c .before .before .before .skip-texts .ensures)
+    _ _ _ (number-stops _ _ _ _ (sym (c .before .before .before .before .before .before .before .read-number .ensures) ∙ c .before .before .before .before .before .after-count .given .1)) (c .before .before .before .skip-texts .ensures)
     (text-none _ _ (sym (c .before .before .read-text .ensures) ∙ c .enum-told2 .given .1)))
 
 returns-5 : tie.Need-returns-5
@@ -71,7 +71,7 @@ returns-5 c = λ e w.
     let p = c .before .before .before .before .before .before .before .before .before .before .before .before .before .before .if1 .left in
     let n = w .sets .each (a .place) (omega (arith, p)) .count in
     value-stands _ (omega arith) e _ w (a .place) (a .index) (omega (arith, p)) (omega (arith, n, c .before .before .before .before .before .before .before .before .before .before .before .if2 .left)) _ _ (c .before .before .before .before .before .before .before .before .before .before .sets-below .ensures) (c .before .before .before .before .before .before .before .before .before .skip-sets .ensures)
-    _ _ _ (number-stops _ _ _ _ (sym (c .before .before .before .before .before .before .before .before .read-number .ensures) ∙ c .before .before .before .before .before .before .start .given .1)) (c .before .before .before .before .skip-texts .ensures)
+    _ _ _ (number-stops _ _ _ _ (sym (c .before .before .before .before .before .before .before .before .read-number .ensures) ∙ c .before .before .before .before .before .before .after-count .given .1)) (c .before .before .before .before .skip-texts .ensures)
     _ _ (text-stops _ _ _ _ (sym (c .before .before .before .read-text .ensures) ∙ c .before .value .given .1))
 
 pub find-value-spec : {M : Type 1} → statement M
@@ -85,7 +85,7 @@ find-value-spec =
     sets-below-requires
     skip-sets-requires
     read-number-requires
-    enum-known-start
+    enum-known-after-count
     enum-told
     returns-3
     skip-texts-requires

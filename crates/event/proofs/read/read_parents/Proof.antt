@@ -14,11 +14,11 @@ use Rattle.event.proofs.read.read_parents.Statement.{statement}
 use Rattle.event.proofs.read.read_parents.Tie as tie
 
 abbrev Inv-loop : tie.InvT-loop
-Inv-loop s at most number start count from₀ to₀ left₀ from to left =
+Inv-loop s at most number after-count count from₀ to₀ left₀ from to left =
     (from ≤ to) × (to ≤ length s) × Onward (readBytes 20) (readParents most (drop at s)) (part s from to) left (drop to s)
 
 abbrev μ-loop : tie.MeasureT-loop
-μ-loop s at most number start count from₀ to₀ left₀ from to left = left
+μ-loop s at most number after-count count from₀ to₀ left₀ from to left = left
 
 read-number-requires : tie.Need-read-number-requires Inv-loop μ-loop
 read-number-requires c κs = search needs
@@ -46,9 +46,9 @@ sub-if3 c = number-stops _ _ _ _ (sym (c .before .before .before .before .before
 returns-4 : tie.Need-returns-4 Inv-loop μ-loop
 returns-4 c =
     let s = c .before .before .before .before .before .before .before .before .args .s .now in
-    let start = c .before .before .before .before .number .given .0 .1 .0 in
+    let after-count = c .before .before .before .before .number .given .0 .1 .0 in
     let n = number-stops _ _ _ _ (sym (c .before .before .before .before .before .before .read-number .ensures) ∙ c .before .before .before .before .number .given .1) in
-    parents-some _ _ _ _ (n .is) (c .before .before .if1 .left) ∙ risen-bad _ _ _ (omega (arith, c .before .if2 .left)) (bytes-short s start 20 (c .if3 .taken))
+    parents-some _ _ _ _ (n .is) (c .before .before .if1 .left) ∙ risen-bad _ _ _ (omega (arith, c .before .if2 .left)) (bytes-short s after-count 20 (c .if3 .taken))
 
 add-to : tie.Need-add-to Inv-loop μ-loop
 add-to c = search needs
@@ -59,10 +59,10 @@ sub-left c = search needs
 loop-holds : tie.Need-loop-holds Inv-loop μ-loop
 loop-holds c =
     let s = c .before .before .before .before .before .before .before .before .args .s .now in
-    let start = c .before .before .before .before .number .given .0 .1 .0 in
+    let after-count = c .before .before .before .before .number .given .0 .1 .0 in
     let n = number-stops _ _ _ _ (sym (c .before .before .before .before .before .before .read-number .ensures) ∙ c .before .before .before .before .number .given .1) in
     let k = c .if3 .left in
-    (omega arith, omega (arith, n .within, k), onward-first _ _ _ _ _ _ (parents-some _ _ _ _ (n .is) (c .before .before .if1 .left)) (omega (arith, c .before .if2 .left)) (bytes-at s start 20 (omega (arith, n .within, k))))
+    (omega arith, omega (arith, n .within, k), onward-first _ _ _ _ _ _ (parents-some _ _ _ _ (n .is) (c .before .before .if1 .left)) (omega (arith, c .before .if2 .left)) (bytes-at s after-count 20 (omega (arith, n .within, k))))
 
 sub-if4 : tie.Need-sub-if4 Inv-loop μ-loop
 sub-if4 c = search needs

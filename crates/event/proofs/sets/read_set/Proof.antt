@@ -13,11 +13,11 @@ use Rattle.event.proofs.sets.read_set.Statement.{statement}
 use Rattle.event.proofs.sets.read_set.Tie as tie
 
 abbrev Inv-loop : tie.InvT-loop
-Inv-loop s at count start first first-end from₀ to₀ left₀ from to left =
+Inv-loop s at count after-count first first-end from₀ to₀ left₀ from to left =
     (from ≤ to) × (to ≤ length s) × Onward readText (readSet (drop at s)) (part s from to) left (drop to s)
 
 abbrev μ-loop : tie.MeasureT-loop
-μ-loop s at count start first first-end from₀ to₀ left₀ from to left = left
+μ-loop s at count after-count first first-end from₀ to₀ left₀ from to left = left
 
 read-number-requires : tie.Need-read-number-requires Inv-loop μ-loop
 read-number-requires c κs = search needs

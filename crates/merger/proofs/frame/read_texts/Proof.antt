@@ -15,10 +15,10 @@ use Rattle.merger.proofs.frame.no_batch.Reads as no-batch-reads
 use Rattle.packed.proofs.read.read_text.Reads as read-text-reads
 
 abbrev Inv-loop : tie.InvT-loop
-Inv-loop batch first count x₀ at₀ i₀ x at i = Passed (times readText count (drop first batch)) batch (x .starts) (x .ends) count at i
+Inv-loop batch at count x₀ next₀ i₀ x next i = Passed (times readText count (drop at batch)) batch (x .starts) (x .ends) count next i
 
 abbrev μ-loop : tie.MeasureT-loop
-μ-loop batch first count x₀ at₀ i₀ x at i = count - i
+μ-loop batch at count x₀ next₀ i₀ x next i = count - i
 
 no-batch-requires : tie.Need-no-batch-requires Inv-loop μ-loop
 no-batch-requires c κs = search needs
