@@ -227,12 +227,14 @@ module _ {a b : List ℕ} {i j : SnapshotIndex} {found : Places} {ty : EventType
   both-length = ap length (sym parts) ∙ simp length-append
 
   pub wrote-both :
-      {l l₁ l₂ l₃ l₄ : List ℕ} {at second third first next m n : ℕ} → m ≡ bitNumber (map bitOf (found .present)) → n ≡ bitNumber (map bitOf (found .marked)) →
-      Wrote l at (number (i .version .0)) l₁ second → Wrote l₁ second (number m) l₂ third → Wrote l₂ third (number n) l₃ first → Wrote l₃ first kept l₄ next →
+      {l l₁ l₂ l₃ l₄ : List ℕ} {at after-version after-presence after-differ next m n : ℕ} →
+      m ≡ bitNumber (map bitOf (found .present)) → n ≡ bitNumber (map bitOf (found .marked)) →
+      Wrote l at (number (i .version .0)) l₁ after-version → Wrote l₁ after-version (number m) l₂ after-presence →
+      Wrote l₂ after-presence (number n) l₃ after-differ → Wrote l₃ after-differ kept l₄ next →
       Wrote l at (snapshotBytes (joinSnapshots (view ty) left right)) l₄ next
-  wrote-both {l} {l₁} {l₂} {l₃} {l₄} {at} {second} {third} {first} {next} {m} {n} e f o p q r =
-      let p′ = subst (λ (k : ℕ). Wrote l₁ second (number k) l₂ third) e p in
-      let q′ = subst (λ (k : ℕ). Wrote l₂ third (number k) l₃ first) f q in
+  wrote-both {l} {l₁} {l₂} {l₃} {l₄} {at} {after-version} {after-presence} {after-differ} {next} {m} {n} e f o p q r =
+      let p′ = subst (λ (k : ℕ). Wrote l₁ after-version (number k) l₂ after-presence) e p in
+      let q′ = subst (λ (k : ℕ). Wrote l₂ after-presence (number k) l₃ after-differ) f q in
       subst (λ (z : List ℕ). Wrote l at z l₄ next) parts (wrote-then (wrote-then (wrote-then o p′) q′) r)
 
 -- ---- the sets, place by place

@@ -125,7 +125,8 @@ module _ (bytes : List ℕ) (x : EventIndex) (e : Event) (w : EventIs bytes e x)
   head-part = front (x .«after_presence» - length (number (x .presence)) - 0) (omega (arith, head-length))
     where
       front : (k : ℕ) → k ≡ length head → take k bytes ≡ head
-      front k q = cut bytes k (x .«after_presence») (omega (arith, head-length)) ∙ (ap (take k) (w .front) ∙ take-at head (number (x .presence)) k (sym q))
+      front k q =
+          cut bytes k (x .«after_presence») (omega (arith, head-length)) ∙ (ap (take k) (w .front) ∙ take-at head (number (x .presence)) k (sym q))
         where
           cut : (l : List ℕ) (k n : ℕ) → k ≤ n → take k l ≡ take k (take n l)
           cut l zero n h = refl
@@ -134,7 +135,9 @@ module _ (bytes : List ℕ) (x : EventIndex) (e : Event) (w : EventIs bytes e x)
           cut (b ∷ l) (suc k) (suc n) h = ap (λ (m : List ℕ). b ∷ m) (cut l k n (omega arith))
 
   sets-part : part bytes (x .«after_presence») (length bytes) ≡ setsBytes (e .sets)
-  sets-part = take-all (length bytes - x .«after_presence») (drop (x .«after_presence») bytes) (omega (arith, length-drop (x .«after_presence») bytes)) ∙ w .rest
+  sets-part =
+      take-all (length bytes - x .«after_presence») (drop (x .«after_presence») bytes) (omega (arith, length-drop (x .«after_presence») bytes))
+      ∙ w .rest
 
   -- their lengths, one after the other
   lone-length : (version : ℕ) → length (loneBytes e version) ≡ length head + length (number 1) + length (number version) + length (number (x .presence)) + length (number 0) + length (setsBytes (e .sets))
@@ -146,11 +149,14 @@ module _ (bytes : List ℕ) (x : EventIndex) (e : Event) (w : EventIs bytes e x)
     head-is : part bytes 0 (x .«after_presence» - n) ≡ head
     head-is = ap (λ (k : ℕ). part bytes 0 (x .«after_presence» - k)) size ∙ head-part
 
-    pub head-there : (version room : ℕ) → length (loneBytes e version) ≤ room → (0 ≤ x .«after_presence» - n) × (x .«after_presence» - n ≤ length bytes) × (0 + length (part bytes 0 (x .«after_presence» - n)) ≤ room)
+    pub head-there :
+        (version room : ℕ) → length (loneBytes e version) ≤ room →
+        (0 ≤ x .«after_presence» - n) × (x .«after_presence» - n ≤ length bytes) × (0 + length (part bytes 0 (x .«after_presence» - n)) ≤ room)
     head-there version room h = (omega arith, omega (arith, w .within), omega (arith, ap length head-is, lone-length version))
 
     -- each part has its room after those before it
-    module _ (version : ℕ) {l l₁ : List ℕ} {a : ℕ} (room : length (loneBytes e version) ≤ length l) (p : Wrote l 0 (part bytes 0 (x .«after_presence» - n)) l₁ a) where
+    module _ (version : ℕ) {l l₁ : List ℕ} {a : ℕ} (room : length (loneBytes e version) ≤ length l)
+        (p : Wrote l 0 (part bytes 0 (x .«after_presence» - n)) l₁ a) where
       after-head : (a ≡ length head) × (length l₁ ≡ length l)
       after-head = (omega (arith, p .after, ap length head-is), wrote-length p)
 
@@ -178,13 +184,15 @@ module _ (bytes : List ℕ) (x : EventIndex) (e : Event) (w : EventIs bytes e x)
             pub differ-room : d + length (number 0) ≤ length l₄
             differ-room = omega (arith, room, lone-length version, after-presence)
 
-            pub sets-room : {l₅ : List ℕ} {f : ℕ} → Wrote l₄ d (number 0) l₅ f → f + length (part bytes (x .«after_presence») (length bytes)) ≤ length l₅
+            pub sets-room :
+                {l₅ : List ℕ} {f : ℕ} → Wrote l₄ d (number 0) l₅ f → f + length (part bytes (x .«after_presence») (length bytes)) ≤ length l₅
             sets-room u = omega (arith, room, lone-length version, after-presence, u .after, wrote-length u, ap length sets-part)
 
     pub wrote-lone :
         (version : ℕ) {l l₁ l₂ l₃ l₄ l₅ l₆ : List ℕ} {a b c d f g : ℕ} →
         Wrote l 0 (part bytes 0 (x .«after_presence» - n)) l₁ a → Wrote l₁ a (number 1) l₂ b → Wrote l₂ b (number version) l₃ c →
-        Wrote l₃ c (number (x .presence)) l₄ d → Wrote l₄ d (number 0) l₅ f → Wrote l₅ f (part bytes (x .«after_presence») (length bytes)) l₆ g →
+        Wrote l₃ c (number (x .presence)) l₄ d → Wrote l₄ d (number 0) l₅ f →
+        Wrote l₅ f (part bytes (x .«after_presence») (length bytes)) l₆ g →
         Wrote l 0 (loneBytes e version) l₆ g
     unfolding loneBytes
     wrote-lone version {l} {l₁} {l₂} {l₃} {l₄} {l₅} {l₆} {a} {b} {c} {d} {f} {g} p q r s u v =

@@ -43,41 +43,47 @@ module _ (s : List ℕ) (small : length s < 2 ^ 64) (at : ℕ) (within : at ≤ 
   pub skip-no-version : readNumber (drop at s) ≡ fail → ⊥
   skip-no-version e = number-there s small at within (x .version) _ (written .version) version-here e
 
-  module _ (version second : ℕ) (a : NumberStops s at version second) where
-    after-version : (version ≡ x .version) × Skipped s at (number (x .version)) (number (presenceOf x) ++ (number (differOf x) ++ (setsBytes sets ++ t))) second
-    after-version = number-next s small at within (x .version) _ (written .version) version-here version second a
+  module _ (version after-version : ℕ) (a : NumberStops s at version after-version) where
+    version-passed :
+        (version ≡ x .version) × Skipped s at (number (x .version)) (number (presenceOf x) ++ (number (differOf x) ++ (setsBytes sets ++ t))) after-version
+    version-passed = number-next s small at within (x .version) _ (written .version) version-here version after-version a
 
-    pub skip-no-presence : readNumber (drop second s) ≡ fail → ⊥
-    skip-no-presence e = number-there s small second (a .within) (presenceOf x) _ (omega (arith, presence-low)) (after-version .1 .rest) e
+    pub skip-no-presence : readNumber (drop after-version s) ≡ fail → ⊥
+    skip-no-presence e = number-there s small after-version (a .within) (presenceOf x) _ (omega (arith, presence-low)) (version-passed .1 .rest) e
 
-    module _ (presence third : ℕ) (b : NumberStops s second presence third) where
-      after-presence : (presence ≡ presenceOf x) × Skipped s second (number (presenceOf x)) (number (differOf x) ++ (setsBytes sets ++ t)) third
-      after-presence = number-next s small second (a .within) (presenceOf x) _ (omega (arith, presence-low)) (after-version .1 .rest) presence third b
+    module _ (presence after-presence : ℕ) (b : NumberStops s after-version presence after-presence) where
+      presence-passed :
+          (presence ≡ presenceOf x) × Skipped s after-version (number (presenceOf x)) (number (differOf x) ++ (setsBytes sets ++ t)) after-presence
+      presence-passed =
+          number-next s small after-version (a .within) (presenceOf x) _ (omega (arith, presence-low)) (version-passed .1 .rest) presence after-presence b
 
-      pub skip-no-differ : readNumber (drop third s) ≡ fail → ⊥
-      skip-no-differ e = number-there s small third (b .within) (differOf x) _ (omega (arith, differ-below x written)) (after-presence .1 .rest) e
+      pub skip-no-differ : readNumber (drop after-presence s) ≡ fail → ⊥
+      skip-no-differ e = number-there s small after-presence (b .within) (differOf x) _ (omega (arith, differ-below x written)) (presence-passed .1 .rest) e
 
-      module _ (differ first : ℕ) (c : NumberStops s third differ first) where
-        after-differ : (differ ≡ differOf x) × Skipped s third (number (differOf x)) (setsBytes sets ++ t) first
-        after-differ = number-next s small third (b .within) (differOf x) _ (omega (arith, differ-below x written)) (after-presence .1 .rest) differ first c
+      module _ (differ after-differ : ℕ) (c : NumberStops s after-presence differ after-differ) where
+        differ-passed : (differ ≡ differOf x) × Skipped s after-presence (number (differOf x)) (setsBytes sets ++ t) after-differ
+        differ-passed =
+            number-next s small after-presence (b .within) (differOf x) _ (omega (arith, differ-below x written)) (presence-passed .1 .rest)
+            differ after-differ c
 
         -- as many sets as the presence number has ones
         sets-present : ones (presence % 4294967296) ≡ present sets
         sets-present =
-            ap (λ (n : ℕ). ones (n % 4294967296)) (after-presence .0) ∙ ones-below 32 sets ∙ ap present (take-all 32 sets (omega (arith, written .sets .long)))
+            ap (λ (n : ℕ). ones (n % 4294967296)) (presence-passed .0) ∙ ones-below 32 sets ∙ ap present (take-all 32 sets (omega (arith, written .sets .long)))
 
         pub skip-all :
             (count next : ℕ) → count ≡ ones (presence % 4294967296) →
-            ((xs : List (List Text)) (r : List ℕ) → drop first s ≡ setsBytes xs ++ r → first ≤ length s → count ≡ present xs → Skipped s first (setsBytes xs) r next) →
+            ((xs : List (List Text)) (r : List ℕ) → drop after-differ s ≡ setsBytes xs ++ r → after-differ ≤ length s → count ≡ present xs →
+            Skipped s after-differ (setsBytes xs) r next) →
             PassedIs s x at (record { ok = true; version = record { 0 = version }; differ = differ; next = next })
         skip-all count next e skip =
-            let k = skip sets t (after-differ .1 .rest) (c .within) (e ∙ sets-present) in
+            let k = skip sets t (differ-passed .1 .rest) (c .within) (e ∙ sets-present) in
             let z = stretch s (snapshotBytes x) at next within (k .within) (snapshot-was (drop at s) x t read .0 ∙ ap (λ (l : List ℕ). snapshotBytes x ++ l) (sym (k .rest))) in
             record {
               right = refl;
               stands = record { is = read ∙ ap (got x) (sym (k .rest)); bytes = z .0; order = z .1; within = k .within };
-              version = after-version .0;
-              differ = after-differ .0;
+              version = version-passed .0;
+              differ = differ-passed .0;
             }
 
 -- ---- a snapshot that is read

@@ -141,7 +141,9 @@ module _ (s : List ℕ) (version a : ℕ) (x : NumberStops s 0 version a) where
 -- ---- the snapshot
 
 -- what is known of a call's answer in the arm of a `match`
-pub numbers-read : {s : List ℕ} {r : NumbersAt} {version : EventVersion} {presence differ first : ℕ} → r ≡ Numbers version presence differ first → NumbersRead s r → NumbersStop s (version .0) presence differ first
+pub numbers-read :
+    {s : List ℕ} {r : NumbersAt} {version : EventVersion} {presence differ after-differ : ℕ} →
+    r ≡ Numbers version presence differ after-differ → NumbersRead s r → NumbersStop s (version .0) presence differ after-differ
 numbers-read {s} h w = subst (NumbersRead s) h w
 
 pub numbers-refused : (s : List ℕ) {r : NumbersAt} → r ≡ NoNumbers → NumbersRead s r → readSnapshot s ≡ fail
@@ -163,14 +165,14 @@ sets-found fail s r w h = let z : _≡_ {A = ℕ} 0 1 = cc in absurd (omega arit
 sets-found (got xs t) s r w h = record { what = xs; is = ap (got xs) (w .rest); stop = subst (λ (u : List ℕ). SetsStop xs u s r) (w .rest) w }
 
 -- the snapshot of some sets
-module _ (s : List ℕ) (version : EventVersion) (presence differ first : ℕ) (n : NumbersStop s (version .0) presence differ first) where
-  module _ (r : SetsRead) (w : SetsReads (readSets 32 presence (drop first s)) s r) where
+module _ (s : List ℕ) (version : EventVersion) (presence differ after-differ : ℕ) (n : NumbersStop s (version .0) presence differ after-differ) where
+  module _ (r : SetsRead) (w : SetsReads (readSets 32 presence (drop after-differ s)) s r) where
     pub no-sets : r .ok ≡ false → readSnapshot s ≡ fail
-    no-sets h = n .is ∙ rw (sets-wrong (readSets 32 presence (drop first s)) s r w h)
+    no-sets h = n .is ∙ rw (sets-wrong (readSets 32 presence (drop after-differ s)) s r w h)
 
     module _ (h : r .ok ≡ true) where
-      found : SetsFound (readSets 32 presence (drop first s)) s r
-      found = sets-found (readSets 32 presence (drop first s)) s r w h
+      found : SetsFound (readSets 32 presence (drop after-differ s)) s r
+      found = sets-found (readSets 32 presence (drop after-differ s)) s r w h
 
       pub sets-large : ((t : List ℕ) (xs : List (List Text)) → SetsAre t xs (r .sets) → r .objects ≡ objectCount xs → false ≡ areSmall xs) → readSnapshot s ≡ fail
       sets-large b = let e = sym (b s (found .what) (found .stop .stands) (found .stop .objects)) in n .is ∙ rw (found .is, e)
@@ -179,8 +181,8 @@ module _ (s : List ℕ) (version : EventVersion) (presence differ first : ℕ) (
         small : areSmall (found .what) ≡ true
         small = sym (b s (found .what) (found .stop .stands) (found .stop .objects))
 
-        was : SetsWas 32 presence (drop first s) (found .what) (drop (r .next) s)
-        was = sets-was 32 presence (drop first s) (found .what) (drop (r .next) s) (n .presence-low) (found .is)
+        was : SetsWas 32 presence (drop after-differ s) (found .what) (drop (r .next) s)
+        was = sets-was 32 presence (drop after-differ s) (found .what) (drop (r .next) s) (n .presence-low) (found .is)
 
         cells-are : (xs : List (List Text)) → length xs ≡ 32 → bitNumber (map presenceBit xs) ≡ presence → CellsWas differ xs
         cells-are xs l p = cells-was differ xs (rw l (n .differ-low)) (rw (l, p) (n .clear))
@@ -191,10 +193,22 @@ module _ (s : List ℕ) (version : EventVersion) (presence differ first : ℕ) (
         abbrev it : Snapshot
         it = record { version = version .0; cells = cellsOf differ (found .what) }
 
+        abbrev pub index : SnapshotIndex
+        index = record {
+          ok = true;
+          next = r .next;
+          version = version;
+          presence = presence;
+          differ = differ;
+          «after_differ» = after-differ;
+          objects = r .objects;
+          sets = r .sets;
+        }
+
         reads : readSnapshot s ≡ got it (drop (r .next) s)
         reads = n .is ∙ rw (found .is, small)
 
-        snapshot-found : SnapshotIs s it (record { ok = true; next = r .next; version = version; presence = presence; differ = differ; «after_differ» = first; objects = r .objects; sets = r .sets })
+        snapshot-found : SnapshotIs s it index
         snapshot-found = record {
           is = reads;
           bytes = ap (λ (k : ℕ). take k s) (sym (sub-zero (r .next))) ∙ stretch s (snapshotBytes it) 0 (r .next) (omega arith) (found .stop .within) (snapshot-was s it (drop (r .next) s) reads .0) .0;
@@ -202,12 +216,14 @@ module _ (s : List ℕ) (version : EventVersion) (presence differ first : ℕ) (
           version = refl;
           presence = sym (was .present) ∙ ap (λ (l : List (List Text)). bitNumber (map presenceBit l)) (sym (cells .sets));
           differ = sym (cells .bits);
-          body = stretch s (setsBytes (found .what)) first (r .next) (n .within) (found .stop .within) (was .bytes) .0 ∙ ap setsBytes (sym (cells .sets));
-          order = stretch s (setsBytes (found .what)) first (r .next) (n .within) (found .stop .within) (was .bytes) .1;
+          body =
+              stretch s (setsBytes (found .what)) after-differ (r .next) (n .within) (found .stop .within) (was .bytes) .0
+              ∙ ap setsBytes (sym (cells .sets));
+          order = stretch s (setsBytes (found .what)) after-differ (r .next) (n .within) (found .stop .within) (was .bytes) .1;
           objects = found .stop .objects ∙ ap objectCount (sym (cells .sets)) ∙ held-objects (cellsOf differ (found .what));
           sets = subst (λ (l : List (List Text)). SetsAre s l (r .sets)) (sym (cells .sets)) (found .stop .stands);
         }
 
-        pub snapshot-some : SnapshotReads (readSnapshot s) s (record { ok = true; next = r .next; version = version; presence = presence; differ = differ; «after_differ» = first; objects = r .objects; sets = r .sets })
+        pub snapshot-some : SnapshotReads (readSnapshot s) s index
         unfolding SnapshotReads
         snapshot-some = rw reads (refl, snapshot-found)

@@ -34,16 +34,16 @@ use Rattle.dossier.specs.declared.questions.DossierAsked.{DossierAsked}
 abbrev pub afterNumbers : ℕ → ℕ → ℕ → Layout Snapshot
 afterNumbers version presence differ = readSets 32 presence >>= λ sets. foundIf (areSmall sets) (record { version = version; cells = cellsOf differ sets })
 
--- the numbers were read, and what is left starts at `first`
-pub record NumbersStop (s : List ℕ) (version presence differ first : ℕ) : Type 0 where
-  pub is : readSnapshot s ≡ afterNumbers version presence differ (drop first s)
-  pub within : first ≤ length s
+-- the numbers were read, and what is left starts after the differ number
+pub record NumbersStop (s : List ℕ) (version presence differ after-differ : ℕ) : Type 0 where
+  pub is : readSnapshot s ≡ afterNumbers version presence differ (drop after-differ s)
+  pub within : after-differ ≤ length s
   pub presence-low : presence < 4294967296
   pub differ-low : differ < 4294967296
   pub clear : apart 32 presence differ ≡ true
 
 abbrev pub NumbersRead : List ℕ → NumbersAt → Type 0
-NumbersRead s (Numbers version presence differ first) = NumbersStop s (version .0) presence differ first
+NumbersRead s (Numbers version presence differ after-differ) = NumbersStop s (version .0) presence differ after-differ
 NumbersRead s NoNumbers = readSnapshot s ≡ fail
 
 -- The bytes s begin with the snapshot x, as the index says

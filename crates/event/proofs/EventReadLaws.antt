@@ -110,7 +110,9 @@ module _ (counts : Counts) (s : List ℕ) (h : HeadAt) (w : HeadStops (readHead 
                 let l : counts .objects < objectCount (sets .xs) = omega (arith, sets .objects) in
                 rw (after-sets [] at-end, lt-leb _ _ l)
 
-            pub event-found : r .objects ≤ counts .objects → EventReads (eventOf counts s) s (record { ok = true; head = h; presence = n; «after_presence» = next; objects = r .objects; sets = r .sets })
+            pub event-found :
+                r .objects ≤ counts .objects → EventReads (eventOf counts s) s
+                (record { ok = true; head = h; presence = n; «after_presence» = next; objects = r .objects; sets = r .sets })
             unfolding eventOf EventReads
             event-found k =
                 let l : objectCount (sets .xs) ≤ counts .objects = omega (arith, sets .objects) in

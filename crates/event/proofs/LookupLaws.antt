@@ -280,7 +280,8 @@ module _ (s : List ℕ) (small : length s < 2 ^ 64) (e : Event) (x : EventIndex)
   long = omega (arith, w .sets .long)
 
   module _ (below at : ℕ) (ones-are : below ≡ ones (x .presence % 2 ^ place))
-      (skip : (xs : List (List Text)) (r : List ℕ) → drop (x .«after_presence») s ≡ setsBytes xs ++ r → x .«after_presence» ≤ length s → below ≡ present xs → Skipped s (x .«after_presence») (setsBytes xs) r at) where
+      (skip : (xs : List (List Text)) (r : List ℕ) → drop (x .«after_presence») s ≡ setsBytes xs ++ r → x .«after_presence» ≤ length s →
+      below ≡ present xs → Skipped s (x .«after_presence») (setsBytes xs) r at) where
     skipped : Skipped s (x .«after_presence») (setsBytes (take place (e .sets))) (setsBytes (drop place (e .sets))) at
     unfolding setsBytes
     skipped =
@@ -335,7 +336,8 @@ module _ (s : List ℕ) (small : length s < 2 ^ 64) (e : Event) (x : EventIndex)
       value-stands a z t =
           let b = text-next s small to (passed .within) (getD (setAt e place) index []) _ value-here a z t in
           let f : x .«after_presence» ≡ length (headBytes (e .type) (e .source) (e .parents)) + length (number (x .presence)) =
-          sym (length-take-le (x .«after_presence») s (w .within)) ∙ ap length (w .front) ∙ length-append (headBytes (e .type) (e .source) (e .parents)) (number (x .presence)) in
+          sym (length-take-le (x .«after_presence») s (w .within)) ∙ ap length (w .front)
+          ∙ length-append (headBytes (e .type) (e .source) (e .parents)) (number (x .presence)) in
           let g : length (number (x .presence)) ≡ length (number (bitNumber (map presenceBit (e .sets)))) = ap (λ (n : ℕ). length (number n)) (w .presence) in
           record {
             some = element (setAt e place) index [] i ∙ ap some (sym (b .0));

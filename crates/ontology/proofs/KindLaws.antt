@@ -166,51 +166,51 @@ module _ (s : List ℕ) (at : ℕ) where
   unfolding readParameters readDecimal isKind
   decimal-layout = go (readNumber (drop at s))
     where
-      third : (total after : ℕ) (p : Parse Bool) →
+      of-sign : (total after : ℕ) (p : Parse Bool) →
           andThen (andThen p (λ sign. found (decimal total after sign))) (λ k. foundIf (isKind k) k)
           ≡ andThen p (λ sign v. cond (isWithin 2 38 total && isWithin 1 (total - 1) after) (got (decimal total after sign) v) fail)
-      third total after fail = refl
-      third total after (got sign v) = refl
+      of-sign total after fail = refl
+      of-sign total after (got sign v) = refl
 
-      second : (total : ℕ) (p : Parse ℕ) →
+      of-after : (total : ℕ) (p : Parse ℕ) →
           andThen (andThen p (λ after u. andThen (readFlag u) (λ sign. found (decimal total after sign)))) (λ k. foundIf (isKind k) k)
           ≡ andThen p (λ after u. andThen (readFlag u) (λ sign v. cond (isWithin 2 38 total && isWithin 1 (total - 1) after) (got (decimal total after sign) v) fail))
-      second total fail = refl
-      second total (got after u) = third total after (readFlag u)
+      of-after total fail = refl
+      of-after total (got after u) = of-sign total after (readFlag u)
 
       go : (p : Parse ℕ) →
           andThen (andThen p (λ total r. andThen (readNumber r) (λ after u. andThen (readFlag u) (λ sign. found (decimal total after sign))))) (λ k. foundIf (isKind k) k)
           ≡ andThen p (λ total r. andThen (readNumber r) (λ after u. andThen (readFlag u)
           (λ sign v. cond (isWithin 2 38 total && isWithin 1 (total - 1) after) (got (decimal total after sign) v) fail)))
       go fail = refl
-      go (got total r) = second total (readNumber r)
+      go (got total r) = of-after total (readNumber r)
 
   -- what follows each number and the flag
   abbrev signed-last : ℕ → ℕ → Bool → Layout Kind
   signed-last total after sign v = cond (isWithin 2 38 total && isWithin 1 (total - 1) after) (got (decimal total after sign) v) fail
 
-  abbrev after-second : ℕ → ℕ → Layout Kind
-  after-second total after u = andThen (readFlag u) (signed-last total after)
+  abbrev after-point : ℕ → ℕ → Layout Kind
+  after-point total after u = andThen (readFlag u) (signed-last total after)
 
-  abbrev after-first : ℕ → Layout Kind
-  after-first total r = andThen (readNumber r) (after-second total)
+  abbrev after-total : ℕ → Layout Kind
+  after-total total r = andThen (readNumber r) (after-point total)
 
   pub decimal-none : readNumber (drop at s) ≡ fail → kindAfter 3 (drop at s) ≡ fail
-  decimal-none e = decimal-layout ∙ then-none after-first e
+  decimal-none e = decimal-layout ∙ then-none after-total e
 
   module _ {total e : ℕ} (g : Got (readNumber (drop at s)) s at total e) where
-    pub decimal-one : readNumber (drop e s) ≡ fail → kindAfter 3 (drop at s) ≡ fail
-    decimal-one h = decimal-layout ∙ then-fail after-first g (then-none (after-second total) h)
+    pub decimal-no-after : readNumber (drop e s) ≡ fail → kindAfter 3 (drop at s) ≡ fail
+    decimal-no-after h = decimal-layout ∙ then-fail after-total g (then-none (after-point total) h)
 
     module _ {after f : ℕ} (h : Got (readNumber (drop e s)) s e after f) where
-      pub decimal-two : readFlag (drop f s) ≡ fail → kindAfter 3 (drop at s) ≡ fail
-      decimal-two k = decimal-layout ∙ then-fail after-first g (then-fail (after-second total) h (then-none (signed-last total after) k))
+      pub decimal-no-sign : readFlag (drop f s) ≡ fail → kindAfter 3 (drop at s) ≡ fail
+      decimal-no-sign k = decimal-layout ∙ then-fail after-total g (then-fail (after-point total) h (then-none (signed-last total after) k))
 
       module _ {sign : Bool} {n : ℕ} (k : Got (readFlag (drop f s)) s f sign n) where
         pub decimal-bad : (isWithin 2 38 total && isWithin 1 (total - 1) after) ≡ false → kindAfter 3 (drop at s) ≡ fail
         decimal-bad b =
             decimal-layout
-            ∙ then-fail after-first g (then-fail (after-second total) h (then-fail (signed-last total after) k
+            ∙ then-fail after-total g (then-fail (after-point total) h (then-fail (signed-last total after) k
             (ap (λ (t : Bool). cond t (got (decimal total after sign) (drop n s)) fail) b)))
 
         pub decimal-got : (isWithin 2 38 total && isWithin 1 (total - 1) after) ≡ true → KindStops (kindAfter 3 (drop at s)) s at 3 total after (boolByte sign) n
@@ -218,7 +218,7 @@ module _ (s : List ℕ) (at : ℕ) where
           what = decimal total after sign;
           stops =
               rw decimal-layout
-              (then-got after-first g (then-got (after-second total) h (then-found (signed-last total after) k
+              (then-got after-total g (then-got (after-point total) h (then-found (signed-last total after) k
               (ap (λ (t : Bool). cond t (got (decimal total after sign) (drop n s)) fail) b))));
           are = record { number = refl; size-is = refl; after-is = refl; sign-is = sign-byte sign };
         }

@@ -122,8 +122,10 @@ module _ {s : List ℕ} {cells : List SetAt} {place n : ℕ} {t : TypeIndex} {co
     pub count-room : at + length (number count) ≤ size
     count-room = omega (arith, p .room, set-length)
 
-    abbrev pub place-room : (rule : PlaceRule) → RuleIs (getElem? (p .type .properties) place) rule → {l l₁ : List ℕ} {first : ℕ} → length l ≡ size → Wrote l at (number count) l₁ first → PlaceRoom s cells place n rule first (length l₁)
-    place-room rule w {l} {l₁} {first} e v = record {
+    abbrev pub place-room :
+        (rule : PlaceRule) → RuleIs (getElem? (p .type .properties) place) rule → {l l₁ : List ℕ} {after-count : ℕ} → length l ≡ size →
+        Wrote l at (number count) l₁ after-count → PlaceRoom s cells place n rule after-count (length l₁)
+    place-room rule w {l} {l₁} {after-count} e v = record {
       type = p .type;
       dossier = p .dossier;
       merges = p .merges;
@@ -131,8 +133,11 @@ module _ {s : List ℕ} {cells : List SetAt} {place n : ℕ} {t : TypeIndex} {co
       room = omega (arith, p .room, set-length, v .after, wrote-length v, e);
     }
 
-    wrote-place : {l l₁ l₂ : List ℕ} {first next : ℕ} → Wrote l at (number count) l₁ first → Wrote l₁ first (flatten (map text merged-here)) l₂ next → Wrote l at (setBytes merged-here) l₂ next
-    wrote-place {l} {l₁} {l₂} {first} {next} v w = subst (λ (y : List ℕ). Wrote l at y l₂ next) (sym (set-some merged-here count (p .counted) h)) (wrote-then v w)
+    wrote-place :
+        {l l₁ l₂ : List ℕ} {after-count next : ℕ} → Wrote l at (number count) l₁ after-count →
+        Wrote l₁ after-count (flatten (map text merged-here)) l₂ next → Wrote l at (setBytes merged-here) l₂ next
+    wrote-place {l} {l₁} {l₂} {after-count} {next} v w =
+        subst (λ (y : List ℕ). Wrote l at y l₂ next) (sym (set-some merged-here count (p .counted) h)) (wrote-then v w)
 
 -- ---- the sets of all places
 
@@ -178,7 +183,8 @@ module _ {s : List ℕ} {cells : List SetAt} {n : ℕ} {t : TypeIndex} {counts :
 
   -- the count and the values of a present one
   pub present-gone :
-      (getD counts place 0 ≡ 0 → ⊥) → {l₁ l₂ l₃ : List ℕ} {first next₂ next₃ : ℕ} → Wrote l next (number (getD counts place 0)) l₁ first → Wrote l₁ first (flatten (map text this)) l₂ next₂ → l₃ ≡ l₂ → next₃ ≡ next₂ →
+      (getD counts place 0 ≡ 0 → ⊥) → {l₁ l₂ l₃ : List ℕ} {after-count next₂ next₃ : ℕ} → Wrote l next (number (getD counts place 0)) l₁ after-count →
+      Wrote l₁ after-count (flatten (map text this)) l₂ next₂ → l₃ ≡ l₂ → next₃ ≡ next₂ →
       ToGo l₀ at (setsBytes (mergedSets (view (q .type)) (q .dossier))) l₃ next₃ (setsFrom (q .type) (q .dossier) (place + 1))
   present-gone z v w e f =
       subst₂ (λ (y : List ℕ) (k : ℕ). ToGo l₀ at (setsBytes (mergedSets (view (q .type)) (q .dossier))) y k (setsFrom (q .type) (q .dossier) (place + 1))) (sym e) (sym f) (set-gone (wrote-place set-room z v w))
@@ -215,8 +221,8 @@ module _ {s : List ℕ} {d : DossierIndex} {t : TypeIndex} {cells : List SetAt} 
     pub presence-room : at + length (number presence) ≤ length l₁
     presence-room = omega (arith, event-length, v .after, wrote-length v, e, ap (λ (k : ℕ). length (number k)) f)
 
-    module _ {l₂ : List ℕ} {first : ℕ} (u : Wrote l₁ at (number presence) l₂ first) where
-      abbrev pub sets-room : SetsRoom s cells (d .count) t counts first (length l₂)
+    module _ {l₂ : List ℕ} {after-presence : ℕ} (u : Wrote l₁ at (number presence) l₂ after-presence) where
+      abbrev pub sets-room : SetsRoom s cells (d .count) t counts after-presence (length l₂)
       sets-room = record {
         table = w .table;
         type = w .type;
@@ -227,7 +233,8 @@ module _ {s : List ℕ} {d : DossierIndex} {t : TypeIndex} {cells : List SetAt} 
         room = omega (arith, event-length, v .after, wrote-length v, e, u .after, wrote-length u, ap (λ (k : ℕ). length (number k)) f);
       }
 
-      pub wrote-event : {l₃ : List ℕ} {next : ℕ} → Wrote l₂ first (setsBytes sets) l₃ next → Wrote l 0 (eventBytes (mergedEvent (w .headed) sets)) l₃ next
+      pub wrote-event :
+          {l₃ : List ℕ} {next : ℕ} → Wrote l₂ after-presence (setsBytes sets) l₃ next → Wrote l 0 (eventBytes (mergedEvent (w .headed) sets)) l₃ next
       wrote-event {l₃} {next} z =
-          let u′ = subst (λ (k : ℕ). Wrote l₁ at (number k) l₂ first) f u in
+          let u′ = subst (λ (k : ℕ). Wrote l₁ at (number k) l₂ after-presence) f u in
           subst (λ (y : List ℕ). Wrote l 0 y l₃ next) (sym event-parts) (wrote-then (wrote-then v u′) z)

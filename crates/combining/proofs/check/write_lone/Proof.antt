@@ -16,7 +16,9 @@ sub-copy-part : tie.Need-sub-copy-part
 sub-copy-part c = let p = c .before .before .before .before .pre in omega (arith, head-length _ _ _ (p .read), c .before .number-size .ensures)
 
 copy-part-requires : tie.Need-copy-part-requires
-copy-part-requires c κs = let p = c .before .before .before .before .before .pre in head-there _ _ _ (p .read) _ (c .before .before .number-size .ensures) _ _ (p .room)
+copy-part-requires c κs =
+    let p = c .before .before .before .before .before .pre in
+    head-there _ _ _ (p .read) _ (c .before .before .number-size .ensures) _ _ (p .room)
 
 -- the writes before each, the last one first
 write-number-requires : tie.Need-write-number-requires

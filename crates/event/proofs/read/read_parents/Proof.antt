@@ -48,7 +48,8 @@ returns-4 c =
     let s = c .before .before .before .before .before .before .before .before .args .s .now in
     let after-count = c .before .before .before .before .number .given .0 .1 .0 in
     let n = number-stops _ _ _ _ (sym (c .before .before .before .before .before .before .read-number .ensures) ∙ c .before .before .before .before .number .given .1) in
-    parents-some _ _ _ _ (n .is) (c .before .before .if1 .left) ∙ risen-bad _ _ _ (omega (arith, c .before .if2 .left)) (bytes-short s after-count 20 (c .if3 .taken))
+    parents-some _ _ _ _ (n .is) (c .before .before .if1 .left)
+    ∙ risen-bad _ _ _ (omega (arith, c .before .if2 .left)) (bytes-short s after-count 20 (c .if3 .taken))
 
 add-to : tie.Need-add-to Inv-loop μ-loop
 add-to c = search needs
@@ -61,8 +62,12 @@ loop-holds c =
     let s = c .before .before .before .before .before .before .before .before .args .s .now in
     let after-count = c .before .before .before .before .number .given .0 .1 .0 in
     let n = number-stops _ _ _ _ (sym (c .before .before .before .before .before .before .read-number .ensures) ∙ c .before .before .before .before .number .given .1) in
-    let k = c .if3 .left in
-    (omega arith, omega (arith, n .within, k), onward-first _ _ _ _ _ _ (parents-some _ _ _ _ (n .is) (c .before .before .if1 .left)) (omega (arith, c .before .if2 .left)) (bytes-at s after-count 20 (omega (arith, n .within, k))))
+    let k = c .if3 .left in (
+      omega arith,
+      omega (arith, n .within, k),
+      onward-first _ _ _ _ _ _ (parents-some _ _ _ _ (n .is) (c .before .before .if1 .left)) (omega (arith, c .before .if2 .left))
+          (bytes-at s after-count 20 (omega (arith, n .within, k))),
+    )
 
 sub-if4 : tie.Need-sub-if4 Inv-loop μ-loop
 sub-if4 c = search needs

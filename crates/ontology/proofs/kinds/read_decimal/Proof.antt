@@ -1,4 +1,4 @@
-use Rattle.ontology.proofs.KindLaws.{decimal-none, decimal-one, decimal-two, decimal-bad, decimal-got, digits-small}
+use Rattle.ontology.proofs.KindLaws.{decimal-none, decimal-no-after, decimal-no-sign, decimal-bad, decimal-got, digits-small}
 use Rattle.ontology.proofs.FieldLaws.{number-here, flag-fail, flag-got}
 use Rattle.packed.proofs.ReadLaws.{number-none}
 use Prim.Native.Nat.{_≤_}
@@ -43,7 +43,7 @@ returns-2 : tie.Need-returns-2
 returns-2 c =
     let a = c .before .before .before .before .before .before .before .before .args in
     let g = number-here (a .s .now) (a .at) _ _ (sym (c .before .before .before .before .before .before .read-number .ensures) ∙ c .before .before .before .before .total .given .1) in
-    decimal-one (a .s .now) (a .at) g (number-none (a .s .now) _ (sym (c .before .before .read-number2 .ensures) ∙ c .enum-told2 .given .1))
+    decimal-no-after (a .s .now) (a .at) g (number-none (a .s .now) _ (sym (c .before .before .read-number2 .ensures) ∙ c .enum-told2 .given .1))
 
 read-flag-requires : tie.Need-read-flag-requires
 read-flag-requires c κs = search needs
@@ -59,7 +59,7 @@ returns-3 c =
     let a = c .before .before .before .before .before .before .before .before .before .before .before .before .args in
     let g = number-here (a .s .now) (a .at) _ _ (sym (c .before .before .before .before .before .before .before .before .before .before .read-number .ensures) ∙ c .before .before .before .before .before .before .before .before .total .given .1) in
     let h = number-here (a .s .now) _ _ _ (sym (c .before .before .before .before .before .before .read-number2 .ensures) ∙ c .before .before .before .before .after .given .1) in
-    decimal-two (a .s .now) (a .at) g h (flag-fail (a .s .now) _ (c .enum-told3 .given .1) (c .before .before .read-flag .ensures))
+    decimal-no-sign (a .s .now) (a .at) g h (flag-fail (a .s .now) _ (c .enum-told3 .given .1) (c .before .before .read-flag .ensures))
 
 digits-fit-requires : tie.Need-digits-fit-requires
 digits-fit-requires c κs = search needs
