@@ -2,34 +2,35 @@
 use mathlib.Core.Path.{_≡_, refl, sym, ap, ap₂, _∙_, subst}
 use mathlib.Core.Bool.{Bool, true, false, cond, not, _&&_}
 use mathlib.Core.List.{List, [], _∷_, _++_, map, flatten}
-use Prim.Native.Nat.{ℕ, zero, suc, _+_, _/_, _%_, _≤_, _<_}
+use Prim.Native.Nat.{ℕ, suc, _+_, _/_, _%_, _≤_, _<_}
 use native.Mathlib.Omega.{arith}
 use native.Mathlib.Numerals.{add-one}
 use lib.Dec.{ltb}
-use lib.ListN.{length, take, drop, set, getD, length-append, length-map, List·getD-map, drop-of-length-le}
+use lib.ListN.{length, take, drop, set, getD, length-append, length-map, List·getD-map}
 use lib.Seq.{take-suc, take-suc-set, take-all}
 use borrow.Author.Tests.{lt-ltb}
 use Rattle.model.specs.Order.{Text, sets, equal}
-use Rattle.model.specs.Rule.{Cell, holds, differs, Choice, View, Snapshot, places, joinCell, joinCells, joinSnapshots}
+use Rattle.model.specs.Rule.{Cell, holds, differs, Choice, TypeView, Snapshot, places, joinCell, joinCells, joinSnapshots}
 use Rattle.model.specs.Opening.{held, isMark, cellAt}
 use Rattle.model.proofs.PartLaws.{length-upTo}
 use Rattle.model.proofs.StepLaws.{join-map, join-at}
-use Rattle.packed.specs.Packed.{number, text}
-use Rattle.packed.specs.Written.{Wrote}
-use Rattle.packed.proofs.WriteLaws.{wrote-then, ToGo, gone, all-gone}
+use Rattle.packed.specs.Packed.{number}
+use Rattle.packed.specs.code.Written.{Wrote}
+use Rattle.packed.proofs.WriteLaws.{wrote-then}
 use Rattle.ontology.specs.Table.{EventType, isVersioned}
-use Rattle.event.specs.Event.{Event, view}
+use Rattle.event.specs.Event.{typeView, eventView}
 use Rattle.event.specs.EventLayout.{presenceBit, bitNumber, setBytes, setsBytes}
-use Rattle.event.specs.EventIndex.{SetIs, SetsAre, bitOf, noSet}
+use Rattle.event.specs.code.EventIndex.{SetIs, bitOf, noSet}
 use Rattle.event.specs.declared.sets.SetAt.{SetAt}
-use Rattle.dossier.specs.DossierLayout.{differBit, readSnapshot, snapshotBytes}
-use Rattle.dossier.specs.DossierIndex.{CellsAre, SnapshotIs, SnapshotReads}
+use Rattle.event.specs.code.SetWriting.{placeBytes, presentBytes}
+use Rattle.dossier.specs.DossierBody.{differBit, readSnapshot, snapshotBytes}
+use Rattle.dossier.specs.code.DossierIndex.{CellsAre, SnapshotIs, SnapshotReads}
 use Rattle.dossier.specs.declared.snapshots.SnapshotIndex.{SnapshotIndex}
 use Rattle.dossier.proofs.CellLaws.{held-at, bit-here, bits-next}
 use Rattle.dossier.proofs.AskLaws.{reads-got}
 use Rattle.dossier.proofs.VersionLaws.{cells-are}
-use Rattle.combining.specs.CombineIndex.{Meet}
-use Rattle.combining.specs.AgreedIndex.{isAgreed, isFilled, PlacesAre, placeBytes, presentBytes}
+use Rattle.combining.specs.code.CombineIndex.{Meet}
+use Rattle.combining.specs.code.AgreedIndex.{isAgreed, isFilled, PlacesAre}
 use Rattle.combining.specs.declared.agreed.Places.{Places}
 
 -- ---- a place
@@ -83,7 +84,7 @@ join-bytes true e ch (holds s) (holds t) = go (equal sets s t) s
 
 -- ---- all places
 
-joins-bytes : (t : View Event) → t .versioned ≡ true → (ps : List ℕ) (cs ds : List Cell) → setsBytes (map held (joinCells t ps cs ds)) ≡ presentBytes (map isFilled (joinCells t ps cs ds)) (map held cs)
+joins-bytes : (t : TypeView) → t .versioned ≡ true → (ps : List ℕ) (cs ds : List Cell) → setsBytes (map held (joinCells t ps cs ds)) ≡ presentBytes (map isFilled (joinCells t ps cs ds)) (map held cs)
 unfolding joinCells setsBytes flatten presentBytes
 joins-bytes t e [] cs ds = refl
 joins-bytes t e (p ∷ ps) [] ds = refl
@@ -109,8 +110,8 @@ take-step {A} l w k a d h i e q = rw add-one (take-suc-set l k a h ∙ ap₂ (λ
 
 -- The first k places are found; m and n have the differ bits of the others
 pub record PlacesSofar (ty : EventType) (left right : Snapshot) (present marked : List Bool) (m n k : ℕ) : Type 0 where
-  pub filled : take k present ≡ take k (map isFilled (joinSnapshots (view ty) left right .cells))
-  pub differing : take k marked ≡ take k (map isMark (joinSnapshots (view ty) left right .cells))
+  pub filled : take k present ≡ take k (map isFilled (joinSnapshots (typeView ty) left right .cells))
+  pub differing : take k marked ≡ take k (map isMark (joinSnapshots (typeView ty) left right .cells))
   pub left-bits : m ≡ bitNumber (map differBit (drop k (left .cells)))
   pub right-bits : n ≡ bitNumber (map differBit (drop k (right .cells)))
 
@@ -122,15 +123,15 @@ module _ (a b : List ℕ) (e f : ℕ) (ats bts : List SetAt) (ty : EventType) (l
   right-long = sym (length-map (right .cells) held) ∙ y .sets .long
 
   abbrev joined : List Cell
-  joined = joinSnapshots (view ty) left right .cells
+  joined = joinSnapshots (typeView ty) left right .cells
 
   joined-long : length joined ≡ 32
-  unfolding view places
-  joined-long = ap length (join-map (view ty) left right left-long right-long) ∙ simp (length-map, length-upTo)
+  unfolding typeView eventView places
+  joined-long = ap length (join-map (typeView ty) left right left-long right-long) ∙ simp (length-map, length-upTo)
 
-  joined-at : (k : ℕ) → k < 32 → getD joined k (holds []) ≡ joinCell true (view ty .choice k) (getD (left .cells) k (holds [])) (getD (right .cells) k (holds []))
-  unfolding view cellAt
-  joined-at k h = join-at (view ty) left right left-long right-long k h ∙ ap (λ (f : Bool). joinCell f (view ty .choice k) (getD (left .cells) k (holds [])) (getD (right .cells) k (holds []))) v
+  joined-at : (k : ℕ) → k < 32 → getD joined k (holds []) ≡ joinCell true (typeView ty .choice k) (getD (left .cells) k (holds [])) (getD (right .cells) k (holds []))
+  unfolding typeView eventView cellAt
+  joined-at k h = join-at (typeView ty) left right left-long right-long k h ∙ ap (λ (f : Bool). joinCell f (typeView ty .choice k) (getD (left .cells) k (holds [])) (getD (right .cells) k (holds []))) v
 
   pub places-none : (present marked : List Bool) → PlacesSofar ty left right present marked e f 0
   places-none present marked = record { filled = refl; differing = refl; left-bits = x .bits; right-bits = y .bits }
@@ -154,10 +155,10 @@ module _ (a b : List ℕ) (e f : ℕ) (ats bts : List SetAt) (ty : EventType) (l
     pub places-more : (kept fill : Bool) → kept ≡ isAgreed leftCell rightCell → fill ≡ (kept && ltb 0 (getD ats k noSet .count)) → length present ≡ 32 → length marked ≡ 32 → PlacesSofar ty left right (set present k fill) (set marked k (not kept)) (m / 2) (n / 2) (k + 1)
     places-more kept fill g o p q = record {
       filled = take-step present (map isFilled joined) k fill (isFilled (holds [])) (omega arith) (omega (arith, length-map joined isFilled, joined-long))
-          (o ∙ ap₂ (λ (z : Bool) (c : ℕ). z && ltb 0 c) g (left-set .count) ∙ sym (join-filled (view ty .choice k) leftCell rightCell) ∙ ap isFilled (sym (joined-at k h)) ∙ sym (List·getD-map isFilled joined k (holds [])))
+          (o ∙ ap₂ (λ (z : Bool) (c : ℕ). z && ltb 0 c) g (left-set .count) ∙ sym (join-filled (typeView ty .choice k) leftCell rightCell) ∙ ap isFilled (sym (joined-at k h)) ∙ sym (List·getD-map isFilled joined k (holds [])))
           (t .filled);
       differing = take-step marked (map isMark joined) k (not kept) (isMark (holds [])) (omega arith) (omega (arith, length-map joined isMark, joined-long))
-          (ap not g ∙ sym (join-mark (view ty .choice k) leftCell rightCell) ∙ ap isMark (sym (joined-at k h)) ∙ sym (List·getD-map isMark joined k (holds [])))
+          (ap not g ∙ sym (join-mark (typeView ty .choice k) leftCell rightCell) ∙ ap isMark (sym (joined-at k h)) ∙ sym (List·getD-map isMark joined k (holds [])))
           (t .differing);
       left-bits = bits-next (left .cells) k m (t .left-bits);
       right-bits = bits-next (right .cells) k n (t .right-bits);
@@ -188,10 +189,10 @@ module _ (a b : List ℕ) (e f : ℕ) (ats bts : List SetAt) (ty : EventType) (l
     marks-is = ap (λ (l : List Bool). bitNumber (map bitOf l)) (are .marked) ∙ ap bitNumber (mark-bits joined)
 
     body-is : body ≡ setsBytes (map held joined)
-    unfolding joinSnapshots view
-    body-is = ap (λ (l : List Bool). presentBytes l (map held (left .cells))) (are .present) ∙ sym (joins-bytes (view ty) v (places (view ty)) (left .cells) (right .cells))
+    unfolding joinSnapshots typeView eventView
+    body-is = ap (λ (l : List Bool). presentBytes l (map held (left .cells))) (are .present) ∙ sym (joins-bytes (typeView ty) v (places (typeView ty)) (left .cells) (right .cells))
 
-    agreed-bytes : number (left .version) ++ number presence ++ number marks ++ body ≡ snapshotBytes (joinSnapshots (view ty) left right)
+    agreed-bytes : number (left .version) ++ number presence ++ number marks ++ body ≡ snapshotBytes (joinSnapshots (typeView ty) left right)
     unfolding snapshotBytes joinSnapshots
     agreed-bytes =
         ap₂ (λ (c d : ℕ). number (left .version) ++ number c ++ number d ++ body) presence-is marks-is
@@ -202,12 +203,12 @@ pub record BothRead (a b : List ℕ) (i j : SnapshotIndex) (found : Places) (ty 
   pub versioned : isVersioned ty ≡ true
   pub left-is : SnapshotIs a left i
   pub right-is : SnapshotIs b right j
-  pub are : PlacesAre (joinSnapshots (view ty) left right .cells) found
+  pub are : PlacesAre (joinSnapshots (typeView ty) left right .cells) found
 
 pub both-read :
     (a b : List ℕ) (i j : SnapshotIndex) (found : Places) →
     SnapshotReads (readSnapshot a) a i → SnapshotReads (readSnapshot b) b j →
-    ((ty : EventType) (left right : Snapshot) → isVersioned ty ≡ true → SnapshotIs a left i → SnapshotIs b right j → PlacesAre (joinSnapshots (view ty) left right .cells) found) →
+    ((ty : EventType) (left right : Snapshot) → isVersioned ty ≡ true → SnapshotIs a left i → SnapshotIs b right j → PlacesAre (joinSnapshots (typeView ty) left right .cells) found) →
     (ty : EventType) (left right : Snapshot) → isVersioned ty ≡ true → Meet a b ty left right → BothRead a b i j found ty left right
 both-read a b i j found r s f ty left right v m =
     let x = reads-got (readSnapshot a) a i left (m .left-rest) r (m .left-read) in
@@ -218,12 +219,12 @@ module _ {a b : List ℕ} {i j : SnapshotIndex} {found : Places} {ty : EventType
   abbrev kept : List ℕ
   kept = presentBytes (found .present) (map held (left .cells))
 
-  parts : number (i .version .0) ++ number (bitNumber (map bitOf (found .present))) ++ number (bitNumber (map bitOf (found .marked))) ++ kept ≡ snapshotBytes (joinSnapshots (view ty) left right)
+  parts : number (i .version .0) ++ number (bitNumber (map bitOf (found .present))) ++ number (bitNumber (map bitOf (found .marked))) ++ kept ≡ snapshotBytes (joinSnapshots (typeView ty) left right)
   parts =
       ap (λ (n : ℕ). number n ++ number (bitNumber (map bitOf (found .present))) ++ number (bitNumber (map bitOf (found .marked))) ++ kept) (w .left-is .version)
       ∙ agreed-bytes a b (i .differ) (j .differ) (i .sets) (j .sets) ty left right (w .versioned) (cells-are a left i (w .left-is)) (cells-are b right j (w .right-is)) found (w .are)
 
-  pub both-length : length (snapshotBytes (joinSnapshots (view ty) left right)) ≡ length (number (i .version .0)) + length (number (bitNumber (map bitOf (found .present)))) + length (number (bitNumber (map bitOf (found .marked)))) + length kept
+  pub both-length : length (snapshotBytes (joinSnapshots (typeView ty) left right)) ≡ length (number (i .version .0)) + length (number (bitNumber (map bitOf (found .present)))) + length (number (bitNumber (map bitOf (found .marked)))) + length kept
   both-length = ap length (sym parts) ∙ simp length-append
 
   pub wrote-both :
@@ -231,54 +232,8 @@ module _ {a b : List ℕ} {i j : SnapshotIndex} {found : Places} {ty : EventType
       m ≡ bitNumber (map bitOf (found .present)) → n ≡ bitNumber (map bitOf (found .marked)) →
       Wrote l at (number (i .version .0)) l₁ after-version → Wrote l₁ after-version (number m) l₂ after-presence →
       Wrote l₂ after-presence (number n) l₃ after-differ → Wrote l₃ after-differ kept l₄ next →
-      Wrote l at (snapshotBytes (joinSnapshots (view ty) left right)) l₄ next
+      Wrote l at (snapshotBytes (joinSnapshots (typeView ty) left right)) l₄ next
   wrote-both {l} {l₁} {l₂} {l₃} {l₄} {at} {after-version} {after-presence} {after-differ} {next} {m} {n} e f o p q r =
       let p′ = subst (λ (k : ℕ). Wrote l₁ after-version (number k) l₂ after-presence) e p in
       let q′ = subst (λ (k : ℕ). Wrote l₂ after-presence (number k) l₃ after-differ) f q in
       subst (λ (z : List ℕ). Wrote l at z l₄ next) parts (wrote-then (wrote-then (wrote-then o p′) q′) r)
-
--- ---- the sets, place by place
-
-present-suc : (bs : List Bool) (xs : List (List Text)) (k : ℕ) → k < length xs → presentBytes (drop k bs) (drop k xs) ≡ placeBytes (getD bs k false) (getD xs k []) ++ presentBytes (drop (suc k) bs) (drop (suc k) xs)
-unfolding presentBytes placeBytes
-present-suc bs [] k h = absurd (omega arith)
-present-suc [] (x ∷ xs) zero h = refl
-present-suc [] (x ∷ xs) (suc k) h = refl
-present-suc (b ∷ bs) (x ∷ xs) zero h = refl
-present-suc (b ∷ bs) (x ∷ xs) (suc k) h = present-suc bs xs k (omega arith)
-
-present-step : (bs : List Bool) (xs : List (List Text)) (k : ℕ) → k < length xs → presentBytes (drop k bs) (drop k xs) ≡ placeBytes (getD bs k false) (getD xs k []) ++ presentBytes (drop (k + 1) bs) (drop (k + 1) xs)
-present-step bs xs k h = rw add-one (present-suc bs xs k h)
-
-present-none : (bs : List Bool) (xs : List (List Text)) (k : ℕ) → length xs ≤ k → presentBytes (drop k bs) (drop k xs) ≡ []
-unfolding presentBytes
-present-none bs xs k h = ap (presentBytes (drop k bs)) (drop-of-length-le xs h) ∙ go (drop k bs)
-  where
-    go : (bs : List Bool) → presentBytes bs [] ≡ []
-    go [] = refl
-    go (b ∷ bs) = refl
-
-pub place-none : (l : List ℕ) (at : ℕ) (present : Bool) (vs : List Text) → present ≡ false → Wrote l at (placeBytes present vs) l at
-unfolding placeBytes
-place-none l at true vs e = let z : _≡_ {A = ℕ} 0 1 = cc in absurd (omega arith)
-place-none l at false vs e = record { bytes = refl; after = omega arith }
-
-pub place-present : (present : Bool) (vs : List Text) → present ≡ true → placeBytes present vs ≡ number (length vs) ++ flatten (map text vs)
-unfolding placeBytes
-place-present true vs e = refl
-place-present false vs e = let z : _≡_ {A = ℕ} 0 1 = cc in absurd (omega arith)
-
-pub place-set : {l l₁ : List ℕ} {at next : ℕ} (present : Bool) (vs : List Text) → present ≡ true → Wrote l at (number (length vs) ++ flatten (map text vs)) l₁ next → Wrote l at (placeBytes present vs) l₁ next
-place-set {l} {l₁} {at} {next} present vs e w = subst (λ (z : List ℕ). Wrote l at z l₁ next) (sym (place-present present vs e)) w
-
-module _ {l₀ l : List ℕ} {at p : ℕ} (s : List ℕ) (ats : List SetAt) (bs : List Bool) (xs : List (List Text)) (w : SetsAre s xs ats) (k : ℕ) (g : ToGo l₀ at (presentBytes bs xs) l p (presentBytes (drop k bs) (drop k xs))) where
-  pub present-room : k < 32 → at + length (presentBytes bs xs) ≤ length l₀ → p + length (placeBytes (getD bs k false) (getD xs k [])) ≤ length l
-  present-room h r =
-      let e = present-step bs xs k (omega (arith, w .long)) in
-      omega (arith, g .after, g .long, ap length e, length-append (placeBytes (getD bs k false) (getD xs k [])) (presentBytes (drop (k + 1) bs) (drop (k + 1) xs)))
-
-  pub present-more : k < 32 → {l₁ : List ℕ} {p₁ : ℕ} → Wrote l p (placeBytes (getD bs k false) (getD xs k [])) l₁ p₁ → ToGo l₀ at (presentBytes bs xs) l₁ p₁ (presentBytes (drop (k + 1) bs) (drop (k + 1) xs))
-  present-more h o = gone (placeBytes (getD bs k false) (getD xs k [])) (presentBytes (drop (k + 1) bs) (drop (k + 1) xs)) g (present-step bs xs k (omega (arith, w .long))) o
-
-  pub present-all : 32 ≤ k → Wrote l₀ at (presentBytes bs xs) l p
-  present-all h = all-gone g (present-none bs xs k (omega (arith, w .long)))

@@ -6,7 +6,6 @@ use mathlib.Core.List.{List, [], _∷_, _++_, map, flatten, append-nil}
 use Prim.Native.Nat.{ℕ, _+_, _-_, _≤_, _<_}
 use native.Mathlib.Omega.{arith}
 use lib.ListN.{length, drop, length-append}
-use borrow.Author.Tests.{le-leb, lt-leb}
 use Rattle.model.specs.Order.{Text, texts}
 use Rattle.model.specs.Sets.{upTo}
 use Rattle.model.specs.Rule.{holds, places, Snapshot, Dossier, rule}
@@ -16,29 +15,34 @@ use Rattle.model.proofs.SetLaws.{rising-ups}
 use Rattle.model.proofs.PartLaws.{map-getD}
 use Rattle.model.proofs.DossierLaws.{rule-one}
 use Rattle.packed.specs.Packed.{number}
-use Rattle.packed.specs.Written.{Wrote}
+use Rattle.packed.specs.code.Written.{Wrote}
 use Rattle.packed.proofs.LayoutLaws.{number-bounds, number-length-1, number-length-5}
 use Rattle.packed.proofs.WriteLaws.{wrote-between}
+use Rattle.replies.specs.Questions.{Asked, refused, accepted, _>>=_, ask}
+use Rattle.replies.specs.Capacities.{dossierCapacity}
+use Rattle.replies.proofs.CapacityLaws.{has-room, too-small}
+use Rattle.replies.specs.Replies.{replies}
+use Rattle.replies.specs.declared.reply.Reply.the-variants.{Done, Refused}
 use Rattle.ontology.specs.Table.{EventType, Table}
 use Rattle.ontology.specs.TableLayout.{tableOf}
-use Rattle.ontology.specs.Questions.{Asked, refused, accepted, _>>=_, ask}
 use Rattle.ontology.specs.declared.types.TypeIndex.{TypeIndex}
 use Rattle.ontology.proofs.TableLaws.{TypeKept, table-type, place-in}
-use Rattle.event.specs.Event.{Event, setAt, view, versionOf, objectCount}
-use Rattle.event.specs.EventLayout.{narrow, wide, eventOf, headBytes, presenceBit, bitNumber, setsBytes}
+use Rattle.event.specs.Event.{Event, setAt, typeView, eventView, view, versionOf, objectCount}
+use Rattle.event.specs.EventLayout.{narrow, wide, eventOf, presenceBit, bitNumber, setsBytes}
 use Rattle.event.specs.EventQuestions.{Typed, eventAsked}
-use Rattle.event.specs.EventIndex.{eventQuestions, EventIs, EventReads, counts}
+use Rattle.event.specs.code.EventIndex.{eventQuestions, EventIs, EventReads, counts}
 use Rattle.event.specs.declared.read.EventIndex.{EventIndex}
 use Rattle.event.specs.declared.ask.EventAsked.{EventAsked}
 use Rattle.event.proofs.EventLayoutLaws.{EventWritten, written-larger, presence-below}
-use Rattle.event.proofs.EventSizeLaws.{head-size, sets-size, each-within, event-short}
+use Rattle.event.proofs.EventSizeLaws.{sets-size, each-within, event-short}
 use Rattle.event.proofs.EventQuestionLaws.{EventAccepted, event-accepted, EventFits, event-fits, set-rises, least-few, version-set, version-below}
 use Rattle.event.proofs.AskLaws.{Accepted}
-use Rattle.dossier.specs.DossierLayout.{differBit, snapshotBytes, dossierBytes}
+use Rattle.dossier.specs.DossierBody.{differBit, snapshotBytes, bodyBytes}
+use Rattle.dossier.specs.DossierLayout.{dossierBytes, headed}
+use Rattle.dossier.specs.DossierHead.{dossierHeadBytes}
+use Rattle.dossier.proofs.DossierHeadLaws.{dossier-head-size}
 use Rattle.combining.specs.CheckCall.{eventDossier, checkAsked, checkAnswer, checkCall}
-use Rattle.combining.specs.CheckIndex.{loneBytes, Checkable, LoneRoom, KnownEvent}
-use Rattle.ontology.specs.Replies.{replies}
-use Rattle.ontology.specs.declared.replies.Reply.the-variants.{Done, Refused}
+use Rattle.combining.specs.code.CheckIndex.{loneBytes, Checkable, LoneRoom, KnownEvent}
 
 -- ---- the bytes of one event's dossier
 
@@ -55,12 +59,12 @@ none-differ f (p ∷ ps) = omega (arith, none-differ f ps)
 
 module _ (t : EventType) (e : Event) (k : TypeKept t) (a : EventFits t e) where
   abbrev lone : Dossier
-  lone = record { parents = e .parents; snapshots = record { version = versionOf t e; cells = map (λ p. holds (setAt e p)) (upTo 32) } ∷ [] }
+  lone = record { parents = e .head .parents; snapshots = record { version = versionOf t e; cells = map (λ p. holds (setAt e p)) (upTo 32) } ∷ [] }
 
   lone-rule : rule (view t) (e ∷ []) ≡ lone
-  unfolding view places
+  unfolding typeView eventView places
   lone-rule =
-      rule-one (view t) e (λ p l. set-rises t e a p) (λ p l O c. least-few t e k a p O c) (rising-ups texts (e .parents) .0 (a .written .head .parents .rises))
+      rule-one (view t) e (λ p l. set-rises t e a p) (λ p l O c. least-few t e k a p O c) (rising-ups texts (e .head .parents) .0 (a .written .head .parents .rises))
 
   lone-sets : map held (map (λ p. holds (setAt e p)) (upTo 32)) ≡ e .sets
   lone-sets = sets-held (setAt e) (upTo 32) ∙ map-getD (e .sets) [] 32 (a .written .sets .long)
@@ -78,10 +82,10 @@ module _ (t : EventType) (e : Event) (k : TypeKept t) (a : EventFits t e) where
       ap₂ (λ (ss : List (List Text)) (n : ℕ). number (versionOf t e) ++ number (bitNumber (map presenceBit ss)) ++ number n ++ setsBytes ss) lone-sets (none-differ (setAt e) (upTo 32))
 
   pub lone-bytes : dossierBytes (eventDossier (record { type = t; event = e })) ≡ loneBytes e (versionOf t e)
-  unfolding eventDossier dossierBytes loneBytes
+  unfolding eventDossier dossierBytes bodyBytes loneBytes
   lone-bytes =
-      ap (λ (d : Dossier). headBytes (e .type) (e .source) (d .parents) ++ number (length (d .snapshots)) ++ flatten (map snapshotBytes (d .snapshots))) lone-rule
-      ∙ ap (λ (l : List ℕ). headBytes (e .type) (e .source) (e .parents) ++ number 1 ++ l) (one-snapshot ∙ snapshot-parts)
+      ap (λ (d : Dossier). dossierBytes (headed (e .head .type) (e .head .source) d)) lone-rule
+      ∙ ap (λ (l : List ℕ). dossierHeadBytes (e .head) ++ (number 1 ++ l)) (one-snapshot ∙ snapshot-parts)
 
 -- ---- an accepted event
 
@@ -108,7 +112,7 @@ module _ (table event : List ℕ) (r : EventAsked) (a : Accepted narrow table ev
   fit = event-fits (from .what) event (a .type) (a .e) taken
 
   pub kept : TypeKept (a .type)
-  kept = table-type table (from .what) (from .is) (a .e .type) (a .type) (taken .typed)
+  kept = table-type table (from .what) (from .is) (a .e .head .type) (a .type) (taken .typed)
 
   abbrev pub checkable : Checkable table event (r .«event_type») (r .event)
   checkable = record {
@@ -121,20 +125,20 @@ module _ (table event : List ℕ) (r : EventAsked) (a : Accepted narrow table ev
   }
 
   -- 827 + 1 + 10 + 5 + 1 + 32 * 2 + 32 * 121 = 4,780
-  pub lone-short : length (loneBytes (a .e) (versionOf (a .type) (a .e))) ≤ 32768
+  pub lone-short : length (loneBytes (a .e) (versionOf (a .type) (a .e))) ≤ dossierCapacity
   unfolding loneBytes narrow wide
   lone-short =
       let e = a .e in
       let w : EventWritten narrow e = fit .written in
       let n : length (e .sets) ≡ 32 = w .sets .long in
       let o : objectCount (e .sets) ≤ 32 = w .objects in
-      let m : length (e .type) ≤ 64 = subst (λ (v : Text). length v ≤ 64) (sym (fit .named)) (kept .short) in
+      let m : length (e .head .type) ≤ 64 = subst (λ (v : Text). length v ≤ 64) (sym (fit .named)) (kept .short) in
       let z : EventWritten wide e = written-larger narrow wide e (omega arith) (omega arith) w in
       let o′ : objectCount (e .sets) ≤ 256 = omega arith in
       simp length-append
       (omega (
         arith,
-        head-size (e .type) (e .source) (e .parents) (z .head) m,
+        dossier-head-size (e .head) (z .head) m,
         number-length-1 1 (omega arith),
         number-length-1 0 (omega arith),
         number-bounds (versionOf (a .type) e),
@@ -145,7 +149,7 @@ module _ (table event : List ℕ) (r : EventAsked) (a : Accepted narrow table ev
   pub lone-is : dossierBytes (eventDossier (record { type = a .type; event = a .e })) ≡ loneBytes (a .e) (versionOf (a .type) (a .e))
   lone-is = lone-bytes (a .type) (a .e) kept fit
 
-  pub lone-room : (version room : ℕ) → version ≡ versionOf (a .type) (a .e) → 32768 ≤ room → LoneRoom event (r .event) version room
+  pub lone-room : (version room : ℕ) → version ≡ versionOf (a .type) (a .e) → dossierCapacity ≤ room → LoneRoom event (r .event) version room
   lone-room version room q h = record {
     event = a .e;
     read = a .event-is;
@@ -175,13 +179,13 @@ module _ (table event : List ℕ) (t : TypeIndex) (k : KnownEvent table event t)
 -- ---- the questions
 
 module _ (table event : List ℕ) (room : ℕ) where
-  asked-small : room < 32768 → checkAsked room table event ≡ refused 1
+  asked-small : room < dossierCapacity → checkAsked room table event ≡ refused 1
   unfolding checkAsked
-  asked-small h = rw (lt-leb 32768 room h)
+  asked-small h = rw (too-small dossierCapacity room h)
 
-  asked-is : 32768 ≤ room → checkAsked room table event ≡ (eventQuestions narrow table event >>= λ a. accepted (dossierBytes (eventDossier a)))
+  asked-is : dossierCapacity ≤ room → checkAsked room table event ≡ (eventQuestions narrow table event >>= λ a. accepted (dossierBytes (eventDossier a)))
   unfolding checkAsked
-  asked-is h = rw (le-leb 32768 room h) (go (tableOf table))
+  asked-is h = rw (has-room dossierCapacity room h) (go (tableOf table))
     where
       go :
           (m : Option Table) →
@@ -191,22 +195,22 @@ module _ (table event : List ℕ) (room : ℕ) where
       go (some ts) = refl
 
   asked-of :
-      (q : Asked Typed) → 32768 ≤ room → eventQuestions narrow table event ≡ q →
+      (q : Asked Typed) → dossierCapacity ≤ room → eventQuestions narrow table event ≡ q →
       checkAsked room table event ≡ (q >>= λ a. accepted (dossierBytes (eventDossier a)))
   asked-of q h e = asked-is h ∙ ap (λ (q : Asked Typed). q >>= λ a. accepted (dossierBytes (eventDossier a))) e
 
 -- ---- the replies
 
 module _ (table event out : List ℕ) where
-  pub check-small : length out < 32768 → replies (Refused 1) out ≡ checkCall table event out
+  pub check-small : length out < dossierCapacity → replies (Refused 1) out ≡ checkCall table event out
   unfolding checkCall checkAnswer
   check-small h = rw (asked-small table event (length out) h)
 
-  pub check-refused : (n : ℕ) → 32768 ≤ length out → eventQuestions narrow table event ≡ refused n → replies (Refused n) out ≡ checkCall table event out
+  pub check-refused : (n : ℕ) → dossierCapacity ≤ length out → eventQuestions narrow table event ≡ refused n → replies (Refused n) out ≡ checkCall table event out
   unfolding checkCall checkAnswer
   check-refused n h e = rw (asked-of table event (length out) (refused n) h e)
 
-  pub check-done : (r : EventAsked) (a : Accepted narrow table event r) (new : List ℕ) (n version : ℕ) → 32768 ≤ length out → version ≡ versionOf (a .type) (a .e) → Wrote out 0 (loneBytes (a .e) version) new n → replies (Done n) new ≡ checkCall table event out
+  pub check-done : (r : EventAsked) (a : Accepted narrow table event r) (new : List ℕ) (n version : ℕ) → dossierCapacity ≤ length out → version ≡ versionOf (a .type) (a .e) → Wrote out 0 (loneBytes (a .e) version) new n → replies (Done n) new ≡ checkCall table event out
   unfolding checkCall checkAnswer
   check-done r a new n version h q w₀ =
       let x = dossierBytes (eventDossier (record { type = a .type; event = a .e })) in

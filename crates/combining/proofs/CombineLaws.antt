@@ -6,30 +6,31 @@ use mathlib.Core.List.{List, _++_}
 use Prim.Native.Nat.{ℕ, _+_, _≤_, _<_}
 use native.Mathlib.Omega.{arith}
 use lib.ListN.{length, drop}
-use borrow.Author.Tests.{le-leb, lt-leb}
 use Rattle.model.specs.Order.{Text}
 use Rattle.model.specs.Limits.{standard, fits}
-use Rattle.packed.specs.Written.{Wrote}
+use Rattle.packed.specs.code.Written.{Wrote}
 use Rattle.packed.proofs.WriteLaws.{wrote-between}
+use Rattle.replies.specs.Questions.{refused, accepted}
+use Rattle.replies.specs.Capacities.{dossierCapacity}
+use Rattle.replies.proofs.CapacityLaws.{has-room, too-small}
+use Rattle.replies.specs.Replies.{combineReplies}
+use Rattle.replies.specs.declared.reply.Combined.the-variants.{Done, Refused}
 use Rattle.ontology.specs.Table.{EventType, Table, typeNamed}
 use Rattle.ontology.specs.TableLayout.{tableOf}
-use Rattle.ontology.specs.Questions.{refused, accepted}
-use Rattle.ontology.specs.TypeIndex.{TypeIs, TypeSays, TableSays}
+use Rattle.ontology.specs.code.TypeIndex.{TypeIs, TypeSays, TableSays}
 use Rattle.ontology.specs.declared.tables.TableRead.{TableRead}
 use Rattle.ontology.specs.declared.types.TypeIndex.{TypeIndex}
-use Rattle.event.specs.Event.{view}
+use Rattle.ontology.proofs.TypeIndexLaws.{table-refused, table-got, type-says, found-few}
+use Rattle.event.specs.Event.{typeView}
 use Rattle.dossier.specs.DossierLayout.{Headed, dossierOf, dossierBytes}
 use Rattle.dossier.specs.DossierQuestions.{TypedDossier, dossierAsked, dossiersAgree}
-use Rattle.dossier.specs.DossierIndex.{DossierIs, IsDossier, DossierReads, DossierAnswers}
+use Rattle.dossier.specs.code.DossierIndex.{DossierIs, IsDossier, DossierReads, DossierAnswers}
 use Rattle.dossier.specs.declared.dossiers.DossierIndex.{DossierIndex}
 use Rattle.dossier.specs.declared.questions.DossierAsked.{DossierAsked}
-use Rattle.combining.specs.CombineCall.{headedAs, combined, combineAsked, combineAnswer, combineCall}
-use Rattle.combining.specs.CombineIndex.{Known, Combinable}
-use Rattle.ontology.specs.Replies.{replies}
-use Rattle.ontology.specs.declared.replies.Reply.the-variants.{Done, Refused}
-use Rattle.ontology.proofs.TypeIndexLaws.{table-refused, table-got, type-says, found-few}
 use Rattle.dossier.proofs.AnswerLaws.{reads-is}
 use Rattle.dossier.proofs.AcceptedLaws.{dossier-taken, one-type, asked-refused, asked-accepted}
+use Rattle.combining.specs.CombineCall.{headedAs, combined, combineAsked, combineAnswer, combineCall}
+use Rattle.combining.specs.code.CombineIndex.{Known, Combinable}
 use Rattle.combining.proofs.MeetLaws.{left-taken, right-taken}
 use Rattle.combining.proofs.RoomLaws.{combined-room}
 
@@ -58,12 +59,12 @@ pub record Taken (table : List ℕ) (types : Table) (s : List ℕ) (d : DossierI
 -- what `ask_dossier` answers
 abbrev Asks : List ℕ → DossierIndex → TableRead → DossierAsked → Type 0
 Asks s d read r =
-    (table : List ℕ) (ts : Table) → tableOf table ≡ some ts → ((h : Headed) → DossierIs s h d → TypeSays (typeNamed (h .type) ts) table read) →
+    (table : List ℕ) (ts : Table) → tableOf table ≡ some ts → ((h : Headed) → DossierIs s h d → TypeSays (typeNamed (h .head .type) ts) table read) →
     DossierAnswers (dossierAsked standard ts s) table r
 
 module _
     (table s : List ℕ) (k : Tabled table) (d : DossierIndex) (w : DossierReads (dossierOf standard s) s d)
-    (name : Text) (names : (h : Headed) → DossierIs s h d → name ≡ h .type)
+    (name : Text) (names : (h : Headed) → DossierIs s h d → name ≡ h .head .type)
     (read : TableRead) (says : TableSays (tableOf table) table name read)
     (r : DossierAsked) (asks : Asks s d read r) where
   answers : DossierAnswers (dossierAsked standard (k .types) s) table r
@@ -95,7 +96,7 @@ module _ (table a : List ℕ) (d : DossierIndex) (b : List ℕ) (e : DossierInde
 
   module _
       (r : Bool)
-      (says : (u : List ℕ) (ty tz : EventType) (x y : Headed) → TypeIs u ty t → DossierIs a x d → DossierIs b y e → (x .type ≡ y .type → ty ≡ tz) → r ≡ dossiersAgree (record { type = ty; headed = x }) (record { type = tz; headed = y })) where
+      (says : (u : List ℕ) (ty tz : EventType) (x y : Headed) → TypeIs u ty t → DossierIs a x d → DossierIs b y e → (x .head .type ≡ y .head .type → ty ≡ tz) → r ≡ dossiersAgree (record { type = ty; headed = x }) (record { type = tz; headed = y })) where
     pub agree-is : r ≡ dossiersAgree (h .left .what) (h .right .what)
     agree-is = says table (h .left .what .type) (h .right .what .type) (h .left .what .headed) (h .right .what .headed) (h .left .typed) (h .left .stands) (h .right .stands)
         (one-type (dossier-taken (h .known .types) a (h .left .what) (h .left .asked)) (dossier-taken (h .known .types) b (h .right .what) (h .right .asked)))
@@ -129,50 +130,50 @@ known-read d e k v w = record {
 -- ---- question 8
 
 pub combine-room :
-    (table a b : List ℕ) {d e : DossierIndex} {t : TypeIndex} (h : Combinable table a d b e t) {r : Bool} → r ≡ fits standard (view (h .known .left .type)) (combined (h .known .left) (h .known .right)) → r ≡ true →
-    (size : ℕ) → 32768 ≤ size → length (dossierBytes (headedAs (h .known .left .headed) (combined (h .known .left) (h .known .right)))) ≤ size
+    (table a b : List ℕ) {d e : DossierIndex} {t : TypeIndex} (h : Combinable table a d b e t) {r : Bool} → r ≡ fits standard (typeView (h .known .left .type)) (combined (h .known .left) (h .known .right)) → r ≡ true →
+    (size : ℕ) → dossierCapacity ≤ size → length (dossierBytes (headedAs (h .known .left .headed) (combined (h .known .left) (h .known .right)))) ≤ size
 combine-room table a b {d} {e} {t} h p y size l = omega (arith, combined-room h (sym p ∙ y))
 
 -- ---- the replies
 
 module _ (table left right out : List ℕ) where
-  pub combine-small : length out < 32768 → replies (Refused 1) out ≡ combineCall standard table left right out
+  pub combine-small : length out < dossierCapacity → combineReplies (Refused 1) out ≡ combineCall standard table left right out
   unfolding combineCall combineAnswer combineAsked
-  combine-small h = rw (lt-leb 32768 (length out) h)
+  combine-small h = rw (too-small dossierCapacity (length out) h)
 
-  module _ (room : 32768 ≤ length out) where
-    pub combine-untabled : (name : Text) (r : TableRead) → TableSays (tableOf table) table name r → r .ok ≡ false → replies (Refused 2) out ≡ combineCall standard table left right out
+  module _ (room : dossierCapacity ≤ length out) where
+    pub combine-untabled : (name : Text) (r : TableRead) → TableSays (tableOf table) table name r → r .ok ≡ false → combineReplies (Refused 2) out ≡ combineCall standard table left right out
     unfolding combineCall combineAnswer combineAsked
-    combine-untabled name r w h = rw (le-leb 32768 (length out) room, table-refused table name r w h)
+    combine-untabled name r w h = rw (has-room dossierCapacity (length out) room, table-refused table name r w h)
 
-    pub combine-left : (k : Tabled table) (n : ℕ) → dossierAsked standard (k .types) left ≡ refused n → replies (Refused n) out ≡ combineCall standard table left right out
+    pub combine-left : (k : Tabled table) (n : ℕ) → dossierAsked standard (k .types) left ≡ refused n → combineReplies (Refused n) out ≡ combineCall standard table left right out
     unfolding combineCall combineAnswer combineAsked
-    combine-left k n e = rw (le-leb 32768 (length out) room, k .is, e)
+    combine-left k n e = rw (has-room dossierCapacity (length out) room, k .is, e)
 
-    pub combine-right : (k : Tabled table) {d : DossierIndex} {t : TypeIndex} → Taken table (k .types) left d t → (n : ℕ) → dossierAsked standard (k .types) right ≡ refused n → replies (Refused n) out ≡ combineCall standard table left right out
+    pub combine-right : (k : Tabled table) {d : DossierIndex} {t : TypeIndex} → Taken table (k .types) left d t → (n : ℕ) → dossierAsked standard (k .types) right ≡ refused n → combineReplies (Refused n) out ≡ combineCall standard table left right out
     unfolding combineCall combineAnswer combineAsked
-    combine-right k x n e = rw (le-leb 32768 (length out) room, k .is, x .asked, e)
+    combine-right k x n e = rw (has-room dossierCapacity (length out) room, k .is, x .asked, e)
 
-    pub combine-apart : {d e : DossierIndex} {t : TypeIndex} (h : BothTaken table left d right e t) {r : Bool} → r ≡ dossiersAgree (h .left .what) (h .right .what) → r ≡ false → replies (Refused 7) out ≡ combineCall standard table left right out
+    pub combine-apart : {d e : DossierIndex} {t : TypeIndex} (h : BothTaken table left d right e t) {r : Bool} → r ≡ dossiersAgree (h .left .what) (h .right .what) → r ≡ false → combineReplies (Refused 7) out ≡ combineCall standard table left right out
     unfolding combineCall combineAnswer combineAsked
-    combine-apart h p n = let q = sym p ∙ n in rw (le-leb 32768 (length out) room, h .known .is, h .left .asked, h .right .asked, q)
+    combine-apart h p n = let q = sym p ∙ n in rw (has-room dossierCapacity (length out) room, h .known .is, h .left .asked, h .right .asked, q)
 
-    module _ {d e : DossierIndex} {t : TypeIndex} (h : Combinable table left d right e t) {r : Bool} (p : r ≡ fits standard (view (h .known .left .type)) (combined (h .known .left) (h .known .right))) where
-      pub combine-full : r ≡ false → replies (Refused 8) out ≡ combineCall standard table left right out
+    module _ {d e : DossierIndex} {t : TypeIndex} (h : Combinable table left d right e t) {r : Bool} (p : r ≡ fits standard (typeView (h .known .left .type)) (combined (h .known .left) (h .known .right))) where
+      pub combine-full : r ≡ false → combineReplies (Refused 8) out ≡ combineCall standard table left right out
       unfolding combineCall combineAnswer combineAsked
-      combine-full n = let q = sym p ∙ n in rw (le-leb 32768 (length out) room, h .known .is, h .known .left-asked, h .known .right-asked, h .known .agree, q)
+      combine-full n = let q = sym p ∙ n in rw (has-room dossierCapacity (length out) room, h .known .is, h .known .left-asked, h .known .right-asked, h .known .agree, q)
 
       abbrev whole : List ℕ
       whole = dossierBytes (headedAs (h .known .left .headed) (combined (h .known .left) (h .known .right)))
 
       asked-whole : r ≡ true → combineAsked standard (length out) table left right ≡ accepted whole
       unfolding combineAsked
-      asked-whole y = let q = sym p ∙ y in rw (le-leb 32768 (length out) room, h .known .is, h .known .left-asked, h .known .right-asked, h .known .agree, q)
+      asked-whole y = let q = sym p ∙ y in rw (has-room dossierCapacity (length out) room, h .known .is, h .known .left-asked, h .known .right-asked, h .known .agree, q)
 
-      pub combine-done : r ≡ true → (new : List ℕ) (n : ℕ) → Wrote out 0 whole new n → replies (Done n) new ≡ combineCall standard table left right out
+      pub combine-done : r ≡ true → (new : List ℕ) (n : ℕ) → Wrote out 0 whole new n → combineReplies (Done n) new ≡ combineCall standard table left right out
       unfolding combineCall combineAnswer
       combine-done y new n w =
           let s : 0 + length whole ≤ length out = omega (arith, combine-room table left right h p y (length out) room) in
           let m : n ≡ length whole = omega (arith, w .after) in
           rw (asked-whole y)
-          (ap₂ (λ (k : ℕ) (l : List ℕ). replies (Done k) l) m (wrote-between s w ∙ ap (λ (k : ℕ). whole ++ drop k out) m))
+          (ap₂ (λ (k : ℕ) (l : List ℕ). combineReplies (Done k) l) m (wrote-between s w ∙ ap (λ (k : ℕ). whole ++ drop k out) m))

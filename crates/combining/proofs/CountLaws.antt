@@ -14,7 +14,7 @@ use Rattle.model.proofs.OrderLaws.{less-turn, less-cmp}
 use Rattle.model.proofs.SetLaws.{rising-ups}
 use Rattle.model.proofs.StepLaws.{union-left-nil, union-right-nil, union-step}
 use Rattle.values.specs.declared.versions.EventVersion.{EventVersion}
-use Rattle.dossier.specs.DossierIndex.{versionNumbers, noVersion}
+use Rattle.dossier.specs.code.DossierIndex.{versionNumbers, noVersion}
 
 -- count versions have been counted, and those from i and from j on are left
 pub record VersionsLeft (xs ys : List ℕ) (i j count : ℕ) : Type 0 where

@@ -18,17 +18,17 @@ use Rattle.packed.proofs.LayoutLaws.{All}
 use Rattle.packed.proofs.ReadLaws.{to-end}
 use Rattle.ontology.specs.Table.{EventType, Table, isVersioned}
 use Rattle.ontology.specs.declared.types.TypeIndex.{TypeIndex}
-use Rattle.event.specs.Event.{view}
+use Rattle.event.specs.Event.{typeView, eventView}
 use Rattle.event.specs.EventQuestions.{matchCount}
-use Rattle.unions.specs.Runs.{Hashes}
+use Rattle.unions.specs.code.Runs.{Hashes}
 use Rattle.dossier.specs.DossierQuestions.{eachCell, isVacant, holdsVersion, TypedDossier}
-use Rattle.dossier.specs.DossierIndex.{noSnapshot, versionNumbers, cellFits, versionFits, snapshotFits}
+use Rattle.dossier.specs.code.DossierIndex.{noSnapshot, versionNumbers, cellFits, versionFits, snapshotFits}
 use Rattle.dossier.specs.declared.dossiers.DossierIndex.{DossierIndex}
 use Rattle.dossier.proofs.AskLaws.{start-within}
 use Rattle.dossier.proofs.DossierLayoutLaws.{DossierWritten}
 use Rattle.dossier.proofs.AcceptedLaws.{DossierTaken, taken-written, taken-lone, taken-fits}
 use Rattle.combining.specs.CombineCall.{combined}
-use Rattle.combining.specs.CombineIndex.{Combinable, Meet}
+use Rattle.combining.specs.code.CombineIndex.{Combinable, Meet}
 use Rattle.combining.proofs.MeetLaws.{versionIn, left-taken, right-taken, same-type, meet}
 
 -- ---- the keys of a merge
@@ -52,13 +52,13 @@ module _ {E K : Type 0} (O : Order K) (key : E → K) (join : E → E → E) (ke
 
 -- a dossier's snapshots and their versions
 abbrev snapshots : TypedDossier → List Snapshot
-snapshots a = a .headed .dossier .snapshots
+snapshots a = a .headed .snapshots
 
 abbrev versions : List Snapshot → List ℕ
 versions xs = map versionIn xs
 
-fits-parts : (ty : EventType) (d : Dossier) → fits standard (view ty) d ≡ (leb (length (d .parents)) 32 && (leb (length (d .snapshots)) 8 && (isVersioned ty || leb (objects (d .snapshots)) 256)))
-unfolding fits standard view
+fits-parts : (ty : EventType) (d : Dossier) → fits standard (typeView ty) d ≡ (leb (length (d .parents)) 32 && (leb (length (d .snapshots)) 8 && (isVersioned ty || leb (objects (d .snapshots)) 256)))
+unfolding fits standard typeView eventView
 fits-parts ty d = refl
 
 all-hashes : (hs : List Text) → All (λ (h : Text). length h ≡ 20) hs → Hashes hs
@@ -104,11 +104,11 @@ module _ (table a : List ℕ) (d : DossierIndex) (b : List ℕ) (e : DossierInde
   right-written = taken-written (right-taken (c .known))
 
   -- the parents of each are hashes and rise
-  pub left-hashes : Hashes (c .known .left .headed .dossier .parents) × (rising texts (c .known .left .headed .dossier .parents) ≡ true)
-  left-hashes = (all-hashes (c .known .left .headed .dossier .parents) (left-written .head .parents .each), left-written .head .parents .rises)
+  pub left-hashes : Hashes (c .known .left .headed .head .parents) × (rising texts (c .known .left .headed .head .parents) ≡ true)
+  left-hashes = (all-hashes (c .known .left .headed .head .parents) (left-written .head .parents .each), left-written .head .parents .rises)
 
-  pub right-hashes : Hashes (c .known .right .headed .dossier .parents) × (rising texts (c .known .right .headed .dossier .parents) ≡ true)
-  right-hashes = (all-hashes (c .known .right .headed .dossier .parents) (right-written .head .parents .each), right-written .head .parents .rises)
+  pub right-hashes : Hashes (c .known .right .headed .head .parents) × (rising texts (c .known .right .headed .head .parents) ≡ true)
+  right-hashes = (all-hashes (c .known .right .headed .head .parents) (right-written .head .parents .each), right-written .head .parents .rises)
 
   -- and so do the versions
   left-versions : versionNumbers (take (d .count) (d .versions)) ≡ versions (snapshots (c .known .left))
@@ -118,16 +118,16 @@ module _ (table a : List ℕ) (d : DossierIndex) (b : List ℕ) (e : DossierInde
   right-versions = ap (λ (n : ℕ). versionNumbers (take n (e .versions))) (c .right-read .count) ∙ c .right-read .snapshots .numbers
 
   pub left-rises : rising numbers (versionNumbers (take (d .count) (d .versions))) ≡ true
-  left-rises = ap (rising numbers) left-versions ∙ left-written .rises
+  left-rises = ap (rising numbers) left-versions ∙ left-written .body .rises
 
   pub right-rises : rising numbers (versionNumbers (take (e .count) (e .versions))) ≡ true
-  right-rises = ap (rising numbers) right-versions ∙ right-written .rises
+  right-rises = ap (rising numbers) right-versions ∙ right-written .body .rises
 
-  whole-parents : whole .parents ≡ union texts (c .known .left .headed .dossier .parents) (c .known .right .headed .dossier .parents)
+  whole-parents : whole .parents ≡ union texts (c .known .left .headed .head .parents) (c .known .right .headed .head .parents)
   unfolding combined combine
   whole-parents = refl
 
-  whole-snapshots : whole .snapshots ≡ merge numbers versionIn (joinSnapshots (view ty)) (snapshots (c .known .left)) (snapshots (c .known .right))
+  whole-snapshots : whole .snapshots ≡ merge numbers versionIn (joinSnapshots (typeView ty)) (snapshots (c .known .left)) (snapshots (c .known .right))
   unfolding combined combine
   whole-snapshots = refl
 
@@ -137,7 +137,7 @@ module _ (table a : List ℕ) (d : DossierIndex) (b : List ℕ) (e : DossierInde
   whole-versions =
       sym (length-map (whole .snapshots) versionIn)
       ∙ ap (λ (ss : List Snapshot). length (versions ss)) whole-snapshots
-      ∙ ap length (merge-keys numbers versionIn (joinSnapshots (view ty)) (λ x y. unfold joinSnapshots in refl) (snapshots (c .known .left)) (snapshots (c .known .right)))
+      ∙ ap length (merge-keys numbers versionIn (joinSnapshots (typeView ty)) (λ x y. unfold joinSnapshots in refl) (snapshots (c .known .left)) (snapshots (c .known .right)))
       ∙ sym (ap₂ (λ (v w : List ℕ). length (union numbers v w)) left-versions right-versions)
 
   -- the first snapshots of an unversioned type, from where they start
@@ -167,12 +167,12 @@ module _ (table a : List ℕ) (d : DossierIndex) (b : List ℕ) (e : DossierInde
         subst₂ (λ (p q : List ℕ). Meet p q ty x y) (sym (to-end a (getD (d .starts) 0 0))) (sym (to-end b (getD (e .starts) 0 0)))
         (meet c 0 0 (omega (arith, left-one)) (omega (arith, right-one)) same-version)
 
-    whole-objects : objects (whole .snapshots) ≡ sizes (joinSnapshots (view ty) x y .cells)
+    whole-objects : objects (whole .snapshots) ≡ sizes (joinSnapshots (typeView ty) x y .cells)
     unfolding objects
     whole-objects =
         ap objects (whole-snapshots
-        ∙ ap₂ (merge numbers versionIn (joinSnapshots (view ty))) (alone (snapshots (c .known .left)) left-one) (alone (snapshots (c .known .right)) right-one)
-        ∙ merge-alone (joinSnapshots (view ty)) x y same-version)
+        ∙ ap₂ (merge numbers versionIn (joinSnapshots (typeView ty))) (alone (snapshots (c .known .left)) left-one) (alone (snapshots (c .known .right)) right-one)
+        ∙ merge-alone (joinSnapshots (typeView ty)) x y same-version)
         ∙ omega arith
 
   -- where they start
@@ -182,9 +182,9 @@ module _ (table a : List ℕ) (d : DossierIndex) (b : List ℕ) (e : DossierInde
   -- ---- the answers
 
   abbrev asked : Bool
-  asked = fits standard (view ty) whole
+  asked = fits standard (typeView ty) whole
 
-  module _ (n : ℕ) (p : n ≡ length (union texts (c .known .left .headed .dossier .parents) (c .known .right .headed .dossier .parents))) where
+  module _ (n : ℕ) (p : n ≡ length (union texts (c .known .left .headed .head .parents) (c .known .right .headed .head .parents))) where
     pub fits-parents : 32 < n → false ≡ asked
     fits-parents l =
         sym (fits-parts ty whole
@@ -208,7 +208,7 @@ module _ (table a : List ℕ) (d : DossierIndex) (b : List ℕ) (e : DossierInde
         pub fits-versioned : 0 < t .mark → true ≡ asked
         fits-versioned h = sym (then-objects ∙ ap (λ (z : Bool). z || leb (objects (whole .snapshots)) 256) (lt-ltb 0 (ty .mark) (omega (arith, c .known .typed .mark))))
 
-        pub fits-objects : (un : t .mark ≤ 0) {r : Bool} → r ≡ leb (sizes (joinSnapshots (view ty) (getD (snapshots (c .known .left)) 0 noSnapshot) (getD (snapshots (c .known .right)) 0 noSnapshot) .cells)) 256 → r ≡ asked
+        pub fits-objects : (un : t .mark ≤ 0) {r : Bool} → r ≡ leb (sizes (joinSnapshots (typeView ty) (getD (snapshots (c .known .left)) 0 noSnapshot) (getD (snapshots (c .known .right)) 0 noSnapshot) .cells)) 256 → r ≡ asked
         fits-objects un h =
             h
             ∙ sym (then-objects

@@ -20,32 +20,33 @@ use Rattle.model.proofs.PartLaws.{map-same}
 use Rattle.model.proofs.StepLaws.{union-left-nil, union-right-nil, join-map}
 use Rattle.packed.specs.Parse.{got}
 use Rattle.packed.specs.Packed.{number, text}
-use Rattle.packed.specs.Written.{Wrote}
+use Rattle.packed.specs.code.Written.{Wrote}
 use Rattle.packed.proofs.WriteLaws.{wrote-length, wrote-then, ToGo, wrote-as}
-use Rattle.unions.specs.Runs.{TextsRoom}
 use Rattle.values.specs.Spaces.{Kind, kindNumber, inSpace}
 use Rattle.values.specs.ValueOrder.{isOrdered, extremeOrder}
-use Rattle.ontology.specs.Table.{Property, EventType, isMin, isMax, isVersioned}
-use Rattle.ontology.specs.TypeIndex.{PropertyIs, TypeIs}
+use Rattle.ontology.specs.Table.{Property, EventType, isMin, isMax, isVersioned, atPlace}
+use Rattle.ontology.specs.code.TypeIndex.{PropertyIs, hasMax, TypeIs}
 use Rattle.ontology.specs.declared.properties.PropertyAt.{PropertyAt}
 use Rattle.ontology.specs.declared.types.TypeIndex.{TypeIndex}
-use Rattle.event.specs.Event.{atPlace, view}
+use Rattle.ontology.proofs.TypeIndexLaws.{max-of}
+use Rattle.event.specs.Event.{typeView, eventView}
 use Rattle.event.specs.EventLayout.{setBytes, setsBytes, presenceBit, bitNumber}
 use Rattle.event.specs.EventQuestions.{areInSpace, matchCount, valuesFit}
-use Rattle.event.specs.EventIndex.{SetIs, noSet, bitOf}
+use Rattle.event.specs.code.EventIndex.{SetIs, noSet, bitOf}
 use Rattle.event.specs.declared.sets.SetAt.{SetAt}
 use Rattle.event.proofs.BitLaws.{FilledTo, presence-bits}
 use Rattle.event.proofs.EventLayoutLaws.{SetWritten}
 use Rattle.event.proofs.EventQuestionLaws.{all-at, each-place-at, empty-written, choice-least, no-value, one-value, one-in-space}
-use Rattle.dossier.specs.DossierLayout.{readSnapshot, differBit, snapshotBytes}
+use Rattle.event.proofs.SetWriteLaws.{set-room, wrote-set}
+use Rattle.unions.specs.code.Runs.{TextsRoom}
+use Rattle.dossier.specs.DossierBody.{readSnapshot, differBit, snapshotBytes}
 use Rattle.dossier.specs.DossierQuestions.{eachCell, isVacant, isPresent, isLone, isLoneIfExtreme, snapshotValues}
-use Rattle.dossier.specs.DossierIndex.{SnapshotIs, cellFits, versionFits, snapshotFits}
+use Rattle.dossier.specs.code.DossierIndex.{SnapshotIs, cellFits, versionFits, snapshotFits}
 use Rattle.dossier.specs.declared.snapshots.SnapshotIndex.{SnapshotIndex}
-use Rattle.dossier.proofs.DossierLayoutLaws.{snapshot-was}
+use Rattle.dossier.proofs.DossierBodyLaws.{snapshot-was}
 use Rattle.dossier.proofs.CellLaws.{held-at}
-use Rattle.combining.specs.CombineIndex.{isExtremeAt, Fitting, Meet}
-use Rattle.combining.specs.JoinedIndex.{haveObjects, PresentAre, Extremes, joinedSet, Paired, PlaceIs, PlaceRoom}
-use Rattle.combining.proofs.PlaceLaws.{set-room, wrote-set}
+use Rattle.combining.specs.code.CombineIndex.{isExtremeAt, Fitting, Meet}
+use Rattle.combining.specs.code.JoinedIndex.{haveObjects, PresentAre, Extremes, joinedSet, Paired, PlaceIs, PlaceRoom}
 use Rattle.combining.proofs.CheckLaws.{sets-held, none-differ}
 use Rattle.combining.proofs.ObjectLaws.{keeps-every, placeFits, fits-at}
 
@@ -95,8 +96,8 @@ extreme-at ty p h = go (getElem? (ty .properties) p) refl h
     go none e h = never (cc)
     go (some q) e h = record { what = q; is = e; extreme = h }
 
-least-at : (ty : EventType) (p : ℕ) (e : ExtremeAt ty p) → view ty .choice p ≡ least (extremeOrder (isMax (e .what)) (e .what .kind))
-unfolding view atPlace
+least-at : (ty : EventType) (p : ℕ) (e : ExtremeAt ty p) → typeView ty .choice p ≡ least (extremeOrder (isMax (e .what)) (e .what .kind))
+unfolding typeView eventView atPlace
 least-at ty p e = rw (e .is) (choice-least (e .what) (e .extreme))
 
 module _ (ty : EventType) (p : ℕ) (xs ys : List Text) where
@@ -111,7 +112,7 @@ module _ (ty : EventType) (p : ℕ) (xs ys : List Text) where
   -- it is empty only where both are
   pub joined-none : xs ≡ [] → ys ≡ [] → joinedSet ty p xs ys ≡ []
   unfolding joinCell held
-  joined-none a b = ap₂ (joinedSet ty p) a b ∙ go (view ty .choice p)
+  joined-none a b = ap₂ (joinedSet ty p) a b ∙ go (typeView ty .choice p)
     where
       go : (c : Choice) → held (joinCell false c (holds []) (holds [])) ≡ []
       go every = union-left-nil texts []
@@ -119,7 +120,7 @@ module _ (ty : EventType) (p : ℕ) (xs ys : List Text) where
 
   pub joined-some : 1 ≤ length xs + length ys → 1 ≤ length (joinedSet ty p xs ys)
   unfolding joinCell held
-  joined-some h = go (view ty .choice p)
+  joined-some h = go (typeView ty .choice p)
     where
       member : (m : List Text) (a : Text) → List·Memᴰ a m → 1 ≤ length m
       member (b ∷ m) a (List·Memᴰ·head q) = omega arith
@@ -209,14 +210,15 @@ module _ (t : TypeIndex) (p : ℕ) (a : List ℕ) (x : SetAt) (b : List ℕ) (y 
     -- the text of the chosen value is all of the set
     pub chosen-text :
         (d : PropertyAt) (v : Text) →
-        ((k : Kind) (xs ys : List Text) → SetIs a xs x → SetIs b ys y → Extremes k (getD (t .properties) p d .kind) xs ys → v ∷ [] ≡ take 1 (union (extremeOrder (eqb (getD (t .properties) p d .strategy) 2) k) xs ys)) →
+        ((k : Kind) (xs ys : List Text) → SetIs a xs x → SetIs b ys y → Extremes k (getD (t .properties) p d .kind) xs ys →
+        v ∷ [] ≡ take 1 (union (extremeOrder (hasMax (getD (t .properties) p d)) k) xs ys)) →
         text v ≡ flatten (map text (joinedSet (h .type) p (h .xs) (h .ys)))
     unfolding flatten
     chosen-text d v c =
         sym (append-nil (text v))
         ∙ ap (λ (l : List Text). flatten (map text l))
         (c (here .what .kind) (h .xs) (h .ys) (h .left) (h .right) (extremes d)
-        ∙ ap (λ (n : ℕ). take 1 (union (extremeOrder (eqb n 2) (here .what .kind)) (h .xs) (h .ys))) (property d .strategy)
+        ∙ ap (λ (largest : Bool). take 1 (union (extremeOrder largest (here .what .kind)) (h .xs) (h .ys))) (max-of (property d))
         ∙ sym (joined-extreme (h .type) p (h .xs) (h .ys) here))
 
   -- a union is all of the set elsewhere
@@ -385,23 +387,23 @@ module _ {table a b : List ℕ} {t : TypeIndex} {i j : SnapshotIndex} {ty : Even
   cells-long : (s : List ℕ) (z : Snapshot) (k : SnapshotIndex) → SnapshotIs s z k → length (z .cells) ≡ 32
   cells-long s z k w = sym (length-map (z .cells) held) ∙ w .sets .long
 
-  joined-cell : (p : ℕ) → joinCell (isVersioned ty) (view ty .choice p) (cellAt x p) (cellAt y p) ≡ holds (joined p)
+  joined-cell : (p : ℕ) → joinCell (isVersioned ty) (typeView ty .choice p) (cellAt x p) (cellAt y p) ≡ holds (joined p)
   joined-cell p =
-      ap (λ (v : Bool). joinCell v (view ty .choice p) (cellAt x p) (cellAt y p)) (h .unversioned)
-      ∙ ap₂ (joinCell false (view ty .choice p)) (plain-cell ty x (f .left-fits) (h .unversioned) p) (plain-cell ty y (f .right-fits) (h .unversioned) p)
-      ∙ go (view ty .choice p)
+      ap (λ (v : Bool). joinCell v (typeView ty .choice p) (cellAt x p) (cellAt y p)) (h .unversioned)
+      ∙ ap₂ (joinCell false (typeView ty .choice p)) (plain-cell ty x (f .left-fits) (h .unversioned) p) (plain-cell ty y (f .right-fits) (h .unversioned) p)
+      ∙ go (typeView ty .choice p)
     where
       go : (c : Choice) → joinCell false c (holds (setOf x p)) (holds (setOf y p)) ≡ holds (held (joinCell false c (holds (setOf x p)) (holds (setOf y p))))
       go every = unfold joinCell held in refl
       go (least O) = unfold joinCell held in refl
 
-  joined-cells : joinSnapshots (view ty) x y .cells ≡ map (λ p. holds (joined p)) (upTo 32)
-  unfolding view places
+  joined-cells : joinSnapshots (typeView ty) x y .cells ≡ map (λ p. holds (joined p)) (upTo 32)
+  unfolding typeView eventView places
   joined-cells =
-      join-map (view ty) x y (cells-long a x i (h .left)) (cells-long b y j (h .right))
-      ∙ map-same (λ p. joinCell (isVersioned ty) (view ty .choice p) (cellAt x p) (cellAt y p)) (λ p. holds (joined p)) (upTo 32) (λ p m. joined-cell p)
+      join-map (typeView ty) x y (cells-long a x i (h .left)) (cells-long b y j (h .right))
+      ∙ map-same (λ p. joinCell (isVersioned ty) (typeView ty .choice p) (cellAt x p) (cellAt y p)) (λ p. holds (joined p)) (upTo 32) (λ p m. joined-cell p)
 
-  joined-version : joinSnapshots (view ty) x y .version ≡ 0
+  joined-version : joinSnapshots (typeView ty) x y .version ≡ 0
   unfolding joinSnapshots
   joined-version = plain-version ty x (f .left-fits) (h .unversioned)
 
@@ -413,7 +415,7 @@ module _ {table a b : List ℕ} {t : TypeIndex} {i j : SnapshotIndex} {ty : Even
         presence-is a (getD (i .sets) p noSet) b (getD (j .sets) p noSet) (setOf x p) (setOf y p) (h .left .sets .each p m) (h .right .sets .each p m) ty p
         ∙ ap bitOf (sym (w .each p m)))
 
-    pub joined-bytes : snapshotBytes (joinSnapshots (view ty) x y) ≡ number 0 ++ number (bitNumber (map bitOf present)) ++ number 0 ++ setsFrom ty x y 0
+    pub joined-bytes : snapshotBytes (joinSnapshots (typeView ty) x y) ≡ number 0 ++ number (bitNumber (map bitOf present)) ++ number 0 ++ setsFrom ty x y 0
     unfolding snapshotBytes setsFrom upTo
     joined-bytes =
         ap₂ (λ (v : ℕ) (cs : List Cell). number v ++ number (bitNumber (map presenceBit (map held cs))) ++ number (bitNumber (map differBit cs)) ++ setsBytes (map held cs)) joined-version joined-cells
@@ -421,15 +423,15 @@ module _ {table a b : List ℕ} {t : TypeIndex} {i j : SnapshotIndex} {ty : Even
         ∙ ap (λ (bs : List ℕ). number 0 ++ number (bitNumber bs) ++ number 0 ++ setsBytes (map joined (upTo 32))) joined-bits
 
     -- its length, part by part
-    pub joined-length : length (snapshotBytes (joinSnapshots (view ty) x y)) ≡ length (number 0) + length (number (bitNumber (map bitOf present))) + length (number 0) + length (setsFrom ty x y 0)
+    pub joined-length : length (snapshotBytes (joinSnapshots (typeView ty) x y)) ≡ length (number 0) + length (number (bitNumber (map bitOf present))) + length (number 0) + length (setsFrom ty x y 0)
     joined-length = ap length joined-bytes ∙ simp length-append (omega arith)
 
     -- the numbers are written, and then the sets
     module _ {l l₁ l₂ l₃ : List ℕ} {at p q r : ℕ} (n : ℕ) (e : n ≡ bitNumber (map bitOf present)) (u : Wrote l at (number 0) l₁ p) (v : Wrote l₁ p (number n) l₂ q) (z : Wrote l₂ q (number 0) l₃ r) where
-      pub sets-room : at + length (snapshotBytes (joinSnapshots (view ty) x y)) ≤ length l → r + length (setsFrom ty x y 0) ≤ length l₃
+      pub sets-room : at + length (snapshotBytes (joinSnapshots (typeView ty) x y)) ≤ length l → r + length (setsFrom ty x y 0) ≤ length l₃
       sets-room k = omega (arith, joined-length, ap (λ (m : ℕ). length (number m)) e, u .after, v .after, z .after, wrote-length u, wrote-length v, wrote-length z)
 
-      pub joined-wrote : {l₄ : List ℕ} {m : ℕ} → Wrote l₃ r (setsFrom ty x y 0) l₄ m → Wrote l at (snapshotBytes (joinSnapshots (view ty) x y)) l₄ m
+      pub joined-wrote : {l₄ : List ℕ} {m : ℕ} → Wrote l₃ r (setsFrom ty x y 0) l₄ m → Wrote l at (snapshotBytes (joinSnapshots (typeView ty) x y)) l₄ m
       joined-wrote g =
           wrote-as (ap (λ (m : ℕ). number 0 ++ number m ++ number 0 ++ setsFrom ty x y 0) e ∙ sym joined-bytes) (wrote-then (wrote-then (wrote-then u v) z) g)
 

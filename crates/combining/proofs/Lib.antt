@@ -1,7 +1,6 @@
 -- The laws of the calls check an event and combine.
 pub mod LoneLaws
 pub mod CheckLaws
-pub mod PlaceLaws
 pub mod MeetLaws
 pub mod CountLaws
 pub mod ObjectLaws

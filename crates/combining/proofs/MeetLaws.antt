@@ -13,20 +13,20 @@ use Rattle.ontology.specs.Table.{EventType, Table, isVersioned}
 use Rattle.ontology.specs.declared.types.TypeIndex.{TypeIndex}
 use Rattle.ontology.proofs.TableLaws.{TypeKept, extreme-ordered}
 use Rattle.dossier.specs.DossierQuestions.{TypedDossier, snapshotValues, dossierMatch, dossiersAgree}
-use Rattle.dossier.specs.DossierIndex.{noSnapshot, snapshotFits}
+use Rattle.dossier.specs.code.DossierIndex.{noSnapshot, snapshotFits}
 use Rattle.dossier.specs.declared.dossiers.DossierIndex.{DossierIndex}
-use Rattle.dossier.proofs.DossierLayoutLaws.{snapshot-was}
+use Rattle.dossier.proofs.DossierBodyLaws.{snapshot-was}
 use Rattle.dossier.proofs.DossierQuestionLaws.{agree-exact}
 use Rattle.dossier.proofs.AcceptedLaws.{DossierTaken, dossier-taken, taken-written, taken-kept, taken-fits, taken-values, one-type}
-use Rattle.combining.specs.CombineIndex.{Known, Combinable, Fitting, Meet}
+use Rattle.combining.specs.code.CombineIndex.{Known, Combinable, Fitting, Meet}
 
 -- a snapshot's key
 abbrev pub versionIn : Snapshot → ℕ
 versionIn s = s .version
 
 -- the versions of the snapshots rise
-pub taken-rises : {types : Table} {s : List ℕ} {a : TypedDossier} → DossierTaken types s a → Rising numbers versionIn (a .headed .dossier .snapshots)
-taken-rises {types} {s} {a} w = let ss = a .headed .dossier .snapshots in rising-keys numbers versionIn ss .1 (rising-ups numbers (map versionIn ss) .0 (taken-written w .rises))
+pub taken-rises : {types : Table} {s : List ℕ} {a : TypedDossier} → DossierTaken types s a → Rising numbers versionIn (a .headed .snapshots)
+taken-rises {types} {s} {a} w = let ss = a .headed .snapshots in rising-keys numbers versionIn ss .1 (rising-ups numbers (map versionIn ss) .0 (taken-written w .body .rises))
 
 module _ {table a b : List ℕ} {t : TypeIndex} (k : Known table a b t) where
   pub left-taken : DossierTaken (k .types) a (k .left)
@@ -39,19 +39,19 @@ module _ {table a b : List ℕ} {t : TypeIndex} (k : Known table a b t) where
   pub same-type : k .left .type ≡ k .right .type
   unfolding dossiersAgree
   same-type =
-      one-type left-taken right-taken (agree-exact (k .left .headed .type) (k .left .headed .source) (dossierMatch (k .left .type) (k .left .headed .dossier .snapshots)) (k .right .headed .type) (k .right .headed .source) (dossierMatch (k .right .type) (k .right .headed .dossier .snapshots)) .0 (k .agree) .0)
+      one-type left-taken right-taken (agree-exact (k .left .headed .head .type) (k .left .headed .head .source) (dossierMatch (k .left .type) (k .left .headed .snapshots)) (k .right .headed .head .type) (k .right .headed .head .source) (dossierMatch (k .right .type) (k .right .headed .snapshots)) .0 (k .agree) .0)
 
   pub kept : TypeKept (k .left .type)
   kept = taken-kept left-taken table (k .is)
 
 module _
     {table a : List ℕ} {d : DossierIndex} {b : List ℕ} {e : DossierIndex} {t : TypeIndex} (c : Combinable table a d b e t)
-    (i j : ℕ) (l : i < length (c .known .left .headed .dossier .snapshots)) (m : j < length (c .known .right .headed .dossier .snapshots)) where
+    (i j : ℕ) (l : i < length (c .known .left .headed .snapshots)) (m : j < length (c .known .right .headed .snapshots)) where
   abbrev leftOne : Snapshot
-  leftOne = getD (c .known .left .headed .dossier .snapshots) i noSnapshot
+  leftOne = getD (c .known .left .headed .snapshots) i noSnapshot
 
   abbrev rightOne : Snapshot
-  rightOne = getD (c .known .right .headed .dossier .snapshots) j noSnapshot
+  rightOne = getD (c .known .right .headed .snapshots) j noSnapshot
 
   fitting : leftOne .version ≡ rightOne .version → Fitting (c .known .left .type) leftOne rightOne
   fitting h = record {

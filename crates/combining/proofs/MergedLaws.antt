@@ -6,36 +6,40 @@ use Prim.Native.Nat.{ℕ, zero, suc, _+_, _-_, _≤_, _<_, Ordering·lt}
 use native.Mathlib.Omega.{arith}
 use lib.Dec.{leb}
 use lib.ListN.{length, take, drop, getD, length-append, drop-of-length-le, List·getD-map}
-use lib.Seq.{drop-cons, drop-drop}
+use lib.Seq.{drop-cons, drop-drop, take-at}
 use borrow.Author.Tests.{lt-ltb, le-ltb, le-leb, lt-leb}
-use Rattle.model.specs.Order.{Text, texts, numbers, pick}
+use Rattle.model.specs.Order.{texts, numbers, pick}
 use Rattle.model.proofs.Cases.{three}
 use Rattle.model.specs.Keyed.{Rising, merge}
 use Rattle.model.specs.Sets.{union}
 use Rattle.model.specs.Rule.{Snapshot, joinSnapshots, combine}
 use Rattle.model.proofs.OrderLaws.{less-of, less-cmp, less-turn, more-turn}
 use Rattle.model.proofs.KeyedLaws.{merge-left, merge-right, merge-meet, merge-nil, above-trans}
-use Rattle.packed.specs.Packed.{number, text}
-use Rattle.packed.specs.Located.{part}
-use Rattle.packed.specs.Written.{Wrote}
-use Rattle.packed.proofs.WriteLaws.{wrote-then, ToGo, to-go, gone, all-gone}
-use Rattle.packed.proofs.ReadLaws.{to-end}
+use Rattle.model.specs.Limits.{fits, standard}
+use Rattle.packed.specs.Packed.{number, part}
+use Rattle.packed.specs.code.Written.{Wrote}
+use Rattle.packed.proofs.WriteLaws.{wrote-then, ToGo, to-go, gone, all-gone, wrote-between, wrote-length}
+use Rattle.packed.proofs.ReadLaws.{to-end, stretch}
 use Rattle.values.specs.declared.versions.EventVersion.{EventVersion}
 use Rattle.ontology.specs.Table.{EventType, isVersioned}
-use Rattle.ontology.specs.TypeIndex.{TypeIs}
+use Rattle.ontology.specs.code.TypeIndex.{TypeIs}
 use Rattle.ontology.specs.declared.types.TypeIndex.{TypeIndex}
-use Rattle.event.specs.Event.{view}
-use Rattle.event.specs.EventLayout.{parentsBytes, headBytes}
-use Rattle.event.proofs.SetLaws.{stretch}
+use Rattle.event.specs.Event.{typeView}
+use Rattle.event.specs.Head.{Head}
+use Rattle.event.specs.code.EventIndex.{HeadParts}
+use Rattle.event.proofs.HeadLayoutLaws.{hashes-size}
 use Rattle.unions.proofs.RunLaws.{part-then}
-use Rattle.dossier.specs.DossierLayout.{Headed, snapshotBytes, dossierBytes}
-use Rattle.dossier.specs.DossierIndex.{noSnapshot, versionNumbers, SnapshotIs, SnapshotsAre, DossierIs}
+use Rattle.dossier.specs.DossierLayout.{Headed, dossierBytes}
+use Rattle.dossier.specs.DossierBody.{snapshotBytes, bodyBytes}
+use Rattle.dossier.specs.code.DossierIndex.{noSnapshot, versionNumbers, SnapshotIs, SnapshotsAre, DossierIs}
 use Rattle.dossier.specs.declared.snapshots.SnapshotIndex.{SnapshotIndex}
 use Rattle.dossier.specs.declared.dossiers.DossierIndex.{DossierIndex}
 use Rattle.dossier.proofs.AskLaws.{first-stands}
+use Rattle.dossier.specs.DossierHead.{dossierHeadBytes}
+use Rattle.combining.proofs.RoomLaws.{combined-parents}
 use Rattle.combining.specs.CombineCall.{headedAs, combined}
-use Rattle.combining.specs.CombineIndex.{Combinable, Meet, AgreedRoom, JoinedRoom}
-use Rattle.combining.specs.WriteIndex.{SharedRoom, bytesFrom, RestRoom, nextSnapshot, stepBy, nextBytes, NextRoom, HeadsAre}
+use Rattle.combining.specs.code.CombineIndex.{Combinable, Meet, AgreedRoom, JoinedRoom}
+use Rattle.combining.specs.code.WriteIndex.{SharedRoom, bytesFrom, RestRoom, nextSnapshot, stepBy, nextBytes, NextRoom, HeadsAre, bothHeads}
 use Rattle.combining.proofs.MeetLaws.{versionIn, taken-rises, left-taken, right-taken, meet}
 use Rattle.combining.proofs.CountLaws.{versionAt, version-at}
 use Rattle.combining.proofs.FitLaws.{left-hashes, right-hashes, whole-versions, left-one, right-one}
@@ -105,7 +109,7 @@ module _ (s : List ℕ) (xs : List Snapshot) (starts ends : List ℕ) (versions 
 
 module _ (s : List ℕ) (d : DossierIndex) (h : Headed) (w : DossierIs s h d) (i : ℕ) where
   abbrev these : List Snapshot
-  these = h .dossier .snapshots
+  these = h .snapshots
 
   pub rest-none : d .count ≤ i → bytesFrom these i ≡ []
   rest-none l = bytes-none these i (omega (arith, w .count))
@@ -135,9 +139,9 @@ next-more : (ty : EventType) (x y : Snapshot) → y .version < x .version → ne
 unfolding nextSnapshot
 next-more ty x y l = rw (less-turn numbers (y .version) (x .version) (less-cmp (y .version) (x .version) l))
 
-next-same : (ty : EventType) (x y : Snapshot) → x .version ≡ y .version → nextSnapshot ty x y ≡ joinSnapshots (view ty) x y
+next-same : (ty : EventType) (x y : Snapshot) → x .version ≡ y .version → nextSnapshot ty x y ≡ joinSnapshots (typeView ty) x y
 unfolding nextSnapshot
-next-same ty x y e = ap (λ (o : _). pick o x (joinSnapshots (view ty) x y) y) (ap (numbers .cmp (x .version)) (sym e) ∙ numbers .self (x .version))
+next-same ty x y e = ap (λ (o : _). pick o x (joinSnapshots (typeView ty) x y) y) (ap (numbers .cmp (x .version)) (sym e) ∙ numbers .self (x .version))
 
 -- ---- how far the sides go on
 
@@ -173,12 +177,12 @@ step-one v w =
 
 -- ---- the snapshots of both sides
 
-join-keeps : (ty : EventType) (x y : Snapshot) → x .version ≡ y .version → joinSnapshots (view ty) x y .version ≡ x .version
+join-keeps : (ty : EventType) (x y : Snapshot) → x .version ≡ y .version → joinSnapshots (typeView ty) x y .version ≡ x .version
 unfolding joinSnapshots
 join-keeps ty x y e = refl
 
 abbrev mergedOf : EventType → List Snapshot → List Snapshot → List Snapshot
-mergedOf ty xs ys = merge numbers versionIn (joinSnapshots (view ty)) xs ys
+mergedOf ty xs ys = merge numbers versionIn (joinSnapshots (typeView ty)) xs ys
 
 -- the sides have come to the snapshots x and y
 merge-next : (ty : EventType) (x : Snapshot) (xs : List Snapshot) (y : Snapshot) (ys : List Snapshot) →
@@ -193,17 +197,17 @@ merge-next ty x xs y ys hx hy =
     less : numbers .cmp (x .version) (y .version) ≡ Ordering·lt → x .version < y .version → mergedOf ty (x ∷ xs) (y ∷ ys) ≡ nextSnapshot ty x y ∷ mergedOf ty (drop (stepBy (x .version) (y .version)) (x ∷ xs)) (drop (stepBy (y .version) (x .version)) (y ∷ ys))
     less l h =
         rw (next-less ty x y h, step-on (x .version) (y .version) (omega arith), step-none (y .version) (x .version) h)
-        (merge-left numbers versionIn (joinSnapshots (view ty)) (join-keeps ty) x xs (y ∷ ys) (hx .0) (l, above-trans numbers versionIn (x .version) (y .version) ys l (hy .0)))
+        (merge-left numbers versionIn (joinSnapshots (typeView ty)) (join-keeps ty) x xs (y ∷ ys) (hx .0) (l, above-trans numbers versionIn (x .version) (y .version) ys l (hy .0)))
 
     same : x .version ≡ y .version → mergedOf ty (x ∷ xs) (y ∷ ys) ≡ nextSnapshot ty x y ∷ mergedOf ty (drop (stepBy (x .version) (y .version)) (x ∷ xs)) (drop (stepBy (y .version) (x .version)) (y ∷ ys))
     same e =
         rw (next-same ty x y e, step-on (x .version) (y .version) (omega arith), step-on (y .version) (x .version) (omega arith))
-        (merge-meet numbers versionIn (joinSnapshots (view ty)) (join-keeps ty) x xs y ys (hx .0) e)
+        (merge-meet numbers versionIn (joinSnapshots (typeView ty)) (join-keeps ty) x xs y ys (hx .0) e)
 
     more : numbers .cmp (y .version) (x .version) ≡ Ordering·lt → y .version < x .version → mergedOf ty (x ∷ xs) (y ∷ ys) ≡ nextSnapshot ty x y ∷ mergedOf ty (drop (stepBy (x .version) (y .version)) (x ∷ xs)) (drop (stepBy (y .version) (x .version)) (y ∷ ys))
     more l h =
         rw (next-more ty x y h, step-none (x .version) (y .version) h, step-on (y .version) (x .version) (omega arith))
-        (merge-right numbers versionIn (joinSnapshots (view ty)) (join-keeps ty) (x ∷ xs) y ys (l, above-trans numbers versionIn (y .version) (x .version) xs l (hx .0)))
+        (merge-right numbers versionIn (joinSnapshots (typeView ty)) (join-keeps ty) (x ∷ xs) y ys (l, above-trans numbers versionIn (y .version) (x .version) xs l (hx .0)))
 
 merge-at : (ty : EventType) (xs ys : List Snapshot) (i j : ℕ) → i < length xs → j < length ys →
     Rises (drop i xs) → Rises (drop j ys) →
@@ -222,10 +226,10 @@ merge-at ty xs ys i j l m hx hy =
 
 module _ {table a b : List ℕ} {d e : DossierIndex} {t : TypeIndex} (c : Combinable table a d b e t) where
   abbrev lefts : List Snapshot
-  lefts = c .known .left .headed .dossier .snapshots
+  lefts = c .known .left .headed .snapshots
 
   abbrev rights : List Snapshot
-  rights = c .known .right .headed .dossier .snapshots
+  rights = c .known .right .headed .snapshots
 
   -- the bytes of them all
   abbrev snapshotsPart : List ℕ
@@ -250,7 +254,7 @@ module _ {table a b : List ℕ} {d e : DossierIndex} {t : TypeIndex} (c : Combin
   merged-left i j h =
       ap (λ (ss : List Snapshot). flatten (map snapshotBytes ss))
       (ap (mergedOf (c .known .left .type) (drop i lefts)) (drop-of-length-le rights {i = j} (omega (arith, c .right-read .count)))
-      ∙ merge-nil numbers versionIn (joinSnapshots (view (c .known .left .type))) (join-keeps (c .known .left .type)) (drop i lefts) (left-rising i))
+      ∙ merge-nil numbers versionIn (joinSnapshots (typeView (c .known .left .type))) (join-keeps (c .known .left .type)) (drop i lefts) (left-rising i))
 
   pub merged-right : (i j : ℕ) → d .count ≤ i → mergedBytes i j ≡ bytesFrom rights j
   unfolding merge
@@ -311,7 +315,7 @@ module _ {table a b : List ℕ} {d e : DossierIndex} {t : TypeIndex} (c : Combin
 
     pub next-both :
         versionAt (e .versions) j ≤ versionAt (d .versions) i → versionAt (d .versions) i ≤ versionAt (e .versions) j →
-        snapshotBytes (joinSnapshots (view (c .known .left .type)) leftOne rightOne) ≡ nextBytes c i j
+        snapshotBytes (joinSnapshots (typeView (c .known .left .type)) leftOne rightOne) ≡ nextBytes c i j
     next-both h k = ap snapshotBytes (sym (next-same (c .known .left .type) leftOne rightOne (one-version h k)))
 
     -- the two of one version meet where they start
@@ -385,25 +389,33 @@ module _ {table a b : List ℕ} {d e : DossierIndex} {t : TypeIndex} (c : Combin
 
   -- ---- the head
 
-  pub heads-are : HeadsAre a d b e (c .known .left .headed .type) (c .known .left .headed .source) (c .known .left .headed .dossier .parents) (c .known .right .headed .dossier .parents)
-  heads-are =
+  abbrev pub leftHead : Head
+  leftHead = c .known .left .headed .head
+
+  abbrev pub rightHead : Head
+  rightHead = c .known .right .headed .head
+
+  pub heads-are :
+      fits standard (typeView (c .known .left .type)) (combined (c .known .left) (c .known .right)) ≡ true → HeadsAre a d b e leftHead rightHead
+  unfolding combined combine
+  heads-are inside =
       let x = left-hashes table a d b e t c in
       let y = right-hashes table a d b e t c in
       record {
         left = c .left-read .head;
-        type′ = c .known .right .headed .type;
-        source′ = c .known .right .headed .source;
         right = c .right-read .head;
         left-each = x .0;
         right-each = y .0;
         left-rise = x .1;
         right-rise = y .1;
+        few = combined-parents c inside .within;
+        both-each = combined-parents c inside .each;
       }
 
   -- ---- the whole
 
-  abbrev headPart : List ℕ
-  headPart = headBytes (c .known .left .headed .type) (c .known .left .headed .source) (union texts (c .known .left .headed .dossier .parents) (c .known .right .headed .dossier .parents))
+  abbrev pub headPart : List ℕ
+  headPart = dossierHeadBytes (bothHeads leftHead rightHead)
 
   pub versions-counted :
       (n : ℕ) → n ≡ length (union numbers (versionNumbers (take (d .count) (d .versions))) (versionNumbers (take (e .count) (e .versions)))) →
@@ -412,24 +424,27 @@ module _ {table a b : List ℕ} {d e : DossierIndex} {t : TypeIndex} (c : Combin
 
   module _ (n : ℕ) (is : n ≡ length (combined (c .known .left) (c .known .right) .snapshots)) where
     pub combined-length : length (dossierBytes (headedAs (c .known .left .headed) (combined (c .known .left) (c .known .right)))) ≡ length headPart + length (number n) + length snapshotsPart
-    unfolding dossierBytes combined combine
-    combined-length = rw is (simp length-append refl)
+    unfolding dossierBytes bodyBytes combined combine
+    combined-length = rw is (simp length-append (omega arith))
 
     pub wrote-combined : {l l₁ l₂ l₃ : List ℕ} {x y z : ℕ} → Wrote l 0 headPart l₁ x → Wrote l₁ x (number n) l₂ y → Wrote l₂ y snapshotsPart l₃ z → Wrote l 0 (dossierBytes (headedAs (c .known .left .headed) (combined (c .known .left) (c .known .right)))) l₃ z
-    unfolding dossierBytes combined combine
-    wrote-combined {l} {l₁} {l₂} {l₃} {x} {y} {z} p q r = wrote-then (wrote-then p (subst (λ (k : ℕ). Wrote l₁ x (number k) l₂ y) is q)) r
+    unfolding dossierBytes bodyBytes combined combine
+    wrote-combined {l} {l₁} {l₂} {l₃} {x} {y} {z} p q r =
+        wrote-then p (wrote-then (subst (λ (k : ℕ). Wrote l₁ x (number k) l₂ y) is q) r)
 
--- ---- the writing of a head
+-- ---- the union of the parents, made apart
 
-module _ (type source : Text) (hs : List Text) where
-  pub head-length : length (headBytes type source hs) ≡ length (text type) + length (text source) + length (number (length hs)) + length (flatten hs)
-  unfolding headBytes parentsBytes
-  head-length = simp length-append (omega arith)
+pub union-room : {a b : List ℕ} {d e : DossierIndex} {g h : Head} → HeadsAre a d b e g h → length (flatten (union texts (g .parents) (h .parents))) ≤ 640
+union-room {g = g} {h = h} w = omega (arith, w .few, hashes-size (union texts (g .parents) (h .parents)) (w .both-each))
 
-  pub wrote-head : {l l₁ l₂ l₃ l₄ v w : List ℕ} {n x y z u : ℕ} → v ≡ type → w ≡ source → n ≡ length hs →
-      Wrote l 0 (text v) l₁ x → Wrote l₁ x (text w) l₂ y → Wrote l₂ y (number n) l₃ z → Wrote l₃ z (flatten hs) l₄ u → Wrote l 0 (headBytes type source hs) l₄ u
-  unfolding headBytes parentsBytes
-  wrote-head {l} {l₁} {l₂} {l₃} {l₄} {v} {w} {n} {x} {y} {z} {u} e f g p q r s =
-      wrote-then
-      (wrote-then (subst (λ (k : List ℕ). Wrote l 0 (text k) l₁ x) e p) (subst (λ (k : List ℕ). Wrote l₁ x (text k) l₂ y) f q))
-      (wrote-then (subst (λ (k : ℕ). Wrote l₂ y (number k) l₃ z) g r) s)
+-- the bytes in front of where it ends are the hashes
+pub union-part : {l xs l₁ : List ℕ} {n : ℕ} → length xs ≤ length l → Wrote l 0 xs l₁ n → (n ≤ length l₁) × (part l₁ 0 n ≡ xs)
+union-part {l} {xs} {l₁} {n} r w =
+    let e = wrote-between (omega arith) w in
+    let k : n - 0 ≡ length xs = omega (arith, w .after) in
+    (omega (arith, w .after, wrote-length w), ap (take (n - 0)) e ∙ take-at xs (drop n l) (n - 0) (sym k))
+
+pub both-parts :
+    {a b name source hashes : List ℕ} {d e : DossierIndex} {g h : Head} → HeadsAre a d b e g h →
+    name ≡ g .type → source ≡ g .source → hashes ≡ flatten (union texts (g .parents) (h .parents)) → HeadParts name source hashes (bothHeads g h)
+both-parts w x y z = record { type = x; uri = y; parents = z; each = w .both-each }

@@ -6,7 +6,7 @@ use mathlib.Core.List.{List, [], _∷_, map}
 use Prim.Native.Nat.{ℕ, zero, suc, _+_, _-_, _≤_, _<_}
 use native.Mathlib.Omega.{arith}
 use native.Mathlib.Numerals.{add-one}
-use lib.Dec.{leb, eqb}
+use lib.Dec.{leb}
 use lib.ListN.{length, take, drop, getD, getElem?, length-map, drop-of-length-le}
 use lib.Seq.{drop-cons}
 use borrow.Author.Tests.{le-leb, lt-leb, leb-true}
@@ -19,22 +19,24 @@ use Rattle.model.specs.Opening.{cellAt, isMark, held}
 use Rattle.model.proofs.PartLaws.{length-upTo}
 use Rattle.model.proofs.StepLaws.{join-map, join-at}
 use Rattle.model.proofs.SizeLaws.{held-size}
-use Rattle.ontology.specs.Table.{Property, EventType, isMin, isMax, isVersioned}
-use Rattle.ontology.specs.TypeIndex.{TypeIs}
+use Rattle.ontology.specs.Table.{Property, EventType, isMin, isMax, isVersioned, atPlace}
+use Rattle.ontology.specs.code.TypeIndex.{hasExtreme, TypeIs}
 use Rattle.ontology.specs.declared.properties.PropertyAt.{PropertyAt}
 use Rattle.ontology.specs.declared.types.TypeIndex.{TypeIndex}
+use Rattle.ontology.proofs.TypeIndexLaws.{extreme-of}
 use Rattle.ontology.proofs.RunLaws.{no-element}
-use Rattle.event.specs.Event.{choiceOf, atPlace, view}
-use Rattle.event.specs.EventIndex.{SetIs, SetsAre, noSet}
+use Rattle.event.specs.Event.{choiceOf, typeView, eventView}
+use Rattle.event.specs.code.EventIndex.{SetIs, SetsAre, noSet}
 use Rattle.event.specs.declared.sets.SetAt.{SetAt}
 use Rattle.event.specs.EventQuestions.{isEmpty, matchCount}
 use Rattle.event.proofs.EventLayoutLaws.{SetWritten}
 use Rattle.event.proofs.EventQuestionLaws.{all-at, empty-written, choice-every, choice-least}
+use Rattle.event.proofs.MatchLaws.{elem}
 use Rattle.dossier.specs.DossierQuestions.{eachCell, isVacant, isPresent, isLone, isLoneIfExtreme, isUnmarkedMatch}
-use Rattle.dossier.specs.DossierIndex.{cellFits, versionFits, snapshotFits}
-use Rattle.dossier.proofs.CellLaws.{elem, held-at, leb-sub}
-use Rattle.dossier.proofs.DossierLayoutLaws.{SnapshotWritten, snapshot-cells, snapshot-was}
-use Rattle.combining.specs.CombineIndex.{isExtremeAt, Meet}
+use Rattle.dossier.specs.code.DossierIndex.{cellFits, versionFits, snapshotFits}
+use Rattle.dossier.proofs.CellLaws.{held-at, leb-sub}
+use Rattle.dossier.proofs.DossierBodyLaws.{SnapshotWritten, snapshot-cells, snapshot-was}
+use Rattle.combining.specs.code.CombineIndex.{isExtremeAt, Meet}
 
 -- ---- strategy min or max
 
@@ -44,15 +46,11 @@ module _ (u : List ℕ) (ty : EventType) (t : TypeIndex) (k : ℕ) (w : TypeIs u
   extreme-past h = sym (ap (atPlace false (λ (q : Property). isMin q || isMax q)) (no-element (ty .properties) k (omega (arith, w .count))))
 
   module _ (d : PropertyAt) (h : k < t .count) where
-    abbrev strategy : ℕ
-    strategy = getD (t .properties) k d .strategy
-
-    pub extreme-here : isExtremeAt ty k ≡ (eqb strategy 1 || eqb strategy 2)
+    pub extreme-here : isExtremeAt ty k ≡ hasExtreme (getD (t .properties) k d)
     unfolding isExtremeAt atPlace
     extreme-here =
         let e = elem (ty .properties) k (omega (arith, w .count)) in
-        ap (atPlace false (λ (q : Property). isMin q || isMax q)) (e .is)
-        ∙ ap (λ (n : ℕ). eqb n 1 || eqb n 2) (sym (w .are .each k (e .what) d (e .is) .strategy))
+        ap (atPlace false (λ (q : Property). isMin q || isMax q)) (e .is) ∙ sym (extreme-of (w .are .each k (e .what) d (e .is)))
 
 -- ---- which values such a place keeps
 
@@ -61,16 +59,16 @@ pub record KeepsLeast (c : Choice) : Type 0 where
   pub is : c ≡ least order
 
 module _ (ty : EventType) (k : ℕ) where
-  pub keeps-least : isExtremeAt ty k ≡ true → KeepsLeast (view ty .choice k)
-  unfolding isExtremeAt atPlace view
+  pub keeps-least : isExtremeAt ty k ≡ true → KeepsLeast (typeView ty .choice k)
+  unfolding isExtremeAt atPlace typeView eventView
   keeps-least h = go (getElem? (ty .properties) k) h
     where
       go : (m : Option Property) → atPlace false (λ (q : Property). isMin q || isMax q) m ≡ true → KeepsLeast (atPlace every choiceOf m)
       go none h = never (cc)
       go (some q) h = record { order = _; is = choice-least q h }
 
-  pub keeps-every : isExtremeAt ty k ≡ false → view ty .choice k ≡ every
-  unfolding isExtremeAt atPlace view
+  pub keeps-every : isExtremeAt ty k ≡ false → typeView ty .choice k ≡ every
+  unfolding isExtremeAt atPlace typeView eventView
   keeps-every h = go (getElem? (ty .properties) k) h
     where
       go : (m : Option Property) → atPlace false (λ (q : Property). isMin q || isMax q) m ≡ false → atPlace every choiceOf m ≡ every
@@ -99,7 +97,7 @@ module _ (O : Order Text) where
 
 module _ (ty : EventType) (k : ℕ) (xs ys : List Text) where
   abbrev together : ℕ
-  together = length (held (joinCell false (view ty .choice k) (holds xs) (holds ys)))
+  together = length (held (joinCell false (typeView ty .choice k) (holds xs) (holds ys)))
 
   pub count-every : isExtremeAt ty k ≡ false → length (union texts xs ys) ≡ together
   unfolding joinCell held
@@ -195,14 +193,14 @@ module _ (a b : List ℕ) (ty : EventType) (x y : Snapshot) (un : isVersioned ty
   right-written = snapshot-was b y (m .right-rest) (m .right-read) .1
 
   abbrev joined : List Cell
-  joined = joinSnapshots (view ty) x y .cells
+  joined = joinSnapshots (typeView ty) x y .cells
 
-  joined-map : joined ≡ map (λ p. joinCell (isVersioned ty) (view ty .choice p) (cellAt x p) (cellAt y p)) (upTo 32)
-  unfolding view places
-  joined-map = join-map (view ty) x y (snapshot-cells x left-written) (snapshot-cells y right-written)
+  joined-map : joined ≡ map (λ p. joinCell (isVersioned ty) (typeView ty .choice p) (cellAt x p) (cellAt y p)) (upTo 32)
+  unfolding typeView eventView places
+  joined-map = join-map (typeView ty) x y (snapshot-cells x left-written) (snapshot-cells y right-written)
 
   joined-long : length joined ≡ 32
-  joined-long = ap length joined-map ∙ length-map (upTo 32) (λ p. joinCell (isVersioned ty) (view ty .choice p) (cellAt x p) (cellAt y p)) ∙ length-upTo 32
+  joined-long = ap length joined-map ∙ length-map (upTo 32) (λ p. joinCell (isVersioned ty) (typeView ty .choice p) (cellAt x p) (cellAt y p)) ∙ length-upTo 32
 
   pub objects-end : (k room : ℕ) → 32 ≤ k → true ≡ leb (sizes (drop k joined)) room
   unfolding sizes
@@ -221,16 +219,16 @@ module _ (a b : List ℕ) (ty : EventType) (x y : Snapshot) (un : isVersioned ty
     pub right-set : (sets : List SetAt) → SetsAre b (map held (y .cells)) sets → SetIs b (held (getD (y .cells) k (holds []))) (getD sets k noSet)
     right-set sets r = subst (λ (vs : List Text). SetIs b vs (getD sets k noSet)) (held-at (y .cells) k) (r .each k h)
 
-    joined-at : getD joined k (holds []) ≡ joinCell false (view ty .choice k) (holds (held (getD (x .cells) k (holds [])))) (holds (held (getD (y .cells) k (holds []))))
+    joined-at : getD joined k (holds []) ≡ joinCell false (typeView ty .choice k) (holds (held (getD (x .cells) k (holds [])))) (holds (held (getD (y .cells) k (holds []))))
     unfolding cellAt
     joined-at =
-        wide ∙ ap (λ (v : Bool). joinCell v (view ty .choice k) (getD (x .cells) k (holds [])) (getD (y .cells) k (holds []))) un
-        ∙ ap₂ (joinCell false (view ty .choice k)) (left-cell .holds-it) (right-cell .holds-it)
+        wide ∙ ap (λ (v : Bool). joinCell v (typeView ty .choice k) (getD (x .cells) k (holds [])) (getD (y .cells) k (holds []))) un
+        ∙ ap₂ (joinCell false (typeView ty .choice k)) (left-cell .holds-it) (right-cell .holds-it)
       where
-        wide : getD joined k (holds []) ≡ joinCell (isVersioned ty) (view ty .choice k) (getD (x .cells) k (holds [])) (getD (y .cells) k (holds []))
-        wide = unfold view in join-at (view ty) x y (snapshot-cells x left-written) (snapshot-cells y right-written) k h
+        wide : getD joined k (holds []) ≡ joinCell (isVersioned ty) (typeView ty .choice k) (getD (x .cells) k (holds [])) (getD (y .cells) k (holds []))
+        wide = unfold typeView eventView in join-at (typeView ty) x y (snapshot-cells x left-written) (snapshot-cells y right-written) k h
 
-    module _ (n room : ℕ) (e : n ≡ length (held (joinCell false (view ty .choice k) (holds (held (getD (x .cells) k (holds [])))) (holds (held (getD (y .cells) k (holds []))))))) where
+    module _ (n room : ℕ) (e : n ≡ length (held (joinCell false (typeView ty .choice k) (holds (held (getD (x .cells) k (holds [])))) (holds (held (getD (y .cells) k (holds []))))))) where
       objects-step : sizes (drop k joined) ≡ n + sizes (drop (k + 1) joined)
       unfolding sizes
       objects-step =

@@ -9,7 +9,7 @@ use lib.ListN.{length, take, length-append, length-map}
 use Rattle.model.specs.Order.{Order, Text, texts, numbers, sets, equal}
 use Rattle.model.specs.Keyed.{put, merge}
 use Rattle.model.specs.Sets.{Within, union}
-use Rattle.model.specs.Rule.{Cell, holds, differs, Choice, every, least, View, places, Snapshot, joinCell, joinCells, joinSnapshots, combine, size, sizes, objects}
+use Rattle.model.specs.Rule.{Cell, holds, differs, Choice, every, least, TypeView, places, Snapshot, joinCell, joinCells, joinSnapshots, combine, size, sizes, objects}
 use Rattle.model.specs.Limits.{standard, fits}
 use Rattle.model.specs.Opening.{held}
 use Rattle.model.proofs.Cases.{three, truth}
@@ -17,24 +17,26 @@ use Rattle.model.proofs.SetLaws.{rising-ups, ups-union, union-of}
 use Rattle.model.proofs.LimitLaws.{fits-bounds}
 use Rattle.model.proofs.ValidLaws.{take-of}
 use Rattle.packed.proofs.LayoutLaws.{All, number-bounds}
+use Rattle.replies.specs.Capacities.{dossierCapacity}
 use Rattle.ontology.specs.Table.{EventType, Table, isVersioned}
 use Rattle.ontology.specs.TableLayout.{tableOf}
-use Rattle.ontology.specs.Questions.{leastRoom}
-use Rattle.event.specs.Event.{objectCount, view}
+use Rattle.ontology.specs.declared.types.TypeIndex.{TypeIndex}
+use Rattle.event.specs.Event.{objectCount, typeView, eventView}
 use Rattle.event.specs.EventLayout.{presenceBit, bitNumber}
-use Rattle.event.proofs.EventLayoutLaws.{ParentsWritten}
-use Rattle.event.proofs.EventSizeLaws.{ValuesShort, head-size, sets-size, each-within}
+use Rattle.event.proofs.HeadLayoutLaws.{ParentsWritten}
+use Rattle.event.proofs.EventSizeLaws.{ValuesShort, sets-size, each-within}
 use Rattle.event.proofs.EventQuestionLaws.{all-member, all-append, member-all}
-use Rattle.dossier.specs.DossierLayout.{differBit, snapshotBytes, dossierBytes}
+use Rattle.dossier.specs.DossierBody.{differBit, snapshotBytes, bodyBytes}
+use Rattle.dossier.specs.DossierLayout.{dossierBytes}
 use Rattle.dossier.specs.DossierQuestions.{TypedDossier, dossiersAgree}
-use Rattle.dossier.proofs.DossierLayoutLaws.{SnapshotWritten, snapshot-cells}
+use Rattle.dossier.proofs.DossierBodyLaws.{SnapshotWritten, snapshot-cells}
 use Rattle.dossier.proofs.DossierSizeLaws.{held-objects, versioned-objects}
 use Rattle.dossier.proofs.DossierQuestionLaws.{agree-exact}
 use Rattle.dossier.proofs.AcceptedLaws.{DossierTaken, one-type, taken-written, taken-name, taken-short, taken-sizes}
 use Rattle.dossier.specs.declared.dossiers.DossierIndex.{DossierIndex}
-use Rattle.ontology.specs.declared.types.TypeIndex.{TypeIndex}
+use Rattle.dossier.proofs.DossierHeadLaws.{dossier-head-size}
 use Rattle.combining.specs.CombineCall.{headedAs, combined}
-use Rattle.combining.specs.CombineIndex.{Combinable}
+use Rattle.combining.specs.code.CombineIndex.{Combinable}
 use Rattle.combining.proofs.MeetLaws.{left-taken, right-taken}
 
 -- ---- sets with values of at most 120 bytes
@@ -81,7 +83,7 @@ record Small (versioned : Bool) (cs : List Cell) : Type 0 where
   short : ValuesShort (map held cs)
   objects : versioned ≡ true → sizes cs ≤ 32
 
-module _ {Event : Type 0} (t : View Event) where
+module _ (t : TypeView) where
   cells-few : (ps : List ℕ) (cs ds : List Cell) → length (joinCells t ps cs ds) ≤ length cs
   unfolding joinCells
   cells-few [] cs ds = omega arith
@@ -148,38 +150,38 @@ snapshots-size versioned (z ∷ ss) h n =
 abbrev SmallIn : EventType → Snapshot → Type 0
 SmallIn t z = Small (isVersioned t) (z .cells)
 
-taken-small : {types : Table} {s : List ℕ} {a : TypedDossier} → DossierTaken types s a → All (SmallIn (a .type)) (a .headed .dossier .snapshots)
+taken-small : {types : Table} {s : List ℕ} {a : TypedDossier} → DossierTaken types s a → All (SmallIn (a .type)) (a .headed .snapshots)
 taken-small {types} {s} {a} w =
-    let ss = a .headed .dossier .snapshots in
+    let ss = a .headed .snapshots in
     member-all (SmallIn (a .type)) ss λ z i. record {
-      few = omega (arith, snapshot-cells z (all-member SnapshotWritten ss (taken-written w .snapshots) z i));
+      few = omega (arith, snapshot-cells z (all-member SnapshotWritten ss (taken-written w .body .snapshots) z i));
       short = all-member (λ (z : Snapshot). ValuesShort (map held (z .cells))) ss (taken-short w) z i;
       objects = λ v. all-member (λ (z : Snapshot). sizes (z .cells) ≤ 32) ss (taken-sizes w v) z i;
     }
 
 module _ (table r s : List ℕ) (types : Table) (a b : TypedDossier) (t : tableOf table ≡ some types) (x : DossierTaken types r a) (y : DossierTaken types s b)
-    (agree : dossiersAgree a b ≡ true) (f : fits standard (view (a .type)) (combined a b) ≡ true) where
+    (agree : dossiersAgree a b ≡ true) (f : fits standard (typeView (a .type)) (combined a b) ≡ true) where
   same-type : a .type ≡ b .type
   unfolding dossiersAgree
   same-type = one-type x y (agree-exact _ _ _ _ _ _ .0 agree .0)
 
   together-small : All (SmallIn (a .type)) (combined a b .snapshots)
-  unfolding combined combine view
+  unfolding combined combine typeView eventView
   together-small =
-      let v = view (a .type) in
+      let v = typeView (a .type) in
       all-merge numbers (λ (z : Snapshot). z .version) (joinSnapshots v) (SmallIn (a .type)) (snapshots-joined v)
-      (a .headed .dossier .snapshots) (b .headed .dossier .snapshots) (taken-small x)
-      (subst (λ (u : EventType). All (SmallIn u) (b .headed .dossier .snapshots)) (sym same-type) (taken-small y))
+      (a .headed .snapshots) (b .headed .snapshots) (taken-small x)
+      (subst (λ (u : EventType). All (SmallIn u) (b .headed .snapshots)) (sym same-type) (taken-small y))
 
-  parents-written : ParentsWritten 32 (combined a b .parents)
+  pub parents-written : ParentsWritten 32 (combined a b .parents)
   unfolding combined combine standard
   parents-written =
-      let ps = a .headed .dossier .parents in
-      let qs = b .headed .dossier .parents in
+      let ps = a .headed .head .parents in
+      let qs = b .headed .head .parents in
       let p = taken-written x .head .parents in
       let q = taken-written y .head .parents in
       let hash : Text → Type 0 = λ h. length h ≡ 20 in
-      let within = fits-bounds standard (view (a .type)) (combined a b) f .0 in record {
+      let within = fits-bounds standard (typeView (a .type)) (combined a b) f .0 in record {
         within = within;
         few = omega (arith, within);
         each = all-within hash (union texts ps qs) (ps ++ qs) (union-of texts ps qs) (all-append hash ps qs (p .each) (q .each));
@@ -187,18 +189,18 @@ module _ (table r s : List ℕ) (types : Table) (a b : TypedDossier) (t : tableO
       }
 
   -- 827 + 10 + 8 * 94 + 256 * 121 = 32,565
-  pub combined-short : length (dossierBytes (headedAs (a .headed) (combined a b))) ≤ leastRoom
-  unfolding dossierBytes standard view
+  pub combined-short : length (dossierBytes (headedAs (a .headed) (combined a b))) ≤ dossierCapacity
+  unfolding dossierBytes bodyBytes standard typeView eventView
   combined-short =
       let ss = combined a b .snapshots in
-      let (parents, versions, unversioned) = fits-bounds standard (view (a .type)) (combined a b) f in
+      let (parents, versions, unversioned) = fits-bounds standard (typeView (a .type)) (combined a b) f in
       let each : isVersioned (a .type) ≡ true → All (λ (z : Snapshot). sizes (z .cells) ≤ 32) ss =
       λ v. member-all (λ (z : Snapshot). sizes (z .cells) ≤ 32) ss (λ z i. all-member (SmallIn (a .type)) ss together-small z i .objects v) in
       let most : objects ss ≤ 256 = truth (isVersioned (a .type)) (λ v. versioned-objects ss (each v) versions) unversioned in
       simp length-append
       (omega (
         arith,
-        head-size (a .headed .type) (a .headed .source) (combined a b .parents)
+        dossier-head-size (headedAs (a .headed) (combined a b) .head)
             (record { type = taken-written x .head .type; source = taken-written x .head .source; parents = parents-written }) (taken-name x table t),
         number-bounds (length ss),
         snapshots-size (isVersioned (a .type)) ss together-small most,
@@ -206,7 +208,13 @@ module _ (table r s : List ℕ) (types : Table) (a b : TypedDossier) (t : tableO
 
 -- the same of what combining has read
 pub combined-room : {table a b : List ℕ} {d e : DossierIndex} {t : TypeIndex} (h : Combinable table a d b e t) →
-    fits standard (view (h .known .left .type)) (combined (h .known .left) (h .known .right)) ≡ true →
-    length (dossierBytes (headedAs (h .known .left .headed) (combined (h .known .left) (h .known .right)))) ≤ leastRoom
+    fits standard (typeView (h .known .left .type)) (combined (h .known .left) (h .known .right)) ≡ true →
+    length (dossierBytes (headedAs (h .known .left .headed) (combined (h .known .left) (h .known .right)))) ≤ dossierCapacity
 combined-room {table} {a} {b} h f =
     let k = h .known in combined-short table a b (k .types) (k .left) (k .right) (k .is) (left-taken k) (right-taken k) (k .agree) f
+
+pub combined-parents : {table a b : List ℕ} {d e : DossierIndex} {t : TypeIndex} (h : Combinable table a d b e t) →
+    fits standard (typeView (h .known .left .type)) (combined (h .known .left) (h .known .right)) ≡ true →
+    ParentsWritten 32 (combined (h .known .left) (h .known .right) .parents)
+combined-parents {table} {a} {b} h f =
+    let k = h .known in parents-written table a b (k .types) (k .left) (k .right) (k .is) (left-taken k) (right-taken k) (k .agree) f

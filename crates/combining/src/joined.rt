@@ -1,22 +1,21 @@
 ghost use mathlib.Core.Path.{_≡_};
 ghost use mathlib.Core.Bool.{false};
 ghost use mathlib.Core.List.{List, [], _∷_};
-ghost use lib.Dec.{eqb};
 ghost use lib.ListN.{length, take};
 ghost use Rattle.model.specs.Order.{Text};
 ghost use Rattle.model.specs.Sets.{union};
 ghost use Rattle.model.specs.Rule.{Snapshot, joinSnapshots};
-ghost use Rattle.packed.specs.Written.{Wrote};
-ghost use Rattle.ontology.specs.Table.{EventType, isVersioned};
-ghost use Rattle.ontology.specs.TypeIndex.{TypeIs};
+ghost use Rattle.packed.specs.code.Written.{Wrote};
 ghost use Rattle.values.specs.Spaces.{Kind};
 ghost use Rattle.values.specs.ValueOrder.{extremeOrder};
-ghost use Rattle.event.specs.Event.{view};
+ghost use Rattle.ontology.specs.Table.{EventType, isVersioned};
+ghost use Rattle.ontology.specs.code.TypeIndex.{TypeIs, hasMax};
+ghost use Rattle.event.specs.Event.{typeView};
 ghost use Rattle.event.specs.EventLayout.{setBytes};
-ghost use Rattle.event.specs.EventIndex.{SetIs};
-ghost use Rattle.dossier.specs.DossierLayout.{snapshotBytes};
-ghost use Rattle.combining.specs.CombineIndex.{Meet, JoinedRoom};
-ghost use Rattle.combining.specs.JoinedIndex.{haveObjects, PresentAre, Extremes, joinedSet, PlaceIs, PlaceRoom};
+ghost use Rattle.event.specs.code.EventIndex.{SetIs};
+ghost use Rattle.dossier.specs.DossierBody.{snapshotBytes};
+ghost use Rattle.combining.specs.code.CombineIndex.{Meet, JoinedRoom};
+ghost use Rattle.combining.specs.code.JoinedIndex.{haveObjects, PresentAre, Extremes, joinedSet, PlaceIs, PlaceRoom};
 use crate::limits::count_place;
 use crate::limits::is_extreme_at;
 use dossier::snapshots::SnapshotIndex;
@@ -41,7 +40,8 @@ fn have_objects(x: SetAt, y: SetAt) -> bool
 
 // The smaller or larger of the values of two places, or the one that is there.
 fn chosen<'a>(p: PropertyAt, a: &'a [u8], x: SetAt, b: &'a [u8], y: SetAt) -> &'a [u8]
-    ensures { λ r. ⌜ ((k : Kind) (xs ys : List Text) → SetIs (now (a .entry)) xs x → SetIs (now (b .entry)) ys y → Extremes k (p .kind) xs ys → now r ∷ [] ≡ take 1 (union (extremeOrder (eqb (p .strategy) 2) k) xs ys)) ⌝ }
+    ensures { λ r. ⌜ ((k : Kind) (xs ys : List Text) → SetIs (now (a .entry)) xs x → SetIs (now (b .entry)) ys y → Extremes k (p .kind) xs ys
+        → now r ∷ [] ≡ take 1 (union (extremeOrder (hasMax p) k) xs ys)) ⌝ }
 {
     let v = value_in(set_part(a, x), 0);
     let w = value_in(set_part(b, y), 0);
@@ -103,7 +103,7 @@ pub fn write_joined<'a>(
     at: usize,
 ) -> usize
     requires { ⌜ JoinedRoom (now table) (now a) x (now b) y t at (length (now out)) ⌝ }
-    ensures { λ r. ⌜ ((ty : EventType) (p q : Snapshot) → TypeIs (now (table .entry)) ty t → isVersioned ty ≡ false → Meet (now (a .entry)) (now (b .entry)) ty p q → Wrote (now (out .entry)) at (snapshotBytes (joinSnapshots (view ty) p q)) (now (out .exit)) r) ⌝ }
+    ensures { λ r. ⌜ ((ty : EventType) (p q : Snapshot) → TypeIs (now (table .entry)) ty t → isVersioned ty ≡ false → Meet (now (a .entry)) (now (b .entry)) ty p q → Wrote (now (out .entry)) at (snapshotBytes (joinSnapshots (typeView ty) p q)) (now (out .exit)) r) ⌝ }
 {
     let left = x.sets;
     let right = y.sets;

@@ -1,6 +1,6 @@
 ghost use Prim.Native.Nat.{ℕ, _≤_};
 ghost use mathlib.Core.Path.{_≡_};
-ghost use mathlib.Core.List.{List, flatten};
+ghost use mathlib.Core.List.{List};
 ghost use mathlib.Core.Bool.{true, false};
 ghost use lib.Dec.{leb};
 ghost use lib.ListN.{length, take};
@@ -10,29 +10,22 @@ ghost use Rattle.model.specs.Rule.{holds, joinCell, Snapshot, joinSnapshots, si
 ghost use Rattle.model.specs.Limits.{standard, fits};
 ghost use Rattle.model.specs.Opening.{held};
 ghost use Rattle.ontology.specs.Table.{EventType, isVersioned};
-ghost use Rattle.ontology.specs.TypeIndex.{TypeIs};
-ghost use Rattle.event.specs.Event.{view};
-ghost use Rattle.event.specs.EventIndex.{HashesAre, SetIs};
-ghost use Rattle.dossier.specs.DossierIndex.{versionNumbers, SnapshotIs};
+ghost use Rattle.ontology.specs.code.TypeIndex.{TypeIs};
+ghost use Rattle.event.specs.Event.{typeView};
+ghost use Rattle.event.specs.code.EventIndex.{SetIs};
+ghost use Rattle.dossier.specs.code.DossierIndex.{versionNumbers, SnapshotIs};
 ghost use Rattle.combining.specs.CombineCall.{combined};
-ghost use Rattle.combining.specs.CombineIndex.{isExtremeAt, Combinable, Meet};
+ghost use Rattle.combining.specs.code.CombineIndex.{isExtremeAt, Combinable, Meet};
 use dossier::dossiers::DossierIndex;
 use dossier::snapshots::SnapshotIndex;
+use event::head::hashes_part;
 use event::sets::SetAt;
 use event::sets::set_part;
 use ontology::properties::is_extreme;
 use ontology::types::TypeIndex;
-use packed::read::part_of;
 use unions::pair::count_hash_union;
 use unions::pair::count_union;
 use values::versions::EventVersion;
-
-// The hashes of some parents where they stand; nothing where the positions are not of these bytes.
-pub fn hashes_part(s: &[u8], x: SetAt) -> &[u8]
-    ensures { λ r. ⌜ ((hs : List Text) → HashesAre (now (s .entry)) hs x → now r ≡ flatten hs) ⌝ }
-{
-    part_of(s, x.start, x.end)
-}
 
 // How many versions two dossiers have together, where each has its versions rising.
 pub fn count_versions(v: [EventVersion; 8], m: usize, w: [EventVersion; 8], n: usize) -> usize
@@ -74,7 +67,7 @@ pub fn is_extreme_at(t: TypeIndex, k: usize) -> bool
 // How many objects a place has where two unversioned snapshots are joined.
 pub fn count_place(t: TypeIndex, k: usize, a: &[u8], x: SetAt, b: &[u8], y: SetAt) -> usize
     requires { ⌜ t .count ≤ 32 ⌝ }
-    ensures { λ r. ⌜ ((u : List ℕ) (ty : EventType) (xs ys : List Text) → TypeIs u ty t → SetIs (now (a .entry)) xs x → SetIs (now (b .entry)) ys y → rising texts xs ≡ true → rising texts ys ≡ true → (isExtremeAt ty k ≡ true → (length xs ≤ 1) × (length ys ≤ 1)) → r ≡ length (held (joinCell false (view ty .choice k) (holds xs) (holds ys)))) ⌝ }
+    ensures { λ r. ⌜ ((u : List ℕ) (ty : EventType) (xs ys : List Text) → TypeIs u ty t → SetIs (now (a .entry)) xs x → SetIs (now (b .entry)) ys y → rising texts xs ≡ true → rising texts ys ≡ true → (isExtremeAt ty k ≡ true → (length xs ≤ 1) × (length ys ≤ 1)) → r ≡ length (held (joinCell false (typeView ty .choice k) (holds xs) (holds ys)))) ⌝ }
 {
     if is_extreme_at(t, k) {
         if x.count == 0 {
@@ -88,7 +81,7 @@ pub fn count_place(t: TypeIndex, k: usize, a: &[u8], x: SetAt, b: &[u8], y: SetA
 // Whether two unversioned snapshots, at the front of a and b, have at most 256 objects when they are joined.
 fn objects_fit(a: &[u8], x: SnapshotIndex, b: &[u8], y: SnapshotIndex, t: TypeIndex) -> bool
     requires { ⌜ t .count ≤ 32 ⌝ }
-    ensures { λ r. ⌜ ((u : List ℕ) (ty : EventType) (p q : Snapshot) → TypeIs u ty t → isVersioned ty ≡ false → Meet (now (a .entry)) (now (b .entry)) ty p q → SnapshotIs (now (a .entry)) p x → SnapshotIs (now (b .entry)) q y → r ≡ leb (sizes (joinSnapshots (view ty) p q .cells)) 256) ⌝ }
+    ensures { λ r. ⌜ ((u : List ℕ) (ty : EventType) (p q : Snapshot) → TypeIs u ty t → isVersioned ty ≡ false → Meet (now (a .entry)) (now (b .entry)) ty p q → SnapshotIs (now (a .entry)) p x → SnapshotIs (now (b .entry)) q y → r ≡ leb (sizes (joinSnapshots (typeView ty) p q .cells)) 256) ⌝ }
 {
     let left = x.sets;
     let right = y.sets;
@@ -117,7 +110,7 @@ pub fn limits_fit(
     t: TypeIndex,
 ) -> bool
     requires { ⌜ Combinable (now table) (now a) d (now b) e t ⌝ }
-    ensures { λ r. ⌜ ((h : Combinable (now (table .entry)) (now (a .entry)) d (now (b .entry)) e t) → r ≡ fits standard (view (h .known .left .type)) (combined (h .known .left) (h .known .right))) ⌝ }
+    ensures { λ r. ⌜ ((h : Combinable (now (table .entry)) (now (a .entry)) d (now (b .entry)) e t) → r ≡ fits standard (typeView (h .known .left .type)) (combined (h .known .left) (h .known .right))) ⌝ }
 {
     let x = d.head;
     let y = e.head;

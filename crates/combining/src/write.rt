@@ -1,32 +1,30 @@
-ghost use Prim.Native.Nat.{_≤_};
 ghost use mathlib.Core.Path.{_≡_};
-ghost use mathlib.Core.List.{List, map, flatten};
+ghost use mathlib.Core.List.{map, flatten};
 ghost use lib.ListN.{length};
-ghost use Rattle.model.specs.Order.{Text, texts};
-ghost use Rattle.model.specs.Sets.{union};
 ghost use Rattle.model.specs.Rule.{Snapshot, joinSnapshots};
-ghost use Rattle.packed.specs.Written.{Wrote};
+ghost use Rattle.packed.specs.code.Written.{Wrote};
 ghost use Rattle.ontology.specs.Table.{EventType};
-ghost use Rattle.ontology.specs.TypeIndex.{TypeIs};
-ghost use Rattle.event.specs.Event.{view};
-ghost use Rattle.event.specs.EventLayout.{headBytes};
-ghost use Rattle.dossier.specs.DossierLayout.{Headed, snapshotBytes, dossierBytes};
-ghost use Rattle.dossier.specs.DossierIndex.{DossierIs};
+ghost use Rattle.ontology.specs.code.TypeIndex.{TypeIs};
+ghost use Rattle.event.specs.Event.{typeView};
+ghost use Rattle.event.specs.Head.{Head};
+ghost use Rattle.dossier.specs.DossierLayout.{Headed, dossierBytes};
+ghost use Rattle.dossier.specs.DossierBody.{snapshotBytes};
+ghost use Rattle.dossier.specs.code.DossierIndex.{DossierIs};
+ghost use Rattle.dossier.specs.DossierHead.{dossierHeadBytes};
 ghost use Rattle.combining.specs.CombineCall.{headedAs, combined};
-ghost use Rattle.combining.specs.CombineIndex.{Combinable, Meet};
-ghost use Rattle.combining.specs.WriteIndex.{SharedRoom, bytesFrom, RestRoom, stepBy, nextBytes, NextRoom, SnapshotsRoom, HeadsAre, HeadRoom};
+ghost use Rattle.combining.specs.code.CombineIndex.{Combinable, Meet};
+ghost use Rattle.combining.specs.code.WriteIndex.{SharedRoom, bytesFrom, RestRoom, stepBy, nextBytes, NextRoom, SnapshotsRoom, bothHeads, HeadsAre, HeadsRoom, CombinedRoom};
 use crate::agreed::write_agreed;
 use crate::joined::write_joined;
 use crate::limits::count_versions;
-use crate::limits::hashes_part;
 use dossier::dossiers::DossierIndex;
-use dossier::parts::text_part;
+use dossier::head::write_dossier_head;
 use dossier::snapshots::SnapshotIndex;
+use event::head::hashes_part;
+use event::head::text_part;
 use ontology::types::TypeIndex;
 use packed::write::copy_part;
 use packed::write::write_number;
-use packed::write::write_text;
-use unions::pair::count_hash_union;
 use unions::pair::write_hash_union;
 use values::versions::EventVersion;
 
@@ -42,7 +40,7 @@ fn write_shared<'a>(
     at: usize,
 ) -> usize
     requires { ⌜ SharedRoom (now table) (now a) x (now b) y t at (length (now out)) ⌝ }
-    ensures { λ r. ⌜ ((ty : EventType) (p q : Snapshot) → TypeIs (now (table .entry)) ty t → Meet (now (a .entry)) (now (b .entry)) ty p q → Wrote (now (out .entry)) at (snapshotBytes (joinSnapshots (view ty) p q)) (now (out .exit)) r) ⌝ }
+    ensures { λ r. ⌜ ((ty : EventType) (p q : Snapshot) → TypeIs (now (table .entry)) ty t → Meet (now (a .entry)) (now (b .entry)) ty p q → Wrote (now (out .entry)) at (snapshotBytes (joinSnapshots (typeView ty) p q)) (now (out .exit)) r) ⌝ }
 {
     if 0 < t.mark {
         return write_agreed(a, b, out, at);
@@ -53,7 +51,7 @@ fn write_shared<'a>(
 // The snapshots of one side from the i-th on, which stand one after the other.
 fn write_rest(s: &[u8], d: DossierIndex, i: usize, out: &mut [u8], at: usize) -> usize
     requires { ⌜ RestRoom (now s) d i at (length (now out)) ⌝ }
-    ensures { λ r. ⌜ ((h : Headed) → DossierIs (now (s .entry)) h d → Wrote (now (out .entry)) at (bytesFrom (h .dossier .snapshots) i) (now (out .exit)) r) ⌝ }
+    ensures { λ r. ⌜ ((h : Headed) → DossierIs (now (s .entry)) h d → Wrote (now (out .entry)) at (bytesFrom (h .snapshots) i) (now (out .exit)) r) ⌝ }
 {
     if d.count <= i {
         return at;
@@ -133,19 +131,30 @@ fn write_snapshots<'a>(
     write_rest(b, e, j, out, next)
 }
 
-// The head of the left side, with the parents of both.
-fn write_head(a: &[u8], d: DossierIndex, b: &[u8], e: DossierIndex, out: &mut [u8]) -> usize
-    requires { ⌜ HeadRoom (now a) d (now b) e (length (now out)) ⌝ }
-    ensures { λ r. ⌜ ((type source : Text) (hs ks : List Text) → HeadsAre (now (a .entry)) d (now (b .entry)) e type source hs ks → Wrote (now (out .entry)) 0 (headBytes type source (union texts hs ks)) (now (out .exit)) r) ⌝ }
+// The head of the left side, with the parents of both. Their union is made apart first, since a head is written from hashes that stand one after the other;
+// it has at most 32, as question 8 was answered yes.
+fn write_heads<'a>(
+    a: &'a [u8],
+    d: DossierIndex,
+    b: &'a [u8],
+    e: DossierIndex,
+    out: &mut [u8],
+) -> usize
+    requires { ⌜ HeadsRoom (now a) d (now b) e (length (now out)) ⌝ }
+    ensures { λ r. ⌜ ((g h : Head) → HeadsAre (now (a .entry)) d (now (b .entry)) e g h → Wrote (now (out .entry)) 0 (dossierHeadBytes (bothHeads g h)) (now (out .exit)) r) ⌝ }
 {
     let x = d.head;
     let y = e.head;
-    let left = hashes_part(a, x.parents);
-    let right = hashes_part(b, y.parents);
-    let after_type = write_text(text_part(a, x.name), out, 0);
-    let after_source = write_text(text_part(a, x.source), out, after_type);
-    let after_count = write_number(out, after_source, count_hash_union(left, right) as u64);
-    write_hash_union(left, right, out, after_count)
+    let mut hashes = [0u8; 640];
+    let size = write_hash_union(
+        hashes_part(a, x.parents),
+        hashes_part(b, y.parents),
+        &mut hashes,
+        0,
+    );
+    let name = text_part(a, x.name);
+    let source = text_part(a, x.source);
+    write_dossier_head(name, source, &hashes[0..size], out)
 }
 
 // Writes the combined dossier at the front of `out`.
@@ -158,12 +167,12 @@ pub fn write_combined<'a>(
     t: TypeIndex,
     out: &mut [u8],
 ) -> usize
-    requires { ⌜ ((h : Combinable (now table) (now a) d (now b) e t) → length (dossierBytes (headedAs (h .known .left .headed) (combined (h .known .left) (h .known .right)))) ≤ length (now out)) × Combinable (now table) (now a) d (now b) e t ⌝ }
+    requires { ⌜ CombinedRoom (now table) (now a) d (now b) e t (length (now out)) ⌝ }
     ensures { λ r. ⌜ ((h : Combinable (now (table .entry)) (now (a .entry)) d (now (b .entry)) e t) → Wrote (now (out .entry)) 0 (dossierBytes (headedAs (h .known .left .headed) (combined (h .known .left) (h .known .right)))) (now (out .exit)) r) ⌝ }
 {
     let v = d.versions;
     let w = e.versions;
-    let after_head = write_head(a, d, b, e, out);
+    let after_head = write_heads(a, d, b, e, out);
     let after_count = write_number(
         out,
         after_head,

@@ -13,17 +13,17 @@ use Rattle.model.specs.Limits.{standard}
 use Rattle.model.specs.Opening.{held}
 use Rattle.model.proofs.Cases.{and-parts, never}
 use Rattle.packed.proofs.LayoutLaws.{All}
+use Rattle.replies.specs.Questions.{accepted, ask, Asked, refused, _>>_, ensure, _>>=_}
+use Rattle.replies.proofs.QuestionLaws.{asked-then, ask-some, ensured, accepted-same}
 use Rattle.ontology.specs.Table.{Table, isVersioned, typeNamed, EventType}
 use Rattle.ontology.specs.TableLayout.{tableOf}
-use Rattle.ontology.specs.Questions.{accepted, ask, Asked, refused, _>>_, ensure, _>>=_}
-use Rattle.ontology.specs.TypeIndex.{TypeIs}
-use Rattle.ontology.proofs.QuestionLaws.{asked-then, ask-some, ensured, accepted-same}
+use Rattle.ontology.specs.code.TypeIndex.{TypeIs}
 use Rattle.ontology.proofs.TableLaws.{TypeKept, table-type}
 use Rattle.ontology.proofs.TypeIndexLaws.{named-at}
 use Rattle.event.proofs.EventSizeLaws.{ValuesShort}
 use Rattle.dossier.specs.DossierLayout.{dossierOf, Headed}
 use Rattle.dossier.specs.DossierQuestions.{eachSnapshot, dossierShape, snapshotValues, TypedDossier, dossierAsked}
-use Rattle.dossier.specs.DossierIndex.{noSnapshot, snapshotFits, DossierAnswers}
+use Rattle.dossier.specs.code.DossierIndex.{noSnapshot, snapshotFits, DossierAnswers}
 use Rattle.dossier.specs.declared.questions.DossierAsked.{DossierAsked}
 use Rattle.dossier.proofs.DossierLayoutLaws.{DossierWritten, dossier-was}
 use Rattle.dossier.proofs.DossierSizeLaws.{snapshots-short, versioned-sizes, shape-parts, shape-objects}
@@ -31,29 +31,29 @@ use Rattle.dossier.proofs.AskLaws.{alikeTo, fitsWith, shape-is}
 
 pub record DossierTaken (types : Table) (s : List ℕ) (a : TypedDossier) : Type 0 where
   pub read : dossierOf standard s ≡ some (a .headed)
-  pub typed : typeNamed (a .headed .type) types ≡ some (a .type)
-  pub shape : dossierShape standard (a .type) (a .headed .dossier .snapshots) ≡ true
-  pub values : eachSnapshot (snapshotValues (a .type)) (a .headed .dossier .snapshots) ≡ true
+  pub typed : typeNamed (a .headed .head .type) types ≡ some (a .type)
+  pub shape : dossierShape standard (a .type) (a .headed .snapshots) ≡ true
+  pub values : eachSnapshot (snapshotValues (a .type)) (a .headed .snapshots) ≡ true
 
 pub dossier-taken : (types : Table) (s : List ℕ) (a : TypedDossier) → dossierAsked standard types s ≡ accepted a → DossierTaken types s a
 unfolding dossierAsked
 dossier-taken types s a h =
     let (d, r, k) = asked-then (ask 3 (dossierOf standard s)) _ _ h in
-    let (t, y, l) = asked-then (ask 4 (typeNamed (d .type) types)) _ _ k in
-    let (b, m) = ensured 5 (dossierShape standard t (d .dossier .snapshots)) _ _ l in
-    let (c, n) = ensured 6 (eachSnapshot (snapshotValues t) (d .dossier .snapshots)) _ _ m in
+    let (t, y, l) = asked-then (ask 4 (typeNamed (d .head .type) types)) _ _ k in
+    let (b, m) = ensured 5 (dossierShape standard t (d .snapshots)) _ _ l in
+    let (c, n) = ensured 6 (eachSnapshot (snapshotValues t) (d .snapshots)) _ _ m in
     subst (DossierTaken types s) (accepted-same (record { type = t; headed = d }) a n)
-    (record { read = ask-some 3 (dossierOf standard s) d r; typed = ask-some 4 (typeNamed (d .type) types) t y; shape = b; values = c })
+    (record { read = ask-some 3 (dossierOf standard s) d r; typed = ask-some 4 (typeNamed (d .head .type) types) t y; shape = b; values = c })
 
 -- two dossiers whose types have one name have one type
-pub one-type : {types : Table} {r s : List ℕ} {a b : TypedDossier} → DossierTaken types r a → DossierTaken types s b → a .headed .type ≡ b .headed .type → a .type ≡ b .type
+pub one-type : {types : Table} {r s : List ℕ} {a b : TypedDossier} → DossierTaken types r a → DossierTaken types s b → a .headed .head .type ≡ b .headed .head .type → a .type ≡ b .type
 one-type {types} {r} {s} {a} {b} x y e = let q : some (a .type) ≡ some (b .type) = sym (x .typed) ∙ ap (λ (n : Text). typeNamed n types) e ∙ y .typed in cc
 
 -- ---- what the caller of `ask_dossier` has
 
 -- questions 5 and 6
 abbrev later : Headed → EventType → Asked TypedDossier
-later h t = ensure 5 (dossierShape standard t (h .dossier .snapshots)) >> (ensure 6 (eachSnapshot (snapshotValues t) (h .dossier .snapshots)) >> accepted (record { type = t; headed = h }))
+later h t = ensure 5 (dossierShape standard t (h .snapshots)) >> (ensure 6 (eachSnapshot (snapshotValues t) (h .snapshots)) >> accepted (record { type = t; headed = h }))
 
 -- no question has the number 0
 asked-number : (types : Table) (s : List ℕ) → dossierAsked standard types s ≡ refused 0 → ⊥
@@ -67,11 +67,11 @@ asked-number types s e = at-layout (dossierOf standard s) e
 
     at-type : (h : Headed) (o : Option EventType) → (ask 4 o >>= later h) ≡ refused 0 → ⊥
     at-type h none e = never (cc)
-    at-type h (some t) e = at-shape (record { type = t; headed = h }) (dossierShape standard t (h .dossier .snapshots)) (eachSnapshot (snapshotValues t) (h .dossier .snapshots)) e
+    at-type h (some t) e = at-shape (record { type = t; headed = h }) (dossierShape standard t (h .snapshots)) (eachSnapshot (snapshotValues t) (h .snapshots)) e
 
-    at-layout : (o : Option Headed) → (ask 3 o >>= λ h. (ask 4 (typeNamed (h .type) types) >>= later h)) ≡ refused 0 → ⊥
+    at-layout : (o : Option Headed) → (ask 3 o >>= λ h. (ask 4 (typeNamed (h .head .type) types) >>= later h)) ≡ refused 0 → ⊥
     at-layout none e = never (cc)
-    at-layout (some h) e = at-type h (typeNamed (h .type) types) e
+    at-layout (some h) e = at-type h (typeNamed (h .head .type) types) e
 
 -- all are answered yes, and the indexes are of the dossier and its type
 pub record Answered (types : Table) (table s : List ℕ) (r : DossierAsked) : Type 0 where
@@ -107,17 +107,17 @@ each-at f (s ∷ ss) h (suc i) l = each-at f ss (and-parts (f s) (eachSnapshot f
 
 module _ {types : Table} {s : List ℕ} {a : TypedDossier} (w : DossierTaken types s a) where
   abbrev snapshots : List Snapshot
-  snapshots = a .headed .dossier .snapshots
+  snapshots = a .headed .snapshots
 
   pub taken-written : DossierWritten standard (a .headed)
   taken-written = dossier-was standard s (a .headed) (w .read) .1
 
   -- the type keeps the rules of its table
   pub taken-kept : (table : List ℕ) → tableOf table ≡ some types → TypeKept (a .type)
-  taken-kept table e = table-type table types e (a .headed .type) (a .type) (w .typed)
+  taken-kept table e = table-type table types e (a .headed .head .type) (a .type) (w .typed)
 
-  pub taken-name : (table : List ℕ) → tableOf table ≡ some types → length (a .headed .type) ≤ 64
-  taken-name table e = subst (λ (v : Text). length v ≤ 64) (named-at (a .headed .type) types (a .type) (w .typed) .2) (taken-kept table e .short)
+  pub taken-name : (table : List ℕ) → tableOf table ≡ some types → length (a .headed .head .type) ≤ 64
+  taken-name table e = subst (λ (v : Text). length v ≤ 64) (named-at (a .headed .head .type) types (a .type) (w .typed) .2) (taken-kept table e .short)
 
   -- question 5, of how many there are and of each
   shape-whole : ((isVersioned (a .type) || eqb (length snapshots) 1) ≡ true) × (eachSnapshot (fitsWith (a .type) (getD snapshots 0 noSnapshot)) snapshots ≡ true)
@@ -140,7 +140,7 @@ module _ {types : Table} {s : List ℕ} {a : TypedDossier} (w : DossierTaken typ
 
   pub taken-objects : objects snapshots ≤ 256
   unfolding standard
-  taken-objects = shape-objects (a .type) snapshots (w .shape) (taken-written .within)
+  taken-objects = shape-objects (a .type) snapshots (w .shape) (taken-written .body .within)
 
   pub taken-short : All (λ (z : Snapshot). ValuesShort (map held (z .cells))) snapshots
   taken-short = snapshots-short (a .type) snapshots (shape-parts (a .type) snapshots (w .shape) .0) (w .values)

@@ -11,18 +11,19 @@ use Rattle.model.proofs.OrderLaws.{equal-true}
 use Rattle.model.specs.Rule.{Snapshot}
 use Rattle.model.specs.Limits.{standard}
 use Rattle.model.proofs.Cases.{and-parts}
+use Rattle.replies.specs.Questions.{accepted, _>>_, ensure}
 use Rattle.ontology.specs.Table.{EventType, Table, typeNamed}
 use Rattle.ontology.specs.TableLayout.{tableOf}
-use Rattle.ontology.specs.TypeIndex.{TypeIs, TypeSays}
-use Rattle.ontology.specs.Questions.{accepted, _>>_, ensure}
+use Rattle.ontology.specs.code.TypeIndex.{TypeIs, TypeSays}
 use Rattle.ontology.specs.declared.types.TypeIndex.{TypeIndex}
 use Rattle.ontology.specs.declared.tables.TableRead.{TableRead}
 use Rattle.ontology.proofs.TypeIndexLaws.{type-absent, TypeFound, type-found}
-use Rattle.event.specs.EventIndex.{KindsAre}
+use Rattle.event.specs.code.EventIndex.{KindsAre}
 use Rattle.event.proofs.AskLaws.{table-kinds}
+use Rattle.event.specs.Agreement.{agree}
 use Rattle.dossier.specs.DossierLayout.{Headed, dossierOf}
-use Rattle.dossier.specs.DossierQuestions.{eachSnapshot, snapshotMatch, dossierShape, snapshotValues, dossierAsked, dossierMatch, agree, dossiersAgree}
-use Rattle.dossier.specs.DossierIndex.{noSnapshot, DossierIs, IsDossier, DossierReads, DossierAnswers, shapeNumber}
+use Rattle.dossier.specs.DossierQuestions.{eachSnapshot, snapshotMatch, dossierShape, snapshotValues, dossierAsked, dossierMatch, dossiersAgree}
+use Rattle.dossier.specs.code.DossierIndex.{noSnapshot, DossierIs, IsDossier, DossierReads, DossierAnswers, shapeNumber}
 use Rattle.dossier.specs.declared.dossiers.DossierIndex.{DossierIndex}
 
 -- ---- questions 3 to 6
@@ -59,24 +60,24 @@ module _ (table : List ℕ) (ts : Table) (s : List ℕ) (d : DossierIndex) (w : 
     it : Known (dossierOf standard s) s d
     it = dossier-known (dossierOf standard s) s d w ok
 
-    module _ (read : TableRead) (says : (h : Headed) → DossierIs s h d → TypeSays (typeNamed (h .type) ts) table read) where
+    module _ (read : TableRead) (says : (h : Headed) → DossierIs s h d → TypeSays (typeNamed (h .head .type) ts) table read) where
       pub answer-type : read .found ≡ false → (k : TypeIndex) → DossierAnswers (dossierAsked standard ts s) table (record { number = 4; «event_type» = k })
       unfolding dossierAsked DossierAnswers
-      answer-type h k = let e : typeNamed (it .what .type) ts ≡ none = type-absent (typeNamed (it .what .type) ts) table read (says (it .what) (it .stands)) h in rw (it .is, e) refl
+      answer-type h k = let e : typeNamed (it .what .head .type) ts ≡ none = type-absent (typeNamed (it .what .head .type) ts) table read (says (it .what) (it .stands)) h in rw (it .is, e) refl
 
       module _ (e : tableOf table ≡ some ts) (f : read .found ≡ true) where
-        type : TypeFound (typeNamed (it .what .type) ts) table read
-        type = type-found (typeNamed (it .what .type) ts) table read (says (it .what) (it .stands)) f
+        type : TypeFound (typeNamed (it .what .head .type) ts) table read
+        type = type-found (typeNamed (it .what .head .type) ts) table read (says (it .what) (it .stands)) f
 
         pub answer-rest :
             (n : ℕ) →
-            ((u : List ℕ) (ty : EventType) (h : Headed) → TypeIs u ty (read .index) → KindsAre ty → DossierIs s h d → n ≡ shapeNumber (dossierShape standard ty (h .dossier .snapshots)) (eachSnapshot (snapshotValues ty) (h .dossier .snapshots))) →
+            ((u : List ℕ) (ty : EventType) (h : Headed) → TypeIs u ty (read .index) → KindsAre ty → DossierIs s h d → n ≡ shapeNumber (dossierShape standard ty (h .snapshots)) (eachSnapshot (snapshotValues ty) (h .snapshots))) →
             DossierAnswers (dossierAsked standard ts s) table (record { number = n; «event_type» = read .index })
         unfolding dossierAsked DossierAnswers shapeNumber
         answer-rest n a =
             rw (it .is, type .is)
-            (go (dossierShape standard (type .what) (it .what .dossier .snapshots)) (eachSnapshot (snapshotValues (type .what)) (it .what .dossier .snapshots))
-            (a table (type .what) (it .what) (type .stands) (table-kinds table ts (it .what .type) (type .what) e (type .is)) (it .stands)))
+            (go (dossierShape standard (type .what) (it .what .snapshots)) (eachSnapshot (snapshotValues (type .what)) (it .what .snapshots))
+            (a table (type .what) (it .what) (type .stands) (table-kinds table ts (it .what .head .type) (type .what) e (type .is)) (it .stands)))
           where
             go :
                 (x y : Bool) → n ≡ shapeNumber x y →
@@ -97,18 +98,18 @@ module _ (ty tz : EventType) (h g : Headed) where
   both = dossiersAgree (record { type = ty; headed = h }) (record { type = tz; headed = g })
 
   abbrev heads : Bool
-  heads = equal texts (h .type) (g .type) && equal texts (h .source) (g .source)
+  heads = equal texts (h .head .type) (g .head .type) && equal texts (h .head .source) (g .head .source)
 
   pub agree-heads : {r : Bool} → r ≡ heads → r ≡ false → false ≡ both
   unfolding dossiersAgree agree
-  agree-heads e f = sym (ap (λ (b : Bool). b && equal (lists sets) (dossierMatch ty (h .dossier .snapshots)) (dossierMatch tz (g .dossier .snapshots))) (sym e ∙ f))
+  agree-heads e f = sym (ap (λ (b : Bool). b && equal (lists sets) (dossierMatch ty (h .snapshots)) (dossierMatch tz (g .snapshots))) (sym e ∙ f))
 
-  module _ {a : Bool} (d : a ≡ heads) (e : a ≡ true) (one : 1 ≤ length (h .dossier .snapshots)) (two : 1 ≤ length (g .dossier .snapshots)) where
-    pub agree-match : (h .type ≡ g .type → ty ≡ tz) → {r : Bool} → r ≡ equal (lists sets) (snapshotMatch ty (getD (h .dossier .snapshots) 0 noSnapshot)) (snapshotMatch ty (getD (g .dossier .snapshots) 0 noSnapshot)) → r ≡ both
+  module _ {a : Bool} (d : a ≡ heads) (e : a ≡ true) (one : 1 ≤ length (h .snapshots)) (two : 1 ≤ length (g .snapshots)) where
+    pub agree-match : (h .head .type ≡ g .head .type → ty ≡ tz) → {r : Bool} → r ≡ equal (lists sets) (snapshotMatch ty (getD (h .snapshots) 0 noSnapshot)) (snapshotMatch ty (getD (g .snapshots) 0 noSnapshot)) → r ≡ both
     unfolding dossiersAgree agree
     agree-match l n =
-        let q : ty ≡ tz = l (equal-true texts (h .type) (g .type) .0 (and-parts (equal texts (h .type) (g .type)) (equal texts (h .source) (g .source)) (sym d ∙ e) .0)) in
+        let q : ty ≡ tz = l (equal-true texts (h .head .type) (g .head .type) .0 (and-parts (equal texts (h .head .type) (g .head .type)) (equal texts (h .head .source) (g .head .source)) (sym d ∙ e) .0)) in
         n
-        ∙ sym (ap (λ (b : Bool). b && equal (lists sets) (dossierMatch ty (h .dossier .snapshots)) (dossierMatch tz (g .dossier .snapshots))) (sym d ∙ e)
-        ∙ ap (λ (t : EventType). equal (lists sets) (dossierMatch ty (h .dossier .snapshots)) (dossierMatch t (g .dossier .snapshots))) (sym q)
-        ∙ ap₂ (equal (lists sets)) (first-match ty (h .dossier .snapshots) one) (first-match ty (g .dossier .snapshots) two))
+        ∙ sym (ap (λ (b : Bool). b && equal (lists sets) (dossierMatch ty (h .snapshots)) (dossierMatch tz (g .snapshots))) (sym d ∙ e)
+        ∙ ap (λ (t : EventType). equal (lists sets) (dossierMatch ty (h .snapshots)) (dossierMatch t (g .snapshots))) (sym q)
+        ∙ ap₂ (equal (lists sets)) (first-match ty (h .snapshots) one) (first-match ty (g .snapshots) two))

@@ -18,12 +18,13 @@ use Rattle.model.proofs.Cases.{and-false, and-true}
 use Rattle.packed.specs.Parse.{Parse, got}
 use Rattle.packed.proofs.ReadLaws.{to-end}
 use Rattle.ontology.specs.Table.{Property, EventType, isVersioned}
-use Rattle.ontology.specs.TypeIndex.{TypeIs}
+use Rattle.ontology.specs.code.TypeIndex.{TypeIs}
 use Rattle.ontology.specs.declared.types.TypeIndex.{TypeIndex}
 use Rattle.event.specs.EventQuestions.{matchCount}
-use Rattle.dossier.specs.DossierLayout.{Headed, readSnapshot}
+use Rattle.dossier.specs.DossierLayout.{Headed}
+use Rattle.dossier.specs.DossierBody.{readSnapshot}
 use Rattle.dossier.specs.DossierQuestions.{eachCell, eachSnapshot, isVacant, isPresent, isLoneIfSingle, isLoneIfExtreme, isUnmarkedMatch, unversionedSnapshot, unversionedShape, holdsVersion, versionedSnapshot, snapshotMatch, matchFits, matchAlike, dossierShape, snapshotValues}
-use Rattle.dossier.specs.DossierIndex.{SnapshotIs, SnapshotReads, noSnapshot, DossierIs, cellFits, versionFits, snapshotFits, shapeNumber}
+use Rattle.dossier.specs.code.DossierIndex.{SnapshotIs, SnapshotReads, noSnapshot, DossierIs, cellFits, versionFits, snapshotFits, shapeNumber}
 use Rattle.dossier.specs.declared.snapshots.SnapshotIndex.{SnapshotIndex}
 use Rattle.dossier.specs.declared.dossiers.DossierIndex.{DossierIndex}
 
@@ -227,30 +228,30 @@ number-end t ss number j l o =
 -- ---- the dossier's snapshots
 
 module _ (s : List ℕ) (h : Headed) (d : DossierIndex) (w : DossierIs s h d) where
-  pub in-count : (j : ℕ) → j < d .count → j < length (h .dossier .snapshots)
+  pub in-count : (j : ℕ) → j < d .count → j < length (h .snapshots)
   in-count j l = omega (arith, w .count)
 
-  pub past-count : (j : ℕ) → d .count ≤ j → length (h .dossier .snapshots) ≤ j
+  pub past-count : (j : ℕ) → d .count ≤ j → length (h .snapshots) ≤ j
   past-count j l = omega (arith, w .count)
 
   pub start-within : (j : ℕ) → j < d .count → getD (d .starts) j 0 ≤ length s
   start-within j l = let a = w .snapshots .each j (omega (arith, w .count)) in omega (arith, a .order, a .within)
 
   -- what the part of the dossier from a snapshot on reads as
-  pub start-reads : (j : ℕ) → j < d .count → readSnapshot (take (length s - getD (d .starts) j 0) (drop (getD (d .starts) j 0) s)) ≡ got (getD (h .dossier .snapshots) j noSnapshot) (drop (getD (d .ends) j 0) s)
+  pub start-reads : (j : ℕ) → j < d .count → readSnapshot (take (length s - getD (d .starts) j 0) (drop (getD (d .starts) j 0) s)) ≡ got (getD (h .snapshots) j noSnapshot) (drop (getD (d .ends) j 0) s)
   start-reads j l = ap readSnapshot (to-end s (getD (d .starts) j 0)) ∙ w .snapshots .each j (omega (arith, w .count)) .is
 
   -- the first snapshot stands, as its index says, at the front of that part
-  pub first-stands : SnapshotIs (take (length s - getD (d .starts) 0 0) (drop (getD (d .starts) 0 0) s)) (getD (h .dossier .snapshots) 0 noSnapshot) (d .first)
-  first-stands = subst (λ (l : List ℕ). SnapshotIs l (getD (h .dossier .snapshots) 0 noSnapshot) (d .first)) (sym (to-end s (getD (d .starts) 0 0))) (w .first)
+  pub first-stands : SnapshotIs (take (length s - getD (d .starts) 0 0) (drop (getD (d .starts) 0 0) s)) (getD (h .snapshots) 0 noSnapshot) (d .first)
+  first-stands = subst (λ (l : List ℕ). SnapshotIs l (getD (h .snapshots) 0 noSnapshot) (d .first)) (sym (to-end s (getD (d .starts) 0 0))) (w .first)
 
   module _ (u : List ℕ) (ty : EventType) (t : TypeIndex) (v : TypeIs u ty t) where
-    lone-of : {r : Bool} → r ≡ (ltb 0 (t .mark) || eqb (d .count) 1) → r ≡ (isVersioned ty || eqb (length (h .dossier .snapshots)) 1)
+    lone-of : {r : Bool} → r ≡ (ltb 0 (t .mark) || eqb (d .count) 1) → r ≡ (isVersioned ty || eqb (length (h .snapshots)) 1)
     lone-of e = e ∙ ap₂ (λ (m n : ℕ). ltb 0 m || eqb n 1) (v .mark) (w .count)
 
-    pub not-lone : {r : Bool} → r ≡ (ltb 0 (t .mark) || eqb (d .count) 1) → r ≡ false → 5 ≡ shapeNumber (dossierShape standard ty (h .dossier .snapshots)) (eachSnapshot (snapshotValues ty) (h .dossier .snapshots))
+    pub not-lone : {r : Bool} → r ≡ (ltb 0 (t .mark) || eqb (d .count) 1) → r ≡ false → 5 ≡ shapeNumber (dossierShape standard ty (h .snapshots)) (eachSnapshot (snapshotValues ty) (h .snapshots))
     unfolding shapeNumber
-    not-lone e f = sym (ap (λ (b : Bool). shapeNumber b (eachSnapshot (snapshotValues ty) (h .dossier .snapshots))) (shape-is ty (h .dossier .snapshots) ∙ ap (λ (b : Bool). b && eachSnapshot (fitsWith ty (getD (h .dossier .snapshots) 0 noSnapshot)) (h .dossier .snapshots)) (sym (lone-of e) ∙ f)))
+    not-lone e f = sym (ap (λ (b : Bool). shapeNumber b (eachSnapshot (snapshotValues ty) (h .snapshots))) (shape-is ty (h .snapshots) ∙ ap (λ (b : Bool). b && eachSnapshot (fitsWith ty (getD (h .snapshots) 0 noSnapshot)) (h .snapshots)) (sym (lone-of e) ∙ f)))
 
-    pub is-lone : {r : Bool} → r ≡ (ltb 0 (t .mark) || eqb (d .count) 1) → r ≡ true → shapeNumber (dossierShape standard ty (h .dossier .snapshots)) (eachSnapshot (snapshotValues ty) (h .dossier .snapshots)) ≡ numberFrom ty (h .dossier .snapshots) 0 0
-    is-lone e f = ap (λ (b : Bool). shapeNumber b (eachSnapshot (snapshotValues ty) (h .dossier .snapshots))) (shape-is ty (h .dossier .snapshots) ∙ ap (λ (b : Bool). b && eachSnapshot (fitsWith ty (getD (h .dossier .snapshots) 0 noSnapshot)) (h .dossier .snapshots)) (sym (lone-of e) ∙ f))
+    pub is-lone : {r : Bool} → r ≡ (ltb 0 (t .mark) || eqb (d .count) 1) → r ≡ true → shapeNumber (dossierShape standard ty (h .snapshots)) (eachSnapshot (snapshotValues ty) (h .snapshots)) ≡ numberFrom ty (h .snapshots) 0 0
+    is-lone e f = ap (λ (b : Bool). shapeNumber b (eachSnapshot (snapshotValues ty) (h .snapshots))) (shape-is ty (h .snapshots) ∙ ap (λ (b : Bool). b && eachSnapshot (fitsWith ty (getD (h .snapshots) 0 noSnapshot)) (h .snapshots)) (sym (lone-of e) ∙ f))

@@ -2,14 +2,13 @@
 use mathlib.Core.Path.{_≡_, refl, sym, ap, ap₂, _∙_}
 use mathlib.Core.Logic.{⊎-elim}
 use mathlib.Core.Bool.{Bool, true, false, cond, not, _&&_, _||_}
-use mathlib.Core.Option.{some}
 use mathlib.Core.List.{List, [], _∷_, map}
 use Prim.Native.Nat.{ℕ, zero, suc, _+_, _-_, _*_, _/_, _%_, _≤_, _<_}
 use native.Mathlib.Nat.{zero-add}
 use native.Mathlib.Omega.{arith}
 use native.Mathlib.Numerals.{add-one}
 use lib.Dec.{ltb, leb, eqb}
-use lib.ListN.{length, drop, getD, getElem?, drop-of-length-le, length-map}
+use lib.ListN.{length, drop, getD, drop-of-length-le, length-map}
 use lib.Seq.{drop-cons}
 use borrow.Author.Tests.{le-leb, lt-leb, ne-eqb}
 use Rattle.model.specs.Order.{Text}
@@ -19,18 +18,20 @@ use Rattle.model.proofs.Cases.{and-false, and-true}
 use Rattle.model.proofs.SizeLaws.{held-size}
 use Rattle.packed.proofs.LayoutLaws.{lt-or-ge}
 use Rattle.ontology.specs.Table.{Property, EventType, isMin, isMax, isMatch, isVersioned}
-use Rattle.ontology.specs.TypeIndex.{PropertyIs, TypeIs}
+use Rattle.ontology.specs.code.TypeIndex.{PropertyIs, hasExtreme, hasMatch, TypeIs}
 use Rattle.ontology.specs.declared.properties.PropertyAt.{PropertyAt}
 use Rattle.ontology.specs.declared.types.TypeIndex.{TypeIndex}
+use Rattle.ontology.proofs.TypeIndexLaws.{extreme-of, match-of}
 use Rattle.event.specs.EventLayout.{bitNumber}
 use Rattle.event.specs.EventQuestions.{matchCount}
-use Rattle.event.specs.EventIndex.{SetsAre, noSet}
+use Rattle.event.specs.code.EventIndex.{SetsAre, noSet}
 use Rattle.event.specs.declared.sets.SetAt.{SetAt}
 use Rattle.event.proofs.EventLayoutLaws.{low-bit, high-bits}
-use Rattle.dossier.specs.DossierLayout.{differBit}
+use Rattle.event.proofs.MatchLaws.{Elem, elem}
+use Rattle.dossier.specs.DossierBody.{differBit}
 use Rattle.dossier.specs.DossierQuestions.{eachCell, isVacant, isPresent, isLone, isLoneIfSingle, isLoneIfExtreme, isUnmarkedMatch}
-use Rattle.dossier.specs.DossierIndex.{CellIs, CellsAre, cellFits}
-use Rattle.dossier.proofs.DossierLayoutLaws.{differ-small}
+use Rattle.dossier.specs.code.DossierIndex.{CellIs, CellsAre, cellFits}
+use Rattle.dossier.proofs.DossierBodyLaws.{differ-small}
 
 -- ---- a property's cell
 
@@ -43,16 +44,16 @@ module _ (s : List ℕ) (q : Property) (x : PropertyAt) (c : Cell) (marked : Boo
   unfolding isLoneIfSingle isLone
   lone = ap₂ (λ (a : Bool) (n : ℕ). a || leb n 1) (w .multivalued) (v .size)
 
-  plain : (not marked && (not (eqb (x .strategy) 1 || eqb (x .strategy) 2) || leb count 1)) ≡ (not (isMark c) && isLoneIfExtreme q c)
+  plain : (not marked && (not (hasExtreme x) || leb count 1)) ≡ (not (isMark c) && isLoneIfExtreme q c)
   unfolding isLoneIfExtreme isLone
   plain =
-      ap₂ (λ (a : Bool) (n : ℕ). not a && (not (eqb n 1 || eqb n 2) || leb count 1)) (v .mark) (w .strategy)
+      ap₂ (λ (a b : Bool). not a && (not b || leb count 1)) (v .mark) (extreme-of w)
       ∙ ap (λ (n : ℕ). not (isMark c) && (not (isMin q || isMax q) || leb n 1)) (v .size)
 
-  unmarked : (not (eqb (x .strategy) 5) || (not marked && (x .multivalued || leb count 1))) ≡ isUnmarkedMatch q c
+  unmarked : (not (hasMatch x) || (not marked && (x .multivalued || leb count 1))) ≡ isUnmarkedMatch q c
   unfolding isUnmarkedMatch
   unmarked =
-      ap₂ (λ (n : ℕ) (a : Bool). not (eqb n 5) || (not a && (x .multivalued || leb count 1))) (w .strategy) (v .mark)
+      ap₂ (λ (b a : Bool). not b || (not a && (x .multivalued || leb count 1))) (match-of w) (v .mark)
       ∙ ap (λ (b : Bool). not (isMatch q) || (not (isMark c) && b)) lone
 
   module _ (versioned : Bool) where
@@ -60,11 +61,14 @@ module _ (s : List ℕ) (q : Property) (x : PropertyAt) (c : Cell) (marked : Boo
     unfolding cellFits
     cell-absent a b = let e : isPresent q c ≡ false = sym present ∙ sym a ∙ b in sym (rw e)
 
-    pub cell-match : {r : Bool} → r ≡ (not (eqb (x .strategy) 5) || (not marked && (x .multivalued || leb count 1))) → r ≡ false → false ≡ cellFits versioned q c
+    pub cell-match :
+        {r : Bool} → r ≡ (not (hasMatch x) || (not marked && (x .multivalued || leb count 1))) → r ≡ false → false ≡ cellFits versioned q c
     unfolding cellFits
     cell-match a b = let e : isUnmarkedMatch q c ≡ false = sym unmarked ∙ sym a ∙ b in sym (rw e (and-false (isPresent q c && cond versioned (isLoneIfSingle q c) (not (isMark c) && isLoneIfExtreme q c))))
 
-    module _ {p m : Bool} (a : p ≡ (x .optional || marked || leb 1 count)) (b : p ≡ true) (d : m ≡ (not (eqb (x .strategy) 5) || (not marked && (x .multivalued || leb count 1)))) (e : m ≡ true) where
+    module _
+        {p m : Bool} (a : p ≡ (x .optional || marked || leb 1 count)) (b : p ≡ true)
+        (d : m ≡ (not (hasMatch x) || (not marked && (x .multivalued || leb count 1)))) (e : m ≡ true) where
       rest : cellFits versioned q c ≡ cond versioned (isLoneIfSingle q c) (not (isMark c) && isLoneIfExtreme q c)
       unfolding cellFits
       rest =
@@ -75,23 +79,8 @@ module _ (s : List ℕ) (q : Property) (x : PropertyAt) (c : Cell) (marked : Boo
       pub cell-versioned : versioned ≡ true → {r : Bool} → r ≡ (x .multivalued || leb count 1) → r ≡ cellFits versioned q c
       cell-versioned h k = k ∙ lone ∙ sym (rest ∙ ap (λ (t : Bool). cond t (isLoneIfSingle q c) (not (isMark c) && isLoneIfExtreme q c)) h)
 
-      pub cell-plain : versioned ≡ false → {r : Bool} → r ≡ (not marked && (not (eqb (x .strategy) 1 || eqb (x .strategy) 2) || leb count 1)) → r ≡ cellFits versioned q c
+      pub cell-plain : versioned ≡ false → {r : Bool} → r ≡ (not marked && (not (hasExtreme x) || leb count 1)) → r ≡ cellFits versioned q c
       cell-plain h k = k ∙ plain ∙ sym (rest ∙ ap (λ (t : Bool). cond t (isLoneIfSingle q c) (not (isMark c) && isLoneIfExtreme q c)) h)
-
--- ---- the element of a place
-
-pub record Elem {A : Type 0} (l : List A) (k : ℕ) : Type 0 where
-  pub what : A
-  pub is : getElem? l k ≡ some what
-  pub split : drop k l ≡ what ∷ drop (k + 1) l
-
-elem-more : {A : Type 0} (a : A) (l : List A) (k : ℕ) → Elem l k → Elem (a ∷ l) (suc k)
-elem-more a l k e = record { what = e .what; is = e .is; split = e .split ∙ ap (λ (n : ℕ). e .what ∷ drop n l) (add-one k) ∙ sym (ap (λ (n : ℕ). e .what ∷ drop n (a ∷ l)) (add-one (suc k))) }
-
-pub elem : {A : Type 0} (l : List A) (k : ℕ) → k < length l → Elem l k
-elem [] k h = absurd (omega arith)
-elem (a ∷ l) zero h = record { what = a; is = refl; split = ap (λ (n : ℕ). a ∷ drop n (a ∷ l)) (sym (add-one 0)) }
-elem (a ∷ l) (suc k) h = elem-more a l k (elem l k (omega arith))
 
 -- what is asked by the index of a type is what is asked by the type
 pub cell-typed : (s : List ℕ) (ty : EventType) (t : TypeIndex) (q : Property) (c : Cell) {r : Bool} → TypeIs s ty t → r ≡ cellFits (ltb 0 (t .mark)) q c → r ≡ cellFits (isVersioned ty) q c
@@ -197,9 +186,6 @@ cells-end s ty t cs f k bits left w h b o =
 
 -- ---- the match objects
 
-pub match-of : (s : List ℕ) (q : Property) (x : PropertyAt) → PropertyIs s q x → eqb (x .strategy) 5 ≡ isMatch q
-match-of s q x w = ap (λ (n : ℕ). eqb n 5) (w .strategy)
-
 -- a limit of a sum is a limit of the rest
 pub leb-sub : (n m l : ℕ) → n ≤ l → leb (n + m) l ≡ leb m (l - n)
 leb-sub n m l h =
@@ -218,9 +204,9 @@ module _ (s u : List ℕ) (ty : EventType) (t : TypeIndex) (xs : List (List Text
   unfolding matchCount
   step = let l : k < length xs = omega (arith, v .long, few-here) in rw (this .split, drop-cons xs k [] l, add-one)
 
-  module _ (n : ℕ) (e : n ≡ cond (eqb (getD (t .properties) k d .strategy) 5) (getD ats k noSet .count) 0) where
+  module _ (n : ℕ) (e : n ≡ cond (hasMatch (getD (t .properties) k d)) (getD ats k noSet .count) 0) where
     same-n : cond (isMatch (this .what)) (length (getD xs k [])) 0 ≡ n
-    same-n = sym (e ∙ ap₂ (λ (b : Bool) (m : ℕ). cond b m 0) (match-of s (this .what) (getD (t .properties) k d) (w .are .each k (this .what) d (this .is))) (v .each k few-here .count))
+    same-n = sym (e ∙ ap₂ (λ (b : Bool) (m : ℕ). cond b m 0) (match-of (w .are .each k (this .what) d (this .is))) (v .each k few-here .count))
 
     pub match-large : left < n → leb (matchCount (drop k (ty .properties)) (drop k xs)) left ≡ false
     match-large g = lt-leb (matchCount (drop k (ty .properties)) (drop k xs)) left (omega (arith, step, same-n))

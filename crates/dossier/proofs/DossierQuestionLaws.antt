@@ -13,11 +13,12 @@ use Rattle.model.specs.Limits.{Limits}
 use Rattle.model.specs.Opening.{cellAt}
 use Rattle.model.proofs.Cases.{never, truth}
 use Rattle.model.proofs.OrderLaws.{equal-true}
+use Rattle.replies.specs.Questions.{accepted}
 use Rattle.ontology.specs.Table.{Property, EventType, Table, isMatch, typeNamed}
-use Rattle.ontology.specs.Questions.{accepted}
 use Rattle.event.proofs.EventQuestionLaws.{MatchAlike}
+use Rattle.event.specs.Agreement.{matchSets, agree}
 use Rattle.dossier.specs.DossierLayout.{Headed, dossierOf}
-use Rattle.dossier.specs.DossierQuestions.{eachCell, eachSnapshot, matchSets, snapshotMatch, dossierMatch, matchAlike, dossierShape, snapshotValues, dossierAsked, agree}
+use Rattle.dossier.specs.DossierQuestions.{eachCell, eachSnapshot, snapshotMatch, dossierMatch, matchAlike, dossierShape, snapshotValues, dossierAsked}
 
 module _ (f : Property → Cell → Bool) (g : Cell → Bool) where
   each-cell :
@@ -75,8 +76,8 @@ match-sets ps ss ts l = (there ps ss ts l, back ps ss ts l)
 
 -- a dossier of which the questions are answered yes
 pub dossier-accepted :
-    (limits : Limits) (table : Table) (s : List ℕ) (t : EventType) (h : Headed) → dossierOf limits s ≡ some h → typeNamed (h .type) table ≡ some t →
-    dossierShape limits t (h .dossier .snapshots) ≡ true → eachSnapshot (snapshotValues t) (h .dossier .snapshots) ≡ true →
+    (limits : Limits) (table : Table) (s : List ℕ) (t : EventType) (h : Headed) → dossierOf limits s ≡ some h → typeNamed (h .head .type) table ≡ some t →
+    dossierShape limits t (h .snapshots) ≡ true → eachSnapshot (snapshotValues t) (h .snapshots) ≡ true →
     dossierAsked limits table s ≡ accepted (record { type = t; headed = h })
 unfolding dossierAsked
 dossier-accepted limits table s t h a b c d = rw (a, b, c, d)

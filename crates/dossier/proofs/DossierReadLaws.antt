@@ -16,25 +16,28 @@ use Rattle.model.proofs.OrderLaws.{less-of, less-cmp}
 use Rattle.model.specs.Rule.{Snapshot}
 use Rattle.model.specs.Limits.{standard}
 use Rattle.model.proofs.PartLaws.{map-append}
-use Rattle.packed.specs.Parse.{Parse, fail, got, Layout, andThen, _>>=_, foundIf, suchThat, times, whole}
-use Rattle.packed.specs.Packed.{readNumber}
+use Rattle.packed.specs.Parse.{Parse, fail, got, Layout, andThen, _>>=_, foundIf, suchThat, times, whole, found}
+use Rattle.packed.specs.Packed.{readNumber, isWithin}
 use Rattle.packed.proofs.LayoutLaws.{fail-got, lt-or-ge, times-was}
 use Rattle.packed.proofs.ReadLaws.{drop-next}
-use Rattle.values.specs.Spaces.{isWithin}
-use Rattle.ontology.specs.TypeIndex.{Got}
-use Rattle.ontology.proofs.FieldLaws.{got-bounds}
-use Rattle.ontology.proofs.RunLaws.{prepend, prepend-nil, prepend-one}
-use Rattle.event.specs.EventLayout.{HeadOf, readHead, bitNumber}
-use Rattle.event.specs.EventIndex.{HeadStops}
+use Rattle.packed.specs.code.Located.{Got}
+use Rattle.packed.proofs.FieldLaws.{got-bounds}
 use Rattle.values.specs.declared.versions.EventVersion.{EventVersion}
-use Rattle.event.specs.declared.read.HeadAt.{HeadAt}
-use Rattle.dossier.specs.DossierLayout.{Headed, readSnapshot, readDossier, dossierOf, differBit, snapshotBytes}
-use Rattle.dossier.specs.DossierIndex.{SnapshotIs, SnapshotReads, SnapshotAt, PassedIs, PassedSays, noSnapshot, versionNumbers, noVersion, SnapshotsAre, SnapshotsSay, DossierIs, DossierReads, DossierSays}
+use Rattle.ontology.proofs.RunLaws.{prepend, prepend-nil, prepend-one}
+use Rattle.event.specs.Head.{Head}
+use Rattle.event.specs.EventLayout.{bitNumber}
+use Rattle.event.specs.declared.head.HeadAt.{HeadAt}
+use Rattle.dossier.specs.declared.head.DossierHeadRead.{DossierHeadRead}
+use Rattle.dossier.specs.declared.head.DossierHeadRead.the-variants as read
+use Rattle.dossier.specs.DossierHead.{readDossierHead}
+use Rattle.dossier.specs.DossierLayout.{Headed, readDossier, dossierOf}
+use Rattle.dossier.specs.DossierBody.{readSnapshot, differBit, snapshotBytes, readBody}
+use Rattle.dossier.specs.code.DossierIndex.{SnapshotIs, SnapshotReads, SnapshotAt, PassedIs, PassedSays, noSnapshot, versionNumbers, noVersion, SnapshotsAre, SnapshotsSay, DossierIs, DossierReads, DossierSays, DossierHeadStops, DossierHeadReads}
 use Rattle.dossier.specs.declared.snapshots.SnapshotIndex.{SnapshotIndex}
 use Rattle.dossier.specs.declared.snapshots.SnapshotPassed.{SnapshotPassed}
 use Rattle.dossier.specs.declared.dossiers.SnapshotsRead.{SnapshotsRead}
 use Rattle.dossier.specs.declared.dossiers.DossierIndex.{DossierIndex}
-use Rattle.dossier.proofs.DossierLayoutLaws.{SnapshotWritten, snapshot-was}
+use Rattle.dossier.proofs.DossierBodyLaws.{SnapshotWritten, snapshot-was}
 use Rattle.dossier.proofs.PassLaws.{reads-none, passedAt, read-one, read-passed, pass-refused}
 
 -- ---- versions that rise
@@ -332,20 +335,20 @@ snapshots-found known fail s r w = inl refl
 snapshots-found known (got xs t) s r w = inr (record { what = xs; is = ap (got xs) (w .rest); within = w .within; are = w .are; differs = w .differs; first = w .first })
 
 -- what follows the head
-abbrev headed : HeadOf → List Snapshot → Headed
-headed h ss = record { type = h .type; source = h .source; dossier = record { parents = h .parents; snapshots = ss } }
+abbrev under : Head → List Snapshot → Layout Headed
+under h ss = found (record { head = h; snapshots = ss })
 
-abbrev risen : HeadOf → List Snapshot → Layout Headed
-risen h ss = foundIf (rising numbers (map (λ (s : Snapshot). s .version) ss)) (headed h ss)
+abbrev risen : List Snapshot → Layout (List Snapshot)
+risen ss = foundIf (rising numbers (map (λ (s : Snapshot). s .version) ss)) ss
 
-abbrev counted : HeadOf → ℕ → Layout Headed
-counted h count = times readSnapshot count >>= risen h
+abbrev counted : ℕ → Layout (List Snapshot)
+counted count = times readSnapshot count >>= risen
 
-abbrev readBody : HeadOf → Layout Headed
-readBody h = suchThat (isWithin 1 8) readNumber >>= counted h
+abbrev numbered : Layout ℕ
+numbered = suchThat (isWithin 1 8) readNumber
 
-head-first : (s : List ℕ) → readDossier standard s ≡ andThen (readHead 32 s) readBody
-unfolding readDossier standard
+head-first : (s : List ℕ) → readDossier standard s ≡ andThen (readDossierHead standard s) (λ h. (numbered >>= counted) >>= under h)
+unfolding readDossier readBody standard
 head-first s = refl
 
 pub dossier-none : (known : Bool) (o : Option Headed) (s : List ℕ) (i : DossierIndex) → o ≡ none → (known ≡ false → i .ok ≡ false) → DossierSays known o s i
@@ -367,25 +370,35 @@ no-dossier : (s : List ℕ) → readDossier standard s ≡ fail → dossierOf st
 unfolding dossierOf
 no-dossier s e = rw e
 
-pub no-head : (s : List ℕ) → readHead 32 s ≡ fail → dossierOf standard s ≡ none
+-- what is known of the head's answer in the arm of a `match`
+pub head-reads : {p : Parse Head} {s : List ℕ} {r : DossierHeadRead} {x : HeadAt} {end : ℕ} → r ≡ read.Head x end → DossierHeadReads p s r → DossierHeadStops p s x end
+head-reads {p} {s} h w = subst (DossierHeadReads p s) h w
+
+pub head-refused : {p : Parse Head} (s : List ℕ) {r : DossierHeadRead} → r ≡ read.NoHead → DossierHeadReads p s r → p ≡ fail
+head-refused {p} s h w = subst (DossierHeadReads p s) h w
+
+pub no-head : (s : List ℕ) → readDossierHead standard s ≡ fail → dossierOf standard s ≡ none
 no-head s e = no-dossier s (head-first s ∙ rw e)
 
-module _ (s : List ℕ) (x : HeadAt) (w : HeadStops (readHead 32 s) s x) where
-  head-step : readDossier standard s ≡ readBody (w .what) (drop (x .parents .end) s)
+module _ (s : List ℕ) (x : HeadAt) (end : ℕ) (w : DossierHeadStops (readDossierHead standard s) s x end) where
+  head-step : readDossier standard s ≡ andThen (andThen (numbered (drop end s)) counted) (under (w .what))
   head-step = head-first s ∙ rw (w .is)
 
-  pub no-count : suchThat (isWithin 1 8) readNumber (drop (x .parents .end) s) ≡ fail → dossierOf standard s ≡ none
-  no-count e = no-dossier s (head-step ∙ ap (λ (p : Parse ℕ). andThen p (counted (w .what))) e)
+  pub no-count : numbered (drop end s) ≡ fail → dossierOf standard s ≡ none
+  no-count e = no-dossier s (head-step ∙ ap (λ (p : Parse ℕ). andThen (andThen p counted) (under (w .what))) e)
 
-  module _ (n at : ℕ) (c : Got (suchThat (isWithin 1 8) readNumber (drop (x .parents .end) s)) s (x .parents .end) n at) where
-    times-all : readDossier standard s ≡ andThen (times readSnapshot n (drop at s)) (risen (w .what))
-    times-all = head-step ∙ ap (λ (p : Parse ℕ). andThen p (counted (w .what))) (c .is)
+  module _ (n at : ℕ) (c : Got (numbered (drop end s)) s end n at) where
+    times-all : readDossier standard s ≡ andThen (andThen (times readSnapshot n (drop at s)) risen) (under (w .what))
+    times-all = head-step ∙ ap (λ (p : Parse ℕ). andThen (andThen p counted) (under (w .what))) (c .is)
 
     none-there : times readSnapshot n (drop at s) ≡ fail → dossierOf standard s ≡ none
     none-there e = no-dossier s (times-all ∙ rw e)
 
     module _ (r : SnapshotsRead) (these : Found (times readSnapshot n (drop at s)) s r) where
-      last-step : readDossier standard s ≡ risen (w .what) (these .what) (drop (r .next) s)
+      abbrev read-there : Headed
+      read-there = record { head = w .what; snapshots = these .what }
+
+      last-step : readDossier standard s ≡ andThen (risen (these .what) (drop (r .next) s)) (under (w .what))
       last-step = times-all ∙ rw (these .is)
 
       found-more : (r .next ≡ length s → ⊥) → dossierOf standard s ≡ none
@@ -394,7 +407,7 @@ module _ (s : List ℕ) (x : HeadAt) (w : HeadStops (readHead 32 s) s x) where
           let l : r .next < length s = omega (arith, these .within, ne) in
           ap whole last-step ∙ go (rising numbers (map (λ (s : Snapshot). s .version) (these .what))) (drop-next s (r .next) l)
         where
-          go : (b : Bool) {y : ℕ} {t u : List ℕ} → t ≡ y ∷ u → whole (foundIf b (headed (w .what) (these .what)) t) ≡ none
+          go : (b : Bool) {y : ℕ} {t u : List ℕ} → t ≡ y ∷ u → whole (andThen (foundIf b (these .what) t) (under (w .what))) ≡ none
           go true e = rw e
           go false e = refl
 
@@ -410,10 +423,10 @@ module _ (s : List ℕ) (x : HeadAt) (w : HeadStops (readHead 32 s) s x) where
       found-all : (known : Bool) → true ≡ rising numbers (versionNumbers (take n (r .versions))) → r .next ≡ length s → DossierSays known (dossierOf standard s) s (record { ok = true; head = x; count = n; starts = r .starts; ends = r .ends; versions = r .versions; differs = r .differs; first = r .first })
       unfolding DossierSays dossierOf
       found-all known e z =
-          let g : readDossier standard s ≡ got (headed (w .what) (these .what)) [] =
+          let g : readDossier standard s ≡ got read-there [] =
           last-step
-          ∙ ap (λ (b : Bool). foundIf b (headed (w .what) (these .what)) (drop (r .next) s)) (rises true e)
-          ∙ ap (got (headed (w .what) (these .what))) (ap (λ (k : ℕ). drop k s) z ∙ drop-length s) in
+          ∙ ap (λ (b : Bool). andThen (foundIf b (these .what) (drop (r .next) s)) (under (w .what))) (rises true e)
+          ∙ ap (got read-there) (ap (λ (k : ℕ). drop k s) z ∙ drop-length s) in
           rw g (refl, record { head = w .stands; count = sym many; one = got-bounds 1 8 c .0; few = got-bounds 1 8 c .1; snapshots = these .are; differs = these .differs; first = these .first })
 
     module _ (known : Bool) (r : SnapshotsRead) (v : SnapshotsSay known (times readSnapshot n (drop at s)) s r) where

@@ -12,15 +12,19 @@ use Rattle.model.specs.Limits.{standard}
 use Rattle.model.specs.Opening.{held, isMark}
 use Rattle.model.proofs.Cases.{and-parts}
 use Rattle.packed.proofs.LayoutLaws.{All, number-bounds, number-length-1, number-length-5}
+use Rattle.replies.specs.Capacities.{dossierCapacity}
 use Rattle.ontology.specs.Table.{Property, EventType, isVersioned}
 use Rattle.event.specs.Event.{objectCount}
 use Rattle.event.specs.EventLayout.{presenceBit, bitNumber}
 use Rattle.event.specs.EventQuestions.{isEmpty}
 use Rattle.event.proofs.EventLayoutLaws.{presence-below}
-use Rattle.event.proofs.EventSizeLaws.{ValuesShort, Beyond, fit-short, head-size, sets-size}
-use Rattle.dossier.specs.DossierLayout.{Headed, differBit, snapshotBytes, dossierBytes}
+use Rattle.event.proofs.EventSizeLaws.{ValuesShort, Beyond, fit-short, sets-size}
+use Rattle.dossier.proofs.DossierHeadLaws.{dossier-head-size}
+use Rattle.dossier.specs.DossierLayout.{Headed, dossierBytes}
+use Rattle.dossier.specs.DossierBody.{differBit, snapshotBytes, bodyBytes}
 use Rattle.dossier.specs.DossierQuestions.{eachCell, eachSnapshot, isVacant, isPresent, isLoneIfExtreme, unversionedSnapshot, unversionedShape, versionedSnapshot, matchFits, matchAlike, dossierShape, snapshotValues}
-use Rattle.dossier.proofs.DossierLayoutLaws.{SnapshotWritten, DossierWritten, differ-below}
+use Rattle.dossier.proofs.DossierBodyLaws.{SnapshotWritten, differ-below}
+use Rattle.dossier.proofs.DossierLayoutLaws.{DossierWritten}
 
 -- the objects of a snapshot's cells are those of the sets that they hold
 pub held-objects : (cs : List Cell) → objectCount (map held cs) ≡ sizes cs
@@ -50,16 +54,16 @@ snapshots-size [] w v = omega arith
 snapshots-size (s ∷ ss) w v = simp length-append (omega (arith, snapshot-size s (w .0) (v .0), snapshots-size ss (w .1) (v .1)))
 
 -- 827 + 1 + 8 * 84 + 256 * 121 = 32,476
-pub dossier-size : (h : Headed) → DossierWritten standard h → All (λ (s : Snapshot). ValuesShort (map held (s .cells))) (h .dossier .snapshots) → length (h .type) ≤ 64 → objects (h .dossier .snapshots) ≤ 256 → length (dossierBytes h) ≤ 32768
-unfolding standard dossierBytes
+pub dossier-size : (h : Headed) → DossierWritten standard h → All (λ (s : Snapshot). ValuesShort (map held (s .cells))) (h .snapshots) → length (h .head .type) ≤ 64 → objects (h .snapshots) ≤ 256 → length (dossierBytes h) ≤ dossierCapacity
+unfolding standard dossierBytes bodyBytes
 dossier-size h w v t o =
-    let n : length (h .dossier .snapshots) ≤ 8 = w .within in
+    let n : length (h .snapshots) ≤ 8 = w .body .within in
     simp length-append
     (omega (
       arith,
-      head-size (h .type) (h .source) (h .dossier .parents) (w .head) t,
-      number-length-1 (length (h .dossier .snapshots)) (omega arith),
-      snapshots-size (h .dossier .snapshots) (w .snapshots) v,
+      dossier-head-size (h .head) (w .head) t,
+      number-length-1 (length (h .snapshots)) (omega arith),
+      snapshots-size (h .snapshots) (w .body .snapshots) v,
     ))
 
 -- "has each versioned snapshot at most 32 objects": eight of them have at most 256
@@ -122,8 +126,8 @@ shape-objects t ss h n = go (isVersioned t) (shape-parts t ss h .1)
     go false h = unversioned-objects t ss h
 
 -- a dossier of which questions 3, 5 and 6 are answered yes
-pub dossier-fits : (t : EventType) (h : Headed) → DossierWritten standard h → dossierShape standard t (h .dossier .snapshots) ≡ true → eachSnapshot (snapshotValues t) (h .dossier .snapshots) ≡ true → length (h .type) ≤ 64 → length (dossierBytes h) ≤ 32768
+pub dossier-fits : (t : EventType) (h : Headed) → DossierWritten standard h → dossierShape standard t (h .snapshots) ≡ true → eachSnapshot (snapshotValues t) (h .snapshots) ≡ true → length (h .head .type) ≤ 64 → length (dossierBytes h) ≤ dossierCapacity
 unfolding standard
 dossier-fits t h w q v n =
-    let ss = h .dossier .snapshots in
-    dossier-size h w (snapshots-short t ss (shape-parts t ss q .0) v) n (shape-objects t ss q (w .within))
+    let ss = h .snapshots in
+    dossier-size h w (snapshots-short t ss (shape-parts t ss q .0) v) n (shape-objects t ss q (w .body .within))

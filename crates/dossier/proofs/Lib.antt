@@ -1,12 +1,12 @@
 -- The laws of dossiers' bytes, and of their index.
+pub mod DossierHeadLaws
+pub mod DossierBodyLaws
 pub mod DossierLayoutLaws
 pub mod DossierSizeLaws
 pub mod SnapshotLaws
 pub mod PassLaws
 pub mod DossierReadLaws
 pub mod CellLaws
-pub mod DigitLaws
-pub mod MatchLaws
 pub mod VersionLaws
 pub mod AskLaws
 pub mod AnswerLaws

@@ -13,17 +13,16 @@ use Rattle.model.specs.Opening.{held}
 use Rattle.model.proofs.Cases.{never}
 use Rattle.packed.specs.Parse.{Parse, fail, got}
 use Rattle.packed.specs.Packed.{number, readNumber}
-use Rattle.packed.proofs.ReadLaws.{NumberStops, to-end}
+use Rattle.packed.proofs.ReadLaws.{NumberStops, to-end, stretch}
 use Rattle.event.specs.EventLayout.{setsBytes}
-use Rattle.event.specs.EventIndex.{present, Skipped}
+use Rattle.event.specs.code.EventIndex.{present, Skipped}
 use Rattle.event.proofs.EventLayoutLaws.{presence-below}
 use Rattle.event.proofs.LookupLaws.{number-there, number-next, ones-below}
-use Rattle.event.proofs.SetLaws.{stretch}
-use Rattle.dossier.specs.DossierLayout.{readSnapshot, snapshotBytes}
-use Rattle.dossier.specs.DossierIndex.{SnapshotIs, SnapshotReads, PassedIs, PassedSays}
+use Rattle.dossier.specs.DossierBody.{readSnapshot, snapshotBytes}
+use Rattle.dossier.specs.code.DossierIndex.{SnapshotIs, SnapshotReads, PassedIs, PassedSays}
 use Rattle.dossier.specs.declared.snapshots.SnapshotIndex.{SnapshotIndex}
 use Rattle.dossier.specs.declared.snapshots.SnapshotPassed.{SnapshotPassed}
-use Rattle.dossier.proofs.DossierLayoutLaws.{SnapshotWritten, presenceOf, differOf, differ-below, snapshot-parts, snapshot-was}
+use Rattle.dossier.proofs.DossierBodyLaws.{SnapshotWritten, presenceOf, differOf, differ-below, snapshot-parts, snapshot-was}
 
 -- ---- a snapshot that is skipped over
 

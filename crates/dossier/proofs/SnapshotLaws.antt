@@ -15,23 +15,22 @@ use Rattle.model.specs.Order.{Text}
 use Rattle.model.specs.Rule.{Snapshot}
 use Rattle.packed.specs.Parse.{Parse, fail, got, Layout, andThen, _>>=_, foundIf, suchThat}
 use Rattle.packed.specs.Packed.{readNumber}
-use Rattle.packed.proofs.ReadLaws.{NumberStops}
+use Rattle.packed.proofs.ReadLaws.{NumberStops, stretch}
+use Rattle.values.specs.declared.versions.EventVersion.{EventVersion}
 use Rattle.event.specs.Event.{objectCount}
 use Rattle.event.specs.EventLayout.{readBits, readSets, presenceBit, bitNumber, setsBytes}
-use Rattle.event.specs.EventIndex.{SetsAre, SetsStop, SetsReads, noSet}
+use Rattle.event.specs.code.EventIndex.{SetsAre, SetsStop, SetsReads, noSet}
 use Rattle.event.proofs.EventLayoutLaws.{SetsWas, sets-was}
 use Rattle.event.proofs.EventSizeLaws.{each-within}
-use Rattle.event.proofs.SetLaws.{stretch}
-use Rattle.values.specs.declared.versions.EventVersion.{EventVersion}
 use Rattle.event.specs.declared.sets.SetAt.{SetAt}
 use Rattle.event.specs.declared.sets.SetsRead.{SetsRead}
 use Rattle.event.proofs.EventReadLaws.{sets-wrong}
-use Rattle.dossier.specs.DossierLayout.{apart, cellsOf, areSmall, readSnapshot, snapshotBytes}
-use Rattle.dossier.specs.DossierIndex.{afterNumbers, NumbersStop, NumbersRead, SnapshotIs, SnapshotReads}
+use Rattle.dossier.specs.DossierBody.{apart, cellsOf, areSmall, readSnapshot, snapshotBytes}
+use Rattle.dossier.specs.code.DossierIndex.{afterNumbers, NumbersStop, NumbersRead, SnapshotIs, SnapshotReads}
 use Rattle.dossier.specs.declared.snapshots.NumbersAt.{NumbersAt}
 use Rattle.dossier.specs.declared.snapshots.NumbersAt.the-variants.{Numbers, NoNumbers}
 use Rattle.dossier.specs.declared.snapshots.SnapshotIndex.{SnapshotIndex}
-use Rattle.dossier.proofs.DossierLayoutLaws.{CellsWas, cells-was, all-small, snapshot-was}
+use Rattle.dossier.proofs.DossierBodyLaws.{CellsWas, cells-was, all-small, snapshot-was}
 use Rattle.dossier.proofs.DossierSizeLaws.{held-objects}
 
 -- ---- no bit in common

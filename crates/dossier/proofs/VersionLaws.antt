@@ -15,9 +15,9 @@ use Rattle.model.specs.Opening.{held, cellAt}
 use Rattle.values.specs.Decimal.{inDecimal}
 use Rattle.ontology.specs.Table.{EventType, isVersioned}
 use Rattle.event.specs.EventQuestions.{matchCount}
-use Rattle.event.specs.EventIndex.{SetIs, noSet}
+use Rattle.event.specs.code.EventIndex.{SetIs, noSet}
 use Rattle.dossier.specs.DossierQuestions.{eachCell, isVacant, holdsVersion}
-use Rattle.dossier.specs.DossierIndex.{SnapshotIs, CellsAre, cellFits, versionFits, snapshotFits}
+use Rattle.dossier.specs.code.DossierIndex.{SnapshotIs, CellsAre, cellFits, versionFits, snapshotFits}
 use Rattle.dossier.specs.declared.snapshots.SnapshotIndex.{SnapshotIndex}
 use Rattle.dossier.proofs.CellLaws.{held-at}
 

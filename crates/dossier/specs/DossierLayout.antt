@@ -1,74 +1,38 @@
--- Document 01, "Dossier": its bytes.
-use Prim.Native.Nat.{ℕ, zero, suc, _/_, _%_}
-use mathlib.Core.Bool.{Bool, true, cond, not, _&&_}
+-- Document 01, "Dossier": its bytes, a head and a body.
+use Prim.Native.Nat.{ℕ}
 use mathlib.Core.Option.{Option}
-use mathlib.Core.List.{List, [], _∷_, _++_, map, flatten}
-use lib.ListN.{length}
-use lib.Dec.{leb, eqb}
-use Rattle.model.specs.Order.{Text, numbers, rising}
-use Rattle.model.specs.Rule.{Cell, holds, differs, Snapshot, Dossier}
+use mathlib.Core.List.{List, _++_}
+use Rattle.model.specs.Order.{Text}
+use Rattle.model.specs.Rule.{Snapshot, Dossier}
 use Rattle.model.specs.Limits.{Limits}
-use Rattle.model.specs.Opening.{held}
-use Rattle.packed.specs.Parse.{Layout, _>>=_, foundIf, suchThat, times, whole}
-use Rattle.packed.specs.Packed.{number, readNumber}
-use Rattle.values.specs.Spaces.{isWithin}
-use Rattle.event.specs.EventLayout.{readHead, readBits, readSets, headBytes, presenceBit, bitNumber, setsBytes}
+use Rattle.packed.specs.Parse.{Layout, _>>=_, found, whole}
+use Rattle.event.specs.Head.{Head}
+use Rattle.dossier.specs.DossierHead.{readDossierHead, dossierHeadBytes}
+use Rattle.dossier.specs.DossierBody.{readBody, bodyBytes}
 
--- A dossier with the head that all its events share
+-- A dossier with the head that all its events share, but for the parents, which are those of all
 pub record Headed : Type 0 where
-  pub type : Text
-  pub source : Text
-  pub dossier : Dossier
+  pub head : Head
+  pub snapshots : List Snapshot
 
--- "no bit in common with presence": of the lowest so many bits
-unfoldable pub apart : ℕ → ℕ → ℕ → Bool
-apart zero m n = true
-apart (suc k) m n = not (eqb (m % 2) 1 && eqb (n % 2) 1) && apart k (m / 2) (n / 2)
+-- what the rule, combining and opening work on, which have nothing to do with type name and source URI; and back
+abbrev pub modelOf : Headed → Dossier
+modelOf h = record { parents = h .head .parents; snapshots = h .snapshots }
 
--- a place whose differ bit is set is marked, any other has its set
-unfoldable pub cellsOf : ℕ → List (List Text) → List Cell
-cellsOf differ [] = []
-cellsOf differ (s ∷ ss) = cond (eqb (differ % 2) 1) differs (holds s) ∷ cellsOf (differ / 2) ss
-
--- "each of at most 256 values"
-unfoldable pub areSmall : List (List Text) → Bool
-areSmall [] = true
-areSmall (s ∷ ss) = leb (length s) 256 && areSmall ss
-
--- "A snapshot is: event version (0 for an unversioned type), presence number, differ number (no bit in common with presence, both below 2^32), the sets as
--- in an event, each of at most 256 values."
-unfoldable pub readSnapshot : Layout Snapshot
-readSnapshot = do
-  version ← readNumber
-  presence ← readBits
-  differ ← suchThat (apart 32 presence) readBits
-  sets ← readSets 32 presence
-  foundIf (areSmall sets) (record { version = version; cells = cellsOf differ sets })
+abbrev pub headed : Text → Text → Dossier → Headed
+headed type source d = record { head = record { type = type; source = source; parents = d .parents }; snapshots = d .snapshots }
 
 -- "Type name, source URI, parent count 0 to 32 with the hashes rising, snapshot count 1 to 8, snapshots by rising event version."
 unfoldable pub readDossier : Limits → Layout Headed
 readDossier limits = do
-  head ← readHead (limits .parents)
-  count ← suchThat (isWithin 1 (limits .versions)) readNumber
-  snapshots ← times readSnapshot count
-  foundIf (rising numbers (map (λ (s : Snapshot). s .version) snapshots))
-      (record { type = head .type; source = head .source; dossier = record { parents = head .parents; snapshots = snapshots } })
+  head ← readDossierHead limits
+  snapshots ← readBody limits
+  found (record { head = head; snapshots = snapshots })
 
 -- the dossier that some bytes are, to their exact end
 unfoldable pub dossierOf : Limits → List ℕ → Option Headed
 dossierOf limits s = whole (readDossier limits s)
 
 -- The same layout, written
-
-unfoldable pub differBit : Cell → ℕ
-differBit (holds s) = 0
-differBit differs = 1
-
-unfoldable pub snapshotBytes : Snapshot → List ℕ
-snapshotBytes s =
-    let sets = map held (s .cells) in
-    number (s .version) ++ number (bitNumber (map presenceBit sets)) ++ number (bitNumber (map differBit (s .cells))) ++ setsBytes sets
-
 unfoldable pub dossierBytes : Headed → List ℕ
-dossierBytes h =
-    headBytes (h .type) (h .source) (h .dossier .parents) ++ number (length (h .dossier .snapshots)) ++ flatten (map snapshotBytes (h .dossier .snapshots))
+dossierBytes h = dossierHeadBytes (h .head) ++ bodyBytes (h .snapshots)

@@ -4,14 +4,15 @@ use mathlib.Core.Bool.{Bool, true, false, cond, not, _&&_, _||_}
 use mathlib.Core.List.{List, [], _∷_, map}
 use lib.ListN.{length}
 use lib.Dec.{leb, eqb}
-use Rattle.model.specs.Order.{Text, texts, sets, lists, equal}
+use Rattle.model.specs.Order.{Text, sets, lists, equal}
 use Rattle.model.specs.Rule.{Cell, holds, differs, Snapshot, sizes}
 use Rattle.model.specs.Limits.{Limits}
 use Rattle.model.specs.Opening.{held, isMark, cellAt}
 use Rattle.values.specs.Decimal.{inDecimal}
+use Rattle.replies.specs.Questions.{Asked, accepted, _>>=_, _>>_, ask, ensure}
 use Rattle.ontology.specs.Table.{Property, EventType, Table, isMin, isMax, isMatch, isVersioned, typeNamed}
-use Rattle.ontology.specs.Questions.{Asked, accepted, _>>=_, _>>_, ask, ensure}
 use Rattle.event.specs.EventQuestions.{isEmpty, matchCount, valuesFit}
+use Rattle.event.specs.Agreement.{matchSets, agree}
 use Rattle.dossier.specs.DossierLayout.{Headed, dossierOf}
 
 -- A test of each place: of a property and its cell, and of a cell where there is no property; a cell that is not there holds the empty set
@@ -64,12 +65,6 @@ unfoldable pub versionedSnapshot : EventType → Snapshot → Bool
 versionedSnapshot t s =
     leb (sizes (s .cells)) 32 && eachCell isLoneIfSingle (λ c. true) (t .properties) (s .cells) && holdsVersion (s .version) (cellAt s (t .mark - 1))
 
--- the sets of the match properties
-unfoldable pub matchSets : List Property → List (List Text) → List (List Text)
-matchSets [] ss = []
-matchSets (p ∷ ps) [] = cond (isMatch p) ([] ∷ matchSets ps []) (matchSets ps [])
-matchSets (p ∷ ps) (s ∷ ss) = cond (isMatch p) (s ∷ matchSets ps ss) (matchSets ps ss)
-
 abbrev pub snapshotMatch : EventType → Snapshot → List (List Text)
 snapshotMatch t s = matchSets (t .properties) (map held (s .cells))
 
@@ -104,9 +99,9 @@ pub record TypedDossier : Type 0 where
 unfoldable pub dossierAsked : Limits → Table → List ℕ → Asked TypedDossier
 dossierAsked limits table s = do
   h ← ask 3 (dossierOf limits s)
-  t ← ask 4 (typeNamed (h .type) table)
-  ensure 5 (dossierShape limits t (h .dossier .snapshots))
-  ensure 6 (eachSnapshot (snapshotValues t) (h .dossier .snapshots))
+  t ← ask 4 (typeNamed (h .head .type) table)
+  ensure 5 (dossierShape limits t (h .snapshots))
+  ensure 6 (eachSnapshot (snapshotValues t) (h .snapshots))
   accepted (record { type = t; headed = h })
 
 -- the match sets of a dossier, alike in all its snapshots
@@ -115,10 +110,7 @@ dossierMatch t [] = []
 dossierMatch t (s ∷ ss) = snapshotMatch t s
 
 -- "Do the two agree in type, source URI and match sets?"
-unfoldable pub agree : Text → Text → List (List Text) → Text → Text → List (List Text) → Bool
-agree type source match type′ source′ match′ = equal texts type type′ && equal texts source source′ && equal (lists sets) match match′
-
 unfoldable pub dossiersAgree : TypedDossier → TypedDossier → Bool
 dossiersAgree a b =
-    agree (a .headed .type) (a .headed .source) (dossierMatch (a .type) (a .headed .dossier .snapshots))
-    (b .headed .type) (b .headed .source) (dossierMatch (b .type) (b .headed .dossier .snapshots))
+    agree (a .headed .head .type) (a .headed .head .source) (dossierMatch (a .type) (a .headed .snapshots))
+    (b .headed .head .type) (b .headed .head .source) (dossierMatch (b .type) (b .headed .snapshots))

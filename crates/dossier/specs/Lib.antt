@@ -1,3 +1,5 @@
+pub mod DossierHead
+pub mod DossierBody
 pub mod DossierLayout
 pub mod DossierQuestions
-pub mod DossierIndex
+pub mod code

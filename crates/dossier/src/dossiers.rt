@@ -6,18 +6,19 @@ ghost use lib.ListN.{length, take, drop};
 ghost use Rattle.model.specs.Order.{numbers, rising};
 ghost use Rattle.model.specs.Limits.{standard};
 ghost use Rattle.packed.specs.Parse.{times};
-ghost use Rattle.dossier.specs.DossierLayout.{Headed, readSnapshot, dossierOf};
-ghost use Rattle.dossier.specs.DossierIndex.{versionNumbers, SnapshotsSay, DossierIs, DossierReads, DossierSays};
+ghost use Rattle.dossier.specs.DossierLayout.{Headed, dossierOf};
+ghost use Rattle.dossier.specs.DossierBody.{readSnapshot};
+ghost use Rattle.dossier.specs.code.DossierIndex.{versionNumbers, SnapshotsSay, DossierIs, DossierReads, DossierSays};
+use crate::head::DossierHeadRead;
+use crate::head::read_dossier_head;
 use crate::snapshots::SnapshotIndex;
 use crate::snapshots::no_snapshot;
 use crate::snapshots::pass_snapshot;
 use crate::snapshots::read_snapshot;
-use event::read::HeadAt;
-use event::read::HeadRead;
-use event::read::no_head;
-use event::read::read_head;
-use ontology::fields::read_within;
+use event::head::HeadAt;
+use event::head::no_head;
 use packed::read::NumberAt;
+use packed::read::read_within;
 use values::versions::EventVersion;
 
 // Where each of the snapshots stands, its version and its differ number, the index of the first, and the position after the last.
@@ -119,11 +120,10 @@ fn no_dossier() -> DossierIndex
 fn index_dossier(s: &[u8], known: bool) -> DossierIndex
     ensures { λ r. ⌜ DossierSays known (dossierOf standard (now (s .entry))) (now (s .entry)) r ⌝ }
 {
-    let HeadRead::Head(head) = read_head(s, 32) else {
+    let DossierHeadRead::Head(head, after_head) = read_dossier_head(s) else {
         return no_dossier();
     };
-    let parents = head.parents;
-    let NumberAt::Number(number, after_count) = read_within(s, parents.end, 1, 8) else {
+    let NumberAt::Number(number, after_count) = read_within(s, after_head, 1, 8) else {
         return no_dossier();
     };
     let count = number as usize;

@@ -10,18 +10,20 @@ ghost use Rattle.model.specs.Limits.{standard};
 ghost use Rattle.packed.specs.Parse.{got};
 ghost use Rattle.ontology.specs.Table.{EventType, Table, typeNamed};
 ghost use Rattle.ontology.specs.TableLayout.{tableOf};
-ghost use Rattle.ontology.specs.TypeIndex.{TypeIs, TypeSays};
-ghost use Rattle.event.specs.EventIndex.{SetsAre, KindsAre};
-ghost use Rattle.dossier.specs.DossierLayout.{Headed, readSnapshot, dossierOf};
-ghost use Rattle.dossier.specs.DossierQuestions.{matchSets, snapshotMatch, dossierShape, eachSnapshot, snapshotValues, dossierAsked, dossiersAgree};
-ghost use Rattle.dossier.specs.DossierIndex.{SnapshotIs, snapshotFits, shapeNumber, IsDossier, DossierIs, DossierReads, DossierAnswers};
+ghost use Rattle.ontology.specs.code.TypeIndex.{TypeIs, TypeSays};
+ghost use Rattle.event.specs.code.EventIndex.{SetsAre, KindsAre};
+ghost use Rattle.event.specs.Agreement.{matchSets};
+ghost use Rattle.dossier.specs.DossierLayout.{Headed, dossierOf};
+ghost use Rattle.dossier.specs.DossierBody.{readSnapshot};
+ghost use Rattle.dossier.specs.DossierQuestions.{snapshotMatch, dossierShape, eachSnapshot, snapshotValues, dossierAsked, dossiersAgree};
+ghost use Rattle.dossier.specs.code.DossierIndex.{SnapshotIs, snapshotFits, shapeNumber, IsDossier, DossierIs, DossierReads, DossierAnswers};
 use crate::dossiers::DossierIndex;
-use crate::parts::heads_agree;
-use crate::parts::text_part;
-use crate::shape::is_match_same;
 use crate::shape::snapshot_fits;
 use crate::snapshots::SnapshotIndex;
 use crate::snapshots::read_snapshot;
+use event::agree::is_match_same;
+use event::head::heads_agree;
+use event::head::text_part;
 use event::sets::SetAt;
 use event::spaces::sets_in_space;
 use ontology::tables::TableRead;
@@ -72,7 +74,7 @@ fn is_lone(mark: usize, count: usize) -> bool
 // Questions 5 and 6 of a dossier's snapshots.
 fn ask_snapshots(s: &[u8], d: DossierIndex, t: TypeIndex) -> u8
     requires { ⌜ (t .count ≤ 32) × IsDossier (now s) d ⌝ }
-    ensures { λ r. ⌜ ((u : List ℕ) (ty : EventType) (h : Headed) → TypeIs u ty t → KindsAre ty → DossierIs (now (s .entry)) h d → r ≡ shapeNumber (dossierShape standard ty (h .dossier .snapshots)) (eachSnapshot (snapshotValues ty) (h .dossier .snapshots))) ⌝ }
+    ensures { λ r. ⌜ ((u : List ℕ) (ty : EventType) (h : Headed) → TypeIs u ty t → KindsAre ty → DossierIs (now (s .entry)) h d → r ≡ shapeNumber (dossierShape standard ty (h .snapshots)) (eachSnapshot (snapshotValues ty) (h .snapshots))) ⌝ }
 {
     if !is_lone(t.mark, d.count) {
         return 5;
@@ -106,7 +108,7 @@ pub struct DossierAsked {
 
 // The name of a dossier's type, by which the table is read.
 pub fn type_name(s: &[u8], d: DossierIndex) -> &[u8]
-    ensures { λ r. ⌜ ((h : Headed) → DossierIs (now (s .entry)) h d → now r ≡ h .type) ⌝ }
+    ensures { λ r. ⌜ ((h : Headed) → DossierIs (now (s .entry)) h d → now r ≡ h .head .type) ⌝ }
 {
     let head = d.head;
     let name = head.name;
@@ -116,7 +118,7 @@ pub fn type_name(s: &[u8], d: DossierIndex) -> &[u8]
 // Questions 3 to 6 of the dossier s, whose index is d. The table was read for the name of its type, and is read once for all dossiers of that type.
 pub fn ask_dossier(s: &[u8], d: DossierIndex, read: TableRead) -> DossierAsked
     requires { ⌜ DossierReads (dossierOf standard (now s)) (now s) d × (read .found ≡ true → read .index .count ≤ 32) ⌝ }
-    ensures { λ r. ⌜ ((table : List ℕ) (ts : Table) → tableOf table ≡ some ts → ((h : Headed) → DossierIs (now (s .entry)) h d → TypeSays (typeNamed (h .type) ts) table read) → DossierAnswers (dossierAsked standard ts (now (s .entry))) table r) ⌝ }
+    ensures { λ r. ⌜ ((table : List ℕ) (ts : Table) → tableOf table ≡ some ts → ((h : Headed) → DossierIs (now (s .entry)) h d → TypeSays (typeNamed (h .head .type) ts) table read) → DossierAnswers (dossierAsked standard ts (now (s .entry))) table r) ⌝ }
 {
     let event_type = read.index;
     if !d.ok {
@@ -140,7 +142,7 @@ pub fn ask_dossier(s: &[u8], d: DossierIndex, read: TableRead) -> DossierAsked
 // Question 7: whether two dossiers agree in type, source and match sets. The match sets of a dossier are those of its first snapshot.
 pub fn dossiers_agree(a: &[u8], d: DossierIndex, b: &[u8], e: DossierIndex, t: TypeIndex) -> bool
     requires { ⌜ (t .count ≤ 32) × IsDossier (now a) d × IsDossier (now b) e ⌝ }
-    ensures { λ r. ⌜ ((u : List ℕ) (ty tz : EventType) (h g : Headed) → TypeIs u ty t → DossierIs (now (a .entry)) h d → DossierIs (now (b .entry)) g e → (h .type ≡ g .type → ty ≡ tz) → r ≡ dossiersAgree (record { type = ty; headed = h }) (record { type = tz; headed = g })) ⌝ }
+    ensures { λ r. ⌜ ((u : List ℕ) (ty tz : EventType) (h g : Headed) → TypeIs u ty t → DossierIs (now (a .entry)) h d → DossierIs (now (b .entry)) g e → (h .head .type ≡ g .head .type → ty ≡ tz) → r ≡ dossiersAgree (record { type = ty; headed = h }) (record { type = tz; headed = g })) ⌝ }
 {
     let x = d.head;
     let y = e.head;

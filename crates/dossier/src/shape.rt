@@ -2,17 +2,17 @@ ghost use Prim.Native.Nat.{ℕ, _-_, _≤_};
 ghost use mathlib.Core.Path.{_≡_};
 ghost use mathlib.Core.Bool.{not, _&&_, _||_};
 ghost use mathlib.Core.List.{List, [], _∷_};
-ghost use lib.Dec.{leb, eqb};
-ghost use Rattle.model.specs.Order.{Text, texts, sets, lists, equal};
+ghost use lib.Dec.{leb};
+ghost use Rattle.model.specs.Order.{Text, sets, equal};
 ghost use Rattle.model.specs.Rule.{Cell, Snapshot, sizes};
 ghost use Rattle.model.specs.Opening.{cellAt};
 ghost use Rattle.values.specs.Decimal.{inDecimal};
-ghost use Rattle.ontology.specs.Table.{Property, EventType, isMatch, isVersioned};
-ghost use Rattle.ontology.specs.TypeIndex.{PropertyIs, TypeIs};
+ghost use Rattle.ontology.specs.Table.{Property, EventType, isVersioned};
+ghost use Rattle.ontology.specs.code.TypeIndex.{PropertyIs, hasExtreme, hasMatch, TypeIs};
 ghost use Rattle.event.specs.EventQuestions.{matchCount};
-ghost use Rattle.event.specs.EventIndex.{SetIs, SetsAre};
-ghost use Rattle.dossier.specs.DossierQuestions.{eachCell, isVacant, holdsVersion, matchSets};
-ghost use Rattle.dossier.specs.DossierIndex.{CellIs, CellsAre, cellFits, snapshotFits, versionFits, SnapshotIs};
+ghost use Rattle.event.specs.code.EventIndex.{SetIs, SetsAre};
+ghost use Rattle.dossier.specs.DossierQuestions.{eachCell, isVacant, holdsVersion};
+ghost use Rattle.dossier.specs.code.DossierIndex.{CellIs, CellsAre, cellFits, snapshotFits, versionFits, SnapshotIs};
 use crate::snapshots::SnapshotIndex;
 use event::sets::SetAt;
 use event::sets::set_part;
@@ -22,7 +22,7 @@ use ontology::properties::PropertyAt;
 use ontology::properties::is_extreme;
 use ontology::properties::is_match;
 use ontology::types::TypeIndex;
-use packed::order::same;
+use values::numerals::is_in_decimal;
 use values::versions::EventVersion;
 
 // A mandatory one is present or marked.
@@ -49,7 +49,7 @@ fn is_lone_if_single(p: PropertyAt, count: usize) -> bool
 
 // In an unversioned dossier nothing is marked, and min and max are single.
 fn fits_unversioned(p: PropertyAt, marked: bool, count: usize) -> bool
-    ensures { λ r. ⌜ r ≡ (not marked && (not (eqb (p .strategy) 1 || eqb (p .strategy) 2) || leb count 1)) ⌝ }
+    ensures { λ r. ⌜ r ≡ (not marked && (not (hasExtreme p) || leb count 1)) ⌝ }
 {
     if marked {
         return false;
@@ -62,7 +62,7 @@ fn fits_unversioned(p: PropertyAt, marked: bool, count: usize) -> bool
 
 // A match set is unmarked, and single where single.
 fn is_unmarked_match(p: PropertyAt, marked: bool, count: usize) -> bool
-    ensures { λ r. ⌜ r ≡ (not (eqb (p .strategy) 5) || (not marked && (p .multivalued || leb count 1))) ⌝ }
+    ensures { λ r. ⌜ r ≡ (not (hasMatch p) || (not marked && (p .multivalued || leb count 1))) ⌝ }
 {
     if !is_match(p) {
         return true;
@@ -137,28 +137,6 @@ fn is_match_small(t: TypeIndex, sets: [SetAt; 32]) -> bool
     true
 }
 
-// Whether v is n in decimal, from the last digit back.
-fn is_in_decimal(v: &[u8], n: u64) -> bool
-    ensures { λ r. ⌜ r ≡ equal texts (now (v .entry)) (inDecimal n) ⌝ }
-{
-    let mut m = n;
-    let mut k = v.len();
-    while 9 < m {
-        if k == 0 {
-            return false;
-        }
-        if v[k - 1] as u64 != 48 + m % 10 {
-            return false;
-        }
-        m = m / 10;
-        k -= 1;
-    }
-    if k != 1 {
-        return false;
-    }
-    v[0] as u64 == 48 + m
-}
-
 fn is_version(s: &[u8], x: SetAt, version: EventVersion) -> bool
     ensures { λ r. ⌜ ((vs : List Text) → SetIs (now (s .entry)) vs x → r ≡ equal sets vs (inDecimal (version .0) ∷ [])) ⌝ }
 {
@@ -211,32 +189,4 @@ pub fn snapshot_fits(s: &[u8], x: SnapshotIndex, t: TypeIndex) -> bool
         return false;
     }
     fits_by_version(s, x, t.mark)
-}
-
-// Equal bytes are equal sets.
-fn place_same(p: PropertyAt, a: &[u8], x: SetAt, b: &[u8], y: SetAt) -> bool
-    ensures { λ r. ⌜ ((s : List ℕ) (q : Property) (vs ws : List Text) → PropertyIs s q p → SetIs (now (a .entry)) vs x → SetIs (now (b .entry)) ws y → r ≡ (not (isMatch q) || equal sets vs ws)) ⌝ }
-{
-    if !is_match(p) {
-        return true;
-    }
-    same(set_part(a, x), set_part(b, y))
-}
-
-// Whether the match sets of two snapshots are the same.
-pub fn is_match_same(t: TypeIndex, a: &[u8], x: [SetAt; 32], b: &[u8], y: [SetAt; 32]) -> bool
-    requires { ⌜ t .count ≤ 32 ⌝ }
-    ensures { λ r. ⌜ ((s : List ℕ) (ty : EventType) (xs ys : List (List Text)) → TypeIs s ty t → SetsAre (now (a .entry)) xs x → SetsAre (now (b .entry)) ys y → r ≡ equal (lists sets) (matchSets (ty .properties) xs) (matchSets (ty .properties) ys)) ⌝ }
-{
-    let mut k: usize = 0;
-    while k < t.count {
-        let p = t.properties[k];
-        let v = x[k];
-        let w = y[k];
-        if !place_same(p, a, v, b, w) {
-            return false;
-        }
-        k += 1;
-    }
-    true
 }

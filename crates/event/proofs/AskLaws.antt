@@ -8,27 +8,27 @@ use native.Mathlib.Omega.{arith}
 use lib.ListN.{getElem?}
 use Rattle.model.specs.Order.{Text}
 use Rattle.packed.specs.Parse.{fail, got, _>>=_}
-use Rattle.packed.specs.Packed.{number, text, readText}
-use Rattle.packed.specs.Located.{part}
+use Rattle.packed.specs.Packed.{number, text, readText, part}
 use Rattle.packed.proofs.LayoutLaws.{fail-got, text-read}
 use Rattle.packed.proofs.ReadLaws.{TextStops}
+use Rattle.replies.specs.Questions as questions
+use Rattle.replies.specs.Questions.{Asked, refused, accepted, ask, ensure}
 use Rattle.ontology.specs.Table.{EventType, Table, typeNamed}
 use Rattle.ontology.specs.TableLayout.{tableOf}
-use Rattle.ontology.specs.Questions as questions
-use Rattle.ontology.specs.Questions.{Asked, refused, accepted, ask, ensure}
-use Rattle.ontology.specs.TypeIndex.{TypeIs, TypeSays, TableSays}
+use Rattle.ontology.specs.code.TypeIndex.{TypeIs, TypeSays, TableSays}
+use Rattle.ontology.specs.declared.tables.TableRead.{TableRead}
+use Rattle.ontology.proofs.TypeIndexLaws.{table-refused, type-says, type-absent, type-found, properties-rules}
 use Rattle.event.specs.Event.{Event, setAt}
-use Rattle.event.specs.EventLayout.{Counts, wide, eventOf, parentsBytes, setsBytes, presenceBit, bitNumber, headBytes, eventBytes}
+use Rattle.event.specs.EventLayout.{Counts, wide, eventOf, setsBytes, presenceBit, bitNumber, eventBytes}
+use Rattle.event.specs.Head.{parentsBytes, headBytes}
 use Rattle.event.specs.EventQuestions.{eventShape, valuesFit, Typed, eventAsked}
 use Rattle.event.specs.Value.{Part, partOf, askedPart, valueCall}
-use Rattle.event.specs.EventIndex.{EventIs, ValueStands, ValueFound, EventReads, counts, KindsAre, eventQuestions, EventAnswers}
+use Rattle.event.specs.code.EventIndex.{EventIs, ValueStands, ValueFound, EventReads, counts, KindsAre, eventQuestions, EventAnswers}
 use Rattle.event.proofs.EventLayoutLaws.{event-was}
 use Rattle.event.specs.declared.ask.EventAsked.{EventAsked}
 use Rattle.event.specs.declared.lookup.ValueAt.{ValueAt}
 use Rattle.event.specs.declared.lookup.ValueAt.the-variants.{Value, NoValue}
 use Rattle.event.specs.declared.read.EventIndex.{EventIndex}
-use Rattle.ontology.specs.declared.tables.TableRead.{TableRead}
-use Rattle.ontology.proofs.TypeIndexLaws.{table-refused, type-says, type-absent, type-found, properties-rules}
 
 -- ---- the kinds of a table
 
@@ -37,22 +37,22 @@ table-kinds s ts n t e f i q h = properties-rules s n ts t e f i q h .kind
 
 -- ---- the type name of an event
 
-name-there : (counts : Counts) (s : List ℕ) (e : Event) → eventOf counts s ≡ some e → (r : List ℕ) × (readText s ≡ got (e .type) r)
+name-there : (counts : Counts) (s : List ℕ) (e : Event) → eventOf counts s ≡ some e → (r : List ℕ) × (readText s ≡ got (e .head .type) r)
 unfolding eventBytes headBytes
 name-there counts s e h =
     let w = event-was counts s e h in
-    let t = text (e .type) in
-    let u = text (e .source) in
-    let p = parentsBytes (e .parents) in
+    let t = text (e .head .type) in
+    let u = text (e .head .source) in
+    let p = parentsBytes (e .head .parents) in
     let n = number (bitNumber (map presenceBit (e .sets))) in
     let x = setsBytes (e .sets) in
     let b : s ≡ t ++ (u ++ (p ++ (n ++ x))) = w .0 ∙ append-assoc (t ++ u ++ p) n x ∙ append-assoc (t ++ u) p (n ++ x) ∙ append-assoc t u (p ++ (n ++ x)) in
-    (u ++ (p ++ (n ++ x)), ap readText b ∙ text-read (e .type) (u ++ (p ++ (n ++ x))) (w .1 .head .type))
+    (u ++ (p ++ (n ++ x)), ap readText b ∙ text-read (e .head .type) (u ++ (p ++ (n ++ x))) (w .1 .head .type))
 
 pub no-name-there : (counts : Counts) (s : List ℕ) (e : Event) → eventOf counts s ≡ some e → readText s ≡ fail → ⊥
 no-name-there counts s e h f = fail-got (sym f ∙ name-there counts s e h .1)
 
-pub name-part : (counts : Counts) (s : List ℕ) (e : Event) (a z : ℕ) → eventOf counts s ≡ some e → TextStops s 0 a z → part s a z ≡ e .type
+pub name-part : (counts : Counts) (s : List ℕ) (e : Event) (a z : ℕ) → eventOf counts s ≡ some e → TextStops s 0 a z → part s a z ≡ e .head .type
 name-part counts s e a z h t = let g = sym (t .is) ∙ name-there counts s e h .1 in cc
 
 -- ---- what asking answers
@@ -81,7 +81,7 @@ module _ (table : List ℕ) (ts : Table) (event : List ℕ) (counts : Counts) (x
   unfolding EventReads EventAnswers eventAsked
   no-event r h n = go (eventOf counts event) reads
     where
-      go : (o : Option Event) → EventReads o event x → EventAnswers (questions._>>=_ (ask 3 o) (λ e. questions._>>=_ (ask 4 (typeNamed (e .type) ts)) (λ t. later t e))) table event r
+      go : (o : Option Event) → EventReads o event x → EventAnswers (questions._>>=_ (ask 3 o) (λ e. questions._>>=_ (ask 4 (typeNamed (e .head .type) ts)) (λ t. later t e))) table event r
       go none w = n
       go (some u) w = let z : _≡_ {A = Bool} true false = sym (w .0) ∙ h in let y : _≡_ {A = ℕ} 0 1 = cc in absurd (omega arith)
 
@@ -94,28 +94,28 @@ module _ (table : List ℕ) (ts : Table) (event : List ℕ) (counts : Counts) (x
         go none e w = let z : _≡_ {A = Bool} true false = sym ok ∙ w in let y : _≡_ {A = ℕ} 0 1 = cc in absurd (omega arith)
         go (some u) e w = (u, e, w .1)
 
-    so-far : (o : Option EventType) → typeNamed (event-there .0 .type) ts ≡ o → eventAsked counts ts event ≡ questions._>>=_ (ask 4 o) (λ y. later y (event-there .0))
+    so-far : (o : Option EventType) → typeNamed (event-there .0 .head .type) ts ≡ o → eventAsked counts ts event ≡ questions._>>=_ (ask 4 o) (λ y. later y (event-there .0))
     unfolding eventAsked
     so-far o h = rw (event-there .1, h)
 
-    module _ (t : TableRead) (says : (e : Event) → eventOf counts event ≡ some e → TypeSays (typeNamed (e .type) ts) table t) where
-      type-there : TypeSays (typeNamed (event-there .0 .type) ts) table t
+    module _ (t : TableRead) (says : (e : Event) → eventOf counts event ≡ some e → TypeSays (typeNamed (e .head .type) ts) table t) where
+      type-there : TypeSays (typeNamed (event-there .0 .head .type) ts) table t
       type-there = says (event-there .0) (event-there .1)
 
       pub no-type : (r : EventAsked) → t .found ≡ false → r .number ≡ 4 → EventAnswers (eventAsked counts ts event) table event r
       unfolding EventAnswers
-      no-type r f n = subst (λ (q : Asked Typed). EventAnswers q table event r) (sym (so-far none (type-absent (typeNamed (event-there .0 .type) ts) table t type-there f))) n
+      no-type r f n = subst (λ (q : Asked Typed). EventAnswers q table event r) (sym (so-far none (type-absent (typeNamed (event-there .0 .head .type) ts) table t type-there f))) n
 
       pub met : tableOf table ≡ some ts → t .found ≡ true → Met table ts event counts t x
       met h f =
-          let y = type-found (typeNamed (event-there .0 .type) ts) table t type-there f in
+          let y = type-found (typeNamed (event-there .0 .head .type) ts) table t type-there f in
           record {
             type = y .what;
             e = event-there .0;
             is = so-far (some (y .what)) (y .is);
             type-is = y .stands;
             event-is = event-there .2;
-            kinds = table-kinds table ts (event-there .0 .type) (y .what) h (y .is);
+            kinds = table-kinds table ts (event-there .0 .head .type) (y .what) h (y .is);
           }
 
 module _ (table : List ℕ) (ts : Table) (event : List ℕ) (counts : Counts) (t : TableRead) (x : EventIndex) (m : Met table ts event counts t x) (r : EventAsked) where
@@ -140,8 +140,8 @@ module _ (table event : List ℕ) (counts : Counts) (name : Text) (t : TableRead
 
   -- what `ask_typed` answers, where the table was read for the name of the event's type
   pub by-table :
-      (ts : Table) → tableOf table ≡ some ts → ((e : Event) → eventOf counts event ≡ some e → name ≡ e .type) →
-      ((u : List ℕ) (us : Table) → tableOf u ≡ some us → ((e : Event) → eventOf counts event ≡ some e → TypeSays (typeNamed (e .type) us) u t) → EventAnswers (eventAsked counts us event) u event r) →
+      (ts : Table) → tableOf table ≡ some ts → ((e : Event) → eventOf counts event ≡ some e → name ≡ e .head .type) →
+      ((u : List ℕ) (us : Table) → tableOf u ≡ some us → ((e : Event) → eventOf counts event ≡ some e → TypeSays (typeNamed (e .head .type) us) u t) → EventAnswers (eventAsked counts us event) u event r) →
       EventAnswers (eventQuestions counts table event) table event r
   by-table ts h names asks =
       subst (λ (o : Option Table). EventAnswers (questions._>>=_ (ask 2 o) (λ us. eventAsked counts us event)) table event r) (sym h)
@@ -174,9 +174,9 @@ never-zero counts table event n e = first (tableOf table) e
     third u none e = above 4 (omega arith) e
     third u (some y) e = fourth y u (eventShape y u) (valuesFit y (u .sets)) e
 
-    second : (ts : Table) (o : Option Event) → questions._>>=_ (ask 3 o) (λ u. questions._>>=_ (ask 4 (typeNamed (u .type) ts)) (λ y. later y u)) ≡ refused n → 0 < n
+    second : (ts : Table) (o : Option Event) → questions._>>=_ (ask 3 o) (λ u. questions._>>=_ (ask 4 (typeNamed (u .head .type) ts)) (λ y. later y u)) ≡ refused n → 0 < n
     second ts none e = above 3 (omega arith) e
-    second ts (some u) e = third u (typeNamed (u .type) ts) e
+    second ts (some u) e = third u (typeNamed (u .head .type) ts) e
 
     first : (o : Option Table) → questions._>>=_ (ask 2 o) (λ ts. eventAsked counts ts event) ≡ refused n → 0 < n
     first none e = above 2 (omega arith) e

@@ -11,7 +11,7 @@ use Rattle.model.specs.Order.{Text}
 use Rattle.model.specs.Sets.{upTo}
 use Rattle.model.proofs.PartLaws.{map-getD, in-upTo}
 use Rattle.event.specs.EventLayout.{presenceBit, bitNumber}
-use Rattle.event.specs.EventIndex.{bitOf}
+use Rattle.event.specs.code.EventIndex.{bitOf}
 use Rattle.event.proofs.EventLayoutLaws.{bits-small}
 
 -- ---- the number of some bits

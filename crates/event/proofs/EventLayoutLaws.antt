@@ -1,9 +1,8 @@
--- The laws of the event's layout: what is written is read (`-read`), and what is read was written so (`-was`). The head, the parents and the sets are the
--- dossier's too.
-use mathlib.Core.Path.{_≡_, refl, sym, ap, ap₂, _∙_, subst, subst₂}
-use mathlib.Core.Bool.{Bool, true, false, cond, _&&_}
+-- The laws of the event's layout: what is written is read (`-read`), and what is read was written so (`-was`). The sets are the dossier's too.
+use mathlib.Core.Path.{_≡_, refl, sym, ap, _∙_, subst, subst₂}
+use mathlib.Core.Bool.{Bool, true, false, cond}
 use mathlib.Core.Option.{some}
-use mathlib.Core.List.{List, [], _∷_, _++_, append-assoc, append-nil, map, flatten, map-id}
+use mathlib.Core.List.{List, [], _∷_, _++_, append-assoc, append-nil, map, flatten}
 use Prim.Native.Nat.{ℕ, zero, suc, _+_, _*_, _/_, _%_, _^_, _≤_, _<_}
 use native.Mathlib.Nat.{pow-succ'}
 use native.Mathlib.Omega.{arith}
@@ -11,12 +10,13 @@ use lib.Dec.{ltb, leb, eqb}
 use lib.ListN.{length}
 use borrow.Author.Tests.{lt-ltb, le-leb, ltb-true, leb-true, eqb-true, eqb-false}
 use Rattle.model.specs.Order.{Text, texts, rising}
-use Rattle.model.proofs.Cases.{and-parts}
-use Rattle.packed.specs.Parse.{Parse, got, Layout, andThen, _>>=_, found, foundIf, suchThat, times}
-use Rattle.packed.specs.Packed.{number, readNumber, text, readText, readBytes}
-use Rattle.packed.proofs.LayoutLaws.{All, andThen-got, foundIf-got, suchThat-got, whole-some, number-read, number-was, text-read, text-was, bytes-read, bytes-was, times-read, times-was}
+use Rattle.packed.specs.Parse.{Parse, got, Layout, andThen, found, foundIf, suchThat, times, _>>=_}
+use Rattle.packed.specs.Packed.{number, readNumber, text, readText}
+use Rattle.packed.proofs.LayoutLaws.{All, andThen-got, foundIf-got, suchThat-got, whole-some, number-read, number-was, text-read, text-was, times-read, times-was}
+use Rattle.event.proofs.HeadLayoutLaws.{HeadWritten, such-that, head-read, head-was}
 use Rattle.event.specs.Event.{Event, objectCount}
-use Rattle.event.specs.EventLayout.{areSourceBytes, isSource, readParents, HeadOf, readHead, readSet, readPlace, readSets, readBits, Counts, narrow, wide, readEvent, eventOf, parentsBytes, setBytes, setsBytes, presenceBit, bitNumber, headBytes, eventBytes}
+use Rattle.event.specs.Head.{Head, readHead, headBytes}
+use Rattle.event.specs.EventLayout.{readSet, readPlace, readSets, readBits, Counts, narrow, wide, readEvent, eventOf, setBytes, setsBytes, presenceBit, bitNumber, eventBytes}
 
 -- ---- what can be written
 
@@ -30,122 +30,10 @@ pub record SetsWritten (sets : List (List Text)) : Type 0 where
   pub long : length sets ≡ 32
   pub each : All SetWritten sets
 
--- parents, of at most so many; `few` says nothing new where `most` is below 2^64
-pub record ParentsWritten (most : ℕ) (parents : List Text) : Type 0 where
-  pub within : length parents ≤ most
-  pub few : length parents < 2 ^ 64
-  pub each : All (λ (h : Text). length h ≡ 20) parents
-  pub rises : rising texts parents ≡ true
-
-pub record HeadWritten (most : ℕ) (name uri : Text) (hashes : List Text) : Type 0 where
-  pub type : length name < 2 ^ 64
-  pub source : isSource uri ≡ true
-  pub parents : ParentsWritten most hashes
-
 pub record EventWritten (counts : Counts) (e : Event) : Type 0 where
-  pub head : HeadWritten (counts .parents) (e .type) (e .source) (e .parents)
+  pub head : HeadWritten (counts .parents) (e .head)
   pub sets : SetsWritten (e .sets)
   pub objects : objectCount (e .sets) ≤ counts .objects
-
--- a layout whose value passes a test, read
-pub such-that : {A : Type 0} (t : A → Bool) (p : Layout A) (s : List ℕ) (a : A) (r : List ℕ) → p s ≡ got a r → t a ≡ true → suchThat t p s ≡ got a r
-such-that t p s a r e h = rw (e, h)
-
-pub source-length : (v : Text) → isSource v ≡ true → (1 ≤ length v) × (length v ≤ 120)
-unfolding isSource
-source-length v h =
-    let a = and-parts (leb 1 (length v) && leb (length v) 120) (areSourceBytes v) h in
-    let b = and-parts (leb 1 (length v)) (leb (length v) 120) (a .0) in
-    (leb-true 1 (length v) (b .0), leb-true (length v) 120 (b .1))
-
--- ---- parents
-
-hash-read : (h : Text) (r : List ℕ) → length h ≡ 20 → readBytes 20 (h ++ r) ≡ got h r
-hash-read h r e = ap (λ (n : ℕ). readBytes n (h ++ r)) (sym e) ∙ bytes-read h r
-
-hashes-read : (hs : List Text) (r : List ℕ) → All (λ (h : Text). length h ≡ 20) hs → times (readBytes 20) (length hs) (flatten hs ++ r) ≡ got hs r
-hashes-read hs r h =
-    ap (λ (l : List Text). times (readBytes 20) (length hs) (flatten l ++ r)) (sym (map-id hs))
-    ∙ times-read (readBytes 20) (λ (h : Text). h) (λ (h : Text). length h ≡ 20) hash-read hs r h
-
-pub parents-read : (most : ℕ) (hs : List Text) (r : List ℕ) → ParentsWritten most hs → readParents most (parentsBytes hs ++ r) ≡ got hs r
-unfolding readParents parentsBytes
-parents-read most hs r w =
-    rw (
-      append-assoc (number (length hs)) (flatten hs) r,
-      number-read (length hs) (flatten hs ++ r) (w .few),
-      le-leb (length hs) most (w .within),
-      hashes-read hs r (w .each),
-      w .rises,
-    )
-
-parents-are : (most n : ℕ) (s t u r : List ℕ) (ys hs : List Text) → (s ≡ number n ++ t) × (n < 2 ^ 64) → n ≤ most → (t ≡ flatten (map (λ (h : Text). h) ys) ++ u) × (length ys ≡ n) × All (λ (h : Text). length h ≡ 20) ys → rising texts ys ≡ true → ys ≡ hs → u ≡ r → (s ≡ parentsBytes hs ++ r) × ParentsWritten most hs
-unfolding parentsBytes
-parents-are most n s t u r ys hs a l b up e f =
-    rw (← e, ← f) (
-      a .0 ∙ rw (b .0, map-id ys, ← b .1) (sym (append-assoc (number (length ys)) (flatten ys) u)),
-      record { within = omega arith; few = omega arith; each = b .2; rises = up },
-    )
-
-pub parents-was : (most : ℕ) (s : List ℕ) (hs : List Text) (r : List ℕ) → readParents most s ≡ got hs r → (s ≡ parentsBytes hs ++ r) × ParentsWritten most hs
-unfolding readParents
-parents-was most s hs r e =
-    let c = andThen-got (suchThat (λ (n : ℕ). leb n most) readNumber s) _ hs r e in
-    let n = suchThat-got (λ (n : ℕ). leb n most) readNumber s (c .value) (c .left) (c .first) in
-    let d = andThen-got (times (readBytes 20) (c .value) (c .left)) _ hs r (c .second) in
-    let f = foundIf-got (rising texts (d .value)) (d .value) (d .left) hs r (d .second) in
-    parents-are most (c .value) s (c .left) (d .left) r (d .value) hs
-    (number-was s (c .value) (c .left) (n .was))
-    (leb-true (c .value) most (n .test))
-    (times-was (readBytes 20) (λ (h : Text). h) (λ (h : Text). length h ≡ 20) (bytes-was 20) (c .value) (c .left) (d .value) (d .left) (d .first))
-    (f .test) (f .value) (f .rest)
-
--- ---- the head, before whatever follows it
-
-pub head-read :
-    (most : ℕ) (type source : Text) (parents : List Text) (r : List ℕ) → HeadWritten most type source parents →
-    readHead most (headBytes type source parents ++ r) ≡ got (record { type = type; source = source; parents = parents }) r
-unfolding headBytes readHead
-head-read most type source parents r w =
-    rw (
-      append-assoc (text type ++ text source) (parentsBytes parents) r,
-      append-assoc (text type) (text source) (parentsBytes parents ++ r),
-      text-read type (text source ++ (parentsBytes parents ++ r)) (w .type),
-      text-read source (parentsBytes parents ++ r) (omega (arith, source-length source (w .source))),
-      w .source,
-      parents-read most parents r (w .parents),
-    )
-
-head-bytes : (s t u r : List ℕ) (type source : Text) (parents : List Text) → s ≡ text type ++ t → t ≡ text source ++ u → u ≡ parentsBytes parents ++ r → s ≡ headBytes type source parents ++ r
-unfolding headBytes
-head-bytes s t u r type source parents a b c =
-    a ∙ rw (b, c) (sym (rw (append-assoc (text type ++ text source) (parentsBytes parents) r) (append-assoc (text type) (text source) (parentsBytes parents ++ r))))
-
-pub head-was :
-    (most : ℕ) (s : List ℕ) (h : HeadOf) (r : List ℕ) → readHead most s ≡ got h r →
-    (s ≡ headBytes (h .type) (h .source) (h .parents) ++ r) × HeadWritten most (h .type) (h .source) (h .parents)
-unfolding readHead
-head-was most s h r e =
-    let c = andThen-got (readText s) _ h r e in
-    let d = andThen-got (suchThat isSource readText (c .left)) _ h r (c .second) in
-    let f = andThen-got (readParents most (d .left)) _ h r (d .second) in
-    let n = suchThat-got isSource readText (c .left) (d .value) (d .left) (d .first) in
-    let x = text-was s (c .value) (c .left) (c .first) in
-    let y = text-was (c .left) (d .value) (d .left) (n .was) in
-    let z = parents-was most (d .left) (f .value) (f .left) (f .first) in
-    go (c .value) (d .value) (f .value) (f .left) (f .second)
-    (head-bytes s (c .left) (d .left) (f .left) (c .value) (d .value) (f .value) (x .0) (y .0) (z .0))
-    (record { type = x .1; source = n .test; parents = z .1 })
-  where
-    go : (type source : Text) (parents : List Text) (left : List ℕ) → got (record { type = type; source = source; parents = parents }) left ≡ got h r →
-        s ≡ headBytes type source parents ++ left → HeadWritten most type source parents →
-        (s ≡ headBytes (h .type) (h .source) (h .parents) ++ r) × HeadWritten most (h .type) (h .source) (h .parents)
-    go type source parents left e b w =
-        let f : (record { type = type; source = source; parents = parents }) ≡ h = cc in
-        let g : left ≡ r = cc in (
-          b ∙ ap₂ (λ (x : HeadOf) (o : List ℕ). headBytes (x .type) (x .source) (x .parents) ++ o) f g,
-          subst (λ (x : HeadOf). HeadWritten most (x .type) (x .source) (x .parents)) f w,
-        )
 
 -- ---- a set
 
@@ -300,16 +188,16 @@ all-sets-read xs r w =
 -- ---- the event
 
 -- what follows the head
-abbrev pub readBody : Counts → HeadOf → Layout Event
+abbrev pub readBody : Counts → Head → Layout Event
 readBody counts h = do
   presence ← readBits
   sets ← readSets 32 presence
-  foundIf (leb (objectCount sets) (counts .objects)) (record { type = h .type; source = h .source; parents = h .parents; sets = sets })
+  foundIf (leb (objectCount sets) (counts .objects)) (record { head = h; sets = sets })
 
-event-parts : (e : Event) → eventBytes e ≡ headBytes (e .type) (e .source) (e .parents) ++ (number (bitNumber (map presenceBit (e .sets))) ++ (setsBytes (e .sets) ++ []))
+event-parts : (e : Event) → eventBytes e ≡ headBytes (e .head) ++ (number (bitNumber (map presenceBit (e .sets))) ++ (setsBytes (e .sets) ++ []))
 unfolding eventBytes
 event-parts e =
-    append-assoc (headBytes (e .type) (e .source) (e .parents)) (number (bitNumber (map presenceBit (e .sets)))) (setsBytes (e .sets))
+    append-assoc (headBytes (e .head)) (number (bitNumber (map presenceBit (e .sets)))) (setsBytes (e .sets))
     ∙ rw (append-nil (setsBytes (e .sets)))
 
 pub event-read : (counts : Counts) (e : Event) → EventWritten counts e → eventOf counts (eventBytes e) ≡ some e
@@ -317,18 +205,19 @@ unfolding eventOf readEvent
 event-read counts e w =
     whole-some (readEvent counts (eventBytes e)) e .1
     (ap (readEvent counts) (event-parts e)
-    ∙ ap (λ (p : Parse HeadOf). andThen p (readBody counts))
-    (head-read (counts .parents) (e .type) (e .source) (e .parents) (number (bitNumber (map presenceBit (e .sets))) ++ (setsBytes (e .sets) ++ [])) (w .head))
+    ∙ ap (λ (p : Parse Head). andThen p (readBody counts))
+    (head-read (counts .parents) (e .head) (number (bitNumber (map presenceBit (e .sets))) ++ (setsBytes (e .sets) ++ [])) (w .head))
     ∙ rw (
       bits-read (bitNumber (map presenceBit (e .sets))) (setsBytes (e .sets) ++ []) (presence-below (e .sets) (w .sets .long)),
       all-sets-read (e .sets) [] (w .sets),
       le-leb (objectCount (e .sets)) (counts .objects) (w .objects),
     ))
 
-event-is : (counts : Counts) (presence : ℕ) (s t u v : List ℕ) (type source : Text) (parents : List Text) (sets : List (List Text)) (e : Event) → s ≡ headBytes type source parents ++ t → HeadWritten (counts .parents) type source parents → t ≡ number presence ++ u → SetsWas 32 presence u sets v → objectCount sets ≤ counts .objects → record { type = type; source = source; parents = parents; sets = sets } ≡ e → v ≡ [] → (s ≡ eventBytes e) × EventWritten counts e
-event-is counts presence s t u v type source parents sets e a h b x o p q =
+event-is : (counts : Counts) (presence : ℕ) (s t u v : List ℕ) (g : Head) (sets : List (List Text)) (e : Event) →
+    s ≡ headBytes g ++ t → HeadWritten (counts .parents) g → t ≡ number presence ++ u → SetsWas 32 presence u sets v → objectCount sets ≤ counts .objects → record { head = g; sets = sets } ≡ e → v ≡ [] → (s ≡ eventBytes e) × EventWritten counts e
+event-is counts presence s t u v g sets e a h b x o p q =
     rw (← p) (
-      a ∙ rw (b, x .bytes, ← x .present, q) (sym (event-parts (record { type = type; source = source; parents = parents; sets = sets }))),
+      a ∙ rw (b, x .bytes, ← x .present, q) (sym (event-parts (record { head = g; sets = sets }))),
       record { head = h; sets = record { long = x .long; each = x .each }; objects = o },
     )
 
@@ -341,7 +230,7 @@ event-was counts s e h =
     let d = andThen-got (readSets 32 (c .value) (c .left)) _ e [] (c .second) in
     let f = foundIf-got (leb (objectCount (d .value)) (counts .objects)) _ (d .left) e [] (d .second) in
     let b = bits-was (a .left) (c .value) (c .left) (c .first) in
-    event-is counts (c .value) s (a .left) (c .left) (d .left) (a .value .type) (a .value .source) (a .value .parents) (d .value) e
+    event-is counts (c .value) s (a .left) (c .left) (d .left) (a .value) (d .value) e
     (x .0) (x .1) (b .0)
     (sets-was 32 (c .value) (c .left) (d .value) (d .left) (b .1) (d .first))
     (leb-true (objectCount (d .value)) (counts .objects) (f .test))

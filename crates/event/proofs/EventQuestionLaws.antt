@@ -21,12 +21,12 @@ use Rattle.values.specs.Decimal.{numeral, inDecimal}
 use Rattle.values.specs.Spaces.{Kind, sequence, isUnsigned, isOfKind, inSpace}
 use Rattle.values.specs.ValueOrder.{extremeOrder}
 use Rattle.values.proofs.NumberOrderLaws.{unsigned-below, in-decimal-sequence}
-use Rattle.ontology.specs.Table.{Strategy, min, max, add, replace, match, set, any, strategyNumber, Property, EventType, Table, isMin, isMax, isMatch, isVersioned, typeNamed}
-use Rattle.ontology.specs.Questions.{accepted, ask}
+use Rattle.replies.specs.Questions.{accepted, ask}
+use Rattle.replies.proofs.QuestionLaws.{asked-then, ask-some, ensured, accepted-same}
+use Rattle.ontology.specs.Table.{Strategy, min, max, add, replace, match, set, any, strategyNumber, Property, EventType, Table, isMin, isMax, isMatch, isVersioned, typeNamed, atPlace}
 use Rattle.ontology.proofs.TableLaws.{TypeKept, extreme-single}
-use Rattle.ontology.proofs.QuestionLaws.{asked-then, ask-some, ensured, accepted-same}
 use Rattle.ontology.proofs.TypeIndexLaws.{named-at}
-use Rattle.event.specs.Event.{Event, objectCount, setAt, versionOf, choiceOf, atPlace, view}
+use Rattle.event.specs.Event.{Event, objectCount, setAt, versionOf, choiceOf, typeView, eventView, view}
 use Rattle.event.specs.EventLayout.{Counts, narrow, eventOf}
 use Rattle.event.specs.EventQuestions.{eachPlace, isEmpty, setFits, matchCount, eventShape, areInSpace, valuesFit, Typed, eventAsked}
 use Rattle.event.proofs.EventLayoutLaws.{SetWritten, EventWritten, event-was}
@@ -124,7 +124,7 @@ fits-single q s h o = leb-true (length s) 1 (or-part (q .multivalued) _ (and-eq-
 -- an event that is accepted, and its type
 pub record EventAccepted (counts : Counts) (table : Table) (s : List ℕ) (t : EventType) (e : Event) : Type 0 where
   pub read : eventOf counts s ≡ some e
-  pub typed : typeNamed (e .type) table ≡ some t
+  pub typed : typeNamed (e .head .type) table ≡ some t
   pub shape : eventShape t e ≡ true
   pub values : valuesFit t (e .sets) ≡ true
 
@@ -133,12 +133,12 @@ module _ (counts : Counts) (table : Table) (s : List ℕ) (t : EventType) (e : E
   unfolding eventAsked
   event-accepted h =
       let (d, r, k) = asked-then (ask 3 (eventOf counts s)) _ _ h in
-      let (u, y, l) = asked-then (ask 4 (typeNamed (d .type) table)) _ _ k in
+      let (u, y, l) = asked-then (ask 4 (typeNamed (d .head .type) table)) _ _ k in
       let (a, m) = ensured 5 (eventShape u d) _ _ l in
       let (b, n) = ensured 6 (valuesFit u (d .sets)) _ _ m in
       let q = accepted-same (record { type = u; event = d }) (record { type = t; event = e }) n in
       subst₂ (EventAccepted counts table s) (ap (λ (x : Typed). x .type) q) (ap (λ (x : Typed). x .event) q)
-      (record { read = ask-some 3 (eventOf counts s) d r; typed = ask-some 4 (typeNamed (d .type) table) u y; shape = a; values = b })
+      (record { read = ask-some 3 (eventOf counts s) d r; typed = ask-some 4 (typeNamed (d .head .type) table) u y; shape = a; values = b })
 
   pub accepted-event : EventAccepted counts table s t e → eventAsked counts table s ≡ accepted (record { type = t; event = e })
   unfolding eventAsked
@@ -147,7 +147,7 @@ module _ (counts : Counts) (table : Table) (s : List ℕ) (t : EventType) (e : E
 -- ---- what an accepted event has, place by place
 
 pub record EventFits (t : EventType) (e : Event) : Type 0 where
-  pub named : e .type ≡ t .name
+  pub named : e .head .type ≡ t .name
   pub written : EventWritten narrow e
   pub fits : (p : ℕ) (q : Property) → getElem? (t .properties) p ≡ some q → setFits q (setAt e p) ≡ true
   pub vacant : (p : ℕ) → getElem? (t .properties) p ≡ none → setAt e p ≡ []
@@ -163,7 +163,7 @@ unfolding eventShape valuesFit
 event-fits table s t e a =
     let shape = and-eq-true-iff (eachPlace setFits isEmpty (t .properties) (e .sets)) _ .0 (a .shape) .0 in
     record {
-      named = sym (named-at (e .type) table t (a .typed) .2);
+      named = sym (named-at (e .head .type) table t (a .typed) .2);
       written = event-was narrow s e (a .read) .1;
       fits = each-place-at setFits isEmpty (t .properties) (e .sets) shape;
       vacant = λ p n. ⊎-elim
@@ -196,16 +196,19 @@ module _ (t : EventType) (e : Event) (a : EventFits t e) where
 -- ---- what the rule reads of an event
 
 module _ (t : EventType) (p : ℕ) where
-  pub choice-none : getElem? (t .properties) p ≡ none → (view t .choice p ≡ every) × (view t .replaces p ≡ false)
-  unfolding view atPlace
+  pub choice-none : getElem? (t .properties) p ≡ none → (typeView t .choice p ≡ every) × (typeView t .replaces p ≡ false)
+  unfolding typeView eventView atPlace
   choice-none n = (rw n, rw n)
 
   module _ (q : Property) (n : getElem? (t .properties) p ≡ some q) where
-    pub choice-match : isMatch q ≡ true → (view t .choice p ≡ every) × (view t .replaces p ≡ false)
-    unfolding view atPlace
+    pub choice-match : isMatch q ≡ true → (typeView t .choice p ≡ every) × (typeView t .replaces p ≡ false)
+    unfolding typeView eventView atPlace
     choice-match m = (rw n (choice-every q (go (q .strategy) m .0)), rw n (go (q .strategy) m .1))
       where
-        go : (s : Strategy) → eqb (strategyNumber s) 5 ≡ true → ((eqb (strategyNumber s) 1 || eqb (strategyNumber s) 2) ≡ false) × (eqb (strategyNumber s) 4 ≡ false)
+        go :
+            (s : Strategy) → eqb (strategyNumber s) (strategyNumber match) ≡ true →
+            ((eqb (strategyNumber s) (strategyNumber min) || eqb (strategyNumber s) (strategyNumber max)) ≡ false)
+            × (eqb (strategyNumber s) (strategyNumber replace) ≡ false)
         go min h = never (cc)
         go max h = never (cc)
         go add h = never (cc)
@@ -214,16 +217,16 @@ module _ (t : EventType) (p : ℕ) where
         go set h = never (cc)
         go any h = never (cc)
 
-    pub single-at : view t .single p ≡ not (q .multivalued)
-    unfolding view atPlace
+    pub single-at : typeView t .single p ≡ not (q .multivalued)
+    unfolding typeView eventView atPlace
     single-at = rw n
 
-    pub extreme-least : (isMin q || isMax q) ≡ true → (O : Order Text) × (view t .choice p ≡ least O)
-    unfolding view atPlace
+    pub extreme-least : (isMin q || isMax q) ≡ true → (O : Order Text) × (typeView t .choice p ≡ least O)
+    unfolding typeView eventView atPlace
     extreme-least h = (extremeOrder (isMax q) (q .kind), rw n (choice-least q h))
 
-    least-extreme : (O : Order Text) → view t .choice p ≡ least O → (isMin q || isMax q) ≡ true
-    unfolding view atPlace
+    least-extreme : (O : Order Text) → typeView t .choice p ≡ least O → (isMin q || isMax q) ≡ true
+    unfolding typeView eventView atPlace
     least-extreme O h = go (isMin q || isMax q) refl (rw n at h)
       where
         go : (b : Bool) → (isMin q || isMax q) ≡ b → choiceOf q ≡ least O → b ≡ true
@@ -231,15 +234,15 @@ module _ (t : EventType) (p : ℕ) where
         go false e h = never (cc (choice-every q e))
 
 -- a place at which the rule chooses has at most one value in each event
-pub least-few : (t : EventType) (e : Event) → TypeKept t → EventFits t e → (p : ℕ) (O : Order Text) → view t .choice p ≡ least O → length (setAt e p) ≤ 1
+pub least-few : (t : EventType) (e : Event) → TypeKept t → EventFits t e → (p : ℕ) (O : Order Text) → typeView t .choice p ≡ least O → length (setAt e p) ≤ 1
 least-few t e k a p O h =
     found (getElem? (t .properties) p)
     (λ q n. fits-single q (setAt e p) (a .fits p q n) (extreme-single (isVersioned t) q (k .fits p q n) (least-extreme t p q n O h)))
     (λ n. let z : every ≡ least O = sym (choice-none t p n .0) ∙ h in never (cc))
 
 -- a single-valued place has at most one value in each event
-pub single-few : (t : EventType) (e : Event) → EventFits t e → (p : ℕ) → view t .single p ≡ true → length (setAt e p) ≤ 1
-unfolding view atPlace
+pub single-few : (t : EventType) (e : Event) → EventFits t e → (p : ℕ) → typeView t .single p ≡ true → length (setAt e p) ≤ 1
+unfolding typeView eventView atPlace
 single-few t e a p h =
     found (getElem? (t .properties) p)
     (λ q n. fits-single q (setAt e p) (a .fits p q n) (not-true (q .multivalued) (sym (single-at t p q n) ∙ h)))
@@ -299,12 +302,12 @@ version-none t e u = rw u
 
 -- the objects at all places
 pub count-sets : (t : EventType) (e : Event) (ps : List ℕ) → count (view t) e ps ≡ objectCount (map (setAt e) ps)
-unfolding count objectCount view
+unfolding count objectCount typeView eventView
 count-sets t e [] = refl
 count-sets t e (p ∷ ps) = ap (λ (n : ℕ). length (setAt e p) + n) (count-sets t e ps)
 
-pub count-objects : (t : EventType) (e : Event) → length (e .sets) ≡ 32 → count (view t) e (places (view t)) ≡ objectCount (e .sets)
-unfolding places view
+pub count-objects : (t : EventType) (e : Event) → length (e .sets) ≡ 32 → count (view t) e (places (typeView t)) ≡ objectCount (e .sets)
+unfolding places typeView eventView
 count-objects t e l = count-sets t e (upTo 32) ∙ ap objectCount (map-getD (e .sets) [] 32 l)
 
 pub flat-objects : (ss : List (List Text)) → objectCount ss ≡ length (flatten ss)

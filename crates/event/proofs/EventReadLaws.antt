@@ -12,20 +12,21 @@ use Rattle.model.specs.Order.{Text}
 use Rattle.packed.specs.Parse.{Parse, fail, got, andThen, foundIf, whole}
 use Rattle.packed.specs.Packed.{number, readNumber}
 use Rattle.packed.proofs.LayoutLaws.{number-was}
-use Rattle.packed.proofs.ReadLaws.{drop-next, NumberStops}
+use Rattle.packed.proofs.ReadLaws.{drop-next, NumberStops, stretch}
 use Rattle.event.specs.Event.{Event, objectCount}
-use Rattle.event.specs.EventLayout.{HeadOf, readHead, readBits, readSets, Counts, readEvent, eventOf, setsBytes, headBytes}
-use Rattle.event.specs.EventIndex.{SetsAre, SetsReads, HeadStops, EventReads}
-use Rattle.event.proofs.EventLayoutLaws.{head-was, readBody, sets-was}
-use Rattle.event.proofs.SetLaws.{stretch}
+use Rattle.event.specs.Head.{Head, readHead, headBytes}
+use Rattle.event.specs.EventLayout.{readBits, readSets, Counts, readEvent, eventOf, setsBytes}
+use Rattle.event.specs.code.EventIndex.{SetsAre, SetsReads, HeadStops, EventReads}
+use Rattle.event.proofs.HeadLayoutLaws.{head-was}
+use Rattle.event.proofs.EventLayoutLaws.{readBody, sets-was}
 use Rattle.event.specs.declared.sets.SetsRead.{SetsRead}
-use Rattle.event.specs.declared.read.HeadAt.{HeadAt}
+use Rattle.event.specs.declared.head.HeadAt.{HeadAt}
 use Rattle.event.specs.declared.read.EventIndex.{EventIndex}
 
 -- ---- the head, and what follows it
 
 -- the bytes of a head
-pub head-bytes : (most : ℕ) (s : List ℕ) (h : HeadAt) (w : HeadStops (readHead most s) s h) → s ≡ headBytes (w .what .type) (w .what .source) (w .what .parents) ++ drop (h .parents .end) s
+pub head-bytes : (most : ℕ) (s : List ℕ) (h : HeadAt) (w : HeadStops (readHead most s) s h) → s ≡ headBytes (w .what) ++ drop (h .parents .end) s
 head-bytes most s h w = head-was most s (w .what) (drop (h .parents .end) s) (w .is) .0
 
 -- ---- the event
@@ -62,7 +63,7 @@ no-head counts s e = rw (event-then counts s, e)
 
 module _ (counts : Counts) (s : List ℕ) (h : HeadAt) (w : HeadStops (readHead (counts .parents) s) s h) where
   after-head : readEvent counts s ≡ readBody counts (w .what) (drop (h .parents .end) s)
-  after-head = event-then counts s ∙ ap (λ (p : Parse HeadOf). andThen p (readBody counts)) (w .is)
+  after-head = event-then counts s ∙ ap (λ (p : Parse Head). andThen p (readBody counts)) (w .is)
 
   pub no-presence : readNumber (drop (h .parents .end) s) ≡ fail → eventOf counts s ≡ none
   unfolding eventOf readBits
@@ -74,7 +75,7 @@ module _ (counts : Counts) (s : List ℕ) (h : HeadAt) (w : HeadStops (readHead 
     presence-large k = rw (after-head, m .is, le-ltb n (2 ^ 32) k)
 
     module _ (small : n < 2 ^ 32) where
-      after-presence : readEvent counts s ≡ andThen (readSets 32 n (drop next s)) (λ xs. foundIf (leb (objectCount xs) (counts .objects)) (record { type = w .what .type; source = w .what .source; parents = w .what .parents; sets = xs }))
+      after-presence : readEvent counts s ≡ andThen (readSets 32 n (drop next s)) (λ xs. foundIf (leb (objectCount xs) (counts .objects)) (record { head = w .what; sets = xs }))
       unfolding readBits
       after-presence = rw (after-head, m .is, lt-ltb n (2 ^ 32) small)
 
@@ -87,8 +88,8 @@ module _ (counts : Counts) (s : List ℕ) (h : HeadAt) (w : HeadStops (readHead 
           sets : Sets (readSets 32 n (drop next s)) s r
           sets = sets-right (readSets 32 n (drop next s)) s r t right
 
-          after-sets : (l : List ℕ) → drop (r .next) s ≡ l → readEvent counts s ≡ foundIf (leb (objectCount (sets .xs)) (counts .objects)) (record { type = w .what .type; source = w .what .source; parents = w .what .parents; sets = sets .xs }) l
-          after-sets l e = after-presence ∙ ap (λ (p : Parse (List (List Text))). andThen p (λ xs. foundIf (leb (objectCount xs) (counts .objects)) (record { type = w .what .type; source = w .what .source; parents = w .what .parents; sets = xs }))) (sets .is ∙ ap (got (sets .xs)) e)
+          after-sets : (l : List ℕ) → drop (r .next) s ≡ l → readEvent counts s ≡ foundIf (leb (objectCount (sets .xs)) (counts .objects)) (record { head = w .what; sets = sets .xs }) l
+          after-sets l e = after-presence ∙ ap (λ (p : Parse (List (List Text))). andThen p (λ xs. foundIf (leb (objectCount xs) (counts .objects)) (record { head = w .what; sets = xs }))) (sets .is ∙ ap (got (sets .xs)) e)
 
           pub early : (r .next ≡ length s → ⊥) → eventOf counts s ≡ none
           unfolding eventOf
@@ -117,17 +118,17 @@ module _ (counts : Counts) (s : List ℕ) (h : HeadAt) (w : HeadStops (readHead 
             event-found k =
                 let l : objectCount (sets .xs) ≤ counts .objects = omega (arith, sets .objects) in
                 let x = sets-was 32 n (drop next s) (sets .xs) (drop (r .next) s) small (sets .is) in
-                let front : drop 0 s ≡ (headBytes (w .what .type) (w .what .source) (w .what .parents) ++ number n) ++ drop next s =
+                let front : drop 0 s ≡ (headBytes (w .what) ++ number n) ++ drop next s =
                 head-bytes (counts .parents) s h w
-                ∙ ap (λ (l : List ℕ). headBytes (w .what .type) (w .what .source) (w .what .parents) ++ l) (number-was (drop (h .parents .end) s) n (drop next s) (m .is) .0)
-                ∙ sym (append-assoc (headBytes (w .what .type) (w .what .source) (w .what .parents)) (number n) (drop next s)) in
+                ∙ ap (λ (l : List ℕ). headBytes (w .what) ++ l) (number-was (drop (h .parents .end) s) n (drop next s) (m .is) .0)
+                ∙ sym (append-assoc (headBytes (w .what)) (number n) (drop next s)) in
                 let zero : next ≡ next - 0 = omega arith in
                 rw (after-sets [] at-end, le-leb _ _ l) (
                   refl,
                   record {
                     head = w .stands;
                     presence = sym (x .present);
-                    front = ap (λ (i : ℕ). take i s) zero ∙ stretch s (headBytes (w .what .type) (w .what .source) (w .what .parents) ++ number n) 0 next (omega arith) (m .within) front .0;
+                    front = ap (λ (i : ℕ). take i s) zero ∙ stretch s (headBytes (w .what) ++ number n) 0 next (omega arith) (m .within) front .0;
                     rest = x .bytes ∙ ap (λ (l : List ℕ). setsBytes (sets .xs) ++ l) at-end ∙ append-nil (setsBytes (sets .xs));
                     within = m .within;
                     objects = sets .objects;

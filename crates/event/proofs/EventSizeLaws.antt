@@ -1,5 +1,5 @@
 -- How long an event's bytes are, and that they have room in an output of 32,768 bytes.
-use mathlib.Core.Path.{_≡_, refl}
+use mathlib.Core.Path.{_≡_}
 use mathlib.Core.Bool.{Bool, true, _&&_}
 use mathlib.Core.List.{List, [], _∷_, map, flatten}
 use Prim.Native.Nat.{ℕ, _+_, _*_, _≤_, _<_}
@@ -13,11 +13,14 @@ use Rattle.packed.specs.Packed.{text}
 pub use Rattle.packed.proofs.LayoutLaws.{All}
 use Rattle.packed.proofs.LayoutLaws.{number-length-1, number-length-2, number-length-5, text-length}
 use Rattle.values.specs.Spaces.{Kind, isOfKind, inSpace}
+use Rattle.replies.specs.Capacities.{dossierCapacity}
 use Rattle.ontology.specs.Table.{Property, EventType}
 use Rattle.event.specs.Event.{Event, objectCount}
-use Rattle.event.specs.EventLayout.{wide, parentsBytes, setBytes, setsBytes, presenceBit, bitNumber, headBytes, eventBytes}
+use Rattle.event.specs.EventLayout.{wide, setBytes, setsBytes, presenceBit, bitNumber, eventBytes}
+use Rattle.event.specs.Head.{parentsBytes, headBytes, Head}
 use Rattle.event.specs.EventQuestions.{eachPlace, isEmpty, setFits, matchCount, eventShape, areInSpace, valuesFit}
-use Rattle.event.proofs.EventLayoutLaws.{HeadWritten, EventWritten, source-length, presence-below}
+use Rattle.event.proofs.HeadLayoutLaws.{HeadWritten, source-length, hashes-size}
+use Rattle.event.proofs.EventLayoutLaws.{EventWritten, presence-below}
 
 -- "its length of 1 to 120 bytes included": each value of each set
 abbrev pub ValuesShort : List (List Text) → Type 0
@@ -27,19 +30,20 @@ ValuesShort sets = All (λ (s : List Text). All (λ (v : Text). length v ≤ 120
 pub short-text : (v : Text) → length v < 128 → length (text v) ≡ 1 + length v
 short-text v h = omega (arith, text-length v, number-length-1 (length v) h)
 
-pub hashes-size : (hs : List Text) → All (λ (h : Text). length h ≡ 20) hs → length (flatten hs) ≡ 20 * length hs
-unfolding flatten
-hashes-size [] w = refl
-hashes-size (h ∷ hs) w = simp length-append (omega (arith, w .0, hashes-size hs (w .1)))
-
 -- the head of an event or a dossier with at most 32 parents: 65 + 121 + 641
-pub head-size : (type source : Text) (parents : List Text) → HeadWritten 32 type source parents → length type ≤ 64 → length (headBytes type source parents) ≤ 827
+pub head-size : (h : Head) → HeadWritten 32 h → length (h .type) ≤ 64 → length (headBytes h) ≤ 827
 unfolding headBytes parentsBytes
-head-size type source parents w t =
-    let s = source-length source (w .source) in
+head-size h w t =
+    let s = source-length (h .source) (w .source) in
     let p = w .parents in
     simp length-append
-    (omega (arith, short-text type (omega arith), short-text source (omega arith), number-length-1 (length parents) (omega arith), hashes-size parents (p .each)))
+    (omega (
+      arith,
+      short-text (h .type) (omega arith),
+      short-text (h .source) (omega arith),
+      number-length-1 (length (h .parents)) (omega arith),
+      hashes-size (h .parents) (p .each),
+    ))
 
 values-size : (s : List Text) → All (λ (v : Text). length v ≤ 120) s → length (flatten (map text s)) ≤ 121 * length s
 unfolding flatten
@@ -66,7 +70,7 @@ each-within n [] h = tt
 each-within n (x ∷ xs) h = (omega arith, each-within n xs (omega arith))
 
 -- 827 + 5 + 32 * 2 + 256 * 121 = 31,872
-pub event-size : (e : Event) → EventWritten wide e → ValuesShort (e .sets) → length (e .type) ≤ 64 → length (eventBytes e) ≤ 32768
+pub event-size : (e : Event) → EventWritten wide e → ValuesShort (e .sets) → length (e .head .type) ≤ 64 → length (eventBytes e) ≤ dossierCapacity
 unfolding wide eventBytes
 event-size e w v t =
     let n : length (e .sets) ≡ 32 = w .sets .long in
@@ -74,7 +78,7 @@ event-size e w v t =
     simp length-append
     (omega (
       arith,
-      head-size (e .type) (e .source) (e .parents) (w .head) t,
+      head-size (e .head) (w .head) t,
       number-length-5 (bitNumber (map presenceBit (e .sets))) (presence-below (e .sets) n),
       sets-size (e .sets) v (each-within 256 (e .sets) o),
     ))

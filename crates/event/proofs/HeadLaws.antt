@@ -1,28 +1,27 @@
 -- The laws of reading what an event begins with: type name, source and parents.
 use mathlib.Core.Path.{_≡_, refl, sym, ap, _∙_, subst}
 use mathlib.Core.Bool.{true, false}
-use mathlib.Core.List.{List, [], _∷_, _++_, append-assoc, map, flatten}
+use mathlib.Core.List.{List, [], _∷_, _++_, append-assoc, flatten}
 use Prim.Native.Nat.{ℕ, zero, suc, _+_, _-_, _*_, _≤_, _<_}
 use native.Mathlib.Omega.{arith}
 use lib.ListN.{length, take, drop, getD, length-drop, drop-of-length-le}
 use lib.Seq.{take-at, drop-drop, drop-append-seam}
 use borrow.Author.Tests.{le-leb, lt-leb}
 use Rattle.model.specs.Order.{Text, rising}
-use Rattle.packed.specs.Parse.{Parse, fail, got, andThen, _>>=_, found, foundIf, suchThat, times}
-use Rattle.packed.specs.Packed.{readNumber, readText, readBytes}
-use Rattle.packed.specs.Located.{part}
-use Rattle.packed.proofs.LayoutLaws.{All, times-was, bytes-was}
-use Rattle.packed.proofs.ReadLaws.{drop-next, TextStops}
-use Rattle.event.specs.EventLayout.{areSourceBytes, isSource, readParents, HeadOf, readHead}
-use Rattle.event.specs.EventIndex.{ParentsStop, ParentsReads, HeadStops, HeadReads}
-use Rattle.event.proofs.SetLaws.{stretch, risen, risen-was}
+use Rattle.packed.specs.Parse.{Parse, fail, got, andThen, _>>=_, found, foundIf, suchThat, times, All}
+use Rattle.packed.specs.Packed.{readNumber, readText, readBytes, part}
+use Rattle.packed.proofs.LayoutLaws.{All, times-was, bytes-was, flat}
+use Rattle.packed.proofs.ReadLaws.{drop-next, TextStops, stretch, part-length}
+use Rattle.event.specs.Head.{areSourceBytes, isSource, readParents, Head, readHead}
+use Rattle.event.specs.code.EventIndex.{ParentsStop, ParentsReads, HeadStops, HeadReads, HashesAre, HeadIs, HeadParts}
+use Rattle.event.proofs.SetLaws.{risen, risen-was}
 use Rattle.event.specs.declared.sets.SetAt.{SetAt}
-use Rattle.event.specs.declared.read.HeadAt.{HeadAt}
-use Rattle.event.specs.declared.read.HeadRead.{HeadRead}
-use Rattle.event.specs.declared.read.HeadRead.the-variants.{Head, NoHead}
-use Rattle.event.specs.declared.read.ParentsRead.{ParentsRead}
-use Rattle.event.specs.declared.read.ParentsRead.the-variants.{Parents, NoParents}
-use Rattle.event.proofs.EventSizeLaws.{hashes-size}
+use Rattle.event.specs.declared.head.HeadAt.{HeadAt}
+use Rattle.event.specs.declared.head.HeadRead.{HeadRead}
+use Rattle.event.specs.declared.head.HeadRead.the-variants as read
+use Rattle.event.specs.declared.head.ParentsRead.{ParentsRead}
+use Rattle.event.specs.declared.head.ParentsRead.the-variants.{Parents, NoParents}
+use Rattle.event.proofs.HeadLayoutLaws.{hashes-size}
 
 -- ---- the source
 
@@ -83,11 +82,6 @@ pub parents-some : (most : ℕ) (t r : List ℕ) (n : ℕ) → readNumber t ≡ 
 unfolding readParents risen
 parents-some most t r n e h = rw (e, le-leb n most h)
 
-pub flat : (hs : List Text) → flatten (map (λ (h : Text). h) hs) ≡ flatten hs
-unfolding flatten
-flat [] = refl
-flat (h ∷ hs) = ap (λ (l : List ℕ). h ++ l) (flat hs)
-
 hash-at : (hs : List Text) (t r : List ℕ) (i : ℕ) → All (λ (h : Text). length h ≡ 20) hs → t ≡ flatten hs ++ r → i < length hs → take 20 (drop (20 * i) t) ≡ getD hs i []
 unfolding flatten
 hash-at [] t r i a e l = absurd (omega arith)
@@ -131,10 +125,10 @@ parents-refused {p} s h w = subst (ParentsReads p s) h w
 
 -- ---- the head
 
-pub head-reads : {p : Parse HeadOf} {s : List ℕ} {r : HeadRead} {x : HeadAt} → r ≡ Head x → HeadReads p s r → HeadStops p s x
+pub head-reads : {p : Parse Head} {s : List ℕ} {r : HeadRead} {x : HeadAt} → r ≡ read.Head x → HeadReads p s r → HeadStops p s x
 head-reads {p} {s} h w = subst (HeadReads p s) h w
 
-pub head-refused : {p : Parse HeadOf} (s : List ℕ) {r : HeadRead} → r ≡ NoHead → HeadReads p s r → p ≡ fail
+pub head-refused : {p : Parse Head} (s : List ℕ) {r : HeadRead} → r ≡ read.NoHead → HeadReads p s r → p ≡ fail
 head-refused {p} s h w = subst (HeadReads p s) h w
 
 pub no-name : (most : ℕ) (s : List ℕ) → readText s ≡ fail → readHead most s ≡ fail
@@ -168,3 +162,19 @@ module _ (most : ℕ) (s : List ℕ) (a e : ℕ) (n : TextStops s 0 a e) where
         hashes = w .stands;
       };
     }
+
+-- ---- the parts of a head, where they stand
+
+each-all : (hs : List Text) → ((i : ℕ) → i < length hs → length (getD hs i []) ≡ 20) → All (λ (h : Text). length h ≡ 20) hs
+each-all [] f = tt
+each-all (h ∷ hs) f = (f 0 (omega arith), each-all hs (λ i l. f (suc i) (omega arith)))
+
+pub hashes-each : {s : List ℕ} {hs : List Text} {x : SetAt} → HashesAre s hs x → All (λ (h : Text). length h ≡ 20) hs
+hashes-each {s} {hs} {x} w = each-all hs λ i l.
+    let here = x .start + 20 * i in
+    omega (arith, ap length (w .each i l), part-length s here (here + 20) (omega arith) (omega (arith, w .size, w .count, w .within)))
+
+pub parts-of :
+    {s name source hashes : List ℕ} {h : Head} {x : HeadAt} → HeadIs s h x →
+    name ≡ h .type → source ≡ h .source → hashes ≡ flatten (h .parents) → HeadParts name source hashes h
+parts-of w a b c = record { type = a; uri = b; parents = c; each = hashes-each (w .hashes) }

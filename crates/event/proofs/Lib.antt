@@ -1,4 +1,5 @@
 -- The laws of packed events.
+pub mod HeadLayoutLaws
 pub mod EventLayoutLaws
 pub mod BitLaws
 pub mod EventSizeLaws
@@ -11,3 +12,5 @@ pub mod SpaceLaws
 pub mod AskLaws
 pub mod EventQuestionLaws
 pub mod ValueLaws
+pub mod MatchLaws
+pub mod SetWriteLaws

@@ -12,16 +12,16 @@ use lib.ListN.{length, take, drop, getD, getElem?, length-append, length-drop}
 use lib.Seq.{drop-cons, length-take-le}
 use Rattle.model.specs.Order.{Text}
 use Rattle.packed.specs.Parse.{fail, got}
-use Rattle.packed.specs.Packed.{number, readNumber, text, readText}
-use Rattle.packed.specs.Located.{part}
+use Rattle.packed.specs.Packed.{number, readNumber, text, readText, part}
 use Rattle.packed.proofs.LayoutLaws.{fail-got, number-read, text-read, text-length}
-use Rattle.packed.proofs.ReadLaws.{part-length, NumberStops, TextStops}
+use Rattle.packed.proofs.ReadLaws.{part-length, NumberStops, TextStops, stretch}
 use Rattle.event.specs.Event.{Event, setAt}
-use Rattle.event.specs.EventLayout.{setBytes, setsBytes, presenceBit, bitNumber, headBytes}
+use Rattle.event.specs.EventLayout.{setBytes, setsBytes, presenceBit, bitNumber}
+use Rattle.event.specs.Head.{headBytes}
 use Rattle.event.specs.Value.{bytesBefore}
-use Rattle.event.specs.EventIndex.{EventIs, present, Skipped, ValueStands}
+use Rattle.event.specs.code.EventIndex.{EventIs, present, Skipped, ValueStands}
 use Rattle.event.proofs.EventLayoutLaws.{presence-small}
-use Rattle.event.proofs.SetLaws.{stretch, texts-long}
+use Rattle.event.proofs.SetLaws.{texts-long}
 use Rattle.event.specs.declared.read.EventIndex.{EventIndex}
 
 -- ---- the next number and the next text
@@ -335,9 +335,9 @@ module _ (s : List ℕ) (small : length s < 2 ^ 64) (e : Event) (x : EventIndex)
       unfolding bytesBefore
       value-stands a z t =
           let b = text-next s small to (passed .within) (getD (setAt e place) index []) _ value-here a z t in
-          let f : x .«after_presence» ≡ length (headBytes (e .type) (e .source) (e .parents)) + length (number (x .presence)) =
+          let f : x .«after_presence» ≡ length (headBytes (e .head)) + length (number (x .presence)) =
           sym (length-take-le (x .«after_presence») s (w .within)) ∙ ap length (w .front)
-          ∙ length-append (headBytes (e .type) (e .source) (e .parents)) (number (x .presence)) in
+          ∙ length-append (headBytes (e .head)) (number (x .presence)) in
           let g : length (number (x .presence)) ≡ length (number (bitNumber (map presenceBit (e .sets)))) = ap (λ (n : ℕ). length (number n)) (w .presence) in
           record {
             some = element (setAt e place) index [] i ∙ ap some (sym (b .0));

@@ -7,32 +7,24 @@ use Prim.Native.Nat.{ℕ, zero, suc, _+_, _-_, _/_, _%_, _^_, _≤_, _<_, Orderi
 use native.Mathlib.Nat.{sub-self, le-refl}
 use native.Mathlib.Omega.{arith}
 use lib.Dec.{eqb}
-use lib.ListN.{length, take, drop, getD, set, replicate, length-append, length-drop, length-set, length-replicate}
-use lib.Seq.{take-at, getD-at, getD-set-same, getD-set-other}
+use lib.ListN.{length, drop, getD, set, replicate, length-append, length-drop, length-set, length-replicate}
+use lib.Seq.{getD-at, getD-set-same, getD-set-other}
 use borrow.Author.Tests.{le-leb, eq-eqb, ne-eqb, eqb-true, eqb-false}
 use Rattle.model.specs.Order.{Text, texts, rising, pick}
-use Rattle.packed.specs.Parse.{Parse, fail, got, Layout, andThen, _>>=_, found, foundIf, times}
-use Rattle.packed.specs.Packed.{number, readNumber, text, readText}
-use Rattle.packed.specs.Located.{part}
+use Rattle.packed.specs.Parse.{Parse, fail, got, Layout, andThen, _>>=_, foundIf, times}
+use Rattle.packed.specs.Packed.{number, readNumber, text, readText, part}
 use Rattle.packed.proofs.LayoutLaws.{andThen-got, foundIf-got, times-was, text-read, text-was, text-length, number-bounds}
-use Rattle.packed.proofs.ReadLaws.{TextStops}
+use Rattle.packed.proofs.ReadLaws.{TextStops, stretch}
 pub use Rattle.ontology.proofs.RunLaws.{prepend}
 use Rattle.ontology.proofs.RunLaws.{prepend-nil, prepend-one}
 use Rattle.event.specs.Event.{objectCount}
 use Rattle.event.specs.EventLayout.{readSet, readPlace, readSets, setBytes}
-use Rattle.event.specs.EventIndex.{SetIs, noSet, SetsAre, SetStops, SetReads, SetsStop, SetsReads}
+use Rattle.event.specs.code.EventIndex.{SetIs, noSet, SetsAre, SetStops, SetReads, SetsStop, SetsReads}
 use Rattle.event.proofs.EventLayoutLaws.{set-was}
 use Rattle.event.specs.declared.sets.SetAt.{SetAt}
 use Rattle.event.specs.declared.sets.SetRead.{SetRead}
 use Rattle.event.specs.declared.sets.SetRead.the-variants.{Found, NoSet}
 use Rattle.event.specs.declared.sets.SetsRead.{SetsRead}
-
--- what stands before what is left
-pub stretch : (s x : List ℕ) (p e : ℕ) → p ≤ length s → e ≤ length s → drop p s ≡ x ++ drop e s → (part s p e ≡ x) × (p ≤ e) × (length x ≡ e - p)
-stretch s x p e hp he h =
-    let l : length s - p ≡ length x + (length s - e) = sym (length-drop p s) ∙ ap length h ∙ length-append x (drop e s) ∙ ap (λ (n : ℕ). length x + n) (length-drop e s) in
-    let n : length x ≡ e - p = omega arith in
-    (ap (take (e - p)) h ∙ take-at x (drop e s) (e - p) n, omega arith, n)
 
 -- ---- rising texts, each read by the layout p
 

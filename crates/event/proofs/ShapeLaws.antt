@@ -13,12 +13,13 @@ use lib.Seq.{drop-cons}
 use borrow.Author.Tests.{ltb-true, le-leb, lt-leb, ne-eqb}
 use Rattle.model.specs.Order.{Text}
 use Rattle.model.proofs.Cases.{and-true, and-false}
-use Rattle.ontology.specs.Table.{Property, EventType, strategyNumber, isMatch}
-use Rattle.ontology.specs.TypeIndex.{PropertyIs, TypeIs}
-use Rattle.event.specs.Event.{Event, objectCount, atPlace}
-use Rattle.event.specs.EventQuestions.{eachPlace, isEmpty, setFits, matchCount, eventShape}
+use Rattle.ontology.specs.Table.{Property, EventType, isMatch, atPlace}
+use Rattle.ontology.specs.code.TypeIndex.{PropertyIs, hasMatch, TypeIs}
 use Rattle.ontology.specs.declared.properties.PropertyAt.{PropertyAt}
 use Rattle.ontology.specs.declared.types.TypeIndex.{TypeIndex}
+use Rattle.ontology.proofs.TypeIndexLaws.{match-of}
+use Rattle.event.specs.Event.{Event, objectCount}
+use Rattle.event.specs.EventQuestions.{eachPlace, isEmpty, setFits, matchCount, eventShape}
 
 -- ---- a set
 
@@ -52,9 +53,11 @@ module _ (q : Property) (vs : List Text) where
       go false true = refl
       go false false = refl
 
--- the match objects of a property, by its strategy's number
-pub matches-are : {n s : ℕ} (q : Property) (vs : List Text) → s ≡ strategyNumber (q .strategy) → n ≡ length vs → cond (eqb s 5) n 0 ≡ cond (isMatch q) (length vs) 0
-matches-are q vs e f = ap₂ (λ (s n : ℕ). cond (eqb s 5) n 0) e f
+-- the match objects of a property, by its index
+pub matches-are :
+    {s : List ℕ} {n : ℕ} {x : PropertyAt} (q : Property) (vs : List Text) → PropertyIs s q x → n ≡ length vs →
+    cond (hasMatch x) n 0 ≡ cond (isMatch q) (length vs) 0
+matches-are q vs w f = ap₂ (λ (b : Bool) (n : ℕ). cond b n 0) (match-of w) f
 
 -- ---- a place
 

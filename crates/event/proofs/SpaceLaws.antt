@@ -9,20 +9,18 @@ use lib.Dec.{ltb}
 use lib.ListN.{length, drop, getD, getElem?, length-append, length-drop, drop-of-length-le}
 use Rattle.model.specs.Order.{Text}
 use Rattle.packed.specs.Parse.{fail}
-use Rattle.packed.specs.Packed.{text, readText}
-use Rattle.packed.specs.Located.{part}
+use Rattle.packed.specs.Packed.{text, readText, part}
 use Rattle.packed.proofs.ReadLaws.{TextStops}
 use Rattle.packed.proofs.LayoutLaws.{text-length, number-bounds}
 use Rattle.values.specs.Spaces.{Kind, isKind, inSpace}
-use Rattle.values.specs.KindNumbers.{kindOf}
+use Rattle.values.specs.code.KindNumbers.{kindOf}
 use Rattle.values.proofs.SpaceLaws.{kind-numbered}
-use Rattle.ontology.specs.Table.{Property, EventType}
-use Rattle.ontology.specs.TypeIndex.{KindIs, TypeIs}
+use Rattle.ontology.specs.Table.{Property, EventType, atPlace}
+use Rattle.ontology.specs.code.TypeIndex.{KindIs, TypeIs}
 use Rattle.ontology.specs.declared.properties.PropertyAt.{PropertyAt}
 use Rattle.ontology.specs.declared.types.TypeIndex.{TypeIndex}
-use Rattle.event.specs.Event.{atPlace}
 use Rattle.event.specs.EventQuestions.{eachPlace, areInSpace, valuesFit}
-use Rattle.event.specs.EventIndex.{KindsAre}
+use Rattle.event.specs.code.EventIndex.{KindsAre}
 use Rattle.event.proofs.LookupLaws.{text-there, text-next}
 use Rattle.event.proofs.ShapeLaws.{place-said, each-step}
 

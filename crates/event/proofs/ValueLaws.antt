@@ -8,11 +8,11 @@ use lib.ListN.{length, take, drop, getD, getElem?, length-append}
 use lib.Seq.{drop-cons, take-append-seam, drop-append-seam}
 use Rattle.model.specs.Order.{Text}
 use Rattle.model.proofs.Cases.{never}
-use Rattle.packed.specs.Packed.{text}
-use Rattle.packed.specs.Located.{part}
+use Rattle.packed.specs.Packed.{text, part}
+use Rattle.replies.specs.Questions.{Asked, refused, accepted, _>>=_, ask}
+use Rattle.replies.specs.Capacities.{dossierCapacity}
 use Rattle.ontology.specs.Table.{Table}
 use Rattle.ontology.specs.TableLayout.{tableOf}
-use Rattle.ontology.specs.Questions.{Asked, refused, accepted, _>>=_, ask}
 use Rattle.ontology.proofs.TableLaws.{table-type}
 use Rattle.ontology.proofs.TypeIndexLaws.{type-rules}
 use Rattle.event.specs.Event.{Event, setAt}
@@ -115,16 +115,16 @@ value-stands-in table event place index =
 
 -- an accepted event has at most 32,768 bytes
 accepted-size :
-    (table event : List ℕ) (ts : Table) (a : Typed) → tableOf table ≡ some ts → eventAsked wide ts event ≡ accepted a → length (eventBytes (a .event)) ≤ 32768
+    (table event : List ℕ) (ts : Table) (a : Typed) → tableOf table ≡ some ts → eventAsked wide ts event ≡ accepted a → length (eventBytes (a .event)) ≤ dossierCapacity
 accepted-size table event ts a t h =
     let w = event-accepted wide ts event (a .type) (a .event) h in
-    let n : length (a .event .type) ≤ 64 =
-    subst (λ (v : Text). length v ≤ 64) (type-rules table (a .event .type) ts (a .type) t (w .typed) .0)
-    (table-type table ts t (a .event .type) (a .type) (w .typed) .short) in
+    let n : length (a .event .head .type) ≤ 64 =
+    subst (λ (v : Text). length v ≤ 64) (type-rules table (a .event .head .type) ts (a .type) t (w .typed) .0)
+    (table-type table ts t (a .event .head .type) (a .type) (w .typed) .short) in
     event-size (a .event) (event-was wide event (a .event) (w .read) .1) (event-short (a .type) (a .event) (w .shape) (w .values)) n
 
 -- It ends within the first 32,768 bytes of the event.
-pub value-ends : (table event : List ℕ) (place index : ℕ) → valueCall table event place index .start + length (valueCall table event place index .bytes) ≤ 32768
+pub value-ends : (table event : List ℕ) (place index : ℕ) → valueCall table event place index .start + length (valueCall table event place index .bytes) ≤ dossierCapacity
 value-ends table event place index =
-    value-each (λ x. x .start + length (x .bytes) ≤ 32768) table event place index (omega arith)
+    value-each (λ x. x .start + length (x .bytes) ≤ dossierCapacity) table event place index (omega arith)
     (λ ts a v t q h. omega (arith, accepted-size table event ts a t q, value-there (a .event) place index v h .within))

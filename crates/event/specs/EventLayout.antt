@@ -1,42 +1,15 @@
 -- Document 01, "Packed event": its bytes.
 use Prim.Native.Nat.{ℕ, zero, suc, _+_, _*_, _/_, _%_, _^_}
-use mathlib.Core.Bool.{Bool, true, cond, _&&_}
+use mathlib.Core.Bool.{cond}
 use mathlib.Core.Option.{Option}
 use mathlib.Core.List.{List, [], _∷_, _++_, map, flatten}
 use lib.ListN.{length}
 use lib.Dec.{leb, ltb, eqb}
 use Rattle.model.specs.Order.{Text, texts, rising}
 use Rattle.packed.specs.Parse.{got, Layout, andThen, _>>=_, found, foundIf, suchThat, times, whole}
-use Rattle.packed.specs.Packed.{number, readNumber, text, readText, readBytes}
+use Rattle.packed.specs.Packed.{number, readNumber, text, readText}
+use Rattle.event.specs.Head.{readHead, headBytes}
 use Rattle.event.specs.Event.{Event, objectCount}
-
--- "source URI (text, 1 to 120 bytes from 21 to 7E hexadecimal)"
-unfoldable pub areSourceBytes : Text → Bool
-areSourceBytes [] = true
-areSourceBytes (b ∷ v) = leb 0x21 b && leb b 0x7e && areSourceBytes v
-
-unfoldable pub isSource : Text → Bool
-isSource v = leb 1 (length v) && leb (length v) 120 && areSourceBytes v
-
--- "parent count 0 to 8, that many 20-byte hashes rising"
-unfoldable pub readParents : ℕ → Layout (List Text)
-readParents most = do
-  count ← suchThat (λ n. leb n most) readNumber
-  hashes ← times (readBytes 20) count
-  foundIf (rising texts hashes) hashes
-
--- What an event and a dossier begin with: "Type name (text), source URI .., parent count .. hashes rising"; the most parents that are taken are given
-pub record HeadOf : Type 0 where
-  pub type : Text
-  pub source : Text
-  pub parents : List Text
-
-unfoldable pub readHead : ℕ → Layout HeadOf
-readHead most = do
-  type ← readText
-  source ← suchThat isSource readText
-  parents ← readParents most
-  found (record { type = type; source = source; parents = parents })
 
 -- "a count of at least 1 and that many values as texts, rising"
 unfoldable pub readSet : Layout (List Text)
@@ -79,16 +52,13 @@ readEvent counts = do
   head ← readHead (counts .parents)
   presence ← readBits
   sets ← readSets 32 presence
-  foundIf (leb (objectCount sets) (counts .objects)) (record { type = head .type; source = head .source; parents = head .parents; sets = sets })
+  foundIf (leb (objectCount sets) (counts .objects)) (record { head = head; sets = sets })
 
 -- the event that some bytes are, to their exact end
 unfoldable pub eventOf : Counts → List ℕ → Option Event
 eventOf counts s = whole (readEvent counts s)
 
 -- The same layout, written
-
-unfoldable pub parentsBytes : List Text → List ℕ
-parentsBytes hs = number (length hs) ++ flatten hs
 
 unfoldable pub setBytes : List Text → List ℕ
 setBytes [] = []
@@ -107,8 +77,5 @@ unfoldable pub bitNumber : List ℕ → ℕ
 bitNumber [] = 0
 bitNumber (b ∷ bs) = b + 2 * bitNumber bs
 
-unfoldable pub headBytes : Text → Text → List Text → List ℕ
-headBytes type source parents = text type ++ text source ++ parentsBytes parents
-
 unfoldable pub eventBytes : Event → List ℕ
-eventBytes e = headBytes (e .type) (e .source) (e .parents) ++ number (bitNumber (map presenceBit (e .sets))) ++ setsBytes (e .sets)
+eventBytes e = headBytes (e .head) ++ number (bitNumber (map presenceBit (e .sets))) ++ setsBytes (e .sets)

@@ -6,10 +6,10 @@ use lib.ListN.{length}
 use lib.Dec.{leb, eqb}
 use Rattle.model.specs.Order.{Text}
 use Rattle.values.specs.Spaces.{Kind, inSpace}
+use Rattle.replies.specs.Questions.{Asked, accepted, _>>=_, _>>_, ask, ensure}
 use Rattle.ontology.specs.Table.{Property, EventType, Table, isMatch, typeNamed}
-use Rattle.ontology.specs.Questions.{Asked, accepted, _>>=_, _>>_, ask, ensure}
 use Rattle.event.specs.Event.{Event}
-use Rattle.event.specs.EventLayout.{Counts, eventOf}
+use Rattle.event.specs.EventLayout.{Counts, narrow, eventOf}
 
 -- A test of each place: of a property and its set, where sets that are not there are empty; and of a set where there is no property
 unfoldable pub eachPlace : (Property → List Text → Bool) → (List Text → Bool) → List Property → List (List Text) → Bool
@@ -52,7 +52,11 @@ pub record Typed : Type 0 where
 unfoldable pub eventAsked : Counts → Table → List ℕ → Asked Typed
 eventAsked counts table s = do
   e ← ask 3 (eventOf counts s)
-  t ← ask 4 (typeNamed (e .type) table)
+  t ← ask 4 (typeNamed (e .head .type) table)
   ensure 5 (eventShape t e)
   ensure 6 (valuesFit t (e .sets))
   accepted (record { type = t; event = e })
+
+-- "An event is accepted under a table when each question that checking asks of the two is answered yes."
+abbrev pub newEventAsked : Table → List ℕ → Asked Typed
+newEventAsked = eventAsked narrow

@@ -6,12 +6,12 @@ use mathlib.Core.Option.{Option, none, some}
 use mathlib.Core.List.{List, [], _++_, map, flatten}
 use lib.ListN.{length, take, getD, getElem?}
 use Rattle.model.specs.Order.{Text}
-use Rattle.packed.specs.Packed.{number, text}
-use Rattle.packed.specs.Located.{part}
+use Rattle.packed.specs.Packed.{number, text, part}
+use Rattle.replies.specs.Questions.{Asked, refused, accepted, _>>=_, ask}
 use Rattle.ontology.specs.TableLayout.{tableOf}
-use Rattle.ontology.specs.Questions.{Asked, refused, accepted, _>>=_, ask}
 use Rattle.event.specs.Event.{Event, setAt}
-use Rattle.event.specs.EventLayout.{wide, headBytes, presenceBit, bitNumber, setsBytes}
+use Rattle.event.specs.EventLayout.{wide, presenceBit, bitNumber, setsBytes}
+use Rattle.event.specs.Head.{headBytes}
 use Rattle.event.specs.EventQuestions.{Typed, eventAsked}
 
 -- The bytes of a part of the caller's event, and how many bytes of the event stand before it
@@ -27,7 +27,7 @@ pub record StandsIn (event : List ℕ) (x : Part) : Type 0 where
 -- what stands in an event before the value at a place and an index
 unfoldable pub bytesBefore : Event → ℕ → ℕ → List ℕ
 bytesBefore e place index =
-    headBytes (e .type) (e .source) (e .parents) ++ number (bitNumber (map presenceBit (e .sets))) ++ setsBytes (take place (e .sets))
+    headBytes (e .head) ++ number (bitNumber (map presenceBit (e .sets))) ++ setsBytes (take place (e .sets))
     ++ number (length (setAt e place)) ++ flatten (map text (take index (setAt e place))) ++ number (length (getD (setAt e place) index []))
 
 unfoldable pub partOf : Event → ℕ → ℕ → Option Text → Part

@@ -4,12 +4,12 @@ ghost use mathlib.Core.Option.{some};
 ghost use mathlib.Core.List.{List};
 ghost use Rattle.ontology.specs.Table.{Table, typeNamed};
 ghost use Rattle.ontology.specs.TableLayout.{tableOf};
-ghost use Rattle.ontology.specs.TypeIndex.{TypeSays};
+ghost use Rattle.ontology.specs.code.TypeIndex.{TypeSays};
 ghost use Rattle.event.specs.Event.{Event};
 ghost use Rattle.event.specs.EventLayout.{Counts, eventOf};
 ghost use Rattle.event.specs.EventQuestions.{eventAsked};
 ghost use Rattle.event.specs.Value.{lentFrom, valueCall};
-ghost use Rattle.event.specs.EventIndex.{countsOf, eventQuestions, EventAnswers};
+ghost use Rattle.event.specs.code.EventIndex.{countsOf, eventQuestions, EventAnswers};
 use crate::lookup::ValueAt;
 use crate::lookup::find_value;
 use crate::read::EventIndex;
@@ -30,21 +30,33 @@ pub struct EventAsked {
     pub event: EventIndex,
 }
 
-fn most_parents(wide: bool) -> usize
-    ensures { λ r. ⌜ r ≡ countsOf wide .parents ⌝ }
-{
-    if wide { 32 } else { 8 }
+// The counts that an event is read within: its own, or the wider ones of a merged event.
+pub enum EventCounts {
+    Narrow,
+    Wide,
 }
 
-fn most_objects(wide: bool) -> usize
-    ensures { λ r. ⌜ r ≡ countsOf wide .objects ⌝ }
+fn most_parents(counts: EventCounts) -> usize
+    ensures { λ r. ⌜ r ≡ countsOf counts .parents ⌝ }
 {
-    if wide { 256 } else { 32 }
+    match counts {
+        EventCounts::Narrow => 8,
+        EventCounts::Wide => 32,
+    }
+}
+
+fn most_objects(counts: EventCounts) -> usize
+    ensures { λ r. ⌜ r ≡ countsOf counts .objects ⌝ }
+{
+    match counts {
+        EventCounts::Narrow => 32,
+        EventCounts::Wide => 256,
+    }
 }
 
 // The type name that an event begins with; the empty name, which no type has, where it cannot be read.
 pub fn type_name(event: &[u8]) -> &[u8]
-    ensures { λ r. ⌜ ((counts : Counts) (e : Event) → eventOf counts (now (event .entry)) ≡ some e → now r ≡ e .type) ⌝ }
+    ensures { λ r. ⌜ ((counts : Counts) (e : Event) → eventOf counts (now (event .entry)) ≡ some e → now r ≡ e .head .type) ⌝ }
 {
     let TextAt::Text(start, end) = read_text(event, 0) else {
         return &event[0..0];
@@ -53,10 +65,10 @@ pub fn type_name(event: &[u8]) -> &[u8]
 }
 
 // Questions 3 to 6 of an event. The table was read for the name of its type, and is read once for all events of that type.
-pub fn ask_typed(event: &[u8], read: TableRead, wide: bool) -> EventAsked
-    ensures { λ r. ⌜ ((table : List ℕ) (ts : Table) → tableOf table ≡ some ts → ((e : Event) → eventOf (countsOf wide) (now (event .entry)) ≡ some e → TypeSays (typeNamed (e .type) ts) table read) → EventAnswers (eventAsked (countsOf wide) ts (now (event .entry))) table (now (event .entry)) r) ⌝ }
+pub fn ask_typed(event: &[u8], read: TableRead, counts: EventCounts) -> EventAsked
+    ensures { λ r. ⌜ ((table : List ℕ) (ts : Table) → tableOf table ≡ some ts → ((e : Event) → eventOf (countsOf counts) (now (event .entry)) ≡ some e → TypeSays (typeNamed (e .head .type) ts) table read) → EventAnswers (eventAsked (countsOf counts) ts (now (event .entry))) table (now (event .entry)) r) ⌝ }
 {
-    let e = read_event(event, most_parents(wide), most_objects(wide));
+    let e = read_event(event, most_parents(counts), most_objects(counts));
     let event_type = read.index;
     let mut asked = EventAsked {
         number: 3,
@@ -84,8 +96,8 @@ pub fn ask_typed(event: &[u8], read: TableRead, wide: bool) -> EventAsked
 }
 
 // Questions 2 to 6. Table and event are each read once, the event's type name first, so that its type is found while the table is read.
-pub fn ask_event(table: &[u8], event: &[u8], wide: bool) -> EventAsked
-    ensures { λ r. ⌜ EventAnswers (eventQuestions (countsOf wide) (now (table .entry)) (now (event .entry))) (now (table .entry)) (now (event .entry)) r ⌝ }
+pub fn ask_event(table: &[u8], event: &[u8], counts: EventCounts) -> EventAsked
+    ensures { λ r. ⌜ EventAnswers (eventQuestions (countsOf counts) (now (table .entry)) (now (event .entry))) (now (table .entry)) (now (event .entry)) r ⌝ }
 {
     let read = read_table(table, type_name(event));
     let event_type = read.index;
@@ -96,14 +108,14 @@ pub fn ask_event(table: &[u8], event: &[u8], wide: bool) -> EventAsked
             event: no_event(),
         };
     }
-    ask_typed(event, read, wide)
+    ask_typed(event, read, counts)
 }
 
 // The value at a place and an index: its own bytes in the event. A refused table or event, or no value there, gives a part of 0 bytes.
 pub fn value<'a>(table: &[u8], event: &'a [u8], place: usize, index: usize) -> &'a [u8]
     ensures { λ r. ⌜ (now r, r .ptr) ≡ lentFrom (event .entry .ptr) (valueCall (now (table .entry)) (now (event .entry)) place index) ⌝ }
 {
-    let asked = ask_event(table, event, true);
+    let asked = ask_event(table, event, EventCounts::Wide);
     if asked.number != 0 {
         return &event[0..0];
     }

@@ -1,7 +1,7 @@
 ghost use mathlib.Core.Path.{_≡_};
 ghost use mathlib.Core.List.{map};
 ghost use Rattle.event.specs.EventLayout.{bitNumber};
-ghost use Rattle.event.specs.EventIndex.{bitOf};
+ghost use Rattle.event.specs.code.EventIndex.{bitOf};
 
 // A presence or differ number, from its highest bit on.
 pub fn number_of(bits: [bool; 32]) -> u64

@@ -7,7 +7,7 @@ ghost use Rattle.model.specs.Order.{Text};
 ghost use Rattle.packed.specs.Packed.{text};
 ghost use Rattle.event.specs.Event.{Event};
 ghost use Rattle.event.specs.EventLayout.{setsBytes};
-ghost use Rattle.event.specs.EventIndex.{EventIs, present, Skipped, ValueFound};
+ghost use Rattle.event.specs.code.EventIndex.{EventIs, present, Skipped, ValueFound};
 use crate::read::EventIndex;
 use packed::read::NumberAt;
 use packed::read::TextAt;

@@ -2,14 +2,13 @@ ghost use Prim.Native.Nat.{ℕ};
 ghost use mathlib.Core.Path.{_≡_};
 ghost use mathlib.Core.Bool.{cond};
 ghost use mathlib.Core.List.{List};
-ghost use lib.Dec.{eqb};
 ghost use lib.ListN.{length};
 ghost use Rattle.model.specs.Order.{Text};
 ghost use Rattle.ontology.specs.Table.{Property, EventType};
-ghost use Rattle.ontology.specs.TypeIndex.{PropertyIs, TypeIs};
+ghost use Rattle.ontology.specs.code.TypeIndex.{PropertyIs, TypeIs, hasMatch};
 ghost use Rattle.event.specs.Event.{Event};
 ghost use Rattle.event.specs.EventQuestions.{setFits, eventShape};
-ghost use Rattle.event.specs.EventIndex.{EventIs};
+ghost use Rattle.event.specs.code.EventIndex.{EventIs};
 use crate::read::EventIndex;
 use ontology::properties::PropertyAt;
 use ontology::properties::is_match;
@@ -30,7 +29,7 @@ fn set_fits(p: PropertyAt, count: usize) -> bool
 
 // How many of a property's objects are match objects.
 pub fn matches_at(p: PropertyAt, count: usize) -> usize
-    ensures { λ r. ⌜ r ≡ cond (eqb (p .strategy) 5) count 0 ⌝ }
+    ensures { λ r. ⌜ r ≡ cond (hasMatch p) count 0 ⌝ }
 {
     if is_match(p) { count } else { 0 }
 }

@@ -1,42 +1,43 @@
 -- The laws of the calls hash text and hash: what they ask, and what they reply.
-use mathlib.Core.Path.{_≡_, refl, sym, ap, ap₂, _∙_, subst}
+use mathlib.Core.Path.{_≡_, refl, sym, ap, ap₂, _∙_}
 use mathlib.Core.Option.{Option, none, some}
 use mathlib.Core.List.{List, [], _∷_, _++_}
 use Prim.Native.Nat.{ℕ, suc, _+_, _-_, _≤_, _<_}
 use native.Mathlib.Omega.{arith}
 use lib.ListN.{length, take, drop, getElem?, length-append}
 use lib.Seq.{sets, sets-eq, take-at}
-use borrow.Author.Tests.{le-leb, lt-leb}
-use Rattle.model.specs.Order.{Text}
 use Rattle.model.proofs.Cases.{never}
-use Rattle.packed.specs.Located.{part}
-use Rattle.packed.specs.Written.{Wrote}
+use Rattle.packed.specs.Packed.{part}
+use Rattle.packed.specs.code.Written.{Wrote}
 use Rattle.packed.proofs.LayoutLaws.{All}
 use Rattle.packed.proofs.ReadLaws.{part-length}
 use Rattle.packed.proofs.WriteLaws.{wrote-between}
-use Rattle.sha1.specs.Fips.{sha1Of}
-use Rattle.sha1.proofs.Laws.{length-sha1Of}
+use Rattle.replies.specs.Answers as answers
+use Rattle.replies.specs.Questions.{Asked, refused, accepted, _>>=_, ask}
+use Rattle.replies.specs.Answers.{answer, Outcome, outcome}
+use Rattle.replies.specs.Capacities.{hashTextCapacity, hashCapacity}
+use Rattle.replies.proofs.CapacityLaws.{has-room, too-small}
+use Rattle.replies.specs.Replies.{replies}
+use Rattle.replies.specs.declared.reply.Reply.{Reply}
+use Rattle.replies.specs.declared.reply.Reply.the-variants.{Done, Refused}
 use Rattle.ontology.specs.Table.{Property, EventType, Table}
 use Rattle.ontology.specs.TableLayout.{tableOf}
-use Rattle.ontology.specs.Questions as questions
-use Rattle.ontology.specs.Questions.{Asked, refused, accepted, _>>=_, ask, answer, Outcome, outcome}
 use Rattle.ontology.proofs.TableLaws.{table-type}
-use Rattle.ontology.proofs.TypeIndexLaws.{name-length, type-rules, properties-rules}
+use Rattle.ontology.proofs.TypeIndexLaws.{name-length, properties-rules}
 use Rattle.event.specs.Event.{Event}
 use Rattle.event.specs.EventLayout.{wide}
 use Rattle.event.specs.EventQuestions.{Typed, matchCount, eventAsked}
-use Rattle.event.specs.EventIndex.{eventQuestions}
+use Rattle.event.specs.code.EventIndex.{eventQuestions}
 use Rattle.event.specs.declared.ask.EventAsked.{EventAsked}
 use Rattle.event.proofs.EventLayoutLaws.{event-was}
 use Rattle.event.proofs.EventSizeLaws.{event-match}
 use Rattle.event.proofs.EventQuestionLaws.{event-accepted}
 use Rattle.event.proofs.AskLaws.{Accepted}
-use Rattle.hashing.specs.HashText.{hashText}
+use Rattle.sha1.specs.Fips.{sha1Of}
+use Rattle.sha1.proofs.Laws.{length-sha1Of}
+use Rattle.hashing.specs.HashText.{eventText}
 use Rattle.hashing.specs.HashCalls.{hashTextAsked, hashTextAnswer, hashAnswer, hashTextCall, hashCall}
-use Rattle.ontology.specs.Replies.{replies}
-use Rattle.ontology.specs.declared.replies.Reply.{Reply}
-use Rattle.ontology.specs.declared.replies.Reply.the-variants.{Done, Refused}
-use Rattle.hashing.specs.HashIndex.{Hashable}
+use Rattle.hashing.specs.code.HashIndex.{Hashable}
 use Rattle.hashing.proofs.HashSizeLaws.{hash-fits}
 
 -- ---- an accepted event has a hash text
@@ -61,20 +62,18 @@ of-table table event a e = go (tableOf table) refl e
 -- it has room in the output that document 01 asks for
 pub hash-short :
     (table event : List ℕ) (ts : Table) (a : Typed) → tableOf table ≡ some ts → eventAsked wide ts event ≡ accepted a →
-    length (hashText (a .type) (a .event)) ≤ 8192
+    length (eventText (a .type) (a .event)) ≤ hashTextCapacity
 hash-short table event ts a t h =
     let w = event-accepted wide ts event (a .type) (a .event) h in
-    let n : length (a .event .type) ≤ 64 =
-    subst (λ (v : Text). length v ≤ 64) (type-rules table (a .event .type) ts (a .type) t (w .typed) .0)
-    (table-type table ts t (a .event .type) (a .type) (w .typed) .short) in
+    let n = table-type table ts t (a .event .head .type) (a .type) (w .typed) .short in
     let p : All (λ (q : Property). length (q .name) ≤ 32) (a .type .properties) =
     all-elements (λ (q : Property). length (q .name) ≤ 32) (a .type .properties)
-    (λ i q k. name-length 32 (q .name) (properties-rules table (a .event .type) ts (a .type) t (w .typed) i q k .name) .1) in
+    (λ i q k. name-length 32 (q .name) (properties-rules table (a .event .head .type) ts (a .type) t (w .typed) i q k .name) .1) in
     hash-fits (a .type) (a .event) (event-was wide event (a .event) (w .read) .1) (w .shape) (w .values) n p
 
 pub text-short :
     (table event : List ℕ) (r : EventAsked) (a : Accepted wide table event r) →
-    (matchCount (a .type .properties) (a .e .sets) ≤ 32) × (length (hashText (a .type) (a .e)) ≤ 8192)
+    (matchCount (a .type .properties) (a .e .sets) ≤ 32) × (length (eventText (a .type) (a .e)) ≤ hashTextCapacity)
 text-short table event r a =
     let o = of-table table event (record { type = a .type; event = a .e }) (a .is) in
     let w = event-accepted wide (o .what) event (a .type) (a .e) (o .asked) in
@@ -95,67 +94,67 @@ hashable table event r a = record {
 module _ (table event : List ℕ) (least room : ℕ) where
   asked-small : room < least → hashTextAsked least room table event ≡ refused 1
   unfolding hashTextAsked
-  asked-small h = rw (lt-leb least room h)
+  asked-small h = rw (too-small least room h)
 
-  asked-is : least ≤ room → hashTextAsked least room table event ≡ (eventQuestions wide table event >>= λ a. accepted (hashText (a .type) (a .event)))
+  asked-is : least ≤ room → hashTextAsked least room table event ≡ (eventQuestions wide table event >>= λ a. accepted (eventText (a .type) (a .event)))
   unfolding hashTextAsked
-  asked-is h = rw (le-leb least room h) (go (tableOf table))
+  asked-is h = rw (has-room least room h) (go (tableOf table))
     where
-      go : (m : Option Table) → (ask 2 m >>= λ ts. (eventAsked wide ts event >>= λ a. accepted (hashText (a .type) (a .event)))) ≡ ((ask 2 m >>= λ ts. eventAsked wide ts event) >>= λ a. accepted (hashText (a .type) (a .event)))
+      go : (m : Option Table) → (ask 2 m >>= λ ts. (eventAsked wide ts event >>= λ a. accepted (eventText (a .type) (a .event)))) ≡ ((ask 2 m >>= λ ts. eventAsked wide ts event) >>= λ a. accepted (eventText (a .type) (a .event)))
       go none = refl
       go (some ts) = refl
 
   asked-refused : (n : ℕ) → least ≤ room → eventQuestions wide table event ≡ refused n → hashTextAsked least room table event ≡ refused n
-  asked-refused n h e = asked-is h ∙ ap (λ (q : Asked Typed). q >>= λ a. accepted (hashText (a .type) (a .event))) e
+  asked-refused n h e = asked-is h ∙ ap (λ (q : Asked Typed). q >>= λ a. accepted (eventText (a .type) (a .event))) e
 
-  asked-accepted : (t : EventType) (e : Event) → least ≤ room → eventQuestions wide table event ≡ accepted (record { type = t; event = e }) → hashTextAsked least room table event ≡ accepted (hashText t e)
-  asked-accepted t e h q = asked-is h ∙ ap (λ (q : Asked Typed). q >>= λ a. accepted (hashText (a .type) (a .event))) q
+  asked-accepted : (t : EventType) (e : Event) → least ≤ room → eventQuestions wide table event ≡ accepted (record { type = t; event = e }) → hashTextAsked least room table event ≡ accepted (eventText t e)
+  asked-accepted t e h q = asked-is h ∙ ap (λ (q : Asked Typed). q >>= λ a. accepted (eventText (a .type) (a .event))) q
 
 -- ---- the replies
 
 module _ (table event out : List ℕ) where
-  pub text-small : length out < 8192 → replies (Refused 1) out ≡ hashTextCall table event out
+  pub text-small : length out < hashTextCapacity → replies (Refused 1) out ≡ hashTextCall table event out
   unfolding hashTextCall hashTextAnswer
-  text-small h = rw (asked-small table event 8192 (length out) h)
+  text-small h = rw (asked-small table event hashTextCapacity (length out) h)
 
-  pub text-refused : (n : ℕ) → 8192 ≤ length out → eventQuestions wide table event ≡ refused n → replies (Refused n) out ≡ hashTextCall table event out
+  pub text-refused : (n : ℕ) → hashTextCapacity ≤ length out → eventQuestions wide table event ≡ refused n → replies (Refused n) out ≡ hashTextCall table event out
   unfolding hashTextCall hashTextAnswer
-  text-refused n h e = rw (asked-refused table event 8192 (length out) n h e)
+  text-refused n h e = rw (asked-refused table event hashTextCapacity (length out) n h e)
 
   module _ (r : EventAsked) (a : Accepted wide table event r) (new : List ℕ) where
-    pub text-done : (n : ℕ) → 8192 ≤ length out → Wrote out 0 (hashText (a .type) (a .e)) new n → replies (Done n) new ≡ hashTextCall table event out
+    pub text-done : (n : ℕ) → hashTextCapacity ≤ length out → Wrote out 0 (eventText (a .type) (a .e)) new n → replies (Done n) new ≡ hashTextCall table event out
     unfolding hashTextCall hashTextAnswer
     text-done n h w =
-        let x = hashText (a .type) (a .e) in
+        let x = eventText (a .type) (a .e) in
         let s : 0 + length x ≤ length out = omega (arith, text-short table event r a .1) in
         let m : n ≡ length x = omega (arith, w .after) in
-        rw (asked-accepted table event 8192 (length out) (a .type) (a .e) h (a .is))
+        rw (asked-accepted table event hashTextCapacity (length out) (a .type) (a .e) h (a .is))
         (ap₂ (λ (k : ℕ) (l : List ℕ). replies (Done k) l) m (wrote-between s w ∙ ap (λ (k : ℕ). x ++ drop k out) m))
 
 -- ---- the replies of hash, which hashes what hash text wrote in an output of its own
 
-pub hash-small : (table event out : List ℕ) → length out < 20 → replies (Refused 1) out ≡ hashCall table event out
+pub hash-small : (table event out : List ℕ) → length out < hashCapacity → replies (Refused 1) out ≡ hashCall table event out
 unfolding hashCall hashAnswer
-hash-small table event out h = rw (asked-small table event 20 (length out) h)
+hash-small table event out h = rw (asked-small table event hashCapacity (length out) h)
 
 module _ (table event text written : List ℕ) (r : Reply) (told : replies r written ≡ hashTextCall table event text) where
   pub text-within : {n : ℕ} → r ≡ Done n → n ≤ length written
   unfolding hashTextCall hashTextAnswer
-  text-within {n} e = go (hashTextAsked 8192 (length text) table event) (ap (λ (x : Reply). replies x written) (sym e) ∙ told)
+  text-within {n} e = go (hashTextAsked hashTextCapacity (length text) table event) (ap (λ (x : Reply). replies x written) (sym e) ∙ told)
     where
       go : (q : Asked (List ℕ)) → replies (Done n) written ≡ outcome (answer q) text → n ≤ length written
       go (refused m) h = let z = ap (λ (x : Outcome). x .reply) h in never (cc)
       go (accepted m) h =
-          let z : questions.Reply.done n ≡ questions.Reply.done (length m) = ap (λ (x : Outcome). x .reply) h in
+          let z : answers.Reply.done n ≡ answers.Reply.done (length m) = ap (λ (x : Outcome). x .reply) h in
           let k : n ≡ length m = cc in
           omega (arith, ap (λ (x : Outcome). length (x .bytes)) h, length-append m (drop (length m) text))
 
   pub text-length : {n : ℕ} → r ≡ Done n → length (part written 0 n) ≡ n
   text-length {n} e = omega (arith, part-length written 0 n (omega arith) (text-within e))
 
-  module _ (out : List ℕ) (room : 20 ≤ length out) (text-room : 8192 ≤ length text) where
+  module _ (out : List ℕ) (room : hashCapacity ≤ length out) (text-room : hashTextCapacity ≤ length text) where
     abbrev asked : Asked (List ℕ)
-    asked = hashTextAsked 20 (length out) table event
+    asked = hashTextAsked hashCapacity (length out) table event
 
     -- both calls ask the same after question 1
     text-told : replies r written ≡ outcome (answer asked) text
@@ -163,14 +162,14 @@ module _ (table event text written : List ℕ) (r : Reply) (told : replies r wri
     text-told =
         told
         ∙ ap (λ (q : Asked (List ℕ)). outcome (answer q) text)
-        (asked-is table event 8192 (length text) text-room ∙ sym (asked-is table event 20 (length out) room))
+        (asked-is table event hashTextCapacity (length text) text-room ∙ sym (asked-is table event hashCapacity (length out) room))
 
     pub hash-refused : {n : ℕ} → r ≡ Refused n → replies (Refused n) out ≡ hashCall table event out
     unfolding hashCall hashAnswer
     hash-refused {n} e = rw (go asked (ap (λ (x : Reply). replies x written) (sym e) ∙ text-told))
       where
         go : (q : Asked (List ℕ)) → replies (Refused n) written ≡ outcome (answer q) text → q ≡ refused n
-        go (refused m) h = let z : questions.Reply.refused n ≡ questions.Reply.refused m = ap (λ (x : Outcome). x .reply) h in cc
+        go (refused m) h = let z : answers.Reply.refused n ≡ answers.Reply.refused m = ap (λ (x : Outcome). x .reply) h in cc
         go (accepted m) h = let z = ap (λ (x : Outcome). x .reply) h in never (cc)
 
     text-front : {n : ℕ} → r ≡ Done n → asked ≡ accepted (part written 0 n)
@@ -179,11 +178,11 @@ module _ (table event text written : List ℕ) (r : Reply) (told : replies r wri
         go : (q : Asked (List ℕ)) → replies (Done n) written ≡ outcome (answer q) text → q ≡ accepted (part written 0 n)
         go (refused m) h = let z = ap (λ (x : Outcome). x .reply) h in never (cc)
         go (accepted m) h =
-            let z : questions.Reply.done n ≡ questions.Reply.done (length m) = ap (λ (x : Outcome). x .reply) h in
+            let z : answers.Reply.done n ≡ answers.Reply.done (length m) = ap (λ (x : Outcome). x .reply) h in
             let k : n ≡ length m = cc in
             ap accepted (sym (ap (λ (x : Outcome). take (n - 0) (x .bytes)) h ∙ take-at m (drop (length m) text) (n - 0) (omega arith)))
 
-    pub hash-done : {n : ℕ} {new : List ℕ} → r ≡ Done n → new ≡ sets out 0 (sha1Of (part written 0 n)) → replies (Done 20) new ≡ hashCall table event out
+    pub hash-done : {n : ℕ} {new : List ℕ} → r ≡ Done n → new ≡ sets out 0 (sha1Of (part written 0 n)) → replies (Done hashCapacity) new ≡ hashCall table event out
     unfolding hashCall hashAnswer
     hash-done {n} e w =
         let x = sha1Of (part written 0 n) in

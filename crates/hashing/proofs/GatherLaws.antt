@@ -6,37 +6,44 @@ use mathlib.Core.List.{List, [], _∷_, _++_, append-assoc, append-nil, map, fla
 use Prim.Native.Nat.{ℕ, zero, suc, _+_, _-_, _^_, _≤_, _<_}
 use native.Mathlib.Omega.{arith}
 use native.Mathlib.Numerals.{add-one}
-use lib.Dec.{eqb}
 use lib.ListN.{length, take, drop, getD, getElem?, length-append, length-map, take-append-drop, drop-of-length-le}
 use lib.Seq.{drop-drop, drop-cons}
 use Rattle.model.specs.Order.{Text, texts}
+use Rattle.model.specs.Sorting.{insert, sorted}
 use Rattle.model.proofs.PartLaws.{map-append}
+use Rattle.model.proofs.SortLaws.{sorted-snoc}
 use Rattle.packed.specs.Parse.{fail}
-use Rattle.packed.specs.Packed.{text, readText}
-use Rattle.packed.specs.Located.{part}
+use Rattle.packed.specs.Packed.{text, readText, part}
+use Rattle.packed.specs.code.Strings.{joined, stringOf, stringsOf, StringsFit, Inserted}
+use Rattle.packed.specs.declared.strings.StringAt.{StringAt}
+use Rattle.packed.specs.declared.strings.Strings.{Strings}
 use Rattle.packed.proofs.ReadLaws.{TextStops}
 use Rattle.ontology.specs.Table.{Property, isMatch}
-use Rattle.ontology.specs.TypeIndex.{PropertyIs}
+use Rattle.ontology.specs.code.TypeIndex.{PropertyIs, hasMatch}
 use Rattle.ontology.specs.declared.properties.PropertyAt.{PropertyAt}
 use Rattle.ontology.specs.declared.types.TypeIndex.{TypeIndex}
-use Rattle.event.specs.EventIndex.{SetIs, noSet}
+use Rattle.ontology.proofs.TypeIndexLaws.{match-of}
+use Rattle.event.specs.code.EventIndex.{SetIs, noSet}
 use Rattle.event.specs.declared.sets.SetAt.{SetAt}
 use Rattle.event.specs.declared.read.EventIndex.{EventIndex}
 use Rattle.event.proofs.LookupLaws.{text-there, text-next}
-use Rattle.hashing.specs.HashText.{objectString, objectStrings, insert, sorted}
-use Rattle.hashing.specs.HashIndex.{stringOf, stringsOf, ObjectsFit, Inserted, Gathered, Hashable}
-use Rattle.hashing.specs.declared.objects.ObjectAt.{ObjectAt}
-use Rattle.hashing.specs.declared.objects.Objects.{Objects}
-use Rattle.hashing.proofs.SortLaws.{sorted-snoc}
+use Rattle.hashing.specs.HashText.{objectString, objectStrings}
+use Rattle.hashing.specs.code.HashIndex.{Gathered, Hashable}
 use Rattle.hashing.proofs.HashSizeLaws.{strings-length}
+
+-- an object's string, in document 01's words and in those of the code
+object-string : (name value : Text) → joined name value ≡ objectString name value
+object-string name value = refl
 
 -- ---- the objects of one property
 
 module _ (table event : List ℕ) where
-  pub gathered-none : (xs : Objects) → Gathered table event xs xs []
+  pub gathered-none : (xs : Strings) → Gathered table event xs xs []
   gathered-none xs = record { more = omega arith; is = λ ws e. e ∙ ap (sorted texts) (sym (append-nil ws)) }
 
-  gathered-more : (xs r q : Objects) (x : ObjectAt) (added : List Text) → Gathered table event xs r added → Inserted table event r x q → Gathered table event xs q (added ++ (stringOf table event x ∷ []))
+  gathered-more :
+      (xs r q : Strings) (x : StringAt) (added : List Text) → Gathered table event xs r added → Inserted table event r x q →
+      Gathered table event xs q (added ++ (stringOf table event x ∷ []))
   gathered-more xs r q x added g w = record {
     more = omega (arith, g .more, w .more, length-append added (stringOf table event x ∷ []));
     is =
@@ -49,7 +56,7 @@ module _ (table event : List ℕ) where
   }
 
 -- The values vs of a set are gathered but for `left`, which stand at `at`
-pub record Gathering (table event : List ℕ) (name colon : ℕ) (xs r : Objects) (vs : List Text) (at left : ℕ) (tail : List ℕ) : Type 0 where
+pub record Gathering (table event : List ℕ) (name colon : ℕ) (xs r : Strings) (vs : List Text) (at left : ℕ) (tail : List ℕ) : Type 0 where
   pub done : List Text
   pub rest : List Text
   pub all : vs ≡ done ++ rest
@@ -58,7 +65,7 @@ pub record Gathering (table event : List ℕ) (name colon : ℕ) (xs r : Objects
   pub long : left ≡ length rest
   pub have : Gathered table event xs r (map (objectString (part table name colon)) done)
 
-module _ (table event : List ℕ) (name colon : ℕ) (xs : Objects) (vs : List Text) where
+module _ (table event : List ℕ) (name colon : ℕ) (xs : Strings) (vs : List Text) where
   pub gathering-none : (x : SetAt) → SetIs event vs x → Gathering table event name colon xs xs vs (x .start) (x .count) (drop (x .end) event)
   gathering-none x w = record {
     done = [];
@@ -75,7 +82,7 @@ module _ (table event : List ℕ) (name colon : ℕ) (xs : Objects) (vs : List T
       sums : (a e : ℕ) → a ≤ e → a + (e - a) ≡ e
       sums a e h = omega arith
 
-  module _ (r : Objects) (at left : ℕ) (tail : List ℕ) (small : length event < 2 ^ 64) (w : Gathering table event name colon xs r vs at left tail) where
+  module _ (r : Strings) (at left : ℕ) (tail : List ℕ) (small : length event < 2 ^ 64) (w : Gathering table event name colon xs r vs at left tail) where
     -- the first value of those that are left, and the others
     record First : Type 0 where
       v : Text
@@ -96,13 +103,14 @@ module _ (table event : List ℕ) (name colon : ℕ) (xs : Objects) (vs : List T
     gathering-bad h e = let f = first h in text-there event small at (w .within) (f .v) (flatten (map text (f .us)) ++ tail) (f .bytes) e
 
     pub gathering-more :
-        0 < left → (a z : ℕ) → TextStops event at a z → (q : Objects) → Inserted table event r (record { name = name; colon = colon; value = a; end = z }) q →
+        0 < left → (a z : ℕ) → TextStops event at a z → (q : Strings) → Inserted table event r (record { first = name; colon = colon; second = a; end = z }) q →
         Gathering table event name colon xs q vs z (left - 1) tail
     unfolding stringOf
     gathering-more h a z t q i =
         let f = first h in
         let n = text-next event small at (w .within) (f .v) (flatten (map text (f .us)) ++ tail) (f .bytes) a z t in
-        let g = gathered-more table event xs r q (record { name = name; colon = colon; value = a; end = z }) (map (objectString (part table name colon)) (w .done)) (w .have) i in
+        let x : StringAt = record { first = name; colon = colon; second = a; end = z } in
+        let g = gathered-more table event xs r q x (map (objectString (part table name colon)) (w .done)) (w .have) i in
         let e : map (objectString (part table name colon)) (w .done) ++ (objectString (part table name colon) (part event a z) ∷ []) ≡ map (objectString (part table name colon)) (w .done ++ (f .v ∷ [])) =
         ap (λ (u : Text). map (objectString (part table name colon)) (w .done) ++ (objectString (part table name colon) u ∷ [])) (n .0)
         ∙ sym (map-append (objectString (part table name colon)) (w .done) (f .v ∷ [])) in
@@ -126,15 +134,15 @@ module _ (table event : List ℕ) (name colon : ℕ) (xs : Objects) (vs : List T
 -- ---- a place
 
 module _ (table event : List ℕ) (q : Property) (p : PropertyAt) (is : PropertyIs table q p) where
-  pub match-is : {b : Bool} → eqb (p .strategy) 5 ≡ b → isMatch q ≡ b
-  match-is e = ap (λ (n : ℕ). eqb n 5) (sym (is .strategy)) ∙ e
-
-  pub gathered-match : (xs r : Objects) (vs : List Text) → eqb (p .strategy) 5 ≡ true → Gathered table event xs r (map (objectString (part table (p .start) (p .end))) vs) → Gathered table event xs r (cond (isMatch q) (map (objectString (q .name)) vs) [])
+  pub gathered-match :
+      (xs r : Strings) (vs : List Text) → hasMatch p ≡ true → Gathered table event xs r (map (objectString (part table (p .start) (p .end))) vs) →
+      Gathered table event xs r (cond (isMatch q) (map (objectString (q .name)) vs) [])
   gathered-match xs r vs e g =
-      rw (match-is e) (subst (λ (n : Text). Gathered table event xs r (map (objectString n) vs)) (is .name) g)
+      rw (sym (match-of is) ∙ e) (subst (λ (n : Text). Gathered table event xs r (map (objectString n) vs)) (is .name) g)
 
-  pub gathered-other : (xs : Objects) (vs : List Text) → eqb (p .strategy) 5 ≡ false → Gathered table event xs xs (cond (isMatch q) (map (objectString (q .name)) vs) [])
-  gathered-other xs vs e = rw (match-is e) (gathered-none table event xs)
+  pub gathered-other :
+      (xs : Strings) (vs : List Text) → hasMatch p ≡ false → Gathered table event xs xs (cond (isMatch q) (map (objectString (q .name)) vs) [])
+  gathered-other xs vs e = rw (sym (match-of is) ∙ e) (gathered-none table event xs)
 
 -- ---- all places
 
@@ -157,17 +165,17 @@ unfolding objectStrings
 strings-step ps ss i w h = rw (w .rest, drop-cons ss i [] h, add-one)
 
 -- The objects of the places below `place` are r; ps are the properties and ss their sets
-pub record SoFar (table event : List ℕ) (ps : List Property) (ss : List (List Text)) (r : Objects) (place : ℕ) : Type 0 where
+pub record SoFar (table event : List ℕ) (ps : List Property) (ss : List (List Text)) (r : Strings) (place : ℕ) : Type 0 where
   pub done : List Text
   pub all : objectStrings ps ss ≡ done ++ objectStrings (drop place ps) (drop place ss)
   pub count : r .count ≡ length done
   pub is : stringsOf table event r ≡ sorted texts done
 
 module _ (table event : List ℕ) where
-  pub fit-none : (r : Objects) → (r .count ≡ 0) × (length (r .at) ≡ 32) → ObjectsFit table event r
+  pub fit-none : (r : Strings) → (r .count ≡ 0) × (length (r .at) ≡ 32) → StringsFit table event r
   fit-none r e = record { few = omega (arith, e .0); long = e .1; each = λ i h. absurd (omega (arith, e .0)) }
 
-  pub so-far-none : (ps : List Property) (ss : List (List Text)) (r : Objects) → r .count ≡ 0 → SoFar table event ps ss r 0
+  pub so-far-none : (ps : List Property) (ss : List (List Text)) (r : Strings) → r .count ≡ 0 → SoFar table event ps ss r 0
   unfolding stringsOf sorted
   so-far-none ps ss r e = record {
     done = [];
@@ -176,65 +184,78 @@ module _ (table event : List ℕ) where
     is = ap (λ (n : ℕ). map (stringOf table event) (take n (r .at))) e;
   }
 
-  module _ (t : TypeIndex) (e : EventIndex) (h : Hashable table event t e) (r : Objects) (place : ℕ) (below : place < t .count) (w : SoFar table event (h .type .properties) (h .event .sets) r place) where
-    property : At (h .type .properties) place
-    property = at (h .type .properties) place (omega (arith, h .typed .count))
+  module _
+      (t : TypeIndex) (e : EventIndex) (h : Hashable table event t e) (r : Strings) (place : ℕ) (below : place < t .count)
+      (w : SoFar table event (h .type .properties) (h .event .sets) r place)
+    where
+      property : At (h .type .properties) place
+      property = at (h .type .properties) place (omega (arith, h .typed .count))
 
-    set-there : place < length (h .event .sets)
-    set-there = omega (arith, h .read .sets .long, h .typed .few)
+      set-there : place < length (h .event .sets)
+      set-there = omega (arith, h .read .sets .long, h .typed .few)
 
-    set-is : SetIs event (getD (h .event .sets) place []) (getD (e .sets) place noSet)
-    set-is = h .read .sets .each place (omega (arith, h .typed .few))
+      set-is : SetIs event (getD (h .event .sets) place []) (getD (e .sets) place noSet)
+      set-is = h .read .sets .each place (omega (arith, h .typed .few))
 
-    step : objectStrings (h .type .properties) (h .event .sets) ≡ (w .done ++ strings (property .what) (getD (h .event .sets) place [])) ++ objectStrings (drop (place + 1) (h .type .properties)) (drop (place + 1) (h .event .sets))
-    step =
-        w .all
-        ∙ ap (λ (l : List Text). w .done ++ l) (strings-step (h .type .properties) (h .event .sets) place property set-there)
-        ∙ sym (append-assoc (w .done) (strings (property .what) (getD (h .event .sets) place [])) (objectStrings (drop (place + 1) (h .type .properties)) (drop (place + 1) (h .event .sets))))
+      step :
+          objectStrings (h .type .properties) (h .event .sets)
+          ≡ (w .done ++ strings (property .what) (getD (h .event .sets) place []))
+          ++ objectStrings (drop (place + 1) (h .type .properties)) (drop (place + 1) (h .event .sets))
+      step =
+          w .all
+          ∙ ap (λ (l : List Text). w .done ++ l) (strings-step (h .type .properties) (h .event .sets) place property set-there)
+          ∙ sym (append-assoc (w .done) (strings (property .what) (getD (h .event .sets) place []))
+          (objectStrings (drop (place + 1) (h .type .properties)) (drop (place + 1) (h .event .sets))))
 
-    module _ (d : PropertyAt) where
-      property-is : PropertyIs table (property .what) (getD (t .properties) place d)
-      property-is = h .typed .are .each place (property .what) d (property .is)
+      module _ (d : PropertyAt) where
+        property-is : PropertyIs table (property .what) (getD (t .properties) place d)
+        property-is = h .typed .are .each place (property .what) d (property .is)
 
-      -- room for the objects of this place, which question 5 has answered
-      room : eqb (getD (t .properties) place d .strategy) 5 ≡ true → r .count + getD (e .sets) place noSet .count ≤ 32
-      room m =
-          let q = property .what in
-          let vs = getD (h .event .sets) place [] in
-          let a : strings q vs ≡ map (objectString (q .name)) vs = ap (λ (b : Bool). cond b (map (objectString (q .name)) vs) []) (match-is table event q (getD (t .properties) place d) property-is m) in
-          omega (
-            arith,
-            h .few,
-            strings-length (h .type .properties) (h .event .sets),
-            ap length step,
-            length-append (w .done ++ strings q vs) (objectStrings (drop (place + 1) (h .type .properties)) (drop (place + 1) (h .event .sets))),
-            length-append (w .done) (strings q vs),
-            ap length a,
-            length-map vs (objectString (q .name)),
-            w .count,
-            set-is .count,
-          )
+        -- room for the objects of this place, which question 5 has answered
+        room : hasMatch (getD (t .properties) place d) ≡ true → r .count + getD (e .sets) place noSet .count ≤ 32
+        room m =
+            let q = property .what in
+            let vs = getD (h .event .sets) place [] in
+            let a : strings q vs ≡ map (objectString (q .name)) vs =
+            ap (λ (b : Bool). cond b (map (objectString (q .name)) vs) []) (sym (match-of property-is) ∙ m) in
+            omega (
+              arith,
+              h .few,
+              strings-length (h .type .properties) (h .event .sets),
+              ap length step,
+              length-append (w .done ++ strings q vs) (objectStrings (drop (place + 1) (h .type .properties)) (drop (place + 1) (h .event .sets))),
+              length-append (w .done) (strings q vs),
+              ap length a,
+              length-map vs (objectString (q .name)),
+              w .count,
+              set-is .count,
+            )
 
-      pub place-ready :
-          ObjectsFit table event r →
-          ObjectsFit table event r × (getD (t .properties) place d .start ≤ getD (t .properties) place d .end) × (getD (t .properties) place d .end ≤ length table)
-          × (eqb (getD (t .properties) place d .strategy) 5 ≡ true → r .count + getD (e .sets) place noSet .count ≤ 32)
-      place-ready f = (f, property-is .order, property-is .within, room)
+        pub place-ready :
+            StringsFit table event r →
+            StringsFit table event r
+            × (getD (t .properties) place d .start ≤ getD (t .properties) place d .end)
+            × (getD (t .properties) place d .end ≤ length table)
+            × (hasMatch (getD (t .properties) place d) ≡ true → r .count + getD (e .sets) place noSet .count ≤ 32)
+        place-ready f = (f, property-is .order, property-is .within, room)
 
-      pub so-far-more :
-          (q : Objects) →
-          ((p : Property) (vs : List Text) → PropertyIs table p (getD (t .properties) place d) → SetIs event vs (getD (e .sets) place noSet) → Gathered table event r q (cond (isMatch p) (map (objectString (p .name)) vs) [])) →
-          SoFar table event (h .type .properties) (h .event .sets) q (place + 1)
-      so-far-more q f =
-          let g = f (property .what) (getD (h .event .sets) place []) property-is set-is in
-          record {
-            done = w .done ++ strings (property .what) (getD (h .event .sets) place []);
-            all = step;
-            count = omega (arith, g .more, w .count, length-append (w .done) (strings (property .what) (getD (h .event .sets) place [])));
-            is = g .is (w .done) (w .is);
-          }
+        pub so-far-more :
+            (q : Strings) →
+            ((p : Property) (vs : List Text) → PropertyIs table p (getD (t .properties) place d) → SetIs event vs (getD (e .sets) place noSet) →
+            Gathered table event r q (cond (isMatch p) (map (objectString (p .name)) vs) [])) →
+            SoFar table event (h .type .properties) (h .event .sets) q (place + 1)
+        so-far-more q f =
+            let g = f (property .what) (getD (h .event .sets) place []) property-is set-is in
+            record {
+              done = w .done ++ strings (property .what) (getD (h .event .sets) place []);
+              all = step;
+              count = omega (arith, g .more, w .count, length-append (w .done) (strings (property .what) (getD (h .event .sets) place [])));
+              is = g .is (w .done) (w .is);
+            }
 
-  pub so-far-all : (ps : List Property) (ss : List (List Text)) (r : Objects) (place : ℕ) → length ps ≤ place → SoFar table event ps ss r place → stringsOf table event r ≡ sorted texts (objectStrings ps ss)
+  pub so-far-all :
+      (ps : List Property) (ss : List (List Text)) (r : Strings) (place : ℕ) → length ps ≤ place → SoFar table event ps ss r place →
+      stringsOf table event r ≡ sorted texts (objectStrings ps ss)
   unfolding objectStrings
   so-far-all ps ss r place h w =
       w .is

@@ -6,14 +6,17 @@ use Prim.Native.Nat.{suc, _+_, _*_, _≤_}
 use native.Mathlib.Omega.{arith}
 use lib.ListN.{length, length-append, length-map}
 use Rattle.model.specs.Order.{Order, Text, texts}
+use Rattle.model.specs.Sorting.{insert, sorted}
 use Rattle.model.proofs.Cases.{three}
+use Rattle.replies.specs.Capacities.{hashTextCapacity}
 use Rattle.ontology.specs.Table.{Property, EventType, isMatch}
 use Rattle.event.specs.Event.{Event}
 use Rattle.event.specs.EventLayout.{wide}
 use Rattle.event.specs.EventQuestions.{matchCount, eventShape, valuesFit}
-use Rattle.event.proofs.EventLayoutLaws.{EventWritten, source-length}
+use Rattle.event.proofs.EventLayoutLaws.{EventWritten}
+use Rattle.event.proofs.HeadLayoutLaws.{source-length}
 use Rattle.event.proofs.EventSizeLaws.{All, ValuesShort, event-short, event-match}
-use Rattle.hashing.specs.HashText.{objectString, objectStrings, insert, sorted, separated, hashText}
+use Rattle.hashing.specs.HashText.{objectString, objectStrings, separated, hashText, eventText}
 
 -- ---- sorting keeps the number of texts and of their bytes
 
@@ -81,7 +84,7 @@ strings-size (p ∷ ps) (x ∷ xs) n v = go (isMatch p) (strings-size ps xs (n .
     go false h = omega arith
 
 -- 120 + 1 + 64 + 1 + 32 * (153 + 4) = 5,210
-pub hash-size : (t : EventType) (e : Event) → length (e .type) ≤ 64 → length (e .source) ≤ 120 → All (λ (p : Property). length (p .name) ≤ 32) (t .properties) → matchCount (t .properties) (e .sets) ≤ 32 → ValuesShort (e .sets) → length (hashText t e) ≤ 8192
+pub hash-size : (t : EventType) (e : Event) → length (t .name) ≤ 64 → length (e .head .source) ≤ 120 → All (λ (p : Property). length (p .name) ≤ 32) (t .properties) → matchCount (t .properties) (e .sets) ≤ 32 → ValuesShort (e .sets) → length (eventText t e) ≤ hashTextCapacity
 unfolding hashText
 hash-size t e n s p m v =
     let xs = objectStrings (t .properties) (e .sets) in
@@ -96,5 +99,5 @@ hash-size t e n s p m v =
     ))
 
 -- an event of which questions 3, 5 and 6 are answered yes
-pub hash-fits : (t : EventType) (e : Event) → EventWritten wide e → eventShape t e ≡ true → valuesFit t (e .sets) ≡ true → length (e .type) ≤ 64 → All (λ (p : Property). length (p .name) ≤ 32) (t .properties) → length (hashText t e) ≤ 8192
-hash-fits t e w h v n p = hash-size t e n (source-length (e .source) (w .head .source) .1) p (event-match t e h) (event-short t e h v)
+pub hash-fits : (t : EventType) (e : Event) → EventWritten wide e → eventShape t e ≡ true → valuesFit t (e .sets) ≡ true → length (t .name) ≤ 64 → All (λ (p : Property). length (p .name) ≤ 32) (t .properties) → length (eventText t e) ≤ hashTextCapacity
+hash-fits t e w h v n p = hash-size t e n (source-length (e .head .source) (w .head .source) .1) p (event-match t e h) (event-short t e h v)

@@ -1,6 +1,5 @@
 -- The laws of hash texts.
 pub mod HashSizeLaws
-pub mod SortLaws
 pub mod ObjectLaws
 pub mod GatherLaws
 pub mod TextLaws

@@ -8,16 +8,15 @@ use lib.Dec.{leb}
 use lib.ListN.{length, getElem?}
 use Rattle.model.specs.Order.{Text, texts}
 use Rattle.model.proofs.Cases.{never, and-parts}
+use Rattle.model.proofs.SortLaws.{Apart, rising-apart, sorted-rises}
 use Rattle.packed.proofs.LayoutLaws.{All}
-use Rattle.ontology.specs.Table.{Property, EventType, Table, isVersioned, isMatch, allFit, markFits, namesRise, typeRules, typeNamed}
-use Rattle.ontology.specs.Table.{isLetter, isNameByte, areNameBytes, isName, isNameWithin}
+use Rattle.ontology.specs.Table.{Property, EventType, Table, isVersioned, isMatch, allFit, markFits, namesRise, typeRules, typeNamed, isLetter, isNameByte, areNameBytes, isName, isNameWithin}
 use Rattle.ontology.specs.TableLayout.{tableOf}
 use Rattle.ontology.proofs.TypeIndexLaws.{type-rules, properties-rules}
 use Rattle.event.proofs.EventLayoutLaws.{SetWritten, event-was}
 use Rattle.event.proofs.EventQuestionLaws.{all-append, event-accepted}
 use Rattle.hashing.specs.HashText.{objectString, objectStrings}
 use Rattle.hashing.specs.NoDuplicates.{NoDuplicates}
-use Rattle.hashing.proofs.SortLaws.{Apart, rising-apart, sorted-rises}
 use Rattle.hashing.proofs.CallLaws.{all-elements}
 
 -- ---- names
@@ -129,7 +128,7 @@ strings-apart (p ∷ ps) (s ∷ ss) c n w =
 pub strings-rise : NoDuplicates
 strings-rise counts table event ts a t h =
     let w = event-accepted counts ts event (a .type) (a .event) h in
-    let c = names-no-colon table ts (a .event .type) (a .type) t (w .typed) in
-    let n = names-apart table ts (a .event .type) (a .type) t (w .typed) in
+    let c = names-no-colon table ts (a .event .head .type) (a .type) t (w .typed) in
+    let n = names-apart table ts (a .event .head .type) (a .type) t (w .typed) in
     let s = event-was counts event (a .event) (w .read) .1 .sets .each in
     sorted-rises texts (objectStrings (a .type .properties) (a .event .sets)) (strings-apart (a .type .properties) (a .event .sets) c n s)

@@ -5,48 +5,51 @@ use Prim.Native.Nat.{ℕ, _+_, _≤_}
 use native.Mathlib.Omega.{arith}
 use lib.ListN.{length, length-append}
 use Rattle.model.specs.Order.{texts}
-use Rattle.packed.specs.Located.{part}
-use Rattle.packed.specs.Written.{Wrote}
+use Rattle.model.specs.Sorting.{sorted}
+use Rattle.packed.specs.Packed.{part}
+use Rattle.packed.specs.code.Strings.{stringsOf}
+use Rattle.packed.specs.code.Written.{Wrote}
+use Rattle.packed.specs.declared.strings.Strings.{Strings}
 use Rattle.packed.proofs.WriteLaws.{wrote-then}
+use Rattle.replies.specs.Capacities.{hashTextCapacity}
 use Rattle.ontology.specs.declared.types.TypeIndex.{TypeIndex}
 use Rattle.event.specs.declared.read.EventIndex.{EventIndex}
-use Rattle.hashing.specs.HashText.{objectStrings, sorted, separated, hashText}
-use Rattle.hashing.specs.HashIndex.{stringsOf, Hashable}
-use Rattle.hashing.specs.declared.objects.Objects.{Objects}
+use Rattle.hashing.specs.HashText.{objectStrings, separated, hashText, eventText}
+use Rattle.hashing.specs.code.HashIndex.{Hashable}
 
 -- the two lines that a hash text begins with
 abbrev pub sourceLine : List ℕ → EventIndex → List ℕ
 sourceLine event e = part event (e .head .source .start) (e .head .source .end) ++ (10 ∷ [])
 
-abbrev pub nameLine : List ℕ → EventIndex → List ℕ
-nameLine event e = part event (e .head .name .start) (e .head .name .end) ++ (10 ∷ [])
+abbrev pub nameLine : List ℕ → TypeIndex → List ℕ
+nameLine table t = part table (t .start) (t .end) ++ (10 ∷ [])
 
 module _
-    (table event : List ℕ) (t : TypeIndex) (e : EventIndex) (h : Hashable table event t e) (objects : Objects)
+    (table event : List ℕ) (t : TypeIndex) (e : EventIndex) (h : Hashable table event t e) (objects : Strings)
     (g : stringsOf table event objects ≡ sorted texts (objectStrings (h .type .properties) (h .event .sets)))
   where
-    text-parts : hashText (h .type) (h .event) ≡ (sourceLine event e ++ nameLine event e) ++ separated (stringsOf table event objects)
+    text-parts : eventText (h .type) (h .event) ≡ (sourceLine event e ++ nameLine table t) ++ separated (stringsOf table event objects)
     unfolding hashText
     text-parts =
-        let n = h .event .type in
+        let n = h .type .name in
         let z = separated (sorted texts (objectStrings (h .type .properties) (h .event .sets))) in
-        ap (λ (l : List ℕ). l ++ z) (append-assoc (h .event .source ++ (10 ∷ [])) n (10 ∷ []))
+        ap (λ (l : List ℕ). l ++ z) (append-assoc (h .event .head .source ++ (10 ∷ [])) n (10 ∷ []))
         ∙ ap (λ (l : List ℕ). ((l ++ (10 ∷ [])) ++ (n ++ (10 ∷ []))) ++ z) (sym (h .read .head .uri .bytes))
-        ∙ ap (λ (l : List ℕ). (sourceLine event e ++ (l ++ (10 ∷ []))) ++ z) (sym (h .read .head .name .bytes))
-        ∙ ap (λ (l : List (List ℕ)). (sourceLine event e ++ nameLine event e) ++ separated l) (sym g)
+        ∙ ap (λ (l : List ℕ). (sourceLine event e ++ (l ++ (10 ∷ []))) ++ z) (sym (h .typed .name))
+        ∙ ap (λ (l : List (List ℕ)). (sourceLine event e ++ nameLine table t) ++ separated l) (sym g)
 
     -- the parts have room where there is room for any hash text
-    pub parts-room : length (sourceLine event e) + length (nameLine event e) + length (separated (stringsOf table event objects)) ≤ 8192
+    pub parts-room : length (sourceLine event e) + length (nameLine table t) + length (separated (stringsOf table event objects)) ≤ hashTextCapacity
     parts-room =
         omega (
           arith,
           h .short,
           ap length text-parts,
-          length-append (sourceLine event e ++ nameLine event e) (separated (stringsOf table event objects)),
-          length-append (sourceLine event e) (nameLine event e),
+          length-append (sourceLine event e ++ nameLine table t) (separated (stringsOf table event objects)),
+          length-append (sourceLine event e) (nameLine table t),
         )
 
     pub wrote-hash-text :
-        {l l₁ l₂ l₃ : List ℕ} {a b c d : ℕ} → Wrote l a (sourceLine event e) l₁ b → Wrote l₁ b (nameLine event e) l₂ c →
-        Wrote l₂ c (separated (stringsOf table event objects)) l₃ d → Wrote l a (hashText (h .type) (h .event)) l₃ d
+        {l l₁ l₂ l₃ : List ℕ} {a b c d : ℕ} → Wrote l a (sourceLine event e) l₁ b → Wrote l₁ b (nameLine table t) l₂ c →
+        Wrote l₂ c (separated (stringsOf table event objects)) l₃ d → Wrote l a (eventText (h .type) (h .event)) l₃ d
     wrote-hash-text p q r = rw text-parts (wrote-then (wrote-then p q) r)

@@ -2,29 +2,30 @@
 use Prim.Native.Nat.{ℕ}
 use mathlib.Core.List.{List}
 use lib.ListN.{length}
-use lib.Dec.{leb}
-use Rattle.sha1.specs.Fips.{sha1Of}
+use Rattle.replies.specs.Questions.{Asked, accepted, _>>=_, _>>_, ask}
+use Rattle.replies.specs.Answers.{Answer, answer, Outcome, outcome}
+use Rattle.replies.specs.Capacities.{hashTextCapacity, hashCapacity, hasRoom}
 use Rattle.ontology.specs.TableLayout.{tableOf}
-use Rattle.ontology.specs.Questions.{Asked, accepted, _>>=_, _>>_, ask, ensure, Answer, answer, Outcome, outcome}
 use Rattle.event.specs.EventLayout.{wide}
 use Rattle.event.specs.EventQuestions.{eventAsked}
-use Rattle.hashing.specs.HashText.{hashText}
+use Rattle.sha1.specs.Fips.{sha1Of}
+use Rattle.hashing.specs.HashText.{eventText}
 
 -- the hash text of an event under a table, after the questions that both calls ask; `least` is the output's least size, `room` its size
 unfoldable pub hashTextAsked : ℕ → ℕ → List ℕ → List ℕ → Asked (List ℕ)
 hashTextAsked least room table event = do
-  ensure 1 (leb least room)
+  hasRoom least room
   ts ← ask 2 (tableOf table)
   a ← eventAsked wide ts event
-  accepted (hashText (a .type) (a .event))
+  accepted (eventText (a .type) (a .event))
 
 -- "Has the output at least .. bytes (hash text 8,192 ..)"
 unfoldable pub hashTextAnswer : ℕ → List ℕ → List ℕ → Answer
-hashTextAnswer room table event = answer (hashTextAsked 8192 room table event)
+hashTextAnswer room table event = answer (hashTextAsked hashTextCapacity room table event)
 
 -- "The hash is SHA-1 of the hash text (FIPS 180-4; sums modulo 2^32), 20 bytes."
 unfoldable pub hashAnswer : ℕ → List ℕ → List ℕ → Answer
-hashAnswer room table event = answer (hashTextAsked 20 room table event >>= λ m. accepted (sha1Of m))
+hashAnswer room table event = answer (hashTextAsked hashCapacity room table event >>= λ m. accepted (sha1Of m))
 
 -- The two calls with their output
 unfoldable pub hashTextCall : List ℕ → List ℕ → List ℕ → Outcome

@@ -2,7 +2,8 @@
 use Prim.Native.Nat.{ℕ}
 use mathlib.Core.Bool.{cond}
 use mathlib.Core.List.{List, [], _∷_, _++_, map}
-use Rattle.model.specs.Order.{Order, Text, texts, pick}
+use Rattle.model.specs.Order.{Text, texts}
+use Rattle.model.specs.Sorting.{sorted}
 use Rattle.ontology.specs.Table.{Property, EventType, isMatch}
 use Rattle.event.specs.Event.{Event}
 
@@ -16,16 +17,6 @@ objectStrings [] ss = []
 objectStrings (p ∷ ps) [] = []
 objectStrings (p ∷ ps) (s ∷ ss) = cond (isMatch p) (map (objectString (p .name)) s) [] ++ objectStrings ps ss
 
--- "sorted as whole strings"
-module _ {A : Type 0} (O : Order A) where
-  unfoldable pub insert : A → List A → List A
-  insert a [] = a ∷ []
-  insert a (b ∷ xs) = pick (O .cmp a b) (a ∷ b ∷ xs) (a ∷ b ∷ xs) (b ∷ insert a xs)
-
-  unfoldable pub sorted : List A → List A
-  sorted [] = []
-  sorted (a ∷ xs) = insert a (sorted xs)
-
 -- "FF FF FF FF between"
 abbrev pub separator : List ℕ
 separator = 0xff ∷ 0xff ∷ 0xff ∷ 0xff ∷ []
@@ -37,5 +28,9 @@ separated (s ∷ r ∷ ss) = s ++ separator ++ separated (r ∷ ss)
 
 -- "Source URI, byte 0A, type name, byte 0A, then name, colon and value of each object of the match properties, sorted as whole strings, FF FF FF FF between.
 -- With no such object it ends after the second 0A."
-unfoldable pub hashText : EventType → Event → List ℕ
-hashText t e = e .source ++ (10 ∷ []) ++ e .type ++ (10 ∷ []) ++ separated (sorted texts (objectStrings (t .properties) (e .sets)))
+unfoldable pub hashText : Text → EventType → List (List Text) → List ℕ
+hashText source t ss = source ++ (10 ∷ []) ++ t .name ++ (10 ∷ []) ++ separated (sorted texts (objectStrings (t .properties) ss))
+
+-- the hash text of an event of a type
+abbrev pub eventText : EventType → Event → List ℕ
+eventText t e = hashText (e .head .source) t (e .sets)

@@ -1,4 +1,4 @@
 pub mod HashText
 pub mod HashCalls
-pub mod HashIndex
 pub mod NoDuplicates
+pub mod code

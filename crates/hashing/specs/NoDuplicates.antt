@@ -5,12 +5,13 @@ use mathlib.Core.Bool.{true}
 use mathlib.Core.Option.{some}
 use mathlib.Core.List.{List}
 use Rattle.model.specs.Order.{texts, rising}
+use Rattle.model.specs.Sorting.{sorted}
+use Rattle.replies.specs.Questions.{accepted}
 use Rattle.ontology.specs.Table.{Table}
 use Rattle.ontology.specs.TableLayout.{tableOf}
-use Rattle.ontology.specs.Questions.{accepted}
 use Rattle.event.specs.EventLayout.{Counts}
 use Rattle.event.specs.EventQuestions.{Typed, eventAsked}
-use Rattle.hashing.specs.HashText.{objectStrings, sorted}
+use Rattle.hashing.specs.HashText.{objectStrings}
 
 -- the sorted strings of an accepted event rise: no two are equal
 abbrev pub NoDuplicates : Type 0

@@ -1,19 +1,22 @@
 ghost use mathlib.Core.Path.{_≡_};
+ghost use Rattle.replies.specs.Replies.{replies};
 ghost use Rattle.hashing.specs.HashCalls.{hashTextCall, hashCall};
-ghost use Rattle.ontology.specs.Replies.{replies};
 use crate::text::write_hash_text;
+use event::ask::EventCounts;
 use event::ask::ask_event;
-use ontology::replies::Reply;
+use replies::capacities::HASH_CAPACITY;
+use replies::capacities::HASH_TEXT_CAPACITY;
+use replies::reply::Reply;
 use sha1::write_digest;
 
 // The hash text of an event, written at the front of `out`.
 pub fn hash_text(table: &[u8], event: &[u8], out: &mut [u8]) -> Reply
     ensures { λ r. ⌜ replies r (now (out .exit)) ≡ hashTextCall (now (table .entry)) (now (event .entry)) (now (out .entry)) ⌝ }
 {
-    if out.len() < 8192 {
+    if out.len() < HASH_TEXT_CAPACITY {
         return Reply::Refused(1);
     }
-    let asked = ask_event(table, event, true);
+    let asked = ask_event(table, event, EventCounts::Wide);
     if asked.number != 0 {
         return Reply::Refused(asked.number);
     }
@@ -26,14 +29,14 @@ pub fn hash_text(table: &[u8], event: &[u8], out: &mut [u8]) -> Reply
 pub fn hash(table: &[u8], event: &[u8], out: &mut [u8]) -> Reply
     ensures { λ r. ⌜ replies r (now (out .exit)) ≡ hashCall (now (table .entry)) (now (event .entry)) (now (out .entry)) ⌝ }
 {
-    if out.len() < 20 {
+    if out.len() < HASH_CAPACITY {
         return Reply::Refused(1);
     }
-    let mut text = [0u8; 8192];
+    let mut text = [0u8; HASH_TEXT_CAPACITY];
     match hash_text(table, event, &mut text) {
         Reply::Done(n) => {
             write_digest(&text[0..n], out, 0);
-            Reply::Done(20)
+            Reply::Done(HASH_CAPACITY)
         }
         Reply::Refused(number) => Reply::Refused(number),
     }

@@ -2,19 +2,16 @@ ghost use Prim.Native.Nat.{_+_, _≤_};
 ghost use mathlib.Core.Path.{_≡_};
 ghost use mathlib.Core.Bool.{true, cond};
 ghost use mathlib.Core.List.{List, [], map};
-ghost use lib.Dec.{eqb};
 ghost use lib.ListN.{length};
 ghost use Rattle.model.specs.Order.{Text, texts};
-ghost use Rattle.packed.specs.Located.{part};
+ghost use Rattle.model.specs.Sorting.{sorted};
+ghost use Rattle.packed.specs.Packed.{part};
+ghost use Rattle.packed.specs.code.Strings.{stringsOf, StringsFit};
 ghost use Rattle.ontology.specs.Table.{Property, isMatch};
-ghost use Rattle.ontology.specs.TypeIndex.{PropertyIs};
-ghost use Rattle.event.specs.EventIndex.{SetIs};
-ghost use Rattle.hashing.specs.HashText.{objectString, objectStrings, sorted};
-ghost use Rattle.hashing.specs.HashIndex.{stringsOf, ObjectsFit, Gathered, Hashable};
-use crate::objects::ObjectAt;
-use crate::objects::Objects;
-use crate::objects::insert_object;
-use crate::objects::no_objects;
+ghost use Rattle.ontology.specs.code.TypeIndex.{PropertyIs, hasMatch};
+ghost use Rattle.event.specs.code.EventIndex.{SetIs};
+ghost use Rattle.hashing.specs.HashText.{objectString, objectStrings};
+ghost use Rattle.hashing.specs.code.HashIndex.{Gathered, Hashable};
 use event::read::EventIndex;
 use event::sets::SetAt;
 use ontology::properties::PropertyAt;
@@ -22,6 +19,10 @@ use ontology::properties::is_match;
 use ontology::types::TypeIndex;
 use packed::read::TextAt;
 use packed::read::read_text;
+use packed::strings::StringAt;
+use packed::strings::Strings;
+use packed::strings::insert_string;
+use packed::strings::no_strings;
 
 // The objects with those of one property more, whose name stands in the table from `name` up to `colon`.
 fn gather_set(
@@ -30,10 +31,10 @@ fn gather_set(
     name: usize,
     colon: usize,
     set: SetAt,
-    objects: Objects,
-) -> Objects
-    requires { ⌜ ObjectsFit (now table) (now event) objects × (name ≤ colon) × (colon ≤ length (now table)) × (objects .count + set .count ≤ 32) ⌝ }
-    ensures fit { λ r. ⌜ ObjectsFit (now (table .entry)) (now (event .entry)) r ⌝ }
+    objects: Strings,
+) -> Strings
+    requires { ⌜ StringsFit (now table) (now event) objects × (name ≤ colon) × (colon ≤ length (now table)) × (objects .count + set .count ≤ 32) ⌝ }
+    ensures fit { λ r. ⌜ StringsFit (now (table .entry)) (now (event .entry)) r ⌝ }
     ensures { λ r. ⌜ ((vs : List Text) → SetIs (now (event .entry)) vs set → Gathered (now (table .entry)) (now (event .entry)) objects r (map (objectString (part (now (table .entry)) name colon)) vs)) ⌝ }
 {
     let mut r = objects;
@@ -43,13 +44,13 @@ fn gather_set(
         let TextAt::Text(value, end) = read_text(event, at) else {
             return r;
         };
-        let x = ObjectAt {
-            name,
+        let x = StringAt {
+            first: name,
             colon,
-            value,
+            second: value,
             end,
         };
-        r = insert_object(table, event, r, x);
+        r = insert_string(table, event, r, x);
         at = end;
         left -= 1;
     }
@@ -57,9 +58,10 @@ fn gather_set(
 }
 
 // The same, where it is a match property.
-fn gather_place(table: &[u8], event: &[u8], p: PropertyAt, set: SetAt, objects: Objects) -> Objects
-    requires { ⌜ ObjectsFit (now table) (now event) objects × (p .start ≤ p .end) × (p .end ≤ length (now table)) × (eqb (p .strategy) 5 ≡ true → objects .count + set .count ≤ 32) ⌝ }
-    ensures fit { λ r. ⌜ ObjectsFit (now (table .entry)) (now (event .entry)) r ⌝ }
+fn gather_place(table: &[u8], event: &[u8], p: PropertyAt, set: SetAt, objects: Strings) -> Strings
+    requires { ⌜ StringsFit (now table) (now event) objects × (p .start ≤ p .end) × (p .end ≤ length (now table))
+        × (hasMatch p ≡ true → objects .count + set .count ≤ 32) ⌝ }
+    ensures fit { λ r. ⌜ StringsFit (now (table .entry)) (now (event .entry)) r ⌝ }
     ensures { λ r. ⌜ ((q : Property) (vs : List Text) → PropertyIs (now (table .entry)) q p → SetIs (now (event .entry)) vs set → Gathered (now (table .entry)) (now (event .entry)) objects r (cond (isMatch q) (map (objectString (q .name)) vs) [])) ⌝ }
 {
     if is_match(p) {
@@ -70,12 +72,12 @@ fn gather_place(table: &[u8], event: &[u8], p: PropertyAt, set: SetAt, objects: 
 }
 
 // The objects of all match properties, sorted.
-pub fn gather(table: &[u8], event: &[u8], t: TypeIndex, e: EventIndex) -> Objects
+pub fn gather(table: &[u8], event: &[u8], t: TypeIndex, e: EventIndex) -> Strings
     requires { ⌜ Hashable (now table) (now event) t e ⌝ }
-    ensures fit { λ r. ⌜ ObjectsFit (now (table .entry)) (now (event .entry)) r ⌝ }
+    ensures fit { λ r. ⌜ StringsFit (now (table .entry)) (now (event .entry)) r ⌝ }
     ensures { λ r. ⌜ ((h : Hashable (now (table .entry)) (now (event .entry)) t e) → stringsOf (now (table .entry)) (now (event .entry)) r ≡ sorted texts (objectStrings (h .type .properties) (h .event .sets))) ⌝ }
 {
-    let mut r = no_objects();
+    let mut r = no_strings();
     let mut place: usize = 0;
     while place < t.count {
         let p = t.properties[place];

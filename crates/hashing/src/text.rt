@@ -1,10 +1,11 @@
 ghost use Prim.Native.Nat.{_+_, _≤_};
 ghost use mathlib.Core.List.{[], _∷_, _++_};
 ghost use lib.ListN.{length};
-ghost use Rattle.packed.specs.Located.{part};
-ghost use Rattle.packed.specs.Written.{Wrote};
-ghost use Rattle.hashing.specs.HashText.{hashText};
-ghost use Rattle.hashing.specs.HashIndex.{Hashable};
+ghost use Rattle.packed.specs.Packed.{part};
+ghost use Rattle.packed.specs.code.Written.{Wrote};
+ghost use Rattle.replies.specs.Capacities.{hashTextCapacity};
+ghost use Rattle.hashing.specs.HashText.{eventText};
+ghost use Rattle.hashing.specs.code.HashIndex.{Hashable};
 use crate::gather::gather;
 use crate::objects::write_objects;
 use event::read::EventIndex;
@@ -12,12 +13,12 @@ use ontology::types::TypeIndex;
 use packed::write::copy;
 use packed::write::copy_part;
 
-// A part of the event, and byte 0A.
-fn write_line(event: &[u8], from: usize, to: usize, out: &mut [u8], at: usize) -> usize
-    requires { ⌜ (from ≤ to) × (to ≤ length (now event)) × (at + length (part (now event) from to ++ (10 ∷ [])) ≤ length (now out)) ⌝ }
-    ensures { λ r. ⌜ Wrote (now (out .entry)) at (part (now (event .entry)) from to ++ (10 ∷ [])) (now (out .exit)) r ⌝ }
+// A part of some bytes, and byte 0A.
+fn write_line(s: &[u8], from: usize, to: usize, out: &mut [u8], at: usize) -> usize
+    requires { ⌜ (from ≤ to) × (to ≤ length (now s)) × (at + length (part (now s) from to ++ (10 ∷ [])) ≤ length (now out)) ⌝ }
+    ensures { λ r. ⌜ Wrote (now (out .entry)) at (part (now (s .entry)) from to ++ (10 ∷ [])) (now (out .exit)) r ⌝ }
 {
-    let after_part = copy_part(event, from, to, out, at);
+    let after_part = copy_part(s, from, to, out, at);
     copy(b"\n", out, after_part)
 }
 
@@ -29,14 +30,13 @@ pub fn write_hash_text(
     e: EventIndex,
     out: &mut [u8],
 ) -> usize
-    requires { ⌜ Hashable (now table) (now event) t e × (8192 ≤ length (now out)) ⌝ }
-    ensures { λ r. ⌜ ((h : Hashable (now (table .entry)) (now (event .entry)) t e) → Wrote (now (out .entry)) 0 (hashText (h .type) (h .event)) (now (out .exit)) r) ⌝ }
+    requires { ⌜ Hashable (now table) (now event) t e × (hashTextCapacity ≤ length (now out)) ⌝ }
+    ensures { λ r. ⌜ ((h : Hashable (now (table .entry)) (now (event .entry)) t e) → Wrote (now (out .entry)) 0 (eventText (h .type) (h .event)) (now (out .exit)) r) ⌝ }
 {
     let objects = gather(table, event, t, e);
     let head = e.head;
     let source = head.source;
-    let name = head.name;
     let after_source = write_line(event, source.start, source.end, out, 0);
-    let after_name = write_line(event, name.start, name.end, out, after_source);
+    let after_name = write_line(table, t.start, t.end, out, after_source);
     write_objects(table, event, objects, out, after_name)
 }

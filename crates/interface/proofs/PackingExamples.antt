@@ -1,8 +1,9 @@
 -- The numbers that include/merger.h tells of, computed.
 use mathlib.Core.Path.{_≡_, refl}
 use mathlib.Core.List.{[], _∷_}
-use Rattle.ontology.specs.Questions.{Reply}
-use Rattle.interface.specs.Packing.{kinded, packedRefusal, packedAs, packed, packedOpened, versionAfter, packedPart}
+use Rattle.model.specs.Opening.{conflictAt, overfullAt}
+use Rattle.replies.specs.Answers.{Reply}
+use Rattle.interface.specs.Packing.{kinded, packedRefusal, packedFinding, packedAs, packed, packedOpened, versionOr, versionAfter, packedPart}
 
 -- 42 bytes were written
 done-42 : packed (Reply.done 42) ≡ 0x2a
@@ -15,17 +16,17 @@ unfolding packedAs kinded
 merged-42 = refl
 
 -- a conflict of the version 7 in place 3
-conflict-3 : packedOpened (Reply.conflict 7 3) ≡ 0x0200000000000003
-unfolding packedAs kinded
+conflict-3 : packedOpened (Reply.found (conflictAt 7 3)) ≡ 0x0200000000000003
+unfolding packedAs packedFinding kinded
 conflict-3 = refl
 
-version-7 : versionAfter (Reply.conflict 7 3) 77 ≡ 7
-unfolding versionAfter
+version-7 : versionAfter (Reply.found (conflictAt 7 3)) 77 ≡ 7
+unfolding versionAfter versionOr
 version-7 = refl
 
 -- the place 31 is overfull
-overfull-31 : packedOpened (Reply.overfull 31) ≡ 0x030000000000001f
-unfolding packedAs kinded
+overfull-31 : packedOpened (Reply.found (overfullAt 31)) ≡ 0x030000000000001f
+unfolding packedAs packedFinding kinded
 overfull-31 = refl
 
 -- question 7 is answered no for the event at position 2 of a batch

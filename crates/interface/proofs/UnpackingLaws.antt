@@ -4,15 +4,17 @@ use mathlib.Core.List.{List}
 use Prim.Native.Nat.{ℕ, zero, suc, _+_, _/_, _%_, _^_, _≤_, _<_}
 use native.Mathlib.Omega.{arith}
 use lib.ListN.{length}
-use Rattle.packed.specs.Located.{part}
-use Rattle.ontology.specs.Questions.{Reply}
+use Rattle.model.specs.Opening.{Finding, conflictAt, overfullAt, placeOf}
+use Rattle.packed.specs.Packed.{part}
+use Rattle.replies.specs.Answers.{Reply}
+use Rattle.replies.specs.Capacities.{dossierCapacity}
 use Rattle.event.specs.Value.{Part, StandsIn, valueCall}
 use Rattle.event.proofs.ValueLaws.{value-stands-in, value-ends}
-use Rattle.merger.specs.Report.{reportRoom}
-use Rattle.merger.specs.ReplyBounds.{Bounded}
-use Rattle.merger.proofs.ReplyBoundLaws.{replies-bounded}
-use Rattle.interface.specs.Packing.{kinded, packedRefusal, packedAs, versionAfter, packedPart}
-use Rattle.interface.specs.Unpacking.{kindOf, lowOf, numberOf, positionOf, valueLengthOf, valueStartOf, Tells, inNumber, CallTold, PartTold, Told}
+use Rattle.batch.specs.Taken.{Bounded}
+use Rattle.report.proofs.ReportDemandLaws.{report-bounded}
+use Rattle.theorems.proofs.ReplyBoundLaws.{replies-bounded}
+use Rattle.interface.specs.Packing.{kinded, packedRefusal, packedFinding, packedAs, versionOr, versionAfter, packedPart}
+use Rattle.interface.specs.Unpacking.{kindOf, lowOf, numberOf, positionOf, valueLengthOf, valueStartOf, TellsFinding, Tells, inNumber, CallTold, PartTold, Told}
 
 -- ---- replies
 
@@ -20,12 +22,16 @@ refusal-tells : (n i : ℕ) → n < 2 ^ 8 → i < 2 ^ 24 → Tells 0 (Reply.refu
 unfolding packedRefusal kinded
 refusal-tells n i h k = (omega arith, omega arith, omega arith)
 
+finding-tells : (f : Finding) → placeOf f < 2 ^ 32 → TellsFinding f (packedFinding f)
+unfolding placeOf packedFinding kinded
+finding-tells (conflictAt v p) h = (omega arith, omega arith)
+finding-tells (overfullAt p) h = (omega arith, omega arith)
+
 -- A reply whose numbers are bounded is told in full.
 reply-tells : (kind size : ℕ) → size < 2 ^ 32 → (r : Reply) → Bounded size r → Tells kind r (packedAs kind r)
 unfolding Bounded packedAs kinded
 reply-tells kind size l (Reply.done n) h = (omega arith, omega arith)
-reply-tells kind size l (Reply.conflict v p) h = (omega arith, omega arith)
-reply-tells kind size l (Reply.overfull p) h = (omega arith, omega arith)
+reply-tells kind size l (Reply.found f) h = finding-tells f (omega (arith, h))
 reply-tells kind size l (Reply.refused n) h = refusal-tells n 0 (omega (arith, h .1)) (omega arith)
 reply-tells kind size l (Reply.refusedAt n i) h = refusal-tells n i (omega (arith, h .0 .1)) (omega (arith, h .1))
 
@@ -33,8 +39,8 @@ reply-tells kind size l (Reply.refusedAt n i) h = refusal-tells n i (omega (arit
 unfoldable readAs : ℕ → ℕ → Reply
 readAs zero reply = Reply.done (lowOf reply)
 readAs (suc zero) reply = Reply.done (lowOf reply)
-readAs (suc (suc zero)) reply = Reply.conflict 0 (lowOf reply)
-readAs (suc (suc (suc zero))) reply = Reply.overfull (lowOf reply)
+readAs (suc (suc zero)) reply = Reply.found (conflictAt 0 (lowOf reply))
+readAs (suc (suc (suc zero))) reply = Reply.found (overfullAt (lowOf reply))
 readAs (suc (suc (suc (suc kind)))) reply = Reply.refusedAt (numberOf reply) (positionOf reply)
 
 read-done : (kind reply : ℕ) → kind < 2 → readAs kind reply ≡ Reply.done (lowOf reply)
@@ -46,8 +52,10 @@ read-done (suc (suc kind)) reply k = absurd (omega arith)
 reply-read : (kind : ℕ) → kind < 2 → (r : Reply) (reply : ℕ) → Tells kind r reply → readAs (kindOf reply) reply ≡ inNumber r
 unfolding readAs
 reply-read kind k (Reply.done n) reply t = ap (λ (k : ℕ). readAs k reply) (t .0) ∙ read-done kind reply k ∙ ap Reply.done (t .1)
-reply-read kind k (Reply.conflict v p) reply t = ap (λ (k : ℕ). readAs k reply) (t .0) ∙ ap (Reply.conflict 0) (t .1)
-reply-read kind k (Reply.overfull p) reply t = ap (λ (k : ℕ). readAs k reply) (t .0) ∙ ap Reply.overfull (t .1)
+reply-read kind k (Reply.found (conflictAt v p)) reply t =
+    ap (λ (k : ℕ). readAs k reply) (t .0) ∙ ap (λ (q : ℕ). Reply.found (conflictAt 0 q)) (t .1)
+reply-read kind k (Reply.found (overfullAt p)) reply t =
+    ap (λ (k : ℕ). readAs k reply) (t .0) ∙ ap (λ (q : ℕ). Reply.found (overfullAt q)) (t .1)
 reply-read kind k (Reply.refused n) reply t = ap (λ (k : ℕ). readAs k reply) (t .0) ∙ ap₂ Reply.refusedAt (t .1) (t .2)
 reply-read kind k (Reply.refusedAt n i) reply t = ap (λ (k : ℕ). readAs k reply) (t .0) ∙ ap₂ Reply.refusedAt (t .1) (t .2)
 
@@ -65,7 +73,7 @@ done-told h l = call-told 0 (omega arith) h l
 
 -- ---- the part of an event that has a value
 
-part-told : (event : List ℕ) (x : Part) → StandsIn event x → x .start + length (x .bytes) ≤ 32768 → PartTold event x (packedPart x)
+part-told : (event : List ℕ) (x : Part) → StandsIn event x → x .start + length (x .bytes) ≤ dossierCapacity → PartTold event x (packedPart x)
 unfolding packedPart
 part-told event x s h =
     let m : x .start % 2 ^ 28 ≡ x .start = omega arith in
@@ -89,7 +97,7 @@ value-told table event place index =
 
 -- The macros give back every call's reply.
 pub replies-told : Told
-unfolding versionAfter reportRoom
+unfolding versionAfter versionOr
 replies-told =
     let b = replies-bounded in record {
       table = done-told (b .table) (omega arith);
@@ -101,5 +109,5 @@ replies-told =
       hash = done-told (λ (table, event, old). b .hash table event old) (omega arith);
       value = value-told;
       batch = done-told (λ (rooms, table, batch, old). b .batch rooms table batch old) (omega arith);
-      report = done-told (λ (input, old). b .report input old) (omega arith);
+      report = done-told (λ (input, old). report-bounded .report input old) (omega arith);
     }

@@ -1,7 +1,8 @@
 -- How a reply is handed to C: one number of 64 bits. Bits 56 to 63 tell what it is, the others have its numbers.
 use Prim.Native.Nat.{ℕ, _+_, _*_, _^_, _%_}
 use lib.ListN.{length}
-use Rattle.ontology.specs.Questions.{Reply}
+use Rattle.model.specs.Opening.{Finding, conflictAt, overfullAt}
+use Rattle.replies.specs.Answers.{Reply}
 use Rattle.event.specs.Value.{Part}
 
 -- 0 done, 1 merged, 2 conflict, 3 overfull, 4 refused
@@ -16,11 +17,15 @@ low n = n % 2 ^ 32
 unfoldable pub packedRefusal : ℕ → ℕ → ℕ
 packedRefusal number position = kinded 4 (position % 2 ^ 24 * 2 ^ 8 + number)
 
+-- what opening finds in place of a merged event
+unfoldable pub packedFinding : Finding → ℕ
+packedFinding (conflictAt v p) = kinded 2 (low p)
+packedFinding (overfullAt p) = kinded 3 (low p)
+
 -- a reply whose bytes are told by this kind
 unfoldable pub packedAs : ℕ → Reply → ℕ
 packedAs kind (Reply.done n) = kinded kind (low n)
-packedAs kind (Reply.conflict v p) = kinded 2 (low p)
-packedAs kind (Reply.overfull p) = kinded 3 (low p)
+packedAs kind (Reply.found f) = packedFinding f
 packedAs kind (Reply.refused n) = packedRefusal n 0
 packedAs kind (Reply.refusedAt n i) = packedRefusal n i
 
@@ -32,10 +37,13 @@ abbrev pub packedOpened : Reply → ℕ
 packedOpened r = packedAs 1 r
 
 -- the event version of a conflict, or what was there before
+unfoldable pub versionOr : Finding → ℕ → ℕ
+versionOr (conflictAt v p) old = v
+versionOr (overfullAt p) old = old
+
 unfoldable pub versionAfter : Reply → ℕ → ℕ
 versionAfter (Reply.done n) old = old
-versionAfter (Reply.conflict v p) old = v
-versionAfter (Reply.overfull p) old = old
+versionAfter (Reply.found f) old = versionOr f old
 versionAfter (Reply.refused n) old = old
 versionAfter (Reply.refusedAt n i) old = old
 

@@ -4,16 +4,17 @@ use mathlib.Core.Path.{_≡_}
 use mathlib.Core.List.{List}
 use lib.ListN.{length}
 use Rattle.model.specs.Limits.{standard}
-use Rattle.packed.specs.Located.{part}
-use Rattle.ontology.specs.Questions.{Reply}
+use Rattle.model.specs.Opening.{Finding, conflictAt, overfullAt}
+use Rattle.packed.specs.Packed.{part}
+use Rattle.replies.specs.Answers.{Reply}
 use Rattle.ontology.specs.TableCall.{tableCall}
 use Rattle.event.specs.Value.{Part, valueCall}
 use Rattle.hashing.specs.HashCalls.{hashTextCall, hashCall}
 use Rattle.combining.specs.CheckCall.{checkCall}
 use Rattle.combining.specs.CombineCall.{combineCall}
 use Rattle.opening.specs.OpenCall.{openCall}
-use Rattle.merger.specs.Batch.{Rooms, batchCall}
-use Rattle.merger.specs.Report.{reportCall}
+use Rattle.batch.specs.Batch.{Rooms, batchCall}
+use Rattle.report.specs.Report.{reportCall}
 use Rattle.interface.specs.Packing.{packedAs, versionAfter, packedPart}
 
 -- ---- the macros
@@ -44,19 +45,27 @@ valueStartOf reply = reply / 2 ^ 28 % 2 ^ 28
 
 -- ---- replies
 
--- The macros give the reply's kind and its numbers back. `kind` is 0 for done and 1 for merged; the event version of a conflict is handed over apart.
+-- The macros give the kind and the place of what opening finds back; the event version of a conflict is handed over apart.
+abbrev pub TellsFinding : Finding → ℕ → Type 0
+TellsFinding (conflictAt v p) reply = (kindOf reply ≡ 2) × (lowOf reply ≡ p)
+TellsFinding (overfullAt p) reply = (kindOf reply ≡ 3) × (lowOf reply ≡ p)
+
+-- The macros give the reply's kind and its numbers back. `kind` is 0 for done and 1 for merged.
 abbrev pub Tells : ℕ → Reply → ℕ → Type 0
 Tells kind (Reply.done n) reply = (kindOf reply ≡ kind) × (lowOf reply ≡ n)
-Tells kind (Reply.conflict v p) reply = (kindOf reply ≡ 2) × (lowOf reply ≡ p)
-Tells kind (Reply.overfull p) reply = (kindOf reply ≡ 3) × (lowOf reply ≡ p)
+Tells kind (Reply.found f) reply = TellsFinding f reply
 Tells kind (Reply.refused n) reply = (kindOf reply ≡ 4) × (numberOf reply ≡ n) × (positionOf reply ≡ 0)
 Tells kind (Reply.refusedAt n i) reply = (kindOf reply ≡ 4) × (numberOf reply ≡ n) × (positionOf reply ≡ i)
 
--- a reply as far as its number tells it: without the event version of a conflict, and a refusal outside a batch with the position 0
+-- what is found, as far as its number tells it: without the event version of a conflict
+abbrev pub findingInNumber : Finding → Finding
+findingInNumber (conflictAt v p) = conflictAt 0 p
+findingInNumber (overfullAt p) = overfullAt p
+
+-- a reply as far as its number tells it: a refusal outside a batch has the position 0
 abbrev pub inNumber : Reply → Reply
 inNumber (Reply.done n) = Reply.done n
-inNumber (Reply.conflict v p) = Reply.conflict 0 p
-inNumber (Reply.overfull p) = Reply.overfull p
+inNumber (Reply.found f) = Reply.found (findingInNumber f)
 inNumber (Reply.refused n) = Reply.refusedAt n 0
 inNumber (Reply.refusedAt n i) = Reply.refusedAt n i
 
@@ -80,7 +89,7 @@ pub record Told : Type 0 where
   pub combine : CallTold 0 (λ ((table, left, right, old) : List ℕ × List ℕ × List ℕ × List ℕ). combineCall standard table left right old .reply)
   pub opens : CallTold 1 (λ ((table, dossier, old) : List ℕ × List ℕ × List ℕ). openCall standard table dossier old .reply)
   -- the event version of a conflict is what the caller's version is set to
-  pub version : (table dossier old : List ℕ) (v p before : ℕ) → openCall standard table dossier old .reply ≡ Reply.conflict v p →
+  pub version : (table dossier old : List ℕ) (v p before : ℕ) → openCall standard table dossier old .reply ≡ Reply.found (conflictAt v p) →
       versionAfter (openCall standard table dossier old .reply) before ≡ v
   pub hashText : CallTold 0 (λ ((table, event, old) : List ℕ × List ℕ × List ℕ). hashTextCall table event old .reply)
   pub hash : CallTold 0 (λ ((table, event, old) : List ℕ × List ℕ × List ℕ). hashCall table event old .reply)

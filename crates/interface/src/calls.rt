@@ -2,33 +2,36 @@
 ghost use mathlib.Core.Path.{_≡_};
 ghost use lib.ListN.{length};
 ghost use Rattle.model.specs.Limits.{standard};
+ghost use Rattle.replies.specs.Replies.{findingOf, openReplied};
 ghost use Rattle.ontology.specs.TableCall.{tableCall};
 ghost use Rattle.event.specs.Value.{valueCall};
 ghost use Rattle.hashing.specs.HashCalls.{hashTextCall, hashCall};
 ghost use Rattle.combining.specs.CheckCall.{checkCall};
 ghost use Rattle.combining.specs.CombineCall.{combineCall};
 ghost use Rattle.opening.specs.OpenCall.{openCall};
-ghost use Rattle.opening.specs.Replies.{replied};
-ghost use Rattle.merger.specs.Batch.{batchCall};
-ghost use Rattle.merger.specs.Report.{reportCall};
-ghost use Rattle.interface.specs.Packing.{packed, packedOpened, versionAfter, packedPart};
-use crate::replies::pack_batch;
-use crate::replies::pack_opened;
-use crate::replies::pack_reply;
+ghost use Rattle.batch.specs.Batch.{batchCall};
+ghost use Rattle.report.specs.Report.{reportCall};
+ghost use Rattle.interface.specs.Packing.{packed, packedOpened, versionOr, versionAfter, packedPart};
+use crate::pack::pack_batch;
+use crate::pack::pack_combined;
+use crate::pack::pack_opened;
+use crate::pack::pack_reply;
+use batch::calls::batch;
 use combining::check::check_event;
 use combining::combine::combine;
+use event::ask::EventCounts;
 use event::ask::ask_event;
 use event::lookup::ValueAt;
 use event::lookup::find_value;
 use hashing::calls::hash;
 use hashing::calls::hash_text;
-use merger::batch::batch;
-use merger::report::report;
-use ontology::replies::Reply;
-use ontology::tables::TableReply;
 use ontology::tables::check_table;
-use opening::calls::Opened;
 use opening::calls::open_dossier;
+use replies::reply::Finding;
+use replies::reply::Opened;
+use replies::reply::Reply;
+use replies::reply::TableReply;
+use report::calls::report;
 
 #[no_mangle]
 pub extern "C" fn merger_check_table(table: &[u8]) -> u64
@@ -58,17 +61,26 @@ pub extern "C" fn merger_combine<'a>(
     ensures { λ r. ⌜ r ≡ packed (combineCall standard (now (table .entry)) (now (left .entry)) (now (right .entry)) (now (out .entry)) .reply) ⌝ }
     ensures { λ _. ⌜ now (out .exit) ≡ combineCall standard (now (table .entry)) (now (left .entry)) (now (right .entry)) (now (out .entry)) .bytes ⌝ }
 {
-    pack_reply(combine(table, left, right, out))
+    pack_combined(combine(table, left, right, out))
+}
+
+// The event version of what opening finds, or what was there before.
+fn finding_version(f: Finding, old: u64) -> u64
+    ensures { λ v. ⌜ v ≡ versionOr (findingOf f) old ⌝ }
+{
+    match f {
+        Finding::Conflict(version, _) => version.0,
+        Finding::Overfull(_) => old,
+    }
 }
 
 // The event version of a conflict, or what was there before.
 fn conflict_version(r: Opened, old: u64) -> u64
-    ensures { λ v. ⌜ v ≡ versionAfter (replied r) old ⌝ }
+    ensures { λ v. ⌜ v ≡ versionAfter (openReplied r) old ⌝ }
 {
     match r {
         Opened::Merged(_) => old,
-        Opened::Conflict(version, _) => version.0,
-        Opened::Overfull(_) => old,
+        Opened::Found(f) => finding_version(f, old),
         Opened::Refused(_) => old,
     }
 }
@@ -94,7 +106,7 @@ pub extern "C" fn merger_open(
 pub extern "C" fn merger_value(table: &[u8], event: &[u8], place: usize, index: usize) -> u64
     ensures { λ r. ⌜ r ≡ packedPart (valueCall (now (table .entry)) (now (event .entry)) place index) ⌝ }
 {
-    let asked = ask_event(table, event, true);
+    let asked = ask_event(table, event, EventCounts::Wide);
     if asked.number != 0 {
         return 0;
     }

@@ -3,8 +3,8 @@ ghost use mathlib.Core.Path.{_≡_};
 ghost use lib.ListN.{length};
 use libc::STDIN_FILENO;
 use libc::STDOUT_FILENO;
-use merger::report::report;
-use ontology::replies::Reply;
+use replies::reply::Reply;
+use report::calls::report;
 
 // One byte more than the longest input, so that a longer one shows. The contract says the length alone, so that no proof holds the bytes.
 fn input_buffer() -> [u8; 65537]

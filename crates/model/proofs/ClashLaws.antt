@@ -9,8 +9,8 @@ use native.Mathlib.Omega.{arith}
 use Rattle.model.specs.Order.{Text, numbers}
 use Rattle.model.specs.Keyed.{Rising}
 use Rattle.model.specs.Sets.{Ups, itself, canon}
-use Rattle.model.specs.Rule.{Cell, holds, differs, Choice, View, places, Snapshot, Dossier, agreed, cell, ofVersion, cellOf, snapshot, ruleAt, rule}
-use Rattle.model.specs.Opening.{lowest, cellAt, isMark, Conflict, noConflict, differsAt, marked, orLater, conflict, conflictAt, overfullAt, merged, firstOf, overfull, mergedSets, opening}
+use Rattle.model.specs.Rule.{Cell, holds, differs, Choice, TypeView, View, places, Snapshot, Dossier, agreed, cell, ofVersion, cellOf, snapshot, ruleAt, rule}
+use Rattle.model.specs.Opening.{finds, lowest, cellAt, isMark, Conflict, noConflict, differsAt, marked, orLater, conflict, conflictAt, overfullAt, merged, firstOf, overfull, mergedSets, opening}
 use Rattle.model.specs.Clashes.{Clash, NotBefore, FirstClash, NoClash}
 use Rattle.model.proofs.Cases.{never, truth, found}
 use Rattle.model.proofs.OrderLaws.{less-of}
@@ -99,15 +99,15 @@ module _ (ps : List ℕ) (up : Ups numbers ps) where
       (List·Memᴰ·cases-cons m))
 
 -- opening answers the conflict, where there is one
-module _ {Event : Type 0} (t : View Event) (d : Dossier) where
-  pub opening-conflict : (v p : ℕ) → (opening t d ≡ conflictAt v p) ↔ (conflict (places t) (d .snapshots) ≡ differsAt v p)
+module _ (t : TypeView) (d : Dossier) where
+  pub opening-conflict : (v p : ℕ) → (opening t d ≡ finds (conflictAt v p)) ↔ (conflict (places t) (d .snapshots) ≡ differsAt v p)
   unfolding opening firstOf
   opening-conflict v p = (λ h. go (conflict (places t) (d .snapshots)) (overfull t d) refl refl h, λ h. rw h)
     where
-      go : (c : Conflict) (m : Option ℕ) → conflict (places t) (d .snapshots) ≡ c → overfull t d ≡ m → opening t d ≡ conflictAt v p → conflict (places t) (d .snapshots) ≡ differsAt v p
-      go (differsAt w q) m e f h = let h2 : conflictAt w q ≡ conflictAt v p = rw e at h in cc
-      go noConflict none e f h = let h2 : merged (mergedSets t d) ≡ conflictAt v p = rw (e, f) at h in never (cc)
-      go noConflict (some x) e f h = let h2 : overfullAt x ≡ conflictAt v p = rw (e, f) at h in never (cc)
+      go : (c : Conflict) (m : Option ℕ) → conflict (places t) (d .snapshots) ≡ c → overfull t d ≡ m → opening t d ≡ finds (conflictAt v p) → conflict (places t) (d .snapshots) ≡ differsAt v p
+      go (differsAt w q) m e f h = let h2 : finds (conflictAt w q) ≡ finds (conflictAt v p) = rw e at h in cc
+      go noConflict none e f h = let h2 : merged (mergedSets t d) ≡ finds (conflictAt v p) = rw (e, f) at h in never (cc)
+      go noConflict (some x) e f h = let h2 : finds (overfullAt x) ≡ finds (conflictAt v p) = rw (e, f) at h in never (cc)
 
   pub opening-free : conflict (places t) (d .snapshots) ≡ noConflict → opening t d ≡ firstOf noConflict (overfull t d) (mergedSets t d)
   unfolding opening
@@ -115,60 +115,60 @@ module _ {Event : Type 0} (t : View Event) (d : Dossier) where
 
 module _ {Event : Type 0} (t : View Event) (es : List Event) where
   sets-at : ℕ → ℕ → List (List Text)
-  sets-at v p = map (λ e. t .set e p) (ofVersion t v es)
+  sets-at v p = map (λ e. t .event .set e p) (ofVersion t v es)
 
-  at-agreed : t .versioned ≡ true → (v p : ℕ) → cellOf t (ofVersion t v es) p ≡ agreed (sets-at v p)
+  at-agreed : t .type .versioned ≡ true → (v p : ℕ) → cellOf t (ofVersion t v es) p ≡ agreed (sets-at v p)
   unfolding cellOf cell sets-at
-  at-agreed u v p = ap (λ (b : Bool). cell b (t .choice p) (sets-at v p)) u
+  at-agreed u v p = ap (λ (b : Bool). cell b (t .type .choice p) (sets-at v p)) u
 
-  mark-versioned : (v p : ℕ) → cellOf t (ofVersion t v es) p ≡ differs → t .versioned ≡ true
+  mark-versioned : (v p : ℕ) → cellOf t (ofVersion t v es) p ≡ differs → t .type .versioned ≡ true
   unfolding cellOf sets-at
-  mark-versioned v p h = go (t .versioned) refl (t .choice p) h
+  mark-versioned v p h = go (t .type .versioned) refl (t .type .choice p) h
     where
-      go : (b : Bool) → t .versioned ≡ b → (c : Choice) → cell (t .versioned) c (sets-at v p) ≡ differs → t .versioned ≡ true
+      go : (b : Bool) → t .type .versioned ≡ b → (c : Choice) → cell (t .type .versioned) c (sets-at v p) ≡ differs → t .type .versioned ≡ true
       go true u c h = u
       go false u c h = never (not-unversioned c (sets-at v p) (ap (λ (b : Bool). cell b c (sets-at v p)) (sym u) ∙ h))
 
-  clash-of : (v p : ℕ) → p < t .width → cellOf t (ofVersion t v es) p ≡ differs → Clash t es v p
+  clash-of : (v p : ℕ) → p < t .type .width → cellOf t (ofVersion t v es) p ≡ differs → Clash t es v p
   unfolding ofVersion sets-at
   clash-of v p m h =
-      let f : Event → List Text = λ e. t .set e p in
-      let u : t .versioned ≡ true = mark-versioned v p h in
+      let f : Event → List Text = λ e. t .event .set e p in
+      let u : t .type .versioned ≡ true = mark-versioned v p h in
       let (a, b, ma, mb, n) = agreed-differs (map f (ofVersion t v es)) (sym (at-agreed u v p) ∙ h) in
       let (e, me, qe) = Memᴰ·of-map f (ofVersion t v es) ma in
       let (d, md, qd) = Memᴰ·of-map f (ofVersion t v es) mb in
-      let (ie, ve) = only-of numbers (t .version) v es e me in
-      let (id, vd) = only-of numbers (t .version) v es d md in
+      let (ie, ve) = only-of numbers (t .event .version) v es e me in
+      let (id, vd) = only-of numbers (t .event .version) v es d md in
       record { versioned = u; one = e; other = d; oneIn = ie; otherIn = id; oneVersion = ve; otherVersion = vd; place = m; unequalSets = λ q. n (sym qe ∙ (q ∙ qd)) }
 
   of-clash : (v p : ℕ) → Clash t es v p → List·Memᴰ (ruleAt t es v) (rule t es .snapshots) × (cellAt (ruleAt t es v) p ≡ differs)
   unfolding rule ofVersion sets-at
   of-clash v p k =
-      let f : Event → List Text = λ e. t .set e p in (
-        Memᴰ·map (ruleAt t es) (canon-in numbers (map (t .version) es) v (Memᴰ·cast (sym (k .oneVersion)) (Memᴰ·map (t .version) (k .oneIn)))),
+      let f : Event → List Text = λ e. t .event .set e p in (
+        Memᴰ·map (ruleAt t es) (canon-in numbers (map (t .event .version) es) v (Memᴰ·cast (sym (k .oneVersion)) (Memᴰ·map (t .event .version) (k .oneIn)))),
         cell-at-rule t es v p (k .place)
             ∙ (at-agreed (k .versioned) v p
             ∙ differs-agreed (map f (ofVersion t v es)) (f (k .one)) (f (k .other))
-            (Memᴰ·map f (only-in numbers (t .version) v es (k .one) (k .oneIn) (k .oneVersion)))
-            (Memᴰ·map f (only-in numbers (t .version) v es (k .other) (k .otherIn) (k .otherVersion)))
+            (Memᴰ·map f (only-in numbers (t .event .version) v es (k .one) (k .oneIn) (k .oneVersion)))
+            (Memᴰ·map f (only-in numbers (t .event .version) v es (k .other) (k .otherIn) (k .otherVersion)))
             (k .unequalSets)),
       )
 
   -- a mark of the rule's snapshots is a clash
-  mark-clash : (s : Snapshot) (p : ℕ) → List·Memᴰ s (rule t es .snapshots) → List·Memᴰ p (places t) → cellAt s p ≡ differs → Clash t es (s .version) p
+  mark-clash : (s : Snapshot) (p : ℕ) → List·Memᴰ s (rule t es .snapshots) → List·Memᴰ p (places (t .type)) → cellAt s p ≡ differs → Clash t es (s .version) p
   unfolding rule ruleAt snapshot
   mark-clash s p m n h =
-      let (v, k, q) = Memᴰ·of-map (ruleAt t es) (canon numbers (map (t .version) es)) m in
-      rw (← q) (clash-of v p (in-places t p .1 n) (sym (cell-at-rule t es v p (in-places t p .1 n)) ∙ (rw (← q) at h)))
+      let (v, k, q) = Memᴰ·of-map (ruleAt t es) (canon numbers (map (t .event .version) es)) m in
+      rw (← q) (clash-of v p (in-places (t .type) p .1 n) (sym (cell-at-rule t es v p (in-places (t .type) p .1 n)) ∙ (rw (← q) at h)))
 
   -- the conflict named is a clash, and no clash comes before it
-  named : (v p : ℕ) → conflict (places t) (rule t es .snapshots) ≡ differsAt v p → FirstClash t es v p
+  named : (v p : ℕ) → conflict (places (t .type)) (rule t es .snapshots) ≡ differsAt v p → FirstClash t es v p
   named v p h =
-      let (s, m, a, n, d, l) = conflict-found (places t) (ups-places t) (rule t es .snapshots) v p (rising-snapshots t es) h in
-      (rw (← a) (mark-clash s p m n d), λ w q k. let (mw, dw) = of-clash w q k in unfold ruleAt snapshot in (l (ruleAt t es w) q mw (in-places t q .0 (k .place)) dw))
+      let (s, m, a, n, d, l) = conflict-found (places (t .type)) (ups-places (t .type)) (rule t es .snapshots) v p (rising-snapshots t es) h in
+      (rw (← a) (mark-clash s p m n d), λ w q k. let (mw, dw) = of-clash w q k in unfold ruleAt snapshot in (l (ruleAt t es w) q mw (in-places (t .type) q .0 (k .place)) dw))
 
-  free : conflict (places t) (rule t es .snapshots) ≡ noConflict → NoClash t es
-  free h w q k = let (mw, dw) = of-clash w q k in conflict-none (places t) (ups-places t) (rule t es .snapshots) h (ruleAt t es w) q mw (in-places t q .0 (k .place)) dw
+  free : conflict (places (t .type)) (rule t es .snapshots) ≡ noConflict → NoClash t es
+  free h w q k = let (mw, dw) = of-clash w q k in conflict-none (places (t .type)) (ups-places (t .type)) (rule t es .snapshots) h (ruleAt t es w) q mw (in-places (t .type) q .0 (k .place)) dw
 
   one-first : (v p w q : ℕ) → NotBefore v p w q → NotBefore w q v p → (v ≡ w) × (p ≡ q)
   one-first v p w q (inl a) (inl b) = absurd (omega arith)
@@ -177,10 +177,10 @@ module _ {Event : Type 0} (t : View Event) (es : List Event) where
   one-first v p w q (inr a) (inr b) = omega arith
 
   -- a conflict exactly when two events share an event version and differ in a property, naming the lowest such version and its first such property
-  pub conflict-exact : (v p : ℕ) → (conflict (places t) (rule t es .snapshots) ≡ differsAt v p) ↔ FirstClash t es v p
-  conflict-exact v p = (named v p, λ h. go h (conflict (places t) (rule t es .snapshots)) refl)
+  pub conflict-exact : (v p : ℕ) → (conflict (places (t .type)) (rule t es .snapshots) ≡ differsAt v p) ↔ FirstClash t es v p
+  conflict-exact v p = (named v p, λ h. go h (conflict (places (t .type)) (rule t es .snapshots)) refl)
     where
-      go : FirstClash t es v p → (c : Conflict) → conflict (places t) (rule t es .snapshots) ≡ c → conflict (places t) (rule t es .snapshots) ≡ differsAt v p
+      go : FirstClash t es v p → (c : Conflict) → conflict (places (t .type)) (rule t es .snapshots) ≡ c → conflict (places (t .type)) (rule t es .snapshots) ≡ differsAt v p
       go h noConflict e = absurd (free e v p (h .0))
       go h (differsAt w q) e =
           let (k, l) = named w q e in
@@ -188,20 +188,20 @@ module _ {Event : Type 0} (t : View Event) (es : List Event) where
           cc
 
   -- and none exactly when no two do
-  pub no-conflict-exact : (conflict (places t) (rule t es .snapshots) ≡ noConflict) ↔ NoClash t es
-  no-conflict-exact = (free, λ h. go h (conflict (places t) (rule t es .snapshots)) refl)
+  pub no-conflict-exact : (conflict (places (t .type)) (rule t es .snapshots) ≡ noConflict) ↔ NoClash t es
+  no-conflict-exact = (free, λ h. go h (conflict (places (t .type)) (rule t es .snapshots)) refl)
     where
-      go : NoClash t es → (c : Conflict) → conflict (places t) (rule t es .snapshots) ≡ c → conflict (places t) (rule t es .snapshots) ≡ noConflict
+      go : NoClash t es → (c : Conflict) → conflict (places (t .type)) (rule t es .snapshots) ≡ c → conflict (places (t .type)) (rule t es .snapshots) ≡ noConflict
       go h noConflict e = e
       go h (differsAt w q) e = absurd (h w q (named w q e .0))
 
   -- the same, of what opening answers
-  pub opening-exact : (v p : ℕ) → (opening t (rule t es) ≡ conflictAt v p) ↔ FirstClash t es v p
-  opening-exact v p = (λ h. conflict-exact v p .0 (opening-conflict t (rule t es) v p .0 h), λ h. opening-conflict t (rule t es) v p .1 (conflict-exact v p .1 h))
+  pub opening-exact : (v p : ℕ) → (opening (t .type) (rule t es) ≡ finds (conflictAt v p)) ↔ FirstClash t es v p
+  opening-exact v p = (λ h. conflict-exact v p .0 (opening-conflict (t .type) (rule t es) v p .0 h), λ h. opening-conflict (t .type) (rule t es) v p .1 (conflict-exact v p .1 h))
 
-  pub opening-no-conflict : ((v p : ℕ) → opening t (rule t es) ≡ conflictAt v p → ⊥) ↔ NoClash t es
-  opening-no-conflict = (λ h. go h (conflict (places t) (rule t es .snapshots)) refl, λ h v p e. h v p (opening-exact v p .0 e .0))
+  pub opening-no-conflict : ((v p : ℕ) → opening (t .type) (rule t es) ≡ finds (conflictAt v p) → ⊥) ↔ NoClash t es
+  opening-no-conflict = (λ h. go h (conflict (places (t .type)) (rule t es .snapshots)) refl, λ h v p e. h v p (opening-exact v p .0 e .0))
     where
-      go : ((v p : ℕ) → opening t (rule t es) ≡ conflictAt v p → ⊥) → (c : Conflict) → conflict (places t) (rule t es .snapshots) ≡ c → NoClash t es
+      go : ((v p : ℕ) → opening (t .type) (rule t es) ≡ finds (conflictAt v p) → ⊥) → (c : Conflict) → conflict (places (t .type)) (rule t es .snapshots) ≡ c → NoClash t es
       go h noConflict e = free e
-      go h (differsAt w q) e = absurd (h w q (opening-conflict t (rule t es) w q .1 e))
+      go h (differsAt w q) e = absurd (h w q (opening-conflict (t .type) (rule t es) w q .1 e))

@@ -9,7 +9,7 @@ use Rattle.model.specs.Keyed.{put, merge}
 use Rattle.model.specs.Sets.{Same, canon, union, smallest, only, itself, upFrom, upTo}
 use Rattle.model.specs.Rule.{holds, Choice, every, least, View, places, Dossier, allAre, agreed, cell, joinCell, ofVersion, cellOf, snapshot, ruleAt, rule, joinCells, joinSnapshots, combine, size, sizes, objects}
 use Rattle.model.specs.Limits.{Limits, fits, standard}
-use Rattle.model.specs.Opening.{lowest, cellAt, isMark, held, marked, orLater, conflict, column, lastOf, mergedSet, Opened, conflictAt, overfullAt, merged, firstOf, mergedAt, mergedSets, overfull, opening}
+use Rattle.model.specs.Opening.{finds, lowest, cellAt, isMark, held, marked, orLater, conflict, column, lastOf, mergedSet, Opened, conflictAt, overfullAt, merged, firstOf, mergedAt, mergedSets, overfull, opening}
 use Rattle.model.specs.Ways.{Way, leaf, node, Reply, wrote, next, calls, limited}
 use Rattle.model.proofs.RuleLaws.{rule-same}
 
@@ -25,27 +25,35 @@ largest = least (reversed texts)
 -- Type net.host: addr, rev (max, the mark), seen (max), state (replace), tags; rev, seen and state are single-valued
 abbrev host : View Host
 host = record {
-  parents = λ e. [];
-  version = λ e. e .number;
-  set = λ e p. getD (e .values) p [];
-  versioned = true;
-  width = 5;
-  choice = λ p. getD (every ∷ largest ∷ largest ∷ []) p every;
-  replaces = λ p. getD (false ∷ false ∷ false ∷ true ∷ []) p false;
-  single = λ p. getD (false ∷ true ∷ true ∷ true ∷ []) p false;
+  type = record {
+    versioned = true;
+    width = 5;
+    choice = λ p. getD (every ∷ largest ∷ largest ∷ []) p every;
+    replaces = λ p. getD (false ∷ false ∷ false ∷ true ∷ []) p false;
+    single = λ p. getD (false ∷ true ∷ true ∷ true ∷ []) p false;
+  };
+  event = record {
+    parents = λ e. [];
+    version = λ e. e .number;
+    set = λ e p. getD (e .values) p [];
+  };
 }
 
 -- the same without the mark: an unversioned type, in which state keeps all values
 abbrev plain : View Host
 plain = record {
-  parents = λ e. [];
-  version = λ e. 0;
-  set = λ e p. getD (e .values) p [];
-  versioned = false;
-  width = 5;
-  choice = λ p. getD (every ∷ largest ∷ []) p every;
-  replaces = λ p. false;
-  single = λ p. getD (false ∷ true ∷ false ∷ true ∷ []) p false;
+  type = record {
+    versioned = false;
+    width = 5;
+    choice = λ p. getD (every ∷ largest ∷ []) p every;
+    replaces = λ p. false;
+    single = λ p. getD (false ∷ true ∷ false ∷ true ∷ []) p false;
+  };
+  event = record {
+    parents = λ e. [];
+    version = λ e. 0;
+    set = λ e p. getD (e .values) p [];
+  };
 }
 
 -- the texts h1, 1, 2, up, down, a, b and c, and the two instants
@@ -94,7 +102,7 @@ e4 = record { number = 1; values = (h1 ∷ []) ∷ (one ∷ []) ∷ (late ∷ []
 -- what a list of events opens as
 opened : View Host → List Host → Opened
 unfolding opening firstOf conflict orLater marked lowest isMark cellAt column held lastOf mergedAt mergedSet mergedSets overfull rule ruleAt snapshot places upTo upFrom cellOf cell agreed allAre equal ofVersion only canon put numbers lists lex sets texts flatten smallest reversed
-opened t es = opening t (rule t es)
+opened t es = opening (t .type) (rule t es)
 
 -- E1, E2: addr h1, rev 2, seen 2024-03-01T10:00:00Z, tags a and b, no state; and with E2 twice
 one-two : opened host (e1 ∷ e2 ∷ []) ≡ merged ((h1 ∷ []) ∷ (two ∷ []) ∷ (late ∷ []) ∷ [] ∷ (a ∷ b ∷ []) ∷ [])
@@ -106,14 +114,14 @@ unfolding opened
 one-two-two = refl
 
 -- E1, E2, E3: conflict 2 tags
-one-two-three : opened host (e1 ∷ e2 ∷ e3 ∷ []) ≡ conflictAt 2 4
+one-two-three : opened host (e1 ∷ e2 ∷ e3 ∷ []) ≡ finds (conflictAt 2 4)
 unfolding opened
 one-two-three = refl
 
 -- with E4 too, in any order: conflict 1 state
-with-four : (es : List Host) → Same es (e1 ∷ e2 ∷ e3 ∷ e4 ∷ []) → opened host es ≡ conflictAt 1 3
+with-four : (es : List Host) → Same es (e1 ∷ e2 ∷ e3 ∷ e4 ∷ []) → opened host es ≡ finds (conflictAt 1 3)
 unfolding opened
-with-four es h = ap (opening host) (rule-same host es (e1 ∷ e2 ∷ e3 ∷ e4 ∷ []) h)
+with-four es h = ap (opening (host .type)) (rule-same host es (e1 ∷ e2 ∷ e3 ∷ e4 ∷ []) h)
 
 -- one event opens as itself
 alone : opened host (e1 ∷ []) ≡ merged (e1 .values)
@@ -121,14 +129,14 @@ unfolding opened
 alone = refl
 
 -- an unversioned type has no conflict, and a single-valued state would get two objects
-full : opened plain (e1 ∷ e4 ∷ []) ≡ overfullAt 3
+full : opened plain (e1 ∷ e4 ∷ []) ≡ finds (overfullAt 3)
 unfolding opened
 full = refl
 
 -- a way of calls on values
 answered : View Host → Way Host Bool → Reply Dossier
 unfolding calls next limited fits standard objects sizes size combine union merge joinSnapshots joinCells joinCell rule ruleAt snapshot places upTo upFrom cellOf cell agreed allAre equal ofVersion only canon put numbers lists lex sets texts flatten smallest reversed
-answered t = calls (λ b e. wrote (rule t (e ∷ []))) (λ b x y. limited standard t itself (combine t x y))
+answered t = calls (λ b e. wrote (rule t (e ∷ []))) (λ b x y. limited standard (t .type) itself (combine (t .type) x y))
 
 -- two ways over the same events
 two-ways : answered host (node true (node true (leaf true e1) (leaf true e2)) (node true (leaf true e3) (leaf true e4))) ≡ answered host (node true (leaf true e4) (node true (leaf true e3) (node true (leaf true e1) (node true (leaf true e2) (leaf true e3)))))
@@ -146,19 +154,23 @@ plain-three = refl
 -- the limits by their numbers: an event of a versioned type has as many parents as its number, and one of an unversioned type as many objects
 abbrev counted : Bool → View ℕ
 counted b = record {
-  parents = λ n. map (λ k. k ∷ []) (upTo (cond b n 0));
-  version = λ n. cond b n 0;
-  set = λ n p. map (λ k. k ∷ []) (upTo (cond b 0 n));
-  versioned = b;
-  width = 1;
-  choice = λ p. every;
-  replaces = λ p. false;
-  single = λ p. false;
+  type = record {
+    versioned = b;
+    width = 1;
+    choice = λ p. every;
+    replaces = λ p. false;
+    single = λ p. false;
+  };
+  event = record {
+    parents = λ n. map (λ k. k ∷ []) (upTo (cond b n 0));
+    version = λ n. cond b n 0;
+    set = λ n p. map (λ k. k ∷ []) (upTo (cond b 0 n));
+  };
 }
 
 fitting : Limits → Bool → List ℕ → Bool
 unfolding fits objects sizes size rule ruleAt snapshot places upTo upFrom cellOf cell agreed allAre equal ofVersion only canon put numbers lists lex sets texts flatten smallest reversed
-fitting l b es = fits l (counted b) (rule (counted b) es)
+fitting l b es = fits l (counted b .type) (rule (counted b) es)
 
 -- eight event versions fit and nine do not
 eight-versions : fitting standard true (8 ∷ 1 ∷ 2 ∷ 3 ∷ 4 ∷ 5 ∷ 6 ∷ 7 ∷ 8 ∷ []) ≡ true

@@ -3,6 +3,7 @@ pub mod OrderLaws
 pub mod WayClaims
 pub mod KeyedLaws
 pub mod SetLaws
+pub mod SortLaws
 pub mod PartLaws
 pub mod RuleLaws
 pub mod LimitLaws
@@ -13,4 +14,5 @@ pub mod OpeningLaws
 pub mod SizeLaws
 pub mod StepLaws
 pub mod WayLaws
+pub mod ViewLaws
 pub mod HostExample

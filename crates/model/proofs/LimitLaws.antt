@@ -9,7 +9,7 @@ use borrow.Author.Tests.{leb-true, le-leb}
 use native.Mathlib.Omega.{arith}
 use Rattle.model.specs.Order.{Text, numbers, texts}
 use Rattle.model.specs.Sets.{Within, canon, smallest}
-use Rattle.model.specs.Rule.{allAre, agreed, Choice, every, least, View, places, Snapshot, Dossier, cell, ofVersion, cellOf, snapshot, ruleAt, rule, size, sizes, objects}
+use Rattle.model.specs.Rule.{allAre, agreed, Choice, every, least, TypeView, View, places, Snapshot, Dossier, cell, ofVersion, cellOf, snapshot, ruleAt, rule, size, sizes, objects}
 use Rattle.model.proofs.PartLaws.{count, map-within, flatten-within, only-within}
 use Rattle.model.specs.Limits.{Limits, fits}
 use Rattle.model.proofs.Cases.{and-parts, or-part}
@@ -17,7 +17,7 @@ use Rattle.model.proofs.SetLaws.{ups-canon, canon-in, canon-of, total, 
 use Rattle.model.proofs.ValidLaws.{one-snapshot}
 
 -- the limits as bounds
-module _ {Event : Type 0} (l : Limits) (t : View Event) (d : Dossier) where
+module _ (l : Limits) (t : TypeView) (d : Dossier) where
   pub fits-bounds : fits l t d ≡ true → (length (d .parents) ≤ l .parents) × (length (d .snapshots) ≤ l .versions) × (t .versioned ≡ false → objects (d .snapshots) ≤ l .objects)
   unfolding fits
   fits-bounds h =
@@ -49,36 +49,36 @@ objects-map f [] = refl
 objects-map f (v ∷ vs) = rw (objects-map f vs)
 
 module _ {Event : Type 0} (t : View Event) where
-  sizes-within : (ps : List ℕ) (es fs : List Event) → t .versioned ≡ false → Within es fs → sizes (map (cellOf t es) ps) ≤ sizes (map (cellOf t fs) ps)
+  sizes-within : (ps : List ℕ) (es fs : List Event) → t .type .versioned ≡ false → Within es fs → sizes (map (cellOf t es) ps) ≤ sizes (map (cellOf t fs) ps)
   unfolding sizes cellOf
   sizes-within [] es fs u h = zero-le
   sizes-within (p ∷ ps) es fs u h =
-      let a : size (cellOf t es p) ≤ size (cellOf t fs p) = rw u (size-within (t .choice p) (map (λ (x : Event). t .set x p) es) (map (λ (x : Event). t .set x p) fs) (map-within (λ (x : Event). t .set x p) es fs h)) in
+      let a : size (cellOf t es p) ≤ size (cellOf t fs p) = rw u (size-within (t .type .choice p) (map (λ (x : Event). t .event .set x p) es) (map (λ (x : Event). t .event .set x p) fs) (map-within (λ (x : Event). t .event .set x p) es fs h)) in
       let b : sizes (map (cellOf t es) ps) ≤ sizes (map (cellOf t fs) ps) = sizes-within ps es fs u h in
       omega arith
 
   module _ (es fs : List Event) (h : Within es fs) where
-    versions-within : Within (canon numbers (map (t .version) es)) (canon numbers (map (t .version) fs))
-    versions-within a m = canon-in numbers (map (t .version) fs) a (map-within (t .version) es fs h a (canon-of numbers (map (t .version) es) a m))
+    versions-within : Within (canon numbers (map (t .event .version) es)) (canon numbers (map (t .event .version) fs))
+    versions-within a m = canon-in numbers (map (t .event .version) fs) a (map-within (t .event .version) es fs h a (canon-of numbers (map (t .event .version) es) a m))
 
     fewer-parents : length (rule t es .parents) ≤ length (rule t fs .parents)
     unfolding rule
-    fewer-parents = length-canon-within texts (flatten (map (t .parents) fs)) (flatten (map (t .parents) es)) (flatten-within _ _ (map-within (t .parents) es fs h))
+    fewer-parents = length-canon-within texts (flatten (map (t .event .parents) fs)) (flatten (map (t .event .parents) es)) (flatten-within _ _ (map-within (t .event .parents) es fs h))
 
     fewer-snapshots : length (rule t es .snapshots) ≤ length (rule t fs .snapshots)
     unfolding rule
-    fewer-snapshots = simp length-map (length-canon-within numbers (map (t .version) fs) (map (t .version) es) (map-within (t .version) es fs h))
+    fewer-snapshots = simp length-map (length-canon-within numbers (map (t .event .version) fs) (map (t .event .version) es) (map-within (t .event .version) es fs h))
 
-    fewer-objects : t .versioned ≡ false → objects (rule t es .snapshots) ≤ objects (rule t fs .snapshots)
+    fewer-objects : t .type .versioned ≡ false → objects (rule t es .snapshots) ≤ objects (rule t fs .snapshots)
     unfolding rule ruleAt snapshot ofVersion
     fewer-objects u =
-        rw (objects-map (ruleAt t es) (canon numbers (map (t .version) es)), objects-map (ruleAt t fs) (canon numbers (map (t .version) fs)))
+        rw (objects-map (ruleAt t es) (canon numbers (map (t .event .version) es)), objects-map (ruleAt t fs) (canon numbers (map (t .event .version) fs)))
         (total-within numbers (λ v. sizes (ruleAt t es v .cells)) (λ v. sizes (ruleAt t fs v .cells))
-        (λ v. sizes-within (places t) (ofVersion t v es) (ofVersion t v fs) u (only-within numbers (t .version) v es fs h))
-        (canon numbers (map (t .version) fs)) (canon numbers (map (t .version) es)) (ups-canon numbers _) (ups-canon numbers _) versions-within)
+        (λ v. sizes-within (places (t .type)) (ofVersion t v es) (ofVersion t v fs) u (only-within numbers (t .event .version) v es fs h))
+        (canon numbers (map (t .event .version) fs)) (canon numbers (map (t .event .version) es)) (ups-canon numbers _) (ups-canon numbers _) versions-within)
 
 -- every amount is no larger and every limit no smaller
-module _ {Event : Type 0} (t : View Event) (l m : Limits) (vs : l .versions ≤ m .versions) (ps : l .parents ≤ m .parents) (os : l .objects ≤ m .objects) where
+module _ (t : TypeView) (l m : Limits) (vs : l .versions ≤ m .versions) (ps : l .parents ≤ m .parents) (os : l .objects ≤ m .objects) where
   fits-less : (d e : Dossier) → length (e .parents) ≤ length (d .parents) → length (e .snapshots) ≤ length (d .snapshots) → (t .versioned ≡ false → objects (e .snapshots) ≤ objects (d .snapshots)) → fits l t d ≡ true → fits m t e ≡ true
   fits-less d e a b c h =
       let (x, y, z) = fits-bounds l t d h in
@@ -90,8 +90,8 @@ module _ {Event : Type 0} (t : View Event) (l m : Limits) (vs : l .versions ≤ 
 
 module _ {Event : Type 0} (l : Limits) (t : View Event) where
   -- with fewer events no limit is passed that was not passed before
-  pub fits-within : (es fs : List Event) → Within es fs → fits l t (rule t fs) ≡ true → fits l t (rule t es) ≡ true
-  fits-within es fs h = fits-less t l l (omega arith) (omega arith) (omega arith) (rule t fs) (rule t es) (fewer-parents t es fs h) (fewer-snapshots t es fs h) (fewer-objects t es fs h)
+  pub fits-within : (es fs : List Event) → Within es fs → fits l (t .type) (rule t fs) ≡ true → fits l (t .type) (rule t es) ≡ true
+  fits-within es fs h = fits-less (t .type) l l (omega arith) (omega arith) (omega arith) (rule t fs) (rule t es) (fewer-parents t es fs h) (fewer-snapshots t es fs h) (fewer-objects t es fs h)
 
 -- one event is inside the limits
 module _ {Event : Type 0} (t : View Event) (e : Event) where
@@ -108,18 +108,18 @@ module _ {Event : Type 0} (t : View Event) (e : Event) where
   sizes-one : (ps : List ℕ) → sizes (map (cellOf t (e ∷ [])) ps) ≤ count t e ps
   unfolding sizes cellOf count
   sizes-one [] = zero-le
-  sizes-one (p ∷ ps) = omega (arith, size-one (t .versioned) (t .choice p) (t .set e p), sizes-one ps)
+  sizes-one (p ∷ ps) = omega (arith, size-one (t .type .versioned) (t .type .choice p) (t .event .set e p), sizes-one ps)
 
-  own-snapshot : rule t (e ∷ []) .snapshots ≡ snapshot t (t .version e) (e ∷ []) ∷ []
-  own-snapshot = one-snapshot t (t .version e) e [] (λ d m. ap (t .version) (List·Memᴰ·eq-of-singleton m))
+  own-snapshot : rule t (e ∷ []) .snapshots ≡ snapshot t (t .event .version e) (e ∷ []) ∷ []
+  own-snapshot = one-snapshot t (t .event .version e) e [] (λ d m. ap (t .event .version) (List·Memᴰ·eq-of-singleton m))
 
-  few-objects : objects (rule t (e ∷ []) .snapshots) ≤ count t e (places t)
+  few-objects : objects (rule t (e ∷ []) .snapshots) ≤ count t e (places (t .type))
   unfolding objects snapshot
-  few-objects = rw own-snapshot (omega (arith, sizes-one (places t)))
+  few-objects = rw own-snapshot (omega (arith, sizes-one (places (t .type))))
 
-  few-parents : length (rule t (e ∷ []) .parents) ≤ length (t .parents e)
+  few-parents : length (rule t (e ∷ []) .parents) ≤ length (t .event .parents e)
   unfolding rule
-  few-parents = rw (flatten-one (t .parents e)) (length-canon texts (t .parents e))
+  few-parents = rw (flatten-one (t .event .parents e)) (length-canon texts (t .event .parents e))
 
-  pub fits-one : (l : Limits) → 1 ≤ l .versions → length (t .parents e) ≤ l .parents → count t e (places t) ≤ l .objects → fits l t (rule t (e ∷ [])) ≡ true
-  fits-one l v a b = bounds-fit l t (rule t (e ∷ [])) (omega (arith, few-parents)) (rw own-snapshot v) (λ u. omega (arith, few-objects))
+  pub fits-one : (l : Limits) → 1 ≤ l .versions → length (t .event .parents e) ≤ l .parents → count t e (places (t .type)) ≤ l .objects → fits l (t .type) (rule t (e ∷ [])) ≡ true
+  fits-one l v a b = bounds-fit l (t .type) (rule t (e ∷ [])) (omega (arith, few-parents)) (rw own-snapshot v) (λ u. omega (arith, few-objects))

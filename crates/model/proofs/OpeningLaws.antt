@@ -11,8 +11,8 @@ use borrow.Author.Tests.{lt-leb, leb-false}
 use native.Mathlib.Omega.{arith}
 use Rattle.model.specs.Order.{Order, Text, texts}
 use Rattle.model.specs.Sets.{Within, Ups, canon, smallest}
-use Rattle.model.specs.Rule.{Cell, holds, differs, Choice, every, least, View, places, Snapshot, Dossier, cellOf, snapshot, rule}
-use Rattle.model.specs.Opening.{cellAt, held, Conflict, noConflict, differsAt, conflict, column, lastOf, mergedSet, conflictAt, overfullAt, merged, firstOf, mergedAt, mergedSets, overfull, opening}
+use Rattle.model.specs.Rule.{Cell, holds, differs, Choice, every, least, TypeView, View, places, Snapshot, Dossier, cellOf, snapshot, rule}
+use Rattle.model.specs.Opening.{finds, cellAt, held, Conflict, noConflict, differsAt, conflict, column, lastOf, mergedSet, conflictAt, overfullAt, merged, firstOf, mergedAt, mergedSets, overfull, opening}
 use Rattle.model.specs.Clashes.{NoClash}
 use Rattle.model.proofs.WayClaims.{Each, Has}
 use Rattle.model.proofs.Cases.{never, truth}
@@ -56,7 +56,7 @@ merged-alone true c s u h = unfold lastOf in refl
 merged-alone false every s u h = canon-alike (s ∷ []) s u (s, List·Memᴰ·head refl) (λ a m. List·Memᴰ·eq-of-singleton m)
 merged-alone false (least O) s u h = smallest-one O s (h O refl)
 
-module _ {Event : Type 0} (t : View Event) where
+module _ (t : TypeView) where
   pub merged-sets-at : (d : Dossier) (p : ℕ) → p < t .width → getD (mergedSets t d) p [] ≡ mergedAt t d p
   unfolding mergedSets places
   merged-sets-at d p h = getD-upTo (t .width) (mergedAt t d) [] p h
@@ -68,18 +68,18 @@ module _ {Event : Type 0} (t : View Event) where
     opening-merged ss h = go (conflict (places t) (d .snapshots)) (overfull t d) refl refl
       where
         go : (c : Conflict) (m : Option ℕ) → conflict (places t) (d .snapshots) ≡ c → overfull t d ≡ m → (conflict (places t) (d .snapshots) ≡ noConflict) × (overfull t d ≡ none) × (mergedSets t d ≡ ss)
-        go (differsAt v p) m e f = let q : conflictAt v p ≡ merged ss = rw e at h in never (cc)
-        go noConflict (some p) e f = let q : overfullAt p ≡ merged ss = rw (e, f) at h in never (cc)
+        go (differsAt v p) m e f = let q : finds (conflictAt v p) ≡ merged ss = rw e at h in never (cc)
+        go noConflict (some p) e f = let q : finds (overfullAt p) ≡ merged ss = rw (e, f) at h in never (cc)
         go noConflict none e f = let q : merged (mergedSets t d) ≡ merged ss = rw (e, f) at h in (e, f, cc)
 
-    pub opening-overfull : (p : ℕ) → (opening t d ≡ overfullAt p) ↔ ((conflict (places t) (d .snapshots) ≡ noConflict) × (overfull t d ≡ some p))
+    pub opening-overfull : (p : ℕ) → (opening t d ≡ finds (overfullAt p)) ↔ ((conflict (places t) (d .snapshots) ≡ noConflict) × (overfull t d ≡ some p))
     unfolding opening firstOf
     opening-overfull p = (λ h. go (conflict (places t) (d .snapshots)) (overfull t d) refl refl h, λ h. rw (h .0, h .1))
       where
-        go : (c : Conflict) (m : Option ℕ) → conflict (places t) (d .snapshots) ≡ c → overfull t d ≡ m → opening t d ≡ overfullAt p → (conflict (places t) (d .snapshots) ≡ noConflict) × (overfull t d ≡ some p)
-        go (differsAt v q) m e f h = let k : conflictAt v q ≡ overfullAt p = rw e at h in never (cc)
-        go noConflict (some q) e f h = let k : overfullAt q ≡ overfullAt p = rw (e, f) at h in (e, cc)
-        go noConflict none e f h = let k : merged (mergedSets t d) ≡ overfullAt p = rw (e, f) at h in never (cc)
+        go : (c : Conflict) (m : Option ℕ) → conflict (places t) (d .snapshots) ≡ c → overfull t d ≡ m → opening t d ≡ finds (overfullAt p) → (conflict (places t) (d .snapshots) ≡ noConflict) × (overfull t d ≡ some p)
+        go (differsAt v q) m e f h = let k : finds (conflictAt v q) ≡ finds (overfullAt p) = rw e at h in never (cc)
+        go noConflict (some q) e f h = let k : finds (overfullAt q) ≡ finds (overfullAt p) = rw (e, f) at h in (e, cc)
+        go noConflict none e f h = let k : merged (mergedSets t d) ≡ finds (overfullAt p) = rw (e, f) at h in never (cc)
 
     -- "overfull (lowest single-valued place that would get more than one object)": without it, every single-valued place has at most one
     pub merged-single : overfull t d ≡ none → (p : ℕ) → p < t .width → t .single p ≡ true → length (mergedAt t d p) ≤ 1
@@ -89,7 +89,8 @@ module _ {Event : Type 0} (t : View Event) where
         (λ y. absurd (lowest-none (λ q. t .single q && leb 2 (length (mergedAt t d q))) (places t) h p (in-places t p .0 lt) (rw (s, y))))
         (λ y. omega (arith, leb-false 2 (length (mergedAt t d p)) y))
 
-  module _ (es : List Event) (p : ℕ) (lt : p < t .width) where
+module _ {Event : Type 0} (t : View Event) where
+  module _ (es : List Event) (p : ℕ) (lt : p < t .type .width) where
     -- a set of the rule's column is empty, as at a mark, or a snapshot's set
     column-set : (s : List Text) → List·Memᴰ s (column (rule t es .snapshots) p) → (s ≡ []) ⊎ ((z : Snapshot) × List·Memᴰ z (rule t es .snapshots) × (cellAt z p ≡ holds s))
     unfolding column held
@@ -102,76 +103,76 @@ module _ {Event : Type 0} (t : View Event) where
         go z n q (holds r) e = inr (z, n, e ∙ ap holds (sym (ap held e) ∙ q))
 
     -- a value of a merged set is a value of some event
-    pub merged-value : (a : Text) → List·Memᴰ a (mergedAt t (rule t es) p) → (e : Event) × List·Memᴰ e es × List·Memᴰ a (t .set e p)
+    pub merged-value : (a : Text) → List·Memᴰ a (mergedAt (t .type) (rule t es) p) → (e : Event) × List·Memᴰ e es × List·Memᴰ a (t .event .set e p)
     unfolding mergedAt
     merged-value a m =
-        let (s, n, i) = flatten-of (column (rule t es .snapshots) p) a (merged-within (t .replaces p) (t .choice p) (column (rule t es .snapshots) p) a m) in
+        let (s, n, i) = flatten-of (column (rule t es .snapshots) p) a (merged-within (t .type .replaces p) (t .type .choice p) (column (rule t es .snapshots) p) a m) in
         ⊎-elim
         (λ q. absurd (List·Memᴰ·not-nil (rw q at i)))
         (λ c. let (e, me, v, k) = cell-value t es (c .0) (c .1) p lt s (c .2) a i in (e, me, k))
         (column-set s n)
 
     -- a merged set rises where the events' sets do
-    pub merged-rises : Each (λ e. Ups texts (t .set e p)) es → Ups texts (mergedAt t (rule t es) p)
+    pub merged-rises : Each (λ e. Ups texts (t .event .set e p)) es → Ups texts (mergedAt (t .type) (rule t es) p)
     unfolding mergedAt
-    merged-rises u = merged-ups (t .replaces p) (t .choice p) (column (rule t es .snapshots) p) (λ s n. ⊎-elim (λ q. rw q tt) (λ c. cell-rises t es (c .0) (c .1) p lt s (c .2) u) (column-set s n))
+    merged-rises u = merged-ups (t .type .replaces p) (t .type .choice p) (column (rule t es .snapshots) p) (λ s n. ⊎-elim (λ q. rw q tt) (λ c. cell-rises t es (c .0) (c .1) p lt s (c .2) u) (column-set s n))
 
     column-has : Has es → Has (column (rule t es .snapshots) p)
     unfolding column
     column-has n = (_, Memᴰ·map (λ (z : Snapshot). held (cellAt z p)) (snapshot-in t es (n .0) (n .1)))
 
     -- without a conflict, a mandatory property has a value
-    pub merged-some : conflict (places t) (rule t es .snapshots) ≡ noConflict → Has es → Each (λ e. Has (t .set e p)) es → Has (mergedAt t (rule t es) p)
+    pub merged-some : conflict (places (t .type)) (rule t es .snapshots) ≡ noConflict → Has es → Each (λ e. Has (t .event .set e p)) es → Has (mergedAt (t .type) (rule t es) p)
     unfolding mergedAt column held
-    merged-some free n h = merged-has (t .replaces p) (t .choice p) (column (rule t es .snapshots) p) (column-has n) (λ s m.
+    merged-some free n h = merged-has (t .type .replaces p) (t .type .choice p) (column (rule t es .snapshots) p) (column-has n) (λ s m.
         let (z, k, q) = Memᴰ·of-map (λ (z : Snapshot). held (cellAt z p)) (rule t es .snapshots) m in
         go s z k q (cellAt z p) refl)
       where
         go : (s : List Text) (z : Snapshot) → List·Memᴰ z (rule t es .snapshots) → held (cellAt z p) ≡ s → (c : Cell) → cellAt z p ≡ c → Has s
-        go s z k q differs e = absurd (conflict-none (places t) (ups-places t) (rule t es .snapshots) free z p k (in-places t p .0 lt) e)
+        go s z k q differs e = absurd (conflict-none (places (t .type)) (ups-places (t .type)) (rule t es .snapshots) free z p k (in-places (t .type) p .0 lt) e)
         go s z k q (holds r) e = rw (sym (ap held e) ∙ q) at (cell-mandatory t es z k p lt r e h)
 
     -- a match property, or any place at which all events have one set that is not replaced, keeps that set
-    pub merged-match : (s : List Text) → t .choice p ≡ every → t .replaces p ≡ false → Ups texts s → Has es → Each (λ e. t .set e p ≡ s) es → getD (mergedSets t (rule t es)) p [] ≡ s
+    pub merged-match : (s : List Text) → t .type .choice p ≡ every → t .type .replaces p ≡ false → Ups texts s → Has es → Each (λ e. t .event .set e p ≡ s) es → getD (mergedSets (t .type) (rule t es)) p [] ≡ s
     unfolding mergedAt mergedSet column held
     merged-match s c r u n h =
         let f : Snapshot → List Text = λ z. held (cellAt z p) in
         let col : List (List Text) = map f (rule t es .snapshots) in
-        merged-sets-at (rule t es) p lt
-        ∙ (ap (λ (b : Bool). mergedSet b (t .choice p) col) r
+        merged-sets-at (t .type) (rule t es) p lt
+        ∙ (ap (λ (b : Bool). mergedSet b (t .type .choice p) col) r
         ∙ (ap (λ (x : Choice). mergedSet false x col) c
         ∙ canon-alike col s u (column-has n) (λ a i.
         let (z, j, q) = Memᴰ·of-map f (rule t es .snapshots) i in
         sym q ∙ ap held (match-cells t es z j p lt s c u h))))
 
   -- one event
-  module _ (e : Event) (up : (p : ℕ) → p < t .width → Ups texts (t .set e p)) (few : (p : ℕ) → p < t .width → (O : Order Text) → t .choice p ≡ least O → length (t .set e p) ≤ 1) where
-    one-at : (p : ℕ) → p < t .width → mergedAt t (rule t (e ∷ [])) p ≡ t .set e p
+  module _ (e : Event) (up : (p : ℕ) → p < t .type .width → Ups texts (t .event .set e p)) (few : (p : ℕ) → p < t .type .width → (O : Order Text) → t .type .choice p ≡ least O → length (t .event .set e p) ≤ 1) where
+    one-at : (p : ℕ) → p < t .type .width → mergedAt (t .type) (rule t (e ∷ [])) p ≡ t .event .set e p
     unfolding mergedAt column cellOf held
     one-at p h =
-        let q : column (rule t (e ∷ []) .snapshots) p ≡ held (cellAt (snapshot t (t .version e) (e ∷ [])) p) ∷ [] = ap (λ (ss : List Snapshot). column ss p) (one-snapshot t (t .version e) e [] (λ d m. ap (t .version) (List·Memᴰ·eq-of-singleton m))) in
-        let r : cellAt (snapshot t (t .version e) (e ∷ [])) p ≡ holds (t .set e p) = cell-at-snapshot t (t .version e) (e ∷ []) p h ∙ cell-one (t .versioned) (t .choice p) (t .set e p) (up p h) (few p h) in
-        ap (mergedSet (t .replaces p) (t .choice p)) (q ∙ ap (λ (k : Cell). held k ∷ []) r) ∙ merged-alone (t .replaces p) (t .choice p) (t .set e p) (up p h) (few p h)
+        let q : column (rule t (e ∷ []) .snapshots) p ≡ held (cellAt (snapshot t (t .event .version e) (e ∷ [])) p) ∷ [] = ap (λ (ss : List Snapshot). column ss p) (one-snapshot t (t .event .version e) e [] (λ d m. ap (t .event .version) (List·Memᴰ·eq-of-singleton m))) in
+        let r : cellAt (snapshot t (t .event .version e) (e ∷ [])) p ≡ holds (t .event .set e p) = cell-at-snapshot t (t .event .version e) (e ∷ []) p h ∙ cell-one (t .type .versioned) (t .type .choice p) (t .event .set e p) (up p h) (few p h) in
+        ap (mergedSet (t .type .replaces p) (t .type .choice p)) (q ∙ ap (λ (k : Cell). held k ∷ []) r) ∙ merged-alone (t .type .replaces p) (t .type .choice p) (t .event .set e p) (up p h) (few p h)
 
     -- "A dossier of one event opens as that event": the sets
-    pub merged-one : mergedSets t (rule t (e ∷ [])) ≡ map (t .set e) (places t)
+    pub merged-one : mergedSets (t .type) (rule t (e ∷ [])) ≡ map (t .event .set e) (places (t .type))
     unfolding mergedSets
-    merged-one = map-same (mergedAt t (rule t (e ∷ []))) (t .set e) (places t) (λ p m. one-at p (in-places t p .1 m))
+    merged-one = map-same (mergedAt (t .type) (rule t (e ∷ []))) (t .event .set e) (places (t .type)) (λ p m. one-at p (in-places (t .type) p .1 m))
 
     no-clash : NoClash t (e ∷ [])
-    no-clash v p k = k .unequalSets (ap (λ (x : Event). t .set x p) (List·Memᴰ·eq-of-singleton (k .oneIn) ∙ sym (List·Memᴰ·eq-of-singleton (k .otherIn))))
+    no-clash v p k = k .unequalSets (ap (λ (x : Event). t .event .set x p) (List·Memᴰ·eq-of-singleton (k .oneIn) ∙ sym (List·Memᴰ·eq-of-singleton (k .otherIn))))
 
     -- it has no conflict, and no place is overfull
-    pub opening-one : ((p : ℕ) → p < t .width → t .single p ≡ true → length (t .set e p) ≤ 1) → opening t (rule t (e ∷ [])) ≡ merged (map (t .set e) (places t))
+    pub opening-one : ((p : ℕ) → p < t .type .width → t .type .single p ≡ true → length (t .event .set e p) ≤ 1) → opening (t .type) (rule t (e ∷ [])) ≡ merged (map (t .event .set e) (places (t .type)))
     unfolding overfull firstOf
     opening-one s =
-        opening-free t (rule t (e ∷ [])) (no-conflict-exact t (e ∷ []) .1 no-clash)
+        opening-free (t .type) (rule t (e ∷ [])) (no-conflict-exact t (e ∷ []) .1 no-clash)
         ∙ rw (not-full, merged-one) refl
       where
-        single : (p : ℕ) → p < t .width → (t .single p && leb 2 (length (mergedAt t (rule t (e ∷ [])) p))) ≡ false
-        single p h = truth (t .single p)
-            (λ y. rw (y, one-at p h) (lt-leb 2 (length (t .set e p)) (omega (arith, s p h y))))
+        single : (p : ℕ) → p < t .type .width → (t .type .single p && leb 2 (length (mergedAt (t .type) (rule t (e ∷ [])) p))) ≡ false
+        single p h = truth (t .type .single p)
+            (λ y. rw (y, one-at p h) (lt-leb 2 (length (t .event .set e p)) (omega (arith, s p h y))))
             (λ n. rw n)
 
-        not-full : overfull t (rule t (e ∷ [])) ≡ none
-        not-full = none-lowest (λ p. t .single p && leb 2 (length (mergedAt t (rule t (e ∷ [])) p))) (places t) (λ p m. single p (in-places t p .1 m))
+        not-full : overfull (t .type) (rule t (e ∷ [])) ≡ none
+        not-full = none-lowest (λ p. t .type .single p && leb 2 (length (mergedAt (t .type) (rule t (e ∷ [])) p))) (places (t .type)) (λ p m. single p (in-places (t .type) p .1 m))

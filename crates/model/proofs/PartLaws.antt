@@ -15,7 +15,7 @@ use Rattle.model.proofs.OrderLaws.{less-of, less-cmp, more-turn}
 -- how many objects an event has at the places of a list
 unfoldable pub count : {Event : Type 0} → View Event → Event → List ℕ → ℕ
 count t e [] = 0
-count t e (p ∷ ps) = length (t .set e p) + count t e ps
+count t e (p ∷ ps) = length (t .event .set e p) + count t e ps
 
 module _ {A B : Type 0} (f : A → B) where
   pub map-append : (xs ys : List A) → map f (xs ++ ys) ≡ map f xs ++ map f ys

@@ -8,7 +8,7 @@ use lib.ListN.{length, getD, length-append, length-take}
 use native.Mathlib.Omega.{arith}
 use Rattle.model.specs.Order.{Text, texts}
 use Rattle.model.specs.Sets.{smallest, upTo}
-use Rattle.model.specs.Rule.{Cell, holds, differs, Choice, every, least, View, places, Snapshot, Dossier, rule, size, sizes, objects}
+use Rattle.model.specs.Rule.{Cell, holds, differs, Choice, every, least, TypeView, View, places, Snapshot, Dossier, rule, size, sizes, objects}
 use Rattle.model.proofs.PartLaws.{count, map-getD}
 use Rattle.model.specs.Limits.{Limits, fits}
 use Rattle.model.specs.Opening.{cellAt, held, column, lastOf, mergedSet, mergedAt, mergedSets}
@@ -81,17 +81,18 @@ unfolding objects
 objects-most n [] h = zero-le
 objects-most n (s ∷ ss) h = rw (suc-mul (length ss) n) (omega (arith, h s (List·Memᴰ·head refl), objects-most n ss (λ z m. h z (List·Memᴰ·tail m))))
 
-module _ {Event : Type 0} (t : View Event) where
+module _ (t : TypeView) where
   pub merged-objects : (d : Dossier) → Each (λ s. length (s .cells) ≡ t .width) (d .snapshots) → length (flatten (mergedSets t d)) ≤ objects (d .snapshots)
   unfolding mergedSets mergedAt places
   merged-objects d h =
       omega (arith, columns-objects (t .width) (d .snapshots) h, flat-less (mergedAt t d) (λ p. flatten (column (d .snapshots) p)) (upTo (t .width)) (λ p. merged-length (t .replaces p) (t .choice p) (column (d .snapshots) p)))
 
+module _ {Event : Type 0} (t : View Event) where
   -- "a merged event: packed event form with up to .. 256 objects": 8 versions of at most 32 objects, or 256 objects of an unversioned type
-  pub merged-limit : (l : Limits) (n : ℕ) (es : List Event) → fits l t (rule t es) ≡ true → l .versions * n ≤ l .objects → Each (λ e. count t e (places t) ≤ n) es → length (flatten (mergedSets t (rule t es))) ≤ l .objects
+  pub merged-limit : (l : Limits) (n : ℕ) (es : List Event) → fits l (t .type) (rule t es) ≡ true → l .versions * n ≤ l .objects → Each (λ e. count t e (places (t .type)) ≤ n) es → length (flatten (mergedSets (t .type) (rule t es))) ≤ l .objects
   merged-limit l n es f k h =
-      let (a, b, c) = fits-bounds l t (rule t es) f in
-      let m : length (flatten (mergedSets t (rule t es))) ≤ objects (rule t es .snapshots) = merged-objects (rule t es) (λ z i. cells-length t es z i) in
-      truth (t .versioned)
+      let (a, b, c) = fits-bounds l (t .type) (rule t es) f in
+      let m : length (flatten (mergedSets (t .type) (rule t es))) ≤ objects (rule t es .snapshots) = merged-objects (t .type) (rule t es) (λ z i. cells-length t es z i) in
+      truth (t .type .versioned)
       (λ u. omega (arith, objects-most n (rule t es .snapshots) (λ z i. snapshot-objects t es z i u n h), mul-le-mul-right n b))
       (λ u. omega (arith, c u))

@@ -6,7 +6,7 @@ use lib.ListN.{length, take, getD}
 use Rattle.model.specs.Order.{Order, pick}
 use Rattle.model.specs.Keyed.{merge}
 use Rattle.model.specs.Sets.{Ups, itself, first, union, smallest, upTo}
-use Rattle.model.specs.Rule.{Cell, holds, View, places, Snapshot, joinCell, joinCells, joinSnapshots}
+use Rattle.model.specs.Rule.{Cell, holds, TypeView, places, Snapshot, joinCell, joinCells, joinSnapshots}
 use Rattle.model.specs.Opening.{cellAt}
 use Rattle.model.proofs.KeyedLaws.{merge-nil, merge-step}
 use Rattle.model.proofs.SetLaws.{smallest-append}
@@ -34,7 +34,7 @@ module _ {K : Type 0} (O : Order K) where
   smallest-snoc ss s = rw (flatten-append ss (s ∷ []), append-nil s) (sym (smallest-append O (flatten ss) s))
 
 -- the cells of two snapshots, place by place
-module _ {Event : Type 0} (t : View Event) (a b : Snapshot) (la : length (a .cells) ≡ t .width) (lb : length (b .cells) ≡ t .width) where
+module _ (t : TypeView) (a b : Snapshot) (la : length (a .cells) ≡ t .width) (lb : length (b .cells) ≡ t .width) where
   pub join-map : joinSnapshots t a b .cells ≡ map (λ p. joinCell (t .versioned) (t .choice p) (cellAt a p) (cellAt b p)) (places t)
   unfolding joinSnapshots cellAt places
   join-map =

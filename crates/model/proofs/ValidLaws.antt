@@ -10,7 +10,7 @@ use Rattle.model.specs.Order.{Order, Text, numbers, texts, sets, equal}
 use Rattle.model.proofs.Cases.{three, never}
 use Rattle.model.specs.Keyed.{put}
 use Rattle.model.specs.Sets.{Within, Ups, canon, smallest, only}
-use Rattle.model.specs.Rule.{Cell, holds, differs, Choice, every, least, View, places, allAre, agreed, cell, ofVersion, cellOf, snapshot, ruleAt, rule, size, sizes}
+use Rattle.model.specs.Rule.{Cell, holds, differs, Choice, every, least, TypeView, View, places, allAre, agreed, cell, ofVersion, cellOf, snapshot, ruleAt, rule, size, sizes}
 use Rattle.model.proofs.PartLaws.{count, flatten-in, flatten-of, ups-upTo, in-upTo, getD-upTo}
 use Rattle.model.specs.Opening.{cellAt}
 use Rattle.model.proofs.WayClaims.{Each, Has}
@@ -156,7 +156,7 @@ unfolding cell
 not-unversioned every ss h = cc
 not-unversioned (least O) ss h = cc
 
-module _ {Event : Type 0} (t : View Event) where
+module _ (t : TypeView) where
   pub in-places : (p : ℕ) → (p < t .width) ↔ List·Memᴰ p (places t)
   unfolding places
   in-places p = in-upTo (t .width) p
@@ -165,38 +165,39 @@ module _ {Event : Type 0} (t : View Event) where
   unfolding places
   ups-places = ups-upTo (t .width)
 
+module _ {Event : Type 0} (t : View Event) where
   -- the cells of the rule's snapshots, by place
-  pub cell-at-snapshot : (v : ℕ) (es : List Event) (p : ℕ) → p < t .width → cellAt (snapshot t v es) p ≡ cellOf t es p
+  pub cell-at-snapshot : (v : ℕ) (es : List Event) (p : ℕ) → p < t .type .width → cellAt (snapshot t v es) p ≡ cellOf t es p
   unfolding cellAt snapshot places
-  cell-at-snapshot v es p h = getD-upTo (t .width) (cellOf t es) (holds []) p h
+  cell-at-snapshot v es p h = getD-upTo (t .type .width) (cellOf t es) (holds []) p h
 
-  pub cell-at-rule : (es : List Event) (v p : ℕ) → p < t .width → cellAt (ruleAt t es v) p ≡ cellOf t (ofVersion t v es) p
+  pub cell-at-rule : (es : List Event) (v p : ℕ) → p < t .type .width → cellAt (ruleAt t es v) p ≡ cellOf t (ofVersion t v es) p
   unfolding ruleAt
   cell-at-rule es v p h = cell-at-snapshot v (ofVersion t v es) p h
 
   -- an unversioned type: every event's version is 0, and there is one snapshot
-  all-of : (v : ℕ) (es : List Event) → ((e : Event) → List·Memᴰ e es → t .version e ≡ v) → ofVersion t v es ≡ es
+  all-of : (v : ℕ) (es : List Event) → ((e : Event) → List·Memᴰ e es → t .event .version e ≡ v) → ofVersion t v es ≡ es
   unfolding ofVersion only
   all-of v [] h = refl
   all-of v (e ∷ es) h =
-      let q : numbers .cmp v (t .version e) ≡ Ordering·eq = cc (numbers .self v, h e (List·Memᴰ·head refl)) in
+      let q : numbers .cmp v (t .event .version e) ≡ Ordering·eq = cc (numbers .self v, h e (List·Memᴰ·head refl)) in
       rw (q, all-of v es (λ d m. h d (List·Memᴰ·tail m)))
 
-  pub one-snapshot : (v : ℕ) (e : Event) (es : List Event) → ((d : Event) → List·Memᴰ d (e ∷ es) → t .version d ≡ v) → rule t (e ∷ es) .snapshots ≡ snapshot t v (e ∷ es) ∷ []
+  pub one-snapshot : (v : ℕ) (e : Event) (es : List Event) → ((d : Event) → List·Memᴰ d (e ∷ es) → t .event .version d ≡ v) → rule t (e ∷ es) .snapshots ≡ snapshot t v (e ∷ es) ∷ []
   unfolding rule ruleAt
   one-snapshot v e es h = rw versions (ap (λ (l : List Event). snapshot t v l ∷ []) (all-of v (e ∷ es) h))
     where
-      versions : canon numbers (map (t .version) (e ∷ es)) ≡ v ∷ []
-      versions = by-members numbers (canon numbers (map (t .version) (e ∷ es))) (v ∷ []) (ups-canon numbers _) (tt, tt) (
-        (λ a m. let (d, n, q) = Memᴰ·of-map (t .version) (e ∷ es) (canon-of numbers (map (t .version) (e ∷ es)) a m) in List·Memᴰ·head (sym q ∙ h d n)),
-        (λ a m. canon-in numbers (map (t .version) (e ∷ es)) a (List·Memᴰ·head (List·Memᴰ·eq-of-singleton m ∙ sym (h e (List·Memᴰ·head refl))))),
+      versions : canon numbers (map (t .event .version) (e ∷ es)) ≡ v ∷ []
+      versions = by-members numbers (canon numbers (map (t .event .version) (e ∷ es))) (v ∷ []) (ups-canon numbers _) (tt, tt) (
+        (λ a m. let (d, n, q) = Memᴰ·of-map (t .event .version) (e ∷ es) (canon-of numbers (map (t .event .version) (e ∷ es)) a m) in List·Memᴰ·head (sym q ∙ h d n)),
+        (λ a m. canon-in numbers (map (t .event .version) (e ∷ es)) a (List·Memᴰ·head (List·Memᴰ·eq-of-singleton m ∙ sym (h e (List·Memᴰ·head refl))))),
       )
 
   -- a versioned snapshot has no more objects than any event of it
-  pub sizes-held : t .versioned ≡ true → (e : Event) (es : List Event) → List·Memᴰ e es → (ps : List ℕ) → sizes (map (cellOf t es) ps) ≤ count t e ps
+  pub sizes-held : t .type .versioned ≡ true → (e : Event) (es : List Event) → List·Memᴰ e es → (ps : List ℕ) → sizes (map (cellOf t es) ps) ≤ count t e ps
   unfolding sizes count cellOf cell
   sizes-held u e es m [] = zero-le
   sizes-held u e es m (p ∷ ps) =
-      let f : Event → List Text = λ x. t .set x p in
-      let a : size (cellOf t es p) ≤ length (f e) = rw (ap (λ (b : Bool). cell b (t .choice p) (map f es)) u) (size-held (map f es) (f e) (Memᴰ·map f m)) in
+      let f : Event → List Text = λ x. t .event .set x p in
+      let a : size (cellOf t es p) ≤ length (f e) = rw (ap (λ (b : Bool). cell b (t .type .choice p) (map f es)) u) (size-held (map f es) (f e) (Memᴰ·map f m)) in
       omega (arith, sizes-held u e es m ps)

@@ -11,15 +11,15 @@ use Rattle.model.specs.Rule.{View}
 -- "An event of an unversioned type has no event version, so it never conflicts"; "Two events differ in a property when their sets there are unequal (empty
 -- counts)".
 pub record Clash {Event : Type 0} (t : View Event) (es : List Event) (v p : ℕ) : Type 0 where
-  pub versioned : t .versioned ≡ true
+  pub versioned : t .type .versioned ≡ true
   pub one : Event
   pub other : Event
   pub oneIn : List·Memᴰ one es
   pub otherIn : List·Memᴰ other es
-  pub oneVersion : t .version one ≡ v
-  pub otherVersion : t .version other ≡ v
-  pub place : p < t .width
-  pub unequalSets : t .set one p ≢ t .set other p
+  pub oneVersion : t .event .version one ≡ v
+  pub otherVersion : t .event .version other ≡ v
+  pub place : p < t .type .width
+  pub unequalSets : t .event .set one p ≢ t .event .set other p
 
 -- version w and place q are v and p, or come after them: by version, then by place
 abbrev pub NotBefore : ℕ → ℕ → ℕ → ℕ → Type 0

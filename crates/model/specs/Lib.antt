@@ -1,6 +1,7 @@
 pub mod Order
 pub mod Keyed
 pub mod Sets
+pub mod Sorting
 pub mod Rule
 pub mod Limits
 pub mod Opening

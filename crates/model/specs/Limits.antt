@@ -3,7 +3,7 @@ use mathlib.Core.Bool.{Bool, _&&_, _||_}
 use Prim.Native.Nat.{ℕ}
 use lib.Dec.{leb}
 use lib.ListN.{length}
-use Rattle.model.specs.Rule.{View, Dossier, objects}
+use Rattle.model.specs.Rule.{TypeView, Dossier, objects}
 
 pub record Limits : Type 0 where
   pub versions : ℕ
@@ -16,6 +16,6 @@ standard = record { versions = 8; parents = 32; objects = 256 }
 
 -- "The set passes one when its events have more distinct versions or parents, or the rule's snapshot more objects": the dossier passes none.
 -- The rule has a snapshot for each distinct version and each distinct parent once.
-unfoldable pub fits : {Event : Type 0} → Limits → View Event → Dossier → Bool
+unfoldable pub fits : Limits → TypeView → Dossier → Bool
 fits l t d =
     leb (length (d .parents)) (l .parents) && (leb (length (d .snapshots)) (l .versions) && (t .versioned || leb (objects (d .snapshots)) (l .objects)))

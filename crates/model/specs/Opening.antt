@@ -7,7 +7,7 @@ use lib.Dec.{leb}
 use lib.ListN.{length, getD}
 use Rattle.model.specs.Order.{Text, texts}
 use Rattle.model.specs.Sets.{canon, smallest}
-use Rattle.model.specs.Rule.{Cell, holds, differs, Choice, every, least, View, places, Snapshot, Dossier}
+use Rattle.model.specs.Rule.{Cell, holds, differs, Choice, every, least, TypeView, places, Snapshot, Dossier}
 
 -- the first number of a list that passes a test
 unfoldable pub lowest : (ℕ → Bool) → List ℕ → Option ℕ
@@ -62,20 +62,29 @@ mergedSet true c ss = lastOf ss
 mergedSet false every ss = canon texts (flatten ss)
 mergedSet false (least O) ss = smallest O (flatten ss)
 
--- What opening answers: a conflict at a version and a place, an overfull place, or the sets of the merged event from place 0 on.
+-- What opening finds in place of a merged event: a conflict at a version and a place, or an overfull place
+pub data Finding : Type 0 where
+  conflictAt : ℕ → ℕ → Finding
+  overfullAt : ℕ → Finding
+
+-- the place that is found
+unfoldable pub placeOf : Finding → ℕ
+placeOf (conflictAt v p) = p
+placeOf (overfullAt p) = p
+
+-- What opening answers: a finding, or the sets of the merged event from place 0 on.
 -- The merged event's parents are the dossier's, and so are its type and source.
 pub data Opened : Type 0 where
-  conflictAt : ℕ → ℕ → Opened
-  overfullAt : ℕ → Opened
+  finds : Finding → Opened
   merged : List (List Text) → Opened
 
 -- "Conflict .. comes before overfull .., else a merged event"
 unfoldable pub firstOf : Conflict → Option ℕ → List (List Text) → Opened
-firstOf (differsAt v p) full ss = conflictAt v p
-firstOf noConflict (some p) ss = overfullAt p
+firstOf (differsAt v p) full ss = finds (conflictAt v p)
+firstOf noConflict (some p) ss = finds (overfullAt p)
 firstOf noConflict none ss = merged ss
 
-module _ {Event : Type 0} (t : View Event) (d : Dossier) where
+module _ (t : TypeView) (d : Dossier) where
   -- the merged event's set at a place
   unfoldable pub mergedAt : ℕ → List Text
   mergedAt p = mergedSet (t .replaces p) (t .choice p) (column (d .snapshots) p)

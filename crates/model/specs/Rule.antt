@@ -18,21 +18,36 @@ pub data Choice : Type 0 where
   every : Choice
   least : Order Text → Choice
 
--- What the rule and the opening read of an event, and of its type in the table.
--- `version` is "the number in its marked property", and 0 for each event of an unversioned type; `set e p` is the event's set at place p.
+-- What the rule, combining and opening read of a type in the table.
 -- `width` is the number of places; `replaces` marks the places of strategy replace, `single` the single-valued ones.
-pub record View (Event : Type 0) : Type 0 where
-  pub parents : Event → List Text
-  pub version : Event → ℕ
-  pub set : Event → ℕ → List Text
+pub record TypeView : Type 0 where
   pub versioned : Bool
   pub width : ℕ
   pub choice : ℕ → Choice
   pub replaces : ℕ → Bool
   pub single : ℕ → Bool
 
+-- What the rule reads of an event.
+-- `version` is "the number in its marked property", and 0 for each event of an unversioned type; `set e p` is the event's set at place p.
+pub record EventView (Event : Type 0) : Type 0 where
+  pub parents : Event → List Text
+  pub version : Event → ℕ
+  pub set : Event → ℕ → List Text
+
+-- both, of a type and its events
+pub record View (Event : Type 0) : Type 0 where
+  pub type : TypeView
+  pub event : EventView Event
+
+-- the same of something that events are read through, as their bytes
+abbrev pub through : {Event Other : Type 0} → (Other → Event) → View Event → View Other
+through f v = record {
+  type = v .type;
+  event = record { parents = λ x. v .event .parents (f x); version = λ x. v .event .version (f x); set = λ x. v .event .set (f x) };
+}
+
 -- "A property's place is its position from 0"
-unfoldable pub places : {Event : Type 0} → View Event → List ℕ
+unfoldable pub places : TypeView → List ℕ
 places t = upTo (t .width)
 
 -- "A snapshot is: event version (0 for an unversioned type), presence number, differ number .., the sets": a cell for each place, from place 0
@@ -65,15 +80,15 @@ cell false (least O) ss = holds (smallest O (flatten ss))
 module _ {Event : Type 0} (t : View Event) where
   -- the events of a version
   unfoldable pub ofVersion : ℕ → List Event → List Event
-  ofVersion = only numbers (t .version)
+  ofVersion = only numbers (t .event .version)
 
   -- the cell of a place, from the events of a snapshot
   unfoldable pub cellOf : List Event → ℕ → Cell
-  cellOf es p = cell (t .versioned) (t .choice p) (map (λ e. t .set e p) es)
+  cellOf es p = cell (t .type .versioned) (t .type .choice p) (map (λ e. t .event .set e p) es)
 
   -- the snapshot of a version, from the events of that version
   unfoldable pub snapshot : ℕ → List Event → Snapshot
-  snapshot v es = record { version = v; cells = map (cellOf es) (places t) }
+  snapshot v es = record { version = v; cells = map (cellOf es) (places (t .type)) }
 
   -- the snapshot of a version, from all the events
   unfoldable pub ruleAt : List Event → ℕ → Snapshot
@@ -83,8 +98,8 @@ module _ {Event : Type 0} (t : View Event) where
   -- All events of an unversioned type have version 0, so that it gets one snapshot.
   unfoldable pub rule : List Event → Dossier
   rule es = record {
-    parents = canon texts (flatten (map (t .parents) es));
-    snapshots = map (ruleAt es) (canon numbers (map (t .version) es));
+    parents = canon texts (flatten (map (t .event .parents) es));
+    snapshots = map (ruleAt es) (canon numbers (map (t .event .version) es));
   }
 
 -- "in a shared versioned one two unequal sets (empty counts) or a mark on either side give the mark"
@@ -95,7 +110,7 @@ joinCell true c (holds s) (holds t) = cond (equal sets s t) (holds s) differs
 joinCell false every (holds s) (holds t) = holds (union texts s t)
 joinCell false (least O) (holds s) (holds t) = holds (take 1 (union O s t))
 
-module _ {Event : Type 0} (t : View Event) where
+module _ (t : TypeView) where
   -- the cells of two snapshots, place by place
   unfoldable pub joinCells : List ℕ → List Cell → List Cell → List Cell
   joinCells [] cs ds = []

@@ -5,6 +5,11 @@ use lib.ListN.{take}
 use Rattle.model.specs.Order.{Order, pick}
 use Rattle.model.specs.Keyed.{Rising, put, merge}
 
+-- each element is so
+abbrev pub All : {A : Type 0} → (A → Type 0) → List A → Type 0
+All ok [] = Unit {0}
+All ok (x ∷ xs) = ok x × All ok xs
+
 module _ {A : Type 0} where
   -- each member of the one is a member of the other; and both ways
   abbrev pub Within : List A → List A → Type 0

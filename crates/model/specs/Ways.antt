@@ -4,7 +4,7 @@ use mathlib.Core.List.{List, [], _∷_, _++_}
 use Prim.Native.Nat.{ℕ, zero, suc}
 use Rattle.model.specs.Order.{Order}
 use Rattle.model.specs.Sets.{canon}
-use Rattle.model.specs.Rule.{View, Dossier}
+use Rattle.model.specs.Rule.{TypeView, Dossier}
 use Rattle.model.specs.Limits.{Limits, fits}
 
 -- "A way is a tree of calls with at least one event. A leaf checks one accepted event. Any other call combines the dossiers that its two sides returned".
@@ -45,7 +45,7 @@ module _ {Event Buffer D : Type 0} (check : Buffer → Event → Reply D) (join 
   calls (node b l r) = next (join b) (calls l) (calls r)
 
 -- "Is the rule over both sides together .. inside the limits? 8", and else the dossier
-unfoldable pub limited : {Event D : Type 0} → Limits → View Event → (Dossier → D) → Dossier → Reply D
+unfoldable pub limited : {D : Type 0} → Limits → TypeView → (Dossier → D) → Dossier → Reply D
 limited l t encode d = cond (fits l t d) (wrote (encode d)) (said 8)
 
 -- "A batch gives one dossier: all its events but the last are combined first, then the last is added".

@@ -10,13 +10,14 @@ use lib.Dec.{leb, eqb}
 use mir.Val.{boolByte}
 use borrow.Author.Tests.{le-leb, lt-leb, eq-eqb, ne-eqb, eqb-true}
 use Rattle.packed.specs.Parse.{Parse, fail, got, Layout, andThen, found, foundIf, suchThat}
-use Rattle.packed.specs.Packed.{readNumber}
-use Rattle.values.specs.Spaces.{Kind, unsigned, signed, decimal, currency, sequence, datetime, boolean, string, hex, isWithin, isWidth, isKind}
+use Rattle.packed.specs.Packed.{readNumber, isWithin}
+use Rattle.packed.specs.code.Located.{Got}
+use Rattle.packed.proofs.FieldLaws.{then-none, then-fail, then-got, then-found, is-within, is-below, is-above, within-bounds}
+use Rattle.values.specs.Spaces.{Kind, unsigned, signed, decimal, currency, sequence, datetime, boolean, string, hex, unsignedNumber, signedNumber, decimalNumber, stringNumber, hexNumber, isWidth, isKind}
 use Rattle.ontology.specs.TableLayout.{readFlag, readDecimal, readParameters, readKind}
 use Rattle.ontology.specs.declared.kinds.KindRead.{KindRead}
 use Rattle.ontology.specs.declared.kinds.KindRead.the-variants.{OfKind, NoKind}
-use Rattle.ontology.specs.TypeIndex.{Got, parameterFits, KindIs, KindStops, KindReads}
-use Rattle.ontology.proofs.FieldLaws.{then-none, then-fail, then-got, then-found, is-within, is-below, is-above, within-bounds}
+use Rattle.ontology.specs.code.TypeIndex.{HasOne, parameterFits, KindIs, KindStops, KindReads}
 
 -- what is known of a call's answer in the arm of a `match`
 pub kind-got : {p : Parse Kind} {s : List ℕ} {at : ℕ} {r : KindRead} {n a b c e : ℕ} → r ≡ OfKind n a b c e → KindReads p s at r → KindStops p s at n a b c e
@@ -51,21 +52,21 @@ width-small n e = go (isWithin 1 4 n) refl e
     go true h e = omega (arith, within-bounds 1 4 n h)
     go false h e = omega (arith, eqb-true n 8 e)
 
-pub fits-width : (kind n : ℕ) → kind ≤ 2 → parameterFits kind n ≡ isWidth n
+pub fits-width : (kind n : ℕ) → kind ≤ signedNumber → parameterFits kind n ≡ isWidth n
 unfolding parameterFits
-fits-width kind n h = rw (le-leb kind 2 h)
+fits-width kind n h = rw (le-leb kind signedNumber h)
 
-pub fits-string : (kind n : ℕ) → 2 < kind → kind ≡ 8 → parameterFits kind n ≡ isWithin 1 120 n
+pub fits-string : (kind n : ℕ) → signedNumber < kind → kind ≡ stringNumber → parameterFits kind n ≡ isWithin 1 120 n
 unfolding parameterFits
-fits-string kind n h k = rw (lt-leb kind 2 h, eq-eqb kind 8 k)
+fits-string kind n h k = rw (lt-leb kind signedNumber h, eq-eqb kind stringNumber k)
 
-pub fits-hex : (kind n : ℕ) → 2 < kind → (kind ≡ 8 → ⊥) → parameterFits kind n ≡ isWithin 1 60 n
+pub fits-hex : (kind n : ℕ) → signedNumber < kind → (kind ≡ stringNumber → ⊥) → parameterFits kind n ≡ isWithin 1 60 n
 unfolding parameterFits
-fits-hex kind n h k = rw (lt-leb kind 2 h, ne-eqb kind 8 k)
+fits-hex kind n h k = rw (lt-leb kind signedNumber h, ne-eqb kind stringNumber k)
 
 pub fits-small : (kind n : ℕ) → parameterFits kind n ≡ true → n ≤ 120
 unfolding parameterFits
-fits-small kind n e = go (leb kind 2) (eqb kind 8) e
+fits-small kind n e = go (leb kind signedNumber) (eqb kind stringNumber) e
   where
     go : (t u : Bool) → cond t (isWidth n) (isWithin 1 (cond u 120 60) n) ≡ true → n ≤ 120
     go true u e = width-small n e
@@ -99,30 +100,47 @@ record OneParameter (kind : ℕ) : Type 0 where
   fits : (n : ℕ) → isKind (make n) ≡ parameterFits kind n
   are : (n : ℕ) → KindIs (make n) kind n 0 0
 
-one-1 : OneParameter 1
+one-unsigned : OneParameter unsignedNumber
 unfolding readParameters isKind parameterFits
-one-1 = record { make = unsigned; layout = λ t. refl; fits = λ n. refl; are = λ n. record { number = refl; size-is = refl; after-is = refl; sign-is = refl } }
+one-unsigned = record {
+  make = unsigned;
+  layout = λ t. refl;
+  fits = λ n. refl;
+  are = λ n. record { number = refl; size-is = refl; after-is = refl; sign-is = refl };
+}
 
-one-2 : OneParameter 2
+one-signed : OneParameter signedNumber
 unfolding readParameters isKind parameterFits
-one-2 = record { make = signed; layout = λ t. refl; fits = λ n. refl; are = λ n. record { number = refl; size-is = refl; after-is = refl; sign-is = refl } }
+one-signed = record {
+  make = signed;
+  layout = λ t. refl;
+  fits = λ n. refl;
+  are = λ n. record { number = refl; size-is = refl; after-is = refl; sign-is = refl };
+}
 
-one-8 : OneParameter 8
+one-string : OneParameter stringNumber
 unfolding readParameters isKind parameterFits
-one-8 = record { make = string; layout = λ t. refl; fits = λ n. refl; are = λ n. record { number = refl; size-is = refl; after-is = refl; sign-is = refl } }
+one-string = record {
+  make = string;
+  layout = λ t. refl;
+  fits = λ n. refl;
+  are = λ n. record { number = refl; size-is = refl; after-is = refl; sign-is = refl };
+}
 
-one-9 : OneParameter 9
+one-hex : OneParameter hexNumber
 unfolding readParameters isKind parameterFits
-one-9 = record { make = hex; layout = λ t. refl; fits = λ n. refl; are = λ n. record { number = refl; size-is = refl; after-is = refl; sign-is = refl } }
-
-abbrev pub HasOne : ℕ → Type 0
-HasOne kind = (kind ≡ 1) ⊎ (kind ≡ 2) ⊎ (kind ≡ 8) ⊎ (kind ≡ 9)
+one-hex = record {
+  make = hex;
+  layout = λ t. refl;
+  fits = λ n. refl;
+  are = λ n. record { number = refl; size-is = refl; after-is = refl; sign-is = refl };
+}
 
 one-parameter : (kind : ℕ) → HasOne kind → OneParameter kind
-one-parameter kind (inl e) = subst OneParameter (sym e) one-1
-one-parameter kind (inr (inl e)) = subst OneParameter (sym e) one-2
-one-parameter kind (inr (inr (inl e))) = subst OneParameter (sym e) one-8
-one-parameter kind (inr (inr (inr e))) = subst OneParameter (sym e) one-9
+one-parameter kind (inl e) = subst OneParameter (sym e) one-unsigned
+one-parameter kind (inr (inl e)) = subst OneParameter (sym e) one-signed
+one-parameter kind (inr (inr (inl e))) = subst OneParameter (sym e) one-string
+one-parameter kind (inr (inr (inr e))) = subst OneParameter (sym e) one-hex
 
 -- kinds of the parameters at a position, those in their ranges
 abbrev pub kindAfter : ℕ → List ℕ → Parse Kind
@@ -160,7 +178,7 @@ sign-byte false = refl
 
 module _ (s : List ℕ) (at : ℕ) where
   decimal-layout :
-      kindAfter 3 (drop at s) ≡
+      kindAfter decimalNumber (drop at s) ≡
       andThen (readNumber (drop at s)) (λ total r. andThen (readNumber r) (λ after u. andThen (readFlag u)
       (λ sign v. cond (isWithin 2 38 total && isWithin 1 (total - 1) after) (got (decimal total after sign) v) fail)))
   unfolding readParameters readDecimal isKind
@@ -195,25 +213,27 @@ module _ (s : List ℕ) (at : ℕ) where
   abbrev after-total : ℕ → Layout Kind
   after-total total r = andThen (readNumber r) (after-point total)
 
-  pub decimal-none : readNumber (drop at s) ≡ fail → kindAfter 3 (drop at s) ≡ fail
+  pub decimal-none : readNumber (drop at s) ≡ fail → kindAfter decimalNumber (drop at s) ≡ fail
   decimal-none e = decimal-layout ∙ then-none after-total e
 
   module _ {total e : ℕ} (g : Got (readNumber (drop at s)) s at total e) where
-    pub decimal-no-after : readNumber (drop e s) ≡ fail → kindAfter 3 (drop at s) ≡ fail
+    pub decimal-no-after : readNumber (drop e s) ≡ fail → kindAfter decimalNumber (drop at s) ≡ fail
     decimal-no-after h = decimal-layout ∙ then-fail after-total g (then-none (after-point total) h)
 
     module _ {after f : ℕ} (h : Got (readNumber (drop e s)) s e after f) where
-      pub decimal-no-sign : readFlag (drop f s) ≡ fail → kindAfter 3 (drop at s) ≡ fail
+      pub decimal-no-sign : readFlag (drop f s) ≡ fail → kindAfter decimalNumber (drop at s) ≡ fail
       decimal-no-sign k = decimal-layout ∙ then-fail after-total g (then-fail (after-point total) h (then-none (signed-last total after) k))
 
       module _ {sign : Bool} {n : ℕ} (k : Got (readFlag (drop f s)) s f sign n) where
-        pub decimal-bad : (isWithin 2 38 total && isWithin 1 (total - 1) after) ≡ false → kindAfter 3 (drop at s) ≡ fail
+        pub decimal-bad : (isWithin 2 38 total && isWithin 1 (total - 1) after) ≡ false → kindAfter decimalNumber (drop at s) ≡ fail
         decimal-bad b =
             decimal-layout
             ∙ then-fail after-total g (then-fail (after-point total) h (then-fail (signed-last total after) k
             (ap (λ (t : Bool). cond t (got (decimal total after sign) (drop n s)) fail) b)))
 
-        pub decimal-got : (isWithin 2 38 total && isWithin 1 (total - 1) after) ≡ true → KindStops (kindAfter 3 (drop at s)) s at 3 total after (boolByte sign) n
+        pub decimal-got :
+            (isWithin 2 38 total && isWithin 1 (total - 1) after) ≡ true →
+            KindStops (kindAfter decimalNumber (drop at s)) s at decimalNumber total after (boolByte sign) n
         decimal-got b = record {
           what = decimal total after sign;
           stops =

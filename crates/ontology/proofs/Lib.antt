@@ -1,4 +1,4 @@
-pub mod FieldLaws
+pub mod FlagLaws
 pub mod NameLaws
 pub mod KindLaws
 pub mod PropertyLaws
@@ -9,4 +9,3 @@ pub mod TableReadLaws
 pub mod TableLayoutLaws
 pub mod TypeIndexLaws
 pub mod TableLaws
-pub mod QuestionLaws

@@ -8,16 +8,16 @@ use lib.ListN.{drop}
 use borrow.Author.Tests.{ne-eqb}
 use Rattle.model.specs.Order.{Text}
 use Rattle.packed.specs.Parse.{Parse, fail, got, Layout, andThen, found, foundIf, suchThat}
-use Rattle.packed.specs.Packed.{readNumber, readText}
-use Rattle.packed.specs.Located.{part}
-use Rattle.values.specs.Spaces.{Kind, isWithin}
+use Rattle.packed.specs.Packed.{readNumber, readText, part, isWithin}
+use Rattle.packed.specs.code.Located.{Got, NameStops}
+use Rattle.packed.proofs.FieldLaws.{then-none, then-fail, then-got, then-found, such-was, within-bounds, is-within}
+use Rattle.values.specs.Spaces.{Kind}
 use Rattle.ontology.specs.Table.{Strategy, min, max, add, replace, match, set, any, strategyNumber, Property, isNameWithin}
 use Rattle.ontology.specs.TableLayout.{readFlag, readKind, readStrategy, readProperty}
 use Rattle.ontology.specs.declared.properties.PropertyAt.{PropertyAt}
 use Rattle.ontology.specs.declared.properties.PropertyRead.{PropertyRead}
 use Rattle.ontology.specs.declared.properties.PropertyRead.the-variants as read
-use Rattle.ontology.specs.TypeIndex.{Got, NameStops, KindStops, PropertyStops, PropertyReads}
-use Rattle.ontology.proofs.FieldLaws.{then-none, then-fail, then-got, then-found, such-was, within-bounds, is-within}
+use Rattle.ontology.specs.code.TypeIndex.{KindStops, PropertyStops, PropertyReads}
 
 -- what is known of a call's answer in the arm of a `match`
 pub property-got : {p : Parse Property} {s : List ℕ} {at : ℕ} {r : PropertyRead} {x : PropertyAt} {e : ℕ} → r ≡ read.Property x e → PropertyReads p s at r → PropertyStops p s at x e

@@ -7,16 +7,20 @@ use native.Mathlib.Omega.{arith}
 use lib.ListN.{length, drop, getD, getElem?, length-drop, drop-of-length-le}
 use lib.Seq.{drop-cons}
 use lib.Dec.{ltb, leb, eqb}
-use borrow.Author.Tests.{lt-ltb, eq-eqb, ne-eqb, eqb-true}
+use borrow.Author.Tests.{lt-ltb, le-leb, eq-eqb, ne-eqb, eqb-true}
 use Rattle.model.specs.Order.{Text, texts, rising, pick}
 use Rattle.model.proofs.Cases.{and-true, and-false}
-use Rattle.packed.specs.Located.{part}
-use Rattle.values.specs.Spaces.{Kind, unsigned, signed, decimal, currency, sequence, datetime, boolean, string, hex, kindNumber}
+use Rattle.packed.specs.Packed.{part}
+use Rattle.packed.specs.code.Comparison.{precedes}
+use Rattle.values.specs.Spaces.{sequence, datetime, kindNumber, unsignedNumber}
 use Rattle.values.specs.ValueOrder.{isOrdered}
-use Rattle.ontology.specs.Table.{Property, EventType, strategyNumber, isVersioned, strategyFits, allFit, canBeMarked, markFits, namesRise}
+use Rattle.values.specs.code.KindNumbers.{isOrderedNumber}
+use Rattle.values.proofs.SpaceLaws.{kind-least}
+use Rattle.ontology.specs.Table.{Strategy, min, max, replace, strategyNumber, Property, EventType, isVersioned, strategyFits, allFit, canBeMarked, markFits, namesRise}
 use Rattle.ontology.specs.declared.properties.PropertyAt.{PropertyAt}
 use Rattle.ontology.specs.declared.types.TypeIndex.{TypeIndex}
-use Rattle.ontology.specs.TypeIndex.{precedes, PropertyIs, propertyRules, TypeIs}
+use Rattle.ontology.specs.code.TypeIndex.{PropertyIs, hasStrategy, hasMin, hasMax, hasExtreme, hasReplace, propertyRules, TypeIs}
+use Rattle.ontology.proofs.TypeIndexLaws.{max-of, extreme-of, replace-of}
 use Rattle.ontology.proofs.RunLaws.{Nth, nth, map-length, no-element}
 
 -- one of three, by a comparison, where only the first is not false
@@ -30,107 +34,101 @@ picked-not Ordering·lt b e = let z : _≡_ {A = ℕ} 0 1 = cc in absurd (omega 
 picked-not Ordering·eq b e = refl
 picked-not Ordering·gt b e = refl
 
--- ---- a strategy, by numbers
+-- ---- a strategy, by its index
 
-unfoldable fitsBy : ℕ → Bool → Bool → Bool → Bool → Bool
-fitsBy n o m d v = (not (eqb n 1 || eqb n 2) || (not o && not m && d)) && (not (eqb n 4) || (o && not m && v))
-
--- no kind has a number below 1
-from-one : (k : Kind) → leb 1 (kindNumber k) ≡ true
-from-one (unsigned w) = refl
-from-one (signed w) = refl
-from-one (decimal t a g) = refl
-from-one currency = refl
-from-one sequence = refl
-from-one datetime = refl
-from-one boolean = refl
-from-one (string n) = refl
-from-one (hex n) = refl
+unfoldable fitsBy : Bool → Bool → Bool → Bool → Bool → Bool → Bool
+fitsBy extreme replaces o m d v = (not extreme || (not o && not m && d)) && (not replaces || (o && not m && v))
 
 -- min and max are not replace
-not-replace : (n : ℕ) → (eqb n 1 || eqb n 2) ≡ true → eqb n 4 ≡ false
-not-replace n h = one (eqb n 1) refl h
+not-replace : (x : PropertyAt) → hasExtreme x ≡ true → hasReplace x ≡ false
+not-replace x h = one (hasMin x) refl h
   where
-    one : (t : Bool) → eqb n 1 ≡ t → (t || eqb n 2) ≡ true → eqb n 4 ≡ false
-    one true e k = ne-eqb n 4 (λ z. omega (arith, eqb-true n 1 e))
-    one false e k = ne-eqb n 4 (λ z. omega (arith, eqb-true n 2 k))
+    other : (y : Strategy) → (strategyNumber y ≡ strategyNumber replace → ⊥) → hasStrategy y x ≡ true → hasReplace x ≡ false
+    other y n e = ne-eqb (x .strategy) (strategyNumber replace) (λ z. n (sym (eqb-true (x .strategy) (strategyNumber y) e) ∙ z))
+
+    one : (t : Bool) → hasMin x ≡ t → (t || hasMax x) ≡ true → hasReplace x ≡ false
+    one true e k = other min (λ z. omega arith) e
+    one false e k = other max (λ z. omega arith) k
+
+not-extreme : (x : PropertyAt) → hasReplace x ≡ true → hasExtreme x ≡ false
+not-extreme x h =
+    ap (λ (n : ℕ). eqb n (strategyNumber min) || eqb n (strategyNumber max)) (eqb-true (x .strategy) (strategyNumber replace) h)
 
 module _ (s : List ℕ) (q : Property) (x : PropertyAt) (v : Bool) (w : PropertyIs s q x) where
-  fits-by : strategyFits v q ≡ fitsBy (x .strategy) (x .optional) (x .multivalued) (leb (x .kind) 6) v
+  abbrev ordered : Bool
+  ordered = leb (x .kind) (kindNumber datetime)
+
+  fits-by : strategyFits v q ≡ fitsBy (hasExtreme x) (hasReplace x) (x .optional) (x .multivalued) ordered v
   unfolding strategyFits isOrdered fitsBy
   fits-by =
-      model ∙ ap₂ (λ (n : ℕ) (d : Bool). fitsBy n (q .optional) (q .multivalued) d v) (sym (w .strategy)) (ap (λ (n : ℕ). leb n 6) (sym (w .kind .number)))
-      ∙ ap₂ (λ (o m : Bool). fitsBy (x .strategy) o m (leb (x .kind) 6) v) (sym (w .optional)) (sym (w .multivalued))
-    where
-      model : strategyFits v q ≡ fitsBy (strategyNumber (q .strategy)) (q .optional) (q .multivalued) (leb (kindNumber (q .kind)) 6) v
-      model = refl
+      ap₂ (λ (a b : Bool). fitsBy a b (q .optional) (q .multivalued) (isOrdered (q .kind)) v) (sym (extreme-of w)) (sym (replace-of w))
+      ∙ ap₂ (λ (o m : Bool). fitsBy (hasExtreme x) (hasReplace x) o m (isOrdered (q .kind)) v) (sym (w .optional)) (sym (w .multivalued))
+      ∙ ap (λ (n : ℕ). fitsBy (hasExtreme x) (hasReplace x) (x .optional) (x .multivalued) (leb n (kindNumber datetime)) v) (sym (w .kind .number))
 
   -- min and max
-  fits-ordered : (eqb (x .strategy) 1 || eqb (x .strategy) 2) ≡ true → strategyFits v q ≡ (not (x .optional) && not (x .multivalued) && leb (x .kind) 6)
+  fits-ordered : hasExtreme x ≡ true → strategyFits v q ≡ (not (x .optional) && not (x .multivalued) && ordered)
   unfolding fitsBy
-  fits-ordered h = fits-by ∙ go (x .strategy) (x .optional) (x .multivalued) (leb (x .kind) 6) h
-    where
-      go : (n : ℕ) (o m d : Bool) → (eqb n 1 || eqb n 2) ≡ true → fitsBy n o m d v ≡ (not o && not m && d)
-      go n o m d h = rw (h, not-replace n h) (and-true (not o && not m && d))
+  fits-ordered h =
+      fits-by ∙ ap₂ (λ (a b : Bool). fitsBy a b (x .optional) (x .multivalued) ordered v) h (not-replace x h)
+      ∙ and-true (not (x .optional) && not (x .multivalued) && ordered)
 
-  fits-replace : eqb (x .strategy) 4 ≡ true → strategyFits v q ≡ (x .optional && not (x .multivalued) && v)
+  fits-replace : hasReplace x ≡ true → strategyFits v q ≡ (x .optional && not (x .multivalued) && v)
   unfolding fitsBy
-  fits-replace h = fits-by ∙ go (x .strategy) (x .optional) (x .multivalued) (leb (x .kind) 6) (eqb-true (x .strategy) 4 h)
-    where
-      go : (n : ℕ) (o m d : Bool) → n ≡ 4 → fitsBy n o m d v ≡ (o && not m && v)
-      go n o m d h = rw h
+  fits-replace h = fits-by ∙ ap₂ (λ (a b : Bool). fitsBy a b (x .optional) (x .multivalued) ordered v) (not-extreme x h) h
 
-  pub fits-free : (eqb (x .strategy) 1 || eqb (x .strategy) 2) ≡ false → eqb (x .strategy) 4 ≡ false → strategyFits v q ≡ true
+  pub fits-free : hasExtreme x ≡ false → hasReplace x ≡ false → strategyFits v q ≡ true
   unfolding fitsBy
-  fits-free h k = fits-by ∙ go (x .strategy) (x .optional) (x .multivalued) (leb (x .kind) 6) h k
-    where
-      go : (n : ℕ) (o m d : Bool) → (eqb n 1 || eqb n 2) ≡ false → eqb n 4 ≡ false → fitsBy n o m d v ≡ true
-      go n o m d h k = rw (h, k)
+  fits-free h k = fits-by ∙ ap₂ (λ (a b : Bool). fitsBy a b (x .optional) (x .multivalued) ordered v) h k
 
-  pub replace-many : eqb (x .strategy) 4 ≡ true → x .multivalued ≡ true → strategyFits v q ≡ false
+  pub replace-many : hasReplace x ≡ true → x .multivalued ≡ true → strategyFits v q ≡ false
   replace-many h k =
       fits-replace h ∙ ap (λ (m : Bool). x .optional && not m && v) k ∙ ap (λ (b : Bool). b && v) (and-false (x .optional))
 
-  pub replace-optional : eqb (x .strategy) 4 ≡ true → x .multivalued ≡ false → x .optional ≡ true → strategyFits v q ≡ v
+  pub replace-optional : hasReplace x ≡ true → x .multivalued ≡ false → x .optional ≡ true → strategyFits v q ≡ v
   replace-optional h k l = fits-replace h ∙ ap₂ (λ (o m : Bool). o && not m && v) l k
 
-  pub replace-mandatory : eqb (x .strategy) 4 ≡ true → x .optional ≡ false → strategyFits v q ≡ false
+  pub replace-mandatory : hasReplace x ≡ true → x .optional ≡ false → strategyFits v q ≡ false
   replace-mandatory h l = fits-replace h ∙ ap (λ (o : Bool). o && not (x .multivalued) && v) l
 
-  module _ (h : (eqb (x .strategy) 1 || eqb (x .strategy) 2) ≡ true) where
-    pub ordered-is : (not (x .optional) && not (x .multivalued)) ≡ true → strategyFits v q ≡ (leb 1 (x .kind) && leb (x .kind) 6)
-    ordered-is l = fits-ordered h ∙ ap (λ (b : Bool). b && leb (x .kind) 6) (l ∙ sym (ap (leb 1) (w .kind .number) ∙ from-one (q .kind)))
+  module _ (h : hasExtreme x ≡ true) where
+    pub ordered-is : (not (x .optional) && not (x .multivalued)) ≡ true → strategyFits v q ≡ isOrderedNumber (x .kind)
+    ordered-is l =
+        let least = ap (leb unsignedNumber) (w .kind .number) ∙ le-leb unsignedNumber (kindNumber (q .kind)) (kind-least (q .kind)) in
+        fits-ordered h ∙ ap (λ (b : Bool). b && ordered) (l ∙ sym least)
 
     pub ordered-not : (not (x .optional) && not (x .multivalued)) ≡ false → strategyFits v q ≡ false
-    ordered-not l = fits-ordered h ∙ ap (λ (b : Bool). b && leb (x .kind) 6) l
+    ordered-not l = fits-ordered h ∙ ap (λ (b : Bool). b && ordered) l
 
--- ---- the marked property, by numbers
+-- ---- the marked property, by its index
 
 module _ (s : List ℕ) (q : Property) (x : PropertyAt) (w : PropertyIs s q x) where
-  marked-by : canBeMarked q ≡ (not (x .optional) && not (x .multivalued) && eqb (x .kind) 5 && eqb (x .strategy) 2)
+  abbrev inSequence : Bool
+  inSequence = eqb (x .kind) (kindNumber sequence)
+
+  abbrev alone : Bool
+  alone = not (x .optional) && not (x .multivalued)
+
+  marked-by : canBeMarked q ≡ (alone && inSequence && hasMax x)
   unfolding canBeMarked
   marked-by =
-      ap₂ (λ (n k : ℕ). not (q .optional) && not (q .multivalued) && eqb k 5 && eqb n 2) (sym (w .strategy)) (sym (w .kind .number))
-      ∙ ap₂ (λ (o m : Bool). not o && not m && eqb (x .kind) 5 && eqb (x .strategy) 2) (sym (w .optional)) (sym (w .multivalued))
+      ap₂ (λ (k : ℕ) (b : Bool). not (q .optional) && not (q .multivalued) && eqb k (kindNumber sequence) && b) (sym (w .kind .number)) (sym (max-of w))
+      ∙ ap₂ (λ (o m : Bool). not o && not m && inSequence && hasMax x) (sym (w .optional)) (sym (w .multivalued))
 
-  pub marked-kind : (x .kind ≡ 5 → ⊥) → canBeMarked q ≡ false
-  marked-kind h = marked-by ∙ go (not (x .optional) && not (x .multivalued)) (eqb (x .kind) 5) (ne-eqb (x .kind) 5 h)
-    where
-      go : (a b : Bool) → b ≡ false → (a && b && eqb (x .strategy) 2) ≡ false
-      go a b h = ap (λ (b : Bool). a && b && eqb (x .strategy) 2) h ∙ ap (λ (b : Bool). b && eqb (x .strategy) 2) (and-false a)
-
-  pub marked-strategy : eqb (x .strategy) 2 ≡ false → canBeMarked q ≡ false
-  marked-strategy h =
+  pub marked-kind : (x .kind ≡ kindNumber sequence → ⊥) → canBeMarked q ≡ false
+  marked-kind h =
       marked-by
-      ∙ ap (λ (b : Bool). not (x .optional) && not (x .multivalued) && eqb (x .kind) 5 && b) h
-      ∙ and-false (not (x .optional) && not (x .multivalued) && eqb (x .kind) 5)
+      ∙ ap (λ (b : Bool). alone && b && hasMax x) (ne-eqb (x .kind) (kindNumber sequence) h)
+      ∙ ap (λ (b : Bool). b && hasMax x) (and-false alone)
 
-  pub marked-is : x .kind ≡ 5 → eqb (x .strategy) 2 ≡ true → canBeMarked q ≡ (not (x .optional) && not (x .multivalued))
+  pub marked-strategy : hasMax x ≡ false → canBeMarked q ≡ false
+  marked-strategy h = marked-by ∙ ap (λ (b : Bool). alone && inSequence && b) h ∙ and-false (alone && inSequence)
+
+  pub marked-is : x .kind ≡ kindNumber sequence → hasMax x ≡ true → canBeMarked q ≡ alone
   marked-is h k =
       marked-by
-      ∙ ap₂ (λ (b d : Bool). not (x .optional) && not (x .multivalued) && b && d) (eq-eqb (x .kind) 5 h) k
-      ∙ and-true (not (x .optional) && not (x .multivalued) && true)
-      ∙ and-true (not (x .optional) && not (x .multivalued))
+      ∙ ap₂ (λ (b d : Bool). alone && b && d) (eq-eqb (x .kind) (kindNumber sequence) h) k
+      ∙ and-true (alone && true)
+      ∙ and-true alone
 
 -- ---- all properties of a type
 

@@ -5,12 +5,12 @@ use mathlib.Core.Option.{Option, none, some}
 use mathlib.Core.List.{List, [], _∷_, map}
 use Prim.Native.Nat.{ℕ, zero, suc, _-_, _≤_, _<_}
 use native.Mathlib.Omega.{arith}
-use lib.Dec.{leb, eqb}
+use lib.Dec.{leb}
 use lib.ListN.{length, getElem?}
 use borrow.Author.Tests.{leb-true, not-true}
 use Rattle.model.specs.Order.{Text}
 use Rattle.model.proofs.Cases.{never, where-so, and-parts}
-use Rattle.values.specs.Spaces.{Kind, unsigned, signed, decimal, currency, sequence, datetime, boolean, string, hex, kindNumber}
+use Rattle.values.specs.Spaces.{Kind, isSequence, unsigned, signed, decimal, currency, sequence, datetime, boolean, string, hex}
 use Rattle.values.specs.ValueOrder.{isOrdered}
 use Rattle.ontology.specs.Table.{Property, EventType, Table, isMandatory, isSingle, isMin, isMax, isReplace, isVersioned, isName, isNameWithin, strategyFits, allFit, canBeMarked, markFits, namesRise, typeRules, typeNamed}
 use Rattle.ontology.specs.TableLayout.{tableOf}
@@ -28,16 +28,16 @@ pub record Markable (q : Property) : Type 0 where
   pub single : q .multivalued ≡ false
   pub kind : q .kind ≡ sequence
 
-kind-five : (k : Kind) → eqb (kindNumber k) 5 ≡ true → k ≡ sequence
-kind-five (unsigned w) h = never (cc)
-kind-five (signed w) h = never (cc)
-kind-five (decimal a b c) h = never (cc)
-kind-five currency h = never (cc)
-kind-five sequence h = refl
-kind-five datetime h = never (cc)
-kind-five boolean h = never (cc)
-kind-five (string n) h = never (cc)
-kind-five (hex n) h = never (cc)
+is-sequence : (k : Kind) → isSequence k ≡ true → k ≡ sequence
+is-sequence (unsigned w) h = never (cc)
+is-sequence (signed w) h = never (cc)
+is-sequence (decimal a b c) h = never (cc)
+is-sequence currency h = never (cc)
+is-sequence sequence h = refl
+is-sequence datetime h = never (cc)
+is-sequence boolean h = never (cc)
+is-sequence (string n) h = never (cc)
+is-sequence (hex n) h = never (cc)
 
 markable : (q : Property) → canBeMarked q ≡ true → Markable q
 unfolding canBeMarked
@@ -45,7 +45,7 @@ markable q h =
     let (a, b) = and-eq-true-iff _ _ .0 h in
     let (c, d) = and-eq-true-iff _ _ .0 a in
     let (e, f) = and-eq-true-iff _ _ .0 c in
-    record { mandatory = not-true _ e; single = not-true _ f; kind = kind-five (q .kind) d }
+    record { mandatory = not-true _ e; single = not-true _ f; kind = is-sequence (q .kind) d }
 
 -- the marked property of a type
 pub record Mark (t : EventType) : Type 0 where

@@ -12,13 +12,13 @@ use borrow.Author.Tests.{lt-ltb, le-leb, leb-true, eqb-true}
 use Rattle.model.specs.Order.{Text}
 use Rattle.model.proofs.Cases.{never, truth, and-parts, where-so}
 use Rattle.packed.specs.Parse.{got, Layout, _>>=_, found, suchThat, times}
-use Rattle.packed.specs.Packed.{groups, number, readNumber, text, readText}
+use Rattle.packed.specs.Packed.{groups, number, readNumber, text, readText, isWithin}
 use Rattle.packed.proofs.LayoutLaws.{All, lt-or-ge, fail-got, andThen-got, foundIf-got, suchThat-got, whole-some, number-read, number-was, text-read, text-was, times-read, times-was}
-use Rattle.values.specs.Spaces.{Kind, unsigned, signed, decimal, currency, sequence, datetime, boolean, string, hex, kindNumber, isWithin, isKind}
+use Rattle.packed.proofs.FieldLaws.{within-bounds}
+use Rattle.values.specs.Spaces.{Kind, unsigned, signed, decimal, currency, sequence, datetime, boolean, string, hex, kindNumber, isKind}
 use Rattle.ontology.specs.Table.{Strategy, min, max, add, replace, match, set, any, strategyNumber, Property, EventType, Table, isNameWithin, allFit, markFits, namesRise, typeRules}
 use Rattle.ontology.specs.TableLayout.{readFlag, readDecimal, readParameters, readKind, readStrategy, readProperty, readType, readTable, tableOf, flagBytes, parameterBytes, kindBytes, propertyBytes, typeBytes, tableBytes}
-use Rattle.ontology.specs.TypeIndex.{parameterFits, propertyRules}
-use Rattle.ontology.proofs.FieldLaws.{within-bounds}
+use Rattle.ontology.specs.code.TypeIndex.{parameterFits, propertyRules}
 use Rattle.ontology.proofs.NameLaws.{name-length}
 use Rattle.ontology.proofs.KindLaws.{fits-small, digits-small}
 use Rattle.ontology.proofs.RunLaws.{no-element}

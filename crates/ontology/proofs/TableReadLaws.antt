@@ -10,20 +10,20 @@ use lib.Dec.{leb}
 use Rattle.model.specs.Order.{Text, texts, lists, lex, equal, rising, pick}
 use Rattle.model.proofs.Cases.{and-parts}
 use Rattle.packed.specs.Parse.{Parse, fail, got, Layout, andThen, foundIf, suchThat, times}
-use Rattle.packed.specs.Packed.{readNumber}
-use Rattle.packed.specs.Located.{part}
+use Rattle.packed.specs.Packed.{readNumber, part, isWithin}
 use Rattle.packed.proofs.LayoutLaws.{suchThat-got}
 use Rattle.packed.proofs.ReadLaws.{drop-next}
-use Rattle.values.specs.Spaces.{isWithin}
+use Rattle.packed.specs.code.Located.{Got}
+use Rattle.packed.specs.code.Comparison.{precedes}
+use Rattle.replies.specs.Answers.{Reply}
+use Rattle.replies.specs.declared.reply.TableReply.the-variants.{Accepted, Refused}
+use Rattle.replies.specs.Replies.{tableReplied}
 use Rattle.ontology.specs.Table.{EventType, Table, isName, isNameWithin, namesRise, typeRules, typeNamed}
 use Rattle.ontology.specs.TableLayout.{readType, readTable, tableOf}
-use Rattle.ontology.specs.Questions.{Reply}
 use Rattle.ontology.specs.TableCall.{replyToTable, tableCall}
 use Rattle.ontology.specs.declared.types.TypeRead.{TypeRead}
 use Rattle.ontology.specs.declared.tables.TableRead.{TableRead}
-use Rattle.ontology.specs.declared.tables.TableReply.the-variants.{Accepted, Refused}
-use Rattle.ontology.specs.TypeIndex.{Got, precedes, TypeIs, TypeReads, TypeSays, TableSays}
-use Rattle.ontology.specs.Replies.{tableReply}
+use Rattle.ontology.specs.code.TypeIndex.{TypeIs, TypeReads, TypeSays, TableSays}
 use Rattle.ontology.proofs.RunLaws.{prepend, prepend-nil, prepend-two, times-more, times-stop, times-end}
 use Rattle.ontology.proofs.RuleLaws.{picked, picked-not}
 use Rattle.ontology.proofs.TypeLaws.{rules-hold}
@@ -284,16 +284,16 @@ module _ (n : Text) (ts : List EventType) (t : EventType) (s : List ℕ) (r : Ta
 
 -- ---- the call
 
-pub reply-refused : (s : List ℕ) (name : Text) (r : TableRead) → TableSays (tableOf s) s name r → r .ok ≡ false → tableReply (Refused 2) ≡ tableCall s
-unfolding TableSays tableReply tableCall replyToTable
+pub reply-refused : (s : List ℕ) (name : Text) (r : TableRead) → TableSays (tableOf s) s name r → r .ok ≡ false → tableReplied (Refused 2) ≡ tableCall s
+unfolding TableSays tableReplied tableCall replyToTable
 reply-refused s name r w h = go (tableOf s) w
   where
     go : (o : Option Table) → TableSays o s name r → Reply.refused 2 ≡ replyToTable o
     go none k = refl
     go (some ts) k = let y = k .0 in let z : _≡_ {A = ℕ} 0 1 = cc in absurd (omega arith)
 
-pub reply-accepted : (s : List ℕ) (name : Text) (r : TableRead) → TableSays (tableOf s) s name r → r .ok ≡ true → tableReply Accepted ≡ tableCall s
-unfolding TableSays tableReply tableCall replyToTable
+pub reply-accepted : (s : List ℕ) (name : Text) (r : TableRead) → TableSays (tableOf s) s name r → r .ok ≡ true → tableReplied Accepted ≡ tableCall s
+unfolding TableSays tableReplied tableCall replyToTable
 reply-accepted s name r w h = go (tableOf s) w
   where
     go : (o : Option Table) → TableSays o s name r → Reply.done 0 ≡ replyToTable o

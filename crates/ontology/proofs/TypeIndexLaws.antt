@@ -1,20 +1,43 @@
 -- What is known of a type that a table has, and of its properties: for the callers of `read_table`.
-use mathlib.Core.Path.{_≡_, refl, sym, ap, _∙_, subst}
-use mathlib.Core.Bool.{Bool, true, false}
+use mathlib.Core.Path.{_≡_, refl, sym, ap, ap₂, _∙_, subst}
+use mathlib.Core.Bool.{Bool, true, false, _||_}
 use mathlib.Core.Option.{Option, none, some}
 use mathlib.Core.List.{List, [], _∷_}
 use Prim.Native.Nat.{ℕ, suc, _≤_}
+use lib.Dec.{eqb}
 use lib.ListN.{getElem?}
 use Rattle.model.specs.Order.{Text, texts, equal}
 use Rattle.model.proofs.Cases.{never, truth}
 use Rattle.packed.proofs.OrderLaws.{texts-equal}
-use Rattle.ontology.specs.Table.{Property, EventType, Table, typeRules, typeNamed}
+use Rattle.ontology.specs.Table.{Strategy, min, max, replace, match, strategyNumber, Property, EventType, Table, isStrategy, isMin, isMax, isReplace, isMatch, typeRules, typeNamed}
 use Rattle.ontology.specs.TableLayout.{tableOf}
+use Rattle.ontology.specs.declared.properties.PropertyAt.{PropertyAt}
 use Rattle.ontology.specs.declared.tables.TableRead.{TableRead}
-use Rattle.ontology.specs.TypeIndex.{TypeIs, TypeSays, TableSays}
+use Rattle.ontology.specs.code.TypeIndex.{PropertyIs, hasStrategy, hasMin, hasMax, hasExtreme, hasReplace, hasMatch, TypeIs, TypeSays, TableSays}
 pub use Rattle.ontology.proofs.NameLaws.{name-length}
 use Rattle.ontology.proofs.RunLaws.{all-at}
 use Rattle.ontology.proofs.TableLayoutLaws.{PropertyWritten, TypeWritten, table-was}
+
+-- ---- the strategy of a property
+
+module _ {s : List ℕ} {q : Property} {x : PropertyAt} (w : PropertyIs s q x) where
+  strategy-is : (y : Strategy) → hasStrategy y x ≡ isStrategy y q
+  strategy-is y = ap (λ (n : ℕ). eqb n (strategyNumber y)) (w .strategy)
+
+  pub min-of : hasMin x ≡ isMin q
+  min-of = strategy-is min
+
+  pub max-of : hasMax x ≡ isMax q
+  max-of = strategy-is max
+
+  pub extreme-of : hasExtreme x ≡ (isMin q || isMax q)
+  extreme-of = ap₂ (λ (a b : Bool). a || b) min-of max-of
+
+  pub replace-of : hasReplace x ≡ isReplace q
+  replace-of = strategy-is replace
+
+  pub match-of : hasMatch x ≡ isMatch q
+  match-of = strategy-is match
 
 -- ---- a type of a table
 

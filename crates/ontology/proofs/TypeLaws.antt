@@ -13,21 +13,20 @@ use borrow.Author.Tests.{le-leb, leb-true}
 use Rattle.model.specs.Order.{Text}
 use Rattle.model.proofs.Cases.{and-parts}
 use Rattle.packed.specs.Parse.{Parse, fail, got, andThen, found, foundIf, suchThat, times}
-use Rattle.packed.specs.Packed.{readNumber, readText}
-use Rattle.packed.specs.Located.{part}
+use Rattle.packed.specs.Packed.{readNumber, readText, part, isWithin}
 use Rattle.packed.proofs.LayoutLaws.{andThen-got, suchThat-got}
-use Rattle.values.specs.Spaces.{isWithin}
+use Rattle.packed.specs.code.Located.{Got}
+use Rattle.packed.proofs.FieldLaws.{such-never, such-was, within-bounds, is-within}
+use Rattle.values.specs.declared.versions.DefinitionVersion.{DefinitionVersion}
 use Rattle.ontology.specs.Table.{Property, EventType, isNameWithin, namesRise, allFit, markFits, isVersioned, typeRules}
 use Rattle.ontology.specs.TableLayout.{readProperty, readType}
 use Rattle.ontology.specs.declared.properties.PropertyAt.{PropertyAt}
-use Rattle.values.specs.declared.versions.DefinitionVersion.{DefinitionVersion}
 use Rattle.ontology.specs.declared.types.HeadRead.{HeadRead}
 use Rattle.ontology.specs.declared.types.HeadRead.the-variants.{Head, NoHead}
 use Rattle.ontology.specs.declared.types.PropertiesRead.{PropertiesRead}
 use Rattle.ontology.specs.declared.types.TypeIndex.{TypeIndex}
 use Rattle.ontology.specs.declared.types.TypeRead.{TypeRead}
-use Rattle.ontology.specs.TypeIndex.{Got, PropertyIs, PropertyStops, PropertiesAre, PropertiesStop, PropertiesSay, propertyRules, typeOf, HeadStops, HeadReads, TypeIs, TypeReads}
-use Rattle.ontology.proofs.FieldLaws.{such-never, such-was, within-bounds, is-within}
+use Rattle.ontology.specs.code.TypeIndex.{PropertyIs, PropertyStops, PropertiesAre, PropertiesStop, PropertiesSay, propertyRules, typeOf, HeadStops, HeadReads, TypeIs, TypeReads}
 use Rattle.ontology.proofs.RunLaws.{prepend, prepend-nil, prepend-two, times-more, times-stop, times-end, times-length, snoc-at}
 
 -- what is known of a call's answer in the arm of a `match`

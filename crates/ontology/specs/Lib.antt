@@ -1,6 +1,4 @@
 pub mod Table
 pub mod TableLayout
-pub mod Questions
 pub mod TableCall
-pub mod TypeIndex
-pub mod Replies
+pub mod code

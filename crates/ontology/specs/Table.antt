@@ -6,7 +6,7 @@ use mathlib.Core.List.{List, [], _∷_, map}
 use lib.ListN.{length, getElem?}
 use lib.Dec.{leb, ltb, eqb}
 use Rattle.model.specs.Order.{Text, texts, equal, rising}
-use Rattle.values.specs.Spaces.{Kind, kindNumber}
+use Rattle.values.specs.Spaces.{Kind, isSequence}
 use Rattle.values.specs.ValueOrder.{isOrdered}
 
 -- "strategy 1 min, 2 max, 3 add, 4 replace, 5 match, 6 set, 7 any"
@@ -53,20 +53,20 @@ isMandatory p = not (p .optional)
 abbrev pub isSingle : Property → Bool
 isSingle p = not (p .multivalued)
 
-abbrev pub isStrategy : ℕ → Property → Bool
-isStrategy n p = eqb (strategyNumber (p .strategy)) n
+abbrev pub isStrategy : Strategy → Property → Bool
+isStrategy s p = eqb (strategyNumber (p .strategy)) (strategyNumber s)
 
 abbrev pub isMin : Property → Bool
-isMin p = isStrategy 1 p
+isMin p = isStrategy min p
 
 abbrev pub isMax : Property → Bool
-isMax p = isStrategy 2 p
+isMax p = isStrategy max p
 
 abbrev pub isReplace : Property → Bool
-isReplace p = isStrategy 4 p
+isReplace p = isStrategy replace p
 
 abbrev pub isMatch : Property → Bool
-isMatch p = isStrategy 5 p
+isMatch p = isStrategy match p
 
 -- "A type with a mark is versioned."
 abbrev pub isVersioned : EventType → Bool
@@ -103,7 +103,7 @@ allFit versioned (p ∷ ps) = strategyFits versioned p && allFit versioned ps
 
 -- "The marked property is mandatory, single-valued, kind 5, strategy max."
 unfoldable pub canBeMarked : Property → Bool
-canBeMarked p = isMandatory p && isSingle p && eqb (kindNumber (p .kind)) 5 && isMax p
+canBeMarked p = isMandatory p && isSingle p && isSequence (p .kind) && isMax p
 
 -- the property at a place can be marked; where there is no property, none can
 unfoldable pub markFits : Option Property → Bool
@@ -127,3 +127,12 @@ typeRules t =
 unfoldable pub typeNamed : Text → Table → Option EventType
 typeNamed n [] = none
 typeNamed n (t ∷ ts) = cond (equal texts n (t .name)) (some t) (typeNamed n ts)
+
+-- what is said of a place through its property; of a place without one, the default
+unfoldable pub atPlace : {A : Type 0} → A → (Property → A) → Option Property → A
+atPlace d f none = d
+atPlace d f (some p) = f p
+
+-- the name of the property at a place
+unfoldable pub nameAt : EventType → ℕ → Text
+nameAt t p = atPlace [] (λ (q : Property). q .name) (getElem? (t .properties) p)

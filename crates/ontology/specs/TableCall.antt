@@ -2,9 +2,9 @@
 use Prim.Native.Nat.{ℕ}
 use mathlib.Core.Option.{Option, none, some}
 use mathlib.Core.List.{List}
+use Rattle.replies.specs.Answers.{Reply}
 use Rattle.ontology.specs.Table.{Table}
 use Rattle.ontology.specs.TableLayout.{tableOf}
-use Rattle.ontology.specs.Questions.{Reply}
 
 -- accepted with no bytes, or refused with 2
 unfoldable pub replyToTable : Option Table → Reply

@@ -6,10 +6,9 @@ use mathlib.Core.List.{List, [], _++_, map, flatten}
 use lib.ListN.{length}
 use lib.Dec.{leb, eqb}
 use Rattle.packed.specs.Parse.{fail, Layout, _>>=_, found, foundIf, suchThat, times, whole}
-use Rattle.packed.specs.Packed.{number, readNumber, text, readText}
-use Rattle.values.specs.Spaces.{Kind, unsigned, signed, decimal, currency, sequence, datetime, boolean, string, hex, kindNumber, isWithin, isKind}
-use Rattle.ontology.specs.Table.{Strategy, min, max, add, replace, match, set, any, strategyNumber, Property, EventType, Table}
-use Rattle.ontology.specs.Table.{isNameWithin, namesRise, typeRules}
+use Rattle.packed.specs.Packed.{number, readNumber, text, readText, isWithin}
+use Rattle.values.specs.Spaces.{Kind, unsigned, signed, decimal, currency, sequence, datetime, boolean, string, hex, kindNumber, unsignedNumber, signedNumber, decimalNumber, stringNumber, hexNumber, isKind}
+use Rattle.ontology.specs.Table.{Strategy, min, max, add, replace, match, set, any, strategyNumber, Property, EventType, Table, isNameWithin, namesRise, typeRules}
 
 -- 0 or 1
 unfoldable pub readFlag : Layout Bool
@@ -28,30 +27,34 @@ readDecimal = do
 -- the parameters of the kind of a number
 unfoldable pub readParameters : ℕ → Layout Kind
 readParameters n =
-    cond (eqb n 1) (readNumber >>= λ width. found (unsigned width))
-    (cond (eqb n 2) (readNumber >>= λ width. found (signed width))
-    (cond (eqb n 3) readDecimal
-    (cond (eqb n 4) (found currency)
-    (cond (eqb n 5) (found sequence)
-    (cond (eqb n 6) (found datetime)
-    (cond (eqb n 7) (found boolean)
-    (cond (eqb n 8) (readNumber >>= λ most. found (string most))
-    (cond (eqb n 9) (readNumber >>= λ bytes. found (hex bytes))
+    cond (eqb n unsignedNumber) (readNumber >>= λ width. found (unsigned width))
+    (cond (eqb n signedNumber) (readNumber >>= λ width. found (signed width))
+    (cond (eqb n decimalNumber) readDecimal
+    (cond (eqb n (kindNumber currency)) (found currency)
+    (cond (eqb n (kindNumber sequence)) (found sequence)
+    (cond (eqb n (kindNumber datetime)) (found datetime)
+    (cond (eqb n (kindNumber boolean)) (found boolean)
+    (cond (eqb n stringNumber) (readNumber >>= λ most. found (string most))
+    (cond (eqb n hexNumber) (readNumber >>= λ bytes. found (hex bytes))
     (λ s. fail)))))))))
 
 -- "data kind with its parameters"
 unfoldable pub readKind : Layout Kind
 readKind = suchThat isKind (readNumber >>= readParameters)
 
+-- a strategy where the number is its own
+abbrev strategyOr : ℕ → Strategy → Layout Strategy → Layout Strategy
+strategyOr n s others = cond (eqb n (strategyNumber s)) (found s) others
+
 unfoldable pub readStrategy : Layout Strategy
 readStrategy = readNumber >>= λ n.
-    cond (eqb n 1) (found min)
-    (cond (eqb n 2) (found max)
-    (cond (eqb n 3) (found add)
-    (cond (eqb n 4) (found replace)
-    (cond (eqb n 5) (found match)
-    (cond (eqb n 6) (found set)
-    (cond (eqb n 7) (found any)
+    strategyOr n min
+    (strategyOr n max
+    (strategyOr n add
+    (strategyOr n replace
+    (strategyOr n match
+    (strategyOr n set
+    (strategyOr n any
     (λ s. fail)))))))
 
 -- "A property is: name (text, 1 to 32 bytes), data kind with its parameters, optional 0 or 1, multivalued 0 or 1, strategy"

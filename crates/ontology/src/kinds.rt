@@ -1,16 +1,23 @@
 ghost use mathlib.Core.Path.{_≡_};
 ghost use Prim.Native.Nat.{_-_};
 ghost use mathlib.Core.Bool.{_&&_};
-ghost use mathlib.Core.Logic.{_⊎_};
 ghost use lib.ListN.{drop};
 ghost use Rattle.packed.specs.Parse.{suchThat};
-ghost use Rattle.values.specs.Spaces.{isWithin, isWidth, isKind};
+ghost use Rattle.packed.specs.Packed.{isWithin};
+ghost use Rattle.values.specs.Spaces.{decimalNumber, isWidth, isKind};
 ghost use Rattle.ontology.specs.TableLayout.{readParameters, readKind};
-ghost use Rattle.ontology.specs.TypeIndex.{parameterFits, KindReads};
-use super::fields::FlagAt;
-use super::fields::read_flag;
+ghost use Rattle.ontology.specs.code.TypeIndex.{HasOne, parameterFits, KindReads};
+use crate::fields::FlagAt;
+use crate::fields::read_flag;
 use packed::read::NumberAt;
 use packed::read::read_number;
+use values::kinds::BOOLEAN;
+use values::kinds::CURRENCY;
+use values::kinds::DECIMAL;
+use values::kinds::HEX;
+use values::kinds::SIGNED;
+use values::kinds::STRING;
+use values::kinds::UNSIGNED;
 
 // A kind's number and its parameters, those that it has not as 0, and the position after them.
 pub enum KindRead {
@@ -40,14 +47,14 @@ fn is_size(n: u64, most: u64) -> bool
     if n == 0 { false } else { n <= most }
 }
 
-// Whether the only parameter of kind 1, 2, 8 or 9 is in its range.
+// Whether the only parameter of a kind with one is in its range.
 fn parameter_fits(kind: u8, n: u64) -> bool
     ensures { λ r. ⌜ r ≡ parameterFits kind n ⌝ }
 {
-    if kind <= 2 {
+    if kind <= SIGNED {
         return is_width(n);
     }
-    if kind == 8 {
+    if kind == STRING {
         is_size(n, 120)
     } else {
         is_size(n, 60)
@@ -56,7 +63,7 @@ fn parameter_fits(kind: u8, n: u64) -> bool
 
 // A kind with one parameter.
 fn read_parameter(s: &[u8], at: usize, kind: u8) -> KindRead
-    requires { ⌜ (kind ≡ 1) ⊎ (kind ≡ 2) ⊎ (kind ≡ 8) ⊎ (kind ≡ 9) ⌝ }
+    requires { ⌜ HasOne kind ⌝ }
     ensures { λ r. ⌜ KindReads (suchThat isKind (readParameters kind) (drop at (now (s .entry)))) (now (s .entry)) at r ⌝ }
 {
     let NumberAt::Number(n, next) = read_number(s, at) else {
@@ -90,7 +97,7 @@ fn digits_fit(total: u64, after: u64) -> bool
 
 // A decimal's parameters.
 fn read_decimal(s: &[u8], at: usize) -> KindRead
-    ensures { λ r. ⌜ KindReads (suchThat isKind (readParameters 3) (drop at (now (s .entry)))) (now (s .entry)) at r ⌝ }
+    ensures { λ r. ⌜ KindReads (suchThat isKind (readParameters decimalNumber) (drop at (now (s .entry)))) (now (s .entry)) at r ⌝ }
 {
     let NumberAt::Number(total, after_total) = read_number(s, at) else {
         return KindRead::NoKind;
@@ -103,7 +110,7 @@ fn read_decimal(s: &[u8], at: usize) -> KindRead
     };
     if digits_fit(total, after) {
         KindRead::OfKind {
-            kind: 3,
+            kind: DECIMAL,
             size: total as u8,
             after: after as u8,
             sign: sign as u8,
@@ -121,19 +128,23 @@ pub fn read_kind(s: &[u8], at: usize) -> KindRead
     let NumberAt::Number(n, next) = read_number(s, at) else {
         return KindRead::NoKind;
     };
-    match n {
-        1 => read_parameter(s, next, 1),
-        2 => read_parameter(s, next, 2),
-        3 => read_decimal(s, next),
-        4..=7 => KindRead::OfKind {
-            kind: n as u8,
+    if (HEX as u64) < n {
+        return KindRead::NoKind;
+    }
+    let kind = n as u8;
+    match kind {
+        UNSIGNED => read_parameter(s, next, UNSIGNED),
+        SIGNED => read_parameter(s, next, SIGNED),
+        DECIMAL => read_decimal(s, next),
+        CURRENCY..=BOOLEAN => KindRead::OfKind {
+            kind,
             size: 0,
             after: 0,
             sign: 0,
             next,
         },
-        8 => read_parameter(s, next, 8),
-        9 => read_parameter(s, next, 9),
+        STRING => read_parameter(s, next, STRING),
+        HEX => read_parameter(s, next, HEX),
         _ => KindRead::NoKind,
     }
 }

@@ -3,6 +3,5 @@ pub mod fields;
 pub mod kinds;
 pub mod names;
 pub mod properties;
-pub mod replies;
 pub mod tables;
 pub mod types;

@@ -1,13 +1,9 @@
-ghost use Prim.Native.Nat.{_≤_};
 ghost use mathlib.Core.Path.{_≡_};
-ghost use lib.ListN.{length, drop};
+ghost use lib.ListN.{drop};
 ghost use Rattle.packed.specs.Parse.{suchThat};
 ghost use Rattle.packed.specs.Packed.{readText};
-ghost use Rattle.packed.specs.Located.{part};
+ghost use Rattle.packed.specs.code.Located.{NameReads};
 ghost use Rattle.ontology.specs.Table.{isLetter, isNameByte, isNameWithin};
-ghost use Rattle.ontology.specs.TypeIndex.{precedes, NameReads};
-use packed::order::Ordering;
-use packed::order::compare_parts;
 use packed::read::TextAt;
 use packed::read::read_text;
 
@@ -65,17 +61,5 @@ pub fn read_name(s: &[u8], at: usize, most: usize) -> TextAt
         TextAt::Text(start, end)
     } else {
         TextAt::NoText
-    }
-}
-
-// Whether the bytes of s from a up to e come before those from b up to f.
-pub fn is_before(s: &[u8], a: usize, e: usize, b: usize, f: usize) -> bool
-    requires { ⌜ (a ≤ e) × (e ≤ length (now s)) × (b ≤ f) × (f ≤ length (now s)) ⌝ }
-    ensures { λ r. ⌜ r ≡ precedes (part (now (s .entry)) a e) (part (now (s .entry)) b f) ⌝ }
-{
-    match compare_parts(s, a, e, s, b, f) {
-        Ordering::Less => true,
-        Ordering::Equal => false,
-        Ordering::Greater => false,
     }
 }

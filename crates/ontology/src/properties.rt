@@ -1,17 +1,30 @@
 ghost use mathlib.Core.Path.{_≡_};
-ghost use mathlib.Core.Bool.{_||_};
 ghost use lib.ListN.{drop};
-ghost use lib.Dec.{eqb};
 ghost use Rattle.ontology.specs.TableLayout.{readProperty};
-ghost use Rattle.ontology.specs.TypeIndex.{PropertyReads};
-use super::fields::FlagAt;
-use super::fields::read_flag;
-use super::fields::read_within;
-use super::kinds::KindRead;
-use super::kinds::read_kind;
-use super::names::read_name;
+ghost use Rattle.ontology.specs.code.TypeIndex.{hasMax, hasExtreme, hasReplace, hasMatch, PropertyReads};
+use crate::fields::FlagAt;
+use crate::fields::read_flag;
+use crate::kinds::KindRead;
+use crate::kinds::read_kind;
+use crate::names::read_name;
 use packed::read::NumberAt;
 use packed::read::TextAt;
+use packed::read::read_within;
+
+// "strategy 1 min, 2 max, 3 add, 4 replace, 5 match, 6 set, 7 any"
+pub const MIN: u8 = 1;
+
+pub const MAX: u8 = 2;
+
+pub const ADD: u8 = 3;
+
+pub const REPLACE: u8 = 4;
+
+pub const MATCH: u8 = 5;
+
+pub const SET: u8 = 6;
+
+pub const ANY: u8 = 7;
 
 // A property of a type: where its name stands in the table, and its numbers.
 pub struct PropertyAt {
@@ -32,30 +45,29 @@ pub enum PropertyRead {
     NoProperty,
 }
 
-// "strategy 1 min, 2 max, 3 add, 4 replace, 5 match, 6 set, 7 any"
 pub fn is_max(p: PropertyAt) -> bool
-    ensures { λ r. ⌜ r ≡ eqb (p .strategy) 2 ⌝ }
+    ensures { λ r. ⌜ r ≡ hasMax p ⌝ }
 {
-    p.strategy == 2
+    p.strategy == MAX
 }
 
 // Strategy min or max.
 pub fn is_extreme(p: PropertyAt) -> bool
-    ensures { λ r. ⌜ r ≡ (eqb (p .strategy) 1 || eqb (p .strategy) 2) ⌝ }
+    ensures { λ r. ⌜ r ≡ hasExtreme p ⌝ }
 {
-    p.strategy == 1 || p.strategy == 2
+    p.strategy == MIN || p.strategy == MAX
 }
 
 pub fn is_replace(p: PropertyAt) -> bool
-    ensures { λ r. ⌜ r ≡ eqb (p .strategy) 4 ⌝ }
+    ensures { λ r. ⌜ r ≡ hasReplace p ⌝ }
 {
-    p.strategy == 4
+    p.strategy == REPLACE
 }
 
 pub fn is_match(p: PropertyAt) -> bool
-    ensures { λ r. ⌜ r ≡ eqb (p .strategy) 5 ⌝ }
+    ensures { λ r. ⌜ r ≡ hasMatch p ⌝ }
 {
-    p.strategy == 5
+    p.strategy == MATCH
 }
 
 pub fn read_property(table: &[u8], at: usize) -> PropertyRead
@@ -80,8 +92,12 @@ pub fn read_property(table: &[u8], at: usize) -> PropertyRead
     let FlagAt::Flag(multivalued, after_multivalued) = read_flag(table, after_optional) else {
         return PropertyRead::NoProperty;
     };
-    let NumberAt::Number(strategy, after_strategy) = read_within(table, after_multivalued, 1, 7)
-    else {
+    let NumberAt::Number(strategy, after_strategy) = read_within(
+        table,
+        after_multivalued,
+        MIN as u64,
+        ANY as u64,
+    ) else {
         return PropertyRead::NoProperty;
     };
     let p = PropertyAt {

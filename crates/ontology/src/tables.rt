@@ -2,29 +2,25 @@ ghost use Prim.Native.Nat.{_≤_};
 ghost use mathlib.Core.Path.{_≡_};
 ghost use mathlib.Core.List.{List, [], _∷_, _++_};
 ghost use lib.ListN.{length};
+ghost use Rattle.replies.specs.Replies.{tableReplied};
 ghost use Rattle.ontology.specs.Table.{EventType, typeNamed};
 ghost use Rattle.ontology.specs.TableLayout.{tableOf};
 ghost use Rattle.ontology.specs.TableCall.{tableCall};
-ghost use Rattle.ontology.specs.TypeIndex.{TypeIs, TypeSays, TableSays};
-ghost use Rattle.ontology.specs.Replies.{tableReply};
-use super::fields::read_within;
-use super::names::is_before;
-use super::types::TypeIndex;
-use super::types::no_type;
-use super::types::read_type;
+ghost use Rattle.ontology.specs.code.TypeIndex.{TypeIs, TypeSays, TableSays};
+use crate::types::TypeIndex;
+use crate::types::no_type;
+use crate::types::read_type;
+use packed::order::is_before;
 use packed::order::same;
 use packed::read::NumberAt;
+use packed::read::read_within;
+use replies::reply::TableReply;
 
 // Whether a table meets every rule, whether it has the type that was named, and the index of that type.
 pub struct TableRead {
     pub ok: bool,
     pub found: bool,
     pub index: TypeIndex,
-}
-
-pub enum TableReply {
-    Accepted,
-    Refused(u8),
 }
 
 // r with the type x, where that is the first of its name.
@@ -98,7 +94,7 @@ pub fn table_for(table: &[u8], name: &[u8], other: &[u8], read: TableRead) -> Ta
 }
 
 pub fn check_table(table: &[u8]) -> TableReply
-    ensures { λ r. ⌜ tableReply r ≡ tableCall (now (table .entry)) ⌝ }
+    ensures { λ r. ⌜ tableReplied r ≡ tableCall (now (table .entry)) ⌝ }
 {
     let r = read_table(table, &table[0..0]);
     if r.ok {

@@ -6,19 +6,20 @@ ghost use lib.ListN.{length, drop, getElem?};
 ghost use Rattle.packed.specs.Parse.{suchThat, times};
 ghost use Rattle.ontology.specs.Table.{Property, EventType, isVersioned, namesRise, strategyFits, allFit, canBeMarked, markFits, typeRules};
 ghost use Rattle.ontology.specs.TableLayout.{readProperty, readType};
-ghost use Rattle.ontology.specs.TypeIndex.{PropertyIs, PropertiesSay, propertyRules, HeadReads, TypeIs, IsType, TypeReads};
-use super::fields::read_within;
-use super::names::is_before;
-use super::names::read_name;
-use super::properties::PropertyAt;
-use super::properties::PropertyRead;
-use super::properties::is_extreme;
-use super::properties::is_max;
-use super::properties::is_replace;
-use super::properties::read_property;
+ghost use Rattle.ontology.specs.code.TypeIndex.{PropertyIs, PropertiesSay, propertyRules, HeadReads, TypeIs, IsType, TypeReads};
+use crate::names::read_name;
+use crate::properties::PropertyAt;
+use crate::properties::PropertyRead;
+use crate::properties::is_extreme;
+use crate::properties::is_max;
+use crate::properties::is_replace;
+use crate::properties::read_property;
+use packed::order::is_before;
 use packed::read::NumberAt;
 use packed::read::TextAt;
 use packed::read::read_number;
+use packed::read::read_within;
+use values::kinds::SEQUENCE;
 use values::spaces::is_ordered;
 use values::versions::DefinitionVersion;
 
@@ -201,7 +202,7 @@ fn all_fit(x: TypeIndex) -> bool
 fn can_be_marked(p: PropertyAt) -> bool
     ensures { λ r. ⌜ ((s : List ℕ) (q : Property) → PropertyIs s q p → r ≡ canBeMarked q) ⌝ }
 {
-    if p.kind != 5 {
+    if p.kind != SEQUENCE {
         return false;
     }
     if !is_max(p) {

@@ -19,11 +19,12 @@ use Rattle.event.specs.EventQuestions.{areInSpace, valuesFit}
 use Rattle.event.specs.declared.sets.SetAt.{SetAt}
 use Rattle.event.proofs.EventQuestionLaws.{each-place-at}
 use Rattle.dossier.specs.DossierQuestions.{eachCell, isVacant, isPresent, isLone, isLoneIfSingle, isLoneIfExtreme, isUnmarkedMatch, snapshotValues}
-use Rattle.dossier.specs.DossierIndex.{noSnapshot, cellFits, snapshotFits, versionFits}
+use Rattle.dossier.specs.code.DossierIndex.{noSnapshot, cellFits, snapshotFits, versionFits}
 use Rattle.dossier.specs.declared.dossiers.DossierIndex.{DossierIndex}
 use Rattle.dossier.proofs.CellLaws.{held-at}
 use Rattle.dossier.proofs.AcceptedLaws.{DossierTaken, dossier-taken, taken-kept, taken-fits, taken-values, taken-objects}
-use Rattle.opening.specs.OpenIndex.{CellsStand, Lone, Mergeable, Openable}
+use Rattle.dossier.specs.DossierLayout.{modelOf}
+use Rattle.opening.specs.code.OpenIndex.{CellsStand, Lone, Mergeable, Openable}
 use Rattle.opening.proofs.StandLaws.{column-at}
 
 -- ---- place by place
@@ -56,7 +57,7 @@ lone-cell v q c h m e =
 
 module _ (s : List ℕ) (d : DossierIndex) (t : TypeIndex) (o : Openable s d t) where
   abbrev snapshots : List Snapshot
-  snapshots = o .headed .dossier .snapshots
+  snapshots = o .headed .snapshots
 
   pub taken : DossierTaken (o .types) s (record { type = o .type; headed = o .headed })
   taken = dossier-taken (o .types) s (record { type = o .type; headed = o .headed }) (o .asked)
@@ -86,7 +87,7 @@ module _ (s : List ℕ) (d : DossierIndex) (t : TypeIndex) (o : Openable s d t) 
     lone-there : Lone (q .kind) (getD (column snapshots p) j [])
     lone-there = subst (Lone (q .kind)) (sym (column-at snapshots p j)) (record { one = one-there; in-space = space-there })
 
-  pub mergeable : (cells : List SetAt) → CellsStand s snapshots cells → Mergeable s cells (d .count) (o .type) (o .headed .dossier)
+  pub mergeable : (cells : List SetAt) → CellsStand s snapshots cells → Mergeable s cells (d .count) (o .type) (modelOf (o .headed))
   mergeable cells w = record {
     stand = w;
     count = sym (o .is .count);

@@ -14,13 +14,14 @@ use Rattle.model.specs.Rule.{Cell, holds, Snapshot}
 use Rattle.model.specs.Opening as model
 use Rattle.model.specs.Opening.{lowest, isMark, cellAt, noConflict, differsAt, marked, orLater, conflict}
 use Rattle.model.proofs.Cases.{never}
+use Rattle.values.specs.declared.versions.EventVersion.{EventVersion}
 use Rattle.event.specs.EventLayout.{bitNumber}
-use Rattle.dossier.specs.DossierLayout.{Headed, differBit}
-use Rattle.dossier.specs.DossierIndex.{noSnapshot, noVersion, DossierIs}
+use Rattle.dossier.specs.DossierLayout.{Headed}
+use Rattle.dossier.specs.DossierBody.{differBit}
+use Rattle.dossier.specs.code.DossierIndex.{noSnapshot, noVersion, DossierIs}
 use Rattle.dossier.specs.declared.dossiers.DossierIndex.{DossierIndex}
 use Rattle.dossier.proofs.CellLaws.{mark-here}
-use Rattle.values.specs.declared.versions.EventVersion.{EventVersion}
-use Rattle.opening.specs.OpenIndex.{conflictOf}
+use Rattle.opening.specs.code.OpenIndex.{conflictOf}
 use Rattle.opening.specs.declared.conflict.Conflict.{Conflict}
 use Rattle.opening.specs.declared.conflict.Conflict.the-variants.{Differs, NoConflict}
 
@@ -67,20 +68,20 @@ module _ (y : Snapshot) (version : EventVersion) (w : version .0 ≡ y .version)
   snapshot-clear e = ap (λ (o : Option ℕ). orLater (y .version) o noConflict) e
 
 -- the numbers of a snapshot, as the index has them
-module _ (s : List ℕ) (h : Headed) (d : DossierIndex) (w : DossierIs s h d) (j : ℕ) (l : j < length (h .dossier .snapshots)) where
-  pub version-at : getD (d .versions) j noVersion .0 ≡ getD (h .dossier .snapshots) j noSnapshot .version
+module _ (s : List ℕ) (h : Headed) (d : DossierIndex) (w : DossierIs s h d) (j : ℕ) (l : j < length (h .snapshots)) where
+  pub version-at : getD (d .versions) j noVersion .0 ≡ getD (h .snapshots) j noSnapshot .version
   version-at =
-      ap (λ (v : EventVersion). v .0) (sym (getD-take (length (h .dossier .snapshots)) (d .versions) j noVersion l))
-      ∙ sym (List·getD-map (λ (v : EventVersion). v .0) (take (length (h .dossier .snapshots)) (d .versions)) j noVersion)
+      ap (λ (v : EventVersion). v .0) (sym (getD-take (length (h .snapshots)) (d .versions) j noVersion l))
+      ∙ sym (List·getD-map (λ (v : EventVersion). v .0) (take (length (h .snapshots)) (d .versions)) j noVersion)
       ∙ ap (λ (v : List ℕ). getD v j 0) (w .snapshots .numbers)
-      ∙ List·getD-map (λ (x : Snapshot). x .version) (h .dossier .snapshots) j noSnapshot
+      ∙ List·getD-map (λ (x : Snapshot). x .version) (h .snapshots) j noSnapshot
 
-  pub differ-at : getD (d .differs) j 0 ≡ bitNumber (map differBit (getD (h .dossier .snapshots) j noSnapshot .cells))
+  pub differ-at : getD (d .differs) j 0 ≡ bitNumber (map differBit (getD (h .snapshots) j noSnapshot .cells))
   unfolding bitNumber
   differ-at =
-      sym (getD-take (length (h .dossier .snapshots)) (d .differs) j 0 l)
+      sym (getD-take (length (h .snapshots)) (d .differs) j 0 l)
       ∙ ap (λ (v : List ℕ). getD v j 0) (w .differs)
-      ∙ List·getD-map (λ (x : Snapshot). bitNumber (map differBit (x .cells))) (h .dossier .snapshots) j noSnapshot
+      ∙ List·getD-map (λ (x : Snapshot). bitNumber (map differBit (x .cells))) (h .snapshots) j noSnapshot
 
 -- ---- the snapshots, from one on
 

@@ -23,17 +23,17 @@ use Rattle.model.proofs.Cases.{never}
 use Rattle.values.specs.Spaces.{Kind, inSpace}
 use Rattle.values.specs.ValueOrder.{valueOrder, extremeOrder}
 use Rattle.values.proofs.SpaceLaws.{chosen}
-use Rattle.ontology.specs.Table.{set, Property, EventType, isReplace, isSingle}
-use Rattle.event.specs.Event.{choiceOf, atPlace, view}
+use Rattle.ontology.specs.Table.{set, Property, EventType, isReplace, isSingle, atPlace}
+use Rattle.event.specs.Event.{choiceOf, typeView, eventView}
 use Rattle.event.specs.EventLayout.{presenceBit, bitNumber}
 use Rattle.event.specs.EventQuestions.{areInSpace}
-use Rattle.event.specs.EventIndex.{SetIs, noSet, bitOf}
+use Rattle.event.specs.code.EventIndex.{SetIs, noSet, bitOf}
 use Rattle.event.specs.declared.sets.SetAt.{SetAt}
 use Rattle.event.proofs.BitLaws.{FilledTo, presence-bits}
 use Rattle.event.proofs.EventQuestionLaws.{choice-every, choice-least, no-value, one-value, one-in-space}
-use Rattle.unions.specs.Merging.{SetRuns}
-use Rattle.opening.specs.OpenIndex.{CellsStand, RuleOf, RuleIs, Lone, Chooses, Mergeable, CountsMerged}
-use Rattle.opening.specs.CellIndex.{isStanding, RowIs}
+use Rattle.unions.specs.code.Merging.{SetRuns}
+use Rattle.opening.specs.code.OpenIndex.{CellsStand, RuleOf, RuleIs, Lone, Chooses, Mergeable, CountsMerged}
+use Rattle.opening.specs.code.CellIndex.{isStanding, RowIs}
 use Rattle.opening.proofs.StandLaws.{column-long, column-at, row-stands}
 use Rattle.opening.specs.declared.strategies.PlaceRule.{PlaceRule}
 
@@ -41,10 +41,10 @@ pub single-overfull : (b : Bool) (n : ℕ) → b ≡ true → leb 2 n ≡ (b && 
 single-overfull b n e = sym (ap (λ (a : Bool). a && leb 2 n) e)
 
 abbrev pub isOverfull : EventType → Dossier → ℕ → Bool
-isOverfull ty d p = view ty .single p && leb 2 (length (mergedAt (view ty) d p))
+isOverfull ty d p = typeView ty .single p && leb 2 (length (mergedAt (typeView ty) d p))
 
-pub overfull-start : (ty : EventType) (d : Dossier) → overfull (view ty) d ≡ lowest (isOverfull ty d) (upFrom 0 (32 - 0))
-unfolding overfull places upTo view
+pub overfull-start : (ty : EventType) (d : Dossier) → overfull (typeView ty) d ≡ lowest (isOverfull ty d) (upFrom 0 (32 - 0))
+unfolding overfull places upTo typeView eventView
 overfull-start ty d = refl
 
 single-at : (o : Option Property) (r : PlaceRule) → RuleIs o r → r .single ≡ atPlace false isSingle o
@@ -52,8 +52,8 @@ unfolding RuleIs atPlace
 single-at none r w = w .single
 single-at (some q) r w = w .single
 
-single-is : (ty : EventType) (p : ℕ) (r : PlaceRule) → RuleIs (getElem? (ty .properties) p) r → r .single ≡ view ty .single p
-unfolding view
+single-is : (ty : EventType) (p : ℕ) (r : PlaceRule) → RuleIs (getElem? (ty .properties) p) r → r .single ≡ typeView ty .single p
+unfolding typeView eventView
 single-is ty p r w = single-at (getElem? (ty .properties) p) r w
 
 module _ (ty : EventType) (d : Dossier) (counts : List ℕ) (w : CountsMerged ty d counts) (p : ℕ) (h : p < 32) (r : PlaceRule) where
@@ -70,12 +70,12 @@ bit-of (v ∷ vs) n e = sym (ap bitOf (lt-ltb 0 n (omega arith)))
 
 pub presence-is :
     {ty : EventType} {d : Dossier} {counts : List ℕ} {present : List Bool} {p n : ℕ} → CountsMerged ty d counts → FilledTo (λ i. ltb 0 (getD counts i 0)) present p → 32 ≤ p →
-    n ≡ bitNumber (map bitOf present) → n ≡ bitNumber (map presenceBit (mergedSets (view ty) d))
-unfolding mergedSets places view
+    n ≡ bitNumber (map bitOf present) → n ≡ bitNumber (map presenceBit (mergedSets (typeView ty) d))
+unfolding mergedSets places typeView eventView
 presence-is {ty} {d} {counts} {present} w b h e =
     e
-    ∙ ap bitNumber (sym (presence-bits (mergedAt (view ty) d) present (b .long)
-    (λ i l. bit-of (mergedAt (view ty) d i) (getD counts i 0) (w .each i l) ∙ ap bitOf (sym (b .each i (omega arith))))))
+    ∙ ap bitNumber (sym (presence-bits (mergedAt (typeView ty) d) present (b .long)
+    (λ i l. bit-of (mergedAt (typeView ty) d i) (getD counts i 0) (w .each i l) ∙ ap bitOf (sym (b .each i (omega arith))))))
 
 -- ---- the chosen value
 
@@ -215,19 +215,19 @@ extremal none r w e = let n = w .extreme in let z : _≡_ {A = ℕ} 0 1 = cc in 
 extremal (some q) r w e = record { what = q; is = refl; rule = w }
 
 module _ (t : EventType) (d : Dossier) (p : ℕ) (r : PlaceRule) (w : RuleIs (getElem? (t .properties) p) r) where
-  merged-by : (b : Bool) (c : Choice) → r .replaces ≡ b → choiceAt (getElem? (t .properties) p) ≡ c → mergedAt (view t) d p ≡ mergedSet b c (column (d .snapshots) p)
-  unfolding mergedAt view
+  merged-by : (b : Bool) (c : Choice) → r .replaces ≡ b → choiceAt (getElem? (t .properties) p) ≡ c → mergedAt (typeView t) d p ≡ mergedSet b c (column (d .snapshots) p)
+  unfolding mergedAt typeView eventView
   merged-by b c e f = ap₂ (λ (b : Bool) (c : Choice). mergedSet b c (column (d .snapshots) p)) (sym (replaces-at (getElem? (t .properties) p) r w) ∙ e) f
 
-  merged-last : r .replaces ≡ true → mergedAt (view t) d p ≡ lastOf (column (d .snapshots) p)
+  merged-last : r .replaces ≡ true → mergedAt (typeView t) d p ≡ lastOf (column (d .snapshots) p)
   unfolding mergedSet
   merged-last e = merged-by true (choiceAt (getElem? (t .properties) p)) e refl
 
-  pub merged-every : r .replaces ≡ false → r .extreme ≡ false → mergedAt (view t) d p ≡ canon texts (flatten (column (d .snapshots) p))
+  pub merged-every : r .replaces ≡ false → r .extreme ≡ false → mergedAt (typeView t) d p ≡ canon texts (flatten (column (d .snapshots) p))
   unfolding mergedSet
   merged-every e f = merged-by false every e (every-at (getElem? (t .properties) p) r w f)
 
-  merged-least : r .replaces ≡ false → r .extreme ≡ true → (x : Extremal (getElem? (t .properties) p) r) → mergedAt (view t) d p ≡ smallest (extremeOrder (r .largest) (x .what .kind)) (flatten (column (d .snapshots) p))
+  merged-least : r .replaces ≡ false → r .extreme ≡ true → (x : Extremal (getElem? (t .properties) p) r) → mergedAt (typeView t) d p ≡ smallest (extremeOrder (r .largest) (x .what .kind)) (flatten (column (d .snapshots) p))
   unfolding mergedSet atPlace
   merged-least e f x =
       let q = x .what in
@@ -287,7 +287,7 @@ module _ (r : PlaceRule) (n : ℕ) where
     made-no-chosen = made .1
 
 module _ (s : List ℕ) (cells row : List SetAt) (n : ℕ) (t : EventType) (d : Dossier) (p : ℕ) (v : RowIs cells p row) (m : Mergeable s cells n t d) (r : PlaceRule) (w : RuleIs (getElem? (t .properties) p) r) where
-  pub stands-last : 1 ≤ n → r .replaces ≡ true → SetIs s (mergedAt (view t) d p) (getD row (n - 1) noSet)
+  pub stands-last : 1 ≤ n → r .replaces ≡ true → SetIs s (mergedAt (typeView t) d p) (getD row (n - 1) noSet)
   stands-last k e =
       let l : length (column (d .snapshots) p) ≡ suc (n - 1) = column-long (d .snapshots) p ∙ m .count ∙ omega arith in
       subst (λ (vs : List Text). SetIs s vs (getD row (n - 1) noSet)) (sym (merged-last t d p r w e ∙ last-at (column (d .snapshots) p) (n - 1) l))
@@ -300,35 +300,35 @@ module _ (s : List ℕ) (cells row : List SetAt) (n : ℕ) (t : EventType) (d : 
     only-rises : rising texts (getD (column (d .snapshots) p) 0 []) ≡ true
     only-rises = ap (rising texts) (column-at (d .snapshots) p 0) ∙ m .stand .each p 0 (v .within) (omega (arith, m .count)) .rises
 
-    only-stands : mergedAt (view t) d p ≡ getD (column (d .snapshots) p) 0 [] → SetIs s (mergedAt (view t) d p) (getD row (n - 1) noSet)
+    only-stands : mergedAt (typeView t) d p ≡ getD (column (d .snapshots) p) 0 [] → SetIs s (mergedAt (typeView t) d p) (getD row (n - 1) noSet)
     only-stands e =
         let z : n - 1 ≡ 0 = omega arith in
         subst (λ (vs : List Text). SetIs s vs (getD row (n - 1) noSet)) (sym e)
         (rw z (row-stands s (d .snapshots) cells row p 0 v (m .stand) (omega (arith, m .count))))
 
-    only-union : r .replaces ≡ false → r .extreme ≡ false → mergedAt (view t) d p ≡ getD (column (d .snapshots) p) 0 []
+    only-union : r .replaces ≡ false → r .extreme ≡ false → mergedAt (typeView t) d p ≡ getD (column (d .snapshots) p) 0 []
     only-union e f =
         merged-every t d p r w e f ∙ ap (canon texts) only-flat
         ∙ canon-ups texts (getD (column (d .snapshots) p) 0 []) (rising-ups texts (getD (column (d .snapshots) p) 0 []) .0 only-rises)
 
-    only-least : r .replaces ≡ false → r .extreme ≡ true → mergedAt (view t) d p ≡ getD (column (d .snapshots) p) 0 []
+    only-least : r .replaces ≡ false → r .extreme ≡ true → mergedAt (typeView t) d p ≡ getD (column (d .snapshots) p) 0 []
     only-least e f =
         let y = extremal (getElem? (t .properties) p) r w f in
         let o = sym (y .rule .extreme) ∙ f in
         merged-least t d p r w e f y ∙ ap (smallest (extremeOrder (r .largest) (y .what .kind))) only-flat
         ∙ lone-smallest (y .what .kind) (r .largest) (getD (column (d .snapshots) p) 0 []) (m .lone p (y .what) (y .is) o 0 (omega arith))
 
-    pub stands-only : SetIs s (mergedAt (view t) d p) (getD row (n - 1) noSet)
+    pub stands-only : SetIs s (mergedAt (typeView t) d p) (getD row (n - 1) noSet)
     stands-only = by (r .replaces) (r .extreme) refl refl
       where
-        by : (a b : Bool) → r .replaces ≡ a → r .extreme ≡ b → SetIs s (mergedAt (view t) d p) (getD row (n - 1) noSet)
+        by : (a b : Bool) → r .replaces ≡ a → r .extreme ≡ b → SetIs s (mergedAt (typeView t) d p) (getD row (n - 1) noSet)
         by true b e f = stands-last (omega arith) e
         by false true e f = only-stands (only-least e f)
         by false false e f = only-stands (only-union e f)
 
   pub stands-chosen : (x : SetAt) → (n ≡ 1 → ⊥) → r .replaces ≡ false → isStanding r n ≡ true →
       ((ss : List Snapshot) (k : Kind) → CellsStand s ss cells → length ss ≡ n → Chooses k (r .kind) → ((j : ℕ) → j < n → Lone k (getD (column ss p) j [])) → SetIs s (smallest (extremeOrder (r .largest) k) (flatten (column ss p))) x) →
-      SetIs s (mergedAt (view t) d p) x
+      SetIs s (mergedAt (typeView t) d p) x
   stands-chosen x z e f h =
       let g = standing-chosen r n z e ∙ f in
       let y = extremal (getElem? (t .properties) p) r w g in
@@ -339,7 +339,7 @@ module _ (s : List ℕ) (cells row : List SetAt) (n : ℕ) (t : EventType) (d : 
   pub counts-every : (starts ends : List ℕ) (x : ℕ) → r .replaces ≡ false → r .extreme ≡ false →
       ((ss : List Snapshot) → CellsStand s ss cells → SetRuns s starts ends (length ss) (column ss p)) →
       ((xss : List (List Text)) → SetRuns s starts ends n xss → length (flatten xss) < 2 ^ 64 → x ≡ length (canon texts (flatten xss))) →
-      x ≡ length (mergedAt (view t) d p)
+      x ≡ length (mergedAt (typeView t) d p)
   counts-every starts ends x e f runs h =
       h (column (d .snapshots) p) (subst (λ (n : ℕ). SetRuns s starts ends n (column (d .snapshots) p)) (m .count) (runs (d .snapshots) (m .stand))) (m .small p)
       ∙ ap length (sym (merged-every t d p r w e f))
@@ -348,16 +348,16 @@ module _ (s : List ℕ) (cells row : List SetAt) (n : ℕ) (t : EventType) (d : 
 
 -- the counts of the first p places
 pub record CountedTo (t : EventType) (d : Dossier) (counts : List ℕ) (p : ℕ) : Type 0 where
-  pub each : (i : ℕ) → i < p → getD counts i 0 ≡ length (mergedAt (view t) d i)
+  pub each : (i : ℕ) → i < p → getD counts i 0 ≡ length (mergedAt (typeView t) d i)
 
 module _ (t : EventType) (d : Dossier) (counts : List ℕ) where
   pub counted-none : CountedTo t d counts 0
   counted-none = record { each = λ i h. absurd (omega arith) }
 
-  pub counted-more : (p n : ℕ) → p < length counts → CountedTo t d counts p → n ≡ length (mergedAt (view t) d p) → CountedTo t d (lists.set counts p n) (p + 1)
+  pub counted-more : (p n : ℕ) → p < length counts → CountedTo t d counts p → n ≡ length (mergedAt (typeView t) d p) → CountedTo t d (lists.set counts p n) (p + 1)
   counted-more p n h w e = record {
     each =
-        below-more (λ (i : ℕ). getD (lists.set counts p n) i 0 ≡ length (mergedAt (view t) d i)) p
+        below-more (λ (i : ℕ). getD (lists.set counts p n) i 0 ≡ length (mergedAt (typeView t) d i)) p
         (λ i l. let ne : i ≡ p → ⊥ = λ f. omega arith in getD-set-other counts p i n 0 ne ∙ w .each i l)
         (getD-set-same counts p n 0 h ∙ e);
   }

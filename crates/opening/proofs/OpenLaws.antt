@@ -6,7 +6,6 @@ use mathlib.Core.List.{List, _++_}
 use Prim.Native.Nat.{ℕ, _+_, _≤_, _<_}
 use native.Mathlib.Omega.{arith}
 use lib.ListN.{length, drop}
-use borrow.Author.Tests.{le-leb, lt-leb}
 use Rattle.model.specs.Order.{Text}
 use Rattle.model.specs.Sets.{upTo}
 use Rattle.model.specs.Rule.{places, Dossier}
@@ -14,30 +13,34 @@ use Rattle.model.specs.Limits.{standard}
 use Rattle.model.specs.Opening as model
 use Rattle.model.specs.Opening.{mergedSets, overfull, conflict, noConflict, merged, firstOf, opening}
 use Rattle.model.proofs.ClashLaws.{opening-free}
-use Rattle.packed.specs.Written.{Wrote}
+use Rattle.packed.specs.code.Written.{Wrote}
 use Rattle.packed.proofs.WriteLaws.{wrote-between}
 use Rattle.values.specs.declared.versions.EventVersion.{EventVersion}
+use Rattle.replies.specs.Questions.{refused}
+use Rattle.replies.specs.Answers.{outcome}
+use Rattle.replies.specs.Capacities.{dossierCapacity}
+use Rattle.replies.proofs.CapacityLaws.{has-room, too-small}
+use Rattle.replies.specs.Replies.{openReplies}
+use Rattle.replies.specs.declared.reply.Opened.the-variants.{Merged, Found, Refused}
+use Rattle.replies.specs.declared.reply.Finding.the-variants.{Conflict, Overfull}
 use Rattle.ontology.specs.Table.{Table, typeNamed}
 use Rattle.ontology.specs.TableLayout.{tableOf}
-use Rattle.ontology.specs.TypeIndex.{TypeSays}
-use Rattle.ontology.specs.Questions.{refused, outcome}
+use Rattle.ontology.specs.code.TypeIndex.{TypeSays}
 use Rattle.ontology.specs.declared.tables.TableRead.{TableRead}
 use Rattle.ontology.specs.declared.types.TypeIndex.{TypeIndex}
 use Rattle.ontology.proofs.TypeIndexLaws.{TableGot, found-few}
-use Rattle.event.specs.Event.{view}
+use Rattle.event.specs.Event.{typeView, eventView}
 use Rattle.event.specs.EventLayout.{eventBytes}
 use Rattle.event.specs.declared.sets.SetAt.{SetAt}
 use Rattle.dossier.specs.DossierQuestions.{dossierAsked}
-use Rattle.dossier.specs.DossierLayout.{dossierOf}
-use Rattle.dossier.specs.DossierIndex.{IsDossier, DossierReads, DossierAnswers}
+use Rattle.dossier.specs.DossierLayout.{dossierOf, modelOf}
+use Rattle.dossier.specs.code.DossierIndex.{IsDossier, DossierReads, DossierAnswers}
 use Rattle.dossier.specs.declared.dossiers.DossierIndex.{DossierIndex}
 use Rattle.dossier.specs.declared.questions.DossierAsked.{DossierAsked}
 use Rattle.dossier.proofs.AcceptedLaws.{dossier-taken, asked-accepted}
 use Rattle.dossier.proofs.AnswerLaws.{reads-is}
 use Rattle.opening.specs.OpenCall.{mergedEvent, openedAnswer, askedOpening, openAnswer, openCall}
-use Rattle.opening.specs.Replies.{replies}
-use Rattle.opening.specs.OpenIndex.{lowestOf, conflictOf, CellsStand, CountsMerged, Writable, Openable}
-use Rattle.opening.specs.declared.calls.Opened.the-variants.{Merged, Conflict, Overfull, Refused}
+use Rattle.opening.specs.code.OpenIndex.{lowestOf, conflictOf, CellsStand, CountsMerged, Writable, Openable}
 use Rattle.opening.specs.declared.conflict.Conflict as found
 use Rattle.opening.specs.declared.conflict.Conflict.the-variants.{Differs, NoConflict}
 use Rattle.opening.specs.declared.conflict.Lowest.{Lowest}
@@ -49,13 +52,13 @@ use Rattle.opening.proofs.SizeLaws.{merged-size}
 
 module _ (s : List ℕ) (d : DossierIndex) (t : TypeIndex) (o : Openable s d t) where
   abbrev dossier : Dossier
-  dossier = o .headed .dossier
+  dossier = modelOf (o .headed)
 
   pub is-dossier : IsDossier s d
   is-dossier = record { what = o .headed; is = o .is }
 
   -- what the writer of the merged event needs
-  abbrev pub writable : (cells : List SetAt) (counts : List ℕ) (size : ℕ) → CellsStand s (dossier .snapshots) cells → CountsMerged (o .type) dossier counts → 32768 ≤ size → Writable s d t cells counts size
+  abbrev pub writable : (cells : List SetAt) (counts : List ℕ) (size : ℕ) → CellsStand s (dossier .snapshots) cells → CountsMerged (o .type) dossier counts → dossierCapacity ≤ size → Writable s d t cells counts size
   writable cells counts size w v h = record {
     table = o .table;
     type = o .type;
@@ -70,41 +73,41 @@ module _ (s : List ℕ) (d : DossierIndex) (t : TypeIndex) (o : Openable s d t) 
   -- ---- what is answered
 
   abbrev opens : model.Opened
-  opens = opening (view (o .type)) dossier
+  opens = opening (typeView (o .type)) dossier
 
   module _ (v : EventVersion) (p : ℕ) {r : found.Conflict} (e : r ≡ Differs v p) (f : conflictOf r ≡ conflict (upTo 32) (dossier .snapshots)) (out : List ℕ) where
-    pub replies-conflict : replies (Conflict v p) out ≡ outcome (openedAnswer (o .headed) opens) out
-    unfolding openedAnswer opening firstOf places view
+    pub replies-conflict : openReplies (Found (Conflict v p)) out ≡ outcome (openedAnswer (o .headed) opens) out
+    unfolding openedAnswer opening firstOf places typeView eventView
     replies-conflict =
-        ap (λ (c : model.Conflict). outcome (openedAnswer (o .headed) (firstOf c (overfull (view (o .type)) dossier) (mergedSets (view (o .type)) dossier))) out) (sym (ap conflictOf e) ∙ f)
+        ap (λ (c : model.Conflict). outcome (openedAnswer (o .headed) (firstOf c (overfull (typeView (o .type)) dossier) (mergedSets (typeView (o .type)) dossier))) out) (sym (ap conflictOf e) ∙ f)
 
   pub no-conflict : {r : found.Conflict} → r ≡ NoConflict → conflictOf r ≡ conflict (upTo 32) (dossier .snapshots) → conflict (upTo 32) (dossier .snapshots) ≡ noConflict
   no-conflict e f = sym f ∙ ap conflictOf e
 
   module _ (free : conflict (upTo 32) (dossier .snapshots) ≡ noConflict) where
-    opens-free : opens ≡ firstOf noConflict (overfull (view (o .type)) dossier) (mergedSets (view (o .type)) dossier)
-    unfolding places view
-    opens-free = opening-free (view (o .type)) dossier free
+    opens-free : opens ≡ firstOf noConflict (overfull (typeView (o .type)) dossier) (mergedSets (typeView (o .type)) dossier)
+    unfolding places typeView eventView
+    opens-free = opening-free (typeView (o .type)) dossier free
 
-    pub replies-overfull : (p : ℕ) {r : Lowest} → r ≡ Place p → lowestOf r ≡ overfull (view (o .type)) dossier → (out : List ℕ) → replies (Overfull p) out ≡ outcome (openedAnswer (o .headed) opens) out
+    pub replies-overfull : (p : ℕ) {r : Lowest} → r ≡ Place p → lowestOf r ≡ overfull (typeView (o .type)) dossier → (out : List ℕ) → openReplies (Found (Overfull p)) out ≡ outcome (openedAnswer (o .headed) opens) out
     unfolding openedAnswer firstOf
     replies-overfull p e f out =
-        ap (λ (m : Option ℕ). outcome (openedAnswer (o .headed) (firstOf noConflict m (mergedSets (view (o .type)) dossier))) out) (sym (ap lowestOf e) ∙ f)
+        ap (λ (m : Option ℕ). outcome (openedAnswer (o .headed) (firstOf noConflict m (mergedSets (typeView (o .type)) dossier))) out) (sym (ap lowestOf e) ∙ f)
         ∙ ap (λ (x : model.Opened). outcome (openedAnswer (o .headed) x) out) (sym opens-free)
 
     abbrev bytes : List ℕ
-    bytes = eventBytes (mergedEvent (o .headed) (mergedSets (view (o .type)) dossier))
+    bytes = eventBytes (mergedEvent (o .headed) (mergedSets (typeView (o .type)) dossier))
 
-    opens-merged : {r : Lowest} → r ≡ NoPlace → lowestOf r ≡ overfull (view (o .type)) dossier → opens ≡ merged (mergedSets (view (o .type)) dossier)
+    opens-merged : {r : Lowest} → r ≡ NoPlace → lowestOf r ≡ overfull (typeView (o .type)) dossier → opens ≡ merged (mergedSets (typeView (o .type)) dossier)
     unfolding firstOf
-    opens-merged e f = opens-free ∙ ap (λ (m : Option ℕ). firstOf noConflict m (mergedSets (view (o .type)) dossier)) (sym f ∙ ap lowestOf e)
+    opens-merged e f = opens-free ∙ ap (λ (m : Option ℕ). firstOf noConflict m (mergedSets (typeView (o .type)) dossier)) (sym f ∙ ap lowestOf e)
 
-    pub replies-merged : {r : Lowest} → r ≡ NoPlace → lowestOf r ≡ overfull (view (o .type)) dossier → {out new : List ℕ} {n : ℕ} → 32768 ≤ length out → Wrote out 0 bytes new n → replies (Merged n) new ≡ outcome (openedAnswer (o .headed) opens) out
+    pub replies-merged : {r : Lowest} → r ≡ NoPlace → lowestOf r ≡ overfull (typeView (o .type)) dossier → {out new : List ℕ} {n : ℕ} → dossierCapacity ≤ length out → Wrote out 0 bytes new n → openReplies (Merged n) new ≡ outcome (openedAnswer (o .headed) opens) out
     unfolding openedAnswer
     replies-merged e f {out} {new} {n} h w =
         let a : 0 + length bytes ≤ length out = omega (arith, merged-size s d t o) in
         let m : n ≡ length bytes = omega (arith, w .after) in
-        ap₂ (λ (k : ℕ) (l : List ℕ). replies (Merged k) l) m (wrote-between a w ∙ ap (λ (k : ℕ). bytes ++ drop k out) m)
+        ap₂ (λ (k : ℕ) (l : List ℕ). openReplies (Merged k) l) m (wrote-between a w ∙ ap (λ (k : ℕ). bytes ++ drop k out) m)
         ∙ ap (λ (x : model.Opened). outcome (openedAnswer (o .headed) x) out) (sym (opens-merged e f))
 
 -- ---- the table
@@ -146,21 +149,21 @@ module _
 -- ---- the call
 
 module _ (table s out : List ℕ) where
-  pub open-small : length out < 32768 → replies (Refused 1) out ≡ openCall standard table s out
+  pub open-small : length out < dossierCapacity → openReplies (Refused 1) out ≡ openCall standard table s out
   unfolding openCall openAnswer askedOpening
-  open-small h = rw (lt-leb 32768 (length out) h)
+  open-small h = rw (too-small dossierCapacity (length out) h)
 
-  module _ (h : 32768 ≤ length out) where
-    pub open-table : tableOf table ≡ none → replies (Refused 2) out ≡ openCall standard table s out
+  module _ (h : dossierCapacity ≤ length out) where
+    pub open-table : tableOf table ≡ none → openReplies (Refused 2) out ≡ openCall standard table s out
     unfolding openCall openAnswer askedOpening
-    open-table e = rw (le-leb 32768 (length out) h, e)
+    open-table e = rw (has-room dossierCapacity (length out) h, e)
 
-    pub open-refused : (ts : Table) (n : ℕ) → tableOf table ≡ some ts → dossierAsked standard ts s ≡ refused n → replies (Refused n) out ≡ openCall standard table s out
+    pub open-refused : (ts : Table) (n : ℕ) → tableOf table ≡ some ts → dossierAsked standard ts s ≡ refused n → openReplies (Refused n) out ≡ openCall standard table s out
     unfolding openCall openAnswer askedOpening
-    open-refused ts n e f = rw (le-leb 32768 (length out) h, e, f)
+    open-refused ts n e f = rw (has-room dossierCapacity (length out) h, e, f)
 
     pub open-done :
         (d : DossierIndex) (r : DossierAsked) (a : Accepted table s d r) →
-        outcome (openedAnswer (a .openable .headed) (opening (view (a .openable .type)) (a .openable .headed .dossier))) out ≡ openCall standard table s out
+        outcome (openedAnswer (a .openable .headed) (opening (typeView (a .openable .type)) (modelOf (a .openable .headed)))) out ≡ openCall standard table s out
     unfolding openCall openAnswer askedOpening
-    open-done d r a = rw (le-leb 32768 (length out) h, a .from, a .openable .asked)
+    open-done d r a = rw (has-room dossierCapacity (length out) h, a .from, a .openable .asked)

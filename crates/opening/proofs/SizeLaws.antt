@@ -8,7 +8,7 @@ use native.Mathlib.Omega.{arith}
 use lib.ListN.{length, length-append, length-map}
 use Rattle.model.specs.Order.{Text, texts}
 use Rattle.model.specs.Sets.{canon, smallest}
-use Rattle.model.specs.Rule.{Choice, every, least, View, places, Snapshot, Dossier}
+use Rattle.model.specs.Rule.{Choice, every, least, TypeView, places, Snapshot, Dossier}
 use Rattle.model.specs.Limits.{standard}
 use Rattle.model.specs.Opening.{held, cellAt, column, lastOf, mergedSet, mergedAt, mergedSets}
 use Rattle.model.proofs.SetLaws.{canon-of}
@@ -16,23 +16,24 @@ use Rattle.model.proofs.ValidLaws.{take-of}
 use Rattle.model.proofs.PartLaws.{flatten-of, length-upTo}
 use Rattle.model.proofs.SizeLaws.{merged-objects}
 use Rattle.packed.proofs.LayoutLaws.{All, number-length-5}
+use Rattle.replies.specs.Capacities.{dossierCapacity}
 use Rattle.ontology.specs.Table.{Table}
 use Rattle.ontology.specs.TableLayout.{tableOf}
-use Rattle.ontology.specs.Questions.{leastRoom}
 use Rattle.ontology.specs.declared.types.TypeIndex.{TypeIndex}
-use Rattle.event.specs.Event.{Event, objectCount, view}
+use Rattle.event.specs.Event.{objectCount, typeView, eventView}
 use Rattle.event.specs.EventLayout.{presenceBit, bitNumber, eventBytes}
-use Rattle.event.proofs.EventLayoutLaws.{HeadWritten, presence-below}
+use Rattle.event.proofs.HeadLayoutLaws.{HeadWritten}
+use Rattle.event.proofs.EventLayoutLaws.{presence-below}
 use Rattle.event.proofs.EventSizeLaws.{ValuesShort, head-size, sets-size, each-within}
 use Rattle.event.proofs.EventQuestionLaws.{all-member, member-all, all-at, flat-objects}
-use Rattle.dossier.specs.DossierLayout.{Headed}
+use Rattle.dossier.specs.DossierLayout.{Headed, modelOf}
 use Rattle.dossier.specs.DossierQuestions.{TypedDossier}
 use Rattle.dossier.specs.declared.dossiers.DossierIndex.{DossierIndex}
 use Rattle.dossier.proofs.CellLaws.{held-at}
-use Rattle.dossier.proofs.DossierLayoutLaws.{SnapshotWritten, snapshot-cells}
+use Rattle.dossier.proofs.DossierBodyLaws.{SnapshotWritten, snapshot-cells}
 use Rattle.dossier.proofs.AcceptedLaws.{DossierTaken, taken-written, taken-name, taken-objects, taken-short}
 use Rattle.opening.specs.OpenCall.{mergedEvent}
-use Rattle.opening.specs.OpenIndex.{Openable}
+use Rattle.opening.specs.code.OpenIndex.{Openable}
 use Rattle.opening.proofs.AcceptedLaws.{taken}
 
 -- ---- the values of a merged set are values of its column
@@ -64,13 +65,13 @@ column-short (z ∷ ss) p h = (subst Short (held-at (z .cells) p) (all-at Short 
 
 -- ---- the size of an event with so many objects
 
-event-short : (h : Headed) (ss : List (List Text)) → HeadWritten 32 (h .type) (h .source) (h .dossier .parents) → length (h .type) ≤ 64 → length ss ≡ 32 → objectCount ss ≤ 256 → ValuesShort ss → length (eventBytes (mergedEvent h ss)) ≤ 32768
+event-short : (h : Headed) (ss : List (List Text)) → HeadWritten 32 (h .head) → length (h .head .type) ≤ 64 → length ss ≡ 32 → objectCount ss ≤ 256 → ValuesShort ss → length (eventBytes (mergedEvent h ss)) ≤ dossierCapacity
 unfolding eventBytes mergedEvent
 event-short h ss w t n o v =
     simp length-append
     (omega (
       arith,
-      head-size (h .type) (h .source) (h .dossier .parents) w t,
+      head-size (h .head) w t,
       number-length-5 (bitNumber (map presenceBit ss)) (presence-below ss n),
       sets-size ss v (each-within 256 ss o),
     ))
@@ -79,10 +80,10 @@ event-short h ss w t n o v =
 
 module _ (table s : List ℕ) (types : Table) (a : TypedDossier) (t : tableOf table ≡ some types) (w : DossierTaken types s a) where
   abbrev d : Dossier
-  d = a .headed .dossier
+  d = modelOf (a .headed)
 
-  abbrev v : View Event
-  v = view (a .type)
+  abbrev v : TypeView
+  v = typeView (a .type)
 
   sets-short : ValuesShort (mergedSets v d)
   unfolding mergedSets mergedAt
@@ -93,24 +94,24 @@ module _ (table s : List ℕ) (types : Table) (a : TypedDossier) (t : tableOf ta
       go (p ∷ ps) = (merged-short (v .replaces p) (v .choice p) (column (d .snapshots) p) (column-short (d .snapshots) p (taken-short w)), go ps)
 
   sets-long : length (mergedSets v d) ≡ 32
-  unfolding mergedSets places view
+  unfolding mergedSets places typeView eventView
   sets-long = length-map (places v) (mergedAt v d) ∙ length-upTo 32
 
   sets-few : objectCount (mergedSets v d) ≤ 256
-  unfolding view
+  unfolding typeView eventView
   sets-few =
       omega (
         arith,
         flat-objects (mergedSets v d),
-        merged-objects v d (λ z i. snapshot-cells z (all-member SnapshotWritten (d .snapshots) (taken-written w .snapshots) z i)),
+        merged-objects v d (λ z i. snapshot-cells z (all-member SnapshotWritten (d .snapshots) (taken-written w .body .snapshots) z i)),
         taken-objects w,
       )
 
-  pub merged-room : length (eventBytes (mergedEvent (a .headed) (mergedSets v d))) ≤ leastRoom
+  pub merged-room : length (eventBytes (mergedEvent (a .headed) (mergedSets v d))) ≤ dossierCapacity
   unfolding standard
   merged-room = event-short (a .headed) (mergedSets v d) (taken-written w .head) (taken-name w table t) sets-long sets-few sets-short
 
 -- the same of a dossier that is opened
 pub merged-size : (s : List ℕ) (d : DossierIndex) (t : TypeIndex) (o : Openable s d t) →
-    length (eventBytes (mergedEvent (o .headed) (mergedSets (view (o .type)) (o .headed .dossier)))) ≤ leastRoom
+    length (eventBytes (mergedEvent (o .headed) (mergedSets (typeView (o .type)) (modelOf (o .headed))))) ≤ dossierCapacity
 merged-size s d t o = merged-room (o .table) s (o .types) (record { type = o .type; headed = o .headed }) (o .read) (taken s d t o)

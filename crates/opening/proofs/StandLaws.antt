@@ -11,20 +11,21 @@ use Rattle.model.specs.Rule.{Snapshot}
 use Rattle.model.specs.Opening.{held, cellAt, column}
 use Rattle.packed.specs.Parse.{got}
 use Rattle.packed.proofs.ReadLaws.{to-end}
-use Rattle.event.specs.EventIndex.{SetIs, noSet}
+use Rattle.event.specs.code.EventIndex.{SetIs, noSet}
 use Rattle.event.specs.declared.sets.SetAt.{SetAt}
 use Rattle.event.proofs.EventLayoutLaws.{SetWritten}
 use Rattle.event.proofs.EventQuestionLaws.{all-at, empty-written}
-use Rattle.unions.specs.Merging.{SetRun, SetRuns}
-use Rattle.dossier.specs.DossierLayout.{Headed, readSnapshot}
-use Rattle.dossier.specs.DossierIndex.{SnapshotIs, SnapshotReads, noSnapshot, DossierIs}
+use Rattle.unions.specs.code.Merging.{SetRun, SetRuns}
+use Rattle.dossier.specs.DossierLayout.{Headed}
+use Rattle.dossier.specs.DossierBody.{readSnapshot}
+use Rattle.dossier.specs.code.DossierIndex.{SnapshotIs, SnapshotReads, noSnapshot, DossierIs}
 use Rattle.dossier.specs.declared.snapshots.SnapshotIndex.{SnapshotIndex}
 use Rattle.dossier.specs.declared.dossiers.DossierIndex.{DossierIndex}
 use Rattle.dossier.proofs.CellLaws.{held-at}
 use Rattle.dossier.proofs.AskLaws.{reads-got}
-use Rattle.dossier.proofs.DossierLayoutLaws.{snapshot-was}
-use Rattle.opening.specs.OpenIndex.{CellStands, Shifted, CellsStand}
-use Rattle.opening.specs.CellIndex.{RowIs}
+use Rattle.dossier.proofs.DossierBodyLaws.{snapshot-was}
+use Rattle.opening.specs.code.OpenIndex.{CellStands, Shifted, CellsStand}
+use Rattle.opening.specs.code.CellIndex.{RowIs}
 
 -- ---- the column of a place
 
@@ -120,7 +121,7 @@ own-cell s at x v i p r h l e w z = record {
 }
 
 -- the index of the first snapshot
-pub first-is : (s : List ℕ) (h : Headed) (d : DossierIndex) (j : ℕ) → DossierIs s h d → j ≡ 0 → SnapshotIs (drop (getD (d .starts) j 0) s) (getD (h .dossier .snapshots) j noSnapshot) (d .first)
+pub first-is : (s : List ℕ) (h : Headed) (d : DossierIndex) (j : ℕ) → DossierIs s h d → j ≡ 0 → SnapshotIs (drop (getD (d .starts) j 0) s) (getD (h .snapshots) j noSnapshot) (d .first)
 first-is s h d zero w e = w .first
 first-is s h d (suc j) w e = absurd (omega arith)
 
@@ -153,7 +154,7 @@ stand-more s ss cells r j h w f = record {
       (f .own p a) i;
 }
 
-pub stand-all : (s : List ℕ) (h : Headed) (d : DossierIndex) (cells : List SetAt) (j : ℕ) → DossierIs s h d → d .count ≤ j → StandTo s (h .dossier .snapshots) cells j → CellsStand s (h .dossier .snapshots) cells
+pub stand-all : (s : List ℕ) (h : Headed) (d : DossierIndex) (cells : List SetAt) (j : ℕ) → DossierIs s h d → d .count ≤ j → StandTo s (h .snapshots) cells j → CellsStand s (h .snapshots) cells
 stand-all s h d cells j w k v = record {
   few = omega (arith, w .count, w .few);
   each = λ p i a b. v .each p i a (omega (arith, w .count));

@@ -1,34 +1,34 @@
--- How the sets of a property are merged, by its numbers.
+-- How the sets of a property are merged, by its index.
 use mathlib.Core.Path.{_≡_, refl, sym, ap, _∙_, subst}
-use mathlib.Core.Bool.{Bool, false, not, _||_}
+use mathlib.Core.Bool.{Bool, false, not}
 use mathlib.Core.Option.{Option}
 use mathlib.Core.List.{List}
 use Prim.Native.Nat.{ℕ, _≤_, _<_}
 use native.Mathlib.Omega.{arith}
-use lib.Dec.{eqb}
 use lib.ListN.{getD, getElem?}
 use Rattle.ontology.specs.Table.{Property, EventType}
-use Rattle.ontology.specs.TypeIndex.{PropertyIs, TypeIs}
+use Rattle.ontology.specs.code.TypeIndex.{PropertyIs, hasMax, hasExtreme, hasReplace, TypeIs}
 use Rattle.ontology.specs.declared.properties.PropertyAt.{PropertyAt}
 use Rattle.ontology.specs.declared.types.TypeIndex.{TypeIndex}
+use Rattle.ontology.proofs.TypeIndexLaws.{max-of, extreme-of, replace-of}
 use Rattle.ontology.proofs.RunLaws.{no-element}
-use Rattle.dossier.proofs.CellLaws.{Elem, elem}
-use Rattle.opening.specs.OpenIndex.{RuleOf, RuleIs}
+use Rattle.event.proofs.MatchLaws.{Elem, elem}
+use Rattle.opening.specs.code.OpenIndex.{RuleOf, RuleIs}
 use Rattle.opening.specs.declared.strategies.PlaceRule.{PlaceRule}
 
 -- what the code answers of a property's strategy
 module _
     (x : PropertyAt) {replaces extreme largest : Bool}
-    (a : replaces ≡ eqb (x .strategy) 4) (b : extreme ≡ (eqb (x .strategy) 1 || eqb (x .strategy) 2)) (c : largest ≡ eqb (x .strategy) 2) where
+    (a : replaces ≡ hasReplace x) (b : extreme ≡ hasExtreme x) (c : largest ≡ hasMax x) where
   abbrev pub ruleFrom : PlaceRule
   ruleFrom = record { single = not (x .multivalued); replaces = replaces; extreme = extreme; largest = largest; kind = x .kind }
 
   rule-from : (s : List ℕ) (q : Property) → PropertyIs s q x → RuleOf q ruleFrom
   rule-from s q w = record {
     single = ap not (w .multivalued);
-    replaces = a ∙ ap (λ (n : ℕ). eqb n 4) (w .strategy);
-    extreme = b ∙ ap (λ (n : ℕ). eqb n 1 || eqb n 2) (w .strategy);
-    largest = c ∙ ap (λ (n : ℕ). eqb n 2) (w .strategy);
+    replaces = a ∙ replace-of w;
+    extreme = b ∙ extreme-of w;
+    largest = c ∙ max-of w;
     kind = w .kind .number;
   }
 
@@ -46,7 +46,7 @@ module _ (s : List ℕ) (ty : EventType) (t : TypeIndex) (w : TypeIs s ty t) (k 
 
     pub rule-some :
         {replaces extreme largest : Bool}
-        (a : replaces ≡ eqb (x .strategy) 4) (b : extreme ≡ (eqb (x .strategy) 1 || eqb (x .strategy) 2)) (c : largest ≡ eqb (x .strategy) 2) →
+        (a : replaces ≡ hasReplace x) (b : extreme ≡ hasExtreme x) (c : largest ≡ hasMax x) →
         RuleIs (getElem? (ty .properties) k) (ruleFrom x a b c)
     unfolding RuleIs
     rule-some a b c =

@@ -1,4 +1,2 @@
 pub mod OpenCall
-pub mod Replies
-pub mod OpenIndex
-pub mod CellIndex
+pub mod code

@@ -4,11 +4,13 @@ ghost use lib.ListN.{length};
 ghost use Rattle.model.specs.Limits.{standard};
 ghost use Rattle.model.specs.Sets.{upTo};
 ghost use Rattle.model.specs.Opening.{noConflict, conflict, opening};
-ghost use Rattle.ontology.specs.Questions.{outcome};
-ghost use Rattle.event.specs.Event.{view};
+ghost use Rattle.replies.specs.Answers.{outcome};
+ghost use Rattle.replies.specs.Capacities.{dossierCapacity};
+ghost use Rattle.replies.specs.Replies.{openReplies};
+ghost use Rattle.event.specs.Event.{typeView};
+ghost use Rattle.dossier.specs.DossierLayout.{modelOf};
 ghost use Rattle.opening.specs.OpenCall.{openedAnswer, openCall};
-ghost use Rattle.opening.specs.Replies.{replies};
-ghost use Rattle.opening.specs.OpenIndex.{Openable};
+ghost use Rattle.opening.specs.code.OpenIndex.{Openable};
 use crate::cells::cells_of;
 use crate::conflict::Conflict;
 use crate::conflict::Lowest;
@@ -22,45 +24,38 @@ use dossier::questions::ask_dossier;
 use dossier::questions::type_name;
 use ontology::tables::read_table;
 use ontology::types::TypeIndex;
-use values::versions::EventVersion;
-
-// The length of the merged event; or the event version and the place of a conflict, an overfull place, or the number of the first question that is
-// answered no.
-pub enum Opened {
-    Merged(usize),
-    Conflict(EventVersion, usize),
-    Overfull(usize),
-    Refused(u8),
-}
+use replies::capacities::DOSSIER_CAPACITY;
+use replies::reply::Finding;
+use replies::reply::Opened;
 
 // Without a conflict. The counts are known before the first byte is written.
 fn open_merged(s: &[u8], d: DossierIndex, t: TypeIndex, out: &mut [u8]) -> Opened
-    requires { ⌜ Openable (now s) d t × (32768 ≤ length (now out)) ⌝ }
-    ensures { λ r. ⌜ ((o : Openable (now (s .entry)) d t) → conflict (upTo 32) (o .headed .dossier .snapshots) ≡ noConflict → replies r (now (out .exit)) ≡ outcome (openedAnswer (o .headed) (opening (view (o .type)) (o .headed .dossier))) (now (out .entry))) ⌝ }
+    requires { ⌜ Openable (now s) d t × (dossierCapacity ≤ length (now out)) ⌝ }
+    ensures { λ r. ⌜ ((o : Openable (now (s .entry)) d t) → conflict (upTo 32) (o .headed .snapshots) ≡ noConflict → openReplies r (now (out .exit)) ≡ outcome (openedAnswer (o .headed) (opening (typeView (o .type)) (modelOf (o .headed)))) (now (out .entry))) ⌝ }
 {
     let cells = cells_of(s, d);
     let counts = merged_counts(s, cells, d.count, t);
     match find_overfull(t, counts) {
-        Lowest::Place(place) => Opened::Overfull(place),
+        Lowest::Place(place) => Opened::Found(Finding::Overfull(place)),
         Lowest::NoPlace => Opened::Merged(write_event(s, d, t, cells, counts, out)),
     }
 }
 
 // A dossier that was asked its questions.
 fn open_asked(s: &[u8], d: DossierIndex, t: TypeIndex, out: &mut [u8]) -> Opened
-    requires { ⌜ Openable (now s) d t × (32768 ≤ length (now out)) ⌝ }
-    ensures { λ r. ⌜ ((o : Openable (now (s .entry)) d t) → replies r (now (out .exit)) ≡ outcome (openedAnswer (o .headed) (opening (view (o .type)) (o .headed .dossier))) (now (out .entry))) ⌝ }
+    requires { ⌜ Openable (now s) d t × (dossierCapacity ≤ length (now out)) ⌝ }
+    ensures { λ r. ⌜ ((o : Openable (now (s .entry)) d t) → openReplies r (now (out .exit)) ≡ outcome (openedAnswer (o .headed) (opening (typeView (o .type)) (modelOf (o .headed)))) (now (out .entry))) ⌝ }
 {
     match find_conflict(d) {
-        Conflict::Differs(version, place) => Opened::Conflict(version, place),
+        Conflict::Differs(version, place) => Opened::Found(Finding::Conflict(version, place)),
         Conflict::NoConflict => open_merged(s, d, t, out),
     }
 }
 // The merged event of a dossier, written at the front of `out`.
 pub fn open_dossier(table: &[u8], dossier: &[u8], out: &mut [u8]) -> Opened
-    ensures { λ r. ⌜ replies r (now (out .exit)) ≡ openCall standard (now (table .entry)) (now (dossier .entry)) (now (out .entry)) ⌝ }
+    ensures { λ r. ⌜ openReplies r (now (out .exit)) ≡ openCall standard (now (table .entry)) (now (dossier .entry)) (now (out .entry)) ⌝ }
 {
-    if out.len() < 32768 {
+    if out.len() < DOSSIER_CAPACITY {
         return Opened::Refused(1);
     }
     let d = read_dossier(dossier);

@@ -3,12 +3,12 @@ ghost use mathlib.Core.List.{List};
 ghost use lib.ListN.{length, drop, getD};
 ghost use Rattle.model.specs.Rule.{Snapshot};
 ghost use Rattle.model.specs.Opening.{column};
-ghost use Rattle.unions.specs.Merging.{SetRuns};
-ghost use Rattle.dossier.specs.DossierLayout.{Headed};
-ghost use Rattle.dossier.specs.DossierIndex.{SnapshotIs, noSnapshot, DossierIs, IsDossier};
 ghost use Rattle.event.specs.declared.sets.SetAt.{SetAt};
-ghost use Rattle.opening.specs.OpenIndex.{Shifted, CellsStand};
-ghost use Rattle.opening.specs.CellIndex.{RowIs};
+ghost use Rattle.unions.specs.code.Merging.{SetRuns};
+ghost use Rattle.dossier.specs.DossierLayout.{Headed};
+ghost use Rattle.dossier.specs.code.DossierIndex.{SnapshotIs, noSnapshot, DossierIs, IsDossier};
+ghost use Rattle.opening.specs.code.OpenIndex.{Shifted, CellsStand};
+ghost use Rattle.opening.specs.code.CellIndex.{RowIs};
 use dossier::dossiers::DossierIndex;
 use dossier::snapshots::SnapshotIndex;
 use dossier::snapshots::read_snapshot;
@@ -43,7 +43,7 @@ fn shifted(x: SetAt, at: usize, size: usize) -> SetAt
 // The index of snapshot j. That of the first is kept with the dossier's.
 fn snapshot_at(s: &[u8], d: DossierIndex, j: usize) -> SnapshotIndex
     requires { ⌜ IsDossier (now s) d × (j < d .count) ⌝ }
-    ensures { λ r. ⌜ ((h : Headed) → DossierIs (now (s .entry)) h d → SnapshotIs (drop (getD (d .starts) j 0) (now (s .entry))) (getD (h .dossier .snapshots) j noSnapshot) r) ⌝ }
+    ensures { λ r. ⌜ ((h : Headed) → DossierIs (now (s .entry)) h d → SnapshotIs (drop (getD (d .starts) j 0) (now (s .entry))) (getD (h .snapshots) j noSnapshot) r) ⌝ }
 {
     if j == 0 {
         return d.first;
@@ -55,7 +55,7 @@ fn snapshot_at(s: &[u8], d: DossierIndex, j: usize) -> SnapshotIndex
 // The cells of all snapshots. The set of place p in snapshot j is cell p * 8 + j.
 pub fn cells_of(s: &[u8], d: DossierIndex) -> [SetAt; 256]
     requires { ⌜ IsDossier (now s) d ⌝ }
-    ensures { λ r. ⌜ ((h : Headed) → DossierIs (now (s .entry)) h d → CellsStand (now (s .entry)) (h .dossier .snapshots) r) ⌝ }
+    ensures { λ r. ⌜ ((h : Headed) → DossierIs (now (s .entry)) h d → CellsStand (now (s .entry)) (h .snapshots) r) ⌝ }
 {
     let none = SetAt {
         start: 0,

@@ -6,9 +6,10 @@ ghost use Rattle.model.specs.Sets.{upTo};
 ghost use Rattle.model.specs.Rule.{Cell, holds, Snapshot};
 ghost use Rattle.model.specs.Opening.{lowest, isMark, conflict};
 ghost use Rattle.event.specs.EventLayout.{bitNumber};
-ghost use Rattle.dossier.specs.DossierLayout.{Headed, differBit};
-ghost use Rattle.dossier.specs.DossierIndex.{DossierIs};
-ghost use Rattle.opening.specs.OpenIndex.{lowestOf, conflictOf};
+ghost use Rattle.dossier.specs.DossierLayout.{Headed};
+ghost use Rattle.dossier.specs.DossierBody.{differBit};
+ghost use Rattle.dossier.specs.code.DossierIndex.{DossierIs};
+ghost use Rattle.opening.specs.code.OpenIndex.{lowestOf, conflictOf};
 use dossier::dossiers::DossierIndex;
 use values::versions::EventVersion;
 
@@ -53,7 +54,7 @@ fn snapshot_conflict(version: EventVersion, differ: u64) -> Conflict
 // The lowest snapshot with a differ bit, and its lowest place.
 pub fn find_conflict(d: DossierIndex) -> Conflict
     requires { ⌜ d .count ≤ 8 ⌝ }
-    ensures { λ r. ⌜ ((s : List ℕ) (h : Headed) → DossierIs s h d → conflictOf r ≡ conflict (upTo 32) (h .dossier .snapshots)) ⌝ }
+    ensures { λ r. ⌜ ((s : List ℕ) (h : Headed) → DossierIs s h d → conflictOf r ≡ conflict (upTo 32) (h .snapshots)) ⌝ }
 {
     let mut j: usize = 0;
     while j < d.count {

@@ -11,13 +11,13 @@ ghost use Rattle.model.specs.Opening.{column, mergedAt, mergedSets, overfull};
 ghost use Rattle.values.specs.Spaces.{Kind};
 ghost use Rattle.values.specs.ValueOrder.{extremeOrder};
 ghost use Rattle.ontology.specs.Table.{EventType};
-ghost use Rattle.ontology.specs.TypeIndex.{TypeIs};
-ghost use Rattle.event.specs.Event.{view};
+ghost use Rattle.ontology.specs.code.TypeIndex.{TypeIs};
+ghost use Rattle.event.specs.Event.{typeView};
 ghost use Rattle.event.specs.EventLayout.{presenceBit, bitNumber};
-ghost use Rattle.event.specs.EventIndex.{SetIs};
+ghost use Rattle.event.specs.code.EventIndex.{SetIs};
 ghost use Rattle.event.specs.declared.sets.SetAt.{SetAt};
-ghost use Rattle.opening.specs.OpenIndex.{lowestOf, CellsStand, RuleIs, Lone, Chooses, CountsMerged, Mergeable};
-ghost use Rattle.opening.specs.CellIndex.{isStanding, RowIs};
+ghost use Rattle.opening.specs.code.OpenIndex.{lowestOf, CellsStand, RuleIs, Lone, Chooses, CountsMerged, Mergeable};
+ghost use Rattle.opening.specs.code.CellIndex.{isStanding, RowIs};
 use crate::cells::runs_of;
 use crate::conflict::Lowest;
 use crate::strategies::PlaceRule;
@@ -81,7 +81,7 @@ pub fn is_standing(rule: PlaceRule, n: usize) -> bool
 // Where a merged set stands already: the only snapshot's, the last one's, or the one with the chosen value.
 pub fn standing(s: &[u8], row: [SetAt; 8], n: usize, rule: PlaceRule) -> SetAt
     requires { ⌜ (1 ≤ n) × (n ≤ 8) ⌝ }
-    ensures { λ r. ⌜ ((cells : List SetAt) (place : ℕ) (t : EventType) (d : Dossier) → RowIs cells place row → Mergeable (now (s .entry)) cells n t d → RuleIs (getElem? (t .properties) place) rule → isStanding rule n ≡ true → SetIs (now (s .entry)) (mergedAt (view t) d place) r) ⌝ }
+    ensures { λ r. ⌜ ((cells : List SetAt) (place : ℕ) (t : EventType) (d : Dossier) → RowIs cells place row → Mergeable (now (s .entry)) cells n t d → RuleIs (getElem? (t .properties) place) rule → isStanding rule n ≡ true → SetIs (now (s .entry)) (mergedAt (typeView t) d place) r) ⌝ }
 {
     if n == 1 || rule.replaces {
         return row[n - 1];
@@ -92,7 +92,7 @@ pub fn standing(s: &[u8], row: [SetAt; 8], n: usize, rule: PlaceRule) -> SetAt
 // How many objects a merged set has.
 fn merged_count(s: &[u8], row: [SetAt; 8], n: usize, rule: PlaceRule) -> usize
     requires { ⌜ (1 ≤ n) × (n ≤ 8) ⌝ }
-    ensures { λ r. ⌜ ((cells : List SetAt) (place : ℕ) (t : EventType) (d : Dossier) → RowIs cells place row → Mergeable (now (s .entry)) cells n t d → RuleIs (getElem? (t .properties) place) rule → r ≡ length (mergedAt (view t) d place)) ⌝ }
+    ensures { λ r. ⌜ ((cells : List SetAt) (place : ℕ) (t : EventType) (d : Dossier) → RowIs cells place row → Mergeable (now (s .entry)) cells n t d → RuleIs (getElem? (t .properties) place) rule → r ≡ length (mergedAt (typeView t) d place)) ⌝ }
 {
     if is_standing(rule, n) {
         let x = standing(s, row, n, rule);
@@ -141,7 +141,7 @@ fn is_overfull(rule: PlaceRule, count: usize) -> bool
 // The lowest single-valued place that would get more than one object.
 pub fn find_overfull(t: TypeIndex, counts: [usize; 32]) -> Lowest
     requires { ⌜ t .count ≤ 32 ⌝ }
-    ensures { λ r. ⌜ ((u : List ℕ) (ty : EventType) (d : Dossier) → TypeIs u ty t → CountsMerged ty d counts → lowestOf r ≡ overfull (view ty) d) ⌝ }
+    ensures { λ r. ⌜ ((u : List ℕ) (ty : EventType) (d : Dossier) → TypeIs u ty t → CountsMerged ty d counts → lowestOf r ≡ overfull (typeView ty) d) ⌝ }
 {
     let mut p: usize = 0;
     while p < 32 {
@@ -157,7 +157,7 @@ pub fn find_overfull(t: TypeIndex, counts: [usize; 32]) -> Lowest
 
 // The presence number of merged sets of so many objects.
 pub fn presence_of(counts: [usize; 32]) -> u64
-    ensures { λ r. ⌜ ((ty : EventType) (d : Dossier) → CountsMerged ty d counts → r ≡ bitNumber (map presenceBit (mergedSets (view ty) d))) ⌝ }
+    ensures { λ r. ⌜ ((ty : EventType) (d : Dossier) → CountsMerged ty d counts → r ≡ bitNumber (map presenceBit (mergedSets (typeView ty) d))) ⌝ }
 {
     let mut present = [false; 32];
     let mut p: usize = 0;

@@ -1,16 +1,13 @@
 ghost use Prim.Native.Nat.{_≤_};
-ghost use mathlib.Core.List.{List, map, flatten};
 ghost use lib.ListN.{length};
-ghost use Rattle.model.specs.Order.{Text};
 ghost use Rattle.model.specs.Opening.{mergedAt, mergedSets};
-ghost use Rattle.packed.specs.Packed.{text};
-ghost use Rattle.packed.specs.Written.{Wrote};
-ghost use Rattle.event.specs.Event.{view};
-ghost use Rattle.event.specs.EventLayout.{headBytes, setsBytes, eventBytes};
-ghost use Rattle.event.specs.EventIndex.{HeadIs};
+ghost use Rattle.packed.specs.code.Written.{Wrote};
+ghost use Rattle.event.specs.Event.{typeView};
+ghost use Rattle.event.specs.EventLayout.{setBytes, setsBytes, eventBytes};
+ghost use Rattle.dossier.specs.DossierLayout.{modelOf};
 ghost use Rattle.opening.specs.OpenCall.{mergedEvent};
-ghost use Rattle.opening.specs.OpenIndex.{HeadRoom, SetsRoom, Writable};
-ghost use Rattle.opening.specs.CellIndex.{RowRoom};
+ghost use Rattle.opening.specs.code.OpenIndex.{SetsRoom, Writable};
+ghost use Rattle.opening.specs.code.CellIndex.{RowRoom};
 use crate::cells::runs_of;
 use crate::merge::is_standing;
 use crate::merge::presence_of;
@@ -18,52 +15,40 @@ use crate::merge::standing;
 use crate::strategies::PlaceRule;
 use crate::strategies::rule_of;
 use dossier::dossiers::DossierIndex;
-use dossier::parts::text_part;
-use event::read::HeadAt;
+use event::head::hashes_part;
+use event::head::text_part;
+use event::head::write_head;
 use event::sets::SetAt;
+use event::write::write_set;
 use ontology::types::TypeIndex;
-use packed::write::copy_part;
 use packed::write::write_number;
-use packed::write::write_text;
 use unions::many::write_merged;
 
-// Type name, source and parents, as the dossier has them.
-fn write_head(s: &[u8], head: HeadAt, out: &mut [u8]) -> usize
-    requires { ⌜ HeadRoom (now s) head (length (now out)) ⌝ }
-    ensures { λ r. ⌜ ((type source : Text) (parents : List Text) → HeadIs (now (s .entry)) type source parents head → Wrote (now (out .entry)) 0 (headBytes type source parents) (now (out .exit)) r) ⌝ }
-{
-    let name = head.name;
-    let source = head.source;
-    let parents = head.parents;
-    let after_name = write_text(text_part(s, name), out, 0);
-    let after_source = write_text(text_part(s, source), out, after_name);
-    let after_count = write_number(out, after_source, parents.count as u64);
-    copy_part(s, parents.start, parents.end, out, after_count)
-}
-
-// A merged set that stands already is copied; a union is written.
-fn write_values(
+// The merged set of a place that is present. One that stands already is copied; a union is written.
+fn write_place(
     s: &[u8],
     row: [SetAt; 8],
     n: usize,
     rule: PlaceRule,
+    count: usize,
     out: &mut [u8],
     at: usize,
 ) -> usize
-    requires { ⌜ (1 ≤ n) × (n ≤ 8) × RowRoom (now s) row n rule at (length (now out)) ⌝ }
-    ensures { λ r. ⌜ ((p : RowRoom (now (s .entry)) row n rule at (length (now (out .entry)))) → Wrote (now (out .entry)) at (flatten (map text (mergedAt (view (p .room .type)) (p .room .dossier) (p .place)))) (now (out .exit)) r) ⌝ }
+    requires { ⌜ (1 ≤ n) × (n ≤ 8) × RowRoom (now s) row n rule count at (length (now out)) ⌝ }
+    ensures { λ r. ⌜ ((p : RowRoom (now (s .entry)) row n rule count at (length (now (out .entry)))) → Wrote (now (out .entry)) at (setBytes (mergedAt (typeView (p .room .type)) (p .room .dossier) (p .place))) (now (out .exit)) r) ⌝ }
 {
     if is_standing(rule, n) {
         let x = standing(s, row, n, rule);
-        return copy_part(s, x.start, x.end, out, at);
+        return write_set(s, x, out, at);
     }
+    let after_count = write_number(out, at, count as u64);
     let runs = runs_of(row);
     let starts = runs.starts;
     let ends = runs.ends;
-    write_merged(s, starts, ends, n, out, at)
+    write_merged(s, starts, ends, n, out, after_count)
 }
 
-// The count and the values of each present place.
+// The merged set of each place that is present.
 fn write_sets(
     s: &[u8],
     cells: [SetAt; 256],
@@ -74,7 +59,7 @@ fn write_sets(
     at: usize,
 ) -> usize
     requires { ⌜ (1 ≤ n) × (n ≤ 8) × SetsRoom (now s) cells n t counts at (length (now out)) ⌝ }
-    ensures { λ r. ⌜ ((p : SetsRoom (now (s .entry)) cells n t counts at (length (now (out .entry)))) → Wrote (now (out .entry)) at (setsBytes (mergedSets (view (p .type)) (p .dossier))) (now (out .exit)) r) ⌝ }
+    ensures { λ r. ⌜ ((p : SetsRoom (now (s .entry)) cells n t counts at (length (now (out .entry)))) → Wrote (now (out .entry)) at (setsBytes (mergedSets (typeView (p .type)) (p .dossier))) (now (out .exit)) r) ⌝ }
 {
     let mut next = at;
     let mut p: usize = 0;
@@ -82,7 +67,6 @@ fn write_sets(
         let count = counts[p];
         if count != 0 {
             let rule = rule_of(t, p);
-            let after_count = write_number(out, next, count as u64);
             let row = [
                 cells[p * 8],
                 cells[p * 8 + 1],
@@ -93,7 +77,7 @@ fn write_sets(
                 cells[p * 8 + 6],
                 cells[p * 8 + 7],
             ];
-            next = write_values(s, row, n, rule, out, after_count);
+            next = write_place(s, row, n, rule, count, out, next);
         }
         p += 1;
     }
@@ -110,10 +94,13 @@ pub fn write_event(
     out: &mut [u8],
 ) -> usize
     requires { ⌜ Writable (now s) d t cells counts (length (now out)) ⌝ }
-    ensures { λ r. ⌜ ((w : Writable (now (s .entry)) d t cells counts (length (now (out .entry)))) → Wrote (now (out .entry)) 0 (eventBytes (mergedEvent (w .headed) (mergedSets (view (w .type)) (w .headed .dossier)))) (now (out .exit)) r) ⌝ }
+    ensures { λ r. ⌜ ((w : Writable (now (s .entry)) d t cells counts (length (now (out .entry)))) → Wrote (now (out .entry)) 0 (eventBytes (mergedEvent (w .headed) (mergedSets (typeView (w .type)) (modelOf (w .headed))))) (now (out .exit)) r) ⌝ }
 {
     let head = d.head;
-    let after_head = write_head(s, head, out);
+    let name = text_part(s, head.name);
+    let source = text_part(s, head.source);
+    let hashes = hashes_part(s, head.parents);
+    let after_head = write_head(name, source, hashes, out, 0);
     let after_presence = write_number(out, after_head, presence_of(counts));
     write_sets(s, cells, d.count, t, counts, out, after_presence)
 }

@@ -5,21 +5,22 @@ use crate::fields::read_field;
 use crate::lines;
 use crate::outputs::output;
 use crate::outputs::write_batch;
+use crate::outputs::write_combined;
 use crate::outputs::write_opened;
 use crate::outputs::write_reply;
+use batch::calls::batch;
 use combining::check::check_event;
 use combining::combine::combine;
 use event::ask::value;
 use hashing::calls::hash;
 use hashing::calls::hash_text;
-use merger::batch::batch;
-use merger::report::report;
-use ontology::replies::Reply;
-use ontology::tables::TableReply;
 use ontology::tables::check_table;
 use opening::calls::open_dossier;
 use packed::read::NumberAt;
 use packed::read::read_number;
+use replies::reply::Reply;
+use replies::reply::TableReply;
+use report::calls::report;
 
 // 1, check a table: the table.
 fn replay_table(script: &[u8], at: usize) -> usize {
@@ -95,7 +96,7 @@ fn replay_one(call: u64, script: &[u8], at: usize) -> usize {
 
 fn write_combine<'a>(table: &[u8], left: &'a [u8], right: &'a [u8], out: &mut [u8]) {
     let r = combine(table, left, right, out);
-    write_reply(r, out);
+    write_combined(r, out);
 }
 
 // 3, combine: the size of the output, the table, and the two dossiers.

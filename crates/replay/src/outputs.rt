@@ -2,9 +2,11 @@
 ghost use mathlib.Core.Path.{_≡_};
 ghost use lib.ListN.{length};
 use crate::lines;
-use merger::batch::BatchReply;
-use ontology::replies::Reply;
-use opening::calls::Opened;
+use replies::reply::BatchReply;
+use replies::reply::Combined;
+use replies::reply::Finding;
+use replies::reply::Opened;
+use replies::reply::Reply;
 
 // The largest output, filled with EE. The contract says the length alone, so that no proof holds the bytes.
 pub fn output() -> [u8; 40960]
@@ -39,42 +41,69 @@ fn write_given(n: usize, out: &[u8]) {
     write_kept(out, n);
 }
 
+fn write_ok(n: usize, out: &[u8]) {
+    lines::write(b"ok ");
+    write_given(n, out);
+}
+
+fn write_refused(n: u8, out: &[u8]) {
+    lines::write_refusal(n);
+    write_kept(out, 0);
+}
+
 // `ok HEX` or `refused N`
 pub fn write_reply(r: Reply, out: &[u8]) {
     match r {
         Reply::Done(n) => {
-            lines::write(b"ok ");
-            write_given(n, out);
+            write_ok(n, out);
         }
         Reply::Refused(n) => {
-            lines::write_refusal(n);
-            write_kept(out, 0);
+            write_refused(n, out);
         }
     }
 }
 
-// `merged HEX`, `conflict VERSION PLACE`, `overfull PLACE` or `refused N`
+// `ok HEX` or `refused N`
+pub fn write_combined(r: Combined, out: &[u8]) {
+    match r {
+        Combined::Done(n) => {
+            write_ok(n, out);
+        }
+        Combined::Refused(n) => {
+            write_refused(n, out);
+        }
+    }
+}
+
+// `conflict VERSION PLACE` or `overfull PLACE`
+fn write_finding(f: Finding, out: &[u8]) {
+    match f {
+        Finding::Conflict(version, place) => {
+            lines::write(b"conflict ");
+            lines::write_number(version.0);
+            lines::write(b" ");
+            lines::write_number(place as u64);
+        }
+        Finding::Overfull(place) => {
+            lines::write(b"overfull ");
+            lines::write_number(place as u64);
+        }
+    }
+    write_kept(out, 0);
+}
+
+// `merged HEX`, what was found, or `refused N`
 pub fn write_opened(r: Opened, out: &[u8]) {
     match r {
         Opened::Merged(n) => {
             lines::write(b"merged ");
             write_given(n, out);
         }
-        Opened::Conflict(version, place) => {
-            lines::write(b"conflict ");
-            lines::write_number(version.0);
-            lines::write(b" ");
-            lines::write_number(place as u64);
-            write_kept(out, 0);
-        }
-        Opened::Overfull(place) => {
-            lines::write(b"overfull ");
-            lines::write_number(place as u64);
-            write_kept(out, 0);
+        Opened::Found(f) => {
+            write_finding(f, out);
         }
         Opened::Refused(n) => {
-            lines::write_refusal(n);
-            write_kept(out, 0);
+            write_refused(n, out);
         }
     }
 }
@@ -83,8 +112,7 @@ pub fn write_opened(r: Opened, out: &[u8]) {
 pub fn write_batch(r: BatchReply, out: &[u8]) {
     match r {
         BatchReply::Done(n) => {
-            lines::write(b"ok ");
-            write_given(n, out);
+            write_ok(n, out);
         }
         BatchReply::Refused(n, position) => {
             lines::write_refusal(n);

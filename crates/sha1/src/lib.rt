@@ -5,7 +5,7 @@ ghost use Prim.Native.Nat.{ℕ, _+_, _*_, _/_, _%_, _^_, _≤_, _<_};
 ghost use lib.ListN.{length, getD, take};
 ghost use lib.Seq.{sets};
 ghost use Rattle.sha1.specs.Fips.{HashValue, ROTL, f, K, zeros, padded, block, schedule, round, rounds, sum, compressed, digest, sha1Of};
-ghost use Rattle.sha1.specs.StateWords.{wordsOf};
+ghost use Rattle.sha1.specs.code.StateWords.{wordsOf};
 
 // Five words: the hash value, and the working variables.
 pub struct State {

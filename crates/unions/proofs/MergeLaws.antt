@@ -17,18 +17,16 @@ use Rattle.model.proofs.OrderLaws.{equal-true, equal-false}
 use Rattle.model.proofs.KeyedLaws.{above-member, merge-left}
 use Rattle.model.proofs.SetLaws.{rising-ups, canon-of, canon-ups, canon-same, smallest-member, smaller}
 use Rattle.model.proofs.StepLaws.{union-left-nil, union-right-nil, smallest-snoc}
-use Rattle.packed.specs.Packed.{text}
-use Rattle.packed.specs.Located.{part}
+use Rattle.packed.specs.Packed.{text, part}
 use Rattle.packed.proofs.LayoutLaws.{All, text-length, number-bounds}
-use Rattle.packed.proofs.ReadLaws.{part-length}
-use Rattle.packed.specs.Written.{Wrote}
+use Rattle.packed.proofs.ReadLaws.{part-length, stretch}
+use Rattle.packed.specs.code.Written.{Wrote}
 use Rattle.packed.proofs.WriteLaws.{ToGo, all-gone}
-use Rattle.event.proofs.SetLaws.{stretch}
 use Rattle.unions.specs.declared.heads.Form.the-variants as form
 use Rattle.unions.specs.declared.many.Least.{Least}
 use Rattle.unions.specs.declared.many.Least.the-variants.{At, Nothing}
-use Rattle.unions.specs.Runs.{written, run, Run, HeadIs, NoHead}
-use Rattle.unions.specs.Merging.{SetRun, SetRuns, passed, RightLeast, valueAt, Lesser, IsLeast}
+use Rattle.unions.specs.code.Runs.{written, run, Run, HeadIs, NoHead}
+use Rattle.unions.specs.code.Merging.{SetRun, SetRuns, passed, RightLeast, valueAt, Lesser, IsLeast}
 use Rattle.unions.proofs.RunLaws.{First, part-then, head-part, run-head, texts-fit, write-room, write-next}
 
 -- ---- the least value of rising lists is the first of their union, and the others follow without it

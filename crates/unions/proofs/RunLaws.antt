@@ -12,21 +12,19 @@ use Rattle.model.specs.Sets.{Ups, union}
 use Rattle.model.proofs.SetLaws.{rising-ups}
 use Rattle.model.proofs.StepLaws.{union-step, union-left-nil, union-right-nil}
 use Rattle.packed.specs.Parse.{fail, got}
-use Rattle.packed.specs.Packed.{text, readText}
-use Rattle.packed.specs.Located.{part, textAt}
+use Rattle.packed.specs.Packed.{text, readText, part}
+use Rattle.packed.specs.code.Located.{textAt}
 use Rattle.packed.specs.declared.read.TextAt.{TextAt}
 use Rattle.packed.specs.declared.read.TextAt.the-variants as at
-use Rattle.packed.proofs.LayoutLaws.{All, text-read, text-was, text-length, number-bounds}
-use Rattle.packed.proofs.ReadLaws.{text-stops, text-none, part-length, to-end}
-use Rattle.packed.specs.Written.{Wrote}
+use Rattle.packed.proofs.LayoutLaws.{All, text-read, text-was, text-length, number-bounds, flat}
+use Rattle.packed.proofs.ReadLaws.{text-stops, text-none, part-length, to-end, stretch}
+use Rattle.packed.specs.code.Written.{Wrote}
 use Rattle.packed.proofs.WriteLaws.{ToGo, gone, all-gone}
-use Rattle.event.proofs.SetLaws.{stretch}
-use Rattle.event.proofs.HeadLaws.{flat}
 use Rattle.unions.specs.declared.heads.Form.{Form}
 use Rattle.unions.specs.declared.heads.Form.the-variants as form
 use Rattle.unions.specs.declared.pair.Step.{Step}
 use Rattle.unions.specs.declared.pair.Step.the-variants.{Next, Alone}
-use Rattle.unions.specs.Runs.{written, fits, run, Hashes, Run, HeadIs, NoHead, Heads, StepIs, IsAlone, Steps, Room, TextsRoom, HashesRoom}
+use Rattle.unions.specs.code.Runs.{written, fits, run, Hashes, Run, HeadIs, NoHead, Heads, StepIs, IsAlone, Steps, Room, TextsRoom, HashesRoom}
 
 -- ---- a value's bytes: never none, and where one value's bytes end the next one's begin
 

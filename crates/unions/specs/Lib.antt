@@ -1,2 +1,1 @@
-pub mod Runs
-pub mod Merging
+pub mod code

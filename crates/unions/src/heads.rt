@@ -3,7 +3,7 @@ ghost use mathlib.Core.Path.{_≡_};
 ghost use mathlib.Core.List.{List, []};
 ghost use lib.ListN.{length, drop};
 ghost use Rattle.model.specs.Order.{Text};
-ghost use Rattle.unions.specs.Runs.{Run, Heads};
+ghost use Rattle.unions.specs.code.Runs.{Run, Heads};
 use packed::read::TextAt;
 use packed::read::read_text;
 

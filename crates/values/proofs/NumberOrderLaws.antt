@@ -16,7 +16,7 @@ use Rattle.packed.proofs.LayoutLaws.{lt-or-ge}
 use Rattle.values.specs.Decimal.{areDigits, numeralAfter, numeral, isNatural, inDecimal, isNegative, magnitude}
 use Rattle.values.specs.Spaces.{Kind, unsigned, signed, decimal, currency, sequence, datetime, boolean, string, hex, isUnsigned, isSigned, wholePart, pointPart, isFraction, unscaled, isMagnitude, isDecimal, isOfKind}
 use Rattle.values.specs.ValueOrder.{minus, withSign, valueNumber, valueOrder}
-use Rattle.values.specs.NumberAnswer.{isNumber, sizeOrder, hasNonzero}
+use Rattle.values.specs.code.NumberAnswer.{isNumber, sizeOrder, hasNonzero}
 use Rattle.values.proofs.NumeralLaws.{and-left, and-right, digit-least, digits-head, digits-append, natural-digits, natural-nonempty, natural-first, digits-order, longer-larger, natural-order, size-same, in-decimal-numeral}
 
 -- ---- by length, and then by bytes

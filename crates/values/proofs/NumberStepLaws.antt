@@ -13,7 +13,7 @@ use Rattle.model.proofs.Cases.{and-false, and-true}
 use Rattle.packed.proofs.ReadLaws.{drop-next, to-end}
 use Rattle.values.specs.Decimal.{isDigit, areDigits, numeral, isNatural, isNegative, magnitude}
 use Rattle.values.specs.Spaces.{isWidth, isSigned, wholePart, pointPart, isFraction, unscaled, isMagnitude, isDecimal}
-use Rattle.values.specs.NumberAnswer.{hasNonzero}
+use Rattle.values.specs.code.NumberAnswer.{hasNonzero}
 use Rattle.values.proofs.NumeralLaws.{digit-least, digits-head, natural-digits, natural-first, natural-nonempty}
 use Rattle.values.proofs.NumberOrderLaws.{negative-cons, positive-magnitude, numeral-nonzero, fixed, fixed-nonzero}
 

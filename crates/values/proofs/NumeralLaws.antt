@@ -15,7 +15,7 @@ use Rattle.model.proofs.Cases.{three, and-parts}
 use Rattle.model.proofs.OrderLaws.{lt-compare, gt-compare, eq-compare, compare-lt, compare-gt}
 use Rattle.packed.proofs.LayoutLaws.{lt-or-ge}
 use Rattle.values.specs.Decimal.{isDigit, areDigits, numeralAfter, numeral, isNatural, digitsBefore, inDecimal}
-use Rattle.values.specs.NumberAnswer.{sizeOrder}
+use Rattle.values.specs.code.NumberAnswer.{sizeOrder}
 
 -- ---- tests
 

@@ -16,9 +16,9 @@ use Rattle.model.specs.Sets.{union}
 use Rattle.packed.proofs.LayoutLaws.{lt-or-ge}
 use Rattle.packed.proofs.ReadLaws.{drop-next}
 use Rattle.values.specs.Calendar.{instant}
-use Rattle.values.specs.Spaces.{Kind, unsigned, signed, decimal, currency, sequence, datetime, boolean, string, hex, kindNumber, isKind, isHexDigit, areHexDigits, isOfKind, inSpace}
+use Rattle.values.specs.Spaces.{Kind, unsigned, signed, decimal, currency, sequence, datetime, boolean, string, hex, isKind, isHexDigit, areHexDigits, kindNumber, unsignedNumber, signedNumber, decimalNumber, stringNumber, hexNumber, isOfKind, inSpace}
 use Rattle.values.specs.ValueOrder.{isOrdered, valueNumber, valueOrder, extremeOrder}
-use Rattle.values.specs.KindNumbers.{kindOf, sizeParameter, afterParameter, signParameter}
+use Rattle.values.specs.code.KindNumbers.{kindOf, sizeParameter, afterParameter, signParameter}
 use Rattle.values.proofs.NumeralLaws.{and-right}
 use Rattle.values.proofs.NumberOrderLaws.{equal-number-equal-bytes}
 use Rattle.values.proofs.InstantLaws.{equal-instant-equal-bytes}
@@ -56,21 +56,22 @@ answered kind size after sign n j {r} v e p h k q w =
 
 -- a number of no kind
 pub kind-none :
-    (kind size after sign : ℕ) → (kind ≡ 1 → ⊥) → (kind ≡ 2 → ⊥) → (kind ≡ 3 → ⊥) → (kind ≡ 4 → ⊥) → (kind ≡ 5 → ⊥) →
-    (kind ≡ 6 → ⊥) → (kind ≡ 7 → ⊥) → (kind ≡ 8 → ⊥) → (kind ≡ 9 → ⊥) →
+    (kind size after sign : ℕ) → (kind ≡ unsignedNumber → ⊥) → (kind ≡ signedNumber → ⊥) → (kind ≡ decimalNumber → ⊥) →
+    (kind ≡ kindNumber currency → ⊥) → (kind ≡ kindNumber sequence → ⊥) → (kind ≡ kindNumber datetime → ⊥) →
+    (kind ≡ kindNumber boolean → ⊥) → (kind ≡ stringNumber → ⊥) → (kind ≡ hexNumber → ⊥) →
     kindOf kind size after sign ≡ none
 unfolding kindOf
 kind-none kind size after sign n1 n2 n3 n4 n5 n6 n7 n8 n9 =
     rw (
-      ne-eqb kind 1 n1,
-      ne-eqb kind 2 n2,
-      ne-eqb kind 3 n3,
-      ne-eqb kind 4 n4,
-      ne-eqb kind 5 n5,
-      ne-eqb kind 6 n6,
-      ne-eqb kind 7 n7,
-      ne-eqb kind 8 n8,
-      ne-eqb kind 9 n9,
+      ne-eqb kind unsignedNumber n1,
+      ne-eqb kind signedNumber n2,
+      ne-eqb kind decimalNumber n3,
+      ne-eqb kind (kindNumber currency) n4,
+      ne-eqb kind (kindNumber sequence) n5,
+      ne-eqb kind (kindNumber datetime) n6,
+      ne-eqb kind (kindNumber boolean) n7,
+      ne-eqb kind stringNumber n8,
+      ne-eqb kind hexNumber n9,
     )
 
 pub kind-least : (k : Kind) → 1 ≤ kindNumber k
@@ -102,7 +103,7 @@ of-kind k v e = and-right (leb 1 (length v) && leb (length v) 120) (isOfKind k v
 
 -- ---- order and choice
 
-pub is-datetime-kind : (k : Kind) → kindNumber k ≡ 6 → k ≡ datetime
+pub is-datetime-kind : (k : Kind) → kindNumber k ≡ kindNumber datetime → k ≡ datetime
 is-datetime-kind (unsigned width) e = absurd (omega arith)
 is-datetime-kind (signed width) e = absurd (omega arith)
 is-datetime-kind (decimal total after sign) e = absurd (omega arith)
@@ -114,20 +115,21 @@ is-datetime-kind (string most) e = absurd (omega arith)
 is-datetime-kind (hex bytes) e = absurd (omega arith)
 
 -- "Kinds 1 to 6 are ordered"
-pub ordered-low : (k : Kind) → isOrdered k ≡ true → kindNumber k ≤ 6
+pub ordered-low : (k : Kind) → isOrdered k ≡ true → kindNumber k ≤ kindNumber datetime
 unfolding isOrdered
-ordered-low k h = leb-true (kindNumber k) 6 h
+ordered-low k h = leb-true (kindNumber k) (kindNumber datetime) h
 
 -- "Kinds 1 to 6 are ordered by their numbers or instants, so equal values have equal bytes."
 pub equal-values-equal-bytes :
     (k : Kind) (a b : Text) → isOrdered k ≡ true → inSpace k a ≡ true → inSpace k b ≡ true → valueNumber k a ≡ valueNumber k b → a ≡ b
 unfolding isOfKind valueNumber
 equal-values-equal-bytes k a b n p q e = ⊎-elim
-    (λ (l : kindNumber k < 6). equal-number-equal-bytes k a b (le-leb (kindNumber k) 5 (omega arith)) (of-kind k a p) (of-kind k b q) e)
+    (λ (l : kindNumber k < kindNumber datetime).
+    equal-number-equal-bytes k a b (le-leb (kindNumber k) (kindNumber sequence) (omega arith)) (of-kind k a p) (of-kind k b q) e)
     (λ (g : 6 ≤ kindNumber k).
     subst (λ (x : Kind). isOfKind x a ≡ true → isOfKind x b ≡ true → valueNumber x a ≡ valueNumber x b → a ≡ b)
     (sym (is-datetime-kind k (omega (arith, ordered-low k n)))) (datetimes a b) (of-kind k a p) (of-kind k b q) e)
-    (lt-or-ge (kindNumber k) 6)
+    (lt-or-ge (kindNumber k) (kindNumber datetime))
   where
     datetimes : (a b : Text) → isOfKind datetime a ≡ true → isOfKind datetime b ≡ true → valueNumber datetime a ≡ valueNumber datetime b → a ≡ b
     datetimes a b p q e = let s : instant a ≡ instant b = cc in equal-instant-equal-bytes a b p q s

@@ -3,5 +3,4 @@ pub mod Calendar
 pub mod Unicode
 pub mod Spaces
 pub mod ValueOrder
-pub mod NumberAnswer
-pub mod KindNumbers
+pub mod code

@@ -6,6 +6,7 @@ use lib.ListN.{length, take, drop}
 use lib.Dec.{ltb, leb, eqb}
 use Rattle.model.specs.Order.{Text, texts, equal}
 use Rattle.packed.specs.Ascii.{ascii}
+use Rattle.packed.specs.Packed.{isWithin}
 use Rattle.values.specs.Decimal.{isDigit, areDigits, numeral, isNatural, isNegative, magnitude}
 use Rattle.values.specs.Calendar.{isDatetime}
 use Rattle.values.specs.Unicode.{isUtf8}
@@ -36,8 +37,26 @@ kindNumber boolean = 7
 kindNumber (string n) = 8
 kindNumber (hex n) = 9
 
-abbrev pub isWithin : ℕ → ℕ → ℕ → Bool
-isWithin least most n = leb least n && leb n most
+-- the numbers of the kinds with parameters, which are the same for all parameters
+
+abbrev pub unsignedNumber : ℕ
+unsignedNumber = kindNumber (unsigned 0)
+
+abbrev pub signedNumber : ℕ
+signedNumber = kindNumber (signed 0)
+
+abbrev pub decimalNumber : ℕ
+decimalNumber = kindNumber (decimal 0 0 false)
+
+abbrev pub stringNumber : ℕ
+stringNumber = kindNumber (string 0)
+
+abbrev pub hexNumber : ℕ
+hexNumber = kindNumber (hex 0)
+
+-- a kind is sequence
+abbrev pub isSequence : Kind → Bool
+isSequence k = eqb (kindNumber k) (kindNumber sequence)
 
 -- "width 1, 2, 3, 4 or 8 bytes"
 unfoldable pub isWidth : ℕ → Bool

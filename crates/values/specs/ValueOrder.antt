@@ -9,7 +9,7 @@ use Rattle.values.specs.Spaces.{Kind, kindNumber, unsigned, signed, deci
 
 -- "Kinds 1 to 6 are ordered by their numbers or instants, so equal values have equal bytes."
 unfoldable pub isOrdered : Kind → Bool
-isOrdered k = leb (kindNumber k) 6
+isOrdered k = leb (kindNumber k) (kindNumber datetime)
 
 -- the integer of a sign and a magnitude
 unfoldable pub minus : ℕ → Integer

@@ -5,11 +5,11 @@ ghost use mathlib.Core.Bool.{true, cond, _&&_};
 ghost use Prim.Native.Nat.{_+_, _-_, _*_, _≤_, _<_, compare};
 ghost use lib.Dec.{leb, eqb};
 ghost use lib.ListN.{length};
+ghost use Rattle.packed.specs.code.Comparison.{ordering};
 ghost use Rattle.values.specs.Decimal.{isDigit};
 ghost use Rattle.values.specs.Calendar.{hasForm, field, year, month, day, hour, minute, second, isLeap, daysIn, isMoment, isDatetime};
 ghost use Rattle.values.specs.Spaces.{datetime};
 ghost use Rattle.values.specs.ValueOrder.{valueOrder};
-ghost use Rattle.packed.specs.Comparison.{ordering};
 use packed::order::Ordering;
 
 pub fn is_digit(b: u8) -> bool

@@ -3,11 +3,11 @@ ghost use mathlib.Core.Path.{_≡_};
 ghost use mathlib.Core.Bool.{true, _&&_};
 ghost use Prim.Native.Nat.{_*_, _-_, _^_};
 ghost use lib.Dec.{leb, ltb};
+ghost use Rattle.packed.specs.code.Comparison.{ordering};
 ghost use Rattle.values.specs.Decimal.{areDigits, isNatural, isNegative, numeral};
 ghost use Rattle.values.specs.Spaces.{Kind, isWidth, isUnsigned, isSigned, isMagnitude, isDecimal, isOfKind};
 ghost use Rattle.values.specs.ValueOrder.{valueOrder};
-ghost use Rattle.values.specs.NumberAnswer.{isNumber, sizeOrder, hasNonzero};
-ghost use Rattle.packed.specs.Comparison.{ordering};
+ghost use Rattle.values.specs.code.NumberAnswer.{isNumber, sizeOrder, hasNonzero};
 use packed::order::Ordering;
 use packed::order::compare;
 

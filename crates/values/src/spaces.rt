@@ -9,15 +9,24 @@ ghost use lib.ListN.{length, take, drop};
 ghost use Rattle.model.specs.Order.{texts, equal, pick};
 ghost use Rattle.model.specs.Sets.{union};
 ghost use Rattle.packed.specs.Ascii.{ascii};
+ghost use Rattle.packed.specs.code.Comparison.{ordering};
 ghost use Rattle.values.specs.Unicode.{isUtf8};
 ghost use Rattle.values.specs.Spaces.{Kind, kindNumber, isKind, isHexDigit, areHexDigits, isOfKind, inSpace};
 ghost use Rattle.values.specs.ValueOrder.{isOrdered, valueOrder, extremeOrder};
-ghost use Rattle.packed.specs.Comparison.{ordering};
-ghost use Rattle.values.specs.KindNumbers.{kindOf};
+ghost use Rattle.values.specs.code.KindNumbers.{kindOf, isOrderedNumber};
 use crate::calendar::compare_moments;
 use crate::calendar::has_form;
 use crate::calendar::is_datetime;
 use crate::calendar::is_digit;
+use crate::kinds::BOOLEAN;
+use crate::kinds::CURRENCY;
+use crate::kinds::DATETIME;
+use crate::kinds::DECIMAL;
+use crate::kinds::HEX;
+use crate::kinds::SEQUENCE;
+use crate::kinds::SIGNED;
+use crate::kinds::STRING;
+use crate::kinds::UNSIGNED;
 use crate::numbers::compare_numbers;
 use crate::numbers::is_decimal;
 use crate::numbers::is_signed;
@@ -65,15 +74,15 @@ fn is_of_kind(kind: u8, size: u8, after: u8, sign: u8, v: &[u8]) -> bool
     ensures { λ r. ⌜ ((k : Kind) → kindOf kind size after sign ≡ some k → isKind k ≡ true → r ≡ isOfKind k (now (v .entry))) ⌝ }
 {
     match kind {
-        1 => is_unsigned(size, v),
-        2 => is_signed(size, v),
-        3 => is_decimal(size, after, sign == 1, v),
-        4 => is_decimal(19, 4, true, v),
-        5 => is_unsigned(8, v),
-        6 => is_datetime(v),
-        7 => is_boolean(v),
-        8 => is_string(size, v),
-        9 => is_hex(size, v),
+        UNSIGNED => is_unsigned(size, v),
+        SIGNED => is_signed(size, v),
+        DECIMAL => is_decimal(size, after, sign == 1, v),
+        CURRENCY => is_decimal(19, 4, true, v),
+        SEQUENCE => is_unsigned(8, v),
+        DATETIME => is_datetime(v),
+        BOOLEAN => is_boolean(v),
+        STRING => is_string(size, v),
+        HEX => is_hex(size, v),
         _ => false,
     }
 }
@@ -93,10 +102,10 @@ pub fn in_space(kind: u8, size: u8, after: u8, sign: u8, v: &[u8]) -> bool
 
 // "Kinds 1 to 6 are ordered by their numbers or instants"
 pub fn is_ordered(kind: u8) -> bool
-    ensures { λ r. ⌜ r ≡ (leb 1 kind && leb kind 6) ⌝ }
+    ensures { λ r. ⌜ r ≡ isOrderedNumber kind ⌝ }
 {
     match kind {
-        1..=6 => true,
+        UNSIGNED..=DATETIME => true,
         _ => false,
     }
 }
@@ -106,8 +115,8 @@ pub fn compare_values(kind: u8, a: &[u8], b: &[u8]) -> Ordering
     ensures { λ r. ⌜ ((k : Kind) → kindNumber k ≡ kind → isOrdered k ≡ true → inSpace k (now (a .entry)) ≡ true → inSpace k (now (b .entry)) ≡ true → ordering r ≡ valueOrder k .cmp (now (a .entry)) (now (b .entry))) ⌝ }
 {
     match kind {
-        1..=5 => compare_numbers(a, b),
-        6 => compare_moments(a, b),
+        UNSIGNED..=SEQUENCE => compare_numbers(a, b),
+        DATETIME => compare_moments(a, b),
         _ => Ordering::Equal,
     }
 }

@@ -4,7 +4,7 @@ use mathlib.Core.List.{List}
 use Prim.Native.Nat.{ℕ}
 use native.Mathlib.Omega.{arith}
 use Rattle.sha1.specs.Fips.{compressed}
-use Rattle.sha1.specs.StateWords.{wordsOf}
+use Rattle.sha1.specs.code.StateWords.{wordsOf}
 use Rattle.sha1.proofs.Laws.{padded-most, block-in}
 use borrow.Author.Needs.{needs}
 use Rattle.sha1.proofs.add_block.Statement.{statement}

@@ -1,7 +1,7 @@
 -- `sha1::compress` meets its contract: each quarter of the rounds finds its words written. Assumes nothing.
 use mathlib.Core.Path.{refl, sym, ap, _∙_}
 use Rattle.sha1.specs.Fips.{schedule, rounds, sum, compressed}
-use Rattle.sha1.specs.StateWords.{wordsOf}
+use Rattle.sha1.specs.code.StateWords.{wordsOf}
 use Rattle.sha1.proofs.Laws.{schedule-take}
 use borrow.Author.Needs.{needs}
 use Rattle.sha1.proofs.compress.Statement.{statement}

@@ -4,7 +4,7 @@ use Prim.Native.Nat.{ℕ, _-_, _/_, _≤_}
 use native.Mathlib.Omega.{arith}
 use lib.ListN.{length}
 use Rattle.sha1.specs.Fips.{padded, block, H0, compressed, hash, digest, sha1Of}
-use Rattle.sha1.specs.StateWords.{wordsOf}
+use Rattle.sha1.specs.code.StateWords.{wordsOf}
 use Rattle.sha1.proofs.Laws.{length-padded, hash-more}
 use borrow.Author.Needs.{needs}
 use Rattle.sha1.proofs.sha1.Statement.{statement}

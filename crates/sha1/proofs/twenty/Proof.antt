@@ -6,7 +6,7 @@ use Prim.Native.Nat.{ℕ, _+_, _-_, _≤_}
 use native.Mathlib.Omega.{arith}
 use lib.ListN.{getD, take}
 use Rattle.sha1.specs.Fips.{HashValue, rounds, round}
-use Rattle.sha1.specs.StateWords.{wordsOf}
+use Rattle.sha1.specs.code.StateWords.{wordsOf}
 use Rattle.sha1.proofs.Laws.{same-at, rounds-more}
 use borrow.Author.Needs.{needs}
 use Rattle.sha1.proofs.twenty.Statement.{statement}

@@ -5,7 +5,7 @@ use Prim.Native.Nat.{_-_}
 use lib.ListN.{length, length-set}
 use Rattle.model.specs.Rule.{Snapshot}
 use Rattle.ontology.specs.Table.{EventType, isVersioned}
-use Rattle.dossier.specs.DossierIndex.{CellsAre}
+use Rattle.dossier.specs.code.DossierIndex.{CellsAre}
 use Rattle.dossier.proofs.VersionLaws.{cells-are}
 use Rattle.combining.proofs.AgreedLaws.{PlacesSofar, places-none, places-marks, left-set, right-set, places-more, places-all}
 use Rattle.combining.proofs.agreed.agreed_places.Statement.{statement}

@@ -2,7 +2,7 @@ use borrow.Author.Needs.{needs}
 use mathlib.Core.Path.{ap₂, _∙_}
 use Rattle.model.specs.Order.{texts, equal}
 use Rattle.model.specs.Opening.{held}
-use Rattle.dossier.proofs.MatchLaws.{flat-equal, set-short}
+use Rattle.event.proofs.MatchLaws.{flat-equal, set-short}
 use Rattle.combining.proofs.AgreedLaws.{agreed-marked, agreed-sets}
 use Rattle.combining.proofs.agreed.is_kept.Statement.{statement}
 use Rattle.combining.proofs.agreed.is_kept.Tie as tie

@@ -10,7 +10,7 @@ use Rattle.model.specs.Opening.{held}
 use Rattle.packed.specs.Packed.{number}
 use Rattle.packed.proofs.WriteLaws.{wrote-length}
 use Rattle.ontology.specs.Table.{EventType, isVersioned}
-use Rattle.combining.specs.CombineIndex.{Meet}
+use Rattle.combining.specs.code.CombineIndex.{Meet}
 use Rattle.combining.proofs.AgreedLaws.{BothRead, both-read, both-length, wrote-both}
 use Rattle.combining.proofs.agreed.write_agreed.Statement.{statement}
 use Rattle.combining.proofs.agreed.write_agreed.Tie as tie
@@ -55,8 +55,8 @@ write-number-requires-3 c κs =
     let w2 = c .before .before .before .before .write-number2 .ensures in
     omega (arith, p .room, both-length (both (c .before .before .before .before .before .before .before .before .before .before .before .before .before .before) (p .type) (p .left) (p .right) (p .versioned) (p .meet)), w1 .after, wrote-length w1, w2 .after, wrote-length w2, ap (λ (n : ℕ). length (number n)) (c .before .before .before .before .before .number-of .ensures), ap (λ (n : ℕ). length (number n)) (c .number-of2 .ensures))
 
-write-present-requires : tie.Need-write-present-requires
-write-present-requires c κs =
+write-sets-requires : tie.Need-write-sets-requires
+write-sets-requires c κs =
     let p = c .before .before .before .before .before .before .before .before .before .before .before .before .before .before .before .before .before .before .before .before .before .before .before .before .before .pre in
     let j = both (c .before .before .before .before .before .before .before .before .before .before .before .before .before .before .before .before .before .before .before) (p .type) (p .left) (p .right) (p .versioned) (p .meet) in
     let w1 = c .before .before .before .before .before .before .before .before .before .before .before .before .before .before .write-number .ensures in
@@ -75,7 +75,7 @@ returns : tie.Need-returns
 returns c =
     λ ty x y v m.
     let j = both (c .before .before .before .before .before .before .before .before .before .before .before .before .before .before .before .before .before .before .before .before .before .before) ty x y v m in
-    wrote-both j (c .before .before .before .before .before .before .before .before .before .before .before .before .before .number-of .ensures) (c .before .before .before .before .before .before .before .before .number-of2 .ensures) (c .before .before .before .before .before .before .before .before .before .before .before .before .before .before .before .before .before .write-number .ensures) (c .before .before .before .before .before .before .before .before .before .before .before .before .write-number2 .ensures) (c .before .before .before .before .before .before .before .write-number3 .ensures) (c .before .before .write-present .ensures (map held (x .cells)) (j .left-is .sets))
+    wrote-both j (c .before .before .before .before .before .before .before .before .before .before .before .before .before .number-of .ensures) (c .before .before .before .before .before .before .before .before .number-of2 .ensures) (c .before .before .before .before .before .before .before .before .before .before .before .before .before .before .before .before .before .write-number .ensures) (c .before .before .before .before .before .before .before .before .before .before .before .before .write-number2 .ensures) (c .before .before .before .before .before .before .before .write-number3 .ensures) (c .before .before .write-sets .ensures (map held (x .cells)) (j .left-is .sets))
 
 pub write-agreed-spec : {M : Type 1} → statement M
 write-agreed-spec =
@@ -89,6 +89,6 @@ write-agreed-spec =
     write-number-requires-2
     number-of-requires-2
     write-number-requires-3
-    write-present-requires
+    write-sets-requires
     same-length
     returns)

@@ -8,7 +8,7 @@ use Rattle.combining.proofs.check.version_of.Statement.{statement}
 use Rattle.combining.proofs.check.version_of.Tie as tie
 use Rattle.combining.proofs.check.version_of.Reads as reads
 use Rattle.combining.proofs.check.version_of.Lts as lts
-use Rattle.combining.proofs.check.numeral_of.Reads as numeral-of-reads
+use Rattle.values.proofs.numerals.numeral_of.Reads as numeral-of-reads
 use Rattle.event.proofs.sets.set_part.Reads as set-part-reads
 use Rattle.event.proofs.sets.value_in.Reads as value-in-reads
 

@@ -1,97 +1,170 @@
 use borrow.Author.Needs.{needs}
 use native.Mathlib.Omega.{arith}
-use Rattle.combining.proofs.LoneLaws.{head-length, head-there, count-room, version-room, presence-room, differ-room, sets-room, wrote-lone}
+use Rattle.packed.proofs.WriteLaws.{wrote-length}
+use Rattle.event.proofs.HeadLaws.{parts-of}
+use Rattle.combining.proofs.LoneLaws.{lone-length, wrote-lone}
 use Rattle.combining.proofs.check.write_lone.Statement.{statement}
 use Rattle.combining.proofs.check.write_lone.Tie as tie
-use Rattle.combining.proofs.check.write_lone.Reads as reads
-use Rattle.combining.proofs.check.write_lone.Lts as lts
-use Rattle.packed.proofs.write.copy_part.Reads as copy-part-reads
-use Rattle.packed.proofs.write.number_size.Reads as number-size-reads
-use Rattle.packed.proofs.write.write_number.Reads as write-number-reads
 
-number-size-requires : tie.Need-number-size-requires
-number-size-requires c κs = search needs
+-- ---- the places, from the argument of each write to the write before it
 
-sub-copy-part : tie.Need-sub-copy-part
-sub-copy-part c = let p = c .before .before .before .before .pre in omega (arith, head-length _ _ _ (p .read), c .before .number-size .ensures)
+abbrev to-start : tie.After-write-dossier-head-arg → tie.Start
+to-start c = c .before .before .before .before .before .before .before
 
-copy-part-requires : tie.Need-copy-part-requires
-copy-part-requires c κs =
-    let p = c .before .before .before .before .before .pre in
-    head-there _ _ _ (p .read) _ (c .before .before .number-size .ensures) _ _ (p .room)
+abbrev to-head : tie.After-write-number-arg → tie.After-write-dossier-head
+to-head c = c .before .before .before
 
--- the writes before each, the last one first
+abbrev to-count : tie.After-write-number-arg2 → tie.After-write-number
+to-count c = c .before .before .before
+
+abbrev to-version : tie.After-write-number-arg3 → tie.After-write-number2
+to-version c = c .before .before .before
+
+abbrev to-presence : tie.After-write-number-arg4 → tie.After-write-number3
+to-presence c = c .before .before .before
+
+abbrev to-differ : tie.After-write-sets-arg → tie.After-write-number4
+to-differ c = c .before .before .before .before
+
+-- ---- the needs
+
+text-part-requires : tie.Need-text-part-requires
+text-part-requires c κs = search needs
+
+text-part-requires-2 : tie.Need-text-part-requires-2
+text-part-requires-2 c κs = search needs
+
+hashes-part-requires : tie.Need-hashes-part-requires
+hashes-part-requires c κs = search needs
+
+write-dossier-head-requires : tie.Need-write-dossier-head-requires
+write-dossier-head-requires c κs =
+    let start = to-start c in
+    let p = start .pre in
+    let w = p .read .head in
+    let name = c .before .before .before .text-part .ensures _ (w .name) in
+    let source = c .before .before .text-part2 .ensures _ (w .uri) in
+    record {
+      head = p .event .head;
+      parts = parts-of w name source (c .before .hashes-part .ensures _ (w .hashes));
+      room = omega (arith, p .room, lone-length _ _ (p .event) (p .read) (start .args .version .0));
+    }
+
 write-number-requires : tie.Need-write-number-requires
 write-number-requires c κs =
-    let h = c .before .before .before in
-    let p = h .before .before .before .before .before .before .pre in
-    count-room _ _ _ (p .read) _ (h .before .before .before .number-size .ensures) _ (p .room) (h .copy-part .ensures)
+    let at-head = to-head c in
+    let start = to-start (at-head .before) in
+    let p = start .pre in
+    let w = p .read in
+    let name = at-head .before .before .before .before .text-part .ensures _ (w .head .name) in
+    let source = at-head .before .before .before .text-part2 .ensures _ (w .head .uri) in
+    let parts = parts-of (w .head) name source (at-head .before .before .hashes-part .ensures _ (w .head .hashes)) in
+    let head = at-head .write-dossier-head .ensures _ parts in
+    omega (arith, p .room, lone-length _ _ (p .event) (p .read) (start .args .version .0), head .after, wrote-length head)
 
 write-number-requires-2 : tie.Need-write-number-requires-2
 write-number-requires-2 c κs =
-    let n = c .before .before .before in
-    let h = n .before .before .before .before in
-    let p = h .before .before .before .before .before .before .pre in
-    version-room _ _ _ (p .read) _ (h .before .before .before .number-size .ensures) _ (p .room) (h .copy-part .ensures) (n .write-number .ensures)
+    let at-count = to-count c in
+    let at-head = to-head (at-count .before) in
+    let start = to-start (at-head .before) in
+    let p = start .pre in
+    let w = p .read in
+    let name = at-head .before .before .before .before .text-part .ensures _ (w .head .name) in
+    let source = at-head .before .before .before .text-part2 .ensures _ (w .head .uri) in
+    let parts = parts-of (w .head) name source (at-head .before .before .hashes-part .ensures _ (w .head .hashes)) in
+    let head = at-head .write-dossier-head .ensures _ parts in
+    let count = at-count .write-number .ensures in
+    omega (arith, p .room, lone-length _ _ (p .event) (p .read) (start .args .version .0), head .after, wrote-length head, count .after, wrote-length count)
 
 write-number-requires-3 : tie.Need-write-number-requires-3
 write-number-requires-3 c κs =
-    let v = c .before .before .before in
-    let n = v .before .before .before .before in
-    let h = n .before .before .before .before in
-    let p = h .before .before .before .before .before .before .pre in
-    presence-room _ _ _ (p .read) _ (h .before .before .before .number-size .ensures) _ (p .room)
-    (h .copy-part .ensures) (n .write-number .ensures) (v .write-number2 .ensures)
+    let at-version = to-version c in
+    let at-count = to-count (at-version .before) in
+    let at-head = to-head (at-count .before) in
+    let start = to-start (at-head .before) in
+    let p = start .pre in
+    let w = p .read in
+    let name = at-head .before .before .before .before .text-part .ensures _ (w .head .name) in
+    let source = at-head .before .before .before .text-part2 .ensures _ (w .head .uri) in
+    let parts = parts-of (w .head) name source (at-head .before .before .hashes-part .ensures _ (w .head .hashes)) in
+    let head = at-head .write-dossier-head .ensures _ parts in
+    let version = at-version .write-number2 .ensures in
+    let count = at-count .write-number .ensures in
+    omega (arith, p .room, lone-length _ _ (p .event) (p .read) (start .args .version .0), head .after, wrote-length head, count .after, wrote-length count, version .after, wrote-length version)
 
 write-number-requires-4 : tie.Need-write-number-requires-4
 write-number-requires-4 c κs =
-    let s = c .before .before .before in
-    let v = s .before .before .before .before in
-    let n = v .before .before .before .before in
-    let h = n .before .before .before .before in
-    let p = h .before .before .before .before .before .before .pre in
-    differ-room _ _ _ (p .read) _ (h .before .before .before .number-size .ensures) _ (p .room)
-    (h .copy-part .ensures) (n .write-number .ensures) (v .write-number2 .ensures) (s .write-number3 .ensures)
+    let at-presence = to-presence c in
+    let at-version = to-version (at-presence .before) in
+    let at-count = to-count (at-version .before) in
+    let at-head = to-head (at-count .before) in
+    let start = to-start (at-head .before) in
+    let p = start .pre in
+    let w = p .read in
+    let name = at-head .before .before .before .before .text-part .ensures _ (w .head .name) in
+    let source = at-head .before .before .before .text-part2 .ensures _ (w .head .uri) in
+    let parts = parts-of (w .head) name source (at-head .before .before .hashes-part .ensures _ (w .head .hashes)) in
+    let head = at-head .write-dossier-head .ensures _ parts in
+    let presence = at-presence .write-number3 .ensures in
+    let version = at-version .write-number2 .ensures in
+    let count = at-count .write-number .ensures in
+    omega (arith, p .room, lone-length _ _ (p .event) (p .read) (start .args .version .0), head .after, wrote-length head, count .after, wrote-length count, version .after, wrote-length version, presence .after, wrote-length presence)
 
-copy-part-requires-2 : tie.Need-copy-part-requires-2
-copy-part-requires-2 c κs =
-    let d = c .before .before .before in
-    let s = d .before .before .before .before in
-    let v = s .before .before .before .before in
-    let n = v .before .before .before .before in
-    let h = n .before .before .before .before in
-    let p = h .before .before .before .before .before .before .pre in (
-      p .read .within,
-      omega arith,
-      sets-room _ _ _ (p .read) _ (h .before .before .before .number-size .ensures) _ (p .room)
-          (h .copy-part .ensures) (n .write-number .ensures) (v .write-number2 .ensures) (s .write-number3 .ensures) (d .write-number4 .ensures),
-    )
+write-sets-requires : tie.Need-write-sets-requires
+write-sets-requires c κs =
+    let at-differ = to-differ c in
+    let at-presence = to-presence (at-differ .before) in
+    let at-version = to-version (at-presence .before) in
+    let at-count = to-count (at-version .before) in
+    let at-head = to-head (at-count .before) in
+    let start = to-start (at-head .before) in
+    let p = start .pre in
+    let w = p .read in
+    let name = at-head .before .before .before .before .text-part .ensures _ (w .head .name) in
+    let source = at-head .before .before .before .text-part2 .ensures _ (w .head .uri) in
+    let parts = parts-of (w .head) name source (at-head .before .before .hashes-part .ensures _ (w .head .hashes)) in
+    let head = at-head .write-dossier-head .ensures _ parts in
+    let differ = at-differ .write-number4 .ensures in
+    let presence = at-presence .write-number3 .ensures in
+    let version = at-version .write-number2 .ensures in
+    let count = at-count .write-number .ensures in
+    record {
+      values = p .event .sets;
+      are = p .read .sets;
+      room = omega (arith, p .room, lone-length _ _ (p .event) (p .read) (start .args .version .0), head .after, wrote-length head, count .after, wrote-length count, version .after, wrote-length version, presence .after, wrote-length presence, differ .after, wrote-length differ);
+    }
 
 same-length : tie.Need-same-length
 same-length c = search needs
 
 returns : tie.Need-returns
-returns c = λ e r.
-    let d = c .before .before .before .before .before .before in
-    let s = d .before .before .before .before in
-    let v = s .before .before .before .before in
-    let n = v .before .before .before .before in
-    let h = n .before .before .before .before in
-    wrote-lone _ _ e r _ (h .before .before .before .number-size .ensures) _
-    (h .copy-part .ensures) (n .write-number .ensures) (v .write-number2 .ensures) (s .write-number3 .ensures) (d .write-number4 .ensures)
-    (c .before .before .copy-part2 .ensures)
+returns c = λ e w.
+    let at-sets = c .before .before in
+    let at-differ = to-differ (at-sets .before) in
+    let at-presence = to-presence (at-differ .before) in
+    let at-version = to-version (at-presence .before) in
+    let at-count = to-count (at-version .before) in
+    let at-head = to-head (at-count .before) in
+    let name = at-head .before .before .before .before .text-part .ensures _ (w .head .name) in
+    let source = at-head .before .before .before .text-part2 .ensures _ (w .head .uri) in
+    let parts = parts-of (w .head) name source (at-head .before .before .hashes-part .ensures _ (w .head .hashes)) in
+    let head = at-head .write-dossier-head .ensures _ parts in
+    wrote-lone _ _ e w _
+    head (at-count .write-number .ensures) (at-version .write-number2 .ensures) (at-presence .write-number3 .ensures) (at-differ .write-number4 .ensures)
+    (at-sets .write-sets .ensures (e .sets) (w .sets))
 
 pub write-lone-spec : {M : Type 1} → statement M
 write-lone-spec =
     tie.close
     (tie.spec
-    number-size-requires
-    sub-copy-part
-    copy-part-requires
+    text-part-requires
+    text-part-requires-2
+    hashes-part-requires
+    write-dossier-head-requires
     write-number-requires
     write-number-requires-2
     write-number-requires-3
     write-number-requires-4
-    copy-part-requires-2
+    write-sets-requires
     same-length
     returns)

@@ -1,5 +1,6 @@
 use borrow.Author.Needs.{needs}
 use borrow.Author.Tests.{not-true, not-false}
+use mathlib.Core.Path.{sym, _∙_}
 use Rattle.combining.proofs.CombineLaws.{combine-full, combine-room, combine-done}
 use Rattle.combining.proofs.combine.combine_read.Statement.{statement}
 use Rattle.combining.proofs.combine.combine_read.Tie as tie
@@ -19,7 +20,9 @@ returns c =
 write-combined-requires : tie.Need-write-combined-requires
 write-combined-requires c κs =
     let p = c .before .before .before .before .before .before .before .pre in
-    (λ h. combine-room _ _ _ h (c .before .before .limits-fit .ensures h) (not-false _ (c .before .if1 .left)) _ (p .1), p .0)
+    let inside = c .before .before .limits-fit .ensures (p .0) in
+    let yes = not-false _ (c .before .if1 .left) in
+    record { both = p .0; inside = λ h. sym (c .before .before .limits-fit .ensures h) ∙ yes; room = combine-room _ _ _ (p .0) inside yes _ (p .1) }
 
 same-length : tie.Need-same-length
 same-length c = search needs

@@ -3,9 +3,9 @@ use mathlib.Core.Path.{refl}
 use Prim.Native.Nat.{_-_}
 use native.Mathlib.Omega.{arith}
 use lib.ListN.{getD}
-use Rattle.event.specs.EventIndex.{noSet}
+use Rattle.event.specs.code.EventIndex.{noSet}
 use Rattle.event.proofs.BitLaws.{FilledTo, filled-none, filled-more}
-use Rattle.combining.specs.JoinedIndex.{haveObjects}
+use Rattle.combining.specs.code.JoinedIndex.{haveObjects}
 use Rattle.combining.proofs.JoinedLaws.{places-all}
 use Rattle.combining.proofs.joined.joined_places.Statement.{statement}
 use Rattle.combining.proofs.joined.joined_places.Tie as tie

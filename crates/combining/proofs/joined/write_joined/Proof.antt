@@ -9,8 +9,8 @@ use Rattle.model.specs.Rule.{Snapshot}
 use Rattle.packed.specs.Packed.{number}
 use Rattle.packed.proofs.WriteLaws.{wrote-length, ToGo, to-go, gone, all-gone}
 use Rattle.ontology.specs.Table.{EventType, isVersioned}
-use Rattle.ontology.specs.TypeIndex.{TypeIs}
-use Rattle.combining.specs.CombineIndex.{Meet}
+use Rattle.ontology.specs.code.TypeIndex.{TypeIs}
+use Rattle.combining.specs.code.CombineIndex.{Meet}
 use Rattle.combining.proofs.JoinedLaws.{to-go-same, joins, setsFrom, sets-step, sets-end, joined-place, joined-length, sets-room, joined-wrote, place-next, place-past}
 use Rattle.combining.proofs.joined.write_joined.Statement.{statement}
 use Rattle.combining.proofs.joined.write_joined.Tie as tie

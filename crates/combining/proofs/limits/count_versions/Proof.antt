@@ -4,7 +4,7 @@ use mathlib.Core.Logic.{⊎-elim, inl, inr}
 use Prim.Native.Nat.{_+_, _-_, _≤_}
 use native.Mathlib.Omega.{arith}
 use lib.ListN.{length, take}
-use Rattle.dossier.specs.DossierIndex.{versionNumbers}
+use Rattle.dossier.specs.code.DossierIndex.{versionNumbers}
 use Rattle.combining.proofs.CountLaws.{VersionsLeft, Passed, versionAt, versions-none, counted-within, counted-left, counted-right, counted-passed, counted-more}
 use Rattle.combining.proofs.limits.count_versions.Statement.{statement}
 use Rattle.combining.proofs.limits.count_versions.Tie as tie

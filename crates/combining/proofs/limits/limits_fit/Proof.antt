@@ -3,16 +3,16 @@ use mathlib.Core.Path.{_≡_}
 use lib.ListN.{length, take, getD}
 use Rattle.model.specs.Order.{numbers, texts}
 use Rattle.model.specs.Sets.{union}
-use Rattle.dossier.specs.DossierIndex.{noSnapshot, versionNumbers}
+use Rattle.dossier.specs.code.DossierIndex.{noSnapshot, versionNumbers}
 use Rattle.dossier.proofs.AskLaws.{first-stands}
-use Rattle.combining.specs.CombineIndex.{Combinable}
+use Rattle.combining.specs.code.CombineIndex.{Combinable}
 use Rattle.combining.proofs.FitLaws.{left-hashes, right-hashes, left-rises, right-rises, unversioned, first-meet, first-start, fits-parents, fits-versions, fits-versioned, fits-objects}
 use Rattle.combining.proofs.limits.limits_fit.Statement.{statement}
 use Rattle.combining.proofs.limits.limits_fit.Tie as tie
 use Rattle.combining.proofs.limits.limits_fit.Reads as reads
 use Rattle.combining.proofs.limits.limits_fit.Lts as lts
 use Rattle.combining.proofs.limits.count_versions.Reads as count-versions-reads
-use Rattle.combining.proofs.limits.hashes_part.Reads as hashes-part-reads
+use Rattle.event.proofs.head.hashes_part.Reads as hashes-part-reads
 use Rattle.combining.proofs.limits.objects_fit.Reads as objects-fit-reads
 use Rattle.unions.proofs.pair.count_hash_union.Reads as count-hash-union-reads
 
@@ -33,13 +33,13 @@ module _ (c : tie.After-count-hash-union) where
   abbrev Asked : Type 0
   Asked = Combinable (start .args .table .now) (start .args .a .now) (start .args .t3) (start .args .b .now) (start .args .t5) (start .args .t)
 
-  parents-counted : (h : Asked) → c .count-hash-union .result ≡ length (union texts (h .known .left .headed .dossier .parents) (h .known .right .headed .dossier .parents))
+  parents-counted : (h : Asked) → c .count-hash-union .result ≡ length (union texts (h .known .left .headed .head .parents) (h .known .right .headed .head .parents))
   parents-counted h =
       let x = left-hashes _ _ _ _ _ _ h in
       let y = right-hashes _ _ _ _ _ _ h in
-      c .count-hash-union .ensures (h .known .left .headed .dossier .parents) (h .known .right .headed .dossier .parents)
-      (c .before .before .hashes-part .ensures (h .known .left .headed .dossier .parents) (h .left-read .head .hashes))
-      (c .before .hashes-part2 .ensures (h .known .right .headed .dossier .parents) (h .right-read .head .hashes))
+      c .count-hash-union .ensures (h .known .left .headed .head .parents) (h .known .right .headed .head .parents)
+      (c .before .before .hashes-part .ensures (h .known .left .headed .head .parents) (h .left-read .head .hashes))
+      (c .before .hashes-part2 .ensures (h .known .right .headed .head .parents) (h .right-read .head .hashes))
       (x .0) (y .0) (x .1) (y .1)
 
 returns : tie.Need-returns
@@ -99,7 +99,7 @@ returns-4 c = λ h.
     let v = c .before .before .before .before .before .before .before .before .before .before in
     let un = c .before .before .before .before .before .before .before .if3 .left in
     fits-objects _ _ _ _ _ _ h (p .count-hash-union .result) (parents-counted p h) (c .before .before .before .before .before .before .before .before .before .before .before .before .before .if1 .left) (v .count-versions .result) (versions-counted v h) (c .before .before .before .before .before .before .before .before .before .if2 .left) un
-    (c .objects-fit .ensures _ (h .known .left .type) (getD (h .known .left .headed .dossier .snapshots) 0 noSnapshot) (getD (h .known .right .headed .dossier .snapshots) 0 noSnapshot) (h .known .typed) (unversioned _ _ _ _ _ _ h un) (first-meet _ _ _ _ _ _ h un)
+    (c .objects-fit .ensures _ (h .known .left .type) (getD (h .known .left .headed .snapshots) 0 noSnapshot) (getD (h .known .right .headed .snapshots) 0 noSnapshot) (h .known .typed) (unversioned _ _ _ _ _ _ h un) (first-meet _ _ _ _ _ _ h un)
     (first-stands _ (h .known .left .headed) _ (h .left-read)) (first-stands _ (h .known .right .headed) _ (h .right-read)))
 
 pub limits-fit-spec : {M : Type 1} → statement M

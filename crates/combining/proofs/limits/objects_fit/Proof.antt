@@ -8,11 +8,11 @@ use lib.ListN.{length, drop, getD}
 use Rattle.model.specs.Rule.{holds, joinCell, Snapshot, joinSnapshots, sizes}
 use Rattle.model.specs.Opening.{held}
 use Rattle.ontology.specs.Table.{EventType, isVersioned}
-use Rattle.ontology.specs.TypeIndex.{TypeIs}
-use Rattle.event.specs.Event.{view}
-use Rattle.event.specs.EventIndex.{SetsAre}
+use Rattle.ontology.specs.code.TypeIndex.{TypeIs}
+use Rattle.event.specs.Event.{typeView}
+use Rattle.event.specs.code.EventIndex.{SetsAre}
 use Rattle.event.specs.declared.sets.SetAt.{SetAt}
-use Rattle.combining.specs.CombineIndex.{Meet}
+use Rattle.combining.specs.code.CombineIndex.{Meet}
 use Rattle.combining.proofs.ObjectLaws.{objects-end, objects-large, objects-more, left-cell, right-cell, left-set, right-set}
 use Rattle.combining.proofs.limits.objects_fit.Statement.{statement}
 use Rattle.combining.proofs.limits.objects_fit.Tie as tie
@@ -21,7 +21,7 @@ use Rattle.combining.proofs.limits.objects_fit.Lts as lts
 use Rattle.combining.proofs.limits.count_place.Reads as count-place-reads
 
 abbrev Inv-loop : tie.InvT-loop
-Inv-loop a b t left right room₀ k₀ room k = (u : List ℕ) (ty : EventType) (x y : Snapshot) → TypeIs u ty t → isVersioned ty ≡ false → Meet a b ty x y → SetsAre a (map held (x .cells)) left → SetsAre b (map held (y .cells)) right → leb (sizes (joinSnapshots (view ty) x y .cells)) 256 ≡ leb (sizes (drop k (joinSnapshots (view ty) x y .cells))) room
+Inv-loop a b t left right room₀ k₀ room k = (u : List ℕ) (ty : EventType) (x y : Snapshot) → TypeIs u ty t → isVersioned ty ≡ false → Meet a b ty x y → SetsAre a (map held (x .cells)) left → SetsAre b (map held (y .cells)) right → leb (sizes (joinSnapshots (typeView ty) x y .cells)) 256 ≡ leb (sizes (drop k (joinSnapshots (typeView ty) x y .cells))) room
 
 abbrev μ-loop : tie.MeasureT-loop
 μ-loop a b t left right room₀ k₀ room k = 32 - k
@@ -66,7 +66,7 @@ module _ (c : tie.After-count-place Inv-loop μ-loop) (u : List ℕ) (ty : Event
 
   counted :
       TypeIs u ty (start .args .t) → isVersioned ty ≡ false → Meet a b ty x y → SetsAre a (map held (x .cells)) left → SetsAre b (map held (y .cells)) right →
-      c .count-place .result ≡ length (held (joinCell false (view ty .choice k) (holds (held (getD (x .cells) k (holds [])))) (holds (held (getD (y .cells) k (holds []))))))
+      c .count-place .result ≡ length (held (joinCell false (typeView ty .choice k) (holds (held (getD (x .cells) k (holds [])))) (holds (held (getD (y .cells) k (holds []))))))
   counted w un m v z =
       let h = c .before .before .before .loop-test .taken in
       let p = left-cell a b ty x y un m k h in

@@ -5,9 +5,9 @@ use mathlib.Core.List.{map, flatten}
 use Prim.Native.Nat.{ℕ, _+_, _-_, _≤_}
 use lib.ListN.{length}
 use Rattle.packed.proofs.WriteLaws.{ToGo, wrote-length}
-use Rattle.dossier.specs.DossierLayout.{snapshotBytes}
+use Rattle.dossier.specs.DossierBody.{snapshotBytes}
 use Rattle.combining.specs.CombineCall.{combined}
-use Rattle.combining.specs.CombineIndex.{Combinable}
+use Rattle.combining.specs.code.CombineIndex.{Combinable}
 use Rattle.combining.proofs.CountLaws.{versionAt}
 use Rattle.combining.proofs.MergedLaws.{step-least, step-one, mergedBytes, merged-to-go, left-room, right-room, next-room, left-wrote, right-wrote, next-wrote}
 use Rattle.combining.proofs.write.write_snapshots.Statement.{statement}

@@ -6,8 +6,8 @@ use native.Mathlib.Omega.{arith}
 use lib.ListN.{drop}
 use borrow.Author.Tests.{not-true, not-false}
 use Rattle.packed.specs.Parse.{fail, times}
-use Rattle.dossier.specs.DossierLayout.{readSnapshot}
-use Rattle.dossier.specs.DossierIndex.{SnapshotReads}
+use Rattle.dossier.specs.DossierBody.{readSnapshot}
+use Rattle.dossier.specs.code.DossierIndex.{SnapshotReads}
 use Rattle.dossier.proofs.PassLaws.{reads-at, read-within}
 use Rattle.dossier.proofs.DossierReadLaws.{eight, Passed, passed-bad, passed-more, passed-all, first-bad, passed-first, snapshots-none, snapshots-there}
 use Rattle.dossier.proofs.dossiers.read_snapshots.Statement.{statement}

@@ -4,7 +4,7 @@ use Prim.Native.Nat.{_-_, _≤_}
 use native.Mathlib.Omega.{arith}
 use lib.ListN.{length, take, drop}
 use Rattle.model.specs.Order.{numbers, rising}
-use Rattle.dossier.specs.DossierIndex.{versionNumbers}
+use Rattle.dossier.specs.code.DossierIndex.{versionNumbers}
 use Rattle.dossier.proofs.DossierReadLaws.{rise-bad, rise-step, rise-end}
 use Rattle.dossier.proofs.dossiers.versions_rise.Statement.{statement}
 use Rattle.dossier.proofs.dossiers.versions_rise.Tie as tie

@@ -1,7 +1,7 @@
 use borrow.Author.Needs.{needs}
 use borrow.Author.Tests.{not-true, not-false}
 use Rattle.dossier.specs.DossierQuestions.{snapshotValues}
-use Rattle.dossier.specs.DossierIndex.{snapshotFits}
+use Rattle.dossier.specs.code.DossierIndex.{snapshotFits}
 use Rattle.dossier.proofs.AskLaws.{number-shape, number-match, number-all, number-values}
 use Rattle.dossier.proofs.questions.ask_read.Statement.{statement}
 use Rattle.dossier.proofs.questions.ask_read.Tie as tie

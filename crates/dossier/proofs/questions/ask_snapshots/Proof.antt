@@ -7,11 +7,11 @@ use native.Mathlib.Omega.{arith}
 use borrow.Author.Tests.{not-true, not-false}
 use Rattle.model.specs.Limits.{standard}
 use Rattle.ontology.specs.Table.{EventType}
-use Rattle.ontology.specs.TypeIndex.{TypeIs}
-use Rattle.event.specs.EventIndex.{KindsAre}
+use Rattle.ontology.specs.code.TypeIndex.{TypeIs}
+use Rattle.event.specs.code.EventIndex.{KindsAre}
 use Rattle.dossier.specs.DossierLayout.{Headed}
 use Rattle.dossier.specs.DossierQuestions.{dossierShape, eachSnapshot, snapshotValues}
-use Rattle.dossier.specs.DossierIndex.{shapeNumber, DossierIs}
+use Rattle.dossier.specs.code.DossierIndex.{shapeNumber, DossierIs}
 use Rattle.dossier.proofs.AskLaws.{numberFrom, number-five, number-more, number-kept, number-end, in-count, past-count, start-within, start-reads, first-stands, not-lone, is-lone}
 use Rattle.dossier.proofs.questions.ask_snapshots.Statement.{statement}
 use Rattle.dossier.proofs.questions.ask_snapshots.Tie as tie
@@ -23,7 +23,7 @@ use Rattle.dossier.proofs.questions.first_number.Reads as first-number-
 use Rattle.dossier.proofs.questions.is_lone.Reads as is-lone-reads
 
 abbrev Inv-loop : tie.InvT-loop
-Inv-loop s t d front sets asked number₀ j₀ number j = ((u : List ℕ) (ty : EventType) (h : Headed) → TypeIs u ty t → KindsAre ty → DossierIs s h d → shapeNumber (dossierShape standard ty (h .dossier .snapshots)) (eachSnapshot (snapshotValues ty) (h .dossier .snapshots)) ≡ numberFrom ty (h .dossier .snapshots) number j) × ((number ≡ 0) ⊎ (number ≡ 6))
+Inv-loop s t d front sets asked number₀ j₀ number j = ((u : List ℕ) (ty : EventType) (h : Headed) → TypeIs u ty t → KindsAre ty → DossierIs s h d → shapeNumber (dossierShape standard ty (h .snapshots)) (eachSnapshot (snapshotValues ty) (h .snapshots)) ≡ numberFrom ty (h .snapshots) number j) × ((number ≡ 0) ⊎ (number ≡ 6))
 
 abbrev μ-loop : tie.MeasureT-loop
 μ-loop s t d front sets asked number₀ j₀ number j = d .count - j
@@ -63,7 +63,7 @@ returns-2 c =
     λ u ty h w g x.
     let f = first-stands _ h _ x in
     let n = c .before .ask-read .ensures u ty _ _ w g (f .sets) f in
-    number-five ty (h .dossier .snapshots) 0 0 (in-count _ h _ x 0 (x .one)) _ n (c .if2 .taken) ∙ sym (is-lone _ h _ x u ty _ w (c .before .before .before .before .before .before .before .before .is-lone .ensures) (not-false _ (c .before .before .before .before .before .before .before .if1 .left)))
+    number-five ty (h .snapshots) 0 0 (in-count _ h _ x 0 (x .one)) _ n (c .if2 .taken) ∙ sym (is-lone _ h _ x u ty _ w (c .before .before .before .before .before .before .before .before .is-lone .ensures) (not-false _ (c .before .before .before .before .before .before .before .if1 .left)))
 
 first-number-requires : tie.Need-first-number-requires Inv-loop μ-loop
 first-number-requires c κs = search needs
@@ -73,7 +73,7 @@ loop-holds c = (
   λ u ty h w g x.
       let f = first-stands _ h _ x in
       let n = c .before .before .ask-read .ensures u ty _ _ w g (f .sets) f in
-      is-lone _ h _ x u ty _ w (c .before .before .before .before .before .before .before .before .before .is-lone .ensures) (not-false _ (c .before .before .before .before .before .before .before .before .if1 .left)) ∙ number-more ty (h .dossier .snapshots) 0 0 (in-count _ h _ x 0 (x .one)) _ n (c .before .if2 .left) (c .first-number .ensures),
+      is-lone _ h _ x u ty _ w (c .before .before .before .before .before .before .before .before .before .is-lone .ensures) (not-false _ (c .before .before .before .before .before .before .before .before .if1 .left)) ∙ number-more ty (h .snapshots) 0 0 (in-count _ h _ x 0 (x .one)) _ n (c .before .if2 .left) (c .first-number .ensures),
   number-kept (c .before .before .ask-read .result) 0 (c .first-number .ensures) (inl refl),
 )
 
@@ -110,7 +110,7 @@ returns-3 c =
     let f = first-stands _ h _ x in
     let l = c .before .before .before .before .before .loop-test .taken in
     let n = c .before .ask-snapshot .ensures u _ ty _ _ w g (f .sets) (start-reads _ h _ x _ l) in
-    number-five ty (h .dossier .snapshots) (c .before .before .before .before .before .before .loop .number) (c .before .before .before .before .before .before .loop .j) (in-count _ h _ x _ l) _ n (c .if3 .taken) ∙ sym (c .before .before .before .before .before .before .loop .inv .0 u ty h w g x)
+    number-five ty (h .snapshots) (c .before .before .before .before .before .before .loop .number) (c .before .before .before .before .before .before .loop .j) (in-count _ h _ x _ l) _ n (c .if3 .taken) ∙ sym (c .before .before .before .before .before .before .loop .inv .0 u ty h w g x)
 
 first-number-requires-2 : tie.Need-first-number-requires-2 Inv-loop μ-loop
 first-number-requires-2 c κs = search needs
@@ -127,12 +127,12 @@ loop-again c = (
       let f = first-stands _ h _ x in
       let l = c .before .before .before .before .before .before .loop-test .taken in
       let n = c .before .before .ask-snapshot .ensures u _ ty _ _ w g (f .sets) (start-reads _ h _ x _ l) in
-      c .before .before .before .before .before .before .before .loop .inv .0 u ty h w g x ∙ number-more ty (h .dossier .snapshots) (c .before .before .before .before .before .before .before .loop .number) (c .before .before .before .before .before .before .before .loop .j) (in-count _ h _ x _ l) _ n (c .before .if3 .left) (c .first-number2 .ensures),
+      c .before .before .before .before .before .before .before .loop .inv .0 u ty h w g x ∙ number-more ty (h .snapshots) (c .before .before .before .before .before .before .before .loop .number) (c .before .before .before .before .before .before .before .loop .j) (in-count _ h _ x _ l) _ n (c .before .if3 .left) (c .first-number2 .ensures),
   number-kept (c .before .before .ask-snapshot .result) (c .before .before .before .before .before .before .before .loop .number) (c .first-number2 .ensures) (c .before .before .before .before .before .before .before .loop .inv .1),
 )
 
 returns-4 : tie.Need-returns-4 Inv-loop μ-loop
-returns-4 c = λ u ty h w g x. number-end ty (h .dossier .snapshots) (c .before .loop .number) (c .before .loop .j) (past-count _ h _ x _ (c .loop-test .left)) (c .before .loop .inv .1) ∙ sym (c .before .loop .inv .0 u ty h w g x)
+returns-4 c = λ u ty h w g x. number-end ty (h .snapshots) (c .before .loop .number) (c .before .loop .j) (past-count _ h _ x _ (c .loop-test .left)) (c .before .loop .inv .1) ∙ sym (c .before .loop .inv .0 u ty h w g x)
 
 pub ask-snapshots-spec : {M : Type 1} → statement M
 ask-snapshots-spec =

@@ -9,7 +9,7 @@ heads-agree-requires : tie.Need-heads-agree-requires
 heads-agree-requires c κs = search needs
 
 returns : tie.Need-returns
-returns c = λ u ty tz h g w x y e. agree-heads ty tz h g (c .before .heads-agree .ensures _ _ _ _ _ _ (x .head) (y .head)) (not-true _ (c .if1 .taken))
+returns c = λ u ty tz h g w x y e. agree-heads ty tz h g (c .before .heads-agree .ensures _ _ (x .head) (y .head)) (not-true _ (c .if1 .taken))
 
 element-copy-out-left : tie.Need-element-copy-out-left
 element-copy-out-left c = search needs
@@ -42,7 +42,7 @@ returns-2 : tie.Need-returns-2
 returns-2 c =
     λ u ty tz h g w x y e.
     agree-match ty tz h g
-    (c .before .before .before .before .before .before .before .before .before .before .heads-agree .ensures _ _ _ _ _ _ (x .head) (y .head)) (not-false _ (c .before .before .before .before .before .before .before .before .before .if1 .left))
+    (c .before .before .before .before .before .before .before .before .before .before .heads-agree .ensures _ _ (x .head) (y .head)) (not-false _ (c .before .before .before .before .before .before .before .before .before .if1 .left))
     (in-count _ h _ x 0 (x .one)) (in-count _ g _ y 0 (y .one)) e
     (c .is-match-same .ensures u ty _ _ w (first-stands _ h _ x .sets) (first-stands _ g _ y .sets))
 

@@ -3,13 +3,13 @@ use Rattle.dossier.proofs.questions.type_name.Statement.{statement}
 use Rattle.dossier.proofs.questions.type_name.Tie as tie
 use Rattle.dossier.proofs.questions.type_name.Reads as reads
 use Rattle.dossier.proofs.questions.type_name.Lts as lts
-use Rattle.dossier.proofs.parts.text_part.Reads as text-part-reads
+use Rattle.event.proofs.head.text_part.Reads as text-part-reads
 
 text-part-requires : tie.Need-text-part-requires
 text-part-requires c κs = search needs
 
 returns : tie.Need-returns
-returns c = λ h w. c .text-part .ensures (h .type) (w .head .name)
+returns c = λ h w. c .text-part .ensures (h .head .type) (w .head .name)
 
 pub type-name-spec : {M : Type 1} → statement M
 type-name-spec = tie.close (tie.spec text-part-requires returns)

@@ -9,12 +9,12 @@ use lib.ListN.{length, drop, getD}
 use borrow.Author.Tests.{not-true, not-false, eq-eqb, ne-eqb}
 use Rattle.model.specs.Rule.{Cell, holds, sizes}
 use Rattle.ontology.specs.Table.{EventType, isVersioned}
-use Rattle.ontology.specs.TypeIndex.{TypeIs}
+use Rattle.ontology.specs.code.TypeIndex.{TypeIs}
 use Rattle.event.specs.EventLayout.{bitNumber}
 use Rattle.event.proofs.ShapeLaws.{noProperty}
-use Rattle.dossier.specs.DossierLayout.{differBit}
+use Rattle.dossier.specs.DossierBody.{differBit}
 use Rattle.dossier.specs.DossierQuestions.{eachCell, isVacant}
-use Rattle.dossier.specs.DossierIndex.{CellsAre, cellFits}
+use Rattle.dossier.specs.code.DossierIndex.{CellsAre, cellFits}
 use Rattle.dossier.proofs.CellLaws.{cell-typed, cell-here, bits-next, left-few, left-next, named, cells-bad, cells-more, cells-end}
 use Rattle.dossier.proofs.shape.cells_fit.Statement.{statement}
 use Rattle.dossier.proofs.shape.cells_fit.Tie as tie

@@ -7,9 +7,9 @@ use lib.Dec.{leb}
 use lib.ListN.{drop}
 use Rattle.model.specs.Order.{Text}
 use Rattle.ontology.specs.Table.{EventType}
-use Rattle.ontology.specs.TypeIndex.{TypeIs}
+use Rattle.ontology.specs.code.TypeIndex.{TypeIs}
 use Rattle.event.specs.EventQuestions.{matchCount}
-use Rattle.event.specs.EventIndex.{SetsAre}
+use Rattle.event.specs.code.EventIndex.{SetsAre}
 use Rattle.dossier.proofs.CellLaws.{match-large, match-more, match-end}
 use Rattle.dossier.proofs.shape.is_match_small.Statement.{statement}
 use Rattle.dossier.proofs.shape.is_match_small.Tie as tie

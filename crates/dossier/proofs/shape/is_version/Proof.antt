@@ -7,7 +7,7 @@ use Rattle.dossier.proofs.shape.is_version.Statement.{statement}
 use Rattle.dossier.proofs.shape.is_version.Tie as tie
 use Rattle.dossier.proofs.shape.is_version.Reads as reads
 use Rattle.dossier.proofs.shape.is_version.Lts as lts
-use Rattle.dossier.proofs.shape.is_in_decimal.Reads as is-in-decimal-reads
+use Rattle.values.proofs.numerals.is_in_decimal.Reads as is-in-decimal-reads
 use Rattle.event.proofs.sets.set_part.Reads as set-part-reads
 use Rattle.event.proofs.sets.value_in.Reads as value-in-reads
 

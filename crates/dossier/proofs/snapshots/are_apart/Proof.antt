@@ -3,7 +3,7 @@ use mathlib.Core.Path.{_≡_, refl, sym, _∙_}
 use mathlib.Core.Logic.{inl, inr}
 use native.Mathlib.Omega.{arith}
 use borrow.Author.Tests.{ltb-false}
-use Rattle.dossier.specs.DossierLayout.{apart}
+use Rattle.dossier.specs.DossierBody.{apart}
 use Rattle.dossier.proofs.SnapshotLaws.{apart-bad, apart-step, apart-end}
 use Rattle.dossier.proofs.snapshots.are_apart.Statement.{statement}
 use Rattle.dossier.proofs.snapshots.are_apart.Tie as tie

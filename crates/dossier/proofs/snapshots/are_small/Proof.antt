@@ -5,8 +5,8 @@ use Prim.Native.Nat.{ℕ, _-_}
 use native.Mathlib.Omega.{arith}
 use lib.ListN.{drop}
 use Rattle.model.specs.Order.{Text}
-use Rattle.event.specs.EventIndex.{SetsAre}
-use Rattle.dossier.specs.DossierLayout.{areSmall}
+use Rattle.event.specs.code.EventIndex.{SetsAre}
+use Rattle.dossier.specs.DossierBody.{areSmall}
 use Rattle.dossier.proofs.SnapshotLaws.{few-small, small-bad, small-step, small-end}
 use Rattle.dossier.proofs.snapshots.are_small.Statement.{statement}
 use Rattle.dossier.proofs.snapshots.are_small.Tie as tie

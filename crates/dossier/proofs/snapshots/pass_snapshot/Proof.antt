@@ -2,8 +2,8 @@ use borrow.Author.Needs.{needs}
 use mathlib.Core.Path.{refl}
 use native.Mathlib.Omega.{arith}
 use lib.ListN.{drop}
-use Rattle.dossier.specs.DossierLayout.{readSnapshot}
-use Rattle.dossier.specs.DossierIndex.{SnapshotReads}
+use Rattle.dossier.specs.DossierBody.{readSnapshot}
+use Rattle.dossier.specs.code.DossierIndex.{SnapshotReads}
 use Rattle.dossier.proofs.PassLaws.{reads-at, reads-none, read-within, pass-known, pass-none, pass-some}
 use Rattle.dossier.proofs.snapshots.pass_snapshot.Statement.{statement}
 use Rattle.dossier.proofs.snapshots.pass_snapshot.Tie as tie

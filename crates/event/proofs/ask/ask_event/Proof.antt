@@ -2,7 +2,7 @@ use borrow.Author.Needs.{needs}
 use mathlib.Core.Path.{refl}
 use borrow.Author.Tests.{not-true, not-false}
 use Rattle.ontology.proofs.TypeIndexLaws.{table-got}
-use Rattle.event.specs.EventIndex.{countsOf}
+use Rattle.event.specs.code.EventIndex.{countsOf}
 use Rattle.event.proofs.AskLaws.{no-table, by-table}
 use Rattle.event.proofs.ask.ask_event.Statement.{statement}
 use Rattle.event.proofs.ask.ask_event.Tie as tie
@@ -23,7 +23,7 @@ no-event-requires : tie.Need-no-event-requires
 no-event-requires c κs = search needs
 
 returns : tie.Need-returns
-returns c = no-table _ _ (countsOf (c .before .before .before .before .before .before .before .before .args .wide)) _ _ (c .before .before .before .before .read-table .ensures) _ (not-true _ (c .before .if1 .taken)) refl
+returns c = no-table _ _ (countsOf (c .before .before .before .before .before .before .before .before .args .counts)) _ _ (c .before .before .before .before .read-table .ensures) _ (not-true _ (c .before .if1 .taken)) refl
 
 ask-typed-requires : tie.Need-ask-typed-requires
 ask-typed-requires c κs = search needs
@@ -31,7 +31,7 @@ ask-typed-requires c κs = search needs
 returns-2 : tie.Need-returns-2
 returns-2 c =
     let g = table-got _ _ _ (c .before .before .before .before .read-table .ensures) (not-false _ (c .before .if1 .left)) in
-    by-table _ _ (countsOf (c .before .before .before .before .before .before .before .before .args .wide)) _ _ (c .before .before .before .before .read-table .ensures) _ (g .what) (g .is) (λ e h. c .before .before .before .before .before .type-name .ensures _ e h) (c .ask-typed .ensures)
+    by-table _ _ (countsOf (c .before .before .before .before .before .before .before .before .args .counts)) _ _ (c .before .before .before .before .read-table .ensures) _ (g .what) (g .is) (λ e h. c .before .before .before .before .before .type-name .ensures _ e h) (c .ask-typed .ensures)
 
 pub ask-event-spec : {M : Type 1} → statement M
 ask-event-spec =

@@ -1,17 +1,26 @@
+use borrow.Author.Needs.{needs}
 use mathlib.Core.Path.{sym, ap}
-use mathlib.Core.Bool.{Bool}
 use Rattle.event.specs.EventLayout.{narrow, wide}
-use Rattle.event.specs.EventIndex.{countsOf}
+use Rattle.event.specs.code.EventIndex.{countsOf}
+use Rattle.event.specs.declared.ask.EventCounts.{EventCounts}
 use Rattle.event.proofs.ask.most_parents.Statement.{statement}
 use Rattle.event.proofs.ask.most_parents.Tie as tie
+use Rattle.event.proofs.ask.most_parents.Reads as reads
+use Rattle.event.proofs.ask.most_parents.Lts as lts
+
+enum-told : tie.Need-enum-told
+enum-told c = search needs
+
+enum-told-2 : tie.Need-enum-told-2
+enum-told-2 c = search needs
 
 returns : tie.Need-returns
-unfolding wide
-returns c = sym (ap (λ (b : Bool). countsOf b .parents) (c .if1 .taken))
+unfolding narrow wide
+returns c = sym (ap (λ (x : EventCounts). countsOf x .parents) (c .enum-told .given .1))
 
 returns-2 : tie.Need-returns-2
-unfolding narrow
-returns-2 c = sym (ap (λ (b : Bool). countsOf b .parents) (c .if1 .left))
+unfolding narrow wide
+returns-2 c = sym (ap (λ (x : EventCounts). countsOf x .parents) (c .enum-told2 .given .1))
 
 pub most-parents-spec : {M : Type 1} → statement M
-most-parents-spec = tie.close (tie.spec returns returns-2)
+most-parents-spec = tie.close (tie.spec enum-told enum-told-2 returns returns-2)

@@ -7,7 +7,7 @@ use lib.ListN.{length, drop}
 use Rattle.model.specs.Order.{Text}
 use Rattle.packed.proofs.ReadLaws.{number-stops, number-none}
 use Rattle.event.specs.EventLayout.{setsBytes}
-use Rattle.event.specs.EventIndex.{present}
+use Rattle.event.specs.code.EventIndex.{present}
 use Rattle.event.proofs.LookupLaws.{SetsSkipping, sets-skipping-first, sets-skipping-bad, sets-skipping-more, sets-skipping-all}
 use Rattle.event.proofs.lookup.skip_sets.Statement.{statement}
 use Rattle.event.proofs.lookup.skip_sets.Tie as tie

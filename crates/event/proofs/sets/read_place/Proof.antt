@@ -4,7 +4,7 @@ use mathlib.Core.List.{List}
 use lib.ListN.{drop}
 use Rattle.model.specs.Order.{Text}
 use Rattle.packed.specs.Parse.{Parse}
-use Rattle.event.specs.EventIndex.{SetReads}
+use Rattle.event.specs.code.EventIndex.{SetReads}
 use Rattle.event.proofs.SetLaws.{place-set, place-clear}
 use Rattle.event.proofs.sets.read_place.Statement.{statement}
 use Rattle.event.proofs.sets.read_place.Tie as tie

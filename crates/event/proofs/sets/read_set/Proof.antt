@@ -4,8 +4,7 @@ use Prim.Native.Nat.{_≤_}
 use mathlib.Core.Path.{sym, _∙_}
 use lib.ListN.{length, drop}
 use borrow.Author.Tests.{not-true, not-false}
-use Rattle.packed.specs.Packed.{readText}
-use Rattle.packed.specs.Located.{part}
+use Rattle.packed.specs.Packed.{readText, part}
 use Rattle.packed.proofs.ReadLaws.{number-stops, number-none, text-stops, text-none}
 use Rattle.event.specs.EventLayout.{readSet}
 use Rattle.event.proofs.SetLaws.{Onward, onward-first, onward-bad, onward-not, onward-more, onward-all, risen-bad, set-none, set-zero, set-some, set-found}

@@ -8,10 +8,10 @@ use mathlib.Core.List.{List, []}
 use lib.ListN.{length, getD}
 use borrow.Author.Tests.{not-true, not-false, ltb-false}
 use Rattle.ontology.specs.Table.{EventType, isMatch}
-use Rattle.ontology.specs.TypeIndex.{TypeIs}
+use Rattle.ontology.specs.code.TypeIndex.{TypeIs}
 use Rattle.event.specs.Event.{Event}
 use Rattle.event.specs.EventQuestions.{isEmpty, setFits}
-use Rattle.event.specs.EventIndex.{EventIs}
+use Rattle.event.specs.code.EventIndex.{EventIs}
 use Rattle.event.proofs.ShapeLaws.{noProperty, place-said, Shape, shape-first, shape-not, shape-many, shape-few, shape-more, shape-end, matches-are}
 use Rattle.event.proofs.shape.shape_ok.Statement.{statement}
 use Rattle.event.proofs.shape.shape_ok.Tie as tie
@@ -63,7 +63,8 @@ returns-2 c = λ table event y x u v.
     let vs = getD (x .sets) (l .k) [] in
     let n = v .sets .each (l .k) h .count in
     shape-many y x _ _ (l .k) (l .inv .2 table event y x u v) (omega (arith, h, v .sets .long)) _
-    (place-said table y _ noProperty (l .k) 0 (λ q. cond (isMatch q) (length vs) 0) _ u (c .before .before .before .before .before .before .if1 .taken) (λ q e z. c .before .matches-at .ensures ∙ matches-are q vs (z .strategy) n)) (c .if3 .taken) (l .inv .1)
+    (place-said table y _ noProperty (l .k) 0 (λ q. cond (isMatch q) (length vs) 0) _ u (c .before .before .before .before .before .before .if1 .taken)
+    (λ q e z. c .before .matches-at .ensures ∙ matches-are q vs z n)) (c .if3 .taken) (l .inv .1)
 
 returns-3 : tie.Need-returns-3 Inv-loop μ-loop
 returns-3 c = λ table event y x u v.
@@ -91,7 +92,9 @@ loop-again c =
           let n = v .sets .each (l .k) h .count in
           shape-more y x _ _ (l .k) (l .inv .2 table event y x u v) (omega (arith, h, v .sets .long)) _ _ n
           (place-said table y _ noProperty (l .k) (isEmpty vs) (λ q. setFits q vs) _ u (c .before .before .before .before .before .before .before .before .before .if1 .taken) (λ q e z. sym (not-false _ (c .before .before .before .before .before .if2 .left)) ∙ c .before .before .before .before .before .before .set-fits .ensures table q vs z n))
-          (place-said table y _ noProperty (l .k) 0 (λ q. cond (isMatch q) (length vs) 0) _ u (c .before .before .before .before .before .before .before .before .before .if1 .taken) (λ q e z. c .before .before .before .before .matches-at .ensures ∙ matches-are q vs (z .strategy) n)),
+          (place-said table y _ noProperty (l .k) 0 (λ q. cond (isMatch q) (length vs) 0) _ u
+          (c .before .before .before .before .before .before .before .before .before .if1 .taken)
+          (λ q e z. c .before .before .before .before .matches-at .ensures ∙ matches-are q vs z n)),
     )
 
 returns-4 : tie.Need-returns-4 Inv-loop μ-loop

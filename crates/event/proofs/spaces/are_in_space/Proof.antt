@@ -11,7 +11,7 @@ use Rattle.model.specs.Order.{Text}
 use Rattle.packed.specs.Packed.{text}
 use Rattle.packed.proofs.ReadLaws.{text-stops, text-none}
 use Rattle.values.specs.Spaces.{Kind, isKind}
-use Rattle.values.specs.KindNumbers.{kindOf}
+use Rattle.values.specs.code.KindNumbers.{kindOf}
 use Rattle.event.specs.EventQuestions.{areInSpace}
 use Rattle.event.proofs.SpaceLaws.{InSpace, space-first, space-end, space-bad, space-not, space-more}
 use Rattle.event.proofs.spaces.are_in_space.Statement.{statement}

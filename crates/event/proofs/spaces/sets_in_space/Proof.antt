@@ -7,8 +7,8 @@ use lib.ListN.{getD}
 use borrow.Author.Tests.{not-true, not-false, ltb-false}
 use Rattle.model.specs.Order.{Text}
 use Rattle.ontology.specs.Table.{EventType}
-use Rattle.ontology.specs.TypeIndex.{TypeIs}
-use Rattle.event.specs.EventIndex.{SetsAre, KindsAre}
+use Rattle.ontology.specs.code.TypeIndex.{TypeIs}
+use Rattle.event.specs.code.EventIndex.{SetsAre, KindsAre}
 use Rattle.event.proofs.ShapeLaws.{noProperty}
 use Rattle.event.proofs.SpaceLaws.{place-space, Fit, fit-first, fit-not, fit-more, fit-end}
 use Rattle.event.proofs.spaces.sets_in_space.Statement.{statement}

@@ -1,22 +1,25 @@
 use native.Mathlib.Omega.{arith}
 use Prim.Native.Nat.{_-_}
-use Rattle.hashing.specs.HashIndex.{ObjectsFit, Hashable}
+use Rattle.packed.specs.code.Strings.{StringsFit}
+use Rattle.hashing.specs.code.HashIndex.{Hashable}
 use Rattle.hashing.proofs.GatherLaws.{SoFar, fit-none, so-far-none, so-far-more, so-far-all, place-ready}
 use borrow.Author.Needs.{needs}
 use Rattle.hashing.proofs.gather.gather.Statement.{statement}
 use Rattle.hashing.proofs.gather.gather.Tie as tie
 
 abbrev Inv-loop : tie.InvT-loop
-Inv-loop table event t e r₀ place₀ r place = ObjectsFit table event r × ((h : Hashable table event t e) → SoFar table event (h .type .properties) (h .event .sets) r place)
+Inv-loop table event t e r₀ place₀ r place =
+    StringsFit table event r
+    × ((h : Hashable table event t e) → SoFar table event (h .type .properties) (h .event .sets) r place)
 
 abbrev μ-loop : tie.MeasureT-loop
 μ-loop table event t e r₀ place₀ r place = t .count - place
 
-no-objects-requires : tie.Need-no-objects-requires Inv-loop μ-loop
-no-objects-requires c κs = search needs
+no-strings-requires : tie.Need-no-strings-requires Inv-loop μ-loop
+no-strings-requires c κs = search needs
 
 loop-holds : tie.Need-loop-holds Inv-loop μ-loop
-loop-holds c = (fit-none _ _ _ (c .no-objects .ensures), λ h. so-far-none _ _ _ _ _ (c .no-objects .ensures .0))
+loop-holds c = (fit-none _ _ _ (c .no-strings .ensures), λ h. so-far-none _ _ _ _ _ (c .no-strings .ensures .0))
 
 mul-p : tie.Need-mul-p Inv-loop μ-loop
 mul-p c = search needs
@@ -58,7 +61,7 @@ gather-spec =
     (tie.spec
     Inv-loop
     μ-loop
-    no-objects-requires
+    no-strings-requires
     loop-holds
     mul-p
     element-copy-out-p

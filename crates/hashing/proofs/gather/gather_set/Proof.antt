@@ -4,9 +4,9 @@ use mathlib.Core.Path.{sym, _∙_}
 use mathlib.Core.List.{List}
 use lib.ListN.{drop}
 use Rattle.model.specs.Order.{Text}
+use Rattle.packed.specs.code.Strings.{StringsFit}
 use Rattle.packed.proofs.ReadLaws.{text-stops, text-none}
-use Rattle.event.specs.EventIndex.{SetIs}
-use Rattle.hashing.specs.HashIndex.{ObjectsFit}
+use Rattle.event.specs.code.EventIndex.{SetIs}
 use Rattle.hashing.proofs.GatherLaws.{Gathering, gathering-none, gathering-bad, gathering-more, gathering-all}
 use borrow.Author.Needs.{needs}
 use Rattle.hashing.proofs.gather.gather_set.Statement.{statement}
@@ -14,7 +14,7 @@ use Rattle.hashing.proofs.gather.gather_set.Tie as tie
 
 abbrev Inv-loop : tie.InvT-loop
 Inv-loop table event name colon r₀ at₀ left₀ r at left =
-    ObjectsFit table event r
+    StringsFit table event r
     × (r .count + left ≤ 32)
     × ((vs : List Text) (end : ℕ) → SetIs event vs (record { start = at₀; end = end; count = left₀ }) → Gathering table event name colon r₀ r vs at left (drop end event))
 
@@ -46,12 +46,15 @@ returns c =
           (text-none _ _ (sym (c .before .before .read-text .ensures) ∙ c .enum-told .given .1))),
     )
 
-insert-object-requires : tie.Need-insert-object-requires Inv-loop μ-loop
-insert-object-requires c κs =
+insert-string-requires : tie.Need-insert-string-requires Inv-loop μ-loop
+insert-string-requires c κs =
     let l = c .before .before .before .before .before in
     let p = l .before .before .before in
-    let t = text-stops _ _ _ _ (sym (c .before .before .before .read-text .ensures) ∙ c .before .value .given .1) in
-    (l .loop .inv .0, record { name = p .pre .1; named = p .pre .2; value = t .order; within = t .within }, omega (arith, l .loop .inv .1, c .before .before .before .before .loop-test .taken))
+    let t = text-stops _ _ _ _ (sym (c .before .before .before .read-text .ensures) ∙ c .before .value .given .1) in (
+      l .loop .inv .0,
+      record { first = p .pre .1; inA = p .pre .2; second = t .order; inB = t .within },
+      omega (arith, l .loop .inv .1, c .before .before .before .before .loop-test .taken),
+    )
 
 sub-left : tie.Need-sub-left Inv-loop μ-loop
 sub-left c = search needs
@@ -62,7 +65,7 @@ loop-less c = search needs
 loop-again : tie.Need-loop-again Inv-loop μ-loop
 loop-again c =
     let l = c .before .before .before .before .before .before in
-    let i = c .insert-object .ensures in
+    let i = c .insert-string .ensures in
     let h = c .before .before .before .before .before .loop-test .taken in (
       i .fit,
       omega (arith, i .more, l .loop .inv .1, h),
@@ -87,7 +90,7 @@ gather-set-spec =
     enum-known-value
     enum-told
     returns
-    insert-object-requires
+    insert-string-requires
     sub-left
     loop-less
     loop-again

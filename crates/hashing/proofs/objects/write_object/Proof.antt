@@ -8,7 +8,7 @@ use Rattle.hashing.proofs.objects.write_object.Tie as tie
 copy-part-requires : tie.Need-copy-part-requires
 copy-part-requires c κs =
     let p = c .before .before .before .before in
-    (p .pre .0 .name, p .pre .0 .named, room-name _ _ _ (p .pre .0) _ _ (p .pre .1))
+    (p .pre .0 .first, p .pre .0 .inA, room-name _ _ _ (p .pre .0) _ _ (p .pre .1))
 
 slice-aggregate-copy : tie.Need-slice-aggregate-copy
 slice-aggregate-copy c = search needs
@@ -26,7 +26,7 @@ copy-part-requires-2 c κs =
     let w = c .before .before .before .before .before .before .before .before .copy-part in
     let p = c .before .before .before .before .before .before .before .before .before .before .before .before .before in
     let h = room-value (p .args .table .now) (p .args .event .now) (p .args .x) (p .pre .0) _ _ _ _ (w .ensures .after) (v .ensures .after) (p .pre .1) in
-    (p .pre .0 .value, p .pre .0 .within, omega (arith, h, wrote-length (w .ensures), wrote-length (v .ensures)))
+    (p .pre .0 .second, p .pre .0 .inB, omega (arith, h, wrote-length (w .ensures), wrote-length (v .ensures)))
 
 same-length : tie.Need-same-length
 same-length c = search needs

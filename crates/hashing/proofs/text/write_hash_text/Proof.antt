@@ -10,23 +10,23 @@ gather-requires c κs = search needs
 
 write-line-requires : tie.Need-write-line-requires
 write-line-requires c κs =
-    let p = c .before .before .before .before .before .before .before .before in
+    let p = c .before .before .before .before .before .before .before in
     let h = p .pre .0 in
-    let m = parts-room _ _ _ _ h _ (c .before .before .before .before .gather .ensures .1 h) in
+    let m = parts-room _ _ _ _ h _ (c .before .before .before .gather .ensures .1 h) in
     (h .read .head .uri .order, h .read .head .uri .within, omega (arith, m, p .pre .1))
 
 write-line-requires-2 : tie.Need-write-line-requires-2
 write-line-requires-2 c κs =
-    let p = c .before .before .before .before .before .before .before .before .before .before .before .before in
+    let p = c .before .before .before .before .before .before .before .before .before .before .before in
     let h = p .pre .0 in
-    let m = parts-room _ _ _ _ h _ (c .before .before .before .before .before .before .before .before .gather .ensures .1 h) in
+    let m = parts-room _ _ _ _ h _ (c .before .before .before .before .before .before .before .gather .ensures .1 h) in
     let w = c .before .before .before .write-line .ensures in
-    (h .read .head .name .order, h .read .head .name .within, omega (arith, m, p .pre .1, w .after, wrote-length w))
+    (h .typed .order, h .typed .within, omega (arith, m, p .pre .1, w .after, wrote-length w))
 
 write-objects-requires : tie.Need-write-objects-requires
 write-objects-requires c κs =
-    let p = c .before .before .before .before .before .before .before .before .before .before .before .before .before .before .before .before in
-    let g = c .before .before .before .before .before .before .before .before .before .before .before .before .gather .ensures in
+    let p = c .before .before .before .before .before .before .before .before .before .before .before .before .before .before .before in
+    let g = c .before .before .before .before .before .before .before .before .before .before .before .gather .ensures in
     let m = parts-room _ _ _ _ (p .pre .0) _ (g .1 (p .pre .0)) in
     let w = c .before .before .before .before .before .before .before .write-line .ensures in
     let v = c .before .before .before .write-line2 .ensures in
@@ -36,7 +36,7 @@ same-length : tie.Need-same-length
 same-length c = search needs
 
 returns : tie.Need-returns
-returns c = λ h. wrote-hash-text _ _ _ _ h _ (c .before .before .before .before .before .before .before .before .before .before .before .before .before .before .before .gather .ensures .1 h) (c .before .before .before .before .before .before .before .before .before .before .write-line .ensures) (c .before .before .before .before .before .before .write-line2 .ensures) (c .before .before .write-objects .ensures)
+returns c = λ h. wrote-hash-text _ _ _ _ h _ (c .before .before .before .before .before .before .before .before .before .before .before .before .before .before .gather .ensures .1 h) (c .before .before .before .before .before .before .before .before .before .before .write-line .ensures) (c .before .before .before .before .before .before .write-line2 .ensures) (c .before .before .write-objects .ensures)
 
 pub write-hash-text-spec : {M : Type 1} → statement M
 write-hash-text-spec =

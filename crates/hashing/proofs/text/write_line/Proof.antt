@@ -1,7 +1,7 @@
 use native.Mathlib.Omega.{arith}
 use mathlib.Core.List.{[], _∷_}
 use lib.ListN.{length-append}
-use Rattle.packed.specs.Located.{part}
+use Rattle.packed.specs.Packed.{part}
 use Rattle.packed.proofs.WriteLaws.{wrote-length, wrote-then}
 use borrow.Author.Needs.{needs}
 use Rattle.hashing.proofs.text.write_line.Statement.{statement}
@@ -10,7 +10,7 @@ use Rattle.hashing.proofs.text.write_line.Tie as tie
 copy-part-requires : tie.Need-copy-part-requires
 copy-part-requires c κs =
     let p = c .before .before .before in
-    (p .pre .0, p .pre .1, omega (arith, p .pre .2, length-append (part (p .args .event .now) (p .args .from) (p .args .to)) (10 ∷ [])))
+    (p .pre .0, p .pre .1, omega (arith, p .pre .2, length-append (part (p .args .s .now) (p .args .from) (p .args .to)) (10 ∷ [])))
 
 slice-aggregate-copy : tie.Need-slice-aggregate-copy
 slice-aggregate-copy c = search needs
@@ -19,7 +19,7 @@ copy-requires : tie.Need-copy-requires
 copy-requires c κs =
     let w = c .before .before .before .before .copy-part .ensures in
     let p = c .before .before .before .before .before .before .before .before in
-    omega (arith, w .after, wrote-length w, p .pre .2, length-append (part (p .args .event .now) (p .args .from) (p .args .to)) (10 ∷ []))
+    omega (arith, w .after, wrote-length w, p .pre .2, length-append (part (p .args .s .now) (p .args .from) (p .args .to)) (10 ∷ []))
 
 same-length : tie.Need-same-length
 same-length c = search needs

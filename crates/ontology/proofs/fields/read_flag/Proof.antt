@@ -1,10 +1,11 @@
-use Rattle.ontology.proofs.FieldLaws.{number-fail, number-got, flag-none, flag-is}
+use Rattle.packed.proofs.FieldLaws.{number-fail, number-got}
+use Rattle.ontology.proofs.FlagLaws.{flag-none, flag-is}
 use borrow.Author.Needs.{needs}
 use Rattle.ontology.proofs.fields.read_flag.Statement.{statement}
 use Rattle.ontology.proofs.fields.read_flag.Tie as tie
 use Rattle.ontology.proofs.fields.read_flag.Reads as reads
 use Rattle.ontology.proofs.fields.read_flag.Lts as lts
-use Rattle.ontology.proofs.fields.read_within.Reads as read-within-reads
+use Rattle.packed.proofs.read.read_within.Reads as read-within-reads
 
 read-within-requires : tie.Need-read-within-requires
 read-within-requires c κs = search needs

@@ -1,4 +1,4 @@
-use Rattle.ontology.proofs.FieldLaws.{is-below, size-is}
+use Rattle.packed.proofs.FieldLaws.{is-below, size-is}
 use mathlib.Core.Path.{sym}
 use native.Mathlib.Omega.{arith}
 use Rattle.ontology.proofs.kinds.is_size.Statement.{statement}

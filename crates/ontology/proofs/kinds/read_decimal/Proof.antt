@@ -1,5 +1,6 @@
 use Rattle.ontology.proofs.KindLaws.{decimal-none, decimal-no-after, decimal-no-sign, decimal-bad, decimal-got, digits-small}
-use Rattle.ontology.proofs.FieldLaws.{number-here, flag-fail, flag-got}
+use Rattle.packed.proofs.FieldLaws.{number-here}
+use Rattle.ontology.proofs.FlagLaws.{flag-fail, flag-got}
 use Rattle.packed.proofs.ReadLaws.{number-none}
 use Prim.Native.Nat.{_≤_}
 use mathlib.Core.Path.{sym, _∙_}

@@ -1,5 +1,5 @@
 use Rattle.ontology.proofs.KindLaws.{one-none, one-got, one-bad, fits-small}
-use Rattle.ontology.proofs.FieldLaws.{number-here}
+use Rattle.packed.proofs.FieldLaws.{number-here}
 use Rattle.packed.proofs.ReadLaws.{number-none}
 use mathlib.Core.Path.{sym, _∙_}
 use native.Mathlib.Omega.{arith}

@@ -1,4 +1,4 @@
-use Rattle.ontology.proofs.FieldLaws.{text-here, such-none, such-got, such-fail}
+use Rattle.packed.proofs.FieldLaws.{text-here, such-none, such-got, such-fail}
 use Rattle.ontology.specs.Table.{isNameWithin}
 use Rattle.packed.proofs.ReadLaws.{text-stops, text-none}
 use Rattle.packed.specs.Packed.{readText}

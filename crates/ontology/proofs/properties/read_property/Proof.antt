@@ -1,6 +1,7 @@
 use Rattle.ontology.proofs.PropertyLaws.{property-no-name, property-no-kind, property-no-optional, property-no-multivalued, property-no-strategy, property-is, strategy-none, strategy-got}
 use Rattle.ontology.proofs.KindLaws.{kind-got, kind-fail}
-use Rattle.ontology.proofs.FieldLaws.{number-got, number-fail, flag-got, flag-fail, name-got, name-fail, got-bounds}
+use Rattle.packed.proofs.FieldLaws.{number-got, number-fail, name-got, name-fail, got-bounds}
+use Rattle.ontology.proofs.FlagLaws.{flag-got, flag-fail}
 use Prim.Native.Nat.{_≤_}
 use native.Mathlib.Omega.{arith}
 use borrow.Author.Needs.{needs}
@@ -9,7 +10,7 @@ use Rattle.ontology.proofs.properties.read_property.Tie as tie
 use Rattle.ontology.proofs.properties.read_property.Reads as reads
 use Rattle.ontology.proofs.properties.read_property.Lts as lts
 use Rattle.ontology.proofs.fields.read_flag.Reads as read-flag-reads
-use Rattle.ontology.proofs.fields.read_within.Reads as read-within-reads
+use Rattle.packed.proofs.read.read_within.Reads as read-within-reads
 use Rattle.ontology.proofs.kinds.read_kind.Reads as read-kind-reads
 use Rattle.ontology.proofs.names.read_name.Reads as read-name-reads
 
@@ -78,6 +79,12 @@ returns-4 c =
     let i = flag-got (c .before .before .before .before .optional .given .1) (c .before .before .before .before .before .before .read-flag .ensures) in
     property-no-multivalued (a .table .now) (a .at) (g .stops) (h .stops) i (flag-fail (a .table .now) _ (c .enum-told4 .given .1) (c .before .before .read-flag2 .ensures))
 
+cast-read-within : tie.Need-cast-read-within
+cast-read-within c = search needs
+
+cast-read-within-2 : tie.Need-cast-read-within-2
+cast-read-within-2 c = search needs
+
 read-within-requires : tie.Need-read-within-requires
 read-within-requires c κs = search needs
 
@@ -96,8 +103,8 @@ returns-5 c =
     let j = flag-got (c .before .before .before .before .multivalued .given .1) (c .before .before .before .before .before .before .read-flag2 .ensures) in
     property-no-strategy (a .table .now) (a .at) (g .stops) (h .stops) i j (strategy-none (a .table .now) (c .before .before .before .before .multivalued .given .0 .1 .0) (number-fail (a .table .now) (c .before .before .before .before .multivalued .given .0 .1 .0) (c .enum-told5 .given .1) (c .before .before .read-within .ensures)))
 
-cast-t22 : tie.Need-cast-t22
-cast-t22 c = omega (arith, small c)
+cast-t24 : tie.Need-cast-t24
+cast-t24 c = omega (arith, small c)
 
 returns-6 : tie.Need-returns-6
 returns-6 c =
@@ -129,9 +136,11 @@ read-property-spec =
     enum-known-multivalued
     enum-told-4
     returns-4
+    cast-read-within
+    cast-read-within-2
     read-within-requires
     enum-known-strategy
     enum-told-5
     returns-5
-    cast-t22
+    cast-t24
     returns-6)

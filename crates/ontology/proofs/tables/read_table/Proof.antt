@@ -1,5 +1,5 @@
 use Rattle.ontology.proofs.TableReadLaws.{type-got, type-not, table-none, table-fail, Listed, listed-none, listed-bad, listed-low, listed-more, listed-exact, listed-early}
-use Rattle.ontology.proofs.FieldLaws.{number-got, number-fail}
+use Rattle.packed.proofs.FieldLaws.{number-got, number-fail}
 use borrow.Author.Tests.{not-true, not-false}
 use mathlib.Core.Path.{refl, sym, _∙_}
 use native.Mathlib.Omega.{arith}
@@ -8,8 +8,8 @@ use Rattle.ontology.proofs.tables.read_table.Statement.{statement}
 use Rattle.ontology.proofs.tables.read_table.Tie as tie
 use Rattle.ontology.proofs.tables.read_table.Reads as reads
 use Rattle.ontology.proofs.tables.read_table.Lts as lts
-use Rattle.ontology.proofs.fields.read_within.Reads as read-within-reads
-use Rattle.ontology.proofs.names.is_before.Reads as is-before-reads
+use Rattle.packed.proofs.read.read_within.Reads as read-within-reads
+use Rattle.packed.proofs.order.is_before.Reads as is-before-reads
 use Rattle.ontology.proofs.tables.keep.Reads as keep-reads
 use Rattle.ontology.proofs.types.no_type.Reads as no-type-reads
 use Rattle.ontology.proofs.types.read_type.Reads as read-type-reads

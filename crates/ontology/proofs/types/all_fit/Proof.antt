@@ -1,5 +1,5 @@
 use Rattle.ontology.proofs.RuleLaws.{is-place, fit-not, fit-more, fit-end}
-use Rattle.ontology.specs.TypeIndex.{TypeIs}
+use Rattle.ontology.specs.code.TypeIndex.{TypeIs}
 use Rattle.ontology.specs.Table.{EventType, isVersioned, allFit}
 use borrow.Author.Tests.{not-true, not-false}
 use lib.ListN.{drop}

@@ -1,6 +1,6 @@
 use Prim.Native.Nat.{_<_}
 use Rattle.ontology.proofs.RuleLaws.{is-place, rise-not, rise-more, rise-end}
-use Rattle.ontology.specs.TypeIndex.{TypeIs}
+use Rattle.ontology.specs.code.TypeIndex.{TypeIs}
 use Rattle.ontology.specs.Table.{Property, EventType, namesRise}
 use Rattle.model.specs.Order.{texts, rising}
 use borrow.Author.Tests.{not-true, not-false}
@@ -14,7 +14,7 @@ use Rattle.ontology.proofs.types.names_rise.Statement.{statement}
 use Rattle.ontology.proofs.types.names_rise.Tie as tie
 use Rattle.ontology.proofs.types.names_rise.Reads as reads
 use Rattle.ontology.proofs.types.names_rise.Lts as lts
-use Rattle.ontology.proofs.names.is_before.Reads as is-before-reads
+use Rattle.packed.proofs.order.is_before.Reads as is-before-reads
 
 abbrev Inv-loop : tie.InvT-loop
 Inv-loop table x k₀ k = (1 ≤ k) × ((t : EventType) → TypeIs table t x → namesRise (map (λ (p : Property). p .name) (t .properties)) ≡ rising texts (drop (k - 1) (map (λ (p : Property). p .name) (t .properties))))

@@ -1,5 +1,5 @@
 use Rattle.ontology.proofs.TypeLaws.{head-no-name, head-no-definition, head-undefined, head-no-mark, head-no-count, head-is}
-use Rattle.ontology.proofs.FieldLaws.{number-here, number-got, number-fail, name-got, name-fail, such-was}
+use Rattle.packed.proofs.FieldLaws.{number-here, number-got, number-fail, name-got, name-fail, such-was}
 use Rattle.ontology.specs.Table.{isNameWithin}
 use Rattle.packed.proofs.ReadLaws.{number-none}
 use Rattle.packed.specs.Packed.{readText}
@@ -9,7 +9,7 @@ use Rattle.ontology.proofs.types.read_head.Statement.{statement}
 use Rattle.ontology.proofs.types.read_head.Tie as tie
 use Rattle.ontology.proofs.types.read_head.Reads as reads
 use Rattle.ontology.proofs.types.read_head.Lts as lts
-use Rattle.ontology.proofs.fields.read_within.Reads as read-within-reads
+use Rattle.packed.proofs.read.read_within.Reads as read-within-reads
 use Rattle.ontology.proofs.names.read_name.Reads as read-name-reads
 use Rattle.packed.proofs.read.read_number.Reads as read-number-reads
 

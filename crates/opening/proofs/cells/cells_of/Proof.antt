@@ -4,26 +4,26 @@ use Prim.Native.Nat.{_-_}
 use native.Mathlib.Omega.{arith}
 use lib.ListN.{length, getD, length-set}
 use Rattle.dossier.specs.DossierLayout.{Headed}
-use Rattle.dossier.specs.DossierIndex.{noSnapshot, DossierIs}
+use Rattle.dossier.specs.code.DossierIndex.{noSnapshot, DossierIs}
 use Rattle.dossier.proofs.AskLaws.{start-within}
 use Rattle.opening.proofs.StandLaws.{FilledTo, filled-none, filled-more, filled-all, own-cell, StandTo, stand-none, stand-more, stand-all}
 use Rattle.opening.proofs.cells.cells_of.Statement.{statement}
 use Rattle.opening.proofs.cells.cells_of.Tie as tie
 
 abbrev Inv-loop2 : tie.InvT-loop2
-Inv-loop2 s d cells₀ j at x p₀ cells p = (length cells ≡ 256) × ((h : Headed) → DossierIs s h d → FilledTo s (getD (h .dossier .snapshots) j noSnapshot) j cells₀ cells p)
+Inv-loop2 s d cells₀ j at x p₀ cells p = (length cells ≡ 256) × ((h : Headed) → DossierIs s h d → FilledTo s (getD (h .snapshots) j noSnapshot) j cells₀ cells p)
 
 abbrev μ-loop2 : tie.MeasureT-loop2
 μ-loop2 s d cells₀ j at x p₀ cells p = 32 - p
 
 abbrev Inv-loop : tie.InvT-loop
-Inv-loop s d cells₀ j₀ cells j = (length cells ≡ 256) × ((h : Headed) → DossierIs s h d → StandTo s (h .dossier .snapshots) cells j)
+Inv-loop s d cells₀ j₀ cells j = (length cells ≡ 256) × ((h : Headed) → DossierIs s h d → StandTo s (h .snapshots) cells j)
 
 abbrev μ-loop : tie.MeasureT-loop
 μ-loop s d cells₀ j₀ cells j = d .count - j
 
 loop-holds : tie.Need-loop-holds Inv-loop2 μ-loop2 Inv-loop μ-loop
-loop-holds c = (refl, λ h w. stand-none _ (h .dossier .snapshots) _)
+loop-holds c = (refl, λ h w. stand-none _ (h .snapshots) _)
 
 mul-at : tie.Need-mul-at Inv-loop2 μ-loop2 Inv-loop μ-loop
 mul-at c = omega (arith, c .loop-test .taken, c .before .before .before .pre .is .few)
@@ -86,7 +86,7 @@ loop-less c = omega (arith, c .before .before .before .before .loop-test .taken)
 loop-again : tie.Need-loop-again Inv-loop2 μ-loop2 Inv-loop μ-loop
 loop-again c =
     let i = c .before .loop2 .inv in
-    (i .0, λ h w. stand-more _ (h .dossier .snapshots) _ _ _ (omega (arith, c .before .before .before .before .loop-test .taken, w .few)) (c .before .before .before .before .before .loop .inv .1 h w) (filled-all _ _ _ _ _ _ (c .loop2-test .left) (i .1 h w)))
+    (i .0, λ h w. stand-more _ (h .snapshots) _ _ _ (omega (arith, c .before .before .before .before .loop-test .taken, w .few)) (c .before .before .before .before .before .loop .inv .1 h w) (filled-all _ _ _ _ _ _ (c .loop2-test .left) (i .1 h w)))
 
 returns : tie.Need-returns Inv-loop2 μ-loop2 Inv-loop μ-loop
 returns c = λ h w. stand-all _ h _ _ _ w (c .loop-test .left) (c .before .loop .inv .1 h w)

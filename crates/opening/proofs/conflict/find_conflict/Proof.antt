@@ -7,15 +7,15 @@ use lib.ListN.{drop}
 use Rattle.model.specs.Sets.{upTo}
 use Rattle.model.specs.Opening.{conflict}
 use Rattle.dossier.specs.DossierLayout.{Headed}
-use Rattle.dossier.specs.DossierIndex.{DossierIs}
+use Rattle.dossier.specs.code.DossierIndex.{DossierIs}
 use Rattle.dossier.proofs.AskLaws.{in-count, past-count}
-use Rattle.opening.specs.OpenIndex.{conflictOf}
+use Rattle.opening.specs.code.OpenIndex.{conflictOf}
 use Rattle.opening.proofs.ConflictLaws.{version-at, differ-at, conflict-not, conflict-later, conflict-here, conflict-end}
 use Rattle.opening.proofs.conflict.find_conflict.Statement.{statement}
 use Rattle.opening.proofs.conflict.find_conflict.Tie as tie
 
 abbrev Inv-loop : tie.InvT-loop
-Inv-loop d j₀ j = (s : List ℕ) (h : Headed) → DossierIs s h d → conflict (upTo 32) (h .dossier .snapshots) ≡ conflict (upTo 32) (drop j (h .dossier .snapshots))
+Inv-loop d j₀ j = (s : List ℕ) (h : Headed) → DossierIs s h d → conflict (upTo 32) (h .snapshots) ≡ conflict (upTo 32) (drop j (h .snapshots))
 
 abbrev μ-loop : tie.MeasureT-loop
 μ-loop d j₀ j = d .count - j
@@ -48,7 +48,7 @@ returns : tie.Need-returns Inv-loop μ-loop
 returns c =
     λ s h w.
     let l = in-count s h _ w _ (c .before .before .before .before .before .loop-test .taken) in
-    conflict-here (upTo 32) (h .dossier .snapshots) _ l _ (c .before .before .snapshot-conflict .ensures _ (version-at s h _ w _ l) (differ-at s h _ w _ l)) (conflict-not _ (c .enum-told2 .given .1))
+    conflict-here (upTo 32) (h .snapshots) _ l _ (c .before .before .snapshot-conflict .ensures _ (version-at s h _ w _ l) (differ-at s h _ w _ l)) (conflict-not _ (c .enum-told2 .given .1))
     ∙ sym (c .before .before .before .before .before .before .loop .inv s h w)
 
 add-j : tie.Need-add-j Inv-loop μ-loop
@@ -62,10 +62,10 @@ loop-again c =
     λ s h w.
     let l = in-count s h _ w _ (c .before .before .before .before .before .loop-test .taken) in
     c .before .before .before .before .before .before .loop .inv s h w
-    ∙ conflict-later (upTo 32) (h .dossier .snapshots) _ l (sym (ap conflictOf (c .enum-told .given .1)) ∙ c .before .before .snapshot-conflict .ensures _ (version-at s h _ w _ l) (differ-at s h _ w _ l))
+    ∙ conflict-later (upTo 32) (h .snapshots) _ l (sym (ap conflictOf (c .enum-told .given .1)) ∙ c .before .before .snapshot-conflict .ensures _ (version-at s h _ w _ l) (differ-at s h _ w _ l))
 
 returns-2 : tie.Need-returns-2 Inv-loop μ-loop
-returns-2 c = λ s h w. conflict-end (upTo 32) (h .dossier .snapshots) _ (past-count s h _ w _ (c .loop-test .left)) ∙ sym (c .before .loop .inv s h w)
+returns-2 c = λ s h w. conflict-end (upTo 32) (h .snapshots) _ (past-count s h _ w _ (c .loop-test .left)) ∙ sym (c .before .loop .inv s h w)
 
 pub find-conflict-spec : {M : Type 1} → statement M
 find-conflict-spec =

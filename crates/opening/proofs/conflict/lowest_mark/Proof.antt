@@ -8,7 +8,7 @@ use Rattle.model.specs.Sets.{upFrom, upTo}
 use Rattle.model.specs.Rule.{Cell, holds}
 use Rattle.model.specs.Opening.{lowest, isMark}
 use Rattle.event.specs.EventLayout.{bitNumber}
-use Rattle.dossier.specs.DossierLayout.{differBit}
+use Rattle.dossier.specs.DossierBody.{differBit}
 use Rattle.dossier.proofs.CellLaws.{bits-next}
 use Rattle.opening.proofs.ConflictLaws.{lowest-start, lowest-here, lowest-next, lowest-end, bit-set, bit-clear}
 use Rattle.opening.proofs.conflict.lowest_mark.Statement.{statement}

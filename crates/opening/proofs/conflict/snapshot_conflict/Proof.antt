@@ -1,6 +1,6 @@
 use borrow.Author.Needs.{needs}
 use mathlib.Core.Path.{sym, ap, _∙_}
-use Rattle.opening.specs.OpenIndex.{lowestOf}
+use Rattle.opening.specs.code.OpenIndex.{lowestOf}
 use Rattle.opening.proofs.ConflictLaws.{snapshot-differs, snapshot-clear}
 use Rattle.opening.proofs.conflict.snapshot_conflict.Statement.{statement}
 use Rattle.opening.proofs.conflict.snapshot_conflict.Tie as tie

@@ -5,11 +5,11 @@ use mathlib.Core.List.{List, []}
 use lib.ListN.{take, getD}
 use Rattle.model.specs.Order.{Text, pick}
 use Rattle.model.specs.Sets.{union}
-use Rattle.packed.specs.Comparison.{ordering}
+use Rattle.packed.specs.code.Comparison.{ordering}
 use Rattle.values.specs.Spaces.{Kind}
 use Rattle.values.specs.ValueOrder.{valueOrder, extremeOrder}
-use Rattle.event.specs.EventIndex.{SetIs}
-use Rattle.opening.specs.OpenIndex.{Chooses, Lone}
+use Rattle.event.specs.code.EventIndex.{SetIs}
+use Rattle.opening.specs.code.OpenIndex.{Chooses, Lone}
 use Rattle.opening.proofs.MergeLaws.{better-none, better-only, value-order, better-first, better-second}
 use Rattle.opening.proofs.merge.better.Statement.{statement}
 use Rattle.opening.proofs.merge.better.Tie as tie

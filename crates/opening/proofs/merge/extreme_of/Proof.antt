@@ -1,5 +1,5 @@
 use borrow.Author.Needs.{needs}
-use mathlib.Core.Path.{_≡_, refl}
+use mathlib.Core.Path.{_≡_}
 use mathlib.Core.List.{List, []}
 use Prim.Native.Nat.{ℕ, _-_, _≤_, _<_}
 use native.Mathlib.Omega.{arith}
@@ -8,8 +8,8 @@ use Rattle.model.specs.Rule.{Snapshot}
 use Rattle.model.specs.Opening.{column}
 use Rattle.values.specs.Spaces.{Kind}
 use Rattle.event.specs.declared.sets.SetAt.{SetAt}
-use Rattle.opening.specs.OpenIndex.{CellsStand, Chooses, Lone}
-use Rattle.opening.specs.CellIndex.{RowIs}
+use Rattle.opening.specs.code.OpenIndex.{CellsStand, Chooses, Lone}
+use Rattle.opening.specs.code.CellIndex.{RowIs}
 use Rattle.opening.proofs.StandLaws.{column-long, row-stands}
 use Rattle.opening.proofs.MergeLaws.{Chosen, chosen-first, chosen-more, chosen-all}
 use Rattle.opening.proofs.merge.extreme_of.Statement.{statement}

@@ -7,16 +7,16 @@ use Rattle.model.specs.Sets.{upFrom}
 use Rattle.model.specs.Rule.{Dossier}
 use Rattle.model.specs.Opening.{lowest, overfull}
 use Rattle.ontology.specs.Table.{EventType}
-use Rattle.ontology.specs.TypeIndex.{TypeIs}
-use Rattle.event.specs.Event.{view}
-use Rattle.opening.specs.OpenIndex.{CountsMerged}
+use Rattle.ontology.specs.code.TypeIndex.{TypeIs}
+use Rattle.event.specs.Event.{typeView}
+use Rattle.opening.specs.code.OpenIndex.{CountsMerged}
 use Rattle.opening.proofs.ConflictLaws.{lowest-here, lowest-next, lowest-end}
 use Rattle.opening.proofs.MergeLaws.{isOverfull, overfull-start, place-overfull}
 use Rattle.opening.proofs.merge.find_overfull.Statement.{statement}
 use Rattle.opening.proofs.merge.find_overfull.Tie as tie
 
 abbrev Inv-loop : tie.InvT-loop
-Inv-loop t counts p₀ p = (u : List ℕ) (ty : EventType) (d : Dossier) → TypeIs u ty t → CountsMerged ty d counts → overfull (view ty) d ≡ lowest (isOverfull ty d) (upFrom p (32 - p))
+Inv-loop t counts p₀ p = (u : List ℕ) (ty : EventType) (d : Dossier) → TypeIs u ty t → CountsMerged ty d counts → overfull (typeView ty) d ≡ lowest (isOverfull ty d) (upFrom p (32 - p))
 
 abbrev μ-loop : tie.MeasureT-loop
 μ-loop t counts p₀ p = 32 - p

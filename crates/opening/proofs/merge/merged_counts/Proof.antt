@@ -6,8 +6,8 @@ use native.Mathlib.Omega.{arith}
 use lib.ListN.{length, length-set}
 use Rattle.model.specs.Rule.{Dossier}
 use Rattle.ontology.specs.Table.{EventType}
-use Rattle.ontology.specs.TypeIndex.{TypeIs}
-use Rattle.opening.specs.OpenIndex.{Mergeable}
+use Rattle.ontology.specs.code.TypeIndex.{TypeIs}
+use Rattle.opening.specs.code.OpenIndex.{Mergeable}
 use Rattle.opening.proofs.StandLaws.{row-is}
 use Rattle.opening.proofs.MergeLaws.{CountedTo, counted-none, counted-more, counted-all}
 use Rattle.opening.proofs.merge.merged_counts.Statement.{statement}

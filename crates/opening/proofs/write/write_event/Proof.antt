@@ -1,40 +1,90 @@
 use borrow.Author.Needs.{needs}
+use native.Mathlib.Omega.{arith}
 use mathlib.Core.Path.{refl}
-use Rattle.opening.proofs.WriteRoomLaws.{head-room, presence-room, sets-room, wrote-event}
+use Rattle.event.proofs.HeadLaws.{parts-of}
+use Rattle.opening.proofs.WriteRoomLaws.{event-length, presence-room, sets-room, wrote-event}
 use Rattle.opening.proofs.write.write_event.Statement.{statement}
 use Rattle.opening.proofs.write.write_event.Tie as tie
 
+-- ---- the places
+
+abbrev to-start : tie.After-write-head-arg → tie.Start
+to-start c = c .before .before .before .before .before .before .before
+
+abbrev to-head : tie.After-presence-of → tie.After-write-head
+to-head c = c .before .before .before .before
+
+abbrev to-presence : tie.After-write-sets-arg → tie.After-presence-of
+to-presence c = c .before .before .before .before
+
+-- ---- the needs
+
+text-part-requires : tie.Need-text-part-requires
+text-part-requires c κs = search needs
+
+text-part-requires-2 : tie.Need-text-part-requires-2
+text-part-requires-2 c κs = search needs
+
+hashes-part-requires : tie.Need-hashes-part-requires
+hashes-part-requires c κs = search needs
+
 write-head-requires : tie.Need-write-head-requires
-write-head-requires c κs = head-room (c .before .before .before .before .pre)
+write-head-requires c κs =
+    let w = to-start c .pre in
+    let name = c .before .before .before .text-part .ensures _ (w .is .head .name) in
+    let source = c .before .before .text-part2 .ensures _ (w .is .head .uri) in
+    let parts = parts-of (w .is .head) name source (c .before .hashes-part .ensures _ (w .is .head .hashes)) in
+    record { head = w .headed .head; parts = parts; room = omega (arith, event-length w) }
 
 presence-of-requires : tie.Need-presence-of-requires
 presence-of-requires c κs = search needs
 
 write-number-requires : tie.Need-write-number-requires
 write-number-requires c κs =
-    let w = c .before .before .before .before .before .before .before .before .before .pre in
-    presence-room w refl (c .before .before .before .before .write-head .ensures _ _ _ (w .is .head)) _ (c .presence-of .ensures _ _ (w .counted))
+    let at-head = to-head c in
+    let arg = at-head .before in
+    let w = to-start arg .pre in
+    let name = arg .before .before .before .text-part .ensures _ (w .is .head .name) in
+    let source = arg .before .before .text-part2 .ensures _ (w .is .head .uri) in
+    let parts = parts-of (w .is .head) name source (arg .before .hashes-part .ensures _ (w .is .head .hashes)) in
+    presence-room w refl (at-head .write-head .ensures _ parts) _ (c .presence-of .ensures _ _ (w .counted))
 
 write-sets-requires : tie.Need-write-sets-requires
 write-sets-requires c κs =
-    let w = c .before .before .before .before .before .before .before .before .before .before .before .before .before .pre in
-    (w .is .one, w .is .few, sets-room w refl (c .before .before .before .before .before .before .before .before .write-head .ensures _ _ _ (w .is .head)) _ (c .before .before .before .before .presence-of .ensures _ _ (w .counted)) (c .before .before .before .write-number .ensures))
+    let at-presence = to-presence c in
+    let at-head = to-head at-presence in
+    let arg = at-head .before in
+    let w = to-start arg .pre in
+    let name = arg .before .before .before .text-part .ensures _ (w .is .head .name) in
+    let source = arg .before .before .text-part2 .ensures _ (w .is .head .uri) in
+    let parts = parts-of (w .is .head) name source (arg .before .hashes-part .ensures _ (w .is .head .hashes)) in
+    let presence = at-presence .presence-of .ensures _ _ (w .counted) in
+    (w .is .one, w .is .few, sets-room w refl (at-head .write-head .ensures _ parts) _ presence (c .before .before .before .write-number .ensures))
 
 same-length : tie.Need-same-length
 same-length c = search needs
 
 returns : tie.Need-returns
-returns c =
-    λ w.
-    let h = c .before .before .before .before .before .before .before .before .before .before .before .write-head .ensures _ _ _ (w .is .head) in
-    let f = c .before .before .before .before .before .before .before .presence-of .ensures _ _ (w .counted) in
-    let u = c .before .before .before .before .before .before .write-number .ensures in
-    wrote-event w refl h _ f u (c .before .before .write-sets .ensures (sets-room w refl h _ f u))
+returns c = λ w.
+    let at-sets = c .before .before in
+    let at-presence = to-presence (at-sets .before) in
+    let at-head = to-head at-presence in
+    let arg = at-head .before in
+    let name = arg .before .before .before .text-part .ensures _ (w .is .head .name) in
+    let source = arg .before .before .text-part2 .ensures _ (w .is .head .uri) in
+    let parts = parts-of (w .is .head) name source (arg .before .hashes-part .ensures _ (w .is .head .hashes)) in
+    let head = at-head .write-head .ensures _ parts in
+    let presence = at-presence .presence-of .ensures _ _ (w .counted) in
+    let number = at-sets .before .before .before .before .write-number .ensures in
+    wrote-event w refl head _ presence number (at-sets .write-sets .ensures (sets-room w refl head _ presence number))
 
 pub write-event-spec : {M : Type 1} → statement M
 write-event-spec =
     tie.close
     (tie.spec
+    text-part-requires
+    text-part-requires-2
+    hashes-part-requires
     write-head-requires
     presence-of-requires
     write-number-requires

@@ -4,7 +4,7 @@ use Prim.Native.Nat.{_≤_, _-_}
 use mathlib.Core.List.{List, []}
 use lib.ListN.{length, drop}
 use Rattle.model.specs.Order.{Text}
-use Rattle.unions.specs.Runs.{Run, HeadIs}
+use Rattle.unions.specs.code.Runs.{Run, HeadIs}
 use Rattle.unions.proofs.RunLaws.{heads-some, heads-none, Left, left-more, left-none}
 use Rattle.unions.proofs.heads.count_rest.Statement.{statement}
 use Rattle.unions.proofs.heads.count_rest.Tie as tie

@@ -8,7 +8,7 @@ use Rattle.model.specs.Order.{Text, texts}
 use Rattle.model.specs.Sets.{canon}
 use Rattle.model.proofs.SetLaws.{length-canon}
 use Rattle.unions.specs.declared.many.Least.the-variants.{At}
-use Rattle.unions.specs.Merging.{SetRuns, IsLeast}
+use Rattle.unions.specs.code.Merging.{SetRuns, IsLeast}
 use Rattle.unions.proofs.MergeLaws.{Merging, merging-on, merging-none, least-at, least-nothing}
 use Rattle.unions.proofs.many.count_merged.Statement.{statement}
 use Rattle.unions.proofs.many.count_merged.Tie as tie

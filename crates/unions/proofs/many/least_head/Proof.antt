@@ -6,7 +6,7 @@ use mathlib.Core.List.{List, flatten}
 use lib.ListN.{take}
 use Rattle.model.specs.Order.{Text, texts}
 use Rattle.model.specs.Sets.{smallest}
-use Rattle.unions.specs.Merging.{SetRuns, RightLeast, valueAt}
+use Rattle.unions.specs.code.Merging.{SetRuns, RightLeast, valueAt}
 use Rattle.unions.proofs.MergeLaws.{least-none, least-more, least-all}
 use Rattle.unions.proofs.many.least_head.Statement.{statement}
 use Rattle.unions.proofs.many.least_head.Tie as tie

@@ -2,10 +2,10 @@ use borrow.Author.Needs.{needs}
 use native.Mathlib.Omega.{arith}
 use Prim.Native.Nat.{Ordering·lt, Ordering·eq}
 use mathlib.Core.Path.{refl, sym, ap, _∙_, subst}
-use Rattle.packed.specs.Comparison.{ordering}
+use Rattle.packed.specs.code.Comparison.{ordering}
 use Rattle.unions.specs.declared.heads.Form.the-variants as form
-use Rattle.unions.specs.Runs.{HeadIs}
-use Rattle.unions.specs.Merging.{RightLeast}
+use Rattle.unions.specs.code.Runs.{HeadIs}
+use Rattle.unions.specs.code.Merging.{RightLeast}
 use Rattle.unions.proofs.RunLaws.{heads-some, heads-none}
 use Rattle.unions.proofs.MergeLaws.{set-end, set-no-head, lesser-none, lesser-first, lesser-kept, lesser-taken}
 use Rattle.unions.proofs.many.lesser.Statement.{statement}

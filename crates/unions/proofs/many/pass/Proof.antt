@@ -1,9 +1,9 @@
 use borrow.Author.Needs.{needs}
 use native.Mathlib.Omega.{arith}
 use mathlib.Core.Path.{sym, _∙_}
-use Rattle.packed.specs.Located.{part}
+use Rattle.packed.specs.Packed.{part}
 use Rattle.unions.specs.declared.heads.Form.the-variants as form
-use Rattle.unions.specs.Runs.{HeadIs}
+use Rattle.unions.specs.code.Runs.{HeadIs}
 use Rattle.unions.proofs.RunLaws.{heads-some, heads-none}
 use Rattle.unions.proofs.MergeLaws.{set-end, set-no-head, pass-none, pass-head, pass-other}
 use Rattle.unions.proofs.many.pass.Statement.{statement}

@@ -5,8 +5,8 @@ use mathlib.Core.Path.{_≡_}
 use mathlib.Core.List.{List, []}
 use lib.ListN.{length, getD, length-set}
 use Rattle.model.specs.Order.{Text}
-use Rattle.packed.specs.Located.{part}
-use Rattle.unions.specs.Merging.{SetRun, SetRuns, passed}
+use Rattle.packed.specs.Packed.{part}
+use Rattle.unions.specs.code.Merging.{SetRun, SetRuns, passed}
 use Rattle.unions.proofs.MergeLaws.{passed-all, passed-more}
 use Rattle.unions.proofs.many.pass_all.Statement.{statement}
 use Rattle.unions.proofs.many.pass_all.Tie as tie

@@ -6,12 +6,11 @@ use mathlib.Core.List.{List, map, flatten}
 use lib.ListN.{length}
 use Rattle.model.specs.Order.{Text, texts}
 use Rattle.model.specs.Sets.{canon}
-use Rattle.packed.specs.Packed.{text}
-use Rattle.packed.specs.Located.{part}
+use Rattle.packed.specs.Packed.{text, part}
 use Rattle.packed.proofs.ReadLaws.{part-length}
 use Rattle.packed.proofs.WriteLaws.{ToGo, to-go, wrote-length}
 use Rattle.unions.specs.declared.many.Least.the-variants.{At}
-use Rattle.unions.specs.Merging.{SetRuns, IsLeast}
+use Rattle.unions.specs.code.Merging.{SetRuns, IsLeast}
 use Rattle.unions.proofs.MergeLaws.{Merging, merged-wrote, least-at, least-nothing, least-room, least-wrote}
 use Rattle.unions.proofs.many.write_merged.Statement.{statement}
 use Rattle.unions.proofs.many.write_merged.Tie as tie

@@ -6,7 +6,7 @@ use mathlib.Core.List.{List, []}
 use lib.ListN.{length, drop}
 use Rattle.model.specs.Order.{Text, texts}
 use Rattle.model.specs.Sets.{union}
-use Rattle.unions.specs.Runs.{Run, StepIs}
+use Rattle.unions.specs.code.Runs.{Run, StepIs}
 use Rattle.unions.proofs.RunLaws.{Going, going-on, going-alone, steps-next, steps-alone, alone-count}
 use Rattle.unions.proofs.pair.count_runs.Statement.{statement}
 use Rattle.unions.proofs.pair.count_runs.Tie as tie

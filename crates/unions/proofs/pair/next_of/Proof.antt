@@ -1,8 +1,8 @@
 use borrow.Author.Needs.{needs}
 use mathlib.Core.Path.{sym, ap, _∙_}
 use mathlib.Core.Logic.{inl, inr}
-use Rattle.packed.specs.Comparison.{ordering}
-use Rattle.unions.specs.Runs.{HeadIs}
+use Rattle.packed.specs.code.Comparison.{ordering}
+use Rattle.unions.specs.code.Runs.{HeadIs}
 use Rattle.unions.proofs.RunLaws.{heads-some, heads-none, first-none, step-less, step-same, step-more}
 use Rattle.unions.proofs.pair.next_of.Statement.{statement}
 use Rattle.unions.proofs.pair.next_of.Tie as tie

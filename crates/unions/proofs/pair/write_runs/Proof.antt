@@ -5,10 +5,10 @@ use mathlib.Core.List.{List, []}
 use lib.ListN.{length, drop}
 use Rattle.model.specs.Order.{Text, texts}
 use Rattle.model.specs.Sets.{union}
-use Rattle.packed.specs.Located.{part}
+use Rattle.packed.specs.Packed.{part}
 use Rattle.packed.proofs.WriteLaws.{ToGo, to-go, wrote-length}
 use mathlib.Core.Path.{_≡_, refl, _∙_}
-use Rattle.unions.specs.Runs.{run, Run, StepIs, IsAlone}
+use Rattle.unions.specs.code.Runs.{run, Run, StepIs, IsAlone}
 use Rattle.unions.proofs.RunLaws.{Going, steps-next, steps-alone, head-room, head-wrote, alone-room, alone-wrote}
 use Rattle.unions.proofs.pair.write_runs.Statement.{statement}
 use Rattle.unions.proofs.pair.write_runs.Tie as tie

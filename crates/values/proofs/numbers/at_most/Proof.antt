@@ -1,7 +1,7 @@
 use borrow.Author.Needs.{needs}
 use mathlib.Core.Path.{sym, ap, _∙_}
 use lib.Dec.{isLe}
-use Rattle.packed.specs.Comparison.{ordering}
+use Rattle.packed.specs.code.Comparison.{ordering}
 use Rattle.values.proofs.NumeralLaws.{natural-order}
 use Rattle.values.proofs.numbers.at_most.Statement.{statement}
 use Rattle.values.proofs.numbers.at_most.Tie as tie

@@ -4,7 +4,7 @@ use native.Mathlib.Omega.{arith}
 use Prim.Native.Nat.{_≤_, _-_}
 use mathlib.Core.Path.{_≡_, refl, sym, _∙_}
 use lib.ListN.{length, drop}
-use Rattle.values.specs.NumberAnswer.{hasNonzero}
+use Rattle.values.specs.code.NumberAnswer.{hasNonzero}
 use Rattle.values.proofs.NumberStepLaws.{nonzero-found, nonzero-step, nonzero-end}
 use Rattle.values.proofs.numbers.has_nonzero.Statement.{statement}
 use Rattle.values.proofs.numbers.has_nonzero.Tie as tie

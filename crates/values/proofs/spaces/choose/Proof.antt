@@ -6,7 +6,7 @@ use lib.ListN.{take, drop}
 use borrow.Author.Needs.{needs}
 use Rattle.model.specs.Sets.{union}
 use Rattle.values.specs.Spaces.{Kind, kindNumber, inSpace}
-use Rattle.packed.specs.Comparison.{ordering}
+use Rattle.packed.specs.code.Comparison.{ordering}
 use Rattle.values.specs.ValueOrder.{isOrdered, extremeOrder}
 use Rattle.values.proofs.SpaceLaws.{chosen}
 use Rattle.values.proofs.spaces.choose.Statement.{statement}

@@ -3,9 +3,9 @@ use mathlib.Core.Path.{_≡_, sym, subst, _∙_}
 use native.Mathlib.Omega.{arith}
 use borrow.Author.Tests.{le-leb}
 use borrow.Author.Needs.{needs}
-use Rattle.packed.specs.Comparison.{ordering}
+use Rattle.packed.specs.code.Comparison.{ordering}
 use Rattle.values.specs.ValueOrder.{valueOrder}
-use Rattle.values.specs.Spaces.{Kind, kindNumber, isOfKind}
+use Rattle.values.specs.Spaces.{Kind, sequence, kindNumber, isOfKind}
 use Rattle.values.proofs.SpaceLaws.{of-kind, is-datetime-kind, kind-least, ordered-low}
 use Rattle.values.proofs.spaces.compare_values.Statement.{statement}
 use Rattle.values.proofs.spaces.compare_values.Tie as tie
@@ -28,7 +28,8 @@ returns c =
 returns-2 : tie.Need-returns-2
 returns-2 c =
     let g = c .before .before .before .before .before .before .args in
-    λ k n l p q. c .compare-numbers .ensures k (le-leb (kindNumber k) 5 (omega arith)) (of-kind k (g .a .now) p) (of-kind k (g .b .now) q)
+    λ k n l p q.
+    c .compare-numbers .ensures k (le-leb (kindNumber k) (kindNumber sequence) (omega arith)) (of-kind k (g .a .now) p) (of-kind k (g .b .now) q)
 
 returns-3 : tie.Need-returns-3
 returns-3 c = λ k n l p q. absurd (omega (arith, kind-least k))

@@ -4,7 +4,7 @@ use Prim.Native.Nat.{ℕ}
 use native.Mathlib.Omega.{arith}
 use lib.Dec.{eqb}
 use borrow.Author.Needs.{needs}
-use Rattle.values.specs.KindNumbers.{kindOf}
+use Rattle.values.specs.code.KindNumbers.{kindOf}
 use Rattle.values.specs.Spaces.{unsigned, signed, decimal, currency, sequence, datetime, boolean, string, hex, isWidth, isKind, isOfKind}
 use Rattle.values.proofs.SpaceLaws.{answered, kind-none}
 use Rattle.values.proofs.spaces.is_of_kind.Statement.{statement}

@@ -1,0 +1,105 @@
+-- What the code holds of a batch, and what it answers.
+use Prim.Native.Nat.{ℕ, _-_, _≤_, _<_}
+use mathlib.Core.Path.{_≡_}
+use mathlib.Core.Bool.{Bool, true, false, cond, not, _&&_}
+use mathlib.Core.Option.{Option, none, some}
+use mathlib.Core.List.{List, [], _∷_}
+use lib.ListN.{length, take, getD}
+use lib.Dec.{eqb}
+use Rattle.model.specs.Limits.{standard}
+use Rattle.packed.specs.Packed.{part}
+use Rattle.replies.specs.Questions as questions
+use Rattle.replies.specs.Answers as answers
+use Rattle.replies.specs.Answers.{Answer, gives, refuses}
+use Rattle.replies.specs.declared.reply.Reply as reply
+use Rattle.replies.specs.declared.reply.Reply.the-variants as replied
+use Rattle.ontology.specs.Table.{Table}
+use Rattle.ontology.specs.TableLayout.{tableOf}
+use Rattle.ontology.specs.code.TypeIndex.{TypeIs}
+use Rattle.ontology.specs.declared.types.TypeIndex.{TypeIndex}
+use Rattle.event.specs.EventLayout.{narrow}
+use Rattle.event.specs.EventQuestions.{Typed, eventAsked}
+use Rattle.dossier.specs.DossierLayout.{dossierBytes}
+use Rattle.dossier.specs.DossierQuestions.{TypedDossier}
+use Rattle.batch.specs.Batch.{AskedAt, refusedAt, accepted, _>>=_, eventsAsked, agreeWith, together}
+use Rattle.batch.specs.declared.asked.EventsAsked.{EventsAsked}
+use Rattle.batch.specs.declared.frame.BatchIndex.{BatchIndex}
+
+-- The bytes s are a batch of the events ss, each of which stands where the index says
+pub record BatchIs (s : List ℕ) (ss : List (List ℕ)) (x : BatchIndex) : Type 0 where
+  pub count : x .count ≡ length ss
+  pub one : 1 ≤ x .count
+  pub few : x .count ≤ 16
+  pub each : (i : ℕ) → i < length ss → part s (getD (x .starts) i 0) (getD (x .ends) i 0) ≡ getD ss i []
+  pub order : (i : ℕ) → i < length ss → getD (x .starts) i 0 ≤ getD (x .ends) i 0
+  pub within : (i : ℕ) → i < length ss → getD (x .ends) i 0 ≤ length s
+
+unfoldable pub BatchReads : Option (List (List ℕ)) → List ℕ → BatchIndex → Type 0
+BatchReads none s x = x .ok ≡ false
+BatchReads (some ss) s x = (x .ok ≡ true) × BatchIs s ss x
+
+-- question 7 of all events; a batch has a first event
+unfoldable pub eventsAgreed : List Typed → AskedAt (Unit {0})
+eventsAgreed [] = refusedAt 9 0
+eventsAgreed (a ∷ bs) = agreeWith a 1 bs
+
+-- questions 3 to 7 of all events
+unfoldable pub eventsTogether : Table → List (List ℕ) → AskedAt (Unit {0})
+eventsTogether ts ss = eventsAsked ts 0 ss >>= eventsAgreed
+
+-- the first of the events ss is accepted, and has the type t
+pub record FirstTyped (table : List ℕ) (ts : Table) (ss : List (List ℕ)) (t : TypeIndex) : Type 0 where
+  pub first : Typed
+  pub taken : eventAsked narrow ts (getD ss 0 []) ≡ questions.accepted first
+  pub typed : TypeIs table (first .type) t
+
+-- the number and the position of a refusal; 0 where there is none, and then the type of the events
+unfoldable pub RefusalIs : List ℕ → Table → List (List ℕ) → AskedAt (Unit {0}) → EventsAsked → Type 0
+RefusalIs table ts ss (refusedAt n i) r = (r .number ≡ n) × (r .position ≡ i) × (1 ≤ n)
+RefusalIs table ts ss (accepted u) r = (r .number ≡ 0) × FirstTyped table ts ss (r .«event_type»)
+
+-- the position of the first event that does not agree with the first one, or 0: as it was, or of the event that was asked now
+unfoldable pub firstApart : ℕ → Bool → ℕ → ℕ
+firstApart apart agrees position = cond (eqb apart 0 && not agrees) position apart
+
+-- ---- combining the events
+
+-- what combining them answers: as the batch, without a position
+unfoldable pub combinedGiven : AskedAt TypedDossier → Answer
+combinedGiven (refusedAt n i) = refuses n
+combinedGiven (accepted d) = gives (dossierBytes (d .headed))
+
+unfoldable pub combinedAnswer : Table → List (List ℕ) → Answer
+combinedAnswer ts ss = combinedGiven (eventsAsked ts 0 ss >>= together standard)
+
+-- the table and the batch of the events ss, of which questions 3 to 7 are answered yes
+pub record Agreed (table batch : List ℕ) (x : BatchIndex) (ts : Table) (ss : List (List ℕ)) : Type 0 where
+  pub isTable : tableOf table ≡ some ts
+  pub isBatch : BatchIs batch ss x
+  pub agreed : eventsTogether ts ss ≡ accepted tt
+
+-- such a batch has n events at least, and its events have the type t
+pub record FirstOf (table batch : List ℕ) (x : BatchIndex) (t : TypeIndex) (n : ℕ) : Type 0 where
+  pub types : Table
+  pub events : List (List ℕ)
+  pub agreed : Agreed table batch x types events
+  pub typed : FirstTyped table types events t
+  pub within : n ≤ length events
+
+-- and `sofar` is the dossier of those before the n-th
+pub record LastOf (table batch : List ℕ) (x : BatchIndex) (t : TypeIndex) (n : ℕ) (sofar : List ℕ) : Type 0 where
+  pub all : FirstOf table batch x t n
+  pub more : 2 ≤ n
+  pub before : combinedAnswer (all .types) (take (n - 1) (all .events)) ≡ gives sofar
+
+-- what a call says that it wrote is inside its buffer
+unfoldable pub DoneWithin : reply.Reply → List ℕ → Type 0
+DoneWithin (replied.Done n) s = n ≤ length s
+DoneWithin (replied.Refused n) s = Unit {0}
+
+-- a refusal of the whole batch has the position 0
+abbrev pub atFirst : answers.Reply → answers.Reply
+atFirst (answers.Reply.done n) = answers.Reply.done n
+atFirst (answers.Reply.found f) = answers.Reply.found f
+atFirst (answers.Reply.refused n) = answers.Reply.refusedAt n 0
+atFirst (answers.Reply.refusedAt n i) = answers.Reply.refusedAt n i

@@ -1,0 +1,171 @@
+ghost use Prim.Native.Nat.{ℕ, _-_, _≤_};
+ghost use mathlib.Core.Path.{_≡_};
+ghost use mathlib.Core.List.{List};
+ghost use lib.ListN.{length, take};
+ghost use Rattle.model.specs.Limits.{standard};
+ghost use Rattle.replies.specs.Answers.{gives, outcome};
+ghost use Rattle.replies.specs.Replies.{replied, replies, combineReplied, batchReplied, batchReplies};
+ghost use Rattle.replies.specs.Capacities.{dossierCapacity};
+ghost use Rattle.ontology.specs.Table.{Table};
+ghost use Rattle.ways.specs.ByteWays.{dossierReturned, returned};
+ghost use Rattle.batch.specs.Batch.{haveRoom, batchCall};
+ghost use Rattle.batch.specs.code.BatchIndex.{Agreed, combinedAnswer, FirstOf, LastOf, DoneWithin, atFirst};
+use crate::asked::ask_events;
+use crate::frame::BatchIndex;
+use crate::frame::event_part;
+use crate::frame::read_batch;
+use combining::check::check_known;
+use combining::combine::combine_known;
+use event::ask::type_name;
+use ontology::tables::read_table;
+use ontology::types::TypeIndex;
+use replies::capacities::DOSSIER_CAPACITY;
+use replies::reply::BatchReply;
+use replies::reply::Combined;
+use replies::reply::Reply;
+
+// What combining replied, as a step of the batch.
+fn step_reply(c: Combined) -> Reply
+    ensures { λ r. ⌜ replied r ≡ combineReplied c ⌝ }
+{
+    match c {
+        Combined::Done(n) => Reply::Done(n),
+        Combined::Refused(n) => Reply::Refused(n),
+    }
+}
+
+// The n-th event added to the dossier of those before it, the first `size` bytes of `sofar`: the dossier of all is the answer. Of the event, which was accepted, and of both dossiers, which the batch made itself, no question before the last need be asked again.
+fn add_last(
+    table: &[u8],
+    batch: &[u8],
+    x: BatchIndex,
+    t: TypeIndex,
+    n: usize,
+    sofar: &[u8],
+    size: usize,
+    lone: &mut [u8],
+    out: &mut [u8],
+) -> Reply
+    requires { ⌜ (1 ≤ n) × (n ≤ 16) × (size ≤ length (now sofar)) ⌝ }
+    requires { ⌜ (dossierCapacity ≤ length (now lone)) × (dossierCapacity ≤ length (now out)) ⌝ }
+    requires { ⌜ LastOf (now table) (now batch) x t n (take size (now sofar)) ⌝ }
+    ensures within { λ r. ⌜ DoneWithin r (now (out .exit)) ⌝ }
+    ensures added { λ r. ⌜ ((ts : Table) (ss : List (List ℕ)) → Agreed (now (table .entry)) (now (batch .entry)) x ts ss → 2 ≤ n → n ≤ length ss → combinedAnswer ts (take (n - 1) ss) ≡ gives (take size (now (sofar .entry))) → replies r (now (out .exit)) ≡ outcome (combinedAnswer ts (take n ss)) (now (out .entry))) ⌝ }
+{
+    let added = check_known(table, event_part(batch, x, n - 1), t, lone);
+    let Reply::Done(m) = added else {
+        return added;
+    };
+    step_reply(combine_known(table, &sofar[..size], &lone[..m], t, out))
+}
+
+// The dossier of the first n events, in the first of three buffers: all but the last are combined first, then the last is added. The buffers change roles.
+fn combine_first(
+    table: &[u8],
+    batch: &[u8],
+    x: BatchIndex,
+    t: TypeIndex,
+    n: usize,
+    a: &mut [u8],
+    b: &mut [u8],
+    c: &mut [u8],
+) -> Reply
+    requires { ⌜ (1 ≤ n) × (n ≤ 16) ⌝ }
+    requires { ⌜ (dossierCapacity ≤ length (now a)) × (dossierCapacity ≤ length (now b)) × (dossierCapacity ≤ length (now c)) ⌝ }
+    requires { ⌜ FirstOf (now table) (now batch) x t n ⌝ }
+    ensures within { λ r. ⌜ DoneWithin r (now (a .exit)) ⌝ }
+    ensures first { λ r. ⌜ ((ts : Table) (ss : List (List ℕ)) → Agreed (now (table .entry)) (now (batch .entry)) x ts ss → n ≤ length ss → dossierReturned (replied r) (now (a .exit)) ≡ returned (outcome (combinedAnswer ts (take n ss)) (now (a .entry)))) ⌝ }
+{
+    if n <= 1 {
+        return check_known(table, event_part(batch, x, 0), t, a);
+    }
+    let others = combine_first(table, batch, x, t, n - 1, b, c, a);
+    let Reply::Done(size) = others else {
+        return others;
+    };
+    add_last(table, batch, x, t, n, b, size, c, a)
+}
+
+// The dossier of all events of a batch that was asked its questions but the last.
+fn combine_all(
+    table: &[u8],
+    batch: &[u8],
+    x: BatchIndex,
+    t: TypeIndex,
+    out: &mut [u8],
+    a: &mut [u8],
+    b: &mut [u8],
+    c: &mut [u8],
+) -> Reply
+    requires { ⌜ (x .count ≤ 16) × (dossierCapacity ≤ length (now out)) ⌝ }
+    requires { ⌜ (dossierCapacity ≤ length (now a)) × (dossierCapacity ≤ length (now b)) × (dossierCapacity ≤ length (now c)) ⌝ }
+    requires { ⌜ FirstOf (now table) (now batch) x t (x .count) ⌝ }
+    ensures { λ r. ⌜ ((ts : Table) (ss : List (List ℕ)) → Agreed (now (table .entry)) (now (batch .entry)) x ts ss → replies r (now (out .exit)) ≡ outcome (combinedAnswer ts ss) (now (out .entry))) ⌝ }
+{
+    let n = x.count;
+    if n <= 1 {
+        return check_known(table, event_part(batch, x, 0), t, out);
+    }
+    let others = combine_first(table, batch, x, t, n - 1, a, b, c);
+    let Reply::Done(size) = others else {
+        return others;
+    };
+    add_last(table, batch, x, t, n, a, size, b, out)
+}
+
+// A reply of the whole batch, whose refusal has the position 0.
+fn batch_reply(r: Reply) -> BatchReply
+    ensures { λ b. ⌜ batchReplied b ≡ atFirst (replied r) ⌝ }
+{
+    match r {
+        Reply::Done(n) => BatchReply::Done(n),
+        Reply::Refused(n) => BatchReply::Refused(n, 0),
+    }
+}
+
+// Question 1 of the sizes of the output and of three scratch buffers.
+fn have_room(out: usize, a: usize, b: usize, c: usize) -> bool
+    ensures { λ r. ⌜ r ≡ haveRoom (record { output = out; first = a; second = b; third = c }) ⌝ }
+{
+    if out < DOSSIER_CAPACITY {
+        return false;
+    }
+    if a < DOSSIER_CAPACITY {
+        return false;
+    }
+    if b < DOSSIER_CAPACITY {
+        return false;
+    }
+    DOSSIER_CAPACITY <= c
+}
+
+// The dossier of a batch, written at the front of `out`; a, b and c are scratch.
+pub fn batch(
+    table: &[u8],
+    batch: &[u8],
+    out: &mut [u8],
+    a: &mut [u8],
+    b: &mut [u8],
+    c: &mut [u8],
+) -> BatchReply
+    ensures { λ r. ⌜ batchReplies r (now (out .exit)) ≡ batchCall standard (record { output = length (now (out .entry)); first = length (now (a .entry)); second = length (now (b .entry)); third = length (now (c .entry)) }) (now (table .entry)) (now (batch .entry)) (now (out .entry)) ⌝ }
+{
+    if !have_room(out.len(), a.len(), b.len(), c.len()) {
+        return BatchReply::Refused(1, 0);
+    }
+    let x = read_batch(batch);
+    // the table is read for the name of the first event's type; where the frame is bad, for any name, as question 2 asks for none
+    let name = type_name(event_part(batch, x, 0));
+    let read = read_table(table, name);
+    if !read.ok {
+        return BatchReply::Refused(2, 0);
+    }
+    if !x.ok {
+        return BatchReply::Refused(9, 0);
+    }
+    let asked = ask_events(table, batch, x, name, read);
+    if asked.number != 0 {
+        return BatchReply::Refused(asked.number, asked.position);
+    }
+    batch_reply(combine_all(table, batch, x, asked.event_type, out, a, b, c))
+}

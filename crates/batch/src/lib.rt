@@ -1,0 +1,4 @@
+// The call batch.
+pub mod asked;
+pub mod calls;
+pub mod frame;

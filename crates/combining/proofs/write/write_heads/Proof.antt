@@ -1,0 +1,114 @@
+use borrow.Author.Needs.{needs}
+use native.Mathlib.Omega.{arith}
+use Prim.Native.Nat.{ℕ}
+use lib.ListN.{length-replicate}
+use Rattle.combining.specs.code.WriteIndex.{bothHeads}
+use Rattle.combining.proofs.MergedLaws.{union-room, union-part, both-parts}
+use Rattle.combining.proofs.write.write_heads.Statement.{statement}
+use Rattle.combining.proofs.write.write_heads.Tie as tie
+
+-- ---- the places
+
+abbrev to-start : tie.After-hashes → tie.Start
+to-start c = c .before .before .before .before .before .before .before .before
+
+abbrev to-union : tie.After-hashes3 → tie.After-write-hash-union
+to-union c = c .before .before .before .before
+
+-- ---- the needs
+
+hashes-part-requires : tie.Need-hashes-part-requires
+hashes-part-requires c κs = search needs
+
+hashes-part-requires-2 : tie.Need-hashes-part-requires-2
+hashes-part-requires-2 c κs = search needs
+
+slice-aggregate-write-hash-union : tie.Need-slice-aggregate-write-hash-union
+slice-aggregate-write-hash-union c = search needs
+
+write-hash-union-requires : tie.Need-write-hash-union-requires
+write-hash-union-requires c κs =
+    let p = to-start c .pre in
+    let w = p .are in
+    record {
+      xs = p .left .parents;
+      ys = p .right .parents;
+      left = c .before .before .hashes-part .ensures _ (w .left .hashes);
+      right = c .before .hashes-part2 .ensures _ (w .right .hashes);
+      xs-each = w .left-each;
+      ys-each = w .right-each;
+      xs-rise = w .left-rise;
+      ys-rise = w .right-rise;
+      room = omega (arith, union-room w, length-replicate {A = ℕ} 640 0);
+    }
+
+text-part-requires : tie.Need-text-part-requires
+text-part-requires c κs = search needs
+
+text-part-requires-2 : tie.Need-text-part-requires-2
+text-part-requires-2 c κs = search needs
+
+sub-write-dossier-head : tie.Need-sub-write-dossier-head
+sub-write-dossier-head c = search needs
+
+part-write-dossier-head-start : tie.Need-part-write-dossier-head-start
+part-write-dossier-head-start c = search needs
+
+part-write-dossier-head-end : tie.Need-part-write-dossier-head-end
+part-write-dossier-head-end c =
+    let at-union = to-union c in
+    let parts-there = at-union .before in
+    let w = to-start parts-there .pre .are in
+    let left = parts-there .before .before .hashes-part .ensures _ (w .left .hashes) in
+    let right = parts-there .before .hashes-part2 .ensures _ (w .right .hashes) in
+    let wrote = at-union .write-hash-union .ensures _ _ left right (w .left-each) (w .right-each) (w .left-rise) (w .right-rise) in
+    let hashes = union-part (omega (arith, union-room w, length-replicate {A = ℕ} 640 0)) wrote in
+    hashes .0
+
+write-dossier-head-requires : tie.Need-write-dossier-head-requires
+write-dossier-head-requires c κs =
+    let at-union = to-union (c .before .before) in
+    let parts-there = at-union .before in
+    let p = to-start parts-there .pre in
+    let w = p .are in
+    let left = parts-there .before .before .hashes-part .ensures _ (w .left .hashes) in
+    let right = parts-there .before .hashes-part2 .ensures _ (w .right .hashes) in
+    let wrote = at-union .write-hash-union .ensures _ _ left right (w .left-each) (w .right-each) (w .left-rise) (w .right-rise) in
+    let hashes = union-part (omega (arith, union-room w, length-replicate {A = ℕ} 640 0)) wrote in
+    let name = c .before .before .before .before .text-part .ensures _ (w .left .name) in
+    let source = c .before .before .before .text-part2 .ensures _ (w .left .uri) in
+    record { head = bothHeads (p .left) (p .right); parts = both-parts w name source (hashes .1); room = p .room }
+
+same-length : tie.Need-same-length
+same-length c = search needs
+
+returns : tie.Need-returns
+returns c = λ g h w.
+    let written = c .before .before in
+    let arg = written .before in
+    let at-union = to-union (arg .before .before) in
+    let parts-there = at-union .before in
+    let left = parts-there .before .before .hashes-part .ensures _ (w .left .hashes) in
+    let right = parts-there .before .hashes-part2 .ensures _ (w .right .hashes) in
+    let wrote = at-union .write-hash-union .ensures _ _ left right (w .left-each) (w .right-each) (w .left-rise) (w .right-rise) in
+    let hashes = union-part (omega (arith, union-room w, length-replicate {A = ℕ} 640 0)) wrote in
+    let name = arg .before .before .before .before .text-part .ensures _ (w .left .name) in
+    let source = arg .before .before .before .text-part2 .ensures _ (w .left .uri) in
+    written .write-dossier-head .ensures (bothHeads g h) (both-parts w name source (hashes .1))
+
+pub write-heads-spec : {M : Type 1} → statement M
+write-heads-spec =
+    tie.close
+    (tie.spec
+    hashes-part-requires
+    hashes-part-requires-2
+    slice-aggregate-write-hash-union
+    write-hash-union-requires
+    text-part-requires
+    text-part-requires-2
+    sub-write-dossier-head
+    part-write-dossier-head-start
+    part-write-dossier-head-end
+    write-dossier-head-requires
+    same-length
+    returns)

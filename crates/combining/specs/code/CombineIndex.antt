@@ -1,0 +1,82 @@
+-- Two dossiers that are combined, and two snapshots of one version, as the code has them.
+use Prim.Native.Nat.{ℕ, _+_, _^_, _≤_, _<_}
+use mathlib.Core.Path.{_≡_}
+use mathlib.Core.Bool.{Bool, true, false, _||_}
+use mathlib.Core.Option.{some}
+use mathlib.Core.List.{List}
+use lib.ListN.{length, getElem?}
+use Rattle.model.specs.Rule.{Snapshot, joinSnapshots}
+use Rattle.model.specs.Limits.{standard}
+use Rattle.packed.specs.Parse.{got}
+use Rattle.values.specs.ValueOrder.{isOrdered}
+use Rattle.replies.specs.Questions.{accepted}
+use Rattle.ontology.specs.Table.{Property, EventType, Table, isMin, isMax, isVersioned, atPlace}
+use Rattle.ontology.specs.TableLayout.{tableOf}
+use Rattle.ontology.specs.code.TypeIndex.{TypeIs}
+use Rattle.ontology.specs.declared.types.TypeIndex.{TypeIndex}
+use Rattle.event.specs.Event.{typeView}
+use Rattle.dossier.specs.DossierBody.{readSnapshot, snapshotBytes}
+use Rattle.dossier.specs.DossierQuestions.{TypedDossier, dossierAsked, dossiersAgree, snapshotValues}
+use Rattle.dossier.specs.code.DossierIndex.{snapshotFits, SnapshotIs, DossierIs}
+use Rattle.dossier.specs.declared.snapshots.SnapshotIndex.{SnapshotIndex}
+use Rattle.dossier.specs.declared.dossiers.DossierIndex.{DossierIndex}
+
+-- questions 2 to 7 are answered yes
+pub record Known (table a b : List ℕ) (t : TypeIndex) : Type 0 where
+  pub types : Table
+  pub is : tableOf table ≡ some types
+  pub left : TypedDossier
+  pub right : TypedDossier
+  pub left-asked : dossierAsked standard types a ≡ accepted left
+  pub right-asked : dossierAsked standard types b ≡ accepted right
+  pub agree : dossiersAgree left right ≡ true
+  pub typed : TypeIs table (left .type) t
+
+-- and both dossiers are read
+pub record Combinable (table a : List ℕ) (d : DossierIndex) (b : List ℕ) (e : DossierIndex) (t : TypeIndex) : Type 0 where
+  pub known : Known table a b t
+  pub left-read : DossierIs a (known .left .headed) d
+  pub right-read : DossierIs b (known .right .headed) e
+
+-- strategy min or max at a place
+unfoldable pub isExtremeAt : EventType → ℕ → Bool
+isExtremeAt t p = atPlace false (λ (q : Property). isMin q || isMax q) (getElem? (t .properties) p)
+
+-- two snapshots of one version and one type, of each of which questions 5 and 6 are answered yes
+pub record Fitting (type : EventType) (left right : Snapshot) : Type 0 where
+  pub left-fits : snapshotFits type left ≡ true
+  pub right-fits : snapshotFits type right ≡ true
+  pub left-values : snapshotValues type left ≡ true
+  pub right-values : snapshotValues type right ≡ true
+  pub same : left .version ≡ right .version
+  pub below : left .version < 2 ^ 64
+  pub ordered : (p : ℕ) (q : Property) → getElem? (type .properties) p ≡ some q → (isMin q || isMax q) ≡ true → isOrdered (q .kind) ≡ true
+
+-- they stand at the front of a and b
+pub record Meet (a b : List ℕ) (type : EventType) (left right : Snapshot) : Type 0 where
+  pub fitting : Fitting type left right
+  pub left-rest : List ℕ
+  pub right-rest : List ℕ
+  pub left-read : readSnapshot a ≡ got left left-rest
+  pub right-read : readSnapshot b ≡ got right right-rest
+
+-- what two versioned snapshots are together has its room in an output of `size` bytes
+pub record AgreedRoom (a b : List ℕ) (at size : ℕ) : Type 0 where
+  pub type : EventType
+  pub left : Snapshot
+  pub right : Snapshot
+  pub versioned : isVersioned type ≡ true
+  pub meet : Meet a b type left right
+  pub room : at + length (snapshotBytes (joinSnapshots (typeView type) left right)) ≤ size
+
+-- the same of two unversioned ones, which stand as their indexes say
+pub record JoinedRoom (table a : List ℕ) (x : SnapshotIndex) (b : List ℕ) (y : SnapshotIndex) (t : TypeIndex) (at size : ℕ) : Type 0 where
+  pub type : EventType
+  pub left : Snapshot
+  pub right : Snapshot
+  pub typed : TypeIs table type t
+  pub unversioned : isVersioned type ≡ false
+  pub meet : Meet a b type left right
+  pub left-is : SnapshotIs a left x
+  pub right-is : SnapshotIs b right y
+  pub room : at + length (snapshotBytes (joinSnapshots (typeView type) left right)) ≤ size

@@ -1,0 +1,102 @@
+-- What is still to be written of a combined dossier, as the code has it.
+use Prim.Native.Nat.{ℕ, _+_, _≤_, _<_}
+use mathlib.Core.Path.{_≡_}
+use mathlib.Core.Bool.{true, cond}
+use mathlib.Core.List.{List, map, flatten}
+use lib.ListN.{length, drop, getD}
+use lib.Dec.{leb}
+use Rattle.model.specs.Order.{texts, numbers, rising, pick, Text}
+use Rattle.model.specs.Sets.{union}
+use Rattle.model.specs.Rule.{Snapshot, joinSnapshots}
+use Rattle.model.specs.Limits.{standard, fits}
+use Rattle.packed.specs.Parse.{All}
+use Rattle.ontology.specs.Table.{EventType}
+use Rattle.ontology.specs.code.TypeIndex.{TypeIs}
+use Rattle.ontology.specs.declared.types.TypeIndex.{TypeIndex}
+use Rattle.event.specs.Event.{typeView}
+use Rattle.event.specs.Head.{Head}
+use Rattle.event.specs.code.EventIndex.{HeadIs}
+use Rattle.unions.specs.code.Runs.{Hashes}
+use Rattle.dossier.specs.DossierLayout.{Headed, dossierBytes}
+use Rattle.dossier.specs.DossierBody.{snapshotBytes}
+use Rattle.dossier.specs.code.DossierIndex.{noSnapshot, SnapshotIs, DossierIs}
+use Rattle.dossier.specs.declared.snapshots.SnapshotIndex.{SnapshotIndex}
+use Rattle.dossier.specs.declared.dossiers.DossierIndex.{DossierIndex}
+use Rattle.dossier.specs.DossierHead.{dossierHeadBytes}
+use Rattle.combining.specs.CombineCall.{combined, headedAs}
+use Rattle.combining.specs.code.CombineIndex.{Combinable, Meet}
+
+-- what two snapshots of one version are together has its room in an output of `size` bytes; unversioned ones stand as their indexes say
+pub record SharedRoom (table a : List ℕ) (x : SnapshotIndex) (b : List ℕ) (y : SnapshotIndex) (t : TypeIndex) (at size : ℕ) : Type 0 where
+  pub type : EventType
+  pub left : Snapshot
+  pub right : Snapshot
+  pub typed : TypeIs table type t
+  pub meet : Meet a b type left right
+  pub left-is : t .mark ≤ 0 → SnapshotIs a left x
+  pub right-is : t .mark ≤ 0 → SnapshotIs b right y
+  pub room : at + length (snapshotBytes (joinSnapshots (typeView type) left right)) ≤ size
+
+-- the bytes of the snapshots from the i-th on
+abbrev pub bytesFrom : List Snapshot → ℕ → List ℕ
+bytesFrom ss i = flatten (map snapshotBytes (drop i ss))
+
+-- they have their room
+pub record RestRoom (s : List ℕ) (d : DossierIndex) (i at size : ℕ) : Type 0 where
+  pub what : Headed
+  pub is : DossierIs s what d
+  pub room : at + length (bytesFrom (what .snapshots) i) ≤ size
+
+-- the first snapshot of two sides that begin with x and y: that of the lower version, or both together
+unfoldable pub nextSnapshot : EventType → Snapshot → Snapshot → Snapshot
+nextSnapshot t x y = pick (numbers .cmp (x .version) (y .version)) x (joinSnapshots (typeView t) x y) y
+
+-- how many snapshots a side of version v goes on by, where the other one has version w
+unfoldable pub stepBy : ℕ → ℕ → ℕ
+stepBy v w = cond (leb v w) 1 0
+
+-- the bytes of the next snapshot, where the sides have come to their i-th and their j-th
+abbrev pub nextBytes : {table a b : List ℕ} {d e : DossierIndex} {t : TypeIndex} → Combinable table a d b e t → ℕ → ℕ → List ℕ
+nextBytes h i j =
+    let left = h .known .left in
+    let right = h .known .right in
+    snapshotBytes (nextSnapshot (left .type) (getD (left .headed .snapshots) i noSnapshot) (getD (right .headed .snapshots) j noSnapshot))
+
+pub record NextRoom (table a : List ℕ) (d : DossierIndex) (i : ℕ) (b : List ℕ) (e : DossierIndex) (j : ℕ) (t : TypeIndex) (at size : ℕ) : Type 0 where
+  pub both : Combinable table a d b e t
+  pub left-in : i < d .count
+  pub right-in : j < e .count
+  pub room : at + length (nextBytes both i j) ≤ size
+
+-- the left one of two heads, with the parents of both
+abbrev pub bothHeads : Head → Head → Head
+bothHeads g h = record { type = g .type; source = g .source; parents = union texts (g .parents) (h .parents) }
+
+-- the heads of two dossiers, with the hashes of their parents rising
+pub record HeadsAre (a : List ℕ) (d : DossierIndex) (b : List ℕ) (e : DossierIndex) (g h : Head) : Type 0 where
+  pub left : HeadIs a g (d .head)
+  pub right : HeadIs b h (e .head)
+  pub left-each : Hashes (g .parents)
+  pub right-each : Hashes (h .parents)
+  pub left-rise : rising texts (g .parents) ≡ true
+  pub right-rise : rising texts (h .parents) ≡ true
+  pub few : length (union texts (g .parents) (h .parents)) ≤ 32
+  pub both-each : All (λ (p : Text). length p ≡ 20) (union texts (g .parents) (h .parents))
+
+-- what is written of them has its room in an output of `size` bytes
+pub record HeadsRoom (a : List ℕ) (d : DossierIndex) (b : List ℕ) (e : DossierIndex) (size : ℕ) : Type 0 where
+  pub left : Head
+  pub right : Head
+  pub are : HeadsAre a d b e left right
+  pub room : length (dossierHeadBytes (bothHeads left right)) ≤ size
+
+-- the snapshots of both sides have their room
+pub record SnapshotsRoom (table a : List ℕ) (d : DossierIndex) (b : List ℕ) (e : DossierIndex) (t : TypeIndex) (at size : ℕ) : Type 0 where
+  pub both : Combinable table a d b e t
+  pub room : at + length (flatten (map snapshotBytes (combined (both .known .left) (both .known .right) .snapshots))) ≤ size
+
+-- the two dossiers together pass no limit, and have their room
+pub record CombinedRoom (table a : List ℕ) (d : DossierIndex) (b : List ℕ) (e : DossierIndex) (t : TypeIndex) (size : ℕ) : Type 0 where
+  pub both : Combinable table a d b e t
+  pub inside : (h : Combinable table a d b e t) → fits standard (typeView (h .known .left .type)) (combined (h .known .left) (h .known .right)) ≡ true
+  pub room : length (dossierBytes (headedAs (both .known .left .headed) (combined (both .known .left) (both .known .right)))) ≤ size

@@ -1,0 +1,29 @@
+use borrow.Author.Needs.{needs}
+use Rattle.model.specs.Limits.{standard}
+use Rattle.event.proofs.HeadLaws.{head-reads, head-refused}
+use Rattle.dossier.specs.DossierHead.{readDossierHead}
+use Rattle.dossier.proofs.head.read_dossier_head.Statement.{statement}
+use Rattle.dossier.proofs.head.read_dossier_head.Tie as tie
+
+read-head-requires : tie.Need-read-head-requires
+read-head-requires c κs = search needs
+
+enum-known-head : tie.Need-enum-known-head
+enum-known-head c = search needs
+
+enum-told : tie.Need-enum-told
+enum-told c = search needs
+
+returns : tie.Need-returns
+unfolding readDossierHead standard
+returns c = head-refused _ (c .enum-told .given .1) (c .before .before .read-head .ensures)
+
+returns-2 : tie.Need-returns-2
+unfolding readDossierHead standard
+returns-2 c =
+    let w = head-reads (c .before .before .head .given .1) (c .before .before .before .before .read-head .ensures) in
+    record { what = w .what; is = w .is; stands = w .stands }
+
+pub read-dossier-head-spec : {M : Type 1} → statement M
+read-dossier-head-spec =
+    tie.close (tie.spec read-head-requires enum-known-head enum-told returns returns-2)

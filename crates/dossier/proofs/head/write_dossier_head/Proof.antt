@@ -1,0 +1,21 @@
+use borrow.Author.Needs.{needs}
+use native.Mathlib.Omega.{arith}
+use Rattle.dossier.specs.DossierHead.{dossierHeadBytes}
+use Rattle.dossier.proofs.head.write_dossier_head.Statement.{statement}
+use Rattle.dossier.proofs.head.write_dossier_head.Tie as tie
+
+write-head-requires : tie.Need-write-head-requires
+unfolding dossierHeadBytes
+write-head-requires c κs =
+    let p = c .before .before .before .before .before .pre in
+    record { head = p .head; parts = p .parts; room = omega (arith, p .room) }
+
+same-length : tie.Need-same-length
+same-length c = search needs
+
+returns : tie.Need-returns
+unfolding dossierHeadBytes
+returns c = λ h w. c .before .before .write-head .ensures h w
+
+pub write-dossier-head-spec : {M : Type 1} → statement M
+write-dossier-head-spec = tie.close (tie.spec write-head-requires same-length returns)

@@ -1,0 +1,36 @@
+// The head of a dossier. What a dossier begins with is known here alone.
+ghost use lib.ListN.{length};
+ghost use Rattle.model.specs.Limits.{standard};
+ghost use Rattle.packed.specs.code.Written.{Wrote};
+ghost use Rattle.event.specs.Head.{Head};
+ghost use Rattle.event.specs.code.EventIndex.{HeadParts};
+ghost use Rattle.dossier.specs.DossierHead.{readDossierHead, dossierHeadBytes};
+ghost use Rattle.dossier.specs.code.DossierIndex.{DossierHeadReads, DossierHeadRoom};
+use event::head::HeadAt;
+use event::head::HeadRead;
+use event::head::read_head;
+use event::head::write_head;
+
+// Where the head's parts stand, and the position after it.
+pub enum DossierHeadRead {
+    Head(HeadAt, usize),
+    NoHead,
+}
+
+pub fn read_dossier_head(s: &[u8]) -> DossierHeadRead
+    ensures { λ r. ⌜ DossierHeadReads (readDossierHead standard (now (s .entry))) (now (s .entry)) r ⌝ }
+{
+    let HeadRead::Head(head) = read_head(s, 32) else {
+        return DossierHeadRead::NoHead;
+    };
+    let parents = head.parents;
+    DossierHeadRead::Head(head, parents.end)
+}
+
+// Writes a dossier's head at the front of `out`: the type name, the source, and the hashes of the parents, which stand one after the other.
+pub fn write_dossier_head(name: &[u8], source: &[u8], hashes: &[u8], out: &mut [u8]) -> usize
+    requires { ⌜ DossierHeadRoom (now name) (now source) (now hashes) (length (now out)) ⌝ }
+    ensures { λ r. ⌜ ((h : Head) → HeadParts (now (name .entry)) (now (source .entry)) (now (hashes .entry)) h → Wrote (now (out .entry)) 0 (dossierHeadBytes h) (now (out .exit)) r) ⌝ }
+{
+    write_head(name, source, hashes, out, 0)
+}

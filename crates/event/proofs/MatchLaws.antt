@@ -1,0 +1,124 @@
+-- The laws of comparing match sets by their bytes.
+use mathlib.Core.Path.{_≡_, refl, sym, ap, ap₂, _∙_}
+use mathlib.Core.Bool.{Bool, true, false, cond, not, _&&_, _||_}
+use mathlib.Core.Option.{some}
+use mathlib.Core.List.{List, [], _∷_, map, flatten}
+use Prim.Native.Nat.{ℕ, zero, suc, _+_, _^_, _≤_, _<_}
+use native.Mathlib.Omega.{arith}
+use native.Mathlib.Numerals.{add-one}
+use lib.ListN.{length, drop, getD, getElem?, length-append, drop-of-length-le}
+use lib.Seq.{drop-cons}
+use Rattle.model.specs.Order.{Text, texts, sets, lists, lex, equal}
+use Rattle.model.proofs.Cases.{three}
+use Rattle.model.proofs.OrderLaws.{equal-true}
+use Rattle.packed.specs.Parse.{got}
+use Rattle.packed.specs.Packed.{text, readText}
+use Rattle.packed.proofs.LayoutLaws.{text-read, text-length, number-bounds}
+use Rattle.packed.proofs.ReadLaws.{part-length}
+use Rattle.ontology.specs.Table.{Property, EventType, isMatch}
+use Rattle.ontology.specs.code.TypeIndex.{PropertyIs, hasMatch, TypeIs}
+use Rattle.ontology.specs.declared.properties.PropertyAt.{PropertyAt}
+use Rattle.ontology.specs.declared.types.TypeIndex.{TypeIndex}
+use Rattle.ontology.proofs.TypeIndexLaws.{match-of}
+use Rattle.event.specs.code.EventIndex.{SetIs, SetsAre}
+use Rattle.event.specs.declared.sets.SetAt.{SetAt}
+use Rattle.event.specs.Agreement.{matchSets}
+
+pub bool-iff : (a b : Bool) → (a ≡ true → b ≡ true) → (b ≡ true → a ≡ true) → a ≡ b
+bool-iff true b f g = sym (f refl)
+bool-iff false true f g = g refl
+bool-iff false false f g = refl
+
+-- ---- a set's bytes decide it
+
+flat-more : (v : Text) (vs : List Text) → length (flatten (map text (v ∷ vs))) ≡ length (text v) + length (flatten (map text vs))
+unfolding flatten
+flat-more v vs = length-append (text v) (flatten (map text vs))
+
+flat-first : (v : Text) (vs : List Text) → length (flatten (map text (v ∷ vs))) < 2 ^ 64 → readText (flatten (map text (v ∷ vs))) ≡ got v (flatten (map text vs))
+unfolding flatten
+flat-first v vs h = text-read v (flatten (map text vs)) (omega (arith, flat-more v vs, text-length v))
+
+flat-same : (vs ws : List Text) → length (flatten (map text vs)) < 2 ^ 64 → flatten (map text vs) ≡ flatten (map text ws) → vs ≡ ws
+unfolding flatten
+flat-same [] [] h e = refl
+flat-same [] (w ∷ ws) h e = absurd (omega (arith, ap length e, flat-more w ws, text-length w, number-bounds (length w)))
+flat-same (v ∷ vs) [] h e = absurd (omega (arith, ap length e, flat-more v vs, text-length v, number-bounds (length v)))
+flat-same (v ∷ vs) (w ∷ ws) h e =
+    let g : got v (flatten (map text vs)) ≡ got w (flatten (map text ws)) = sym (flat-first v vs h) ∙ ap readText e ∙ flat-first w ws (omega (arith, ap length e)) in
+    let a : v ≡ w = cc in
+    let b : flatten (map text vs) ≡ flatten (map text ws) = cc in
+    ap₂ {C = List Text} (λ x xs. x ∷ xs) a (flat-same vs ws (omega (arith, flat-more v vs)) b)
+
+pub flat-equal : (vs ws : List Text) → length (flatten (map text vs)) < 2 ^ 64 → equal texts (flatten (map text vs)) (flatten (map text ws)) ≡ equal sets vs ws
+flat-equal vs ws h =
+    bool-iff (equal texts (flatten (map text vs)) (flatten (map text ws))) (equal sets vs ws)
+    (λ e. equal-true sets vs ws .1 (flat-same vs ws h (equal-true texts (flatten (map text vs)) (flatten (map text ws)) .0 e)))
+    (λ e. equal-true texts (flatten (map text vs)) (flatten (map text ws)) .1 (ap (λ (l : List Text). flatten (map text l)) (equal-true sets vs ws .0 e)))
+
+pub set-short : (s : List ℕ) (vs : List Text) (x : SetAt) → SetIs s vs x → length s < 2 ^ 64 → length (flatten (map text vs)) < 2 ^ 64
+set-short s vs x w h = omega (arith, ap length (w .bytes), part-length s (x .start) (x .end) (w .order) (w .within), w .within)
+
+-- ---- the element of a place
+
+pub record Elem {A : Type 0} (l : List A) (k : ℕ) : Type 0 where
+  pub what : A
+  pub is : getElem? l k ≡ some what
+  pub split : drop k l ≡ what ∷ drop (k + 1) l
+
+elem-more : {A : Type 0} (a : A) (l : List A) (k : ℕ) → Elem l k → Elem (a ∷ l) (suc k)
+elem-more a l k e = record { what = e .what; is = e .is; split = e .split ∙ ap (λ (n : ℕ). e .what ∷ drop n l) (add-one k) ∙ sym (ap (λ (n : ℕ). e .what ∷ drop n (a ∷ l)) (add-one (suc k))) }
+
+pub elem : {A : Type 0} (l : List A) (k : ℕ) → k < length l → Elem l k
+elem [] k h = absurd (omega arith)
+elem (a ∷ l) zero h = record { what = a; is = refl; split = ap (λ (n : ℕ). a ∷ drop n (a ∷ l)) (sym (add-one 0)) }
+elem (a ∷ l) (suc k) h = elem-more a l k (elem l k (omega arith))
+
+-- ---- the set of a place
+
+module _ (s : List ℕ) (q : Property) (x : PropertyAt) (w : PropertyIs s q x) (b : Bool) where
+  pub place-free : hasMatch x ≡ false → true ≡ (not (isMatch q) || b)
+  place-free h = sym (ap (λ (m : Bool). not m || b) (sym (match-of w) ∙ h))
+
+  pub place-held : hasMatch x ≡ true → b ≡ (not (isMatch q) || b)
+  place-held h = sym (ap (λ (m : Bool). not m || b) (sym (match-of w) ∙ h))
+
+-- ---- the match sets, from a place on
+
+equal-more : (a b : List Text) (l m : List (List Text)) → equal (lists sets) (a ∷ l) (b ∷ m) ≡ (equal sets a b && equal (lists sets) l m)
+unfolding equal lists lex
+equal-more a b l m = three (sets .cmp a b) (λ e. rw e) (λ e. rw e) (λ e. rw e)
+
+module _ (s : List ℕ) (ty : EventType) (t : TypeIndex) (w : TypeIs s ty t) (k : ℕ) (h : k < t .count) where
+  pub this : Elem (ty .properties) k
+  this = elem (ty .properties) k (omega (arith, w .count))
+
+  pub in-all : k < 32
+  in-all = omega (arith, w .few)
+
+  pub this-is : (d : PropertyAt) → PropertyIs s (this .what) (getD (t .properties) k d)
+  this-is d = w .are .each k (this .what) d (this .is)
+
+  module _ (u v : List ℕ) (xs ys : List (List Text)) (ats bts : List SetAt) (a : SetsAre u xs ats) (b : SetsAre v ys bts) where
+    here : (zs : List (List Text)) → length zs ≡ 32 → matchSets (drop k (ty .properties)) (drop k zs) ≡ cond (isMatch (this .what)) (getD zs k [] ∷ matchSets (drop (k + 1) (ty .properties)) (drop (k + 1) zs)) (matchSets (drop (k + 1) (ty .properties)) (drop (k + 1) zs))
+    unfolding matchSets
+    here zs l = let m : k < length zs = omega (arith, l, w .few) in rw (this .split, drop-cons zs k [] m, add-one)
+
+    step : equal (lists sets) (matchSets (drop k (ty .properties)) (drop k xs)) (matchSets (drop k (ty .properties)) (drop k ys)) ≡ ((not (isMatch (this .what)) || equal sets (getD xs k []) (getD ys k [])) && equal (lists sets) (matchSets (drop (k + 1) (ty .properties)) (drop (k + 1) xs)) (matchSets (drop (k + 1) (ty .properties)) (drop (k + 1) ys)))
+    step = ap₂ (equal (lists sets)) (here xs (a .long)) (here ys (b .long)) ∙ go (isMatch (this .what))
+      where
+        go : (m : Bool) → equal (lists sets) (cond m (getD xs k [] ∷ matchSets (drop (k + 1) (ty .properties)) (drop (k + 1) xs)) (matchSets (drop (k + 1) (ty .properties)) (drop (k + 1) xs))) (cond m (getD ys k [] ∷ matchSets (drop (k + 1) (ty .properties)) (drop (k + 1) ys)) (matchSets (drop (k + 1) (ty .properties)) (drop (k + 1) ys))) ≡ ((not m || equal sets (getD xs k []) (getD ys k [])) && equal (lists sets) (matchSets (drop (k + 1) (ty .properties)) (drop (k + 1) xs)) (matchSets (drop (k + 1) (ty .properties)) (drop (k + 1) ys)))
+        go true = equal-more (getD xs k []) (getD ys k []) (matchSets (drop (k + 1) (ty .properties)) (drop (k + 1) xs)) (matchSets (drop (k + 1) (ty .properties)) (drop (k + 1) ys))
+        go false = refl
+
+    pub same-bad : {r : Bool} → r ≡ (not (isMatch (this .what)) || equal sets (getD xs k []) (getD ys k [])) → r ≡ false → equal (lists sets) (matchSets (drop k (ty .properties)) (drop k xs)) (matchSets (drop k (ty .properties)) (drop k ys)) ≡ false
+    same-bad e f = step ∙ ap (λ (x : Bool). x && equal (lists sets) (matchSets (drop (k + 1) (ty .properties)) (drop (k + 1) xs)) (matchSets (drop (k + 1) (ty .properties)) (drop (k + 1) ys))) (sym e ∙ f)
+
+    pub same-more : {r : Bool} → r ≡ (not (isMatch (this .what)) || equal sets (getD xs k []) (getD ys k [])) → r ≡ true → equal (lists sets) (matchSets (drop k (ty .properties)) (drop k xs)) (matchSets (drop k (ty .properties)) (drop k ys)) ≡ equal (lists sets) (matchSets (drop (k + 1) (ty .properties)) (drop (k + 1) xs)) (matchSets (drop (k + 1) (ty .properties)) (drop (k + 1) ys))
+    same-more e f = step ∙ ap (λ (x : Bool). x && equal (lists sets) (matchSets (drop (k + 1) (ty .properties)) (drop (k + 1) xs)) (matchSets (drop (k + 1) (ty .properties)) (drop (k + 1) ys))) (sym e ∙ f)
+
+pub same-end : (s : List ℕ) (ty : EventType) (t : TypeIndex) (xs ys : List (List Text)) (k : ℕ) → TypeIs s ty t → t .count ≤ k → equal (lists sets) (matchSets (drop k (ty .properties)) (drop k xs)) (matchSets (drop k (ty .properties)) (drop k ys)) ≡ true
+unfolding matchSets
+same-end s ty t xs ys k w h =
+    let l : length (ty .properties) ≤ k = omega (arith, w .count) in
+    rw (drop-of-length-le (ty .properties) l) (equal-true (lists sets) [] [] .1 refl)

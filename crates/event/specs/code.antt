@@ -1,0 +1,3 @@
+-- What the contracts of the code need to say, and no definition of document 01 rests on.
+pub mod EventIndex
+pub mod SetWriting

@@ -1,9 +1,0 @@
-pub mod Batch
-pub mod Report
-pub mod Demand1
-pub mod ReplyBounds
-pub mod Demand3
-pub mod Marked
-pub mod Replies
-pub mod BatchIndex
-pub mod ReportIndex

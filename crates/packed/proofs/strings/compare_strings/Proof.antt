@@ -1,0 +1,81 @@
+use native.Mathlib.Omega.{arith}
+use Prim.Native.Nat.{_-_}
+use Rattle.packed.proofs.StringLaws.{ComparesFrom, compares-all, first-ends, second-ends, both-end, byte-less, byte-more, byte-same}
+use borrow.Author.Needs.{needs}
+use Rattle.packed.proofs.strings.compare_strings.Statement.{statement}
+use Rattle.packed.proofs.strings.compare_strings.Tie as tie
+
+abbrev Inv-loop : tie.InvT-loop
+Inv-loop a b x y n m i₀ i = ComparesFrom a b x y n m i
+
+abbrev μ-loop : tie.MeasureT-loop
+μ-loop a b x y n m i₀ i = n - i
+
+string-size-requires : tie.Need-string-size-requires Inv-loop μ-loop
+string-size-requires c κs = c .before .before .pre .0
+
+string-size-requires-2 : tie.Need-string-size-requires-2 Inv-loop μ-loop
+string-size-requires-2 c κs = c .before .before .before .pre .1
+
+loop-holds : tie.Need-loop-holds Inv-loop μ-loop
+loop-holds c = compares-all (c .before .string-size .ensures) (c .string-size2 .ensures)
+
+returns : tie.Need-returns Inv-loop μ-loop
+returns c = second-ends (c .before .before .loop .inv) (omega arith) (omega arith)
+
+string-byte-requires : tie.Need-string-byte-requires Inv-loop μ-loop
+string-byte-requires c κs =
+    let l = c .before .before in
+    (l .before .before .before .before .before .pre .0, omega (arith, l .loop .inv .first))
+
+string-byte-requires-2 : tie.Need-string-byte-requires-2 Inv-loop μ-loop
+string-byte-requires-2 c κs =
+    let l = c .before .before .before in
+    (l .before .before .before .before .before .pre .1, omega (arith, l .loop .inv .second))
+
+returns-2 : tie.Need-returns-2 Inv-loop μ-loop
+returns-2 c =
+    byte-less (c .before .before .before .before .before .loop .inv) (omega arith) (omega arith)
+    (c .before .before .string-byte .ensures) (c .before .string-byte2 .ensures) (omega arith)
+
+returns-3 : tie.Need-returns-3 Inv-loop μ-loop
+returns-3 c =
+    byte-more (c .before .before .before .before .before .before .loop .inv) (omega arith) (omega arith)
+    (c .before .before .before .string-byte .ensures) (c .before .before .string-byte2 .ensures) (omega arith)
+
+add-i : tie.Need-add-i Inv-loop μ-loop
+add-i c = search needs
+
+loop-less : tie.Need-loop-less Inv-loop μ-loop
+loop-less c = search needs
+
+loop-again : tie.Need-loop-again Inv-loop μ-loop
+loop-again c =
+    byte-same (c .before .before .before .before .before .before .loop .inv) (omega arith) (omega arith)
+    (c .before .before .before .string-byte .ensures) (c .before .before .string-byte2 .ensures) (omega arith)
+
+returns-4 : tie.Need-returns-4 Inv-loop μ-loop
+returns-4 c = first-ends (c .before .before .loop .inv) (omega arith) (omega arith)
+
+returns-5 : tie.Need-returns-5 Inv-loop μ-loop
+returns-5 c = both-end (c .before .before .loop .inv) (omega arith) (omega arith)
+
+pub compare-strings-spec : {M : Type 1} → statement M
+compare-strings-spec =
+    tie.close
+    (tie.spec
+    Inv-loop
+    μ-loop
+    string-size-requires
+    string-size-requires-2
+    loop-holds
+    returns
+    string-byte-requires
+    string-byte-requires-2
+    returns-2
+    returns-3
+    add-i
+    loop-less
+    loop-again
+    returns-4
+    returns-5)

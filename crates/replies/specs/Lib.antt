@@ -1,0 +1,4 @@
+pub mod Questions
+pub mod Capacities
+pub mod Answers
+pub mod Replies

@@ -1,0 +1,3 @@
+// What the calls reply, and the least sizes of their outputs.
+pub mod capacities;
+pub mod reply;

@@ -1,0 +1,4 @@
+pub mod LineLaws
+pub mod ReportSizeLaws
+pub mod ReportLaws
+pub mod ReportDemandLaws

@@ -1,0 +1,362 @@
+-- The laws of the report's lines.
+use mathlib.Core.Path.{_≡_, refl, sym, ap, ap₂, _∙_, subst}
+use mathlib.Core.Bool.{false}
+use mathlib.Core.Option.{some}
+use mathlib.Core.List.{List, [], _∷_, _++_, append-assoc, map, flatten}
+use Prim.Native.Nat.{ℕ, zero, suc, _+_, _-_, _*_, _/_, _%_, _^_, _≤_, _<_}
+use native.Mathlib.Numerals.{add-one}
+use native.Mathlib.Omega.{arith}
+use lib.ListN.{length, drop, getD, set, getElem?, length-append, take-append-drop, drop-of-length-le}
+use lib.Seq.{drop-drop, drop-cons}
+use borrow.Author.Tests.{lt-ltb, le-ltb}
+use Rattle.model.specs.Order.{Text}
+use Rattle.model.specs.Opening.{placeOf}
+use Rattle.model.proofs.Cases.{never}
+use Rattle.packed.specs.Ascii.{ascii}
+use Rattle.packed.specs.Parse.{fail}
+use Rattle.packed.specs.Packed.{text, readText, part}
+use Rattle.packed.specs.code.Written.{Wrote}
+use Rattle.packed.proofs.WriteLaws.{ToGo, to-go, gone, all-gone, wrote-then, stored}
+use Rattle.packed.proofs.ReadLaws.{TextStops, drop-next}
+use Rattle.values.specs.Decimal.{inDecimal}
+use Rattle.values.specs.declared.versions.EventVersion.{EventVersion}
+use Rattle.values.proofs.DigitLaws.{decimal-length}
+use Rattle.replies.specs.Replies.{findingOf}
+use Rattle.replies.specs.declared.reply.Finding.{Finding}
+use Rattle.replies.specs.declared.reply.Finding.the-variants.{Conflict, Overfull}
+use Rattle.ontology.specs.Table.{Property, EventType, atPlace, nameAt}
+use Rattle.ontology.specs.code.TypeIndex.{PropertyIs}
+use Rattle.ontology.specs.declared.properties.PropertyAt.{PropertyAt}
+use Rattle.ontology.specs.declared.types.TypeIndex.{TypeIndex}
+use Rattle.event.specs.Event.{Event, objectCount}
+use Rattle.event.specs.code.EventIndex.{SetIs, noSet}
+use Rattle.event.specs.declared.sets.SetAt.{SetAt}
+use Rattle.event.specs.declared.read.EventIndex.{EventIndex}
+use Rattle.event.proofs.LookupLaws.{text-there, text-next}
+use Rattle.report.specs.Report.{hexDigit, hexOf, valueLine, valueLines, objectLines, hashedLines, conflictLine, overfullLine, findingLine, refusedLine}
+use Rattle.report.specs.code.ReportIndex.{PlaceNamed, FindingNamed, ValuesRoom, ObjectsRoom, LinesRoom}
+
+-- ---- hexadecimal digits
+
+pub hex-low : (n : ℕ) → n < 10 → 48 + n ≡ hexDigit n
+unfolding hexDigit
+hex-low n h = rw (lt-ltb n 10 h)
+
+pub hex-high : (n : ℕ) → 10 ≤ n → 87 + n ≡ hexDigit n
+unfolding hexDigit
+hex-high n h = rw (le-ltb n 10 h)
+
+pub hex-length : (s : List ℕ) → length (hexOf s) ≡ 2 * length s
+unfolding hexOf
+hex-length [] = refl
+hex-length (b ∷ s) = omega (arith, hex-length s)
+
+pub hex-end : (s : List ℕ) (i : ℕ) → length s ≤ i → hexOf (drop i s) ≡ []
+unfolding hexOf
+hex-end s i h = ap hexOf (drop-of-length-le s h)
+
+hex-step : (s : List ℕ) (i : ℕ) → i < length s → hexOf (drop i s) ≡ (hexDigit (getD s i 0 / 16) ∷ hexDigit (getD s i 0 % 16) ∷ []) ++ hexOf (drop (i + 1) s)
+unfolding hexOf
+hex-step s i h = ap hexOf (drop-next s i h)
+
+hex-next : (at i : ℕ) → at + 2 * i + 1 + 1 ≡ at + 2 * (i + 1)
+hex-next at i = omega arith
+
+pub hex-start : (l : List ℕ) (at : ℕ) (s : List ℕ) → ToGo l at (hexOf s) l (at + 2 * 0) (hexOf s)
+hex-start l at s = subst (λ (p : ℕ). ToGo l at (hexOf s) l p (hexOf s)) (nothing at) to-go
+  where
+    nothing : (n : ℕ) → n ≡ n + 2 * 0
+    nothing n = omega arith
+
+pub hex-gone :
+    {l₀ whole l : List ℕ} {at : ℕ} (s : List ℕ) (i a b : ℕ) → i < length s → a ≡ hexDigit (getD s i 0 / 16) → b ≡ hexDigit (getD s i 0 % 16) →
+    ToGo l₀ at whole l (at + 2 * i) (hexOf (drop i s)) →
+    ToGo l₀ at whole (set (set l (at + 2 * i) a) (at + 2 * i + 1) b) (at + 2 * (i + 1)) (hexOf (drop (i + 1) s))
+hex-gone {l₀} {whole} {l} {at} s i a b h x y g =
+    gone (hexDigit (getD s i 0 / 16) ∷ hexDigit (getD s i 0 % 16) ∷ []) (hexOf (drop (i + 1) s)) g (hex-step s i h)
+    (subst (Wrote l (at + 2 * i) (hexDigit (getD s i 0 / 16) ∷ hexDigit (getD s i 0 % 16) ∷ []) (set (set l (at + 2 * i) a) (at + 2 * i + 1) b)) (hex-next at i)
+    (rw (← x, ← y) (wrote-then (stored l (at + 2 * i) a) (stored (set l (at + 2 * i) a) (at + 2 * i + 1) b))))
+
+-- ---- what follows a part that is written
+
+-- a part of what is to be written has room where the whole has
+pub part-room : {l₀ whole l xs : List ℕ} {at p : ℕ} (ys zs : List ℕ) → ToGo l₀ at whole l p xs → at + length whole ≤ length l₀ → xs ≡ ys ++ zs → p + length ys ≤ length l
+part-room ys zs g h e = omega (arith, g .after, g .long, h, ap length e, length-append ys zs)
+
+-- ---- a refusal
+
+module _ (n i : ℕ) where
+  refused-is : refusedLine n i ≡ (114 ∷ 101 ∷ 102 ∷ 117 ∷ 115 ∷ 101 ∷ 100 ∷ 32 ∷ []) ++ (inDecimal n ++ ((32 ∷ []) ++ (inDecimal i ++ (10 ∷ []))))
+  unfolding refusedLine ascii
+  refused-is = simp append-assoc
+
+  pub refused-length : length (refusedLine n i) ≡ 10 + length (inDecimal n) + length (inDecimal i)
+  refused-length = ap length refused-is ∙ simp length-append (omega arith)
+
+  pub wrote-refused :
+      {l a b c d e : List ℕ} {p q r s z : ℕ} → Wrote l 0 (114 ∷ 101 ∷ 102 ∷ 117 ∷ 115 ∷ 101 ∷ 100 ∷ 32 ∷ []) a p → Wrote a p (inDecimal n) b q → Wrote b q (32 ∷ []) c r → Wrote c r (inDecimal i) d s → Wrote d s (10 ∷ []) e z →
+      Wrote l 0 (refusedLine n i) e z
+  wrote-refused v w x y u = rw refused-is (wrote-then v (wrote-then w (wrote-then x (wrote-then y u))))
+
+  pub refused-short : length (refusedLine n i) ≤ 50
+  refused-short = omega (arith, refused-length, decimal-length n, decimal-length i)
+
+-- ---- a property of a type
+
+pub some-below : {A : Type 0} (xs : List A) (i : ℕ) (a : A) → getElem? xs i ≡ some a → i < length xs
+some-below [] i a e = never (cc)
+some-below (x ∷ xs) zero a e = omega arith
+some-below (x ∷ xs) (suc i) a e = omega (arith, some-below xs i a e)
+
+-- what an index holds where it has no property
+abbrev pub noProperty : PropertyAt
+noProperty = record { start = 0; end = 0; kind = 0; size = 0; after = 0; sign = 0; optional = false; multivalued = false; strategy = 0 }
+
+module _ {table : List ℕ} {t : TypeIndex} {place : ℕ} (p : PlaceNamed table t place) where
+  name-is : nameAt (p .type) place ≡ p .property .name
+  unfolding nameAt atPlace
+  name-is = rw (p .named)
+
+  pub place-below : place < 32
+  place-below = omega (arith, some-below (p .type .properties) place (p .property) (p .named), p .typed .count, p .typed .few)
+
+  -- `conflict 1 state`
+  module _ (v : ℕ) where
+    conflict-is : conflictLine (p .type) v place ≡ (99 ∷ 111 ∷ 110 ∷ 102 ∷ 108 ∷ 105 ∷ 99 ∷ 116 ∷ 32 ∷ []) ++ (inDecimal v ++ ((32 ∷ []) ++ (nameAt (p .type) place ++ (10 ∷ []))))
+    unfolding conflictLine ascii
+    conflict-is = simp append-assoc
+
+    pub conflict-length : length (conflictLine (p .type) v place) ≡ 11 + length (inDecimal v) + length (nameAt (p .type) place)
+    conflict-length = ap length conflict-is ∙ simp length-append (omega arith)
+
+  -- `overfull serial`
+  overfull-is : overfullLine (p .type) place ≡ (111 ∷ 118 ∷ 101 ∷ 114 ∷ 102 ∷ 117 ∷ 108 ∷ 108 ∷ 32 ∷ []) ++ (nameAt (p .type) place ++ (10 ∷ []))
+  unfolding overfullLine ascii
+  overfull-is = simp append-assoc
+
+  pub overfull-length : length (overfullLine (p .type) place) ≡ 10 + length (nameAt (p .type) place)
+  overfull-length = ap length overfull-is ∙ simp length-append (omega arith)
+
+  pub place-is : PropertyIs table (p .property) (getD (t .properties) place noProperty)
+  place-is = p .typed .are .each place (p .property) noProperty (p .named)
+
+  place-name : part table (getD (t .properties) place noProperty .start) (getD (t .properties) place noProperty .end) ≡ nameAt (p .type) place
+  place-name = place-is .name ∙ sym name-is
+
+  pub place-length : length (part table (getD (t .properties) place noProperty .start) (getD (t .properties) place noProperty .end)) ≡ length (nameAt (p .type) place)
+  place-length = ap length place-name
+
+  pub wrote-conflict :
+      {l a b c e f : List ℕ} {q r s x z : ℕ} (v : ℕ) → Wrote l 0 (99 ∷ 111 ∷ 110 ∷ 102 ∷ 108 ∷ 105 ∷ 99 ∷ 116 ∷ 32 ∷ []) a q → Wrote a q (inDecimal v) b r → Wrote b r (32 ∷ []) c s →
+      Wrote c s (part table (getD (t .properties) place noProperty .start) (getD (t .properties) place noProperty .end)) e x → Wrote e x (10 ∷ []) f z →
+      Wrote l 0 (conflictLine (p .type) v place) f z
+  wrote-conflict v g w x y u = rw (conflict-is v, ← place-name) (wrote-then g (wrote-then w (wrote-then x (wrote-then y u))))
+
+  pub wrote-overfull :
+      {l a b c : List ℕ} {q r s : ℕ} → Wrote l 0 (111 ∷ 118 ∷ 101 ∷ 114 ∷ 102 ∷ 117 ∷ 108 ∷ 108 ∷ 32 ∷ []) a q →
+      Wrote a q (part table (getD (t .properties) place noProperty .start) (getD (t .properties) place noProperty .end)) b r → Wrote b r (10 ∷ []) c s →
+      Wrote l 0 (overfullLine (p .type) place) c s
+  wrote-overfull g w x = rw (overfull-is, ← place-name) (wrote-then g (wrote-then w x))
+
+-- ---- what opening finds
+
+module _ {table : List ℕ} {t : TypeIndex} (f : Finding) (p : FindingNamed table t f) where
+  pub named-at : {place : ℕ} → placeOf (findingOf f) ≡ place → getElem? (p .type .properties) place ≡ some (p .property)
+  named-at e = subst (λ (k : ℕ). getElem? (p .type .properties) k ≡ some (p .property)) e (p .named)
+
+  -- a conflict
+  module _ {v : EventVersion} {place : ℕ} (e : f ≡ Conflict v place) where
+    pub at-conflict : placeOf (findingOf f) ≡ place
+    unfolding placeOf
+    at-conflict = ap (λ (g : Finding). placeOf (findingOf g)) e
+
+    abbrev pub conflict-named : PlaceNamed table t place
+    conflict-named = record { type = p .type; property = p .property; typed = p .typed; named = named-at at-conflict }
+
+    conflict-line : findingLine (p .type) (findingOf f) ≡ conflictLine (p .type) (v .0) place
+    unfolding findingLine
+    conflict-line = ap (λ (g : Finding). findingLine (p .type) (findingOf g)) e
+
+    pub conflict-fits : {room : ℕ} → length (findingLine (p .type) (findingOf f)) ≤ room → length (conflictLine (p .type) (v .0) place) ≤ room
+    conflict-fits {room} h = subst (λ (l : List ℕ). length l ≤ room) conflict-line h
+
+    pub found-conflict : {l m : List ℕ} {n : ℕ} → Wrote l 0 (conflictLine (p .type) (v .0) place) m n → Wrote l 0 (findingLine (p .type) (findingOf f)) m n
+    found-conflict {l} {m} {n} w = subst (λ (x : List ℕ). Wrote l 0 x m n) (sym conflict-line) w
+
+  -- an overfull place
+  module _ {place : ℕ} (e : f ≡ Overfull place) where
+    pub at-overfull : placeOf (findingOf f) ≡ place
+    unfolding placeOf
+    at-overfull = ap (λ (g : Finding). placeOf (findingOf g)) e
+
+    abbrev pub overfull-named : PlaceNamed table t place
+    overfull-named = record { type = p .type; property = p .property; typed = p .typed; named = named-at at-overfull }
+
+    overfull-line : findingLine (p .type) (findingOf f) ≡ overfullLine (p .type) place
+    unfolding findingLine
+    overfull-line = ap (λ (g : Finding). findingLine (p .type) (findingOf g)) e
+
+    pub overfull-fits : {room : ℕ} → length (findingLine (p .type) (findingOf f)) ≤ room → length (overfullLine (p .type) place) ≤ room
+    overfull-fits {room} h = subst (λ (l : List ℕ). length l ≤ room) overfull-line h
+
+    pub found-overfull : {l m : List ℕ} {n : ℕ} → Wrote l 0 (overfullLine (p .type) place) m n → Wrote l 0 (findingLine (p .type) (findingOf f)) m n
+    found-overfull {l} {m} {n} w = subst (λ (x : List ℕ). Wrote l 0 x m n) (sym overfull-line) w
+
+-- ---- the line of a value
+
+pub value-length : (name v : Text) → length (valueLine name v) ≡ length name + 2 + length v
+value-length name v = simp length-append (omega arith)
+
+pub wrote-value :
+    {l a b c d : List ℕ} {at p q r s : ℕ} (name v : Text) → Wrote l at name a p → Wrote a p (58 ∷ []) b q → Wrote b q v c r → Wrote c r (10 ∷ []) d s →
+    Wrote l at (valueLine name v) d s
+wrote-value name v w x y z = rw (append-assoc name (58 ∷ v) (10 ∷ [])) (wrote-then w (wrote-then x (wrote-then y z)))
+
+-- ---- the lines of a property's values
+
+-- The values vs have their lines but for `left` of them, which stand at `i`
+pub record Lines (name : Text) (vs : List Text) (event out₀ : List ℕ) (at : ℕ) (out : List ℕ) (next i left : ℕ) (tail : List ℕ) : Type 0 where
+  pub rest : List Text
+  pub bytes : drop i event ≡ flatten (map text rest) ++ tail
+  pub within : i ≤ length event
+  pub long : left ≡ length rest
+  pub go : ToGo out₀ at (valueLines name vs) out next (valueLines name rest)
+
+module _ (name : Text) (vs : List Text) (event out₀ : List ℕ) (at : ℕ) where
+  pub lines-start : (x : SetAt) → SetIs event vs x → Lines name vs event out₀ at out₀ at (x .start) (x .count) (drop (x .end) event)
+  lines-start x w = record {
+    rest = vs;
+    bytes =
+        sym (take-append-drop (x .end - x .start) (drop (x .start) event))
+        ∙ ap₂ (λ (a b : List ℕ). a ++ b) (w .bytes) (drop-drop (x .end - x .start) (x .start) event ∙ ap (λ (n : ℕ). drop n event) (sums (x .start) (x .end) (w .order)));
+    within = omega (arith, w .order, w .within);
+    long = w .count;
+    go = to-go;
+  }
+    where
+      sums : (a e : ℕ) → a ≤ e → a + (e - a) ≡ e
+      sums a e h = omega arith
+
+  module _ {out tail : List ℕ} {next i left : ℕ} (small : length event < 2 ^ 64) (w : Lines name vs event out₀ at out next i left tail) where
+    record First : Type 0 where
+      v : Text
+      us : List Text
+      bytes : drop i event ≡ text v ++ (flatten (map text us) ++ tail)
+      long : left ≡ suc (length us)
+      go : ToGo out₀ at (valueLines name vs) out next (valueLine name v ++ valueLines name us)
+
+    first : 0 < left → First
+    unfolding flatten valueLines
+    first h = go (w .rest) (w .bytes) (w .long) (w .go)
+      where
+        go : (rest : List Text) → drop i event ≡ flatten (map text rest) ++ tail → left ≡ length rest → ToGo out₀ at (valueLines name vs) out next (valueLines name rest) → First
+        go [] b l g = absurd (omega arith)
+        go (v ∷ us) b l g = record { v = v; us = us; bytes = b ∙ append-assoc (text v) (flatten (map text us)) tail; long = l; go = g }
+
+    pub lines-bad : 0 < left → readText (drop i event) ≡ fail → ⊥
+    lines-bad h e = let f = first h in text-there event small i (w .within) (f .v) (flatten (map text (f .us)) ++ tail) (f .bytes) e
+
+    module _ (h : 0 < left) {a z : ℕ} (t : TextStops event i a z) {n : Text} (named : n ≡ name) where
+      value-is : valueLine n (part event a z) ≡ valueLine name (first h .v)
+      value-is = let f = first h in ap₂ valueLine named (text-next event small i (w .within) (f .v) (flatten (map text (f .us)) ++ tail) (f .bytes) a z t .0)
+
+      pub lines-room : at + length (valueLines name vs) ≤ length out₀ → next + length (valueLine n (part event a z)) ≤ length out
+      lines-room r = let f = first h in rw value-is (part-room (valueLine name (f .v)) (valueLines name (f .us)) (f .go) r refl)
+
+      pub lines-more : {out₁ : List ℕ} {next₁ : ℕ} → Wrote out next (valueLine n (part event a z)) out₁ next₁ → Lines name vs event out₀ at out₁ next₁ z (left - 1) tail
+      lines-more u =
+          let f = first h in
+          let s = text-next event small i (w .within) (f .v) (flatten (map text (f .us)) ++ tail) (f .bytes) a z t .2 in record {
+            rest = f .us;
+            bytes = s .rest;
+            within = s .within;
+            long = omega (arith, f .long);
+            go = gone (valueLine n (part event a z)) (valueLines name (f .us)) (f .go) (ap (λ (l : List ℕ). l ++ valueLines name (f .us)) (sym value-is)) u;
+          }
+
+    pub lines-all : left ≤ 0 → Wrote out₀ at (valueLines name vs) out next
+    unfolding flatten valueLines
+    lines-all h = go (w .rest) (w .long) (w .go)
+      where
+        go : (rest : List Text) → left ≡ length rest → ToGo out₀ at (valueLines name vs) out next (valueLines name rest) → Wrote out₀ at (valueLines name vs) out next
+        go [] l g = all-gone g refl
+        go (v ∷ us) l g = absurd (omega arith)
+
+-- ---- the lines of all objects
+
+record At {A : Type 0} (xs : List A) (i : ℕ) : Type 0 where
+  what : A
+  is : getElem? xs i ≡ some what
+  rest : drop i xs ≡ what ∷ drop (suc i) xs
+
+at-place : {A : Type 0} (xs : List A) (i : ℕ) → i < length xs → At xs i
+at-place [] i h = absurd (omega arith)
+at-place (x ∷ xs) zero h = record { what = x; is = refl; rest = refl }
+at-place (x ∷ xs) (suc i) h = let w = at-place xs i (omega arith) in record { what = w .what; is = w .is; rest = w .rest }
+
+objects-step : (ps : List Property) (ss : List (List Text)) (k : ℕ) (w : At ps k) → k < length ss → objectLines (drop k ps) (drop k ss) ≡ valueLines (w .what .name) (getD ss k []) ++ objectLines (drop (k + 1) ps) (drop (k + 1) ss)
+unfolding objectLines
+objects-step ps ss k w h = rw (w .rest, drop-cons ss k [] h, add-one)
+
+pub objects-end : (ps : List Property) (ss : List (List Text)) (k : ℕ) → length ps ≤ k → objectLines (drop k ps) (drop k ss) ≡ []
+unfolding objectLines
+objects-end ps ss k h = ap (λ (l : List Property). objectLines l (drop k ss)) (drop-of-length-le ps h)
+
+-- what is to be written from a place on
+abbrev pub ObjectsGo : List Property → List (List Text) → List ℕ → ℕ → List ℕ → ℕ → ℕ → Type 0
+ObjectsGo ps ss out₀ at out next k = ToGo out₀ at (objectLines ps ss) out next (objectLines (drop k ps) (drop k ss))
+
+module _ {table event : List ℕ} {t : TypeIndex} {e : EventIndex} {at room : ℕ} (o : ObjectsRoom table t event e at room) where
+  module _ {out₀ out : List ℕ} {next : ℕ} (k : ℕ) (below : k < t .count) (long : room ≡ length out₀) (g : ObjectsGo (o .type .properties) (o .event .sets) out₀ at out next k) where
+    property : At (o .type .properties) k
+    property = at-place (o .type .properties) k (omega (arith, o .typed .count))
+
+    step : objectLines (drop k (o .type .properties)) (drop k (o .event .sets)) ≡ valueLines (property .what .name) (getD (o .event .sets) k []) ++ objectLines (drop (k + 1) (o .type .properties)) (drop (k + 1) (o .event .sets))
+    step = objects-step (o .type .properties) (o .event .sets) k property (omega (arith, o .read .sets .long, o .typed .few))
+
+    module _ (d : PropertyAt) where
+      pub values-room : ValuesRoom table (getD (t .properties) k d) event (getD (e .sets) k noSet) next (length out)
+      values-room = record {
+        property = property .what;
+        values = getD (o .event .sets) k [];
+        named = o .typed .are .each k (property .what) d (property .is);
+        is = o .read .sets .each k (omega (arith, o .typed .few));
+        fits = part-room (valueLines (property .what .name) (getD (o .event .sets) k [])) (objectLines (drop (k + 1) (o .type .properties)) (drop (k + 1) (o .event .sets))) g (omega (arith, o .fits, long)) step;
+      }
+
+      pub objects-more : {out₁ : List ℕ} {next₁ : ℕ} → Wrote out next (valueLines (values-room .property .name) (values-room .values)) out₁ next₁ → ObjectsGo (o .type .properties) (o .event .sets) out₀ at out₁ next₁ (k + 1)
+      unfolding values-room
+      objects-more w = gone (valueLines (property .what .name) (getD (o .event .sets) k [])) (objectLines (drop (k + 1) (o .type .properties)) (drop (k + 1) (o .event .sets))) g step w
+
+-- ---- the lines of a merged event
+
+module _ (t : EventType) (e : Event) (hash : List ℕ) where
+  abbrev objectsOf : List ℕ
+  objectsOf = objectLines (t .properties) (e .sets)
+
+  hashed-is : hashedLines t e hash ≡ (109 ∷ 101 ∷ 114 ∷ 103 ∷ 101 ∷ 100 ∷ 32 ∷ []) ++ (inDecimal (objectCount (e .sets)) ++ ((10 ∷ []) ++ (objectsOf ++ ((104 ∷ 97 ∷ 115 ∷ 104 ∷ 32 ∷ []) ++ (hexOf hash ++ (10 ∷ []))))))
+  unfolding hashedLines ascii
+  hashed-is =
+      let digits = inDecimal (objectCount (e .sets)) in
+      let last = (104 ∷ 97 ∷ 115 ∷ 104 ∷ 32 ∷ []) ++ (hexOf hash ++ (10 ∷ [])) in
+      ap (λ (x : List ℕ). (109 ∷ 101 ∷ 114 ∷ 103 ∷ 101 ∷ 100 ∷ 32 ∷ []) ++ x) (append-assoc (digits ++ (10 ∷ [])) objectsOf last ∙ append-assoc digits (10 ∷ []) (objectsOf ++ last))
+
+  pub hashed-length : length (hashedLines t e hash) ≡ 14 + length (inDecimal (objectCount (e .sets))) + length objectsOf + 2 * length hash
+  hashed-length = ap length hashed-is ∙ simp length-append (omega (arith, hex-length hash))
+
+  pub wrote-hashed :
+      {l a b c d f g h : List ℕ} {p q r s u v z n : ℕ} → n ≡ objectCount (e .sets) → Wrote l 0 (109 ∷ 101 ∷ 114 ∷ 103 ∷ 101 ∷ 100 ∷ 32 ∷ []) a p → Wrote a p (inDecimal n) b q → Wrote b q (10 ∷ []) c r → Wrote c r objectsOf d s →
+      Wrote d s (104 ∷ 97 ∷ 115 ∷ 104 ∷ 32 ∷ []) f u → Wrote f u (hexOf hash) g v → Wrote g v (10 ∷ []) h z →
+      Wrote l 0 (hashedLines t e hash) h z
+  wrote-hashed k w₁ w₂ w₃ w₄ w₅ w₆ w₇ = rw (hashed-is, ← k) (wrote-then w₁ (wrote-then w₂ (wrote-then w₃ (wrote-then w₄ (wrote-then w₅ (wrote-then w₆ w₇))))))
+
+abbrev pub objects-room :
+    {table bytes hash : List ℕ} {t : TypeIndex} {e : EventIndex} {room at room₁ : ℕ} (l : LinesRoom table t bytes e hash room) →
+    at ≡ 8 + length (inDecimal (e .objects)) → room₁ ≡ room → ObjectsRoom table t bytes e at room₁
+objects-room {table} {bytes} {hash} {t} {e} {room} {at} {room₁} l h r = record {
+  type = l .type;
+  event = l .event;
+  typed = l .typed;
+  read = l .read;
+  fits = omega (arith, h, r, l .fits, hashed-length (l .type) (l .event) hash, ap (λ (n : ℕ). length (inDecimal n)) (l .read .objects));
+}

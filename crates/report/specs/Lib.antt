@@ -1,0 +1,3 @@
+pub mod Report
+pub mod ReportDemand1
+pub mod code

@@ -1,0 +1,3 @@
+// What the merge program prints.
+pub mod calls;
+pub mod lines;

@@ -1,0 +1,108 @@
+-- Demand 1's last sentence, of every call but the report: what is refused gets a number from 1 to 9, and the output keeps its old bytes.
+use mathlib.Core.Path.{_≡_, refl}
+use mathlib.Core.Logic.{_⊎_, inl, inr}
+use mathlib.Core.Option.{Option, none, some}
+use mathlib.Core.List.{List, []}
+use Prim.Native.Nat.{ℕ}
+use native.Mathlib.Omega.{arith}
+use lib.ListN.{length}
+use lib.Dec.{leb}
+use Rattle.model.specs.Limits.{standard, fits}
+use Rattle.model.specs.Opening.{Opened, finds, merged, opening}
+use Rattle.replies.specs.Questions as questions
+use Rattle.replies.specs.Questions.{Asked, ask}
+use Rattle.replies.specs.Capacities.{dossierCapacity, hashTextCapacity, hashCapacity, hasRoom}
+use Rattle.replies.specs.Answers.{answer, outcome}
+use Rattle.ontology.specs.Table.{Table, typeNamed}
+use Rattle.ontology.specs.TableLayout.{tableOf}
+use Rattle.ontology.specs.TableCall.{replyToTable, tableCall}
+use Rattle.event.specs.Event.{typeView}
+use Rattle.event.specs.EventLayout.{narrow, wide, eventOf, eventBytes}
+use Rattle.event.specs.EventQuestions.{Typed}
+use Rattle.event.specs.Value.{askedPart, valueCall}
+use Rattle.dossier.specs.DossierLayout.{Headed, dossierOf, dossierBytes, modelOf}
+use Rattle.dossier.specs.DossierQuestions.{eachSnapshot, dossierShape, snapshotValues, TypedDossier, dossierAsked, dossiersAgree}
+use Rattle.hashing.specs.HashCalls.{hashTextAsked, hashTextAnswer, hashTextCall, hashAnswer, hashCall}
+use Rattle.combining.specs.CheckCall.{checkAsked, checkAnswer, checkCall}
+use Rattle.combining.specs.CombineCall.{combined, combineAsked, combineAnswer, combineCall}
+use Rattle.opening.specs.OpenCall.{mergedEvent, openedAnswer, askedOpening, openAnswer, openCall}
+use Rattle.batch.specs.Batch.{AskedAt, refusedAt, accepted, batchGiven, haveRoom, batchAnswer, batchCall}
+use Rattle.batch.specs.Taken.{Reads, TakesIn, Takes}
+use Rattle.batch.proofs.TakenLaws.{Asks, asks-one, asks-whether, accepts, asks-then, asks-more, asks-next, asks-event, AsksAt, asks-all, asks-next-at, asks-batch, takes-given}
+use Rattle.theorems.specs.Demand1.{Demand1}
+
+pub asks-dossier : (ts : Table) (s : List ℕ) → Asks (λ a. Reads (dossierOf standard s)) (dossierAsked standard ts s)
+unfolding dossierAsked
+asks-dossier ts s =
+    asks-then (asks-one 3 (omega arith, omega arith) (dossierOf standard s)) λ h read.
+    asks-then (asks-one 4 (omega arith, omega arith) (typeNamed (h .head .type) ts)) λ t typed.
+    asks-next (asks-whether 5 (omega arith, omega arith) (dossierShape standard t (h .snapshots))) λ u shape.
+    asks-next (asks-whether 6 (omega arith, omega arith) (eachSnapshot (snapshotValues t) (h .snapshots))) λ u values. accepts (h, read)
+
+-- questions 1 and 2, and then others under the table
+pub asks-table :
+    {A : Type 0} {P : A → Type 0} (least room : ℕ) (table : List ℕ) {k : Table → Asked A} → ((ts : Table) → tableOf table ≡ some ts → Asks P (k ts)) →
+    Asks P (questions._>>_ (hasRoom least room) (questions._>>=_ (ask 2 (tableOf table)) k))
+asks-table least room table f =
+    asks-next (asks-whether 1 (omega arith, omega arith) (leb least room)) λ u room. asks-then (asks-one 2 (omega arith, omega arith) (tableOf table)) f
+
+asks-hash : (least room : ℕ) (table event : List ℕ) → Asks (λ m. Reads (tableOf table) × Reads (eventOf wide event)) (hashTextAsked least room table event)
+unfolding hashTextAsked
+asks-hash least room table event = asks-table least room table λ ts isTable. asks-then (asks-event wide ts event) λ a read. accepts ((ts, isTable), read)
+
+-- ---- what the calls make of it
+
+takes-answer : {P : Type 0} {q : Asked (List ℕ)} (old : List ℕ) → Asks (λ x. P) q → Takes P (outcome (answer q) old) old
+unfolding TakesIn
+takes-answer {q = questions.refused n} old h = record { replied = (h .answers, refl) }
+takes-answer {q = questions.accepted x} old h = takes-given x old (h .answers)
+
+takes-opened : {P : Type 0} (h : Headed) (o : Opened) (old : List ℕ) → P → Takes P (outcome (openedAnswer h o) old) old
+unfolding TakesIn openedAnswer
+takes-opened h (finds f) old x = record { replied = (x, refl) }
+takes-opened h (merged ss) old x = takes-given (eventBytes (mergedEvent h ss)) old x
+
+takes-opening : {P : Type 0} {q : Asked TypedDossier} (old : List ℕ) → Asks (λ a. P) q → Takes P (outcome (askedOpening q) old) old
+unfolding TakesIn askedOpening
+takes-opening {q = questions.refused n} old h = record { replied = (h .answers, refl) }
+takes-opening {q = questions.accepted a} old h = takes-opened (a .headed) (opening (typeView (a .type)) (modelOf (a .headed))) old (h .answers)
+
+takes-part : {P : Type 0} {q : Asked Typed} (place index : ℕ) → Asks (λ a. P) q → (askedPart place index q .bytes ≡ []) ⊎ P
+unfolding askedPart
+takes-part {q = questions.refused n} place index h = inl refl
+takes-part {q = questions.accepted a} place index h = inr (h .answers)
+
+takes-batch : {P : Type 0} {q : AskedAt TypedDossier} (old : List ℕ) → AsksAt (λ d. P) q → Takes P (outcome (batchGiven q) old) old
+unfolding TakesIn batchGiven
+takes-batch {q = refusedAt n i} old h = record { replied = (h .answers .0, refl) }
+takes-batch {q = accepted d} old h = takes-given (dossierBytes (d .headed)) old (h .answers)
+
+takes-table : (m : Option Table) → Takes (Reads m) (record { reply = replyToTable m; bytes = [] }) []
+unfolding TakesIn replyToTable
+takes-table none = record { replied = ((omega arith, omega arith), refl) }
+takes-table (some ts) = takes-given [] [] (ts, refl)
+
+pub demand1 : Demand1
+unfolding tableCall checkCall checkAnswer checkAsked combineCall combineAnswer combineAsked openCall openAnswer
+    hashTextCall hashTextAnswer hashCall hashAnswer batchCall batchAnswer valueCall
+demand1 = record {
+  table = λ table. takes-table (tableOf table);
+  check = λ table event old.
+      takes-answer old (asks-table dossierCapacity (length old) table λ ts isTable.
+      asks-then (asks-event narrow ts event) λ a read. accepts ((ts, isTable), read));
+  combine = λ table left right old.
+      takes-answer old (asks-table dossierCapacity (length old) table λ ts isTable.
+      asks-then (asks-dossier ts left) λ a first. asks-then (asks-dossier ts right) λ b second.
+      asks-next (asks-whether 7 (omega arith, omega arith) (dossiersAgree a b)) λ u agree.
+      asks-next (asks-whether 8 (omega arith, omega arith) (fits standard (typeView (a .type)) (combined a b))) λ u inside.
+      accepts ((ts, isTable), first, second));
+  opens = λ table dossier old.
+      takes-opening old (asks-table dossierCapacity (length old) table λ ts isTable. asks-more (λ a read. ((ts, isTable), read)) (asks-dossier ts dossier));
+  hashText = λ table event old. takes-answer old (asks-hash hashTextCapacity (length old) table event);
+  hash = λ table event old. takes-answer old (asks-then (asks-hash hashCapacity (length old) table event) λ m reads. accepts reads);
+  value = λ table event place index.
+      takes-part place index (asks-then (asks-one 2 (omega arith, omega arith) (tableOf table)) λ ts isTable.
+      asks-more (λ a read. ((ts, isTable), read)) (asks-event wide ts event));
+  batch = λ rooms table batch old.
+      takes-batch old (asks-next-at (asks-all (asks-whether 1 (omega arith, omega arith) (haveRoom rooms))) (asks-batch table batch));
+}

@@ -1,0 +1,3 @@
+pub mod RuleQuestionLaws
+pub mod MergedEventLaws
+pub mod CallLaws
