@@ -4,11 +4,12 @@ use mathlib.Core.Bool.{true}
 use mathlib.Core.List.{List, [], _∷_}
 use Prim.Native.Nat.{ℕ, zero, suc, _+_, _-_, _^_, _≤_, _<_}
 use native.Mathlib.Omega.{arith}
-use lib.ListN.{replicate, length, getD, length-append}
+use lib.ListN.{length, getD, length-append}
 use borrow.Author.Tests.{lt-ltb, le-ltb}
 use Rattle.model.specs.Order.{Text}
-use Rattle.packed.specs.Packed.{number}
+use Rattle.packed.specs.Packed.{number, part}
 use Rattle.packed.specs.code.Written.{Wrote}
+use Rattle.packed.proofs.ReadLaws.{to-end}
 use Rattle.packed.proofs.WriteLaws.{wrote-then, wrote-as}
 use Rattle.values.specs.Decimal.{areDigits, numeral, inDecimal}
 use Rattle.values.proofs.NumeralLaws.{natural-digits, natural-in-decimal, numeral-in-decimal}
@@ -19,8 +20,6 @@ use Rattle.event.specs.EventLayout.{setsBytes}
 use Rattle.event.specs.code.EventIndex.{SetIs, noSet, EventIs}
 use Rattle.event.specs.declared.read.EventIndex.{EventIndex}
 use Rattle.event.proofs.EventQuestionLaws.{version-none}
-use Rattle.event.specs.code.SetWriting.{presentBytes}
-use Rattle.event.proofs.SetWriteLaws.{all-present}
 use Rattle.dossier.specs.DossierHead.{dossierHeadBytes}
 use Rattle.combining.specs.code.CheckIndex.{loneBytes, Checkable}
 
@@ -69,24 +68,25 @@ module _ (table bytes : List ℕ) (t : TypeIndex) (e : EventIndex) (h : Checkabl
 -- ---- the parts of the dossier
 
 module _ (bytes : List ℕ) (x : EventIndex) (e : Event) (w : EventIs bytes e x) where
-  abbrev pub presents : List ℕ
-  presents = presentBytes (replicate 32 true) (e .sets)
+  -- the sets, from where the event's numbers end
+  abbrev pub run : List ℕ
+  run = part bytes (x .«after_presence») (length bytes)
 
-  presents-is : presents ≡ setsBytes (e .sets)
-  presents-is = ap (λ (n : ℕ). presentBytes (replicate n true) (e .sets)) (sym (w .sets .long)) ∙ all-present (e .sets)
+  run-is : run ≡ setsBytes (e .sets)
+  run-is = to-end bytes (x .«after_presence») ∙ w .rest
 
   -- their lengths, one after the other
   pub lone-length :
       (version : ℕ) →
       length (loneBytes e version)
-      ≡ length (dossierHeadBytes (e .head)) + length (number 1) + length (number version) + length (number (x .presence)) + length (number 0) + length presents
+      ≡ length (dossierHeadBytes (e .head)) + length (number 1) + length (number version) + length (number (x .presence)) + length (number 0) + length run
   unfolding loneBytes
-  lone-length version = rw (w .presence) (simp length-append (omega (arith, ap length presents-is)))
+  lone-length version = rw (w .presence) (simp length-append (omega (arith, ap length run-is)))
 
   pub wrote-lone :
       (version : ℕ) {l l₁ l₂ l₃ l₄ l₅ l₆ : List ℕ} {a b c d f g : ℕ} →
       Wrote l 0 (dossierHeadBytes (e .head)) l₁ a → Wrote l₁ a (number 1) l₂ b → Wrote l₂ b (number version) l₃ c →
-      Wrote l₃ c (number (x .presence)) l₄ d → Wrote l₄ d (number 0) l₅ f → Wrote l₅ f presents l₆ g → Wrote l 0 (loneBytes e version) l₆ g
+      Wrote l₃ c (number (x .presence)) l₄ d → Wrote l₄ d (number 0) l₅ f → Wrote l₅ f run l₆ g → Wrote l 0 (loneBytes e version) l₆ g
   unfolding loneBytes
   wrote-lone version p q r s u v =
-      wrote-then p (wrote-then q (wrote-then (wrote-then (wrote-then r (wrote-as (ap number (w .presence)) s)) u) (wrote-as presents-is v)))
+      wrote-then p (wrote-then q (wrote-then (wrote-then (wrote-then r (wrote-as (ap number (w .presence)) s)) u) (wrote-as run-is v)))

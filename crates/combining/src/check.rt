@@ -17,8 +17,8 @@ use event::read::EventIndex;
 use event::read::read_event;
 use event::sets::set_part;
 use event::sets::value_in;
-use event::write::write_sets;
 use ontology::types::TypeIndex;
+use packed::write::copy_part;
 use packed::write::write_number;
 use replies::capacities::DOSSIER_CAPACITY;
 use replies::reply::Reply;
@@ -38,7 +38,7 @@ fn version_of(table: &[u8], event: &[u8], t: TypeIndex, e: EventIndex) -> EventV
     EventVersion(numeral_of(value_in(set_part(event, x), 0)))
 }
 
-// Writes the dossier of one event at the front of `out`: its head, the numbers of its snapshot, and its sets from where they stand.
+// Writes the dossier of one event at the front of `out`: its head, the numbers of its snapshot, and all its sets, which are one run as they stand.
 fn write_lone(event: &[u8], e: EventIndex, version: EventVersion, out: &mut [u8]) -> usize
     requires { ⌜ LoneRoom (now event) e (version .0) (length (now out)) ⌝ }
     ensures { λ r. ⌜ ((h : Event) → EventIs (now (event .entry)) h e → Wrote (now (out .entry)) 0 (loneBytes h (version .0)) (now (out .exit)) r) ⌝ }
@@ -52,9 +52,7 @@ fn write_lone(event: &[u8], e: EventIndex, version: EventVersion, out: &mut [u8]
     let after_version = write_number(out, after_count, version.0);
     let after_presence = write_number(out, after_version, e.presence);
     let after_differ = write_number(out, after_presence, 0);
-    let sets = e.sets;
-    let every = [true; 32];
-    write_sets(event, sets, every, out, after_differ)
+    copy_part(event, e.after_presence, event.len(), out, after_differ)
 }
 
 // The dossier of an event, written at the front of `out`.

@@ -3,14 +3,14 @@ use mathlib.Core.Path.{_≡_, ap, subst, refl, sym, _∙_}
 use mathlib.Core.List.{List, _++_, map, flatten, [], _∷_}
 use Prim.Native.Nat.{ℕ, _+_, _≤_, zero, suc, _<_}
 use native.Mathlib.Omega.{arith}
-use lib.ListN.{replicate, length, length-append, drop, getD, drop-of-length-le}
+use lib.ListN.{length, length-append, drop, getD, drop-of-length-le}
 use Rattle.model.specs.Order.{Text}
 use Rattle.packed.specs.Packed.{number, text}
 use Rattle.packed.specs.code.Written.{Wrote}
 use Rattle.packed.proofs.WriteLaws.{wrote-then, ToGo, gone, all-gone, wrote-none}
 use mathlib.Core.Bool.{Bool, true, false}
 use native.Mathlib.Numerals.{add-one}
-use Rattle.event.specs.EventLayout.{setBytes, setsBytes}
+use Rattle.event.specs.EventLayout.{setBytes}
 use Rattle.event.specs.code.EventIndex.{SetsAre}
 use Rattle.event.specs.declared.sets.SetAt.{SetAt}
 use Rattle.event.specs.code.SetWriting.{placeBytes, presentBytes}
@@ -81,9 +81,3 @@ module _ {l₀ l : List ℕ} {at p : ℕ} (s : List ℕ) (ats : List SetAt) (bs 
 
   pub present-all : 32 ≤ k → Wrote l₀ at (presentBytes bs xs) l p
   present-all h = all-gone g (present-none bs xs k (omega (arith, w .long)))
-
--- where every place is present, all sets are written
-pub all-present : (xs : List (List Text)) → presentBytes (replicate (length xs) true) xs ≡ setsBytes xs
-unfolding presentBytes placeBytes setsBytes flatten
-all-present [] = refl
-all-present (x ∷ xs) = ap (λ (l : List ℕ). setBytes x ++ l) (all-present xs)

@@ -35,7 +35,7 @@ fn write_place(s: &[u8], x: SetAt, present: bool, out: &mut [u8], at: usize) -> 
     }
 }
 
-// The sets of the places that are present, each from where it stands: what an event and a snapshot have after their numbers.
+// The sets of the places that are present, each from where it stands: what a snapshot has after its numbers.
 pub fn write_sets(
     s: &[u8],
     sets: [SetAt; 32],

@@ -1,15 +1,24 @@
 use borrow.Author.Needs.{needs}
 use native.Mathlib.Omega.{arith}
-use Rattle.packed.proofs.WriteLaws.{wrote-length}
+use mathlib.Core.Path.{refl}
+use mathlib.Core.List.{List}
+use Prim.Native.Nat.{ℕ, _+_, _≤_}
+use lib.ListN.{length}
+use denote.Ref.{now}
+use Rattle.packed.specs.Packed.{number}
+use Rattle.packed.proofs.WriteLaws.{Reached, reached-start, reached-by}
+use Rattle.event.specs.Event.{Event}
+use Rattle.event.specs.code.EventIndex.{EventIs, HeadParts}
 use Rattle.event.proofs.HeadLaws.{parts-of}
-use Rattle.combining.proofs.LoneLaws.{lone-length, wrote-lone}
+use Rattle.dossier.specs.DossierHead.{dossierHeadBytes}
+use Rattle.combining.proofs.LoneLaws.{run, lone-length, wrote-lone}
 use Rattle.combining.proofs.check.write_lone.Statement.{statement}
 use Rattle.combining.proofs.check.write_lone.Tie as tie
 
--- ---- the places, from the argument of each write to the write before it
+-- ---- the places: each write from the argument of the next, and the start from each
 
-abbrev to-start : tie.After-write-dossier-head-arg → tie.Start
-to-start c = c .before .before .before .before .before .before .before
+abbrev start₀ : tie.After-write-dossier-head-arg → tie.Start
+start₀ c = c .before .before .before .before .before .before .before
 
 abbrev to-head : tie.After-write-number-arg → tie.After-write-dossier-head
 to-head c = c .before .before .before
@@ -23,8 +32,78 @@ to-version c = c .before .before .before
 abbrev to-presence : tie.After-write-number-arg4 → tie.After-write-number3
 to-presence c = c .before .before .before
 
-abbrev to-differ : tie.After-write-sets-arg → tie.After-write-number4
-to-differ c = c .before .before .before .before
+abbrev to-differ : tie.After-copy-part-arg → tie.After-write-number4
+to-differ c = c .before .before .before
+
+abbrev start₁ : tie.After-write-dossier-head → tie.Start
+start₁ c = start₀ (c .before)
+
+abbrev start₂ : tie.After-write-number → tie.Start
+start₂ c = start₁ (to-head (c .before))
+
+abbrev start₃ : tie.After-write-number2 → tie.Start
+start₃ c = start₂ (to-count (c .before))
+
+abbrev start₄ : tie.After-write-number3 → tie.Start
+start₄ c = start₃ (to-version (c .before))
+
+abbrev start₅ : tie.After-write-number4 → tie.Start
+start₅ c = start₄ (to-presence (c .before))
+
+-- ---- at the start
+
+module _ (c : tie.Start) where
+  abbrev out₀ : List ℕ
+  out₀ = now (c .args .out)
+
+  -- where each part ends
+  abbrev head-end : ℕ
+  head-end = length (dossierHeadBytes (c .pre .event .head))
+
+  abbrev count-end : ℕ
+  count-end = head-end + length (number 1)
+
+  abbrev version-end : ℕ
+  version-end = count-end + length (number (c .args .version .0))
+
+  abbrev presence-end : ℕ
+  presence-end = version-end + length (number (c .args .e .presence))
+
+  abbrev differ-end : ℕ
+  differ-end = presence-end + length (number 0)
+
+  fits : differ-end + length (run _ _ (c .pre .event) (c .pre .read)) ≤ length out₀
+  fits = omega (arith, c .pre .room, lone-length _ _ (c .pre .event) (c .pre .read) (c .args .version .0))
+
+-- ---- the head
+
+parts :
+    (c : tie.After-write-dossier-head-arg) (e : Event) → EventIs (now (start₀ c .args .event)) e (start₀ c .args .e) →
+    HeadParts (now (c .before .before .before .text-part .result)) (now (c .before .before .text-part2 .result)) (now (c .before .hashes-part .result)) (e .head)
+parts c e w =
+    parts-of (w .head)
+    (c .before .before .before .text-part .ensures _ (w .head .name))
+    (c .before .before .text-part2 .ensures _ (w .head .uri))
+    (c .before .hashes-part .ensures _ (w .head .hashes))
+
+-- ---- how far each write comes
+
+first :
+    (c : tie.After-write-dossier-head) → Reached (out₀ (start₁ c)) (head-end (start₁ c)) (c .write-dossier-head .last .1 .1 .1 .0) (c .write-dossier-head .result)
+first c =
+    reached-by reached-start (c .write-dossier-head .ensures _ (parts (c .before) (start₁ c .pre .event) (start₁ c .pre .read))) (omega arith)
+
+second : (c : tie.After-write-number) → Reached (out₀ (start₂ c)) (count-end (start₂ c)) (c .write-number .last .0) (c .write-number .result)
+second c = reached-by (first (to-head (c .before))) (c .write-number .ensures) refl
+
+third : (c : tie.After-write-number2) → Reached (out₀ (start₃ c)) (version-end (start₃ c)) (c .write-number2 .last .0) (c .write-number2 .result)
+third c = reached-by (second (to-count (c .before))) (c .write-number2 .ensures) refl
+
+fourth : (c : tie.After-write-number3) → Reached (out₀ (start₄ c)) (presence-end (start₄ c)) (c .write-number3 .last .0) (c .write-number3 .result)
+fourth c = reached-by (third (to-version (c .before))) (c .write-number3 .ensures) refl
+
+fifth : (c : tie.After-write-number4) → Reached (out₀ (start₅ c)) (differ-end (start₅ c)) (c .write-number4 .last .0) (c .write-number4 .result)
+fifth c = reached-by (fourth (to-presence (c .before))) (c .write-number4 .ensures) refl
 
 -- ---- the needs
 
@@ -39,100 +118,25 @@ hashes-part-requires c κs = search needs
 
 write-dossier-head-requires : tie.Need-write-dossier-head-requires
 write-dossier-head-requires c κs =
-    let start = to-start c in
-    let p = start .pre in
-    let w = p .read .head in
-    let name = c .before .before .before .text-part .ensures _ (w .name) in
-    let source = c .before .before .text-part2 .ensures _ (w .uri) in
-    record {
-      head = p .event .head;
-      parts = parts-of w name source (c .before .hashes-part .ensures _ (w .hashes));
-      room = omega (arith, p .room, lone-length _ _ (p .event) (p .read) (start .args .version .0));
-    }
+    let p = start₀ c .pre in
+    record { head = p .event .head; parts = parts c (p .event) (p .read); room = omega (arith, fits (start₀ c)) }
 
 write-number-requires : tie.Need-write-number-requires
-write-number-requires c κs =
-    let at-head = to-head c in
-    let start = to-start (at-head .before) in
-    let p = start .pre in
-    let w = p .read in
-    let name = at-head .before .before .before .before .text-part .ensures _ (w .head .name) in
-    let source = at-head .before .before .before .text-part2 .ensures _ (w .head .uri) in
-    let parts = parts-of (w .head) name source (at-head .before .before .hashes-part .ensures _ (w .head .hashes)) in
-    let head = at-head .write-dossier-head .ensures _ parts in
-    omega (arith, p .room, lone-length _ _ (p .event) (p .read) (start .args .version .0), head .after, wrote-length head)
+write-number-requires c κs = omega (arith, fits (start₁ (to-head c)), first (to-head c))
 
 write-number-requires-2 : tie.Need-write-number-requires-2
-write-number-requires-2 c κs =
-    let at-count = to-count c in
-    let at-head = to-head (at-count .before) in
-    let start = to-start (at-head .before) in
-    let p = start .pre in
-    let w = p .read in
-    let name = at-head .before .before .before .before .text-part .ensures _ (w .head .name) in
-    let source = at-head .before .before .before .text-part2 .ensures _ (w .head .uri) in
-    let parts = parts-of (w .head) name source (at-head .before .before .hashes-part .ensures _ (w .head .hashes)) in
-    let head = at-head .write-dossier-head .ensures _ parts in
-    let count = at-count .write-number .ensures in
-    omega (arith, p .room, lone-length _ _ (p .event) (p .read) (start .args .version .0), head .after, wrote-length head, count .after, wrote-length count)
+write-number-requires-2 c κs = omega (arith, fits (start₂ (to-count c)), second (to-count c))
 
 write-number-requires-3 : tie.Need-write-number-requires-3
-write-number-requires-3 c κs =
-    let at-version = to-version c in
-    let at-count = to-count (at-version .before) in
-    let at-head = to-head (at-count .before) in
-    let start = to-start (at-head .before) in
-    let p = start .pre in
-    let w = p .read in
-    let name = at-head .before .before .before .before .text-part .ensures _ (w .head .name) in
-    let source = at-head .before .before .before .text-part2 .ensures _ (w .head .uri) in
-    let parts = parts-of (w .head) name source (at-head .before .before .hashes-part .ensures _ (w .head .hashes)) in
-    let head = at-head .write-dossier-head .ensures _ parts in
-    let version = at-version .write-number2 .ensures in
-    let count = at-count .write-number .ensures in
-    omega (arith, p .room, lone-length _ _ (p .event) (p .read) (start .args .version .0), head .after, wrote-length head, count .after, wrote-length count, version .after, wrote-length version)
+write-number-requires-3 c κs = omega (arith, fits (start₃ (to-version c)), third (to-version c))
 
 write-number-requires-4 : tie.Need-write-number-requires-4
-write-number-requires-4 c κs =
-    let at-presence = to-presence c in
-    let at-version = to-version (at-presence .before) in
-    let at-count = to-count (at-version .before) in
-    let at-head = to-head (at-count .before) in
-    let start = to-start (at-head .before) in
-    let p = start .pre in
-    let w = p .read in
-    let name = at-head .before .before .before .before .text-part .ensures _ (w .head .name) in
-    let source = at-head .before .before .before .text-part2 .ensures _ (w .head .uri) in
-    let parts = parts-of (w .head) name source (at-head .before .before .hashes-part .ensures _ (w .head .hashes)) in
-    let head = at-head .write-dossier-head .ensures _ parts in
-    let presence = at-presence .write-number3 .ensures in
-    let version = at-version .write-number2 .ensures in
-    let count = at-count .write-number .ensures in
-    omega (arith, p .room, lone-length _ _ (p .event) (p .read) (start .args .version .0), head .after, wrote-length head, count .after, wrote-length count, version .after, wrote-length version, presence .after, wrote-length presence)
+write-number-requires-4 c κs = omega (arith, fits (start₄ (to-presence c)), fourth (to-presence c))
 
-write-sets-requires : tie.Need-write-sets-requires
-write-sets-requires c κs =
-    let at-differ = to-differ c in
-    let at-presence = to-presence (at-differ .before) in
-    let at-version = to-version (at-presence .before) in
-    let at-count = to-count (at-version .before) in
-    let at-head = to-head (at-count .before) in
-    let start = to-start (at-head .before) in
-    let p = start .pre in
-    let w = p .read in
-    let name = at-head .before .before .before .before .text-part .ensures _ (w .head .name) in
-    let source = at-head .before .before .before .text-part2 .ensures _ (w .head .uri) in
-    let parts = parts-of (w .head) name source (at-head .before .before .hashes-part .ensures _ (w .head .hashes)) in
-    let head = at-head .write-dossier-head .ensures _ parts in
-    let differ = at-differ .write-number4 .ensures in
-    let presence = at-presence .write-number3 .ensures in
-    let version = at-version .write-number2 .ensures in
-    let count = at-count .write-number .ensures in
-    record {
-      values = p .event .sets;
-      are = p .read .sets;
-      room = omega (arith, p .room, lone-length _ _ (p .event) (p .read) (start .args .version .0), head .after, wrote-length head, count .after, wrote-length count, version .after, wrote-length version, presence .after, wrote-length presence, differ .after, wrote-length differ);
-    }
+copy-part-requires : tie.Need-copy-part-requires
+copy-part-requires c κs =
+    let p = start₅ (to-differ c) .pre in
+    (p .read .within, omega arith, omega (arith, fits (start₅ (to-differ c)), fifth (to-differ c)))
 
 same-length : tie.Need-same-length
 same-length c = search needs
@@ -145,13 +149,10 @@ returns c = λ e w.
     let at-version = to-version (at-presence .before) in
     let at-count = to-count (at-version .before) in
     let at-head = to-head (at-count .before) in
-    let name = at-head .before .before .before .before .text-part .ensures _ (w .head .name) in
-    let source = at-head .before .before .before .text-part2 .ensures _ (w .head .uri) in
-    let parts = parts-of (w .head) name source (at-head .before .before .hashes-part .ensures _ (w .head .hashes)) in
-    let head = at-head .write-dossier-head .ensures _ parts in
     wrote-lone _ _ e w _
-    head (at-count .write-number .ensures) (at-version .write-number2 .ensures) (at-presence .write-number3 .ensures) (at-differ .write-number4 .ensures)
-    (at-sets .write-sets .ensures (e .sets) (w .sets))
+    (at-head .write-dossier-head .ensures _ (parts (at-head .before) e w))
+    (at-count .write-number .ensures) (at-version .write-number2 .ensures) (at-presence .write-number3 .ensures) (at-differ .write-number4 .ensures)
+    (at-sets .copy-part .ensures)
 
 pub write-lone-spec : {M : Type 1} → statement M
 write-lone-spec =
@@ -165,6 +166,6 @@ write-lone-spec =
     write-number-requires-2
     write-number-requires-3
     write-number-requires-4
-    write-sets-requires
+    copy-part-requires
     same-length
     returns)

@@ -1,6 +1,9 @@
 use borrow.Author.Needs.{needs}
 use native.Mathlib.Omega.{arith}
 use mathlib.Core.Path.{refl}
+use denote.Ref.{now}
+use Rattle.event.specs.Head.{Head}
+use Rattle.event.specs.code.EventIndex.{HeadIs, HeadParts}
 use Rattle.event.proofs.HeadLaws.{parts-of}
 use Rattle.opening.proofs.WriteRoomLaws.{event-length, presence-room, sets-room, wrote-event}
 use Rattle.opening.proofs.write.write_event.Statement.{statement}
@@ -17,6 +20,18 @@ to-head c = c .before .before .before .before
 abbrev to-presence : tie.After-write-sets-arg → tie.After-presence-of
 to-presence c = c .before .before .before .before
 
+-- ---- the facts
+
+-- the parts of the head that is written
+parts :
+    (c : tie.After-write-head-arg) (h : Head) → HeadIs (now (to-start c .args .s)) h (to-start c .args .d .head) →
+    HeadParts (now (c .before .before .before .text-part .result)) (now (c .before .before .text-part2 .result)) (now (c .before .hashes-part .result)) h
+parts c h w =
+    parts-of w
+    (c .before .before .before .text-part .ensures _ (w .name))
+    (c .before .before .text-part2 .ensures _ (w .uri))
+    (c .before .hashes-part .ensures _ (w .hashes))
+
 -- ---- the needs
 
 text-part-requires : tie.Need-text-part-requires
@@ -31,10 +46,7 @@ hashes-part-requires c κs = search needs
 write-head-requires : tie.Need-write-head-requires
 write-head-requires c κs =
     let w = to-start c .pre in
-    let name = c .before .before .before .text-part .ensures _ (w .is .head .name) in
-    let source = c .before .before .text-part2 .ensures _ (w .is .head .uri) in
-    let parts = parts-of (w .is .head) name source (c .before .hashes-part .ensures _ (w .is .head .hashes)) in
-    record { head = w .headed .head; parts = parts; room = omega (arith, event-length w) }
+    record { head = w .headed .head; parts = parts c _ (w .is .head); room = omega (arith, event-length w) }
 
 presence-of-requires : tie.Need-presence-of-requires
 presence-of-requires c κs = search needs
@@ -42,24 +54,17 @@ presence-of-requires c κs = search needs
 write-number-requires : tie.Need-write-number-requires
 write-number-requires c κs =
     let at-head = to-head c in
-    let arg = at-head .before in
-    let w = to-start arg .pre in
-    let name = arg .before .before .before .text-part .ensures _ (w .is .head .name) in
-    let source = arg .before .before .text-part2 .ensures _ (w .is .head .uri) in
-    let parts = parts-of (w .is .head) name source (arg .before .hashes-part .ensures _ (w .is .head .hashes)) in
-    presence-room w refl (at-head .write-head .ensures _ parts) _ (c .presence-of .ensures _ _ (w .counted))
+    let w = to-start (at-head .before) .pre in
+    presence-room w refl (at-head .write-head .ensures _ (parts (at-head .before) _ (w .is .head))) _ (c .presence-of .ensures _ _ (w .counted))
 
 write-sets-requires : tie.Need-write-sets-requires
 write-sets-requires c κs =
     let at-presence = to-presence c in
     let at-head = to-head at-presence in
-    let arg = at-head .before in
-    let w = to-start arg .pre in
-    let name = arg .before .before .before .text-part .ensures _ (w .is .head .name) in
-    let source = arg .before .before .text-part2 .ensures _ (w .is .head .uri) in
-    let parts = parts-of (w .is .head) name source (arg .before .hashes-part .ensures _ (w .is .head .hashes)) in
+    let w = to-start (at-head .before) .pre in
+    let head = at-head .write-head .ensures _ (parts (at-head .before) _ (w .is .head)) in
     let presence = at-presence .presence-of .ensures _ _ (w .counted) in
-    (w .is .one, w .is .few, sets-room w refl (at-head .write-head .ensures _ parts) _ presence (c .before .before .before .write-number .ensures))
+    (w .is .one, w .is .few, sets-room w refl head _ presence (c .before .before .before .write-number .ensures))
 
 same-length : tie.Need-same-length
 same-length c = search needs
@@ -69,11 +74,7 @@ returns c = λ w.
     let at-sets = c .before .before in
     let at-presence = to-presence (at-sets .before) in
     let at-head = to-head at-presence in
-    let arg = at-head .before in
-    let name = arg .before .before .before .text-part .ensures _ (w .is .head .name) in
-    let source = arg .before .before .text-part2 .ensures _ (w .is .head .uri) in
-    let parts = parts-of (w .is .head) name source (arg .before .hashes-part .ensures _ (w .is .head .hashes)) in
-    let head = at-head .write-head .ensures _ parts in
+    let head = at-head .write-head .ensures _ (parts (at-head .before) _ (w .is .head)) in
     let presence = at-presence .presence-of .ensures _ _ (w .counted) in
     let number = at-sets .before .before .before .before .write-number .ensures in
     wrote-event w refl head _ presence number (at-sets .write-sets .ensures (sets-room w refl head _ presence number))
