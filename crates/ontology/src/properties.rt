@@ -1,5 +1,9 @@
 ghost use mathlib.Core.Path.{_≡_};
 ghost use lib.ListN.{drop};
+ghost use Rattle.packed.specs.Parse.{suchThat};
+ghost use Rattle.packed.specs.Packed.{readNumber, isWithin};
+ghost use Rattle.packed.specs.code.Located.{NumberReads};
+ghost use Rattle.ontology.specs.Table.{min, any, strategyNumber};
 ghost use Rattle.ontology.specs.TableLayout.{readProperty};
 ghost use Rattle.ontology.specs.code.TypeIndex.{hasMax, hasExtreme, hasReplace, hasMatch, PropertyReads};
 use crate::fields::FlagAt;
@@ -70,6 +74,12 @@ pub fn is_match(p: PropertyAt) -> bool
     p.strategy == MATCH
 }
 
+fn read_strategy(table: &[u8], at: usize) -> NumberAt
+    ensures { λ r. ⌜ NumberReads (suchThat (isWithin (strategyNumber min) (strategyNumber any)) readNumber (drop at (now (table .entry)))) (now (table .entry)) at r ⌝ }
+{
+    read_within(table, at, MIN as u64, ANY as u64)
+}
+
 pub fn read_property(table: &[u8], at: usize) -> PropertyRead
     ensures { λ r. ⌜ PropertyReads (readProperty (drop at (now (table .entry)))) (now (table .entry)) at r ⌝ }
 {
@@ -92,12 +102,7 @@ pub fn read_property(table: &[u8], at: usize) -> PropertyRead
     let FlagAt::Flag(multivalued, after_multivalued) = read_flag(table, after_optional) else {
         return PropertyRead::NoProperty;
     };
-    let NumberAt::Number(strategy, after_strategy) = read_within(
-        table,
-        after_multivalued,
-        MIN as u64,
-        ANY as u64,
-    ) else {
+    let NumberAt::Number(strategy, after_strategy) = read_strategy(table, after_multivalued) else {
         return PropertyRead::NoProperty;
     };
     let p = PropertyAt {

@@ -88,22 +88,22 @@ parts c e w =
 
 -- ---- how far each write comes
 
-first :
+head-written :
     (c : tie.After-write-dossier-head) → Reached (out₀ (start₁ c)) (head-end (start₁ c)) (c .write-dossier-head .last .1 .1 .1 .0) (c .write-dossier-head .result)
-first c =
+head-written c =
     reached-by reached-start (c .write-dossier-head .ensures _ (parts (c .before) (start₁ c .pre .event) (start₁ c .pre .read))) (omega arith)
 
-second : (c : tie.After-write-number) → Reached (out₀ (start₂ c)) (count-end (start₂ c)) (c .write-number .last .0) (c .write-number .result)
-second c = reached-by (first (to-head (c .before))) (c .write-number .ensures) refl
+count-written : (c : tie.After-write-number) → Reached (out₀ (start₂ c)) (count-end (start₂ c)) (c .write-number .last .0) (c .write-number .result)
+count-written c = reached-by (head-written (to-head (c .before))) (c .write-number .ensures) refl
 
-third : (c : tie.After-write-number2) → Reached (out₀ (start₃ c)) (version-end (start₃ c)) (c .write-number2 .last .0) (c .write-number2 .result)
-third c = reached-by (second (to-count (c .before))) (c .write-number2 .ensures) refl
+version-written : (c : tie.After-write-number2) → Reached (out₀ (start₃ c)) (version-end (start₃ c)) (c .write-number2 .last .0) (c .write-number2 .result)
+version-written c = reached-by (count-written (to-count (c .before))) (c .write-number2 .ensures) refl
 
-fourth : (c : tie.After-write-number3) → Reached (out₀ (start₄ c)) (presence-end (start₄ c)) (c .write-number3 .last .0) (c .write-number3 .result)
-fourth c = reached-by (third (to-version (c .before))) (c .write-number3 .ensures) refl
+presence-written : (c : tie.After-write-number3) → Reached (out₀ (start₄ c)) (presence-end (start₄ c)) (c .write-number3 .last .0) (c .write-number3 .result)
+presence-written c = reached-by (version-written (to-version (c .before))) (c .write-number3 .ensures) refl
 
-fifth : (c : tie.After-write-number4) → Reached (out₀ (start₅ c)) (differ-end (start₅ c)) (c .write-number4 .last .0) (c .write-number4 .result)
-fifth c = reached-by (fourth (to-presence (c .before))) (c .write-number4 .ensures) refl
+differ-written : (c : tie.After-write-number4) → Reached (out₀ (start₅ c)) (differ-end (start₅ c)) (c .write-number4 .last .0) (c .write-number4 .result)
+differ-written c = reached-by (presence-written (to-presence (c .before))) (c .write-number4 .ensures) refl
 
 -- ---- the needs
 
@@ -122,21 +122,21 @@ write-dossier-head-requires c κs =
     record { head = p .event .head; parts = parts c (p .event) (p .read); room = omega (arith, fits (start₀ c)) }
 
 write-number-requires : tie.Need-write-number-requires
-write-number-requires c κs = omega (arith, fits (start₁ (to-head c)), first (to-head c))
+write-number-requires c κs = omega (arith, fits (start₁ (to-head c)), head-written (to-head c))
 
 write-number-requires-2 : tie.Need-write-number-requires-2
-write-number-requires-2 c κs = omega (arith, fits (start₂ (to-count c)), second (to-count c))
+write-number-requires-2 c κs = omega (arith, fits (start₂ (to-count c)), count-written (to-count c))
 
 write-number-requires-3 : tie.Need-write-number-requires-3
-write-number-requires-3 c κs = omega (arith, fits (start₃ (to-version c)), third (to-version c))
+write-number-requires-3 c κs = omega (arith, fits (start₃ (to-version c)), version-written (to-version c))
 
 write-number-requires-4 : tie.Need-write-number-requires-4
-write-number-requires-4 c κs = omega (arith, fits (start₄ (to-presence c)), fourth (to-presence c))
+write-number-requires-4 c κs = omega (arith, fits (start₄ (to-presence c)), presence-written (to-presence c))
 
 copy-part-requires : tie.Need-copy-part-requires
 copy-part-requires c κs =
     let p = start₅ (to-differ c) .pre in
-    (p .read .within, omega arith, omega (arith, fits (start₅ (to-differ c)), fifth (to-differ c)))
+    (p .read .within, omega arith, omega (arith, fits (start₅ (to-differ c)), differ-written (to-differ c)))
 
 same-length : tie.Need-same-length
 same-length c = search needs

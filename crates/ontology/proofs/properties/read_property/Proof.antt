@@ -10,12 +10,12 @@ use Rattle.ontology.proofs.properties.read_property.Tie as tie
 use Rattle.ontology.proofs.properties.read_property.Reads as reads
 use Rattle.ontology.proofs.properties.read_property.Lts as lts
 use Rattle.ontology.proofs.fields.read_flag.Reads as read-flag-reads
-use Rattle.packed.proofs.read.read_within.Reads as read-within-reads
+use Rattle.ontology.proofs.properties.read_strategy.Reads as read-strategy-reads
 use Rattle.ontology.proofs.kinds.read_kind.Reads as read-kind-reads
 use Rattle.ontology.proofs.names.read_name.Reads as read-name-reads
 
 small : (c : tie.After-known-told5) → (1 ≤ c .before .strategy .given .0 .0) × (c .before .strategy .given .0 .0 ≤ 7)
-small c = got-bounds 1 7 (number-got (c .before .strategy .given .1) (c .before .before .before .read-within .ensures))
+small c = got-bounds 1 7 (number-got (c .before .strategy .given .1) (c .before .before .before .read-strategy .ensures))
 
 read-name-requires : tie.Need-read-name-requires
 read-name-requires c κs = search needs
@@ -79,14 +79,8 @@ returns-4 c =
     let i = flag-got (c .before .before .before .before .optional .given .1) (c .before .before .before .before .before .before .read-flag .ensures) in
     property-no-multivalued (a .table .now) (a .at) (g .stops) (h .stops) i (flag-fail (a .table .now) _ (c .enum-told4 .given .1) (c .before .before .read-flag2 .ensures))
 
-cast-read-within : tie.Need-cast-read-within
-cast-read-within c = search needs
-
-cast-read-within-2 : tie.Need-cast-read-within-2
-cast-read-within-2 c = search needs
-
-read-within-requires : tie.Need-read-within-requires
-read-within-requires c κs = search needs
+read-strategy-requires : tie.Need-read-strategy-requires
+read-strategy-requires c κs = search needs
 
 enum-known-strategy : tie.Need-enum-known-strategy
 enum-known-strategy c = search needs
@@ -101,10 +95,10 @@ returns-5 c =
     let h = kind-got (c .before .before .before .before .before .before .before .before .before .before .before .before .kind .given .1) (c .before .before .before .before .before .before .before .before .before .before .before .before .before .before .read-kind .ensures) in
     let i = flag-got (c .before .before .before .before .before .before .before .before .optional .given .1) (c .before .before .before .before .before .before .before .before .before .before .read-flag .ensures) in
     let j = flag-got (c .before .before .before .before .multivalued .given .1) (c .before .before .before .before .before .before .read-flag2 .ensures) in
-    property-no-strategy (a .table .now) (a .at) (g .stops) (h .stops) i j (strategy-none (a .table .now) (c .before .before .before .before .multivalued .given .0 .1 .0) (number-fail (a .table .now) (c .before .before .before .before .multivalued .given .0 .1 .0) (c .enum-told5 .given .1) (c .before .before .read-within .ensures)))
+    property-no-strategy (a .table .now) (a .at) (g .stops) (h .stops) i j (strategy-none (a .table .now) (c .before .before .before .before .multivalued .given .0 .1 .0) (number-fail (a .table .now) (c .before .before .before .before .multivalued .given .0 .1 .0) (c .enum-told5 .given .1) (c .before .before .read-strategy .ensures)))
 
-cast-t24 : tie.Need-cast-t24
-cast-t24 c = omega (arith, small c)
+cast-t22 : tie.Need-cast-t22
+cast-t22 c = omega (arith, small c)
 
 returns-6 : tie.Need-returns-6
 returns-6 c =
@@ -113,7 +107,7 @@ returns-6 c =
     let h = kind-got (c .before .before .before .before .before .before .before .before .before .before .before .before .before .kind .given .1) (c .before .before .before .before .before .before .before .before .before .before .before .before .before .before .before .read-kind .ensures) in
     let i = flag-got (c .before .before .before .before .before .before .before .before .before .optional .given .1) (c .before .before .before .before .before .before .before .before .before .before .before .read-flag .ensures) in
     let j = flag-got (c .before .before .before .before .before .multivalued .given .1) (c .before .before .before .before .before .before .before .read-flag2 .ensures) in
-    let y = strategy-got (a .table .now) _ (number-got (c .before .strategy .given .1) (c .before .before .before .read-within .ensures)) in
+    let y = strategy-got (a .table .now) _ (number-got (c .before .strategy .given .1) (c .before .before .before .read-strategy .ensures)) in
     property-is g h i j y
 
 pub read-property-spec : {M : Type 1} → statement M
@@ -136,11 +130,9 @@ read-property-spec =
     enum-known-multivalued
     enum-told-4
     returns-4
-    cast-read-within
-    cast-read-within-2
-    read-within-requires
+    read-strategy-requires
     enum-known-strategy
     enum-told-5
     returns-5
-    cast-t24
+    cast-t22
     returns-6)
