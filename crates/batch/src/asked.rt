@@ -1,6 +1,5 @@
 ghost use Prim.Native.Nat.{ℕ, _≤_};
 ghost use mathlib.Core.Path.{_≡_};
-ghost use mathlib.Core.Bool.{true};
 ghost use mathlib.Core.Option.{some};
 ghost use mathlib.Core.List.{List};
 ghost use Rattle.ontology.specs.Table.{EventType, Table};
@@ -69,9 +68,9 @@ fn first_apart(apart: usize, agrees: bool, position: usize) -> usize
     apart
 }
 
-// Questions 3 to 6 of an event. The table was read for a name, and is read again only where the event's type has another one.
+// The questions of an event. The table was read for a name, and is read again only where the event's type has another one.
 fn ask_one(table: &[u8], name: &[u8], read: TableRead, event: &[u8]) -> EventAsked
-    requires { ⌜ TableSays (tableOf (now table)) (now table) (now name) read × (read .ok ≡ true) ⌝ }
+    requires { ⌜ TableSays (tableOf (now table)) (now table) (now name) read ⌝ }
     ensures { λ r. ⌜ EventAnswers (eventQuestions narrow (now (table .entry)) (now (event .entry))) (now (table .entry)) (now (event .entry)) r ⌝ }
 {
     ask_typed(
@@ -90,7 +89,7 @@ pub fn ask_events(
     read: TableRead,
 ) -> EventsAsked
     requires { ⌜ x .count ≤ 16 ⌝ }
-    requires { ⌜ TableSays (tableOf (now table)) (now table) (now name) read × (read .ok ≡ true) ⌝ }
+    requires { ⌜ TableSays (tableOf (now table)) (now table) (now name) read ⌝ }
     ensures { λ r. ⌜ ((ts : Table) (ss : List (List ℕ)) → tableOf (now (table .entry)) ≡ some ts → BatchIs (now (batch .entry)) ss x → RefusalIs (now (table .entry)) ts ss (eventsTogether ts ss) r) ⌝ }
 {
     let head = event_part(batch, x, 0);

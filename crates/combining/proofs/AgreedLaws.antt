@@ -1,7 +1,7 @@
 -- The laws of what two versioned snapshots of one version are together: place by place, and written.
 use mathlib.Core.Path.{_≡_, refl, sym, ap, ap₂, _∙_, subst}
 use mathlib.Core.Bool.{Bool, true, false, cond, not, _&&_}
-use mathlib.Core.List.{List, [], _∷_, _++_, map, flatten}
+use mathlib.Core.List.{List, [], _∷_, _++_, map}
 use Prim.Native.Nat.{ℕ, suc, _+_, _/_, _%_, _≤_, _<_}
 use native.Mathlib.Omega.{arith}
 use native.Mathlib.Numerals.{add-one}
@@ -16,13 +16,14 @@ use Rattle.model.proofs.PartLaws.{length-upTo}
 use Rattle.model.proofs.StepLaws.{join-map, join-at}
 use Rattle.packed.specs.Packed.{number}
 use Rattle.packed.specs.code.Written.{Wrote}
-use Rattle.packed.proofs.WriteLaws.{wrote-then}
+use Rattle.packed.proofs.WriteLaws.{wrote-then, wrote-as}
 use Rattle.ontology.specs.Table.{EventType, isVersioned}
 use Rattle.event.specs.Event.{typeView, eventView}
 use Rattle.event.specs.EventLayout.{presenceBit, bitNumber, setBytes, setsBytes}
 use Rattle.event.specs.code.EventIndex.{SetIs, bitOf, noSet}
 use Rattle.event.specs.declared.sets.SetAt.{SetAt}
 use Rattle.event.specs.code.SetWriting.{placeBytes, presentBytes}
+use Rattle.event.proofs.SetWriteLaws.{present-nil, present-cons}
 use Rattle.dossier.specs.DossierBody.{differBit, readSnapshot, snapshotBytes}
 use Rattle.dossier.specs.code.DossierIndex.{CellsAre, SnapshotIs, SnapshotReads}
 use Rattle.dossier.specs.declared.snapshots.SnapshotIndex.{SnapshotIndex}
@@ -70,26 +71,33 @@ join-filled ch (holds s) (holds t) = go (equal sets s t) s
     go true (v ∷ vs) = sym (lt-ltb 0 (suc (length vs)) (omega arith))
     go false s = refl
 
-join-bytes : (f : Bool) → f ≡ true → (ch : Choice) (c d : Cell) → setBytes (held (joinCell f ch c d)) ≡ placeBytes (isFilled (joinCell f ch c d)) (held c)
-unfolding joinCell isFilled held setBytes placeBytes
+join-bytes :
+    (f : Bool) → f ≡ true → (ch : Choice) (c d : Cell) → let joined = held (joinCell f ch c d) in
+    placeBytes (presenceBit joined) (held c) ≡ setBytes joined
+unfolding joinCell held setBytes placeBytes presenceBit
 join-bytes false e ch c d = let z : _≡_ {A = ℕ} 0 1 = cc in absurd (omega arith)
 join-bytes true e ch differs d = refl
 join-bytes true e ch (holds s) differs = refl
 join-bytes true e ch (holds s) (holds t) = go (equal sets s t) s
   where
-    go : (b : Bool) (s : List Text) → setBytes (held (cond b (holds s) differs)) ≡ placeBytes (isFilled (cond b (holds s) differs)) s
+    go : (b : Bool) (s : List Text) → placeBytes (presenceBit (held (cond b (holds s) differs))) s ≡ setBytes (held (cond b (holds s) differs))
     go true [] = refl
     go true (v ∷ vs) = refl
     go false s = refl
 
 -- ---- all places
 
-joins-bytes : (t : TypeView) → t .versioned ≡ true → (ps : List ℕ) (cs ds : List Cell) → setsBytes (map held (joinCells t ps cs ds)) ≡ presentBytes (map isFilled (joinCells t ps cs ds)) (map held cs)
-unfolding joinCells setsBytes flatten presentBytes
-joins-bytes t e [] cs ds = refl
-joins-bytes t e (p ∷ ps) [] ds = refl
-joins-bytes t e (p ∷ ps) (c ∷ cs) [] = refl
-joins-bytes t e (p ∷ ps) (c ∷ cs) (d ∷ ds) = ap₂ (λ (a b : List ℕ). a ++ b) (join-bytes (t .versioned) e (t .choice p) c d) (joins-bytes t e ps cs ds)
+joins-bytes :
+    (t : TypeView) → t .versioned ≡ true → (ps : List ℕ) (cs ds : List Cell) → let joined = map held (joinCells t ps cs ds) in
+    presentBytes (bitNumber (map presenceBit joined)) (map held cs) ≡ setsBytes joined
+unfolding joinCells
+joins-bytes t e [] cs ds = present-nil (map held cs)
+joins-bytes t e (p ∷ ps) [] ds = present-nil []
+joins-bytes t e (p ∷ ps) (c ∷ cs) [] = present-nil (map held (c ∷ cs))
+joins-bytes t e (p ∷ ps) (c ∷ cs) (d ∷ ds) =
+    let joined = joinCell (t .versioned) (t .choice p) c d in
+    present-cons (held c) (held joined) (map held cs) (map held (joinCells t ps cs ds))
+    (join-bytes (t .versioned) e (t .choice p) c d) (joins-bytes t e ps cs ds)
 
 filled-bits : (cs : List Cell) → map bitOf (map isFilled cs) ≡ map presenceBit (map held cs)
 unfolding bitOf isFilled presenceBit held
@@ -105,7 +113,9 @@ mark-bits (differs ∷ cs) = ap (λ (l : List ℕ). 1 ∷ l) (mark-bits cs)
 mark-bits (holds s ∷ cs) = ap (λ (l : List ℕ). 0 ∷ l) (mark-bits cs)
 
 -- the first k elements are right, and so is the next one
-take-step : {A : Type 0} (l w : List A) (k : ℕ) (a d : A) → k < length l → k < length w → a ≡ getD w k d → take k l ≡ take k w → take (k + 1) (set l k a) ≡ take (k + 1) w
+take-step :
+    {A : Type 0} (l w : List A) (k : ℕ) (a d : A) → k < length l → k < length w → a ≡ getD w k d → take k l ≡ take k w →
+    take (k + 1) (set l k a) ≡ take (k + 1) w
 take-step {A} l w k a d h i e q = rw add-one (take-suc-set l k a h ∙ ap₂ (λ (r : List A) (z : A). r ++ (z ∷ [])) q e ∙ sym (take-suc w k d i))
 
 -- The first k places are found; m and n have the differ bits of the others
@@ -115,7 +125,9 @@ pub record PlacesSofar (ty : EventType) (left right : Snapshot) (present marked 
   pub left-bits : m ≡ bitNumber (map differBit (drop k (left .cells)))
   pub right-bits : n ≡ bitNumber (map differBit (drop k (right .cells)))
 
-module _ (a b : List ℕ) (e f : ℕ) (ats bts : List SetAt) (ty : EventType) (left right : Snapshot) (v : isVersioned ty ≡ true) (x : CellsAre a (left .cells) e ats) (y : CellsAre b (right .cells) f bts) where
+module _
+    (a b : List ℕ) (e f : ℕ) (ats bts : List SetAt) (ty : EventType) (left right : Snapshot) (v : isVersioned ty ≡ true)
+    (x : CellsAre a (left .cells) e ats) (y : CellsAre b (right .cells) f bts) where
   left-long : length (left .cells) ≡ 32
   left-long = sym (length-map (left .cells) held) ∙ x .sets .long
 
@@ -129,111 +141,142 @@ module _ (a b : List ℕ) (e f : ℕ) (ats bts : List SetAt) (ty : EventType) (l
   unfolding typeView eventView places
   joined-long = ap length (join-map (typeView ty) left right left-long right-long) ∙ simp (length-map, length-upTo)
 
-  joined-at : (k : ℕ) → k < 32 → getD joined k (holds []) ≡ joinCell true (typeView ty .choice k) (getD (left .cells) k (holds [])) (getD (right .cells) k (holds []))
+  abbrev leftAt : ℕ → Cell
+  leftAt k = getD (left .cells) k (holds [])
+
+  abbrev rightAt : ℕ → Cell
+  rightAt k = getD (right .cells) k (holds [])
+
+  joined-at : (k : ℕ) → k < 32 → getD joined k (holds []) ≡ joinCell true (typeView ty .choice k) (leftAt k) (rightAt k)
   unfolding typeView eventView cellAt
-  joined-at k h = join-at (typeView ty) left right left-long right-long k h ∙ ap (λ (f : Bool). joinCell f (typeView ty .choice k) (getD (left .cells) k (holds [])) (getD (right .cells) k (holds []))) v
+  joined-at k h =
+      join-at (typeView ty) left right left-long right-long k h
+      ∙ ap (λ (f : Bool). joinCell f (typeView ty .choice k) (leftAt k) (rightAt k)) v
 
   pub places-none : (present marked : List Bool) → PlacesSofar ty left right present marked e f 0
   places-none present marked = record { filled = refl; differing = refl; left-bits = x .bits; right-bits = y .bits }
 
   module _ (present marked : List Bool) (m n k : ℕ) (h : k < 32) (t : PlacesSofar ty left right present marked m n k) where
-    abbrev leftCell : Cell
-    leftCell = getD (left .cells) k (holds [])
-
-    abbrev rightCell : Cell
-    rightCell = getD (right .cells) k (holds [])
-
-    pub places-marks : m % 2 + n % 2 ≡ differBit leftCell + differBit rightCell
+    pub places-marks : m % 2 + n % 2 ≡ differBit (leftAt k) + differBit (rightAt k)
     places-marks = ap₂ (λ (c d : ℕ). c + d) (bit-here (left .cells) k m (t .left-bits)) (bit-here (right .cells) k n (t .right-bits))
 
-    pub left-set : SetIs a (held leftCell) (getD ats k noSet)
+    pub left-set : SetIs a (held (leftAt k)) (getD ats k noSet)
     left-set = subst (λ (s : List Text). SetIs a s (getD ats k noSet)) (held-at (left .cells) k) (x .sets .each k h)
 
-    pub right-set : SetIs b (held rightCell) (getD bts k noSet)
+    pub right-set : SetIs b (held (rightAt k)) (getD bts k noSet)
     right-set = subst (λ (s : List Text). SetIs b s (getD bts k noSet)) (held-at (right .cells) k) (y .sets .each k h)
 
-    pub places-more : (kept fill : Bool) → kept ≡ isAgreed leftCell rightCell → fill ≡ (kept && ltb 0 (getD ats k noSet .count)) → length present ≡ 32 → length marked ≡ 32 → PlacesSofar ty left right (set present k fill) (set marked k (not kept)) (m / 2) (n / 2) (k + 1)
-    places-more kept fill g o p q = record {
-      filled = take-step present (map isFilled joined) k fill (isFilled (holds [])) (omega arith) (omega (arith, length-map joined isFilled, joined-long))
-          (o ∙ ap₂ (λ (z : Bool) (c : ℕ). z && ltb 0 c) g (left-set .count) ∙ sym (join-filled (typeView ty .choice k) leftCell rightCell) ∙ ap isFilled (sym (joined-at k h)) ∙ sym (List·getD-map isFilled joined k (holds [])))
-          (t .filled);
-      differing = take-step marked (map isMark joined) k (not kept) (isMark (holds [])) (omega arith) (omega (arith, length-map joined isMark, joined-long))
-          (ap not g ∙ sym (join-mark (typeView ty .choice k) leftCell rightCell) ∙ ap isMark (sym (joined-at k h)) ∙ sym (List·getD-map isMark joined k (holds [])))
-          (t .differing);
-      left-bits = bits-next (left .cells) k m (t .left-bits);
-      right-bits = bits-next (right .cells) k n (t .right-bits);
-    }
+    -- whether it has objects, and whether it is marked
+    has-objects :
+        (kept fill : Bool) → kept ≡ isAgreed (leftAt k) (rightAt k) → fill ≡ (kept && ltb 0 (getD ats k noSet .count)) →
+        fill ≡ getD (map isFilled joined) k (isFilled (holds []))
+    has-objects kept fill g o =
+        o ∙ ap₂ (λ (z : Bool) (c : ℕ). z && ltb 0 c) g (left-set .count)
+        ∙ sym (join-filled (typeView ty .choice k) (leftAt k) (rightAt k))
+        ∙ ap isFilled (sym (joined-at k h))
+        ∙ sym (List·getD-map isFilled joined k (holds []))
 
-  pub places-all : (p : Places) (m n k : ℕ) → 32 ≤ k → length (p .present) ≡ 32 → length (p .marked) ≡ 32 → PlacesSofar ty left right (p .present) (p .marked) m n k → PlacesAre joined p
-  places-all p m n k h q r t = record {
-    present = sym (take-all k (p .present) (omega arith)) ∙ t .filled ∙ take-all k (map isFilled joined) (omega (arith, length-map joined isFilled, joined-long));
-    marked = sym (take-all k (p .marked) (omega arith)) ∙ t .differing ∙ take-all k (map isMark joined) (omega (arith, length-map joined isMark, joined-long));
-  }
+    is-marked : (kept : Bool) → kept ≡ isAgreed (leftAt k) (rightAt k) → not kept ≡ getD (map isMark joined) k (isMark (holds []))
+    is-marked kept g =
+        ap not g
+        ∙ sym (join-mark (typeView ty .choice k) (leftAt k) (rightAt k))
+        ∙ ap isMark (sym (joined-at k h))
+        ∙ sym (List·getD-map isMark joined k (holds []))
+
+    pub places-more :
+        (kept fill : Bool) → kept ≡ isAgreed (leftAt k) (rightAt k) → fill ≡ (kept && ltb 0 (getD ats k noSet .count)) →
+        length present ≡ 32 → length marked ≡ 32 →
+        PlacesSofar ty left right (set present k fill) (set marked k (not kept)) (m / 2) (n / 2) (k + 1)
+    places-more kept fill g o p q =
+        let filled-inside : k < length (map isFilled joined) = omega (arith, length-map joined isFilled, joined-long) in
+        let marked-inside : k < length (map isMark joined) = omega (arith, length-map joined isMark, joined-long) in
+        record {
+          filled = take-step present (map isFilled joined) k fill (isFilled (holds [])) (omega arith) filled-inside (has-objects kept fill g o) (t .filled);
+          differing = take-step marked (map isMark joined) k (not kept) (isMark (holds [])) (omega arith) marked-inside (is-marked kept g) (t .differing);
+          left-bits = bits-next (left .cells) k m (t .left-bits);
+          right-bits = bits-next (right .cells) k n (t .right-bits);
+        }
+
+  pub places-all :
+      (p : Places) (m n k : ℕ) → 32 ≤ k → length (p .present) ≡ 32 → length (p .marked) ≡ 32 →
+      PlacesSofar ty left right (p .present) (p .marked) m n k → PlacesAre joined p
+  places-all p m n k h q r t =
+      let filled-past : length (map isFilled joined) ≤ k = omega (arith, length-map joined isFilled, joined-long) in
+      let marked-past : length (map isMark joined) ≤ k = omega (arith, length-map joined isMark, joined-long) in
+      record {
+        present = sym (take-all k (p .present) (omega arith)) ∙ t .filled ∙ take-all k (map isFilled joined) filled-past;
+        marked = sym (take-all k (p .marked) (omega arith)) ∙ t .differing ∙ take-all k (map isMark joined) marked-past;
+      }
 
   -- ---- written
 
-  module _ (found : Places) (are : PlacesAre joined found) where
-    abbrev presence : ℕ
-    presence = bitNumber (map bitOf (found .present))
+  -- their presence and differ numbers
+  presence-is : (found : Places) → PlacesAre joined found → bitNumber (map bitOf (found .present)) ≡ bitNumber (map presenceBit (map held joined))
+  presence-is found are = ap (λ (l : List Bool). bitNumber (map bitOf l)) (are .present) ∙ ap bitNumber (filled-bits joined)
 
-    abbrev marks : ℕ
-    marks = bitNumber (map bitOf (found .marked))
+  differ-is : (found : Places) → PlacesAre joined found → bitNumber (map bitOf (found .marked)) ≡ bitNumber (map differBit joined)
+  differ-is found are = ap (λ (l : List Bool). bitNumber (map bitOf l)) (are .marked) ∙ ap bitNumber (mark-bits joined)
 
-    abbrev body : List ℕ
-    body = presentBytes (found .present) (map held (left .cells))
-
-    presence-is : presence ≡ bitNumber (map presenceBit (map held joined))
-    presence-is = ap (λ (l : List Bool). bitNumber (map bitOf l)) (are .present) ∙ ap bitNumber (filled-bits joined)
-
-    marks-is : marks ≡ bitNumber (map differBit joined)
-    marks-is = ap (λ (l : List Bool). bitNumber (map bitOf l)) (are .marked) ∙ ap bitNumber (mark-bits joined)
-
-    body-is : body ≡ setsBytes (map held joined)
-    unfolding joinSnapshots typeView eventView
-    body-is = ap (λ (l : List Bool). presentBytes l (map held (left .cells))) (are .present) ∙ sym (joins-bytes (typeView ty) v (places (typeView ty)) (left .cells) (right .cells))
-
-    agreed-bytes : number (left .version) ++ number presence ++ number marks ++ body ≡ snapshotBytes (joinSnapshots (typeView ty) left right)
-    unfolding snapshotBytes joinSnapshots
-    agreed-bytes =
-        ap₂ (λ (c d : ℕ). number (left .version) ++ number c ++ number d ++ body) presence-is marks-is
-        ∙ ap (λ (l : List ℕ). number (left .version) ++ number (bitNumber (map presenceBit (map held joined))) ++ number (bitNumber (map differBit joined)) ++ l) body-is
-
--- Two snapshots that were read, of one type, with the places of what they are together
-pub record BothRead (a b : List ℕ) (i j : SnapshotIndex) (found : Places) (ty : EventType) (left right : Snapshot) : Type 0 where
+-- Two snapshots of one type that were read, with the presence and the differ number of what they are together
+pub record BothRead (a b : List ℕ) (i j : SnapshotIndex) (presence differ : ℕ) (ty : EventType) (left right : Snapshot) : Type 0 where
   pub versioned : isVersioned ty ≡ true
   pub left-is : SnapshotIs a left i
   pub right-is : SnapshotIs b right j
-  pub are : PlacesAre (joinSnapshots (typeView ty) left right .cells) found
+  pub present : presence ≡ bitNumber (map presenceBit (map held (joinSnapshots (typeView ty) left right .cells)))
+  pub marked : differ ≡ bitNumber (map differBit (joinSnapshots (typeView ty) left right .cells))
 
 pub both-read :
-    (a b : List ℕ) (i j : SnapshotIndex) (found : Places) →
+    (a b : List ℕ) (i j : SnapshotIndex) (found : Places) (presence differ : ℕ) →
     SnapshotReads (readSnapshot a) a i → SnapshotReads (readSnapshot b) b j →
-    ((ty : EventType) (left right : Snapshot) → isVersioned ty ≡ true → SnapshotIs a left i → SnapshotIs b right j → PlacesAre (joinSnapshots (typeView ty) left right .cells) found) →
-    (ty : EventType) (left right : Snapshot) → isVersioned ty ≡ true → Meet a b ty left right → BothRead a b i j found ty left right
-both-read a b i j found r s f ty left right v m =
+    ((ty : EventType) (left right : Snapshot) → isVersioned ty ≡ true → SnapshotIs a left i → SnapshotIs b right j →
+    PlacesAre (joinSnapshots (typeView ty) left right .cells) found) →
+    presence ≡ bitNumber (map bitOf (found .present)) → differ ≡ bitNumber (map bitOf (found .marked)) →
+    (ty : EventType) (left right : Snapshot) → isVersioned ty ≡ true → Meet a b ty left right → BothRead a b i j presence differ ty left right
+both-read a b i j found presence differ r s places p q ty left right v m =
     let x = reads-got (readSnapshot a) a i left (m .left-rest) r (m .left-read) in
     let y = reads-got (readSnapshot b) b j right (m .right-rest) s (m .right-read) in
-    record { versioned = v; left-is = x; right-is = y; are = f ty left right v x y }
+    let are = places ty left right v x y in
+    let c = cells-are a left i x in
+    let d = cells-are b right j y in
+    record {
+      versioned = v;
+      left-is = x;
+      right-is = y;
+      present = p ∙ presence-is a b (i .differ) (j .differ) (i .sets) (j .sets) ty left right v c d found are;
+      marked = q ∙ differ-is a b (i .differ) (j .differ) (i .sets) (j .sets) ty left right v c d found are;
+    }
 
-module _ {a b : List ℕ} {i j : SnapshotIndex} {found : Places} {ty : EventType} {left right : Snapshot} (w : BothRead a b i j found ty left right) where
-  abbrev kept : List ℕ
-  kept = presentBytes (found .present) (map held (left .cells))
+module _
+    {a b : List ℕ} {i j : SnapshotIndex} {presence differ : ℕ} {ty : EventType} {left right : Snapshot}
+    (w : BothRead a b i j presence differ ty left right) where
+  abbrev cells : List Cell
+  cells = joinSnapshots (typeView ty) left right .cells
 
-  parts : number (i .version .0) ++ number (bitNumber (map bitOf (found .present))) ++ number (bitNumber (map bitOf (found .marked))) ++ kept ≡ snapshotBytes (joinSnapshots (typeView ty) left right)
+  abbrev joined-bytes : List ℕ
+  joined-bytes = snapshotBytes (joinSnapshots (typeView ty) left right)
+
+  -- the sets that both have are written from the first
+  abbrev pub kept : List ℕ
+  kept = presentBytes presence (map held (left .cells))
+
+  kept-is : kept ≡ setsBytes (map held cells)
+  unfolding joinSnapshots typeView eventView
+  kept-is =
+      ap (λ (n : ℕ). presentBytes n (map held (left .cells))) (w .present)
+      ∙ joins-bytes (typeView ty) (w .versioned) (places (typeView ty)) (left .cells) (right .cells)
+
+  parts : number (i .version .0) ++ number presence ++ number differ ++ kept ≡ joined-bytes
+  unfolding snapshotBytes joinSnapshots
   parts =
-      ap (λ (n : ℕ). number n ++ number (bitNumber (map bitOf (found .present))) ++ number (bitNumber (map bitOf (found .marked))) ++ kept) (w .left-is .version)
-      ∙ agreed-bytes a b (i .differ) (j .differ) (i .sets) (j .sets) ty left right (w .versioned) (cells-are a left i (w .left-is)) (cells-are b right j (w .right-is)) found (w .are)
+      ap₂ (λ (n m : ℕ). number n ++ number m ++ number differ ++ kept) (w .left-is .version) (w .present)
+      ∙ ap₂ (λ (n : ℕ) (l : List ℕ). number (left .version) ++ number (bitNumber (map presenceBit (map held cells))) ++ number n ++ l) (w .marked) kept-is
 
-  pub both-length : length (snapshotBytes (joinSnapshots (typeView ty) left right)) ≡ length (number (i .version .0)) + length (number (bitNumber (map bitOf (found .present)))) + length (number (bitNumber (map bitOf (found .marked)))) + length kept
+  pub both-length : length joined-bytes ≡ length (number (i .version .0)) + length (number presence) + length (number differ) + length kept
   both-length = ap length (sym parts) ∙ simp length-append
 
   pub wrote-both :
-      {l l₁ l₂ l₃ l₄ : List ℕ} {at after-version after-presence after-differ next m n : ℕ} →
-      m ≡ bitNumber (map bitOf (found .present)) → n ≡ bitNumber (map bitOf (found .marked)) →
-      Wrote l at (number (i .version .0)) l₁ after-version → Wrote l₁ after-version (number m) l₂ after-presence →
-      Wrote l₂ after-presence (number n) l₃ after-differ → Wrote l₃ after-differ kept l₄ next →
-      Wrote l at (snapshotBytes (joinSnapshots (typeView ty) left right)) l₄ next
-  wrote-both {l} {l₁} {l₂} {l₃} {l₄} {at} {after-version} {after-presence} {after-differ} {next} {m} {n} e f o p q r =
-      let p′ = subst (λ (k : ℕ). Wrote l₁ after-version (number k) l₂ after-presence) e p in
-      let q′ = subst (λ (k : ℕ). Wrote l₂ after-presence (number k) l₃ after-differ) f q in
-      subst (λ (z : List ℕ). Wrote l at z l₄ next) parts (wrote-then (wrote-then (wrote-then o p′) q′) r)
+      {l l₁ l₂ l₃ l₄ : List ℕ} {at after-version after-presence after-differ next : ℕ} →
+      Wrote l at (number (i .version .0)) l₁ after-version → Wrote l₁ after-version (number presence) l₂ after-presence →
+      Wrote l₂ after-presence (number differ) l₃ after-differ → Wrote l₃ after-differ kept l₄ next →
+      Wrote l at joined-bytes l₄ next
+  wrote-both o p q r = wrote-as parts (wrote-then (wrote-then (wrote-then o p) q) r)

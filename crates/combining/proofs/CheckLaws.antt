@@ -206,11 +206,15 @@ module _ (table event out : List ℕ) where
   unfolding checkCall checkAnswer
   check-small h = rw (asked-small table event (length out) h)
 
-  pub check-refused : (n : ℕ) → dossierCapacity ≤ length out → eventQuestions narrow table event ≡ refused n → replies (Refused n) out ≡ checkCall table event out
+  pub check-refused :
+      (n : ℕ) → dossierCapacity ≤ length out → eventQuestions narrow table event ≡ refused n →
+      replies (Refused n) out ≡ checkCall table event out
   unfolding checkCall checkAnswer
   check-refused n h e = rw (asked-of table event (length out) (refused n) h e)
 
-  pub check-done : (r : EventAsked) (a : Accepted narrow table event r) (new : List ℕ) (n version : ℕ) → dossierCapacity ≤ length out → version ≡ versionOf (a .type) (a .e) → Wrote out 0 (loneBytes (a .e) version) new n → replies (Done n) new ≡ checkCall table event out
+  pub check-done :
+      (r : EventAsked) (a : Accepted narrow table event r) (new : List ℕ) (n version : ℕ) → dossierCapacity ≤ length out →
+      version ≡ versionOf (a .type) (a .e) → Wrote out 0 (loneBytes (a .e) version) new n → replies (Done n) new ≡ checkCall table event out
   unfolding checkCall checkAnswer
   check-done r a new n version h q w₀ =
       let x = dossierBytes (eventDossier (record { type = a .type; event = a .e })) in

@@ -20,8 +20,8 @@ use Rattle.model.proofs.PartLaws.{map-same}
 use Rattle.model.proofs.StepLaws.{union-left-nil, union-right-nil, join-map}
 use Rattle.packed.specs.Parse.{got}
 use Rattle.packed.specs.Packed.{number, text}
-use Rattle.packed.specs.code.Written.{Wrote}
-use Rattle.packed.proofs.WriteLaws.{wrote-length, wrote-then, ToGo, wrote-as}
+use Rattle.packed.specs.code.Written.{Wrote, ToGo}
+use Rattle.packed.proofs.WriteLaws.{wrote-length, wrote-then, wrote-as}
 use Rattle.values.specs.Spaces.{Kind, kindNumber, inSpace}
 use Rattle.values.specs.ValueOrder.{isOrdered, extremeOrder}
 use Rattle.ontology.specs.Table.{Property, EventType, isMin, isMax, isVersioned, atPlace}
@@ -243,7 +243,7 @@ module _ (t : TypeIndex) (p : ℕ) (a : List ℕ) (x : SetAt) (b : List ℕ) (y 
 
   pub place-wrote : {l l₁ l₂ : List ℕ} {at b next : ℕ} (n : ℕ) → n ≡ length (joinedSet (h .type) p (h .xs) (h .ys)) → Wrote l at (number n) l₁ b → Wrote l₁ b (flatten (map text (joinedSet (h .type) p (h .xs) (h .ys)))) l₂ next → Wrote l at (setBytes (joinedSet (h .type) p (h .xs) (h .ys))) l₂ next
   place-wrote n e v w =
-      wrote-as (sym (some-bytes a x b y (h .xs) (h .ys) (h .left) (h .right) (h .type) p some)) (wrote-set n (joinedSet (h .type) p (h .xs) (h .ys)) e refl v w)
+      wrote-as (sym (some-bytes a x b y (h .xs) (h .ys) (h .left) (h .right) (h .type) p some)) (wrote-set n (joinedSet (h .type) p (h .xs) (h .ys)) e v w)
 
 pub to-go-same : {l₀ whole l l′ xs : List ℕ} {at p p′ : ℕ} → ToGo l₀ at whole l p xs → l′ ≡ l → p′ ≡ p → ToGo l₀ at whole l′ p′ xs
 to-go-same g e f = rw (e, f) g

@@ -7,9 +7,8 @@ use native.Mathlib.Omega.{arith}
 use lib.ListN.{length, getD, length-append}
 use borrow.Author.Tests.{lt-ltb, le-ltb}
 use Rattle.model.specs.Order.{Text}
-use Rattle.packed.specs.Packed.{number, part}
+use Rattle.packed.specs.Packed.{number}
 use Rattle.packed.specs.code.Written.{Wrote}
-use Rattle.packed.proofs.ReadLaws.{to-end}
 use Rattle.packed.proofs.WriteLaws.{wrote-then, wrote-as}
 use Rattle.values.specs.Decimal.{areDigits, numeral, inDecimal}
 use Rattle.values.proofs.NumeralLaws.{natural-digits, natural-in-decimal, numeral-in-decimal}
@@ -18,8 +17,10 @@ use Rattle.ontology.specs.declared.types.TypeIndex.{TypeIndex}
 use Rattle.event.specs.Event.{Event, setAt, versionOf}
 use Rattle.event.specs.EventLayout.{setsBytes}
 use Rattle.event.specs.code.EventIndex.{SetIs, noSet, EventIs}
+use Rattle.event.specs.code.SetWriting.{presentBytes}
 use Rattle.event.specs.declared.read.EventIndex.{EventIndex}
 use Rattle.event.proofs.EventQuestionLaws.{version-none}
+use Rattle.event.proofs.SetWriteLaws.{present-own}
 use Rattle.dossier.specs.DossierHead.{dossierHeadBytes}
 use Rattle.combining.specs.code.CheckIndex.{loneBytes, Checkable}
 
@@ -67,26 +68,26 @@ module _ (table bytes : List ℕ) (t : TypeIndex) (e : EventIndex) (h : Checkabl
 
 -- ---- the parts of the dossier
 
-module _ (bytes : List ℕ) (x : EventIndex) (e : Event) (w : EventIs bytes e x) where
-  -- the sets, from where the event's numbers end
-  abbrev pub run : List ℕ
-  run = part bytes (x .«after_presence») (length bytes)
+module _ {bytes : List ℕ} {e : Event} {x : EventIndex} (w : EventIs bytes e x) where
+  -- all sets, by the event's own presence number
+  abbrev pub sets : List ℕ
+  sets = presentBytes (x .presence) (e .sets)
 
-  run-is : run ≡ setsBytes (e .sets)
-  run-is = to-end bytes (x .«after_presence») ∙ w .rest
+  sets-are : sets ≡ setsBytes (e .sets)
+  sets-are = ap (λ (n : ℕ). presentBytes n (e .sets)) (w .presence) ∙ present-own (e .sets)
 
   -- their lengths, one after the other
   pub lone-length :
       (version : ℕ) →
       length (loneBytes e version)
-      ≡ length (dossierHeadBytes (e .head)) + length (number 1) + length (number version) + length (number (x .presence)) + length (number 0) + length run
+      ≡ length (dossierHeadBytes (e .head)) + length (number 1) + length (number version) + length (number (x .presence)) + length (number 0) + length sets
   unfolding loneBytes
-  lone-length version = rw (w .presence) (simp length-append (omega (arith, ap length run-is)))
+  lone-length version = simp length-append (omega (arith, ap length sets-are, ap (λ (n : ℕ). length (number n)) (w .presence)))
 
   pub wrote-lone :
       (version : ℕ) {l l₁ l₂ l₃ l₄ l₅ l₆ : List ℕ} {a b c d f g : ℕ} →
       Wrote l 0 (dossierHeadBytes (e .head)) l₁ a → Wrote l₁ a (number 1) l₂ b → Wrote l₂ b (number version) l₃ c →
-      Wrote l₃ c (number (x .presence)) l₄ d → Wrote l₄ d (number 0) l₅ f → Wrote l₅ f run l₆ g → Wrote l 0 (loneBytes e version) l₆ g
+      Wrote l₃ c (number (x .presence)) l₄ d → Wrote l₄ d (number 0) l₅ f → Wrote l₅ f sets l₆ g → Wrote l 0 (loneBytes e version) l₆ g
   unfolding loneBytes
   wrote-lone version p q r s u v =
-      wrote-then p (wrote-then q (wrote-then (wrote-then (wrote-then r (wrote-as (ap number (w .presence)) s)) u) (wrote-as run-is v)))
+      wrote-then p (wrote-then q (wrote-then (wrote-then (wrote-then r (wrote-as (ap number (w .presence)) s)) u) (wrote-as sets-are v)))

@@ -17,8 +17,8 @@ use Rattle.model.proofs.OrderLaws.{less-of, less-cmp, less-turn, more-turn}
 use Rattle.model.proofs.KeyedLaws.{merge-left, merge-right, merge-meet, merge-nil, above-trans}
 use Rattle.model.specs.Limits.{fits, standard}
 use Rattle.packed.specs.Packed.{number, part}
-use Rattle.packed.specs.code.Written.{Wrote}
-use Rattle.packed.proofs.WriteLaws.{wrote-then, ToGo, to-go, gone, all-gone, wrote-between, wrote-length}
+use Rattle.packed.specs.code.Written.{Wrote, ToGo}
+use Rattle.packed.proofs.WriteLaws.{wrote-then, to-go, gone, all-gone, wrote-between, wrote-length}
 use Rattle.packed.proofs.ReadLaws.{to-end, stretch}
 use Rattle.values.specs.declared.versions.EventVersion.{EventVersion}
 use Rattle.ontology.specs.Table.{EventType, isVersioned}

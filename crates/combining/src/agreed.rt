@@ -30,7 +30,8 @@ pub struct Places {
 
 // Whether a place keeps its set: neither snapshot marks it, and both have the same one.
 fn is_kept(a: &[u8], v: SetAt, b: &[u8], w: SetAt, marks: u64) -> bool
-    ensures { λ r. ⌜ ((c d : Cell) → marks ≡ differBit c + differBit d → SetIs (now (a .entry)) (held c) v → SetIs (now (b .entry)) (held d) w → r ≡ isAgreed c d) ⌝ }
+    ensures { λ r. ⌜ ((c d : Cell) → marks ≡ differBit c + differBit d → SetIs (now (a .entry)) (held c) v → SetIs (now (b .entry)) (held d) w
+        → r ≡ isAgreed c d) ⌝ }
 {
     if marks != 0 {
         return false;
@@ -47,7 +48,9 @@ fn has_objects(kept: bool, count: usize) -> bool
 
 // The places of what two versioned snapshots are together.
 fn agreed_places(a: &[u8], x: SnapshotIndex, b: &[u8], y: SnapshotIndex) -> Places
-    ensures { λ r. ⌜ ((ty : EventType) (left right : Snapshot) → isVersioned ty ≡ true → SnapshotIs (now (a .entry)) left x → SnapshotIs (now (b .entry)) right y → PlacesAre (joinSnapshots (typeView ty) left right .cells) r) ⌝ }
+    ensures { λ r. ⌜ ((ty : EventType) (left right : Snapshot) → isVersioned ty ≡ true
+        → SnapshotIs (now (a .entry)) left x → SnapshotIs (now (b .entry)) right y
+        → PlacesAre (joinSnapshots (typeView ty) left right .cells) r) ⌝ }
 {
     let left = x.sets;
     let right = y.sets;
@@ -74,17 +77,20 @@ fn agreed_places(a: &[u8], x: SnapshotIndex, b: &[u8], y: SnapshotIndex) -> Plac
 // Writes what two versioned snapshots of one version, at the front of a and b, are together.
 pub fn write_agreed(a: &[u8], b: &[u8], out: &mut [u8], at: usize) -> usize
     requires { ⌜ AgreedRoom (now a) (now b) at (length (now out)) ⌝ }
-    ensures { λ r. ⌜ ((ty : EventType) (x y : Snapshot) → isVersioned ty ≡ true → Meet (now (a .entry)) (now (b .entry)) ty x y → Wrote (now (out .entry)) at (snapshotBytes (joinSnapshots (typeView ty) x y)) (now (out .exit)) r) ⌝ }
+    ensures { λ r. ⌜ ((ty : EventType) (x y : Snapshot) → isVersioned ty ≡ true → Meet (now (a .entry)) (now (b .entry)) ty x y
+        → Wrote (now (out .entry)) at (snapshotBytes (joinSnapshots (typeView ty) x y)) (now (out .exit)) r) ⌝ }
 {
     let x = read_snapshot(a);
     let y = read_snapshot(b);
     let p = agreed_places(a, x, b, y);
     let present = p.present;
     let marked = p.marked;
+    let presence = number_of(present);
+    let differ = number_of(marked);
     let version = x.version;
     let after_version = write_number(out, at, version.0);
-    let after_presence = write_number(out, after_version, number_of(present));
-    let after_differ = write_number(out, after_presence, number_of(marked));
+    let after_presence = write_number(out, after_version, presence);
+    let after_differ = write_number(out, after_presence, differ);
     let sets = x.sets;
-    write_sets(a, sets, present, out, after_differ)
+    write_sets(a, sets, presence, out, after_differ)
 }

@@ -17,8 +17,8 @@ use event::read::EventIndex;
 use event::read::read_event;
 use event::sets::set_part;
 use event::sets::value_in;
+use event::write::write_sets;
 use ontology::types::TypeIndex;
-use packed::write::copy_part;
 use packed::write::write_number;
 use replies::capacities::DOSSIER_CAPACITY;
 use replies::reply::Reply;
@@ -38,10 +38,11 @@ fn version_of(table: &[u8], event: &[u8], t: TypeIndex, e: EventIndex) -> EventV
     EventVersion(numeral_of(value_in(set_part(event, x), 0)))
 }
 
-// Writes the dossier of one event at the front of `out`: its head, the numbers of its snapshot, and all its sets, which are one run as they stand.
+// Writes the dossier of one event at the front of `out`: its head, the numbers of its snapshot, and all its sets.
 fn write_lone(event: &[u8], e: EventIndex, version: EventVersion, out: &mut [u8]) -> usize
     requires { ⌜ LoneRoom (now event) e (version .0) (length (now out)) ⌝ }
-    ensures { λ r. ⌜ ((h : Event) → EventIs (now (event .entry)) h e → Wrote (now (out .entry)) 0 (loneBytes h (version .0)) (now (out .exit)) r) ⌝ }
+    ensures { λ r. ⌜ ((h : Event) → EventIs (now (event .entry)) h e
+        → Wrote (now (out .entry)) 0 (loneBytes h (version .0)) (now (out .exit)) r) ⌝ }
 {
     let head = e.head;
     let name = text_part(event, head.name);
@@ -52,7 +53,8 @@ fn write_lone(event: &[u8], e: EventIndex, version: EventVersion, out: &mut [u8]
     let after_version = write_number(out, after_count, version.0);
     let after_presence = write_number(out, after_version, e.presence);
     let after_differ = write_number(out, after_presence, 0);
-    copy_part(event, e.after_presence, event.len(), out, after_differ)
+    let sets = e.sets;
+    write_sets(event, sets, e.presence, out, after_differ)
 }
 
 // The dossier of an event, written at the front of `out`.
@@ -66,10 +68,8 @@ pub fn check_event(table: &[u8], event: &[u8], out: &mut [u8]) -> Reply
     if asked.number != 0 {
         return Reply::Refused(asked.number);
     }
-    let event_type = asked.event_type;
-    let x = asked.event;
-    let version = version_of(table, event, event_type, x);
-    Reply::Done(write_lone(event, x, version, out))
+    let version = version_of(table, event, asked.event_type, asked.event);
+    Reply::Done(write_lone(event, asked.event, version, out))
 }
 
 // The same of an event that is known to be accepted, with the type t.

@@ -17,7 +17,7 @@ use Rattle.ontology.specs.Table.{EventType, Table, typeNamed}
 use Rattle.ontology.specs.TableLayout.{tableOf}
 use Rattle.ontology.specs.code.TypeIndex.{TypeIs, TypeSays, TableSays}
 use Rattle.ontology.specs.declared.tables.TableRead.{TableRead}
-use Rattle.ontology.proofs.TypeIndexLaws.{table-refused, type-says, type-absent, type-found, properties-rules}
+use Rattle.ontology.proofs.TypeIndexLaws.{table-refused, type-absent, type-found, properties-rules}
 use Rattle.event.specs.Event.{Event, setAt}
 use Rattle.event.specs.EventLayout.{Counts, wide, eventOf, setsBytes, presenceBit, bitNumber, eventBytes}
 use Rattle.event.specs.Head.{parentsBytes, headBytes}
@@ -138,14 +138,15 @@ module _ (table event : List ℕ) (counts : Counts) (name : Text) (t : TableRead
   unfolding EventAnswers
   no-table h n = rw (table-refused table name t says h) n
 
-  -- what `ask_typed` answers, where the table was read for the name of the event's type
-  pub by-table :
-      (ts : Table) → tableOf table ≡ some ts → ((e : Event) → eventOf counts event ≡ some e → name ≡ e .head .type) →
-      ((u : List ℕ) (us : Table) → tableOf u ≡ some us → ((e : Event) → eventOf counts event ≡ some e → TypeSays (typeNamed (e .head .type) us) u t) → EventAnswers (eventAsked counts us event) u event r) →
-      EventAnswers (eventQuestions counts table event) table event r
-  by-table ts h names asks =
-      subst (λ (o : Option Table). EventAnswers (questions._>>=_ (ask 2 o) (λ us. eventAsked counts us event)) table event r) (sym h)
-      (asks table ts h (λ e k. subst (λ (n : Text). TypeSays (typeNamed n ts) table t) (names e k) (type-says table name t ts h says)))
+-- where the table is read, the questions are those that follow, and it says what it has of the event's type
+module _ (table event : List ℕ) (counts : Counts) (ts : Table) (h : tableOf table ≡ some ts) where
+  pub with-table : (r : EventAsked) → EventAnswers (eventAsked counts ts event) table event r → EventAnswers (eventQuestions counts table event) table event r
+  with-table r w = subst (λ (o : Option Table). EventAnswers (questions._>>=_ (ask 2 o) (λ us. eventAsked counts us event)) table event r) (sym h) w
+
+  pub type-of-event :
+      (name : Text) (t : TableRead) → TypeSays (typeNamed name ts) table t → ((e : Event) → eventOf counts event ≡ some e → name ≡ e .head .type) →
+      (e : Event) → eventOf counts event ≡ some e → TypeSays (typeNamed (e .head .type) ts) table t
+  type-of-event name t says names e k = subst (λ (n : Text). TypeSays (typeNamed n ts) table t) (names e k) says
 
 -- ---- what is known after asking
 

@@ -11,16 +11,16 @@ use lib.ListN.{length, drop, getD, set, replicate, length-append, length-drop, l
 use lib.Seq.{getD-at, getD-set-same, getD-set-other}
 use borrow.Author.Tests.{le-leb, eq-eqb, ne-eqb, eqb-true, eqb-false}
 use Rattle.model.specs.Order.{Text, texts, rising, pick}
-use Rattle.packed.specs.Parse.{Parse, fail, got, Layout, andThen, _>>=_, foundIf, times}
+use Rattle.packed.specs.Parse.{Parse, fail, got, Layout, andThen, _>>=_, foundIf, times, All}
 use Rattle.packed.specs.Packed.{number, readNumber, text, readText, part}
-use Rattle.packed.proofs.LayoutLaws.{andThen-got, foundIf-got, times-was, text-read, text-was, text-length, number-bounds}
+use Rattle.packed.proofs.LayoutLaws.{andThen-got, foundIf-got, times-was, text-read, text-was, text-length, number-was, number-bounds}
 use Rattle.packed.proofs.ReadLaws.{TextStops, stretch}
 pub use Rattle.ontology.proofs.RunLaws.{prepend}
 use Rattle.ontology.proofs.RunLaws.{prepend-nil, prepend-one}
 use Rattle.event.specs.Event.{objectCount}
 use Rattle.event.specs.EventLayout.{readSet, readPlace, readSets, setBytes}
-use Rattle.event.specs.code.EventIndex.{SetIs, noSet, SetsAre, SetStops, SetReads, SetsStop, SetsReads}
-use Rattle.event.proofs.EventLayoutLaws.{set-was}
+use Rattle.event.specs.code.EventIndex.{countSize, SetIs, noSet, SetsAre, SetStops, SetReads, SetsStop, SetsReads}
+use Rattle.event.proofs.EventLayoutLaws.{set-was, nonempty-was}
 use Rattle.event.specs.declared.sets.SetAt.{SetAt}
 use Rattle.event.specs.declared.sets.SetRead.{SetRead}
 use Rattle.event.specs.declared.sets.SetRead.the-variants.{Found, NoSet}
@@ -43,7 +43,9 @@ suc-of : (n : ℕ) → 0 < n → suc (n - 1) ≡ n
 suc-of n h = omega arith
 
 module _ (p : Layout Text) where
-  times-step : {B : Type 0} (k : List Text → Layout B) (n : ℕ) (t r : List ℕ) (v : Text) → p t ≡ got v r → andThen (times p (suc n) t) k ≡ andThen (times p n r) (λ ws. k (v ∷ ws))
+  times-step :
+      {B : Type 0} (k : List Text → Layout B) (n : ℕ) (t r : List ℕ) (v : Text) → p t ≡ got v r →
+      andThen (times p (suc n) t) k ≡ andThen (times p n r) (λ ws. k (v ∷ ws))
   unfolding times
   times-step {B} k n t r v e = rw e (go (times p n r))
     where
@@ -56,7 +58,9 @@ module _ (p : Layout Text) where
   times-stop k n t e = rw e
 
   -- for a count that is not 0
-  times-next : {B : Type 0} (k : List Text → Layout B) (n : ℕ) (t r : List ℕ) (v : Text) → 0 < n → p t ≡ got v r → andThen (times p n t) k ≡ andThen (times p (n - 1) r) (λ ws. k (v ∷ ws))
+  times-next :
+      {B : Type 0} (k : List Text → Layout B) (n : ℕ) (t r : List ℕ) (v : Text) → 0 < n → p t ≡ got v r →
+      andThen (times p n t) k ≡ andThen (times p (n - 1) r) (λ ws. k (v ∷ ws))
   times-next k n t r v h e = ap (λ (m : ℕ). andThen (times p m t) k) (sym (suc-of n h)) ∙ times-step k (n - 1) t r v e
 
   times-bad : {B : Type 0} (k : List Text → Layout B) (n : ℕ) (t : List ℕ) → 0 < n → p t ≡ fail → andThen (times p n t) k ≡ fail
@@ -66,7 +70,8 @@ module _ (p : Layout Text) where
   unfolding risen
   risen-bad count t h e = times-bad (λ ws. foundIf (rising texts ws) ws) count t h e
 
-  pub onward-first : (q : Parse (List Text)) (count : ℕ) (t r : List ℕ) (v : Text) → q ≡ risen p count t → 0 < count → p t ≡ got v r → Onward p q v (count - 1) r
+  pub onward-first :
+      (q : Parse (List Text)) (count : ℕ) (t r : List ℕ) (v : Text) → q ≡ risen p count t → 0 < count → p t ≡ got v r → Onward p q v (count - 1) r
   unfolding risen
   onward-first q count t r v f h e = record { sofar = v ∷ []; is = f ∙ times-next (λ ws. foundIf (rising texts ws) ws) count t r v h e }
 
@@ -132,11 +137,54 @@ pub set-some : (t r : List ℕ) (n : ℕ) → readNumber t ≡ got n r → 0 < n
 unfolding readSet risen
 set-some t r n e h = rw (e, le-leb 1 n h)
 
-pub set-found : (s : List ℕ) (q : Parse (List Text)) (start to count : ℕ) (vs : List Text) → start ≤ length s → to ≤ length s → q ≡ risen readText count (drop start s) → q ≡ got vs (drop to s) → SetStops q s (record { start = start; end = to; count = count })
-set-found s q start to count vs a b e f =
-    let w = times-was readText text (λ (v : Text). length v < 2 ^ 64) text-was count (drop start s) vs (drop to s) (risen-was readText count (drop start s) vs (drop to s) (sym e ∙ f)) in
-    let p = stretch s (flatten (map text vs)) start to a b (w .0) in
-    record { what = vs; is = f; stands = record { bytes = p .0; count = sym (w .1); order = p .1; within = b } }
+-- what a set has before its values
+pub no-count : (n : ℕ) → n ≡ 0 → countSize n ≡ 0
+unfolding countSize
+no-count zero e = refl
+no-count (suc n) e = absurd (omega arith)
+
+pub some-count : (n : ℕ) → (n ≡ 0 → ⊥) → countSize n ≡ length (number n)
+unfolding countSize
+some-count zero h = absurd (h refl)
+some-count (suc n) h = refl
+
+-- its count stands at `at`, and its values from `start` up to `to`
+module _ (s : List ℕ) (at start to count : ℕ) (vs : List Text) (a : start ≤ length s) (b : to ≤ length s) where
+  module _ (n : readNumber (drop at s) ≡ got count (drop start s)) where
+    there : at ≤ length s
+    there =
+        let long = ap length (number-was (drop at s) count (drop start s) n .0) in
+        omega (arith, long, length-drop at s, length-append (number count) (drop start s), number-bounds count)
+
+    before-values : (at ≤ start) × (length (number count) ≡ start - at)
+    before-values = let p = stretch s (number count) at start there a (number-was (drop at s) count (drop start s) n .0) in (p .1, p .2)
+
+    module _ (some : 0 < count) (f : readSet (drop at s) ≡ got vs (drop to s)) where
+      values : (drop start s ≡ flatten (map text vs) ++ drop to s) × (length vs ≡ count) × All (λ (v : Text). length v < 2 ^ 64) vs
+      values =
+          times-was readText text (λ (v : Text). length v < 2 ^ 64) text-was count (drop start s) vs (drop to s)
+          (risen-was readText count (drop start s) vs (drop to s) (sym (set-some (drop at s) (drop start s) count n some) ∙ f))
+
+      size : countSize count ≡ start - at
+      size = some-count count (λ (e : count ≡ 0). omega arith) ∙ before-values .1
+
+      pub set-found : SetStops (readSet (drop at s)) s (record { start = start; end = to; count = count })
+      set-found =
+          let p = stretch s (flatten (map text vs)) start to a b (values .0) in
+          let whole = stretch s (setBytes vs) at to there b (nonempty-was (drop at s) vs (drop to s) f .bytes) in
+          let begin : start - countSize count ≡ at = omega (arith, size, before-values .0) in
+          record {
+            what = vs;
+            is = f;
+            stands = record {
+              bytes = p .0;
+              count = sym (values .1);
+              order = p .1;
+              within = b;
+              counted = omega (arith, size);
+              whole = ap (λ (i : ℕ). part s i to) begin ∙ whole .0;
+            };
+          }
 
 -- what is known of a call's answer in the arm of a `match`
 pub set-reads : {p : Parse (List Text)} {s : List ℕ} {r : SetRead} {x : SetAt} → r ≡ Found x → SetReads p s r → SetStops p s x
@@ -151,18 +199,32 @@ pub place-set : (bit : ℕ) (t : List ℕ) → bit ≡ 1 → readPlace bit t ≡
 unfolding readPlace
 place-set bit t h = rw (eq-eqb bit 1 h)
 
-pub place-clear : (bit : ℕ) (s : List ℕ) (at : ℕ) → (bit ≡ 1 → ⊥) → at ≤ length s → SetStops (readPlace bit (drop at s)) s (record { start = at; end = at; count = 0 })
-unfolding readPlace flatten
-place-clear bit s at h k = record {
-  what = [];
-  is = rw (ne-eqb bit 1 h);
-  stands = record { bytes = rw sub-self; count = refl; order = le-refl at; within = k };
-}
+pub place-clear :
+    (bit : ℕ) (s : List ℕ) (at : ℕ) → (bit ≡ 1 → ⊥) → at ≤ length s →
+    SetStops (readPlace bit (drop at s)) s (record { start = at; end = at; count = 0 })
+unfolding readPlace flatten countSize setBytes
+place-clear bit s at h k =
+    let nothing : part s at at ≡ [] = rw sub-self in
+    let begin : at - countSize 0 ≡ at = omega arith in
+    record {
+      what = [];
+      is = rw (ne-eqb bit 1 h);
+      stands = record {
+        bytes = nothing;
+        count = refl;
+        order = le-refl at;
+        within = k;
+        counted = omega arith;
+        whole = ap (λ (i : ℕ). part s i at) begin ∙ nothing;
+      };
+    }
 
 -- ---- the sets of all places
 
 -- so many more places
-sets-step : (n presence : ℕ) (t : List ℕ) (x : List Text) (r : List ℕ) → readPlace (presence % 2) t ≡ got x r → readSets (suc n) presence t ≡ andThen (readSets n (presence / 2) r) (λ xs u. got (x ∷ xs) u)
+sets-step :
+    (n presence : ℕ) (t : List ℕ) (x : List Text) (r : List ℕ) → readPlace (presence % 2) t ≡ got x r →
+    readSets (suc n) presence t ≡ andThen (readSets n (presence / 2) r) (λ xs u. got (x ∷ xs) u)
 unfolding readSets
 sets-step n presence t x r e = ap (λ (p : Parse (List Text)). andThen p (λ y o. andThen (readSets n (presence / 2) o) (λ xs u. got (y ∷ xs) u))) e
 
@@ -237,8 +299,8 @@ pub record Sofar (p : Parse (List (List Text))) (s : List ℕ) (ats : List SetAt
   pub ats-long : length ats ≡ 32
 
 no-values : (s : List ℕ) → SetIs s [] noSet
-unfolding flatten
-no-values s = record { bytes = refl; count = refl; order = omega arith; within = omega arith }
+unfolding flatten countSize setBytes
+no-values s = record { bytes = refl; count = refl; order = omega arith; within = omega arith; counted = omega arith; whole = refl }
 
 pub sofar-none : (s : List ℕ) (bits at : ℕ) → at ≤ length s → Sofar (readSets 32 bits (drop at s)) s (replicate 32 noSet) bits at 0 0
 unfolding objectCount

@@ -1,31 +1,27 @@
--- The laws of writing sets from where they stand, place by place.
-use mathlib.Core.Path.{_≡_, ap, subst, refl, sym, _∙_}
-use mathlib.Core.List.{List, _++_, map, flatten, [], _∷_}
-use Prim.Native.Nat.{ℕ, _+_, _≤_, zero, suc, _<_}
+-- The laws of writing sets from where they stand: a set, the sets of a presence number, and runs of sets that stand one after the other.
+use mathlib.Core.Path.{_≡_, ap, ap₂, refl, sym, _∙_, subst, subst₂}
+use mathlib.Core.Logic.{_⊎_, ⊎-elim}
+use mathlib.Core.List.{List, _++_, map, flatten, [], _∷_, append-assoc}
+use Prim.Native.Nat.{ℕ, _+_, _-_, _/_, _%_, _≤_, _<_}
+use native.Mathlib.Numerals.{add-one}
 use native.Mathlib.Omega.{arith}
 use lib.ListN.{length, length-append, drop, getD, drop-of-length-le}
+use lib.Seq.{drop-cons}
+use borrow.Author.Tests.{eq-eqb, ne-eqb}
 use Rattle.model.specs.Order.{Text}
-use Rattle.packed.specs.Packed.{number, text}
-use Rattle.packed.specs.code.Written.{Wrote}
-use Rattle.packed.proofs.WriteLaws.{wrote-then, ToGo, gone, all-gone, wrote-none}
-use mathlib.Core.Bool.{Bool, true, false}
-use native.Mathlib.Numerals.{add-one}
-use Rattle.event.specs.EventLayout.{setBytes}
-use Rattle.event.specs.code.EventIndex.{SetsAre}
+use Rattle.packed.specs.Packed.{number, text, part}
+use Rattle.packed.specs.code.Written.{Wrote, ToGo}
+use Rattle.packed.proofs.ReadLaws.{part-join}
+use Rattle.packed.proofs.WriteLaws.{to-go, gone, gone-to, all-gone, wrote-none, wrote-as, wrote-then}
+use Rattle.event.specs.EventLayout.{presenceBit, bitNumber, setBytes, setsBytes}
+use Rattle.event.specs.code.EventIndex.{countSize, SetIs}
+use Rattle.event.specs.code.SetWriting.{placeBytes, presentBytes, runBytes, RunIs}
 use Rattle.event.specs.declared.sets.SetAt.{SetAt}
-use Rattle.event.specs.code.SetWriting.{placeBytes, presentBytes}
+use Rattle.event.specs.declared.write.Run.{Run}
+use Rattle.event.proofs.EventLayoutLaws.{low-bit, high-bits, presence-small}
 
--- a set with its count: n values
-pub set-room : (n : ℕ) (vs : List Text) (at size : ℕ) → n ≡ length vs → at + length (number (length vs) ++ flatten (map text vs)) ≤ size → at + length (number n) + length (flatten (map text vs)) ≤ size
-set-room n vs at size e h = omega (arith, length-append (number (length vs)) (flatten (map text vs)), ap (λ (k : ℕ). length (number k)) e)
+-- ---- a set that is made: its count, then its values, and nothing of an empty one
 
-pub wrote-set :
-    {l l₁ l₂ v : List ℕ} {at b next : ℕ} (n : ℕ) (vs : List Text) → n ≡ length vs → v ≡ flatten (map text vs) →
-    Wrote l at (number n) l₁ b → Wrote l₁ b v l₂ next → Wrote l at (number (length vs) ++ flatten (map text vs)) l₂ next
-wrote-set {l} {l₁} {l₂} {v} {at} {b} {next} n vs p q x y =
-    wrote-then (subst (λ (k : ℕ). Wrote l at (number k) l₁ b) p x) (subst (λ (z : List ℕ). Wrote l₁ b z l₂ next) q y)
-
--- an empty set has no bytes, and any other its count and its values
 pub set-none : {l : List ℕ} {at : ℕ} (n : ℕ) (vs : List Text) → n ≡ length vs → n ≡ 0 → Wrote l at (setBytes vs) l at
 unfolding setBytes
 set-none {l} {at} n [] e z = wrote-none l at
@@ -36,48 +32,117 @@ unfolding setBytes
 set-some n [] e z = absurd (z e)
 set-some n (v ∷ vs) e z = refl
 
--- ---- the sets, place by place
+pub set-room :
+    (n : ℕ) (vs : List Text) (at size : ℕ) → n ≡ length vs → at + length (number (length vs) ++ flatten (map text vs)) ≤ size →
+    at + length (number n) + length (flatten (map text vs)) ≤ size
+set-room n vs at size e h = omega (arith, length-append (number (length vs)) (flatten (map text vs)), ap (λ (k : ℕ). length (number k)) e)
 
-present-suc : (bs : List Bool) (xs : List (List Text)) (k : ℕ) → k < length xs → presentBytes (drop k bs) (drop k xs) ≡ placeBytes (getD bs k false) (getD xs k []) ++ presentBytes (drop (suc k) bs) (drop (suc k) xs)
-unfolding presentBytes placeBytes
-present-suc bs [] k h = absurd (omega arith)
-present-suc [] (x ∷ xs) zero h = refl
-present-suc [] (x ∷ xs) (suc k) h = refl
-present-suc (b ∷ bs) (x ∷ xs) zero h = refl
-present-suc (b ∷ bs) (x ∷ xs) (suc k) h = present-suc bs xs k (omega arith)
+pub wrote-set :
+    {l l₁ l₂ : List ℕ} {at b next : ℕ} (n : ℕ) (vs : List Text) → n ≡ length vs →
+    Wrote l at (number n) l₁ b → Wrote l₁ b (flatten (map text vs)) l₂ next → Wrote l at (number (length vs) ++ flatten (map text vs)) l₂ next
+wrote-set n vs e x y = wrote-then (wrote-as (ap number e) x) y
 
-present-step : (bs : List Bool) (xs : List (List Text)) (k : ℕ) → k < length xs → presentBytes (drop k bs) (drop k xs) ≡ placeBytes (getD bs k false) (getD xs k []) ++ presentBytes (drop (k + 1) bs) (drop (k + 1) xs)
-present-step bs xs k h = rw add-one (present-suc bs xs k h)
+-- ---- the sets of a presence number
 
-present-none : (bs : List Bool) (xs : List (List Text)) (k : ℕ) → length xs ≤ k → presentBytes (drop k bs) (drop k xs) ≡ []
+-- none is left where no place is, or no bit
+present-past : (bits : ℕ) (xs : List (List Text)) (k : ℕ) → length xs ≤ k → presentBytes bits (drop k xs) ≡ []
 unfolding presentBytes
-present-none bs xs k h = ap (presentBytes (drop k bs)) (drop-of-length-le xs h) ∙ go (drop k bs)
-  where
-    go : (bs : List Bool) → presentBytes bs [] ≡ []
-    go [] = refl
-    go (b ∷ bs) = refl
+present-past bits xs k h = ap (presentBytes bits) (drop-of-length-le xs h)
 
-pub place-none : (l : List ℕ) (at : ℕ) (present : Bool) (vs : List Text) → present ≡ false → Wrote l at (placeBytes present vs) l at
-unfolding placeBytes
-place-none l at true vs e = let z : _≡_ {A = ℕ} 0 1 = cc in absurd (omega arith)
-place-none l at false vs e = record { bytes = refl; after = omega arith }
+present-clear : (xs : List (List Text)) → presentBytes 0 xs ≡ []
+unfolding presentBytes placeBytes
+present-clear [] = refl
+present-clear (x ∷ xs) = present-clear xs
 
-pub place-present : (present : Bool) (vs : List Text) → present ≡ true → placeBytes present vs ≡ setBytes vs
-unfolding placeBytes
-place-present true vs e = refl
-place-present false vs e = let z : _≡_ {A = ℕ} 0 1 = cc in absurd (omega arith)
+-- the sets ys, by their own presence number: at each place that they have, xs has the same set
+pub present-nil : (xs : List (List Text)) → presentBytes (bitNumber (map presenceBit [])) xs ≡ setsBytes []
+unfolding bitNumber setsBytes flatten
+present-nil xs = present-clear xs
 
-pub place-set : {l l₁ : List ℕ} {at next : ℕ} (present : Bool) (vs : List Text) → present ≡ true → Wrote l at (setBytes vs) l₁ next → Wrote l at (placeBytes present vs) l₁ next
-place-set {l} {l₁} {at} {next} present vs e w = subst (λ (z : List ℕ). Wrote l at z l₁ next) (sym (place-present present vs e)) w
+pub present-cons :
+    (x y : List Text) (xs ys : List (List Text)) → placeBytes (presenceBit y) x ≡ setBytes y →
+    presentBytes (bitNumber (map presenceBit ys)) xs ≡ setsBytes ys →
+    presentBytes (bitNumber (map presenceBit (y ∷ ys))) (x ∷ xs) ≡ setsBytes (y ∷ ys)
+unfolding presentBytes bitNumber setsBytes flatten
+present-cons x y xs ys p q =
+    let bits = bitNumber (map presenceBit ys) in
+    rw (low-bit (presenceBit y) bits (presence-small y), high-bits (presenceBit y) bits (presence-small y)) (ap₂ (λ (a b : List ℕ). a ++ b) p q)
 
-module _ {l₀ l : List ℕ} {at p : ℕ} (s : List ℕ) (ats : List SetAt) (bs : List Bool) (xs : List (List Text)) (w : SetsAre s xs ats) (k : ℕ) (g : ToGo l₀ at (presentBytes bs xs) l p (presentBytes (drop k bs) (drop k xs))) where
-  pub present-room : k < 32 → at + length (presentBytes bs xs) ≤ length l₀ → p + length (placeBytes (getD bs k false) (getD xs k [])) ≤ length l
-  present-room h r =
-      let e = present-step bs xs k (omega (arith, w .long)) in
-      omega (arith, g .after, g .long, ap length e, length-append (placeBytes (getD bs k false) (getD xs k [])) (presentBytes (drop (k + 1) bs) (drop (k + 1) xs)))
+-- all sets
+place-own : (x : List Text) → placeBytes (presenceBit x) x ≡ setBytes x
+unfolding placeBytes presenceBit setBytes
+place-own [] = refl
+place-own (v ∷ vs) = refl
 
-  pub present-more : k < 32 → {l₁ : List ℕ} {p₁ : ℕ} → Wrote l p (placeBytes (getD bs k false) (getD xs k [])) l₁ p₁ → ToGo l₀ at (presentBytes bs xs) l₁ p₁ (presentBytes (drop (k + 1) bs) (drop (k + 1) xs))
-  present-more h o = gone (placeBytes (getD bs k false) (getD xs k [])) (presentBytes (drop (k + 1) bs) (drop (k + 1) xs)) g (present-step bs xs k (omega (arith, w .long))) o
+pub present-own : (xs : List (List Text)) → presentBytes (bitNumber (map presenceBit xs)) xs ≡ setsBytes xs
+present-own [] = present-nil []
+present-own (x ∷ xs) = present-cons x x xs xs (place-own x) (present-own xs)
 
-  pub present-all : 32 ≤ k → Wrote l₀ at (presentBytes bs xs) l p
-  present-all h = all-gone g (present-none bs xs k (omega (arith, w .long)))
+-- ---- runs
+
+-- a set that begins where a run ends is its next one
+pub run-longer :
+    (s : List ℕ) (r : Run) (x : SetAt) (vs : List Text) (start : ℕ) → RunIs s r → SetIs s vs x → start ≡ x .start - countSize (x .count) → start ≡ r .end →
+    runBytes s r ++ setBytes vs ≡ part s (r .start) (x .end)
+run-longer s r x vs start w is e h =
+    let begin : x .start - countSize (x .count) ≡ r .end = omega (arith, e, h) in
+    ap (λ (l : List ℕ). runBytes s r ++ l) (sym (is .whole) ∙ ap (λ (a : ℕ). part s a (x .end)) begin)
+    ∙ part-join s (r .start) (r .end) (x .end) (w .order) (omega (arith, begin, is .order))
+
+-- and one that stands elsewhere begins a new run, where the old one is copied
+pub run-new :
+    (s : List ℕ) (r : Run) (x : SetAt) (vs : List Text) (start : ℕ) {l l₁ : List ℕ} {to : ℕ} → SetIs s vs x → start ≡ x .start - countSize (x .count) →
+    Wrote l (r .to) (runBytes s r) l₁ to → ToGo l (r .to) (runBytes s r ++ setBytes vs) l₁ to (part s start (x .end))
+run-new s r x vs start {l} {l₁} {to} is e o =
+    let set : part s start (x .end) ≡ setBytes vs = ap (λ (a : ℕ). part s a (x .end)) e ∙ is .whole in
+    subst (ToGo l (r .to) (runBytes s r ++ setBytes vs) l₁ to) (sym set) (gone (runBytes s r) (setBytes vs) to-go refl o)
+
+-- the first k places are written but for the run, which is still to be copied, and `bits` has the bits of the others
+pub record RunTo (s l₀ : List ℕ) (at presence : ℕ) (xs : List (List Text)) (l : List ℕ) (r : Run) (bits k : ℕ) : Type 0 where
+  pub run : RunIs s r
+  pub to-write : ToGo l₀ at (presentBytes presence xs) l (r .to) (runBytes s r ++ presentBytes bits (drop k xs))
+
+pub run-none : (s l : List ℕ) (at presence : ℕ) (xs : List (List Text)) → RunTo s l at presence xs l (record { start = 0; end = 0; to = at }) presence 0
+run-none s l at presence xs = record { run = record { order = omega arith; within = omega arith }; to-write = to-go }
+
+module _ {s l₀ : List ℕ} {at presence : ℕ} {xs : List (List Text)} {l : List ℕ} {r : Run} {bits k : ℕ} (w : RunTo s l₀ at presence xs l r bits k) where
+  abbrev left : List ℕ
+  left = presentBytes bits (drop k xs)
+
+  abbrev next : List ℕ
+  next = presentBytes (bits / 2) (drop (k + 1) xs)
+
+  pub run-same : {l₁ : List ℕ} {r₁ : Run} → l₁ ≡ l → r₁ ≡ r → RunTo s l₀ at presence xs l₁ r₁ bits k
+  run-same e f = subst₂ (λ (m : List ℕ) (q : Run). RunTo s l₀ at presence xs m q bits k) (sym e) (sym f) w
+
+  -- the run has its room
+  pub run-room : at + length (presentBytes presence xs) ≤ length l₀ → r .to + length (runBytes s r) ≤ length l
+  run-room h = omega (arith, w .to-write .after, w .to-write .long, length-append (runBytes s r) left)
+
+  -- it is the last one
+  pub run-last : (length xs ≤ k) ⊎ (bits ≡ 0) → {l₁ : List ℕ} {end : ℕ} → Wrote l (r .to) (runBytes s r) l₁ end → Wrote l₀ at (presentBytes presence xs) l₁ end
+  run-last h o = all-gone (gone (runBytes s r) left (w .to-write) refl o) (⊎-elim (present-past bits xs k) (λ e. rw e (present-clear (drop k xs))) h)
+
+  module _ (h : k < length xs) where
+    step : left ≡ placeBytes (bits % 2) (getD xs k []) ++ next
+    unfolding presentBytes
+    step = rw add-one (ap (presentBytes bits) (drop-cons xs k [] h))
+
+    -- a place without objects, and one with a set
+    pub run-over : (bits % 2 ≡ 1 → ⊥) → RunTo s l₀ at presence xs l r (bits / 2) (k + 1)
+    unfolding placeBytes
+    run-over e =
+        let none : left ≡ next = step ∙ rw (ne-eqb (bits % 2) 1 e) in
+        record { run = w .run; to-write = subst (λ (z : List ℕ). ToGo l₀ at (presentBytes presence xs) l (r .to) (runBytes s r ++ z)) none (w .to-write) }
+
+    pub run-more :
+        bits % 2 ≡ 1 → {l₁ : List ℕ} {r₁ : Run} → RunIs s r₁ → ToGo l (r .to) (runBytes s r ++ setBytes (getD xs k [])) l₁ (r₁ .to) (runBytes s r₁) →
+        RunTo s l₀ at presence xs l₁ r₁ (bits / 2) (k + 1)
+    unfolding placeBytes
+    run-more e is g =
+        let set = setBytes (getD xs k []) in
+        let some : left ≡ set ++ next = step ∙ rw (eq-eqb (bits % 2) 1 e) in
+        let split : runBytes s r ++ left ≡ (runBytes s r ++ set) ++ next =
+        ap (λ (z : List ℕ). runBytes s r ++ z) some ∙ sym (append-assoc (runBytes s r) set next)
+        in
+        record { run = is; to-write = gone-to (runBytes s r ++ set) next (w .to-write) split g }

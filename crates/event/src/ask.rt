@@ -2,12 +2,11 @@ ghost use Prim.Native.Nat.{ℕ};
 ghost use mathlib.Core.Path.{_≡_};
 ghost use mathlib.Core.Option.{some};
 ghost use mathlib.Core.List.{List};
-ghost use Rattle.ontology.specs.Table.{Table, typeNamed};
+ghost use Rattle.model.specs.Order.{Text};
 ghost use Rattle.ontology.specs.TableLayout.{tableOf};
-ghost use Rattle.ontology.specs.code.TypeIndex.{TypeSays};
+ghost use Rattle.ontology.specs.code.TypeIndex.{TableSays};
 ghost use Rattle.event.specs.Event.{Event};
 ghost use Rattle.event.specs.EventLayout.{Counts, eventOf};
-ghost use Rattle.event.specs.EventQuestions.{eventAsked};
 ghost use Rattle.event.specs.Value.{lentFrom, valueCall};
 ghost use Rattle.event.specs.code.EventIndex.{countsOf, eventQuestions, EventAnswers};
 use crate::lookup::ValueAt;
@@ -64,51 +63,53 @@ pub fn type_name(event: &[u8]) -> &[u8]
     &event[start..end]
 }
 
-// Questions 3 to 6 of an event. The table was read for the name of its type, and is read once for all events of that type.
-pub fn ask_typed(event: &[u8], read: TableRead, counts: EventCounts) -> EventAsked
-    ensures { λ r. ⌜ ((table : List ℕ) (ts : Table) → tableOf table ≡ some ts → ((e : Event) → eventOf (countsOf counts) (now (event .entry)) ≡ some e → TypeSays (typeNamed (e .head .type) ts) table read) → EventAnswers (eventAsked (countsOf counts) ts (now (event .entry))) table (now (event .entry)) r) ⌝ }
+// What is answered where a question is: its number, and nothing of the event.
+fn refused_with(number: u8, event_type: TypeIndex) -> EventAsked
+    ensures { λ r. ⌜ r .number ≡ number ⌝ }
 {
-    let e = read_event(event, most_parents(counts), most_objects(counts));
-    let event_type = read.index;
-    let mut asked = EventAsked {
-        number: 3,
+    EventAsked {
+        number,
         event_type,
-        event: e,
-    };
-    if !e.ok {
-        return asked;
+        event: no_event(),
     }
-    asked.number = 4;
-    if !read.found {
-        return asked;
-    }
-    asked.number = 5;
-    if !shape_ok(event_type, e) {
-        return asked;
-    }
-    asked.number = 6;
-    let sets = e.sets;
-    if !sets_in_space(event, sets, event_type) {
-        return asked;
-    }
-    asked.number = 0;
-    asked
 }
 
-// Questions 2 to 6. Table and event are each read once, the event's type name first, so that its type is found while the table is read.
+// Questions 2 to 6 of an event. The table was read for the name of its type, and is read once for all events of that type.
+pub fn ask_typed(event: &[u8], read: TableRead, counts: EventCounts) -> EventAsked
+    ensures { λ r. ⌜ ((table : List ℕ) (name : Text) → TableSays (tableOf table) table name read
+        → ((e : Event) → eventOf (countsOf counts) (now (event .entry)) ≡ some e → name ≡ e .head .type)
+        → EventAnswers (eventQuestions (countsOf counts) table (now (event .entry))) table (now (event .entry)) r) ⌝ }
+{
+    if !read.ok {
+        return refused_with(2, read.index);
+    }
+    let e = read_event(event, most_parents(counts), most_objects(counts));
+    if !e.ok {
+        return refused_with(3, read.index);
+    }
+    if !read.found {
+        return refused_with(4, read.index);
+    }
+    if !shape_ok(read.index, e) {
+        return refused_with(5, read.index);
+    }
+    let sets = e.sets;
+    if !sets_in_space(event, sets, read.index) {
+        return refused_with(6, read.index);
+    }
+    let event_type = read.index;
+    EventAsked {
+        number: 0,
+        event_type,
+        event: e,
+    }
+}
+
+// The same of a table that is not read yet: it is read once, for the name that the event begins with.
 pub fn ask_event(table: &[u8], event: &[u8], counts: EventCounts) -> EventAsked
     ensures { λ r. ⌜ EventAnswers (eventQuestions (countsOf counts) (now (table .entry)) (now (event .entry))) (now (table .entry)) (now (event .entry)) r ⌝ }
 {
-    let read = read_table(table, type_name(event));
-    let event_type = read.index;
-    if !read.ok {
-        return EventAsked {
-            number: 2,
-            event_type,
-            event: no_event(),
-        };
-    }
-    ask_typed(event, read, counts)
+    ask_typed(event, read_table(table, type_name(event)), counts)
 }
 
 // The value at a place and an index: its own bytes in the event. A refused table or event, or no value there, gives a part of 0 bytes.

@@ -1,57 +1,85 @@
-ghost use Prim.Native.Nat.{_+_};
-ghost use mathlib.Core.List.{List};
+ghost use Prim.Native.Nat.{_+_, _-_, _≤_};
+ghost use mathlib.Core.Path.{_≡_};
+ghost use mathlib.Core.List.{List, _++_};
 ghost use lib.ListN.{length};
 ghost use Rattle.model.specs.Order.{Text};
-ghost use Rattle.packed.specs.code.Written.{Wrote};
+ghost use Rattle.packed.specs.code.Written.{Wrote, ToGo};
 ghost use Rattle.event.specs.EventLayout.{setBytes};
-ghost use Rattle.event.specs.code.EventIndex.{SetIs, SetsAre};
-ghost use Rattle.event.specs.code.SetWriting.{SetRoom, placeBytes, PresentPlaceRoom, presentBytes, PresentRoom};
+ghost use Rattle.event.specs.code.EventIndex.{countSize, SetIs, SetsAre};
+ghost use Rattle.event.specs.code.SetWriting.{SetRoom, presentBytes, PresentRoom, runBytes, RunIs, RunRoom};
 use crate::sets::SetAt;
-use crate::sets::set_part;
-use packed::write::copy;
-use packed::write::write_number;
+use packed::write::copy_part;
+use packed::write::number_size;
 
-// A set from where it stands: its count and its values, and nothing of an empty one.
+// Sets that stand one after the other, from where the first begins with its count up to where the last ends; and where they are to be copied.
+pub struct Run {
+    pub start: usize,
+    pub end: usize,
+    pub to: usize,
+}
+
+// Where a set begins with its count. An empty one has none.
+fn set_start(x: SetAt) -> usize
+    requires { ⌜ countSize (x .count) ≤ x .start ⌝ }
+    ensures { λ r. ⌜ r ≡ x .start - countSize (x .count) ⌝ }
+{
+    if x.count == 0 {
+        return x.start;
+    }
+    x.start - number_size(x.count as u64)
+}
+
+// A set from where it stands, with its count; nothing of an empty one.
 pub fn write_set(s: &[u8], x: SetAt, out: &mut [u8], at: usize) -> usize
     requires { ⌜ SetRoom (now s) x at (length (now out)) ⌝ }
     ensures { λ r. ⌜ ((vs : List Text) → SetIs (now (s .entry)) vs x → Wrote (now (out .entry)) at (setBytes vs) (now (out .exit)) r) ⌝ }
 {
-    if x.count == 0 {
-        return at;
-    }
-    let after_count = write_number(out, at, x.count as u64);
-    copy(set_part(s, x), out, after_count)
+    copy_part(s, set_start(x), x.end, out, at)
 }
 
-// The set of a place, if it is present.
-fn write_place(s: &[u8], x: SetAt, present: bool, out: &mut [u8], at: usize) -> usize
-    requires { ⌜ PresentPlaceRoom (now s) x present at (length (now out)) ⌝ }
-    ensures { λ r. ⌜ ((vs : List Text) → SetIs (now (s .entry)) vs x → Wrote (now (out .entry)) at (placeBytes present vs) (now (out .exit)) r) ⌝ }
+// The run with a set more. One that stands elsewhere begins a run of its own, and the run before it is copied.
+fn with_set(s: &[u8], run: Run, x: SetAt, out: &mut [u8]) -> Run
+    requires { ⌜ RunRoom (now s) run x (length (now out)) ⌝ }
+    ensures { λ r. ⌜ RunIs (now (s .entry)) r × ((vs : List Text) → SetIs (now (s .entry)) vs x
+        → ToGo (now (out .entry)) (run .to) (runBytes (now (s .entry)) run ++ setBytes vs) (now (out .exit)) (r .to) (runBytes (now (s .entry)) r)) ⌝ }
 {
-    if present {
-        write_set(s, x, out, at)
-    } else {
-        at
+    let start = set_start(x);
+    if start == run.end {
+        return Run {
+            start: run.start,
+            end: x.end,
+            to: run.to,
+        };
+    }
+    let to = copy_part(s, run.start, run.end, out, run.to);
+    Run {
+        start: start,
+        end: x.end,
+        to: to,
     }
 }
 
-// The sets of the places that are present, each from where it stands: what a snapshot has after its numbers.
-pub fn write_sets(
-    s: &[u8],
-    sets: [SetAt; 32],
-    present: [bool; 32],
-    out: &mut [u8],
-    at: usize,
-) -> usize
-    requires { ⌜ PresentRoom (now s) sets present at (length (now out)) ⌝ }
-    ensures { λ r. ⌜ ((xs : List (List Text)) → SetsAre (now (s .entry)) xs sets → Wrote (now (out .entry)) at (presentBytes present xs) (now (out .exit)) r) ⌝ }
+// The sets of a presence number, each from where it stands: what an event or a snapshot has after its numbers. Those that stand one after the other, as all of an
+// event or a snapshot do, are copied as one run.
+pub fn write_sets(s: &[u8], sets: [SetAt; 32], presence: u64, out: &mut [u8], at: usize) -> usize
+    requires { ⌜ PresentRoom (now s) sets presence at (length (now out)) ⌝ }
+    ensures { λ r. ⌜ ((xs : List (List Text)) → SetsAre (now (s .entry)) xs sets
+        → Wrote (now (out .entry)) at (presentBytes presence xs) (now (out .exit)) r) ⌝ }
 {
-    let mut next = at;
+    let mut run = Run {
+        start: 0,
+        end: 0,
+        to: at,
+    };
+    let mut bits = presence;
     let mut k: usize = 0;
-    while k < 32 {
-        let x = sets[k];
-        next = write_place(s, x, present[k], out, next);
+    while k < 32 && 0 < bits {
+        if bits % 2 == 1 {
+            let x = sets[k];
+            run = with_set(s, run, x, out);
+        }
+        bits = bits / 2;
         k += 1;
     }
-    next
+    copy_part(s, run.start, run.end, out, run.to)
 }

@@ -7,12 +7,12 @@ use lib.ListN.{length, drop, getD, length-append, drop-of-length-le}
 use Rattle.model.specs.Order.{Text}
 use Rattle.packed.specs.Packed.{part}
 use Rattle.packed.specs.code.Strings.{stringOf, stringsOf, StringFits, noString, StringsFit}
-use Rattle.packed.specs.code.Written.{Wrote}
+use Rattle.packed.specs.code.Written.{Wrote, ToGo}
 use Rattle.packed.specs.declared.strings.StringAt.{StringAt}
 use Rattle.packed.specs.declared.strings.Strings.{Strings}
 use Rattle.packed.proofs.ReadLaws.{part-length}
 use Rattle.packed.proofs.StringLaws.{drop-next, first-length, string-length, strings-length, string-at}
-use Rattle.packed.proofs.WriteLaws.{wrote-length, wrote-then, ToGo, all-gone}
+use Rattle.packed.proofs.WriteLaws.{wrote-length, wrote-then, all-gone}
 use Rattle.hashing.specs.HashText.{separator, separated}
 
 -- ---- one string

@@ -13,7 +13,7 @@ use Rattle.packed.specs.Parse.{Parse, fail, got, Layout, andThen, found, foundI
 use Rattle.packed.specs.Packed.{readNumber, isWithin}
 use Rattle.packed.specs.code.Located.{Got}
 use Rattle.packed.proofs.FieldLaws.{then-none, then-fail, then-got, then-found, is-within, is-below, is-above, within-bounds}
-use Rattle.values.specs.Spaces.{Kind, unsigned, signed, decimal, currency, sequence, datetime, boolean, string, hex, unsignedNumber, signedNumber, decimalNumber, stringNumber, hexNumber, isWidth, isKind}
+use Rattle.values.specs.Spaces.{Kind, unsigned, signed, decimal, currency, sequence, datetime, boolean, string, hex, kindNumber, unsignedNumber, signedNumber, decimalNumber, stringNumber, hexNumber, isWidth, isKind}
 use Rattle.ontology.specs.TableLayout.{readFlag, readDecimal, readParameters, readKind}
 use Rattle.ontology.specs.declared.kinds.KindRead.{KindRead}
 use Rattle.ontology.specs.declared.kinds.KindRead.the-variants.{OfKind, NoKind}
@@ -250,7 +250,8 @@ record Plain (n : ℕ) : Type 0 where
   layout : (t : List ℕ) → kindAfter n t ≡ got what t
   are : KindIs what n 0 0 0
 
-plain : (n : ℕ) → 4 ≤ n → n ≤ 7 → Plain n
+-- the kinds without parameters have numbers that follow each other
+plain : (n : ℕ) → kindNumber currency ≤ n → n ≤ kindNumber boolean → Plain n
 unfolding readParameters isKind
 plain zero h k = absurd (omega arith)
 plain (suc zero) h k = absurd (omega arith)
@@ -262,21 +263,24 @@ plain (suc (suc (suc (suc (suc (suc zero)))))) h k = record { what = datetime; l
 plain (suc (suc (suc (suc (suc (suc (suc zero))))))) h k = record { what = boolean; layout = λ t. refl; are = record { number = refl; size-is = refl; after-is = refl; sign-is = refl } }
 plain (suc (suc (suc (suc (suc (suc (suc (suc n)))))))) h k = absurd (omega arith)
 
--- no kind has a number below 1 or above 9
-kind-outside : (n : ℕ) (t : List ℕ) → (n < 1) ⊎ (9 < n) → kindAfter n t ≡ fail
+-- a number of no kind
+abbrev pub IsOutside : ℕ → Type 0
+IsOutside n = (n < unsignedNumber) ⊎ (hexNumber < n)
+
+kind-outside : (n : ℕ) (t : List ℕ) → IsOutside n → kindAfter n t ≡ fail
 unfolding readParameters
 kind-outside n t (inl h) = let e : n ≡ 0 = omega arith in rw e
 kind-outside n t (inr h) =
     rw (
-      ne-eqb n 1 (λ e. omega arith),
-      ne-eqb n 2 (λ e. omega arith),
-      ne-eqb n 3 (λ e. omega arith),
-      ne-eqb n 4 (λ e. omega arith),
-      ne-eqb n 5 (λ e. omega arith),
-      ne-eqb n 6 (λ e. omega arith),
-      ne-eqb n 7 (λ e. omega arith),
-      ne-eqb n 8 (λ e. omega arith),
-      ne-eqb n 9 (λ e. omega arith),
+      ne-eqb n unsignedNumber (λ e. omega arith),
+      ne-eqb n signedNumber (λ e. omega arith),
+      ne-eqb n decimalNumber (λ e. omega arith),
+      ne-eqb n (kindNumber currency) (λ e. omega arith),
+      ne-eqb n (kindNumber sequence) (λ e. omega arith),
+      ne-eqb n (kindNumber datetime) (λ e. omega arith),
+      ne-eqb n (kindNumber boolean) (λ e. omega arith),
+      ne-eqb n stringNumber (λ e. omega arith),
+      ne-eqb n hexNumber (λ e. omega arith),
     )
 
 module _ (s : List ℕ) (at : ℕ) where
@@ -302,7 +306,7 @@ module _ (s : List ℕ) (at : ℕ) where
     }
     kind-after NoKind k q w = kind-next ∙ ap (λ (i : ℕ). kindAfter i (drop e s)) q ∙ w
 
-    pub kind-plain : 4 ≤ n → n ≤ 7 → KindStops (readKind (drop at s)) s at n 0 0 0 e
+    pub kind-plain : kindNumber currency ≤ n → n ≤ kindNumber boolean → KindStops (readKind (drop at s)) s at n 0 0 0 e
     kind-plain h k =
         let x = plain n h k in
         record {
@@ -311,5 +315,5 @@ module _ (s : List ℕ) (at : ℕ) where
           are = x .are;
         }
 
-    pub kind-other : (n < 1) ⊎ (9 < n) → readKind (drop at s) ≡ fail
+    pub kind-other : IsOutside n → readKind (drop at s) ≡ fail
     kind-other h = kind-next ∙ kind-outside n (drop e s) h

@@ -28,12 +28,16 @@ property-fail {p} s at h w = subst (PropertyReads p s at) h w
 
 -- ---- the strategy
 
+-- a number of a strategy
+abbrev pub isNumbered : ℕ → Bool
+isNumbered n = isWithin (strategyNumber min) (strategyNumber any) n
+
 record StrategyOf (n : ℕ) : Type 0 where
   what : Strategy
   number : n ≡ strategyNumber what
   layout : (t r : List ℕ) → readNumber t ≡ got n r → readStrategy t ≡ got what r
 
-strategy-of : (n : ℕ) → 1 ≤ n → n ≤ 7 → StrategyOf n
+strategy-of : (n : ℕ) → strategyNumber min ≤ n → n ≤ strategyNumber any → StrategyOf n
 unfolding readStrategy
 strategy-of zero h k = absurd (omega arith)
 strategy-of (suc zero) h k = record { what = min; number = refl; layout = λ t r e. rw e }
@@ -45,19 +49,23 @@ strategy-of (suc (suc (suc (suc (suc (suc zero)))))) h k = record { what = set; 
 strategy-of (suc (suc (suc (suc (suc (suc (suc zero))))))) h k = record { what = any; number = refl; layout = λ t r e. rw e }
 strategy-of (suc (suc (suc (suc (suc (suc (suc (suc n)))))))) h k = absurd (omega arith)
 
-strategy-outside : (n : ℕ) (t r : List ℕ) → isWithin 1 7 n ≡ false → readNumber t ≡ got n r → readStrategy t ≡ fail
+strategy-outside : (n : ℕ) (t r : List ℕ) → isNumbered n ≡ false → readNumber t ≡ got n r → readStrategy t ≡ fail
 unfolding readStrategy
 strategy-outside n t r h e =
-    let out : (1 ≤ n) → (n ≤ 7) → ⊥ = λ a b. let z : false ≡ true = sym h ∙ is-within 1 7 n a b in let y : _≡_ {A = ℕ} 0 1 = cc in omega arith in
+    let none : strategyNumber min ≤ n → n ≤ strategyNumber any → ⊥ = λ a b.
+    let z : false ≡ true = sym h ∙ is-within (strategyNumber min) (strategyNumber any) n a b in
+    let y : _≡_ {A = ℕ} 0 1 = cc in
+    omega arith
+    in
     rw (
       e,
-      ne-eqb n 1 (λ q. out (omega arith) (omega arith)),
-      ne-eqb n 2 (λ q. out (omega arith) (omega arith)),
-      ne-eqb n 3 (λ q. out (omega arith) (omega arith)),
-      ne-eqb n 4 (λ q. out (omega arith) (omega arith)),
-      ne-eqb n 5 (λ q. out (omega arith) (omega arith)),
-      ne-eqb n 6 (λ q. out (omega arith) (omega arith)),
-      ne-eqb n 7 (λ q. out (omega arith) (omega arith)),
+      ne-eqb n (strategyNumber min) (λ q. none (omega arith) (omega arith)),
+      ne-eqb n (strategyNumber max) (λ q. none (omega arith) (omega arith)),
+      ne-eqb n (strategyNumber add) (λ q. none (omega arith) (omega arith)),
+      ne-eqb n (strategyNumber replace) (λ q. none (omega arith) (omega arith)),
+      ne-eqb n (strategyNumber match) (λ q. none (omega arith) (omega arith)),
+      ne-eqb n (strategyNumber set) (λ q. none (omega arith) (omega arith)),
+      ne-eqb n (strategyNumber any) (λ q. none (omega arith) (omega arith)),
     )
 
 module _ (s : List ℕ) (at : ℕ) where
@@ -67,10 +75,10 @@ module _ (s : List ℕ) (at : ℕ) where
     pub stops : Got (readStrategy (drop at s)) s at what next
     pub number : n ≡ strategyNumber what
 
-  pub strategy-got : {n e : ℕ} → Got (suchThat (isWithin 1 7) readNumber (drop at s)) s at n e → StrategyStops n e
+  pub strategy-got : {n e : ℕ} → Got (suchThat isNumbered readNumber (drop at s)) s at n e → StrategyStops n e
   strategy-got {n} {e} g =
-      let w = such-was (isWithin 1 7) readNumber s at g in
-      let b = within-bounds 1 7 n (w .1) in
+      let w = such-was isNumbered readNumber s at g in
+      let b = within-bounds (strategyNumber min) (strategyNumber any) n (w .1) in
       let x = strategy-of n (b .0) (b .1) in
       record {
         what = x .what;
@@ -78,15 +86,15 @@ module _ (s : List ℕ) (at : ℕ) where
         number = x .number;
       }
 
-  pub strategy-none : suchThat (isWithin 1 7) readNumber (drop at s) ≡ fail → readStrategy (drop at s) ≡ fail
+  pub strategy-none : suchThat isNumbered readNumber (drop at s) ≡ fail → readStrategy (drop at s) ≡ fail
   unfolding readStrategy
   strategy-none e = go (readNumber (drop at s)) refl e
     where
-      go : (p : Parse ℕ) → readNumber (drop at s) ≡ p → andThen p (λ n. foundIf (isWithin 1 7 n) n) ≡ fail → readStrategy (drop at s) ≡ fail
+      go : (p : Parse ℕ) → readNumber (drop at s) ≡ p → andThen p (λ n. foundIf (isNumbered n) n) ≡ fail → readStrategy (drop at s) ≡ fail
       go fail q e = rw q
-      go (got n r) q e = test (isWithin 1 7 n) refl e
+      go (got n r) q e = test (isNumbered n) refl e
         where
-          test : (t : Bool) → isWithin 1 7 n ≡ t → cond t (got n r) fail ≡ fail → readStrategy (drop at s) ≡ fail
+          test : (t : Bool) → isNumbered n ≡ t → cond t (got n r) fail ≡ fail → readStrategy (drop at s) ≡ fail
           test true h e = let z : _≡_ {A = ℕ} 0 1 = cc in absurd (omega arith)
           test false h e = strategy-outside n (drop at s) r h q
 

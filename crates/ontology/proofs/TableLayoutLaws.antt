@@ -15,7 +15,7 @@ use Rattle.packed.specs.Parse.{got, Layout, _>>=_, found, suchThat, times}
 use Rattle.packed.specs.Packed.{groups, number, readNumber, text, readText, isWithin}
 use Rattle.packed.proofs.LayoutLaws.{All, lt-or-ge, fail-got, andThen-got, foundIf-got, suchThat-got, whole-some, number-read, number-was, text-read, text-was, times-read, times-was}
 use Rattle.packed.proofs.FieldLaws.{within-bounds}
-use Rattle.values.specs.Spaces.{Kind, unsigned, signed, decimal, currency, sequence, datetime, boolean, string, hex, kindNumber, isKind}
+use Rattle.values.specs.Spaces.{Kind, unsigned, signed, decimal, currency, sequence, datetime, boolean, string, hex, kindNumber, unsignedNumber, signedNumber, decimalNumber, stringNumber, hexNumber, isKind}
 use Rattle.ontology.specs.Table.{Strategy, min, max, add, replace, match, set, any, strategyNumber, Property, EventType, Table, isNameWithin, allFit, markFits, namesRise, typeRules}
 use Rattle.ontology.specs.TableLayout.{readFlag, readDecimal, readParameters, readKind, readStrategy, readProperty, readType, readTable, tableOf, flagBytes, parameterBytes, kindBytes, propertyBytes, typeBytes, tableBytes}
 use Rattle.ontology.specs.code.TypeIndex.{parameterFits, propertyRules}
@@ -78,8 +78,8 @@ chosen n i p q s a r f g e = truth (eqb n i) (λ h. f (eqb-true n i h) (rw h at 
 
 parameters-read : (k : Kind) (r : List ℕ) → isKind k ≡ true → readParameters (kindNumber k) (parameterBytes k ++ r) ≡ got k r
 unfolding readParameters readDecimal parameterBytes isKind parameterFits
-parameters-read (unsigned w) r h = rw (number-read w r (omega (arith, fits-small 1 w h)))
-parameters-read (signed w) r h = rw (number-read w r (omega (arith, fits-small 2 w h)))
+parameters-read (unsigned w) r h = rw (number-read w r (omega (arith, fits-small unsignedNumber w h)))
+parameters-read (signed w) r h = rw (number-read w r (omega (arith, fits-small signedNumber w h)))
 parameters-read (decimal t a g) r h =
     let small = digits-small t a h in
     rw (
@@ -93,8 +93,8 @@ parameters-read currency r h = refl
 parameters-read sequence r h = refl
 parameters-read datetime r h = refl
 parameters-read boolean r h = refl
-parameters-read (string n) r h = rw (number-read n r (omega (arith, fits-small 8 n h)))
-parameters-read (hex n) r h = rw (number-read n r (omega (arith, fits-small 9 n h)))
+parameters-read (string n) r h = rw (number-read n r (omega (arith, fits-small stringNumber n h)))
+parameters-read (hex n) r h = rw (number-read n r (omega (arith, fits-small hexNumber n h)))
 
 kind-is : (z k : Kind) (n : ℕ) (s t r : List ℕ) → n ≡ kindNumber z → s ≡ parameterBytes z ++ t → got z t ≡ got k r → (n ≡ kindNumber k) × (s ≡ parameterBytes k ++ r)
 kind-is z k n s t r a b e =
@@ -109,13 +109,13 @@ module _ (make : ℕ → Kind) (same : (w : ℕ) → parameterBytes (make w) ≡
       let c = andThen-got (readNumber s) _ k r e in
       kind-is (make (c .value)) k n s (c .left) r (a (c .value)) (number-was s (c .value) (c .left) (c .first) .0 ∙ ap (λ (b : List ℕ). b ++ c .left) (sym (same (c .value)))) (c .second)
 
-decimal-was : (s : List ℕ) (k : Kind) (r : List ℕ) → readDecimal s ≡ got k r → (3 ≡ kindNumber k) × (s ≡ parameterBytes k ++ r)
+decimal-was : (s : List ℕ) (k : Kind) (r : List ℕ) → readDecimal s ≡ got k r → (decimalNumber ≡ kindNumber k) × (s ≡ parameterBytes k ++ r)
 unfolding readDecimal parameterBytes
 decimal-was s k r e =
     let a = andThen-got (readNumber s) _ k r e in
     let b = andThen-got (readNumber (a .left)) _ k r (a .second) in
     let c = andThen-got (readFlag (b .left)) _ k r (b .second) in
-    kind-is (decimal (a .value) (b .value) (c .value)) k 3 s (c .left) r refl
+    kind-is (decimal (a .value) (b .value) (c .value)) k decimalNumber s (c .left) r refl
     (decimal-bytes (a .value) (b .value) (c .value) (a .left) (b .left) (c .left)
     (number-was s (a .value) (a .left) (a .first) .0) (number-was (a .left) (b .value) (b .left) (b .first) .0) (flag-was (b .left) (c .value) (c .left) (c .first)))
     (c .second)
@@ -126,15 +126,15 @@ decimal-was s k r e =
 parameters-was : (n : ℕ) (s : List ℕ) (k : Kind) (r : List ℕ) → readParameters n s ≡ got k r → (n ≡ kindNumber k) × (s ≡ parameterBytes k ++ r)
 unfolding readParameters parameterBytes
 parameters-was n s k r =
-    chosen n 1 _ _ s k r (λ h. one-was unsigned (λ w. refl) n s k r (λ w. h))
-    (chosen n 2 _ _ s k r (λ h. one-was signed (λ w. refl) n s k r (λ w. h))
-    (chosen n 3 _ _ s k r (λ h e. let w = decimal-was s k r e in (h ∙ w .0, w .1))
-    (chosen n 4 _ _ s k r (λ h. kind-is currency k n s s r h refl)
-    (chosen n 5 _ _ s k r (λ h. kind-is sequence k n s s r h refl)
-    (chosen n 6 _ _ s k r (λ h. kind-is datetime k n s s r h refl)
-    (chosen n 7 _ _ s k r (λ h. kind-is boolean k n s s r h refl)
-    (chosen n 8 _ _ s k r (λ h. one-was string (λ w. refl) n s k r (λ w. h))
-    (chosen n 9 _ _ s k r (λ h. one-was hex (λ w. refl) n s k r (λ w. h)) fail-got))))))))
+    chosen n unsignedNumber _ _ s k r (λ h. one-was unsigned (λ w. refl) n s k r (λ w. h))
+    (chosen n signedNumber _ _ s k r (λ h. one-was signed (λ w. refl) n s k r (λ w. h))
+    (chosen n decimalNumber _ _ s k r (λ h e. let w = decimal-was s k r e in (h ∙ w .0, w .1))
+    (chosen n (kindNumber currency) _ _ s k r (λ h. kind-is currency k n s s r h refl)
+    (chosen n (kindNumber sequence) _ _ s k r (λ h. kind-is sequence k n s s r h refl)
+    (chosen n (kindNumber datetime) _ _ s k r (λ h. kind-is datetime k n s s r h refl)
+    (chosen n (kindNumber boolean) _ _ s k r (λ h. kind-is boolean k n s s r h refl)
+    (chosen n stringNumber _ _ s k r (λ h. one-was string (λ w. refl) n s k r (λ w. h))
+    (chosen n hexNumber _ _ s k r (λ h. one-was hex (λ w. refl) n s k r (λ w. h)) fail-got))))))))
 
 kind-read : (k : Kind) (r : List ℕ) → isKind k ≡ true → readKind (kindBytes k ++ r) ≡ got k r
 unfolding readKind kindBytes
@@ -169,13 +169,13 @@ kind-was s k r e =
 
 strategy-read : (y : Strategy) (r : List ℕ) → readStrategy (number (strategyNumber y) ++ r) ≡ got y r
 unfolding readStrategy
-strategy-read min r = rw (number-read 1 r (omega arith))
-strategy-read max r = rw (number-read 2 r (omega arith))
-strategy-read add r = rw (number-read 3 r (omega arith))
-strategy-read replace r = rw (number-read 4 r (omega arith))
-strategy-read match r = rw (number-read 5 r (omega arith))
-strategy-read set r = rw (number-read 6 r (omega arith))
-strategy-read any r = rw (number-read 7 r (omega arith))
+strategy-read min r = rw (number-read (strategyNumber min) r (omega arith))
+strategy-read max r = rw (number-read (strategyNumber max) r (omega arith))
+strategy-read add r = rw (number-read (strategyNumber add) r (omega arith))
+strategy-read replace r = rw (number-read (strategyNumber replace) r (omega arith))
+strategy-read match r = rw (number-read (strategyNumber match) r (omega arith))
+strategy-read set r = rw (number-read (strategyNumber set) r (omega arith))
+strategy-read any r = rw (number-read (strategyNumber any) r (omega arith))
 
 strategy-is : (z y : Strategy) (n : ℕ) (t r : List ℕ) → n ≡ strategyNumber z → got z t ≡ got y r → number n ++ t ≡ number (strategyNumber y) ++ r
 strategy-is z y n t r h e =
@@ -190,13 +190,13 @@ strategy-was s y r e =
     let n = c .value in
     let t = c .left in
     number-was s n t (c .first) .0
-    ∙ (chosen n 1 _ _ t y r (strategy-is min y n t r)
-    (chosen n 2 _ _ t y r (strategy-is max y n t r)
-    (chosen n 3 _ _ t y r (strategy-is add y n t r)
-    (chosen n 4 _ _ t y r (strategy-is replace y n t r)
-    (chosen n 5 _ _ t y r (strategy-is match y n t r)
-    (chosen n 6 _ _ t y r (strategy-is set y n t r)
-    (chosen n 7 _ _ t y r (strategy-is any y n t r) fail-got)))))) (c .second))
+    ∙ (chosen n (strategyNumber min) _ _ t y r (strategy-is min y n t r)
+    (chosen n (strategyNumber max) _ _ t y r (strategy-is max y n t r)
+    (chosen n (strategyNumber add) _ _ t y r (strategy-is add y n t r)
+    (chosen n (strategyNumber replace) _ _ t y r (strategy-is replace y n t r)
+    (chosen n (strategyNumber match) _ _ t y r (strategy-is match y n t r)
+    (chosen n (strategyNumber set) _ _ t y r (strategy-is set y n t r)
+    (chosen n (strategyNumber any) _ _ t y r (strategy-is any y n t r) fail-got)))))) (c .second))
 
 -- ---- a property
 

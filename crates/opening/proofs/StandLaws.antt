@@ -10,8 +10,9 @@ use Rattle.model.specs.Order.{Text}
 use Rattle.model.specs.Rule.{Snapshot}
 use Rattle.model.specs.Opening.{held, cellAt, column}
 use Rattle.packed.specs.Parse.{got}
+use Rattle.packed.specs.Packed.{part}
 use Rattle.packed.proofs.ReadLaws.{to-end}
-use Rattle.event.specs.code.EventIndex.{SetIs, noSet}
+use Rattle.event.specs.code.EventIndex.{countSize, SetIs, noSet}
 use Rattle.event.specs.declared.sets.SetAt.{SetAt}
 use Rattle.event.proofs.EventLayoutLaws.{SetWritten}
 use Rattle.event.proofs.EventQuestionLaws.{all-at, empty-written}
@@ -82,17 +83,23 @@ runs-all s ss cells row place starts ends j v w full r = record {
 
 -- ---- the cells of a snapshot
 
--- a set of the rest of the bytes, in the whole
+-- a part of the rest of the bytes, in the whole
+part-shifted : (s : List ℕ) (at a e : ℕ) → part s (at + a) (at + e) ≡ part (drop at s) a e
+part-shifted s at a e = let d : at + e - (at + a) ≡ e - a = omega arith in rw (d, drop-drop a at s)
+
+-- and a set
 pub shifted-set : (s : List ℕ) (at : ℕ) (vs : List Text) (x r : SetAt) → at ≤ length s → SetIs (drop at s) vs x → Shifted x at (length s) r → SetIs s vs r
 shifted-set s at vs x r h w v =
     let l : length (drop at s) ≡ length s - at = length-drop at s in
     let e = v .is (omega (arith, l, w .order, w .within)) (omega (arith, l, w .within)) in
-    let d : at + x .end - (at + x .start) ≡ x .end - x .start = omega arith in
+    let begin : at + x .start - countSize (x .count) ≡ at + (x .start - countSize (x .count)) = omega (arith, w .counted) in
     rw e (record {
-      bytes = rw (d, ← drop-drop (x .start) at s) (w .bytes);
+      bytes = part-shifted s at (x .start) (x .end) ∙ w .bytes;
       count = w .count;
       order = omega (arith, w .order);
       within = omega (arith, l, w .within);
+      counted = omega (arith, w .counted);
+      whole = ap (λ (i : ℕ). part s i (at + x .end)) begin ∙ part-shifted s at (x .start - countSize (x .count)) (x .end) ∙ w .whole;
     })
 
 -- the cells of snapshot j are those of x, and the others are as they were

@@ -11,8 +11,8 @@ use Rattle.model.specs.Sets.{canon, upFrom, upTo}
 use Rattle.model.specs.Rule.{places, Dossier}
 use Rattle.model.specs.Opening.{column, mergedAt, mergedSets}
 use Rattle.packed.specs.Packed.{number, text}
-use Rattle.packed.specs.code.Written.{Wrote}
-use Rattle.packed.proofs.WriteLaws.{wrote-length, wrote-as, wrote-then, ToGo, to-go, gone}
+use Rattle.packed.specs.code.Written.{Wrote, ToGo}
+use Rattle.packed.proofs.WriteLaws.{wrote-length, wrote-as, wrote-then, to-go, gone}
 use Rattle.ontology.specs.Table.{EventType}
 use Rattle.ontology.specs.declared.types.TypeIndex.{TypeIndex}
 use Rattle.event.specs.Event.{typeView, eventView}
@@ -69,7 +69,7 @@ module _ {s : List ℕ} {cells : List SetAt} {place n : ℕ} {rule : PlaceRule} 
     pub wrote-union :
         {l₂ : List ℕ} {next : ℕ} → Wrote l₁ after-count (flatten (map text (canon texts (flatten sets-here)))) l₂ next →
         Wrote l at (setBytes values) l₂ next
-    wrote-union w = wrote-as (sym (set-some count values (p .counted) (p .present))) (wrote-set count values (p .counted) union-bytes v w)
+    wrote-union w = wrote-as (sym (set-some count values (p .counted) (p .present))) (wrote-set count values (p .counted) v (wrote-as union-bytes w))
 
 abbrev pub row-room :
     {s : List ℕ} {cells row : List SetAt} {place n : ℕ} {rule : PlaceRule} {count at size : ℕ} → RowIs cells place row →

@@ -15,8 +15,8 @@ use Rattle.model.proofs.Cases.{never}
 use Rattle.packed.specs.Ascii.{ascii}
 use Rattle.packed.specs.Parse.{fail}
 use Rattle.packed.specs.Packed.{text, readText, part}
-use Rattle.packed.specs.code.Written.{Wrote}
-use Rattle.packed.proofs.WriteLaws.{ToGo, to-go, gone, all-gone, wrote-then, stored}
+use Rattle.packed.specs.code.Written.{Wrote, ToGo}
+use Rattle.packed.proofs.WriteLaws.{to-go, gone, all-gone, wrote-then, stored}
 use Rattle.packed.proofs.ReadLaws.{TextStops, drop-next}
 use Rattle.values.specs.Decimal.{inDecimal}
 use Rattle.values.specs.declared.versions.EventVersion.{EventVersion}

@@ -20,8 +20,8 @@ use Rattle.model.proofs.StepLaws.{union-left-nil, union-right-nil, smallest-sno
 use Rattle.packed.specs.Packed.{text, part}
 use Rattle.packed.proofs.LayoutLaws.{All, text-length, number-bounds}
 use Rattle.packed.proofs.ReadLaws.{part-length, stretch}
-use Rattle.packed.specs.code.Written.{Wrote}
-use Rattle.packed.proofs.WriteLaws.{ToGo, all-gone}
+use Rattle.packed.specs.code.Written.{Wrote, ToGo}
+use Rattle.packed.proofs.WriteLaws.{all-gone}
 use Rattle.unions.specs.declared.heads.Form.the-variants as form
 use Rattle.unions.specs.declared.many.Least.{Least}
 use Rattle.unions.specs.declared.many.Least.the-variants.{At, Nothing}

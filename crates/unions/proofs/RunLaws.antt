@@ -18,8 +18,8 @@ use Rattle.packed.specs.declared.read.TextAt.{TextAt}
 use Rattle.packed.specs.declared.read.TextAt.the-variants as at
 use Rattle.packed.proofs.LayoutLaws.{All, text-read, text-was, text-length, number-bounds, flat}
 use Rattle.packed.proofs.ReadLaws.{text-stops, text-none, part-length, to-end, stretch}
-use Rattle.packed.specs.code.Written.{Wrote}
-use Rattle.packed.proofs.WriteLaws.{ToGo, gone, all-gone}
+use Rattle.packed.specs.code.Written.{Wrote, ToGo}
+use Rattle.packed.proofs.WriteLaws.{gone, all-gone}
 use Rattle.unions.specs.declared.heads.Form.{Form}
 use Rattle.unions.specs.declared.heads.Form.the-variants as form
 use Rattle.unions.specs.declared.pair.Step.{Step}

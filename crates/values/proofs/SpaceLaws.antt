@@ -74,7 +74,7 @@ kind-none kind size after sign n1 n2 n3 n4 n5 n6 n7 n8 n9 =
       ne-eqb kind hexNumber n9,
     )
 
-pub kind-least : (k : Kind) → 1 ≤ kindNumber k
+pub kind-least : (k : Kind) → unsignedNumber ≤ kindNumber k
 kind-least (unsigned width) = omega arith
 kind-least (signed width) = omega arith
 kind-least (decimal total after sign) = omega arith
@@ -126,7 +126,7 @@ unfolding isOfKind valueNumber
 equal-values-equal-bytes k a b n p q e = ⊎-elim
     (λ (l : kindNumber k < kindNumber datetime).
     equal-number-equal-bytes k a b (le-leb (kindNumber k) (kindNumber sequence) (omega arith)) (of-kind k a p) (of-kind k b q) e)
-    (λ (g : 6 ≤ kindNumber k).
+    (λ (g : kindNumber datetime ≤ kindNumber k).
     subst (λ (x : Kind). isOfKind x a ≡ true → isOfKind x b ≡ true → valueNumber x a ≡ valueNumber x b → a ≡ b)
     (sym (is-datetime-kind k (omega (arith, ordered-low k n)))) (datetimes a b) (of-kind k a p) (of-kind k b q) e)
     (lt-or-ge (kindNumber k) (kindNumber datetime))

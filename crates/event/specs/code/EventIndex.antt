@@ -1,6 +1,6 @@
 -- What the readers of an event answer, as relations between the bytes, what was read and the positions. They are over any bytes, so that a dossier's sets and
 -- head are read by them too.
-use Prim.Native.Nat.{ℕ, _+_, _*_, _≤_, _<_}
+use Prim.Native.Nat.{ℕ, zero, suc, _+_, _-_, _*_, _≤_, _<_}
 use mathlib.Core.Path.{_≡_}
 use mathlib.Core.Bool.{Bool, true, false}
 use mathlib.Core.Option.{Option, none, some}
@@ -16,7 +16,7 @@ use Rattle.ontology.specs.Table.{Property, EventType}
 use Rattle.ontology.specs.TableLayout.{tableOf}
 use Rattle.ontology.specs.code.TypeIndex.{TypeIs}
 use Rattle.event.specs.Event.{Event, objectCount, setAt}
-use Rattle.event.specs.EventLayout.{Counts, narrow, wide, setsBytes, presenceBit, bitNumber}
+use Rattle.event.specs.EventLayout.{Counts, narrow, wide, setBytes, setsBytes, presenceBit, bitNumber}
 use Rattle.event.specs.Head.{headBytes, Head}
 use Rattle.event.specs.declared.sets.SetAt.{SetAt}
 use Rattle.event.specs.declared.sets.SetRead.{SetRead}
@@ -37,12 +37,19 @@ use Rattle.event.specs.declared.ask.EventCounts.the-variants as taken
 use Rattle.event.specs.declared.lookup.ValueAt.{ValueAt}
 use Rattle.event.specs.declared.lookup.ValueAt.the-variants.{Value, NoValue}
 
--- The values vs stand in the bytes s where x says: their texts, one after the other
+-- how many bytes a set has before its values: those of its count, and an empty set none
+unfoldable pub countSize : ℕ → ℕ
+countSize zero = 0
+countSize (suc n) = length (number (suc n))
+
+-- The values vs stand in the bytes s where x says: their texts, one after the other, and their count before them
 pub record SetIs (s : List ℕ) (vs : List Text) (x : SetAt) : Type 0 where
   pub bytes : part s (x .start) (x .end) ≡ flatten (map text vs)
   pub count : x .count ≡ length vs
   pub order : x .start ≤ x .end
   pub within : x .end ≤ length s
+  pub counted : countSize (x .count) ≤ x .start
+  pub whole : part s (x .start - countSize (x .count)) (x .end) ≡ setBytes vs
 
 -- no values, at the front
 abbrev pub noSet : SetAt

@@ -7,16 +7,6 @@ use Rattle.ontology.proofs.TypeIndexLaws.{table-refused, table-got}
 use Rattle.batch.proofs.BatchLaws.{placed-replies, given-placed, given-refused, refusal-was, all-agreed, framed, unframed, rooms-are, no-room, no-table, no-frame, all-asked-is, call-is}
 use Rattle.batch.proofs.calls.batch.Statement.{statement}
 use Rattle.batch.proofs.calls.batch.Tie as tie
-use Rattle.batch.proofs.calls.batch.Reads as reads
-use Rattle.batch.proofs.calls.batch.Lts as lts
-use Rattle.batch.proofs.asked.ask_events.Reads as ask-events-reads
-use Rattle.batch.proofs.calls.batch_reply.Reads as batch-reply-reads
-use Rattle.batch.proofs.calls.combine_all.Reads as combine-all-reads
-use Rattle.batch.proofs.calls.have_room.Reads as have-room-reads
-use Rattle.batch.proofs.frame.event_part.Reads as event-part-reads
-use Rattle.batch.proofs.frame.read_batch.Reads as read-batch-reads
-use Rattle.event.proofs.ask.type_name.Reads as type-name-reads
-use Rattle.ontology.proofs.tables.read_table.Reads as read-table-reads
 
 have-room-requires : tie.Need-have-room-requires
 have-room-requires c κs = search needs
@@ -45,7 +35,7 @@ returns-3 c =
     sym (call-is _ _ _ _ (refusesAt 9 0) (no-frame _ _ _ (sym (c .before .before .before .before .before .before .before .before .before .have-room .ensures) ∙ not-false _ (c .before .before .before .before .before .before .before .before .if1 .left)) (t .what) (t .is) (unframed _ _ (c .before .before .before .before .before .before .before .read-batch .ensures) (not-true _ (c .if3 .taken)))))
 
 ask-events-requires : tie.Need-ask-events-requires
-ask-events-requires c κs = (framed _ _ (c .before .before .before .before .before .before .before .read-batch .ensures) (not-false _ (c .if3 .left)) .stands .few, (c .before .before .before .before .read-table .ensures, not-false _ (c .before .before .if2 .left)))
+ask-events-requires c κs = (framed _ _ (c .before .before .before .before .before .before .before .read-batch .ensures) (not-false _ (c .if3 .left)) .stands .few, c .before .before .before .before .read-table .ensures)
 
 returns-4 : tie.Need-returns-4
 returns-4 c =

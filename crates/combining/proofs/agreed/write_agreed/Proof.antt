@@ -1,26 +1,109 @@
 use borrow.Author.Needs.{needs}
-use mathlib.Core.Path.{_≡_, ap}
+use mathlib.Core.Path.{_≡_, refl}
 use mathlib.Core.Bool.{true}
-use mathlib.Core.List.{map}
-use Prim.Native.Nat.{ℕ}
+use mathlib.Core.List.{List, map}
+use Prim.Native.Nat.{ℕ, _+_, _≤_}
 use native.Mathlib.Omega.{arith}
 use lib.ListN.{length}
+use denote.Ref.{now}
 use Rattle.model.specs.Rule.{Snapshot}
 use Rattle.model.specs.Opening.{held}
 use Rattle.packed.specs.Packed.{number}
-use Rattle.packed.proofs.WriteLaws.{wrote-length}
+use Rattle.packed.proofs.WriteLaws.{Reached, reached-start, reached-by}
 use Rattle.ontology.specs.Table.{EventType, isVersioned}
 use Rattle.combining.specs.code.CombineIndex.{Meet}
-use Rattle.combining.proofs.AgreedLaws.{BothRead, both-read, both-length, wrote-both}
+use Rattle.combining.proofs.AgreedLaws.{BothRead, both-read, both-length, wrote-both, kept}
 use Rattle.combining.proofs.agreed.write_agreed.Statement.{statement}
 use Rattle.combining.proofs.agreed.write_agreed.Tie as tie
 
-both :
-    (c : tie.After-agreed-places) (ty : EventType) (x y : Snapshot) →
-    let a = c .before .before .before .before .before .before .args in
-    isVersioned ty ≡ true → Meet (a .a .now) (a .b .now) ty x y →
-    BothRead (a .a .now) (a .b .now) (c .before .before .read-snapshot .result) (c .before .read-snapshot2 .result) (c .agreed-places .result) ty x y
-both c ty x y v m = both-read _ _ _ _ _ (c .before .before .read-snapshot .ensures) (c .before .read-snapshot2 .ensures) (c .agreed-places .ensures) ty x y v m
+-- ---- the places: each write from the argument of the next, and the numbers from each
+
+abbrev to-read : tie.After-number-of2 → tie.After-agreed-places
+to-read c = c .before .before .before .before
+
+abbrev to-start : tie.After-number-of2 → tie.Start
+to-start c = to-read c .before .before .before .before .before .before
+
+abbrev to-numbers : tie.After-write-number-arg → tie.After-number-of2
+to-numbers c = c .before .before
+
+abbrev to-version : tie.After-write-number-arg2 → tie.After-write-number
+to-version c = c .before .before .before
+
+abbrev to-presence : tie.After-write-number-arg3 → tie.After-write-number2
+to-presence c = c .before .before .before
+
+abbrev to-differ : tie.After-write-sets-arg → tie.After-write-number3
+to-differ c = c .before .before .before .before
+
+abbrev numbers₁ : tie.After-write-number → tie.After-number-of2
+numbers₁ c = to-numbers (c .before)
+
+abbrev numbers₂ : tie.After-write-number2 → tie.After-number-of2
+numbers₂ c = numbers₁ (to-version (c .before))
+
+abbrev numbers₃ : tie.After-write-number3 → tie.After-number-of2
+numbers₃ c = numbers₂ (to-presence (c .before))
+
+-- ---- at the numbers of what the two are together
+
+module _ (c : tie.After-number-of2) where
+  abbrev presence : ℕ
+  presence = c .before .number-of .result
+
+  abbrev differ : ℕ
+  differ = c .number-of2 .result
+
+  abbrev version : ℕ
+  version = to-read c .before .before .read-snapshot .result .version .0
+
+  abbrev out₀ : List ℕ
+  out₀ = now (to-start c .args .out)
+
+  both :
+      (ty : EventType) (x y : Snapshot) → let a = to-start c .args in
+      isVersioned ty ≡ true → Meet (now (a .a)) (now (a .b)) ty x y →
+      BothRead (now (a .a)) (now (a .b)) (to-read c .before .before .read-snapshot .result) (to-read c .before .read-snapshot2 .result) presence differ ty x y
+  both ty x y v m =
+      let read = to-read c in
+      both-read _ _ _ _ _ _ _ (read .before .before .read-snapshot .ensures) (read .before .read-snapshot2 .ensures) (read .agreed-places .ensures)
+      (c .before .number-of .ensures) (c .number-of2 .ensures) ty x y v m
+
+  -- that of the room that is asked for
+  abbrev asked :
+      let p = to-start c .pre in let a = to-start c .args in
+      BothRead (now (a .a)) (now (a .b)) (to-read c .before .before .read-snapshot .result) (to-read c .before .read-snapshot2 .result)
+      presence differ (p .type) (p .left) (p .right)
+  asked = let p = to-start c .pre in both (p .type) (p .left) (p .right) (p .versioned) (p .meet)
+
+  -- where each part ends
+  abbrev version-end : ℕ
+  version-end = to-start c .args .at + length (number version)
+
+  abbrev presence-end : ℕ
+  presence-end = version-end + length (number presence)
+
+  abbrev differ-end : ℕ
+  differ-end = presence-end + length (number differ)
+
+  fits : differ-end + length (kept asked) ≤ length out₀
+  fits = omega (arith, to-start c .pre .room, both-length asked)
+
+-- ---- how far each write comes
+
+version-written :
+    (c : tie.After-write-number) → Reached (out₀ (numbers₁ c)) (version-end (numbers₁ c)) (c .write-number .last .0) (c .write-number .result)
+version-written c = reached-by reached-start (c .write-number .ensures) refl
+
+presence-written :
+    (c : tie.After-write-number2) → Reached (out₀ (numbers₂ c)) (presence-end (numbers₂ c)) (c .write-number2 .last .0) (c .write-number2 .result)
+presence-written c = reached-by (version-written (to-version (c .before))) (c .write-number2 .ensures) refl
+
+differ-written :
+    (c : tie.After-write-number3) → Reached (out₀ (numbers₃ c)) (differ-end (numbers₃ c)) (c .write-number3 .last .0) (c .write-number3 .result)
+differ-written c = reached-by (presence-written (to-presence (c .before))) (c .write-number3 .ensures) refl
+
+-- ---- the needs
 
 read-snapshot-requires : tie.Need-read-snapshot-requires
 read-snapshot-requires c κs = search needs
@@ -31,51 +114,43 @@ read-snapshot-requires-2 c κs = search needs
 agreed-places-requires : tie.Need-agreed-places-requires
 agreed-places-requires c κs = search needs
 
-write-number-requires : tie.Need-write-number-requires
-write-number-requires c κs =
-    let p = c .before .before .before .before .before .before .before .before .before .before .pre in
-    omega (arith, p .room, both-length (both (c .before .before .before .before) (p .type) (p .left) (p .right) (p .versioned) (p .meet)))
-
 number-of-requires : tie.Need-number-of-requires
 number-of-requires c κs = search needs
-
-write-number-requires-2 : tie.Need-write-number-requires-2
-write-number-requires-2 c κs =
-    let p = c .before .before .before .before .before .before .before .before .before .before .before .before .before .before .before .pre in
-    let w1 = c .before .before .before .before .write-number .ensures in
-    omega (arith, p .room, both-length (both (c .before .before .before .before .before .before .before .before .before) (p .type) (p .left) (p .right) (p .versioned) (p .meet)), w1 .after, wrote-length w1, ap (λ (n : ℕ). length (number n)) (c .number-of .ensures))
 
 number-of-requires-2 : tie.Need-number-of-requires-2
 number-of-requires-2 c κs = search needs
 
+write-number-requires : tie.Need-write-number-requires
+write-number-requires c κs = omega (arith, fits (to-numbers c))
+
+write-number-requires-2 : tie.Need-write-number-requires-2
+write-number-requires-2 c κs = omega (arith, fits (numbers₁ (to-version c)), version-written (to-version c))
+
 write-number-requires-3 : tie.Need-write-number-requires-3
-write-number-requires-3 c κs =
-    let p = c .before .before .before .before .before .before .before .before .before .before .before .before .before .before .before .before .before .before .before .before .pre in
-    let w1 = c .before .before .before .before .before .before .before .before .before .write-number .ensures in
-    let w2 = c .before .before .before .before .write-number2 .ensures in
-    omega (arith, p .room, both-length (both (c .before .before .before .before .before .before .before .before .before .before .before .before .before .before) (p .type) (p .left) (p .right) (p .versioned) (p .meet)), w1 .after, wrote-length w1, w2 .after, wrote-length w2, ap (λ (n : ℕ). length (number n)) (c .before .before .before .before .before .number-of .ensures), ap (λ (n : ℕ). length (number n)) (c .number-of2 .ensures))
+write-number-requires-3 c κs = omega (arith, fits (numbers₂ (to-presence c)), presence-written (to-presence c))
 
 write-sets-requires : tie.Need-write-sets-requires
 write-sets-requires c κs =
-    let p = c .before .before .before .before .before .before .before .before .before .before .before .before .before .before .before .before .before .before .before .before .before .before .before .before .before .pre in
-    let j = both (c .before .before .before .before .before .before .before .before .before .before .before .before .before .before .before .before .before .before .before) (p .type) (p .left) (p .right) (p .versioned) (p .meet) in
-    let w1 = c .before .before .before .before .before .before .before .before .before .before .before .before .before .before .write-number .ensures in
-    let w2 = c .before .before .before .before .before .before .before .before .before .write-number2 .ensures in
-    let w3 = c .before .before .before .before .write-number3 .ensures in
+    let numbers = numbers₃ (to-differ c) in
     record {
-      values = map held (p .left .cells);
-      are = j .left-is .sets;
-      room = omega (arith, p .room, both-length j, w1 .after, wrote-length w1, w2 .after, wrote-length w2, w3 .after, wrote-length w3, ap (λ (n : ℕ). length (number n)) (c .before .before .before .before .before .before .before .before .before .before .number-of .ensures), ap (λ (n : ℕ). length (number n)) (c .before .before .before .before .before .number-of2 .ensures));
+      values = map held (to-start numbers .pre .left .cells);
+      are = asked numbers .left-is .sets;
+      room = omega (arith, fits numbers, differ-written (to-differ c));
     }
 
 same-length : tie.Need-same-length
 same-length c = search needs
 
 returns : tie.Need-returns
-returns c =
-    λ ty x y v m.
-    let j = both (c .before .before .before .before .before .before .before .before .before .before .before .before .before .before .before .before .before .before .before .before .before .before) ty x y v m in
-    wrote-both j (c .before .before .before .before .before .before .before .before .before .before .before .before .before .number-of .ensures) (c .before .before .before .before .before .before .before .before .number-of2 .ensures) (c .before .before .before .before .before .before .before .before .before .before .before .before .before .before .before .before .before .write-number .ensures) (c .before .before .before .before .before .before .before .before .before .before .before .before .write-number2 .ensures) (c .before .before .before .before .before .before .before .write-number3 .ensures) (c .before .before .write-sets .ensures (map held (x .cells)) (j .left-is .sets))
+returns c = λ ty x y v m.
+    let at-sets = c .before .before in
+    let at-differ = to-differ (at-sets .before) in
+    let at-presence = to-presence (at-differ .before) in
+    let at-version = to-version (at-presence .before) in
+    let j = both (numbers₁ at-version) ty x y v m in
+    wrote-both j
+    (at-version .write-number .ensures) (at-presence .write-number2 .ensures) (at-differ .write-number3 .ensures)
+    (at-sets .write-sets .ensures (map held (x .cells)) (j .left-is .sets))
 
 pub write-agreed-spec : {M : Type 1} → statement M
 write-agreed-spec =
@@ -84,10 +159,10 @@ write-agreed-spec =
     read-snapshot-requires
     read-snapshot-requires-2
     agreed-places-requires
-    write-number-requires
     number-of-requires
-    write-number-requires-2
     number-of-requires-2
+    write-number-requires
+    write-number-requires-2
     write-number-requires-3
     write-sets-requires
     same-length

@@ -1,31 +1,50 @@
 use borrow.Author.Needs.{needs}
-use Rattle.combining.proofs.CheckLaws.{known-accepted, checkable, lone-room, check-done}
+use denote.Ref.{now}
+use Rattle.event.specs.EventLayout.{narrow}
+use Rattle.event.proofs.AskLaws.{Accepted}
+use Rattle.combining.proofs.CheckLaws.{asAsked, known-accepted, checkable, lone-room, check-done}
 use Rattle.combining.proofs.check.check_known.Statement.{statement}
 use Rattle.combining.proofs.check.check_known.Tie as tie
-use Rattle.combining.proofs.check.check_known.Reads as reads
-use Rattle.combining.proofs.check.check_known.Lts as lts
-use Rattle.combining.proofs.check.version_of.Reads as version-of-reads
-use Rattle.combining.proofs.check.write_lone.Reads as write-lone-reads
-use Rattle.event.proofs.read.read_event.Reads as read-event-reads
+
+-- ---- the places
+
+abbrev to-start : tie.After-read-event → tie.Start
+to-start c = c .before .before .before .before
+
+abbrev to-version : tie.After-write-lone-arg → tie.After-version-of
+to-version c = c .before
+
+-- ---- the event is accepted, as it is known to be
+
+abbrev event-taken :
+    (c : tie.After-read-event) → let a = to-start c .args in
+    Accepted narrow (now (a .table)) (now (a .event)) (asAsked _ _ _ (to-start c .pre .0) _ (c .read-event .ensures))
+event-taken c = known-accepted _ _ _ (to-start c .pre .0) _ (c .read-event .ensures)
+
+-- ---- the needs
 
 read-event-requires : tie.Need-read-event-requires
 read-event-requires c κs = search needs
 
 version-of-requires : tie.Need-version-of-requires
-version-of-requires c κs = checkable _ _ _ (known-accepted _ _ _ (c .before .before .before .before .pre .0) _ (c .read-event .ensures))
+version-of-requires c κs = checkable _ _ _ (event-taken c)
 
 write-lone-requires : tie.Need-write-lone-requires
 write-lone-requires c κs =
-    let a = known-accepted _ _ _ (c .before .before .before .before .before .before .pre .0) _ (c .before .before .read-event .ensures) in
-    lone-room _ _ _ a _ _ (c .before .version-of .ensures (checkable _ _ _ a)) (c .before .before .before .before .before .before .pre .1)
+    let v = to-version c in
+    let a = event-taken (v .before) in
+    lone-room _ _ _ a _ _ (v .version-of .ensures (checkable _ _ _ a)) (to-start (v .before) .pre .1)
 
 same-length : tie.Need-same-length
 same-length c = search needs
 
 returns : tie.Need-returns
 returns c =
-    let a = known-accepted _ _ _ (c .before .before .before .before .before .before .before .before .before .pre .0) _ (c .before .before .before .before .before .read-event .ensures) in
-    check-done _ _ _ _ a _ _ _ (c .before .before .before .before .before .before .before .before .before .pre .1) (c .before .before .before .before .version-of .ensures (checkable _ _ _ a)) (c .before .before .write-lone .ensures _ (a .event-is))
+    let written = c .before .before in
+    let v = to-version (written .before) in
+    let a = event-taken (v .before) in
+    check-done _ _ _ _ a _ _ _
+    (to-start (v .before) .pre .1) (v .version-of .ensures (checkable _ _ _ a)) (written .write-lone .ensures _ (a .event-is))
 
 pub check-known-spec : {M : Type 1} → statement M
 check-known-spec =

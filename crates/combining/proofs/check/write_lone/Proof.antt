@@ -11,7 +11,7 @@ use Rattle.event.specs.Event.{Event}
 use Rattle.event.specs.code.EventIndex.{EventIs, HeadParts}
 use Rattle.event.proofs.HeadLaws.{parts-of}
 use Rattle.dossier.specs.DossierHead.{dossierHeadBytes}
-use Rattle.combining.proofs.LoneLaws.{run, lone-length, wrote-lone}
+use Rattle.combining.proofs.LoneLaws.{sets, lone-length, wrote-lone}
 use Rattle.combining.proofs.check.write_lone.Statement.{statement}
 use Rattle.combining.proofs.check.write_lone.Tie as tie
 
@@ -32,8 +32,8 @@ to-version c = c .before .before .before
 abbrev to-presence : tie.After-write-number-arg4 → tie.After-write-number3
 to-presence c = c .before .before .before
 
-abbrev to-differ : tie.After-copy-part-arg → tie.After-write-number4
-to-differ c = c .before .before .before
+abbrev to-differ : tie.After-write-sets-arg → tie.After-write-number4
+to-differ c = c .before .before .before .before
 
 abbrev start₁ : tie.After-write-dossier-head → tie.Start
 start₁ c = start₀ (c .before)
@@ -72,24 +72,27 @@ module _ (c : tie.Start) where
   abbrev differ-end : ℕ
   differ-end = presence-end + length (number 0)
 
-  fits : differ-end + length (run _ _ (c .pre .event) (c .pre .read)) ≤ length out₀
-  fits = omega (arith, c .pre .room, lone-length _ _ (c .pre .event) (c .pre .read) (c .args .version .0))
+  fits : differ-end + length (sets (c .pre .read)) ≤ length out₀
+  fits = omega (arith, c .pre .room, lone-length (c .pre .read) (c .args .version .0))
 
 -- ---- the head
 
 parts :
     (c : tie.After-write-dossier-head-arg) (e : Event) → EventIs (now (start₀ c .args .event)) e (start₀ c .args .e) →
-    HeadParts (now (c .before .before .before .text-part .result)) (now (c .before .before .text-part2 .result)) (now (c .before .hashes-part .result)) (e .head)
+    let hashes = c .before in let source = hashes .before in let name = source .before in
+    HeadParts (now (name .text-part .result)) (now (source .text-part2 .result)) (now (hashes .hashes-part .result)) (e .head)
 parts c e w =
-    parts-of (w .head)
-    (c .before .before .before .text-part .ensures _ (w .head .name))
-    (c .before .before .text-part2 .ensures _ (w .head .uri))
-    (c .before .hashes-part .ensures _ (w .head .hashes))
+    let h = w .head in
+    parts-of h
+    (c .before .before .before .text-part .ensures _ (h .name))
+    (c .before .before .text-part2 .ensures _ (h .uri))
+    (c .before .hashes-part .ensures _ (h .hashes))
 
 -- ---- how far each write comes
 
 head-written :
-    (c : tie.After-write-dossier-head) → Reached (out₀ (start₁ c)) (head-end (start₁ c)) (c .write-dossier-head .last .1 .1 .1 .0) (c .write-dossier-head .result)
+    (c : tie.After-write-dossier-head) →
+    Reached (out₀ (start₁ c)) (head-end (start₁ c)) (c .write-dossier-head .last .1 .1 .1 .0) (c .write-dossier-head .result)
 head-written c =
     reached-by reached-start (c .write-dossier-head .ensures _ (parts (c .before) (start₁ c .pre .event) (start₁ c .pre .read))) (omega arith)
 
@@ -133,10 +136,10 @@ write-number-requires-3 c κs = omega (arith, fits (start₃ (to-version c)), ve
 write-number-requires-4 : tie.Need-write-number-requires-4
 write-number-requires-4 c κs = omega (arith, fits (start₄ (to-presence c)), presence-written (to-presence c))
 
-copy-part-requires : tie.Need-copy-part-requires
-copy-part-requires c κs =
+write-sets-requires : tie.Need-write-sets-requires
+write-sets-requires c κs =
     let p = start₅ (to-differ c) .pre in
-    (p .read .within, omega arith, omega (arith, fits (start₅ (to-differ c)), differ-written (to-differ c)))
+    record { values = p .event .sets; are = p .read .sets; room = omega (arith, fits (start₅ (to-differ c)), differ-written (to-differ c)) }
 
 same-length : tie.Need-same-length
 same-length c = search needs
@@ -149,10 +152,10 @@ returns c = λ e w.
     let at-version = to-version (at-presence .before) in
     let at-count = to-count (at-version .before) in
     let at-head = to-head (at-count .before) in
-    wrote-lone _ _ e w _
+    wrote-lone w _
     (at-head .write-dossier-head .ensures _ (parts (at-head .before) e w))
     (at-count .write-number .ensures) (at-version .write-number2 .ensures) (at-presence .write-number3 .ensures) (at-differ .write-number4 .ensures)
-    (at-sets .copy-part .ensures)
+    (at-sets .write-sets .ensures _ (w .sets))
 
 pub write-lone-spec : {M : Type 1} → statement M
 write-lone-spec =
@@ -166,6 +169,6 @@ write-lone-spec =
     write-number-requires-2
     write-number-requires-3
     write-number-requires-4
-    copy-part-requires
+    write-sets-requires
     same-length
     returns)

@@ -7,7 +7,8 @@ use native.Mathlib.Omega.{arith}
 use lib.ListN.{length}
 use Rattle.model.specs.Rule.{Snapshot}
 use Rattle.packed.specs.Packed.{number}
-use Rattle.packed.proofs.WriteLaws.{wrote-length, ToGo, to-go, gone, all-gone}
+use Rattle.packed.specs.code.Written.{ToGo}
+use Rattle.packed.proofs.WriteLaws.{wrote-length, to-go, gone, all-gone}
 use Rattle.ontology.specs.Table.{EventType, isVersioned}
 use Rattle.ontology.specs.code.TypeIndex.{TypeIs}
 use Rattle.combining.specs.code.CombineIndex.{Meet}

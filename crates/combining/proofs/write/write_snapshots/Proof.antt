@@ -4,7 +4,8 @@ use mathlib.Core.Path.{_≡_, refl, _∙_}
 use mathlib.Core.List.{map, flatten}
 use Prim.Native.Nat.{ℕ, _+_, _-_, _≤_}
 use lib.ListN.{length}
-use Rattle.packed.proofs.WriteLaws.{ToGo, wrote-length}
+use Rattle.packed.specs.code.Written.{ToGo}
+use Rattle.packed.proofs.WriteLaws.{wrote-length}
 use Rattle.dossier.specs.DossierBody.{snapshotBytes}
 use Rattle.combining.specs.CombineCall.{combined}
 use Rattle.combining.specs.code.CombineIndex.{Combinable}

@@ -1,16 +1,99 @@
 use borrow.Author.Needs.{needs}
-use mathlib.Core.Path.{refl, sym, _∙_}
+use mathlib.Core.Path.{_≡_, refl, sym, _∙_}
+use mathlib.Core.Bool.{true}
+use mathlib.Core.Option.{some}
+use mathlib.Core.List.{List}
+use Prim.Native.Nat.{ℕ}
+use denote.Ref.{now}
 use borrow.Author.Tests.{not-true, not-false}
-use Rattle.event.specs.code.EventIndex.{countsOf}
-use Rattle.event.proofs.AskLaws.{with-counts, no-event, no-type, met, no-shape, no-values, all-met}
+use Rattle.model.specs.Order.{Text}
+use Rattle.ontology.specs.Table.{typeNamed}
+use Rattle.ontology.specs.TableLayout.{tableOf}
+use Rattle.ontology.specs.code.TypeIndex.{TypeSays, TableSays}
+use Rattle.ontology.proofs.TypeIndexLaws.{TableGot, table-got}
+use Rattle.event.specs.Event.{Event}
+use Rattle.event.specs.EventLayout.{Counts, eventOf}
+use Rattle.event.specs.EventQuestions.{eventShape}
+use Rattle.event.specs.code.EventIndex.{countsOf, EventReads}
+use Rattle.event.proofs.AskLaws.{Met, with-counts, no-event, no-type, met, no-shape, no-values, all-met, no-table, with-table, type-of-event}
 use Rattle.event.proofs.ask.ask_typed.Statement.{statement}
 use Rattle.event.proofs.ask.ask_typed.Tie as tie
-use Rattle.event.proofs.ask.ask_typed.Reads as reads
-use Rattle.event.proofs.ask.ask_typed.Lts as lts
-use Rattle.event.proofs.ask.most_objects.Reads as most-objects-reads
-use Rattle.event.proofs.ask.most_parents.Reads as most-parents-reads
-use Rattle.event.proofs.read.read_event.Reads as read-event-reads
-use Rattle.event.proofs.shape.shape_ok.Reads as shape-ok-reads
+
+-- ---- the places
+
+abbrev to-start : tie.Else1 → tie.Start
+to-start c = c .before .before .before
+
+abbrev to-table : tie.After-read-event → tie.Else1
+to-table c = c .before .before .before
+
+abbrev to-event : tie.Else2 → tie.After-read-event
+to-event c = c .before .before
+
+abbrev to-right : tie.Else3 → tie.Else2
+to-right c = c .before .before
+
+abbrev to-shape : tie.After-sets-in-space → tie.Else4
+to-shape c = c .before .before
+
+abbrev of-event : tie.Else3 → tie.After-read-event
+of-event c = to-event (to-right c)
+
+abbrev of-start : tie.Else3 → tie.Start
+of-start c = to-start (to-table (of-event c))
+
+-- ---- what is given: of which table the answer speaks, and that it was read for the name of the event's type
+
+module _ (c : tie.Start) where
+  abbrev counts : Counts
+  counts = countsOf (c .args .counts)
+
+  abbrev event : List ℕ
+  event = now (c .args .event)
+
+  record Given (table : List ℕ) (name : Text) : Type 0 where
+    says : TableSays (tableOf table) table name (c .args .read)
+    names : (e : Event) → eventOf counts event ≡ some e → name ≡ e .head .type
+
+-- ---- the facts, each where it first holds
+
+module _ (c : tie.Else1) {table : List ℕ} {name : Text} (g : Given (to-start c) table name) where
+  table-right : TableGot table name (to-start c .args .read)
+  table-right = table-got _ _ _ (g .says) (not-false _ (c .if1 .left))
+
+  type-said :
+      (e : Event) → eventOf (counts (to-start c)) (event (to-start c)) ≡ some e →
+      TypeSays (typeNamed (e .head .type) (table-right .what)) table (to-start c .args .read)
+  type-said = type-of-event _ _ (counts (to-start c)) _ (table-right .is) _ _ (table-right .says) (g .names)
+
+reads : (c : tie.After-read-event) → let s = to-start (to-table c) in EventReads (eventOf (counts s) (event s)) (event s) (c .read-event .result)
+reads c = with-counts _ _ _ _ _ (c .before .before .most-parents .ensures) (c .before .most-objects .ensures) (c .read-event .ensures)
+
+has-type :
+    (c : tie.Else3) {table : List ℕ} {name : Text} → let e = of-event c in let s = of-start c in
+    (g : Given s table name) → Met table (table-right (to-table e) g .what) (event s) (counts s) (s .args .read) (e .read-event .result)
+has-type c g =
+    let t = to-table (of-event c) in
+    met _ _ _ (counts (of-start c)) _ (reads (of-event c)) (not-false _ (to-right c .if2 .left)) _
+    (type-said t g) (table-right t g .is) (not-false _ (c .if3 .left))
+
+shape-right :
+    (c : tie.Else4) {table : List ℕ} {name : Text} (g : Given (of-start (c .before .before)) table name) →
+    let m = has-type (c .before .before) g in true ≡ eventShape (m .type) (m .e)
+shape-right c g =
+    let m = has-type (c .before .before) g in
+    sym (not-false _ (c .if4 .left)) ∙ c .before .shape-ok .ensures _ _ (m .type) (m .e) (m .type-is) (m .event-is)
+
+-- ---- the needs
+
+refused-with-requires : tie.Need-refused-with-requires
+refused-with-requires c κs = search needs
+
+returns : tie.Need-returns
+returns c = λ table name says names.
+    let bad = c .before in
+    let start = bad .before .before .before in
+    no-table _ _ (counts start) _ _ says _ (not-true _ (bad .if1 .taken)) (c .refused-with .ensures)
 
 most-parents-requires : tie.Need-most-parents-requires
 most-parents-requires c κs = search needs
@@ -21,53 +104,99 @@ most-objects-requires c κs = search needs
 read-event-requires : tie.Need-read-event-requires
 read-event-requires c κs = search needs
 
-returns : tie.Need-returns
-returns c =
-    λ table ts e f.
-    no-event table ts _ (countsOf (c .before .before .before .before .before .before .before .args .counts)) _ (with-counts _ _ _ _ _ (c .before .before .before .before .before .most-parents .ensures) (c .before .before .before .before .most-objects .ensures) (c .before .before .before .read-event .ensures)) _ (not-true _ (c .if1 .taken)) refl
+refused-with-requires-2 : tie.Need-refused-with-requires-2
+refused-with-requires-2 c κs = search needs
 
 returns-2 : tie.Need-returns-2
-returns-2 c =
-    λ table ts e f.
-    no-type table ts _ (countsOf (c .before .before .before .before .before .before .before .before .before .args .counts)) _ (with-counts _ _ _ _ _ (c .before .before .before .before .before .before .before .most-parents .ensures) (c .before .before .before .before .before .before .most-objects .ensures) (c .before .before .before .before .before .read-event .ensures)) (not-false _ (c .before .before .if1 .left)) _ f _ (not-true _ (c .if2 .taken)) refl
+returns-2 c = λ table name says names.
+    let unread = c .before in
+    let e = unread .before .before in
+    let s = to-start (to-table e) in
+    let t = table-right (to-table e) (record { says = says; names = names }) in
+    with-table _ _ (counts s) _ (t .is) _
+    (no-event table _ _ (counts s) _ (reads e) _ (not-true _ (unread .if2 .taken)) (c .refused-with2 .ensures))
+
+refused-with-requires-3 : tie.Need-refused-with-requires-3
+refused-with-requires-3 c κs = search needs
+
+returns-3 : tie.Need-returns-3
+returns-3 c = λ table name says names.
+    let untyped = c .before in
+    let right = untyped .before .before in
+    let e = to-event right in
+    let s = to-start (to-table e) in
+    let g : Given s table name = record { says = says; names = names } in
+    with-table _ _ (counts s) _ (table-right (to-table e) g .is) _
+    (no-type table _ _ (counts s) _ (reads e) (not-false _ (right .if2 .left)) _ (type-said (to-table e) g) _
+    (not-true _ (untyped .if3 .taken)) (c .refused-with3 .ensures))
 
 shape-ok-requires : tie.Need-shape-ok-requires
 shape-ok-requires c κs = search needs
 
-returns-3 : tie.Need-returns-3
-returns-3 c =
-    λ table ts e f.
-    let m = met table ts _ (countsOf (c .before .before .before .before .before .before .before .before .before .before .before .args .counts)) _ (with-counts _ _ _ _ _ (c .before .before .before .before .before .before .before .before .before .most-parents .ensures) (c .before .before .before .before .before .before .before .before .most-objects .ensures) (c .before .before .before .before .before .before .before .read-event .ensures)) (not-false _ (c .before .before .before .before .if1 .left)) _ f e (not-false _ (c .before .before .if2 .left)) in
-    no-shape table ts _ _ _ _ m _ (sym (not-true _ (c .if3 .taken)) ∙ c .before .shape-ok .ensures _ _ (m .type) (m .e) (m .type-is) (m .event-is)) refl
+refused-with-requires-4 : tie.Need-refused-with-requires-4
+refused-with-requires-4 c κs = search needs
+
+returns-4 : tie.Need-returns-4
+returns-4 c = λ table name says names.
+    let unshaped = c .before in
+    let asked = unshaped .before in
+    let typed = asked .before in
+    let g : Given (of-start typed) table name = record { says = says; names = names } in
+    let m = has-type typed g in
+    with-table _ _ (counts (of-start typed)) _ (table-right (to-table (of-event typed)) g .is) _
+    (no-shape table _ _ _ _ _ m _
+    (sym (not-true _ (unshaped .if4 .taken)) ∙ asked .shape-ok .ensures _ _ (m .type) (m .e) (m .type-is) (m .event-is))
+    (c .refused-with4 .ensures))
 
 sets-in-space-requires : tie.Need-sets-in-space-requires
 sets-in-space-requires c κs = search needs
 
-returns-4 : tie.Need-returns-4
-returns-4 c =
-    λ table ts e f.
-    let m = met table ts _ (countsOf (c .before .before .before .before .before .before .before .before .before .before .before .before .before .before .args .counts)) _ (with-counts _ _ _ _ _ (c .before .before .before .before .before .before .before .before .before .before .before .before .most-parents .ensures) (c .before .before .before .before .before .before .before .before .before .before .before .most-objects .ensures) (c .before .before .before .before .before .before .before .before .before .before .read-event .ensures)) (not-false _ (c .before .before .before .before .before .before .before .if1 .left)) _ f e (not-false _ (c .before .before .before .before .before .if2 .left)) in
-    let h = sym (not-false _ (c .before .before .before .if3 .left)) ∙ c .before .before .before .before .shape-ok .ensures _ _ (m .type) (m .e) (m .type-is) (m .event-is) in
-    no-values table ts _ _ _ _ m _ h (sym (not-true _ (c .if4 .taken)) ∙ c .before .sets-in-space .ensures _ (m .type) (m .e .sets) (m .type-is) (m .kinds) (m .event-is .sets)) refl
+refused-with-requires-5 : tie.Need-refused-with-requires-5
+refused-with-requires-5 c κs = search needs
 
 returns-5 : tie.Need-returns-5
-returns-5 c =
-    λ table ts e f.
-    let m = met table ts _ (countsOf (c .before .before .before .before .before .before .before .before .before .before .before .before .before .before .args .counts)) _ (with-counts _ _ _ _ _ (c .before .before .before .before .before .before .before .before .before .before .before .before .most-parents .ensures) (c .before .before .before .before .before .before .before .before .before .before .before .most-objects .ensures) (c .before .before .before .before .before .before .before .before .before .before .read-event .ensures)) (not-false _ (c .before .before .before .before .before .before .before .if1 .left)) _ f e (not-false _ (c .before .before .before .before .before .if2 .left)) in
-    let h = sym (not-false _ (c .before .before .before .if3 .left)) ∙ c .before .before .before .before .shape-ok .ensures _ _ (m .type) (m .e) (m .type-is) (m .event-is) in
-    all-met table ts _ _ _ _ m _ h (sym (not-false _ (c .if4 .left)) ∙ c .before .sets-in-space .ensures _ (m .type) (m .e .sets) (m .type-is) (m .kinds) (m .event-is .sets)) refl (m .type-is) (m .event-is)
+returns-5 c = λ table name says names.
+    let outside = c .before in
+    let asked = outside .before in
+    let shaped = to-shape asked in
+    let typed = shaped .before .before in
+    let g : Given (of-start typed) table name = record { says = says; names = names } in
+    let m = has-type typed g in
+    with-table _ _ (counts (of-start typed)) _ (table-right (to-table (of-event typed)) g .is) _
+    (no-values table _ _ _ _ _ m _ (shape-right shaped g)
+    (sym (not-true _ (outside .if5 .taken)) ∙ asked .sets-in-space .ensures _ (m .type) (m .e .sets) (m .type-is) (m .kinds) (m .event-is .sets))
+    (c .refused-with5 .ensures))
+
+returns-6 : tie.Need-returns-6
+returns-6 c = λ table name says names.
+    let right = c .before in
+    let asked = right .before in
+    let shaped = to-shape asked in
+    let typed = shaped .before .before in
+    let g : Given (of-start typed) table name = record { says = says; names = names } in
+    let m = has-type typed g in
+    with-table _ _ (counts (of-start typed)) _ (table-right (to-table (of-event typed)) g .is) _
+    (all-met table _ _ _ _ _ m _ (shape-right shaped g)
+    (sym (not-false _ (right .if5 .left)) ∙ asked .sets-in-space .ensures _ (m .type) (m .e .sets) (m .type-is) (m .kinds) (m .event-is .sets))
+    refl (m .type-is) (m .event-is))
 
 pub ask-typed-spec : {M : Type 1} → statement M
 ask-typed-spec =
     tie.close
     (tie.spec
+    refused-with-requires
+    returns
     most-parents-requires
     most-objects-requires
     read-event-requires
-    returns
+    refused-with-requires-2
     returns-2
-    shape-ok-requires
+    refused-with-requires-3
     returns-3
-    sets-in-space-requires
+    shape-ok-requires
+    refused-with-requires-4
     returns-4
-    returns-5)
+    sets-in-space-requires
+    refused-with-requires-5
+    returns-5
+    returns-6)

@@ -94,7 +94,7 @@ returns-6 : tie.Need-returns-6 Inv-loop μ-loop
 returns-6 c =
     let n = number-stops _ _ _ _ (sym (c .before .before .before .before .before .before .before .before .before .before .read-number .ensures) ∙ c .before .before .before .before .before .before .before .before .count .given .1) in
     let l = c .before .loop in
-    set-found _ _ _ _ _ _ (n .within) (l .inv .1) (set-some _ _ _ (n .is) (omega (arith, c .before .before .before .before .before .before .if1 .left))) (onward-all _ _ _ _ _ (l .inv .2) (c .loop-test .left))
+    set-found _ (c .before .before .before .before .before .before .before .before .before .before .before .before .args .at) _ _ _ _ (n .within) (l .inv .1) (n .is) (omega (arith, c .before .before .before .before .before .before .if1 .left)) (onward-all _ _ _ _ _ (l .inv .2) (c .loop-test .left))
 
 pub read-set-spec : {M : Type 1} → statement M
 read-set-spec =

@@ -1,29 +1,36 @@
 use borrow.Author.Needs.{needs}
-use mathlib.Core.Path.{_≡_, refl, _∙_}
+use mathlib.Core.Path.{_≡_, _∙_}
+use mathlib.Core.Logic.{_⊎_, inl, inr, ⊎-elim}
 use mathlib.Core.List.{List, []}
-use Prim.Native.Nat.{_-_}
-use lib.ListN.{length, drop, getD}
+use Prim.Native.Nat.{_-_, _≤_, _<_}
+use native.Mathlib.Omega.{arith}
+use lib.ListN.{length, getD}
+use borrow.Author.Tests.{ltb-false}
 use Rattle.model.specs.Order.{Text}
-use Rattle.packed.proofs.WriteLaws.{ToGo, to-go, wrote-length}
+use Rattle.packed.proofs.WriteLaws.{wrote-length}
 use Rattle.event.specs.code.EventIndex.{SetsAre}
-use Rattle.event.specs.code.SetWriting.{presentBytes}
-use Rattle.event.proofs.SetWriteLaws.{present-room, present-more, present-all}
+use Rattle.event.proofs.SetWriteLaws.{RunTo, run-none, run-same, run-room, run-last, run-over, run-more}
 use Rattle.event.proofs.write.write_sets.Statement.{statement}
 use Rattle.event.proofs.write.write_sets.Tie as tie
-use Rattle.event.proofs.write.write_sets.Reads as reads
-use Rattle.event.proofs.write.write_sets.Lts as lts
-use Rattle.event.proofs.write.write_place.Reads as write-place-reads
 
 abbrev Inv-loop : tie.InvT-loop
-Inv-loop s out₀ at sets present next₀ k₀ out next k =
-    (length out ≡ length out₀)
-    × ((xs : List (List Text)) → SetsAre s xs sets → ToGo out₀ at (presentBytes present xs) out next (presentBytes (drop k present) (drop k xs)))
+Inv-loop s presence out₀ at sets run₀ bits₀ k₀ out run bits k = (xs : List (List Text)) → SetsAre s xs sets → RunTo s out₀ at presence xs out run bits k
 
 abbrev μ-loop : tie.MeasureT-loop
-μ-loop s out₀ at sets present next₀ k₀ out next k = 32 - k
+μ-loop s presence out₀ at sets run₀ bits₀ k₀ out run bits k = 32 - k
+
+-- ---- the places
+
+abbrev to-start : tie.At-loop Inv-loop μ-loop → tie.Start Inv-loop μ-loop
+to-start c = c .before .before .before
+
+abbrev to-turn : tie.Then1 Inv-loop μ-loop → tie.In-loop Inv-loop μ-loop
+to-turn c = c .before
+
+-- ---- the needs
 
 loop-holds : tie.Need-loop-holds Inv-loop μ-loop
-loop-holds c = (refl, λ xs w. to-go)
+loop-holds c = λ xs are. run-none _ _ _ _ xs
 
 mul-x : tie.Need-mul-x Inv-loop μ-loop
 mul-x c = search needs
@@ -31,18 +38,17 @@ mul-x c = search needs
 array-copy-out-x : tie.Need-array-copy-out-x Inv-loop μ-loop
 array-copy-out-x c = search needs
 
-array-read-write-place : tie.Need-array-read-write-place Inv-loop μ-loop
-array-read-write-place c = search needs
-
-write-place-requires : tie.Need-write-place-requires Inv-loop μ-loop
-write-place-requires c κs =
-    let p = c .before .before .before .before .before .before .pre in
-    let l = c .before .before .before .loop in
-    let h = c .before .before .loop-test .taken in
+with-set-requires : tie.Need-with-set-requires Inv-loop μ-loop
+with-set-requires c κs =
+    let turn = to-turn (c .before .before .before) in
+    let l = turn .before .loop in
+    let p = to-start (turn .before) .pre in
+    let w = l .inv (p .values) (p .are) in
     record {
+      run = w .run;
       values = getD (p .values) (l .k) [];
-      is = p .are .each (l .k) h;
-      room = present-room _ _ _ (p .values) (p .are) (l .k) (l .inv .1 (p .values) (p .are)) h (p .room);
+      is = p .are .each (l .k) (turn .loop-test .taken);
+      room = run-room w (p .room);
     }
 
 add-k : tie.Need-add-k Inv-loop μ-loop
@@ -52,17 +58,45 @@ loop-less : tie.Need-loop-less Inv-loop μ-loop
 loop-less c = search needs
 
 loop-again : tie.Need-loop-again Inv-loop μ-loop
-loop-again c =
-    let l = c .before .before .before .before .before .before .loop in
-    let h = c .before .before .before .before .before .loop-test .taken in
-    let p = c .before .before .before .before .before .before .before .before .before .pre in
-    (wrote-length (c .before .before .write-place .ensures _ (p .are .each (l .k) h)) ∙ l .inv .0, λ xs w. present-more _ _ _ xs w (l .k) (l .inv .1 xs w) h (c .before .before .write-place .ensures _ (w .each (l .k) h)))
+loop-again c = λ xs are.
+    let turn = to-turn (c .before) in
+    let l = turn .before .loop in
+    let w = l .inv xs are in
+    let inside = turn .loop-test .taken in
+    let place : l .k < length xs = omega (arith, are .long, inside) in
+    ⊎-elim
+    (λ x.
+    let with = x .3 .ensures in
+    run-same (run-more w place (x .0 .taken) (with .0) (with .1 _ (are .each (l .k) inside))) (x .6) (x .7))
+    (λ y. run-same (run-over w place (y .0 .left)) (y .1) (y .2))
+    (c .if2 .came)
+
+copy-part-requires : tie.Need-copy-part-requires Inv-loop μ-loop
+copy-part-requires c κs =
+    let at-loop = c .before .before in
+    let p = to-start at-loop .pre in
+    let w = at-loop .loop .inv (p .values) (p .are) in
+    (w .run .order, w .run .within, run-room w (p .room))
 
 same-length : tie.Need-same-length Inv-loop μ-loop
-same-length c = search needs
+same-length c =
+    let copied = c .before .before in
+    let at-loop = copied .before .before .before in
+    let p = to-start at-loop .pre in
+    wrote-length (copied .copy-part .ensures) ∙ at-loop .loop .inv (p .values) (p .are) .to-write .long
 
 returns : tie.Need-returns Inv-loop μ-loop
-returns c = λ xs w. present-all _ _ _ xs w _ (c .before .loop .inv .1 xs w) (c .loop-test .left)
+returns c = λ xs are.
+    let copied = c .before .before in
+    let left-loop = copied .before .before in
+    let l = left-loop .before .loop in
+    let over : (length xs ≤ l .k) ⊎ (l .bits ≡ 0) =
+    ⊎-elim
+    (λ x. let none : l .bits ≤ 0 = ltb-false 0 (l .bits) (x .1 .left) in inr (omega arith))
+    (λ y. inl (omega (arith, are .long, y .left)))
+    (left-loop .loop-test .came)
+    in
+    run-last (l .inv xs are) over (copied .copy-part .ensures)
 
 pub write-sets-spec : {M : Type 1} → statement M
 write-sets-spec =
@@ -73,10 +107,10 @@ write-sets-spec =
     loop-holds
     mul-x
     array-copy-out-x
-    array-read-write-place
-    write-place-requires
+    with-set-requires
     add-k
     loop-less
     loop-again
+    copy-part-requires
     same-length
     returns)

@@ -3,7 +3,8 @@ use Prim.Native.Nat.{ℕ, _-_, _<_}
 use mathlib.Core.Path.{_≡_, _∙_}
 use lib.ListN.{drop}
 use Rattle.packed.specs.code.Strings.{stringsOf}
-use Rattle.packed.proofs.WriteLaws.{ToGo, to-go, gone, wrote-length}
+use Rattle.packed.specs.code.Written.{ToGo}
+use Rattle.packed.proofs.WriteLaws.{to-go, gone, wrote-length}
 use Rattle.hashing.proofs.ObjectLaws.{following, wrote-none, room-first, room-next, strings-next, wrote-all}
 use borrow.Author.Needs.{needs}
 use Rattle.hashing.proofs.objects.write_objects.Statement.{statement}

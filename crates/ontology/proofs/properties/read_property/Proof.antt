@@ -1,3 +1,4 @@
+use Rattle.ontology.specs.Table.{min, any, strategyNumber}
 use Rattle.ontology.proofs.PropertyLaws.{property-no-name, property-no-kind, property-no-optional, property-no-multivalued, property-no-strategy, property-is, strategy-none, strategy-got}
 use Rattle.ontology.proofs.KindLaws.{kind-got, kind-fail}
 use Rattle.packed.proofs.FieldLaws.{number-got, number-fail, name-got, name-fail, got-bounds}
@@ -7,15 +8,11 @@ use native.Mathlib.Omega.{arith}
 use borrow.Author.Needs.{needs}
 use Rattle.ontology.proofs.properties.read_property.Statement.{statement}
 use Rattle.ontology.proofs.properties.read_property.Tie as tie
-use Rattle.ontology.proofs.properties.read_property.Reads as reads
-use Rattle.ontology.proofs.properties.read_property.Lts as lts
-use Rattle.ontology.proofs.fields.read_flag.Reads as read-flag-reads
-use Rattle.ontology.proofs.properties.read_strategy.Reads as read-strategy-reads
-use Rattle.ontology.proofs.kinds.read_kind.Reads as read-kind-reads
-use Rattle.ontology.proofs.names.read_name.Reads as read-name-reads
 
-small : (c : tie.After-known-told5) → (1 ≤ c .before .strategy .given .0 .0) × (c .before .strategy .given .0 .0 ≤ 7)
-small c = got-bounds 1 7 (number-got (c .before .strategy .given .1) (c .before .before .before .read-strategy .ensures))
+small :
+    (c : tie.After-known-told5) → let n = c .before .strategy .given .0 .0 in
+    (strategyNumber min ≤ n) × (n ≤ strategyNumber any)
+small c = got-bounds (strategyNumber min) (strategyNumber any) (number-got (c .before .strategy .given .1) (c .before .before .before .read-strategy .ensures))
 
 read-name-requires : tie.Need-read-name-requires
 read-name-requires c κs = search needs

@@ -7,7 +7,8 @@ use Rattle.model.specs.Opening.{mergedSets}
 use Rattle.event.specs.Event.{typeView}
 use Rattle.event.specs.EventLayout.{setsBytes}
 use Rattle.event.specs.declared.sets.SetAt.{SetAt}
-use Rattle.packed.proofs.WriteLaws.{ToGo, all-gone}
+use Rattle.packed.specs.code.Written.{ToGo}
+use Rattle.packed.proofs.WriteLaws.{all-gone}
 use Rattle.opening.specs.code.OpenIndex.{SetsRoom}
 use Rattle.opening.proofs.StandLaws.{row-is}
 use Rattle.opening.proofs.WriteRoomLaws.{setsFrom, sets-start, sets-end, row-room, place-room, wrote-absent, set-gone}

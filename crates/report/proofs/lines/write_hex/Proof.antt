@@ -3,7 +3,8 @@ use native.Mathlib.Omega.{arith}
 use Prim.Native.Nat.{_+_, _*_, _-_, _≤_}
 use lib.ListN.{length, drop, length-set}
 use Rattle.report.specs.Report.{hexOf}
-use Rattle.packed.proofs.WriteLaws.{ToGo, all-gone}
+use Rattle.packed.specs.code.Written.{ToGo}
+use Rattle.packed.proofs.WriteLaws.{all-gone}
 use Rattle.report.proofs.LineLaws.{hex-start, hex-end, hex-gone}
 use Rattle.report.proofs.lines.write_hex.Statement.{statement}
 use Rattle.report.proofs.lines.write_hex.Tie as tie

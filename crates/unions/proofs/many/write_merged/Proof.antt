@@ -8,7 +8,8 @@ use Rattle.model.specs.Order.{Text, texts}
 use Rattle.model.specs.Sets.{canon}
 use Rattle.packed.specs.Packed.{text, part}
 use Rattle.packed.proofs.ReadLaws.{part-length}
-use Rattle.packed.proofs.WriteLaws.{ToGo, to-go, wrote-length}
+use Rattle.packed.specs.code.Written.{ToGo}
+use Rattle.packed.proofs.WriteLaws.{to-go, wrote-length}
 use Rattle.unions.specs.declared.many.Least.the-variants.{At}
 use Rattle.unions.specs.code.Merging.{SetRuns, IsLeast}
 use Rattle.unions.proofs.MergeLaws.{Merging, merged-wrote, least-at, least-nothing, least-room, least-wrote}

@@ -6,7 +6,8 @@ use lib.ListN.{length, drop}
 use Rattle.model.specs.Order.{Text, texts}
 use Rattle.model.specs.Sets.{union}
 use Rattle.packed.specs.Packed.{part}
-use Rattle.packed.proofs.WriteLaws.{ToGo, to-go, wrote-length}
+use Rattle.packed.specs.code.Written.{ToGo}
+use Rattle.packed.proofs.WriteLaws.{to-go, wrote-length}
 use mathlib.Core.Path.{_≡_, refl, _∙_}
 use Rattle.unions.specs.code.Runs.{run, Run, StepIs, IsAlone}
 use Rattle.unions.proofs.RunLaws.{Going, steps-next, steps-alone, head-room, head-wrote, alone-room, alone-wrote}
