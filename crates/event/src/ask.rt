@@ -63,7 +63,7 @@ pub fn type_name(event: &[u8]) -> &[u8]
     &event[start..end]
 }
 
-// What is answered where a question is: its number, and nothing of the event.
+// The answer where a question is answered no: its number. The event in it is empty, since nobody reads it then.
 fn refused_with(number: u8, event_type: TypeIndex) -> EventAsked
     ensures { λ r. ⌜ r .number ≡ number ⌝ }
 {
