@@ -3,3 +3,4 @@ pub mod Located
 pub mod Written
 pub mod Comparison
 pub mod Strings
+pub mod Words

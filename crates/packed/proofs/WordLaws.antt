@@ -1,0 +1,234 @@
+-- The laws of words of bytes: words of equal length are in the order of their bytes.
+-- Assumes nothing.
+use mathlib.Core.Path.{_≡_, refl, sym, ap, ap₂, _∙_}
+use mathlib.Core.List.{List, [], _∷_, _++_}
+use mathlib.Core.Logic.{_⊎_, ⊎-elim}
+use Prim.Native.Nat.{ℕ, zero, suc, _+_, _-_, _*_, _%_, _^_, _≤_, _<_, compare, Ordering, Ordering·lt, Ordering·gt}
+use native.Mathlib.Omega.{arith}
+use native.Mathlib.Numerals.{add-one}
+use lib.Bits.{bitAnd, bitOr, or-shifted, and-block, and-self, and-zero-r}
+use lib.ListN.{length, take, drop, getD, replicate, length-drop, take-append-drop}
+use lib.Seq.{getD-drop, take-add, take-suc, take-take}
+use Rattle.model.specs.Order.{texts, numbers, lists, lex, pick, nat-self, nat-same}
+use Rattle.model.proofs.Cases.{three}
+use Rattle.model.proofs.OrderLaws.{lt-compare, gt-compare, eq-compare, compare-lt, compare-gt}
+use Rattle.packed.specs.code.Words.{wordAfter, wordOf}
+use Rattle.packed.proofs.LayoutLaws.{lt-or-ge}
+use Rattle.packed.proofs.ReadLaws.{drop-next}
+use Rattle.packed.proofs.OrderLaws.{order-first, order-second, order-same}
+
+-- each element is a byte
+abbrev pub Bytes : List ℕ → Type 0
+Bytes s = (k : ℕ) → getD s k 0 < 256
+
+bytes-drop : (s : List ℕ) (i : ℕ) → Bytes s → Bytes (drop i s)
+bytes-drop s i h k = rw (getD-drop i s k 0) (h (i + k))
+
+-- ---- order
+
+-- two digits more: the digits before decide, then these, and then what follows
+digit-order :
+    (m n a b : ℕ) (o : Ordering) → a < 256 → b < 256 →
+    pick (compare m n) Ordering·lt (pick (compare a b) Ordering·lt o Ordering·gt) Ordering·gt
+    ≡ pick (compare (256 * m + a) (256 * n + b)) Ordering·lt o Ordering·gt
+digit-order m n a b o p q =
+    three (compare m n)
+    (λ l. let h = compare-lt m n l in rw (l, lt-compare (256 * m + a) (256 * n + b) (omega arith)))
+    (λ s. let h = nat-same m n s in
+    rw s
+    (three (compare a b)
+    (λ l. let k = compare-lt a b l in rw (l, lt-compare (256 * m + a) (256 * n + b) (omega arith)))
+    (λ t. let k = nat-same a b t in rw (t, eq-compare (256 * m + a) (256 * n + b) (omega arith)))
+    (λ g. let k = compare-gt a b g in rw (g, gt-compare (256 * m + a) (256 * n + b) (omega arith)))))
+    (λ g. let h = compare-gt m n g in rw (g, gt-compare (256 * m + a) (256 * n + b) (omega arith)))
+
+-- the order of two lists of bytes is that of the words of their first k bytes, and then that of what is left
+pub words-order :
+    (k m n : ℕ) (x y : List ℕ) → Bytes x → Bytes y → k ≤ length x → k ≤ length y →
+    pick (compare m n) Ordering·lt (lex numbers x y) Ordering·gt
+    ≡ pick (compare (wordAfter m (take k x)) (wordAfter n (take k y))) Ordering·lt (lex numbers (drop k x) (drop k y)) Ordering·gt
+unfolding wordAfter lex numbers
+words-order zero m n x y p q h l = refl
+words-order (suc k) m n [] y p q h l = absurd (omega arith)
+words-order (suc k) m n (a ∷ x) [] p q h l = absurd (omega arith)
+words-order (suc k) m n (a ∷ x) (b ∷ y) p q h l =
+    digit-order m n a b (lex numbers x y) (p 0) (q 0)
+    ∙ words-order k (256 * m + a) (256 * n + b) x y (λ j. p (suc j)) (λ j. q (suc j)) (omega arith) (omega arith)
+
+-- equal words are of equal bytes
+words-same :
+    (k m n : ℕ) (x y : List ℕ) → Bytes x → Bytes y → k ≤ length x → k ≤ length y →
+    wordAfter m (take k x) ≡ wordAfter n (take k y) → (m ≡ n) × (take k x ≡ take k y)
+unfolding wordAfter
+words-same zero m n x y p q h l e = (e, refl)
+words-same (suc k) m n [] y p q h l e = absurd (omega arith)
+words-same (suc k) m n (a ∷ x) [] p q h l e = absurd (omega arith)
+words-same (suc k) m n (a ∷ x) (b ∷ y) p q h l e =
+    let s = words-same k (256 * m + a) (256 * n + b) x y (λ j. p (suc j)) (λ j. q (suc j)) (omega arith) (omega arith) e in
+    let u = p 0 in
+    let v = q 0 in
+    let d : a ≡ b = omega (arith, s .0) in
+    (omega (arith, s .0), ap₂ {C = List ℕ} (λ z zs. z ∷ zs) d (s .1))
+
+-- ---- where the first bytes are the same
+
+prefix-order : (x u v : List ℕ) → texts .cmp (x ++ u) (x ++ v) ≡ texts .cmp u v
+unfolding texts lists lex numbers
+prefix-order [] u v = refl
+prefix-order (a ∷ x) u v = rw (nat-self a) (prefix-order x u v)
+
+pub alike-at : (a b : List ℕ) (i j : ℕ) → i ≡ j → take j a ≡ take j b → take i a ≡ take i b
+alike-at a b i j e h = rw e h
+
+module _ (a b : List ℕ) (i : ℕ) (e : take i a ≡ take i b) where
+  pub alike-order : texts .cmp a b ≡ texts .cmp (drop i a) (drop i b)
+  alike-order =
+      ap₂ (texts .cmp) (sym (take-append-drop i a)) (sym (take-append-drop i b) ∙ ap (λ (x : List ℕ). x ++ drop i b) (sym e))
+      ∙ prefix-order (take i a) (drop i a) (drop i b)
+
+  pub alike-before : (j : ℕ) → j ≤ i → take j a ≡ take j b
+  alike-before j h = sym (take-take j i a h) ∙ ap (take j) e ∙ take-take j i b h
+
+  -- one of them is at its end
+  pub alike-end : (n : ℕ) → n ≤ i → i ≤ length a → i ≤ length b → (length a ≤ n) ⊎ (length b ≤ n) → texts .cmp a b ≡ compare (length a) (length b)
+  alike-end n j h k d = alike-order ∙
+      three (compare (length a) (length b))
+      (λ l. let m = compare-lt (length a) (length b) l in
+      order-first a b i (⊎-elim (λ (x : length a ≤ n). omega arith) (λ (x : length b ≤ n). omega arith) d) (omega arith) ∙ sym l)
+      (λ s. let m = nat-same (length a) (length b) s in
+      order-same a b i (⊎-elim (λ (x : length a ≤ n). omega arith) (λ (x : length b ≤ n). omega arith) d) (⊎-elim (λ (x : length a ≤ n). omega arith) (λ (x : length b ≤ n). omega arith) d) ∙ sym s)
+      (λ g. let m = compare-gt (length a) (length b) g in
+      order-second a b i (omega arith) (⊎-elim (λ (x : length a ≤ n). omega arith) (λ (x : length b ≤ n). omega arith) d) ∙ sym g)
+
+  pub alike-byte : i < length a → i < length b → getD a i 0 ≡ getD b i 0 → take (i + 1) a ≡ take (i + 1) b
+  alike-byte h k g = rw add-one (take-suc a i 0 h ∙ ap₂ {C = List ℕ} (λ x y. x ++ (y ∷ [])) e g ∙ sym (take-suc b i 0 k))
+
+  module _ (p : Bytes a) (q : Bytes b) (n : ℕ) (h : i + n ≤ length a) (k : i + n ≤ length b) where
+    pub alike-word : wordOf (take n (drop i a)) ≡ wordOf (take n (drop i b)) → take (i + n) a ≡ take (i + n) b
+    unfolding wordOf
+    alike-word w =
+        let s = words-same n 0 0 (drop i a) (drop i b) (bytes-drop a i p) (bytes-drop b i q) (omega (arith, length-drop i a)) (omega (arith, length-drop i b)) w in
+        take-add i n a ∙ ap₂ {C = List ℕ} (λ x y. x ++ y) e (s .1) ∙ sym (take-add i n b)
+
+    by-word : texts .cmp a b
+        ≡ pick (compare (wordOf (take n (drop i a))) (wordOf (take n (drop i b)))) Ordering·lt (lex numbers (drop n (drop i a)) (drop n (drop i b))) Ordering·gt
+    unfolding wordOf texts lists
+    by-word = alike-order
+        ∙ words-order n 0 0 (drop i a) (drop i b) (bytes-drop a i p) (bytes-drop b i q) (omega (arith, length-drop i a)) (omega (arith, length-drop i b))
+
+    pub word-less : wordOf (take n (drop i a)) < wordOf (take n (drop i b)) → texts .cmp a b ≡ Ordering·lt
+    word-less l = by-word ∙ rw (lt-compare (wordOf (take n (drop i a))) (wordOf (take n (drop i b))) l)
+
+    pub word-more : wordOf (take n (drop i b)) < wordOf (take n (drop i a)) → texts .cmp a b ≡ Ordering·gt
+    word-more l = by-word ∙ rw (gt-compare (wordOf (take n (drop i a))) (wordOf (take n (drop i b))) l)
+
+-- ---- reading a word
+
+-- the first bytes from i on
+first-byte : (s : List ℕ) (i next k : ℕ) → i < length s → i + 1 ≡ next → take (suc k) (drop i s) ≡ getD s i 0 ∷ take k (drop next s)
+first-byte s i next k h e = rw (drop-next s i h, e)
+
+pub eight :
+    (s : List ℕ) (at : ℕ) → at + 8 ≤ length s →
+    take 8 (drop at s)
+    ≡ getD s at 0 ∷ getD s (at + 1) 0 ∷ getD s (at + 2) 0 ∷ getD s (at + 3) 0 ∷ getD s (at + 4) 0 ∷ getD s (at + 5) 0 ∷ getD s (at + 6) 0 ∷ getD s (at + 7) 0 ∷ []
+eight s at h =
+    rw (
+      first-byte s at (at + 1) 7 (omega arith) refl,
+      first-byte s (at + 1) (at + 2) 6 (omega arith) (omega arith),
+      first-byte s (at + 2) (at + 3) 5 (omega arith) (omega arith),
+      first-byte s (at + 3) (at + 4) 4 (omega arith) (omega arith),
+      first-byte s (at + 4) (at + 5) 3 (omega arith) (omega arith),
+      first-byte s (at + 5) (at + 6) 2 (omega arith) (omega arith),
+      first-byte s (at + 6) (at + 7) 1 (omega arith) (omega arith),
+      first-byte s (at + 7) (at + 8) 0 (omega arith) (omega arith),
+    )
+
+pub four : (s : List ℕ) (at : ℕ) → at + 4 ≤ length s → take 4 (drop at s) ≡ getD s at 0 ∷ getD s (at + 1) 0 ∷ getD s (at + 2) 0 ∷ getD s (at + 3) 0 ∷ []
+four s at h =
+    rw (
+      first-byte s at (at + 1) 3 (omega arith) refl,
+      first-byte s (at + 1) (at + 2) 2 (omega arith) (omega arith),
+      first-byte s (at + 2) (at + 3) 1 (omega arith) (omega arith),
+      first-byte s (at + 3) (at + 4) 0 (omega arith) (omega arith),
+    )
+
+-- what stands below the lowest bit of n that is shifted by k
+under : (k n : ℕ) {w low v : ℕ} → w ≡ n * 2 ^ k → low < 2 ^ k → n * 2 ^ k + low ≡ v → bitOr w low ≡ v
+under k n {w} {low} {v} e l s = ap (λ (x : ℕ). bitOr x low) e ∙ or-shifted n k low l ∙ s
+
+pub joined :
+    (a b c d e f g h : ℕ) → a < 256 → b < 256 → c < 256 → d < 256 → e < 256 → f < 256 → g < 256 → h < 256 →
+    bitOr (bitOr (bitOr (bitOr (bitOr (bitOr (bitOr (a * 72057594037927936 % 18446744073709551616) (b * 281474976710656 % 18446744073709551616)) (c * 1099511627776 % 18446744073709551616)) (d * 4294967296 % 18446744073709551616)) (e * 16777216 % 18446744073709551616)) (f * 65536 % 18446744073709551616)) (g * 256 % 18446744073709551616)) h
+    ≡ wordOf (a ∷ b ∷ c ∷ d ∷ e ∷ f ∷ g ∷ h ∷ [])
+unfolding wordOf wordAfter
+joined a b c d e f g h pa pb pc pd pe pf pg ph =
+    let na : ℕ = 256 * 0 + a in
+    let wa : a * 72057594037927936 % 18446744073709551616 ≡ na * 2 ^ 56 = omega arith in
+    let nb : ℕ = 256 * na + b in
+    let wb : bitOr (a * 72057594037927936 % 18446744073709551616) (b * 281474976710656 % 18446744073709551616) ≡ nb * 2 ^ 48 = under 56 na wa (omega arith) (omega arith) in
+    let nc : ℕ = 256 * nb + c in
+    let wc : bitOr (bitOr (a * 72057594037927936 % 18446744073709551616) (b * 281474976710656 % 18446744073709551616)) (c * 1099511627776 % 18446744073709551616) ≡ nc * 2 ^ 40 = under 48 nb wb (omega arith) (omega arith) in
+    let nd : ℕ = 256 * nc + d in
+    let wd : bitOr (bitOr (bitOr (a * 72057594037927936 % 18446744073709551616) (b * 281474976710656 % 18446744073709551616)) (c * 1099511627776 % 18446744073709551616)) (d * 4294967296 % 18446744073709551616) ≡ nd * 2 ^ 32 = under 40 nc wc (omega arith) (omega arith) in
+    let ne : ℕ = 256 * nd + e in
+    let we : bitOr (bitOr (bitOr (bitOr (a * 72057594037927936 % 18446744073709551616) (b * 281474976710656 % 18446744073709551616)) (c * 1099511627776 % 18446744073709551616)) (d * 4294967296 % 18446744073709551616)) (e * 16777216 % 18446744073709551616) ≡ ne * 2 ^ 24 = under 32 nd wd (omega arith) (omega arith) in
+    let nf : ℕ = 256 * ne + f in
+    let wf : bitOr (bitOr (bitOr (bitOr (bitOr (a * 72057594037927936 % 18446744073709551616) (b * 281474976710656 % 18446744073709551616)) (c * 1099511627776 % 18446744073709551616)) (d * 4294967296 % 18446744073709551616)) (e * 16777216 % 18446744073709551616)) (f * 65536 % 18446744073709551616) ≡ nf * 2 ^ 16 = under 24 ne we (omega arith) (omega arith) in
+    let ng : ℕ = 256 * nf + g in
+    let wg : bitOr (bitOr (bitOr (bitOr (bitOr (bitOr (a * 72057594037927936 % 18446744073709551616) (b * 281474976710656 % 18446744073709551616)) (c * 1099511627776 % 18446744073709551616)) (d * 4294967296 % 18446744073709551616)) (e * 16777216 % 18446744073709551616)) (f * 65536 % 18446744073709551616)) (g * 256 % 18446744073709551616) ≡ ng * 2 ^ 8 = under 16 nf wf (omega arith) (omega arith) in
+    let nh : ℕ = 256 * ng + h in
+    let wh : bitOr (bitOr (bitOr (bitOr (bitOr (bitOr (bitOr (a * 72057594037927936 % 18446744073709551616) (b * 281474976710656 % 18446744073709551616)) (c * 1099511627776 % 18446744073709551616)) (d * 4294967296 % 18446744073709551616)) (e * 16777216 % 18446744073709551616)) (f * 65536 % 18446744073709551616)) (g * 256 % 18446744073709551616)) h ≡ nh = under 8 ng wg (omega arith) (omega arith) in
+    wh
+
+pub joined-four :
+    (a b c d : ℕ) → a < 256 → b < 256 → c < 256 → d < 256 →
+    bitOr (bitOr (bitOr (a * 16777216 % 18446744073709551616) (b * 65536 % 18446744073709551616)) (c * 256 % 18446744073709551616)) d ≡ wordOf (a ∷ b ∷ c ∷ d ∷ [])
+unfolding wordOf wordAfter
+joined-four a b c d pa pb pc pd =
+    let na : ℕ = 256 * 0 + a in
+    let wa : a * 16777216 % 18446744073709551616 ≡ na * 2 ^ 24 = omega arith in
+    let nb : ℕ = 256 * na + b in
+    let wb : bitOr (a * 16777216 % 18446744073709551616) (b * 65536 % 18446744073709551616) ≡ nb * 2 ^ 16 = under 24 na wa (omega arith) (omega arith) in
+    let nc : ℕ = 256 * nb + c in
+    let wc : bitOr (bitOr (a * 16777216 % 18446744073709551616) (b * 65536 % 18446744073709551616)) (c * 256 % 18446744073709551616) ≡ nc * 2 ^ 8 = under 16 nb wb (omega arith) (omega arith) in
+    let nd : ℕ = 256 * nc + d in
+    let wd : bitOr (bitOr (bitOr (a * 16777216 % 18446744073709551616) (b * 65536 % 18446744073709551616)) (c * 256 % 18446744073709551616)) d ≡ nd = under 8 nc wc (omega arith) (omega arith) in
+    wd
+
+-- ---- bytes whose top bit is clear
+
+high-bit : (a : ℕ) → a < 256 → bitAnd a 128 ≡ 0 → a < 128
+high-bit a h e =
+    ⊎-elim (λ (l : a < 128). l)
+    (λ (g : 128 ≤ a).
+    let s : a ≡ 1 * 2 ^ 7 + (a - 128) = omega arith in
+    let b : bitAnd (1 * 2 ^ 7 + (a - 128)) (1 * 2 ^ 7 + 0) ≡ bitAnd 1 1 * 2 ^ 7 + bitAnd (a - 128) 0 = and-block 7 1 1 (a - 128) 0 (omega arith) (omega arith) in
+    let o : bitAnd a 128 ≡ 1 * 2 ^ 7 + 0 = ap (λ (x : ℕ). bitAnd x 128) s ∙ b ∙ ap₂ (λ x y. x * 2 ^ 7 + y) (and-self 1) (and-zero-r (a - 128)) in
+    absurd (omega (arith, o, e)))
+    (lt-or-ge a 128)
+
+low-bytes :
+    (k m n : ℕ) (x : List ℕ) → Bytes x → k ≤ length x →
+    bitAnd (wordAfter m (take k x)) (wordAfter n (replicate k 128)) ≡ 0 → (bitAnd m n ≡ 0) × ((j : ℕ) → j < k → getD x j 0 < 128)
+unfolding wordAfter
+low-bytes zero m n x p h e = (e, λ j l. absurd (omega arith))
+low-bytes (suc k) m n [] p h e = absurd (omega arith)
+low-bytes (suc k) m n (a ∷ x) p h e =
+    let s = low-bytes k (256 * m + a) (256 * n + 128) x (λ j. p (suc j)) (omega arith) e in
+    let u : 256 * m + a ≡ m * 2 ^ 8 + a = omega arith in
+    let v : 256 * n + 128 ≡ n * 2 ^ 8 + 128 = omega arith in
+    let b : bitAnd m n * 2 ^ 8 + bitAnd a 128 ≡ 0 = sym (and-block 8 m n a 128 (p 0) (omega arith)) ∙ ap₂ bitAnd (sym u) (sym v) ∙ s .0 in
+    (omega (arith, b), low (high-bit a (p 0) (omega (arith, b))) (s .1))
+  where
+    low : a < 128 → ((j : ℕ) → j < k → getD x j 0 < 128) → (j : ℕ) → j < suc k → getD (a ∷ x) j 0 < 128
+    low h f zero l = h
+    low h f (suc j) l = f j (omega arith)
+
+pub all-low :
+    (s : List ℕ) (at w : ℕ) → Bytes s → at + 8 ≤ length s → w ≡ wordOf (take 8 (drop at s)) → bitAnd w 0x8080808080808080 ≡ 0 →
+    (k : ℕ) → k < 8 → getD s (at + k) 0 < 128
+unfolding wordOf wordAfter
+all-low s at w p h q e k l =
+    rw (← getD-drop at s k 0)
+    (low-bytes 8 0 0 (drop at s) (bytes-drop s at p) (omega (arith, length-drop at s)) (ap (λ (x : ℕ). bitAnd x 0x8080808080808080) (sym q) ∙ e) .1 k l)
