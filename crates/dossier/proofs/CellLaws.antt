@@ -18,14 +18,12 @@ use Rattle.model.proofs.Cases.{and-false, and-true}
 use Rattle.model.proofs.SizeLaws.{held-size}
 use Rattle.packed.proofs.LayoutLaws.{lt-or-ge}
 use Rattle.ontology.specs.Table.{Property, EventType, isMin, isMax, isMatch, isVersioned}
-use Rattle.ontology.specs.code.TypeIndex.{PropertyIs, hasExtreme, hasMatch, TypeIs}
+use Rattle.ontology.specs.code.TypeIndex.{PropertyIs, propertyIn, PropertiesAre, hasExtreme, hasMatch}
 use Rattle.ontology.specs.declared.properties.PropertyAt.{PropertyAt}
-use Rattle.ontology.specs.declared.types.TypeIndex.{TypeIndex}
 use Rattle.ontology.proofs.TypeIndexLaws.{extreme-of, match-of}
 use Rattle.event.specs.EventLayout.{bitNumber}
 use Rattle.event.specs.EventQuestions.{matchCount}
-use Rattle.event.specs.code.EventIndex.{SetsAre, noSet}
-use Rattle.event.specs.declared.sets.SetAt.{SetAt}
+use Rattle.event.specs.code.EventIndex.{setIn, SetsAre}
 use Rattle.event.proofs.EventLayoutLaws.{low-bit, high-bits}
 use Rattle.event.proofs.MatchLaws.{Elem, elem}
 use Rattle.dossier.specs.DossierBody.{differBit}
@@ -82,10 +80,6 @@ module _ (s : List ℕ) (q : Property) (x : PropertyAt) (c : Cell) (marked : Boo
       pub cell-plain : versioned ≡ false → {r : Bool} → r ≡ (not marked && (not (hasExtreme x) || leb count 1)) → r ≡ cellFits versioned q c
       cell-plain h k = k ∙ plain ∙ sym (rest ∙ ap (λ (t : Bool). cond t (isLoneIfSingle q c) (not (isMark c) && isLoneIfExtreme q c)) h)
 
--- what is asked by the index of a type is what is asked by the type
-pub cell-typed : (s : List ℕ) (ty : EventType) (t : TypeIndex) (q : Property) (c : Cell) {r : Bool} → TypeIs s ty t → r ≡ cellFits (ltb 0 (t .mark)) q c → r ≡ cellFits (isVersioned ty) q c
-cell-typed s ty t q c w e = e ∙ ap (λ (n : ℕ). cellFits (ltb 0 n) q c) (w .mark)
-
 -- ---- the cells
 
 pub held-at : (cs : List Cell) (k : ℕ) → getD (map held cs) k [] ≡ held (getD cs k (holds []))
@@ -128,25 +122,25 @@ module _ (cs : List Cell) (k bits : ℕ) (b : bits ≡ bitNumber (map differBit 
   pub bits-next : bits / 2 ≡ bitNumber (map differBit (drop (k + 1) cs))
   bits-next = ap (λ (n : ℕ). n / 2) bits-here ∙ high-bits bit after (differ-small (getD cs k (holds [])))
 
-module _ (s : List ℕ) (cs : List Cell) (differ : ℕ) (ats : List SetAt) (v : CellsAre s cs differ ats) (k bits : ℕ) (h : k < 32) (b : bits ≡ bitNumber (map differBit (drop k cs))) where
+module _ (s : List ℕ) (cs : List Cell) (differ : ℕ) (ats : List ℕ) (v : CellsAre s cs differ ats) (k bits : ℕ) (h : k < 32) (b : bits ≡ bitNumber (map differBit (drop k cs))) where
   long : k < length cs
   long = omega (arith, v .sets .long, length-map cs held)
 
-  pub cell-here : CellIs (getD cs k (holds [])) (eqb (bits % 2) 1) (getD ats k noSet .count)
+  pub cell-here : CellIs (getD cs k (holds [])) (eqb (bits % 2) 1) (setIn ats k .count)
   cell-here = record { mark = mark-here cs k bits b; size = v .sets .each k h .count ∙ ap length (held-at cs k) }
 
   -- the objects from k on
   module _ (left : ℕ) (o : left ≡ sizes (drop k cs)) where
-    sizes-step : left ≡ getD ats k noSet .count + sizes (drop (k + 1) cs)
+    sizes-step : left ≡ setIn ats k .count + sizes (drop (k + 1) cs)
     unfolding sizes
     sizes-step =
         let e : sizes (drop k cs) ≡ size (getD cs k (holds [])) + sizes (drop (k + 1) cs) = rw (drop-cons cs k (holds []) long, add-one) in
         omega (arith, o, e, held-size (getD cs k (holds [])), cell-here .size)
 
-    pub left-few : left < getD ats k noSet .count → ⊥
+    pub left-few : left < setIn ats k .count → ⊥
     left-few l = omega (arith, sizes-step)
 
-    pub left-next : left - getD ats k noSet .count ≡ sizes (drop (k + 1) cs)
+    pub left-next : left - setIn ats k .count ≡ sizes (drop (k + 1) cs)
     left-next = omega (arith, sizes-step)
 
   -- the cells from k on
@@ -178,11 +172,9 @@ all-vacant f (holds (v ∷ vs) ∷ cs) = rw (ne-eqb (length (v ∷ vs)) 0 (λ e.
 
 -- no property is left
 pub cells-end :
-    (s : List ℕ) (ty : EventType) (t : TypeIndex) (cs : List Cell) (f : Bool) (k bits left : ℕ) → TypeIs s ty t → t .count ≤ k → bits ≡ bitNumber (map differBit (drop k cs)) → left ≡ sizes (drop k cs) →
-    eachCell (cellFits f) isVacant (drop k (ty .properties)) (drop k cs) ≡ (eqb bits 0 && eqb left 0)
-cells-end s ty t cs f k bits left w h b o =
-    let l : length (ty .properties) ≤ k = omega (arith, w .count) in
-    rw (drop-of-length-le (ty .properties) l, b, o) (all-vacant (cellFits f) (drop k cs))
+    (qs : List Property) (cs : List Cell) (f : Bool) (k bits left : ℕ) → length qs ≤ k → bits ≡ bitNumber (map differBit (drop k cs)) → left ≡ sizes (drop k cs) →
+    eachCell (cellFits f) isVacant (drop k qs) (drop k cs) ≡ (eqb bits 0 && eqb left 0)
+cells-end qs cs f k bits left l b o = rw (drop-of-length-le qs l, b, o) (all-vacant (cellFits f) (drop k cs))
 
 -- ---- the match objects
 
@@ -193,31 +185,32 @@ leb-sub n m l h =
     (λ (a : m ≤ l - n). le-leb (n + m) l (omega arith) ∙ sym (le-leb m (l - n) a))
     (lt-or-ge (l - n) m)
 
-module _ (s u : List ℕ) (ty : EventType) (t : TypeIndex) (xs : List (List Text)) (ats : List SetAt) (d : PropertyAt) (w : TypeIs s ty t) (v : SetsAre u xs ats) (k left : ℕ) (h : k < t .count) where
-  this : Elem (ty .properties) k
-  this = elem (ty .properties) k (omega (arith, w .count))
+module _
+    (s u : List ℕ) (qs : List Property) (many : ℕ) (ps : List ℕ) (xs : List (List Text)) (ats : List ℕ)
+    (w : PropertiesAre s qs many ps) (v : SetsAre u xs ats) (k left : ℕ) (h : k < many)
+  where
+    this : Elem qs k
+    this = elem qs k (omega (arith, w .count))
 
-  pub few-here : k < 32
-  few-here = omega (arith, w .few)
+    pub few-here : k < 32
+    few-here = omega (arith, w .few)
 
-  step : matchCount (drop k (ty .properties)) (drop k xs) ≡ cond (isMatch (this .what)) (length (getD xs k [])) 0 + matchCount (drop (k + 1) (ty .properties)) (drop (k + 1) xs)
-  unfolding matchCount
-  step = let l : k < length xs = omega (arith, v .long, few-here) in rw (this .split, drop-cons xs k [] l, add-one)
+    step : matchCount (drop k qs) (drop k xs) ≡ cond (isMatch (this .what)) (length (getD xs k [])) 0 + matchCount (drop (k + 1) qs) (drop (k + 1) xs)
+    unfolding matchCount
+    step = let l : k < length xs = omega (arith, v .long, few-here) in rw (this .split, drop-cons xs k [] l, add-one)
 
-  module _ (n : ℕ) (e : n ≡ cond (hasMatch (getD (t .properties) k d)) (getD ats k noSet .count) 0) where
-    same-n : cond (isMatch (this .what)) (length (getD xs k [])) 0 ≡ n
-    same-n = sym (e ∙ ap₂ (λ (b : Bool) (m : ℕ). cond b m 0) (match-of (w .are .each k (this .what) d (this .is))) (v .each k few-here .count))
+    module _ (n : ℕ) (e : n ≡ cond (hasMatch (propertyIn ps k)) (setIn ats k .count) 0) where
+      same-n : cond (isMatch (this .what)) (length (getD xs k [])) 0 ≡ n
+      same-n = sym (e ∙ ap₂ (λ (b : Bool) (m : ℕ). cond b m 0) (match-of (w .each k (this .what) (this .is))) (v .each k few-here .count))
 
-    pub match-large : left < n → leb (matchCount (drop k (ty .properties)) (drop k xs)) left ≡ false
-    match-large g = lt-leb (matchCount (drop k (ty .properties)) (drop k xs)) left (omega (arith, step, same-n))
+      pub match-large : left < n → leb (matchCount (drop k qs) (drop k xs)) left ≡ false
+      match-large g = lt-leb (matchCount (drop k qs) (drop k xs)) left (omega (arith, step, same-n))
 
-    pub match-more : n ≤ left → leb (matchCount (drop k (ty .properties)) (drop k xs)) left ≡ leb (matchCount (drop (k + 1) (ty .properties)) (drop (k + 1) xs)) (left - n)
-    match-more g =
-        ap (λ (m : ℕ). leb m left) (step ∙ ap (λ (m : ℕ). m + matchCount (drop (k + 1) (ty .properties)) (drop (k + 1) xs)) same-n)
-        ∙ leb-sub n (matchCount (drop (k + 1) (ty .properties)) (drop (k + 1) xs)) left g
+      pub match-more : n ≤ left → leb (matchCount (drop k qs) (drop k xs)) left ≡ leb (matchCount (drop (k + 1) qs) (drop (k + 1) xs)) (left - n)
+      match-more g =
+          ap (λ (m : ℕ). leb m left) (step ∙ ap (λ (m : ℕ). m + matchCount (drop (k + 1) qs) (drop (k + 1) xs)) same-n)
+          ∙ leb-sub n (matchCount (drop (k + 1) qs) (drop (k + 1) xs)) left g
 
-pub match-end : (s : List ℕ) (ty : EventType) (t : TypeIndex) (xs : List (List Text)) (k left : ℕ) → TypeIs s ty t → t .count ≤ k → leb (matchCount (drop k (ty .properties)) (drop k xs)) left ≡ true
+pub match-end : (qs : List Property) (xs : List (List Text)) (k left : ℕ) → length qs ≤ k → leb (matchCount (drop k qs) (drop k xs)) left ≡ true
 unfolding matchCount
-match-end s ty t xs k left w h =
-    let l : length (ty .properties) ≤ k = omega (arith, w .count) in
-    rw (drop-of-length-le (ty .properties) l) (le-leb 0 left (omega arith))
+match-end qs xs k left l = rw (drop-of-length-le qs l) (le-leb 0 left (omega arith))

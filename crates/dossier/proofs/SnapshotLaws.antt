@@ -19,10 +19,9 @@ use Rattle.packed.proofs.ReadLaws.{NumberStops, stretch}
 use Rattle.values.specs.declared.versions.EventVersion.{EventVersion}
 use Rattle.event.specs.Event.{objectCount}
 use Rattle.event.specs.EventLayout.{readBits, readSets, presenceBit, bitNumber, setsBytes}
-use Rattle.event.specs.code.EventIndex.{SetsAre, SetsStop, SetsReads, noSet}
+use Rattle.event.specs.code.EventIndex.{SetsAre, SetsStop, SetsReads, setIn}
 use Rattle.event.proofs.EventLayoutLaws.{SetsWas, sets-was}
 use Rattle.event.proofs.EventSizeLaws.{each-within}
-use Rattle.event.specs.declared.sets.SetAt.{SetAt}
 use Rattle.event.specs.declared.sets.SetsRead.{SetsRead}
 use Rattle.event.proofs.EventReadLaws.{sets-wrong}
 use Rattle.dossier.specs.DossierBody.{apart, cellsOf, areSmall, readSnapshot, snapshotBytes}
@@ -64,14 +63,14 @@ apart-end left m n (inr h) = let z : n ≡ 0 = omega arith in rw z (apart-none l
 pub few-small : (xs : List (List Text)) (objects : ℕ) → objects ≤ 256 → objects ≡ objectCount xs → true ≡ areSmall xs
 few-small xs objects h e = sym (all-small xs (each-within 256 xs (omega arith)))
 
-module _ (s : List ℕ) (xs : List (List Text)) (ats : List SetAt) (w : SetsAre s xs ats) (k : ℕ) where
-  pub small-bad : k < 32 → 256 < getD ats k noSet .count → areSmall (drop k xs) ≡ false
+module _ (s : List ℕ) (xs : List (List Text)) (ats : List ℕ) (w : SetsAre s xs ats) (k : ℕ) where
+  pub small-bad : k < 32 → 256 < setIn ats k .count → areSmall (drop k xs) ≡ false
   unfolding areSmall
   small-bad h b =
       let l : k < length xs = omega (arith, w .long) in
       rw (drop-cons xs k [] l, lt-leb (length (getD xs k [])) 256 (omega (arith, w .each k h .count)))
 
-  pub small-step : k < 32 → getD ats k noSet .count ≤ 256 → areSmall (drop k xs) ≡ areSmall (drop (k + 1) xs)
+  pub small-step : k < 32 → setIn ats k .count ≤ 256 → areSmall (drop k xs) ≡ areSmall (drop (k + 1) xs)
   unfolding areSmall
   small-step h b =
       let l : k < length xs = omega (arith, w .long) in

@@ -15,7 +15,7 @@ use Rattle.model.specs.Opening.{held, cellAt}
 use Rattle.values.specs.Decimal.{inDecimal}
 use Rattle.ontology.specs.Table.{EventType, isVersioned}
 use Rattle.event.specs.EventQuestions.{matchCount}
-use Rattle.event.specs.code.EventIndex.{SetIs, noSet}
+use Rattle.event.specs.code.EventIndex.{SetIs, setIn}
 use Rattle.dossier.specs.DossierQuestions.{eachCell, isVacant, holdsVersion}
 use Rattle.dossier.specs.code.DossierIndex.{SnapshotIs, CellsAre, cellFits, versionFits, snapshotFits}
 use Rattle.dossier.specs.declared.snapshots.SnapshotIndex.{SnapshotIndex}
@@ -51,9 +51,9 @@ module _ (s : List ℕ) (y : Snapshot) (x : SnapshotIndex) (w : SnapshotIs s y x
       ∙ ap (λ (c : Cell). equal sets (held c) (inDecimal (y .version) ∷ [])) (List·getD-eq-default (y .cells) (holds []) l)
       ∙ equal-false sets [] (inDecimal (y .version) ∷ []) .1 (λ e. absurd (omega (arith, ap length e))))
 
-  pub holds-set : 1 ≤ mark → mark ≤ 32 → SetIs s (held (cellAt y (mark - 1))) (getD (x .sets) (mark - 1) noSet)
+  pub holds-set : 1 ≤ mark → mark ≤ 32 → SetIs s (held (cellAt y (mark - 1))) (setIn (x .sets) (mark - 1))
   unfolding cellAt
-  holds-set o h = subst (λ (vs : List Text). SetIs s vs (getD (x .sets) (mark - 1) noSet)) (held-at (y .cells) (mark - 1)) (w .sets .each (mark - 1) (omega arith))
+  holds-set o h = subst (λ (vs : List Text). SetIs s vs (setIn (x .sets) (mark - 1))) (held-at (y .cells) (mark - 1)) (w .sets .each (mark - 1) (omega arith))
 
   pub holds-here : {r : Bool} → r ≡ equal sets (held (cellAt y (mark - 1))) (inDecimal (x .version .0) ∷ []) → r ≡ holdsVersion (y .version) (cellAt y (mark - 1))
   holds-here e = e ∙ ap (λ (v : ℕ). equal sets (held (cellAt y (mark - 1))) (inDecimal v ∷ [])) (w .version) ∙ sym (holds-held (y .version) (cellAt y (mark - 1)))

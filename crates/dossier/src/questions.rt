@@ -3,6 +3,7 @@ ghost use mathlib.Core.Path.{_≡_};
 ghost use mathlib.Core.Bool.{true, cond, _&&_, _||_};
 ghost use mathlib.Core.Option.{some};
 ghost use mathlib.Core.List.{List};
+ghost use lib.ListN.{length};
 ghost use lib.Dec.{ltb, eqb};
 ghost use Rattle.model.specs.Order.{Text, sets, lists, equal};
 ghost use Rattle.model.specs.Rule.{Snapshot};
@@ -10,7 +11,7 @@ ghost use Rattle.model.specs.Limits.{standard};
 ghost use Rattle.packed.specs.Parse.{got};
 ghost use Rattle.ontology.specs.Table.{EventType, Table, typeNamed};
 ghost use Rattle.ontology.specs.TableLayout.{tableOf};
-ghost use Rattle.ontology.specs.code.TypeIndex.{TypeIs, TypeSays};
+ghost use Rattle.ontology.specs.code.TypeIndex.{PropertiesAre, TypeIs, TypeSays};
 ghost use Rattle.event.specs.code.EventIndex.{SetsAre, KindsAre};
 ghost use Rattle.event.specs.Agreement.{matchSets};
 ghost use Rattle.dossier.specs.DossierLayout.{Headed, dossierOf};
@@ -24,34 +25,54 @@ use crate::snapshots::read_snapshot;
 use event::agree::is_match_same;
 use event::head::heads_agree;
 use event::head::text_part;
-use event::sets::SetAt;
 use event::spaces::sets_in_space;
 use ontology::tables::TableRead;
 use ontology::types::TypeIndex;
 
 // The number of the first question of 5 and 6 that the snapshot at the front of b, whose index is y, is refused by, or 0. The sets x of the bytes a are
 // those of the first snapshot, which all have the match sets of.
-fn ask_read(a: &[u8], x: [SetAt; 32], b: &[u8], y: SnapshotIndex, t: TypeIndex) -> u8
-    requires { ⌜ t .count ≤ 32 ⌝ }
-    ensures { λ r. ⌜ ((u : List ℕ) (ty : EventType) (xs : List (List Text)) (z : Snapshot) → TypeIs u ty t → KindsAre ty → SetsAre (now (a .entry)) xs x → SnapshotIs (now (b .entry)) z y → r ≡ shapeNumber (snapshotFits ty z && equal (lists sets) (matchSets (ty .properties) xs) (snapshotMatch ty z)) (snapshotValues ty z)) ⌝ }
+fn ask_read(
+    a: &[u8],
+    x: &[usize],
+    b: &[u8],
+    y: SnapshotIndex,
+    mark: usize,
+    count: usize,
+    properties: &[usize],
+) -> u8
+    requires { ⌜ (count ≤ 32) × (length (now x) ≡ 96) × (length (now properties) ≡ 96) ⌝ }
+    ensures { λ r. ⌜ ((u : List ℕ) (ty : EventType) (xs : List (List Text)) (z : Snapshot) → mark ≡ ty .mark
+        → PropertiesAre u (ty .properties) count (now (properties .entry)) → KindsAre ty → SetsAre (now (a .entry)) xs (now (x .entry)) → SnapshotIs (now (b .entry)) z y
+        → r ≡ shapeNumber (snapshotFits ty z && equal (lists sets) (matchSets (ty .properties) xs) (snapshotMatch ty z)) (snapshotValues ty z)) ⌝ }
 {
-    if !snapshot_fits(b, y, t) {
+    if !snapshot_fits(b, y, mark, count, properties) {
         return 5;
     }
-    let sets = y.sets;
-    if !is_match_same(t, a, x, b, sets) {
+    if !is_match_same(count, properties, a, x, b, &y.sets) {
         return 5;
     }
-    if sets_in_space(b, sets, t) { 0 } else { 6 }
+    if sets_in_space(b, &y.sets, count, properties) {
+        0
+    } else {
+        6
+    }
 }
 
 // The same of the snapshot at the front of b, which is read here.
-fn ask_snapshot(a: &[u8], x: [SetAt; 32], b: &[u8], t: TypeIndex) -> u8
-    requires { ⌜ t .count ≤ 32 ⌝ }
-    ensures { λ r. ⌜ ((u v : List ℕ) (ty : EventType) (xs : List (List Text)) (y : Snapshot) → TypeIs u ty t → KindsAre ty → SetsAre (now (a .entry)) xs x → readSnapshot (now (b .entry)) ≡ got y v → r ≡ shapeNumber (snapshotFits ty y && equal (lists sets) (matchSets (ty .properties) xs) (snapshotMatch ty y)) (snapshotValues ty y)) ⌝ }
+fn ask_snapshot(
+    a: &[u8],
+    x: &[usize],
+    b: &[u8],
+    mark: usize,
+    count: usize,
+    properties: &[usize],
+) -> u8
+    requires { ⌜ (count ≤ 32) × (length (now x) ≡ 96) × (length (now properties) ≡ 96) ⌝ }
+    ensures { λ r. ⌜ ((u v : List ℕ) (ty : EventType) (xs : List (List Text)) (y : Snapshot) → mark ≡ ty .mark
+        → PropertiesAre u (ty .properties) count (now (properties .entry)) → KindsAre ty → SetsAre (now (a .entry)) xs (now (x .entry)) → readSnapshot (now (b .entry)) ≡ got y v
+        → r ≡ shapeNumber (snapshotFits ty y && equal (lists sets) (matchSets (ty .properties) xs) (snapshotMatch ty y)) (snapshotValues ty y)) ⌝ }
 {
-    let y = read_snapshot(b);
-    ask_read(a, x, b, y, t)
+    ask_read(a, x, b, read_snapshot(b), mark, count, properties)
 }
 
 // What comes first of the numbers so far and the next one, where neither is 5.
@@ -81,8 +102,15 @@ fn ask_snapshots(s: &[u8], d: DossierIndex, t: TypeIndex) -> u8
     }
     let front = d.starts[0];
     let first = d.first;
-    let sets = first.sets;
-    let asked = ask_read(&s[front..], sets, &s[front..], first, t);
+    let asked = ask_read(
+        &s[front..],
+        &d.first.sets,
+        &s[front..],
+        first,
+        t.mark,
+        t.count,
+        &t.properties,
+    );
     if asked == 5 {
         return 5;
     }
@@ -90,7 +118,14 @@ fn ask_snapshots(s: &[u8], d: DossierIndex, t: TypeIndex) -> u8
     let mut j: usize = 1;
     while j < d.count {
         let at = d.starts[j];
-        let next = ask_snapshot(&s[front..], sets, &s[at..], t);
+        let next = ask_snapshot(
+            &s[front..],
+            &d.first.sets,
+            &s[at..],
+            t.mark,
+            t.count,
+            &t.properties,
+        );
         if next == 5 {
             return 5;
         }
@@ -151,9 +186,12 @@ pub fn dossiers_agree(a: &[u8], d: DossierIndex, b: &[u8], e: DossierIndex, t: T
     }
     let left = d.starts[0];
     let right = e.starts[0];
-    let one = d.first;
-    let two = e.first;
-    let these = one.sets;
-    let others = two.sets;
-    is_match_same(t, &a[left..], these, &b[right..], others)
+    is_match_same(
+        t.count,
+        &t.properties,
+        &a[left..],
+        &d.first.sets,
+        &b[right..],
+        &e.first.sets,
+    )
 }

@@ -2,26 +2,28 @@ ghost use Prim.Native.Nat.{ℕ, _-_, _≤_};
 ghost use mathlib.Core.Path.{_≡_};
 ghost use mathlib.Core.Bool.{not, _&&_, _||_};
 ghost use mathlib.Core.List.{List, [], _∷_};
+ghost use lib.ListN.{length};
 ghost use lib.Dec.{leb};
 ghost use Rattle.model.specs.Order.{Text, sets, equal};
 ghost use Rattle.model.specs.Rule.{Cell, Snapshot, sizes};
 ghost use Rattle.model.specs.Opening.{cellAt};
 ghost use Rattle.values.specs.Decimal.{inDecimal};
-ghost use Rattle.ontology.specs.Table.{Property, EventType, isVersioned};
-ghost use Rattle.ontology.specs.code.TypeIndex.{PropertyIs, hasExtreme, hasMatch, TypeIs};
+ghost use Rattle.ontology.specs.Table.{Property, EventType};
+ghost use Rattle.ontology.specs.code.TypeIndex.{PropertyIs, PropertiesAre, hasExtreme, hasMatch};
 ghost use Rattle.event.specs.EventQuestions.{matchCount};
 ghost use Rattle.event.specs.code.EventIndex.{SetIs, SetsAre};
 ghost use Rattle.dossier.specs.DossierQuestions.{eachCell, isVacant, holdsVersion};
 ghost use Rattle.dossier.specs.code.DossierIndex.{CellIs, CellsAre, cellFits, snapshotFits, versionFits, SnapshotIs};
 use crate::snapshots::SnapshotIndex;
 use event::sets::SetAt;
+use event::sets::set_at;
 use event::sets::set_part;
 use event::sets::value_in;
 use event::shape::matches_at;
 use ontology::properties::PropertyAt;
 use ontology::properties::is_extreme;
 use ontology::properties::is_match;
-use ontology::types::TypeIndex;
+use ontology::properties::property_at;
 use values::numerals::is_in_decimal;
 use values::versions::EventVersion;
 
@@ -91,17 +93,29 @@ fn cell_fits(p: PropertyAt, versioned: bool, marked: bool, count: usize) -> bool
 }
 
 // The same of each place. The differ bits and the objects that are left after the last property stand at places without one.
-fn cells_fit(t: TypeIndex, differ: u64, objects: usize, sets: [SetAt; 32]) -> bool
-    requires { ⌜ t .count ≤ 32 ⌝ }
-    ensures { λ r. ⌜ ((s u : List ℕ) (ty : EventType) (cs : List Cell) → TypeIs s ty t → CellsAre u cs differ sets → objects ≡ sizes cs → r ≡ eachCell (cellFits (isVersioned ty)) isVacant (ty .properties) cs) ⌝ }
+fn cells_fit(
+    versioned: bool,
+    count: usize,
+    properties: &[usize],
+    differ: u64,
+    objects: usize,
+    sets: &[usize],
+) -> bool
+    requires { ⌜ (count ≤ 32) × (length (now properties) ≡ 96) × (length (now sets) ≡ 96) ⌝ }
+    ensures { λ r. ⌜ ((s u : List ℕ) (qs : List Property) (cs : List Cell) → PropertiesAre s qs count (now (properties .entry))
+        → CellsAre u cs differ (now (sets .entry)) → objects ≡ sizes cs → r ≡ eachCell (cellFits versioned) isVacant qs cs) ⌝ }
 {
     let mut bits = differ;
     let mut left = objects;
     let mut k: usize = 0;
-    while k < t.count {
-        let p = t.properties[k];
-        let x = sets[k];
-        if !cell_fits(p, 0 < t.mark, bits % 2 == 1, x.count) {
+    while k < count {
+        let x = set_at(sets, k);
+        if !cell_fits(
+            property_at(properties, k),
+            versioned,
+            bits % 2 == 1,
+            x.count,
+        ) {
             return false;
         }
         if left < x.count {
@@ -118,16 +132,16 @@ fn cells_fit(t: TypeIndex, differ: u64, objects: usize, sets: [SetAt; 32]) -> bo
 }
 
 // At most 32 match objects.
-fn is_match_small(t: TypeIndex, sets: [SetAt; 32]) -> bool
-    requires { ⌜ t .count ≤ 32 ⌝ }
-    ensures { λ r. ⌜ ((s u : List ℕ) (ty : EventType) (xs : List (List Text)) → TypeIs s ty t → SetsAre u xs sets → r ≡ leb (matchCount (ty .properties) xs) 32) ⌝ }
+fn is_match_small(count: usize, properties: &[usize], sets: &[usize]) -> bool
+    requires { ⌜ (count ≤ 32) × (length (now properties) ≡ 96) × (length (now sets) ≡ 96) ⌝ }
+    ensures { λ r. ⌜ ((s u : List ℕ) (qs : List Property) (xs : List (List Text)) → PropertiesAre s qs count (now (properties .entry))
+        → SetsAre u xs (now (sets .entry)) → r ≡ leb (matchCount qs xs) 32) ⌝ }
 {
     let mut left: usize = 32;
     let mut k: usize = 0;
-    while k < t.count {
-        let p = t.properties[k];
-        let x = sets[k];
-        let n = matches_at(p, x.count);
+    while k < count {
+        let x = set_at(sets, k);
+        let n = matches_at(property_at(properties, k), x.count);
         if left < n {
             return false;
         }
@@ -155,7 +169,7 @@ fn holds_version(s: &[u8], x: SnapshotIndex, mark: usize) -> bool
     if 32 < mark {
         return false;
     }
-    let set = x.sets[mark - 1];
+    let set = set_at(&x.sets, mark - 1);
     let version = x.version;
     is_version(s, set, version)
 }
@@ -177,16 +191,22 @@ fn fits_by_version(s: &[u8], x: SnapshotIndex, mark: usize) -> bool
 }
 
 // All that question 5 asks of one snapshot.
-pub fn snapshot_fits(s: &[u8], x: SnapshotIndex, t: TypeIndex) -> bool
-    requires { ⌜ t .count ≤ 32 ⌝ }
-    ensures { λ r. ⌜ ((u : List ℕ) (ty : EventType) (y : Snapshot) → TypeIs u ty t → SnapshotIs (now (s .entry)) y x → r ≡ snapshotFits ty y) ⌝ }
+pub fn snapshot_fits(
+    s: &[u8],
+    x: SnapshotIndex,
+    mark: usize,
+    count: usize,
+    properties: &[usize],
+) -> bool
+    requires { ⌜ (count ≤ 32) × (length (now properties) ≡ 96) ⌝ }
+    ensures { λ r. ⌜ ((u : List ℕ) (ty : EventType) (y : Snapshot) → mark ≡ ty .mark → PropertiesAre u (ty .properties) count (now (properties .entry))
+        → SnapshotIs (now (s .entry)) y x → r ≡ snapshotFits ty y) ⌝ }
 {
-    let sets = x.sets;
-    if !cells_fit(t, x.differ, x.objects, sets) {
+    if !cells_fit(0 < mark, count, properties, x.differ, x.objects, &x.sets) {
         return false;
     }
-    if !is_match_small(t, sets) {
+    if !is_match_small(count, properties, &x.sets) {
         return false;
     }
-    fits_by_version(s, x, t.mark)
+    fits_by_version(s, x, mark)
 }

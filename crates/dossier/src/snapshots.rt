@@ -11,8 +11,8 @@ ghost use Rattle.event.specs.code.EventIndex.{SetsAre};
 ghost use Rattle.dossier.specs.DossierBody.{apart, areSmall, readSnapshot};
 ghost use Rattle.dossier.specs.code.DossierIndex.{NumbersRead, SnapshotReads, PassedIs, PassedSays};
 use event::lookup::skip_sets;
-use event::sets::SetAt;
 use event::sets::read_sets;
+use event::sets::set_at;
 use packed::read::NumberAt;
 use packed::read::read_number;
 use values::versions::EventVersion;
@@ -26,7 +26,7 @@ pub struct SnapshotIndex {
     pub differ: u64,
     pub after_differ: usize,
     pub objects: usize,
-    pub sets: [SetAt; 32],
+    pub sets: [usize; 96],
 }
 
 // Whether a snapshot stands at a place, its version and differ number, and the position after it.
@@ -97,15 +97,16 @@ fn read_numbers(s: &[u8]) -> NumbersAt
 }
 
 // Whether each set has at most 256 values. None has more than there are objects in all.
-fn are_small(sets: [SetAt; 32], objects: usize) -> bool
-    ensures { λ r. ⌜ ((s : List ℕ) (xs : List (List Text)) → SetsAre s xs sets → objects ≡ objectCount xs → r ≡ areSmall xs) ⌝ }
+fn are_small(sets: &[usize], objects: usize) -> bool
+    requires { ⌜ length (now sets) ≡ 96 ⌝ }
+    ensures { λ r. ⌜ ((s : List ℕ) (xs : List (List Text)) → SetsAre s xs (now (sets .entry)) → objects ≡ objectCount xs → r ≡ areSmall xs) ⌝ }
 {
     if objects <= 256 {
         return true;
     }
     let mut k: usize = 0;
     while k < 32 {
-        let x = sets[k];
+        let x = set_at(sets, k);
         if 256 < x.count {
             return false;
         }
@@ -117,11 +118,6 @@ fn are_small(sets: [SetAt; 32], objects: usize) -> bool
 pub fn no_snapshot() -> SnapshotIndex
     ensures { λ r. ⌜ r .ok ≡ false ⌝ }
 {
-    let none = SetAt {
-        start: 0,
-        end: 0,
-        count: 0,
-    };
     SnapshotIndex {
         ok: false,
         next: 0,
@@ -130,7 +126,7 @@ pub fn no_snapshot() -> SnapshotIndex
         differ: 0,
         after_differ: 0,
         objects: 0,
-        sets: [none; 32],
+        sets: [0; 96],
     }
 }
 
@@ -151,10 +147,10 @@ pub fn read_snapshot(s: &[u8]) -> SnapshotIndex
     if !found.ok {
         return no_snapshot();
     }
-    let sets = found.sets;
-    if !are_small(sets, found.objects) {
+    if !are_small(&found.sets, found.objects) {
         return no_snapshot();
     }
+    let sets = found.sets;
     SnapshotIndex {
         ok: true,
         next: found.next,

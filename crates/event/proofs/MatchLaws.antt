@@ -16,9 +16,8 @@ use Rattle.packed.specs.Packed.{text, readText}
 use Rattle.packed.proofs.LayoutLaws.{text-read, text-length, number-bounds}
 use Rattle.packed.proofs.ReadLaws.{part-length}
 use Rattle.ontology.specs.Table.{Property, EventType, isMatch}
-use Rattle.ontology.specs.code.TypeIndex.{PropertyIs, hasMatch, TypeIs}
+use Rattle.ontology.specs.code.TypeIndex.{PropertyIs, propertyIn, PropertiesAre, hasMatch}
 use Rattle.ontology.specs.declared.properties.PropertyAt.{PropertyAt}
-use Rattle.ontology.specs.declared.types.TypeIndex.{TypeIndex}
 use Rattle.ontology.proofs.TypeIndexLaws.{match-of}
 use Rattle.event.specs.code.EventIndex.{SetIs, SetsAre}
 use Rattle.event.specs.declared.sets.SetAt.{SetAt}
@@ -89,17 +88,17 @@ equal-more : (a b : List Text) (l m : List (List Text)) → equal (lists sets) (
 unfolding equal lists lex
 equal-more a b l m = three (sets .cmp a b) (λ e. rw e) (λ e. rw e) (λ e. rw e)
 
-module _ (s : List ℕ) (ty : EventType) (t : TypeIndex) (w : TypeIs s ty t) (k : ℕ) (h : k < t .count) where
+module _ (s : List ℕ) (ty : EventType) (n : ℕ) (ps : List ℕ) (w : PropertiesAre s (ty .properties) n ps) (k : ℕ) (h : k < n) where
   pub this : Elem (ty .properties) k
   this = elem (ty .properties) k (omega (arith, w .count))
 
   pub in-all : k < 32
   in-all = omega (arith, w .few)
 
-  pub this-is : (d : PropertyAt) → PropertyIs s (this .what) (getD (t .properties) k d)
-  this-is d = w .are .each k (this .what) d (this .is)
+  pub this-is : PropertyIs s (this .what) (propertyIn ps k)
+  this-is = w .each k (this .what) (this .is)
 
-  module _ (u v : List ℕ) (xs ys : List (List Text)) (ats bts : List SetAt) (a : SetsAre u xs ats) (b : SetsAre v ys bts) where
+  module _ (u v : List ℕ) (xs ys : List (List Text)) (ats bts : List ℕ) (a : SetsAre u xs ats) (b : SetsAre v ys bts) where
     here : (zs : List (List Text)) → length zs ≡ 32 → matchSets (drop k (ty .properties)) (drop k zs) ≡ cond (isMatch (this .what)) (getD zs k [] ∷ matchSets (drop (k + 1) (ty .properties)) (drop (k + 1) zs)) (matchSets (drop (k + 1) (ty .properties)) (drop (k + 1) zs))
     unfolding matchSets
     here zs l = let m : k < length zs = omega (arith, l, w .few) in rw (this .split, drop-cons zs k [] m, add-one)
@@ -117,8 +116,6 @@ module _ (s : List ℕ) (ty : EventType) (t : TypeIndex) (w : TypeIs s ty t) (k 
     pub same-more : {r : Bool} → r ≡ (not (isMatch (this .what)) || equal sets (getD xs k []) (getD ys k [])) → r ≡ true → equal (lists sets) (matchSets (drop k (ty .properties)) (drop k xs)) (matchSets (drop k (ty .properties)) (drop k ys)) ≡ equal (lists sets) (matchSets (drop (k + 1) (ty .properties)) (drop (k + 1) xs)) (matchSets (drop (k + 1) (ty .properties)) (drop (k + 1) ys))
     same-more e f = step ∙ ap (λ (x : Bool). x && equal (lists sets) (matchSets (drop (k + 1) (ty .properties)) (drop (k + 1) xs)) (matchSets (drop (k + 1) (ty .properties)) (drop (k + 1) ys))) (sym e ∙ f)
 
-pub same-end : (s : List ℕ) (ty : EventType) (t : TypeIndex) (xs ys : List (List Text)) (k : ℕ) → TypeIs s ty t → t .count ≤ k → equal (lists sets) (matchSets (drop k (ty .properties)) (drop k xs)) (matchSets (drop k (ty .properties)) (drop k ys)) ≡ true
+pub same-end : (ty : EventType) (xs ys : List (List Text)) (k : ℕ) → length (ty .properties) ≤ k → equal (lists sets) (matchSets (drop k (ty .properties)) (drop k xs)) (matchSets (drop k (ty .properties)) (drop k ys)) ≡ true
 unfolding matchSets
-same-end s ty t xs ys k w h =
-    let l : length (ty .properties) ≤ k = omega (arith, w .count) in
-    rw (drop-of-length-le (ty .properties) l) (equal-true (lists sets) [] [] .1 refl)
+same-end ty xs ys k l = rw (drop-of-length-le (ty .properties) l) (equal-true (lists sets) [] [] .1 refl)

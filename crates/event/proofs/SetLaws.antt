@@ -3,12 +3,12 @@ use mathlib.Core.Path.{_≡_, refl, sym, ap, ap₂, _∙_, subst}
 use mathlib.Core.Bool.{Bool, true, false}
 use mathlib.Core.Logic.{_⊎_, inl, inr}
 use mathlib.Core.List.{List, [], _∷_, _++_, append-assoc, append-nil, map, flatten}
-use Prim.Native.Nat.{ℕ, zero, suc, _+_, _-_, _/_, _%_, _^_, _≤_, _<_, Ordering, Ordering·lt, Ordering·eq, Ordering·gt}
+use Prim.Native.Nat.{ℕ, zero, suc, _+_, _-_, _*_, _/_, _%_, _^_, _≤_, _<_, Ordering, Ordering·lt, Ordering·eq, Ordering·gt}
 use native.Mathlib.Nat.{sub-self, le-refl}
 use native.Mathlib.Omega.{arith}
 use lib.Dec.{eqb}
-use lib.ListN.{length, drop, getD, set, replicate, length-append, length-drop, length-set, length-replicate}
-use lib.Seq.{getD-at, getD-set-same, getD-set-other}
+use lib.ListN.{length, drop, getD, replicate, length-append, length-drop, length-replicate}
+use lib.Seq.{getD-at}
 use borrow.Author.Tests.{le-leb, eq-eqb, ne-eqb, eqb-true, eqb-false}
 use Rattle.model.specs.Order.{Text, texts, rising, pick}
 use Rattle.packed.specs.Parse.{Parse, fail, got, Layout, andThen, _>>=_, foundIf, times, All}
@@ -17,9 +17,10 @@ use Rattle.packed.proofs.LayoutLaws.{andThen-got, foundIf-got, times-was, text-
 use Rattle.packed.proofs.ReadLaws.{TextStops, stretch}
 pub use Rattle.ontology.proofs.RunLaws.{prepend}
 use Rattle.ontology.proofs.RunLaws.{prepend-nil, prepend-one}
+use Rattle.ontology.proofs.TripleLaws.{putThree, three-long, three-first, three-second, three-third, three-zero, three-other}
 use Rattle.event.specs.Event.{objectCount}
 use Rattle.event.specs.EventLayout.{readSet, readPlace, readSets, setBytes}
-use Rattle.event.specs.code.EventIndex.{countSize, SetIs, noSet, SetsAre, SetStops, SetReads, SetsStop, SetsReads}
+use Rattle.event.specs.code.EventIndex.{countSize, SetIs, noSet, setIn, SetsAre, SetStops, SetReads, SetsStop, SetsReads}
 use Rattle.event.proofs.EventLayoutLaws.{set-was, nonempty-was}
 use Rattle.event.specs.declared.sets.SetAt.{SetAt}
 use Rattle.event.specs.declared.sets.SetRead.{SetRead}
@@ -286,8 +287,28 @@ sets-got : (p : Parse (List (List Text))) (xs : List (List Text)) (t s : List �
 unfolding SetsReads
 sets-got p xs t s r e w = rw e w
 
+-- a set that was taken from the numbers stands where they say
+pub set-read : {s : List ℕ} {vs : List Text} {x y : SetAt} → x ≡ y → SetIs s vs y → SetIs s vs x
+set-read {s} {vs} e w = subst (SetIs s vs) (sym e) w
+
+-- a set that is put among those of all places
+module _ (ats : List ℕ) (k : ℕ) (x : SetAt) where
+  set-here : 3 * k + 2 < length ats → setIn (putThree ats k (x .start) (x .end) (x .count)) k ≡ x
+  set-here h = rw (
+    three-first ats k (x .start) (x .end) (x .count) h,
+    three-second ats k (x .start) (x .end) (x .count) h,
+    three-third ats k (x .start) (x .end) (x .count) h,
+  ) refl
+
+  set-other : (i : ℕ) → (i ≡ k → ⊥) → setIn (putThree ats k (x .start) (x .end) (x .count)) i ≡ setIn ats i
+  set-other i n = rw (
+    three-zero ats k (x .start) (x .end) (x .count) i n,
+    three-other ats k (x .start) (x .end) (x .count) i 1 (omega arith) n,
+    three-other ats k (x .start) (x .end) (x .count) i 2 (omega arith) n,
+  ) refl
+
 -- The first k places are read: their sets are xs, and the others stand from `next` on. A place that is not read yet has the empty set
-pub record Sofar (p : Parse (List (List Text))) (s : List ℕ) (ats : List SetAt) (bits next objects k : ℕ) : Type 0 where
+pub record Sofar (p : Parse (List (List Text))) (s ats : List ℕ) (bits next objects k : ℕ) : Type 0 where
   pub xs : List (List Text)
   pub long : length xs ≡ k
   pub few : k ≤ 32
@@ -295,14 +316,14 @@ pub record Sofar (p : Parse (List (List Text))) (s : List ℕ) (ats : List SetAt
   pub within : next ≤ length s
   pub summed : objects ≡ objectCount xs
   pub small : objects ≤ next
-  pub each : (i : ℕ) → SetIs s (getD xs i []) (getD ats i noSet)
-  pub ats-long : length ats ≡ 32
+  pub each : (i : ℕ) → SetIs s (getD xs i []) (setIn ats i)
+  pub ats-long : length ats ≡ 96
 
 no-values : (s : List ℕ) → SetIs s [] noSet
 unfolding flatten countSize setBytes
 no-values s = record { bytes = refl; count = refl; order = omega arith; within = omega arith; counted = omega arith; whole = refl }
 
-pub sofar-none : (s : List ℕ) (bits at : ℕ) → at ≤ length s → Sofar (readSets 32 bits (drop at s)) s (replicate 32 noSet) bits at 0 0
+pub sofar-none : (s : List ℕ) (bits at : ℕ) → at ≤ length s → Sofar (readSets 32 bits (drop at s)) s (replicate 96 0) bits at 0 0
 unfolding objectCount
 sofar-none s bits at h = record {
   xs = [];
@@ -312,11 +333,11 @@ sofar-none s bits at h = record {
   within = h;
   summed = refl;
   small = omega arith;
-  each = λ i. subst (SetIs s []) (sym (getD-filled noSet [] 32 i)) (no-values s);
+  each = λ i. rw (getD-filled {A = ℕ} 0 [] 96 (3 * i), getD-filled {A = ℕ} 0 [] 96 (3 * i + 1), getD-filled {A = ℕ} 0 [] 96 (3 * i + 2)) (no-values s);
   ats-long = refl;
 }
 
-module _ (p : Parse (List (List Text))) (s : List ℕ) (ats : List SetAt) (bits next objects k : ℕ) (w : Sofar p s ats bits next objects k) where
+module _ (p : Parse (List (List Text))) (s ats : List ℕ) (bits next objects k : ℕ) (w : Sofar p s ats bits next objects k) where
   one-more : k < 32 → suc (32 - (k + 1)) ≡ 32 - k
   one-more h = omega arith
 
@@ -327,19 +348,21 @@ module _ (p : Parse (List (List Text))) (s : List ℕ) (ats : List SetAt) (bits 
       ∙ ap (prepend (w .xs)) (sets-stop (32 - (k + 1)) bits (drop next s) e)
 
   module _ (x : SetAt) (h : k < 32) (t : SetStops (readPlace (bits % 2) (drop next s)) s x) where
-    stand-last : SetIs s (getD (w .xs ++ (t .what ∷ [])) k []) (getD (set ats k x) k noSet)
-    stand-last =
-        let a : k < length ats = omega (arith, w .ats-long) in
-        rw (getD-set-same ats k x noSet a, getD-at (w .xs) (t .what) [] [] k (w .long)) (t .stands)
+    -- the numbers with the set x at place k
+    abbrev after : List ℕ
+    after = putThree ats k (x .start) (x .end) (x .count)
 
-    stand : (i : ℕ) → SetIs s (getD (w .xs ++ (t .what ∷ [])) i []) (getD (set ats k x) i noSet)
+    stand-last : SetIs s (getD (w .xs ++ (t .what ∷ [])) k []) (setIn after k)
+    stand-last = rw (set-here ats k x (omega (arith, w .ats-long)), getD-at (w .xs) (t .what) [] [] k (w .long)) (t .stands)
+
+    stand : (i : ℕ) → SetIs s (getD (w .xs ++ (t .what ∷ [])) i []) (setIn after i)
     stand i = go (eqb i k) refl
       where
-        go : (b : Bool) → eqb i k ≡ b → SetIs s (getD (w .xs ++ (t .what ∷ [])) i []) (getD (set ats k x) i noSet)
+        go : (b : Bool) → eqb i k ≡ b → SetIs s (getD (w .xs ++ (t .what ∷ [])) i []) (setIn after i)
         go true e = rw (eqb-true i k e) stand-last
         go false e =
             let ne = eqb-false i k e in
-            rw (getD-set-other ats k i x noSet ne, getD-other [] (w .xs) (t .what) i (λ q. ne (q ∙ w .long))) (w .each i)
+            rw (set-other ats k x i ne, getD-other [] (w .xs) (t .what) i (λ q. ne (q ∙ w .long))) (w .each i)
 
     -- the objects of a set are no more than its bytes
     pub few-more : (next ≤ x .end) × (x .count ≤ x .end - next)
@@ -348,7 +371,7 @@ module _ (p : Parse (List (List Text))) (s : List ℕ) (ats : List SetAt) (bits 
         let l = stretch s (setBytes (t .what)) next (x .end) (w .within) (t .stands .within) b in
         (l .1, omega (arith, t .stands .count, set-long (t .what), l .2))
 
-    pub sofar-more : Sofar p s (set ats k x) (bits / 2) (x .end) (objects + x .count) (k + 1)
+    pub sofar-more : Sofar p s after (bits / 2) (x .end) (objects + x .count) (k + 1)
     sofar-more = record {
       xs = w .xs ++ (t .what ∷ []);
       long = length-append (w .xs) (t .what ∷ []) ∙ ap (λ (n : ℕ). n + 1) (w .long);
@@ -362,7 +385,7 @@ module _ (p : Parse (List (List Text))) (s : List ℕ) (ats : List SetAt) (bits 
       summed = omega (arith, w .summed, t .stands .count, objects-append (w .xs) (t .what ∷ []), objects-one (t .what));
       small = omega (arith, w .small, few-more .0, few-more .1);
       each = stand;
-      ats-long = length-set ats k x ∙ w .ats-long;
+      ats-long = three-long ats k (x .start) (x .end) (x .count) ∙ w .ats-long;
     }
 
   left-clear : (32 ≤ k) ⊎ (bits ≤ 0) → readSets (32 - k) bits (drop next s) ≡ got (replicate (32 - k) []) (drop next s)

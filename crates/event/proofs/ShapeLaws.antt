@@ -14,9 +14,8 @@ use borrow.Author.Tests.{ltb-true, le-leb, lt-leb, ne-eqb}
 use Rattle.model.specs.Order.{Text}
 use Rattle.model.proofs.Cases.{and-true, and-false}
 use Rattle.ontology.specs.Table.{Property, EventType, isMatch, atPlace}
-use Rattle.ontology.specs.code.TypeIndex.{PropertyIs, hasMatch, TypeIs}
+use Rattle.ontology.specs.code.TypeIndex.{PropertyIs, propertyIn, PropertiesAre, hasMatch}
 use Rattle.ontology.specs.declared.properties.PropertyAt.{PropertyAt}
-use Rattle.ontology.specs.declared.types.TypeIndex.{TypeIndex}
 use Rattle.ontology.proofs.TypeIndexLaws.{match-of}
 use Rattle.event.specs.Event.{Event, objectCount}
 use Rattle.event.specs.EventQuestions.{eachPlace, isEmpty, setFits, matchCount, eventShape}
@@ -66,20 +65,17 @@ none-past [] i e = omega arith
 none-past (x ∷ xs) zero e = let z : _≡_ {A = ℕ} 0 1 = cc in absurd (omega arith)
 none-past (x ∷ xs) (suc i) e = omega (arith, none-past xs i e)
 
--- no property, where an array begins
-abbrev pub noProperty : PropertyAt
-noProperty = record { start = 0; end = 0; kind = 0; size = 0; after = 0; sign = 0; optional = false; multivalued = false; strategy = 0 }
-
--- what is said of a place that has a property, by the type's index
+-- what is said of a place that has a property
 pub place-said :
-    {A : Type 0} (s : List ℕ) (t : EventType) (x : TypeIndex) (d : PropertyAt) (k : ℕ) (b : A) (f : Property → A) (a : A) → TypeIs s t x → ltb k (x .count) ≡ true →
-    ((q : Property) → getElem? (t .properties) k ≡ some q → PropertyIs s q (getD (x .properties) k d) → a ≡ f q) → a ≡ atPlace b f (getElem? (t .properties) k)
+    {A : Type 0} (s : List ℕ) (t : EventType) (n : ℕ) (ps : List ℕ) (k : ℕ) (b : A) (f : Property → A) (a : A) →
+    PropertiesAre s (t .properties) n ps → ltb k n ≡ true →
+    ((q : Property) → getElem? (t .properties) k ≡ some q → PropertyIs s q (propertyIn ps k) → a ≡ f q) → a ≡ atPlace b f (getElem? (t .properties) k)
 unfolding atPlace
-place-said s t x d k b f a w h g = go (getElem? (t .properties) k) refl
+place-said s t n ps k b f a w h g = go (getElem? (t .properties) k) refl
   where
     go : (o : Option Property) → getElem? (t .properties) k ≡ o → a ≡ atPlace b f o
-    go none e = absurd (omega (arith, w .count, ltb-true k (x .count) h, none-past (t .properties) k e))
-    go (some q) e = g q e (w .are .each k q d e)
+    go none e = absurd (omega (arith, w .count, ltb-true k n h, none-past (t .properties) k e))
+    go (some q) e = g q e (w .each k q e)
 
 -- ---- all places
 
@@ -175,9 +171,8 @@ module _ (t : EventType) (x : Event) (left matches k : ℕ) (w : Shape (t .prope
       objects = omega (arith, w .objects, objects-step k (x .sets) h);
     }
 
-  pub shape-end : (table : List ℕ) (i : TypeIndex) → TypeIs table t i → i .count ≤ k → matches ≤ 32 → eqb left 0 ≡ eventShape t x
+  pub shape-end : length (t .properties) ≤ k → matches ≤ 32 → eqb left 0 ≡ eventShape t x
   unfolding eventShape
-  shape-end table i u h m =
-      let l : length (t .properties) ≤ k = omega (arith, u .count) in
+  shape-end l m =
       let c : matchCount (t .properties) (x .sets) ≤ 32 = omega (arith, w .count, match-end k (t .properties) (x .sets) l) in
       sym (rw (w .each, drop-of-length-le (t .properties) l, all-empty setFits (drop k (x .sets)), ← w .objects, le-leb _ _ c) (and-true (eqb left 0)))

@@ -16,9 +16,8 @@ use Rattle.values.specs.Spaces.{Kind, isKind, inSpace}
 use Rattle.values.specs.code.KindNumbers.{kindOf}
 use Rattle.values.proofs.SpaceLaws.{kind-numbered}
 use Rattle.ontology.specs.Table.{Property, EventType, atPlace}
-use Rattle.ontology.specs.code.TypeIndex.{KindIs, TypeIs}
 use Rattle.ontology.specs.declared.properties.PropertyAt.{PropertyAt}
-use Rattle.ontology.specs.declared.types.TypeIndex.{TypeIndex}
+use Rattle.ontology.specs.code.TypeIndex.{KindIs, propertyIn, PropertiesAre}
 use Rattle.event.specs.EventQuestions.{eachPlace, areInSpace, valuesFit}
 use Rattle.event.specs.code.EventIndex.{KindsAre}
 use Rattle.event.proofs.LookupLaws.{text-there, text-next}
@@ -86,12 +85,19 @@ module _ (k : Kind) (b : Bool) (s : List ℕ) (at : ℕ) (w : InSpace k b s at) 
 abbrev pub placeSpace : Option Property → List Text → Bool
 placeSpace o s = atPlace true (λ q. areInSpace (q .kind) s) o
 
--- what is asked of a place that has a property, by the type's index
+-- what is asked of a place that has a property
 pub place-space :
-    (table : List ℕ) (y : EventType) (x : TypeIndex) (d : PropertyAt) (k : ℕ) (vs : List Text) (r : Bool) → TypeIs table y x → KindsAre y → ltb k (x .count) ≡ true →
-    let p = getD (x .properties) k d in
+    (table : List ℕ) (y : EventType) (n : ℕ) (ps : List ℕ) (k : ℕ) (vs : List Text) (r : Bool) →
+    PropertiesAre table (y .properties) n ps → KindsAre y → ltb k n ≡ true →
+    let p = propertyIn ps k in
     ((a : Kind) → kindOf (p .kind) (p .size) (p .after) (p .sign) ≡ some a → isKind a ≡ true → r ≡ areInSpace a vs) → r ≡ placeSpace (getElem? (y .properties) k) vs
-place-space table y x d k vs r w n h f = place-said table y x d k true (λ q. areInSpace (q .kind) vs) r w h (λ q e z. f (q .kind) (kind-of (q .kind) _ _ _ _ (z .kind)) (n k q e))
+place-space table y n ps k vs r w kinds h f =
+    place-said table y n ps k true (λ q. areInSpace (q .kind) vs) r w h (λ q e z. f (q .kind) (kind-of (q .kind) _ _ _ _ (z .kind)) (kinds k q e))
+
+-- the kind of a property that was taken from the numbers
+pub kind-read :
+    {p q : PropertyAt} {a : Kind} → p ≡ q → kindOf (q .kind) (q .size) (q .after) (q .sign) ≡ some a → kindOf (p .kind) (p .size) (p .after) (p .sign) ≡ some a
+kind-read {p} {q} e is = ap (λ (x : PropertyAt). kindOf (x .kind) (x .size) (x .after) (x .sign)) e ∙ is
 
 -- where there is no property, nothing is asked
 free : (f : Property → List Text → Bool) (ss : List (List Text)) → eachPlace f (λ s. true) [] ss ≡ true
@@ -117,7 +123,5 @@ module _ (t : EventType) (ss : List (List Text)) (k : ℕ) (w : Fit t ss k) wher
   pub fit-more : k < length ss → true ≡ placeSpace (getElem? (t .properties) k) (getD ss k []) → Fit t ss (k + 1)
   fit-more h e = record { each = next h ∙ ap (λ (c : Bool). c && eachPlace (λ p s. areInSpace (p .kind) s) (λ s. true) (drop (k + 1) (t .properties)) (drop (k + 1) ss)) (sym e) }
 
-  pub fit-end : (table : List ℕ) (x : TypeIndex) → TypeIs table t x → x .count ≤ k → true ≡ valuesFit t ss
-  fit-end table x u h =
-      let l : length (t .properties) ≤ k = omega (arith, u .count) in
-      sym (w .each ∙ rw (drop-of-length-le (t .properties) l) (free (λ p s. areInSpace (p .kind) s) (drop k ss)))
+  pub fit-end : length (t .properties) ≤ k → true ≡ valuesFit t ss
+  fit-end l = sym (w .each ∙ rw (drop-of-length-le (t .properties) l) (free (λ p s. areInSpace (p .kind) s) (drop k ss)))

@@ -90,17 +90,16 @@ pub fn ask_typed(event: &[u8], read: TableRead, counts: EventCounts) -> EventAsk
     if !read.found {
         return refused_with(4, read.index);
     }
-    if !shape_ok(read.index, e) {
-        return refused_with(5, read.index);
+    let t = read.index;
+    if !shape_ok(t.count, &t.properties, e.objects, &e.sets) {
+        return refused_with(5, t);
     }
-    let sets = e.sets;
-    if !sets_in_space(event, sets, read.index) {
-        return refused_with(6, read.index);
+    if !sets_in_space(event, &e.sets, t.count, &t.properties) {
+        return refused_with(6, t);
     }
-    let event_type = read.index;
     EventAsked {
         number: 0,
-        event_type,
+        event_type: t,
         event: e,
     }
 }

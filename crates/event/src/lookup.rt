@@ -9,6 +9,7 @@ ghost use Rattle.event.specs.Event.{Event};
 ghost use Rattle.event.specs.EventLayout.{setsBytes};
 ghost use Rattle.event.specs.code.EventIndex.{EventIs, present, Skipped, ValueFound};
 use crate::read::EventIndex;
+use crate::sets::set_at;
 use packed::read::NumberAt;
 use packed::read::TextAt;
 use packed::read::read_number;
@@ -67,7 +68,7 @@ pub fn find_value(event: &[u8], x: EventIndex, place: usize, index: usize) -> Va
     if 31 < place {
         return ValueAt::NoValue;
     }
-    let set = x.sets[place];
+    let set = set_at(&x.sets, place);
     if set.count <= index {
         return ValueAt::NoValue;
     }

@@ -6,7 +6,6 @@ use crate::head::HeadAt;
 use crate::head::HeadRead;
 use crate::head::no_head;
 use crate::head::read_head;
-use crate::sets::SetAt;
 use crate::sets::read_sets;
 use packed::read::NumberAt;
 use packed::read::read_number;
@@ -18,24 +17,19 @@ pub struct EventIndex {
     pub presence: u64,
     pub after_presence: usize,
     pub objects: usize,
-    pub sets: [SetAt; 32],
+    pub sets: [usize; 96],
 }
 
 pub fn no_event() -> EventIndex
     ensures { λ r. ⌜ r .ok ≡ false ⌝ }
 {
-    let none = SetAt {
-        start: 0,
-        end: 0,
-        count: 0,
-    };
     EventIndex {
         ok: false,
         head: no_head(),
         presence: 0,
         after_presence: 0,
         objects: 0,
-        sets: [none; 32],
+        sets: [0; 96],
     }
 }
 

@@ -1,11 +1,11 @@
-ghost use Prim.Native.Nat.{_≤_};
+ghost use Prim.Native.Nat.{_≤_, _<_};
 ghost use mathlib.Core.Path.{_≡_};
 ghost use mathlib.Core.List.{List, [], map, flatten};
 ghost use lib.ListN.{length, drop, getD};
 ghost use Rattle.model.specs.Order.{Text};
 ghost use Rattle.packed.specs.Packed.{text};
 ghost use Rattle.event.specs.EventLayout.{readSet, readPlace, readSets};
-ghost use Rattle.event.specs.code.EventIndex.{SetIs, SetReads, SetsReads};
+ghost use Rattle.event.specs.code.EventIndex.{SetIs, setIn, SetReads, SetsReads};
 use packed::order::is_before;
 use packed::read::NumberAt;
 use packed::read::TextAt;
@@ -25,12 +25,12 @@ pub enum SetRead {
     NoSet,
 }
 
-// The sets of all 32 places, and the position after them.
+// The sets of all 32 places, three numbers for each, and the position after them.
 pub struct SetsRead {
     pub ok: bool,
     pub next: usize,
     pub objects: usize,
-    pub sets: [SetAt; 32],
+    pub sets: [usize; 96],
 }
 
 // A count of at least 1, and as many rising values. Each value is compared with the one before it where they stand.
@@ -88,16 +88,11 @@ pub fn read_sets(s: &[u8], at: usize, presence: u64) -> SetsRead
     requires { ⌜ at ≤ length (now s) ⌝ }
     ensures { λ r. ⌜ SetsReads (readSets 32 presence (drop at (now (s .entry)))) (now (s .entry)) r ⌝ }
 {
-    let none = SetAt {
-        start: 0,
-        end: 0,
-        count: 0,
-    };
     let mut found = SetsRead {
         ok: false,
         next: 0,
         objects: 0,
-        sets: [none; 32],
+        sets: [0; 96],
     };
     let mut bits = presence;
     let mut next = at;
@@ -107,7 +102,9 @@ pub fn read_sets(s: &[u8], at: usize, presence: u64) -> SetsRead
         let SetRead::Found(x) = read_place(s, next, bits % 2) else {
             return found;
         };
-        found.sets[k] = x;
+        found.sets[3 * k] = x.start;
+        found.sets[3 * k + 1] = x.end;
+        found.sets[3 * k + 2] = x.count;
         objects += x.count;
         next = x.end;
         bits = bits / 2;
@@ -117,6 +114,18 @@ pub fn read_sets(s: &[u8], at: usize, presence: u64) -> SetsRead
     found.next = next;
     found.objects = objects;
     found
+}
+
+// The sets of all places are lent as 96 numbers, three for each: where its values start and end, and how many they are.
+pub fn set_at(sets: &[usize], place: usize) -> SetAt
+    requires { ⌜ (length (now sets) ≡ 96) × (place < 32) ⌝ }
+    ensures { λ r. ⌜ r ≡ setIn (now (sets .entry)) place ⌝ }
+{
+    SetAt {
+        start: sets[3 * place],
+        end: sets[3 * place + 1],
+        count: sets[3 * place + 2],
+    }
 }
 
 // The value at an index among texts that stand one after the other, or nothing.

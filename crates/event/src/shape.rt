@@ -5,14 +5,14 @@ ghost use mathlib.Core.List.{List};
 ghost use lib.ListN.{length};
 ghost use Rattle.model.specs.Order.{Text};
 ghost use Rattle.ontology.specs.Table.{Property, EventType};
-ghost use Rattle.ontology.specs.code.TypeIndex.{PropertyIs, TypeIs, hasMatch};
-ghost use Rattle.event.specs.Event.{Event};
+ghost use Rattle.ontology.specs.code.TypeIndex.{PropertyIs, PropertiesAre, hasMatch};
+ghost use Rattle.event.specs.Event.{Event, objectCount};
 ghost use Rattle.event.specs.EventQuestions.{setFits, eventShape};
-ghost use Rattle.event.specs.code.EventIndex.{EventIs};
-use crate::read::EventIndex;
+ghost use Rattle.event.specs.code.EventIndex.{SetsAre};
+use crate::sets::set_at;
 use ontology::properties::PropertyAt;
 use ontology::properties::is_match;
-use ontology::types::TypeIndex;
+use ontology::properties::property_at;
 
 // Whether a property may have so many objects.
 fn set_fits(p: PropertyAt, count: usize) -> bool
@@ -35,15 +35,17 @@ pub fn matches_at(p: PropertyAt, count: usize) -> usize
 }
 
 // Question 5. The match objects are counted no further than 32. The objects that are left after the last property stand at places without one.
-pub fn shape_ok(t: TypeIndex, e: EventIndex) -> bool
-    ensures { λ r. ⌜ ((table event : List ℕ) (y : EventType) (x : Event) → TypeIs table y t → EventIs event x e → r ≡ eventShape y x) ⌝ }
+pub fn shape_ok(count: usize, properties: &[usize], objects: usize, sets: &[usize]) -> bool
+    requires { ⌜ (length (now properties) ≡ 96) × (length (now sets) ≡ 96) ⌝ }
+    ensures { λ r. ⌜ ((table event : List ℕ) (y : EventType) (x : Event) → PropertiesAre table (y .properties) count (now (properties .entry))
+        → SetsAre event (x .sets) (now (sets .entry)) → objects ≡ objectCount (x .sets) → r ≡ eventShape y x) ⌝ }
 {
-    let mut left = e.objects;
+    let mut left = objects;
     let mut matches: usize = 0;
     let mut k: usize = 0;
-    while k < 32 && k < t.count {
-        let p = t.properties[k];
-        let set = e.sets[k];
+    while k < 32 && k < count {
+        let p = property_at(properties, k);
+        let set = set_at(sets, k);
         if !set_fits(p, set.count) {
             return false;
         }

@@ -3,17 +3,18 @@ ghost use mathlib.Core.Path.{_≡_};
 ghost use mathlib.Core.Bool.{true};
 ghost use mathlib.Core.Option.{some};
 ghost use mathlib.Core.List.{List, map, flatten};
+ghost use lib.ListN.{length};
 ghost use Rattle.model.specs.Order.{Text};
 ghost use Rattle.packed.specs.Packed.{text};
 ghost use Rattle.values.specs.Spaces.{Kind, isKind};
 ghost use Rattle.values.specs.code.KindNumbers.{kindOf};
 ghost use Rattle.ontology.specs.Table.{EventType};
-ghost use Rattle.ontology.specs.code.TypeIndex.{TypeIs};
+ghost use Rattle.ontology.specs.code.TypeIndex.{PropertiesAre};
 ghost use Rattle.event.specs.EventQuestions.{areInSpace, valuesFit};
 ghost use Rattle.event.specs.code.EventIndex.{SetsAre, KindsAre};
-use crate::sets::SetAt;
+use crate::sets::set_at;
 use crate::sets::set_part;
-use ontology::types::TypeIndex;
+use ontology::properties::property_at;
 use packed::read::TextAt;
 use packed::read::read_text;
 use values::spaces::in_space;
@@ -36,14 +37,21 @@ fn are_in_space(v: &[u8], kind: u8, size: u8, after: u8, sign: u8) -> bool
 }
 
 // Whether each value of the sets is in its property's space. A place without a property is asked nothing.
-pub fn sets_in_space(s: &[u8], sets: [SetAt; 32], t: TypeIndex) -> bool
-    ensures { λ r. ⌜ ((u : List ℕ) (ty : EventType) (xs : List (List Text)) → TypeIs u ty t → KindsAre ty → SetsAre (now (s .entry)) xs sets → r ≡ valuesFit ty xs) ⌝ }
+pub fn sets_in_space(s: &[u8], sets: &[usize], count: usize, properties: &[usize]) -> bool
+    requires { ⌜ (length (now sets) ≡ 96) × (length (now properties) ≡ 96) ⌝ }
+    ensures { λ r. ⌜ ((u : List ℕ) (ty : EventType) (xs : List (List Text)) → PropertiesAre u (ty .properties) count (now (properties .entry)) → KindsAre ty
+        → SetsAre (now (s .entry)) xs (now (sets .entry)) → r ≡ valuesFit ty xs) ⌝ }
 {
     let mut k: usize = 0;
-    while k < 32 && k < t.count {
-        let p = t.properties[k];
-        let x = sets[k];
-        if !are_in_space(set_part(s, x), p.kind, p.size, p.after, p.sign) {
+    while k < 32 && k < count {
+        let p = property_at(properties, k);
+        if !are_in_space(
+            set_part(s, set_at(sets, k)),
+            p.kind,
+            p.size,
+            p.after,
+            p.sign,
+        ) {
             return false;
         }
         k += 1;

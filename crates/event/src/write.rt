@@ -8,6 +8,7 @@ ghost use Rattle.event.specs.EventLayout.{setBytes};
 ghost use Rattle.event.specs.code.EventIndex.{countSize, SetIs, SetsAre};
 ghost use Rattle.event.specs.code.SetWriting.{SetRoom, presentBytes, PresentRoom, runBytes, RunIs, RunRoom};
 use crate::sets::SetAt;
+use crate::sets::set_at;
 use packed::write::copy_part;
 use packed::write::number_size;
 
@@ -61,9 +62,9 @@ fn with_set(s: &[u8], run: Run, x: SetAt, out: &mut [u8]) -> Run
 
 // The sets of a presence number, each from where it stands: what an event or a snapshot has after its numbers. Those that stand one after the other, as all of an
 // event or a snapshot do, are copied as one run.
-pub fn write_sets(s: &[u8], sets: [SetAt; 32], presence: u64, out: &mut [u8], at: usize) -> usize
-    requires { ⌜ PresentRoom (now s) sets presence at (length (now out)) ⌝ }
-    ensures { λ r. ⌜ ((xs : List (List Text)) → SetsAre (now (s .entry)) xs sets
+pub fn write_sets(s: &[u8], sets: &[usize], presence: u64, out: &mut [u8], at: usize) -> usize
+    requires { ⌜ (length (now sets) ≡ 96) × PresentRoom (now s) (now sets) presence at (length (now out)) ⌝ }
+    ensures { λ r. ⌜ ((xs : List (List Text)) → SetsAre (now (s .entry)) xs (now (sets .entry))
         → Wrote (now (out .entry)) at (presentBytes presence xs) (now (out .exit)) r) ⌝ }
 {
     let mut run = Run {
@@ -75,8 +76,7 @@ pub fn write_sets(s: &[u8], sets: [SetAt; 32], presence: u64, out: &mut [u8], at
     let mut k: usize = 0;
     while k < 32 && 0 < bits {
         if bits % 2 == 1 {
-            let x = sets[k];
-            run = with_set(s, run, x, out);
+            run = with_set(s, run, set_at(sets, k), out);
         }
         bits = bits / 2;
         k += 1;

@@ -4,6 +4,8 @@ pub mod KindLaws
 pub mod PropertyLaws
 pub mod RunLaws
 pub mod RuleLaws
+pub mod TripleLaws
+pub mod CodeLaws
 pub mod TypeLaws
 pub mod TableReadLaws
 pub mod TableLayoutLaws

@@ -16,10 +16,9 @@ use Rattle.values.specs.Spaces.{sequence, datetime, kindNumber, unsignedNumber}
 use Rattle.values.specs.ValueOrder.{isOrdered}
 use Rattle.values.specs.code.KindNumbers.{isOrderedNumber}
 use Rattle.values.proofs.SpaceLaws.{kind-least}
-use Rattle.ontology.specs.Table.{Strategy, min, max, replace, strategyNumber, Property, EventType, isVersioned, strategyFits, allFit, canBeMarked, markFits, namesRise}
+use Rattle.ontology.specs.Table.{Strategy, min, max, replace, strategyNumber, Property, strategyFits, allFit, canBeMarked, markFits, namesRise}
 use Rattle.ontology.specs.declared.properties.PropertyAt.{PropertyAt}
-use Rattle.ontology.specs.declared.types.TypeIndex.{TypeIndex}
-use Rattle.ontology.specs.code.TypeIndex.{PropertyIs, hasStrategy, hasMin, hasMax, hasExtreme, hasReplace, propertyRules, TypeIs}
+use Rattle.ontology.specs.code.TypeIndex.{PropertyIs, hasStrategy, hasMin, hasMax, hasExtreme, hasReplace, propertyIn, PropertiesAre, propertyRules}
 use Rattle.ontology.proofs.TypeIndexLaws.{max-of, extreme-of, replace-of}
 use Rattle.ontology.proofs.RunLaws.{Nth, nth, map-length, no-element}
 
@@ -135,69 +134,60 @@ module _ (s : List ℕ) (q : Property) (x : PropertyAt) (w : PropertyIs s q x) w
 abbrev nameOf : Property → Text
 nameOf p = p .name
 
-module _ (s : List ℕ) (t : EventType) (x : TypeIndex) (w : TypeIs s t x) where
+module _ (s : List ℕ) (qs : List Property) (n : ℕ) (xs : List ℕ) (w : PropertiesAre s qs n xs) where
   -- the property at a place
-  pub at-place : (i : ℕ) → i < x .count → Nth nameOf (t .properties) i
-  at-place i h = nth nameOf (t .properties) i (omega (arith, w .count))
+  pub at-place : (i : ℕ) → i < n → Nth nameOf qs i
+  at-place i h = nth nameOf qs i (omega (arith, w .count))
 
-  pub is-place : (i : ℕ) (h : i < x .count) (d : PropertyAt) → PropertyIs s (at-place i h .what) (getD (x .properties) i d)
-  is-place i h d = w .are .each i (at-place i h .what) d (at-place i h .is)
+  pub is-place : (i : ℕ) (h : i < n) → PropertyIs s (at-place i h .what) (propertyIn xs i)
+  is-place i h = w .each i (at-place i h .what) (at-place i h .is)
 
   -- strategies
-  pub fit-not :
-      (k : ℕ) (h : k < x .count) → strategyFits (ltb 0 (x .mark)) (at-place k h .what) ≡ false →
-      allFit (isVersioned t) (drop k (t .properties)) ≡ false
+  pub fit-not : (v : Bool) (k : ℕ) (h : k < n) → strategyFits v (at-place k h .what) ≡ false → allFit v (drop k qs) ≡ false
   unfolding allFit
-  fit-not k h e =
-      ap₂ (λ (m : ℕ) (l : List Property). allFit (ltb 0 m) l) (sym (w .mark)) (at-place k h .rest)
-      ∙ ap (λ (b : Bool). b && allFit (ltb 0 (x .mark)) (drop (k + 1) (t .properties))) e
+  fit-not v k h e = ap (allFit v) (at-place k h .rest) ∙ ap (λ (b : Bool). b && allFit v (drop (k + 1) qs)) e
 
-  pub fit-more :
-      (k : ℕ) (h : k < x .count) → strategyFits (ltb 0 (x .mark)) (at-place k h .what) ≡ true →
-      allFit (isVersioned t) (drop k (t .properties)) ≡ allFit (isVersioned t) (drop (k + 1) (t .properties))
+  pub fit-more : (v : Bool) (k : ℕ) (h : k < n) → strategyFits v (at-place k h .what) ≡ true → allFit v (drop k qs) ≡ allFit v (drop (k + 1) qs)
   unfolding allFit
-  fit-more k h e =
-      ap₂ (λ (m : ℕ) (l : List Property). allFit (ltb 0 m) l) (sym (w .mark)) (at-place k h .rest)
-      ∙ ap (λ (b : Bool). b && allFit (ltb 0 (x .mark)) (drop (k + 1) (t .properties))) e
-      ∙ ap (λ (m : ℕ). allFit (ltb 0 m) (drop (k + 1) (t .properties))) (w .mark)
+  fit-more v k h e = ap (allFit v) (at-place k h .rest) ∙ ap (λ (b : Bool). b && allFit v (drop (k + 1) qs)) e
 
-  pub fit-end : (k : ℕ) → x .count ≤ k → allFit (isVersioned t) (drop k (t .properties)) ≡ true
+  pub fit-end : (v : Bool) (k : ℕ) → n ≤ k → allFit v (drop k qs) ≡ true
   unfolding allFit
-  fit-end k h = ap (allFit (isVersioned t)) (drop-of-length-le (t .properties) (let z : length (t .properties) ≤ k = omega (arith, w .count) in z))
+  fit-end v k h = ap (allFit v) (drop-of-length-le qs (let z : length qs ≤ k = omega (arith, w .count) in z))
 
   -- the mark
-  pub mark-none : x .mark ≡ 0 → (not (isVersioned t) || markFits (getElem? (t .properties) (t .mark - 1))) ≡ true
-  mark-none h = let e : t .mark ≡ 0 = sym (w .mark) ∙ h in ap (λ (m : ℕ). not (ltb 0 m) || markFits (getElem? (t .properties) (m - 1))) e
+  abbrev markRule : ℕ → Bool
+  markRule mark = not (ltb 0 mark) || markFits (getElem? qs (mark - 1))
 
-  mark-some : 0 < x .mark → (not (isVersioned t) || markFits (getElem? (t .properties) (t .mark - 1))) ≡ markFits (getElem? (t .properties) (x .mark - 1))
-  mark-some h =
-      ap (λ (m : ℕ). not (ltb 0 m) || markFits (getElem? (t .properties) (m - 1))) (sym (w .mark))
-      ∙ ap (λ (b : Bool). not b || markFits (getElem? (t .properties) (x .mark - 1))) (lt-ltb 0 (x .mark) h)
+  pub mark-none : (mark : ℕ) → mark ≡ 0 → markRule mark ≡ true
+  mark-none mark h = ap markRule h
 
-  pub mark-past : 0 < x .mark → x .count < x .mark → (not (isVersioned t) || markFits (getElem? (t .properties) (t .mark - 1))) ≡ false
+  mark-some : (mark : ℕ) → 0 < mark → markRule mark ≡ markFits (getElem? qs (mark - 1))
+  mark-some mark h = ap (λ (b : Bool). not b || markFits (getElem? qs (mark - 1))) (lt-ltb 0 mark h)
+
+  pub mark-past : (mark : ℕ) → 0 < mark → n < mark → markRule mark ≡ false
   unfolding markFits
-  mark-past h k = mark-some h ∙ ap markFits (no-element (t .properties) (x .mark - 1) (omega (arith, w .count)))
+  mark-past mark h k = mark-some mark h ∙ ap markFits (no-element qs (mark - 1) (omega (arith, w .count)))
 
-  pub mark-is :
-      (h : 0 < x .mark) (k : x .mark - 1 < x .count) →
-      (not (isVersioned t) || markFits (getElem? (t .properties) (t .mark - 1))) ≡ canBeMarked (at-place (x .mark - 1) k .what)
+  pub mark-is : (mark : ℕ) → 0 < mark → (k : mark - 1 < n) → markRule mark ≡ canBeMarked (at-place (mark - 1) k .what)
   unfolding markFits
-  mark-is h k = mark-some h ∙ ap markFits (at-place (x .mark - 1) k .is)
+  mark-is mark h k = mark-some mark h ∙ ap markFits (at-place (mark - 1) k .is)
 
   -- names
-  name-at : (i : ℕ) (h : i < x .count) (d : PropertyAt) → getD (map nameOf (t .properties)) i [] ≡ part s (getD (x .properties) i d .start) (getD (x .properties) i d .end)
-  name-at i h d = at-place i h .under ∙ sym (is-place i h d .name)
+  abbrev nameIn : ℕ → Text
+  nameIn i = part s (propertyIn xs i .start) (propertyIn xs i .end)
+
+  name-at : (i : ℕ) → i < n → getD (map nameOf qs) i [] ≡ nameIn i
+  name-at i h = at-place i h .under ∙ sym (is-place i h .name)
 
   rise-step :
-      (k : ℕ) → 1 ≤ k → k < x .count → (d : PropertyAt) →
-      rising texts (drop (k - 1) (map nameOf (t .properties)))
-      ≡ pick (texts .cmp (part s (getD (x .properties) (k - 1) d .start) (getD (x .properties) (k - 1) d .end)) (part s (getD (x .properties) k d .start) (getD (x .properties) k d .end)))
-      (rising texts (drop k (map nameOf (t .properties)))) false false
+      (k : ℕ) → 1 ≤ k → k < n →
+      rising texts (drop (k - 1) (map nameOf qs)) ≡ pick (texts .cmp (nameIn (k - 1)) (nameIn k)) (rising texts (drop k (map nameOf qs))) false false
   unfolding rising
-  rise-step k p h d = go (map nameOf (t .properties)) (map-length nameOf (t .properties)) (name-at (k - 1) (omega arith) d) (name-at k h d)
+  rise-step k p h = go (map nameOf qs) (map-length nameOf qs) (name-at (k - 1) (omega arith)) (name-at k h)
     where
       go :
-          {a b : Text} (ns : List Text) → length ns ≡ length (t .properties) → getD ns (k - 1) [] ≡ a → getD ns k [] ≡ b →
+          {a b : Text} (ns : List Text) → length ns ≡ length qs → getD ns (k - 1) [] ≡ a → getD ns k [] ≡ b →
           rising texts (drop (k - 1) ns) ≡ pick (texts .cmp a b) (rising texts (drop k ns)) false false
       go {a} {b} ns l e f =
           let i : k - 1 < length ns = omega (arith, w .count) in
@@ -207,21 +197,26 @@ module _ (s : List ℕ) (t : EventType) (x : TypeIndex) (w : TypeIs s t x) where
           let z : drop (k - 1) ns ≡ a ∷ b ∷ drop (suc k) ns = drop-cons ns (k - 1) [] i ∙ ap₂ (λ (v : Text) (l : List Text). v ∷ l) e (ap (λ (m : ℕ). drop m ns) u ∙ y) in
           ap (rising texts) z ∙ ap (λ (l : List Text). pick (texts .cmp a b) (rising texts l) false false) (sym y)
 
-  pub rise-not :
-      (k : ℕ) → 1 ≤ k → k < x .count → (d : PropertyAt) →
-      precedes (part s (getD (x .properties) (k - 1) d .start) (getD (x .properties) (k - 1) d .end)) (part s (getD (x .properties) k d .start) (getD (x .properties) k d .end)) ≡ false →
-      rising texts (drop (k - 1) (map nameOf (t .properties))) ≡ false
-  rise-not k p h d e = rise-step k p h d ∙ picked-not (texts .cmp (part s (getD (x .properties) (k - 1) d .start) (getD (x .properties) (k - 1) d .end)) (part s (getD (x .properties) k d .start) (getD (x .properties) k d .end))) _ e
+  -- the test of two names that stand next to each other
+  pub names-order :
+      {p q : PropertyAt} {b : Bool} (k : ℕ) → p ≡ propertyIn xs (k - 1) → q ≡ propertyIn xs k →
+      b ≡ precedes (part s (p .start) (p .end)) (part s (q .start) (q .end)) → b ≡ precedes (nameIn (k - 1)) (nameIn k)
+  names-order k e f h = h ∙ ap₂ (λ (x y : PropertyAt). precedes (part s (x .start) (x .end)) (part s (y .start) (y .end))) e f
+
+  pub rise-not : (k : ℕ) → 1 ≤ k → k < n → precedes (nameIn (k - 1)) (nameIn k) ≡ false → rising texts (drop (k - 1) (map nameOf qs)) ≡ false
+  rise-not k p h e = rise-step k p h ∙ picked-not (texts .cmp (nameIn (k - 1)) (nameIn k)) _ e
 
   pub rise-more :
-      (k : ℕ) → 1 ≤ k → k < x .count → (d : PropertyAt) →
-      precedes (part s (getD (x .properties) (k - 1) d .start) (getD (x .properties) (k - 1) d .end)) (part s (getD (x .properties) k d .start) (getD (x .properties) k d .end)) ≡ true →
-      rising texts (drop (k - 1) (map nameOf (t .properties))) ≡ rising texts (drop (k + 1 - 1) (map nameOf (t .properties)))
-  rise-more k p h d e = rise-step k p h d ∙ picked (texts .cmp (part s (getD (x .properties) (k - 1) d .start) (getD (x .properties) (k - 1) d .end)) (part s (getD (x .properties) k d .start) (getD (x .properties) k d .end))) _ e ∙ ap (λ (m : ℕ). rising texts (drop m (map nameOf (t .properties)))) (let z : k ≡ k + 1 - 1 = omega arith in z)
+      (k : ℕ) → 1 ≤ k → k < n → precedes (nameIn (k - 1)) (nameIn k) ≡ true →
+      rising texts (drop (k - 1) (map nameOf qs)) ≡ rising texts (drop (k + 1 - 1) (map nameOf qs))
+  rise-more k p h e =
+      rise-step k p h
+      ∙ picked (texts .cmp (nameIn (k - 1)) (nameIn k)) _ e
+      ∙ ap (λ (m : ℕ). rising texts (drop m (map nameOf qs))) (let z : k ≡ k + 1 - 1 = omega arith in z)
 
-  pub rise-end : (k : ℕ) → 1 ≤ k → x .count ≤ k → rising texts (drop (k - 1) (map nameOf (t .properties))) ≡ true
+  pub rise-end : (k : ℕ) → 1 ≤ k → n ≤ k → rising texts (drop (k - 1) (map nameOf qs)) ≡ true
   unfolding rising
-  rise-end k p h = go (drop (k - 1) (map nameOf (t .properties))) (simp length-drop (omega (arith, w .count, map-length nameOf (t .properties))))
+  rise-end k p h = go (drop (k - 1) (map nameOf qs)) (simp length-drop (omega (arith, w .count, map-length nameOf qs)))
     where
       go : (ns : List Text) → length ns ≤ 1 → rising texts ns ≡ true
       go [] h = refl

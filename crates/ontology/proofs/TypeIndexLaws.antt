@@ -110,4 +110,4 @@ type-found none s r w h = never (cc)
 type-found (some t) s r w h = record { what = t; is = refl; stands = w .1 }
 
 pub found-few : (o : Option EventType) (s : List ℕ) (r : TableRead) → TypeSays o s r → r .found ≡ true → r .index .count ≤ 32
-found-few o s r w h = type-found o s r w h .stands .few
+found-few o s r w h = type-found o s r w h .stands .are .few

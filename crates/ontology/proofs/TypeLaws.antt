@@ -6,8 +6,7 @@ use mathlib.Core.Option.{some}
 use mathlib.Core.List.{List, [], _∷_, _++_, map, append-nil}
 use Prim.Native.Nat.{ℕ, _+_, _-_, _≤_, _<_}
 use native.Mathlib.Omega.{arith}
-use lib.ListN.{length, drop, getD, getElem?, set, length-append, length-set}
-use lib.Seq.{getD-set-same, getD-set-other}
+use lib.ListN.{length, drop, getElem?, length-append}
 use lib.Dec.{leb}
 use borrow.Author.Tests.{le-leb, leb-true}
 use Rattle.model.specs.Order.{Text}
@@ -24,9 +23,10 @@ use Rattle.ontology.specs.declared.properties.PropertyAt.{PropertyAt}
 use Rattle.ontology.specs.declared.types.HeadRead.{HeadRead}
 use Rattle.ontology.specs.declared.types.HeadRead.the-variants.{Head, NoHead}
 use Rattle.ontology.specs.declared.types.PropertiesRead.{PropertiesRead}
+use Rattle.ontology.specs.declared.types.PropertiesRead.the-variants.{Properties, NoProperties}
 use Rattle.ontology.specs.declared.types.TypeIndex.{TypeIndex}
 use Rattle.ontology.specs.declared.types.TypeRead.{TypeRead}
-use Rattle.ontology.specs.code.TypeIndex.{PropertyIs, PropertyStops, PropertiesAre, PropertiesStop, PropertiesSay, propertyRules, typeOf, HeadStops, HeadReads, TypeIs, TypeReads}
+use Rattle.ontology.specs.code.TypeIndex.{PropertyIs, PropertyStops, propertyIn, PropertiesStop, PropertiesSay, propertyRules, typeOf, HeadStops, HeadReads, TypeIs, TypeReads}
 use Rattle.ontology.proofs.RunLaws.{prepend, prepend-nil, prepend-two, times-more, times-stop, times-end, times-length, snoc-at}
 
 -- what is known of a call's answer in the arm of a `match`
@@ -178,17 +178,19 @@ module _ (s : List ℕ) (at : ℕ) where
 
 -- ---- properties, one by one
 
-pub record Filled (p : Parse (List Property)) (s : List ℕ) (at : ℕ) (xs : List PropertyAt) (next k count : ℕ) : Type 0 where
+pub record Filled (p : Parse (List Property)) (s : List ℕ) (at : ℕ) (xs : List ℕ) (next k count : ℕ) : Type 0 where
   pub before : List Property
   pub long : length before ≡ k
   pub few : k ≤ count
   pub rest : p ≡ prepend before (times readProperty (count - k) (drop next s))
   pub low : at ≤ next
   pub within : next ≤ length s
-  pub are : PropertiesAre s before xs
-  pub size : length xs ≡ 32
+  pub each : (i : ℕ) (q : Property) → getElem? before i ≡ some q → PropertyIs s q (propertyIn xs i)
+  pub size : length xs ≡ 96
 
-pub filled-none : (s : List ℕ) (at count : ℕ) (xs : List PropertyAt) → at ≤ length s → length xs ≡ 32 → Filled (times readProperty count (drop at s)) s at xs at 0 count
+pub filled-none :
+    (s : List ℕ) (at count : ℕ) (xs : List ℕ) → at ≤ length s → length xs ≡ 96 →
+    Filled (times readProperty count (drop at s)) s at xs at 0 count
 filled-none s at count xs h z = record {
   before = [];
   long = refl;
@@ -196,16 +198,19 @@ filled-none s at count xs h z = record {
   rest = prepend-nil (times readProperty count (drop at s)) ∙ ap (λ (n : ℕ). prepend [] (times readProperty n (drop at s))) (let e : count ≡ count - 0 = omega arith in e);
   low = omega arith;
   within = h;
-  are = record { each = λ i q d e. let y : _≡_ {A = ℕ} 0 1 = cc in absurd (omega arith) };
+  each = λ i q e. let y : _≡_ {A = ℕ} 0 1 = cc in absurd (omega arith);
   size = z;
 }
 
-module _ {p : Parse (List Property)} {s : List ℕ} {at : ℕ} {xs : List PropertyAt} {next k count : ℕ} (w : Filled p s at xs next k count) where
+module _ {p : Parse (List Property)} {s : List ℕ} {at : ℕ} {xs : List ℕ} {next k count : ℕ} (w : Filled p s at xs next k count) where
   pub filled-bad : k < count → readProperty (drop next s) ≡ fail → p ≡ fail
   filled-bad h e = w .rest ∙ ap (prepend (w .before)) (times-stop readProperty (count - k) (drop next s) (omega arith) e)
 
-  pub filled-more : (x : PropertyAt) (e : ℕ) → k < count → count ≤ 32 → PropertyStops (readProperty (drop next s)) s next x e → Filled p s at (set xs k x) e (k + 1) count
-  filled-more x e h m t = record {
+  -- the property x is put at place k, and the others stay
+  pub filled-more :
+      (x : PropertyAt) (e : ℕ) (ys : List ℕ) → k < count → PropertyStops (readProperty (drop next s)) s next x e →
+      length ys ≡ 96 → propertyIn ys k ≡ x → ((i : ℕ) → (i ≡ k → ⊥) → propertyIn ys i ≡ propertyIn xs i) → Filled p s at ys e (k + 1) count
+  filled-more x e ys h t n here others = record {
     before = w .before ++ (t .what ∷ []);
     long = length-append (w .before) (t .what ∷ []) ∙ ap (λ (n : ℕ). n + 1) (w .long);
     few = omega arith;
@@ -216,48 +221,42 @@ module _ {p : Parse (List Property)} {s : List ℕ} {at : ℕ} {xs : List Proper
         ∙ ap (λ (n : ℕ). prepend (w .before ++ (t .what ∷ [])) (times readProperty n (drop e s))) (let z : count - k - 1 ≡ count - (k + 1) = omega arith in z);
     low = omega (arith, w .low, t .stops .after);
     within = t .stops .within;
-    are = record { each = λ i q d f. one i q d (snoc-at (w .before) (t .what) i q f) };
-    size = length-set xs k x ∙ w .size;
+    each = λ i q f. one i q (snoc-at (w .before) (t .what) i q f);
+    size = n;
   }
     where
       one :
-          (i : ℕ) (q : Property) (d : PropertyAt) →
-          ((i < length (w .before)) × (getElem? (w .before) i ≡ some q)) ⊎ ((i ≡ length (w .before)) × (t .what ≡ q)) → PropertyIs s q (getD (set xs k x) i d)
-      one i q d (inl a) =
+          (i : ℕ) (q : Property) →
+          ((i < length (w .before)) × (getElem? (w .before) i ≡ some q)) ⊎ ((i ≡ length (w .before)) × (t .what ≡ q)) → PropertyIs s q (propertyIn ys i)
+      one i q (inl a) =
           let ne : i ≡ k → ⊥ = λ b. omega (arith, a .0, w .long) in
-          subst (PropertyIs s q) (sym (getD-set-other xs k i x d ne)) (w .are .each i q d (a .1))
-      one i q d (inr a) =
+          subst (PropertyIs s q) (sym (others i ne)) (w .each i q (a .1))
+      one i q (inr a) =
           let b : k ≡ i = sym (a .0 ∙ w .long) in
-          let f : getD (set xs k x) i d ≡ x = ap (λ (j : ℕ). getD (set xs k x) j d) (sym b) ∙ getD-set-same xs k x d (omega (arith, w .size)) in
+          let f : propertyIn ys i ≡ x = ap (λ (j : ℕ). propertyIn ys j) (sym b) ∙ here in
           subst (PropertyIs s q) (sym f) (subst (λ (u : Property). PropertyIs s u x) (a .1) (t .is))
 
-  pub filled-all : count ≤ k → p ≡ got (w .before) (drop next s)
-  filled-all h =
-      w .rest ∙ ap (prepend (w .before)) (times-end readProperty (count - k) (drop next s) (omega (arith, w .few)))
-      ∙ ap (λ (l : List Property). got l (drop next s)) (append-nil (w .before))
+  pub filled-all : count ≤ 32 → count ≤ k → PropertiesStop p s at count next xs
+  filled-all m h = record {
+    what = w .before;
+    is =
+        w .rest
+        ∙ ap (prepend (w .before)) (times-end readProperty (count - k) (drop next s) (omega (arith, w .few)))
+        ∙ ap (λ (l : List Property). got l (drop next s)) (append-nil (w .before));
+    after = w .low;
+    within = w .within;
+    are = record { count = omega (arith, w .few, w .long); few = m; each = w .each };
+  }
 
-pub say-fail : (p : Parse (List Property)) (s : List ℕ) (at : ℕ) (r : PropertiesRead) → p ≡ fail → r .ok ≡ false → PropertiesSay p s at r
-unfolding PropertiesSay
-say-fail p s at r e h = rw e h
+-- what the reader of some properties answered
+pub properties-got :
+    {p : Parse (List Property)} {s : List ℕ} {at n : ℕ} {xs : List ℕ} {r : PropertiesRead} {next : ℕ} →
+    r ≡ Properties next → PropertiesSay p s at n xs r → PropertiesStop p s at n next xs
+properties-got {p} {s} {at} {n} {xs} e w = subst (PropertiesSay p s at n xs) e w
 
-pub say-got : (p : Parse (List Property)) (s : List ℕ) (at : ℕ) (qs : List Property) (t : List ℕ) (r : PropertiesRead) → p ≡ got qs t → PropertiesStop s at qs t r → PropertiesSay p s at r
-unfolding PropertiesSay
-say-got p s at qs t r e h = rw e h
-
-pub said-fail : (p : Parse (List Property)) (s : List ℕ) (at : ℕ) (r : PropertiesRead) → PropertiesSay p s at r → r .ok ≡ false → p ≡ fail
-unfolding PropertiesSay
-said-fail fail s at r w h = refl
-said-fail (got qs t) s at r w h = let z : _≡_ {A = ℕ} 0 1 = cc (w .right) in absurd (omega arith)
-
-pub record Said (p : Parse (List Property)) (s : List ℕ) (at : ℕ) (r : PropertiesRead) : Type 0 where
-  pub what : List Property
-  pub is : p ≡ got what (drop (r .next) s)
-  pub stops : PropertiesStop s at what (drop (r .next) s) r
-
-pub said-got : (p : Parse (List Property)) (s : List ℕ) (at : ℕ) (r : PropertiesRead) → PropertiesSay p s at r → r .ok ≡ true → Said p s at r
-unfolding PropertiesSay
-said-got fail s at r w h = let z : _≡_ {A = ℕ} 0 1 = cc in absurd (omega arith)
-said-got (got qs t) s at r w h = record { what = qs; is = ap (got qs) (w .follows); stops = subst (λ (u : List ℕ). PropertiesStop s at qs u r) (w .follows) w }
+pub properties-fail :
+    (p : Parse (List Property)) (s : List ℕ) (at n : ℕ) (xs : List ℕ) {r : PropertiesRead} → r ≡ NoProperties → PropertiesSay p s at n xs r → p ≡ fail
+properties-fail p s at n xs e w = subst (PropertiesSay p s at n xs) e w
 
 -- ---- the type
 
@@ -269,40 +268,31 @@ module _ {s : List ℕ} {at start end : ℕ} {definition : DefinitionVersion} {m
   pub type-short : times readProperty count (drop next s) ≡ fail → suchThat typeRules readType (drop at s) ≡ fail
   type-short e = w .is ∙ ap (λ (p : Parse (List Property)). andThen p (λ qs. foundIf (propertyRules mark qs) (typeOf (part s start end) (definition .0) mark qs))) e
 
-  module _ {r : PropertiesRead} (u : Said (times readProperty count (drop next s)) s next r) where
+  module _ {after : ℕ} {xs : List ℕ} (u : PropertiesStop (times readProperty count (drop next s)) s next count after xs) where
     -- the type that was read, if it meets the rules
     abbrev pub headed : EventType
     headed = typeOf (part s start end) (definition .0) mark (u .what)
 
     abbrev pub indexed : TypeIndex
-    indexed = record { start = start; end = end; definition = definition; mark = mark; count = count; properties = r .properties }
+    indexed = record { start = start; end = end; definition = definition; mark = mark; count = count; properties = xs }
 
-    pub type-is : TypeIs s headed indexed
-    type-is = record {
-      name = refl;
-      order = w .order;
-      within = w .ends;
-      definition = refl;
-      mark = refl;
-      count = sym (times-length readProperty count (drop next s) (u .what) (drop (r .next) s) (u .is));
-      few = w .few;
-      are = u .stops .are;
-    }
+    type-is : TypeIs s headed indexed
+    type-is = record { name = refl; order = w .order; within = w .ends; definition = refl; mark = refl; are = u .are }
 
     pub type-reads :
         (b : Bool) → b ≡ propertyRules mark (u .what) →
-        TypeReads (suchThat typeRules readType (drop at s)) s at (record { ok = b; next = r .next; index = indexed })
+        TypeReads (suchThat typeRules readType (drop at s)) s at (record { ok = b; next = after; index = indexed })
     unfolding TypeReads
     type-reads b e =
         rw (w .is ∙ ap (λ (p : Parse (List Property)). andThen p (λ qs. foundIf (propertyRules mark qs) (typeOf (part s start end) (definition .0) mark qs))) (u .is))
         (go (propertyRules mark (u .what)) b e)
       where
-        go : (x b : Bool) → b ≡ x → TypeReads (cond x (got headed (drop (r .next) s)) fail) s at (record { ok = b; next = r .next; index = indexed })
+        go : (x b : Bool) → b ≡ x → TypeReads (cond x (got headed (drop after s)) fail) s at (record { ok = b; next = after; index = indexed })
         go true b e = record {
           right = e;
           follows = refl;
-          after = omega (arith, w .after, u .stops .after);
-          within = u .stops .within;
+          after = omega (arith, w .after, u .after);
+          within = u .within;
           is = type-is;
         }
         go false b e = e

@@ -1,18 +1,21 @@
 ghost use Prim.Native.Nat.{ℕ, _-_, _≤_};
 ghost use mathlib.Core.Path.{_≡_};
-ghost use mathlib.Core.Bool.{false, not, _&&_, _||_};
+ghost use mathlib.Core.Bool.{not, _&&_, _||_};
 ghost use mathlib.Core.List.{List, map};
 ghost use lib.ListN.{length, drop, getElem?};
 ghost use Rattle.packed.specs.Parse.{suchThat, times};
-ghost use Rattle.ontology.specs.Table.{Property, EventType, isVersioned, namesRise, strategyFits, allFit, canBeMarked, markFits, typeRules};
+ghost use lib.Dec.{ltb};
+ghost use Rattle.ontology.specs.Table.{Property, namesRise, strategyFits, allFit, canBeMarked, markFits, typeRules};
 ghost use Rattle.ontology.specs.TableLayout.{readProperty, readType};
-ghost use Rattle.ontology.specs.code.TypeIndex.{PropertyIs, PropertiesSay, propertyRules, HeadReads, TypeIs, IsType, TypeReads};
+ghost use Rattle.ontology.specs.code.TypeIndex.{PropertyIs, PropertiesAre, ArePropertiesOf, PropertiesSay, propertyRules, HeadReads, TypeReads};
 use crate::names::read_name;
 use crate::properties::PropertyAt;
 use crate::properties::PropertyRead;
 use crate::properties::is_extreme;
 use crate::properties::is_max;
 use crate::properties::is_replace;
+use crate::properties::property_at;
+use crate::properties::put_property;
 use crate::properties::read_property;
 use packed::order::is_before;
 use packed::read::NumberAt;
@@ -23,14 +26,14 @@ use values::kinds::SEQUENCE;
 use values::spaces::is_ordered;
 use values::versions::DefinitionVersion;
 
-// A type: where its name stands in the table, its definition version, its event-version mark, and its first `count` properties.
+// A type: where its name stands in the table, its definition version, its event-version mark, and its first `count` properties, three numbers for each.
 pub struct TypeIndex {
     pub start: usize,
     pub end: usize,
     pub definition: DefinitionVersion,
     pub mark: usize,
     pub count: usize,
-    pub properties: [PropertyAt; 32],
+    pub properties: [usize; 96],
 }
 
 // A type that meets its rules, and the position after it.
@@ -40,11 +43,10 @@ pub struct TypeRead {
     pub index: TypeIndex,
 }
 
-// The first properties of a type, and the position after them.
-struct PropertiesRead {
-    ok: bool,
-    next: usize,
-    properties: [PropertyAt; 32],
+// The position after the properties of a type.
+enum PropertiesRead {
+    Properties(usize),
+    NoProperties,
 }
 
 // What stands before a type's properties, and the position after it.
@@ -60,38 +62,15 @@ enum HeadRead {
     NoHead,
 }
 
-fn no_properties() -> PropertiesRead
-    ensures { λ r. ⌜ (length (r .properties) ≡ 32) × (r .ok ≡ false) ⌝ }
-{
-    let p = PropertyAt {
-        start: 0,
-        end: 0,
-        kind: 0,
-        size: 0,
-        after: 0,
-        sign: 0,
-        optional: false,
-        multivalued: false,
-        strategy: 0,
-    };
-    PropertiesRead {
-        ok: false,
-        next: 0,
-        properties: [p; 32],
-    }
-}
-
 // An index to begin with, whose properties are read by nobody.
 pub fn no_type() -> TypeIndex {
-    let none = no_properties();
-    let properties = none.properties;
     TypeIndex {
         start: 0,
         end: 0,
         definition: DefinitionVersion(0),
         mark: 0,
         count: 0,
-        properties,
+        properties: [0; 96],
     }
 }
 
@@ -124,34 +103,37 @@ fn read_head(table: &[u8], at: usize) -> HeadRead
     }
 }
 
-fn read_properties(table: &[u8], at: usize, count: usize) -> PropertiesRead
-    requires { ⌜ (at ≤ length (now table)) × (count ≤ 32) ⌝ }
-    ensures { λ r. ⌜ PropertiesSay (times readProperty count (drop at (now (table .entry)))) (now (table .entry)) at r ⌝ }
+fn read_properties(
+    table: &[u8],
+    at: usize,
+    count: usize,
+    properties: &mut [usize],
+) -> PropertiesRead
+    requires { ⌜ (at ≤ length (now table)) × (count ≤ 32) × (length (now properties) ≡ 96) ⌝ }
+    ensures { λ r. ⌜ PropertiesSay (times readProperty count (drop at (now (table .entry)))) (now (table .entry)) at count (now (properties .exit)) r ⌝ }
 {
-    let mut r = no_properties();
     let mut next = at;
     let mut k: usize = 0;
     while k < count {
         let PropertyRead::Property(p, after) = read_property(table, next) else {
-            return r;
+            return PropertiesRead::NoProperties;
         };
-        r.properties[k] = p;
+        put_property(properties, k, p);
         next = after;
         k += 1;
     }
-    r.next = next;
-    r.ok = true;
-    r
+    PropertiesRead::Properties(next)
 }
 
-fn names_rise(table: &[u8], x: TypeIndex) -> bool
-    requires { ⌜ IsType (now table) x ⌝ }
-    ensures { λ r. ⌜ ((t : EventType) → TypeIs (now (table .entry)) t x → r ≡ namesRise (map (λ (p : Property). p .name) (t .properties))) ⌝ }
+fn names_rise(table: &[u8], count: usize, properties: &[usize]) -> bool
+    requires { ⌜ (length (now properties) ≡ 96) × ArePropertiesOf (now table) count (now properties) ⌝ }
+    ensures { λ r. ⌜ ((qs : List Property) → PropertiesAre (now (table .entry)) qs count (now (properties .entry))
+        → r ≡ namesRise (map (λ (p : Property). p .name) qs)) ⌝ }
 {
     let mut k: usize = 1;
-    while k < x.count {
-        let p = x.properties[k - 1];
-        let q = x.properties[k];
+    while k < count {
+        let p = property_at(properties, k - 1);
+        let q = property_at(properties, k);
         if !is_before(table, p.start, p.end, q.start, q.end) {
             return false;
         }
@@ -184,14 +166,13 @@ fn strategy_fits(p: PropertyAt, versioned: bool) -> bool
     true
 }
 
-fn all_fit(x: TypeIndex) -> bool
-    requires { ⌜ x .count ≤ 32 ⌝ }
-    ensures { λ r. ⌜ ((s : List ℕ) (t : EventType) → TypeIs s t x → r ≡ allFit (isVersioned t) (t .properties)) ⌝ }
+fn all_fit(versioned: bool, count: usize, properties: &[usize]) -> bool
+    requires { ⌜ (count ≤ 32) × (length (now properties) ≡ 96) ⌝ }
+    ensures { λ r. ⌜ ((s : List ℕ) (qs : List Property) → PropertiesAre s qs count (now (properties .entry)) → r ≡ allFit versioned qs) ⌝ }
 {
     let mut k: usize = 0;
-    while k < x.count {
-        let p = x.properties[k];
-        if !strategy_fits(p, 0 < x.mark) {
+    while k < count {
+        if !strategy_fits(property_at(properties, k), versioned) {
             return false;
         }
         k += 1;
@@ -211,35 +192,34 @@ fn can_be_marked(p: PropertyAt) -> bool
     is_mandatory_single(p)
 }
 
-fn mark_fits(x: TypeIndex) -> bool
-    requires { ⌜ x .count ≤ 32 ⌝ }
-    ensures { λ r. ⌜ ((s : List ℕ) (t : EventType) → TypeIs s t x → r ≡ (not (isVersioned t) || markFits (getElem? (t .properties) (t .mark - 1)))) ⌝ }
+fn mark_fits(mark: usize, count: usize, properties: &[usize]) -> bool
+    requires { ⌜ (count ≤ 32) × (length (now properties) ≡ 96) ⌝ }
+    ensures { λ r. ⌜ ((s : List ℕ) (qs : List Property) → PropertiesAre s qs count (now (properties .entry))
+        → r ≡ (not (ltb 0 mark) || markFits (getElem? qs (mark - 1)))) ⌝ }
 {
-    let mark = x.mark;
     if mark == 0 {
         return true;
     }
-    if x.count < mark {
+    if count < mark {
         return false;
     }
-    let p = x.properties[mark - 1];
-    can_be_marked(p)
+    can_be_marked(property_at(properties, mark - 1))
 }
 
-fn rules_hold(table: &[u8], x: TypeIndex) -> bool
-    requires { ⌜ IsType (now table) x ⌝ }
-    ensures { λ r. ⌜ ((t : EventType) → TypeIs (now (table .entry)) t x → r ≡ propertyRules (t .mark) (t .properties)) ⌝ }
+fn rules_hold(table: &[u8], mark: usize, count: usize, properties: &[usize]) -> bool
+    requires { ⌜ (length (now properties) ≡ 96) × ArePropertiesOf (now table) count (now properties) ⌝ }
+    ensures { λ r. ⌜ ((qs : List Property) → PropertiesAre (now (table .entry)) qs count (now (properties .entry)) → r ≡ propertyRules mark qs) ⌝ }
 {
-    if !names_rise(table, x) {
+    if !names_rise(table, count, properties) {
         return false;
     }
-    if !all_fit(x) {
+    if !all_fit(0 < mark, count, properties) {
         return false;
     }
-    mark_fits(x)
+    mark_fits(mark, count, properties)
 }
 
-// The type at position `at`, if it meets its rules: those on single fields are tested as these are read, the others on the index.
+// The type at position `at`, if it meets its rules: those on single fields are tested as these are read, the others on the numbers.
 pub fn read_type(table: &[u8], at: usize) -> TypeRead
     ensures { λ r. ⌜ TypeReads (suchThat typeRules readType (drop at (now (table .entry)))) (now (table .entry)) at r ⌝ }
 {
@@ -259,12 +239,14 @@ pub fn read_type(table: &[u8], at: usize) -> TypeRead
     else {
         return r;
     };
-    let all = read_properties(table, next, count);
-    if !all.ok {
+    let mut properties = [0usize; 96];
+    let PropertiesRead::Properties(after) = read_properties(table, next, count, &mut properties)
+    else {
         return r;
-    }
-    let properties = all.properties;
-    let x = TypeIndex {
+    };
+    r.ok = rules_hold(table, mark, count, &properties);
+    r.next = after;
+    let index = TypeIndex {
         start,
         end,
         definition,
@@ -272,8 +254,6 @@ pub fn read_type(table: &[u8], at: usize) -> TypeRead
         count,
         properties,
     };
-    r.index = x;
-    r.next = all.next;
-    r.ok = rules_hold(table, x);
+    r.index = index;
     r
 }

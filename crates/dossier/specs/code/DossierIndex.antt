@@ -19,7 +19,6 @@ use Rattle.event.specs.EventLayout.{readSets, presenceBit, bitNumber, setsBytes
 use Rattle.event.specs.code.EventIndex.{SetsAre, HeadIs, HeadParts}
 use Rattle.event.specs.Head.{Head}
 use Rattle.event.specs.declared.head.HeadAt.{HeadAt}
-use Rattle.event.specs.declared.sets.SetAt.{SetAt}
 use Rattle.dossier.specs.declared.head.DossierHeadRead.{DossierHeadRead}
 use Rattle.dossier.specs.declared.head.DossierHeadRead.the-variants as read
 use Rattle.dossier.specs.DossierHead.{dossierHeadBytes}
@@ -171,7 +170,7 @@ pub record CellIs (c : Cell) (marked : Bool) (count : ℕ) : Type 0 where
   pub size : count ≡ length (held c)
 
 -- the cells of all places, by the differ number and the sets
-pub record CellsAre (s : List ℕ) (cs : List Cell) (differ : ℕ) (ats : List SetAt) : Type 0 where
+pub record CellsAre (s : List ℕ) (cs : List Cell) (differ : ℕ) (ats : List ℕ) : Type 0 where
   pub bits : differ ≡ bitNumber (map differBit cs)
   pub sets : SetsAre s (map held cs) ats
 

@@ -55,10 +55,14 @@ pub record SetIs (s : List ℕ) (vs : List Text) (x : SetAt) : Type 0 where
 abbrev pub noSet : SetAt
 noSet = record { start = 0; end = 0; count = 0 }
 
+-- the set of a place among those of all places, which are lent as three numbers each
+abbrev pub setIn : List ℕ → ℕ → SetAt
+setIn ats i = record { start = getD ats (3 * i) 0; end = getD ats (3 * i + 1) 0; count = getD ats (3 * i + 2) 0 }
+
 -- each of the 32 places has its set
-pub record SetsAre (s : List ℕ) (xs : List (List Text)) (ats : List SetAt) : Type 0 where
+pub record SetsAre (s : List ℕ) (xs : List (List Text)) (ats : List ℕ) : Type 0 where
   pub long : length xs ≡ 32
-  pub each : (i : ℕ) → i < 32 → SetIs s (getD xs i []) (getD ats i noSet)
+  pub each : (i : ℕ) → i < 32 → SetIs s (getD xs i []) (setIn ats i)
 
 -- a bit of a presence or differ number
 unfoldable pub bitOf : Bool → ℕ

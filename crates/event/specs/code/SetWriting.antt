@@ -26,7 +26,7 @@ presentBytes presence [] = []
 presentBytes presence (x ∷ xs) = placeBytes (presence % 2) x ++ presentBytes (presence / 2) xs
 
 -- the sets of a presence number have their room in an output of `size` bytes
-pub record PresentRoom (s : List ℕ) (ats : List SetAt) (presence at size : ℕ) : Type 0 where
+pub record PresentRoom (s ats : List ℕ) (presence at size : ℕ) : Type 0 where
   pub values : List (List Text)
   pub are : SetsAre s values ats
   pub room : at + length (presentBytes presence values) ≤ size

@@ -1,5 +1,5 @@
 -- What the readers of a table answer, as relations between the bytes, the model and what the code holds.
-use Prim.Native.Nat.{ℕ, _-_, _≤_, _<_}
+use Prim.Native.Nat.{ℕ, _+_, _-_, _*_, _/_, _%_, _≤_, _<_}
 use mathlib.Core.Path.{_≡_}
 use mathlib.Core.Logic.{_⊎_}
 use mathlib.Core.Bool.{Bool, true, false, cond, not, _&&_, _||_}
@@ -27,6 +27,7 @@ use Rattle.ontology.specs.declared.properties.PropertyRead.the-variants 
 use Rattle.ontology.specs.declared.types.HeadRead.{HeadRead}
 use Rattle.ontology.specs.declared.types.HeadRead.the-variants.{Head, NoHead}
 use Rattle.ontology.specs.declared.types.PropertiesRead.{PropertiesRead}
+use Rattle.ontology.specs.declared.types.PropertiesRead.the-variants.{Properties, NoProperties}
 use Rattle.ontology.specs.declared.types.TypeIndex.{TypeIndex}
 use Rattle.ontology.specs.declared.types.TypeRead.{TypeRead}
 use Rattle.ontology.specs.declared.tables.TableRead.{TableRead}
@@ -104,20 +105,57 @@ abbrev pub PropertyReads : Parse Property → List ℕ → ℕ → PropertyRead 
 PropertyReads p s at (read.Property x next) = PropertyStops p s at x next
 PropertyReads p s at read.NoProperty = p ≡ fail
 
--- each of some properties, at its place in a table of them
-pub record PropertiesAre (s : List ℕ) (qs : List Property) (xs : List PropertyAt) : Type 0 where
-  pub each : (i : ℕ) (q : Property) (d : PropertyAt) → getElem? qs i ≡ some q → PropertyIs s q (getD xs i d)
+-- a flag as a bit
+unfoldable pub bitOf : Bool → ℕ
+bitOf true = 1
+bitOf false = 0
 
-pub record PropertiesStop (s : List ℕ) (at : ℕ) (qs : List Property) (t : List ℕ) (r : PropertiesRead) : Type 0 where
-  pub right : r .ok ≡ true
-  pub follows : t ≡ drop (r .next) s
-  pub after : at ≤ r .next
-  pub within : r .next ≤ length s
-  pub are : PropertiesAre s qs (r .properties)
+-- all of a property but its name as one number
+abbrev pub codeOf : PropertyAt → ℕ
+codeOf p =
+    p .kind + 256 * p .size + 65536 * p .after + 16777216 * p .sign + 4294967296 * p .strategy
+    + 1099511627776 * bitOf (p .optional) + 2199023255552 * bitOf (p .multivalued)
 
-unfoldable pub PropertiesSay : Parse (List Property) → List ℕ → ℕ → PropertiesRead → Type 0
-PropertiesSay fail s at r = r .ok ≡ false
-PropertiesSay (got qs t) s at r = PropertiesStop s at qs t r
+-- the property that such a number is of, with its name from start to end
+abbrev pub decoded : ℕ → ℕ → ℕ → PropertyAt
+decoded start end code = record {
+  start = start;
+  end = end;
+  kind = code % 256;
+  size = code / 256 % 256;
+  after = code / 65536 % 256;
+  sign = code / 16777216 % 256;
+  optional = eqb (code / 1099511627776 % 2) 1;
+  multivalued = eqb (code / 2199023255552 % 2) 1;
+  strategy = code / 4294967296 % 256;
+}
+
+-- a property among those of a type, which are lent as three numbers each
+abbrev pub propertyIn : List ℕ → ℕ → PropertyAt
+propertyIn xs k = decoded (getD xs (3 * k) 0) (getD xs (3 * k + 1) 0) (getD xs (3 * k + 2) 0)
+
+-- each of n properties, at its place among the numbers xs
+pub record PropertiesAre (s : List ℕ) (qs : List Property) (n : ℕ) (xs : List ℕ) : Type 0 where
+  pub count : n ≡ length qs
+  pub few : n ≤ 32
+  pub each : (i : ℕ) (q : Property) → getElem? qs i ≡ some q → PropertyIs s q (propertyIn xs i)
+
+-- xs are the numbers of some properties
+pub record ArePropertiesOf (s : List ℕ) (n : ℕ) (xs : List ℕ) : Type 0 where
+  pub what : List Property
+  pub are : PropertiesAre s what n xs
+
+pub record PropertiesStop (p : Parse (List Property)) (s : List ℕ) (at n next : ℕ) (xs : List ℕ) : Type 0 where
+  pub what : List Property
+  pub is : p ≡ got what (drop next s)
+  pub after : at ≤ next
+  pub within : next ≤ length s
+  pub are : PropertiesAre s what n xs
+
+-- what the reader of n properties answers, and leaves in the numbers xs
+abbrev pub PropertiesSay : Parse (List Property) → List ℕ → ℕ → ℕ → List ℕ → PropertiesRead → Type 0
+PropertiesSay p s at n xs (Properties next) = PropertiesStop p s at n next xs
+PropertiesSay p s at n xs NoProperties = p ≡ fail
 
 -- ---- types
 
@@ -151,14 +189,7 @@ pub record TypeIs (s : List ℕ) (t : EventType) (x : TypeIndex) : Type 0 where
   pub within : x .end ≤ length s
   pub definition : x .definition .0 ≡ t .definition
   pub mark : x .mark ≡ t .mark
-  pub count : x .count ≡ length (t .properties)
-  pub few : x .count ≤ 32
-  pub are : PropertiesAre s (t .properties) (x .properties)
-
--- x is the index of some type
-pub record IsType (s : List ℕ) (x : TypeIndex) : Type 0 where
-  pub what : EventType
-  pub is : TypeIs s what x
+  pub are : PropertiesAre s (t .properties) (x .count) (x .properties)
 
 pub record TypeStops (s : List ℕ) (at : ℕ) (t : EventType) (u : List ℕ) (r : TypeRead) : Type 0 where
   pub right : r .ok ≡ true

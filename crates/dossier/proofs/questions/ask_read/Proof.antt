@@ -1,42 +1,64 @@
-use borrow.Author.Needs.{needs}
-use borrow.Author.Tests.{not-true, not-false}
 use Rattle.dossier.specs.DossierQuestions.{snapshotValues}
 use Rattle.dossier.specs.code.DossierIndex.{snapshotFits}
 use Rattle.dossier.proofs.AskLaws.{number-shape, number-match, number-all, number-values}
+use borrow.Author.Tests.{not-true, not-false}
+use borrow.Author.Needs.{needs}
 use Rattle.dossier.proofs.questions.ask_read.Statement.{statement}
 use Rattle.dossier.proofs.questions.ask_read.Tie as tie
 
+-- ---- the places
+
+abbrev to-fit : tie.After-is-match-same → tie.Else1
+to-fit c = c .before .before .before .before
+
+abbrev to-match : tie.After-sets-in-space → tie.Else2
+to-match c = c .before .before .before .before
+
+abbrev to-start : tie.After-snapshot-fits → tie.Start
+to-start c = c .before .before .before .before .before
+
+-- ---- the needs
+
 snapshot-fits-requires : tie.Need-snapshot-fits-requires
-snapshot-fits-requires c κs = search needs
+snapshot-fits-requires c κs = (c .before .before .before .before .pre .0, c .before .before .before .before .pre .2)
 
 returns : tie.Need-returns
-returns c = λ u ty xs y w g x i. number-shape _ _ _ (c .before .snapshot-fits .ensures u ty y w i) (not-true _ (c .if1 .taken))
+returns c = λ u ty xs y m w g x i. number-shape _ _ _ (c .before .snapshot-fits .ensures u ty y m w i) (not-true _ (c .if1 .taken))
 
 is-match-same-requires : tie.Need-is-match-same-requires
-is-match-same-requires c κs = search needs
+is-match-same-requires c κs =
+    let start = to-start (c .before .before .before .before) in
+    (start .pre .0, start .pre .2, start .pre .1, search needs)
 
 returns-2 : tie.Need-returns-2
-returns-2 c = λ u ty xs y w g x i. number-match (snapshotFits ty y) _ (snapshotValues ty y) (c .before .is-match-same .ensures u ty xs _ w x (i .sets)) (not-true _ (c .if2 .taken))
+returns-2 c = λ u ty xs y m w g x i.
+    number-match (snapshotFits ty y) _ (snapshotValues ty y) (c .before .is-match-same .ensures u ty xs _ w x (i .sets)) (not-true _ (c .if2 .taken))
 
 sets-in-space-requires : tie.Need-sets-in-space-requires
-sets-in-space-requires c κs = search needs
+sets-in-space-requires c κs =
+    let matched = c .before .before .before in
+    let start = to-start (to-fit (matched .before) .before) in
+    (search needs, start .pre .2)
 
 returns-3 : tie.Need-returns-3
 unfolding snapshotValues
-returns-3 c = λ u ty xs y w g x i. number-all _ _ _ (c .before .before .before .before .before .before .snapshot-fits .ensures u ty y w i) (not-false _ (c .before .before .before .before .before .if1 .left)) (c .before .before .before .is-match-same .ensures u ty xs _ w x (i .sets)) (not-false _ (c .before .before .if2 .left)) (c .before .sets-in-space .ensures u ty _ w g (i .sets)) (c .if3 .taken)
+returns-3 c = λ u ty xs y m w g x i.
+    let spaced = c .before in
+    let matched = to-match spaced in
+    let fitted = to-fit (matched .before) in
+    number-all _ _ _ (fitted .before .snapshot-fits .ensures u ty y m w i) (not-false _ (fitted .if1 .left))
+    (matched .before .is-match-same .ensures u ty xs _ w x (i .sets)) (not-false _ (matched .if2 .left))
+    (spaced .sets-in-space .ensures u ty _ w g (i .sets)) (c .if3 .taken)
 
 returns-4 : tie.Need-returns-4
 unfolding snapshotValues
-returns-4 c = λ u ty xs y w g x i. number-values _ _ _ (c .before .before .before .before .before .before .snapshot-fits .ensures u ty y w i) (not-false _ (c .before .before .before .before .before .if1 .left)) (c .before .before .before .is-match-same .ensures u ty xs _ w x (i .sets)) (not-false _ (c .before .before .if2 .left)) (c .before .sets-in-space .ensures u ty _ w g (i .sets)) (c .if3 .left)
+returns-4 c = λ u ty xs y m w g x i.
+    let spaced = c .before in
+    let matched = to-match spaced in
+    let fitted = to-fit (matched .before) in
+    number-values _ _ _ (fitted .before .snapshot-fits .ensures u ty y m w i) (not-false _ (fitted .if1 .left))
+    (matched .before .is-match-same .ensures u ty xs _ w x (i .sets)) (not-false _ (matched .if2 .left))
+    (spaced .sets-in-space .ensures u ty _ w g (i .sets)) (c .if3 .left)
 
 pub ask-read-spec : {M : Type 1} → statement M
-ask-read-spec =
-    tie.close
-    (tie.spec
-    snapshot-fits-requires
-    returns
-    is-match-same-requires
-    returns-2
-    sets-in-space-requires
-    returns-3
-    returns-4)
+ask-read-spec = tie.close (tie.spec snapshot-fits-requires returns is-match-same-requires returns-2 sets-in-space-requires returns-3 returns-4)

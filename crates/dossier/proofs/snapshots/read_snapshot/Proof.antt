@@ -11,6 +11,16 @@ use Rattle.dossier.proofs.snapshots.no_snapshot.Reads as no-snapshot-re
 use Rattle.dossier.proofs.snapshots.read_numbers.Reads as read-numbers-reads
 use Rattle.event.proofs.sets.read_sets.Reads as read-sets-reads
 
+-- ---- the places
+
+abbrev to-sets : tie.After-are-small → tie.Else1
+to-sets c = c .before .before .before .before
+
+abbrev to-numbers : tie.After-read-sets → tie.After-version
+to-numbers c = c .before .before
+
+-- ---- the needs
+
 read-numbers-requires : tie.Need-read-numbers-requires
 read-numbers-requires c κs = search needs
 
@@ -34,8 +44,10 @@ no-snapshot-requires-2 c κs = search needs
 
 returns-2 : tie.Need-returns-2
 returns-2 c =
-    let n = numbers-read (c .before .before .before .before .before .version .given .1) (c .before .before .before .before .before .before .before .read-numbers .ensures) in
-    snapshot-none _ _ _ (no-sets _ _ _ _ _ n _ (c .before .before .before .read-sets .ensures) (not-true _ (c .before .if1 .taken))) (c .no-snapshot2 .ensures)
+    let refused = c .before in
+    let read = refused .before in
+    let numbers = numbers-read (to-numbers read .version .given .1) (to-numbers read .before .before .read-numbers .ensures) in
+    snapshot-none _ _ _ (no-sets _ _ _ _ _ numbers _ (read .read-sets .ensures) (not-true _ (refused .if1 .taken))) (c .no-snapshot2 .ensures)
 
 are-small-requires : tie.Need-are-small-requires
 are-small-requires c κs = search needs
@@ -45,13 +57,25 @@ no-snapshot-requires-3 c κs = search needs
 
 returns-3 : tie.Need-returns-3
 returns-3 c =
-    let n = numbers-read (c .before .before .before .before .before .before .before .before .version .given .1) (c .before .before .before .before .before .before .before .before .before .before .read-numbers .ensures) in
-    snapshot-none _ _ _ (sets-large _ _ _ _ _ n _ (c .before .before .before .before .before .before .read-sets .ensures) (not-false _ (c .before .before .before .before .if1 .left)) (λ t xs w e. sym (not-true _ (c .before .if2 .taken)) ∙ c .before .before .are-small .ensures t xs w e)) (c .no-snapshot3 .ensures)
+    let large = c .before in
+    let asked = large .before in
+    let right = to-sets asked in
+    let read = right .before in
+    let numbers = numbers-read (to-numbers read .version .given .1) (to-numbers read .before .before .read-numbers .ensures) in
+    snapshot-none _ _ _
+    (sets-large _ _ _ _ _ numbers _ (read .read-sets .ensures) (not-false _ (right .if1 .left))
+    (λ t xs w e. sym (not-true _ (large .if2 .taken)) ∙ asked .are-small .ensures t xs w e))
+    (c .no-snapshot3 .ensures)
 
 returns-4 : tie.Need-returns-4
 returns-4 c =
-    let n = numbers-read (c .before .before .before .before .before .before .before .version .given .1) (c .before .before .before .before .before .before .before .before .before .read-numbers .ensures) in
-    snapshot-some _ _ _ _ _ n _ (c .before .before .before .before .before .read-sets .ensures) (not-false _ (c .before .before .before .if1 .left)) (λ t xs w e. sym (not-false _ (c .if2 .left)) ∙ c .before .are-small .ensures t xs w e)
+    let small = c .before in
+    let asked = small .before in
+    let right = to-sets asked in
+    let read = right .before in
+    let numbers = numbers-read (to-numbers read .version .given .1) (to-numbers read .before .before .read-numbers .ensures) in
+    snapshot-some _ _ _ _ _ numbers _ (read .read-sets .ensures) (not-false _ (right .if1 .left))
+    (λ t xs w e. sym (not-false _ (small .if2 .left)) ∙ asked .are-small .ensures t xs w e)
 
 pub read-snapshot-spec : {M : Type 1} → statement M
 read-snapshot-spec =

@@ -28,13 +28,16 @@ abbrev to-table : tie.After-read-event → tie.Else1
 to-table c = c .before .before .before
 
 abbrev to-event : tie.Else2 → tie.After-read-event
-to-event c = c .before .before
+to-event c = c .before
 
 abbrev to-right : tie.Else3 → tie.Else2
 to-right c = c .before .before
 
+abbrev to-typed : tie.After-shape-ok → tie.Else3
+to-typed c = c .before .before .before .before .before .before .before .before
+
 abbrev to-shape : tie.After-sets-in-space → tie.Else4
-to-shape c = c .before .before
+to-shape c = c .before .before .before .before .before .before .before
 
 abbrev of-event : tie.Else3 → tie.After-read-event
 of-event c = to-event (to-right c)
@@ -78,11 +81,11 @@ has-type c g =
     (type-said t g) (table-right t g .is) (not-false _ (c .if3 .left))
 
 shape-right :
-    (c : tie.Else4) {table : List ℕ} {name : Text} (g : Given (of-start (c .before .before)) table name) →
-    let m = has-type (c .before .before) g in true ≡ eventShape (m .type) (m .e)
+    (c : tie.Else4) {table : List ℕ} {name : Text} (g : Given (of-start (to-typed (c .before))) table name) →
+    let m = has-type (to-typed (c .before)) g in true ≡ eventShape (m .type) (m .e)
 shape-right c g =
-    let m = has-type (c .before .before) g in
-    sym (not-false _ (c .if4 .left)) ∙ c .before .shape-ok .ensures _ _ (m .type) (m .e) (m .type-is) (m .event-is)
+    let m = has-type (to-typed (c .before)) g in
+    sym (not-false _ (c .if4 .left)) ∙ c .before .shape-ok .ensures _ _ (m .type) (m .e) (m .type-is .are) (m .event-is .sets) (m .event-is .objects)
 
 -- ---- the needs
 
@@ -110,7 +113,7 @@ refused-with-requires-2 c κs = search needs
 returns-2 : tie.Need-returns-2
 returns-2 c = λ table name says names.
     let unread = c .before in
-    let e = unread .before .before in
+    let e = unread .before in
     let s = to-start (to-table e) in
     let t = table-right (to-table e) (record { says = says; names = names }) in
     with-table _ _ (counts s) _ (t .is) _
@@ -140,12 +143,12 @@ returns-4 : tie.Need-returns-4
 returns-4 c = λ table name says names.
     let unshaped = c .before in
     let asked = unshaped .before in
-    let typed = asked .before in
+    let typed = to-typed asked in
     let g : Given (of-start typed) table name = record { says = says; names = names } in
     let m = has-type typed g in
     with-table _ _ (counts (of-start typed)) _ (table-right (to-table (of-event typed)) g .is) _
     (no-shape table _ _ _ _ _ m _
-    (sym (not-true _ (unshaped .if4 .taken)) ∙ asked .shape-ok .ensures _ _ (m .type) (m .e) (m .type-is) (m .event-is))
+    (sym (not-true _ (unshaped .if4 .taken)) ∙ asked .shape-ok .ensures _ _ (m .type) (m .e) (m .type-is .are) (m .event-is .sets) (m .event-is .objects))
     (c .refused-with4 .ensures))
 
 sets-in-space-requires : tie.Need-sets-in-space-requires
@@ -159,25 +162,24 @@ returns-5 c = λ table name says names.
     let outside = c .before in
     let asked = outside .before in
     let shaped = to-shape asked in
-    let typed = shaped .before .before in
+    let typed = to-typed (shaped .before) in
     let g : Given (of-start typed) table name = record { says = says; names = names } in
     let m = has-type typed g in
     with-table _ _ (counts (of-start typed)) _ (table-right (to-table (of-event typed)) g .is) _
     (no-values table _ _ _ _ _ m _ (shape-right shaped g)
-    (sym (not-true _ (outside .if5 .taken)) ∙ asked .sets-in-space .ensures _ (m .type) (m .e .sets) (m .type-is) (m .kinds) (m .event-is .sets))
+    (sym (not-true _ (outside .if5 .taken)) ∙ asked .sets-in-space .ensures _ (m .type) (m .e .sets) (m .type-is .are) (m .kinds) (m .event-is .sets))
     (c .refused-with5 .ensures))
 
 returns-6 : tie.Need-returns-6
 returns-6 c = λ table name says names.
-    let right = c .before in
-    let asked = right .before in
+    let asked = c .before in
     let shaped = to-shape asked in
-    let typed = shaped .before .before in
+    let typed = to-typed (shaped .before) in
     let g : Given (of-start typed) table name = record { says = says; names = names } in
     let m = has-type typed g in
     with-table _ _ (counts (of-start typed)) _ (table-right (to-table (of-event typed)) g .is) _
     (all-met table _ _ _ _ _ m _ (shape-right shaped g)
-    (sym (not-false _ (right .if5 .left)) ∙ asked .sets-in-space .ensures _ (m .type) (m .e .sets) (m .type-is) (m .kinds) (m .event-is .sets))
+    (sym (not-false _ (c .if5 .left)) ∙ asked .sets-in-space .ensures _ (m .type) (m .e .sets) (m .type-is .are) (m .kinds) (m .event-is .sets))
     refl (m .type-is) (m .event-is))
 
 pub ask-typed-spec : {M : Type 1} → statement M

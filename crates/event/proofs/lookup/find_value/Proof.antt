@@ -1,26 +1,67 @@
 use borrow.Author.Needs.{needs}
 use native.Mathlib.Omega.{arith}
-use mathlib.Core.Path.{sym, _∙_}
+use mathlib.Core.Path.{_≡_, sym, ap, _∙_}
+use mathlib.Core.List.{[]}
+use Prim.Native.Nat.{_^_, _<_}
+use lib.ListN.{length, getD}
 use Rattle.packed.proofs.ReadLaws.{number-stops, number-none, text-stops, text-none}
 use Rattle.ontology.proofs.RunLaws.{no-element}
-use Rattle.event.specs.Event.{setAt}
+use Rattle.event.specs.Event.{Event, setAt}
+use Rattle.event.specs.code.EventIndex.{EventIs, Skipped}
+use Rattle.event.specs.declared.sets.SetAt.{SetAt}
 use Rattle.event.proofs.LookupLaws.{no-place, value-no-count, value-no-text, value-stands}
 use Rattle.event.proofs.lookup.find_value.Statement.{statement}
 use Rattle.event.proofs.lookup.find_value.Tie as tie
 
+-- ---- the places
+
+abbrev to-start : tie.After-set-at → tie.Start
+to-start c = c .before .before .before .before .before .before
+
+abbrev to-set : tie.Else2 → tie.After-set-at
+to-set c = c .before .before
+
+abbrev to-place : tie.After-read-number → tie.Else2
+to-place c = c .before .before .before
+
+abbrev to-number : tie.After-known-told → tie.After-read-number
+to-number c = c .before .before .before
+
+abbrev to-count : tie.After-read-text → tie.After-known-told
+to-count c = c .before .before
+
+-- ---- what is known of the place
+
+module _ (c : tie.After-set-at) where
+  inside : to-start c .args .place < 32
+  inside = omega (arith, c .before .before .before .before .if1 .left)
+
+  short : length (to-start c .args .event .now) < 2 ^ 64
+  short = omega (arith, to-start c .good)
+
+  objects : {e : Event} → EventIs (to-start c .args .event .now) e (to-start c .args .t2) → c .set-at .result .count ≡ length (getD (e .sets) (to-start c .args .place) [])
+  objects w = ap (λ (x : SetAt). x .count) (c .set-at .ensures) ∙ w .sets .each (to-start c .args .place) inside .count
+
+index-inside :
+    (c : tie.Else2) {e : Event} → let a = to-start (to-set c) .args in
+    EventIs (a .event .now) e (a .t2) → a .index < length (getD (e .sets) (a .place) [])
+index-inside c w = omega (arith, objects (to-set c) w, c .if2 .left)
+
+-- ---- the needs
+
 returns : tie.Need-returns
-returns c = λ e w. no-place (e .sets) (c .before .before .args .place) (c .before .before .args .index) (omega (arith, w .sets .long, c .if1 .taken))
+returns c = λ e w.
+    let a = c .before .before .args in
+    no-place (e .sets) (a .place) (a .index) (omega (arith, w .sets .long, c .if1 .taken))
 
-mul-set : tie.Need-mul-set
-mul-set c = search needs
-
-element-copy-out-set : tie.Need-element-copy-out-set
-element-copy-out-set c = search needs
+set-at-requires : tie.Need-set-at-requires
+set-at-requires c κs = search needs
 
 returns-2 : tie.Need-returns-2
 returns-2 c = λ e w.
-    let n = w .sets .each (c .before .before .before .before .before .args .place) (omega (arith, c .before .before .before .if1 .left)) .count in
-    no-element (setAt e (c .before .before .before .before .before .args .place)) (c .before .before .before .before .before .args .index) (omega (arith, n, c .if2 .taken))
+    let found = c .before .before in
+    let a = to-start found .args in
+    no-element (setAt e (a .place)) (a .index) (omega (arith, objects found w, c .if2 .taken))
 
 sets-below-requires : tie.Need-sets-below-requires
 sets-below-requires c κs = search needs
@@ -39,10 +80,13 @@ enum-told c = search needs
 
 returns-3 : tie.Need-returns-3
 returns-3 c = λ e w.
-    let a = c .before .before .before .before .before .before .before .before .before .before .args in
-    let p = c .before .before .before .before .before .before .before .before .if1 .left in
-    let n = w .sets .each (a .place) (omega (arith, p)) .count in
-    absurd (value-no-count _ (omega arith) e _ w (a .place) (a .index) (omega (arith, p)) (omega (arith, n, c .before .before .before .before .before .if2 .left)) _ _ (c .before .before .before .before .sets-below .ensures) (c .before .before .before .skip-sets .ensures) (number-none _ _ (sym (c .before .before .read-number .ensures) ∙ c .enum-told .given .1)))
+    let read = c .before .before in
+    let there = to-place read in
+    let a = to-start (to-set there) .args in
+    let unread = number-none _ _ (sym (read .read-number .ensures) ∙ c .enum-told .given .1) in
+    absurd
+    (value-no-count _ (short (to-set there)) e _ w (a .place) (a .index) (inside (to-set there)) (index-inside there w) _ _
+    (read .before .before .sets-below .ensures) (read .before .skip-sets .ensures) unread)
 
 skip-texts-requires : tie.Need-skip-texts-requires
 skip-texts-requires c κs = search needs
@@ -58,29 +102,35 @@ enum-told-2 c = search needs
 
 returns-4 : tie.Need-returns-4
 returns-4 c = λ e w.
-    let a = c .before .before .before .before .before .before .before .before .before .before .before .before .before .before .before .args in
-    let p = c .before .before .before .before .before .before .before .before .before .before .before .before .before .if1 .left in
-    let n = w .sets .each (a .place) (omega (arith, p)) .count in
-    absurd (value-no-text _ (omega arith) e _ w (a .place) (a .index) (omega (arith, p)) (omega (arith, n, c .before .before .before .before .before .before .before .before .before .before .if2 .left)) _ _ (c .before .before .before .before .before .before .before .before .before .sets-below .ensures) (c .before .before .before .before .before .before .before .before .skip-sets .ensures)
-    _ _ _ (number-stops _ _ _ _ (sym (c .before .before .before .before .before .before .before .read-number .ensures) ∙ c .before .before .before .before .before .after-count .given .1)) (c .before .before .before .skip-texts .ensures)
-    (text-none _ _ (sym (c .before .before .read-text .ensures) ∙ c .enum-told2 .given .1)))
+    let text = c .before .before in
+    let told = to-count text in
+    let read = to-number told in
+    let there = to-place read in
+    let a = to-start (to-set there) .args in
+    let count = number-stops _ _ _ _ (sym (read .read-number .ensures) ∙ told .before .after-count .given .1) in
+    let unread = text-none _ _ (sym (text .read-text .ensures) ∙ c .enum-told2 .given .1) in
+    absurd
+    (value-no-text _ (short (to-set there)) e _ w (a .place) (a .index) (inside (to-set there)) (index-inside there w) _ _
+    (read .before .before .sets-below .ensures) (read .before .skip-sets .ensures) _ _ _ count (text .before .skip-texts .ensures) unread)
 
 returns-5 : tie.Need-returns-5
 returns-5 c = λ e w.
-    let a = c .before .before .before .before .before .before .before .before .before .before .before .before .before .before .before .before .args in
-    let p = c .before .before .before .before .before .before .before .before .before .before .before .before .before .before .if1 .left in
-    let n = w .sets .each (a .place) (omega (arith, p)) .count in
-    value-stands _ (omega arith) e _ w (a .place) (a .index) (omega (arith, p)) (omega (arith, n, c .before .before .before .before .before .before .before .before .before .before .before .if2 .left)) _ _ (c .before .before .before .before .before .before .before .before .before .before .sets-below .ensures) (c .before .before .before .before .before .before .before .before .before .skip-sets .ensures)
-    _ _ _ (number-stops _ _ _ _ (sym (c .before .before .before .before .before .before .before .before .read-number .ensures) ∙ c .before .before .before .before .before .before .after-count .given .1)) (c .before .before .before .before .skip-texts .ensures)
-    _ _ (text-stops _ _ _ _ (sym (c .before .before .before .read-text .ensures) ∙ c .before .value .given .1))
+    let text = c .before .before .before in
+    let told = to-count text in
+    let read = to-number told in
+    let there = to-place read in
+    let a = to-start (to-set there) .args in
+    let count = number-stops _ _ _ _ (sym (read .read-number .ensures) ∙ told .before .after-count .given .1) in
+    let value = text-stops _ _ _ _ (sym (text .read-text .ensures) ∙ c .before .value .given .1) in
+    value-stands _ (short (to-set there)) e _ w (a .place) (a .index) (inside (to-set there)) (index-inside there w) _ _
+    (read .before .before .sets-below .ensures) (read .before .skip-sets .ensures) _ _ _ count (text .before .skip-texts .ensures) _ _ value
 
 pub find-value-spec : {M : Type 1} → statement M
 find-value-spec =
     tie.close
     (tie.spec
     returns
-    mul-set
-    element-copy-out-set
+    set-at-requires
     returns-2
     sets-below-requires
     skip-sets-requires

@@ -35,11 +35,38 @@ returns c =
     let l = c .before .before .before .before .before .loop in
     sets-none _ _ _ (sofar-bad _ _ _ _ _ _ _ (l .inv .1) (c .before .before .before .before .loop-test .taken) (set-refused _ (c .enum-told .given .1) (c .before .before .read-place .ensures))) (l .inv .0)
 
-mul-x : tie.Need-mul-x Inv-loop μ-loop
-mul-x c = search needs
+mul-found : tie.Need-mul-found Inv-loop μ-loop
+mul-found c = search needs
 
-element-set-from-x : tie.Need-element-set-from-x Inv-loop μ-loop
-element-set-from-x c = search needs
+mul-found-2 : tie.Need-mul-found-2 Inv-loop μ-loop
+mul-found-2 c = search needs
+
+element-write-found : tie.Need-element-write-found Inv-loop μ-loop
+element-write-found c = search needs
+
+mul-found-3 : tie.Need-mul-found-3 Inv-loop μ-loop
+mul-found-3 c = search needs
+
+add-found : tie.Need-add-found Inv-loop μ-loop
+add-found c = search needs
+
+mul-found-4 : tie.Need-mul-found-4 Inv-loop μ-loop
+mul-found-4 c = search needs
+
+element-write-found-2 : tie.Need-element-write-found-2 Inv-loop μ-loop
+element-write-found-2 c = search needs
+
+mul-found-5 : tie.Need-mul-found-5 Inv-loop μ-loop
+mul-found-5 c = search needs
+
+add-found-2 : tie.Need-add-found-2 Inv-loop μ-loop
+add-found-2 c = search needs
+
+mul-found-6 : tie.Need-mul-found-6 Inv-loop μ-loop
+mul-found-6 c = search needs
+
+element-write-found-3 : tie.Need-element-write-found-3 Inv-loop μ-loop
+element-write-found-3 c = search needs
 
 add-objects : tie.Need-add-objects Inv-loop μ-loop
 add-objects c =
@@ -75,8 +102,17 @@ read-sets-spec =
     enum-known-x
     enum-told
     returns
-    mul-x
-    element-set-from-x
+    mul-found
+    mul-found-2
+    element-write-found
+    mul-found-3
+    add-found
+    mul-found-4
+    element-write-found-2
+    mul-found-5
+    add-found-2
+    mul-found-6
+    element-write-found-3
     add-objects
     add-k
     loop-less

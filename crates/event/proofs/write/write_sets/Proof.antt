@@ -9,20 +9,21 @@ use borrow.Author.Tests.{ltb-false}
 use Rattle.model.specs.Order.{Text}
 use Rattle.packed.proofs.WriteLaws.{wrote-length}
 use Rattle.event.specs.code.EventIndex.{SetsAre}
+use Rattle.event.proofs.SetLaws.{set-read}
 use Rattle.event.proofs.SetWriteLaws.{RunTo, run-none, run-same, run-room, run-last, run-over, run-more}
 use Rattle.event.proofs.write.write_sets.Statement.{statement}
 use Rattle.event.proofs.write.write_sets.Tie as tie
 
 abbrev Inv-loop : tie.InvT-loop
-Inv-loop s presence out₀ at sets run₀ bits₀ k₀ out run bits k = (xs : List (List Text)) → SetsAre s xs sets → RunTo s out₀ at presence xs out run bits k
+Inv-loop s sets presence out₀ at run₀ bits₀ k₀ out run bits k = (xs : List (List Text)) → SetsAre s xs sets → RunTo s out₀ at presence xs out run bits k
 
 abbrev μ-loop : tie.MeasureT-loop
-μ-loop s presence out₀ at sets run₀ bits₀ k₀ out run bits k = 32 - k
+μ-loop s sets presence out₀ at run₀ bits₀ k₀ out run bits k = 32 - k
 
 -- ---- the places
 
 abbrev to-start : tie.At-loop Inv-loop μ-loop → tie.Start Inv-loop μ-loop
-to-start c = c .before .before .before
+to-start c = c .before .before .before .before
 
 abbrev to-turn : tie.Then1 Inv-loop μ-loop → tie.In-loop Inv-loop μ-loop
 to-turn c = c .before
@@ -32,22 +33,19 @@ to-turn c = c .before
 loop-holds : tie.Need-loop-holds Inv-loop μ-loop
 loop-holds c = λ xs are. run-none _ _ _ _ xs
 
-mul-x : tie.Need-mul-x Inv-loop μ-loop
-mul-x c = search needs
-
-array-copy-out-x : tie.Need-array-copy-out-x Inv-loop μ-loop
-array-copy-out-x c = search needs
+set-at-requires : tie.Need-set-at-requires Inv-loop μ-loop
+set-at-requires c κs = (to-start (to-turn (c .before) .before) .pre .0, omega arith)
 
 with-set-requires : tie.Need-with-set-requires Inv-loop μ-loop
 with-set-requires c κs =
     let turn = to-turn (c .before .before .before) in
     let l = turn .before .loop in
-    let p = to-start (turn .before) .pre in
+    let p = to-start (turn .before) .pre .1 in
     let w = l .inv (p .values) (p .are) in
     record {
       run = w .run;
       values = getD (p .values) (l .k) [];
-      is = p .are .each (l .k) (turn .loop-test .taken);
+      is = set-read (c .before .set-at .ensures) (p .are .each (l .k) (turn .loop-test .taken));
       room = run-room w (p .room);
     }
 
@@ -67,14 +65,14 @@ loop-again c = λ xs are.
     ⊎-elim
     (λ x.
     let with = x .3 .ensures in
-    run-same (run-more w place (x .0 .taken) (with .0) (with .1 _ (are .each (l .k) inside))) (x .6) (x .7))
+    run-same (run-more w place (x .0 .taken) (with .0) (with .1 _ (set-read (x .1 .ensures) (are .each (l .k) inside)))) (x .6) (x .7))
     (λ y. run-same (run-over w place (y .0 .left)) (y .1) (y .2))
     (c .if2 .came)
 
 copy-part-requires : tie.Need-copy-part-requires Inv-loop μ-loop
 copy-part-requires c κs =
     let at-loop = c .before .before in
-    let p = to-start at-loop .pre in
+    let p = to-start at-loop .pre .1 in
     let w = at-loop .loop .inv (p .values) (p .are) in
     (w .run .order, w .run .within, run-room w (p .room))
 
@@ -82,7 +80,7 @@ same-length : tie.Need-same-length Inv-loop μ-loop
 same-length c =
     let copied = c .before .before in
     let at-loop = copied .before .before .before in
-    let p = to-start at-loop .pre in
+    let p = to-start at-loop .pre .1 in
     wrote-length (copied .copy-part .ensures) ∙ at-loop .loop .inv (p .values) (p .are) .to-write .long
 
 returns : tie.Need-returns Inv-loop μ-loop
@@ -105,8 +103,7 @@ write-sets-spec =
     Inv-loop
     μ-loop
     loop-holds
-    mul-x
-    array-copy-out-x
+    set-at-requires
     with-set-requires
     add-k
     loop-less
