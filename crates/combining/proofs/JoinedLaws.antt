@@ -21,6 +21,7 @@ use Rattle.model.proofs.StepLaws.{union-left-nil, union-right-nil, join-map}
 use Rattle.packed.specs.Parse.{got}
 use Rattle.packed.specs.Packed.{number, text}
 use Rattle.packed.specs.code.Written.{Wrote, ToGo}
+use Rattle.packed.proofs.LayoutLaws.{text-length, number-bounds}
 use Rattle.packed.proofs.WriteLaws.{wrote-length, wrote-then, wrote-as}
 use Rattle.values.specs.Spaces.{Kind, kindNumber, inSpace}
 use Rattle.values.specs.ValueOrder.{isOrdered, extremeOrder}
@@ -37,8 +38,9 @@ use Rattle.event.specs.declared.sets.SetAt.{SetAt}
 use Rattle.event.proofs.BitLaws.{FilledTo, presence-bits}
 use Rattle.event.proofs.EventLayoutLaws.{SetWritten}
 use Rattle.event.proofs.EventQuestionLaws.{all-at, each-place-at, empty-written, choice-least, no-value, one-value, one-in-space}
-use Rattle.event.proofs.SetWriteLaws.{set-room, wrote-set}
-use Rattle.unions.specs.code.Runs.{TextsRoom}
+use Rattle.event.proofs.SetWriteLaws.{set-some, set-room, wrote-set}
+use Rattle.unions.specs.declared.pair.Joined.{Joined}
+use Rattle.unions.specs.code.Runs.{TextsRoom, WroteUnion}
 use Rattle.dossier.specs.DossierBody.{readSnapshot, differBit, snapshotBytes}
 use Rattle.dossier.specs.DossierQuestions.{eachCell, isVacant, isPresent, isLone, isLoneIfExtreme, snapshotValues}
 use Rattle.dossier.specs.code.DossierIndex.{SnapshotIs, cellFits, versionFits, snapshotFits}
@@ -46,7 +48,7 @@ use Rattle.dossier.specs.declared.snapshots.SnapshotIndex.{SnapshotIndex}
 use Rattle.dossier.proofs.DossierBodyLaws.{snapshot-was}
 use Rattle.dossier.proofs.CellLaws.{held-at}
 use Rattle.combining.specs.code.CombineIndex.{isExtremeAt, Fitting, Meet}
-use Rattle.combining.specs.code.JoinedIndex.{haveObjects, PresentAre, Extremes, joinedSet, Paired, PlaceIs, PlaceRoom}
+use Rattle.combining.specs.code.JoinedIndex.{haveObjects, PresentAre, Extremes, joinedSet, ValuesAre, Paired, PlaceIs, PlaceRoom}
 use Rattle.combining.proofs.CheckLaws.{sets-held, none-differ}
 use Rattle.combining.proofs.ObjectLaws.{keeps-every, placeFits, fits-at}
 
@@ -100,6 +102,23 @@ least-at : (ty : EventType) (p : ℕ) (e : ExtremeAt ty p) → typeView ty .choi
 unfolding typeView eventView atPlace
 least-at ty p e = rw (e .is) (choice-least (e .what) (e .extreme))
 
+-- a union is empty only where both sets are
+union-some : (O : Order Text) (xs ys : List Text) → 1 ≤ length xs + length ys → 1 ≤ length (union O xs ys)
+union-some O xs ys h = some-in (xs ++ ys) (omega (arith, length-append xs ys)) (union-in O xs ys)
+  where
+    member : (m : List Text) (a : Text) → List·Memᴰ a m → 1 ≤ length m
+    member (b ∷ m) a (List·Memᴰ·head q) = omega arith
+    member (b ∷ m) a (List·Memᴰ·tail n) = omega arith
+
+    some-in : (l : List Text) → 1 ≤ length l → ((a : Text) → List·Memᴰ a l → List·Memᴰ a (union O xs ys)) → 1 ≤ length (union O xs ys)
+    some-in [] h w = absurd (omega arith)
+    some-in (a ∷ l) h w = member (union O xs ys) a (w a (List·Memᴰ·head refl))
+
+-- the first of a list that is not empty
+take-one : (l : List Text) → 1 ≤ length l → length (take 1 l) ≡ 1
+take-one [] h = absurd (omega arith)
+take-one (a ∷ l) h = refl
+
 module _ (ty : EventType) (p : ℕ) (xs ys : List Text) where
   pub joined-every : isExtremeAt ty p ≡ false → joinedSet ty p xs ys ≡ union texts xs ys
   unfolding joinCell held
@@ -122,24 +141,16 @@ module _ (ty : EventType) (p : ℕ) (xs ys : List Text) where
   unfolding joinCell held
   joined-some h = go (typeView ty .choice p)
     where
-      member : (m : List Text) (a : Text) → List·Memᴰ a m → 1 ≤ length m
-      member (b ∷ m) a (List·Memᴰ·head q) = omega arith
-      member (b ∷ m) a (List·Memᴰ·tail n) = omega arith
-
-      some-in : (l m : List Text) → 1 ≤ length l → ((a : Text) → List·Memᴰ a l → List·Memᴰ a m) → 1 ≤ length m
-      some-in [] m h w = absurd (omega arith)
-      some-in (a ∷ l) m h w = member m a (w a (List·Memᴰ·head refl))
-
-      some-union : (O : Order Text) → 1 ≤ length (union O xs ys)
-      some-union O = some-in (xs ++ ys) (union O xs ys) (omega (arith, length-append xs ys)) (union-in O xs ys)
-
-      some-take : (l : List Text) → 1 ≤ length l → 1 ≤ length (take 1 l)
-      some-take [] h = absurd (omega arith)
-      some-take (a ∷ l) h = omega arith
-
       go : (c : Choice) → 1 ≤ length (held (joinCell false c (holds xs) (holds ys)))
-      go every = some-union texts
-      go (least O) = some-take (union O xs ys) (some-union O)
+      go every = union-some texts xs ys h
+      go (least O) = omega (arith, take-one (union O xs ys) (union-some O xs ys h))
+
+  -- a place of strategy min or max has one value then
+  pub joined-one : 1 ≤ length xs + length ys → isExtremeAt ty p ≡ true → 1 ≡ length (joinedSet ty p xs ys)
+  joined-one h x =
+      let e = extreme-at ty p x in
+      let O = extremeOrder (isMax (e .what)) (e .what .kind) in
+      sym (ap length (joined-extreme e) ∙ take-one (union O xs ys) (union-some O xs ys h))
 
 -- ---- whether one of two places has objects
 
@@ -185,6 +196,52 @@ module _ (a : List ℕ) (x : SetAt) (b : List ℕ) (y : SetAt) (xs ys : List Tex
         go false e = let (m, n) = have-none e in ap presenceBit (joined-none ty p xs ys m n)
         go true e = one (joinedSet ty p xs ys) (joined-some ty p xs ys (have-some e))
 
+-- ---- writing the union of two sets
+
+-- each value takes a byte at least
+texts-few : (xs : List Text) → length xs ≤ length (flatten (map text xs))
+unfolding flatten
+texts-few [] = omega arith
+texts-few (x ∷ xs) = omega (arith, length-append (text x) (flatten (map text xs)), text-length x, number-bounds (length x), texts-few xs)
+
+module _ {a : List ℕ} {m : ℕ} {b : List ℕ} {n : ℕ} {xs ys : List Text} (w : ValuesAre a m b n xs ys) where
+  pub values-few : (m ≤ length a) × (n ≤ length b)
+  values-few = (
+    omega (arith, w .left-count, texts-few xs, ap length (w .left)),
+    omega (arith, w .right-count, texts-few ys, ap length (w .right)),
+  )
+
+  module _ (some : 1 ≤ m + n) where
+    values-bytes : setBytes (union texts xs ys) ≡ number (length (union texts xs ys)) ++ flatten (map text (union texts xs ys))
+    values-bytes =
+        let k = union-some texts xs ys (omega (arith, w .left-count, w .right-count)) in
+        set-some (length (union texts xs ys)) (union texts xs ys) refl (λ z. omega (arith, k))
+
+    -- the bytes that the count and the values take
+    pub values-size :
+        length (setBytes (union texts xs ys)) ≡ length (number (length (union texts xs ys))) + length (flatten (map text (union texts xs ys)))
+    values-size = ap length values-bytes ∙ length-append (number (length (union texts xs ys))) (flatten (map text (union texts xs ys)))
+
+    -- the values go one byte after where the count is to stand, which takes a byte at least
+    pub values-room : (at size : ℕ) → at + length (setBytes (union texts xs ys)) ≤ size → TextsRoom a b (at + 1) size
+    values-room at size h = record {
+      xs = xs;
+      ys = ys;
+      left = w .left;
+      right = w .right;
+      xs-rise = w .left-rises;
+      ys-rise = w .right-rises;
+      room = omega (arith, values-size, number-bounds (length (union texts xs ys)));
+    }
+
+    -- how many there are: those of both sets but for the second of each that both have
+    pub values-count : {l bytes l′ : List ℕ} {at : ℕ} {r : Joined} → WroteUnion l at bytes l′ xs ys r → m + n - r .shared ≡ length (union texts xs ys)
+    values-count o = omega (arith, o .counts, w .left-count, w .right-count)
+
+    pub values-wrote : {l l′ : List ℕ} {at next : ℕ} (k : ℕ) → k ≡ length (union texts xs ys) →
+        Wrote l at (number k ++ flatten (map text (union texts xs ys))) l′ next → Wrote l at (setBytes (union texts xs ys)) l′ next
+    values-wrote k e o = wrote-as (ap (λ (i : ℕ). number i ++ flatten (map text (union texts xs ys))) e ∙ sym values-bytes) o
+
 -- ---- writing a place
 
 -- what the chosen value asks
@@ -221,21 +278,19 @@ module _ (t : TypeIndex) (p : ℕ) (a : List ℕ) (x : SetAt) (b : List ℕ) (y 
         ∙ ap (λ (largest : Bool). take 1 (union (extremeOrder largest (here .what .kind)) (h .xs) (h .ys))) (max-of (property d))
         ∙ sym (joined-extreme (h .type) p (h .xs) (h .ys) here))
 
-  -- a union is all of the set elsewhere
-  module _ (e : isExtremeAt (h .type) p ≡ false) (u v : List ℕ) (l : u ≡ flatten (map text (h .xs))) (r : v ≡ flatten (map text (h .ys))) where
-    pub union-texts : flatten (map text (union texts (h .xs) (h .ys))) ≡ flatten (map text (joinedSet (h .type) p (h .xs) (h .ys)))
-    union-texts = ap (λ (s : List Text). flatten (map text s)) (sym (joined-every (h .type) p (h .xs) (h .ys) e))
+  -- elsewhere the union is all of the set
+  pub place-values : (u v : List ℕ) → u ≡ flatten (map text (h .xs)) → v ≡ flatten (map text (h .ys)) → ValuesAre u (x .count) v (y .count) (h .xs) (h .ys)
+  place-values u v l r = record {
+    left = l;
+    right = r;
+    left-count = h .left .count;
+    right-count = h .right .count;
+    left-rises = h .paired .left-rises;
+    right-rises = h .paired .right-rises;
+  }
 
-    pub union-room : (at size : ℕ) → at + length (flatten (map text (joinedSet (h .type) p (h .xs) (h .ys)))) ≤ size → TextsRoom u v at size
-    union-room at size k = record {
-      xs = h .xs;
-      ys = h .ys;
-      left = l;
-      right = r;
-      xs-rise = h .paired .left-rises;
-      ys-rise = h .paired .right-rises;
-      room = omega (arith, ap length union-texts);
-    }
+  pub place-union : isExtremeAt (h .type) p ≡ false → setBytes (union texts (h .xs) (h .ys)) ≡ setBytes (joinedSet (h .type) p (h .xs) (h .ys))
+  place-union e = ap setBytes (sym (joined-every (h .type) p (h .xs) (h .ys) e))
 
   pub place-room : (n at size : ℕ) → n ≡ length (joinedSet (h .type) p (h .xs) (h .ys)) → at + length (setBytes (joinedSet (h .type) p (h .xs) (h .ys))) ≤ size → at + length (number n) + length (flatten (map text (joinedSet (h .type) p (h .xs) (h .ys)))) ≤ size
   place-room n at size e k =
