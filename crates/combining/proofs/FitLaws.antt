@@ -2,7 +2,7 @@
 use mathlib.Core.Path.{_≡_, refl, sym, ap, ap₂, _∙_, subst₂}
 use mathlib.Core.Bool.{Bool, true, false, cond, _&&_, _||_}
 use mathlib.Core.List.{List, [], _∷_, map}
-use Prim.Native.Nat.{ℕ, zero, suc, _-_, _≤_, _<_}
+use Prim.Native.Nat.{ℕ, zero, suc, _+_, _-_, _≤_, _<_}
 use native.Mathlib.Omega.{arith}
 use lib.Dec.{leb, eqb}
 use lib.ListN.{length, take, drop, getD, length-map}
@@ -29,6 +29,7 @@ use Rattle.dossier.proofs.DossierLayoutLaws.{DossierWritten}
 use Rattle.dossier.proofs.AcceptedLaws.{DossierTaken, taken-written, taken-lone, taken-fits}
 use Rattle.combining.specs.CombineCall.{combined}
 use Rattle.combining.specs.code.CombineIndex.{Combinable, Meet}
+use Rattle.combining.proofs.ObjectLaws.{union-few}
 use Rattle.combining.proofs.MeetLaws.{versionIn, left-taken, right-taken, same-type, meet}
 
 -- ---- the keys of a merge
@@ -65,6 +66,10 @@ all-hashes : (hs : List Text) → All (λ (h : Text). length h ≡ 20) hs → Ha
 all-hashes [] w i l = absurd (omega arith)
 all-hashes (h ∷ hs) w zero l = w .0
 all-hashes (h ∷ hs) w (suc i) l = all-hashes hs (w .1) i (omega arith)
+
+-- two runs of few parents have few together
+pub parents-few : (gs hs : List Text) (m n : ℕ) → m ≡ length gs → n ≡ length hs → m + n ≤ 32 → true ≡ leb (length (union texts gs hs)) 32
+parents-few gs hs m n p q h = sym (le-leb (length (union texts gs hs)) 32 (omega (arith, union-few texts gs hs)))
 
 -- ---- an unversioned dossier has one snapshot, of version 0
 
@@ -184,19 +189,21 @@ module _ (table a : List ℕ) (d : DossierIndex) (b : List ℕ) (e : DossierInde
   abbrev asked : Bool
   asked = fits standard (typeView ty) whole
 
-  module _ (n : ℕ) (p : n ≡ length (union texts (c .known .left .headed .head .parents) (c .known .right .headed .head .parents))) where
-    pub fits-parents : 32 < n → false ≡ asked
-    fits-parents l =
-        sym (fits-parts ty whole
-        ∙ ap (λ (z : Bool). z && (leb (length (whole .snapshots)) 8 && (isVersioned ty || leb (objects (whole .snapshots)) 256))) (lt-leb (length (whole .parents)) 32 (omega (arith, p, ap length whole-parents))))
+  module _ (n : Bool) (p : n ≡ leb (length (union texts (c .known .left .headed .head .parents) (c .known .right .headed .head .parents))) 32) where
+    then-parents : asked ≡ (n && (leb (length (whole .snapshots)) 8 && (isVersioned ty || leb (objects (whole .snapshots)) 256)))
+    then-parents =
+        fits-parts ty whole
+        ∙ ap (λ (z : Bool). z && (leb (length (whole .snapshots)) 8 && (isVersioned ty || leb (objects (whole .snapshots)) 256)))
+        (ap (λ (hs : List Text). leb (length hs) 32) whole-parents ∙ sym p)
+
+    pub fits-parents : n ≡ false → false ≡ asked
+    fits-parents l = sym (then-parents ∙ rw l)
 
     module _
-        (l : n ≤ 32) (m : ℕ)
+        (l : n ≡ true) (m : ℕ)
         (q : m ≡ length (union numbers (versionNumbers (take (d .count) (d .versions))) (versionNumbers (take (e .count) (e .versions))))) where
       then-versions : asked ≡ (leb (length (whole .snapshots)) 8 && (isVersioned ty || leb (objects (whole .snapshots)) 256))
-      then-versions =
-          fits-parts ty whole
-          ∙ ap (λ (z : Bool). z && (leb (length (whole .snapshots)) 8 && (isVersioned ty || leb (objects (whole .snapshots)) 256))) (le-leb (length (whole .parents)) 32 (omega (arith, p, ap length whole-parents)))
+      then-versions = then-parents ∙ rw l
 
       pub fits-versions : 8 < m → false ≡ asked
       fits-versions k = sym (then-versions ∙ ap (λ (z : Bool). z && (isVersioned ty || leb (objects (whole .snapshots)) 256)) (lt-leb (length (whole .snapshots)) 8 (omega (arith, q, whole-versions))))
