@@ -202,8 +202,10 @@ module _ (ty : EventType) (x : Snapshot) (w : SnapshotWritten x) (un : isVersion
   fits-here : placeFits false (getElem? (ty .properties) k) cell ≡ true
   unfolding snapshotFits
   fits-here =
-      let a = and-parts (eachCell (cellFits (isVersioned ty)) isVacant (ty .properties) (x .cells) && leb (matchCount (ty .properties) (map held (x .cells))) 32) (versionFits ty x) fits .0 in
-      let b = and-parts (eachCell (cellFits (isVersioned ty)) isVacant (ty .properties) (x .cells)) (leb (matchCount (ty .properties) (map held (x .cells))) 32) a .0 in
+      let cells = eachCell (cellFits (isVersioned ty)) isVacant (ty .properties) (x .cells) in
+      let matches = leb (matchCount (ty .properties) (map held (x .cells))) 32 in
+      let a = and-parts (cells && matches) (versionFits ty x) fits .0 in
+      let b = and-parts cells matches a .0 in
       fits-at false (ty .properties) (x .cells) (subst (λ (f : Bool). eachCell (cellFits f) isVacant (ty .properties) (x .cells) ≡ true) un b) k
 
   pub plain-cell : PlainCell ty k cell
@@ -213,7 +215,9 @@ module _ (ty : EventType) (x : Snapshot) (w : SnapshotWritten x) (un : isVersion
       record {
         holds-it = not-marked cell (a .0);
         lone = a .1;
-        rises = subst (λ (vs : List Text). rising texts vs ≡ true) (held-at (x .cells) k) (all-at SetWritten [] empty-written (map held (x .cells)) (w .sets .each) k .rises);
+        rises =
+            subst (λ (vs : List Text). rising texts vs ≡ true) (held-at (x .cells) k)
+            (all-at SetWritten [] empty-written (map held (x .cells)) (w .sets .each) k .rises);
       }
 
 -- ---- the objects of all places
@@ -238,7 +242,9 @@ module _ (a b : List ℕ) (ty : EventType) (x y : Snapshot) (un : isVersioned ty
 
   pub objects-end : (k room : ℕ) → 32 ≤ k → true ≡ leb (sizes (drop k joined)) room
   unfolding sizes
-  objects-end k room h = sym (ap (λ (cs : List Cell). leb (sizes cs) room) (drop-of-length-le joined {i = k} (omega (arith, joined-long))) ∙ le-leb 0 room (omega arith))
+  objects-end k room h =
+      let none = drop-of-length-le joined {i = k} (omega (arith, joined-long)) in
+      sym (ap (λ (cs : List Cell). leb (sizes cs) room) none ∙ le-leb 0 room (omega arith))
 
   module _ (k : ℕ) (h : k < 32) where
     pub left-cell : PlainCell ty k (getD (x .cells) k (holds []))
@@ -253,7 +259,11 @@ module _ (a b : List ℕ) (ty : EventType) (x y : Snapshot) (un : isVersioned ty
     pub right-set : (sets : List SetAt) → SetsAre b (map held (y .cells)) sets → SetIs b (held (getD (y .cells) k (holds []))) (getD sets k noSet)
     right-set sets r = subst (λ (vs : List Text). SetIs b vs (getD sets k noSet)) (held-at (y .cells) k) (r .each k h)
 
-    joined-at : getD joined k (holds []) ≡ joinCell false (typeView ty .choice k) (holds (held (getD (x .cells) k (holds [])))) (holds (held (getD (y .cells) k (holds []))))
+    -- the cell that the two have together
+    abbrev together-at : Cell
+    together-at = joinCell false (typeView ty .choice k) (holds (held (getD (x .cells) k (holds [])))) (holds (held (getD (y .cells) k (holds []))))
+
+    joined-at : getD joined k (holds []) ≡ together-at
     unfolding cellAt
     joined-at =
         wide ∙ ap (λ (v : Bool). joinCell v (typeView ty .choice k) (getD (x .cells) k (holds [])) (getD (y .cells) k (holds []))) un
@@ -262,12 +272,13 @@ module _ (a b : List ℕ) (ty : EventType) (x y : Snapshot) (un : isVersioned ty
         wide : getD joined k (holds []) ≡ joinCell (isVersioned ty) (typeView ty .choice k) (getD (x .cells) k (holds [])) (getD (y .cells) k (holds []))
         wide = unfold typeView eventView in join-at (typeView ty) x y (snapshot-cells x left-written) (snapshot-cells y right-written) k h
 
-    module _ (n room : ℕ) (e : n ≡ length (held (joinCell false (typeView ty .choice k) (holds (held (getD (x .cells) k (holds [])))) (holds (held (getD (y .cells) k (holds []))))))) where
+    module _ (n room : ℕ) (e : n ≡ length (held together-at)) where
       objects-step : sizes (drop k joined) ≡ n + sizes (drop (k + 1) joined)
       unfolding sizes
       objects-step =
+          let here : length (held (getD joined k (holds []))) ≡ n = ap (λ (c : Cell). length (held c)) joined-at ∙ sym e in
           ap sizes (drop-cons joined k (holds []) (omega (arith, joined-long)))
-          ∙ ap₂ (λ (p q : ℕ). p + sizes (drop q joined)) (sym (held-size (getD joined k (holds []))) ∙ ap (λ (c : Cell). length (held c)) joined-at ∙ sym e) (sym (add-one k))
+          ∙ ap₂ (λ (p q : ℕ). p + sizes (drop q joined)) (sym (held-size (getD joined k (holds []))) ∙ here) (sym (add-one k))
 
       pub objects-large : room < n → leb (sizes (drop k joined)) room ≡ false
       objects-large l = lt-leb (sizes (drop k joined)) room (omega (arith, objects-step))
