@@ -79,7 +79,8 @@ fn count_place(t: TypeIndex, k: usize, a: &[u8], x: SetAt, b: &[u8], y: SetAt) -
     count_union(set_part(a, x), set_part(b, y))
 }
 
-// Whether two unversioned snapshots, at the front of a and b, have at most 256 objects when they are joined: no more than both have, or counted.
+// Whether two unversioned snapshots, at the front of a and b, have at most 256 objects when they are joined. They have no more than each has, added
+// up, so they are counted only where that is above 256.
 fn objects_fit(a: &[u8], x: SnapshotIndex, b: &[u8], y: SnapshotIndex, t: TypeIndex) -> bool
     requires { ⌜ t .count ≤ 32 ⌝ }
     ensures { λ r. ⌜ ((u : List ℕ) (ty : EventType) (p q : Snapshot) → TypeIs u ty t → isVersioned ty ≡ false → Meet (now (a .entry)) (now (b .entry)) ty p q → SnapshotIs (now (a .entry)) p x → SnapshotIs (now (b .entry)) q y → r ≡ leb (sizes (joinSnapshots (typeView ty) p q .cells)) 256) ⌝ }
@@ -104,7 +105,7 @@ fn objects_fit(a: &[u8], x: SnapshotIndex, b: &[u8], y: SnapshotIndex, t: TypeIn
     true
 }
 
-// Whether two rising runs of parents have at most 32 together: no more than both have, or counted.
+// Whether two sides have at most 32 parents together. They are counted only where those of each, added up, are more.
 fn parents_fit(a: &[u8], x: SetAt, b: &[u8], y: SetAt) -> bool
     ensures { λ r. ⌜ ((gs hs : List Text) → HashesAre (now (a .entry)) gs x → HashesAre (now (b .entry)) hs y → Hashes gs → Hashes hs → rising texts gs ≡ true → rising texts hs ≡ true → r ≡ leb (length (union texts gs hs)) 32) ⌝ }
 {

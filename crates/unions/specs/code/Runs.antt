@@ -68,6 +68,7 @@ pub record Taken (f : Form) (xs ys : List Text) (head : List ℕ) (n : ℕ) (s t
   pub first : union texts xs ys ≡ value ∷ union texts xs′ ys′
   pub fewer : length xs + length ys ≡ n + (length xs′ + length ys′)
 
+-- such a step leads from i and j to x and y
 pub record StepIs (f : Form) (a : List ℕ) (i : ℕ) (b : List ℕ) (j : ℕ) (head : List ℕ) (n x y : ℕ) : Type 0 where
   pub within : x ≤ length a
   pub within′ : y ≤ length b
