@@ -2,7 +2,7 @@
 use mathlib.Core.Path.{_≡_, refl, sym, ap, ap₂, _∙_, subst₂}
 use mathlib.Core.Bool.{Bool, true, false, cond, _&&_, _||_}
 use mathlib.Core.List.{List, [], _∷_, map}
-use Prim.Native.Nat.{ℕ, zero, suc, _-_, _≤_, _<_}
+use Prim.Native.Nat.{ℕ, zero, suc, _+_, _-_, _≤_, _<_}
 use native.Mathlib.Omega.{arith}
 use lib.Dec.{leb, eqb}
 use lib.ListN.{length, take, drop, getD, length-map}
@@ -29,6 +29,7 @@ use Rattle.dossier.proofs.DossierLayoutLaws.{DossierWritten}
 use Rattle.dossier.proofs.AcceptedLaws.{DossierTaken, taken-written, taken-lone, taken-fits}
 use Rattle.combining.specs.CombineCall.{combined}
 use Rattle.combining.specs.code.CombineIndex.{Combinable, Meet}
+use Rattle.combining.proofs.ObjectLaws.{union-few}
 use Rattle.combining.proofs.MeetLaws.{versionIn, left-taken, right-taken, same-type, meet}
 
 -- ---- the keys of a merge
@@ -57,7 +58,8 @@ snapshots a = a .headed .snapshots
 abbrev versions : List Snapshot → List ℕ
 versions xs = map versionIn xs
 
-fits-parts : (ty : EventType) (d : Dossier) → fits standard (typeView ty) d ≡ (leb (length (d .parents)) 32 && (leb (length (d .snapshots)) 8 && (isVersioned ty || leb (objects (d .snapshots)) 256)))
+fits-parts : (ty : EventType) (d : Dossier) →
+    fits standard (typeView ty) d ≡ (leb (length (d .parents)) 32 && (leb (length (d .snapshots)) 8 && (isVersioned ty || leb (objects (d .snapshots)) 256)))
 unfolding fits standard typeView eventView
 fits-parts ty d = refl
 
@@ -65,6 +67,10 @@ all-hashes : (hs : List Text) → All (λ (h : Text). length h ≡ 20) hs → Ha
 all-hashes [] w i l = absurd (omega arith)
 all-hashes (h ∷ hs) w zero l = w .0
 all-hashes (h ∷ hs) w (suc i) l = all-hashes hs (w .1) i (omega arith)
+
+-- two runs of few parents have few together
+pub parents-few : (gs hs : List Text) (m n : ℕ) → m ≡ length gs → n ≡ length hs → m + n ≤ 32 → true ≡ leb (length (union texts gs hs)) 32
+parents-few gs hs m n p q h = sym (le-leb (length (union texts gs hs)) 32 (omega (arith, union-few texts gs hs)))
 
 -- ---- an unversioned dossier has one snapshot, of version 0
 
@@ -79,12 +85,17 @@ alone (s ∷ r ∷ ss) h = absurd (omega arith)
 version-none : (ty : EventType) (s : Snapshot) → isVersioned ty ≡ false → snapshotFits ty s ≡ true → s .version ≡ 0
 unfolding snapshotFits versionFits
 version-none ty s un h =
-    let a = and-parts (eachCell (cellFits (isVersioned ty)) isVacant (ty .properties) (s .cells) && leb (matchCount (ty .properties) (map held (s .cells))) 32) (versionFits ty s) h .1 in
-    let b = sym (ap (λ (v : Bool). cond v (leb (sizes (s .cells)) 32 && holdsVersion (s .version) (cellAt s (ty .mark - 1))) (eqb (s .version) 0 && leb (sizes (s .cells)) 256)) un) ∙ a in
+    let versioned = leb (sizes (s .cells)) 32 && holdsVersion (s .version) (cellAt s (ty .mark - 1)) in
+    let plain = eqb (s .version) 0 && leb (sizes (s .cells)) 256 in
+    let cells = eachCell (cellFits (isVersioned ty)) isVacant (ty .properties) (s .cells) in
+    let matches = leb (matchCount (ty .properties) (map held (s .cells))) 32 in
+    let a = and-parts (cells && matches) (versionFits ty s) h .1 in
+    let b = sym (ap (λ (v : Bool). cond v versioned plain) un) ∙ a in
     eqb-true (s .version) 0 (and-parts (eqb (s .version) 0) (leb (sizes (s .cells)) 256) b .0)
 
 -- two snapshots of one version, merged
-merge-alone : (join : Snapshot → Snapshot → Snapshot) (x y : Snapshot) → x .version ≡ y .version → merge numbers versionIn join (x ∷ []) (y ∷ []) ≡ join x y ∷ []
+merge-alone : (join : Snapshot → Snapshot → Snapshot) (x y : Snapshot) → x .version ≡ y .version →
+    merge numbers versionIn join (x ∷ []) (y ∷ []) ≡ join x y ∷ []
 unfolding merge put
 merge-alone join x y e = rw (ap (numbers .cmp (x .version)) (sym e) ∙ numbers .self (x .version))
 
@@ -137,8 +148,11 @@ module _ (table a : List ℕ) (d : DossierIndex) (b : List ℕ) (e : DossierInde
   whole-versions =
       sym (length-map (whole .snapshots) versionIn)
       ∙ ap (λ (ss : List Snapshot). length (versions ss)) whole-snapshots
-      ∙ ap length (merge-keys numbers versionIn (joinSnapshots (typeView ty)) (λ x y. unfold joinSnapshots in refl) (snapshots (c .known .left)) (snapshots (c .known .right)))
+      ∙ ap length (keys (snapshots (c .known .left)) (snapshots (c .known .right)))
       ∙ sym (ap₂ (λ (v w : List ℕ). length (union numbers v w)) left-versions right-versions)
+    where
+      keys : (ss rs : List Snapshot) → versions (merge numbers versionIn (joinSnapshots (typeView ty)) ss rs) ≡ union numbers (versions ss) (versions rs)
+      keys = merge-keys numbers versionIn (joinSnapshots (typeView ty)) (λ x y. unfold joinSnapshots in refl)
 
   -- the first snapshots of an unversioned type, from where they start
   module _ (un : t .mark ≤ 0) where
@@ -148,8 +162,11 @@ module _ (table a : List ℕ) (d : DossierIndex) (b : List ℕ) (e : DossierInde
     pub left-one : length (snapshots (c .known .left)) ≡ 1
     left-one = one-snapshot (left-taken (c .known)) unversioned
 
+    right-unversioned : isVersioned (c .known .right .type) ≡ false
+    right-unversioned = ap isVersioned (sym (same-type (c .known))) ∙ unversioned
+
     pub right-one : length (snapshots (c .known .right)) ≡ 1
-    right-one = one-snapshot (right-taken (c .known)) (ap isVersioned (sym (same-type (c .known))) ∙ unversioned)
+    right-one = one-snapshot (right-taken (c .known)) right-unversioned
 
     abbrev x : Snapshot
     x = getD (snapshots (c .known .left)) 0 noSnapshot
@@ -160,9 +177,12 @@ module _ (table a : List ℕ) (d : DossierIndex) (b : List ℕ) (e : DossierInde
     same-version : x .version ≡ y .version
     same-version =
         version-none ty x unversioned (taken-fits (left-taken (c .known)) 0 (omega (arith, left-one)))
-        ∙ sym (version-none (c .known .right .type) y (ap isVersioned (sym (same-type (c .known))) ∙ unversioned) (taken-fits (right-taken (c .known)) 0 (omega (arith, right-one))))
+        ∙ sym (version-none (c .known .right .type) y right-unversioned (taken-fits (right-taken (c .known)) 0 (omega (arith, right-one))))
 
-    pub first-meet : Meet (take (length a - getD (d .starts) 0 0) (drop (getD (d .starts) 0 0) a)) (take (length b - getD (e .starts) 0 0) (drop (getD (e .starts) 0 0) b)) ty x y
+    pub first-meet :
+        Meet
+        (take (length a - getD (d .starts) 0 0) (drop (getD (d .starts) 0 0) a))
+        (take (length b - getD (e .starts) 0 0) (drop (getD (e .starts) 0 0) b)) ty x y
     first-meet =
         subst₂ (λ (p q : List ℕ). Meet p q ty x y) (sym (to-end a (getD (d .starts) 0 0))) (sym (to-end b (getD (e .starts) 0 0)))
         (meet c 0 0 (omega (arith, left-one)) (omega (arith, right-one)) same-version)
@@ -171,44 +191,59 @@ module _ (table a : List ℕ) (d : DossierIndex) (b : List ℕ) (e : DossierInde
     unfolding objects
     whole-objects =
         ap objects (whole-snapshots
-        ∙ ap₂ (merge numbers versionIn (joinSnapshots (typeView ty))) (alone (snapshots (c .known .left)) left-one) (alone (snapshots (c .known .right)) right-one)
+        ∙ ap₂ (merge numbers versionIn (joinSnapshots (typeView ty)))
+        (alone (snapshots (c .known .left)) left-one) (alone (snapshots (c .known .right)) right-one)
         ∙ merge-alone (joinSnapshots (typeView ty)) x y same-version)
         ∙ omega arith
 
   -- where they start
   pub first-start : (getD (d .starts) 0 0 ≤ length a) × (getD (e .starts) 0 0 ≤ length b)
-  first-start = (start-within a (c .known .left .headed) d (c .left-read) 0 (omega (arith, c .left-read .one)), start-within b (c .known .right .headed) e (c .right-read) 0 (omega (arith, c .right-read .one)))
+  first-start = (
+    start-within a (c .known .left .headed) d (c .left-read) 0 (omega (arith, c .left-read .one)),
+    start-within b (c .known .right .headed) e (c .right-read) 0 (omega (arith, c .right-read .one)),
+  )
 
   -- ---- the answers
 
   abbrev asked : Bool
   asked = fits standard (typeView ty) whole
 
-  module _ (n : ℕ) (p : n ≡ length (union texts (c .known .left .headed .head .parents) (c .known .right .headed .head .parents))) where
-    pub fits-parents : 32 < n → false ≡ asked
-    fits-parents l =
-        sym (fits-parts ty whole
-        ∙ ap (λ (z : Bool). z && (leb (length (whole .snapshots)) 8 && (isVersioned ty || leb (objects (whole .snapshots)) 256))) (lt-leb (length (whole .parents)) 32 (omega (arith, p, ap length whole-parents))))
+  -- of few enough objects; and of few enough versions besides
+  abbrev fewObjects : Bool
+  fewObjects = isVersioned ty || leb (objects (whole .snapshots)) 256
+
+  abbrev fewVersions : Bool
+  fewVersions = leb (length (whole .snapshots)) 8 && fewObjects
+
+  module _ (n : Bool) (p : n ≡ leb (length (union texts (c .known .left .headed .head .parents) (c .known .right .headed .head .parents))) 32) where
+    then-parents : asked ≡ (n && fewVersions)
+    then-parents = fits-parts ty whole ∙ ap (λ (z : Bool). z && fewVersions) (ap (λ (hs : List Text). leb (length hs) 32) whole-parents ∙ sym p)
+
+    pub fits-parents : n ≡ false → false ≡ asked
+    fits-parents l = sym (then-parents ∙ rw l)
 
     module _
-        (l : n ≤ 32) (m : ℕ)
+        (l : n ≡ true) (m : ℕ)
         (q : m ≡ length (union numbers (versionNumbers (take (d .count) (d .versions))) (versionNumbers (take (e .count) (e .versions))))) where
-      then-versions : asked ≡ (leb (length (whole .snapshots)) 8 && (isVersioned ty || leb (objects (whole .snapshots)) 256))
-      then-versions =
-          fits-parts ty whole
-          ∙ ap (λ (z : Bool). z && (leb (length (whole .snapshots)) 8 && (isVersioned ty || leb (objects (whole .snapshots)) 256))) (le-leb (length (whole .parents)) 32 (omega (arith, p, ap length whole-parents)))
+      then-versions : asked ≡ fewVersions
+      then-versions = then-parents ∙ rw l
 
       pub fits-versions : 8 < m → false ≡ asked
-      fits-versions k = sym (then-versions ∙ ap (λ (z : Bool). z && (isVersioned ty || leb (objects (whole .snapshots)) 256)) (lt-leb (length (whole .snapshots)) 8 (omega (arith, q, whole-versions))))
+      fits-versions k =
+          sym (then-versions ∙ ap (λ (z : Bool). z && fewObjects) (lt-leb (length (whole .snapshots)) 8 (omega (arith, q, whole-versions))))
 
       module _ (k : m ≤ 8) where
-        then-objects : asked ≡ (isVersioned ty || leb (objects (whole .snapshots)) 256)
-        then-objects = then-versions ∙ ap (λ (z : Bool). z && (isVersioned ty || leb (objects (whole .snapshots)) 256)) (le-leb (length (whole .snapshots)) 8 (omega (arith, q, whole-versions)))
+        then-objects : asked ≡ fewObjects
+        then-objects = then-versions ∙ ap (λ (z : Bool). z && fewObjects) (le-leb (length (whole .snapshots)) 8 (omega (arith, q, whole-versions)))
 
         pub fits-versioned : 0 < t .mark → true ≡ asked
-        fits-versioned h = sym (then-objects ∙ ap (λ (z : Bool). z || leb (objects (whole .snapshots)) 256) (lt-ltb 0 (ty .mark) (omega (arith, c .known .typed .mark))))
+        fits-versioned h =
+            sym (
+            then-objects
+            ∙ ap (λ (z : Bool). z || leb (objects (whole .snapshots)) 256) (lt-ltb 0 (ty .mark) (omega (arith, c .known .typed .mark)))
+            )
 
-        pub fits-objects : (un : t .mark ≤ 0) {r : Bool} → r ≡ leb (sizes (joinSnapshots (typeView ty) (getD (snapshots (c .known .left)) 0 noSnapshot) (getD (snapshots (c .known .right)) 0 noSnapshot) .cells)) 256 → r ≡ asked
+        pub fits-objects : (un : t .mark ≤ 0) {r : Bool} → r ≡ leb (sizes (joinSnapshots (typeView ty) (x un) (y un) .cells)) 256 → r ≡ asked
         fits-objects un h =
             h
             ∙ sym (then-objects

@@ -21,6 +21,7 @@ use Rattle.model.proofs.StepLaws.{union-left-nil, union-right-nil, join-map}
 use Rattle.packed.specs.Parse.{got}
 use Rattle.packed.specs.Packed.{number, text}
 use Rattle.packed.specs.code.Written.{Wrote, ToGo}
+use Rattle.packed.proofs.LayoutLaws.{text-length, number-bounds}
 use Rattle.packed.proofs.WriteLaws.{wrote-length, wrote-then, wrote-as}
 use Rattle.values.specs.Spaces.{Kind, kindNumber, inSpace}
 use Rattle.values.specs.ValueOrder.{isOrdered, extremeOrder}
@@ -37,8 +38,9 @@ use Rattle.event.specs.declared.sets.SetAt.{SetAt}
 use Rattle.event.proofs.BitLaws.{FilledTo, presence-bits}
 use Rattle.event.proofs.EventLayoutLaws.{SetWritten}
 use Rattle.event.proofs.EventQuestionLaws.{all-at, each-place-at, empty-written, choice-least, no-value, one-value, one-in-space}
-use Rattle.event.proofs.SetWriteLaws.{set-room, wrote-set}
-use Rattle.unions.specs.code.Runs.{TextsRoom}
+use Rattle.event.proofs.SetWriteLaws.{set-some, set-room, wrote-set}
+use Rattle.unions.specs.declared.pair.Joined.{Joined}
+use Rattle.unions.specs.code.Runs.{TextsRoom, WroteUnion}
 use Rattle.dossier.specs.DossierBody.{readSnapshot, differBit, snapshotBytes}
 use Rattle.dossier.specs.DossierQuestions.{eachCell, isVacant, isPresent, isLone, isLoneIfExtreme, snapshotValues}
 use Rattle.dossier.specs.code.DossierIndex.{SnapshotIs, cellFits, versionFits, snapshotFits}
@@ -46,7 +48,7 @@ use Rattle.dossier.specs.declared.snapshots.SnapshotIndex.{SnapshotIndex}
 use Rattle.dossier.proofs.DossierBodyLaws.{snapshot-was}
 use Rattle.dossier.proofs.CellLaws.{held-at}
 use Rattle.combining.specs.code.CombineIndex.{isExtremeAt, Fitting, Meet}
-use Rattle.combining.specs.code.JoinedIndex.{haveObjects, PresentAre, Extremes, joinedSet, Paired, PlaceIs, PlaceRoom}
+use Rattle.combining.specs.code.JoinedIndex.{haveObjects, PresentAre, Extremes, joinedSet, ValuesAre, Paired, PlaceIs, PlaceRoom}
 use Rattle.combining.proofs.CheckLaws.{sets-held, none-differ}
 use Rattle.combining.proofs.ObjectLaws.{keeps-every, placeFits, fits-at}
 
@@ -69,7 +71,8 @@ module _ (k : Kind) (kind : ℕ) (xs ys : List Text) (e : Extremes k kind xs ys)
 
   pub chosen-both :
       (largest : Bool) (r v w : Text) → (length xs ≡ 0 → ⊥) → (length ys ≡ 0 → ⊥) → v ≡ getD xs 0 [] → w ≡ getD ys 0 [] →
-      ((k : Kind) → kindNumber k ≡ kind → isOrdered k ≡ true → inSpace k (take (length v - 0) (drop 0 v)) ≡ true → inSpace k (take (length w - 0) (drop 0 w)) ≡ true →
+      ((k : Kind) → kindNumber k ≡ kind → isOrdered k ≡ true →
+      inSpace k (take (length v - 0) (drop 0 v)) ≡ true → inSpace k (take (length w - 0) (drop 0 w)) ≡ true →
       r ∷ [] ≡ take 1 (union (extremeOrder largest k) (take (length v - 0) (drop 0 v) ∷ []) (take (length w - 0) (drop 0 w) ∷ []))) →
       r ∷ [] ≡ take 1 (union (extremeOrder largest k) xs ys)
   chosen-both largest r v w m n p q c =
@@ -78,7 +81,8 @@ module _ (k : Kind) (kind : ℕ) (xs ys : List Text) (e : Extremes k kind xs ys)
       c k (e .number) (e .ordered)
       (ap (inSpace k) (whole-part v ∙ p) ∙ one-in-space k xs m (e .left-one) (e .left-values))
       (ap (inSpace k) (whole-part w ∙ q) ∙ one-in-space k ys n (e .right-one) (e .right-values))
-      ∙ ap₂ (λ (a b : List Text). take 1 (union (extremeOrder largest k) a b)) (ap (λ (a : Text). a ∷ []) (whole-part v) ∙ sym x) (ap (λ (a : Text). a ∷ []) (whole-part w) ∙ sym y)
+      ∙ ap₂ (λ (a b : List Text). take 1 (union (extremeOrder largest k) a b))
+      (ap (λ (a : Text). a ∷ []) (whole-part v) ∙ sym x) (ap (λ (a : Text). a ∷ []) (whole-part w) ∙ sym y)
 
 -- ---- the set of a place
 
@@ -99,6 +103,23 @@ extreme-at ty p h = go (getElem? (ty .properties) p) refl h
 least-at : (ty : EventType) (p : ℕ) (e : ExtremeAt ty p) → typeView ty .choice p ≡ least (extremeOrder (isMax (e .what)) (e .what .kind))
 unfolding typeView eventView atPlace
 least-at ty p e = rw (e .is) (choice-least (e .what) (e .extreme))
+
+-- a union is empty only where both sets are
+union-some : (O : Order Text) (xs ys : List Text) → 1 ≤ length xs + length ys → 1 ≤ length (union O xs ys)
+union-some O xs ys h = some-in (xs ++ ys) (omega (arith, length-append xs ys)) (union-in O xs ys)
+  where
+    member : (m : List Text) (a : Text) → List·Memᴰ a m → 1 ≤ length m
+    member (b ∷ m) a (List·Memᴰ·head q) = omega arith
+    member (b ∷ m) a (List·Memᴰ·tail n) = omega arith
+
+    some-in : (l : List Text) → 1 ≤ length l → ((a : Text) → List·Memᴰ a l → List·Memᴰ a (union O xs ys)) → 1 ≤ length (union O xs ys)
+    some-in [] h w = absurd (omega arith)
+    some-in (a ∷ l) h w = member (union O xs ys) a (w a (List·Memᴰ·head refl))
+
+-- the first of a list that is not empty
+take-one : (l : List Text) → 1 ≤ length l → length (take 1 l) ≡ 1
+take-one [] h = absurd (omega arith)
+take-one (a ∷ l) h = refl
 
 module _ (ty : EventType) (p : ℕ) (xs ys : List Text) where
   pub joined-every : isExtremeAt ty p ≡ false → joinedSet ty p xs ys ≡ union texts xs ys
@@ -122,24 +143,16 @@ module _ (ty : EventType) (p : ℕ) (xs ys : List Text) where
   unfolding joinCell held
   joined-some h = go (typeView ty .choice p)
     where
-      member : (m : List Text) (a : Text) → List·Memᴰ a m → 1 ≤ length m
-      member (b ∷ m) a (List·Memᴰ·head q) = omega arith
-      member (b ∷ m) a (List·Memᴰ·tail n) = omega arith
-
-      some-in : (l m : List Text) → 1 ≤ length l → ((a : Text) → List·Memᴰ a l → List·Memᴰ a m) → 1 ≤ length m
-      some-in [] m h w = absurd (omega arith)
-      some-in (a ∷ l) m h w = member m a (w a (List·Memᴰ·head refl))
-
-      some-union : (O : Order Text) → 1 ≤ length (union O xs ys)
-      some-union O = some-in (xs ++ ys) (union O xs ys) (omega (arith, length-append xs ys)) (union-in O xs ys)
-
-      some-take : (l : List Text) → 1 ≤ length l → 1 ≤ length (take 1 l)
-      some-take [] h = absurd (omega arith)
-      some-take (a ∷ l) h = omega arith
-
       go : (c : Choice) → 1 ≤ length (held (joinCell false c (holds xs) (holds ys)))
-      go every = some-union texts
-      go (least O) = some-take (union O xs ys) (some-union O)
+      go every = union-some texts xs ys h
+      go (least O) = omega (arith, take-one (union O xs ys) (union-some O xs ys h))
+
+  -- a place of strategy min or max has one value then
+  pub joined-one : 1 ≤ length xs + length ys → isExtremeAt ty p ≡ true → 1 ≡ length (joinedSet ty p xs ys)
+  joined-one h x =
+      let e = extreme-at ty p x in
+      let O = extremeOrder (isMax (e .what)) (e .what .kind) in
+      sym (ap length (joined-extreme e) ∙ take-one (union O xs ys) (union-some O xs ys h))
 
 -- ---- whether one of two places has objects
 
@@ -165,7 +178,8 @@ module _ (a : List ℕ) (x : SetAt) (b : List ℕ) (y : SetAt) (xs ys : List Tex
     unfolding setBytes
     nothing-bytes h = let (m, n) = have-none h in ap setBytes (joined-none ty p xs ys m n)
 
-    pub some-bytes : haveObjects x y ≡ true → setBytes (joinedSet ty p xs ys) ≡ number (length (joinedSet ty p xs ys)) ++ flatten (map text (joinedSet ty p xs ys))
+    pub some-bytes : haveObjects x y ≡ true →
+        setBytes (joinedSet ty p xs ys) ≡ number (length (joinedSet ty p xs ys)) ++ flatten (map text (joinedSet ty p xs ys))
     unfolding setBytes
     some-bytes h = go (joinedSet ty p xs ys) (joined-some ty p xs ys (have-some h))
       where
@@ -184,6 +198,52 @@ module _ (a : List ℕ) (x : SetAt) (b : List ℕ) (y : SetAt) (xs ys : List Tex
         go : (b : Bool) → haveObjects x y ≡ b → presenceBit (joinedSet ty p xs ys) ≡ bitOf b
         go false e = let (m, n) = have-none e in ap presenceBit (joined-none ty p xs ys m n)
         go true e = one (joinedSet ty p xs ys) (joined-some ty p xs ys (have-some e))
+
+-- ---- writing the union of two sets
+
+-- each value takes a byte at least
+texts-few : (xs : List Text) → length xs ≤ length (flatten (map text xs))
+unfolding flatten
+texts-few [] = omega arith
+texts-few (x ∷ xs) = omega (arith, length-append (text x) (flatten (map text xs)), text-length x, number-bounds (length x), texts-few xs)
+
+module _ {a : List ℕ} {m : ℕ} {b : List ℕ} {n : ℕ} {xs ys : List Text} (w : ValuesAre a m b n xs ys) where
+  pub values-few : (m ≤ length a) × (n ≤ length b)
+  values-few = (
+    omega (arith, w .left-count, texts-few xs, ap length (w .left)),
+    omega (arith, w .right-count, texts-few ys, ap length (w .right)),
+  )
+
+  module _ (some : 1 ≤ m + n) where
+    values-bytes : setBytes (union texts xs ys) ≡ number (length (union texts xs ys)) ++ flatten (map text (union texts xs ys))
+    values-bytes =
+        let k = union-some texts xs ys (omega (arith, w .left-count, w .right-count)) in
+        set-some (length (union texts xs ys)) (union texts xs ys) refl (λ z. omega (arith, k))
+
+    -- the bytes that the count and the values take
+    pub values-size :
+        length (setBytes (union texts xs ys)) ≡ length (number (length (union texts xs ys))) + length (flatten (map text (union texts xs ys)))
+    values-size = ap length values-bytes ∙ length-append (number (length (union texts xs ys))) (flatten (map text (union texts xs ys)))
+
+    -- the values go one byte after where the count is to stand, which takes a byte at least
+    pub values-room : (at size : ℕ) → at + length (setBytes (union texts xs ys)) ≤ size → TextsRoom a b (at + 1) size
+    values-room at size h = record {
+      xs = xs;
+      ys = ys;
+      left = w .left;
+      right = w .right;
+      xs-rise = w .left-rises;
+      ys-rise = w .right-rises;
+      room = omega (arith, values-size, number-bounds (length (union texts xs ys)));
+    }
+
+    -- how many there are: those of both sets but for the second of each that both have
+    pub values-count : {l bytes l′ : List ℕ} {at : ℕ} {r : Joined} → WroteUnion l at bytes l′ xs ys r → m + n - r .shared ≡ length (union texts xs ys)
+    values-count o = omega (arith, o .counts, w .left-count, w .right-count)
+
+    pub values-wrote : {l l′ : List ℕ} {at next : ℕ} (k : ℕ) → k ≡ length (union texts xs ys) →
+        Wrote l at (number k ++ flatten (map text (union texts xs ys))) l′ next → Wrote l at (setBytes (union texts xs ys)) l′ next
+    values-wrote k e o = wrote-as (ap (λ (i : ℕ). number i ++ flatten (map text (union texts xs ys))) e ∙ sym values-bytes) o
 
 -- ---- writing a place
 
@@ -221,36 +281,40 @@ module _ (t : TypeIndex) (p : ℕ) (a : List ℕ) (x : SetAt) (b : List ℕ) (y 
         ∙ ap (λ (largest : Bool). take 1 (union (extremeOrder largest (here .what .kind)) (h .xs) (h .ys))) (max-of (property d))
         ∙ sym (joined-extreme (h .type) p (h .xs) (h .ys) here))
 
-  -- a union is all of the set elsewhere
-  module _ (e : isExtremeAt (h .type) p ≡ false) (u v : List ℕ) (l : u ≡ flatten (map text (h .xs))) (r : v ≡ flatten (map text (h .ys))) where
-    pub union-texts : flatten (map text (union texts (h .xs) (h .ys))) ≡ flatten (map text (joinedSet (h .type) p (h .xs) (h .ys)))
-    union-texts = ap (λ (s : List Text). flatten (map text s)) (sym (joined-every (h .type) p (h .xs) (h .ys) e))
+  -- elsewhere the union is all of the set
+  pub place-values : (u v : List ℕ) → u ≡ flatten (map text (h .xs)) → v ≡ flatten (map text (h .ys)) → ValuesAre u (x .count) v (y .count) (h .xs) (h .ys)
+  place-values u v l r = record {
+    left = l;
+    right = r;
+    left-count = h .left .count;
+    right-count = h .right .count;
+    left-rises = h .paired .left-rises;
+    right-rises = h .paired .right-rises;
+  }
 
-    pub union-room : (at size : ℕ) → at + length (flatten (map text (joinedSet (h .type) p (h .xs) (h .ys)))) ≤ size → TextsRoom u v at size
-    union-room at size k = record {
-      xs = h .xs;
-      ys = h .ys;
-      left = l;
-      right = r;
-      xs-rise = h .paired .left-rises;
-      ys-rise = h .paired .right-rises;
-      room = omega (arith, ap length union-texts);
-    }
+  pub place-union : isExtremeAt (h .type) p ≡ false → setBytes (union texts (h .xs) (h .ys)) ≡ setBytes (joinedSet (h .type) p (h .xs) (h .ys))
+  place-union e = ap setBytes (sym (joined-every (h .type) p (h .xs) (h .ys) e))
 
-  pub place-room : (n at size : ℕ) → n ≡ length (joinedSet (h .type) p (h .xs) (h .ys)) → at + length (setBytes (joinedSet (h .type) p (h .xs) (h .ys))) ≤ size → at + length (number n) + length (flatten (map text (joinedSet (h .type) p (h .xs) (h .ys)))) ≤ size
-  place-room n at size e k =
-      set-room n (joinedSet (h .type) p (h .xs) (h .ys)) at size e (subst (λ (z : List ℕ). at + length z ≤ size) (some-bytes a x b y (h .xs) (h .ys) (h .left) (h .right) (h .type) p some) k)
+  abbrev whole : List Text
+  whole = joinedSet (h .type) p (h .xs) (h .ys)
 
-  pub place-wrote : {l l₁ l₂ : List ℕ} {at b next : ℕ} (n : ℕ) → n ≡ length (joinedSet (h .type) p (h .xs) (h .ys)) → Wrote l at (number n) l₁ b → Wrote l₁ b (flatten (map text (joinedSet (h .type) p (h .xs) (h .ys)))) l₂ next → Wrote l at (setBytes (joinedSet (h .type) p (h .xs) (h .ys))) l₂ next
-  place-wrote n e v w =
-      wrote-as (sym (some-bytes a x b y (h .xs) (h .ys) (h .left) (h .right) (h .type) p some)) (wrote-set n (joinedSet (h .type) p (h .xs) (h .ys)) e v w)
+  whole-bytes : setBytes whole ≡ number (length whole) ++ flatten (map text whole)
+  whole-bytes = some-bytes a x b y (h .xs) (h .ys) (h .left) (h .right) (h .type) p some
+
+  pub place-room : (n at size : ℕ) → n ≡ length whole → at + length (setBytes whole) ≤ size → at + length (number n) + length (flatten (map text whole)) ≤ size
+  place-room n at size e k = set-room n whole at size e (subst (λ (z : List ℕ). at + length z ≤ size) whole-bytes k)
+
+  pub place-wrote : {l l₁ l₂ : List ℕ} {at b next : ℕ} (n : ℕ) → n ≡ length whole →
+      Wrote l at (number n) l₁ b → Wrote l₁ b (flatten (map text whole)) l₂ next → Wrote l at (setBytes whole) l₂ next
+  place-wrote n e v w = wrote-as (sym whole-bytes) (wrote-set n whole e v w)
 
 pub to-go-same : {l₀ whole l l′ xs : List ℕ} {at p p′ : ℕ} → ToGo l₀ at whole l p xs → l′ ≡ l → p′ ≡ p → ToGo l₀ at whole l′ p′ xs
 to-go-same g e f = rw (e, f) g
 
 -- ---- the places that have objects
 
-pub places-all : {left right : List SetAt} {l : List Bool} {k : ℕ} → FilledTo (λ p. haveObjects (getD left p noSet) (getD right p noSet)) l k → 32 ≤ k → PresentAre left right l
+pub places-all : {left right : List SetAt} {l : List Bool} {k : ℕ} →
+    FilledTo (λ p. haveObjects (getD left p noSet) (getD right p noSet)) l k → 32 ≤ k → PresentAre left right l
 places-all w h = record { long = w .long; each = λ p m. w .each p (omega arith) }
 
 -- ---- an unversioned snapshot
@@ -261,7 +325,9 @@ setOf x p = getD (map held (x .cells)) p []
 
 plain-parts : (f : Bool) (q : Property) (c : Cell) → f ≡ false → cellFits f q c ≡ true → (not (isMark c) ≡ true) × (isLoneIfExtreme q c ≡ true)
 unfolding cellFits
-plain-parts f q c e h = and-parts (not (isMark c)) (isLoneIfExtreme q c) (and-parts (isPresent q c) _ (and-parts (isPresent q c && (not (isMark c) && isLoneIfExtreme q c)) _ (rw e at h) .0) .1)
+plain-parts f q c e h =
+    let a = and-parts (isPresent q c && (not (isMark c) && isLoneIfExtreme q c)) _ (rw e at h) .0 in
+    and-parts (not (isMark c)) (isLoneIfExtreme q c) (and-parts (isPresent q c) _ a .1)
 
 plain-mark : (f : Bool) (o : Option Property) (c : Cell) → f ≡ false → placeFits f o c ≡ true → isMark c ≡ false
 unfolding placeFits isVacant
@@ -281,8 +347,9 @@ module _ (ty : EventType) (x : Snapshot) (f : snapshotFits ty x ≡ true) (u : i
   fits-parts : (eachCell (cellFits (isVersioned ty)) isVacant (ty .properties) (x .cells) ≡ true) × (versionFits ty x ≡ true)
   unfolding snapshotFits
   fits-parts =
-      let (a, b) = and-parts (eachCell (cellFits (isVersioned ty)) isVacant (ty .properties) (x .cells) && leb (matchCount (ty .properties) (map held (x .cells))) 32) (versionFits ty x) f in
-      (and-parts (eachCell (cellFits (isVersioned ty)) isVacant (ty .properties) (x .cells)) _ a .0, b)
+      let cells = eachCell (cellFits (isVersioned ty)) isVacant (ty .properties) (x .cells) in
+      let (a, b) = and-parts (cells && leb (matchCount (ty .properties) (map held (x .cells))) 32) (versionFits ty x) f in
+      (and-parts cells _ a .0, b)
 
   cell-fits : (p : ℕ) → placeFits (isVersioned ty) (getElem? (ty .properties) p) (getD (x .cells) p (holds [])) ≡ true
   cell-fits p = fits-at (isVersioned ty) (ty .properties) (x .cells) (fits-parts .0) p
@@ -299,15 +366,18 @@ module _ (ty : EventType) (x : Snapshot) (f : snapshotFits ty x ≡ true) (u : i
       let e = extreme-at ty p h in
       let c = getD (x .cells) p (holds []) in
       let k : cellFits (isVersioned ty) (e .what) c ≡ true = subst (λ (o : Option Property). placeFits (isVersioned ty) o c ≡ true) (e .is) (cell-fits p) in
-      subst (λ (s : List Text). length s ≤ 1) (sym (held-at (x .cells) p)) (lone-extreme (e .what) c (plain-parts (isVersioned ty) (e .what) c u k .1) (e .extreme))
+      subst (λ (s : List Text). length s ≤ 1) (sym (held-at (x .cells) p))
+      (lone-extreme (e .what) c (plain-parts (isVersioned ty) (e .what) c u k .1) (e .extreme))
 
   plain-version : x .version ≡ 0
   unfolding versionFits
   plain-version = eqb-true (x .version) 0 (and-parts (eqb (x .version) 0) _ (rw u at (fits-parts .1)) .0)
 
-set-values : (ty : EventType) (x : Snapshot) → snapshotValues ty x ≡ true → (p : ℕ) (q : Property) → getElem? (ty .properties) p ≡ some q → areInSpace (q .kind) (setOf x p) ≡ true
+set-values : (ty : EventType) (x : Snapshot) → snapshotValues ty x ≡ true → (p : ℕ) (q : Property) → getElem? (ty .properties) p ≡ some q →
+    areInSpace (q .kind) (setOf x p) ≡ true
 unfolding snapshotValues valuesFit
-set-values ty x v p q e = each-place-at (λ (q : Property) (s : List Text). areInSpace (q .kind) s) (λ (s : List Text). true) (ty .properties) (map held (x .cells)) v p q e
+set-values ty x v p q e =
+    each-place-at (λ (q : Property) (s : List Text). areInSpace (q .kind) s) (λ (s : List Text). true) (ty .properties) (map held (x .cells)) v p q e
 
 set-rises : (s : List ℕ) (x : Snapshot) (r : List ℕ) → readSnapshot s ≡ got x r → (p : ℕ) → rising texts (setOf x p) ≡ true
 set-rises s x r e p = all-at SetWritten [] empty-written (map held (x .cells)) (snapshot-was s x r e .1 .sets .each) p .rises
@@ -329,7 +399,8 @@ stands-as s z x i {r} w e =
     let same : z ≡ x = cc in
     subst (λ (y : Snapshot). SnapshotIs s y i) same w
 
-pub joins : {table a b : List ℕ} {t : TypeIndex} {i j : SnapshotIndex} {ty : EventType} {x y z v : Snapshot} → SnapshotIs a z i → SnapshotIs b v j → TypeIs table ty t → isVersioned ty ≡ false → Meet a b ty x y → Joins table a b t i j ty x y
+pub joins : {table a b : List ℕ} {t : TypeIndex} {i j : SnapshotIndex} {ty : EventType} {x y z v : Snapshot} →
+    SnapshotIs a z i → SnapshotIs b v j → TypeIs table ty t → isVersioned ty ≡ false → Meet a b ty x y → Joins table a b t i j ty x y
 joins {table} {a} {b} {t} {i} {j} {ty} {x} {y} {z} {v} p q w u m = record {
   typed = w;
   unversioned = u;
@@ -342,11 +413,13 @@ joins {table} {a} {b} {t} {i} {j} {ty} {x} {y} {z} {v} p q w u m = record {
 unfoldable pub setsFrom : EventType → Snapshot → Snapshot → ℕ → List ℕ
 setsFrom ty x y k = setsBytes (map (λ p. joinedSet ty p (setOf x p) (setOf y p)) (upFrom k (32 - k)))
 
-pub sets-step : (ty : EventType) (x y : Snapshot) (k : ℕ) → k < 32 → setsFrom ty x y k ≡ setBytes (joinedSet ty k (setOf x k) (setOf y k)) ++ setsFrom ty x y (k + 1)
+pub sets-step : (ty : EventType) (x y : Snapshot) (k : ℕ) → k < 32 →
+    setsFrom ty x y k ≡ setBytes (joinedSet ty k (setOf x k) (setOf y k)) ++ setsFrom ty x y (k + 1)
 unfolding setsFrom setsBytes flatten upFrom
 sets-step ty x y k h =
     ap (λ (n : ℕ). setsBytes (map (λ p. joinedSet ty p (setOf x p) (setOf y p)) (upFrom k n))) (one-more k h)
-    ∙ ap (λ (m : ℕ). setBytes (joinedSet ty k (setOf x k) (setOf y k)) ++ setsBytes (map (λ p. joinedSet ty p (setOf x p) (setOf y p)) (upFrom m (32 - (k + 1))))) (sym (add-one k))
+    ∙ ap (λ (m : ℕ). setBytes (joinedSet ty k (setOf x k) (setOf y k))
+    ++ setsBytes (map (λ p. joinedSet ty p (setOf x p) (setOf y p)) (upFrom m (32 - (k + 1))))) (sym (add-one k))
   where
     one-more : (k : ℕ) → k < 32 → 32 - k ≡ suc (32 - (k + 1))
     one-more k h = omega arith
@@ -418,18 +491,26 @@ module _ {table a b : List ℕ} {t : TypeIndex} {i j : SnapshotIndex} {ty : Even
     pub joined-bytes : snapshotBytes (joinSnapshots (typeView ty) x y) ≡ number 0 ++ number (bitNumber (map bitOf present)) ++ number 0 ++ setsFrom ty x y 0
     unfolding snapshotBytes setsFrom upTo
     joined-bytes =
-        ap₂ (λ (v : ℕ) (cs : List Cell). number v ++ number (bitNumber (map presenceBit (map held cs))) ++ number (bitNumber (map differBit cs)) ++ setsBytes (map held cs)) joined-version joined-cells
-        ∙ ap₂ (λ (ss : List (List Text)) (n : ℕ). number 0 ++ number (bitNumber (map presenceBit ss)) ++ number n ++ setsBytes ss) (sets-held joined (upTo 32)) (none-differ joined (upTo 32))
+        ap₂ (λ (v : ℕ) (cs : List Cell).
+        number v ++ number (bitNumber (map presenceBit (map held cs))) ++ number (bitNumber (map differBit cs)) ++ setsBytes (map held cs))
+        joined-version joined-cells
+        ∙ ap₂ (λ (ss : List (List Text)) (n : ℕ). number 0 ++ number (bitNumber (map presenceBit ss)) ++ number n ++ setsBytes ss)
+        (sets-held joined (upTo 32)) (none-differ joined (upTo 32))
         ∙ ap (λ (bs : List ℕ). number 0 ++ number (bitNumber bs) ++ number 0 ++ setsBytes (map joined (upTo 32))) joined-bits
 
     -- its length, part by part
-    pub joined-length : length (snapshotBytes (joinSnapshots (typeView ty) x y)) ≡ length (number 0) + length (number (bitNumber (map bitOf present))) + length (number 0) + length (setsFrom ty x y 0)
+    pub joined-length :
+        length (snapshotBytes (joinSnapshots (typeView ty) x y))
+        ≡ length (number 0) + length (number (bitNumber (map bitOf present))) + length (number 0) + length (setsFrom ty x y 0)
     joined-length = ap length joined-bytes ∙ simp length-append (omega arith)
 
     -- the numbers are written, and then the sets
-    module _ {l l₁ l₂ l₃ : List ℕ} {at p q r : ℕ} (n : ℕ) (e : n ≡ bitNumber (map bitOf present)) (u : Wrote l at (number 0) l₁ p) (v : Wrote l₁ p (number n) l₂ q) (z : Wrote l₂ q (number 0) l₃ r) where
+    module _ {l l₁ l₂ l₃ : List ℕ} {at p q r : ℕ} (n : ℕ) (e : n ≡ bitNumber (map bitOf present))
+        (u : Wrote l at (number 0) l₁ p) (v : Wrote l₁ p (number n) l₂ q) (z : Wrote l₂ q (number 0) l₃ r) where
       pub sets-room : at + length (snapshotBytes (joinSnapshots (typeView ty) x y)) ≤ length l → r + length (setsFrom ty x y 0) ≤ length l₃
-      sets-room k = omega (arith, joined-length, ap (λ (m : ℕ). length (number m)) e, u .after, v .after, z .after, wrote-length u, wrote-length v, wrote-length z)
+      sets-room k =
+          let size = ap (λ (m : ℕ). length (number m)) e in
+          omega (arith, joined-length, size, u .after, v .after, z .after, wrote-length u, wrote-length v, wrote-length z)
 
       pub joined-wrote : {l₄ : List ℕ} {m : ℕ} → Wrote l₃ r (setsFrom ty x y 0) l₄ m → Wrote l at (snapshotBytes (joinSnapshots (typeView ty) x y)) l₄ m
       joined-wrote g =
@@ -448,7 +529,9 @@ module _ {table a b : List ℕ} {t : TypeIndex} {i j : SnapshotIndex} {ty : Even
 
     -- nothing is written for one that has none
     pub place-past :
-        {l₀ l : List ℕ} {at p : ℕ} (k : ℕ) → k < 32 → getD present k false ≡ false → ToGo l₀ at (setsFrom ty x y 0) l p (setsFrom ty x y k) → ToGo l₀ at (setsFrom ty x y 0) l p (setsFrom ty x y (k + 1))
+        {l₀ l : List ℕ} {at p : ℕ} (k : ℕ) → k < 32 → getD present k false ≡ false →
+        ToGo l₀ at (setsFrom ty x y 0) l p (setsFrom ty x y k) → ToGo l₀ at (setsFrom ty x y 0) l p (setsFrom ty x y (k + 1))
     place-past {l₀} {l} {at} {p} k m e g =
-        let nothing = nothing-bytes a (getD (i .sets) k noSet) b (getD (j .sets) k noSet) (setOf x k) (setOf y k) (h .left .sets .each k m) (h .right .sets .each k m) ty k (sym (w .each k m) ∙ e) in
+        let none = sym (w .each k m) ∙ e in
+        let nothing = nothing-bytes a _ b _ (setOf x k) (setOf y k) (h .left .sets .each k m) (h .right .sets .each k m) ty k none in
         subst (ToGo l₀ at (setsFrom ty x y 0) l p) (sets-step ty x y k m ∙ ap (λ (z : List ℕ). z ++ setsFrom ty x y (k + 1)) nothing) g

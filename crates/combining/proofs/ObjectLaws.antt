@@ -7,14 +7,14 @@ use Prim.Native.Nat.{ℕ, zero, suc, _+_, _-_, _≤_, _<_}
 use native.Mathlib.Omega.{arith}
 use native.Mathlib.Numerals.{add-one}
 use lib.Dec.{leb}
-use lib.ListN.{length, take, drop, getD, getElem?, length-map, drop-of-length-le}
+use lib.ListN.{length, take, drop, getD, getElem?, length-take, length-map, drop-of-length-le}
 use lib.Seq.{drop-cons}
 use borrow.Author.Tests.{le-leb, lt-leb, leb-true}
-use Rattle.model.specs.Order.{Order, Text, texts, rising}
-use Rattle.model.proofs.Cases.{three, never, and-parts}
+use Rattle.model.specs.Order.{Order, Text, texts, sets, equal, rising}
+use Rattle.model.proofs.Cases.{three, truth, never, and-parts}
 use Rattle.model.specs.Keyed.{put, merge}
 use Rattle.model.specs.Sets.{itself, first, union, upTo}
-use Rattle.model.specs.Rule.{Cell, holds, differs, Choice, every, least, places, Snapshot, joinCell, joinSnapshots, sizes}
+use Rattle.model.specs.Rule.{Cell, holds, differs, Choice, every, least, TypeView, places, Snapshot, joinCell, joinCells, joinSnapshots, size, sizes}
 use Rattle.model.specs.Opening.{cellAt, isMark, held}
 use Rattle.model.proofs.PartLaws.{length-upTo}
 use Rattle.model.proofs.StepLaws.{join-map, join-at}
@@ -83,6 +83,17 @@ module _ (O : Order Text) where
   put-some x [] = refl
   put-some x (z ∷ zs) = three (O .cmp x z) (λ l. rw l) (λ e. rw e) (λ g. rw g)
 
+  put-few : (x : Text) (zs : List Text) → length (put O itself first x zs) ≤ 1 + length zs
+  unfolding put
+  put-few x [] = omega arith
+  put-few x (z ∷ zs) = three (O .cmp x z) (λ l. rw l (omega arith)) (λ e. rw e (omega arith)) (λ g. rw g (omega (arith, put-few x zs)))
+
+  -- a union has no more values than both sets
+  pub union-few : (xs ys : List Text) → length (union O xs ys) ≤ length xs + length ys
+  unfolding union merge
+  union-few [] ys = omega arith
+  union-few (x ∷ xs) ys = omega (arith, put-few x (merge O itself first xs ys), union-few xs ys)
+
   union-some : (xs ys : List Text) → (length xs ≡ 0 → ⊥) → length (take 1 (union O xs ys)) ≡ 1
   unfolding union merge
   union-some [] ys h = absurd (h refl)
@@ -113,6 +124,29 @@ module _ (ty : EventType) (k : ℕ) (xs ys : List Text) where
 
     pub count-one : (length xs ≡ 0 → ⊥) → 1 ≡ together
     count-one e = sym (count-least ∙ union-some (keeps-least ty k h .order) xs ys e)
+
+-- ---- two snapshots have no more objects when they are joined than both have
+
+cell-few : (b : Bool) (c : Choice) (d e : Cell) → size (joinCell b c d e) ≤ size d + size e
+unfolding size joinCell
+cell-few b c differs e = omega arith
+cell-few b c (holds s) differs = omega arith
+cell-few true c (holds s) (holds t) = truth (equal sets s t) (λ y. rw y (omega arith)) (λ n. rw n (omega arith))
+cell-few false every (holds s) (holds t) = union-few texts s t
+cell-few false (least O) (holds s) (holds t) = omega (arith, length-take 1 (union O s t), union-few O s t)
+
+cells-few : (t : TypeView) (ps : List ℕ) (cs ds : List Cell) → sizes (joinCells t ps cs ds) ≤ sizes cs + sizes ds
+unfolding sizes joinCells
+cells-few t [] cs ds = omega arith
+cells-few t (p ∷ ps) [] ds = omega arith
+cells-few t (p ∷ ps) (c ∷ cs) [] = omega arith
+cells-few t (p ∷ ps) (c ∷ cs) (d ∷ ds) = omega (arith, cell-few (t .versioned) (t .choice p) c d, cells-few t ps cs ds)
+
+pub objects-few : (t : TypeView) (x y : Snapshot) (m n : ℕ) → m ≡ sizes (x .cells) → n ≡ sizes (y .cells) → m + n ≤ 256 →
+    true ≡ leb (sizes (joinSnapshots t x y .cells)) 256
+unfolding joinSnapshots
+objects-few t x y m n p q h =
+    sym (le-leb (sizes (joinCells t (places t) (x .cells) (y .cells))) 256 (omega (arith, cells-few t (places t) (x .cells) (y .cells))))
 
 -- ---- the cells of an unversioned snapshot of which question 5 is answered yes
 
@@ -168,8 +202,10 @@ module _ (ty : EventType) (x : Snapshot) (w : SnapshotWritten x) (un : isVersion
   fits-here : placeFits false (getElem? (ty .properties) k) cell ≡ true
   unfolding snapshotFits
   fits-here =
-      let a = and-parts (eachCell (cellFits (isVersioned ty)) isVacant (ty .properties) (x .cells) && leb (matchCount (ty .properties) (map held (x .cells))) 32) (versionFits ty x) fits .0 in
-      let b = and-parts (eachCell (cellFits (isVersioned ty)) isVacant (ty .properties) (x .cells)) (leb (matchCount (ty .properties) (map held (x .cells))) 32) a .0 in
+      let cells = eachCell (cellFits (isVersioned ty)) isVacant (ty .properties) (x .cells) in
+      let matches = leb (matchCount (ty .properties) (map held (x .cells))) 32 in
+      let a = and-parts (cells && matches) (versionFits ty x) fits .0 in
+      let b = and-parts cells matches a .0 in
       fits-at false (ty .properties) (x .cells) (subst (λ (f : Bool). eachCell (cellFits f) isVacant (ty .properties) (x .cells) ≡ true) un b) k
 
   pub plain-cell : PlainCell ty k cell
@@ -179,7 +215,9 @@ module _ (ty : EventType) (x : Snapshot) (w : SnapshotWritten x) (un : isVersion
       record {
         holds-it = not-marked cell (a .0);
         lone = a .1;
-        rises = subst (λ (vs : List Text). rising texts vs ≡ true) (held-at (x .cells) k) (all-at SetWritten [] empty-written (map held (x .cells)) (w .sets .each) k .rises);
+        rises =
+            subst (λ (vs : List Text). rising texts vs ≡ true) (held-at (x .cells) k)
+            (all-at SetWritten [] empty-written (map held (x .cells)) (w .sets .each) k .rises);
       }
 
 -- ---- the objects of all places
@@ -204,7 +242,9 @@ module _ (a b : List ℕ) (ty : EventType) (x y : Snapshot) (un : isVersioned ty
 
   pub objects-end : (k room : ℕ) → 32 ≤ k → true ≡ leb (sizes (drop k joined)) room
   unfolding sizes
-  objects-end k room h = sym (ap (λ (cs : List Cell). leb (sizes cs) room) (drop-of-length-le joined {i = k} (omega (arith, joined-long))) ∙ le-leb 0 room (omega arith))
+  objects-end k room h =
+      let none = drop-of-length-le joined {i = k} (omega (arith, joined-long)) in
+      sym (ap (λ (cs : List Cell). leb (sizes cs) room) none ∙ le-leb 0 room (omega arith))
 
   module _ (k : ℕ) (h : k < 32) where
     pub left-cell : PlainCell ty k (getD (x .cells) k (holds []))
@@ -219,7 +259,11 @@ module _ (a b : List ℕ) (ty : EventType) (x y : Snapshot) (un : isVersioned ty
     pub right-set : (sets : List SetAt) → SetsAre b (map held (y .cells)) sets → SetIs b (held (getD (y .cells) k (holds []))) (getD sets k noSet)
     right-set sets r = subst (λ (vs : List Text). SetIs b vs (getD sets k noSet)) (held-at (y .cells) k) (r .each k h)
 
-    joined-at : getD joined k (holds []) ≡ joinCell false (typeView ty .choice k) (holds (held (getD (x .cells) k (holds [])))) (holds (held (getD (y .cells) k (holds []))))
+    -- the cell that the two have together
+    abbrev together-at : Cell
+    together-at = joinCell false (typeView ty .choice k) (holds (held (getD (x .cells) k (holds [])))) (holds (held (getD (y .cells) k (holds []))))
+
+    joined-at : getD joined k (holds []) ≡ together-at
     unfolding cellAt
     joined-at =
         wide ∙ ap (λ (v : Bool). joinCell v (typeView ty .choice k) (getD (x .cells) k (holds [])) (getD (y .cells) k (holds []))) un
@@ -228,12 +272,13 @@ module _ (a b : List ℕ) (ty : EventType) (x y : Snapshot) (un : isVersioned ty
         wide : getD joined k (holds []) ≡ joinCell (isVersioned ty) (typeView ty .choice k) (getD (x .cells) k (holds [])) (getD (y .cells) k (holds []))
         wide = unfold typeView eventView in join-at (typeView ty) x y (snapshot-cells x left-written) (snapshot-cells y right-written) k h
 
-    module _ (n room : ℕ) (e : n ≡ length (held (joinCell false (typeView ty .choice k) (holds (held (getD (x .cells) k (holds [])))) (holds (held (getD (y .cells) k (holds []))))))) where
+    module _ (n room : ℕ) (e : n ≡ length (held together-at)) where
       objects-step : sizes (drop k joined) ≡ n + sizes (drop (k + 1) joined)
       unfolding sizes
       objects-step =
+          let here : length (held (getD joined k (holds []))) ≡ n = ap (λ (c : Cell). length (held c)) joined-at ∙ sym e in
           ap sizes (drop-cons joined k (holds []) (omega (arith, joined-long)))
-          ∙ ap₂ (λ (p q : ℕ). p + sizes (drop q joined)) (sym (held-size (getD joined k (holds []))) ∙ ap (λ (c : Cell). length (held c)) joined-at ∙ sym e) (sym (add-one k))
+          ∙ ap₂ (λ (p q : ℕ). p + sizes (drop q joined)) (sym (held-size (getD joined k (holds []))) ∙ here) (sym (add-one k))
 
       pub objects-large : room < n → leb (sizes (drop k joined)) room ≡ false
       objects-large l = lt-leb (sizes (drop k joined)) room (omega (arith, objects-step))

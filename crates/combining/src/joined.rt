@@ -2,7 +2,7 @@ ghost use mathlib.Core.Path.{_≡_};
 ghost use mathlib.Core.Bool.{false};
 ghost use mathlib.Core.List.{List, [], _∷_};
 ghost use lib.ListN.{length, take};
-ghost use Rattle.model.specs.Order.{Text};
+ghost use Rattle.model.specs.Order.{Text, texts};
 ghost use Rattle.model.specs.Sets.{union};
 ghost use Rattle.model.specs.Rule.{Snapshot, joinSnapshots};
 ghost use Rattle.packed.specs.code.Written.{Wrote};
@@ -15,8 +15,7 @@ ghost use Rattle.event.specs.EventLayout.{setBytes};
 ghost use Rattle.event.specs.code.EventIndex.{SetIs};
 ghost use Rattle.dossier.specs.DossierBody.{snapshotBytes};
 ghost use Rattle.combining.specs.code.CombineIndex.{Meet, JoinedRoom};
-ghost use Rattle.combining.specs.code.JoinedIndex.{haveObjects, PresentAre, Extremes, joinedSet, PlaceIs, PlaceRoom};
-use crate::limits::count_place;
+ghost use Rattle.combining.specs.code.JoinedIndex.{haveObjects, PresentAre, Extremes, joinedSet, ValuesAre, ValuesRoom, PlaceIs, PlaceRoom};
 use crate::limits::is_extreme_at;
 use dossier::snapshots::SnapshotIndex;
 use event::bits::number_of;
@@ -28,6 +27,7 @@ use ontology::properties::is_max;
 use ontology::types::TypeIndex;
 use packed::write::write_number;
 use packed::write::write_text;
+use unions::counted::write_before;
 use unions::pair::write_union;
 use values::spaces::choose;
 
@@ -54,6 +54,15 @@ fn chosen<'a>(p: PropertyAt, a: &'a [u8], x: SetAt, b: &'a [u8], y: SetAt) -> &'
     choose(p.kind, is_max(p), v, 0, v.len(), w, 0, w.len())
 }
 
+// Writes the union of two sets of m and n values, one of which is not empty: its count, which is known when the values are written, and these.
+fn write_values(a: &[u8], m: usize, b: &[u8], n: usize, out: &mut [u8], at: usize) -> usize
+    requires { ⌜ ValuesRoom (now a) m (now b) n at (length (now out)) ⌝ }
+    ensures { λ r. ⌜ ((xs ys : List Text) → ValuesAre (now (a .entry)) m (now (b .entry)) n xs ys → Wrote (now (out .entry)) at (setBytes (union texts xs ys)) (now (out .exit)) r) ⌝ }
+{
+    let joined = write_union(a, b, out, at + 1);
+    write_before(out, at, joined.next, (m + n - joined.shared) as u64)
+}
+
 // Writes the set of a place of two unversioned snapshots, one of which has objects there.
 fn write_place<'a>(
     t: TypeIndex,
@@ -68,12 +77,12 @@ fn write_place<'a>(
     requires { ⌜ PlaceRoom t k (now a) x (now b) y at (length (now out)) ⌝ }
     ensures { λ r. ⌜ ((h : PlaceIs t k (now (a .entry)) x (now (b .entry)) y) → Wrote (now (out .entry)) at (setBytes (joinedSet (h .type) k (h .xs) (h .ys))) (now (out .exit)) r) ⌝ }
 {
-    let after_count = write_number(out, at, count_place(t, k, a, x, b, y) as u64);
     if is_extreme_at(t, k) {
+        let after_count = write_number(out, at, 1);
         let p = t.properties[k];
         return write_text(chosen(p, a, x, b, y), out, after_count);
     }
-    write_union(set_part(a, x), set_part(b, y), out, after_count)
+    write_values(set_part(a, x), x.count, set_part(b, y), y.count, out, at)
 }
 
 // The places at which one of two unversioned snapshots has objects.

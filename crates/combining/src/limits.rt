@@ -12,7 +12,8 @@ ghost use Rattle.model.specs.Opening.{held};
 ghost use Rattle.ontology.specs.Table.{EventType, isVersioned};
 ghost use Rattle.ontology.specs.code.TypeIndex.{TypeIs};
 ghost use Rattle.event.specs.Event.{typeView};
-ghost use Rattle.event.specs.code.EventIndex.{SetIs};
+ghost use Rattle.event.specs.code.EventIndex.{SetIs, HashesAre};
+ghost use Rattle.unions.specs.code.Runs.{Hashes};
 ghost use Rattle.dossier.specs.code.DossierIndex.{versionNumbers, SnapshotIs};
 ghost use Rattle.combining.specs.CombineCall.{combined};
 ghost use Rattle.combining.specs.code.CombineIndex.{isExtremeAt, Combinable, Meet};
@@ -65,7 +66,7 @@ pub fn is_extreme_at(t: TypeIndex, k: usize) -> bool
 }
 
 // How many objects a place has where two unversioned snapshots are joined.
-pub fn count_place(t: TypeIndex, k: usize, a: &[u8], x: SetAt, b: &[u8], y: SetAt) -> usize
+fn count_place(t: TypeIndex, k: usize, a: &[u8], x: SetAt, b: &[u8], y: SetAt) -> usize
     requires { ⌜ t .count ≤ 32 ⌝ }
     ensures { λ r. ⌜ ((u : List ℕ) (ty : EventType) (xs ys : List Text) → TypeIs u ty t → SetIs (now (a .entry)) xs x → SetIs (now (b .entry)) ys y → rising texts xs ≡ true → rising texts ys ≡ true → (isExtremeAt ty k ≡ true → (length xs ≤ 1) × (length ys ≤ 1)) → r ≡ length (held (joinCell false (typeView ty .choice k) (holds xs) (holds ys)))) ⌝ }
 {
@@ -78,11 +79,15 @@ pub fn count_place(t: TypeIndex, k: usize, a: &[u8], x: SetAt, b: &[u8], y: SetA
     count_union(set_part(a, x), set_part(b, y))
 }
 
-// Whether two unversioned snapshots, at the front of a and b, have at most 256 objects when they are joined.
+// Whether two unversioned snapshots, at the front of a and b, have at most 256 objects when they are joined. They have no more than each has, added
+// up, so they are counted only where that is above 256.
 fn objects_fit(a: &[u8], x: SnapshotIndex, b: &[u8], y: SnapshotIndex, t: TypeIndex) -> bool
     requires { ⌜ t .count ≤ 32 ⌝ }
     ensures { λ r. ⌜ ((u : List ℕ) (ty : EventType) (p q : Snapshot) → TypeIs u ty t → isVersioned ty ≡ false → Meet (now (a .entry)) (now (b .entry)) ty p q → SnapshotIs (now (a .entry)) p x → SnapshotIs (now (b .entry)) q y → r ≡ leb (sizes (joinSnapshots (typeView ty) p q .cells)) 256) ⌝ }
 {
+    if x.objects <= 256 && y.objects <= 256 - x.objects {
+        return true;
+    }
     let left = x.sets;
     let right = y.sets;
     let mut room: usize = 256;
@@ -100,6 +105,16 @@ fn objects_fit(a: &[u8], x: SnapshotIndex, b: &[u8], y: SnapshotIndex, t: TypeIn
     true
 }
 
+// Whether two sides have at most 32 parents together. They are counted only where those of each, added up, are more.
+fn parents_fit(a: &[u8], x: SetAt, b: &[u8], y: SetAt) -> bool
+    ensures { λ r. ⌜ ((gs hs : List Text) → HashesAre (now (a .entry)) gs x → HashesAre (now (b .entry)) hs y → Hashes gs → Hashes hs → rising texts gs ≡ true → rising texts hs ≡ true → r ≡ leb (length (union texts gs hs)) 32) ⌝ }
+{
+    if x.count <= 32 && y.count <= 32 - x.count {
+        return true;
+    }
+    count_hash_union(hashes_part(a, x), hashes_part(b, y)) <= 32
+}
+
 // Question 8: 32 parents, 8 versions, and 256 objects of an unversioned type.
 pub fn limits_fit(
     table: &[u8],
@@ -114,7 +129,7 @@ pub fn limits_fit(
 {
     let x = d.head;
     let y = e.head;
-    if 32 < count_hash_union(hashes_part(a, x.parents), hashes_part(b, y.parents)) {
+    if !parents_fit(a, x.parents, b, y.parents) {
         return false;
     }
     let v = d.versions;

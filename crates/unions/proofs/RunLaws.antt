@@ -1,7 +1,7 @@
 -- The laws of runs: their heads, and the steps through two of them.
-use mathlib.Core.Path.{_≡_, refl, sym, ap, ap₂, _∙_, subst}
-use mathlib.Core.Logic.{_⊎_, inl, inr}
-use mathlib.Core.Bool.{Bool, true, false, cond}
+use mathlib.Core.Path.{_≡_, refl, sym, ap, _∙_, subst, subst₂}
+use mathlib.Core.Logic.{⊎-elim}
+use mathlib.Core.Bool.{true}
 use mathlib.Core.List.{List, [], _∷_, _++_, append-assoc, append-nil, map, flatten}
 use Prim.Native.Nat.{ℕ, suc, _+_, _-_, _^_, _≤_, _<_, Ordering·lt, Ordering·eq, Ordering·gt}
 use native.Mathlib.Omega.{arith}
@@ -22,9 +22,11 @@ use Rattle.packed.specs.code.Written.{Wrote, ToGo}
 use Rattle.packed.proofs.WriteLaws.{gone, all-gone}
 use Rattle.unions.specs.declared.heads.Form.{Form}
 use Rattle.unions.specs.declared.heads.Form.the-variants as form
+use Rattle.unions.specs.declared.pair.Joined.{Joined}
 use Rattle.unions.specs.declared.pair.Step.{Step}
 use Rattle.unions.specs.declared.pair.Step.the-variants.{Next, Alone}
-use Rattle.unions.specs.code.Runs.{written, fits, run, Hashes, Run, HeadIs, NoHead, Heads, StepIs, IsAlone, Steps, Room, TextsRoom, HashesRoom}
+use Rattle.unions.specs.code.Runs.{written, fits, run, Hashes, Run, HeadIs, NoHead, Heads, Room, TextsRoom, HashesRoom}
+use Rattle.unions.specs.code.Runs.{StepIs, Stepped, IsAlone, Steps, WroteUnion}
 
 -- ---- a value's bytes: never none, and where one value's bytes end the next one's begin
 
@@ -102,7 +104,9 @@ pub record First (f : Form) (xs : List Text) (v : Text) (t rest : List ℕ) : Ty
 module _ (f : Form) (s : List ℕ) (i : ℕ) where
   first-of : (a e : ℕ) → HeadIs f s i a e → (xs : List Text) → Run f (drop i s) xs [] → First f xs (part s a e) (drop e s) []
   unfolding flatten
-  first-of a e w [] r = absurd (omega (arith, ap length (sym (w .bytes) ∙ r .bytes), length-append (written f (part s a e)) (drop e s), written-long f (part s a e) (w .fit)))
+  first-of a e w [] r =
+      let v = part s a e in
+      absurd (omega (arith, ap length (sym (w .bytes) ∙ r .bytes), length-append (written f v) (drop e s), written-long f v (w .fit)))
   first-of a e w (u ∷ us) r =
       let q = run-head f (drop i s) u us [] (part s a e) (drop e s) r (w .bytes) (w .fit) in
       record { more = us; all = ap (λ (v : Text). v ∷ us) (q .0); left = q .1 }
@@ -137,152 +141,176 @@ module _ (f : Form) (s : List ℕ) (i all n : ℕ) (w : Left f (drop i s) all n)
 
 -- ---- a step through two runs, by the comparison of their heads
 
-module _ (f : Form) (a : List ℕ) (i p x : ℕ) (b : List ℕ) (j q y : ℕ) (hx : HeadIs f a i p x) (hy : HeadIs f b j q y) where
+module _ {f : Form} {a : List ℕ} {i p x : ℕ} {b : List ℕ} {j q y : ℕ} (hx : HeadIs f a i p x) (hy : HeadIs f b j q y) where
   both : (xs ys : List Text) (rx : Run f (drop i a) xs []) (ry : Run f (drop j b) ys []) →
       let u = first-of f a i p x hx xs rx .more in
       let v = first-of f b j q y hy ys ry .more in
-      union texts xs ys ≡ pick (texts .cmp (part a p x) (part b q y)) (part a p x ∷ union texts u ys) (part a p x ∷ union texts u v) (part b q y ∷ union texts xs v)
+      let m = part a p x in
+      let n = part b q y in
+      union texts xs ys ≡ pick (texts .cmp m n) (m ∷ union texts u ys) (m ∷ union texts u v) (n ∷ union texts xs v)
   both xs ys rx ry = go xs ys (first-of f a i p x hx xs rx .all) (first-of f b j q y hy ys ry .all) (rx .rises) (ry .rises)
     where
       go : {us vs : List Text} {u v : Text} (xs ys : List Text) → xs ≡ u ∷ us → ys ≡ v ∷ vs → Ups texts xs → Ups texts ys →
           union texts xs ys ≡ pick (texts .cmp u v) (u ∷ union texts us ys) (u ∷ union texts us vs) (v ∷ union texts xs vs)
       go {us} {vs} {u} {v} xs ys e g h k = rw (e, g) (union-step texts u us v vs (subst (Ups texts) e h) (subst (Ups texts) g k))
 
-  pub step-less : texts .cmp (part a p x) (part b q y) ≡ Ordering·lt → StepIs f a i b j true x j
+  pub step-less : texts .cmp (part a p x) (part b q y) ≡ Ordering·lt → StepIs f a i b j (part a i x) 1 x j
   step-less o = record {
-    up = omega (arith, hx .after);
     within = hx .within;
-    up′ = omega arith;
     within′ = omega (arith, hy .after, hy .within);
     more = omega (arith, hx .after);
-    takes = λ xs ys rx ry. record {
-      value = part a p x;
-      xs′ = first-of f a i p x hx xs rx .more;
-      ys′ = ys;
-      is = head-part f a i p x hx;
-      left = first-of f a i p x hx xs rx .left;
-      right = ry;
-      first = both xs ys rx ry ∙ rw o;
-    };
+    takes = λ xs ys rx ry.
+        let u = first-of f a i p x hx xs rx in
+        record {
+          value = part a p x;
+          xs′ = u .more;
+          ys′ = ys;
+          is = head-part f a i p x hx;
+          left = u .left;
+          right = ry;
+          first = both xs ys rx ry ∙ rw o;
+          fewer = omega (arith, ap length (u .all));
+        };
   }
 
-  pub step-same : texts .cmp (part a p x) (part b q y) ≡ Ordering·eq → StepIs f a i b j true x y
+  pub step-same : texts .cmp (part a p x) (part b q y) ≡ Ordering·eq → StepIs f a i b j (part a i x) 2 x y
   step-same o = record {
-    up = omega (arith, hx .after);
     within = hx .within;
-    up′ = omega (arith, hy .after);
     within′ = hy .within;
     more = omega (arith, hx .after, hy .after);
-    takes = λ xs ys rx ry. record {
-      value = part a p x;
-      xs′ = first-of f a i p x hx xs rx .more;
-      ys′ = first-of f b j q y hy ys ry .more;
-      is = head-part f a i p x hx;
-      left = first-of f a i p x hx xs rx .left;
-      right = first-of f b j q y hy ys ry .left;
-      first = both xs ys rx ry ∙ rw o;
-    };
+    takes = λ xs ys rx ry.
+        let u = first-of f a i p x hx xs rx in
+        let v = first-of f b j q y hy ys ry in
+        record {
+          value = part a p x;
+          xs′ = u .more;
+          ys′ = v .more;
+          is = head-part f a i p x hx;
+          left = u .left;
+          right = v .left;
+          first = both xs ys rx ry ∙ rw o;
+          fewer = omega (arith, ap length (u .all), ap length (v .all));
+        };
   }
 
-  pub step-more : texts .cmp (part a p x) (part b q y) ≡ Ordering·gt → StepIs f a i b j false i y
+  pub step-more : texts .cmp (part a p x) (part b q y) ≡ Ordering·gt → StepIs f a i b j (part b j y) 1 i y
   step-more o = record {
-    up = omega arith;
     within = omega (arith, hx .after, hx .within);
-    up′ = omega (arith, hy .after);
     within′ = hy .within;
     more = omega (arith, hy .after);
-    takes = λ xs ys rx ry. record {
-      value = part b q y;
-      xs′ = xs;
-      ys′ = first-of f b j q y hy ys ry .more;
-      is = head-part f b j q y hy;
-      left = rx;
-      right = first-of f b j q y hy ys ry .left;
-      first = both xs ys rx ry ∙ rw o;
-    };
+    takes = λ xs ys rx ry.
+        let v = first-of f b j q y hy ys ry in
+        record {
+          value = part b q y;
+          xs′ = xs;
+          ys′ = v .more;
+          is = head-part f b j q y hy;
+          left = rx;
+          right = v .left;
+          first = both xs ys rx ry ∙ rw o;
+          fewer = omega (arith, ap length (v .all));
+        };
   }
 
+pub stepped : {f : Form} {a : List ℕ} {i : ℕ} {b : List ℕ} {j : ℕ} {head : List ℕ} {n x y : ℕ} → StepIs f a i b j head n x y → Stepped f a i b j x y
+stepped {head = head} {n = n} w = record { head = head; n = n; step = w }
+
 -- what is known of a step in the arm of a `match`
-pub steps-next : {f : Form} {a : List ℕ} {i : ℕ} {b : List ℕ} {j : ℕ} {left : Bool} {x y : ℕ} {r : Step} → r ≡ Next left x y → Steps f a i b j r → StepIs f a i b j left x y
+pub steps-next : {f : Form} {a : List ℕ} {i : ℕ} {b : List ℕ} {j x y : ℕ} {r : Step} → r ≡ Next x y → Steps f a i b j r → Stepped f a i b j x y
 steps-next {f} {a} {i} {b} {j} h w = subst (Steps f a i b j) h w
 
-pub steps-alone : (f : Form) (a : List ℕ) (i : ℕ) (b : List ℕ) (j : ℕ) {r : Step} → r ≡ Alone → Steps f a i b j r → IsAlone f (drop i a) (drop j b)
-steps-alone f a i b j h w = subst (Steps f a i b j) h w
+pub steps-alone : {f : Form} {a : List ℕ} {i : ℕ} {b : List ℕ} {j : ℕ} {r : Step} → r ≡ Alone → Steps f a i b j r → IsAlone f a i b j
+steps-alone {f} {a} {i} {b} {j} h w = subst (Steps f a i b j) h w
 
 -- ---- the union of two runs from here on
 
--- The values xs and ys are left, in s and t; what is still to be done with their union is P
-pub record Going (f : Form) (s t : List ℕ) (P : List Text → Type 0) : Type 0 where
+-- The values xs and ys are left, in s and t; P says of how many there are, and of their union, what is still to be done
+pub record Going (f : Form) (s t : List ℕ) (P : ℕ → List Text → Type 0) : Type 0 where
   pub xs : List Text
   pub ys : List Text
   pub left : Run f s xs []
   pub right : Run f t ys []
-  pub so : P (union texts xs ys)
+  pub so : P (length xs + length ys) (union texts xs ys)
 
-module _ {f : Form} {P : List Text → Type 0} (a : List ℕ) (i : ℕ) (b : List ℕ) (j : ℕ) (g : Going f (drop i a) (drop j b) P) where
-  pub going-on : (Q : List Text → Type 0) {left : Bool} {x y : ℕ} → StepIs f a i b j left x y →
-      ((v : Text) (zs : List Text) → cond left (part a i x) (part b j y) ≡ written f v → P (v ∷ zs) → Q zs) → Going f (drop x a) (drop y b) Q
+module _ {f : Form} {P : ℕ → List Text → Type 0} (a : List ℕ) (i : ℕ) (b : List ℕ) (j : ℕ) (g : Going f (drop i a) (drop j b) P) where
+  pub going-on : (Q : ℕ → List Text → Type 0) {head : List ℕ} {n x y : ℕ} → StepIs f a i b j head n x y →
+      ((v : Text) (m : ℕ) (zs : List Text) → head ≡ written f v → P (n + m) (v ∷ zs) → Q m zs) → Going f (drop x a) (drop y b) Q
   going-on Q w k =
       let t = w .takes (g .xs) (g .ys) (g .left) (g .right) in
-      record { xs = t .xs′; ys = t .ys′; left = t .left; right = t .right; so = k (t .value) (union texts (t .xs′) (t .ys′)) (t .is) (subst P (t .first) (g .so)) }
+      record {
+        xs = t .xs′;
+        ys = t .ys′;
+        left = t .left;
+        right = t .right;
+        so = k (t .value) (length (t .xs′) + length (t .ys′)) (union texts (t .xs′) (t .ys′)) (t .is) (subst₂ P (t .fewer) (t .first) (g .so));
+      }
 
-  pub going-alone : IsAlone f (drop i a) (drop j b) → P (g .xs ++ g .ys)
-  going-alone w = subst P (alone (g .xs) (g .ys) (g .left .rises) (w .either (g .xs) (g .ys) (g .left) (g .right))) (g .so)
-    where
-      alone : (xs ys : List Text) → Ups texts xs → (xs ≡ []) ⊎ (ys ≡ []) → union texts xs ys ≡ xs ++ ys
-      alone xs ys h (inl e) = rw e (union-left-nil texts ys)
-      alone xs ys h (inr e) = rw e (union-right-nil texts xs h ∙ sym (append-nil xs))
+  -- one side alone is left
+  pub left-alone : NoHead f b j → (g .ys ≡ []) × P (length (g .xs)) (g .xs)
+  left-alone w =
+      let e = first-none f b j w (g .ys) (g .right) in
+      let n : length (g .xs) + length (g .ys) ≡ length (g .xs) = omega (arith, ap length e) in
+      (e, subst₂ P n (ap (union texts (g .xs)) e ∙ union-right-nil texts (g .xs) (g .left .rises)) (g .so))
 
--- one side alone is left, and counted
-pub alone-count : {whole : ℕ} (n : ℕ) (xs ys : List Text) {p q : ℕ} → whole ≡ n + length (xs ++ ys) → p ≡ length xs → q ≡ length ys → n + p + q ≡ whole
-alone-count n xs ys h k l = omega (arith, length-append xs ys)
+  pub right-alone : NoHead f a i → (g .xs ≡ []) × P (length (g .ys)) (g .ys)
+  right-alone w =
+      let e = first-none f a i w (g .xs) (g .left) in
+      let n : length (g .xs) + length (g .ys) ≡ length (g .ys) = omega (arith, ap length e) in
+      (e, subst₂ P n (ap (λ (xs : List Text). union texts xs (g .ys)) e ∙ union-left-nil texts (g .ys)) (g .so))
+
+-- ---- counting a union
+
+-- n values of all are counted, and one side alone is left
+pub alone-count : {f : Form} {a b : List ℕ} {i j all : ℕ} (n : ℕ) (g : Going f (drop i a) (drop j b) (λ m zs. all ≡ n + length zs)) {p q : ℕ} →
+    IsAlone f a i b j → p ≡ length (g .xs) → q ≡ length (g .ys) → n + p + q ≡ all
+alone-count {f} {a} {b} {i} {j} n g w h k = ⊎-elim
+    (λ l. let r = right-alone a i b j g l in omega (arith, ap length (r .0), r .1))
+    (λ r. let l = left-alone a i b j g r in omega (arith, ap length (l .0), l .1))
+    (w .either)
 
 -- ---- what is written of a union
 
-run-append : (f : Form) (xs ys : List Text) → run f (xs ++ ys) ≡ run f xs ++ run f ys
-unfolding flatten
-run-append f [] ys = refl
-run-append f (x ∷ xs) ys = ap (λ (l : List ℕ). written f x ++ l) (run-append f xs ys) ∙ sym (append-assoc (written f x) (run f xs) (run f ys))
-
 module _ (f : Form) {l₀ whole l : List ℕ} {at p : ℕ} where
-  pub write-room : (v : Text) (zs : List Text) (head : List ℕ) → at + length whole ≤ length l₀ → head ≡ written f v → ToGo l₀ at whole l p (run f (v ∷ zs)) → p + length head ≤ length l
+  pub write-room : (v : Text) (zs : List Text) (head : List ℕ) → at + length whole ≤ length l₀ → head ≡ written f v →
+      ToGo l₀ at whole l p (run f (v ∷ zs)) → p + length head ≤ length l
   unfolding flatten
   write-room v zs head h e g = omega (arith, g .after, g .long, ap length e, length-append (written f v) (run f zs))
 
-  pub write-next : {l₁ : List ℕ} {p₁ : ℕ} (v : Text) (zs : List Text) (head : List ℕ) → Wrote l p head l₁ p₁ → head ≡ written f v → ToGo l₀ at whole l p (run f (v ∷ zs)) → ToGo l₀ at whole l₁ p₁ (run f zs)
+  pub write-next : {l₁ : List ℕ} {p₁ : ℕ} (v : Text) (zs : List Text) (head : List ℕ) → Wrote l p head l₁ p₁ → head ≡ written f v →
+      ToGo l₀ at whole l p (run f (v ∷ zs)) → ToGo l₀ at whole l₁ p₁ (run f zs)
   unfolding flatten
   write-next v zs head w e g = gone head (run f zs) g (ap (λ (x : List ℕ). x ++ run f zs) (sym e)) w
 
-  module _ {s t : List ℕ} (xs ys : List Text) (g : ToGo l₀ at whole l p (run f (xs ++ ys))) (rx : Run f s xs []) (ry : Run f t ys []) where
-    both-runs : run f (xs ++ ys) ≡ s ++ t
-    both-runs = run-append f xs ys ∙ ap₂ (λ (x y : List ℕ). x ++ y) (sym (append-nil (run f xs)) ∙ sym (rx .bytes)) (sym (append-nil (run f ys)) ∙ sym (ry .bytes))
+-- of the union of xs and ys zs is still to be written, of m values on both sides, and `shared` values were on both so far
+pub record ToJoin (f : Form) (l₀ : List ℕ) (at : ℕ) (xs ys : List Text) (l : List ℕ) (p shared m : ℕ) (zs : List Text) : Type 0 where
+  pub writes : ToGo l₀ at (run f (union texts xs ys)) l p (run f zs)
+  pub counts : shared + m + length (union texts xs ys) ≡ length xs + length ys + length zs
 
-    last-room : at + length whole ≤ length l₀ → p + length s + length t ≤ length l
-    last-room h = omega (arith, g .after, g .long, ap length both-runs, length-append s t)
+module _ (f : Form) (a : List ℕ) (i : ℕ) (b : List ℕ) (j : ℕ) (l₀ : List ℕ) (at : ℕ) (xs ys : List Text) (l : List ℕ) (p shared : ℕ)
+    (g : Going f (drop i a) (drop j b) (ToJoin f l₀ at xs ys l p shared)) where
+  pub head-room : {head : List ℕ} {n x y : ℕ} → StepIs f a i b j head n x y → at + length (run f (union texts xs ys)) ≤ length l₀ → p + length head ≤ length l
+  head-room {head} w h = going-on a i b j g (λ m zs. p + length head ≤ length l) w (λ v m zs e k. write-room f v zs head h e (k .writes)) .so
 
-    write-last : {l₁ l₂ : List ℕ} {p₁ p₂ : ℕ} → Wrote l p s l₁ p₁ → Wrote l₁ p₁ t l₂ p₂ → Wrote l₀ at whole l₂ p₂
-    write-last v w = all-gone (gone t [] (gone s t g both-runs v) (sym (append-nil t)) w) refl
+  pub head-wrote : {head l₁ : List ℕ} {n x y p₁ shared₁ : ℕ} → StepIs f a i b j head n x y → shared + n ≡ shared₁ + 1 → Wrote l p head l₁ p₁ →
+      Going f (drop x a) (drop y b) (ToJoin f l₀ at xs ys l₁ p₁ shared₁)
+  head-wrote {head} {l₁} {n} {x} {y} {p₁} {shared₁} w c o = going-on a i b j g (ToJoin f l₀ at xs ys l₁ p₁ shared₁) w
+      (λ v m zs e k. record { writes = write-next f v zs head o e (k .writes); counts = omega (arith, k .counts) })
 
-run-to-end : (f : Form) (s : List ℕ) (i : ℕ) (xs : List Text) → Run f (drop i s) xs [] → Run f (part s i (length s)) xs []
-run-to-end f s i xs r = subst (λ (t : List ℕ). Run f t xs []) (sym (to-end s i)) r
+-- the values zs of one side are left, and stand in s from i on
+module _ (f : Form) (s : List ℕ) (i : ℕ) {l₀ : List ℕ} {at : ℕ} {xs ys : List Text} {l : List ℕ} {p shared : ℕ} (zs : List Text)
+    (g : ToJoin f l₀ at xs ys l p shared (length zs) zs) (r : Run f (drop i s) zs []) where
+  rest : run f zs ≡ part s i (length s)
+  rest = sym (append-nil (run f zs)) ∙ sym (r .bytes) ∙ sym (to-end s i)
 
--- the steps of writing the union of two runs
-module _ (f : Form) (a : List ℕ) (i : ℕ) (b : List ℕ) (j : ℕ) (l₀ : List ℕ) (at : ℕ) (whole l : List ℕ) (p : ℕ)
-    (g : Going f (drop i a) (drop j b) (λ zs. ToGo l₀ at whole l p (run f zs))) where
-  pub head-room : {left : Bool} {x y : ℕ} → StepIs f a i b j left x y → at + length whole ≤ length l₀ → p + length (cond left (part a i x) (part b j y)) ≤ length l
-  head-room {left} {x} {y} w h =
-      going-on a i b j g (λ zs. p + length (cond left (part a i x) (part b j y)) ≤ length l) w (λ v zs e k. write-room f v zs _ h e k) .so
+  pub rest-room : at + length (run f (union texts xs ys)) ≤ length l₀ → p + length (part s i (length s)) ≤ length l
+  rest-room h = omega (arith, g .writes .after, g .writes .long, ap length rest)
 
-  pub head-wrote : {left : Bool} {x y : ℕ} {l₁ : List ℕ} {p₁ : ℕ} → StepIs f a i b j left x y → Wrote l p (cond left (part a i x) (part b j y)) l₁ p₁ →
-      Going f (drop x a) (drop y b) (λ zs. ToGo l₀ at whole l₁ p₁ (run f zs))
-  head-wrote {left} {x} {y} {l₁} {p₁} w o = going-on a i b j g (λ zs. ToGo l₀ at whole l₁ p₁ (run f zs)) w (λ v zs e k. write-next f v zs _ o e k)
-
-  module _ (w : IsAlone f (drop i a) (drop j b)) where
-    pub alone-room : at + length whole ≤ length l₀ → p + length (part a i (length a)) + length (part b j (length b)) ≤ length l
-    alone-room h = last-room f (g .xs) (g .ys) (going-alone a i b j g w) (run-to-end f a i (g .xs) (g .left)) (run-to-end f b j (g .ys) (g .right)) h
-
-    pub alone-wrote : {l₁ l₂ : List ℕ} {p₁ p₂ : ℕ} → Wrote l p (part a i (length a)) l₁ p₁ → Wrote l₁ p₁ (part b j (length b)) l₂ p₂ → Wrote l₀ at whole l₂ p₂
-    alone-wrote v o = write-last f (g .xs) (g .ys) (going-alone a i b j g w) (run-to-end f a i (g .xs) (g .left)) (run-to-end f b j (g .ys) (g .right)) v o
+  pub rest-wrote : {l₁ : List ℕ} {p₁ : ℕ} → Wrote l p (part s i (length s)) l₁ p₁ →
+      WroteUnion l₀ at (run f (union texts xs ys)) l₁ xs ys (record { next = p₁; shared = shared })
+  rest-wrote w = record {
+    wrote = all-gone (gone (part s i (length s)) [] (g .writes) (rest ∙ sym (append-nil (part s i (length s)))) w) refl;
+    counts = omega (arith, g .counts);
+  }
 
 -- ---- the runs in the words of the callers
 
@@ -336,9 +364,10 @@ hashes-room {a} {b} {at} w = record {
 }
 
 -- what was written, in the words of the callers
-pub texts-wrote : {l l′ : List ℕ} {at next : ℕ} (zs : List Text) → Wrote l at (run form.Texts zs) l′ next → Wrote l at (flatten (map text zs)) l′ next
+pub texts-wrote : {l l′ : List ℕ} {at : ℕ} {xs ys : List Text} {r : Joined} → WroteUnion l at (run form.Texts (union texts xs ys)) l′ xs ys r →
+    WroteUnion l at (flatten (map text (union texts xs ys))) l′ xs ys r
 unfolding written
-texts-wrote zs w = w
+texts-wrote w = w
 
 pub hashes-wrote : {l l′ : List ℕ} {at next : ℕ} (zs : List Text) → Wrote l at (run form.Hashes zs) l′ next → Wrote l at (flatten zs) l′ next
 unfolding written

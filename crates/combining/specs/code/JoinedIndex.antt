@@ -3,12 +3,14 @@ use Prim.Native.Nat.{ℕ, _+_, _≤_, _<_}
 use mathlib.Core.Path.{_≡_}
 use mathlib.Core.Bool.{Bool, true, false, _||_}
 use mathlib.Core.Option.{some}
-use mathlib.Core.List.{List}
+use mathlib.Core.List.{List, map, flatten}
 use lib.Dec.{ltb}
 use lib.ListN.{length, getD, getElem?}
 use Rattle.model.specs.Order.{Text, texts, rising}
+use Rattle.model.specs.Sets.{union}
 use Rattle.model.specs.Rule.{holds, joinCell}
 use Rattle.model.specs.Opening.{held}
+use Rattle.packed.specs.Packed.{text}
 use Rattle.values.specs.Spaces.{Kind, kindNumber}
 use Rattle.values.specs.ValueOrder.{isOrdered}
 use Rattle.ontology.specs.Table.{Property, EventType, isMin, isMax}
@@ -39,6 +41,23 @@ pub record Extremes (k : Kind) (kind : ℕ) (xs ys : List Text) : Type 0 where
   pub left-values : areInSpace k xs ≡ true
   pub right-values : areInSpace k ys ≡ true
   pub some : 1 ≤ length xs + length ys
+
+-- the rising values xs and ys, m and n of them, are all that stands in a and b
+pub record ValuesAre (a : List ℕ) (m : ℕ) (b : List ℕ) (n : ℕ) (xs ys : List Text) : Type 0 where
+  pub left : a ≡ flatten (map text xs)
+  pub right : b ≡ flatten (map text ys)
+  pub left-count : m ≡ length xs
+  pub right-count : n ≡ length ys
+  pub left-rises : rising texts xs ≡ true
+  pub right-rises : rising texts ys ≡ true
+
+-- there is one at least, and their union, as a set, has its room in an output of `size` bytes
+pub record ValuesRoom (a : List ℕ) (m : ℕ) (b : List ℕ) (n at size : ℕ) : Type 0 where
+  pub xs : List Text
+  pub ys : List Text
+  pub are : ValuesAre a m b n xs ys
+  pub some : 1 ≤ m + n
+  pub room : at + length (setBytes (union texts xs ys)) ≤ size
 
 -- the set of a place of two unversioned snapshots together, from the sets that they have there
 abbrev pub joinedSet : EventType → ℕ → List Text → List Text → List Text

@@ -1,8 +1,8 @@
--- Runs: the values of a set, one after the other in a stretch of bytes; and what the steps through two of them answer.
+-- Runs: the values of a set, one after the other in a stretch of bytes; what the steps through two of them answer, and what is written of their union.
 use Prim.Native.Nat.{ℕ, _+_, _^_, _≤_, _<_}
 use mathlib.Core.Path.{_≡_}
 use mathlib.Core.Logic.{_⊎_}
-use mathlib.Core.Bool.{Bool, true, cond}
+use mathlib.Core.Bool.{true}
 use mathlib.Core.List.{List, [], _∷_, _++_, map, flatten}
 use lib.ListN.{length, drop, getD}
 use Rattle.model.specs.Order.{Text, texts, rising}
@@ -13,6 +13,8 @@ use Rattle.packed.specs.declared.read.TextAt.the-variants as at
 use Rattle.packed.specs.Parse.{All}
 use Rattle.unions.specs.declared.heads.Form.{Form}
 use Rattle.unions.specs.declared.heads.Form.the-variants as form
+use Rattle.packed.specs.code.Written.{Wrote}
+use Rattle.unions.specs.declared.pair.Joined.{Joined}
 use Rattle.unions.specs.declared.pair.Step.{Step}
 use Rattle.unions.specs.declared.pair.Step.the-variants.{Next, Alone}
 
@@ -55,8 +57,8 @@ abbrev pub Heads : Form → List ℕ → ℕ → TextAt → Type 0
 Heads f s i (at.Text a e) = HeadIs f s i a e
 Heads f s i at.NoText = NoHead f s i
 
--- of xs and ys one value is taken, with the bytes `head`, and what is left of each stands in s and t
-pub record Taken (f : Form) (xs ys : List Text) (head s t : List ℕ) : Type 0 where
+-- of xs and ys one value is taken, with the bytes `head`, out of both where n is 2; what is left of each stands in s and t
+pub record Taken (f : Form) (xs ys : List Text) (head : List ℕ) (n : ℕ) (s t : List ℕ) : Type 0 where
   pub value : Text
   pub xs′ : List Text
   pub ys′ : List Text
@@ -64,21 +66,27 @@ pub record Taken (f : Form) (xs ys : List Text) (head s t : List ℕ) : Type 0 w
   pub left : Run f s xs′ []
   pub right : Run f t ys′ []
   pub first : union texts xs ys ≡ value ∷ union texts xs′ ys′
+  pub fewer : length xs + length ys ≡ n + (length xs′ + length ys′)
 
-pub record StepIs (f : Form) (a : List ℕ) (i : ℕ) (b : List ℕ) (j : ℕ) (left : Bool) (x y : ℕ) : Type 0 where
-  pub up : i ≤ x
+-- such a step leads from i and j to x and y
+pub record StepIs (f : Form) (a : List ℕ) (i : ℕ) (b : List ℕ) (j : ℕ) (head : List ℕ) (n x y : ℕ) : Type 0 where
   pub within : x ≤ length a
-  pub up′ : j ≤ y
   pub within′ : y ≤ length b
   pub more : i + j < x + y
-  pub takes : (xs ys : List Text) → Run f (drop i a) xs [] → Run f (drop j b) ys [] → Taken f xs ys (cond left (part a i x) (part b j y)) (drop x a) (drop y b)
+  pub takes : (xs ys : List Text) → Run f (drop i a) xs [] → Run f (drop j b) ys [] → Taken f xs ys head n (drop x a) (drop y b)
 
-pub record IsAlone (f : Form) (s t : List ℕ) : Type 0 where
-  pub either : (xs ys : List Text) → Run f s xs [] → Run f t ys [] → (xs ≡ []) ⊎ (ys ≡ [])
+-- a step, whatever it takes
+pub record Stepped (f : Form) (a : List ℕ) (i : ℕ) (b : List ℕ) (j x y : ℕ) : Type 0 where
+  pub head : List ℕ
+  pub n : ℕ
+  pub step : StepIs f a i b j head n x y
+
+pub record IsAlone (f : Form) (a : List ℕ) (i : ℕ) (b : List ℕ) (j : ℕ) : Type 0 where
+  pub either : NoHead f a i ⊎ NoHead f b j
 
 abbrev pub Steps : Form → List ℕ → ℕ → List ℕ → ℕ → Step → Type 0
-Steps f a i b j (Next left x y) = StepIs f a i b j left x y
-Steps f a i b j Alone = IsAlone f (drop i a) (drop j b)
+Steps f a i b j (Next x y) = Stepped f a i b j x y
+Steps f a i b j Alone = IsAlone f a i b j
 
 -- a union has its room in an output of `size` bytes, from position `at` on
 pub record Room (f : Form) (a b : List ℕ) (at size : ℕ) : Type 0 where
@@ -108,3 +116,8 @@ pub record HashesRoom (a b : List ℕ) (at size : ℕ) : Type 0 where
   pub xs-rise : rising texts xs ≡ true
   pub ys-rise : rising texts ys ≡ true
   pub room : at + length (flatten (union texts xs ys)) ≤ size
+
+-- the bytes of the union of xs and ys are written, and it is told how many values both have
+pub record WroteUnion (l : List ℕ) (at : ℕ) (bytes l′ : List ℕ) (xs ys : List Text) (r : Joined) : Type 0 where
+  pub wrote : Wrote l at bytes l′ (r .next)
+  pub counts : r .shared + length (union texts xs ys) ≡ length xs + length ys

@@ -1,10 +1,14 @@
 use borrow.Author.Needs.{needs}
+use borrow.Author.Tests.{leb-true}
+use native.Mathlib.Omega.{arith}
+use Prim.Native.Nat.{ℕ, _+_, _-_, _≤_}
 use mathlib.Core.Path.{_≡_, refl, sym, _∙_}
 use mathlib.Core.Bool.{false}
 use mathlib.Core.List.{List, [], map}
-use Prim.Native.Nat.{ℕ, _-_}
 use lib.Dec.{leb}
 use lib.ListN.{length, drop, getD}
+use denote.Ref.{now}
+use Rattle.model.specs.Order.{Text}
 use Rattle.model.specs.Rule.{holds, joinCell, Snapshot, joinSnapshots, sizes}
 use Rattle.model.specs.Opening.{held}
 use Rattle.ontology.specs.Table.{EventType, isVersioned}
@@ -13,18 +17,81 @@ use Rattle.event.specs.Event.{typeView}
 use Rattle.event.specs.code.EventIndex.{SetsAre}
 use Rattle.event.specs.declared.sets.SetAt.{SetAt}
 use Rattle.combining.specs.code.CombineIndex.{Meet}
-use Rattle.combining.proofs.ObjectLaws.{objects-end, objects-large, objects-more, left-cell, right-cell, left-set, right-set}
+use Rattle.combining.proofs.ObjectLaws.{objects-few, objects-end, objects-large, objects-more, left-cell, right-cell, left-set, right-set}
 use Rattle.combining.proofs.limits.objects_fit.Statement.{statement}
 use Rattle.combining.proofs.limits.objects_fit.Tie as tie
-use Rattle.combining.proofs.limits.objects_fit.Reads as reads
-use Rattle.combining.proofs.limits.objects_fit.Lts as lts
-use Rattle.combining.proofs.limits.count_place.Reads as count-place-reads
 
 abbrev Inv-loop : tie.InvT-loop
-Inv-loop a b t left right room₀ k₀ room k = (u : List ℕ) (ty : EventType) (x y : Snapshot) → TypeIs u ty t → isVersioned ty ≡ false → Meet a b ty x y → SetsAre a (map held (x .cells)) left → SetsAre b (map held (y .cells)) right → leb (sizes (joinSnapshots (typeView ty) x y .cells)) 256 ≡ leb (sizes (drop k (joinSnapshots (typeView ty) x y .cells))) room
+Inv-loop a b t left right room₀ k₀ room k =
+    (u : List ℕ) (ty : EventType) (x y : Snapshot) → TypeIs u ty t → isVersioned ty ≡ false → Meet a b ty x y →
+    SetsAre a (map held (x .cells)) left → SetsAre b (map held (y .cells)) right →
+    leb (sizes (joinSnapshots (typeView ty) x y .cells)) 256 ≡ leb (sizes (drop k (joinSnapshots (typeView ty) x y .cells))) room
 
 abbrev μ-loop : tie.MeasureT-loop
 μ-loop a b t left right room₀ k₀ room k = 32 - k
+
+-- ---- the places
+
+abbrev to-if1 : tie.Then2 Inv-loop μ-loop → tie.Then1 Inv-loop μ-loop
+to-if1 c = c .before .before .before
+
+abbrev if1-to-start : tie.Then1 Inv-loop μ-loop → tie.Start Inv-loop μ-loop
+if1-to-start c = c .before .before .before .before
+
+abbrev to-start : tie.At-loop Inv-loop μ-loop → tie.Start Inv-loop μ-loop
+to-start c = c .before .before .before .before .before .before .before
+
+abbrev to-turn : tie.After-count-place Inv-loop μ-loop → tie.In-loop Inv-loop μ-loop
+to-turn c = c .before .before .before
+
+-- ---- the facts
+
+few : (c : tie.Then2 Inv-loop μ-loop) → let a = if1-to-start (to-if1 c) .args in a .x .objects + a .y .objects ≤ 256
+few c =
+    let a = if1-to-start (to-if1 c) .args in
+    omega (arith, to-if1 c .if1 .taken, leb-true (a .y .objects) (256 - a .x .objects) (c .if2 .taken))
+
+-- what is counted at a place, for the snapshots that are there
+module _ (c : tie.After-count-place Inv-loop μ-loop) (u : List ℕ) (ty : EventType) (x y : Snapshot) where
+  abbrev start : tie.Start Inv-loop μ-loop
+  start = to-start (to-turn c .before)
+
+  abbrev a : List ℕ
+  a = now (start .args .a)
+
+  abbrev b : List ℕ
+  b = now (start .args .b)
+
+  abbrev left : List SetAt
+  left = start .args .x .sets
+
+  abbrev right : List SetAt
+  right = start .args .y .sets
+
+  abbrev k : ℕ
+  k = to-turn c .before .loop .k
+
+  abbrev lefts : List Text
+  lefts = held (getD (x .cells) k (holds []))
+
+  abbrev rights : List Text
+  rights = held (getD (y .cells) k (holds []))
+
+  counted :
+      TypeIs u ty (start .args .t) → isVersioned ty ≡ false → Meet a b ty x y →
+      SetsAre a (map held (x .cells)) left → SetsAre b (map held (y .cells)) right →
+      c .count-place .result ≡ length (held (joinCell false (typeView ty .choice k) (holds lefts) (holds rights)))
+  counted w un m v z =
+      let h = to-turn c .loop-test .taken in
+      let p = left-cell a b ty x y un m k h in
+      let q = right-cell a b ty x y un m k h in
+      c .count-place .ensures u ty lefts rights w (left-set a b ty x y un m k h left v) (right-set a b ty x y un m k h right z)
+      (p .rises) (q .rises) (λ e. (p .lone e, q .lone e))
+
+-- ---- the needs
+
+returns : tie.Need-returns Inv-loop μ-loop
+returns c = λ u ty x y w un m v z. objects-few (typeView ty) x y _ _ (v .objects) (z .objects) (few c)
 
 loop-holds : tie.Need-loop-holds Inv-loop μ-loop
 loop-holds c = λ u ty x y w un m v z. refl
@@ -44,42 +111,12 @@ array-copy-out-w c = search needs
 count-place-requires : tie.Need-count-place-requires Inv-loop μ-loop
 count-place-requires c κs = search needs
 
--- what is counted at a place, for the snapshots that are there
-module _ (c : tie.After-count-place Inv-loop μ-loop) (u : List ℕ) (ty : EventType) (x y : Snapshot) where
-  abbrev start : tie.Start Inv-loop μ-loop
-  start = c .before .before .before .before .before .before .before .before .before
-
-  abbrev a : List ℕ
-  a = start .args .a .now
-
-  abbrev b : List ℕ
-  b = start .args .b .now
-
-  abbrev left : List SetAt
-  left = start .args .x .sets
-
-  abbrev right : List SetAt
-  right = start .args .y .sets
-
-  abbrev k : ℕ
-  k = c .before .before .before .before .loop .k
-
-  counted :
-      TypeIs u ty (start .args .t) → isVersioned ty ≡ false → Meet a b ty x y → SetsAre a (map held (x .cells)) left → SetsAre b (map held (y .cells)) right →
-      c .count-place .result ≡ length (held (joinCell false (typeView ty .choice k) (holds (held (getD (x .cells) k (holds [])))) (holds (held (getD (y .cells) k (holds []))))))
-  counted w un m v z =
-      let h = c .before .before .before .loop-test .taken in
-      let p = left-cell a b ty x y un m k h in
-      let q = right-cell a b ty x y un m k h in
-      c .count-place .ensures u ty (held (getD (x .cells) k (holds []))) (held (getD (y .cells) k (holds []))) w
-      (left-set a b ty x y un m k h left v)
-      (right-set a b ty x y un m k h right z)
-      (p .rises) (q .rises) (λ e. (p .lone e, q .lone e))
-
-returns : tie.Need-returns Inv-loop μ-loop
-returns c = λ u ty x y w un m v z.
-    let l = c .before .before .before .before .before in
-    sym (l .loop .inv u ty x y w un m (v .sets) (z .sets) ∙ objects-large _ _ ty x y un m (l .loop .k) (c .before .before .before .before .loop-test .taken) (c .before .count-place .result) (l .loop .room) (counted (c .before) u ty x y w un m (v .sets) (z .sets)) (c .if1 .taken))
+returns-2 : tie.Need-returns-2 Inv-loop μ-loop
+returns-2 c = λ u ty x y w un m v z.
+    let turn = to-turn (c .before) in
+    let l = turn .before .loop in
+    let n = counted (c .before) u ty x y w un m (v .sets) (z .sets) in
+    sym (l .inv u ty x y w un m (v .sets) (z .sets) ∙ objects-large _ _ ty x y un m (l .k) (turn .loop-test .taken) _ (l .room) n (c .if3 .taken))
 
 add-k : tie.Need-add-k Inv-loop μ-loop
 add-k c = search needs
@@ -89,11 +126,15 @@ loop-less c = search needs
 
 loop-again : tie.Need-loop-again Inv-loop μ-loop
 loop-again c = λ u ty x y w un m v z.
-    let l = c .before .before .before .before .before in
-    l .loop .inv u ty x y w un m v z ∙ objects-more _ _ ty x y un m (l .loop .k) (c .before .before .before .before .loop-test .taken) (c .before .count-place .result) (l .loop .room) (counted (c .before) u ty x y w un m v z) (c .if1 .left)
+    let turn = to-turn (c .before) in
+    let l = turn .before .loop in
+    let n = counted (c .before) u ty x y w un m v z in
+    l .inv u ty x y w un m v z ∙ objects-more _ _ ty x y un m (l .k) (turn .loop-test .taken) _ (l .room) n (c .if3 .left)
 
-returns-2 : tie.Need-returns-2 Inv-loop μ-loop
-returns-2 c = λ u ty x y w un m v z. objects-end _ _ ty x y un m (c .before .loop .k) (c .before .loop .room) (c .loop-test .left) ∙ sym (c .before .loop .inv u ty x y w un m (v .sets) (z .sets))
+returns-3 : tie.Need-returns-3 Inv-loop μ-loop
+returns-3 c = λ u ty x y w un m v z.
+    let l = c .before .loop in
+    objects-end _ _ ty x y un m (l .k) (l .room) (c .loop-test .left) ∙ sym (l .inv u ty x y w un m (v .sets) (z .sets))
 
 pub objects-fit-spec : {M : Type 1} → statement M
 objects-fit-spec =
@@ -101,14 +142,15 @@ objects-fit-spec =
     (tie.spec
     Inv-loop
     μ-loop
+    returns
     loop-holds
     mul-v
     array-copy-out-v
     mul-w
     array-copy-out-w
     count-place-requires
-    returns
+    returns-2
     add-k
     loop-less
     loop-again
-    returns-2)
+    returns-3)

@@ -1,11 +1,65 @@
 use borrow.Author.Needs.{needs}
+use Prim.Native.Nat.{ℕ}
 use mathlib.Core.Path.{sym, ap, _∙_}
 use mathlib.Core.Logic.{inl, inr}
+use mathlib.Core.List.{List}
+use denote.Ref.{now}
 use Rattle.packed.specs.code.Comparison.{ordering}
+use Rattle.unions.specs.declared.heads.Form.{Form}
 use Rattle.unions.specs.code.Runs.{HeadIs}
-use Rattle.unions.proofs.RunLaws.{heads-some, heads-none, first-none, step-less, step-same, step-more}
+use Rattle.unions.proofs.RunLaws.{heads-some, heads-none, step-less, step-same, step-more, stepped}
 use Rattle.unions.proofs.pair.next_of.Statement.{statement}
 use Rattle.unions.proofs.pair.next_of.Tie as tie
+
+-- ---- the places
+
+-- The left head is known at `After-p`, the right one at `After-q`.
+abbrev to-start : tie.After-p → tie.Start
+to-start c = c .before .before .before .before .before
+
+abbrev to-p : tie.After-q → tie.After-p
+to-p c = c .before .before .before .before
+
+-- ---- the values
+
+module _ (c : tie.After-q) where
+  abbrev form : Form
+  form = to-start (to-p c) .args .form
+
+  abbrev a : List ℕ
+  a = now (to-start (to-p c) .args .a)
+
+  abbrev b : List ℕ
+  b = now (to-start (to-p c) .args .b)
+
+  abbrev i : ℕ
+  i = to-start (to-p c) .args .i
+
+  abbrev j : ℕ
+  j = to-start (to-p c) .args .j
+
+  abbrev p : ℕ
+  p = to-p c .p .given .0 .0
+
+  abbrev x : ℕ
+  x = to-p c .p .given .0 .1 .0
+
+  abbrev q : ℕ
+  q = c .q .given .0 .0
+
+  abbrev y : ℕ
+  y = c .q .given .0 .1 .0
+
+-- ---- the facts
+
+module _ (c : tie.After-q) where
+  left : HeadIs (form c) (a c) (i c) (p c) (x c)
+  left = heads-some (to-p c .p .given .1) (to-p c .before .before .head-at .ensures)
+
+  right : HeadIs (form c) (b c) (j c) (q c) (y c)
+  right = heads-some (c .q .given .1) (c .before .before .head-at2 .ensures)
+
+-- ---- the needs
 
 head-at-requires : tie.Need-head-at-requires
 head-at-requires c κs = search needs
@@ -17,7 +71,7 @@ enum-told : tie.Need-enum-told
 enum-told c = search needs
 
 returns : tie.Need-returns
-returns c = record { either = λ xs ys rx ry. inl (first-none _ _ _ (heads-none (c .enum-told .given .1) (c .before .before .head-at .ensures)) xs rx) }
+returns c = record { either = inl (heads-none (c .enum-told .given .1) (c .before .before .head-at .ensures)) }
 
 head-at-requires-2 : tie.Need-head-at-requires-2
 head-at-requires-2 c κs = search needs
@@ -29,20 +83,13 @@ enum-told-2 : tie.Need-enum-told-2
 enum-told-2 c = search needs
 
 returns-2 : tie.Need-returns-2
-returns-2 c = record { either = λ xs ys rx ry. inr (first-none _ _ _ (heads-none (c .enum-told2 .given .1) (c .before .before .head-at2 .ensures)) ys ry) }
-
-left : (c : tie.After-known-told2) →
-    let a = c .before .before .before .before .before .before .before .before .before .before .args in
-    HeadIs (a .form) (a .a .now) (a .i) (c .before .before .before .before .before .p .given .0 .0) (c .before .before .before .before .before .p .given .0 .1 .0)
-left c = heads-some (c .before .before .before .before .before .p .given .1) (c .before .before .before .before .before .before .before .head-at .ensures)
-
-right : (c : tie.After-known-told2) →
-    let a = c .before .before .before .before .before .before .before .before .before .before .args in
-    HeadIs (a .form) (a .b .now) (a .j) (c .before .q .given .0 .0) (c .before .q .given .0 .1 .0)
-right c = heads-some (c .before .q .given .1) (c .before .before .before .head-at2 .ensures)
+returns-2 c = record { either = inr (heads-none (c .enum-told2 .given .1) (c .before .before .head-at2 .ensures)) }
 
 compare-parts-requires : tie.Need-compare-parts-requires
-compare-parts-requires c κs = (left c .order, left c .within, right c .order, right c .within)
+compare-parts-requires c κs =
+    let u = left (c .before) in
+    let v = right (c .before) in
+    (u .order, u .within, v .order, v .within)
 
 enum-told-3 : tie.Need-enum-told-3
 enum-told-3 c = search needs
@@ -54,13 +101,22 @@ enum-told-5 : tie.Need-enum-told-5
 enum-told-5 c = search needs
 
 returns-3 : tie.Need-returns-3
-returns-3 c = step-less _ _ _ _ _ _ _ _ _ (left (c .before .before .before)) (right (c .before .before .before)) (sym (c .before .before .compare-parts .ensures) ∙ ap ordering (c .enum-told3 .given .1))
+returns-3 c =
+    let compared = c .before .before in
+    let at-q = compared .before .before in
+    stepped (step-less (left at-q) (right at-q) (sym (compared .compare-parts .ensures) ∙ ap ordering (c .enum-told3 .given .1)))
 
 returns-4 : tie.Need-returns-4
-returns-4 c = step-same _ _ _ _ _ _ _ _ _ (left (c .before .before .before)) (right (c .before .before .before)) (sym (c .before .before .compare-parts .ensures) ∙ ap ordering (c .enum-told4 .given .1))
+returns-4 c =
+    let compared = c .before .before in
+    let at-q = compared .before .before in
+    stepped (step-same (left at-q) (right at-q) (sym (compared .compare-parts .ensures) ∙ ap ordering (c .enum-told4 .given .1)))
 
 returns-5 : tie.Need-returns-5
-returns-5 c = step-more _ _ _ _ _ _ _ _ _ (left (c .before .before .before)) (right (c .before .before .before)) (sym (c .before .before .compare-parts .ensures) ∙ ap ordering (c .enum-told5 .given .1))
+returns-5 c =
+    let compared = c .before .before in
+    let at-q = compared .before .before in
+    stepped (step-more (left at-q) (right at-q) (sym (compared .compare-parts .ensures) ∙ ap ordering (c .enum-told5 .given .1)))
 
 pub next-of-spec : {M : Type 1} → statement M
 next-of-spec =

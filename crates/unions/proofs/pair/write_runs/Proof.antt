@@ -1,92 +1,336 @@
 use borrow.Author.Needs.{needs}
 use native.Mathlib.Omega.{arith}
-use Prim.Native.Nat.{_≤_, _+_, _-_}
+use Prim.Native.Nat.{ℕ, _≤_, _+_, _-_}
+use mathlib.Core.Path.{_≡_, refl, sym, ap, _∙_}
 use mathlib.Core.List.{List, []}
 use lib.ListN.{length, drop}
+use denote.Ref.{now}
 use Rattle.model.specs.Order.{Text, texts}
 use Rattle.model.specs.Sets.{union}
 use Rattle.packed.specs.Packed.{part}
-use Rattle.packed.specs.code.Written.{ToGo}
+use Rattle.packed.specs.declared.order.Ordering.the-variants.{Less, Equal, Greater}
+use Rattle.packed.specs.code.Comparison.{ordering}
+use Rattle.packed.specs.code.Written.{Wrote}
 use Rattle.packed.proofs.WriteLaws.{to-go, wrote-length}
-use mathlib.Core.Path.{_≡_, refl, _∙_}
-use Rattle.unions.specs.code.Runs.{run, Run, StepIs, IsAlone}
-use Rattle.unions.proofs.RunLaws.{Going, steps-next, steps-alone, head-room, head-wrote, alone-room, alone-wrote}
+use Rattle.unions.specs.declared.heads.Form.{Form}
+use Rattle.unions.specs.code.Runs.{run, Run, HeadIs, NoHead, StepIs, Room, WroteUnion}
+use Rattle.unions.proofs.RunLaws.{heads-some, heads-none, step-less, step-same, step-more}
+use Rattle.unions.proofs.RunLaws.{Going, left-alone, right-alone, ToJoin, head-room, head-wrote, rest-room, rest-wrote}
 use Rattle.unions.proofs.pair.write_runs.Statement.{statement}
 use Rattle.unions.proofs.pair.write_runs.Tie as tie
 
+-- a value that both runs have takes a byte of a at least, so `shared` is no larger than i
 abbrev Inv-loop : tie.InvT-loop
-Inv-loop form a b out₀ at i₀ j₀ next₀ out i j next =
-    (i ≤ length a) × (j ≤ length b) × (length out ≡ length out₀)
-    × ((xs ys : List Text) → Run form a xs [] → Run form b ys [] → Going form (drop i a) (drop j b) (λ zs. ToGo out₀ at (run form (union texts xs ys)) out next (run form zs)))
+Inv-loop form a b out₀ at i₀ j₀ next₀ shared₀ out i j next shared =
+    (i ≤ length a) × (j ≤ length b) × (length out ≡ length out₀) × (shared ≤ i)
+    × ((xs ys : List Text) → Run form a xs [] → Run form b ys [] → Going form (drop i a) (drop j b) (ToJoin form out₀ at xs ys out next shared))
 
 abbrev μ-loop : tie.MeasureT-loop
-μ-loop form a b out₀ at i₀ j₀ next₀ out i j next = length a + length b - (i + j)
+μ-loop form a b out₀ at i₀ j₀ next₀ shared₀ out i j next shared = length a + length b - (i + j)
+
+-- ---- the places
+
+-- The left head is known at `After-p`, the right one at `After-q`.
+abbrev to-start : tie.At-loop Inv-loop μ-loop → tie.Start Inv-loop μ-loop
+to-start c = c .before .before .before .before
+
+abbrev p-to-loop : tie.After-p Inv-loop μ-loop → tie.At-loop Inv-loop μ-loop
+p-to-loop c = c .before .before .before
+
+abbrev none-to-loop : tie.After-enum-told Inv-loop μ-loop → tie.At-loop Inv-loop μ-loop
+none-to-loop c = c .before .before .before
+
+abbrev none-to-p : tie.After-enum-told2 Inv-loop μ-loop → tie.After-p Inv-loop μ-loop
+none-to-p c = c .before .before .before .before
+
+abbrev to-p : tie.After-q Inv-loop μ-loop → tie.After-p Inv-loop μ-loop
+to-p c = c .before .before .before .before
+
+abbrev to-loop : tie.After-q Inv-loop μ-loop → tie.At-loop Inv-loop μ-loop
+to-loop c = p-to-loop (to-p c)
+
+abbrev to-q : tie.After-compare-parts Inv-loop μ-loop → tie.After-q Inv-loop μ-loop
+to-q c = c .before .before
+
+-- ---- the values
+
+module _ (c : tie.At-loop Inv-loop μ-loop) where
+  abbrev form : Form
+  form = to-start c .args .form
+
+  abbrev a : List ℕ
+  a = now (to-start c .args .a)
+
+  abbrev b : List ℕ
+  b = now (to-start c .args .b)
+
+  abbrev out₀ : List ℕ
+  out₀ = now (to-start c .args .out)
+
+  abbrev at : ℕ
+  at = to-start c .args .at
+
+  abbrev i : ℕ
+  i = c .loop .i
+
+  abbrev j : ℕ
+  j = c .loop .j
+
+  abbrev out : List ℕ
+  out = c .loop .out
+
+  -- what is still to be written of the union of xs and ys
+  abbrev Still : List Text → List Text → ℕ → List Text → Type 0
+  Still xs ys = ToJoin form out₀ at xs ys out (c .loop .next) (c .loop .shared)
+
+module _ (c : tie.After-q Inv-loop μ-loop) where
+  abbrev p : ℕ
+  p = to-p c .p .given .0 .0
+
+  abbrev x : ℕ
+  x = to-p c .p .given .0 .1 .0
+
+  abbrev q : ℕ
+  q = c .q .given .0 .0
+
+  abbrev y : ℕ
+  y = c .q .given .0 .1 .0
+
+-- ---- the facts
+
+-- What is written of the union of the values that stand in a and b: a head, or all of one side where the other has no more.
+module _ (l : tie.At-loop Inv-loop μ-loop) (xs ys : List Text) (rx : Run (form l) (a l) xs []) (ry : Run (form l) (b l) ys []) where
+  abbrev going : Going (form l) (drop (i l) (a l)) (drop (j l) (b l)) (Still l xs ys)
+  going = l .loop .inv .4 xs ys rx ry
+
+  last-right : NoHead (form l) (a l) (i l) → Still l xs ys (length (going .ys)) (going .ys)
+  last-right n = right-alone (a l) (i l) (b l) (j l) going n .1
+
+  last-left : NoHead (form l) (b l) (j l) → Still l xs ys (length (going .xs)) (going .xs)
+  last-left n = left-alone (a l) (i l) (b l) (j l) going n .1
+
+  wrote-right : NoHead (form l) (a l) (i l) → {out₁ : List ℕ} {p₁ : ℕ} → Wrote (out l) (l .loop .next) (part (b l) (j l) (length (b l))) out₁ p₁ →
+      WroteUnion (out₀ l) (at l) (run (form l) (union texts xs ys)) out₁ xs ys (record { next = p₁; shared = l .loop .shared })
+  wrote-right n w = rest-wrote (form l) (b l) (j l) (going .ys) (last-right n) (going .right) w
+
+  wrote-left : NoHead (form l) (b l) (j l) → {out₁ : List ℕ} {p₁ : ℕ} → Wrote (out l) (l .loop .next) (part (a l) (i l) (length (a l))) out₁ p₁ →
+      WroteUnion (out₀ l) (at l) (run (form l) (union texts xs ys)) out₁ xs ys (record { next = p₁; shared = l .loop .shared })
+  wrote-left n w = rest-wrote (form l) (a l) (i l) (going .xs) (last-left n) (going .left) w
+
+-- Each has its room.
+module _ (l : tie.At-loop Inv-loop μ-loop) where
+  abbrev wanted : Room (form l) (a l) (b l) (at l) (length (out₀ l))
+  wanted = to-start l .pre
+
+  abbrev asked : Going (form l) (drop (i l) (a l)) (drop (j l) (b l)) (Still l (wanted .xs) (wanted .ys))
+  asked = going l (wanted .xs) (wanted .ys) (wanted .left) (wanted .right)
+
+  right-room : NoHead (form l) (a l) (i l) → l .loop .next + length (part (b l) (j l) (length (b l))) ≤ length (out l)
+  right-room n =
+      rest-room (form l) (b l) (j l) (asked .ys) (last-right l (wanted .xs) (wanted .ys) (wanted .left) (wanted .right) n) (asked .right) (wanted .room)
+
+  left-room : NoHead (form l) (b l) (j l) → l .loop .next + length (part (a l) (i l) (length (a l))) ≤ length (out l)
+  left-room n =
+      rest-room (form l) (a l) (i l) (asked .xs) (last-left l (wanted .xs) (wanted .ys) (wanted .left) (wanted .right) n) (asked .left) (wanted .room)
+
+  step-room : {head : List ℕ} {n x y : ℕ} → StepIs (form l) (a l) (i l) (b l) (j l) head n x y → l .loop .next + length head ≤ length (out l)
+  step-room w = head-room _ (a l) (i l) (b l) (j l) _ _ _ _ _ _ _ asked w (wanted .room)
+
+no-left : (c : tie.After-enum-told Inv-loop μ-loop) → let l = none-to-loop c in NoHead (form l) (a l) (i l)
+no-left c = heads-none (c .enum-told .given .1) (c .before .before .head-at .ensures)
+
+no-right : (c : tie.After-enum-told2 Inv-loop μ-loop) → let l = p-to-loop (none-to-p c) in NoHead (form l) (b l) (j l)
+no-right c = heads-none (c .enum-told2 .given .1) (c .before .before .head-at2 .ensures)
+
+module _ (c : tie.After-q Inv-loop μ-loop) where
+  left : let l = to-loop c in HeadIs (form l) (a l) (i l) (p c) (x c)
+  left = heads-some (to-p c .p .given .1) (to-p c .before .before .head-at .ensures)
+
+  right : let l = to-loop c in HeadIs (form l) (b l) (j l) (q c) (y c)
+  right = heads-some (c .q .given .1) (c .before .before .head-at2 .ensures)
+
+module _ (c : tie.After-compare-parts Inv-loop μ-loop) where
+  abbrev turn : tie.At-loop Inv-loop μ-loop
+  turn = to-loop (to-q c)
+
+  abbrev Less-step : Type 0
+  Less-step = let l = turn in StepIs (form l) (a l) (i l) (b l) (j l) (part (a l) (i l) (x (to-q c))) 1 (x (to-q c)) (j l)
+
+  abbrev Same-step : Type 0
+  Same-step = let l = turn in StepIs (form l) (a l) (i l) (b l) (j l) (part (a l) (i l) (x (to-q c))) 2 (x (to-q c)) (y (to-q c))
+
+  abbrev More-step : Type 0
+  More-step = let l = turn in StepIs (form l) (a l) (i l) (b l) (j l) (part (b l) (j l) (y (to-q c))) 1 (i l) (y (to-q c))
+
+  less : c .compare-parts .result ≡ Less → Less-step
+  less e = step-less (left (to-q c)) (right (to-q c)) (sym (c .compare-parts .ensures) ∙ ap ordering e)
+
+  same : c .compare-parts .result ≡ Equal → Same-step
+  same e = step-same (left (to-q c)) (right (to-q c)) (sym (c .compare-parts .ensures) ∙ ap ordering e)
+
+  more : c .compare-parts .result ≡ Greater → More-step
+  more e = step-more (left (to-q c)) (right (to-q c)) (sym (c .compare-parts .ensures) ∙ ap ordering e)
+
+-- ---- the arms
+
+less-step : (c : tie.After-copy-part-arg3 Inv-loop μ-loop) → Less-step (c .before .before .before)
+less-step c = less (c .before .before .before) (c .before .enum-told3 .given .1)
+
+same-step : (c : tie.After-copy-part-arg4 Inv-loop μ-loop) → Same-step (c .before .before .before)
+same-step c = same (c .before .before .before) (c .before .enum-told4 .given .1)
+
+more-step : (c : tie.After-copy-part-arg5 Inv-loop μ-loop) → More-step (c .before .before .before)
+more-step c = more (c .before .before .before) (c .before .enum-told5 .given .1)
+
+-- ---- the needs
 
 loop-holds : tie.Need-loop-holds Inv-loop μ-loop
-loop-holds c = (omega arith, omega arith, refl, λ xs ys rx ry. record { xs = xs; ys = ys; left = rx; right = ry; so = to-go })
+loop-holds c = (
+  omega arith,
+  omega arith,
+  refl,
+  omega arith,
+  λ xs ys rx ry. record { xs = xs; ys = ys; left = rx; right = ry; so = record { writes = to-go; counts = omega arith } },
+)
 
-next-of-requires : tie.Need-next-of-requires Inv-loop μ-loop
-next-of-requires c κs = search needs
+head-at-requires : tie.Need-head-at-requires Inv-loop μ-loop
+head-at-requires c κs = search needs
 
-enum-known-left : tie.Need-enum-known-left Inv-loop μ-loop
-enum-known-left c = search needs
+enum-known-p : tie.Need-enum-known-p Inv-loop μ-loop
+enum-known-p c = search needs
 
 enum-told : tie.Need-enum-told Inv-loop μ-loop
 enum-told c = search needs
 
-alone : (c : tie.After-copy-part-arg Inv-loop μ-loop) →
-    let a = c .before .before .before .before .before .before .before .before .args in
-    let l = c .before .before .before .before .loop in
-    IsAlone (a .form) (drop (l .i) (a .a .now)) (drop (l .j) (a .b .now))
-alone c = steps-alone _ _ _ _ _ (c .before .enum-told .given .1) (c .before .before .before .next-of .ensures)
-
-room : (c : tie.After-copy-part-arg Inv-loop μ-loop) →
-    let a = c .before .before .before .before .before .before .before .before .args in
-    let l = c .before .before .before .before .loop in
-    l .next + length (part (a .a .now) (l .i) (length (a .a .now))) + length (part (a .b .now) (l .j) (length (a .b .now))) ≤ length (l .out)
-room c =
-    let l = c .before .before .before .before .loop in
-    let q = c .before .before .before .before .before .before .before .before .pre in
-    let a = c .before .before .before .before .before .before .before .before .args in
-    alone-room _ (a .a .now) (l .i) (a .b .now) (l .j) _ _ _ _ _ (l .inv .3 (q .xs) (q .ys) (q .left) (q .right)) (alone c) (q .room)
-
 copy-part-requires : tie.Need-copy-part-requires Inv-loop μ-loop
-copy-part-requires c κs = let l = c .before .before .before .before .loop in (l .inv .0, omega arith, omega (arith, room c))
-
-copy-part-requires-2 : tie.Need-copy-part-requires-2 Inv-loop μ-loop
-copy-part-requires-2 c κs = let l = c .before .before .before .before .before .before .before .before .loop in (l .inv .1, omega arith, omega (arith, room (c .before .before .before .before), c .before .before .before .copy-part .ensures .after, wrote-length (c .before .before .before .copy-part .ensures)))
+copy-part-requires c κs =
+    let l = none-to-loop (c .before) in
+    (l .loop .inv .1, omega arith, right-room l (no-left (c .before)))
 
 same-length : tie.Need-same-length Inv-loop μ-loop
-same-length c = wrote-length (c .before .before .copy-part2 .ensures) ∙ wrote-length (c .before .before .before .before .before .before .copy-part .ensures) ∙ c .before .before .before .before .before .before .before .before .before .before .before .loop .inv .2
+same-length c = search needs
 
 returns : tie.Need-returns Inv-loop μ-loop
 returns c =
-    let l = c .before .before .before .before .before .before .before .before .before .before .before .loop in
-    let a = c .before .before .before .before .before .before .before .before .before .before .before .before .before .before .before .args in
-    λ xs ys rx ry. alone-wrote _ (a .a .now) (l .i) (a .b .now) (l .j) _ _ _ _ _ (l .inv .3 xs ys rx ry) (alone (c .before .before .before .before .before .before .before)) (c .before .before .before .before .before .before .copy-part .ensures) (c .before .before .copy-part2 .ensures)
+    let copied = c .before .before in
+    let none = copied .before .before in
+    λ xs ys rx ry. wrote-right (none-to-loop none) xs ys rx ry (no-left none) (copied .copy-part .ensures)
 
-next : (c : tie.After-known-told Inv-loop μ-loop) →
-    let a = c .before .before .before .before .before .before .before .before .args in
-    let l = c .before .before .before .before .loop in
-    let g = c .before .left .given .0 in
-    StepIs (a .form) (a .a .now) (l .i) (a .b .now) (l .j) (g .0) (g .1 .0) (g .1 .1 .0)
-next c = steps-next (c .before .left .given .1) (c .before .before .before .next-of .ensures)
+head-at-requires-2 : tie.Need-head-at-requires-2 Inv-loop μ-loop
+head-at-requires-2 c κs = search needs
 
-copy-head-requires : tie.Need-copy-head-requires Inv-loop μ-loop
-copy-head-requires c κs =
-    let l = c .before .before .before .before .before .loop in
-    let q = c .before .before .before .before .before .before .before .before .before .pre in
-    let w = next (c .before) in
-    (w .up, w .within, w .up′, w .within′, head-room _ _ _ _ _ _ _ _ _ _ (l .inv .3 (q .xs) (q .ys) (q .left) (q .right)) w (q .room))
+enum-known-q : tie.Need-enum-known-q Inv-loop μ-loop
+enum-known-q c = search needs
+
+enum-told-2 : tie.Need-enum-told-2 Inv-loop μ-loop
+enum-told-2 c = search needs
+
+copy-part-requires-2 : tie.Need-copy-part-requires-2 Inv-loop μ-loop
+copy-part-requires-2 c κs =
+    let l = p-to-loop (none-to-p (c .before)) in
+    (l .loop .inv .0, omega arith, left-room l (no-right (c .before)))
+
+same-length-2 : tie.Need-same-length-2 Inv-loop μ-loop
+same-length-2 c = search needs
+
+returns-2 : tie.Need-returns-2 Inv-loop μ-loop
+returns-2 c =
+    let copied = c .before .before in
+    let none = copied .before .before in
+    λ xs ys rx ry. wrote-left (p-to-loop (none-to-p none)) xs ys rx ry (no-right none) (copied .copy-part2 .ensures)
+
+compare-parts-requires : tie.Need-compare-parts-requires Inv-loop μ-loop
+compare-parts-requires c κs =
+    let u = left (c .before) in
+    let v = right (c .before) in
+    (u .order, u .within, v .order, v .within)
+
+enum-told-3 : tie.Need-enum-told-3 Inv-loop μ-loop
+enum-told-3 c = search needs
+
+copy-part-requires-3 : tie.Need-copy-part-requires-3 Inv-loop μ-loop
+copy-part-requires-3 c κs =
+    let w = less-step c in
+    let compared = c .before .before .before in
+    (omega (arith, left (to-q compared) .after), w .within, step-room (turn compared) w)
 
 loop-less : tie.Need-loop-less Inv-loop μ-loop
-loop-less c = omega (arith, next (c .before .before .before .before))
+loop-less c =
+    let w = less-step (c .before .before .before) in
+    omega (arith, w .more, w .within, w .within′)
 
 loop-again : tie.Need-loop-again Inv-loop μ-loop
 loop-again c =
-    let l = c .before .before .before .before .before .before .before .before .loop in
-    let w = next (c .before .before .before .before) in
-    (w .within, w .within′, wrote-length (c .before .before .copy-head .ensures) ∙ l .inv .2, λ xs ys rx ry. head-wrote _ _ _ _ _ _ _ _ _ _ (l .inv .3 xs ys rx ry) w (c .before .before .copy-head .ensures))
+    let arg = c .before .before .before in
+    let l = turn (arg .before .before .before) in
+    let w = less-step arg in
+    let o = c .before .before .copy-part3 .ensures in (
+      w .within,
+      w .within′,
+      wrote-length o ∙ l .loop .inv .2,
+      omega (arith, l .loop .inv .3, left (to-q (arg .before .before .before)) .after),
+      λ xs ys rx ry. head-wrote _ (a l) (i l) (b l) (j l) _ _ _ _ _ _ _ (going l xs ys rx ry) w (omega arith) o,
+    )
+
+enum-told-4 : tie.Need-enum-told-4 Inv-loop μ-loop
+enum-told-4 c = search needs
+
+copy-part-requires-4 : tie.Need-copy-part-requires-4 Inv-loop μ-loop
+copy-part-requires-4 c κs =
+    let w = same-step c in
+    let compared = c .before .before .before in
+    (omega (arith, left (to-q compared) .after), w .within, step-room (turn compared) w)
+
+add-shared : tie.Need-add-shared Inv-loop μ-loop
+add-shared c =
+    let arg = c .before .before .before in
+    let compared = arg .before .before .before in
+    omega (arith, turn compared .loop .inv .3, left (to-q compared) .after, left (to-q compared) .within)
+
+loop-less-2 : tie.Need-loop-less-2 Inv-loop μ-loop
+loop-less-2 c =
+    let w = same-step (c .before .before .before) in
+    omega (arith, w .more, w .within, w .within′)
+
+loop-again-2 : tie.Need-loop-again-2 Inv-loop μ-loop
+loop-again-2 c =
+    let arg = c .before .before .before in
+    let l = turn (arg .before .before .before) in
+    let w = same-step arg in
+    let o = c .before .before .copy-part4 .ensures in (
+      w .within,
+      w .within′,
+      wrote-length o ∙ l .loop .inv .2,
+      omega (arith, l .loop .inv .3, left (to-q (arg .before .before .before)) .after),
+      λ xs ys rx ry. head-wrote _ (a l) (i l) (b l) (j l) _ _ _ _ _ _ _ (going l xs ys rx ry) w (omega arith) o,
+    )
+
+enum-told-5 : tie.Need-enum-told-5 Inv-loop μ-loop
+enum-told-5 c = search needs
+
+copy-part-requires-5 : tie.Need-copy-part-requires-5 Inv-loop μ-loop
+copy-part-requires-5 c κs =
+    let w = more-step c in
+    let compared = c .before .before .before in
+    (omega (arith, right (to-q compared) .after), w .within′, step-room (turn compared) w)
+
+loop-less-3 : tie.Need-loop-less-3 Inv-loop μ-loop
+loop-less-3 c =
+    let w = more-step (c .before .before .before) in
+    omega (arith, w .more, w .within, w .within′)
+
+loop-again-3 : tie.Need-loop-again-3 Inv-loop μ-loop
+loop-again-3 c =
+    let arg = c .before .before .before in
+    let l = turn (arg .before .before .before) in
+    let w = more-step arg in
+    let o = c .before .before .copy-part5 .ensures in (
+      w .within,
+      w .within′,
+      wrote-length o ∙ l .loop .inv .2,
+      omega (arith, l .loop .inv .3, right (to-q (arg .before .before .before)) .after),
+      λ xs ys rx ry. head-wrote _ (a l) (i l) (b l) (j l) _ _ _ _ _ _ _ (going l xs ys rx ry) w (omega arith) o,
+    )
 
 pub write-runs-spec : {M : Type 1} → statement M
 write-runs-spec =
@@ -95,13 +339,29 @@ write-runs-spec =
     Inv-loop
     μ-loop
     loop-holds
-    next-of-requires
-    enum-known-left
+    head-at-requires
+    enum-known-p
     enum-told
     copy-part-requires
-    copy-part-requires-2
     same-length
     returns
-    copy-head-requires
+    head-at-requires-2
+    enum-known-q
+    enum-told-2
+    copy-part-requires-2
+    same-length-2
+    returns-2
+    compare-parts-requires
+    enum-told-3
+    copy-part-requires-3
     loop-less
-    loop-again)
+    loop-again
+    enum-told-4
+    copy-part-requires-4
+    add-shared
+    loop-less-2
+    loop-again-2
+    enum-told-5
+    copy-part-requires-5
+    loop-less-3
+    loop-again-3)

@@ -1,19 +1,26 @@
 use borrow.Author.Needs.{needs}
 use native.Mathlib.Omega.{arith}
-use Rattle.model.specs.Order.{texts}
-use Rattle.model.specs.Sets.{union}
 use Rattle.unions.proofs.RunLaws.{text-run, texts-room, texts-wrote}
 use Rattle.unions.proofs.pair.write_union.Statement.{statement}
 use Rattle.unions.proofs.pair.write_union.Tie as tie
 
+-- ---- the places
+
+abbrev to-start : tie.After-write-runs-arg → tie.Start
+to-start c = c .before .before .before .before
+
+-- ---- the needs
+
 write-runs-requires : tie.Need-write-runs-requires
-write-runs-requires c κs = texts-room (omega arith) (omega arith) (c .before .before .before .before .pre)
+write-runs-requires c κs = texts-room (omega arith) (omega arith) (to-start c .pre)
 
 same-length : tie.Need-same-length
 same-length c = search needs
 
 returns : tie.Need-returns
-returns c = λ xs ys rx ry kx ky. texts-wrote (union texts xs ys) (c .before .before .write-runs .ensures xs ys (text-run _ xs (omega arith) rx kx) (text-run _ ys (omega arith) ry ky))
+returns c =
+    let runs = c .before .before .write-runs in
+    λ xs ys rx ry kx ky. texts-wrote (runs .ensures xs ys (text-run _ xs (omega arith) rx kx) (text-run _ ys (omega arith) ry ky))
 
 pub write-union-spec : {M : Type 1} → statement M
 write-union-spec = tie.close (tie.spec write-runs-requires same-length returns)

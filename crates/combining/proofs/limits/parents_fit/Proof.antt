@@ -1,0 +1,49 @@
+use borrow.Author.Needs.{needs}
+use borrow.Author.Tests.{leb-true}
+use native.Mathlib.Omega.{arith}
+use Prim.Native.Nat.{ℕ, _+_, _-_, _≤_}
+use mathlib.Core.Path.{ap}
+use lib.Dec.{leb}
+use Rattle.combining.proofs.FitLaws.{parents-few}
+use Rattle.combining.proofs.limits.parents_fit.Statement.{statement}
+use Rattle.combining.proofs.limits.parents_fit.Tie as tie
+
+-- ---- the places
+
+abbrev to-if1 : tie.Then2 → tie.Then1
+to-if1 c = c .before .before .before
+
+abbrev to-start : tie.Then1 → tie.Start
+to-start c = c .before .before .before .before
+
+-- ---- the facts
+
+few : (c : tie.Then2) → let a = to-start (to-if1 c) .args in a .x .count + a .y .count ≤ 32
+few c =
+    let a = to-start (to-if1 c) .args in
+    omega (arith, to-if1 c .if1 .taken, leb-true (a .y .count) (32 - a .x .count) (c .if2 .taken))
+
+-- ---- the needs
+
+returns : tie.Need-returns
+returns c = λ gs hs g h eg eh rg rh. parents-few gs hs _ _ (g .count) (h .count) (few c)
+
+hashes-part-requires : tie.Need-hashes-part-requires
+hashes-part-requires c κs = search needs
+
+hashes-part-requires-2 : tie.Need-hashes-part-requires-2
+hashes-part-requires-2 c κs = search needs
+
+count-hash-union-requires : tie.Need-count-hash-union-requires
+count-hash-union-requires c κs = search needs
+
+returns-2 : tie.Need-returns-2
+returns-2 c = λ gs hs g h eg eh rg rh.
+    let x = c .before .before .hashes-part .ensures gs g in
+    let y = c .before .hashes-part2 .ensures hs h in
+    ap (λ (n : ℕ). leb n 32) (c .count-hash-union .ensures gs hs x y eg eh rg rh)
+
+pub parents-fit-spec : {M : Type 1} → statement M
+parents-fit-spec =
+    tie.close
+    (tie.spec returns hashes-part-requires hashes-part-requires-2 count-hash-union-requires returns-2)
