@@ -20,7 +20,7 @@ use Rattle.packed.proofs.WriteLaws.{wrote-then, wrote-as}
 use Rattle.ontology.specs.Table.{EventType, isVersioned}
 use Rattle.event.specs.Event.{typeView, eventView}
 use Rattle.event.specs.EventLayout.{presenceBit, bitNumber, setBytes, setsBytes}
-use Rattle.event.specs.code.EventIndex.{SetIs, bitOf, noSet}
+use Rattle.event.specs.code.EventIndex.{SetIs, bitOf, setIn}
 use Rattle.event.specs.declared.sets.SetAt.{SetAt}
 use Rattle.event.specs.code.SetWriting.{placeBytes, presentBytes}
 use Rattle.event.proofs.SetWriteLaws.{present-nil, present-cons}
@@ -126,7 +126,7 @@ pub record PlacesSofar (ty : EventType) (left right : Snapshot) (present marked 
   pub right-bits : n ≡ bitNumber (map differBit (drop k (right .cells)))
 
 module _
-    (a b : List ℕ) (e f : ℕ) (ats bts : List SetAt) (ty : EventType) (left right : Snapshot) (v : isVersioned ty ≡ true)
+    (a b : List ℕ) (e f : ℕ) (ats bts : List ℕ) (ty : EventType) (left right : Snapshot) (v : isVersioned ty ≡ true)
     (x : CellsAre a (left .cells) e ats) (y : CellsAre b (right .cells) f bts) where
   left-long : length (left .cells) ≡ 32
   left-long = sym (length-map (left .cells) held) ∙ x .sets .long
@@ -160,15 +160,15 @@ module _
     pub places-marks : m % 2 + n % 2 ≡ differBit (leftAt k) + differBit (rightAt k)
     places-marks = ap₂ (λ (c d : ℕ). c + d) (bit-here (left .cells) k m (t .left-bits)) (bit-here (right .cells) k n (t .right-bits))
 
-    pub left-set : SetIs a (held (leftAt k)) (getD ats k noSet)
-    left-set = subst (λ (s : List Text). SetIs a s (getD ats k noSet)) (held-at (left .cells) k) (x .sets .each k h)
+    pub left-set : SetIs a (held (leftAt k)) (setIn ats k)
+    left-set = subst (λ (s : List Text). SetIs a s (setIn ats k)) (held-at (left .cells) k) (x .sets .each k h)
 
-    pub right-set : SetIs b (held (rightAt k)) (getD bts k noSet)
-    right-set = subst (λ (s : List Text). SetIs b s (getD bts k noSet)) (held-at (right .cells) k) (y .sets .each k h)
+    pub right-set : SetIs b (held (rightAt k)) (setIn bts k)
+    right-set = subst (λ (s : List Text). SetIs b s (setIn bts k)) (held-at (right .cells) k) (y .sets .each k h)
 
     -- whether it has objects, and whether it is marked
     has-objects :
-        (kept fill : Bool) → kept ≡ isAgreed (leftAt k) (rightAt k) → fill ≡ (kept && ltb 0 (getD ats k noSet .count)) →
+        (kept fill : Bool) → kept ≡ isAgreed (leftAt k) (rightAt k) → fill ≡ (kept && ltb 0 (setIn ats k .count)) →
         fill ≡ getD (map isFilled joined) k (isFilled (holds []))
     has-objects kept fill g o =
         o ∙ ap₂ (λ (z : Bool) (c : ℕ). z && ltb 0 c) g (left-set .count)
@@ -184,7 +184,7 @@ module _
         ∙ sym (List·getD-map isMark joined k (holds []))
 
     pub places-more :
-        (kept fill : Bool) → kept ≡ isAgreed (leftAt k) (rightAt k) → fill ≡ (kept && ltb 0 (getD ats k noSet .count)) →
+        (kept fill : Bool) → kept ≡ isAgreed (leftAt k) (rightAt k) → fill ≡ (kept && ltb 0 (setIn ats k .count)) →
         length present ≡ 32 → length marked ≡ 32 →
         PlacesSofar ty left right (set present k fill) (set marked k (not kept)) (m / 2) (n / 2) (k + 1)
     places-more kept fill g o p q =

@@ -26,14 +26,15 @@ use Rattle.packed.proofs.WriteLaws.{wrote-length, wrote-then, wrote-as}
 use Rattle.values.specs.Spaces.{Kind, kindNumber, inSpace}
 use Rattle.values.specs.ValueOrder.{isOrdered, extremeOrder}
 use Rattle.ontology.specs.Table.{Property, EventType, isMin, isMax, isVersioned, atPlace}
-use Rattle.ontology.specs.code.TypeIndex.{PropertyIs, hasMax, TypeIs}
+use Rattle.ontology.specs.code.TypeIndex.{PropertyIs, propertyIn, hasMax, TypeIs}
 use Rattle.ontology.specs.declared.properties.PropertyAt.{PropertyAt}
 use Rattle.ontology.specs.declared.types.TypeIndex.{TypeIndex}
 use Rattle.ontology.proofs.TypeIndexLaws.{max-of}
 use Rattle.event.specs.Event.{typeView, eventView}
 use Rattle.event.specs.EventLayout.{setBytes, setsBytes, presenceBit, bitNumber}
 use Rattle.event.specs.EventQuestions.{areInSpace, matchCount, valuesFit}
-use Rattle.event.specs.code.EventIndex.{SetIs, noSet, bitOf}
+use Rattle.event.specs.code.EventIndex.{SetIs, setIn, bitOf}
+use Rattle.event.proofs.SetLaws.{set-read}
 use Rattle.event.specs.declared.sets.SetAt.{SetAt}
 use Rattle.event.proofs.BitLaws.{FilledTo, presence-bits}
 use Rattle.event.proofs.EventLayoutLaws.{SetWritten}
@@ -253,12 +254,12 @@ module _ (t : TypeIndex) (p : ℕ) (a : List ℕ) (x : SetAt) (b : List ℕ) (y 
     abbrev here : ExtremeAt (h .type) p
     here = extreme-at (h .type) p e
 
-    property : (d : PropertyAt) → PropertyIs (h .table) (here .what) (getD (t .properties) p d)
-    property d = h .typed .are .each p (here .what) d (here .is)
+    property : {q : PropertyAt} → q ≡ propertyIn (t .properties) p → PropertyIs (h .table) (here .what) q
+    property same = subst (PropertyIs (h .table) (here .what)) (sym same) (h .typed .are .each p (here .what) (here .is))
 
-    extremes : (d : PropertyAt) → Extremes (here .what .kind) (getD (t .properties) p d .kind) (h .xs) (h .ys)
-    extremes d = record {
-      number = sym (property d .kind .number);
+    extremes : {q : PropertyAt} → q ≡ propertyIn (t .properties) p → Extremes (here .what .kind) (q .kind) (h .xs) (h .ys)
+    extremes same = record {
+      number = sym (property same .kind .number);
       ordered = h .paired .ordered (here .what) (here .is) (here .extreme);
       left-one = h .paired .few e .0;
       right-one = h .paired .few e .1;
@@ -269,16 +270,16 @@ module _ (t : TypeIndex) (p : ℕ) (a : List ℕ) (x : SetAt) (b : List ℕ) (y 
 
     -- the text of the chosen value is all of the set
     pub chosen-text :
-        (d : PropertyAt) (v : Text) →
-        ((k : Kind) (xs ys : List Text) → SetIs a xs x → SetIs b ys y → Extremes k (getD (t .properties) p d .kind) xs ys →
-        v ∷ [] ≡ take 1 (union (extremeOrder (hasMax (getD (t .properties) p d)) k) xs ys)) →
+        {q : PropertyAt} → q ≡ propertyIn (t .properties) p → (v : Text) →
+        ((k : Kind) (xs ys : List Text) → SetIs a xs x → SetIs b ys y → Extremes k (q .kind) xs ys →
+        v ∷ [] ≡ take 1 (union (extremeOrder (hasMax q) k) xs ys)) →
         text v ≡ flatten (map text (joinedSet (h .type) p (h .xs) (h .ys)))
     unfolding flatten
-    chosen-text d v c =
+    chosen-text same v c =
         sym (append-nil (text v))
         ∙ ap (λ (l : List Text). flatten (map text l))
-        (c (here .what .kind) (h .xs) (h .ys) (h .left) (h .right) (extremes d)
-        ∙ ap (λ (largest : Bool). take 1 (union (extremeOrder largest (here .what .kind)) (h .xs) (h .ys))) (max-of (property d))
+        (c (here .what .kind) (h .xs) (h .ys) (h .left) (h .right) (extremes same)
+        ∙ ap (λ (largest : Bool). take 1 (union (extremeOrder largest (here .what .kind)) (h .xs) (h .ys))) (max-of (property same))
         ∙ sym (joined-extreme (h .type) p (h .xs) (h .ys) here))
 
   -- elsewhere the union is all of the set
@@ -313,8 +314,8 @@ to-go-same g e f = rw (e, f) g
 
 -- ---- the places that have objects
 
-pub places-all : {left right : List SetAt} {l : List Bool} {k : ℕ} →
-    FilledTo (λ p. haveObjects (getD left p noSet) (getD right p noSet)) l k → 32 ≤ k → PresentAre left right l
+pub places-all : {left right : List ℕ} {l : List Bool} {k : ℕ} →
+    FilledTo (λ p. haveObjects (setIn left p) (setIn right p)) l k → 32 ≤ k → PresentAre left right l
 places-all w h = record { long = w .long; each = λ p m. w .each p (omega arith) }
 
 -- ---- an unversioned snapshot
@@ -444,15 +445,16 @@ module _ {table a b : List ℕ} {t : TypeIndex} {i j : SnapshotIndex} {ty : Even
     ordered = λ q e o. f .ordered p q e o;
   }
 
-  abbrev pub joined-place : (p : ℕ) → p < 32 → PlaceIs t p a (getD (i .sets) p noSet) b (getD (j .sets) p noSet)
-  joined-place p l = record {
+  -- a place, with its sets as they were taken from the numbers
+  abbrev pub joined-place : {v w : SetAt} (p : ℕ) → v ≡ setIn (i .sets) p → w ≡ setIn (j .sets) p → p < 32 → PlaceIs t p a v b w
+  joined-place p e f l = record {
     table = table;
     type = ty;
     typed = h .typed;
     xs = setOf x p;
     ys = setOf y p;
-    left = h .left .sets .each p l;
-    right = h .right .sets .each p l;
+    left = set-read e (h .left .sets .each p l);
+    right = set-read f (h .right .sets .each p l);
     paired = paired p;
   }
 
@@ -485,7 +487,7 @@ module _ {table a b : List ℕ} {t : TypeIndex} {i j : SnapshotIndex} {ty : Even
     joined-bits =
         presence-bits joined present (w .long)
         (λ p m.
-        presence-is a (getD (i .sets) p noSet) b (getD (j .sets) p noSet) (setOf x p) (setOf y p) (h .left .sets .each p m) (h .right .sets .each p m) ty p
+        presence-is a (setIn (i .sets) p) b (setIn (j .sets) p) (setOf x p) (setOf y p) (h .left .sets .each p m) (h .right .sets .each p m) ty p
         ∙ ap bitOf (sym (w .each p m)))
 
     pub joined-bytes : snapshotBytes (joinSnapshots (typeView ty) x y) ≡ number 0 ++ number (bitNumber (map bitOf present)) ++ number 0 ++ setsFrom ty x y 0
@@ -518,12 +520,12 @@ module _ {table a b : List ℕ} {t : TypeIndex} {i j : SnapshotIndex} {ty : Even
 
     -- a place that has objects, with its room, where the places before it are written
     pub place-next :
-        {l₀ l : List ℕ} {at p : ℕ} (k : ℕ) → k < 32 → getD present k false ≡ true → ToGo l₀ at (setsFrom ty x y 0) l p (setsFrom ty x y k) →
-        at + length (setsFrom ty x y 0) ≤ length l₀ → PlaceRoom t k a (getD (i .sets) k noSet) b (getD (j .sets) k noSet) p (length l)
-    place-next k l e g r = record {
+        {l₀ l : List ℕ} {at p : ℕ} {v z : SetAt} (k : ℕ) → v ≡ setIn (i .sets) k → z ≡ setIn (j .sets) k → k < 32 → getD present k false ≡ true →
+        ToGo l₀ at (setsFrom ty x y 0) l p (setsFrom ty x y k) → at + length (setsFrom ty x y 0) ≤ length l₀ → PlaceRoom t k a v b z p (length l)
+    place-next k c d l e g r = record {
       low = l;
-      some = sym (w .each k l) ∙ e;
-      place = joined-place k l;
+      some = ap₂ haveObjects c d ∙ sym (w .each k l) ∙ e;
+      place = joined-place k c d l;
       room = omega (arith, g .after, g .long, ap length (sets-step ty x y k l), length-append (setBytes (joined k)) (setsFrom ty x y (k + 1)));
     }
 

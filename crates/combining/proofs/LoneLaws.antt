@@ -16,7 +16,7 @@ use Rattle.ontology.specs.Table.{isVersioned}
 use Rattle.ontology.specs.declared.types.TypeIndex.{TypeIndex}
 use Rattle.event.specs.Event.{Event, setAt, versionOf}
 use Rattle.event.specs.EventLayout.{setsBytes}
-use Rattle.event.specs.code.EventIndex.{SetIs, noSet, EventIs}
+use Rattle.event.specs.code.EventIndex.{SetIs, setIn, EventIs}
 use Rattle.event.specs.code.SetWriting.{presentBytes}
 use Rattle.event.specs.declared.read.EventIndex.{EventIndex}
 use Rattle.event.proofs.EventQuestionLaws.{version-none}
@@ -44,7 +44,7 @@ module _ (table bytes : List ℕ) (t : TypeIndex) (e : EventIndex) (h : Checkabl
       one zero n = absurd (n refl)
       one (suc m) n = omega arith
 
-  pub marked-set : (t .mark ≡ 0 → ⊥) → SetIs bytes (setAt (h .event) (t .mark - 1)) (getD (e .sets) (t .mark - 1) noSet)
+  pub marked-set : (t .mark ≡ 0 → ⊥) → SetIs bytes (setAt (h .event) (t .mark - 1)) (setIn (e .sets) (t .mark - 1))
   marked-set n = let (a, b) = mark-low n in h .read .sets .each (t .mark - 1) (omega arith)
 
   pub set-there : (t .mark ≡ 0 → ⊥) → setAt (h .event) (t .mark - 1) ≡ inDecimal (versionOf (h .type) (h .event)) ∷ []

@@ -20,13 +20,13 @@ use Rattle.model.proofs.PartLaws.{length-upTo}
 use Rattle.model.proofs.StepLaws.{join-map, join-at}
 use Rattle.model.proofs.SizeLaws.{held-size}
 use Rattle.ontology.specs.Table.{Property, EventType, isMin, isMax, isVersioned, atPlace}
-use Rattle.ontology.specs.code.TypeIndex.{hasExtreme, TypeIs}
+use Rattle.ontology.specs.code.TypeIndex.{propertyIn, hasExtreme, TypeIs}
 use Rattle.ontology.specs.declared.properties.PropertyAt.{PropertyAt}
 use Rattle.ontology.specs.declared.types.TypeIndex.{TypeIndex}
 use Rattle.ontology.proofs.TypeIndexLaws.{extreme-of}
 use Rattle.ontology.proofs.RunLaws.{no-element}
 use Rattle.event.specs.Event.{choiceOf, typeView, eventView}
-use Rattle.event.specs.code.EventIndex.{SetIs, SetsAre, noSet}
+use Rattle.event.specs.code.EventIndex.{SetIs, SetsAre, setIn}
 use Rattle.event.specs.declared.sets.SetAt.{SetAt}
 use Rattle.event.specs.EventQuestions.{isEmpty, matchCount}
 use Rattle.event.proofs.EventLayoutLaws.{SetWritten}
@@ -43,14 +43,14 @@ use Rattle.combining.specs.code.CombineIndex.{isExtremeAt, Meet}
 module _ (u : List ℕ) (ty : EventType) (t : TypeIndex) (k : ℕ) (w : TypeIs u ty t) where
   pub extreme-past : t .count ≤ k → false ≡ isExtremeAt ty k
   unfolding isExtremeAt atPlace
-  extreme-past h = sym (ap (atPlace false (λ (q : Property). isMin q || isMax q)) (no-element (ty .properties) k (omega (arith, w .count))))
+  extreme-past h = sym (ap (atPlace false (λ (q : Property). isMin q || isMax q)) (no-element (ty .properties) k (omega (arith, w .are .count))))
 
-  module _ (d : PropertyAt) (h : k < t .count) where
-    pub extreme-here : isExtremeAt ty k ≡ hasExtreme (getD (t .properties) k d)
+  module _ {p : PropertyAt} (same : p ≡ propertyIn (t .properties) k) (h : k < t .count) where
+    pub extreme-here : isExtremeAt ty k ≡ hasExtreme p
     unfolding isExtremeAt atPlace
     extreme-here =
-        let e = elem (ty .properties) k (omega (arith, w .count)) in
-        ap (atPlace false (λ (q : Property). isMin q || isMax q)) (e .is) ∙ sym (extreme-of (w .are .each k (e .what) d (e .is)))
+        let e = elem (ty .properties) k (omega (arith, w .are .count)) in
+        ap (atPlace false (λ (q : Property). isMin q || isMax q)) (e .is) ∙ sym (ap hasExtreme same ∙ extreme-of (w .are .each k (e .what) (e .is)))
 
 -- ---- which values such a place keeps
 
@@ -253,11 +253,11 @@ module _ (a b : List ℕ) (ty : EventType) (x y : Snapshot) (un : isVersioned ty
     pub right-cell : PlainCell ty k (getD (y .cells) k (holds []))
     right-cell = plain-cell ty y right-written un (m .fitting .right-fits) k h
 
-    pub left-set : (sets : List SetAt) → SetsAre a (map held (x .cells)) sets → SetIs a (held (getD (x .cells) k (holds []))) (getD sets k noSet)
-    left-set sets r = subst (λ (vs : List Text). SetIs a vs (getD sets k noSet)) (held-at (x .cells) k) (r .each k h)
+    pub left-set : (sets : List ℕ) → SetsAre a (map held (x .cells)) sets → SetIs a (held (getD (x .cells) k (holds []))) (setIn sets k)
+    left-set sets r = subst (λ (vs : List Text). SetIs a vs (setIn sets k)) (held-at (x .cells) k) (r .each k h)
 
-    pub right-set : (sets : List SetAt) → SetsAre b (map held (y .cells)) sets → SetIs b (held (getD (y .cells) k (holds []))) (getD sets k noSet)
-    right-set sets r = subst (λ (vs : List Text). SetIs b vs (getD sets k noSet)) (held-at (y .cells) k) (r .each k h)
+    pub right-set : (sets : List ℕ) → SetsAre b (map held (y .cells)) sets → SetIs b (held (getD (y .cells) k (holds []))) (setIn sets k)
+    right-set sets r = subst (λ (vs : List Text). SetIs b vs (setIn sets k)) (held-at (y .cells) k) (r .each k h)
 
     -- the cell that the two have together
     abbrev together-at : Cell

@@ -17,6 +17,7 @@ use dossier::snapshots::SnapshotIndex;
 use dossier::snapshots::read_snapshot;
 use event::bits::number_of;
 use event::sets::SetAt;
+use event::sets::set_at;
 use event::sets::set_part;
 use event::write::write_sets;
 use packed::order::same;
@@ -52,8 +53,6 @@ fn agreed_places(a: &[u8], x: SnapshotIndex, b: &[u8], y: SnapshotIndex) -> Plac
         → SnapshotIs (now (a .entry)) left x → SnapshotIs (now (b .entry)) right y
         → PlacesAre (joinSnapshots (typeView ty) left right .cells) r) ⌝ }
 {
-    let left = x.sets;
-    let right = y.sets;
     let mut p = Places {
         present: [false; 32],
         marked: [false; 32],
@@ -62,8 +61,8 @@ fn agreed_places(a: &[u8], x: SnapshotIndex, b: &[u8], y: SnapshotIndex) -> Plac
     let mut n = y.differ;
     let mut k: usize = 0;
     while k < 32 {
-        let v = left[k];
-        let w = right[k];
+        let v = set_at(&x.sets, k);
+        let w = set_at(&y.sets, k);
         let kept = is_kept(a, v, b, w, m % 2 + n % 2);
         p.present[k] = has_objects(kept, v.count);
         p.marked[k] = !kept;
@@ -91,6 +90,5 @@ pub fn write_agreed(a: &[u8], b: &[u8], out: &mut [u8], at: usize) -> usize
     let after_version = write_number(out, at, version.0);
     let after_presence = write_number(out, after_version, presence);
     let after_differ = write_number(out, after_presence, differ);
-    let sets = x.sets;
-    write_sets(a, sets, presence, out, after_differ)
+    write_sets(a, &x.sets, presence, out, after_differ)
 }

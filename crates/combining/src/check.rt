@@ -15,6 +15,7 @@ use event::head::hashes_part;
 use event::head::text_part;
 use event::read::EventIndex;
 use event::read::read_event;
+use event::sets::set_at;
 use event::sets::set_part;
 use event::sets::value_in;
 use event::write::write_sets;
@@ -34,7 +35,7 @@ fn version_of(table: &[u8], event: &[u8], t: TypeIndex, e: EventIndex) -> EventV
     if mark == 0 {
         return EventVersion(0);
     }
-    let x = e.sets[mark - 1];
+    let x = set_at(&e.sets, mark - 1);
     EventVersion(numeral_of(value_in(set_part(event, x), 0)))
 }
 
@@ -53,8 +54,7 @@ fn write_lone(event: &[u8], e: EventIndex, version: EventVersion, out: &mut [u8]
     let after_version = write_number(out, after_count, version.0);
     let after_presence = write_number(out, after_version, e.presence);
     let after_differ = write_number(out, after_presence, 0);
-    let sets = e.sets;
-    write_sets(event, sets, e.presence, out, after_differ)
+    write_sets(event, &e.sets, e.presence, out, after_differ)
 }
 
 // The dossier of an event, written at the front of `out`.

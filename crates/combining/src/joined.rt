@@ -20,10 +20,12 @@ use crate::limits::is_extreme_at;
 use dossier::snapshots::SnapshotIndex;
 use event::bits::number_of;
 use event::sets::SetAt;
+use event::sets::set_at;
 use event::sets::set_part;
 use event::sets::value_in;
 use ontology::properties::PropertyAt;
 use ontology::properties::is_max;
+use ontology::properties::property_at;
 use ontology::types::TypeIndex;
 use packed::write::write_number;
 use packed::write::write_text;
@@ -79,22 +81,21 @@ fn write_place<'a>(
 {
     if is_extreme_at(t, k) {
         let after_count = write_number(out, at, 1);
-        let p = t.properties[k];
+        let p = property_at(&t.properties, k);
         return write_text(chosen(p, a, x, b, y), out, after_count);
     }
     write_values(set_part(a, x), x.count, set_part(b, y), y.count, out, at)
 }
 
 // The places at which one of two unversioned snapshots has objects.
-fn joined_places(left: [SetAt; 32], right: [SetAt; 32]) -> [bool; 32]
-    ensures { λ r. ⌜ PresentAre left right r ⌝ }
+fn joined_places(left: &[usize], right: &[usize]) -> [bool; 32]
+    requires { ⌜ (length (now left) ≡ 96) × (length (now right) ≡ 96) ⌝ }
+    ensures { λ r. ⌜ PresentAre (now (left .entry)) (now (right .entry)) r ⌝ }
 {
     let mut present = [false; 32];
     let mut k: usize = 0;
     while k < 32 {
-        let v = left[k];
-        let w = right[k];
-        present[k] = have_objects(v, w);
+        present[k] = have_objects(set_at(left, k), set_at(right, k));
         k += 1;
     }
     present
@@ -114,17 +115,15 @@ pub fn write_joined<'a>(
     requires { ⌜ JoinedRoom (now table) (now a) x (now b) y t at (length (now out)) ⌝ }
     ensures { λ r. ⌜ ((ty : EventType) (p q : Snapshot) → TypeIs (now (table .entry)) ty t → isVersioned ty ≡ false → Meet (now (a .entry)) (now (b .entry)) ty p q → Wrote (now (out .entry)) at (snapshotBytes (joinSnapshots (typeView ty) p q)) (now (out .exit)) r) ⌝ }
 {
-    let left = x.sets;
-    let right = y.sets;
-    let present = joined_places(left, right);
+    let present = joined_places(&x.sets, &y.sets);
     let after_version = write_number(out, at, 0);
     let after_presence = write_number(out, after_version, number_of(present));
     let mut next = write_number(out, after_presence, 0);
     let mut k: usize = 0;
     while k < 32 {
         if present[k] {
-            let v = left[k];
-            let w = right[k];
+            let v = set_at(&x.sets, k);
+            let w = set_at(&y.sets, k);
             next = write_place(t, k, a, v, b, w, out, next);
         }
         k += 1;

@@ -21,8 +21,10 @@ use dossier::dossiers::DossierIndex;
 use dossier::snapshots::SnapshotIndex;
 use event::head::hashes_part;
 use event::sets::SetAt;
+use event::sets::set_at;
 use event::sets::set_part;
 use ontology::properties::is_extreme;
+use ontology::properties::property_at;
 use ontology::types::TypeIndex;
 use unions::pair::count_hash_union;
 use unions::pair::count_union;
@@ -61,8 +63,7 @@ pub fn is_extreme_at(t: TypeIndex, k: usize) -> bool
     if t.count <= k {
         return false;
     }
-    let p = t.properties[k];
-    is_extreme(p)
+    is_extreme(property_at(&t.properties, k))
 }
 
 // How many objects a place has where two unversioned snapshots are joined.
@@ -88,13 +89,11 @@ fn objects_fit(a: &[u8], x: SnapshotIndex, b: &[u8], y: SnapshotIndex, t: TypeIn
     if x.objects <= 256 && y.objects <= 256 - x.objects {
         return true;
     }
-    let left = x.sets;
-    let right = y.sets;
     let mut room: usize = 256;
     let mut k: usize = 0;
     while k < 32 {
-        let v = left[k];
-        let w = right[k];
+        let v = set_at(&x.sets, k);
+        let w = set_at(&y.sets, k);
         let n = count_place(t, k, a, v, b, w);
         if room < n {
             return false;

@@ -19,13 +19,14 @@ use Rattle.packed.specs.declared.strings.StringAt.{StringAt}
 use Rattle.packed.specs.declared.strings.Strings.{Strings}
 use Rattle.packed.proofs.ReadLaws.{TextStops}
 use Rattle.ontology.specs.Table.{Property, isMatch}
-use Rattle.ontology.specs.code.TypeIndex.{PropertyIs, hasMatch}
+use Rattle.ontology.specs.code.TypeIndex.{PropertyIs, propertyIn, hasMatch}
 use Rattle.ontology.specs.declared.properties.PropertyAt.{PropertyAt}
 use Rattle.ontology.specs.declared.types.TypeIndex.{TypeIndex}
 use Rattle.ontology.proofs.TypeIndexLaws.{match-of}
-use Rattle.event.specs.code.EventIndex.{SetIs, noSet}
+use Rattle.event.specs.code.EventIndex.{SetIs, setIn}
 use Rattle.event.specs.declared.sets.SetAt.{SetAt}
 use Rattle.event.specs.declared.read.EventIndex.{EventIndex}
+use Rattle.event.proofs.SetLaws.{set-read}
 use Rattle.event.proofs.LookupLaws.{text-there, text-next}
 use Rattle.hashing.specs.HashText.{objectString, objectStrings}
 use Rattle.hashing.specs.code.HashIndex.{Gathered, Hashable}
@@ -189,13 +190,10 @@ module _ (table event : List ℕ) where
       (w : SoFar table event (h .type .properties) (h .event .sets) r place)
     where
       property : At (h .type .properties) place
-      property = at (h .type .properties) place (omega (arith, h .typed .count))
+      property = at (h .type .properties) place (omega (arith, h .typed .are .count))
 
       set-there : place < length (h .event .sets)
-      set-there = omega (arith, h .read .sets .long, h .typed .few)
-
-      set-is : SetIs event (getD (h .event .sets) place []) (getD (e .sets) place noSet)
-      set-is = h .read .sets .each place (omega (arith, h .typed .few))
+      set-there = omega (arith, h .read .sets .long, h .typed .are .few)
 
       step :
           objectStrings (h .type .properties) (h .event .sets)
@@ -207,12 +205,16 @@ module _ (table event : List ℕ) where
           ∙ sym (append-assoc (w .done) (strings (property .what) (getD (h .event .sets) place []))
           (objectStrings (drop (place + 1) (h .type .properties)) (drop (place + 1) (h .event .sets))))
 
-      module _ (d : PropertyAt) where
-        property-is : PropertyIs table (property .what) (getD (t .properties) place d)
-        property-is = h .typed .are .each place (property .what) d (property .is)
+      -- the property and the set of this place, as they were taken from the numbers
+      module _ {p : PropertyAt} {x : SetAt} (same-property : p ≡ propertyIn (t .properties) place) (same-set : x ≡ setIn (e .sets) place) where
+        property-is : PropertyIs table (property .what) p
+        property-is = subst (PropertyIs table (property .what)) (sym same-property) (h .typed .are .each place (property .what) (property .is))
+
+        set-is : SetIs event (getD (h .event .sets) place []) x
+        set-is = set-read same-set (h .read .sets .each place (omega (arith, h .typed .are .few)))
 
         -- room for the objects of this place, which question 5 has answered
-        room : hasMatch (getD (t .properties) place d) ≡ true → r .count + getD (e .sets) place noSet .count ≤ 32
+        room : hasMatch (p) ≡ true → r .count + x .count ≤ 32
         room m =
             let q = property .what in
             let vs = getD (h .event .sets) place [] in
@@ -234,15 +236,15 @@ module _ (table event : List ℕ) where
         pub place-ready :
             StringsFit table event r →
             StringsFit table event r
-            × (getD (t .properties) place d .start ≤ getD (t .properties) place d .end)
-            × (getD (t .properties) place d .end ≤ length table)
-            × (hasMatch (getD (t .properties) place d) ≡ true → r .count + getD (e .sets) place noSet .count ≤ 32)
+            × (p .start ≤ p .end)
+            × (p .end ≤ length table)
+            × (hasMatch (p) ≡ true → r .count + x .count ≤ 32)
         place-ready f = (f, property-is .order, property-is .within, room)
 
         pub so-far-more :
             (q : Strings) →
-            ((p : Property) (vs : List Text) → PropertyIs table p (getD (t .properties) place d) → SetIs event vs (getD (e .sets) place noSet) →
-            Gathered table event r q (cond (isMatch p) (map (objectString (p .name)) vs) [])) →
+            ((o : Property) (vs : List Text) → PropertyIs table o p → SetIs event vs x →
+            Gathered table event r q (cond (isMatch o) (map (objectString (o .name)) vs) [])) →
             SoFar table event (h .type .properties) (h .event .sets) q (place + 1)
         so-far-more q f =
             let g = f (property .what) (getD (h .event .sets) place []) property-is set-is in

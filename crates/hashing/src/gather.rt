@@ -14,8 +14,10 @@ ghost use Rattle.hashing.specs.HashText.{objectString, objectStrings};
 ghost use Rattle.hashing.specs.code.HashIndex.{Gathered, Hashable};
 use event::read::EventIndex;
 use event::sets::SetAt;
+use event::sets::set_at;
 use ontology::properties::PropertyAt;
 use ontology::properties::is_match;
+use ontology::properties::property_at;
 use ontology::types::TypeIndex;
 use packed::read::TextAt;
 use packed::read::read_text;
@@ -80,9 +82,8 @@ pub fn gather(table: &[u8], event: &[u8], t: TypeIndex, e: EventIndex) -> String
     let mut r = no_strings();
     let mut place: usize = 0;
     while place < t.count {
-        let p = t.properties[place];
-        let set = e.sets[place];
-        r = gather_place(table, event, p, set, r);
+        let p = property_at(&t.properties, place);
+        r = gather_place(table, event, p, set_at(&e.sets, place), r);
         place += 1;
     }
     r

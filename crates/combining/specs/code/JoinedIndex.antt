@@ -19,7 +19,7 @@ use Rattle.ontology.specs.declared.types.TypeIndex.{TypeIndex}
 use Rattle.event.specs.Event.{typeView}
 use Rattle.event.specs.EventLayout.{setBytes}
 use Rattle.event.specs.EventQuestions.{areInSpace}
-use Rattle.event.specs.code.EventIndex.{SetIs, noSet}
+use Rattle.event.specs.code.EventIndex.{SetIs, setIn}
 use Rattle.event.specs.declared.sets.SetAt.{SetAt}
 use Rattle.combining.specs.code.CombineIndex.{isExtremeAt}
 
@@ -28,9 +28,9 @@ abbrev pub haveObjects : SetAt → SetAt → Bool
 haveObjects x y = ltb 0 (x .count) || ltb 0 (y .count)
 
 -- so of each of the 32 places
-pub record PresentAre (left right : List SetAt) (r : List Bool) : Type 0 where
+pub record PresentAre (left right : List ℕ) (r : List Bool) : Type 0 where
   pub long : length r ≡ 32
-  pub each : (p : ℕ) → p < 32 → getD r p false ≡ haveObjects (getD left p noSet) (getD right p noSet)
+  pub each : (p : ℕ) → p < 32 → getD r p false ≡ haveObjects (setIn left p) (setIn right p)
 
 -- at most one value on each side and one at least, in the space of an ordered kind of this number
 pub record Extremes (k : Kind) (kind : ℕ) (xs ys : List Text) : Type 0 where

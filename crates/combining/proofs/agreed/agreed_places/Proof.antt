@@ -1,43 +1,41 @@
-use borrow.Author.Needs.{needs}
-use mathlib.Core.Path.{_≡_, refl}
-use mathlib.Core.Bool.{true}
-use Prim.Native.Nat.{_-_}
+use mathlib.Core.Path.{_≡_, refl, ap, _∙_}
+use mathlib.Core.Bool.{Bool, true, _&&_}
+use Prim.Native.Nat.{ℕ, _-_}
+use lib.Dec.{ltb}
 use lib.ListN.{length, length-set}
 use Rattle.model.specs.Rule.{Snapshot}
 use Rattle.ontology.specs.Table.{EventType, isVersioned}
+use Rattle.event.specs.code.EventIndex.{setIn}
+use Rattle.event.specs.declared.sets.SetAt.{SetAt}
+use Rattle.event.proofs.SetLaws.{set-read}
 use Rattle.dossier.specs.code.DossierIndex.{CellsAre}
 use Rattle.dossier.proofs.VersionLaws.{cells-are}
 use Rattle.combining.proofs.AgreedLaws.{PlacesSofar, places-none, places-marks, left-set, right-set, places-more, places-all}
+use borrow.Author.Needs.{needs}
 use Rattle.combining.proofs.agreed.agreed_places.Statement.{statement}
 use Rattle.combining.proofs.agreed.agreed_places.Tie as tie
-use Rattle.combining.proofs.agreed.agreed_places.Reads as reads
-use Rattle.combining.proofs.agreed.agreed_places.Lts as lts
-use Rattle.combining.proofs.agreed.has_objects.Reads as has-objects-reads
-use Rattle.combining.proofs.agreed.is_kept.Reads as is-kept-reads
 
 abbrev Inv-loop : tie.InvT-loop
-Inv-loop a b left right p₀ m₀ n₀ k₀ p m n k =
+Inv-loop a b x y p₀ m₀ n₀ k₀ p m n k =
     (length (p .present) ≡ 32)
     × (length (p .marked) ≡ 32)
-    × ((ty : EventType) (x y : Snapshot) → isVersioned ty ≡ true → CellsAre a (x .cells) m₀ left → CellsAre b (y .cells) n₀ right → PlacesSofar ty x y (p .present) (p .marked) m n k)
+    × ((ty : EventType) (left right : Snapshot) → isVersioned ty ≡ true → CellsAre a (left .cells) m₀ (x .sets) → CellsAre b (right .cells) n₀ (y .sets) →
+    PlacesSofar ty left right (p .present) (p .marked) m n k)
 
 abbrev μ-loop : tie.MeasureT-loop
-μ-loop a b left right p₀ m₀ n₀ k₀ p m n k = 32 - k
+μ-loop a b x y p₀ m₀ n₀ k₀ p m n k = 32 - k
+
+abbrev to-turn : tie.After-set-at Inv-loop μ-loop → tie.In-loop Inv-loop μ-loop
+to-turn c = c .before .before .before .before
 
 loop-holds : tie.Need-loop-holds Inv-loop μ-loop
 loop-holds c = (refl, refl, λ ty x y v w u. places-none _ _ _ _ _ _ ty x y v w u _ _)
 
-mul-v : tie.Need-mul-v Inv-loop μ-loop
-mul-v c = search needs
+set-at-requires : tie.Need-set-at-requires Inv-loop μ-loop
+set-at-requires c κs = (search needs, c .before .before .before .loop-test .taken)
 
-array-copy-out-v : tie.Need-array-copy-out-v Inv-loop μ-loop
-array-copy-out-v c = search needs
-
-mul-w : tie.Need-mul-w Inv-loop μ-loop
-mul-w c = search needs
-
-array-copy-out-w : tie.Need-array-copy-out-w Inv-loop μ-loop
-array-copy-out-w c = search needs
+set-at-requires-2 : tie.Need-set-at-requires-2 Inv-loop μ-loop
+set-at-requires-2 c κs = (search needs, to-turn (c .before .before .before) .loop-test .taken)
 
 add-is-kept : tie.Need-add-is-kept Inv-loop μ-loop
 add-is-kept c = search needs
@@ -62,43 +60,29 @@ loop-less c = search needs
 
 loop-again : tie.Need-loop-again Inv-loop μ-loop
 loop-again c =
-    let l = c .before .before .before .before .before .loop in
-    let h = c .before .before .before .before .loop-test .taken in (
+    let kept = c .before in
+    let right = kept .before in
+    let left = right .before .before .before .before in
+    let turn = to-turn left in
+    let l = turn .before .loop in
+    let inside = turn .loop-test .taken in
+    let objects = c .has-objects .ensures ∙ ap (λ (x : SetAt). kept .is-kept .result && ltb 0 (x .count)) (left .set-at .ensures) in (
       simp length-set (l .inv .0),
       simp length-set (l .inv .1),
       λ ty x y v w u.
           let t = l .inv .2 ty x y v w u in
-          places-more _ _ _ _ _ _ ty x y v w u _ _ _ _ (l .k) h t _ _
-          (c .before .is-kept .ensures _ _ (places-marks _ _ _ _ _ _ ty x y v w u _ _ _ _ (l .k) h t) (left-set _ _ _ _ _ _ ty x y v w u _ _ _ _ (l .k) h t) (right-set _ _ _ _ _ _ ty x y v w u _ _ _ _ (l .k) h t))
-          (c .has-objects .ensures)
-          (l .inv .0) (l .inv .1),
+          let marks = places-marks _ _ _ _ _ _ ty x y v w u _ _ _ _ (l .k) inside t in
+          let lefts = set-read (left .set-at .ensures) (left-set _ _ _ _ _ _ ty x y v w u _ _ _ _ (l .k) inside t) in
+          let rights = set-read (right .set-at2 .ensures) (right-set _ _ _ _ _ _ ty x y v w u _ _ _ _ (l .k) inside t) in
+          places-more _ _ _ _ _ _ ty x y v w u _ _ _ _ (l .k) inside t _ _ (kept .is-kept .ensures _ _ marks lefts rights) objects (l .inv .0) (l .inv .1),
     )
 
 returns : tie.Need-returns Inv-loop μ-loop
-returns c =
-    λ ty x y v w u.
+returns c = λ ty x y v w u.
     let l = c .before .loop in
     let e = cells-are _ x _ w in
     let f = cells-are _ y _ u in
     places-all _ _ _ _ _ _ ty x y v e f _ _ _ (l .k) (c .loop-test .left) (l .inv .0) (l .inv .1) (l .inv .2 ty x y v e f)
 
 pub agreed-places-spec : {M : Type 1} → statement M
-agreed-places-spec =
-    tie.close
-    (tie.spec
-    Inv-loop
-    μ-loop
-    loop-holds
-    mul-v
-    array-copy-out-v
-    mul-w
-    array-copy-out-w
-    add-is-kept
-    is-kept-requires
-    has-objects-requires
-    element-write-p
-    element-write-p-2
-    add-k
-    loop-less
-    loop-again
-    returns)
+agreed-places-spec = tie.close (tie.spec Inv-loop μ-loop loop-holds set-at-requires set-at-requires-2 add-is-kept is-kept-requires has-objects-requires element-write-p element-write-p-2 add-k loop-less loop-again returns)

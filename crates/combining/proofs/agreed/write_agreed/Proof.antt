@@ -33,8 +33,8 @@ to-version c = c .before .before .before
 abbrev to-presence : tie.After-write-number-arg3 → tie.After-write-number2
 to-presence c = c .before .before .before
 
-abbrev to-differ : tie.After-write-sets-arg → tie.After-write-number3
-to-differ c = c .before .before .before .before
+abbrev to-differ : tie.After-write-sets-arg3 → tie.After-write-number3
+to-differ c = c .before .before .before .before .before .before
 
 abbrev numbers₁ : tie.After-write-number → tie.After-number-of2
 numbers₁ c = to-numbers (c .before)
@@ -131,12 +131,14 @@ write-number-requires-3 c κs = omega (arith, fits (numbers₂ (to-presence c)),
 
 write-sets-requires : tie.Need-write-sets-requires
 write-sets-requires c κs =
-    let numbers = numbers₃ (to-differ c) in
-    record {
-      values = map held (to-start numbers .pre .left .cells);
-      are = asked numbers .left-is .sets;
-      room = omega (arith, fits numbers, differ-written (to-differ c));
-    }
+    let numbers = numbers₃ (to-differ c) in (
+      search needs,
+      record {
+        values = map held (to-start numbers .pre .left .cells);
+        are = asked numbers .left-is .sets;
+        room = omega (arith, fits numbers, differ-written (to-differ c));
+      },
+    )
 
 same-length : tie.Need-same-length
 same-length c = search needs

@@ -1,28 +1,30 @@
-use borrow.Author.Needs.{needs}
-use native.Mathlib.Omega.{arith}
 use mathlib.Core.Path.{_∙_}
 use Prim.Native.Nat.{_-_}
 use Rattle.event.specs.Event.{setAt}
+use Rattle.event.proofs.SetLaws.{set-read}
 use Rattle.combining.proofs.LoneLaws.{no-version, mark-low, marked-set, version-is, version-digits}
+use native.Mathlib.Omega.{arith}
+use borrow.Author.Needs.{needs}
 use Rattle.combining.proofs.check.version_of.Statement.{statement}
 use Rattle.combining.proofs.check.version_of.Tie as tie
-use Rattle.combining.proofs.check.version_of.Reads as reads
-use Rattle.combining.proofs.check.version_of.Lts as lts
-use Rattle.values.proofs.numerals.numeral_of.Reads as numeral-of-reads
-use Rattle.event.proofs.sets.set_part.Reads as set-part-reads
-use Rattle.event.proofs.sets.value_in.Reads as value-in-reads
+
+abbrev to-start : tie.Else1 → tie.Start
+to-start c = c .before .before .before
+
+abbrev to-marked : tie.After-set-at → tie.Else1
+to-marked c = c .before .before .before .before
 
 returns : tie.Need-returns
 returns c = λ h. no-version _ _ _ _ h (c .if1 .taken)
 
-sub-x : tie.Need-sub-x
-sub-x c = mark-low _ _ _ _ (c .before .before .before .pre) (c .if1 .left) .0
+sub-set-at : tie.Need-sub-set-at
+sub-set-at c = mark-low _ _ _ _ (to-start (c .before .before .before) .pre) (c .before .before .before .if1 .left) .0
 
-mul-x : tie.Need-mul-x
-mul-x c = omega (arith, mark-low _ _ _ _ (c .before .before .before .pre) (c .if1 .left) .0, mark-low _ _ _ _ (c .before .before .before .pre) (c .if1 .left) .1)
-
-element-copy-out-x : tie.Need-element-copy-out-x
-element-copy-out-x c = omega (arith, mark-low _ _ _ _ (c .before .before .before .pre) (c .if1 .left) .0, mark-low _ _ _ _ (c .before .before .before .pre) (c .if1 .left) .1)
+set-at-requires : tie.Need-set-at-requires
+set-at-requires c κs =
+    let marked = c .before .before .before in
+    let low = mark-low _ _ _ _ (to-start marked .pre) (marked .if1 .left) in
+    (search needs, omega (arith, low .0, low .1))
 
 set-part-requires : tie.Need-set-part-requires
 set-part-requires c κs = search needs
@@ -32,24 +34,18 @@ value-in-requires c κs = search needs
 
 numeral-of-requires : tie.Need-numeral-of-requires
 numeral-of-requires c κs =
-    let h = c .before .before .before .before .before .before .pre in
-    let n = c .before .before .before .if1 .left in
-    version-digits _ _ _ _ h _ n (c .value-in .ensures (setAt (h .event) (c .before .before .before .before .before .before .args .t .mark - 1)) (c .before .set-part .ensures _ (marked-set _ _ _ _ h n)))
+    let marked = to-marked (c .before .before) in
+    let h = to-start marked .pre in
+    let stands = set-read (c .before .before .set-at .ensures) (marked-set _ _ _ _ h (marked .if1 .left)) in
+    version-digits _ _ _ _ h _ (marked .if1 .left) (c .value-in .ensures (setAt (h .event) (to-start marked .args .t .mark - 1)) (c .before .set-part .ensures _ stands))
 
 returns-2 : tie.Need-returns-2
-returns-2 c =
-    let n = c .before .before .before .before .if1 .left in
-    λ h. c .numeral-of .ensures ∙ version-is _ _ _ _ h _ n (c .before .value-in .ensures (setAt (h .event) (c .before .before .before .before .before .before .before .args .t .mark - 1)) (c .before .before .set-part .ensures _ (marked-set _ _ _ _ h n)))
+returns-2 c = λ h.
+    let value = c .before in
+    let marked = to-marked (value .before .before) in
+    let stands = set-read (value .before .before .set-at .ensures) (marked-set _ _ _ _ h (marked .if1 .left)) in
+    c .numeral-of .ensures
+    ∙ version-is _ _ _ _ h _ (marked .if1 .left) (value .value-in .ensures (setAt (h .event) (to-start marked .args .t .mark - 1)) (value .before .set-part .ensures _ stands))
 
 pub version-of-spec : {M : Type 1} → statement M
-version-of-spec =
-    tie.close
-    (tie.spec
-    returns
-    sub-x
-    mul-x
-    element-copy-out-x
-    set-part-requires
-    value-in-requires
-    numeral-of-requires
-    returns-2)
+version-of-spec = tie.close (tie.spec returns sub-set-at set-at-requires set-part-requires value-in-requires numeral-of-requires returns-2)

@@ -32,8 +32,8 @@ to-version c = c .before .before .before
 abbrev to-presence : tie.After-write-number-arg4 → tie.After-write-number3
 to-presence c = c .before .before .before
 
-abbrev to-differ : tie.After-write-sets-arg → tie.After-write-number4
-to-differ c = c .before .before .before .before
+abbrev to-differ : tie.After-write-sets-arg3 → tie.After-write-number4
+to-differ c = c .before .before .before .before .before .before
 
 abbrev start₁ : tie.After-write-dossier-head → tie.Start
 start₁ c = start₀ (c .before)
@@ -67,7 +67,7 @@ module _ (c : tie.Start) where
   version-end = count-end + length (number (c .args .version .0))
 
   abbrev presence-end : ℕ
-  presence-end = version-end + length (number (c .args .e .presence))
+  presence-end = version-end + length (number (c .args .t2 .presence))
 
   abbrev differ-end : ℕ
   differ-end = presence-end + length (number 0)
@@ -78,7 +78,7 @@ module _ (c : tie.Start) where
 -- ---- the head
 
 parts :
-    (c : tie.After-write-dossier-head-arg) (e : Event) → EventIs (now (start₀ c .args .event)) e (start₀ c .args .e) →
+    (c : tie.After-write-dossier-head-arg) (e : Event) → EventIs (now (start₀ c .args .event)) e (start₀ c .args .t2) →
     let hashes = c .before in let source = hashes .before in let name = source .before in
     HeadParts (now (name .text-part .result)) (now (source .text-part2 .result)) (now (hashes .hashes-part .result)) (e .head)
 parts c e w =
@@ -139,7 +139,7 @@ write-number-requires-4 c κs = omega (arith, fits (start₄ (to-presence c)), p
 write-sets-requires : tie.Need-write-sets-requires
 write-sets-requires c κs =
     let p = start₅ (to-differ c) .pre in
-    record { values = p .event .sets; are = p .read .sets; room = omega (arith, fits (start₅ (to-differ c)), differ-written (to-differ c)) }
+    (search needs, record { values = p .event .sets; are = p .read .sets; room = omega (arith, fits (start₅ (to-differ c)), differ-written (to-differ c)) })
 
 same-length : tie.Need-same-length
 same-length c = search needs

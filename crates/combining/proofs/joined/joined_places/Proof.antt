@@ -1,68 +1,51 @@
-use borrow.Author.Needs.{needs}
-use mathlib.Core.Path.{refl}
+use mathlib.Core.Path.{refl, ap₂, _∙_}
 use Prim.Native.Nat.{_-_}
-use native.Mathlib.Omega.{arith}
-use lib.ListN.{getD}
-use Rattle.event.specs.code.EventIndex.{noSet}
+use Rattle.event.specs.code.EventIndex.{setIn}
 use Rattle.event.proofs.BitLaws.{FilledTo, filled-none, filled-more}
 use Rattle.combining.specs.code.JoinedIndex.{haveObjects}
 use Rattle.combining.proofs.JoinedLaws.{places-all}
+use native.Mathlib.Omega.{arith}
+use borrow.Author.Needs.{needs}
 use Rattle.combining.proofs.joined.joined_places.Statement.{statement}
 use Rattle.combining.proofs.joined.joined_places.Tie as tie
 
 abbrev Inv-loop : tie.InvT-loop
-Inv-loop left right present₀ k₀ present k = FilledTo (λ p. haveObjects (getD left p noSet) (getD right p noSet)) present k
+Inv-loop left right present₀ k₀ present k = FilledTo (λ p. haveObjects (setIn left p) (setIn right p)) present k
 
 abbrev μ-loop : tie.MeasureT-loop
 μ-loop left right present₀ k₀ present k = 32 - k
 
+abbrev to-turn : tie.After-have-objects Inv-loop μ-loop → tie.In-loop Inv-loop μ-loop
+to-turn c = c .before .before .before
+
 loop-holds : tie.Need-loop-holds Inv-loop μ-loop
 loop-holds c = filled-none refl
 
-mul-v : tie.Need-mul-v Inv-loop μ-loop
-mul-v c = search needs
+set-at-requires : tie.Need-set-at-requires Inv-loop μ-loop
+set-at-requires c κs = (c .before .before .before .before .pre .0, c .loop-test .taken)
 
-array-copy-out-v : tie.Need-array-copy-out-v Inv-loop μ-loop
-array-copy-out-v c = search needs
-
-mul-w : tie.Need-mul-w Inv-loop μ-loop
-mul-w c = search needs
-
-array-copy-out-w : tie.Need-array-copy-out-w Inv-loop μ-loop
-array-copy-out-w c = search needs
+set-at-requires-2 : tie.Need-set-at-requires-2 Inv-loop μ-loop
+set-at-requires-2 c κs = (c .before .before .before .before .before .pre .1, c .before .loop-test .taken)
 
 have-objects-requires : tie.Need-have-objects-requires Inv-loop μ-loop
 have-objects-requires c κs = search needs
 
 array-write-present : tie.Need-array-write-present Inv-loop μ-loop
-array-write-present c = omega (arith, c .before .before .before .loop-test .taken, c .before .before .before .before .loop .inv .long)
+array-write-present c = omega (arith, to-turn c .loop-test .taken, to-turn c .before .loop .inv .long)
 
 add-k : tie.Need-add-k Inv-loop μ-loop
 add-k c = search needs
 
 loop-less : tie.Need-loop-less Inv-loop μ-loop
-loop-less c = omega (arith, c .before .before .before .loop-test .taken)
+loop-less c = omega (arith, to-turn c .loop-test .taken)
 
 loop-again : tie.Need-loop-again Inv-loop μ-loop
-loop-again c = filled-more (c .before .before .before .before .loop .inv) (c .before .before .before .loop-test .taken) (c .have-objects .ensures)
+loop-again c =
+    let there = c .have-objects .ensures ∙ ap₂ haveObjects (c .before .before .set-at .ensures) (c .before .set-at2 .ensures) in
+    filled-more (to-turn c .before .loop .inv) (to-turn c .loop-test .taken) there
 
 returns : tie.Need-returns Inv-loop μ-loop
 returns c = places-all (c .before .loop .inv) (c .loop-test .left)
 
 pub joined-places-spec : {M : Type 1} → statement M
-joined-places-spec =
-    tie.close
-    (tie.spec
-    Inv-loop
-    μ-loop
-    loop-holds
-    mul-v
-    array-copy-out-v
-    mul-w
-    array-copy-out-w
-    have-objects-requires
-    array-write-present
-    add-k
-    loop-less
-    loop-again
-    returns)
+joined-places-spec = tie.close (tie.spec Inv-loop μ-loop loop-holds set-at-requires set-at-requires-2 have-objects-requires array-write-present add-k loop-less loop-again returns)

@@ -1,51 +1,105 @@
-use borrow.Author.Needs.{needs}
 use mathlib.Core.Path.{_≡_, ap, _∙_}
 use mathlib.Core.Logic.{⊎-elim}
 use mathlib.Core.Bool.{false}
-use Prim.Native.Nat.{ℕ, _-_}
-use native.Mathlib.Omega.{arith}
+use mathlib.Core.List.{map}
+use Prim.Native.Nat.{ℕ, _+_, _-_}
 use lib.ListN.{length}
-use Rattle.model.specs.Rule.{Snapshot}
+use Rattle.model.specs.Rule.{Snapshot, joinSnapshots}
 use Rattle.packed.specs.Packed.{number}
 use Rattle.packed.specs.code.Written.{ToGo}
 use Rattle.packed.proofs.WriteLaws.{wrote-length, to-go, gone, all-gone}
 use Rattle.ontology.specs.Table.{EventType, isVersioned}
 use Rattle.ontology.specs.code.TypeIndex.{TypeIs}
+use Rattle.event.specs.Event.{typeView}
+use Rattle.event.specs.EventLayout.{bitNumber}
+use Rattle.event.specs.code.EventIndex.{bitOf}
+use Rattle.dossier.specs.DossierBody.{snapshotBytes}
 use Rattle.combining.specs.code.CombineIndex.{Meet}
-use Rattle.combining.proofs.JoinedLaws.{to-go-same, joins, setsFrom, sets-step, sets-end, joined-place, joined-length, sets-room, joined-wrote, place-next, place-past}
+use Rattle.combining.proofs.JoinedLaws.{Joins, to-go-same, joins, setsFrom, sets-step, sets-end, joined-place, joined-length, sets-room, joined-wrote, place-next, place-past}
+use native.Mathlib.Omega.{arith}
+use borrow.Author.Needs.{needs}
 use Rattle.combining.proofs.joined.write_joined.Statement.{statement}
 use Rattle.combining.proofs.joined.write_joined.Tie as tie
 
 abbrev Inv-loop : tie.InvT-loop
-Inv-loop table a b t out₀ at left right present second third next₀ k₀ out next k =
-    (ty : EventType) (x y : Snapshot) → TypeIs table ty t → isVersioned ty ≡ false → Meet a b ty x y → ToGo out₀ next₀ (setsFrom ty x y 0) out next (setsFrom ty x y k)
+Inv-loop table a b t out₀ at x y present after-version after-presence next₀ k₀ out next k =
+    (ty : EventType) (left right : Snapshot) → TypeIs table ty t → isVersioned ty ≡ false → Meet a b ty left right →
+    ToGo out₀ next₀ (setsFrom ty left right 0) out next (setsFrom ty left right k)
 
 abbrev μ-loop : tie.MeasureT-loop
-μ-loop table a b t out₀ at left right present second third next₀ k₀ out next k = 32 - k
+μ-loop table a b t out₀ at x y present after-version after-presence next₀ k₀ out next k = 32 - k
+
+-- ---- the places
+
+abbrev start : tie.After-joined-places Inv-loop μ-loop → tie.Start Inv-loop μ-loop
+start c = c .before .before .before .before .before .before .before .before .before .before .before
+
+abbrev to-places : tie.After-write-number Inv-loop μ-loop → tie.After-joined-places Inv-loop μ-loop
+to-places c = c .before .before
+
+abbrev to-version : tie.After-number-of Inv-loop μ-loop → tie.After-write-number Inv-loop μ-loop
+to-version c = c .before .before .before .before
+
+abbrev to-differ : tie.At-loop Inv-loop μ-loop → tie.After-write-number3 Inv-loop μ-loop
+to-differ c = c .before .before .before
+
+abbrev presence : tie.At-loop Inv-loop μ-loop → tie.After-write-number2 Inv-loop μ-loop
+presence c = to-differ c .before .before .before .before
+
+abbrev version : tie.At-loop Inv-loop μ-loop → tie.After-write-number Inv-loop μ-loop
+version c = to-version (presence c .before)
+
+abbrev places : tie.At-loop Inv-loop μ-loop → tie.After-joined-places Inv-loop μ-loop
+places c = to-places (version c)
+
+abbrev to-left : tie.After-set-at2 Inv-loop μ-loop → tie.After-set-at Inv-loop μ-loop
+to-left c = c .before .before .before .before
+
+abbrev to-turn : tie.After-set-at Inv-loop μ-loop → tie.Then1 Inv-loop μ-loop
+to-turn c = c .before .before .before .before
+
+-- ---- the facts
+
+abbrev asked : (c : tie.Start Inv-loop μ-loop) → let a = c .args in let q = c .pre in Joins (a .table .now) (a .a .now) (a .b .now) (a .t) (a .t3) (a .t5) (q .type) (q .left) (q .right)
+asked c = let q = c .pre in joins (q .left-is) (q .right-is) (q .typed) (q .unversioned) (q .meet)
+
+abbrev numbers : (c : tie.At-loop Inv-loop μ-loop) → let s = start (places c) in let a = s .args in let q = s .pre in
+    Joins (a .table .now) (a .a .now) (a .b .now) (a .t) (a .t3) (a .t5) (q .type) (q .left) (q .right)
+numbers c = asked (start (places c))
+
+-- how long the snapshot is, by the numbers before its sets
+size :
+    (c : tie.After-joined-places Inv-loop μ-loop) → let q = start c .pre in
+    length (snapshotBytes (joinSnapshots (typeView (q .type)) (q .left) (q .right)))
+    ≡ length (number 0) + length (number (bitNumber (map bitOf (c .joined-places .result)))) + length (number 0) + length (setsFrom (q .type) (q .left) (q .right) 0)
+size c = joined-length (asked (start c)) _ (c .joined-places .ensures)
+
+-- ---- the needs
 
 joined-places-requires : tie.Need-joined-places-requires Inv-loop μ-loop
 joined-places-requires c κs = search needs
 
 write-number-requires : tie.Need-write-number-requires Inv-loop μ-loop
-write-number-requires c κs =
-    let q = c .before .before .before .before .before .before .before .before .pre in
-    omega (arith, q .room, joined-length (joins (q .left-is) (q .right-is) (q .typed) (q .unversioned) (q .meet)) _ (c .before .joined-places .ensures))
+write-number-requires c κs = omega (arith, start (c .before) .pre .room, size (c .before))
 
 number-of-requires : tie.Need-number-of-requires Inv-loop μ-loop
 number-of-requires c κs = search needs
 
 write-number-requires-2 : tie.Need-write-number-requires-2 Inv-loop μ-loop
 write-number-requires-2 c κs =
-    let q = c .before .before .before .before .before .before .before .before .before .before .before .before .before .pre in
-    let w = c .before .before .before .before .write-number .ensures in
-    omega (arith, q .room, joined-length (joins (q .left-is) (q .right-is) (q .typed) (q .unversioned) (q .meet)) _ (c .before .before .before .before .before .before .joined-places .ensures), ap (λ (n : ℕ). length (number n)) (c .number-of .ensures), w .after, wrote-length w)
+    let version = to-version c in
+    let places = to-places version in
+    let w = version .write-number .ensures in
+    omega (arith, start places .pre .room, size places, ap (λ (n : ℕ). length (number n)) (c .number-of .ensures), w .after, wrote-length w)
 
 write-number-requires-3 : tie.Need-write-number-requires-3 Inv-loop μ-loop
 write-number-requires-3 c κs =
-    let q = c .before .before .before .before .before .before .before .before .before .before .before .before .before .before .before .before .before .pre in
-    let w = c .before .before .before .before .before .before .before .before .write-number .ensures in
-    let v = c .before .before .before .write-number2 .ensures in
-    omega (arith, q .room, joined-length (joins (q .left-is) (q .right-is) (q .typed) (q .unversioned) (q .meet)) _ (c .before .before .before .before .before .before .before .before .before .before .joined-places .ensures), ap (λ (n : ℕ). length (number n)) (c .before .before .before .before .number-of .ensures), w .after, wrote-length w, v .after, wrote-length v)
+    let presence = c .before .before .before in
+    let version = to-version (presence .before) in
+    let places = to-places version in
+    let w = version .write-number .ensures in
+    let v = presence .write-number2 .ensures in
+    omega (arith, start places .pre .room, size places, ap (λ (n : ℕ). length (number n)) (presence .before .number-of .ensures), w .after, wrote-length w, v .after, wrote-length v)
 
 loop-holds : tie.Need-loop-holds Inv-loop μ-loop
 loop-holds c = λ ty x y w u m. to-go
@@ -53,25 +107,24 @@ loop-holds c = λ ty x y w u m. to-go
 array-read-if1 : tie.Need-array-read-if1 Inv-loop μ-loop
 array-read-if1 c = search needs
 
-mul-v : tie.Need-mul-v Inv-loop μ-loop
-mul-v c = search needs
+set-at-requires : tie.Need-set-at-requires Inv-loop μ-loop
+set-at-requires c κs = (search needs, c .before .before .before .before .loop-test .taken)
 
-array-copy-out-v : tie.Need-array-copy-out-v Inv-loop μ-loop
-array-copy-out-v c = search needs
-
-mul-w : tie.Need-mul-w Inv-loop μ-loop
-mul-w c = search needs
-
-array-copy-out-w : tie.Need-array-copy-out-w Inv-loop μ-loop
-array-copy-out-w c = search needs
+set-at-requires-2 : tie.Need-set-at-requires-2 Inv-loop μ-loop
+set-at-requires-2 c κs = (search needs, to-turn (c .before .before .before) .before .loop-test .taken)
 
 write-place-requires : tie.Need-write-place-requires Inv-loop μ-loop
 write-place-requires c κs =
-    let q = c .before .before .before .before .before .before .before .before .before .before .before .before .before .before .before .before .before .before .before .before .before .before .before .before .before .before .pre in
-    let h = joins (q .left-is) (q .right-is) (q .typed) (q .unversioned) (q .meet) in
-    let p = c .before .before .before .before .before .before .before .before .before .before .before .before .before .before .before .before .before .before .before .joined-places .ensures in
-    place-next h _ p _ (c .before .before .before .before .loop-test .taken) (c .before .before .before .if1 .taken) (c .before .before .before .before .before .loop .inv (q .type) (q .left) (q .right) (q .typed) (q .unversioned) (q .meet))
-    (sets-room h _ (c .before .before .before .before .before .before .before .before .before .before .before .before .before .before .before .before .before .before .before .joined-places .ensures) _ (c .before .before .before .before .before .before .before .before .before .before .before .before .before .number-of .ensures) (c .before .before .before .before .before .before .before .before .before .before .before .before .before .before .before .before .before .write-number .ensures) (c .before .before .before .before .before .before .before .before .before .before .before .before .write-number2 .ensures) (c .before .before .before .before .before .before .before .before .write-number3 .ensures) (q .room))
+    let right = c .before in
+    let left = to-left right in
+    let turn = to-turn left in
+    let at-loop = turn .before .before in
+    let q = start (places at-loop) .pre in
+    let n = numbers at-loop in
+    let room = sets-room n _ (places at-loop .joined-places .ensures) _ (presence at-loop .before .number-of .ensures) (version at-loop .write-number .ensures)
+    (presence at-loop .write-number2 .ensures) (to-differ at-loop .write-number3 .ensures) (q .room) in
+    place-next n _ (places at-loop .joined-places .ensures) (at-loop .loop .k) (left .set-at .ensures) (right .set-at2 .ensures) (turn .before .loop-test .taken) (turn .if1 .taken)
+    (at-loop .loop .inv (q .type) (q .left) (q .right) (q .typed) (q .unversioned) (q .meet)) room
 
 add-k : tie.Need-add-k Inv-loop μ-loop
 add-k c = search needs
@@ -80,50 +133,34 @@ loop-less : tie.Need-loop-less Inv-loop μ-loop
 loop-less c = omega (arith, c .before .loop-test .taken)
 
 loop-again : tie.Need-loop-again Inv-loop μ-loop
-loop-again c =
-    λ ty x y w u m.
-    let q = c .before .before .before .before .before .before .before .before .before .before .before .before .before .before .before .before .before .before .before .before .before .before .before .pre in
-    let h = joins (q .left-is) (q .right-is) w u m in
-    let g = c .before .before .loop .inv ty x y w u m in
-    let k = c .before .loop-test .taken in
+loop-again c = λ ty x y w u m.
+    let turn = c .before in
+    let at-loop = turn .before in
+    let q = start (places at-loop) .pre in
+    let n = joins (q .left-is) (q .right-is) w u m in
+    let k = at-loop .loop .k in
+    let inside = turn .loop-test .taken in
+    let g = at-loop .loop .inv ty x y w u m in
     ⊎-elim
-    (λ d. to-go-same (gone _ _ g (sets-step ty x y _ k) (d .4 .ensures (joined-place h _ k))) (d .7) (d .8))
-    (λ d. to-go-same (place-past h _ (c .before .before .before .before .before .before .before .before .before .before .before .before .before .before .before .before .joined-places .ensures) _ k (d .0 .left) g) (d .1) (d .2))
+    (λ d. to-go-same (gone _ _ g (sets-step ty x y k inside) (d .10 .ensures (joined-place n k (d .4 .ensures) (d .8 .ensures) inside))) (d .13) (d .14))
+    (λ d. to-go-same (place-past n _ (places at-loop .joined-places .ensures) k inside (d .0 .left) g) (d .1) (d .2))
     (c .if1 .came)
 
 same-length : tie.Need-same-length Inv-loop μ-loop
 same-length c =
-    let q = c .before .before .before .before .before .before .before .before .before .before .before .before .before .before .before .before .before .before .before .before .before .before .pre in
-    c .before .loop .inv (q .type) (q .left) (q .right) (q .typed) (q .unversioned) (q .meet) .long
-    ∙ wrote-length (c .before .before .before .before .write-number3 .ensures) ∙ wrote-length (c .before .before .before .before .before .before .before .before .write-number2 .ensures) ∙ wrote-length (c .before .before .before .before .before .before .before .before .before .before .before .before .before .write-number .ensures)
+    let at-loop = c .before in
+    let q = start (places at-loop) .pre in
+    at-loop .loop .inv (q .type) (q .left) (q .right) (q .typed) (q .unversioned) (q .meet) .long
+    ∙ wrote-length (to-differ at-loop .write-number3 .ensures) ∙ wrote-length (presence at-loop .write-number2 .ensures)
+    ∙ wrote-length (version at-loop .write-number .ensures)
 
 returns : tie.Need-returns Inv-loop μ-loop
-returns c =
-    λ ty x y w u m.
-    let q = c .before .before .before .before .before .before .before .before .before .before .before .before .before .before .before .before .before .before .before .before .before .before .pre in
-    joined-wrote (joins (q .left-is) (q .right-is) w u m) _ (c .before .before .before .before .before .before .before .before .before .before .before .before .before .before .before .joined-places .ensures) _ (c .before .before .before .before .before .before .before .before .before .number-of .ensures) (c .before .before .before .before .before .before .before .before .before .before .before .before .before .write-number .ensures) (c .before .before .before .before .before .before .before .before .write-number2 .ensures) (c .before .before .before .before .write-number3 .ensures)
-    (all-gone (c .before .loop .inv ty x y w u m) (sets-end ty x y _ (c .loop-test .left)))
+returns c = λ ty x y w u m.
+    let at-loop = c .before in
+    let q = start (places at-loop) .pre in
+    joined-wrote (joins (q .left-is) (q .right-is) w u m) _ (places at-loop .joined-places .ensures) _ (presence at-loop .before .number-of .ensures)
+    (version at-loop .write-number .ensures) (presence at-loop .write-number2 .ensures) (to-differ at-loop .write-number3 .ensures)
+    (all-gone (at-loop .loop .inv ty x y w u m) (sets-end ty x y _ (c .loop-test .left)))
 
 pub write-joined-spec : {M : Type 1} → statement M
-write-joined-spec =
-    tie.close
-    (tie.spec
-    Inv-loop
-    μ-loop
-    joined-places-requires
-    write-number-requires
-    number-of-requires
-    write-number-requires-2
-    write-number-requires-3
-    loop-holds
-    array-read-if1
-    mul-v
-    array-copy-out-v
-    mul-w
-    array-copy-out-w
-    write-place-requires
-    add-k
-    loop-less
-    loop-again
-    same-length
-    returns)
+write-joined-spec = tie.close (tie.spec Inv-loop μ-loop joined-places-requires write-number-requires number-of-requires write-number-requires-2 write-number-requires-3 loop-holds array-read-if1 set-at-requires set-at-requires-2 write-place-requires add-k loop-less loop-again same-length returns)

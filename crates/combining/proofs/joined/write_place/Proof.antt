@@ -22,7 +22,7 @@ to-start c = c .before .before .before .before
 
 -- a place of strategy min or max
 abbrev to-number : tie.After-chosen → tie.After-write-number
-to-number c = c .before .before .before .before
+to-number c = c .before .before .before .before .before .before .before
 
 abbrev number-to-if : tie.After-write-number → tie.Then1
 number-to-if c = c .before .before
@@ -91,7 +91,7 @@ module _ (c : tie.After-chosen) where
   taken = number-to-if (to-number c)
 
   value : (h : Place (s taken)) → text (now (c .chosen .result)) ≡ flatten (map text (set (s taken) h))
-  value h = chosen-text _ _ _ _ _ _ (wanted (s taken) .some) h (extreme taken h) _ _ (c .chosen .ensures)
+  value h = chosen-text _ _ _ _ _ _ (wanted (s taken) .some) h (extreme taken h) (c .before .property-at .ensures) _ (c .chosen .ensures)
 
 -- elsewhere all values of both
 module _ (c : tie.After-set-part2) where
@@ -110,11 +110,8 @@ is-extreme-at-requires c κs = search needs
 write-number-requires : tie.Need-write-number-requires
 write-number-requires c κs = omega (arith, room (c .before))
 
-mul-p : tie.Need-mul-p
-mul-p c = omega (arith, low (c .before .before))
-
-element-copy-out-p : tie.Need-element-copy-out-p
-element-copy-out-p c = low (c .before .before)
+property-at-requires : tie.Need-property-at-requires
+property-at-requires c κs = (search needs, low (c .before .before .before .before .before))
 
 chosen-requires : tie.Need-chosen-requires
 chosen-requires c κs = search needs
@@ -171,8 +168,7 @@ write-place-spec =
     (tie.spec
     is-extreme-at-requires
     write-number-requires
-    mul-p
-    element-copy-out-p
+    property-at-requires
     chosen-requires
     write-text-requires
     same-length

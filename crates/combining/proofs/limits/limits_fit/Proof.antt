@@ -126,7 +126,7 @@ objects-fit-requires : tie.Need-objects-fit-requires
 objects-fit-requires c κs =
     let o = to-objects (c .before .before) in
     let v = to-versions (o .before) .before in
-    to-start (to-parents v .before) .pre .known .typed .few
+    to-start (to-parents v .before) .pre .known .typed .are .few
 
 returns-4 : tie.Need-returns-4
 returns-4 c = λ h.

@@ -1,3 +1,4 @@
+use Rattle.event.proofs.SetLaws.{set-read}
 use borrow.Author.Needs.{needs}
 use borrow.Author.Tests.{leb-true}
 use native.Mathlib.Omega.{arith}
@@ -22,34 +23,37 @@ use Rattle.combining.proofs.limits.objects_fit.Statement.{statement}
 use Rattle.combining.proofs.limits.objects_fit.Tie as tie
 
 abbrev Inv-loop : tie.InvT-loop
-Inv-loop a b t left right room₀ k₀ room k =
+Inv-loop a b t v w room₀ k₀ room k =
     (u : List ℕ) (ty : EventType) (x y : Snapshot) → TypeIs u ty t → isVersioned ty ≡ false → Meet a b ty x y →
-    SetsAre a (map held (x .cells)) left → SetsAre b (map held (y .cells)) right →
+    SetsAre a (map held (x .cells)) (v .sets) → SetsAre b (map held (y .cells)) (w .sets) →
     leb (sizes (joinSnapshots (typeView ty) x y .cells)) 256 ≡ leb (sizes (drop k (joinSnapshots (typeView ty) x y .cells))) room
 
 abbrev μ-loop : tie.MeasureT-loop
-μ-loop a b t left right room₀ k₀ room k = 32 - k
+μ-loop a b t v w room₀ k₀ room k = 32 - k
 
 -- ---- the places
 
 abbrev to-if1 : tie.Then2 Inv-loop μ-loop → tie.Then1 Inv-loop μ-loop
-to-if1 c = c .before .before .before
+to-if1 c = c .before
 
 abbrev if1-to-start : tie.Then1 Inv-loop μ-loop → tie.Start Inv-loop μ-loop
-if1-to-start c = c .before .before .before .before
+if1-to-start c = c .before .before .before
 
 abbrev to-start : tie.At-loop Inv-loop μ-loop → tie.Start Inv-loop μ-loop
-to-start c = c .before .before .before .before .before .before .before
+to-start c = c .before .before .before .before
+
+abbrev to-left : tie.After-count-place Inv-loop μ-loop → tie.After-set-at Inv-loop μ-loop
+to-left c = c .before .before .before .before .before
 
 abbrev to-turn : tie.After-count-place Inv-loop μ-loop → tie.In-loop Inv-loop μ-loop
-to-turn c = c .before .before .before
+to-turn c = to-left c .before .before .before .before
 
 -- ---- the facts
 
-few : (c : tie.Then2 Inv-loop μ-loop) → let a = if1-to-start (to-if1 c) .args in a .x .objects + a .y .objects ≤ 256
+few : (c : tie.Then2 Inv-loop μ-loop) → let a = if1-to-start (to-if1 c) .args in a .t2 .objects + a .t4 .objects ≤ 256
 few c =
     let a = if1-to-start (to-if1 c) .args in
-    omega (arith, to-if1 c .if1 .taken, leb-true (a .y .objects) (256 - a .x .objects) (c .if2 .taken))
+    omega (arith, to-if1 c .if1 .taken, leb-true (a .t4 .objects) (256 - a .t2 .objects) (c .if2 .taken))
 
 -- what is counted at a place, for the snapshots that are there
 module _ (c : tie.After-count-place Inv-loop μ-loop) (u : List ℕ) (ty : EventType) (x y : Snapshot) where
@@ -62,11 +66,11 @@ module _ (c : tie.After-count-place Inv-loop μ-loop) (u : List ℕ) (ty : Event
   abbrev b : List ℕ
   b = now (start .args .b)
 
-  abbrev left : List SetAt
-  left = start .args .x .sets
+  abbrev left : List ℕ
+  left = start .args .t2 .sets
 
-  abbrev right : List SetAt
-  right = start .args .y .sets
+  abbrev right : List ℕ
+  right = start .args .t4 .sets
 
   abbrev k : ℕ
   k = to-turn c .before .loop .k
@@ -85,10 +89,13 @@ module _ (c : tie.After-count-place Inv-loop μ-loop) (u : List ℕ) (ty : Event
       let h = to-turn c .loop-test .taken in
       let p = left-cell a b ty x y un m k h in
       let q = right-cell a b ty x y un m k h in
-      c .count-place .ensures u ty lefts rights w (left-set a b ty x y un m k h left v) (right-set a b ty x y un m k h right z)
+      c .count-place .ensures u ty lefts rights w (set-read (to-left c .set-at .ensures) (left-set a b ty x y un m k h left v)) (set-read (c .before .set-at2 .ensures) (right-set a b ty x y un m k h right z))
       (p .rises) (q .rises) (λ e. (p .lone e, q .lone e))
 
 -- ---- the needs
+
+sub-if2 : tie.Need-sub-if2 Inv-loop μ-loop
+sub-if2 c = search needs
 
 returns : tie.Need-returns Inv-loop μ-loop
 returns c = λ u ty x y w un m v z. objects-few (typeView ty) x y _ _ (v .objects) (z .objects) (few c)
@@ -96,17 +103,11 @@ returns c = λ u ty x y w un m v z. objects-few (typeView ty) x y _ _ (v .object
 loop-holds : tie.Need-loop-holds Inv-loop μ-loop
 loop-holds c = λ u ty x y w un m v z. refl
 
-mul-v : tie.Need-mul-v Inv-loop μ-loop
-mul-v c = search needs
+set-at-requires : tie.Need-set-at-requires Inv-loop μ-loop
+set-at-requires c κs = (search needs, c .before .before .before .loop-test .taken)
 
-array-copy-out-v : tie.Need-array-copy-out-v Inv-loop μ-loop
-array-copy-out-v c = search needs
-
-mul-w : tie.Need-mul-w Inv-loop μ-loop
-mul-w c = search needs
-
-array-copy-out-w : tie.Need-array-copy-out-w Inv-loop μ-loop
-array-copy-out-w c = search needs
+set-at-requires-2 : tie.Need-set-at-requires-2 Inv-loop μ-loop
+set-at-requires-2 c κs = (search needs, c .before .before .before .before .before .before .before .loop-test .taken)
 
 count-place-requires : tie.Need-count-place-requires Inv-loop μ-loop
 count-place-requires c κs = search needs
@@ -142,12 +143,11 @@ objects-fit-spec =
     (tie.spec
     Inv-loop
     μ-loop
+    sub-if2
     returns
     loop-holds
-    mul-v
-    array-copy-out-v
-    mul-w
-    array-copy-out-w
+    set-at-requires
+    set-at-requires-2
     count-place-requires
     returns-2
     add-k

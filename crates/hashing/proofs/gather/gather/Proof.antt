@@ -1,8 +1,9 @@
-use native.Mathlib.Omega.{arith}
-use Prim.Native.Nat.{_-_}
+use Prim.Native.Nat.{_-_, _≤_}
+use lib.ListN.{length}
 use Rattle.packed.specs.code.Strings.{StringsFit}
 use Rattle.hashing.specs.code.HashIndex.{Hashable}
 use Rattle.hashing.proofs.GatherLaws.{SoFar, fit-none, so-far-none, so-far-more, so-far-all, place-ready}
+use native.Mathlib.Omega.{arith}
 use borrow.Author.Needs.{needs}
 use Rattle.hashing.proofs.gather.gather.Statement.{statement}
 use Rattle.hashing.proofs.gather.gather.Tie as tie
@@ -15,60 +16,63 @@ Inv-loop table event t e r₀ place₀ r place =
 abbrev μ-loop : tie.MeasureT-loop
 μ-loop table event t e r₀ place₀ r place = t .count - place
 
+-- ---- the places
+
+abbrev to-start : tie.At-loop Inv-loop μ-loop → tie.Start Inv-loop μ-loop
+to-start c = c .before .before .before .before
+
+abbrev to-turn : tie.After-property-at Inv-loop μ-loop → tie.In-loop Inv-loop μ-loop
+to-turn c = c .before .before .before .before
+
+-- ---- the needs
+
 no-strings-requires : tie.Need-no-strings-requires Inv-loop μ-loop
 no-strings-requires c κs = search needs
 
 loop-holds : tie.Need-loop-holds Inv-loop μ-loop
 loop-holds c = (fit-none _ _ _ (c .no-strings .ensures), λ h. so-far-none _ _ _ _ _ (c .no-strings .ensures .0))
 
-mul-p : tie.Need-mul-p Inv-loop μ-loop
-mul-p c = search needs
+property-at-requires : tie.Need-property-at-requires Inv-loop μ-loop
+property-at-requires c κs = (search needs, omega (arith, to-start (c .before .before .before .before) .pre .typed .are .few))
 
-element-copy-out-p : tie.Need-element-copy-out-p Inv-loop μ-loop
-element-copy-out-p c = search needs
-
-mul-set : tie.Need-mul-set Inv-loop μ-loop
-mul-set c = search needs
-
-element-copy-out-set : tie.Need-element-copy-out-set Inv-loop μ-loop
-element-copy-out-set c = search needs
+set-at-requires : tie.Need-set-at-requires Inv-loop μ-loop
+set-at-requires c κs = (search needs, omega (arith, to-start (to-turn (c .before .before .before) .before) .pre .typed .are .few))
 
 gather-place-requires : tie.Need-gather-place-requires Inv-loop μ-loop
 gather-place-requires c κs =
-    let l = c .before .before .before in
-    let p = c .before .before .before .before .before .before .before in
-    place-ready _ _ _ _ (p .pre) _ _ (c .before .before .loop-test .taken) (l .loop .inv .1 (p .pre)) _ (l .loop .inv .0)
+    let taken = c .before .before .before .before in
+    let turn = to-turn taken in
+    let l = turn .before .loop in
+    let hashable = to-start (turn .before) .pre in
+    place-ready _ _ _ _ hashable _ (l .place) (turn .loop-test .taken) (l .inv .1 hashable) (taken .property-at .ensures) (c .set-at .ensures) (l .inv .0)
 
 add-place : tie.Need-add-place Inv-loop μ-loop
-add-place c = search needs
+add-place c =
+    let turn = to-turn (c .before .before .before .before .before) in
+    omega (arith, turn .loop-test .taken, to-start (turn .before) .pre .typed .are .few)
 
 loop-less : tie.Need-loop-less Inv-loop μ-loop
 loop-less c = search needs
 
 loop-again : tie.Need-loop-again Inv-loop μ-loop
 loop-again c =
-    let l = c .before .before .before .before in
-    (c .gather-place .ensures .0, λ h. so-far-more _ _ _ _ h _ _ (c .before .before .before .loop-test .taken) (l .loop .inv .1 h) _ _ (c .gather-place .ensures .1))
+    let set = c .before in
+    let taken = set .before .before .before .before in
+    let turn = to-turn taken in
+    let l = turn .before .loop in (
+      c .gather-place .ensures .0,
+      λ h.
+          so-far-more _ _ _ _ h _ (l .place) (turn .loop-test .taken) (l .inv .1 h) (taken .property-at .ensures) (set .set-at .ensures) _ (c .gather-place .ensures .1),
+    )
 
 returns : tie.Need-returns Inv-loop μ-loop
 returns c =
-    let l = c .before in
-    (l .loop .inv .0, λ h. so-far-all _ _ _ _ _ _ (omega (arith, h .typed .count, c .loop-test .left)) (l .loop .inv .1 h))
+    let l = c .before .loop in (
+      l .inv .0,
+      λ h.
+          let past : length (h .type .properties) ≤ l .place = omega (arith, h .typed .are .count, c .loop-test .left) in
+          so-far-all _ _ _ _ _ (l .place) past (l .inv .1 h),
+    )
 
 pub gather-spec : {M : Type 1} → statement M
-gather-spec =
-    tie.close
-    (tie.spec
-    Inv-loop
-    μ-loop
-    no-strings-requires
-    loop-holds
-    mul-p
-    element-copy-out-p
-    mul-set
-    element-copy-out-set
-    gather-place-requires
-    add-place
-    loop-less
-    loop-again
-    returns)
+gather-spec = tie.close (tie.spec Inv-loop μ-loop no-strings-requires loop-holds property-at-requires set-at-requires gather-place-requires add-place loop-less loop-again returns)
