@@ -1,28 +1,27 @@
--- What the questions of a dossier say of its snapshots: each cell of min or max has at most one value, in its space; so its sets can be merged.
+-- What the questions of a dossier say of its snapshots: a cell without a property is empty, and each cell of min or max has at most one value, in its
+-- space; so its sets can be merged.
 use mathlib.Core.Path.{_≡_, refl, sym, ap, _∙_, subst}
 use mathlib.Core.Bool.{Bool, true, false, cond, not, _&&_, _||_}
-use mathlib.Core.Option.{some}
+use mathlib.Core.Option.{none, some}
 use mathlib.Core.List.{List, [], _∷_, map, flatten}
 use Prim.Native.Nat.{ℕ, zero, suc, _≤_, _<_}
 use native.Mathlib.Omega.{arith}
-use lib.Dec.{leb}
-use lib.ListN.{length, getD, getElem?, length-append}
-use borrow.Author.Tests.{leb-true}
-use Rattle.model.specs.Rule.{Cell, holds, Snapshot, objects}
+use lib.Dec.{leb, eqb}
+use lib.ListN.{length, getD, getElem?}
+use borrow.Author.Tests.{leb-true, eqb-true}
+use Rattle.model.specs.Rule.{Cell, holds, Snapshot}
 use Rattle.model.specs.Opening.{held, isMark, cellAt, column}
 use Rattle.model.proofs.Cases.{never, and-parts, or-part, where-so}
-use Rattle.model.proofs.SizeLaws.{size-at, held-size}
 use Rattle.ontology.specs.Table.{Property, isMin, isMax, isVersioned}
 use Rattle.ontology.specs.declared.types.TypeIndex.{TypeIndex}
 use Rattle.ontology.proofs.TableLaws.{extreme-single, extreme-ordered}
 use Rattle.event.specs.EventQuestions.{areInSpace, valuesFit}
-use Rattle.event.specs.declared.sets.SetAt.{SetAt}
-use Rattle.event.proofs.EventQuestionLaws.{each-place-at}
+use Rattle.event.proofs.EventQuestionLaws.{each-place-at, no-value}
 use Rattle.dossier.specs.DossierQuestions.{eachCell, isVacant, isPresent, isLone, isLoneIfSingle, isLoneIfExtreme, isUnmarkedMatch, snapshotValues}
 use Rattle.dossier.specs.code.DossierIndex.{noSnapshot, cellFits, snapshotFits, versionFits}
 use Rattle.dossier.specs.declared.dossiers.DossierIndex.{DossierIndex}
 use Rattle.dossier.proofs.CellLaws.{held-at}
-use Rattle.dossier.proofs.AcceptedLaws.{DossierTaken, dossier-taken, taken-kept, taken-fits, taken-values, taken-objects}
+use Rattle.dossier.proofs.AcceptedLaws.{DossierTaken, dossier-taken, taken-kept, taken-fits, taken-values}
 use Rattle.dossier.specs.DossierLayout.{modelOf}
 use Rattle.opening.specs.code.OpenIndex.{CellsStand, Lone, Mergeable, Openable}
 use Rattle.opening.proofs.StandLaws.{column-at}
@@ -37,10 +36,26 @@ cell-at f g (x ∷ ps) [] h (suc p) q e = cell-at f g ps [] (and-parts (f x (hol
 cell-at f g (x ∷ ps) (c ∷ cs) h zero q e = let k : x ≡ q = cc in rw (← k) (and-parts (f x c) (eachCell f g ps cs) h .0)
 cell-at f g (x ∷ ps) (c ∷ cs) h (suc p) q e = cell-at f g ps cs (and-parts (f x c) (eachCell f g ps cs) h .1) p q e
 
-column-size : (ss : List Snapshot) (p : ℕ) → length (flatten (column ss p)) ≤ objects ss
-unfolding column flatten objects cellAt
-column-size [] p = omega arith
-column-size (s ∷ ss) p = simp length-append (omega (arith, held-size (getD (s .cells) p (holds [])), size-at (s .cells) p, column-size ss p))
+-- a cell where there is no property
+vacant-at :
+    (f : Property → Cell → Bool) (g : Cell → Bool) (ps : List Property) (cs : List Cell) → eachCell f g ps cs ≡ true → g (holds []) ≡ true →
+    (p : ℕ) → getElem? ps p ≡ none → g (getD cs p (holds [])) ≡ true
+unfolding eachCell
+vacant-at f g [] [] h n p e = n
+vacant-at f g [] (c ∷ cs) h n zero e = and-parts (g c) (eachCell f g [] cs) h .0
+vacant-at f g [] (c ∷ cs) h n (suc p) e = vacant-at f g [] cs (and-parts (g c) (eachCell f g [] cs) h .1) n p e
+vacant-at f g (x ∷ ps) cs h n zero e = never (cc)
+vacant-at f g (x ∷ ps) [] h n (suc p) e = n
+vacant-at f g (x ∷ ps) (c ∷ cs) h n (suc p) e = vacant-at f g ps cs (and-parts (f x c) (eachCell f g ps cs) h .1) n p e
+
+vacant-held : (c : Cell) → isVacant c ≡ true → held c ≡ []
+unfolding isVacant
+vacant-held c h = no-value (held c) (eqb-true (length (held c)) 0 (and-parts (not (isMark c)) (eqb (length (held c)) 0) h .1))
+
+column-none : (ss : List Snapshot) (p : ℕ) → ((j : ℕ) → j < length ss → held (cellAt (getD ss j noSnapshot) p) ≡ []) → flatten (column ss p) ≡ []
+unfolding column flatten
+column-none [] p h = refl
+column-none (s ∷ ss) p h = rw (h 0 (omega arith)) (column-none ss p (λ j l. h (suc j) (omega arith)))
 
 -- ---- min and max
 
@@ -70,6 +85,12 @@ module _ (s : List ℕ) (d : DossierIndex) (t : TypeIndex) (o : Openable s d t) 
       let each = eachCell (cellFits (isVersioned t)) isVacant (t .properties) (z .cells) in
       and-parts each _ (and-parts (each && _) (versionFits t z) (taken-fits taken j l) .0) .0
 
+  vacant-there : (p : ℕ) → getElem? (o .type .properties) p ≡ none → (j : ℕ) → j < length snapshots → held (cellAt (getD snapshots j noSnapshot) p) ≡ []
+  unfolding cellAt isVacant isMark held
+  vacant-there p e j l =
+      vacant-held (getD (getD snapshots j noSnapshot .cells) p (holds []))
+      (vacant-at (cellFits (isVersioned (o .type))) isVacant (o .type .properties) (getD snapshots j noSnapshot .cells) (fits-at j l) refl p e)
+
   module _ (p : ℕ) (q : Property) (e : getElem? (o .type .properties) p ≡ some q) (x : (isMin q || isMax q) ≡ true) (j : ℕ) (l : j < length snapshots) where
     one-there : length (held (cellAt (getD snapshots j noSnapshot) p)) ≤ 1
     unfolding cellAt
@@ -87,11 +108,11 @@ module _ (s : List ℕ) (d : DossierIndex) (t : TypeIndex) (o : Openable s d t) 
     lone-there : Lone (q .kind) (getD (column snapshots p) j [])
     lone-there = subst (Lone (q .kind)) (sym (column-at snapshots p j)) (record { one = one-there; in-space = space-there })
 
-  pub mergeable : (cells : List SetAt) → CellsStand s snapshots cells → Mergeable s cells (d .count) (o .type) (modelOf (o .headed))
+  pub mergeable : (cells : List ℕ) → CellsStand s snapshots cells → Mergeable s cells (d .count) (o .type) (modelOf (o .headed))
   mergeable cells w = record {
     stand = w;
     count = sym (o .is .count);
-    small = λ p. omega (arith, column-size snapshots p, taken-objects taken);
+    vacant = λ p e. column-none snapshots p (vacant-there p e);
     chosen = λ p q e x. record {
       number = refl;
       ordered = extreme-ordered (isVersioned (o .type)) q (taken-kept taken (o .table) (o .read) .fits p q e) x;

@@ -3,7 +3,7 @@ use mathlib.Core.Path.{_≡_, refl, sym, ap, ap₂, _∙_}
 use mathlib.Core.Bool.{Bool, true, false, cond}
 use mathlib.Core.Option.{Option, none, some}
 use mathlib.Core.List.{List, [], _∷_, map}
-use Prim.Native.Nat.{ℕ, suc, _+_, _-_, _%_, _≤_, _<_}
+use Prim.Native.Nat.{ℕ, zero, suc, _+_, _-_, _%_, _≤_, _<_}
 use native.Mathlib.Omega.{arith}
 use native.Mathlib.Numerals.{add-one}
 use lib.ListN.{length, take, drop, getD, drop-of-length-le, List·getD-map}
@@ -41,6 +41,15 @@ module _ (test : ℕ → Bool) where
 
   pub lowest-next : (k : ℕ) → k < 32 → test k ≡ false → lowest test (upFrom k (32 - k)) ≡ lowest test (upFrom (k + 1) (32 - (k + 1)))
   lowest-next k h e = lowest-step k h ∙ ap (λ (b : Bool). cond b (some k) (lowest test (upFrom (k + 1) (32 - (k + 1))))) e
+
+  -- no place from k on passes
+  pub lowest-none : (k : ℕ) → ((i : ℕ) → k ≤ i → test i ≡ false) → lowest test (upFrom k (32 - k)) ≡ none
+  unfolding lowest upFrom
+  lowest-none k h = go (32 - k) k h
+    where
+      go : (n k : ℕ) → ((i : ℕ) → k ≤ i → test i ≡ false) → lowest test (upFrom k n) ≡ none
+      go zero k h = refl
+      go (suc n) k h = rw (h k (omega arith)) (go n (suc k) (λ i l. h i (omega arith)))
 
   pub lowest-end : (k : ℕ) → 32 ≤ k → lowest test (upFrom k (32 - k)) ≡ none
   unfolding lowest upFrom

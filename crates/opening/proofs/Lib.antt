@@ -1,8 +1,9 @@
 -- The laws of opening.
 pub mod ConflictLaws
 pub mod StrategyLaws
-pub mod MergeLaws
 pub mod StandLaws
+pub mod MergeLaws
+pub mod PlanLaws
 pub mod WriteRoomLaws
 pub mod AcceptedLaws
 pub mod SizeLaws

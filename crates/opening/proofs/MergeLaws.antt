@@ -1,81 +1,45 @@
--- The laws of merged sets: the value that is chosen, the set of each strategy, the counts, and which place is overfull.
+-- The laws of merged sets: the value that is chosen, the set of each strategy, and the union of sets that are the same.
 use mathlib.Core.Path.{_≡_, refl, sym, ap, ap₂, _∙_, subst}
-use mathlib.Core.Bool.{Bool, true, false, cond, not, _&&_, _||_}
+use mathlib.Core.Logic.{⊎-elim}
+use mathlib.Core.Bool.{Bool, true, false, cond, not}
 use mathlib.Core.Option.{Option, none, some}
-use mathlib.Core.List.{List, [], _∷_, map, flatten, append-nil}
-use Prim.Native.Nat.{ℕ, zero, suc, _+_, _-_, _^_, _≤_, _<_, Ordering}
+use mathlib.Core.List.{List, [], _∷_, _++_, map, flatten, append-nil}
+use mathlib.Core.List.{List·Memᴰ, List·Memᴰ·head, List·Memᴰ·cases-cons, List·Memᴰ·not-nil, List·Memᴰ·append-cases, Memᴰ·append-left, Memᴰ·append-right}
+use Prim.Native.Nat.{ℕ, zero, suc, _+_, _-_, _*_, _^_, _≤_, _<_, Ordering}
 use native.Mathlib.Omega.{arith}
 use native.Mathlib.Numerals.{add-one}
-use lib.Dec.{ltb, leb, eqb}
 use lib.ListN.{length, take, drop, getD, getElem?}
-use lib.ListN as lists
-use lib.Seq.{take-suc, take-all, drop-cons, getD-set-same, getD-set-other}
-use borrow.Author.Count.{below-more}
-use borrow.Author.Tests.{lt-ltb, eq-eqb, ne-eqb}
-use Rattle.model.specs.Order.{Text, texts, rising, pick}
+use lib.Seq.{take-suc, take-all, drop-cons}
+use Rattle.model.specs.Order.{Order, Text, texts, sets, equal, rising, pick}
 use Rattle.model.specs.Keyed.{put, merge}
-use Rattle.model.specs.Sets.{upFrom, upTo, canon, union, smallest}
-use Rattle.model.specs.Rule.{Choice, every, least, places, Snapshot, Dossier}
-use Rattle.model.specs.Opening.{column, lastOf, lowest, mergedSet, mergedAt, mergedSets, overfull}
-use Rattle.model.proofs.StepLaws.{smallest-snoc}
-use Rattle.model.proofs.SetLaws.{rising-ups, canon-ups}
-use Rattle.model.proofs.Cases.{never}
+use Rattle.model.specs.Sets.{Ups, Within, canon, union, smallest}
+use Rattle.model.specs.Rule.{Choice, every, least, Snapshot, Dossier}
+use Rattle.model.specs.Opening.{column, lastOf, mergedSet, mergedAt}
+use Rattle.model.proofs.PartLaws.{flatten-append}
+use Rattle.model.proofs.OrderLaws.{equal-true, equal-false}
+use Rattle.model.proofs.StepLaws.{union-left-nil, union-right-nil, smallest-snoc}
+use Rattle.model.proofs.SetLaws.{rising-ups, ups-canon, canon-ups, canon-of, canon-in, canon-same, by-members, union-canon}
+use Rattle.packed.specs.Packed.{text}
 use Rattle.values.specs.Spaces.{Kind, inSpace}
 use Rattle.values.specs.ValueOrder.{valueOrder, extremeOrder}
 use Rattle.values.proofs.SpaceLaws.{chosen}
-use Rattle.ontology.specs.Table.{set, Property, EventType, isReplace, isSingle, atPlace}
+use Rattle.ontology.specs.Table.{Property, EventType, isReplace, atPlace}
+use Rattle.ontology.specs.code.TypeIndex.{TypeIs}
+use Rattle.ontology.specs.declared.types.TypeIndex.{TypeIndex}
+use Rattle.ontology.proofs.RunLaws.{no-element}
 use Rattle.event.specs.Event.{choiceOf, typeView, eventView}
-use Rattle.event.specs.EventLayout.{presenceBit, bitNumber}
+use Rattle.event.specs.EventLayout.{setBytes}
 use Rattle.event.specs.EventQuestions.{areInSpace}
-use Rattle.event.specs.code.EventIndex.{SetIs, noSet, bitOf}
+use Rattle.event.specs.code.EventIndex.{SetIs, noSet, countSize}
 use Rattle.event.specs.declared.sets.SetAt.{SetAt}
-use Rattle.event.proofs.BitLaws.{FilledTo, presence-bits}
 use Rattle.event.proofs.EventQuestionLaws.{choice-every, choice-least, no-value, one-value, one-in-space}
-use Rattle.unions.specs.code.Merging.{SetRuns}
-use Rattle.opening.specs.code.OpenIndex.{CellsStand, RuleOf, RuleIs, Lone, Chooses, Mergeable, CountsMerged}
-use Rattle.opening.specs.code.CellIndex.{isStanding, RowIs}
-use Rattle.opening.proofs.StandLaws.{column-long, column-at, row-stands}
+use Rattle.event.proofs.MatchLaws.{flat-equal, set-short}
+use Rattle.opening.specs.code.CellIndex.{cellIn}
+use Rattle.opening.specs.code.OpenIndex.{CellsStand, RuleIs, Lone, Chooses, Mergeable}
+use Rattle.opening.specs.code.PlanIndex.{Joined, PlaceIs}
+use Rattle.opening.specs.declared.merge.PlaceMerged.{PlaceMerged}
 use Rattle.opening.specs.declared.strategies.PlaceRule.{PlaceRule}
-
-pub single-overfull : (b : Bool) (n : ℕ) → b ≡ true → leb 2 n ≡ (b && leb 2 n)
-single-overfull b n e = sym (ap (λ (a : Bool). a && leb 2 n) e)
-
-abbrev pub isOverfull : EventType → Dossier → ℕ → Bool
-isOverfull ty d p = typeView ty .single p && leb 2 (length (mergedAt (typeView ty) d p))
-
-pub overfull-start : (ty : EventType) (d : Dossier) → overfull (typeView ty) d ≡ lowest (isOverfull ty d) (upFrom 0 (32 - 0))
-unfolding overfull places upTo typeView eventView
-overfull-start ty d = refl
-
-single-at : (o : Option Property) (r : PlaceRule) → RuleIs o r → r .single ≡ atPlace false isSingle o
-unfolding RuleIs atPlace
-single-at none r w = w .single
-single-at (some q) r w = w .single
-
-single-is : (ty : EventType) (p : ℕ) (r : PlaceRule) → RuleIs (getElem? (ty .properties) p) r → r .single ≡ typeView ty .single p
-unfolding typeView eventView
-single-is ty p r w = single-at (getElem? (ty .properties) p) r w
-
-module _ (ty : EventType) (d : Dossier) (counts : List ℕ) (w : CountsMerged ty d counts) (p : ℕ) (h : p < 32) (r : PlaceRule) where
-  pub place-overfull : {b : Bool} → RuleIs (getElem? (ty .properties) p) r → b ≡ (r .single && leb 2 (getD counts p 0)) → b ≡ isOverfull ty d p
-  place-overfull v e = e ∙ ap₂ (λ (a : Bool) (n : ℕ). a && leb 2 n) (single-is ty p r v) (w .each p h)
-
--- ---- the presence number
-
--- the bit of a set of n values
-bit-of : (vs : List Text) (n : ℕ) → n ≡ length vs → presenceBit vs ≡ bitOf (ltb 0 n)
-unfolding presenceBit bitOf
-bit-of [] n e = rw e
-bit-of (v ∷ vs) n e = sym (ap bitOf (lt-ltb 0 n (omega arith)))
-
-pub presence-is :
-    {ty : EventType} {d : Dossier} {counts : List ℕ} {present : List Bool} {p n : ℕ} → CountsMerged ty d counts → FilledTo (λ i. ltb 0 (getD counts i 0)) present p → 32 ≤ p →
-    n ≡ bitNumber (map bitOf present) → n ≡ bitNumber (map presenceBit (mergedSets (typeView ty) d))
-unfolding mergedSets places typeView eventView
-presence-is {ty} {d} {counts} {present} w b h e =
-    e
-    ∙ ap bitNumber (sym (presence-bits (mergedAt (typeView ty) d) present (b .long)
-    (λ i l. bit-of (mergedAt (typeView ty) d i) (getD counts i 0) (w .each i l) ∙ ap bitOf (sym (b .each i (omega arith))))))
+use Rattle.opening.proofs.StandLaws.{column-long, column-stands, column-rises}
 
 -- ---- the chosen value
 
@@ -190,52 +154,43 @@ module _ (s : List ℕ) (k : Kind) (largest : Bool) (xss : List (List Text)) whe
 
 -- ---- the merged set of each strategy
 
-replaces-at : (o : Option Property) (r : PlaceRule) → RuleIs o r → r .replaces ≡ atPlace false isReplace o
-unfolding RuleIs atPlace
-replaces-at none r w = w .replaces
-replaces-at (some q) r w = w .replaces
-
 abbrev choiceAt : Option Property → Choice
 choiceAt o = atPlace every choiceOf o
 
-every-at : (o : Option Property) (r : PlaceRule) → RuleIs o r → r .extreme ≡ false → choiceAt o ≡ every
-unfolding RuleIs atPlace
-every-at none r w e = refl
-every-at (some q) r w e = choice-every q (sym (w .extreme) ∙ e)
+module _ (t : EventType) (d : Dossier) (p : ℕ) where
+  abbrev property : Option Property
+  property = getElem? (t .properties) p
 
--- the property of a place whose least value is chosen
-record Extremal (o : Option Property) (r : PlaceRule) : Type 0 where
-  pub what : Property
-  pub is : o ≡ some what
-  pub rule : RuleOf what r
-
-extremal : (o : Option Property) (r : PlaceRule) → RuleIs o r → r .extreme ≡ true → Extremal o r
-unfolding RuleIs
-extremal none r w e = let n = w .extreme in let z : _≡_ {A = ℕ} 0 1 = cc in absurd (omega arith)
-extremal (some q) r w e = record { what = q; is = refl; rule = w }
-
-module _ (t : EventType) (d : Dossier) (p : ℕ) (r : PlaceRule) (w : RuleIs (getElem? (t .properties) p) r) where
-  merged-by : (b : Bool) (c : Choice) → r .replaces ≡ b → choiceAt (getElem? (t .properties) p) ≡ c → mergedAt (typeView t) d p ≡ mergedSet b c (column (d .snapshots) p)
+  merged-by :
+      (o : Option Property) (b : Bool) (c : Choice) → property ≡ o → atPlace false isReplace o ≡ b → choiceAt o ≡ c →
+      mergedAt (typeView t) d p ≡ mergedSet b c (column (d .snapshots) p)
   unfolding mergedAt typeView eventView
-  merged-by b c e f = ap₂ (λ (b : Bool) (c : Choice). mergedSet b c (column (d .snapshots) p)) (sym (replaces-at (getElem? (t .properties) p) r w) ∙ e) f
+  merged-by o b c g e f =
+      ap₂ (λ (b : Bool) (c : Choice). mergedSet b c (column (d .snapshots) p)) (ap (atPlace false isReplace) g ∙ e) (ap choiceAt g ∙ f)
 
-  merged-last : r .replaces ≡ true → mergedAt (typeView t) d p ≡ lastOf (column (d .snapshots) p)
-  unfolding mergedSet
-  merged-last e = merged-by true (choiceAt (getElem? (t .properties) p)) e refl
-
-  pub merged-every : r .replaces ≡ false → r .extreme ≡ false → mergedAt (typeView t) d p ≡ canon texts (flatten (column (d .snapshots) p))
-  unfolding mergedSet
-  merged-every e f = merged-by false every e (every-at (getElem? (t .properties) p) r w f)
-
-  merged-least : r .replaces ≡ false → r .extreme ≡ true → (x : Extremal (getElem? (t .properties) p) r) → mergedAt (typeView t) d p ≡ smallest (extremeOrder (r .largest) (x .what .kind)) (flatten (column (d .snapshots) p))
+  -- there is no property
+  merged-none : property ≡ none → mergedAt (typeView t) d p ≡ canon texts (flatten (column (d .snapshots) p))
   unfolding mergedSet atPlace
-  merged-least e f x =
-      let q = x .what in
-      let c : choiceAt (getElem? (t .properties) p) ≡ least (extremeOrder (r .largest) (q .kind)) =
-      ap choiceAt (x .is)
-      ∙ choice-least q (sym (x .rule .extreme) ∙ f)
-      ∙ ap (λ (b : Bool). least (extremeOrder b (q .kind))) (sym (x .rule .largest)) in
-      merged-by false (least (extremeOrder (r .largest) (q .kind))) e c
+  merged-none e = merged-by none false every e refl refl
+
+  module _ (r : PlaceRule) (w : RuleIs property r) where
+    merged-last : r .replaces ≡ true → mergedAt (typeView t) d p ≡ lastOf (column (d .snapshots) p)
+    unfolding mergedSet atPlace
+    merged-last e = merged-by (some (w .what)) true (choiceOf (w .what)) (w .is) (sym (w .rule .replaces) ∙ e) refl
+
+    merged-every : r .replaces ≡ false → r .extreme ≡ false → mergedAt (typeView t) d p ≡ canon texts (flatten (column (d .snapshots) p))
+    unfolding mergedSet atPlace
+    merged-every e f =
+        merged-by (some (w .what)) false every (w .is) (sym (w .rule .replaces) ∙ e) (choice-every (w .what) (sym (w .rule .extreme) ∙ f))
+
+    abbrev chosen-order : Order Text
+    chosen-order = extremeOrder (r .largest) (w .what .kind)
+
+    merged-least : r .replaces ≡ false → r .extreme ≡ true → mergedAt (typeView t) d p ≡ smallest chosen-order (flatten (column (d .snapshots) p))
+    unfolding mergedSet atPlace
+    merged-least e f =
+        merged-by (some (w .what)) false (least chosen-order) (w .is) (sym (w .rule .replaces) ∙ e)
+        (choice-least (w .what) (sym (w .rule .extreme) ∙ f) ∙ ap (λ (b : Bool). least (extremeOrder b (w .what .kind))) (sym (w .rule .largest)))
 
 last-at : (xss : List (List Text)) (j : ℕ) → length xss ≡ suc j → lastOf xss ≡ getD xss j []
 unfolding lastOf
@@ -252,115 +207,217 @@ only-set [] e = absurd (omega arith)
 only-set (xs ∷ []) e = append-nil xs
 only-set (xs ∷ ys ∷ zss) e = absurd (omega arith)
 
--- ---- the merged sets that stand already
+-- ---- the union, where all sets that are not empty are the same
 
-module _ (r : PlaceRule) (n : ℕ) where
-  pub standing-only : n ≡ 1 → true ≡ isStanding r n
-  unfolding isStanding
-  standing-only e = sym (ap (λ (b : Bool). b || (r .replaces || r .extreme)) (eq-eqb n 1 e))
+-- the union of one set more
+union-more : (xss : List (List Text)) (j : ℕ) → j < length xss → Ups texts (getD xss j []) →
+    canon texts (flatten (take (j + 1) xss)) ≡ union texts (canon texts (flatten (take j xss))) (getD xss j [])
+unfolding flatten
+union-more xss j h u =
+    ap (λ (n : ℕ). canon texts (flatten (take n xss))) (add-one j)
+    ∙ ap (λ (yss : List (List Text)). canon texts (flatten yss)) (take-suc xss j [] h)
+    ∙ ap (canon texts) (flatten-append (take j xss) (getD xss j [] ∷ []) ∙ ap (λ (l : List Text). flatten (take j xss) ++ l) (append-nil (getD xss j [])))
+    ∙ sym (union-canon texts (flatten (take j xss)) (getD xss j []))
+    ∙ ap (union texts (canon texts (flatten (take j xss)))) (canon-ups texts (getD xss j []) u)
 
-  module _ (h : n ≡ 1 → ⊥) where
-    standing-many : isStanding r n ≡ (r .replaces || r .extreme)
-    unfolding isStanding
-    standing-many = ap (λ (b : Bool). b || (r .replaces || r .extreme)) (ne-eqb n 1 h)
+union-self : (vs : List Text) → Ups texts vs → union texts vs vs ≡ vs
+union-self vs u =
+    let e = canon-ups texts vs u in
+    ap₂ (union texts) (sym e) (sym e)
+    ∙ union-canon texts vs vs
+    ∙ canon-same texts (vs ++ vs) vs (λ a n. ⊎-elim (λ k. k) (λ k. k) (List·Memᴰ·append-cases vs n), λ a n. Memᴰ·append-left vs n)
+    ∙ e
 
-    pub standing-last : r .replaces ≡ true → true ≡ isStanding r n
-    standing-last e = sym (standing-many ∙ ap (λ (b : Bool). b || r .extreme) e)
+-- a set that is not empty, within a set of one value
+lone-within : (m : Text) (vs : List Text) → Ups texts vs → (vs ≡ [] → ⊥) → Within vs (m ∷ []) → vs ≡ m ∷ []
+lone-within m [] u any h = absurd (any refl)
+lone-within m (v ∷ vs) u any h =
+    by-members texts (v ∷ vs) (m ∷ []) u (tt, tt) (
+      h,
+      λ a n. ⊎-elim
+          (λ q. List·Memᴰ·head (q ∙ sym (is-one (h v (List·Memᴰ·head refl)))))
+          (λ k. absurd (List·Memᴰ·not-nil k))
+          (List·Memᴰ·cases-cons n),
+    )
+  where
+    is-one : {a : Text} → List·Memᴰ a (m ∷ []) → a ≡ m
+    is-one n = ⊎-elim (λ q. q) (λ k. absurd (List·Memᴰ·not-nil k)) (List·Memᴰ·cases-cons n)
 
-    pub standing-chosen : r .replaces ≡ false → r .extreme ≡ isStanding r n
-    standing-chosen e = sym (standing-many ∙ ap (λ (b : Bool). b || r .extreme) e)
+-- two sets that are not empty and differ have two values at least
+differ-several :
+    (vs ws us : List Text) → Ups texts vs → Ups texts ws → (vs ≡ [] → ⊥) → (ws ≡ [] → ⊥) → Within vs us → Within ws us → (vs ≡ ws → ⊥) →
+    2 ≤ length us
+differ-several vs ws [] a b c d h k ne = absurd (none vs c h)
+  where
+    none : (vs : List Text) → (vs ≡ [] → ⊥) → Within vs [] → ⊥
+    none [] c h = c refl
+    none (v ∷ vs) c h = List·Memᴰ·not-nil (h v (List·Memᴰ·head refl))
+differ-several vs ws (m ∷ []) a b c d h k ne = absurd (ne (lone-within m vs a c h ∙ sym (lone-within m ws b d k)))
+differ-several vs ws (m ∷ u ∷ us) a b c d h k ne = omega arith
 
-  module _ {b : Bool} (e : b ≡ isStanding r n) (f : b ≡ false) where
-    neither : (a x y : Bool) → (a || (x || y)) ≡ false → (x ≡ false) × (y ≡ false)
-    neither true x y e = never (cc)
-    neither false true y e = never (cc)
-    neither false false y e = (refl, e)
+-- the values of set j are in the union of all, and so are those of the union before it
+within-all : (xss : List (List Text)) (j : ℕ) → Within (getD xss j []) (flatten xss) × Within (flatten (take j xss)) (flatten xss)
+unfolding flatten
+within-all [] zero = (λ a n. n, λ a n. n)
+within-all [] (suc j) = (λ a n. n, λ a n. n)
+within-all (xs ∷ xss) zero = (λ a n. Memᴰ·append-left (flatten xss) n, λ a n. absurd (List·Memᴰ·not-nil n))
+within-all (xs ∷ xss) (suc j) = (
+  λ a n. Memᴰ·append-right xs (within-all xss j .0 a n),
+  λ a n. ⊎-elim (λ k. Memᴰ·append-left (flatten xss) k) (λ k. Memᴰ·append-right xs (within-all xss j .1 a k)) (List·Memᴰ·append-cases xs n),
+)
 
-    made : (r .replaces ≡ false) × (r .extreme ≡ false)
-    unfolding isStanding
-    made = neither (eqb n 1) (r .replaces) (r .extreme) (sym e ∙ f)
+-- the union of the first j sets
+abbrev pub unionTo : List (List Text) → ℕ → List Text
+unionTo xss j = canon texts (flatten (take j xss))
 
-    pub made-no-last : r .replaces ≡ false
-    made-no-last = made .0
+-- it stands at `only`, and the set that follows at x
+pub record OneMore (s : List ℕ) (xss : List (List Text)) (j : ℕ) (only x : SetAt) : Type 0 where
+  pub within : j < length xss
+  pub rises : rising texts (getD xss j []) ≡ true
+  pub before : SetIs s (unionTo xss j) only
+  pub here : SetIs s (getD xss j []) x
 
-    pub made-no-chosen : r .extreme ≡ false
-    made-no-chosen = made .1
+module _ (s : List ℕ) (xss : List (List Text)) where
+  pub only-first : (x : SetAt) → 1 ≤ length xss → rising texts (getD xss 0 []) ≡ true → SetIs s (getD xss 0 []) x → SetIs s (unionTo xss 1) x
+  unfolding flatten canon
+  only-first x h u w =
+      subst (λ (vs : List Text). SetIs s vs x) (sym (union-more xss 0 h (rising-ups texts (getD xss 0 []) .0 u) ∙ union-left-nil texts (getD xss 0 []))) w
 
-module _ (s : List ℕ) (cells row : List SetAt) (n : ℕ) (t : EventType) (d : Dossier) (p : ℕ) (v : RowIs cells p row) (m : Mergeable s cells n t d) (r : PlaceRule) (w : RuleIs (getElem? (t .properties) p) r) where
-  pub stands-last : 1 ≤ n → r .replaces ≡ true → SetIs s (mergedAt (typeView t) d p) (getD row (n - 1) noSet)
+  pub only-all : (j : ℕ) (x : SetAt) → length xss ≤ j → SetIs s (unionTo xss j) x → SetIs s (canon texts (flatten xss)) x
+  only-all j x h w = let e = take-all j xss h in rw e at w
+
+module _ {s : List ℕ} {xss : List (List Text)} {j : ℕ} {only x : SetAt} (g : OneMore s xss j only x) where
+  abbrev before : List Text
+  before = unionTo xss j
+
+  abbrev here : List Text
+  here = getD xss j []
+
+  before-ups : Ups texts before
+  before-ups = ups-canon texts (flatten (take j xss))
+
+  here-ups : Ups texts here
+  here-ups = rising-ups texts here .0 (g .rises)
+
+  union-next : unionTo xss (j + 1) ≡ union texts before here
+  union-next = union-more xss j (g .within) here-ups
+
+  -- an empty set more
+  pub only-kept : x .count ≡ 0 → SetIs s (unionTo xss (j + 1)) only
+  only-kept e =
+      let z : here ≡ [] = no-value here (omega (arith, g .here .count)) in
+      subst (λ (vs : List Text). SetIs s vs only) (sym (union-next ∙ ap (union texts before) z ∙ union-right-nil texts before before-ups)) (g .before)
+
+  -- a set after empty ones
+  pub only-taken : only .count ≡ 0 → SetIs s (unionTo xss (j + 1)) x
+  only-taken e =
+      let z : before ≡ [] = no-value before (omega (arith, g .before .count)) in
+      subst (λ (vs : List Text). SetIs s vs x) (sym (union-next ∙ ap (λ (vs : List Text). union texts vs here) z ∙ union-left-nil texts here)) (g .here)
+
+  -- the bytes of both are compared
+  module _
+      (l : length s < 2 ^ 64) {a b : List ℕ} (p : a ≡ flatten (map text before)) (q : b ≡ flatten (map text here))
+      {r : Bool} (e : r ≡ equal texts a b) where
+    alike : r ≡ equal sets before here
+    alike = e ∙ ap₂ (equal texts) p q ∙ flat-equal before here (set-short s before only (g .before) l)
+
+    pub only-same : r ≡ true → SetIs s (unionTo xss (j + 1)) only
+    only-same t =
+        let q : before ≡ here = equal-true sets before here .0 (sym alike ∙ t) in
+        subst (λ (vs : List Text). SetIs s vs only) (sym (union-next ∙ ap (union texts before) (sym q) ∙ union-self before before-ups)) (g .before)
+
+    pub only-differs : (only .count ≡ 0 → ⊥) → (x .count ≡ 0 → ⊥) → r ≡ false → Joined (canon texts (flatten xss)) xss
+    only-differs m n f = record {
+      union = refl;
+      several =
+          differ-several before here (canon texts (flatten xss)) before-ups here-ups
+          (λ z. m (g .before .count ∙ ap length z))
+          (λ z. n (g .here .count ∙ ap length z))
+          (λ a k. canon-in texts (flatten xss) a (within-all xss j .1 a (canon-of texts (flatten (take j xss)) a k)))
+          (λ a k. canon-in texts (flatten xss) a (within-all xss j .0 a k))
+          (equal-false sets before here .0 (sym alike ∙ f));
+    }
+
+-- ---- the merged set of a place
+
+module _
+    (s cells : List ℕ) (n : ℕ) (t : EventType) (d : Dossier) (p : ℕ) (h : p < 32) (m : Mergeable s cells n t d) (r : PlaceRule)
+    (w : RuleIs (getElem? (t .properties) p) r) where
+  abbrev sets-here : List (List Text)
+  sets-here = column (d .snapshots) p
+
+  abbrev merged-here : List Text
+  merged-here = mergedAt (typeView t) d p
+
+  here-stands : (j : ℕ) → j < n → SetIs s (getD sets-here j []) (cellIn cells (p * 8 + j))
+  here-stands j l = column-stands s (d .snapshots) cells p j h (m .stand) (omega (arith, m .count)) refl
+
+  last-cell : 1 ≤ n → merged-here ≡ getD sets-here (n - 1) [] → SetIs s merged-here (cellIn cells (p * 8 + n - 1))
+  last-cell k e =
+      let z : p * 8 + (n - 1) ≡ p * 8 + n - 1 = omega arith in
+      subst (λ (vs : List Text). SetIs s vs (cellIn cells (p * 8 + n - 1))) (sym e)
+      (subst (λ (i : ℕ). SetIs s (getD sets-here (n - 1) []) (cellIn cells i)) z (here-stands (n - 1) (omega arith)))
+
+  pub stands-last : 1 ≤ n → r .replaces ≡ true → SetIs s merged-here (cellIn cells (p * 8 + n - 1))
   stands-last k e =
-      let l : length (column (d .snapshots) p) ≡ suc (n - 1) = column-long (d .snapshots) p ∙ m .count ∙ omega arith in
-      subst (λ (vs : List Text). SetIs s vs (getD row (n - 1) noSet)) (sym (merged-last t d p r w e ∙ last-at (column (d .snapshots) p) (n - 1) l))
-      (row-stands s (d .snapshots) cells row p (n - 1) v (m .stand) (omega (arith, m .count)))
+      let l : length sets-here ≡ suc (n - 1) = column-long (d .snapshots) p ∙ m .count ∙ omega arith in
+      last-cell k (merged-last t d p r w e ∙ last-at sets-here (n - 1) l)
 
   module _ (k : n ≡ 1) where
-    only-flat : flatten (column (d .snapshots) p) ≡ getD (column (d .snapshots) p) 0 []
-    only-flat = only-set (column (d .snapshots) p) (column-long (d .snapshots) p ∙ m .count ∙ k)
+    only-flat : flatten sets-here ≡ getD sets-here 0 []
+    only-flat = only-set sets-here (column-long (d .snapshots) p ∙ m .count ∙ k)
 
-    only-rises : rising texts (getD (column (d .snapshots) p) 0 []) ≡ true
-    only-rises = ap (rising texts) (column-at (d .snapshots) p 0) ∙ m .stand .each p 0 (v .within) (omega (arith, m .count)) .rises
+    only-rises : rising texts (getD sets-here 0 []) ≡ true
+    only-rises = column-rises s (d .snapshots) cells p 0 h (m .stand) (omega (arith, m .count))
 
-    only-stands : mergedAt (typeView t) d p ≡ getD (column (d .snapshots) p) 0 [] → SetIs s (mergedAt (typeView t) d p) (getD row (n - 1) noSet)
-    only-stands e =
-        let z : n - 1 ≡ 0 = omega arith in
-        subst (λ (vs : List Text). SetIs s vs (getD row (n - 1) noSet)) (sym e)
-        (rw z (row-stands s (d .snapshots) cells row p 0 v (m .stand) (omega (arith, m .count))))
-
-    only-union : r .replaces ≡ false → r .extreme ≡ false → mergedAt (typeView t) d p ≡ getD (column (d .snapshots) p) 0 []
+    only-union : r .replaces ≡ false → r .extreme ≡ false → merged-here ≡ getD sets-here 0 []
     only-union e f =
         merged-every t d p r w e f ∙ ap (canon texts) only-flat
-        ∙ canon-ups texts (getD (column (d .snapshots) p) 0 []) (rising-ups texts (getD (column (d .snapshots) p) 0 []) .0 only-rises)
+        ∙ canon-ups texts (getD sets-here 0 []) (rising-ups texts (getD sets-here 0 []) .0 only-rises)
 
-    only-least : r .replaces ≡ false → r .extreme ≡ true → mergedAt (typeView t) d p ≡ getD (column (d .snapshots) p) 0 []
+    only-least : r .replaces ≡ false → r .extreme ≡ true → merged-here ≡ getD sets-here 0 []
     only-least e f =
-        let y = extremal (getElem? (t .properties) p) r w f in
-        let o = sym (y .rule .extreme) ∙ f in
-        merged-least t d p r w e f y ∙ ap (smallest (extremeOrder (r .largest) (y .what .kind))) only-flat
-        ∙ lone-smallest (y .what .kind) (r .largest) (getD (column (d .snapshots) p) 0 []) (m .lone p (y .what) (y .is) o 0 (omega arith))
+        let o = sym (w .rule .extreme) ∙ f in
+        merged-least t d p r w e f ∙ ap (smallest (chosen-order t d p r w)) only-flat
+        ∙ lone-smallest (w .what .kind) (r .largest) (getD sets-here 0 []) (m .lone p (w .what) (w .is) o 0 (omega arith))
 
-    pub stands-only : SetIs s (mergedAt (typeView t) d p) (getD row (n - 1) noSet)
+    pub stands-only : SetIs s merged-here (cellIn cells (p * 8 + n - 1))
     stands-only = by (r .replaces) (r .extreme) refl refl
       where
-        by : (a b : Bool) → r .replaces ≡ a → r .extreme ≡ b → SetIs s (mergedAt (typeView t) d p) (getD row (n - 1) noSet)
+        first : n - 1 ≡ 0
+        first = omega arith
+
+        by : (a b : Bool) → r .replaces ≡ a → r .extreme ≡ b → SetIs s merged-here (cellIn cells (p * 8 + n - 1))
         by true b e f = stands-last (omega arith) e
-        by false true e f = only-stands (only-least e f)
-        by false false e f = only-stands (only-union e f)
+        by false true e f = last-cell (omega arith) (only-least e f ∙ ap (λ (i : ℕ). getD sets-here i []) (sym first))
+        by false false e f = last-cell (omega arith) (only-union e f ∙ ap (λ (i : ℕ). getD sets-here i []) (sym first))
 
-  pub stands-chosen : (x : SetAt) → (n ≡ 1 → ⊥) → r .replaces ≡ false → isStanding r n ≡ true →
-      ((ss : List Snapshot) (k : Kind) → CellsStand s ss cells → length ss ≡ n → Chooses k (r .kind) → ((j : ℕ) → j < n → Lone k (getD (column ss p) j [])) → SetIs s (smallest (extremeOrder (r .largest) k) (flatten (column ss p))) x) →
-      SetIs s (mergedAt (typeView t) d p) x
-  stands-chosen x z e f h =
-      let g = standing-chosen r n z e ∙ f in
-      let y = extremal (getElem? (t .properties) p) r w g in
-      let o = sym (y .rule .extreme) ∙ g in
-      subst (λ (vs : List Text). SetIs s vs x) (sym (merged-least t d p r w e g y))
-      (h (d .snapshots) (y .what .kind) (m .stand) (m .count) (subst (Chooses (y .what .kind)) (sym (y .rule .kind)) (m .chosen p (y .what) (y .is) o)) (m .lone p (y .what) (y .is) o))
+  pub stands-chosen : (x : SetAt) → r .replaces ≡ false → r .extreme ≡ true →
+      ((ss : List Snapshot) (k : Kind) → CellsStand s ss cells → length ss ≡ n → Chooses k (r .kind) → ((j : ℕ) → j < n → Lone k (getD (column ss p) j [])) →
+      SetIs s (smallest (extremeOrder (r .largest) k) (flatten (column ss p))) x) →
+      SetIs s merged-here x
+  stands-chosen x e g h =
+      let k = w .what .kind in
+      let o = sym (w .rule .extreme) ∙ g in
+      let chooses = subst (Chooses k) (sym (w .rule .kind)) (m .chosen p (w .what) (w .is) o) in
+      subst (λ (vs : List Text). SetIs s vs x) (sym (merged-least t d p r w e g))
+      (h (d .snapshots) k (m .stand) (m .count) chooses (m .lone p (w .what) (w .is) o))
 
-  pub counts-every : (starts ends : List ℕ) (x : ℕ) → r .replaces ≡ false → r .extreme ≡ false →
-      ((ss : List Snapshot) → CellsStand s ss cells → SetRuns s starts ends (length ss) (column ss p)) →
-      ((xss : List (List Text)) → SetRuns s starts ends n xss → length (flatten xss) < 2 ^ 64 → x ≡ length (canon texts (flatten xss))) →
-      x ≡ length (mergedAt (typeView t) d p)
-  counts-every starts ends x e f runs h =
-      h (column (d .snapshots) p) (subst (λ (n : ℕ). SetRuns s starts ends n (column (d .snapshots) p)) (m .count) (runs (d .snapshots) (m .stand))) (m .small p)
-      ∙ ap length (sym (merged-every t d p r w e f))
+  pub place-every : (x : PlaceMerged) → r .replaces ≡ false → r .extreme ≡ false →
+      ((ss : List Snapshot) → CellsStand s ss cells → length ss ≡ n → PlaceIs s (canon texts (flatten (column ss p))) (column ss p) x) →
+      PlaceIs s merged-here sets-here x
+  place-every x e f h = subst (λ (vs : List Text). PlaceIs s vs sets-here x) (sym (merged-every t d p r w e f)) (h (d .snapshots) (m .stand) (m .count))
 
--- ---- the counts of all places
+-- ---- a place without a property
 
--- the counts of the first p places
-pub record CountedTo (t : EventType) (d : Dossier) (counts : List ℕ) (p : ℕ) : Type 0 where
-  pub each : (i : ℕ) → i < p → getD counts i 0 ≡ length (mergedAt (typeView t) d i)
+no-set : (s : List ℕ) → SetIs s [] noSet
+unfolding flatten countSize setBytes
+no-set s = record { bytes = refl; count = refl; order = omega arith; within = omega arith; counted = omega arith; whole = refl }
 
-module _ (t : EventType) (d : Dossier) (counts : List ℕ) where
-  pub counted-none : CountedTo t d counts 0
-  counted-none = record { each = λ i h. absurd (omega arith) }
-
-  pub counted-more : (p n : ℕ) → p < length counts → CountedTo t d counts p → n ≡ length (mergedAt (typeView t) d p) → CountedTo t d (lists.set counts p n) (p + 1)
-  counted-more p n h w e = record {
-    each =
-        below-more (λ (i : ℕ). getD (lists.set counts p n) i 0 ≡ length (mergedAt (typeView t) d i)) p
-        (λ i l. let ne : i ≡ p → ⊥ = λ f. omega arith in getD-set-other counts p i n 0 ne ∙ w .each i l)
-        (getD-set-same counts p n 0 h ∙ e);
-  }
-
-  pub counted-all : (p : ℕ) → 32 ≤ p → CountedTo t d counts p → CountsMerged t d counts
-  counted-all p h w = record { each = λ i l. w .each i (omega arith) }
+pub stands-empty :
+    (s cells u : List ℕ) (n : ℕ) (ty : EventType) (t : TypeIndex) (d : Dossier) (p : ℕ) → TypeIs u ty t → Mergeable s cells n ty d → t .count ≤ p →
+    SetIs s (mergedAt (typeView ty) d p) noSet
+unfolding canon
+stands-empty s cells u n ty t d p w m h =
+    let e : getElem? (ty .properties) p ≡ none = no-element (ty .properties) p (omega (arith, w .count)) in
+    subst (λ (vs : List Text). SetIs s vs noSet) (sym (merged-none ty d p e ∙ ap (canon texts) (m .vacant p e))) (no-set s)

@@ -31,7 +31,6 @@ use Rattle.ontology.specs.declared.types.TypeIndex.{TypeIndex}
 use Rattle.ontology.proofs.TypeIndexLaws.{TableGot, found-few}
 use Rattle.event.specs.Event.{typeView, eventView}
 use Rattle.event.specs.EventLayout.{eventBytes}
-use Rattle.event.specs.declared.sets.SetAt.{SetAt}
 use Rattle.dossier.specs.DossierQuestions.{dossierAsked}
 use Rattle.dossier.specs.DossierLayout.{dossierOf, modelOf}
 use Rattle.dossier.specs.code.DossierIndex.{IsDossier, DossierReads, DossierAnswers}
@@ -40,12 +39,12 @@ use Rattle.dossier.specs.declared.questions.DossierAsked.{DossierAsked}
 use Rattle.dossier.proofs.AcceptedLaws.{dossier-taken, asked-accepted}
 use Rattle.dossier.proofs.AnswerLaws.{reads-is}
 use Rattle.opening.specs.OpenCall.{mergedEvent, openedAnswer, askedOpening, openAnswer, openCall}
-use Rattle.opening.specs.code.OpenIndex.{lowestOf, conflictOf, CellsStand, CountsMerged, Writable, Openable}
+use Rattle.opening.specs.code.OpenIndex.{lowestOf, conflictOf, CellsStand, Openable}
+use Rattle.opening.specs.code.PlanIndex.{PlanIs, Writable}
 use Rattle.opening.specs.declared.conflict.Conflict as found
 use Rattle.opening.specs.declared.conflict.Conflict.the-variants.{Differs, NoConflict}
 use Rattle.opening.specs.declared.conflict.Lowest.{Lowest}
 use Rattle.opening.specs.declared.conflict.Lowest.the-variants.{Place, NoPlace}
-use Rattle.opening.proofs.AcceptedLaws.{mergeable}
 use Rattle.opening.proofs.SizeLaws.{merged-size}
 
 -- ---- a dossier that was asked its questions
@@ -58,15 +57,15 @@ module _ (s : List ℕ) (d : DossierIndex) (t : TypeIndex) (o : Openable s d t) 
   is-dossier = record { what = o .headed; is = o .is }
 
   -- what the writer of the merged event needs
-  abbrev pub writable : (cells : List SetAt) (counts : List ℕ) (size : ℕ) → CellsStand s (dossier .snapshots) cells → CountsMerged (o .type) dossier counts → dossierCapacity ≤ size → Writable s d t cells counts size
-  writable cells counts size w v h = record {
-    table = o .table;
+  abbrev pub writable :
+      (cells plan : List ℕ) (size : ℕ) → CellsStand s (dossier .snapshots) cells → PlanIs s plan (o .type) dossier → dossierCapacity ≤ size →
+      Writable s d cells plan size
+  writable cells plan size w v h = record {
     type = o .type;
     headed = o .headed;
-    typed = o .typed;
     is = o .is;
-    merges = mergeable s d t o cells w;
-    counted = v;
+    stand = w;
+    planned = v;
     room = omega (arith, merged-size s d t o);
   }
 

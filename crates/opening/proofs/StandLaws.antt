@@ -1,12 +1,13 @@
--- The laws of cells: how they are filled from the snapshots, and the runs of a place.
+-- The laws of cells: sets among numbers, how the cells are filled from the snapshots, and the runs of a place.
 use mathlib.Core.Path.{_≡_, refl, ap, _∙_}
+use mathlib.Core.Bool.{true}
 use mathlib.Core.List.{List, [], _∷_, map}
 use Prim.Native.Nat.{ℕ, zero, suc, _+_, _-_, _*_, _≤_, _<_}
 use native.Mathlib.Omega.{arith}
 use lib.ListN.{length, take, drop, getD, set, length-set, length-drop}
 use lib.Seq.{drop-drop, getD-set-same, getD-set-other}
 use borrow.Author.Count.{below-more}
-use Rattle.model.specs.Order.{Text}
+use Rattle.model.specs.Order.{Text, texts, rising}
 use Rattle.model.specs.Rule.{Snapshot}
 use Rattle.model.specs.Opening.{held, cellAt, column}
 use Rattle.packed.specs.Parse.{got}
@@ -26,7 +27,7 @@ use Rattle.dossier.proofs.CellLaws.{held-at}
 use Rattle.dossier.proofs.AskLaws.{reads-got}
 use Rattle.dossier.proofs.DossierBodyLaws.{snapshot-was}
 use Rattle.opening.specs.code.OpenIndex.{CellStands, Shifted, CellsStand}
-use Rattle.opening.specs.code.CellIndex.{RowIs}
+use Rattle.opening.specs.code.CellIndex.{setIn, withSet, cellIn}
 
 -- ---- the column of a place
 
@@ -41,44 +42,95 @@ column-at [] p j = refl
 column-at (x ∷ ss) p zero = refl
 column-at (x ∷ ss) p (suc j) = column-at ss p j
 
+-- ---- sets among numbers
+
+module _ (l : List ℕ) (at : ℕ) (x : SetAt) where
+  pub set-put : at + 2 < length l → setIn (withSet l at x) at ≡ x
+  unfolding setIn withSet
+  set-put h =
+      let l₁ = set l at (x .start) in
+      let l₂ = set l₁ (at + 1) (x .end) in
+      let start : at ≡ at + 1 → ⊥ = λ e. omega arith in
+      let start₂ : at ≡ at + 2 → ⊥ = λ e. omega arith in
+      let end₂ : at + 1 ≡ at + 2 → ⊥ = λ e. omega arith in
+      rw (
+        getD-set-other l₂ (at + 2) at (x .count) 0 start₂,
+        getD-set-other l₁ (at + 1) at (x .end) 0 start,
+        getD-set-same l at (x .start) 0 (omega arith),
+        getD-set-other l₂ (at + 2) (at + 1) (x .count) 0 end₂,
+        getD-set-same l₁ (at + 1) (x .end) 0 (omega (arith, length-set l at (x .start))),
+        getD-set-same l₂ (at + 2) (x .count) 0 (omega (arith, length-set l₁ (at + 1) (x .end), length-set l at (x .start))),
+      )
+
+  -- a number elsewhere
+  pub put-other : (i : ℕ) → (i ≡ at → ⊥) → (i ≡ at + 1 → ⊥) → (i ≡ at + 2 → ⊥) → getD (withSet l at x) i 0 ≡ getD l i 0
+  unfolding withSet
+  put-other i a b c =
+      let l₁ = set l at (x .start) in
+      let l₂ = set l₁ (at + 1) (x .end) in
+      getD-set-other l₂ (at + 2) i (x .count) 0 c ∙ getD-set-other l₁ (at + 1) i (x .end) 0 b ∙ getD-set-other l at i (x .start) 0 a
+
+  pub put-length : length (withSet l at x) ≡ length l
+  unfolding withSet
+  put-length = simp length-set refl
+
+-- a set whose numbers are kept
+pub set-kept : (l l′ : List ℕ) (at : ℕ) → ((i : ℕ) → at ≤ i → i < at + 3 → getD l′ i 0 ≡ getD l i 0) → setIn l′ at ≡ setIn l at
+unfolding setIn
+set-kept l l′ at h = rw (h at (omega arith) (omega arith), h (at + 1) (omega arith) (omega arith), h (at + 2) (omega arith) (omega arith))
+
+-- cells
+pub cell-same : (cells : List ℕ) (k : ℕ) (x : SetAt) → length cells ≡ 768 → k < 256 → cellIn (withSet cells (3 * k) x) k ≡ x
+cell-same cells k x h l = set-put cells (3 * k) x (omega arith)
+
+pub cell-other : (cells : List ℕ) (k i : ℕ) (x : SetAt) → (i ≡ k → ⊥) → cellIn (withSet cells (3 * k) x) i ≡ cellIn cells i
+cell-other cells k i x ne =
+    set-kept cells (withSet cells (3 * k) x) (3 * i)
+    (λ m a b. put-other cells (3 * k) x m (λ e. ne (omega arith)) (λ e. ne (omega arith)) (λ e. ne (omega arith)))
+
 -- ---- the runs of a place
 
--- the first j runs are those of the row
-pub record RunsTo (row : List SetAt) (starts ends : List ℕ) (j : ℕ) : Type 0 where
+-- the first j runs are those of the cells
+pub record RunsTo (cells : List ℕ) (place : ℕ) (starts ends : List ℕ) (j : ℕ) : Type 0 where
   pub starts-long : length starts ≡ 8
   pub ends-long : length ends ≡ 8
-  pub start : (i : ℕ) → i < j → getD starts i 0 ≡ getD row i noSet .start
-  pub end : (i : ℕ) → i < j → getD ends i 0 ≡ getD row i noSet .end
+  pub start : (i : ℕ) → i < j → getD starts i 0 ≡ cellIn cells (place * 8 + i) .start
+  pub end : (i : ℕ) → i < j → getD ends i 0 ≡ cellIn cells (place * 8 + i) .end
 
-pub runs-none : (row : List SetAt) (starts ends : List ℕ) → length starts ≡ 8 → length ends ≡ 8 → RunsTo row starts ends 0
-runs-none row starts ends a b = record { starts-long = a; ends-long = b; start = λ i h. absurd (omega arith); end = λ i h. absurd (omega arith) }
+pub runs-none : (cells : List ℕ) (place : ℕ) (starts ends : List ℕ) → length starts ≡ 8 → length ends ≡ 8 → RunsTo cells place starts ends 0
+runs-none cells place starts ends a b = record { starts-long = a; ends-long = b; start = λ i h. absurd (omega arith); end = λ i h. absurd (omega arith) }
 
-put-more : (f : ℕ → ℕ) (l : List ℕ) (j : ℕ) → j < length l → ((i : ℕ) → i < j → getD l i 0 ≡ f i) → (i : ℕ) → i < j + 1 → getD (set l j (f j)) i 0 ≡ f i
-put-more f l j h old =
-    below-more (λ (i : ℕ). getD (set l j (f j)) i 0 ≡ f i) j
-    (λ i k. let ne : i ≡ j → ⊥ = λ e. omega arith in getD-set-other l j i (f j) 0 ne ∙ old i k)
-    (getD-set-same l j (f j) 0 h)
+put-more : (f : ℕ → ℕ) (l : List ℕ) (j x : ℕ) → j < length l → x ≡ f j → ((i : ℕ) → i < j → getD l i 0 ≡ f i) → (i : ℕ) → i < j + 1 → getD (set l j x) i 0 ≡ f i
+put-more f l j x h e old =
+    below-more (λ (i : ℕ). getD (set l j x) i 0 ≡ f i) j
+    (λ i k. let ne : i ≡ j → ⊥ = λ e. omega arith in getD-set-other l j i x 0 ne ∙ old i k)
+    (getD-set-same l j x 0 h ∙ e)
 
-pub runs-more : (row : List SetAt) (starts ends : List ℕ) (j : ℕ) → j < 8 → RunsTo row starts ends j →
-    RunsTo row (set starts j (getD row j noSet .start)) (set ends j (getD row j noSet .end)) (j + 1)
-runs-more row starts ends j h w = record {
-  starts-long = length-set starts j (getD row j noSet .start) ∙ w .starts-long;
-  ends-long = length-set ends j (getD row j noSet .end) ∙ w .ends-long;
-  start = put-more (λ (i : ℕ). getD row i noSet .start) starts j (omega (arith, w .starts-long)) (w .start);
-  end = put-more (λ (i : ℕ). getD row i noSet .end) ends j (omega (arith, w .ends-long)) (w .end);
+pub runs-more :
+    (cells : List ℕ) (place : ℕ) (starts ends : List ℕ) (j : ℕ) (x : SetAt) → j < 8 → x ≡ cellIn cells (place * 8 + j) →
+    RunsTo cells place starts ends j → RunsTo cells place (set starts j (x .start)) (set ends j (x .end)) (j + 1)
+runs-more cells place starts ends j x h e w = record {
+  starts-long = length-set starts j (x .start) ∙ w .starts-long;
+  ends-long = length-set ends j (x .end) ∙ w .ends-long;
+  start =
+      put-more (λ (i : ℕ). cellIn cells (place * 8 + i) .start) starts j (x .start) (omega (arith, w .starts-long))
+      (ap (λ (y : SetAt). y .start) e) (w .start);
+  end =
+      put-more (λ (i : ℕ). cellIn cells (place * 8 + i) .end) ends j (x .end) (omega (arith, w .ends-long))
+      (ap (λ (y : SetAt). y .end) e) (w .end);
 }
 
 pub cell-run : (s : List ℕ) (vs : List Text) (x : SetAt) → CellStands s vs x → SetRun s (x .start) (x .end) vs
 cell-run s vs x w = record { bytes = w .is .bytes; order = w .is .order; within = w .is .within; rises = w .rises }
 
-pub runs-all : (s : List ℕ) (ss : List Snapshot) (cells row : List SetAt) (place : ℕ) (starts ends : List ℕ) (j : ℕ) → RowIs cells place row → CellsStand s ss cells → 8 ≤ j →
-    RunsTo row starts ends j → SetRuns s starts ends (length ss) (column ss place)
-runs-all s ss cells row place starts ends j v w full r = record {
+pub runs-all : (s : List ℕ) (ss : List Snapshot) (cells : List ℕ) (place : ℕ) (starts ends : List ℕ) (j : ℕ) → place < 32 → CellsStand s ss cells → 8 ≤ j →
+    RunsTo cells place starts ends j → SetRuns s starts ends (length ss) (column ss place)
+runs-all s ss cells place starts ends j p w full r = record {
   long = column-long ss place;
   each = λ i l.
       let k : i < j = omega (arith, w .few) in
-      let e = v .at i (omega (arith, w .few)) in
-      rw (column-at ss place i, r .start i k, r .end i k, e) (cell-run s (held (cellAt (getD ss i noSnapshot) place)) (getD cells (place * 8 + i) noSet) (w .each place i (v .within) l));
+      let vs = held (cellAt (getD ss i noSnapshot) place) in
+      rw (column-at ss place i, r .start i k, r .end i k) (cell-run s vs (cellIn cells (place * 8 + i)) (w .each place i p l));
 }
 
 -- ---- the cells of a snapshot
@@ -103,16 +155,16 @@ shifted-set s at vs x r h w v =
     })
 
 -- the cells of snapshot j are those of x, and the others are as they were
-pub record CellsFilled (s : List ℕ) (x : Snapshot) (j : ℕ) (old r : List SetAt) : Type 0 where
-  pub own : (p : ℕ) → p < 32 → CellStands s (held (cellAt x p)) (getD r (p * 8 + j) noSet)
-  pub others : (p i : ℕ) → p < 32 → i < 8 → (i ≡ j → ⊥) → getD r (p * 8 + i) noSet ≡ getD old (p * 8 + i) noSet
+pub record CellsFilled (s : List ℕ) (x : Snapshot) (j : ℕ) (old r : List ℕ) : Type 0 where
+  pub own : (p : ℕ) → p < 32 → CellStands s (held (cellAt x p)) (cellIn r (p * 8 + j))
+  pub others : (p i : ℕ) → p < 32 → i < 8 → (i ≡ j → ⊥) → cellIn r (p * 8 + i) ≡ cellIn old (p * 8 + i)
 
 -- the cells of the first p places of snapshot j are those of x, and those of the other snapshots are as they were
-pub record FilledTo (s : List ℕ) (x : Snapshot) (j : ℕ) (old cells : List SetAt) (p : ℕ) : Type 0 where
-  pub own : (q : ℕ) → q < p → CellStands s (held (cellAt x q)) (getD cells (q * 8 + j) noSet)
-  pub others : (q i : ℕ) → q < 32 → i < 8 → (i ≡ j → ⊥) → getD cells (q * 8 + i) noSet ≡ getD old (q * 8 + i) noSet
+pub record FilledTo (s : List ℕ) (x : Snapshot) (j : ℕ) (old cells : List ℕ) (p : ℕ) : Type 0 where
+  pub own : (q : ℕ) → q < p → CellStands s (held (cellAt x q)) (cellIn cells (q * 8 + j))
+  pub others : (q i : ℕ) → q < 32 → i < 8 → (i ≡ j → ⊥) → cellIn cells (q * 8 + i) ≡ cellIn old (q * 8 + i)
 
-pub filled-none : (s : List ℕ) (x : Snapshot) (j : ℕ) (old : List SetAt) → FilledTo s x j old old 0
+pub filled-none : (s : List ℕ) (x : Snapshot) (j : ℕ) (old : List ℕ) → FilledTo s x j old old 0
 filled-none s x j old = record { own = λ q h. absurd (omega arith); others = λ q i h k n. refl }
 
 -- the snapshot that the rest of the bytes begins with
@@ -132,61 +184,55 @@ pub first-is : (s : List ℕ) (h : Headed) (d : DossierIndex) (j : ℕ) → Doss
 first-is s h d zero w e = w .first
 first-is s h d (suc j) w e = absurd (omega arith)
 
-pub filled-more : (s : List ℕ) (x : Snapshot) (j : ℕ) (old cells : List SetAt) (p : ℕ) (r : SetAt) → length cells ≡ 256 → p < 32 → j < 8 → FilledTo s x j old cells p → CellStands s (held (cellAt x p)) r → FilledTo s x j old (set cells (p * 8 + j) r) (p + 1)
+pub filled-more :
+    (s : List ℕ) (x : Snapshot) (j : ℕ) (old cells : List ℕ) (p : ℕ) (r : SetAt) → length cells ≡ 768 → p < 32 → j < 8 → FilledTo s x j old cells p →
+    CellStands s (held (cellAt x p)) r → FilledTo s x j old (withSet cells (3 * (p * 8 + j)) r) (p + 1)
 filled-more s x j old cells p r long h k w here = record {
   own =
-      below-more (λ (q : ℕ). CellStands s (held (cellAt x q)) (getD (set cells (p * 8 + j) r) (q * 8 + j) noSet)) p
-      (λ q l. let ne : q * 8 + j ≡ p * 8 + j → ⊥ = λ e. omega arith in rw (getD-set-other cells (p * 8 + j) (q * 8 + j) r noSet ne) (w .own q l))
-      (let b : p * 8 + j < length cells = omega arith in rw (getD-set-same cells (p * 8 + j) r noSet b) here);
-  others = λ q i a b n. let ne : q * 8 + i ≡ p * 8 + j → ⊥ = λ e. n (omega arith) in getD-set-other cells (p * 8 + j) (q * 8 + i) r noSet ne ∙ w .others q i a b n;
+      below-more (λ (q : ℕ). CellStands s (held (cellAt x q)) (cellIn (withSet cells (3 * (p * 8 + j)) r) (q * 8 + j))) p
+      (λ q l. let ne : q * 8 + j ≡ p * 8 + j → ⊥ = λ e. omega arith in rw (cell-other cells (p * 8 + j) (q * 8 + j) r ne) (w .own q l))
+      (rw (cell-same cells (p * 8 + j) r long (omega arith)) here);
+  others = λ q i a b n. let ne : q * 8 + i ≡ p * 8 + j → ⊥ = λ e. n (omega arith) in cell-other cells (p * 8 + j) (q * 8 + i) r ne ∙ w .others q i a b n;
 }
 
-pub filled-all : (s : List ℕ) (x : Snapshot) (j : ℕ) (old cells : List SetAt) (p : ℕ) → 32 ≤ p → FilledTo s x j old cells p → CellsFilled s x j old cells
+pub filled-all : (s : List ℕ) (x : Snapshot) (j : ℕ) (old cells : List ℕ) (p : ℕ) → 32 ≤ p → FilledTo s x j old cells p → CellsFilled s x j old cells
 filled-all s x j old cells p h w = record { own = λ q l. w .own q (omega arith); others = w .others }
 
 -- ---- the cells of all snapshots
 
 -- the cells of the first j snapshots are filled
-pub record StandTo (s : List ℕ) (ss : List Snapshot) (cells : List SetAt) (j : ℕ) : Type 0 where
-  pub each : (p i : ℕ) → p < 32 → i < j → CellStands s (held (cellAt (getD ss i noSnapshot) p)) (getD cells (p * 8 + i) noSet)
+pub record StandTo (s : List ℕ) (ss : List Snapshot) (cells : List ℕ) (j : ℕ) : Type 0 where
+  pub each : (p i : ℕ) → p < 32 → i < j → CellStands s (held (cellAt (getD ss i noSnapshot) p)) (cellIn cells (p * 8 + i))
 
-pub stand-none : (s : List ℕ) (ss : List Snapshot) (cells : List SetAt) → StandTo s ss cells 0
+pub stand-none : (s : List ℕ) (ss : List Snapshot) (cells : List ℕ) → StandTo s ss cells 0
 stand-none s ss cells = record { each = λ p i h k. absurd (omega arith) }
 
-pub stand-more : (s : List ℕ) (ss : List Snapshot) (cells r : List SetAt) (j : ℕ) → j < 8 → StandTo s ss cells j → CellsFilled s (getD ss j noSnapshot) j cells r → StandTo s ss r (j + 1)
+pub stand-more :
+    (s : List ℕ) (ss : List Snapshot) (cells r : List ℕ) (j : ℕ) → j < 8 → StandTo s ss cells j → CellsFilled s (getD ss j noSnapshot) j cells r →
+    StandTo s ss r (j + 1)
 stand-more s ss cells r j h w f = record {
   each = λ p i a.
-      below-more (λ (i : ℕ). CellStands s (held (cellAt (getD ss i noSnapshot) p)) (getD r (p * 8 + i) noSet)) j
+      below-more (λ (i : ℕ). CellStands s (held (cellAt (getD ss i noSnapshot) p)) (cellIn r (p * 8 + i))) j
       (λ i b. let ne : i ≡ j → ⊥ = λ e. omega arith in rw (f .others p i a (omega arith) ne) (w .each p i a b))
       (f .own p a) i;
 }
 
-pub stand-all : (s : List ℕ) (h : Headed) (d : DossierIndex) (cells : List SetAt) (j : ℕ) → DossierIs s h d → d .count ≤ j → StandTo s (h .snapshots) cells j → CellsStand s (h .snapshots) cells
+pub stand-all :
+    (s : List ℕ) (h : Headed) (d : DossierIndex) (cells : List ℕ) (j : ℕ) → DossierIs s h d → d .count ≤ j → StandTo s (h .snapshots) cells j →
+    CellsStand s (h .snapshots) cells
 stand-all s h d cells j w k v = record {
   few = omega (arith, w .count, w .few);
   each = λ p i a b. v .each p i a (omega (arith, w .count));
 }
 
 -- a set of the column, where its cell says
-pub row-stands : (s : List ℕ) (ss : List Snapshot) (cells row : List SetAt) (p j : ℕ) → RowIs cells p row → CellsStand s ss cells → j < length ss → SetIs s (getD (column ss p) j []) (getD row j noSet)
-row-stands s ss cells row p j v w k = let e = v .at j (omega (arith, w .few)) in rw (column-at ss p j, e) (w .each p j (v .within) k .is)
+module _ (s : List ℕ) (ss : List Snapshot) (cells : List ℕ) (p j : ℕ) (h : p < 32) (w : CellsStand s ss cells) (k : j < length ss) where
+  pub column-stands : {x : SetAt} → x ≡ cellIn cells (p * 8 + j) → SetIs s (getD (column ss p) j []) x
+  column-stands e = rw (e, column-at ss p j) (w .each p j h k .is)
 
--- the cells of a place, one by one
-pub row-is :
-    (cells : List SetAt) (p : ℕ) → p < 32 →
-    RowIs cells p (getD cells (p * 8) noSet ∷ getD cells (p * 8 + 1) noSet ∷ getD cells (p * 8 + 2) noSet ∷ getD cells (p * 8 + 3) noSet ∷ getD cells (p * 8 + 4) noSet ∷ getD cells (p * 8 + 5) noSet ∷ getD cells (p * 8 + 6) noSet ∷ getD cells (p * 8 + 7) noSet ∷ [])
-row-is cells p h = record { within = h; at = each }
-  where
-    each :
-        (j : ℕ) → j < 8 →
-        getD (getD cells (p * 8) noSet ∷ getD cells (p * 8 + 1) noSet ∷ getD cells (p * 8 + 2) noSet ∷ getD cells (p * 8 + 3) noSet ∷ getD cells (p * 8 + 4) noSet ∷ getD cells (p * 8 + 5) noSet ∷ getD cells (p * 8 + 6) noSet ∷ getD cells (p * 8 + 7) noSet ∷ []) j noSet
-        ≡ getD cells (p * 8 + j) noSet
-    each zero k = ap (λ (i : ℕ). getD cells i noSet) (omega arith)
-    each (suc zero) k = refl
-    each (suc (suc zero)) k = refl
-    each (suc (suc (suc zero))) k = refl
-    each (suc (suc (suc (suc zero)))) k = refl
-    each (suc (suc (suc (suc (suc zero))))) k = refl
-    each (suc (suc (suc (suc (suc (suc zero)))))) k = refl
-    each (suc (suc (suc (suc (suc (suc (suc zero))))))) k = refl
-    each (suc (suc (suc (suc (suc (suc (suc (suc j)))))))) k = absurd (omega arith)
+  pub column-rises : rising texts (getD (column ss p) j []) ≡ true
+  column-rises = ap (rising texts) (column-at ss p j) ∙ w .each p j h k .rises
+
+-- the first of them
+pub first-cell : (cells : List ℕ) (p : ℕ) → cellIn cells (p * 8) ≡ cellIn cells (p * 8 + 0)
+first-cell cells p = ap (cellIn cells) (omega arith)

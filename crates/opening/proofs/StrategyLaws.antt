@@ -1,9 +1,8 @@
 -- How the sets of a property are merged, by its index.
-use mathlib.Core.Path.{_≡_, refl, sym, ap, _∙_, subst}
-use mathlib.Core.Bool.{Bool, false, not}
-use mathlib.Core.Option.{Option}
+use mathlib.Core.Path.{_≡_, _∙_}
+use mathlib.Core.Bool.{Bool}
 use mathlib.Core.List.{List}
-use Prim.Native.Nat.{ℕ, _≤_, _<_}
+use Prim.Native.Nat.{ℕ, _<_}
 use native.Mathlib.Omega.{arith}
 use lib.ListN.{getD, getElem?}
 use Rattle.ontology.specs.Table.{Property, EventType}
@@ -11,7 +10,6 @@ use Rattle.ontology.specs.code.TypeIndex.{PropertyIs, hasMax, hasExtreme, hasRe
 use Rattle.ontology.specs.declared.properties.PropertyAt.{PropertyAt}
 use Rattle.ontology.specs.declared.types.TypeIndex.{TypeIndex}
 use Rattle.ontology.proofs.TypeIndexLaws.{max-of, extreme-of, replace-of}
-use Rattle.ontology.proofs.RunLaws.{no-element}
 use Rattle.event.proofs.MatchLaws.{Elem, elem}
 use Rattle.opening.specs.code.OpenIndex.{RuleOf, RuleIs}
 use Rattle.opening.specs.declared.strategies.PlaceRule.{PlaceRule}
@@ -21,11 +19,10 @@ module _
     (x : PropertyAt) {replaces extreme largest : Bool}
     (a : replaces ≡ hasReplace x) (b : extreme ≡ hasExtreme x) (c : largest ≡ hasMax x) where
   abbrev pub ruleFrom : PlaceRule
-  ruleFrom = record { single = not (x .multivalued); replaces = replaces; extreme = extreme; largest = largest; kind = x .kind }
+  ruleFrom = record { replaces = replaces; extreme = extreme; largest = largest; kind = x .kind }
 
   rule-from : (s : List ℕ) (q : Property) → PropertyIs s q x → RuleOf q ruleFrom
   rule-from s q w = record {
-    single = ap not (w .multivalued);
     replaces = a ∙ replace-of w;
     extreme = b ∙ extreme-of w;
     largest = c ∙ max-of w;
@@ -36,10 +33,6 @@ module _ (s : List ℕ) (ty : EventType) (t : TypeIndex) (w : TypeIs s ty t) (k 
   pub place : k < t .count → Elem (ty .properties) k
   place h = elem (ty .properties) k (omega (arith, w .count))
 
-  pub rule-none : t .count ≤ k → RuleIs (getElem? (ty .properties) k) (record { single = false; replaces = false; extreme = false; largest = false; kind = 0 })
-  unfolding RuleIs
-  rule-none h = subst (λ (o : Option Property). RuleIs o (record { single = false; replaces = false; extreme = false; largest = false; kind = 0 })) (sym (no-element (ty .properties) k (omega (arith, w .count)))) (record { single = refl; replaces = refl; extreme = refl })
-
   module _ (d : PropertyAt) (h : k < t .count) where
     abbrev x : PropertyAt
     x = getD (t .properties) k d
@@ -48,7 +41,8 @@ module _ (s : List ℕ) (ty : EventType) (t : TypeIndex) (w : TypeIs s ty t) (k 
         {replaces extreme largest : Bool}
         (a : replaces ≡ hasReplace x) (b : extreme ≡ hasExtreme x) (c : largest ≡ hasMax x) →
         RuleIs (getElem? (ty .properties) k) (ruleFrom x a b c)
-    unfolding RuleIs
-    rule-some a b c =
-        subst (λ (o : Option Property). RuleIs o (ruleFrom x a b c)) (sym (place h .is))
-        (rule-from x a b c s (place h .what) (w .are .each k (place h .what) d (place h .is)))
+    rule-some a b c = record {
+      what = place h .what;
+      is = place h .is;
+      rule = rule-from x a b c s (place h .what) (w .are .each k (place h .what) d (place h .is));
+    }

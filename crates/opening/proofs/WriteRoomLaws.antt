@@ -1,80 +1,71 @@
--- The laws of writing a merged event: its head, the set of a place, and the sets of all places.
-use mathlib.Core.Path.{_≡_, refl, sym, ap, subst, subst₂}
-use mathlib.Core.Bool.{false}
+-- The laws of writing a merged event: the union of a place, the sets of all places, and the whole.
+use mathlib.Core.Path.{_≡_, refl, sym, ap, _∙_, subst, subst₂}
 use mathlib.Core.List.{List, [], _++_, map, flatten}
-use Prim.Native.Nat.{ℕ, suc, _+_, _-_, _≤_, _<_}
+use Prim.Native.Nat.{ℕ, suc, _+_, _-_, _*_, _≤_, _<_}
 use native.Mathlib.Omega.{arith}
 use native.Mathlib.Numerals.{add-one}
-use lib.ListN.{length, getD, getElem?, length-append}
+use lib.ListN.{length, getD, length-append}
 use Rattle.model.specs.Order.{Text, texts}
 use Rattle.model.specs.Sets.{canon, upFrom, upTo}
 use Rattle.model.specs.Rule.{places, Dossier}
 use Rattle.model.specs.Opening.{column, mergedAt, mergedSets}
 use Rattle.packed.specs.Packed.{number, text}
 use Rattle.packed.specs.code.Written.{Wrote, ToGo}
+use Rattle.packed.proofs.LayoutLaws.{number-bounds}
 use Rattle.packed.proofs.WriteLaws.{wrote-length, wrote-as, wrote-then, to-go, gone}
 use Rattle.ontology.specs.Table.{EventType}
-use Rattle.ontology.specs.declared.types.TypeIndex.{TypeIndex}
 use Rattle.event.specs.Event.{typeView, eventView}
 use Rattle.event.specs.Head.{headBytes}
 use Rattle.event.specs.EventLayout.{setBytes, setsBytes, presenceBit, bitNumber, eventBytes}
 use Rattle.event.specs.code.EventIndex.{SetIs}
 use Rattle.event.specs.code.SetWriting.{SetRoom}
 use Rattle.event.specs.declared.sets.SetAt.{SetAt}
-use Rattle.event.proofs.SetWriteLaws.{set-room, set-none, set-some, wrote-set}
+use Rattle.event.proofs.SetWriteLaws.{set-some}
 use Rattle.unions.specs.code.Merging.{SetRuns, MergedRoom}
 use Rattle.dossier.specs.declared.dossiers.DossierIndex.{DossierIndex}
 use Rattle.dossier.specs.DossierLayout.{modelOf}
 use Rattle.opening.specs.OpenCall.{mergedEvent}
-use Rattle.opening.specs.code.OpenIndex.{RuleIs, PlaceRoom, SetsRoom, Writable}
-use Rattle.opening.specs.code.CellIndex.{RowIs, RowRoom}
-use Rattle.opening.specs.declared.strategies.PlaceRule.{PlaceRule}
-use Rattle.opening.proofs.MergeLaws.{merged-every}
+use Rattle.opening.specs.code.CellIndex.{setIn}
+use Rattle.opening.specs.code.PlanIndex.{Joined, JoinedRoom, SetsRoom, Writable}
 
--- ---- the set of a place
+-- ---- the union of a place
 
-module _ {s : List ℕ} {cells : List SetAt} {place n : ℕ} {rule : PlaceRule} {count at size : ℕ} (p : PlaceRoom s cells place n rule count at size) where
-  abbrev values : List Text
-  values = mergedAt (typeView (p .type)) (p .dossier) place
-
+module _ {s cells : List ℕ} {place n at size : ℕ} (p : JoinedRoom s cells place n at size) where
   abbrev sets-here : List (List Text)
-  sets-here = column (p .dossier .snapshots) place
+  sets-here = column (p .snapshots) place
 
-  -- one that stands already
-  pub standing-room : (x : SetAt) → SetIs s values x → SetRoom s x at size
-  standing-room x w = record { values = values; is = w; room = p .room }
+  abbrev values : List Text
+  values = canon texts (flatten sets-here)
 
-  -- a union: its count and its values
-  parts-room : at + length (number count) + length (flatten (map text values)) ≤ size
-  parts-room = set-room count values at size (p .counted) (omega (arith, p .room, ap length (set-some count values (p .counted) (p .present))))
+  abbrev texts-here : List ℕ
+  texts-here = flatten (map text values)
 
-  pub count-room : at + length (number count) ≤ size
-  count-room = omega (arith, parts-room)
+  union-bytes : setBytes values ≡ number (length values) ++ texts-here
+  union-bytes = set-some (length values) values refl (λ e. omega (arith, p .some))
 
-  pub runs-here :
-      (starts ends : List ℕ) → SetRuns s starts ends (length (p .dossier .snapshots)) sets-here → SetRuns s starts ends n sets-here
-  runs-here starts ends w = subst (λ (k : ℕ). SetRuns s starts ends k sets-here) (p .merges .count) w
+  union-size : at + length (number (length values)) + length texts-here ≤ size
+  union-size = omega (arith, p .room, ap length union-bytes, length-append (number (length values)) texts-here)
 
-  module _ (a : rule .replaces ≡ false) (b : rule .extreme ≡ false) {l l₁ : List ℕ} {after-count : ℕ} (v : Wrote l at (number count) l₁ after-count) where
-    union-bytes : flatten (map text (canon texts (flatten sets-here))) ≡ flatten (map text values)
-    union-bytes = ap (λ (vs : List Text). flatten (map text vs)) (sym (merged-every (p .type) (p .dossier) place rule (p .rules) a b))
+  module _ {starts ends : List ℕ} (w : SetRuns s starts ends (length (p .snapshots)) sets-here) where
+    pub union-runs : SetRuns s starts ends n sets-here
+    union-runs = subst (λ (k : ℕ). SetRuns s starts ends k sets-here) (p .count) w
 
-    pub union-room : (starts ends : List ℕ) → SetRuns s starts ends n sets-here → length l ≡ size → MergedRoom s starts ends n after-count (length l₁)
-    union-room starts ends w e = record {
-      xss = sets-here;
-      runs = w;
-      room = omega (arith, parts-room, ap length union-bytes, v .after, wrote-length v, e);
-    }
+    -- the values have their room after the first byte of the count
+    pub values-room : MergedRoom s starts ends n (at + 1) size
+    values-room = record { xss = sets-here; runs = union-runs; room = omega (arith, union-size, number-bounds (length values)) }
 
-    pub wrote-union :
-        {l₂ : List ℕ} {next : ℕ} → Wrote l₁ after-count (flatten (map text (canon texts (flatten sets-here)))) l₂ next →
-        Wrote l at (setBytes values) l₂ next
-    wrote-union w = wrote-as (sym (set-some count values (p .counted) (p .present))) (wrote-set count values (p .counted) v (wrote-as union-bytes w))
+  pub first-byte : at + 1 ≤ size
+  first-byte = omega (arith, union-size, number-bounds (length values))
 
-abbrev pub row-room :
-    {s : List ℕ} {cells row : List SetAt} {place n : ℕ} {rule : PlaceRule} {count at size : ℕ} → RowIs cells place row →
-    PlaceRoom s cells place n rule count at size → RowRoom s row n rule count at size
-row-room {s} {cells} {row} {place} v p = record { cells = cells; place = place; is = v; room = p }
+  module _ {l l₁ : List ℕ} {next : ℕ} (w : Wrote l (at + 1) texts-here l₁ next) (count : ℕ) (e : count ≡ length values) where
+    pub count-room : length l ≡ size → (at + 1 ≤ next) × (next + (length (number count) - 1) ≤ length l₁)
+    count-room h = (
+      omega (arith, w .after),
+      omega (arith, w .after, wrote-length w, h, union-size, ap (λ (k : ℕ). length (number k)) e, number-bounds (length values)),
+    )
+
+    pub wrote-union : {l₂ : List ℕ} {end : ℕ} → Wrote l at (number count ++ texts-here) l₂ end → Wrote l at (setBytes values) l₂ end
+    wrote-union o = wrote-as (ap (λ (k : ℕ). number k ++ texts-here) e ∙ sym union-bytes) o
 
 -- ---- the sets of all places
 
@@ -96,7 +87,7 @@ module _ (ty : EventType) (d : Dossier) where
   sets-end p h = let e : 32 - p ≡ 0 = omega arith in rw e
 
 module _
-    {s : List ℕ} {cells : List SetAt} {n : ℕ} {t : TypeIndex} {counts : List ℕ} {at : ℕ} {l₀ : List ℕ} (q : SetsRoom s cells n t counts at (length l₀))
+    {s cells : List ℕ} {n : ℕ} {plan : List ℕ} {at : ℕ} {l₀ : List ℕ} (q : SetsRoom s cells n plan at (length l₀))
     {l : List ℕ} {next : ℕ} (place : ℕ) (h : place < 32)
     (g : ToGo l₀ at (setsBytes (mergedSets (typeView (q .type)) (q .dossier))) l next (setsFrom (q .type) (q .dossier) place)) where
   abbrev this : List Text
@@ -105,22 +96,35 @@ module _
   abbrev after : List ℕ
   after = setsFrom (q .type) (q .dossier) (place + 1)
 
-  abbrev pub place-room :
-      (rule : PlaceRule) → RuleIs (getElem? (q .type .properties) place) rule → (getD counts place 0 ≡ 0 → ⊥) →
-      PlaceRoom s cells place n rule (getD counts place 0) next (length l)
-  place-room rule w z = record {
-    type = q .type;
-    dossier = q .dossier;
-    merges = q .merges;
-    rules = w;
-    counted = q .counted .each place h;
-    present = z;
-    room = omega (arith, q .room, g .after, g .long, ap length (sets-next (q .type) (q .dossier) place h), length-append (setBytes this) after);
-  }
+  pub this-room : next + length (setBytes this) ≤ length l
+  this-room = omega (arith, q .room, g .after, g .long, ap length (sets-next (q .type) (q .dossier) place h), length-append (setBytes this) after)
 
-  -- nothing is written of an absent set
-  pub wrote-absent : getD counts place 0 ≡ 0 → Wrote l next (setBytes this) l next
-  wrote-absent z = set-none (getD counts place 0) this (q .counted .each place h) z
+  -- a set that stands already
+  module _ {x : SetAt} (f : x ≡ setIn plan (4 * place)) (e : getD plan (4 * place + 3) 0 ≡ 1 → ⊥) where
+    pub standing-is : SetIs s this x
+    standing-is = rw f (q .planned .each place h .stands e)
+
+    pub standing-room : SetRoom s x next (length l)
+    standing-room = record { values = this; is = standing-is; room = this-room }
+
+  -- a union
+  module _ (e : getD plan (4 * place + 3) 0 ≡ 1) where
+    pub joined : Joined this (column (q .dossier .snapshots) place)
+    joined = q .planned .each place h .joins e
+
+    abbrev pub joined-room : JoinedRoom s cells place n next (length l)
+    joined-room = record {
+      snapshots = q .dossier .snapshots;
+      stand = q .stand;
+      count = q .count;
+      some = omega (arith, joined .several, ap length (joined .union));
+      room = omega (arith, this-room, ap (λ (vs : List Text). length (setBytes vs)) (joined .union));
+    }
+
+    pub wrote-joined :
+        {l₁ : List ℕ} {next₁ : ℕ} → Wrote l next (setBytes (canon texts (flatten (column (q .dossier .snapshots) place)))) l₁ next₁ →
+        Wrote l next (setBytes this) l₁ next₁
+    wrote-joined w = wrote-as (ap setBytes (sym (joined .union))) w
 
   -- a set is written
   pub set-gone :
@@ -135,7 +139,7 @@ module _
 
 -- ---- the whole event
 
-module _ {s : List ℕ} {d : DossierIndex} {t : TypeIndex} {cells : List SetAt} {counts : List ℕ} {size : ℕ} (w : Writable s d t cells counts size) where
+module _ {s : List ℕ} {d : DossierIndex} {cells plan : List ℕ} {size : ℕ} (w : Writable s d cells plan size) where
   abbrev sets : List (List Text)
   sets = mergedSets (typeView (w .type)) (modelOf (w .headed))
 
@@ -157,14 +161,13 @@ module _ {s : List ℕ} {d : DossierIndex} {t : TypeIndex} {cells : List SetAt} 
     presence-room = omega (arith, event-length, v .after, wrote-length v, e, ap (λ (k : ℕ). length (number k)) f)
 
     module _ {l₂ : List ℕ} {after-presence : ℕ} (u : Wrote l₁ at (number presence) l₂ after-presence) where
-      abbrev pub sets-room : SetsRoom s cells (d .count) t counts after-presence (length l₂)
+      abbrev pub sets-room : SetsRoom s cells (d .count) plan after-presence (length l₂)
       sets-room = record {
-        table = w .table;
         type = w .type;
         dossier = modelOf (w .headed);
-        typed = w .typed;
-        merges = w .merges;
-        counted = w .counted;
+        stand = w .stand;
+        count = sym (w .is .count);
+        planned = w .planned;
         room = omega (arith, event-length, v .after, wrote-length v, e, u .after, wrote-length u, ap (λ (k : ℕ). length (number k)) f);
       }
 

@@ -11,12 +11,12 @@ ghost use Rattle.event.specs.Event.{typeView};
 ghost use Rattle.dossier.specs.DossierLayout.{modelOf};
 ghost use Rattle.opening.specs.OpenCall.{openedAnswer, openCall};
 ghost use Rattle.opening.specs.code.OpenIndex.{Openable};
-use crate::cells::cells_of;
+use crate::cells::put_cells;
 use crate::conflict::Conflict;
 use crate::conflict::Lowest;
 use crate::conflict::find_conflict;
 use crate::merge::find_overfull;
-use crate::merge::merged_counts;
+use crate::merge::plan_sets;
 use crate::write::write_event;
 use dossier::dossiers::DossierIndex;
 use dossier::dossiers::read_dossier;
@@ -28,16 +28,18 @@ use replies::capacities::DOSSIER_CAPACITY;
 use replies::reply::Finding;
 use replies::reply::Opened;
 
-// Without a conflict. The counts are known before the first byte is written.
+// Without a conflict. Which place is overfull is known before the first byte is written.
 fn open_merged(s: &[u8], d: DossierIndex, t: TypeIndex, out: &mut [u8]) -> Opened
     requires { ⌜ Openable (now s) d t × (dossierCapacity ≤ length (now out)) ⌝ }
     ensures { λ r. ⌜ ((o : Openable (now (s .entry)) d t) → conflict (upTo 32) (o .headed .snapshots) ≡ noConflict → openReplies r (now (out .exit)) ≡ outcome (openedAnswer (o .headed) (opening (typeView (o .type)) (modelOf (o .headed)))) (now (out .entry))) ⌝ }
 {
-    let cells = cells_of(s, d);
-    let counts = merged_counts(s, cells, d.count, t);
-    match find_overfull(t, counts) {
+    let mut cells = [0usize; 768];
+    put_cells(s, d, &mut cells);
+    let mut plan = [0usize; 128];
+    plan_sets(s, &cells, d.count, t, &mut plan);
+    match find_overfull(t, &plan) {
         Lowest::Place(place) => Opened::Found(Finding::Overfull(place)),
-        Lowest::NoPlace => Opened::Merged(write_event(s, d, t, cells, counts, out)),
+        Lowest::NoPlace => Opened::Merged(write_event(s, d, &cells, &plan, out)),
     }
 }
 
@@ -51,6 +53,7 @@ fn open_asked(s: &[u8], d: DossierIndex, t: TypeIndex, out: &mut [u8]) -> Opened
         Conflict::NoConflict => open_merged(s, d, t, out),
     }
 }
+
 // The merged event of a dossier, written at the front of `out`.
 pub fn open_dossier(table: &[u8], dossier: &[u8], out: &mut [u8]) -> Opened
     ensures { λ r. ⌜ openReplies r (now (out .exit)) ≡ openCall standard (now (table .entry)) (now (dossier .entry)) (now (out .entry)) ⌝ }

@@ -1,14 +1,14 @@
-ghost use Prim.Native.Nat.{ℕ, _<_};
+ghost use Prim.Native.Nat.{ℕ, _+_, _<_};
+ghost use mathlib.Core.Path.{_≡_};
 ghost use mathlib.Core.List.{List};
 ghost use lib.ListN.{length, drop, getD};
 ghost use Rattle.model.specs.Rule.{Snapshot};
 ghost use Rattle.model.specs.Opening.{column};
-ghost use Rattle.event.specs.declared.sets.SetAt.{SetAt};
 ghost use Rattle.unions.specs.code.Merging.{SetRuns};
 ghost use Rattle.dossier.specs.DossierLayout.{Headed};
 ghost use Rattle.dossier.specs.code.DossierIndex.{SnapshotIs, noSnapshot, DossierIs, IsDossier};
+ghost use Rattle.opening.specs.code.CellIndex.{setIn, withSet, cellIn};
 ghost use Rattle.opening.specs.code.OpenIndex.{Shifted, CellsStand};
-ghost use Rattle.opening.specs.code.CellIndex.{RowIs};
 use dossier::dossiers::DossierIndex;
 use dossier::snapshots::SnapshotIndex;
 use dossier::snapshots::read_snapshot;
@@ -52,17 +52,40 @@ fn snapshot_at(s: &[u8], d: DossierIndex, j: usize) -> SnapshotIndex
     read_snapshot(&s[at..])
 }
 
-// The cells of all snapshots. The set of place p in snapshot j is cell p * 8 + j.
-pub fn cells_of(s: &[u8], d: DossierIndex) -> [SetAt; 256]
-    requires { ⌜ IsDossier (now s) d ⌝ }
-    ensures { λ r. ⌜ ((h : Headed) → DossierIs (now (s .entry)) h d → CellsStand (now (s .entry)) (h .snapshots) r) ⌝ }
+// A set among numbers, from position `at` on: where it starts, where it ends, and its count.
+pub fn set_in(xs: &[usize], at: usize) -> SetAt
+    requires { ⌜ at + 2 < length (now xs) ⌝ }
+    ensures { λ r. ⌜ r ≡ setIn (now (xs .entry)) at ⌝ }
 {
-    let none = SetAt {
-        start: 0,
-        end: 0,
-        count: 0,
-    };
-    let mut cells = [none; 256];
+    SetAt {
+        start: xs[at],
+        end: xs[at + 1],
+        count: xs[at + 2],
+    }
+}
+
+pub fn put_set(xs: &mut [usize], at: usize, x: SetAt)
+    requires { ⌜ at + 2 < length (now xs) ⌝ }
+    ensures { λ r. ⌜ now (xs .exit) ≡ withSet (now (xs .entry)) at x ⌝ }
+{
+    xs[at] = x.start;
+    xs[at + 1] = x.end;
+    xs[at + 2] = x.count;
+}
+
+// The set of place p in snapshot j is cell p * 8 + j.
+pub fn cell_at(cells: &[usize], k: usize) -> SetAt
+    requires { ⌜ (length (now cells) ≡ 768) × (k < 256) ⌝ }
+    ensures { λ r. ⌜ r ≡ cellIn (now (cells .entry)) k ⌝ }
+{
+    set_in(cells, 3 * k)
+}
+
+// The cells of all snapshots.
+pub fn put_cells(s: &[u8], d: DossierIndex, cells: &mut [usize])
+    requires { ⌜ IsDossier (now s) d × (length (now cells) ≡ 768) ⌝ }
+    ensures { λ r. ⌜ ((h : Headed) → DossierIs (now (s .entry)) h d → CellsStand (now (s .entry)) (h .snapshots) (now (cells .exit))) ⌝ }
+{
     let mut j: usize = 0;
     while j < d.count {
         let at = d.starts[j];
@@ -70,17 +93,18 @@ pub fn cells_of(s: &[u8], d: DossierIndex) -> [SetAt; 256]
         let mut p: usize = 0;
         while p < 32 {
             let set = x.sets[p];
-            cells[p * 8 + j] = shifted(set, at, s.len());
+            put_set(cells, 3 * (p * 8 + j), shifted(set, at, s.len()));
             p += 1;
         }
         j += 1;
     }
-    cells
 }
 
 // The runs of a place, one for each snapshot, from its cells.
-pub fn runs_of(row: [SetAt; 8]) -> Runs
-    ensures { λ r. ⌜ ((cells : List SetAt) (place : ℕ) (s : List ℕ) (ss : List Snapshot) → RowIs cells place row → CellsStand s ss cells → SetRuns s (r .starts) (r .ends) (length ss) (column ss place)) ⌝ }
+pub fn runs_of(cells: &[usize], place: usize) -> Runs
+    requires { ⌜ (length (now cells) ≡ 768) × (place < 32) ⌝ }
+    ensures { λ r. ⌜ ((s : List ℕ) (ss : List Snapshot) → CellsStand s ss (now (cells .entry))
+        → SetRuns s (r .starts) (r .ends) (length ss) (column ss place)) ⌝ }
 {
     let mut r = Runs {
         starts: [0; 8],
@@ -88,7 +112,7 @@ pub fn runs_of(row: [SetAt; 8]) -> Runs
     };
     let mut j: usize = 0;
     while j < 8 {
-        let x = row[j];
+        let x = cell_at(cells, place * 8 + j);
         r.starts[j] = x.start;
         r.ends[j] = x.end;
         j += 1;

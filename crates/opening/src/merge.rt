@@ -1,11 +1,11 @@
 ghost use Prim.Native.Nat.{ℕ, _<_, _≤_};
 ghost use mathlib.Core.Path.{_≡_};
-ghost use mathlib.Core.Bool.{true, _&&_};
+ghost use mathlib.Core.Bool.{Bool, _&&_};
 ghost use mathlib.Core.List.{List, [], map, flatten};
 ghost use lib.ListN.{length, take, getD, getElem?};
 ghost use lib.Dec.{leb};
-ghost use Rattle.model.specs.Order.{Text};
-ghost use Rattle.model.specs.Sets.{union, smallest};
+ghost use Rattle.model.specs.Order.{Text, texts};
+ghost use Rattle.model.specs.Sets.{union, canon, smallest};
 ghost use Rattle.model.specs.Rule.{Snapshot, Dossier};
 ghost use Rattle.model.specs.Opening.{column, mergedAt, mergedSets, overfull};
 ghost use Rattle.values.specs.Spaces.{Kind};
@@ -15,10 +15,10 @@ ghost use Rattle.ontology.specs.code.TypeIndex.{TypeIs};
 ghost use Rattle.event.specs.Event.{typeView};
 ghost use Rattle.event.specs.EventLayout.{presenceBit, bitNumber};
 ghost use Rattle.event.specs.code.EventIndex.{SetIs};
-ghost use Rattle.event.specs.declared.sets.SetAt.{SetAt};
-ghost use Rattle.opening.specs.code.OpenIndex.{lowestOf, CellsStand, RuleIs, Lone, Chooses, CountsMerged, Mergeable};
-ghost use Rattle.opening.specs.code.CellIndex.{isStanding, RowIs};
-use crate::cells::runs_of;
+ghost use Rattle.opening.specs.code.OpenIndex.{lowestOf, CellsStand, RuleIs, Lone, Chooses, Mergeable};
+ghost use Rattle.opening.specs.code.PlanIndex.{PlaceIs, withPlace, PlanIs};
+use crate::cells::cell_at;
+use crate::cells::put_set;
 use crate::conflict::Lowest;
 use crate::strategies::PlaceRule;
 use crate::strategies::rule_of;
@@ -27,7 +27,7 @@ use event::sets::SetAt;
 use event::sets::set_part;
 use event::sets::value_in;
 use ontology::types::TypeIndex;
-use unions::many::count_merged;
+use packed::order::same;
 use values::spaces::compare_values;
 use values::spaces::takes_first;
 
@@ -51,103 +51,126 @@ fn better(s: &[u8], kind: u8, largest: bool, a: SetAt, b: SetAt) -> SetAt
 }
 
 // The smallest or the largest value of a place in n snapshots.
-fn extreme_of(s: &[u8], row: [SetAt; 8], n: usize, kind: u8, largest: bool) -> SetAt
-    requires { ⌜ (1 ≤ n) × (n ≤ 8) ⌝ }
-    ensures { λ r. ⌜ ((cells : List SetAt) (place : ℕ) (ss : List Snapshot) (k : Kind) → RowIs cells place row → CellsStand (now (s .entry)) ss cells → length ss ≡ n → Chooses k kind → ((j : ℕ) → j < n → Lone k (getD (column ss place) j [])) → SetIs (now (s .entry)) (smallest (extremeOrder largest k) (flatten (column ss place))) r) ⌝ }
+fn extreme_of(s: &[u8], cells: &[usize], place: usize, n: usize, kind: u8, largest: bool) -> SetAt
+    requires { ⌜ (length (now cells) ≡ 768) × (place < 32) × (1 ≤ n) × (n ≤ 8) ⌝ }
+    ensures { λ r. ⌜ ((ss : List Snapshot) (k : Kind) → CellsStand (now (s .entry)) ss (now (cells .entry)) → length ss ≡ n → Chooses k kind
+        → ((j : ℕ) → j < n → Lone k (getD (column ss place) j []))
+        → SetIs (now (s .entry)) (smallest (extremeOrder largest k) (flatten (column ss place))) r) ⌝ }
 {
-    let mut best = row[0];
+    let mut best = cell_at(cells, place * 8);
     let mut j: usize = 1;
     while j < n {
-        let x = row[j];
+        let x = cell_at(cells, place * 8 + j);
         best = better(s, kind, largest, best, x);
         j += 1;
     }
     best
 }
 
-// Whether a merged set is the set of one of the snapshots, and need not be made.
-pub fn is_standing(rule: PlaceRule, n: usize) -> bool
-    ensures { λ r. ⌜ r ≡ isStanding rule n ⌝ }
-{
-    if n == 1 {
-        return true;
-    }
-    if rule.replaces {
-        return true;
-    }
-    rule.extreme
+// Where a merged set stands: it is the set of one of the snapshots; or it is a union of sets that differ, and is to be made.
+pub enum PlaceMerged {
+    Stands(SetAt),
+    Joins,
 }
 
-// Where a merged set stands already: the only snapshot's, the last one's, or the one with the chosen value.
-pub fn standing(s: &[u8], row: [SetAt; 8], n: usize, rule: PlaceRule) -> SetAt
-    requires { ⌜ (1 ≤ n) × (n ≤ 8) ⌝ }
-    ensures { λ r. ⌜ ((cells : List SetAt) (place : ℕ) (t : EventType) (d : Dossier) → RowIs cells place row → Mergeable (now (s .entry)) cells n t d → RuleIs (getElem? (t .properties) place) rule → isStanding rule n ≡ true → SetIs (now (s .entry)) (mergedAt (typeView t) d place) r) ⌝ }
+// The union of the sets of a place. It stands already where all sets that are not empty are the same.
+fn only_set(s: &[u8], cells: &[usize], place: usize, n: usize) -> PlaceMerged
+    requires { ⌜ (length (now cells) ≡ 768) × (place < 32) × (1 ≤ n) × (n ≤ 8) ⌝ }
+    ensures { λ r. ⌜ ((ss : List Snapshot) → CellsStand (now (s .entry)) ss (now (cells .entry)) → length ss ≡ n
+        → PlaceIs (now (s .entry)) (canon texts (flatten (column ss place))) (column ss place) r) ⌝ }
+{
+    let mut only = cell_at(cells, place * 8);
+    let mut j: usize = 1;
+    while j < n {
+        let x = cell_at(cells, place * 8 + j);
+        if x.count != 0 {
+            if only.count == 0 {
+                only = x;
+            } else {
+                if !same(set_part(s, only), set_part(s, x)) {
+                    return PlaceMerged::Joins;
+                }
+            }
+        }
+        j += 1;
+    }
+    PlaceMerged::Stands(only)
+}
+
+// The merged set of a place: the only snapshot's, the last one's, the one with the chosen value, or the union.
+fn merged_at(s: &[u8], cells: &[usize], place: usize, n: usize, rule: PlaceRule) -> PlaceMerged
+    requires { ⌜ (length (now cells) ≡ 768) × (place < 32) × (1 ≤ n) × (n ≤ 8) ⌝ }
+    ensures { λ r. ⌜ ((t : EventType) (d : Dossier) → Mergeable (now (s .entry)) (now (cells .entry)) n t d → RuleIs (getElem? (t .properties) place) rule
+        → PlaceIs (now (s .entry)) (mergedAt (typeView t) d place) (column (d .snapshots) place) r) ⌝ }
 {
     if n == 1 || rule.replaces {
-        return row[n - 1];
+        return PlaceMerged::Stands(cell_at(cells, place * 8 + n - 1));
     }
-    extreme_of(s, row, n, rule.kind, rule.largest)
+    if rule.extreme {
+        return PlaceMerged::Stands(extreme_of(s, cells, place, n, rule.kind, rule.largest));
+    }
+    only_set(s, cells, place, n)
 }
 
-// How many objects a merged set has.
-fn merged_count(s: &[u8], row: [SetAt; 8], n: usize, rule: PlaceRule) -> usize
-    requires { ⌜ (1 ≤ n) × (n ≤ 8) ⌝ }
-    ensures { λ r. ⌜ ((cells : List SetAt) (place : ℕ) (t : EventType) (d : Dossier) → RowIs cells place row → Mergeable (now (s .entry)) cells n t d → RuleIs (getElem? (t .properties) place) rule → r ≡ length (mergedAt (typeView t) d place)) ⌝ }
+// The plan of a place has four numbers: the set that stands, and 0. Where the sets are to be joined, the fourth is 1, and the count is 2, since the union has
+// so many values at least.
+fn put_place(plan: &mut [usize], place: usize, x: PlaceMerged)
+    requires { ⌜ (length (now plan) ≡ 128) × (place < 32) ⌝ }
+    ensures { λ r. ⌜ now (plan .exit) ≡ withPlace (now (plan .entry)) place x ⌝ }
 {
-    if is_standing(rule, n) {
-        let x = standing(s, row, n, rule);
-        return x.count;
+    match x {
+        PlaceMerged::Stands(set) => {
+            put_set(plan, 4 * place, set);
+            plan[4 * place + 3] = 0;
+        }
+        PlaceMerged::Joins => {
+            plan[4 * place + 2] = 2;
+            plan[4 * place + 3] = 1;
+        }
     }
-    let runs = runs_of(row);
-    let starts = runs.starts;
-    let ends = runs.ends;
-    count_merged(s, starts, ends, n)
 }
 
-// The counts of all places. The cells of a place are taken here, since a call copies the arrays that it is given.
-pub fn merged_counts(s: &[u8], cells: [SetAt; 256], n: usize, t: TypeIndex) -> [usize; 32]
-    requires { ⌜ (t .count ≤ 32) × (1 ≤ n) × (n ≤ 8) ⌝ }
-    ensures { λ r. ⌜ ((u : List ℕ) (ty : EventType) (d : Dossier) → TypeIs u ty t → Mergeable (now (s .entry)) cells n ty d → CountsMerged ty d r) ⌝ }
+// The merged sets of all places, before any is made. A place without a property has no objects.
+pub fn plan_sets(s: &[u8], cells: &[usize], n: usize, t: TypeIndex, plan: &mut [usize])
+    requires { ⌜ (t .count ≤ 32) × (1 ≤ n) × (n ≤ 8) × (length (now cells) ≡ 768) × (length (now plan) ≡ 128) ⌝ }
+    ensures { λ r. ⌜ ((u : List ℕ) (ty : EventType) (d : Dossier) → TypeIs u ty t → Mergeable (now (s .entry)) (now (cells .entry)) n ty d
+        → PlanIs (now (s .entry)) (now (plan .exit)) ty d) ⌝ }
 {
-    let mut counts = [0; 32];
+    let none = SetAt {
+        start: 0,
+        end: 0,
+        count: 0,
+    };
     let mut p: usize = 0;
     while p < 32 {
-        let rule = rule_of(t, p);
-        let row = [
-            cells[p * 8],
-            cells[p * 8 + 1],
-            cells[p * 8 + 2],
-            cells[p * 8 + 3],
-            cells[p * 8 + 4],
-            cells[p * 8 + 5],
-            cells[p * 8 + 6],
-            cells[p * 8 + 7],
-        ];
-        counts[p] = merged_count(s, row, n, rule);
+        if p < t.count {
+            put_place(plan, p, merged_at(s, cells, p, n, rule_of(t, p)));
+        } else {
+            put_place(plan, p, PlaceMerged::Stands(none));
+        }
         p += 1;
     }
-    counts
 }
 
-fn is_overfull(rule: PlaceRule, count: usize) -> bool
-    ensures { λ r. ⌜ r ≡ (rule .single && leb 2 count) ⌝ }
+fn is_overfull(single: bool, count: usize) -> bool
+    ensures { λ r. ⌜ r ≡ (single && leb 2 count) ⌝ }
 {
-    if rule.single {
+    if single {
         return 2 <= count;
     }
     false
 }
 
 // The lowest single-valued place that would get more than one object.
-pub fn find_overfull(t: TypeIndex, counts: [usize; 32]) -> Lowest
-    requires { ⌜ t .count ≤ 32 ⌝ }
-    ensures { λ r. ⌜ ((u : List ℕ) (ty : EventType) (d : Dossier) → TypeIs u ty t → CountsMerged ty d counts → lowestOf r ≡ overfull (typeView ty) d) ⌝ }
+pub fn find_overfull(t: TypeIndex, plan: &[usize]) -> Lowest
+    requires { ⌜ (t .count ≤ 32) × (length (now plan) ≡ 128) ⌝ }
+    ensures { λ r. ⌜ ((u s : List ℕ) (ty : EventType) (d : Dossier) → TypeIs u ty t → PlanIs s (now (plan .entry)) ty d
+        → lowestOf r ≡ overfull (typeView ty) d) ⌝ }
 {
     let mut p: usize = 0;
-    while p < 32 {
-        let rule = rule_of(t, p);
-        let count = counts[p];
-        if is_overfull(rule, count) {
+    while p < t.count {
+        let property = t.properties[p];
+        if is_overfull(!property.multivalued, plan[4 * p + 2]) {
             return Lowest::Place(p);
         }
         p += 1;
@@ -155,14 +178,16 @@ pub fn find_overfull(t: TypeIndex, counts: [usize; 32]) -> Lowest
     Lowest::NoPlace
 }
 
-// The presence number of merged sets of so many objects.
-pub fn presence_of(counts: [usize; 32]) -> u64
-    ensures { λ r. ⌜ ((ty : EventType) (d : Dossier) → CountsMerged ty d counts → r ≡ bitNumber (map presenceBit (mergedSets (typeView ty) d))) ⌝ }
+// The presence number of the merged sets.
+pub fn presence_of(plan: &[usize]) -> u64
+    requires { ⌜ length (now plan) ≡ 128 ⌝ }
+    ensures { λ r. ⌜ ((s : List ℕ) (ty : EventType) (d : Dossier) → PlanIs s (now (plan .entry)) ty d
+        → r ≡ bitNumber (map presenceBit (mergedSets (typeView ty) d))) ⌝ }
 {
     let mut present = [false; 32];
     let mut p: usize = 0;
     while p < 32 {
-        present[p] = 0 < counts[p];
+        present[p] = 0 < plan[4 * p + 2];
         p += 1;
     }
     number_of(present)

@@ -1,4 +1,4 @@
-ghost use Prim.Native.Nat.{ℕ, _≤_};
+ghost use Prim.Native.Nat.{ℕ, _≤_, _<_};
 ghost use mathlib.Core.List.{List};
 ghost use lib.ListN.{getElem?};
 ghost use Rattle.ontology.specs.Table.{EventType};
@@ -11,30 +11,18 @@ use ontology::types::TypeIndex;
 
 // How the sets of a place are merged: the last one, the smallest or the largest value by the order of a kind, or the union.
 pub struct PlaceRule {
-    pub single: bool,
     pub replaces: bool,
     pub extreme: bool,
     pub largest: bool,
     pub kind: u8,
 }
 
-// A place without a property has the union, of nothing.
 pub fn rule_of(t: TypeIndex, place: usize) -> PlaceRule
-    requires { ⌜ t .count ≤ 32 ⌝ }
+    requires { ⌜ (t .count ≤ 32) × (place < t .count) ⌝ }
     ensures { λ r. ⌜ ((s : List ℕ) (ty : EventType) → TypeIs s ty t → RuleIs (getElem? (ty .properties) place) r) ⌝ }
 {
-    if t.count <= place {
-        return PlaceRule {
-            single: false,
-            replaces: false,
-            extreme: false,
-            largest: false,
-            kind: 0,
-        };
-    }
     let p = t.properties[place];
     PlaceRule {
-        single: !p.multivalued,
         replaces: is_replace(p),
         extreme: is_extreme(p),
         largest: is_max(p),

@@ -1,7 +1,7 @@
 -- The laws of merging several runs.
-use mathlib.Core.Path.{_≡_, refl, sym, ap, _∙_, subst}
+use mathlib.Core.Path.{_≡_, refl, sym, ap, ap₂, _∙_, subst}
 use mathlib.Core.Logic.{_⊎_, inl, inr, ⊎-elim}
-use mathlib.Core.Bool.{true, false}
+use mathlib.Core.Bool.{Bool, true, false, cond}
 use mathlib.Core.List.{List, [], _∷_, _++_, append-assoc, map, flatten, List·Memᴰ, List·Memᴰ·head, List·Memᴰ·tail, List·Memᴰ·cases-cons, List·Memᴰ·not-nil, List·Memᴰ·append-cases, Memᴰ·append-left, Memᴰ·append-right, Memᴰ·cast}
 use Prim.Native.Nat.{ℕ, zero, suc, _+_, _^_, _≤_, _<_, Ordering, Ordering·lt, Ordering·eq, Ordering·gt}
 use native.Mathlib.Omega.{arith}
@@ -9,24 +9,23 @@ use native.Mathlib.Numerals.{add-one}
 use lib.ListN.{length, take, drop, getD, set, length-append}
 use lib.Seq.{take-suc, take-all, getD-set-same, getD-set-other}
 use borrow.Author.Count.{below-more}
-use Rattle.model.specs.Order.{Text, texts, rising, equal, pick}
+use Rattle.model.specs.Order.{Text, texts, rising, equal, pick, flip}
 use Rattle.model.specs.Keyed.{Above, merge}
 use Rattle.model.specs.Sets.{Ups, itself, first, union, canon, smallest}
 use Rattle.model.proofs.Cases.{never, truth}
 use Rattle.model.proofs.OrderLaws.{equal-true, equal-false}
 use Rattle.model.proofs.KeyedLaws.{above-member, merge-left}
-use Rattle.model.proofs.SetLaws.{rising-ups, canon-of, canon-ups, canon-same, smallest-member, smaller}
+use Rattle.model.proofs.SetLaws.{rising-ups, canon-of, canon-in, canon-ups, canon-same, smallest-member, smaller}
 use Rattle.model.proofs.StepLaws.{union-left-nil, union-right-nil, smallest-snoc}
 use Rattle.packed.specs.Packed.{text, part}
 use Rattle.packed.proofs.LayoutLaws.{All, text-length, number-bounds}
 use Rattle.packed.proofs.ReadLaws.{part-length, stretch}
 use Rattle.packed.specs.code.Written.{Wrote, ToGo}
-use Rattle.packed.proofs.WriteLaws.{all-gone}
+use Rattle.packed.proofs.WriteLaws.{to-go, all-gone}
 use Rattle.unions.specs.declared.heads.Form.the-variants as form
 use Rattle.unions.specs.declared.many.Least.{Least}
-use Rattle.unions.specs.declared.many.Least.the-variants.{At, Nothing}
 use Rattle.unions.specs.code.Runs.{written, run, Run, HeadIs, NoHead}
-use Rattle.unions.specs.code.Merging.{SetRun, SetRuns, passed, RightLeast, valueAt, Lesser, IsLeast}
+use Rattle.unions.specs.code.Merging.{SetRun, SetRuns, passed, RightLeast, leastText, valueAt, LeastTo, Lesser, IsLeast}
 use Rattle.unions.proofs.RunLaws.{First, part-then, head-part, run-head, texts-fit, write-room, write-next}
 
 -- ---- the least value of rising lists is the first of their union, and the others follow without it
@@ -152,88 +151,213 @@ module _ (s : List ℕ) (at end : ℕ) where
 set-rest : (s : List ℕ) (end e : ℕ) (xs : List Text) (v : Text) → e ≤ length s → end ≤ length s → (w : First form.Texts xs v (drop e s) (drop end s)) → SetRun s e end (w .more)
 set-rest s end e xs v h k w = run-is s e end (w .more) h k (w .left)
 
--- ---- the lesser of two values
+-- ---- one run more is taken in
 
-module _ (s : List ℕ) (best : Least) (at end : ℕ) where
-  value-nil : (b : Least) → take 1 (union texts (valueAt s b) (smallest texts [])) ≡ valueAt s b
-  unfolding valueAt smallest canon
-  value-nil (At i a e) = ap (take 1) (union-right-nil texts (part s a e ∷ []) (tt, tt))
-  value-nil Nothing = ap (take 1) (union-left-nil texts [])
+-- m is less than all of xs
+abbrev Low : Text → List Text → Type 0
+Low m xs = (a : Text) → List·Memᴰ a xs → texts .cmp m a ≡ Ordering·lt
 
-  pub lesser-none : RightLeast s best → ((xs : List Text) → SetRun s at end xs → xs ≡ []) → Lesser s best at end best
-  lesser-none h k = record {
-    right = h;
-    is = λ xs r. sym (ap (λ (l : List Text). take 1 (union texts (valueAt s best) (smallest texts l))) (k xs r) ∙ value-nil best);
+-- then it is not passed in them
+passed-low : (m : Text) (xs : List Text) → Low m xs → passed m xs ≡ xs
+unfolding passed
+passed-low m [] h = refl
+passed-low m (x ∷ xs) h = rw (equal-false texts x m .1 (λ q. never (cc (h x (List·Memᴰ·head refl), texts .self x))))
+
+-- what is less than the least is less than all, and less than all of none
+low-less : (m b : Text) (xs : List Text) → smallest texts xs ≡ b ∷ [] → texts .cmp m b ≡ Ordering·lt → Low m xs
+low-less m b xs e l a n = ⊎-elim (λ q. rw (← q) l) (λ k. texts .step m b a l k) (smallest-member texts xs [] b e .1 a n)
+
+low-none : (m : Text) (xs : List Text) → smallest texts xs ≡ [] → Low m xs
+low-none m xs e a n = absurd (List·Memᴰ·not-nil (rw (canon-none xs e) at (canon-in texts xs a n)))
+
+-- the values of a run are among those of the first j
+flat-at : (xss : List (List Text)) (i j : ℕ) → i < j → (a : Text) → List·Memᴰ a (getD xss i []) → List·Memᴰ a (flatten (take j xss))
+unfolding flatten
+flat-at [] i j h a n = absurd (List·Memᴰ·not-nil n)
+flat-at (xs ∷ xss) i zero h a n = absurd (omega arith)
+flat-at (xs ∷ xss) zero (suc j) h a n = Memᴰ·append-left (flatten (take j xss)) n
+flat-at (xs ∷ xss) (suc i) (suc j) h a n = Memᴰ·append-right xs (flat-at xss i j (omega arith) a n)
+
+-- what the answer tells of
+value-some : (s : List ℕ) (r : Least) → r .found ≡ true → valueAt s r ≡ leastText s r ∷ []
+unfolding valueAt
+value-some s r f = ap (λ (b : Bool). cond b (leastText s r ∷ []) []) f
+
+value-none : (s : List ℕ) (r : Least) → r .found ≡ false → valueAt s r ≡ []
+unfolding valueAt
+value-none s r f = ap (λ (b : Bool). cond b (leastText s r ∷ []) []) f
+
+value-nil : (s : List ℕ) (r : Least) → take 1 (union texts (valueAt s r) (smallest texts [])) ≡ valueAt s r
+unfolding smallest canon
+value-nil s r =
+    truth (r .found)
+    (λ f. rw (value-some s r f) (ap (take 1) (union-right-nil texts (leastText s r ∷ []) (tt, tt))))
+    (λ f. rw (value-none s r f) (ap (take 1) (union-left-nil texts [])))
+
+-- the answer r, with run j going on at q
+abbrev onward : Least → ℕ → ℕ → Least
+onward r j q = record { found = r .found; start = r .start; value = r .value; end = r .end; after = set (r .after) j q }
+
+-- the value from p up to q, which stands first in run j
+abbrev headOf : List ℕ → ℕ → ℕ → ℕ → Least
+headOf ats j p q = record { found = true; start = getD ats j 0; value = p; end = q; after = set ats j q }
+
+module _
+    (s ats ends : List ℕ) (n : ℕ) (xss : List (List Text)) (w : SetRuns s ats ends n xss) (j : ℕ) (h : j < n)
+    (best : Least) (b : LeastTo s ends n xss j best) where
+  abbrev this : List Text
+  this = getD xss j []
+
+  least-next : (v : List Text) → take 1 (union texts (valueAt s best) (smallest texts this)) ≡ v → v ≡ smallest texts (flatten (take (j + 1) xss))
+  least-next v e =
+      let l : j < length xss = omega (arith, w .long) in
+      sym e
+      ∙ ap (λ (v : List Text). take 1 (union texts v (smallest texts this))) (b .least)
+      ∙ sym (smallest-snoc texts (take j xss) this)
+      ∙ ap (λ (z : List (List Text)). smallest texts (flatten z)) (sym (take-suc xss j [] l) ∙ ap (λ (m : ℕ). take m xss) (sym (add-one j)))
+
+  -- the least so far is kept, and is not the first of run j
+  least-kept :
+      take 1 (union texts (valueAt s best) (smallest texts this)) ≡ valueAt s best → (best .found ≡ true → passed (leastText s best) this ≡ this) →
+      LeastTo s ends n xss (j + 1) best
+  least-kept v p = record {
+    least = least-next (valueAt s best) v;
+    passes = λ f. below-more
+        (λ (i : ℕ). i < n → SetRun s (getD (best .after) i 0) (getD ends i 0) (passed (leastText s best) (getD xss i [])))
+        j
+        (b .passes f)
+        (λ k. rw (p f) (b .stays f j (omega arith) k));
+    stays = λ f i k. b .stays f i (omega arith);
   }
 
-  module _ (l : length s < 2 ^ 64) (some : at < end) (p q : ℕ) (w : HeadIs form.Texts s at p q) where
-    pub lesser-first : best ≡ Nothing → Lesser s best at end (At at p q)
+  module _ (q : ℕ) where
+    -- the least so far is the first of run j too
+    least-both :
+        take 1 (union texts (valueAt s best) (smallest texts this)) ≡ valueAt s best → j < length (best .after) →
+        SetRun s q (getD ends j 0) (passed (leastText s best) this) → LeastTo s ends n xss (j + 1) (onward best j q)
     unfolding valueAt
-    lesser-first b = record {
-      right = w;
-      is = λ xs r. sym (rw (b, set-smallest s at end l some p q w xs r) (ap (take 1) (union-left-nil texts (part s p q ∷ []))));
+    least-both v long r = record {
+      least = least-next (valueAt s best) v;
+      passes = λ f. below-more
+          (λ (i : ℕ). i < n → SetRun s (getD (set (best .after) j q) i 0) (getD ends i 0) (passed (leastText s best) (getD xss i [])))
+          j
+          (λ i l k. let ne : i ≡ j → ⊥ = λ e. omega arith in rw (getD-set-other (best .after) j i q 0 ne) (b .passes f i l k))
+          (λ k. rw (getD-set-same (best .after) j q 0 long) r);
+      stays = λ f i k l. let ne : i ≡ j → ⊥ = λ e. omega arith in rw (getD-set-other (best .after) j i q 0 ne) (b .stays f i (omega arith) l);
     }
 
-    module _ (i a e : ℕ) (b : best ≡ At i a e) where
-      picked : (xs : List Text) → SetRun s at end xs →
-          take 1 (union texts (valueAt s best) (smallest texts xs)) ≡ pick (texts .cmp (part s a e) (part s p q)) (part s a e ∷ []) (part s a e ∷ []) (part s p q ∷ [])
+    -- the first of run j is less than all before it
+    module _ (p : ℕ) where
+      least-first :
+          take 1 (union texts (valueAt s best) (smallest texts this)) ≡ part s p q ∷ [] → Low (part s p q) (flatten (take j xss)) → j < length ats →
+          SetRun s q (getD ends j 0) (passed (part s p q) this) → LeastTo s ends n xss (j + 1) (headOf ats j p q)
       unfolding valueAt
-      picked xs r = rw (b, set-smallest s at end l some p q w xs r) (smaller texts (part s a e) (part s p q))
+      least-first v low long r = record {
+        least = least-next (part s p q ∷ []) v;
+        passes = λ f. below-more
+            (λ (i : ℕ). i < n → SetRun s (getD (set ats j q) i 0) (getD ends i 0) (passed (part s p q) (getD xss i [])))
+            j
+            (λ i l k.
+            let ne : i ≡ j → ⊥ = λ e. omega arith in
+            rw (getD-set-other ats j i q 0 ne, passed-low (part s p q) (getD xss i []) (λ a m. low a (flat-at xss i j l a m))) (w .each i k))
+            (λ k. rw (getD-set-same ats j q 0 long) r);
+        stays = λ f i k l. let ne : i ≡ j → ⊥ = λ e. omega arith in rw (getD-set-other ats j i q 0 ne) (w .each i l);
+      }
 
-      pub lesser-kept : HeadIs form.Texts s i a e → (o : Ordering) → pick o true true false ≡ true → texts .cmp (part s a e) (part s p q) ≡ o → Lesser s best at end (At i a e)
-      unfolding valueAt
-      lesser-kept h o t c = record { right = h; is = λ xs r. sym (picked xs r ∙ rw c (go o t)) }
-        where
-          go : (o : Ordering) → pick o true true false ≡ true → pick o (part s a e ∷ []) (part s a e ∷ []) (part s p q ∷ []) ≡ part s a e ∷ []
-          go Ordering·lt t = refl
-          go Ordering·eq t = refl
-          go Ordering·gt t = never (cc)
+module _ (s : List ℕ) (best : Least) (ats : List ℕ) (j end : ℕ) where
+  pub lesser-none : RightLeast s best → ((xs : List Text) → SetRun s (getD ats j 0) end xs → xs ≡ []) → Lesser s best ats j end best
+  unfolding passed
+  lesser-none r k = record {
+    right = r;
+    more = λ ends n xss w h e b.
+        let z : getD xss j [] ≡ [] = k (getD xss j []) (rw e at (w .each j h)) in
+        least-kept s ats ends n xss w j h best b (rw z (value-nil s best)) (λ f. rw z);
+  }
 
-      pub lesser-taken : texts .cmp (part s a e) (part s p q) ≡ Ordering·gt → Lesser s best at end (At at p q)
-      unfolding valueAt
-      lesser-taken c = record { right = w; is = λ xs r. sym (picked xs r ∙ rw c) }
+  module _ (l : length s < 2 ^ 64) (some : getD ats j 0 < end) (p q : ℕ) (w : HeadIs form.Texts s (getD ats j 0) p q) where
+    abbrev first-text : Text
+    first-text = part s p q
+
+    run-first : (xs : List Text) → SetRun s (getD ats j 0) end xs → First form.Texts xs first-text (drop q s) (drop end s)
+    run-first xs r = set-first s (getD ats j 0) end l some p q w xs r
+
+    run-passed : (m : Text) → first-text ≡ m → (xs : List Text) → SetRun s (getD ats j 0) end xs → SetRun s q end (passed m xs)
+    unfolding passed
+    run-passed m e xs r =
+        let f = run-first xs r in
+        rw (f .all, equal-true texts first-text m .1 e) (set-rest s end q xs first-text (w .within) (r .within) f)
+
+    run-least : (xs : List Text) → SetRun s (getD ats j 0) end xs → smallest texts xs ≡ first-text ∷ []
+    run-least = set-smallest s (getD ats j 0) end l some p q w
+
+    pub lesser-first : j < length ats → best .found ≡ false → Lesser s best ats j end (headOf ats j p q)
+    lesser-first long f = record {
+      right = λ t. w;
+      more = λ ends n xss v h e b.
+          let r : SetRun s (getD ats j 0) end (getD xss j []) = rw e at (v .each j h) in
+          least-first s ats ends n xss v j h best b q p
+          (rw (value-none s best f, run-least (getD xss j []) r) (ap (take 1) (union-left-nil texts (first-text ∷ []))))
+          (low-none first-text (flatten (take j xss)) (sym (b .least) ∙ value-none s best f))
+          long
+          (rw e (run-passed first-text refl (getD xss j []) r));
+    }
+
+    module _ (f : best .found ≡ true) where
+      picked : (o : Ordering) → texts .cmp first-text (leastText s best) ≡ o → (xs : List Text) → SetRun s (getD ats j 0) end xs →
+          take 1 (union texts (valueAt s best) (smallest texts xs)) ≡ pick (flip o) (leastText s best ∷ []) (leastText s best ∷ []) (first-text ∷ [])
+      picked o c xs r =
+          ap₂ (λ (u v : List Text). take 1 (union texts u v)) (value-some s best f) (run-least xs r)
+          ∙ smaller texts (leastText s best) first-text
+          ∙ ap (λ (o : Ordering). pick o (leastText s best ∷ []) (leastText s best ∷ []) (first-text ∷ []))
+          (texts .turn first-text (leastText s best) ∙ ap flip c)
+
+      pub lesser-less : j < length ats → texts .cmp first-text (leastText s best) ≡ Ordering·lt →
+          Lesser s best ats j end (headOf ats j p q)
+      lesser-less long c = record {
+        right = λ t. w;
+        more = λ ends n xss v h e b.
+            let r : SetRun s (getD ats j 0) end (getD xss j []) = rw e at (v .each j h) in
+            least-first s ats ends n xss v j h best b q p
+            (picked Ordering·lt c (getD xss j []) r)
+            (low-less first-text (leastText s best) (flatten (take j xss)) (sym (b .least) ∙ value-some s best f) c)
+            long
+            (rw e (run-passed first-text refl (getD xss j []) r));
+      }
+
+      pub lesser-both : RightLeast s best → j < length (best .after) → texts .cmp first-text (leastText s best) ≡ Ordering·eq →
+          Lesser s best ats j end (onward best j q)
+      lesser-both right long c = record {
+        right = right;
+        more = λ ends n xss v h e b.
+            let r : SetRun s (getD ats j 0) end (getD xss j []) = rw e at (v .each j h) in
+            least-both s ats ends n xss v j h best b q
+            (picked Ordering·eq c (getD xss j []) r ∙ sym (value-some s best f))
+            long
+            (rw e (run-passed (leastText s best) (texts .same first-text (leastText s best) c) (getD xss j []) r));
+      }
+
+      pub lesser-kept : RightLeast s best → texts .cmp first-text (leastText s best) ≡ Ordering·gt → Lesser s best ats j end best
+      unfolding passed
+      lesser-kept right c = record {
+        right = right;
+        more = λ ends n xss v h e b.
+            let r : SetRun s (getD ats j 0) end (getD xss j []) = rw e at (v .each j h) in
+            let ne : first-text ≡ leastText s best → ⊥ = λ q. never (cc (c, texts .self first-text)) in
+            least-kept s ats ends n xss v j h best b
+            (picked Ordering·gt c (getD xss j []) r ∙ sym (value-some s best f))
+            (λ t. rw (run-first (getD xss j []) r .all, equal-false texts first-text (leastText s best) .1 ne));
+      }
 
 -- ---- the least of the first values of all runs
 
-pub least-none : (s : List ℕ) (xss : List (List Text)) → valueAt s Nothing ≡ smallest texts (flatten (take 0 xss))
-unfolding valueAt smallest canon flatten
-least-none s xss = refl
-
-pub least-more : (s ats ends : List ℕ) (n j : ℕ) (best r : Least) (xss : List (List Text)) → SetRuns s ats ends n xss → j < n →
-    valueAt s best ≡ smallest texts (flatten (take j xss)) → Lesser s best (getD ats j 0) (getD ends j 0) r → valueAt s r ≡ smallest texts (flatten (take (j + 1) xss))
-least-more s ats ends n j best r xss w h e k =
-    let l : j < length xss = omega (arith, w .long) in
-    k .is (getD xss j []) (w .each j h)
-    ∙ ap (λ (v : List Text). take 1 (union texts v (smallest texts (getD xss j [])))) e
-    ∙ sym (smallest-snoc texts (take j xss) (getD xss j []))
-    ∙ ap (λ (z : List (List Text)). smallest texts (flatten z)) (sym (take-suc xss j [] l) ∙ ap (λ (m : ℕ). take m xss) (sym (add-one j)))
-
-pub least-all : (s ats ends : List ℕ) (n j : ℕ) (best : Least) → n ≤ j → RightLeast s best →
-    ((xss : List (List Text)) → SetRuns s ats ends n xss → valueAt s best ≡ smallest texts (flatten (take j xss))) → IsLeast s ats ends n best
-least-all s ats ends n j best h r k = record {
-  right = r;
-  is = λ xss w. k xss w ∙ ap (λ (z : List (List Text)). smallest texts (flatten z)) (take-all j xss (omega (arith, w .long)));
+-- nothing is found in no runs
+pub least-none : (s ends : List ℕ) (n : ℕ) (xss : List (List Text)) (r : Least) → r .found ≡ false → LeastTo s ends n xss 0 r
+unfolding smallest canon flatten
+least-none s ends n xss r f = record {
+  least = value-none s r f;
+  passes = λ t i h. absurd (omega arith);
+  stays = λ t. never (cc);
 }
-
--- ---- passing a value
-
-module _ (s : List ℕ) (at end : ℕ) (m : Text) where
-  pub pass-none : ((xs : List Text) → SetRun s at end xs → xs ≡ []) → (xs : List Text) → SetRun s at end xs → SetRun s at end (passed m xs)
-  unfolding passed
-  pass-none h xs r = let e = h xs r in rw e (rw e at r)
-
-  module _ (l : length s < 2 ^ 64) (some : at < end) (p q : ℕ) (w : HeadIs form.Texts s at p q) where
-    pub pass-head : equal texts (part s p q) m ≡ true → (xs : List Text) → SetRun s at end xs → SetRun s q end (passed m xs)
-    unfolding passed
-    pass-head t xs r =
-        let f = set-first s at end l some p q w xs r in
-        rw (f .all, t) (set-rest s end q xs (part s p q) (w .within) (r .within) f)
-
-    pub pass-other : equal texts (part s p q) m ≡ false → (xs : List Text) → SetRun s at end xs → SetRun s at end (passed m xs)
-    unfolding passed
-    pass-other t xs r =
-        let f = set-first s at end l some p q w xs r in
-        rw (f .all, t) (rw (f .all) at r)
 
 getD-passed : (m : Text) (xss : List (List Text)) (j : ℕ) → getD (map (passed m) xss) j [] ≡ passed m (getD xss j [])
 unfolding passed
@@ -245,21 +369,18 @@ length-map : (m : Text) (xss : List (List Text)) → length (map (passed m) xss)
 length-map m [] = refl
 length-map m (xs ∷ xss) = ap suc (length-map m xss)
 
-pub passed-all : (s ats nexts ends : List ℕ) (n j : ℕ) (m : Text) (xss : List (List Text)) → SetRuns s ats ends n xss → n ≤ j →
-    ((i : ℕ) → i < j → i < n → SetRun s (getD nexts i 0) (getD ends i 0) (passed m (getD xss i []))) → SetRuns s nexts ends n (map (passed m) xss)
-passed-all s ats nexts ends n j m xss w h k = record {
-  long = length-map m xss ∙ w .long;
-  each = λ i l. rw (getD-passed m xss i) (k i (omega arith) l);
+-- all of n runs are looked at
+pub least-all :
+    (s ats ends : List ℕ) (n j : ℕ) (r : Least) → n ≤ j → RightLeast s r →
+    ((xss : List (List Text)) → SetRuns s ats ends n xss → LeastTo s ends n xss j r) → IsLeast s ats ends n r
+least-all s ats ends n j r h right k = record {
+  right = right;
+  is = λ xss w. k xss w .least ∙ ap (λ (z : List (List Text)). smallest texts (flatten z)) (take-all j xss (omega (arith, w .long)));
+  goes = λ xss w f. record {
+    long = length-map (leastText s r) xss ∙ w .long;
+    each = λ i l. rw (getD-passed (leastText s r) xss i) (k xss w .passes f i (omega arith) l);
+  };
 }
-
-pub passed-more : (s nexts ends : List ℕ) (n j x : ℕ) (m : Text) (xss : List (List Text)) → j < length nexts →
-    ((i : ℕ) → i < j → i < n → SetRun s (getD nexts i 0) (getD ends i 0) (passed m (getD xss i []))) → SetRun s x (getD ends j 0) (passed m (getD xss j [])) →
-    (i : ℕ) → i < j + 1 → i < n → SetRun s (getD (set nexts j x) i 0) (getD ends i 0) (passed m (getD xss i []))
-passed-more s nexts ends n j x m xss h old last =
-    below-more (λ (i : ℕ). i < n → SetRun s (getD (set nexts j x) i 0) (getD ends i 0) (passed m (getD xss i [])))
-    j
-    (λ i l k. let ne : i ≡ j → ⊥ = λ e. omega arith in rw (getD-set-other nexts j i x 0 ne) (old i l k))
-    (λ k. rw (getD-set-same nexts j x 0 h) last)
 
 -- ---- the union of all runs from here on
 
@@ -273,50 +394,54 @@ all-ups : (xss : List (List Text)) → ((j : ℕ) → j < length xss → rising 
 all-ups [] h = tt
 all-ups (xs ∷ xss) h = (rising-ups texts xs .0 (h 0 (omega arith)), all-ups xss (λ j l. h (suc j) (omega arith)))
 
-module _ {s ats ends : List ℕ} {n : ℕ} {P : List Text → Type 0} (g : Merging s ats ends n P) where
-  merging-first : (i a e : ℕ) → IsLeast s ats ends n (At i a e) → P (part s a e ∷ canon texts (flatten (map (passed (part s a e)) (g .xss))))
-  unfolding valueAt
-  merging-first i a e w =
+module _ {s ats ends : List ℕ} {n : ℕ} {P : List Text → Type 0} (g : Merging s ats ends n P) {r : Least} (w : IsLeast s ats ends n r) where
+  merging-first : r .found ≡ true → P (leastText s r ∷ canon texts (flatten (map (passed (leastText s r)) (g .xss))))
+  merging-first f =
       let ups = all-ups (g .xss) (λ j l. g .runs .each j (omega (arith, g .runs .long)) .rises) in
-      subst P (canon-least (g .xss) (part s a e) ups (sym (w .is (g .xss) (g .runs)))) (g .so)
+      subst P (canon-least (g .xss) (leastText s r) ups (sym (w .is (g .xss) (g .runs)) ∙ value-some s r f)) (g .so)
 
-  pub merging-on : (Q : List Text → Type 0) {nexts : List ℕ} {i a e : ℕ} → IsLeast s ats ends n (At i a e) →
-      ((xss : List (List Text)) → SetRuns s ats ends n xss → SetRuns s nexts ends n (map (passed (part s a e)) xss)) →
-      ((zs : List Text) → P (part s a e ∷ zs) → Q zs) → Merging s nexts ends n Q
-  merging-on Q {nexts} {i} {a} {e} w p k = record {
-    xss = map (passed (part s a e)) (g .xss);
-    runs = p (g .xss) (g .runs);
-    so = k (canon texts (flatten (map (passed (part s a e)) (g .xss)))) (merging-first i a e w);
+  merging-on : (Q : List Text → Type 0) → r .found ≡ true → ((zs : List Text) → P (leastText s r ∷ zs) → Q zs) → Merging s (r .after) ends n Q
+  merging-on Q f k = record {
+    xss = map (passed (leastText s r)) (g .xss);
+    runs = w .goes (g .xss) (g .runs) f;
+    so = k (canon texts (flatten (map (passed (leastText s r)) (g .xss)))) (merging-first f);
   }
 
-  pub merging-none : IsLeast s ats ends n Nothing → P []
-  unfolding valueAt
-  merging-none w = subst P (canon-none (flatten (g .xss)) (sym (w .is (g .xss) (g .runs)))) (g .so)
+  merging-none : r .found ≡ false → P []
+  merging-none f = subst P (canon-none (flatten (g .xss)) (sym (w .is (g .xss) (g .runs)) ∙ value-none s r f)) (g .so)
 
--- what is known of the least in the arm of a `match`
-pub least-at : {s ats ends : List ℕ} {n i a e : ℕ} {r : Least} → r ≡ At i a e → IsLeast s ats ends n r → IsLeast s ats ends n (At i a e)
-least-at {s} {ats} {ends} {n} h w = subst (IsLeast s ats ends n) h w
+-- ---- the steps of writing the union
 
-pub least-nothing : {s ats ends : List ℕ} {n : ℕ} {r : Least} → r ≡ Nothing → IsLeast s ats ends n r → IsLeast s ats ends n Nothing
-least-nothing {s} {ats} {ends} {n} h w = subst (IsLeast s ats ends n) h w
+-- `count` of the values `all` are written: zs are still to be written from p on
+pub record Written (l₀ : List ℕ) (at : ℕ) (all : List Text) (l : List ℕ) (p count : ℕ) (zs : List Text) : Type 0 where
+  pub go : ToGo l₀ at (flatten (map text all)) l p (flatten (map text zs))
+  pub counted : length all ≡ count + length zs
 
--- the steps of writing the union
-pub merged-wrote : {s ats ends : List ℕ} {n : ℕ} {l₀ whole l : List ℕ} {at p : ℕ} →
-    Merging s ats ends n (λ zs. ToGo l₀ at whole l p (flatten (map text zs))) → IsLeast s ats ends n Nothing → Wrote l₀ at whole l p
-unfolding flatten
-merged-wrote g w = all-gone (merging-none g w) refl
+pub written-none : (l : List ℕ) (at : ℕ) (zs : List Text) → Written l at zs l at 0 zs
+written-none l at zs = record { go = to-go; counted = omega arith }
 
-module _ {s ats ends : List ℕ} {n : ℕ} {l₀ whole l : List ℕ} {at p i a e : ℕ}
-    (g : Merging s ats ends n (λ zs. ToGo l₀ at whole l p (flatten (map text zs)))) (w : IsLeast s ats ends n (At i a e)) where
-  pub least-room : at + length whole ≤ length l₀ → p + length (part s i e) ≤ length l
-  unfolding written
-  least-room h =
-      write-room form.Texts (part s a e) (canon texts (flatten (map (passed (part s a e)) (g .xss)))) (part s i e) h (head-part form.Texts s i a e (w .right)) (merging-first g i a e w)
+module _ {s ats ends : List ℕ} {n : ℕ} {l₀ l : List ℕ} {all : List Text} {at p count : ℕ}
+    (g : Merging s ats ends n (Written l₀ at all l p count)) {r : Least} (w : IsLeast s ats ends n r) where
+  pub merged-wrote : r .found ≡ false → Wrote l₀ at (flatten (map text all)) l p
+  unfolding flatten
+  merged-wrote f = all-gone (merging-none g w f .go) refl
 
-  pub least-wrote : {nexts l₁ : List ℕ} {p₁ : ℕ} →
-      ((xss : List (List Text)) → SetRuns s ats ends n xss → SetRuns s nexts ends n (map (passed (part s a e)) xss)) → Wrote l p (part s i e) l₁ p₁ →
-      Merging s nexts ends n (λ zs. ToGo l₀ at whole l₁ p₁ (flatten (map text zs)))
-  unfolding written
-  least-wrote {nexts} {l₁} {p₁} k o =
-      merging-on g (λ zs. ToGo l₀ at whole l₁ p₁ (flatten (map text zs))) w k
-      (λ zs h. write-next form.Texts (part s a e) zs (part s i e) o (head-part form.Texts s i a e (w .right)) h)
+  pub merged-counted : r .found ≡ false → count ≡ length all
+  merged-counted f = omega (arith, merging-none g w f .counted)
+
+  module _ (f : r .found ≡ true) where
+    head-bytes : part s (r .start) (r .end) ≡ written form.Texts (leastText s r)
+    head-bytes = head-part form.Texts s (r .start) (r .value) (r .end) (w .right f)
+
+    pub least-room : at + length (flatten (map text all)) ≤ length l₀ → p + length (part s (r .start) (r .end)) ≤ length l
+    unfolding written
+    least-room h =
+        let rest = canon texts (flatten (map (passed (leastText s r)) (g .xss))) in
+        write-room form.Texts (leastText s r) rest (part s (r .start) (r .end)) h head-bytes (merging-first g w f .go)
+
+    pub least-wrote : {l₁ : List ℕ} {p₁ : ℕ} → Wrote l p (part s (r .start) (r .end)) l₁ p₁ → Merging s (r .after) ends n (Written l₀ at all l₁ p₁ (count + 1))
+    unfolding written
+    least-wrote {l₁} {p₁} o = merging-on g w (Written l₀ at all l₁ p₁ (count + 1)) f (λ zs h. record {
+      go = write-next form.Texts (leastText s r) zs (part s (r .start) (r .end)) o head-bytes (h .go);
+      counted = omega (arith, h .counted);
+    })

@@ -5,11 +5,10 @@ use mathlib.Core.Bool.{true, cond}
 use mathlib.Core.List.{List, [], _∷_, map, flatten}
 use lib.ListN.{length, take, getD}
 use Rattle.model.specs.Order.{Text, texts, rising, equal}
-use Rattle.model.specs.Sets.{union, canon, smallest}
+use Rattle.model.specs.Sets.{canon, smallest}
 use Rattle.packed.specs.Packed.{text, part}
 use Rattle.unions.specs.declared.heads.Form.the-variants as form
 use Rattle.unions.specs.declared.many.Least.{Least}
-use Rattle.unions.specs.declared.many.Least.the-variants.{At, Nothing}
 use Rattle.unions.specs.code.Runs.{HeadIs}
 
 -- the rising values xs stand in s from `at` up to `end`
@@ -29,23 +28,34 @@ unfoldable pub passed : Text → List Text → List Text
 passed m [] = []
 passed m (x ∷ xs) = cond (equal texts x m) xs (x ∷ xs)
 
--- a text stands where the answer says
+-- a text stands where an answer says that found one
 abbrev pub RightLeast : List ℕ → Least → Type 0
-RightLeast s (At i a e) = HeadIs form.Texts s i a e
-RightLeast s Nothing = Unit {0}
+RightLeast s r = r .found ≡ true → HeadIs form.Texts s (r .start) (r .value) (r .end)
+
+abbrev pub leastText : List ℕ → Least → Text
+leastText s r = part s (r .value) (r .end)
 
 -- the value that the answer tells of, if any
 unfoldable pub valueAt : List ℕ → Least → List Text
-valueAt s (At i a e) = part s a e ∷ []
-valueAt s Nothing = []
+valueAt s r = cond (r .found) (leastText s r ∷ []) []
 
-pub record Lesser (s : List ℕ) (best : Least) (at end : ℕ) (r : Least) : Type 0 where
+-- The answer tells of the least value of the first j of n runs; it has been passed in these, and the others stand as they are.
+pub record LeastTo (s ends : List ℕ) (n : ℕ) (xss : List (List Text)) (j : ℕ) (r : Least) : Type 0 where
+  pub least : valueAt s r ≡ smallest texts (flatten (take j xss))
+  pub passes : r .found ≡ true → (i : ℕ) → i < j → i < n → SetRun s (getD (r .after) i 0) (getD ends i 0) (passed (leastText s r) (getD xss i []))
+  pub stays : r .found ≡ true → (i : ℕ) → j ≤ i → i < n → SetRun s (getD (r .after) i 0) (getD ends i 0) (getD xss i [])
+
+-- run j, which ends at `end`, is taken in
+pub record Lesser (s : List ℕ) (best : Least) (ats : List ℕ) (j end : ℕ) (r : Least) : Type 0 where
   pub right : RightLeast s r
-  pub is : (xs : List Text) → SetRun s at end xs → valueAt s r ≡ take 1 (union texts (valueAt s best) (smallest texts xs))
+  pub more :
+      (ends : List ℕ) (n : ℕ) (xss : List (List Text)) → SetRuns s ats ends n xss → j < n → getD ends j 0 ≡ end →
+      LeastTo s ends n xss j best → LeastTo s ends n xss (j + 1) r
 
 pub record IsLeast (s ats ends : List ℕ) (n : ℕ) (r : Least) : Type 0 where
   pub right : RightLeast s r
   pub is : (xss : List (List Text)) → SetRuns s ats ends n xss → valueAt s r ≡ smallest texts (flatten xss)
+  pub goes : (xss : List (List Text)) → SetRuns s ats ends n xss → r .found ≡ true → SetRuns s (r .after) ends n (map (passed (leastText s r)) xss)
 
 -- the values of n runs have their room in an output of `size` bytes, from position `at` on
 pub record MergedRoom (s starts ends : List ℕ) (n at size : ℕ) : Type 0 where

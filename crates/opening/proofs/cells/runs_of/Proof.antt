@@ -6,19 +6,22 @@ use Rattle.opening.proofs.cells.runs_of.Statement.{statement}
 use Rattle.opening.proofs.cells.runs_of.Tie as tie
 
 abbrev Inv-loop : tie.InvT-loop
-Inv-loop row r₀ j₀ r j = RunsTo row (r .starts) (r .ends) j
+Inv-loop cells place r₀ j₀ r j = RunsTo cells place (r .starts) (r .ends) j
 
 abbrev μ-loop : tie.MeasureT-loop
-μ-loop row r₀ j₀ r j = 8 - j
+μ-loop cells place r₀ j₀ r j = 8 - j
 
 loop-holds : tie.Need-loop-holds Inv-loop μ-loop
-loop-holds c = runs-none _ _ _ refl refl
+loop-holds c = runs-none _ _ _ _ refl refl
 
-mul-x : tie.Need-mul-x Inv-loop μ-loop
-mul-x c = search needs
+mul-cell-at : tie.Need-mul-cell-at Inv-loop μ-loop
+mul-cell-at c = search needs
 
-array-copy-out-x : tie.Need-array-copy-out-x Inv-loop μ-loop
-array-copy-out-x c = search needs
+add-cell-at : tie.Need-add-cell-at Inv-loop μ-loop
+add-cell-at c = search needs
+
+cell-at-requires : tie.Need-cell-at-requires Inv-loop μ-loop
+cell-at-requires c κs = search needs
 
 mul-r : tie.Need-mul-r Inv-loop μ-loop
 mul-r c = search needs
@@ -39,10 +42,14 @@ loop-less : tie.Need-loop-less Inv-loop μ-loop
 loop-less c = search needs
 
 loop-again : tie.Need-loop-again Inv-loop μ-loop
-loop-again c = runs-more _ _ _ _ (c .before .loop-test .taken) (c .before .before .loop .inv)
+loop-again c =
+    let at-loop = c .before .before in
+    runs-more _ _ _ _ _ _ (c .before .loop-test .taken) (c .cell-at .ensures) (at-loop .loop .inv)
 
 returns : tie.Need-returns Inv-loop μ-loop
-returns c = λ cells place s ss v w. runs-all s ss cells _ place _ _ _ v w (c .loop-test .left) (c .before .loop .inv)
+returns c =
+    let start = c .before .before .before in
+    λ s ss w. runs-all s ss _ _ _ _ _ (start .pre .1) w (c .loop-test .left) (c .before .loop .inv)
 
 pub runs-of-spec : {M : Type 1} → statement M
 runs-of-spec =
@@ -51,8 +58,9 @@ runs-of-spec =
     Inv-loop
     μ-loop
     loop-holds
-    mul-x
-    array-copy-out-x
+    mul-cell-at
+    add-cell-at
+    cell-at-requires
     mul-r
     element-write-r
     mul-r-2

@@ -1,42 +1,74 @@
 use borrow.Author.Needs.{needs}
-use mathlib.Core.Path.{_≡_}
+use mathlib.Core.Path.{_≡_, _∙_}
 use mathlib.Core.List.{List, []}
 use Prim.Native.Nat.{ℕ, _-_, _≤_, _<_}
 use native.Mathlib.Omega.{arith}
+use denote.Ref.{now}
 use lib.ListN.{length, getD}
 use Rattle.model.specs.Rule.{Snapshot}
 use Rattle.model.specs.Opening.{column}
 use Rattle.values.specs.Spaces.{Kind}
-use Rattle.event.specs.declared.sets.SetAt.{SetAt}
+use Rattle.event.specs.code.EventIndex.{SetIs}
 use Rattle.opening.specs.code.OpenIndex.{CellsStand, Chooses, Lone}
-use Rattle.opening.specs.code.CellIndex.{RowIs}
-use Rattle.opening.proofs.StandLaws.{column-long, row-stands}
+use Rattle.opening.proofs.StandLaws.{column-long, column-stands, first-cell}
 use Rattle.opening.proofs.MergeLaws.{Chosen, chosen-first, chosen-more, chosen-all}
 use Rattle.opening.proofs.merge.extreme_of.Statement.{statement}
 use Rattle.opening.proofs.merge.extreme_of.Tie as tie
 
 abbrev Inv-loop : tie.InvT-loop
-Inv-loop s n kind largest row best₀ j₀ best j =
+Inv-loop s cells place n kind largest best₀ j₀ best j =
     (j ≤ n)
-    × ((cells : List SetAt) (place : ℕ) (ss : List Snapshot) (k : Kind) → RowIs cells place row → CellsStand s ss cells → length ss ≡ n → Chooses k kind → ((i : ℕ) → i < n → Lone k (getD (column ss place) i [])) → Chosen s k largest (column ss place) best j)
+    × ((ss : List Snapshot) (k : Kind) → CellsStand s ss cells → length ss ≡ n → Chooses k kind → ((i : ℕ) → i < n → Lone k (getD (column ss place) i [])) →
+    Chosen s k largest (column ss place) best j)
 
 abbrev μ-loop : tie.MeasureT-loop
-μ-loop s n kind largest row best₀ j₀ best j = n - j
+μ-loop s cells place n kind largest best₀ j₀ best j = n - j
 
-array-copy-out-best : tie.Need-array-copy-out-best Inv-loop μ-loop
-array-copy-out-best c = search needs
+-- ---- the places
+
+abbrev to-start : tie.After-cell-at Inv-loop μ-loop → tie.Start Inv-loop μ-loop
+to-start c = c .before .before .before
+
+abbrev turn-to-start : tie.In-loop Inv-loop μ-loop → tie.Start Inv-loop μ-loop
+turn-to-start c = to-start (c .before .before)
+
+-- ---- the facts
+
+-- where the set of snapshot j stands
+here :
+    (c : tie.After-cell-at2 Inv-loop μ-loop) → let a = turn-to-start (c .before) .args in
+    (ss : List Snapshot) → CellsStand (now (a .s)) ss (now (a .cells)) → length ss ≡ a .n →
+    SetIs (now (a .s)) (getD (column ss (a .place)) (c .before .before .loop .j) []) (c .cell-at2 .result)
+here c ss w e =
+    let start = turn-to-start (c .before) in
+    column-stands _ ss _ _ _ (start .pre .1) w (omega (arith, c .before .loop-test .taken, e)) (c .cell-at2 .ensures)
+
+-- ---- the needs
+
+mul-cell-at : tie.Need-mul-cell-at Inv-loop μ-loop
+mul-cell-at c = search needs
+
+cell-at-requires : tie.Need-cell-at-requires Inv-loop μ-loop
+cell-at-requires c κs = search needs
 
 loop-holds : tie.Need-loop-holds Inv-loop μ-loop
 loop-holds c =
-    let g = c .before .before .args in
-    let m = c .before .before .pre in
-    (m .0, λ cells place ss k v w e ch l. chosen-first (g .s .now) k (g .largest) (column ss place) _ (omega (arith, m .0, e, column-long ss place)) (l 0 (m .0)) (row-stands (g .s .now) ss cells _ place 0 v w (omega (arith, m .0, e))))
+    let start = to-start c in
+    let one = start .pre .2 in (
+      one,
+      λ ss k w e ch l.
+          let first = column-stands _ ss _ _ 0 (start .pre .1) w (omega (arith, one, e)) (c .cell-at .ensures ∙ first-cell _ _) in
+          chosen-first _ k _ (column ss _) _ (omega (arith, one, e, column-long ss (start .args .place))) (l 0 one) first,
+    )
 
-mul-x : tie.Need-mul-x Inv-loop μ-loop
-mul-x c = search needs
+mul-cell-at-2 : tie.Need-mul-cell-at-2 Inv-loop μ-loop
+mul-cell-at-2 c = search needs
 
-array-copy-out-x : tie.Need-array-copy-out-x Inv-loop μ-loop
-array-copy-out-x c = search needs
+add-cell-at : tie.Need-add-cell-at Inv-loop μ-loop
+add-cell-at c = search needs
+
+cell-at-requires-2 : tie.Need-cell-at-requires-2 Inv-loop μ-loop
+cell-at-requires-2 c κs = search needs
 
 better-requires : tie.Need-better-requires Inv-loop μ-loop
 better-requires c κs = search needs
@@ -49,20 +81,22 @@ loop-less c = search needs
 
 loop-again : tie.Need-loop-again Inv-loop μ-loop
 loop-again c =
-    let g = c .before .before .before .before .before .before .args in
-    let l = c .before .before .before .loop in
-    let t = c .before .before .loop-test .taken in (
-      omega (arith, t),
-      λ cells place ss k v w e ch o.
-          let i = l .inv .1 cells place ss k v w e ch o in
-          chosen-more (g .s .now) k (g .largest) (column ss place) (l .j) (l .best) _ (omega (arith, t, e, column-long ss place)) i (o (l .j) t)
-          (c .better .ensures k _ _ ch (i .is) (row-stands (g .s .now) ss cells _ place (l .j) v w (omega (arith, t, e))) (i .lone) (o (l .j) t)),
+    let turn = c .before .before in
+    let l = turn .before .loop in
+    let h = turn .loop-test .taken in
+    let place = turn-to-start turn .args .place in (
+      omega (arith, h),
+      λ ss k w e ch o.
+          let chosen = l .inv .1 ss k w e ch o in
+          let better = c .better .ensures k _ _ ch (chosen .is) (here (c .before) ss w e) (chosen .lone) (o (l .j) h) in
+          chosen-more _ k _ (column ss place) (l .j) (l .best) _ (omega (arith, h, e, column-long ss place)) chosen (o (l .j) h) better,
     )
 
 returns : tie.Need-returns Inv-loop μ-loop
 returns c =
-    let g = c .before .before .before .before .args in
-    λ cells place ss k v w e ch o. chosen-all (g .s .now) k (g .largest) (column ss place) _ _ (omega (arith, c .loop-test .left, e, column-long ss place)) (c .before .loop .inv .1 cells place ss k v w e ch o)
+    let place = to-start (c .before .before) .args .place in
+    λ ss k w e ch o.
+    chosen-all _ k _ (column ss place) _ _ (omega (arith, c .loop-test .left, e, column-long ss place)) (c .before .loop .inv .1 ss k w e ch o)
 
 pub extreme-of-spec : {M : Type 1} → statement M
 extreme-of-spec =
@@ -70,10 +104,12 @@ extreme-of-spec =
     (tie.spec
     Inv-loop
     μ-loop
-    array-copy-out-best
+    mul-cell-at
+    cell-at-requires
     loop-holds
-    mul-x
-    array-copy-out-x
+    mul-cell-at-2
+    add-cell-at
+    cell-at-requires-2
     better-requires
     add-j
     loop-less

@@ -1,61 +1,100 @@
 use borrow.Author.Needs.{needs}
 use mathlib.Core.Path.{_≡_, sym, _∙_}
+use mathlib.Core.Bool.{Bool}
 use mathlib.Core.List.{List}
-use Prim.Native.Nat.{ℕ, _-_}
+use Prim.Native.Nat.{ℕ, _-_, _<_}
 use native.Mathlib.Omega.{arith}
+use denote.Ref.{now}
 use Rattle.model.specs.Sets.{upFrom}
 use Rattle.model.specs.Rule.{Dossier}
 use Rattle.model.specs.Opening.{lowest, overfull}
 use Rattle.ontology.specs.Table.{EventType}
 use Rattle.ontology.specs.code.TypeIndex.{TypeIs}
 use Rattle.event.specs.Event.{typeView}
-use Rattle.opening.specs.code.OpenIndex.{CountsMerged}
-use Rattle.opening.proofs.ConflictLaws.{lowest-here, lowest-next, lowest-end}
-use Rattle.opening.proofs.MergeLaws.{isOverfull, overfull-start, place-overfull}
+use Rattle.opening.specs.code.PlanIndex.{PlanIs}
+use Rattle.opening.proofs.ConflictLaws.{lowest-here, lowest-next, lowest-none}
+use Rattle.opening.proofs.PlanLaws.{isOverfull, overfull-start, place-overfull, no-overfull}
 use Rattle.opening.proofs.merge.find_overfull.Statement.{statement}
 use Rattle.opening.proofs.merge.find_overfull.Tie as tie
 
 abbrev Inv-loop : tie.InvT-loop
-Inv-loop t counts p₀ p = (u : List ℕ) (ty : EventType) (d : Dossier) → TypeIs u ty t → CountsMerged ty d counts → overfull (typeView ty) d ≡ lowest (isOverfull ty d) (upFrom p (32 - p))
+Inv-loop plan t p₀ p =
+    (u s : List ℕ) (ty : EventType) (d : Dossier) → TypeIs u ty t → PlanIs s plan ty d →
+    overfull (typeView ty) d ≡ lowest (isOverfull ty d) (upFrom p (32 - p))
 
 abbrev μ-loop : tie.MeasureT-loop
-μ-loop t counts p₀ p = 32 - p
+μ-loop plan t p₀ p = t .count - p
+
+-- ---- the places
+
+abbrev to-turn : tie.After-is-overfull Inv-loop μ-loop → tie.In-loop Inv-loop μ-loop
+to-turn c = c .before .before .before .before
+
+abbrev to-start : tie.In-loop Inv-loop μ-loop → tie.Start Inv-loop μ-loop
+to-start c = c .before .before .before
+
+-- ---- the facts
+
+in-all : (c : tie.In-loop Inv-loop μ-loop) → c .before .loop .p < 32
+in-all c = omega (arith, c .loop-test .taken, to-start c .pre .0)
+
+-- the answer of the test is what is asked of the place
+asked :
+    (c : tie.After-is-overfull Inv-loop μ-loop) → let a = to-start (to-turn c) .args in
+    (u s : List ℕ) (ty : EventType) (d : Dossier) → TypeIs u ty (a .t1) → PlanIs s (now (a .plan)) ty d →
+    c .is-overfull .result ≡ isOverfull ty d (to-turn c .before .loop .p)
+asked c u s ty d w v = place-overfull u ty _ w d _ s _ _ v (to-turn c .loop-test .taken) (c .is-overfull .ensures)
+
+-- ---- the needs
 
 loop-holds : tie.Need-loop-holds Inv-loop μ-loop
-loop-holds c = λ u ty d w v. overfull-start ty d
+loop-holds c = λ u s ty d w v. overfull-start ty d
 
-rule-of-requires : tie.Need-rule-of-requires Inv-loop μ-loop
-rule-of-requires c κs = search needs
+mul-property : tie.Need-mul-property Inv-loop μ-loop
+mul-property c = omega (arith, in-all c)
 
-mul-count : tie.Need-mul-count Inv-loop μ-loop
-mul-count c = search needs
+element-copy-out-property : tie.Need-element-copy-out-property Inv-loop μ-loop
+element-copy-out-property c = omega (arith, in-all c)
 
-array-read-count : tie.Need-array-read-count Inv-loop μ-loop
-array-read-count c = search needs
+mul-is-overfull : tie.Need-mul-is-overfull Inv-loop μ-loop
+mul-is-overfull c = search needs
+
+add-is-overfull : tie.Need-add-is-overfull Inv-loop μ-loop
+add-is-overfull c = search needs
+
+mul-is-overfull-2 : tie.Need-mul-is-overfull-2 Inv-loop μ-loop
+mul-is-overfull-2 c = search needs
+
+shared-slice-read-is-overfull : tie.Need-shared-slice-read-is-overfull Inv-loop μ-loop
+shared-slice-read-is-overfull c = search needs
 
 is-overfull-requires : tie.Need-is-overfull-requires Inv-loop μ-loop
 is-overfull-requires c κs = search needs
 
 returns : tie.Need-returns Inv-loop μ-loop
 returns c =
-    λ u ty d w v.
-    let h = c .before .before .before .loop-test .taken in
-    sym (c .before .before .before .before .loop .inv u ty d w v ∙ lowest-here (isOverfull ty d) _ h (sym (place-overfull ty d _ v _ h _ (c .before .before .rule-of .ensures u ty w) (c .before .is-overfull .ensures)) ∙ c .if1 .taken))
+    let turn = to-turn (c .before) in
+    λ u s ty d w v.
+    let here = sym (asked (c .before) u s ty d w v) ∙ c .if1 .taken in
+    sym (turn .before .loop .inv u s ty d w v ∙ lowest-here (isOverfull ty d) _ (in-all turn) here)
 
 add-p : tie.Need-add-p Inv-loop μ-loop
-add-p c = search needs
+add-p c = omega (arith, in-all (to-turn (c .before)))
 
 loop-less : tie.Need-loop-less Inv-loop μ-loop
-loop-less c = omega (arith, c .before .before .before .loop-test .taken)
+loop-less c = omega (arith, to-turn (c .before) .loop-test .taken)
 
 loop-again : tie.Need-loop-again Inv-loop μ-loop
 loop-again c =
-    λ u ty d w v.
-    let h = c .before .before .before .loop-test .taken in
-    c .before .before .before .before .loop .inv u ty d w v ∙ lowest-next (isOverfull ty d) _ h (sym (place-overfull ty d _ v _ h _ (c .before .before .rule-of .ensures u ty w) (c .before .is-overfull .ensures)) ∙ c .if1 .left)
+    let turn = to-turn (c .before) in
+    λ u s ty d w v.
+    let not-here = sym (asked (c .before) u s ty d w v) ∙ c .if1 .left in
+    turn .before .loop .inv u s ty d w v ∙ lowest-next (isOverfull ty d) _ (in-all turn) not-here
 
 returns-2 : tie.Need-returns-2 Inv-loop μ-loop
-returns-2 c = λ u ty d w v. sym (c .before .loop .inv u ty d w v ∙ lowest-end (isOverfull ty d) _ (c .loop-test .left))
+returns-2 c =
+    λ u s ty d w v.
+    sym (c .before .loop .inv u s ty d w v ∙ lowest-none (isOverfull ty d) _ (λ i h. no-overfull u ty _ w d i (omega (arith, h, c .loop-test .left))))
 
 pub find-overfull-spec : {M : Type 1} → statement M
 find-overfull-spec =
@@ -64,9 +103,12 @@ find-overfull-spec =
     Inv-loop
     μ-loop
     loop-holds
-    rule-of-requires
-    mul-count
-    array-read-count
+    mul-property
+    element-copy-out-property
+    mul-is-overfull
+    add-is-overfull
+    mul-is-overfull-2
+    shared-slice-read-is-overfull
     is-overfull-requires
     returns
     add-p

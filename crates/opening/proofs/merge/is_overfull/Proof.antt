@@ -1,10 +1,10 @@
 use borrow.Author.Needs.{needs}
-use Rattle.opening.proofs.MergeLaws.{single-overfull}
+use Rattle.opening.proofs.PlanLaws.{single-overfull}
 use Rattle.opening.proofs.merge.is_overfull.Statement.{statement}
 use Rattle.opening.proofs.merge.is_overfull.Tie as tie
 
 returns : tie.Need-returns
-returns c = single-overfull _ (c .before .args .count) (c .if1 .taken)
+returns c = let a = c .before .args in single-overfull (a .single) (a .count) (c .if1 .taken)
 
 returns-2 : tie.Need-returns-2
 returns-2 c = search needs

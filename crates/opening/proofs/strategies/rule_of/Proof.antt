@@ -1,10 +1,7 @@
 use borrow.Author.Needs.{needs}
-use Rattle.opening.proofs.StrategyLaws.{rule-none, rule-some}
+use Rattle.opening.proofs.StrategyLaws.{rule-some}
 use Rattle.opening.proofs.strategies.rule_of.Statement.{statement}
 use Rattle.opening.proofs.strategies.rule_of.Tie as tie
-
-returns : tie.Need-returns
-returns c = λ s ty w. rule-none s ty _ w _ (c .if1 .taken)
 
 mul-p : tie.Need-mul-p
 mul-p c = search needs
@@ -21,13 +18,18 @@ is-extreme-requires c κs = search needs
 is-max-requires : tie.Need-is-max-requires
 is-max-requires c κs = search needs
 
-returns-2 : tie.Need-returns-2
-returns-2 c =
-    λ s ty w.
-    rule-some s ty _ w _ _ (c .before .before .before .before .before .if1 .left)
-    (c .before .before .is-replace .ensures) (c .before .is-extreme .ensures) (c .is-max .ensures)
+returns : tie.Need-returns
+returns c =
+    let start = c .before .before .before .before in
+    λ s ty w. rule-some s ty _ w _ _ (start .pre .1) (c .before .before .is-replace .ensures) (c .before .is-extreme .ensures) (c .is-max .ensures)
 
 pub rule-of-spec : {M : Type 1} → statement M
 rule-of-spec =
     tie.close
-    (tie.spec returns mul-p element-copy-out-p is-replace-requires is-extreme-requires is-max-requires returns-2)
+    (tie.spec
+    mul-p
+    element-copy-out-p
+    is-replace-requires
+    is-extreme-requires
+    is-max-requires
+    returns)

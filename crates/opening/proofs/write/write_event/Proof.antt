@@ -12,7 +12,7 @@ use Rattle.opening.proofs.write.write_event.Tie as tie
 -- ---- the places
 
 abbrev to-start : tie.After-write-head-arg → tie.Start
-to-start c = c .before .before .before .before .before .before .before
+to-start c = c .before .before .before .before .before .before .before .before .before
 
 abbrev to-head : tie.After-presence-of → tie.After-write-head
 to-head c = c .before .before .before .before
@@ -45,7 +45,7 @@ hashes-part-requires c κs = search needs
 
 write-head-requires : tie.Need-write-head-requires
 write-head-requires c κs =
-    let w = to-start c .pre in
+    let w = to-start c .pre .2 in
     record { head = w .headed .head; parts = parts c _ (w .is .head); room = omega (arith, event-length w) }
 
 presence-of-requires : tie.Need-presence-of-requires
@@ -54,17 +54,18 @@ presence-of-requires c κs = search needs
 write-number-requires : tie.Need-write-number-requires
 write-number-requires c κs =
     let at-head = to-head c in
-    let w = to-start (at-head .before) .pre in
-    presence-room w refl (at-head .write-head .ensures _ (parts (at-head .before) _ (w .is .head))) _ (c .presence-of .ensures _ _ (w .counted))
+    let w = to-start (at-head .before) .pre .2 in
+    presence-room w refl (at-head .write-head .ensures _ (parts (at-head .before) _ (w .is .head))) _ (c .presence-of .ensures _ _ _ (w .planned))
 
 write-sets-requires : tie.Need-write-sets-requires
 write-sets-requires c κs =
     let at-presence = to-presence c in
     let at-head = to-head at-presence in
-    let w = to-start (at-head .before) .pre in
+    let m = to-start (at-head .before) .pre in
+    let w = m .2 in
     let head = at-head .write-head .ensures _ (parts (at-head .before) _ (w .is .head)) in
-    let presence = at-presence .presence-of .ensures _ _ (w .counted) in
-    (w .is .one, w .is .few, sets-room w refl head _ presence (c .before .before .before .write-number .ensures))
+    let presence = at-presence .presence-of .ensures _ _ _ (w .planned) in
+    (m .0, m .1, w .is .few, sets-room w refl head _ presence (c .before .before .before .write-number .ensures))
 
 same-length : tie.Need-same-length
 same-length c = search needs
@@ -75,7 +76,7 @@ returns c = λ w.
     let at-presence = to-presence (at-sets .before) in
     let at-head = to-head at-presence in
     let head = at-head .write-head .ensures _ (parts (at-head .before) _ (w .is .head)) in
-    let presence = at-presence .presence-of .ensures _ _ (w .counted) in
+    let presence = at-presence .presence-of .ensures _ _ _ (w .planned) in
     let number = at-sets .before .before .before .before .write-number .ensures in
     wrote-event w refl head _ presence number (at-sets .write-sets .ensures (sets-room w refl head _ presence number))
 

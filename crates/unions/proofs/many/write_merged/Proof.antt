@@ -1,76 +1,118 @@
 use borrow.Author.Needs.{needs}
+use borrow.Author.Tests.{not-true, not-false}
 use native.Mathlib.Omega.{arith}
-use Prim.Native.Nat.{_≤_, _+_, _-_}
+use denote.Ref.{now}
+use Prim.Native.Nat.{ℕ, _^_, _≤_, _<_, _+_, _-_}
 use mathlib.Core.Path.{_≡_, refl, _∙_}
-use mathlib.Core.List.{List, map, flatten}
+use mathlib.Core.Bool.{true}
+use mathlib.Core.List.{List, flatten}
 use lib.ListN.{length}
 use Rattle.model.specs.Order.{Text, texts}
 use Rattle.model.specs.Sets.{canon}
-use Rattle.packed.specs.Packed.{text, part}
+use Rattle.packed.specs.Packed.{part}
 use Rattle.packed.proofs.ReadLaws.{part-length}
-use Rattle.packed.specs.code.Written.{ToGo}
-use Rattle.packed.proofs.WriteLaws.{to-go, wrote-length}
-use Rattle.unions.specs.declared.many.Least.the-variants.{At}
-use Rattle.unions.specs.code.Merging.{SetRuns, IsLeast}
-use Rattle.unions.proofs.MergeLaws.{Merging, merged-wrote, least-at, least-nothing, least-room, least-wrote}
+use Rattle.packed.proofs.WriteLaws.{wrote-length}
+use Rattle.unions.specs.declared.heads.Form.the-variants as form
+use Rattle.unions.specs.declared.many.Least.{Least}
+use Rattle.unions.specs.code.Runs.{HeadIs}
+use Rattle.unions.specs.code.Merging.{SetRuns}
+use Rattle.unions.proofs.MergeLaws.{Merging, Written, written-none, merged-wrote, merged-counted, least-room, least-wrote}
 use Rattle.unions.proofs.many.write_merged.Statement.{statement}
 use Rattle.unions.proofs.many.write_merged.Tie as tie
 
+-- each value takes a byte at least, so that the count has its room where the bytes have theirs
 abbrev Inv-loop : tie.InvT-loop
-Inv-loop s ends n out₀ at left₀ next₀ out left next =
-    (length out ≡ length out₀)
-    × ((xss : List (List Text)) → SetRuns s left₀ ends n xss → Merging s left ends n (λ zs. ToGo out₀ at (flatten (map text (canon texts (flatten xss)))) out next (flatten (map text zs))))
+Inv-loop s ends n out₀ at left₀ next₀ count₀ out left next count =
+    (length out ≡ length out₀) × (at + count ≤ next)
+    × ((xss : List (List Text)) → SetRuns s left₀ ends n xss → Merging s left ends n (Written out₀ at (canon texts (flatten xss)) out next count))
 
 abbrev μ-loop : tie.MeasureT-loop
-μ-loop s ends n out₀ at left₀ next₀ out left next = length out₀ - next
+μ-loop s ends n out₀ at left₀ next₀ count₀ out left next count = length out₀ - next
+
+-- ---- the places
+
+abbrev to-start : tie.At-loop Inv-loop μ-loop → tie.Start Inv-loop μ-loop
+to-start c = c .before .before .before
+
+abbrev to-loop : tie.Else1 Inv-loop μ-loop → tie.At-loop Inv-loop μ-loop
+to-loop c = c .before .before .before
+
+abbrev to-copy : tie.After-after Inv-loop μ-loop → tie.After-copy-part Inv-loop μ-loop
+to-copy c = c .before .before .before
+
+abbrev to-turn : tie.After-after Inv-loop μ-loop → tie.Else1 Inv-loop μ-loop
+to-turn c = to-copy c .before .before
+
+-- ---- the values
+
+abbrev least : tie.Else1 Inv-loop μ-loop → Least
+least c = c .before .before .least-head .result
+
+abbrev bytes : tie.Else1 Inv-loop μ-loop → List ℕ
+bytes c = now (to-start (to-loop c) .args .s)
+
+-- ---- the facts
+
+-- there are no more bytes than a `usize` counts
+small : (c : tie.After-slice-known Inv-loop μ-loop) → length (now (c .before .before .args .out)) < 2 ^ 64
+small c = omega arith
+
+found : (c : tie.Else1 Inv-loop μ-loop) → least c .found ≡ true
+found c = not-false _ (c .if1 .left)
+
+head : (c : tie.Else1 Inv-loop μ-loop) → HeadIs form.Texts (bytes c) (least c .start) (least c .value) (least c .end)
+head c = c .before .before .least-head .ensures .right (found c)
+
+-- the value has its room, and takes a byte at least
+room : (c : tie.Else1 Inv-loop μ-loop) → to-loop c .loop .next + length (part (bytes c) (least c .start) (least c .end)) ≤ length (to-loop c .loop .out)
+room c =
+    let q = to-start (to-loop c) .pre .1 in
+    least-room (to-loop c .loop .inv .2 (q .xss) (q .runs)) (c .before .before .least-head .ensures) (found c) (q .room)
+
+some : (c : tie.Else1 Inv-loop μ-loop) → 1 ≤ length (part (bytes c) (least c .start) (least c .end))
+some c = omega (arith, head c .after, part-length (bytes c) (least c .start) (least c .end) (omega (arith, head c .after)) (head c .within))
+
+-- ---- the needs
 
 loop-holds : tie.Need-loop-holds Inv-loop μ-loop
-loop-holds c = (refl, λ xss w. record { xss = xss; runs = w; so = to-go })
+loop-holds c = (refl, omega arith, λ xss w. record { xss = xss; runs = w; so = written-none _ _ _ })
 
 least-head-requires : tie.Need-least-head-requires Inv-loop μ-loop
-least-head-requires c κs = c .before .before .before .pre .0
-
-enum-known-i : tie.Need-enum-known-i Inv-loop μ-loop
-enum-known-i c = search needs
-
-enum-told : tie.Need-enum-told Inv-loop μ-loop
-enum-told c = search needs
+least-head-requires c κs = to-start c .pre .0
 
 same-length : tie.Need-same-length Inv-loop μ-loop
 same-length c = c .before .before .before .loop .inv .0
 
 returns : tie.Need-returns Inv-loop μ-loop
-returns c = λ xss w. merged-wrote (c .before .before .before .loop .inv .1 xss w) (least-nothing (c .enum-told .given .1) (c .before .before .least-head .ensures))
-
-least : (c : tie.After-known-told Inv-loop μ-loop) →
-    let a = c .before .before .before .before .before .before .before .args in
-    let g = c .before .i .given .0 in
-    IsLeast (a .s .now) (c .before .before .before .before .loop .left) (a .ends) (a .n) (At (g .0) (g .1 .0) (g .1 .1 .0))
-least c = least-at (c .before .i .given .1) (c .before .before .before .least-head .ensures)
-
-room : (c : tie.After-known-told Inv-loop μ-loop) →
-    let g = c .before .i .given .0 in
-    c .before .before .before .before .loop .next + length (part (c .before .before .before .before .before .before .before .args .s .now) (g .0) (g .1 .1 .0)) ≤ length (c .before .before .before .before .loop .out)
-room c =
-    let l = c .before .before .before .before .loop in
-    let q = c .before .before .before .before .before .before .before .pre .1 in
-    least-room (l .inv .1 (q .xss) (q .runs)) (least c) (q .room)
+returns c =
+    let inv = c .before .before .before .loop .inv .2 in
+    let is-least = c .before .before .least-head .ensures in
+    let none = not-true _ (c .if1 .taken) in
+    (λ xss w. merged-wrote (inv xss w) is-least none, λ xss w. merged-counted (inv xss w) is-least none)
 
 copy-part-requires : tie.Need-copy-part-requires Inv-loop μ-loop
-copy-part-requires c κs = let w = least (c .before) in (omega (arith, w .right .after), w .right .within, room (c .before))
+copy-part-requires c κs = let turn = c .before in (omega (arith, head turn .after), head turn .within, room turn)
 
-pass-all-requires : tie.Need-pass-all-requires Inv-loop μ-loop
-pass-all-requires c κs = let w = least (c .before .before .before .before) in (c .before .before .before .before .before .before .before .before .before .before .before .pre .0, w .right .order, w .right .within)
+add-count : tie.Need-add-count Inv-loop μ-loop
+add-count c =
+    let turn = to-turn c in
+    let at-loop = to-loop turn in
+    omega (arith, at-loop .loop .inv .0, at-loop .loop .inv .1, room turn, some turn, small (at-loop .before))
 
 loop-less : tie.Need-loop-less Inv-loop μ-loop
 loop-less c =
-    let w = least (c .before .before .before .before .before) in
-    omega (arith, c .before .before .before .copy-part .ensures .after, room (c .before .before .before .before .before), c .before .before .before .before .before .before .before .before .before .loop .inv .0, w .right .after, w .right .within, part-length (c .before .before .before .before .before .before .before .before .before .before .before .before .args .s .now) (c .before .before .before .before .before .before .i .given .0 .0) (c .before .before .before .before .before .before .i .given .0 .1 .1 .0) (omega (arith, w .right .after)) (w .right .within))
+    let turn = to-turn c in
+    omega (arith, to-copy c .copy-part .ensures .after, room turn, some turn, to-loop turn .loop .inv .0)
 
 loop-again : tie.Need-loop-again Inv-loop μ-loop
 loop-again c =
-    let l = c .before .before .before .before .before .before .before .before .before .loop in
-    (wrote-length (c .before .before .before .copy-part .ensures) ∙ l .inv .0, λ xss w. least-wrote (l .inv .1 xss w) (least (c .before .before .before .before .before)) (c .pass-all .ensures) (c .before .before .before .copy-part .ensures))
+    let turn = to-turn c in
+    let copied = to-copy c .copy-part .ensures in
+    let inv = to-loop turn .loop .inv in (
+      wrote-length copied ∙ inv .0,
+      omega (arith, copied .after, some turn, inv .1),
+      λ xss w. least-wrote (inv .2 xss w) (turn .before .before .least-head .ensures) (found turn) copied,
+    )
 
 pub write-merged-spec : {M : Type 1} → statement M
 write-merged-spec =
@@ -80,11 +122,9 @@ write-merged-spec =
     μ-loop
     loop-holds
     least-head-requires
-    enum-known-i
-    enum-told
     same-length
     returns
     copy-part-requires
-    pass-all-requires
+    add-count
     loop-less
     loop-again)

@@ -1,0 +1,173 @@
+-- The laws of the plan of the merged sets: how it is filled, which place is overfull, and the presence number.
+use mathlib.Core.Path.{_≡_, refl, sym, ap, ap₂, _∙_}
+use mathlib.Core.Bool.{Bool, true, false, not, _&&_}
+use mathlib.Core.Option.{Option, some}
+use mathlib.Core.List.{List, [], _∷_, map}
+use Prim.Native.Nat.{ℕ, _+_, _-_, _*_, _≤_, _<_}
+use native.Mathlib.Omega.{arith}
+use lib.Dec.{ltb, leb}
+use lib.ListN.{length, getD, getElem?, set, length-set}
+use lib.Seq.{getD-set-same, getD-set-other}
+use borrow.Author.Count.{below-more}
+use borrow.Author.Tests.{lt-ltb, le-leb}
+use Rattle.model.specs.Order.{Text}
+use Rattle.model.specs.Sets.{upFrom, upTo}
+use Rattle.model.specs.Rule.{places, Dossier}
+use Rattle.model.specs.Opening.{column, lowest, mergedAt, mergedSets, overfull}
+use Rattle.ontology.specs.Table.{Property, EventType, isSingle, atPlace}
+use Rattle.ontology.specs.code.TypeIndex.{TypeIs}
+use Rattle.ontology.specs.declared.properties.PropertyAt.{PropertyAt}
+use Rattle.ontology.specs.declared.types.TypeIndex.{TypeIndex}
+use Rattle.ontology.proofs.RunLaws.{no-element}
+use Rattle.event.specs.Event.{typeView, eventView}
+use Rattle.event.specs.EventLayout.{presenceBit, bitNumber}
+use Rattle.event.specs.code.EventIndex.{bitOf}
+use Rattle.event.specs.declared.sets.SetAt.{SetAt}
+use Rattle.event.proofs.BitLaws.{FilledTo, presence-bits}
+use Rattle.event.proofs.MatchLaws.{this, this-is}
+use Rattle.opening.specs.code.CellIndex.{setIn, withSet}
+use Rattle.opening.specs.code.PlanIndex.{PlaceIs, withPlace, TellsCount, PlanAt, PlanIs}
+use Rattle.opening.specs.declared.merge.PlaceMerged.{PlaceMerged}
+use Rattle.opening.specs.declared.merge.PlaceMerged.the-variants.{Stands, Joins}
+use Rattle.opening.proofs.StandLaws.{set-put, put-other, put-length, set-kept}
+
+-- ---- the plan of a place
+
+pub place-length : (plan : List ℕ) (p : ℕ) (x : PlaceMerged) {new : List ℕ} → new ≡ withPlace plan p x → length new ≡ length plan
+unfolding withPlace
+place-length plan p (Stands x) e = ap length e ∙ length-set (withSet plan (4 * p) x) (4 * p + 3) 0 ∙ put-length plan (4 * p) x
+place-length plan p Joins e = ap length e ∙ length-set (set plan (4 * p + 2) 2) (4 * p + 3) 1 ∙ length-set plan (4 * p + 2) 2
+
+-- the four numbers, as they are stored
+module _ (plan : List ℕ) (p : ℕ) {x : PlaceMerged} where
+  pub place-stands : {l : List ℕ} {y : SetAt} → x ≡ Stands y → l ≡ withSet plan (4 * p) y → set l (4 * p + 3) 0 ≡ withPlace plan p x
+  unfolding withPlace
+  place-stands e f = ap (λ (l : List ℕ). set l (4 * p + 3) 0) f ∙ sym (ap (withPlace plan p) e)
+
+  pub place-joins : x ≡ Joins → set (set plan (4 * p + 2) 2) (4 * p + 3) 1 ≡ withPlace plan p x
+  unfolding withPlace
+  place-joins e = sym (ap (withPlace plan p) e)
+
+-- the numbers of another place
+place-other : (plan : List ℕ) (p q : ℕ) (x : PlaceMerged) → (q ≡ p → ⊥) → (i : ℕ) → 4 * q ≤ i → i < 4 * q + 4 → getD (withPlace plan p x) i 0 ≡ getD plan i 0
+unfolding withPlace
+place-other plan p q (Stands x) ne i a b =
+    getD-set-other (withSet plan (4 * p) x) (4 * p + 3) i 0 0 (λ e. ne (omega arith))
+    ∙ put-other plan (4 * p) x i (λ e. ne (omega arith)) (λ e. ne (omega arith)) (λ e. ne (omega arith))
+place-other plan p q Joins ne i a b =
+    getD-set-other (set plan (4 * p + 2) 2) (4 * p + 3) i 1 0 (λ e. ne (omega arith))
+    ∙ getD-set-other plan (4 * p + 2) i 2 0 (λ e. ne (omega arith))
+
+plan-kept :
+    (s plan : List ℕ) (p q : ℕ) (x : PlaceMerged) (vs : List Text) (xss : List (List Text)) → (q ≡ p → ⊥) → PlanAt s plan q vs xss →
+    PlanAt s (withPlace plan p x) q vs xss
+plan-kept s plan p q x vs xss ne w =
+    let flag = place-other plan p q x ne (4 * q + 3) (omega arith) (omega arith) in
+    let count = place-other plan p q x ne (4 * q + 2) (omega arith) (omega arith) in
+    let stands = set-kept plan (withPlace plan p x) (4 * q) (λ i a b. place-other plan p q x ne i a (omega arith)) in
+    record { joins = λ e. w .joins (sym flag ∙ e); stands = λ n. rw stands (w .stands (λ e. n (flag ∙ e))); counts = rw count (w .counts) }
+
+-- a set that stands has its count, and one that is to be made has two values at least
+tells-same : {n m : ℕ} → n ≡ m → TellsCount n m
+tells-same e = record { any = ap (ltb 0) e; several = ap (leb 2) e }
+
+tells-several : {m : ℕ} → 2 ≤ m → TellsCount 2 m
+tells-several {m} h = record { any = sym (lt-ltb 0 m (omega arith)); several = sym (le-leb 2 m h) }
+
+count-of : (l : List ℕ) (at : ℕ) {x : SetAt} → setIn l at ≡ x → getD l (at + 2) 0 ≡ x .count
+unfolding setIn
+count-of l at e = ap (λ (y : SetAt). y .count) e
+
+plan-put :
+    (s plan : List ℕ) (p : ℕ) (x : PlaceMerged) (vs : List Text) (xss : List (List Text)) → length plan ≡ 128 → p < 32 → PlaceIs s vs xss x →
+    PlanAt s (withPlace plan p x) p vs xss
+unfolding withPlace
+plan-put s plan p (Stands x) vs xss l h w =
+    let l₁ = withSet plan (4 * p) x in
+    let long : length l₁ ≡ 128 = put-length plan (4 * p) x ∙ l in
+    let flag : getD (set l₁ (4 * p + 3) 0) (4 * p + 3) 0 ≡ 0 = getD-set-same l₁ (4 * p + 3) 0 0 (omega arith) in
+    let is : setIn (set l₁ (4 * p + 3) 0) (4 * p) ≡ x =
+    set-kept l₁ (set l₁ (4 * p + 3) 0) (4 * p) (λ i a b. getD-set-other l₁ (4 * p + 3) i 0 0 (λ e. omega arith)) ∙ set-put plan (4 * p) x (omega arith) in
+    record { joins = λ e. absurd (omega (arith, flag, e)); stands = λ n. rw is w; counts = tells-same (count-of (set l₁ (4 * p + 3) 0) (4 * p) is ∙ w .count) }
+plan-put s plan p Joins vs xss l h w =
+    let l₁ = set plan (4 * p + 2) 2 in
+    let long : length l₁ ≡ 128 = length-set plan (4 * p + 2) 2 ∙ l in
+    let flag : getD (set l₁ (4 * p + 3) 1) (4 * p + 3) 0 ≡ 1 = getD-set-same l₁ (4 * p + 3) 1 0 (omega arith) in
+    let count : getD (set l₁ (4 * p + 3) 1) (4 * p + 2) 0 ≡ 2 =
+    getD-set-other l₁ (4 * p + 3) (4 * p + 2) 1 0 (λ e. omega arith) ∙ getD-set-same plan (4 * p + 2) 2 0 (omega arith) in
+    record { joins = λ e. w; stands = λ n. absurd (n flag); counts = rw count (tells-several (w .several)) }
+
+-- ---- the plan of all places
+
+-- the first p places are planned
+pub record PlannedTo (s plan : List ℕ) (t : EventType) (d : Dossier) (p : ℕ) : Type 0 where
+  pub each : (i : ℕ) → i < p → PlanAt s plan i (mergedAt (typeView t) d i) (column (d .snapshots) i)
+
+module _ (s plan : List ℕ) (t : EventType) (d : Dossier) where
+  pub planned-none : PlannedTo s plan t d 0
+  planned-none = record { each = λ i h. absurd (omega arith) }
+
+  pub planned-more :
+      (p : ℕ) (x : PlaceMerged) {new : List ℕ} → length plan ≡ 128 → p < 32 → PlannedTo s plan t d p →
+      PlaceIs s (mergedAt (typeView t) d p) (column (d .snapshots) p) x → new ≡ withPlace plan p x → PlannedTo s new t d (p + 1)
+  planned-more p x l h w here e = rw e (record {
+    each =
+        below-more (λ (i : ℕ). PlanAt s (withPlace plan p x) i (mergedAt (typeView t) d i) (column (d .snapshots) i)) p
+        (λ i k. plan-kept s plan p i x (mergedAt (typeView t) d i) (column (d .snapshots) i) (λ e. omega arith) (w .each i k))
+        (plan-put s plan p x (mergedAt (typeView t) d p) (column (d .snapshots) p) l h here);
+  })
+
+  pub planned-all : (p : ℕ) → 32 ≤ p → PlannedTo s plan t d p → PlanIs s plan t d
+  planned-all p h w = record { each = λ i l. w .each i (omega arith) }
+
+-- ---- which place is overfull
+
+pub single-overfull : (b : Bool) (n : ℕ) → b ≡ true → leb 2 n ≡ (b && leb 2 n)
+single-overfull b n e = sym (ap (λ (a : Bool). a && leb 2 n) e)
+
+abbrev pub isOverfull : EventType → Dossier → ℕ → Bool
+isOverfull ty d p = typeView ty .single p && leb 2 (length (mergedAt (typeView ty) d p))
+
+pub overfull-start : (ty : EventType) (d : Dossier) → overfull (typeView ty) d ≡ lowest (isOverfull ty d) (upFrom 0 (32 - 0))
+unfolding overfull places upTo typeView eventView
+overfull-start ty d = refl
+
+module _ (u : List ℕ) (ty : EventType) (t : TypeIndex) (w : TypeIs u ty t) (d : Dossier) (p : ℕ) where
+  single-at : (o : Option Property) → getElem? (ty .properties) p ≡ o → typeView ty .single p ≡ atPlace false isSingle o
+  unfolding typeView eventView
+  single-at o e = ap (atPlace false isSingle) e
+
+  pub place-overfull :
+      (s plan : List ℕ) (none : PropertyAt) {b : Bool} → PlanIs s plan ty d → p < t .count →
+      b ≡ (not (getD (t .properties) p none .multivalued) && leb 2 (getD plan (4 * p + 2) 0)) → b ≡ isOverfull ty d p
+  unfolding atPlace
+  place-overfull s plan none v h e =
+      let q = this u ty t w p h in
+      e
+      ∙ ap₂ _&&_
+      (ap not (this-is u ty t w p h none .multivalued) ∙ sym (single-at (some (q .what)) (q .is)))
+      (v .each p (omega (arith, w .few)) .counts .several)
+
+  -- there is no property
+  pub no-overfull : t .count ≤ p → isOverfull ty d p ≡ false
+  unfolding atPlace
+  no-overfull h =
+      ap (λ (b : Bool). b && leb 2 (length (mergedAt (typeView ty) d p))) (single-at _ (no-element (ty .properties) p (omega (arith, w .count))))
+
+-- ---- the presence number
+
+-- the bit of a set, by what is told of its count
+bit-of : (vs : List Text) (n : ℕ) → ltb 0 n ≡ ltb 0 (length vs) → presenceBit vs ≡ bitOf (ltb 0 n)
+unfolding presenceBit bitOf
+bit-of [] n e = sym (ap bitOf e)
+bit-of (v ∷ vs) n e = sym (ap bitOf (e ∙ lt-ltb 0 (length (v ∷ vs)) (omega arith)))
+
+pub presence-is :
+    {s plan : List ℕ} {ty : EventType} {d : Dossier} {present : List Bool} {p n : ℕ} → PlanIs s plan ty d →
+    FilledTo (λ i. ltb 0 (getD plan (4 * i + 2) 0)) present p → 32 ≤ p → n ≡ bitNumber (map bitOf present) →
+    n ≡ bitNumber (map presenceBit (mergedSets (typeView ty) d))
+unfolding mergedSets places typeView eventView
+presence-is {s} {plan} {ty} {d} {present} w b h e =
+    e
+    ∙ ap bitNumber (sym (presence-bits (mergedAt (typeView ty) d) present (b .long)
+    (λ i l. bit-of (mergedAt (typeView ty) d i) (getD plan (4 * i + 2) 0) (w .each i l .counts .any) ∙ ap bitOf (sym (b .each i (omega arith))))))

@@ -1,0 +1,71 @@
+use borrow.Author.Needs.{needs}
+use mathlib.Core.Logic.{⊎-elim}
+use mathlib.Core.Path.{sym, subst}
+use denote.Ref.{now}
+use Rattle.event.specs.code.EventIndex.{SetIs}
+use Rattle.opening.proofs.MergeLaws.{stands-only, stands-last, stands-chosen, place-every}
+use Rattle.opening.proofs.merge.merged_at.Statement.{statement}
+use Rattle.opening.proofs.merge.merged_at.Tie as tie
+
+-- ---- the places
+
+abbrev to-start : tie.After-shared-slice-known2 → tie.Start
+to-start c = c .before .before
+
+abbrev made-to-start : tie.Else2 → tie.Start
+made-to-start c = to-start (c .before .before)
+
+-- ---- the needs
+
+mul-cell-at : tie.Need-mul-cell-at
+mul-cell-at c = search needs
+
+add-cell-at : tie.Need-add-cell-at
+add-cell-at c = search needs
+
+sub-cell-at : tie.Need-sub-cell-at
+sub-cell-at c = search needs
+
+cell-at-requires : tie.Need-cell-at-requires
+cell-at-requires c κs = search needs
+
+returns : tie.Need-returns
+returns c =
+    let start = to-start (c .before .before) in
+    let within = start .pre .1 in
+    λ t d m w.
+    subst (SetIs (now (start .args .s)) _) (sym (c .cell-at .ensures))
+    (⊎-elim
+    (λ only. stands-only _ _ _ t d _ within m _ w (only .taken))
+    (λ last. stands-last _ _ _ t d _ within m _ w (start .pre .2) (last .1 .taken))
+    (c .before .if1 .came))
+
+extreme-of-requires : tie.Need-extreme-of-requires
+extreme-of-requires c κs = search needs
+
+returns-2 : tie.Need-returns-2
+returns-2 c =
+    let made = c .before .before in
+    λ t d m w. stands-chosen _ _ _ t d _ (made-to-start made .pre .1) m _ w _ (made .if2 .left) (c .before .if3 .taken) (c .extreme-of .ensures)
+
+only-set-requires : tie.Need-only-set-requires
+only-set-requires c κs = search needs
+
+returns-3 : tie.Need-returns-3
+returns-3 c =
+    let made = c .before .before in
+    λ t d m w. place-every _ _ _ t d _ (made-to-start made .pre .1) m _ w (c .only-set .result) (made .if2 .left) (c .before .if3 .left) (c .only-set .ensures)
+
+pub merged-at-spec : {M : Type 1} → statement M
+merged-at-spec =
+    tie.close
+    (tie.spec
+    mul-cell-at
+    add-cell-at
+    sub-cell-at
+    cell-at-requires
+    returns
+    extreme-of-requires
+    returns-2
+    only-set-requires
+    returns-3)
