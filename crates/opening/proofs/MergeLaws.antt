@@ -419,5 +419,5 @@ pub stands-empty :
     SetIs s (mergedAt (typeView ty) d p) noSet
 unfolding canon
 stands-empty s cells u n ty t d p w m h =
-    let e : getElem? (ty .properties) p ≡ none = no-element (ty .properties) p (omega (arith, w .count)) in
+    let e : getElem? (ty .properties) p ≡ none = no-element (ty .properties) p (omega (arith, w .are .count)) in
     subst (λ (vs : List Text). SetIs s vs noSet) (sym (merged-none ty d p e ∙ ap (canon texts) (m .vacant p e))) (no-set s)

@@ -15,7 +15,7 @@ use Rattle.model.specs.Sets.{upFrom, upTo}
 use Rattle.model.specs.Rule.{places, Dossier}
 use Rattle.model.specs.Opening.{column, lowest, mergedAt, mergedSets, overfull}
 use Rattle.ontology.specs.Table.{Property, EventType, isSingle, atPlace}
-use Rattle.ontology.specs.code.TypeIndex.{TypeIs}
+use Rattle.ontology.specs.code.TypeIndex.{propertyIn, TypeIs}
 use Rattle.ontology.specs.declared.properties.PropertyAt.{PropertyAt}
 use Rattle.ontology.specs.declared.types.TypeIndex.{TypeIndex}
 use Rattle.ontology.proofs.RunLaws.{no-element}
@@ -25,7 +25,7 @@ use Rattle.event.specs.code.EventIndex.{bitOf}
 use Rattle.event.specs.declared.sets.SetAt.{SetAt}
 use Rattle.event.proofs.BitLaws.{FilledTo, presence-bits}
 use Rattle.event.proofs.MatchLaws.{this, this-is}
-use Rattle.opening.specs.code.CellIndex.{setIn, withSet}
+use Rattle.opening.specs.code.CellIndex.{setFrom, withSet}
 use Rattle.opening.specs.code.PlanIndex.{PlaceIs, withPlace, TellsCount, PlanAt, PlanIs}
 use Rattle.opening.specs.declared.merge.PlaceMerged.{PlaceMerged}
 use Rattle.opening.specs.declared.merge.PlaceMerged.the-variants.{Stands, Joins}
@@ -74,8 +74,8 @@ tells-same e = record { any = ap (ltb 0) e; several = ap (leb 2) e }
 tells-several : {m : ℕ} → 2 ≤ m → TellsCount 2 m
 tells-several {m} h = record { any = sym (lt-ltb 0 m (omega arith)); several = sym (le-leb 2 m h) }
 
-count-of : (l : List ℕ) (at : ℕ) {x : SetAt} → setIn l at ≡ x → getD l (at + 2) 0 ≡ x .count
-unfolding setIn
+count-of : (l : List ℕ) (at : ℕ) {x : SetAt} → setFrom l at ≡ x → getD l (at + 2) 0 ≡ x .count
+unfolding setFrom
 count-of l at e = ap (λ (y : SetAt). y .count) e
 
 plan-put :
@@ -86,7 +86,7 @@ plan-put s plan p (Stands x) vs xss l h w =
     let l₁ = withSet plan (4 * p) x in
     let long : length l₁ ≡ 128 = put-length plan (4 * p) x ∙ l in
     let flag : getD (set l₁ (4 * p + 3) 0) (4 * p + 3) 0 ≡ 0 = getD-set-same l₁ (4 * p + 3) 0 0 (omega arith) in
-    let is : setIn (set l₁ (4 * p + 3) 0) (4 * p) ≡ x =
+    let is : setFrom (set l₁ (4 * p + 3) 0) (4 * p) ≡ x =
     set-kept l₁ (set l₁ (4 * p + 3) 0) (4 * p) (λ i a b. getD-set-other l₁ (4 * p + 3) i 0 0 (λ e. omega arith)) ∙ set-put plan (4 * p) x (omega arith) in
     record { joins = λ e. absurd (omega (arith, flag, e)); stands = λ n. rw is w; counts = tells-same (count-of (set l₁ (4 * p + 3) 0) (4 * p) is ∙ w .count) }
 plan-put s plan p Joins vs xss l h w =
@@ -138,21 +138,21 @@ module _ (u : List ℕ) (ty : EventType) (t : TypeIndex) (w : TypeIs u ty t) (d 
   single-at o e = ap (atPlace false isSingle) e
 
   pub place-overfull :
-      (s plan : List ℕ) (none : PropertyAt) {b : Bool} → PlanIs s plan ty d → p < t .count →
-      b ≡ (not (getD (t .properties) p none .multivalued) && leb 2 (getD plan (4 * p + 2) 0)) → b ≡ isOverfull ty d p
+      (s plan : List ℕ) {q : PropertyAt} {b : Bool} → q ≡ propertyIn (t .properties) p → PlanIs s plan ty d → p < t .count →
+      b ≡ (not (q .multivalued) && leb 2 (getD plan (4 * p + 2) 0)) → b ≡ isOverfull ty d p
   unfolding atPlace
-  place-overfull s plan none v h e =
-      let q = this u ty t w p h in
+  place-overfull s plan same v h e =
+      let o = this u ty _ _ (w .are) p h in
       e
       ∙ ap₂ _&&_
-      (ap not (this-is u ty t w p h none .multivalued) ∙ sym (single-at (some (q .what)) (q .is)))
-      (v .each p (omega (arith, w .few)) .counts .several)
+      (ap not (ap (λ (x : PropertyAt). x .multivalued) same ∙ this-is u ty _ _ (w .are) p h .multivalued) ∙ sym (single-at (some (o .what)) (o .is)))
+      (v .each p (omega (arith, w .are .few)) .counts .several)
 
   -- there is no property
   pub no-overfull : t .count ≤ p → isOverfull ty d p ≡ false
   unfolding atPlace
   no-overfull h =
-      ap (λ (b : Bool). b && leb 2 (length (mergedAt (typeView ty) d p))) (single-at _ (no-element (ty .properties) p (omega (arith, w .count))))
+      ap (λ (b : Bool). b && leb 2 (length (mergedAt (typeView ty) d p))) (single-at _ (no-element (ty .properties) p (omega (arith, w .are .count))))
 
 -- ---- the presence number
 

@@ -13,7 +13,8 @@ use Rattle.model.specs.Opening.{held, cellAt, column}
 use Rattle.packed.specs.Parse.{got}
 use Rattle.packed.specs.Packed.{part}
 use Rattle.packed.proofs.ReadLaws.{to-end}
-use Rattle.event.specs.code.EventIndex.{countSize, SetIs, noSet}
+use Rattle.event.specs.code.EventIndex.{countSize, SetIs, setIn}
+use Rattle.event.proofs.SetLaws.{set-read}
 use Rattle.event.specs.declared.sets.SetAt.{SetAt}
 use Rattle.event.proofs.EventLayoutLaws.{SetWritten}
 use Rattle.event.proofs.EventQuestionLaws.{all-at, empty-written}
@@ -27,7 +28,7 @@ use Rattle.dossier.proofs.CellLaws.{held-at}
 use Rattle.dossier.proofs.AskLaws.{reads-got}
 use Rattle.dossier.proofs.DossierBodyLaws.{snapshot-was}
 use Rattle.opening.specs.code.OpenIndex.{CellStands, Shifted, CellsStand}
-use Rattle.opening.specs.code.CellIndex.{setIn, withSet, cellIn}
+use Rattle.opening.specs.code.CellIndex.{setFrom, withSet, cellIn}
 
 -- ---- the column of a place
 
@@ -45,8 +46,8 @@ column-at (x ∷ ss) p (suc j) = column-at ss p j
 -- ---- sets among numbers
 
 module _ (l : List ℕ) (at : ℕ) (x : SetAt) where
-  pub set-put : at + 2 < length l → setIn (withSet l at x) at ≡ x
-  unfolding setIn withSet
+  pub set-put : at + 2 < length l → setFrom (withSet l at x) at ≡ x
+  unfolding setFrom withSet
   set-put h =
       let l₁ = set l at (x .start) in
       let l₂ = set l₁ (at + 1) (x .end) in
@@ -75,8 +76,8 @@ module _ (l : List ℕ) (at : ℕ) (x : SetAt) where
   put-length = simp length-set refl
 
 -- a set whose numbers are kept
-pub set-kept : (l l′ : List ℕ) (at : ℕ) → ((i : ℕ) → at ≤ i → i < at + 3 → getD l′ i 0 ≡ getD l i 0) → setIn l′ at ≡ setIn l at
-unfolding setIn
+pub set-kept : (l l′ : List ℕ) (at : ℕ) → ((i : ℕ) → at ≤ i → i < at + 3 → getD l′ i 0 ≡ getD l i 0) → setFrom l′ at ≡ setFrom l at
+unfolding setFrom
 set-kept l l′ at h = rw (h at (omega arith) (omega arith), h (at + 1) (omega arith) (omega arith), h (at + 2) (omega arith) (omega arith))
 
 -- cells
@@ -172,10 +173,12 @@ pub rest-read : (s : List ℕ) (at : ℕ) (i : SnapshotIndex) (x : Snapshot) (v 
 rest-read s at i x v w e = let f = to-end s at in reads-got (readSnapshot (drop at s)) (drop at s) i x v (rw f at w) e
 
 -- the set of a place that was read from the rest of the bytes
-pub own-cell : (s : List ℕ) (at : ℕ) (x : Snapshot) (v : List ℕ) (i : SnapshotIndex) (p : ℕ) (r : SetAt) → at ≤ length s → p < 32 → readSnapshot (drop at s) ≡ got x v → SnapshotIs (drop at s) x i → Shifted (getD (i .sets) p noSet) at (length s) r → CellStands s (held (cellAt x p)) r
+pub own-cell :
+    (s : List ℕ) (at : ℕ) (x : Snapshot) (v : List ℕ) (i : SnapshotIndex) (p : ℕ) (y r : SetAt) → at ≤ length s → p < 32 → readSnapshot (drop at s) ≡ got x v →
+    SnapshotIs (drop at s) x i → y ≡ setIn (i .sets) p → Shifted y at (length s) r → CellStands s (held (cellAt x p)) r
 unfolding cellAt
-own-cell s at x v i p r h l e w z = record {
-  is = shifted-set s at (held (cellAt x p)) (getD (i .sets) p noSet) r h (rw (← held-at (x .cells) p) (w .sets .each p l)) z;
+own-cell s at x v i p y r h l e w f z = record {
+  is = shifted-set s at (held (cellAt x p)) y r h (set-read f (rw (← held-at (x .cells) p) (w .sets .each p l))) z;
   rises = rw (← held-at (x .cells) p) (all-at SetWritten [] empty-written (map held (x .cells)) (snapshot-was (drop at s) x v e .1 .sets .each) p .rises);
 }
 

@@ -1,12 +1,12 @@
 -- How the sets of a property are merged, by its index.
-use mathlib.Core.Path.{_≡_, _∙_}
+use mathlib.Core.Path.{_≡_, sym, _∙_, subst}
 use mathlib.Core.Bool.{Bool}
 use mathlib.Core.List.{List}
 use Prim.Native.Nat.{ℕ, _<_}
 use native.Mathlib.Omega.{arith}
 use lib.ListN.{getD, getElem?}
 use Rattle.ontology.specs.Table.{Property, EventType}
-use Rattle.ontology.specs.code.TypeIndex.{PropertyIs, hasMax, hasExtreme, hasReplace, TypeIs}
+use Rattle.ontology.specs.code.TypeIndex.{PropertyIs, propertyIn, hasMax, hasExtreme, hasReplace, TypeIs}
 use Rattle.ontology.specs.declared.properties.PropertyAt.{PropertyAt}
 use Rattle.ontology.specs.declared.types.TypeIndex.{TypeIndex}
 use Rattle.ontology.proofs.TypeIndexLaws.{max-of, extreme-of, replace-of}
@@ -31,12 +31,9 @@ module _
 
 module _ (s : List ℕ) (ty : EventType) (t : TypeIndex) (w : TypeIs s ty t) (k : ℕ) where
   pub place : k < t .count → Elem (ty .properties) k
-  place h = elem (ty .properties) k (omega (arith, w .count))
+  place h = elem (ty .properties) k (omega (arith, w .are .count))
 
-  module _ (d : PropertyAt) (h : k < t .count) where
-    abbrev x : PropertyAt
-    x = getD (t .properties) k d
-
+  module _ {x : PropertyAt} (same : x ≡ propertyIn (t .properties) k) (h : k < t .count) where
     pub rule-some :
         {replaces extreme largest : Bool}
         (a : replaces ≡ hasReplace x) (b : extreme ≡ hasExtreme x) (c : largest ≡ hasMax x) →
@@ -44,5 +41,5 @@ module _ (s : List ℕ) (ty : EventType) (t : TypeIndex) (w : TypeIs s ty t) (k 
     rule-some a b c = record {
       what = place h .what;
       is = place h .is;
-      rule = rule-from x a b c s (place h .what) (w .are .each k (place h .what) d (place h .is));
+      rule = rule-from x a b c s (place h .what) (subst (PropertyIs s (place h .what)) (sym same) (w .are .each k (place h .what) (place h .is)));
     }

@@ -25,7 +25,7 @@ use Rattle.unions.specs.code.Merging.{SetRuns, MergedRoom}
 use Rattle.dossier.specs.declared.dossiers.DossierIndex.{DossierIndex}
 use Rattle.dossier.specs.DossierLayout.{modelOf}
 use Rattle.opening.specs.OpenCall.{mergedEvent}
-use Rattle.opening.specs.code.CellIndex.{setIn}
+use Rattle.opening.specs.code.CellIndex.{setFrom}
 use Rattle.opening.specs.code.PlanIndex.{Joined, JoinedRoom, SetsRoom, Writable}
 
 -- ---- the union of a place
@@ -100,7 +100,7 @@ module _
   this-room = omega (arith, q .room, g .after, g .long, ap length (sets-next (q .type) (q .dossier) place h), length-append (setBytes this) after)
 
   -- a set that stands already
-  module _ {x : SetAt} (f : x ≡ setIn plan (4 * place)) (e : getD plan (4 * place + 3) 0 ≡ 1 → ⊥) where
+  module _ {x : SetAt} (f : x ≡ setFrom plan (4 * place)) (e : getD plan (4 * place + 3) 0 ≡ 1 → ⊥) where
     pub standing-is : SetIs s this x
     standing-is = rw f (q .planned .each place h .stands e)
 

@@ -7,12 +7,13 @@ ghost use Rattle.model.specs.Opening.{column};
 ghost use Rattle.unions.specs.code.Merging.{SetRuns};
 ghost use Rattle.dossier.specs.DossierLayout.{Headed};
 ghost use Rattle.dossier.specs.code.DossierIndex.{SnapshotIs, noSnapshot, DossierIs, IsDossier};
-ghost use Rattle.opening.specs.code.CellIndex.{setIn, withSet, cellIn};
+ghost use Rattle.opening.specs.code.CellIndex.{setFrom, withSet, cellIn};
 ghost use Rattle.opening.specs.code.OpenIndex.{Shifted, CellsStand};
 use dossier::dossiers::DossierIndex;
 use dossier::snapshots::SnapshotIndex;
 use dossier::snapshots::read_snapshot;
 use event::sets::SetAt;
+use event::sets::set_at;
 
 // Eight runs of a dossier: where each starts, and where it ends.
 pub struct Runs {
@@ -53,9 +54,9 @@ fn snapshot_at(s: &[u8], d: DossierIndex, j: usize) -> SnapshotIndex
 }
 
 // A set among numbers, from position `at` on: where it starts, where it ends, and its count.
-pub fn set_in(xs: &[usize], at: usize) -> SetAt
+pub fn set_from(xs: &[usize], at: usize) -> SetAt
     requires { ⌜ at + 2 < length (now xs) ⌝ }
-    ensures { λ r. ⌜ r ≡ setIn (now (xs .entry)) at ⌝ }
+    ensures { λ r. ⌜ r ≡ setFrom (now (xs .entry)) at ⌝ }
 {
     SetAt {
         start: xs[at],
@@ -78,7 +79,7 @@ pub fn cell_at(cells: &[usize], k: usize) -> SetAt
     requires { ⌜ (length (now cells) ≡ 768) × (k < 256) ⌝ }
     ensures { λ r. ⌜ r ≡ cellIn (now (cells .entry)) k ⌝ }
 {
-    set_in(cells, 3 * k)
+    set_from(cells, 3 * k)
 }
 
 // The cells of all snapshots.
@@ -92,8 +93,11 @@ pub fn put_cells(s: &[u8], d: DossierIndex, cells: &mut [usize])
         let x = snapshot_at(s, d, j);
         let mut p: usize = 0;
         while p < 32 {
-            let set = x.sets[p];
-            put_set(cells, 3 * (p * 8 + j), shifted(set, at, s.len()));
+            put_set(
+                cells,
+                3 * (p * 8 + j),
+                shifted(set_at(&x.sets, p), at, s.len()),
+            );
             p += 1;
         }
         j += 1;

@@ -26,6 +26,7 @@ use event::bits::number_of;
 use event::sets::SetAt;
 use event::sets::set_part;
 use event::sets::value_in;
+use ontology::properties::property_at;
 use ontology::types::TypeIndex;
 use packed::order::same;
 use values::spaces::compare_values;
@@ -169,7 +170,7 @@ pub fn find_overfull(t: TypeIndex, plan: &[usize]) -> Lowest
 {
     let mut p: usize = 0;
     while p < t.count {
-        let property = t.properties[p];
+        let property = property_at(&t.properties, p);
         if is_overfull(!property.multivalued, plan[4 * p + 2]) {
             return Lowest::Place(p);
         }

@@ -7,6 +7,7 @@ ghost use Rattle.opening.specs.code.OpenIndex.{RuleIs};
 use ontology::properties::is_extreme;
 use ontology::properties::is_max;
 use ontology::properties::is_replace;
+use ontology::properties::property_at;
 use ontology::types::TypeIndex;
 
 // How the sets of a place are merged: the last one, the smallest or the largest value by the order of a kind, or the union.
@@ -21,7 +22,7 @@ pub fn rule_of(t: TypeIndex, place: usize) -> PlaceRule
     requires { ⌜ (t .count ≤ 32) × (place < t .count) ⌝ }
     ensures { λ r. ⌜ ((s : List ℕ) (ty : EventType) → TypeIs s ty t → RuleIs (getElem? (ty .properties) place) r) ⌝ }
 {
-    let p = t.properties[place];
+    let p = property_at(&t.properties, place);
     PlaceRule {
         replaces: is_replace(p),
         extreme: is_extreme(p),

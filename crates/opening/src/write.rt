@@ -12,7 +12,7 @@ ghost use Rattle.dossier.specs.DossierLayout.{modelOf};
 ghost use Rattle.opening.specs.OpenCall.{mergedEvent};
 ghost use Rattle.opening.specs.code.PlanIndex.{JoinedRoom, SetsRoom, Writable};
 use crate::cells::runs_of;
-use crate::cells::set_in;
+use crate::cells::set_from;
 use crate::merge::presence_of;
 use dossier::dossiers::DossierIndex;
 use event::head::hashes_part;
@@ -62,7 +62,7 @@ fn write_sets(
         if plan[4 * p + 3] == 1 {
             next = write_joined(s, cells, p, n, out, next);
         } else {
-            next = write_set(s, set_in(plan, 4 * p), out, next);
+            next = write_set(s, set_from(plan, 4 * p), out, next);
         }
         p += 1;
     }

@@ -5,12 +5,12 @@ use lib.ListN.{getD, set}
 use Rattle.event.specs.declared.sets.SetAt.{SetAt}
 
 -- the set whose numbers stand from `at` on
-unfoldable pub setIn : List ℕ → ℕ → SetAt
-setIn xs at = record { start = getD xs at 0; end = getD xs (at + 1) 0; count = getD xs (at + 2) 0 }
+unfoldable pub setFrom : List ℕ → ℕ → SetAt
+setFrom xs at = record { start = getD xs at 0; end = getD xs (at + 1) 0; count = getD xs (at + 2) 0 }
 
 unfoldable pub withSet : List ℕ → ℕ → SetAt → List ℕ
 withSet xs at x = set (set (set xs at (x .start)) (at + 1) (x .end)) (at + 2) (x .count)
 
 -- cell k
 abbrev pub cellIn : List ℕ → ℕ → SetAt
-cellIn cells k = setIn cells (3 * k)
+cellIn cells k = setFrom cells (3 * k)

@@ -18,7 +18,7 @@ use Rattle.dossier.specs.declared.dossiers.DossierIndex.{DossierIndex}
 use Rattle.opening.specs.OpenCall.{mergedEvent}
 use Rattle.opening.specs.declared.merge.PlaceMerged.{PlaceMerged}
 use Rattle.opening.specs.declared.merge.PlaceMerged.the-variants.{Stands, Joins}
-use Rattle.opening.specs.code.CellIndex.{setIn, withSet}
+use Rattle.opening.specs.code.CellIndex.{setFrom, withSet}
 use Rattle.opening.specs.code.OpenIndex.{CellsStand}
 
 -- vs is the union of the sets xss, of which two differ
@@ -44,7 +44,7 @@ pub record TellsCount (n m : ℕ) : Type 0 where
 -- the plan of a place
 pub record PlanAt (s plan : List ℕ) (p : ℕ) (vs : List Text) (xss : List (List Text)) : Type 0 where
   pub joins : getD plan (4 * p + 3) 0 ≡ 1 → Joined vs xss
-  pub stands : (getD plan (4 * p + 3) 0 ≡ 1 → ⊥) → SetIs s vs (setIn plan (4 * p))
+  pub stands : (getD plan (4 * p + 3) 0 ≡ 1 → ⊥) → SetIs s vs (setFrom plan (4 * p))
   pub counts : TellsCount (getD plan (4 * p + 2) 0) (length vs)
 
 pub record PlanIs (s plan : List ℕ) (t : EventType) (d : Dossier) : Type 0 where

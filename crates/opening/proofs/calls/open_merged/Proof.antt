@@ -64,7 +64,7 @@ slice-aggregate-plan-sets-2 c = search needs
 plan-sets-requires : tie.Need-plan-sets-requires
 plan-sets-requires c κs =
     let o = cells-to-start (c .before .before .before) .pre .0 in
-    (o .typed .few, o .is .one, o .is .few, search needs, refl)
+    (o .typed .are .few, o .is .one, o .is .few, search needs, refl)
 
 slice-aggregate-find-overfull : tie.Need-slice-aggregate-find-overfull
 slice-aggregate-find-overfull c = search needs
@@ -72,7 +72,7 @@ slice-aggregate-find-overfull c = search needs
 find-overfull-requires : tie.Need-find-overfull-requires
 find-overfull-requires c κs =
     let o = to-start (c .before .before) .pre .0 in
-    (o .typed .few, search needs)
+    (o .typed .are .few, search needs)
 
 enum-known-place : tie.Need-enum-known-place
 enum-known-place c = search needs

@@ -33,7 +33,7 @@ abbrev to-turn : tie.At-loop2 Inv-loop2 μ-loop2 Inv-loop μ-loop → tie.In-loo
 to-turn c = c .before .before .before
 
 abbrev to-place : tie.After-slice-known2 Inv-loop2 μ-loop2 Inv-loop μ-loop → tie.In-loop2 Inv-loop2 μ-loop2 Inv-loop μ-loop
-to-place c = c .before .before .before .before .before .before
+to-place c = c .before .before .before .before .before .before .before .before .before
 
 -- ---- the facts
 
@@ -67,12 +67,6 @@ snapshot-at-requires c κs = (to-start (c .before) .pre .0, c .before .loop-test
 loop2-holds : tie.Need-loop2-holds Inv-loop2 μ-loop2 Inv-loop μ-loop
 loop2-holds c = (c .before .before .before .loop .inv .0, λ h w. filled-none _ _ _ _)
 
-mul-set : tie.Need-mul-set Inv-loop2 μ-loop2 Inv-loop μ-loop
-mul-set c = search needs
-
-element-copy-out-set : tie.Need-element-copy-out-set Inv-loop2 μ-loop2 Inv-loop μ-loop
-element-copy-out-set c = search needs
-
 mul-put-set : tie.Need-mul-put-set Inv-loop2 μ-loop2 Inv-loop μ-loop
 mul-put-set c = search needs
 
@@ -81,6 +75,9 @@ add-put-set c = search needs
 
 mul-put-set-2 : tie.Need-mul-put-set-2 Inv-loop2 μ-loop2 Inv-loop μ-loop
 mul-put-set-2 c = search needs
+
+set-at-requires : tie.Need-set-at-requires Inv-loop2 μ-loop2 Inv-loop μ-loop
+set-at-requires c κs = (search needs, c .before .before .before .before .loop2-test .taken)
 
 shifted-requires : tie.Need-shifted-requires Inv-loop2 μ-loop2 Inv-loop μ-loop
 shifted-requires c κs = search needs
@@ -104,7 +101,8 @@ loop2-again c =
       λ x w.
           let read = turn-read (at-place .before) x w in
           let start = start-within _ x _ w _ (turn .loop-test .taken) in
-          let cell = own-cell _ _ _ _ _ _ _ start h (read .is) read (c .before .before .before .shifted .ensures) in
+          let shifted = c .before .before .before in
+          let cell = own-cell _ _ _ _ _ _ _ _ start h (read .is) read (shifted .before .set-at .ensures) (shifted .shifted .ensures) in
           rw (c .before .before .put-set .ensures) (filled-more _ _ _ _ _ _ _ (l .inv .0) h (few turn) (l .inv .1 x w) cell),
     )
 
@@ -140,11 +138,10 @@ put-cells-spec =
     element-copy-out-at
     snapshot-at-requires
     loop2-holds
-    mul-set
-    element-copy-out-set
     mul-put-set
     add-put-set
     mul-put-set-2
+    set-at-requires
     shifted-requires
     put-set-requires
     add-p

@@ -27,8 +27,11 @@ abbrev μ-loop : tie.MeasureT-loop
 
 -- ---- the places
 
+abbrev taken : tie.After-is-overfull Inv-loop μ-loop → tie.After-property-at Inv-loop μ-loop
+taken c = c .before .before .before
+
 abbrev to-turn : tie.After-is-overfull Inv-loop μ-loop → tie.In-loop Inv-loop μ-loop
-to-turn c = c .before .before .before .before
+to-turn c = taken c .before .before .before .before
 
 abbrev to-start : tie.In-loop Inv-loop μ-loop → tie.Start Inv-loop μ-loop
 to-start c = c .before .before .before
@@ -43,18 +46,15 @@ asked :
     (c : tie.After-is-overfull Inv-loop μ-loop) → let a = to-start (to-turn c) .args in
     (u s : List ℕ) (ty : EventType) (d : Dossier) → TypeIs u ty (a .t1) → PlanIs s (now (a .plan)) ty d →
     c .is-overfull .result ≡ isOverfull ty d (to-turn c .before .loop .p)
-asked c u s ty d w v = place-overfull u ty _ w d _ s _ _ v (to-turn c .loop-test .taken) (c .is-overfull .ensures)
+asked c u s ty d w v = place-overfull u ty _ w d _ s _ (taken c .property-at .ensures) v (to-turn c .loop-test .taken) (c .is-overfull .ensures)
 
 -- ---- the needs
 
 loop-holds : tie.Need-loop-holds Inv-loop μ-loop
 loop-holds c = λ u s ty d w v. overfull-start ty d
 
-mul-property : tie.Need-mul-property Inv-loop μ-loop
-mul-property c = omega (arith, in-all c)
-
-element-copy-out-property : tie.Need-element-copy-out-property Inv-loop μ-loop
-element-copy-out-property c = omega (arith, in-all c)
+property-at-requires : tie.Need-property-at-requires Inv-loop μ-loop
+property-at-requires c κs = (search needs, in-all (c .before .before .before))
 
 mul-is-overfull : tie.Need-mul-is-overfull Inv-loop μ-loop
 mul-is-overfull c = search needs
@@ -103,8 +103,7 @@ find-overfull-spec =
     Inv-loop
     μ-loop
     loop-holds
-    mul-property
-    element-copy-out-property
+    property-at-requires
     mul-is-overfull
     add-is-overfull
     mul-is-overfull-2

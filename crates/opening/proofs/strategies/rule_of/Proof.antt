@@ -3,11 +3,8 @@ use Rattle.opening.proofs.StrategyLaws.{rule-some}
 use Rattle.opening.proofs.strategies.rule_of.Statement.{statement}
 use Rattle.opening.proofs.strategies.rule_of.Tie as tie
 
-mul-p : tie.Need-mul-p
-mul-p c = search needs
-
-element-copy-out-p : tie.Need-element-copy-out-p
-element-copy-out-p c = search needs
+property-at-requires : tie.Need-property-at-requires
+property-at-requires c κs = search needs
 
 is-replace-requires : tie.Need-is-replace-requires
 is-replace-requires c κs = search needs
@@ -20,15 +17,15 @@ is-max-requires c κs = search needs
 
 returns : tie.Need-returns
 returns c =
-    let start = c .before .before .before .before in
-    λ s ty w. rule-some s ty _ w _ _ (start .pre .1) (c .before .before .is-replace .ensures) (c .before .is-extreme .ensures) (c .is-max .ensures)
+    let taken = c .before .before .before in
+    let start = taken .before .before .before .before in
+    λ s ty w. rule-some s ty _ w _ (taken .property-at .ensures) (start .pre .1) (c .before .before .is-replace .ensures) (c .before .is-extreme .ensures) (c .is-max .ensures)
 
 pub rule-of-spec : {M : Type 1} → statement M
 rule-of-spec =
     tie.close
     (tie.spec
-    mul-p
-    element-copy-out-p
+    property-at-requires
     is-replace-requires
     is-extreme-requires
     is-max-requires

@@ -28,7 +28,7 @@ to-start c = c .before .before .before .before .before
 abbrev to-turn : tie.After-write-joined-arg Inv-loop μ-loop → tie.In-loop Inv-loop μ-loop
 to-turn c = c .before .before .before
 
-abbrev set-to-turn : tie.After-set-in Inv-loop μ-loop → tie.In-loop Inv-loop μ-loop
+abbrev set-to-turn : tie.After-set-from Inv-loop μ-loop → tie.In-loop Inv-loop μ-loop
 set-to-turn c = c .before .before .before
 
 -- ---- the needs
@@ -56,11 +56,11 @@ write-joined-requires c κs =
     let h = turn .loop-test .taken in
     (m .0, h, m .2, joined-room (m .3) (l .p) h (l .inv (m .3)) (c .before .if1 .taken))
 
-mul-set-in : tie.Need-mul-set-in Inv-loop μ-loop
-mul-set-in c = search needs
+mul-set-from : tie.Need-mul-set-from Inv-loop μ-loop
+mul-set-from c = search needs
 
-set-in-requires : tie.Need-set-in-requires Inv-loop μ-loop
-set-in-requires c κs = search needs
+set-from-requires : tie.Need-set-from-requires Inv-loop μ-loop
+set-from-requires c κs = search needs
 
 write-set-requires : tie.Need-write-set-requires Inv-loop μ-loop
 write-set-requires c κs =
@@ -68,7 +68,7 @@ write-set-requires c κs =
     let turn = set-to-turn found in
     let l = turn .before .loop in
     let q = to-start (turn .before) .pre .3 in
-    standing-room q (l .p) (turn .loop-test .taken) (l .inv q) (found .set-in .ensures) (found .before .if1 .left)
+    standing-room q (l .p) (turn .loop-test .taken) (l .inv q) (found .set-from .ensures) (found .before .if1 .left)
 
 add-p : tie.Need-add-p Inv-loop μ-loop
 add-p c = search needs
@@ -110,8 +110,8 @@ write-sets-spec =
     mul-if1-2
     shared-slice-read-if1
     write-joined-requires
-    mul-set-in
-    set-in-requires
+    mul-set-from
+    set-from-requires
     write-set-requires
     add-p
     loop-less

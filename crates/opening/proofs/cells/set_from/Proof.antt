@@ -1,8 +1,8 @@
 use borrow.Author.Needs.{needs}
 use mathlib.Core.Path.{refl}
-use Rattle.opening.specs.code.CellIndex.{setIn}
-use Rattle.opening.proofs.cells.set_in.Statement.{statement}
-use Rattle.opening.proofs.cells.set_in.Tie as tie
+use Rattle.opening.specs.code.CellIndex.{setFrom}
+use Rattle.opening.proofs.cells.set_from.Statement.{statement}
+use Rattle.opening.proofs.cells.set_from.Tie as tie
 
 mul-t3 : tie.Need-mul-t3
 mul-t3 c = search needs
@@ -29,11 +29,11 @@ shared-slice-read-t13 : tie.Need-shared-slice-read-t13
 shared-slice-read-t13 c = search needs
 
 returns : tie.Need-returns
-unfolding setIn
+unfolding setFrom
 returns c = refl
 
-pub set-in-spec : {M : Type 1} → statement M
-set-in-spec =
+pub set-from-spec : {M : Type 1} → statement M
+set-from-spec =
     tie.close
     (tie.spec
     mul-t3
