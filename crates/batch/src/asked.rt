@@ -51,9 +51,7 @@ fn events_agree(a: &[u8], d: EventIndex, b: &[u8], e: EventIndex, t: TypeIndex) 
     if !heads_agree(a, x, b, y) {
         return false;
     }
-    let left = d.sets;
-    let right = e.sets;
-    is_match_same(t, a, left, b, right)
+    is_match_same(t.count, &t.properties, a, &d.sets, b, &e.sets)
 }
 
 // The position of the first event that does not agree with the first one, after one more was asked.

@@ -10,7 +10,9 @@ ghost use Rattle.report.specs.Report.{hexDigit, hexOf, valueLine, valueL
 ghost use Rattle.report.specs.code.ReportIndex.{PlaceNamed, FindingNamed, ValuesRoom, ObjectsRoom, LinesRoom};
 use event::read::EventIndex;
 use event::sets::SetAt;
+use event::sets::set_at;
 use ontology::properties::PropertyAt;
+use ontology::properties::property_at;
 use ontology::types::TypeIndex;
 use packed::read::TextAt;
 use packed::read::read_text;
@@ -86,7 +88,7 @@ fn write_conflict(
     let after_word = copy(b"conflict ", out, 0);
     let after_version = write_decimal(version.0, out, after_word);
     let after_space = copy(b" ", out, after_version);
-    let p = t.properties[place];
+    let p = property_at(&t.properties, place);
     let after_name = write_name(table, p, out, after_space);
     write_end(out, after_name)
 }
@@ -97,7 +99,7 @@ fn write_overfull(table: &[u8], t: TypeIndex, place: usize, out: &mut [u8]) -> u
     ensures { λ r. ⌜ ((p : PlaceNamed (now (table .entry)) t place) → Wrote (now (out .entry)) 0 (overfullLine (p .type) place) (now (out .exit)) r) ⌝ }
 {
     let after_word = copy(b"overfull ", out, 0);
-    let p = t.properties[place];
+    let p = property_at(&t.properties, place);
     let after_name = write_name(table, p, out, after_word);
     write_end(out, after_name)
 }
@@ -173,9 +175,8 @@ fn write_objects(
     let mut next = at;
     let mut k: usize = 0;
     while k < t.count {
-        let p = t.properties[k];
-        let x = e.sets[k];
-        next = write_values(table, p, event, x, out, next);
+        let p = property_at(&t.properties, k);
+        next = write_values(table, p, event, set_at(&e.sets, k), out, next);
         k += 1;
     }
     next
