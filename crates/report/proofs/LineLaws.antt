@@ -25,13 +25,14 @@ use Rattle.replies.specs.Replies.{findingOf}
 use Rattle.replies.specs.declared.reply.Finding.{Finding}
 use Rattle.replies.specs.declared.reply.Finding.the-variants.{Conflict, Overfull}
 use Rattle.ontology.specs.Table.{Property, EventType, atPlace, nameAt}
-use Rattle.ontology.specs.code.TypeIndex.{PropertyIs}
+use Rattle.ontology.specs.code.TypeIndex.{PropertyIs, propertyIn}
 use Rattle.ontology.specs.declared.properties.PropertyAt.{PropertyAt}
 use Rattle.ontology.specs.declared.types.TypeIndex.{TypeIndex}
 use Rattle.event.specs.Event.{Event, objectCount}
-use Rattle.event.specs.code.EventIndex.{SetIs, noSet}
+use Rattle.event.specs.code.EventIndex.{SetIs, setIn}
 use Rattle.event.specs.declared.sets.SetAt.{SetAt}
 use Rattle.event.specs.declared.read.EventIndex.{EventIndex}
+use Rattle.event.proofs.SetLaws.{set-read}
 use Rattle.event.proofs.LookupLaws.{text-there, text-next}
 use Rattle.report.specs.Report.{hexDigit, hexOf, valueLine, valueLines, objectLines, hashedLines, conflictLine, overfullLine, findingLine, refusedLine}
 use Rattle.report.specs.code.ReportIndex.{PlaceNamed, FindingNamed, ValuesRoom, ObjectsRoom, LinesRoom}
@@ -108,17 +109,13 @@ some-below [] i a e = never (cc)
 some-below (x ∷ xs) zero a e = omega arith
 some-below (x ∷ xs) (suc i) a e = omega (arith, some-below xs i a e)
 
--- what an index holds where it has no property
-abbrev pub noProperty : PropertyAt
-noProperty = record { start = 0; end = 0; kind = 0; size = 0; after = 0; sign = 0; optional = false; multivalued = false; strategy = 0 }
-
 module _ {table : List ℕ} {t : TypeIndex} {place : ℕ} (p : PlaceNamed table t place) where
   name-is : nameAt (p .type) place ≡ p .property .name
   unfolding nameAt atPlace
   name-is = rw (p .named)
 
   pub place-below : place < 32
-  place-below = omega (arith, some-below (p .type .properties) place (p .property) (p .named), p .typed .count, p .typed .few)
+  place-below = omega (arith, some-below (p .type .properties) place (p .property) (p .named), p .typed .are .count, p .typed .are .few)
 
   -- `conflict 1 state`
   module _ (v : ℕ) where
@@ -137,26 +134,23 @@ module _ {table : List ℕ} {t : TypeIndex} {place : ℕ} (p : PlaceNamed table 
   pub overfull-length : length (overfullLine (p .type) place) ≡ 10 + length (nameAt (p .type) place)
   overfull-length = ap length overfull-is ∙ simp length-append (omega arith)
 
-  pub place-is : PropertyIs table (p .property) (getD (t .properties) place noProperty)
-  place-is = p .typed .are .each place (p .property) noProperty (p .named)
+  -- the property that was taken from the numbers
+  module _ {q : PropertyAt} (same : q ≡ propertyIn (t .properties) place) where
+    pub place-is : PropertyIs table (p .property) q
+    place-is = subst (PropertyIs table (p .property)) (sym same) (p .typed .are .each place (p .property) (p .named))
 
-  place-name : part table (getD (t .properties) place noProperty .start) (getD (t .properties) place noProperty .end) ≡ nameAt (p .type) place
-  place-name = place-is .name ∙ sym name-is
-
-  pub place-length : length (part table (getD (t .properties) place noProperty .start) (getD (t .properties) place noProperty .end)) ≡ length (nameAt (p .type) place)
-  place-length = ap length place-name
+    pub place-name : part table (q .start) (q .end) ≡ nameAt (p .type) place
+    place-name = place-is .name ∙ sym name-is
 
   pub wrote-conflict :
       {l a b c e f : List ℕ} {q r s x z : ℕ} (v : ℕ) → Wrote l 0 (99 ∷ 111 ∷ 110 ∷ 102 ∷ 108 ∷ 105 ∷ 99 ∷ 116 ∷ 32 ∷ []) a q → Wrote a q (inDecimal v) b r → Wrote b r (32 ∷ []) c s →
-      Wrote c s (part table (getD (t .properties) place noProperty .start) (getD (t .properties) place noProperty .end)) e x → Wrote e x (10 ∷ []) f z →
-      Wrote l 0 (conflictLine (p .type) v place) f z
-  wrote-conflict v g w x y u = rw (conflict-is v, ← place-name) (wrote-then g (wrote-then w (wrote-then x (wrote-then y u))))
+      Wrote c s (nameAt (p .type) place) e x → Wrote e x (10 ∷ []) f z → Wrote l 0 (conflictLine (p .type) v place) f z
+  wrote-conflict v g w x y u = rw (conflict-is v) (wrote-then g (wrote-then w (wrote-then x (wrote-then y u))))
 
   pub wrote-overfull :
       {l a b c : List ℕ} {q r s : ℕ} → Wrote l 0 (111 ∷ 118 ∷ 101 ∷ 114 ∷ 102 ∷ 117 ∷ 108 ∷ 108 ∷ 32 ∷ []) a q →
-      Wrote a q (part table (getD (t .properties) place noProperty .start) (getD (t .properties) place noProperty .end)) b r → Wrote b r (10 ∷ []) c s →
-      Wrote l 0 (overfullLine (p .type) place) c s
-  wrote-overfull g w x = rw (overfull-is, ← place-name) (wrote-then g (wrote-then w x))
+      Wrote a q (nameAt (p .type) place) b r → Wrote b r (10 ∷ []) c s → Wrote l 0 (overfullLine (p .type) place) c s
+  wrote-overfull g w x = rw overfull-is (wrote-then g (wrote-then w x))
 
 -- ---- what opening finds
 
@@ -309,18 +303,19 @@ ObjectsGo ps ss out₀ at out next k = ToGo out₀ at (objectLines ps ss) out ne
 module _ {table event : List ℕ} {t : TypeIndex} {e : EventIndex} {at room : ℕ} (o : ObjectsRoom table t event e at room) where
   module _ {out₀ out : List ℕ} {next : ℕ} (k : ℕ) (below : k < t .count) (long : room ≡ length out₀) (g : ObjectsGo (o .type .properties) (o .event .sets) out₀ at out next k) where
     property : At (o .type .properties) k
-    property = at-place (o .type .properties) k (omega (arith, o .typed .count))
+    property = at-place (o .type .properties) k (omega (arith, o .typed .are .count))
 
     step : objectLines (drop k (o .type .properties)) (drop k (o .event .sets)) ≡ valueLines (property .what .name) (getD (o .event .sets) k []) ++ objectLines (drop (k + 1) (o .type .properties)) (drop (k + 1) (o .event .sets))
-    step = objects-step (o .type .properties) (o .event .sets) k property (omega (arith, o .read .sets .long, o .typed .few))
+    step = objects-step (o .type .properties) (o .event .sets) k property (omega (arith, o .read .sets .long, o .typed .are .few))
 
-    module _ (d : PropertyAt) where
-      pub values-room : ValuesRoom table (getD (t .properties) k d) event (getD (e .sets) k noSet) next (length out)
+    -- the property and the set of this place, as they were taken from the numbers
+    module _ {q : PropertyAt} {x : SetAt} (same-property : q ≡ propertyIn (t .properties) k) (same-set : x ≡ setIn (e .sets) k) where
+      pub values-room : ValuesRoom table q event x next (length out)
       values-room = record {
         property = property .what;
         values = getD (o .event .sets) k [];
-        named = o .typed .are .each k (property .what) d (property .is);
-        is = o .read .sets .each k (omega (arith, o .typed .few));
+        named = subst (PropertyIs table (property .what)) (sym same-property) (o .typed .are .each k (property .what) (property .is));
+        is = set-read same-set (o .read .sets .each k (omega (arith, o .typed .are .few)));
         fits = part-room (valueLines (property .what .name) (getD (o .event .sets) k [])) (objectLines (drop (k + 1) (o .type .properties)) (drop (k + 1) (o .event .sets))) g (omega (arith, o .fits, long)) step;
       }
 

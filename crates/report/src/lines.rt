@@ -6,6 +6,7 @@ ghost use lib.ListN.{length};
 ghost use Rattle.packed.specs.Packed.{part};
 ghost use Rattle.packed.specs.code.Written.{Wrote};
 ghost use Rattle.replies.specs.Replies.{findingOf};
+ghost use Rattle.ontology.specs.Table.{nameAt};
 ghost use Rattle.report.specs.Report.{hexDigit, hexOf, valueLine, valueLines, objectLines, hashedLines, conflictLine, overfullLine, findingLine, refusedLine};
 ghost use Rattle.report.specs.code.ReportIndex.{PlaceNamed, FindingNamed, ValuesRoom, ObjectsRoom, LinesRoom};
 use event::read::EventIndex;
@@ -74,6 +75,14 @@ fn write_name(table: &[u8], p: PropertyAt, out: &mut [u8], at: usize) -> usize
     copy_part(table, start, end, out, at)
 }
 
+// The name of the property at a place.
+fn write_named(table: &[u8], t: TypeIndex, place: usize, out: &mut [u8], at: usize) -> usize
+    requires { ⌜ ((p : PlaceNamed (now table) t place) × (at + length (nameAt (p .type) place) ≤ length (now out))) ⌝ }
+    ensures { λ r. ⌜ ((p : PlaceNamed (now (table .entry)) t place) → Wrote (now (out .entry)) at (nameAt (p .type) place) (now (out .exit)) r) ⌝ }
+{
+    write_name(table, property_at(&t.properties, place), out, at)
+}
+
 // `conflict 1 state`: the version and the property.
 fn write_conflict(
     table: &[u8],
@@ -88,8 +97,7 @@ fn write_conflict(
     let after_word = copy(b"conflict ", out, 0);
     let after_version = write_decimal(version.0, out, after_word);
     let after_space = copy(b" ", out, after_version);
-    let p = property_at(&t.properties, place);
-    let after_name = write_name(table, p, out, after_space);
+    let after_name = write_named(table, t, place, out, after_space);
     write_end(out, after_name)
 }
 
@@ -99,8 +107,7 @@ fn write_overfull(table: &[u8], t: TypeIndex, place: usize, out: &mut [u8]) -> u
     ensures { λ r. ⌜ ((p : PlaceNamed (now (table .entry)) t place) → Wrote (now (out .entry)) 0 (overfullLine (p .type) place) (now (out .exit)) r) ⌝ }
 {
     let after_word = copy(b"overfull ", out, 0);
-    let p = property_at(&t.properties, place);
-    let after_name = write_name(table, p, out, after_word);
+    let after_name = write_named(table, t, place, out, after_word);
     write_end(out, after_name)
 }
 
