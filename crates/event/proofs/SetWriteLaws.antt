@@ -12,7 +12,7 @@ use Rattle.model.specs.Order.{Text}
 use Rattle.packed.specs.Packed.{number, text, part}
 use Rattle.packed.specs.code.Written.{Wrote, ToGo}
 use Rattle.packed.proofs.ReadLaws.{part-join}
-use Rattle.packed.proofs.WriteLaws.{to-go, gone, gone-to, all-gone, wrote-none, wrote-as, wrote-then}
+use Rattle.packed.proofs.WriteLaws.{to-go, gone, gone-to, all-gone, wrote-as, wrote-then}
 use Rattle.event.specs.EventLayout.{presenceBit, bitNumber, setBytes, setsBytes}
 use Rattle.event.specs.code.EventIndex.{countSize, SetIs}
 use Rattle.event.specs.code.SetWriting.{placeBytes, presentBytes, runBytes, RunIs}
@@ -20,12 +20,7 @@ use Rattle.event.specs.declared.sets.SetAt.{SetAt}
 use Rattle.event.specs.declared.write.Run.{Run}
 use Rattle.event.proofs.EventLayoutLaws.{low-bit, high-bits, presence-small}
 
--- ---- a set that is made: its count, then its values, and nothing of an empty one
-
-pub set-none : {l : List ℕ} {at : ℕ} (n : ℕ) (vs : List Text) → n ≡ length vs → n ≡ 0 → Wrote l at (setBytes vs) l at
-unfolding setBytes
-set-none {l} {at} n [] e z = wrote-none l at
-set-none n (v ∷ vs) e z = absurd (omega arith)
+-- ---- a set that is made: its count, then its values
 
 pub set-some : (n : ℕ) (vs : List Text) → n ≡ length vs → (n ≡ 0 → ⊥) → setBytes vs ≡ number (length vs) ++ flatten (map text vs)
 unfolding setBytes

@@ -1,10 +1,10 @@
--- How many objects: a cell has no more than its snapshot, a snapshot than its dossier, and a merged event than its dossier, so no more than the limit.
+-- How many objects: a snapshot has no more than its dossier, and so has a merged event, so no more than the limit.
 use mathlib.Core.Path.{_≡_, refl, _∙_, ap, ap₂}
 use mathlib.Core.Bool.{Bool, true, false}
 use mathlib.Core.List.{List, [], _∷_, _++_, map, flatten, List·Memᴰ, List·Memᴰ·head, List·Memᴰ·tail}
-use Prim.Native.Nat.{ℕ, zero, suc, _+_, _*_, _≤_, zero-le}
+use Prim.Native.Nat.{ℕ, _+_, _*_, _≤_, zero-le}
 use native.Mathlib.Nat.{suc-mul, mul-le-mul-right}
-use lib.ListN.{length, getD, length-append, length-take}
+use lib.ListN.{length, length-append, length-take}
 use native.Mathlib.Omega.{arith}
 use Rattle.model.specs.Order.{Text, texts}
 use Rattle.model.specs.Sets.{smallest, upTo}
@@ -64,13 +64,7 @@ columns-objects n (s ∷ ss) h =
     flat-add (λ p. held (cellAt s p)) (λ p. flatten (column ss p)) (upTo n)
     ∙ ap₂ (λ (a b : ℕ). a + b) (flat-sizes (cellAt s) (upTo n) ∙ unfold cellAt in (ap sizes (map-getD (s .cells) (holds []) n (h s (List·Memᴰ·head refl))))) (columns-objects n ss (λ z m. h z (List·Memᴰ·tail m)))
 
--- a cell has no more objects than its snapshot, and a snapshot than its dossier
-pub size-at : (cs : List Cell) (p : ℕ) → size (getD cs p (holds [])) ≤ sizes cs
-unfolding size sizes
-size-at [] p = zero-le
-size-at (c ∷ cs) zero = omega arith
-size-at (c ∷ cs) (suc p) = omega (arith, size-at cs p)
-
+-- a snapshot has no more objects than its dossier
 pub sizes-in : (ss : List Snapshot) (z : Snapshot) → List·Memᴰ z ss → sizes (z .cells) ≤ objects ss
 unfolding objects
 sizes-in (s ∷ ss) z (List·Memᴰ·head e) = rw e (omega arith)
