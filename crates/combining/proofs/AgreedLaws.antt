@@ -10,6 +10,7 @@ use lib.ListN.{length, take, drop, set, getD, length-append, length-map, List·g
 use lib.Seq.{take-suc, take-suc-set, take-all}
 use borrow.Author.Tests.{lt-ltb}
 use Rattle.model.specs.Order.{Text, sets, equal}
+use Rattle.model.proofs.OrderLaws.{equal-true, equal-false}
 use Rattle.model.specs.Rule.{Cell, holds, differs, Choice, TypeView, Snapshot, places, joinCell, joinCells, joinSnapshots}
 use Rattle.model.specs.Opening.{held, isMark, cellAt}
 use Rattle.model.proofs.PartLaws.{length-upTo}
@@ -48,6 +49,18 @@ unfolding isAgreed differBit held
 agreed-sets differs d marks e h = absurd (omega arith)
 agreed-sets (holds s) differs marks e h = absurd (omega arith)
 agreed-sets (holds s) (holds t) marks e h = refl
+
+module _ (c d : Cell) (marks : ℕ) (e : marks ≡ differBit c + differBit d) (clear : marks ≡ 0) where
+  -- sets of unequal counts are not the same, and two empty ones are
+  pub agreed-counts : (length (held c) ≡ length (held d) → ⊥) → false ≡ isAgreed c d
+  agreed-counts n = sym (equal-false sets (held c) (held d) .1 (λ q. n (ap length q))) ∙ agreed-sets c d marks e clear
+
+  pub agreed-empty : length (held c) ≡ 0 → length (held d) ≡ 0 → true ≡ isAgreed c d
+  agreed-empty l r = sym (equal-true sets (held c) (held d) .1 (empty (held c) l ∙ sym (empty (held d) r))) ∙ agreed-sets c d marks e clear
+    where
+      empty : (vs : List Text) → length vs ≡ 0 → vs ≡ []
+      empty [] h = refl
+      empty (v ∷ vs) h = absurd (omega arith)
 
 -- what is joined is marked where the two do not agree, and has the objects of the first where they do
 join-mark : (ch : Choice) (c d : Cell) → isMark (joinCell true ch c d) ≡ not (isAgreed c d)
