@@ -17,18 +17,20 @@ use crate::sets::set_part;
 use ontology::properties::property_at;
 use packed::read::TextAt;
 use packed::read::read_text;
-use values::spaces::in_space;
+use values::spaces::is_plain;
+use values::spaces::part_in_space;
 
-// Whether each text of those that v is made of is in the space of a kind.
+// Whether each text of those that v is made of is in the space of a kind. Most strings have no byte above 7F, which is told of all of them at once.
 fn are_in_space(v: &[u8], kind: u8, size: u8, after: u8, sign: u8) -> bool
     ensures { λ r. ⌜ ((k : Kind) (vs : List Text) → kindOf kind size after sign ≡ some k → isKind k ≡ true → now (v .entry) ≡ flatten (map text vs) → r ≡ areInSpace k vs) ⌝ }
 {
+    let plain = is_plain(kind, v);
     let mut at: usize = 0;
     while at < v.len() {
         let TextAt::Text(value, end) = read_text(v, at) else {
             return false;
         };
-        if !in_space(kind, size, after, sign, &v[value..end]) {
+        if !part_in_space(plain, kind, size, after, sign, &v[value..end]) {
             return false;
         }
         at = end;

@@ -19,6 +19,9 @@ use Rattle.values.specs.Calendar.{instant}
 use Rattle.values.specs.Spaces.{Kind, unsigned, signed, decimal, currency, sequence, datetime, boolean, string, hex, isKind, isHexDigit, areHexDigits, kindNumber, unsignedNumber, signedNumber, decimalNumber, stringNumber, hexNumber, isOfKind, inSpace}
 use Rattle.values.specs.ValueOrder.{isOrdered, valueNumber, valueOrder, extremeOrder}
 use Rattle.values.specs.code.KindNumbers.{kindOf, sizeParameter, afterParameter, signParameter}
+use Rattle.model.proofs.Cases.{and-true}
+use Rattle.values.specs.code.LowBytes.{AllLow}
+use Rattle.values.proofs.UnicodeLaws.{low-utf8}
 use Rattle.values.proofs.NumeralLaws.{and-right}
 use Rattle.values.proofs.NumberOrderLaws.{equal-number-equal-bytes}
 use Rattle.values.proofs.InstantLaws.{equal-instant-equal-bytes}
@@ -102,6 +105,23 @@ unfolding inSpace
 of-kind k v e = and-right (leb 1 (length v) && leb (length v) 120) (isOfKind k v) e
 
 -- ---- order and choice
+
+-- a string of bytes below 0x80 is told by its length
+short-string : (most : ℕ) (v : Text) → AllLow v → (leb 1 (length v) && leb (length v) 120 && leb (length v) most) ≡ inSpace (string most) v
+unfolding inSpace isOfKind
+short-string most v low = rw (low-utf8 v low, and-true (leb (length v) most)) refl
+
+kind-string : (size after sign : ℕ) → kindOf stringNumber size after sign ≡ some (string size)
+unfolding kindOf
+kind-string size after sign = refl
+
+pub plain-string :
+    (kind size after sign : ℕ) (v : Text) → kind ≡ stringNumber → AllLow v → (k : Kind) → kindOf kind size after sign ≡ some k →
+    (leb 1 (length v) && leb (length v) 120 && leb (length v) size) ≡ inSpace k v
+plain-string kind size after sign v n low k e =
+    let told : kindOf stringNumber size after sign ≡ some (string size) = kind-string size after sign in
+    let same : string size ≡ k = cc in
+    subst (λ (x : Kind). (leb 1 (length v) && leb (length v) 120 && leb (length v) size) ≡ inSpace x v) same (short-string size v low)
 
 pub is-datetime-kind : (k : Kind) → kindNumber k ≡ kindNumber datetime → k ≡ datetime
 is-datetime-kind (unsigned width) e = absurd (omega arith)

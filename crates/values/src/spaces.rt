@@ -11,9 +11,10 @@ ghost use Rattle.model.specs.Sets.{union};
 ghost use Rattle.packed.specs.Ascii.{ascii};
 ghost use Rattle.packed.specs.code.Comparison.{ordering};
 ghost use Rattle.values.specs.Unicode.{isUtf8};
-ghost use Rattle.values.specs.Spaces.{Kind, kindNumber, isKind, isHexDigit, areHexDigits, isOfKind, inSpace};
+ghost use Rattle.values.specs.Spaces.{Kind, kindNumber, stringNumber, isKind, isHexDigit, areHexDigits, isOfKind, inSpace};
 ghost use Rattle.values.specs.ValueOrder.{isOrdered, valueOrder, extremeOrder};
 ghost use Rattle.values.specs.code.KindNumbers.{kindOf, isOrderedNumber};
+ghost use Rattle.values.specs.code.LowBytes.{AllLow};
 use crate::calendar::compare_moments;
 use crate::calendar::has_form;
 use crate::calendar::is_datetime;
@@ -31,6 +32,7 @@ use crate::numbers::compare_numbers;
 use crate::numbers::is_decimal;
 use crate::numbers::is_signed;
 use crate::numbers::is_unsigned;
+use crate::unicode::is_ascii;
 use crate::unicode::is_utf8;
 use packed::order::Ordering;
 
@@ -98,6 +100,39 @@ pub fn in_space(kind: u8, size: u8, after: u8, sign: u8, v: &[u8]) -> bool
         return false;
     }
     is_of_kind(kind, size, after, sign, v)
+}
+
+// Whether all of v is of strings, and has no byte above 7F. Then its parts are told by their lengths.
+pub fn is_plain(kind: u8, v: &[u8]) -> bool
+    ensures { λ r. ⌜ (r ≡ true → (kind ≡ stringNumber) × AllLow (now (v .entry))) ⌝ }
+{
+    if kind != STRING {
+        return false;
+    }
+    is_ascii(v)
+}
+
+fn is_short(most: u8, length: usize) -> bool
+    ensures { λ r. ⌜ r ≡ (leb 1 length && leb length 120 && leb length most) ⌝ }
+{
+    if length < 1 {
+        return false;
+    }
+    if 120 < length {
+        return false;
+    }
+    length <= most as usize
+}
+
+// The same as `in_space` of a part of what is plain or not.
+pub fn part_in_space(plain: bool, kind: u8, size: u8, after: u8, sign: u8, v: &[u8]) -> bool
+    ensures { λ r. ⌜ ((k : Kind) → kindOf kind size after sign ≡ some k → isKind k ≡ true → (plain ≡ true → (kind ≡ stringNumber) × AllLow (now (v .entry)))
+        → r ≡ inSpace k (now (v .entry))) ⌝ }
+{
+    if plain {
+        return is_short(size, v.len());
+    }
+    in_space(kind, size, after, sign, v)
 }
 
 // "Kinds 1 to 6 are ordered by their numbers or instants"

@@ -1,0 +1,20 @@
+use mathlib.Core.Path.{_≡_, subst}
+use lib.ListN.{length}
+use borrow.Author.Tests.{eqb-true}
+use Rattle.values.specs.code.LowBytes.{Low}
+use native.Mathlib.Omega.{arith}
+use borrow.Author.Needs.{needs}
+use Rattle.values.proofs.unicode.is_ascii.Statement.{statement}
+use Rattle.values.proofs.unicode.is_ascii.Tie as tie
+
+ascii-end-requires : tie.Need-ascii-end-requires
+ascii-end-requires c κs = search needs
+
+returns : tie.Need-returns
+returns c = λ e.
+    let v = c .before .before .args .v .now in
+    let all : c .ascii-end .result ≡ length v = eqb-true _ _ e in
+    subst (Low v 0) all (c .ascii-end .ensures .1 .0)
+
+pub is-ascii-spec : {M : Type 1} → statement M
+is-ascii-spec = tie.close (tie.spec ascii-end-requires returns)
