@@ -132,19 +132,6 @@ module _ (table event : List ℕ) (name colon : ℕ) (xs : Strings) (vs : List T
         go [] a l = subst (λ (us : List Text). Gathered table event xs r (map (objectString (part table name colon)) us)) (sym (a ∙ append-nil (w .done))) (w .have)
         go (v ∷ us) a l = absurd (omega arith)
 
--- ---- a place
-
-module _ (table event : List ℕ) (q : Property) (p : PropertyAt) (is : PropertyIs table q p) where
-  pub gathered-match :
-      (xs r : Strings) (vs : List Text) → hasMatch p ≡ true → Gathered table event xs r (map (objectString (part table (p .start) (p .end))) vs) →
-      Gathered table event xs r (cond (isMatch q) (map (objectString (q .name)) vs) [])
-  gathered-match xs r vs e g =
-      rw (sym (match-of is) ∙ e) (subst (λ (n : Text). Gathered table event xs r (map (objectString n) vs)) (is .name) g)
-
-  pub gathered-other :
-      (xs : Strings) (vs : List Text) → hasMatch p ≡ false → Gathered table event xs xs (cond (isMatch q) (map (objectString (q .name)) vs) [])
-  gathered-other xs vs e = rw (sym (match-of is) ∙ e) (gathered-none table event xs)
-
 -- ---- all places
 
 record At {A : Type 0} (xs : List A) (i : ℕ) : Type 0 where
@@ -171,6 +158,16 @@ pub record SoFar (table event : List ℕ) (ps : List Property) (ss : List (List 
   pub all : objectStrings ps ss ≡ done ++ objectStrings (drop place ps) (drop place ss)
   pub count : r .count ≡ length done
   pub is : stringsOf table event r ≡ sorted texts done
+
+-- r are the objects of the places below `place`, and they fit
+pub record GatheredTo (table event : List ℕ) (t : TypeIndex) (e : EventIndex) (r : Strings) (place : ℕ) : Type 0 where
+  pub fit : StringsFit table event r
+  pub so-far : (h : Hashable table event t e) → SoFar table event (h .type .properties) (h .event .sets) r place
+
+pub gathered-same :
+    {table event : List ℕ} {t : TypeIndex} {e : EventIndex} {r q : Strings} {place : ℕ} →
+    q ≡ r → GatheredTo table event t e r place → GatheredTo table event t e q place
+gathered-same e g = rw e g
 
 module _ (table event : List ℕ) where
   pub fit-none : (r : Strings) → (r .count ≡ 0) × (length (r .at) ≡ 32) → StringsFit table event r
@@ -205,55 +202,66 @@ module _ (table event : List ℕ) where
           ∙ sym (append-assoc (w .done) (strings (property .what) (getD (h .event .sets) place []))
           (objectStrings (drop (place + 1) (h .type .properties)) (drop (place + 1) (h .event .sets))))
 
-      -- the property and the set of this place, as they were taken from the numbers
-      module _ {p : PropertyAt} {x : SetAt} (same-property : p ≡ propertyIn (t .properties) place) (same-set : x ≡ setIn (e .sets) place) where
+      so-far-next :
+          (q : Strings) → Gathered table event r q (strings (property .what) (getD (h .event .sets) place [])) →
+          SoFar table event (h .type .properties) (h .event .sets) q (place + 1)
+      so-far-next q g = record {
+        done = w .done ++ strings (property .what) (getD (h .event .sets) place []);
+        all = step;
+        count = omega (arith, g .more, w .count, length-append (w .done) (strings (property .what) (getD (h .event .sets) place [])));
+        is = g .is (w .done) (w .is);
+      }
+
+      -- the property of this place, as it was taken from the numbers
+      module _ {p : PropertyAt} (same-property : p ≡ propertyIn (t .properties) place) where
         property-is : PropertyIs table (property .what) p
         property-is = subst (PropertyIs table (property .what)) (sym same-property) (h .typed .are .each place (property .what) (property .is))
 
-        set-is : SetIs event (getD (h .event .sets) place []) x
-        set-is = set-read same-set (h .read .sets .each place (omega (arith, h .typed .are .few)))
+        strings-are :
+            {b : Bool} → hasMatch p ≡ b →
+            let q = property .what in let vs = getD (h .event .sets) place [] in strings q vs ≡ cond b (map (objectString (q .name)) vs) []
+        strings-are m =
+            ap (λ (b : Bool). cond b (map (objectString (property .what .name)) (getD (h .event .sets) place [])) []) (sym (match-of property-is) ∙ m)
 
-        -- room for the objects of this place, which question 5 has answered
-        room : hasMatch (p) ≡ true → r .count + x .count ≤ 32
-        room m =
-            let q = property .what in
-            let vs = getD (h .event .sets) place [] in
-            let a : strings q vs ≡ map (objectString (q .name)) vs =
-            ap (λ (b : Bool). cond b (map (objectString (q .name)) vs) []) (sym (match-of property-is) ∙ m) in
-            omega (
-              arith,
-              h .few,
-              strings-length (h .type .properties) (h .event .sets),
-              ap length step,
-              length-append (w .done ++ strings q vs) (objectStrings (drop (place + 1) (h .type .properties)) (drop (place + 1) (h .event .sets))),
-              length-append (w .done) (strings q vs),
-              ap length a,
-              length-map vs (objectString (q .name)),
-              w .count,
-              set-is .count,
-            )
+        -- a property that is no match property adds nothing
+        pub so-far-other : hasMatch p ≡ false → SoFar table event (h .type .properties) (h .event .sets) r (place + 1)
+        so-far-other m = so-far-next r (subst (Gathered table event r r) (sym (strings-are m)) (gathered-none table event r))
 
-        pub place-ready :
-            StringsFit table event r →
-            StringsFit table event r
-            × (p .start ≤ p .end)
-            × (p .end ≤ length table)
-            × (hasMatch (p) ≡ true → r .count + x .count ≤ 32)
-        place-ready f = (f, property-is .order, property-is .within, room)
+        -- a match property adds the objects of its set, which was taken from the numbers too
+        module _ (m : hasMatch p ≡ true) {x : SetAt} (same-set : x ≡ setIn (e .sets) place) where
+          set-is : SetIs event (getD (h .event .sets) place []) x
+          set-is = set-read same-set (h .read .sets .each place (omega (arith, h .typed .are .few)))
 
-        pub so-far-more :
-            (q : Strings) →
-            ((o : Property) (vs : List Text) → PropertyIs table o p → SetIs event vs x →
-            Gathered table event r q (cond (isMatch o) (map (objectString (o .name)) vs) [])) →
-            SoFar table event (h .type .properties) (h .event .sets) q (place + 1)
-        so-far-more q f =
-            let g = f (property .what) (getD (h .event .sets) place []) property-is set-is in
-            record {
-              done = w .done ++ strings (property .what) (getD (h .event .sets) place []);
-              all = step;
-              count = omega (arith, g .more, w .count, length-append (w .done) (strings (property .what) (getD (h .event .sets) place [])));
-              is = g .is (w .done) (w .is);
-            }
+          -- room for the objects of this place, which question 5 has answered
+          room : r .count + x .count ≤ 32
+          room =
+              let q = property .what in
+              let vs = getD (h .event .sets) place [] in
+              omega (
+                arith,
+                h .few,
+                strings-length (h .type .properties) (h .event .sets),
+                ap length step,
+                length-append (w .done ++ strings q vs) (objectStrings (drop (place + 1) (h .type .properties)) (drop (place + 1) (h .event .sets))),
+                length-append (w .done) (strings q vs),
+                ap length (strings-are m),
+                length-map vs (objectString (q .name)),
+                w .count,
+                set-is .count,
+              )
+
+          pub set-ready :
+              StringsFit table event r → StringsFit table event r × (p .start ≤ p .end) × (p .end ≤ length table) × (r .count + x .count ≤ 32)
+          set-ready f = (f, property-is .order, property-is .within, room)
+
+          pub so-far-match :
+              (q : Strings) →
+              ((vs : List Text) → SetIs event vs x → Gathered table event r q (map (objectString (part table (p .start) (p .end))) vs)) →
+              SoFar table event (h .type .properties) (h .event .sets) q (place + 1)
+          so-far-match q f =
+              let vs = getD (h .event .sets) place [] in
+              let named = subst (λ (n : Text). Gathered table event r q (map (objectString n) vs)) (property-is .name) (f vs set-is) in
+              so-far-next q (subst (Gathered table event r q) (sym (strings-are m)) named)
 
   pub so-far-all :
       (ps : List Property) (ss : List (List Text)) (r : Strings) (place : ℕ) → length ps ≤ place → SoFar table event ps ss r place →

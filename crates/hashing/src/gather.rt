@@ -1,21 +1,17 @@
 ghost use Prim.Native.Nat.{_+_, _≤_};
 ghost use mathlib.Core.Path.{_≡_};
-ghost use mathlib.Core.Bool.{true, cond};
-ghost use mathlib.Core.List.{List, [], map};
+ghost use mathlib.Core.List.{List, map};
 ghost use lib.ListN.{length};
 ghost use Rattle.model.specs.Order.{Text, texts};
 ghost use Rattle.model.specs.Sorting.{sorted};
 ghost use Rattle.packed.specs.Packed.{part};
 ghost use Rattle.packed.specs.code.Strings.{stringsOf, StringsFit};
-ghost use Rattle.ontology.specs.Table.{Property, isMatch};
-ghost use Rattle.ontology.specs.code.TypeIndex.{PropertyIs, hasMatch};
 ghost use Rattle.event.specs.code.EventIndex.{SetIs};
 ghost use Rattle.hashing.specs.HashText.{objectString, objectStrings};
 ghost use Rattle.hashing.specs.code.HashIndex.{Gathered, Hashable};
 use event::read::EventIndex;
 use event::sets::SetAt;
 use event::sets::set_at;
-use ontology::properties::PropertyAt;
 use ontology::properties::is_match;
 use ontology::properties::property_at;
 use ontology::types::TypeIndex;
@@ -59,20 +55,6 @@ fn gather_set(
     r
 }
 
-// The same, where it is a match property.
-fn gather_place(table: &[u8], event: &[u8], p: PropertyAt, set: SetAt, objects: Strings) -> Strings
-    requires { ⌜ StringsFit (now table) (now event) objects × (p .start ≤ p .end) × (p .end ≤ length (now table))
-        × (hasMatch p ≡ true → objects .count + set .count ≤ 32) ⌝ }
-    ensures fit { λ r. ⌜ StringsFit (now (table .entry)) (now (event .entry)) r ⌝ }
-    ensures { λ r. ⌜ ((q : Property) (vs : List Text) → PropertyIs (now (table .entry)) q p → SetIs (now (event .entry)) vs set → Gathered (now (table .entry)) (now (event .entry)) objects r (cond (isMatch q) (map (objectString (q .name)) vs) [])) ⌝ }
-{
-    if is_match(p) {
-        gather_set(table, event, p.start, p.end, set, objects)
-    } else {
-        objects
-    }
-}
-
 // The objects of all match properties, sorted.
 pub fn gather(table: &[u8], event: &[u8], t: TypeIndex, e: EventIndex) -> Strings
     requires { ⌜ Hashable (now table) (now event) t e ⌝ }
@@ -83,7 +65,9 @@ pub fn gather(table: &[u8], event: &[u8], t: TypeIndex, e: EventIndex) -> String
     let mut place: usize = 0;
     while place < t.count {
         let p = property_at(&t.properties, place);
-        r = gather_place(table, event, p, set_at(&e.sets, place), r);
+        if is_match(p) {
+            r = gather_set(table, event, p.start, p.end, set_at(&e.sets, place), r);
+        }
         place += 1;
     }
     r
