@@ -85,4 +85,20 @@ returns c = λ ty x y v w u.
     places-all _ _ _ _ _ _ ty x y v e f _ _ _ (l .k) (c .loop-test .left) (l .inv .0) (l .inv .1) (l .inv .2 ty x y v e f)
 
 pub agreed-places-spec : {M : Type 1} → statement M
-agreed-places-spec = tie.close (tie.spec Inv-loop μ-loop loop-holds set-at-requires set-at-requires-2 add-is-kept is-kept-requires has-objects-requires element-write-p element-write-p-2 add-k loop-less loop-again returns)
+agreed-places-spec =
+    tie.close
+    (tie.spec
+    Inv-loop
+    μ-loop
+    loop-holds
+    set-at-requires
+    set-at-requires-2
+    add-is-kept
+    is-kept-requires
+    has-objects-requires
+    element-write-p
+    element-write-p-2
+    add-k
+    loop-less
+    loop-again
+    returns)

@@ -48,4 +48,17 @@ returns : tie.Need-returns Inv-loop μ-loop
 returns c = places-all (c .before .loop .inv) (c .loop-test .left)
 
 pub joined-places-spec : {M : Type 1} → statement M
-joined-places-spec = tie.close (tie.spec Inv-loop μ-loop loop-holds set-at-requires set-at-requires-2 have-objects-requires array-write-present add-k loop-less loop-again returns)
+joined-places-spec =
+    tie.close
+    (tie.spec
+    Inv-loop
+    μ-loop
+    loop-holds
+    set-at-requires
+    set-at-requires-2
+    have-objects-requires
+    array-write-present
+    add-k
+    loop-less
+    loop-again
+    returns)

@@ -163,4 +163,23 @@ returns c = λ ty x y w u m.
     (all-gone (at-loop .loop .inv ty x y w u m) (sets-end ty x y _ (c .loop-test .left)))
 
 pub write-joined-spec : {M : Type 1} → statement M
-write-joined-spec = tie.close (tie.spec Inv-loop μ-loop joined-places-requires write-number-requires number-of-requires write-number-requires-2 write-number-requires-3 loop-holds array-read-if1 set-at-requires set-at-requires-2 write-place-requires add-k loop-less loop-again same-length returns)
+write-joined-spec =
+    tie.close
+    (tie.spec
+    Inv-loop
+    μ-loop
+    joined-places-requires
+    write-number-requires
+    number-of-requires
+    write-number-requires-2
+    write-number-requires-3
+    loop-holds
+    array-read-if1
+    set-at-requires
+    set-at-requires-2
+    write-place-requires
+    add-k
+    loop-less
+    loop-again
+    same-length
+    returns)

@@ -186,4 +186,36 @@ returns-4 c = λ u ty h w g x.
     number-end ty (h .snapshots) (l .number) (l .j) (past-count _ h _ x _ (c .loop-test .left)) (l .inv .1) ∙ sym (l .inv .0 u ty h w g x)
 
 pub ask-snapshots-spec : {M : Type 1} → statement M
-ask-snapshots-spec = tie.close (tie.spec Inv-loop μ-loop is-lone-requires returns element-copy-out-front sub-ask-read part-ask-read-start part-ask-read-end sub-ask-read-2 part-ask-read-start-2 part-ask-read-end-2 ask-read-requires returns-2 first-number-requires loop-holds mul-at element-copy-out-at sub-ask-snapshot part-ask-snapshot-start part-ask-snapshot-end sub-ask-snapshot-2 part-ask-snapshot-start-2 part-ask-snapshot-end-2 ask-snapshot-requires returns-3 first-number-requires-2 add-j loop-less loop-again returns-4)
+ask-snapshots-spec =
+    tie.close
+    (tie.spec
+    Inv-loop
+    μ-loop
+    is-lone-requires
+    returns
+    element-copy-out-front
+    sub-ask-read
+    part-ask-read-start
+    part-ask-read-end
+    sub-ask-read-2
+    part-ask-read-start-2
+    part-ask-read-end-2
+    ask-read-requires
+    returns-2
+    first-number-requires
+    loop-holds
+    mul-at
+    element-copy-out-at
+    sub-ask-snapshot
+    part-ask-snapshot-start
+    part-ask-snapshot-end
+    sub-ask-snapshot-2
+    part-ask-snapshot-start-2
+    part-ask-snapshot-end-2
+    ask-snapshot-requires
+    returns-3
+    first-number-requires-2
+    add-j
+    loop-less
+    loop-again
+    returns-4)

@@ -68,4 +68,18 @@ returns-2 c = λ u ty tz h g w x y e.
     agree-match ty tz h g heads (not-false _ (agreed .if1 .left)) (in-count _ h _ x 0 (x .one)) (in-count _ g _ y 0 (y .one)) e matches
 
 pub dossiers-agree-spec : {M : Type 1} → statement M
-dossiers-agree-spec = tie.close (tie.spec heads-agree-requires returns element-copy-out-left element-copy-out-right sub-is-match-same part-is-match-same-start part-is-match-same-end sub-is-match-same-2 part-is-match-same-start-2 part-is-match-same-end-2 is-match-same-requires returns-2)
+dossiers-agree-spec =
+    tie.close
+    (tie.spec
+    heads-agree-requires
+    returns
+    element-copy-out-left
+    element-copy-out-right
+    sub-is-match-same
+    part-is-match-same-start
+    part-is-match-same-end
+    sub-is-match-same-2
+    part-is-match-same-start-2
+    part-is-match-same-end-2
+    is-match-same-requires
+    returns-2)

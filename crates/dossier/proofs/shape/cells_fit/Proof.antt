@@ -129,4 +129,19 @@ returns-4 c = λ s u qs cs w v o.
     sym (i .2 ∙ cells-end qs cs _ (l .k) _ _ past (i .0) (i .1) ∙ ap (λ (b : Bool). b && eqb (l .left) 0) (eq-eqb (l .bits) 0 (c .if3 .left)))
 
 pub cells-fit-spec : {M : Type 1} → statement M
-cells-fit-spec = tie.close (tie.spec Inv-loop μ-loop loop-holds set-at-requires property-at-requires cell-fits-requires returns returns-2 add-k loop-less loop-again returns-3 returns-4)
+cells-fit-spec =
+    tie.close
+    (tie.spec
+    Inv-loop
+    μ-loop
+    loop-holds
+    set-at-requires
+    property-at-requires
+    cell-fits-requires
+    returns
+    returns-2
+    add-k
+    loop-less
+    loop-again
+    returns-3
+    returns-4)

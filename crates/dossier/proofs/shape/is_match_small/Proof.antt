@@ -90,4 +90,17 @@ returns-2 c = λ s u qs xs w v.
     sym (l .inv s u qs xs w v ∙ match-end qs xs (l .k) _ past)
 
 pub is-match-small-spec : {M : Type 1} → statement M
-is-match-small-spec = tie.close (tie.spec Inv-loop μ-loop loop-holds set-at-requires property-at-requires matches-at-requires returns add-k loop-less loop-again returns-2)
+is-match-small-spec =
+    tie.close
+    (tie.spec
+    Inv-loop
+    μ-loop
+    loop-holds
+    set-at-requires
+    property-at-requires
+    matches-at-requires
+    returns
+    add-k
+    loop-less
+    loop-again
+    returns-2)

@@ -91,4 +91,18 @@ returns-2 : tie.Need-returns-2 Inv-loop μ-loop
 returns-2 c = λ s ty xs ys w u v. sym (c .before .loop .inv s ty xs ys w u v ∙ same-end ty xs ys (c .before .loop .k) (omega (arith, w .count, c .loop-test .left)))
 
 pub is-match-same-spec : {M : Type 1} → statement M
-is-match-same-spec = tie.close (tie.spec Inv-loop μ-loop loop-holds property-at-requires set-at-requires set-at-requires-2 place-same-requires returns add-k loop-less loop-again returns-2)
+is-match-same-spec =
+    tie.close
+    (tie.spec
+    Inv-loop
+    μ-loop
+    loop-holds
+    property-at-requires
+    set-at-requires
+    set-at-requires-2
+    place-same-requires
+    returns
+    add-k
+    loop-less
+    loop-again
+    returns-2)

@@ -144,4 +144,22 @@ returns-4 c = λ table event y x u v n.
     shape-end y x _ _ (l .k) (l .inv .2 table event y x u v n) (omega (arith, u .count, past)) (l .inv .1)
 
 pub shape-ok-spec : {M : Type 1} → statement M
-shape-ok-spec = tie.close (tie.spec Inv-loop μ-loop loop-holds property-at-requires set-at-requires set-fits-requires returns matches-at-requires sub-if3 returns-2 returns-3 add-matches add-k loop-less loop-again returns-4)
+shape-ok-spec =
+    tie.close
+    (tie.spec
+    Inv-loop
+    μ-loop
+    loop-holds
+    property-at-requires
+    set-at-requires
+    set-fits-requires
+    returns
+    matches-at-requires
+    sub-if3
+    returns-2
+    returns-3
+    add-matches
+    add-k
+    loop-less
+    loop-again
+    returns-4)

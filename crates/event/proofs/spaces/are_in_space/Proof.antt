@@ -106,4 +106,22 @@ returns-3 : tie.Need-returns-3 Inv-loop μ-loop
 returns-3 c = λ k vs h i e. space-end k _ _ _ (c .before .loop .inv .1 k vs h i e) (c .loop-test .left)
 
 pub are-in-space-spec : {M : Type 1} → statement M
-are-in-space-spec = tie.close (tie.spec Inv-loop μ-loop is-plain-requires loop-holds read-text-requires enum-known-value enum-told returns sub-part-in-space part-part-in-space-start part-part-in-space-end part-in-space-requires returns-2 loop-less loop-again returns-3)
+are-in-space-spec =
+    tie.close
+    (tie.spec
+    Inv-loop
+    μ-loop
+    is-plain-requires
+    loop-holds
+    read-text-requires
+    enum-known-value
+    enum-told
+    returns
+    sub-part-in-space
+    part-part-in-space-start
+    part-part-in-space-end
+    part-in-space-requires
+    returns-2
+    loop-less
+    loop-again
+    returns-3)

@@ -99,4 +99,19 @@ returns-3 c = λ u ty xs w n v.
     fit-end ty xs (l .k) (l .inv .1 u ty xs w n v) (omega (arith, c .loop-test .left, w .few, w .count))
 
 pub sets-in-space-spec : {M : Type 1} → statement M
-sets-in-space-spec = tie.close (tie.spec Inv-loop μ-loop loop-holds property-at-requires set-at-requires set-part-requires are-in-space-requires returns add-k loop-less loop-again returns-2 returns-3)
+sets-in-space-spec =
+    tie.close
+    (tie.spec
+    Inv-loop
+    μ-loop
+    loop-holds
+    property-at-requires
+    set-at-requires
+    set-part-requires
+    are-in-space-requires
+    returns
+    add-k
+    loop-less
+    loop-again
+    returns-2
+    returns-3)

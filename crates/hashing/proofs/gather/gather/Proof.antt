@@ -95,4 +95,18 @@ returns c =
     )
 
 pub gather-spec : {M : Type 1} → statement M
-gather-spec = tie.close (tie.spec Inv-loop μ-loop no-strings-requires loop-holds property-at-requires is-match-requires set-at-requires gather-set-requires add-place loop-less loop-again returns)
+gather-spec =
+    tie.close
+    (tie.spec
+    Inv-loop
+    μ-loop
+    no-strings-requires
+    loop-holds
+    property-at-requires
+    is-match-requires
+    set-at-requires
+    gather-set-requires
+    add-place
+    loop-less
+    loop-again
+    returns)

@@ -75,4 +75,18 @@ returns-2 : tie.Need-returns-2 Inv-loop μ-loop
 returns-2 c = λ qs w. sym (c .before .loop .inv .1 qs w ∙ rise-end _ qs _ _ w _ (c .before .loop .inv .0) (c .loop-test .left))
 
 pub names-rise-spec : {M : Type 1} → statement M
-names-rise-spec = tie.close (tie.spec Inv-loop μ-loop loop-holds sub-property-at property-at-requires property-at-requires-2 is-before-requires returns add-k loop-less loop-again returns-2)
+names-rise-spec =
+    tie.close
+    (tie.spec
+    Inv-loop
+    μ-loop
+    loop-holds
+    sub-property-at
+    property-at-requires
+    property-at-requires-2
+    is-before-requires
+    returns
+    add-k
+    loop-less
+    loop-again
+    returns-2)

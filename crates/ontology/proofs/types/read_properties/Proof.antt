@@ -71,4 +71,20 @@ returns-2 : tie.Need-returns-2 Inv-loop μ-loop
 returns-2 c = filled-all (c .before .loop .inv) (to-start (c .before) .pre .1) (c .loop-test .left)
 
 pub read-properties-spec : {M : Type 1} → statement M
-read-properties-spec = tie.close (tie.spec Inv-loop μ-loop loop-holds read-property-requires enum-known-p enum-told same-length returns put-property-requires add-k loop-less loop-again same-length-2 returns-2)
+read-properties-spec =
+    tie.close
+    (tie.spec
+    Inv-loop
+    μ-loop
+    loop-holds
+    read-property-requires
+    enum-known-p
+    enum-told
+    same-length
+    returns
+    put-property-requires
+    add-k
+    loop-less
+    loop-again
+    same-length-2
+    returns-2)

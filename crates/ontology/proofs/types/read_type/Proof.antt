@@ -67,4 +67,19 @@ returns-3 c =
     type-reads head properties _ (c .rules-hold .ensures (properties .what) (properties .are))
 
 pub read-type-spec : {M : Type 1} → statement M
-read-type-spec = tie.close (tie.spec no-type-requires read-head-requires enum-known-start enum-told returns slice-aggregate-read-properties read-properties-requires enum-known-after enum-told-2 returns-2 slice-aggregate-rules-hold rules-hold-requires returns-3)
+read-type-spec =
+    tie.close
+    (tie.spec
+    no-type-requires
+    read-head-requires
+    enum-known-start
+    enum-told
+    returns
+    slice-aggregate-read-properties
+    read-properties-requires
+    enum-known-after
+    enum-told-2
+    returns-2
+    slice-aggregate-rules-hold
+    rules-hold-requires
+    returns-3)

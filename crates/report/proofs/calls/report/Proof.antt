@@ -65,4 +65,25 @@ returns-4 : tie.Need-returns-4
 returns-4 c = report-parts _ _ (omega (arith, c .before .before .before .before .before .before .before .before .before .before .before .if1 .left)) (omega (arith, c .before .before .before .before .before .before .before .before .before .before .if2 .left)) (c .before .before .before .before .before .before .before .start .given .0 .0) (c .before .before .before .before .before .before .before .start .given .0 .1 .0) (text-stops _ _ _ _ (sym (c .before .before .before .before .before .before .before .before .before .read-text .ensures) ∙ c .before .before .before .before .before .before .before .start .given .1) .is) (c .before .before .report-batch .ensures)
 
 pub report-spec : {M : Type 1} → statement M
-report-spec = tie.close (tie.spec returns write-refused-requires same-length returns-2 read-text-requires enum-known-start enum-told write-refused-requires-2 same-length-2 returns-3 sub-report-batch part-report-batch-start part-report-batch-end sub-report-batch-2 part-report-batch-start-2 part-report-batch-end-2 report-batch-requires same-length-3 returns-4)
+report-spec =
+    tie.close
+    (tie.spec
+    returns
+    write-refused-requires
+    same-length
+    returns-2
+    read-text-requires
+    enum-known-start
+    enum-told
+    write-refused-requires-2
+    same-length-2
+    returns-3
+    sub-report-batch
+    part-report-batch-start
+    part-report-batch-end
+    sub-report-batch-2
+    part-report-batch-start-2
+    part-report-batch-end-2
+    report-batch-requires
+    same-length-3
+    returns-4)

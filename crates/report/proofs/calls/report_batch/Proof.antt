@@ -68,4 +68,26 @@ returns-2 : tie.Need-returns-2
 returns-2 c = refused-lines _ _ _ _ (batch-refused _ _ _ _ _ (c .before .before .before .before .before .before .before .before .before .before .before .batch .result) (c .before .before .before .before .before .before .before .before .before .before .before .batch .ensures) (rooms-have (omega (arith, c .before .before .before .before .before .before .before .before .before .before .before .before .before .before .before .before .before .before .before .room .ensures)) (omega (arith, c .before .before .before .before .before .before .before .before .before .before .before .before .before .before .before .before .before .before .room2 .ensures)) (omega (arith, c .before .before .before .before .before .before .before .before .before .before .before .before .before .before .before .before .before .room3 .ensures)) (omega (arith, c .before .before .before .before .before .before .before .before .before .before .before .before .before .before .before .before .room4 .ensures))) (c .before .before .before .before .before .n2 .given .1)) (c .before .before .write-refused .ensures)
 
 pub report-batch-spec : {M : Type 1} → statement M
-report-batch-spec = tie.close (tie.spec room-requires room-requires-2 room-requires-3 room-requires-4 slice-aggregate-batch slice-aggregate-batch-2 slice-aggregate-batch-3 slice-aggregate-batch-4 batch-requires enum-known-n array-share-prefix-dossier slice-aggregate-report-opened slice-aggregate-report-opened-2 report-opened-requires enum-known-n-2 write-refused-requires same-length returns same-length-2 returns-2)
+report-batch-spec =
+    tie.close
+    (tie.spec
+    room-requires
+    room-requires-2
+    room-requires-3
+    room-requires-4
+    slice-aggregate-batch
+    slice-aggregate-batch-2
+    slice-aggregate-batch-3
+    slice-aggregate-batch-4
+    batch-requires
+    enum-known-n
+    array-share-prefix-dossier
+    slice-aggregate-report-opened
+    slice-aggregate-report-opened-2
+    report-opened-requires
+    enum-known-n-2
+    write-refused-requires
+    same-length
+    returns
+    same-length-2
+    returns-2)

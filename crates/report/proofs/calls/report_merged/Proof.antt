@@ -26,4 +26,13 @@ returns : tie.Need-returns
 returns c = λ t e m. let h = digest-is m (c .before .before .before .before .before .before .before .before .before .hash .result) _ _ refl (c .before .before .before .before .before .before .before .before .before .hash .ensures) in lines-merged m h (c .before .before .write-merged .ensures (lines-ready m _ (c .before .before .before .before .before .before .before .ask-event .ensures) h))
 
 pub report-merged-spec : {M : Type 1} → statement M
-report-merged-spec = tie.close (tie.spec slice-aggregate-hash hash-requires ask-event-requires slice-aggregate-write-merged write-merged-requires same-length returns)
+report-merged-spec =
+    tie.close
+    (tie.spec
+    slice-aggregate-hash
+    hash-requires
+    ask-event-requires
+    slice-aggregate-write-merged
+    write-merged-requires
+    same-length
+    returns)

@@ -92,4 +92,15 @@ returns c = λ p.
     (name .write-named .ensures p) (end .write-end .ensures)
 
 pub write-conflict-spec : {M : Type 1} → statement M
-write-conflict-spec = tie.close (tie.spec slice-aggregate-copy copy-requires write-decimal-requires slice-aggregate-copy-2 copy-requires-2 write-named-requires write-end-requires same-length returns)
+write-conflict-spec =
+    tie.close
+    (tie.spec
+    slice-aggregate-copy
+    copy-requires
+    write-decimal-requires
+    slice-aggregate-copy-2
+    copy-requires-2
+    write-named-requires
+    write-end-requires
+    same-length
+    returns)

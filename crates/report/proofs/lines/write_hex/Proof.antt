@@ -70,4 +70,26 @@ returns : tie.Need-returns Inv-loop μ-loop
 returns c = all-gone (c .before .loop .inv .1) (hex-end (c .before .before .before .before .args .s .now) (c .before .loop .i) (omega (arith, c .loop-test .left)))
 
 pub write-hex-spec : {M : Type 1} → statement M
-write-hex-spec = tie.close (tie.spec Inv-loop μ-loop loop-holds shared-slice-read-b hex-digit-requires mul-out add-out slice-write-out hex-digit-requires-2 mul-out-2 add-out-2 add-out-3 slice-write-out-2 add-i loop-less loop-again mul-result add-result same-length returns)
+write-hex-spec =
+    tie.close
+    (tie.spec
+    Inv-loop
+    μ-loop
+    loop-holds
+    shared-slice-read-b
+    hex-digit-requires
+    mul-out
+    add-out
+    slice-write-out
+    hex-digit-requires-2
+    mul-out-2
+    add-out-2
+    add-out-3
+    slice-write-out-2
+    add-i
+    loop-less
+    loop-again
+    mul-result
+    add-result
+    same-length
+    returns)

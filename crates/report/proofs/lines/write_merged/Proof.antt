@@ -42,4 +42,17 @@ returns : tie.Need-returns
 returns c = λ l. wrote-hashed (l .type) (l .event) _ (l .read .objects) (c .before .before .before .before .before .before .before .before .before .before .before .before .before .before .before .before .before .before .before .before .before .before .before .before .before .before .before .copy .ensures) (c .before .before .before .before .before .before .before .before .before .before .before .before .before .before .before .before .before .before .before .before .before .before .before .write-decimal .ensures) (c .before .before .before .before .before .before .before .before .before .before .before .before .before .before .before .before .before .before .before .write-end .ensures) (c .before .before .before .before .before .before .before .before .before .before .before .before .before .before .before .write-objects .ensures (objects-room (l) (omega (arith, c .before .before .before .before .before .before .before .before .before .before .before .before .before .before .before .before .before .before .before .before .before .before .before .before .before .before .before .copy .ensures .after, wrote-length (c .before .before .before .before .before .before .before .before .before .before .before .before .before .before .before .before .before .before .before .before .before .before .before .before .before .before .before .copy .ensures), c .before .before .before .before .before .before .before .before .before .before .before .before .before .before .before .before .before .before .before .before .before .before .before .write-decimal .ensures .after, wrote-length (c .before .before .before .before .before .before .before .before .before .before .before .before .before .before .before .before .before .before .before .before .before .before .before .write-decimal .ensures), c .before .before .before .before .before .before .before .before .before .before .before .before .before .before .before .before .before .before .before .write-end .ensures .after, wrote-length (c .before .before .before .before .before .before .before .before .before .before .before .before .before .before .before .before .before .before .before .write-end .ensures))) (omega (arith, c .before .before .before .before .before .before .before .before .before .before .before .before .before .before .before .before .before .before .before .before .before .before .before .before .before .before .before .copy .ensures .after, wrote-length (c .before .before .before .before .before .before .before .before .before .before .before .before .before .before .before .before .before .before .before .before .before .before .before .before .before .before .before .copy .ensures), c .before .before .before .before .before .before .before .before .before .before .before .before .before .before .before .before .before .before .before .before .before .before .before .write-decimal .ensures .after, wrote-length (c .before .before .before .before .before .before .before .before .before .before .before .before .before .before .before .before .before .before .before .before .before .before .before .write-decimal .ensures), c .before .before .before .before .before .before .before .before .before .before .before .before .before .before .before .before .before .before .before .write-end .ensures .after, wrote-length (c .before .before .before .before .before .before .before .before .before .before .before .before .before .before .before .before .before .before .before .write-end .ensures))))) (c .before .before .before .before .before .before .before .before .before .before .copy2 .ensures) (c .before .before .before .before .before .before .write-hex .ensures) (c .before .before .write-end2 .ensures)
 
 pub write-merged-spec : {M : Type 1} → statement M
-write-merged-spec = tie.close (tie.spec slice-aggregate-copy copy-requires write-decimal-requires write-end-requires write-objects-requires slice-aggregate-copy-2 copy-requires-2 write-hex-requires write-end-requires-2 same-length returns)
+write-merged-spec =
+    tie.close
+    (tie.spec
+    slice-aggregate-copy
+    copy-requires
+    write-decimal-requires
+    write-end-requires
+    write-objects-requires
+    slice-aggregate-copy-2
+    copy-requires-2
+    write-hex-requires
+    write-end-requires-2
+    same-length
+    returns)

@@ -78,4 +78,17 @@ returns c = λ o.
     all-gone (l .inv o) (objects-end (o .type .properties) (o .event .sets) (l .k) past)
 
 pub write-objects-spec : {M : Type 1} → statement M
-write-objects-spec = tie.close (tie.spec Inv-loop μ-loop loop-holds property-at-requires set-at-requires write-values-requires add-k loop-less loop-again same-length returns)
+write-objects-spec =
+    tie.close
+    (tie.spec
+    Inv-loop
+    μ-loop
+    loop-holds
+    property-at-requires
+    set-at-requires
+    write-values-requires
+    add-k
+    loop-less
+    loop-again
+    same-length
+    returns)

@@ -33,4 +33,15 @@ returns : tie.Need-returns
 returns c = wrote-refused (c .before .before .before .before .before .before .before .before .before .before .before .before .before .before .before .before .before .before .before .before .before .before .before .args .number) (c .before .before .before .before .before .before .before .before .before .before .before .before .before .before .before .before .before .before .before .before .before .before .before .args .position) (c .before .before .before .before .before .before .before .before .before .before .before .before .before .before .before .before .before .before .before .copy .ensures) (c .before .before .before .before .before .before .before .before .before .before .before .before .before .before .before .write-decimal .ensures) (c .before .before .before .before .before .before .before .before .before .before .copy2 .ensures) (c .before .before .before .before .before .before .write-decimal2 .ensures) (c .before .before .write-end .ensures)
 
 pub write-refused-spec : {M : Type 1} → statement M
-write-refused-spec = tie.close (tie.spec slice-aggregate-copy copy-requires write-decimal-requires slice-aggregate-copy-2 copy-requires-2 write-decimal-requires-2 write-end-requires same-length returns)
+write-refused-spec =
+    tie.close
+    (tie.spec
+    slice-aggregate-copy
+    copy-requires
+    write-decimal-requires
+    slice-aggregate-copy-2
+    copy-requires-2
+    write-decimal-requires-2
+    write-end-requires
+    same-length
+    returns)

@@ -52,4 +52,20 @@ returns-2 : tie.Need-returns-2 Inv-loop μ-loop
 returns-2 c = λ v. lines-all _ _ _ _ _ (omega arith) (c .before .loop .inv (c .before .before .before .before .before .args .x .end) v) (omega (arith, c .loop-test .left))
 
 pub write-values-spec : {M : Type 1} → statement M
-write-values-spec = tie.close (tie.spec Inv-loop μ-loop loop-holds read-text-requires enum-known-start enum-told same-length returns write-value-requires sub-left loop-less loop-again same-length-2 returns-2)
+write-values-spec =
+    tie.close
+    (tie.spec
+    Inv-loop
+    μ-loop
+    loop-holds
+    read-text-requires
+    enum-known-start
+    enum-told
+    same-length
+    returns
+    write-value-requires
+    sub-left
+    loop-less
+    loop-again
+    same-length-2
+    returns-2)
