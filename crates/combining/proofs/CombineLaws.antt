@@ -92,7 +92,11 @@ both-taken {u = u} k x y = record { known = k; right-type = u; left = x; right =
 
 module _ (table a : List ℕ) (d : DossierIndex) (b : List ℕ) (e : DossierIndex) (t : TypeIndex) (h : BothTaken table a d b e t) where
   pub agree-asks : (t .count ≤ 32) × IsDossier a d × IsDossier b e
-  agree-asks = (h .left .typed .are .few, record { what = h .left .what .headed; is = h .left .stands }, record { what = h .right .what .headed; is = h .right .stands })
+  agree-asks = (
+    h .left .typed .are .few,
+    record { what = h .left .what .headed; is = h .left .stands },
+    record { what = h .right .what .headed; is = h .right .stands },
+  )
 
   module _
       (r : Bool)

@@ -59,7 +59,8 @@ fn chosen<'a>(p: PropertyAt, a: &'a [u8], x: SetAt, b: &'a [u8], y: SetAt) -> &'
 // Writes the union of two sets of m and n values, one of which is not empty: its count, which is known when the values are written, and these.
 fn write_values(a: &[u8], m: usize, b: &[u8], n: usize, out: &mut [u8], at: usize) -> usize
     requires { ⌜ ValuesRoom (now a) m (now b) n at (length (now out)) ⌝ }
-    ensures { λ r. ⌜ ((xs ys : List Text) → ValuesAre (now (a .entry)) m (now (b .entry)) n xs ys → Wrote (now (out .entry)) at (setBytes (union texts xs ys)) (now (out .exit)) r) ⌝ }
+    ensures { λ r. ⌜ ((xs ys : List Text) → ValuesAre (now (a .entry)) m (now (b .entry)) n xs ys
+        → Wrote (now (out .entry)) at (setBytes (union texts xs ys)) (now (out .exit)) r) ⌝ }
 {
     let joined = write_union(a, b, out, at + 1);
     write_before(out, at, joined.next, (m + n - joined.shared) as u64)

@@ -106,7 +106,8 @@ fn objects_fit(a: &[u8], x: SnapshotIndex, b: &[u8], y: SnapshotIndex, t: TypeIn
 
 // Whether two sides have at most 32 parents together. They are counted only where those of each, added up, are more.
 fn parents_fit(a: &[u8], x: SetAt, b: &[u8], y: SetAt) -> bool
-    ensures { λ r. ⌜ ((gs hs : List Text) → HashesAre (now (a .entry)) gs x → HashesAre (now (b .entry)) hs y → Hashes gs → Hashes hs → rising texts gs ≡ true → rising texts hs ≡ true → r ≡ leb (length (union texts gs hs)) 32) ⌝ }
+    ensures { λ r. ⌜ ((gs hs : List Text) → HashesAre (now (a .entry)) gs x → HashesAre (now (b .entry)) hs y → Hashes gs → Hashes hs
+        → rising texts gs ≡ true → rising texts hs ≡ true → r ≡ leb (length (union texts gs hs)) 32) ⌝ }
 {
     if x.count <= 32 && y.count <= 32 - x.count {
         return true;

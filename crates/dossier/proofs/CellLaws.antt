@@ -122,7 +122,8 @@ module _ (cs : List Cell) (k bits : ℕ) (b : bits ≡ bitNumber (map differBit 
   pub bits-next : bits / 2 ≡ bitNumber (map differBit (drop (k + 1) cs))
   bits-next = ap (λ (n : ℕ). n / 2) bits-here ∙ high-bits bit after (differ-small (getD cs k (holds [])))
 
-module _ (s : List ℕ) (cs : List Cell) (differ : ℕ) (ats : List ℕ) (v : CellsAre s cs differ ats) (k bits : ℕ) (h : k < 32) (b : bits ≡ bitNumber (map differBit (drop k cs))) where
+module _ (s : List ℕ) (cs : List Cell) (differ : ℕ) (ats : List ℕ) (v : CellsAre s cs differ ats) (k bits : ℕ) (h : k < 32) (b : bits
+    ≡ bitNumber (map differBit (drop k cs))) where
   long : k < length cs
   long = omega (arith, v .sets .long, length-map cs held)
 
@@ -172,7 +173,8 @@ all-vacant f (holds (v ∷ vs) ∷ cs) = rw (ne-eqb (length (v ∷ vs)) 0 (λ e.
 
 -- no property is left
 pub cells-end :
-    (qs : List Property) (cs : List Cell) (f : Bool) (k bits left : ℕ) → length qs ≤ k → bits ≡ bitNumber (map differBit (drop k cs)) → left ≡ sizes (drop k cs) →
+    (qs : List Property) (cs : List Cell) (f : Bool) (k bits left : ℕ) → length qs ≤ k → bits ≡ bitNumber (map differBit (drop k cs)) →
+    left ≡ sizes (drop k cs) →
     eachCell (cellFits f) isVacant (drop k qs) (drop k cs) ≡ (eqb bits 0 && eqb left 0)
 cells-end qs cs f k bits left l b o = rw (drop-of-length-le qs l, b, o) (all-vacant (cellFits f) (drop k cs))
 

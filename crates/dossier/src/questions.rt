@@ -42,7 +42,8 @@ fn ask_read(
 ) -> u8
     requires { ⌜ (count ≤ 32) × (length (now x) ≡ 96) × (length (now properties) ≡ 96) ⌝ }
     ensures { λ r. ⌜ ((u : List ℕ) (ty : EventType) (xs : List (List Text)) (z : Snapshot) → mark ≡ ty .mark
-        → PropertiesAre u (ty .properties) count (now (properties .entry)) → KindsAre ty → SetsAre (now (a .entry)) xs (now (x .entry)) → SnapshotIs (now (b .entry)) z y
+        → PropertiesAre u (ty .properties) count (now (properties .entry)) → KindsAre ty → SetsAre (now (a .entry)) xs (now (x .entry))
+        → SnapshotIs (now (b .entry)) z y
         → r ≡ shapeNumber (snapshotFits ty z && equal (lists sets) (matchSets (ty .properties) xs) (snapshotMatch ty z)) (snapshotValues ty z)) ⌝ }
 {
     if !snapshot_fits(b, y, mark, count, properties) {
@@ -69,7 +70,8 @@ fn ask_snapshot(
 ) -> u8
     requires { ⌜ (count ≤ 32) × (length (now x) ≡ 96) × (length (now properties) ≡ 96) ⌝ }
     ensures { λ r. ⌜ ((u v : List ℕ) (ty : EventType) (xs : List (List Text)) (y : Snapshot) → mark ≡ ty .mark
-        → PropertiesAre u (ty .properties) count (now (properties .entry)) → KindsAre ty → SetsAre (now (a .entry)) xs (now (x .entry)) → readSnapshot (now (b .entry)) ≡ got y v
+        → PropertiesAre u (ty .properties) count (now (properties .entry)) → KindsAre ty → SetsAre (now (a .entry)) xs (now (x .entry))
+        → readSnapshot (now (b .entry)) ≡ got y v
         → r ≡ shapeNumber (snapshotFits ty y && equal (lists sets) (matchSets (ty .properties) xs) (snapshotMatch ty y)) (snapshotValues ty y)) ⌝ }
 {
     ask_read(a, x, b, read_snapshot(b), mark, count, properties)

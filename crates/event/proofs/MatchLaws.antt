@@ -116,6 +116,7 @@ module _ (s : List ℕ) (ty : EventType) (n : ℕ) (ps : List ℕ) (w : Properti
     pub same-more : {r : Bool} → r ≡ (not (isMatch (this .what)) || equal sets (getD xs k []) (getD ys k [])) → r ≡ true → equal (lists sets) (matchSets (drop k (ty .properties)) (drop k xs)) (matchSets (drop k (ty .properties)) (drop k ys)) ≡ equal (lists sets) (matchSets (drop (k + 1) (ty .properties)) (drop (k + 1) xs)) (matchSets (drop (k + 1) (ty .properties)) (drop (k + 1) ys))
     same-more e f = step ∙ ap (λ (x : Bool). x && equal (lists sets) (matchSets (drop (k + 1) (ty .properties)) (drop (k + 1) xs)) (matchSets (drop (k + 1) (ty .properties)) (drop (k + 1) ys))) (sym e ∙ f)
 
-pub same-end : (ty : EventType) (xs ys : List (List Text)) (k : ℕ) → length (ty .properties) ≤ k → equal (lists sets) (matchSets (drop k (ty .properties)) (drop k xs)) (matchSets (drop k (ty .properties)) (drop k ys)) ≡ true
+pub same-end : (ty : EventType) (xs ys : List (List Text)) (k : ℕ) → length (ty .properties) ≤ k →
+    equal (lists sets) (matchSets (drop k (ty .properties)) (drop k xs)) (matchSets (drop k (ty .properties)) (drop k ys)) ≡ true
 unfolding matchSets
 same-end ty xs ys k l = rw (drop-of-length-le (ty .properties) l) (equal-true (lists sets) [] [] .1 refl)

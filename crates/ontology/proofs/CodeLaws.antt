@@ -69,4 +69,8 @@ module _ (xs : List ℕ) (k : ℕ) (p : PropertyAt) (c : ℕ) where
 
   pub put-other : (j : ℕ) → (j ≡ k → ⊥) → propertyIn (putThree xs k (p .start) (p .end) c) j ≡ propertyIn xs j
   put-other j n =
-      rw (three-zero xs k (p .start) (p .end) c j n, three-other xs k (p .start) (p .end) c j 1 (omega arith) n, three-other xs k (p .start) (p .end) c j 2 (omega arith) n) refl
+      rw (
+        three-zero xs k (p .start) (p .end) c j n,
+        three-other xs k (p .start) (p .end) c j 1 (omega arith) n,
+        three-other xs k (p .start) (p .end) c j 2 (omega arith) n,
+      ) refl

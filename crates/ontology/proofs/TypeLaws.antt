@@ -26,7 +26,8 @@ use Rattle.ontology.specs.declared.types.PropertiesRead.{PropertiesRead}
 use Rattle.ontology.specs.declared.types.PropertiesRead.the-variants.{Properties, NoProperties}
 use Rattle.ontology.specs.declared.types.TypeIndex.{TypeIndex}
 use Rattle.ontology.specs.declared.types.TypeRead.{TypeRead}
-use Rattle.ontology.specs.code.TypeIndex.{PropertyIs, PropertyStops, propertyIn, PropertiesStop, PropertiesSay, propertyRules, typeOf, HeadStops, HeadReads, TypeIs, TypeReads}
+use Rattle.ontology.specs.code.TypeIndex.{PropertyIs, PropertyStops, propertyIn, PropertiesStop, PropertiesSay}
+use Rattle.ontology.specs.code.TypeIndex.{propertyRules, typeOf, HeadStops, HeadReads, TypeIs, TypeReads}
 use Rattle.ontology.proofs.RunLaws.{prepend, prepend-nil, prepend-two, times-more, times-stop, times-end, times-length, snoc-at}
 
 -- what is known of a call's answer in the arm of a `match`

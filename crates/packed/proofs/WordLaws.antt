@@ -96,7 +96,8 @@ module _ (a b : List ℕ) (i : ℕ) (e : take i a ≡ take i b) where
       (λ l. let m = compare-lt (length a) (length b) l in
       order-first a b i (⊎-elim (λ (x : length a ≤ n). omega arith) (λ (x : length b ≤ n). omega arith) d) (omega arith) ∙ sym l)
       (λ s. let m = nat-same (length a) (length b) s in
-      order-same a b i (⊎-elim (λ (x : length a ≤ n). omega arith) (λ (x : length b ≤ n). omega arith) d) (⊎-elim (λ (x : length a ≤ n). omega arith) (λ (x : length b ≤ n). omega arith) d) ∙ sym s)
+      order-same a b i (⊎-elim (λ (x : length a ≤ n). omega arith) (λ (x : length b ≤ n). omega arith) d)
+      (⊎-elim (λ (x : length a ≤ n). omega arith) (λ (x : length b ≤ n). omega arith) d) ∙ sym s)
       (λ g. let m = compare-gt (length a) (length b) g in
       order-second a b i (omega arith) (⊎-elim (λ (x : length a ≤ n). omega arith) (λ (x : length b ≤ n). omega arith) d) ∙ sym g)
 
@@ -107,7 +108,8 @@ module _ (a b : List ℕ) (i : ℕ) (e : take i a ≡ take i b) where
     pub alike-word : wordOf (take n (drop i a)) ≡ wordOf (take n (drop i b)) → take (i + n) a ≡ take (i + n) b
     unfolding wordOf
     alike-word w =
-        let s = words-same n 0 0 (drop i a) (drop i b) (bytes-drop a i p) (bytes-drop b i q) (omega (arith, length-drop i a)) (omega (arith, length-drop i b)) w in
+        let s = words-same n 0 0 (drop i a) (drop i b) (bytes-drop a i p) (bytes-drop b i q) (omega (arith, length-drop i a))
+        (omega (arith, length-drop i b)) w in
         take-add i n a ∙ ap₂ {C = List ℕ} (λ x y. x ++ y) e (s .1) ∙ sym (take-add i n b)
 
     by-word : texts .cmp a b
@@ -131,7 +133,8 @@ first-byte s i next k h e = rw (drop-next s i h, e)
 pub eight :
     (s : List ℕ) (at : ℕ) → at + 8 ≤ length s →
     take 8 (drop at s)
-    ≡ getD s at 0 ∷ getD s (at + 1) 0 ∷ getD s (at + 2) 0 ∷ getD s (at + 3) 0 ∷ getD s (at + 4) 0 ∷ getD s (at + 5) 0 ∷ getD s (at + 6) 0 ∷ getD s (at + 7) 0 ∷ []
+    ≡ getD s at 0 ∷ getD s (at + 1) 0 ∷ getD s (at + 2) 0 ∷ getD s (at + 3) 0 ∷ getD s (at + 4) 0 ∷ getD s (at + 5) 0 ∷ getD s (at + 6) 0 ∷ getD s
+    (at + 7) 0 ∷ []
 eight s at h =
     rw (
       first-byte s at (at + 1) 7 (omega arith) refl,
@@ -159,31 +162,45 @@ under k n {w} {low} {v} e l s = ap (λ (x : ℕ). bitOr x low) e ∙ or-shifted 
 
 pub joined :
     (a b c d e f g h : ℕ) → a < 256 → b < 256 → c < 256 → d < 256 → e < 256 → f < 256 → g < 256 → h < 256 →
-    bitOr (bitOr (bitOr (bitOr (bitOr (bitOr (bitOr (a * 72057594037927936 % 18446744073709551616) (b * 281474976710656 % 18446744073709551616)) (c * 1099511627776 % 18446744073709551616)) (d * 4294967296 % 18446744073709551616)) (e * 16777216 % 18446744073709551616)) (f * 65536 % 18446744073709551616)) (g * 256 % 18446744073709551616)) h
+    bitOr (bitOr (bitOr (bitOr (bitOr (bitOr (bitOr (a * 72057594037927936 % 18446744073709551616) (b * 281474976710656 % 18446744073709551616))
+    (c * 1099511627776 % 18446744073709551616)) (d * 4294967296 % 18446744073709551616)) (e * 16777216 % 18446744073709551616))
+    (f * 65536 % 18446744073709551616)) (g * 256 % 18446744073709551616)) h
     ≡ wordOf (a ∷ b ∷ c ∷ d ∷ e ∷ f ∷ g ∷ h ∷ [])
 unfolding wordOf wordAfter
 joined a b c d e f g h pa pb pc pd pe pf pg ph =
     let na : ℕ = 256 * 0 + a in
     let wa : a * 72057594037927936 % 18446744073709551616 ≡ na * 2 ^ 56 = omega arith in
     let nb : ℕ = 256 * na + b in
-    let wb : bitOr (a * 72057594037927936 % 18446744073709551616) (b * 281474976710656 % 18446744073709551616) ≡ nb * 2 ^ 48 = under 56 na wa (omega arith) (omega arith) in
+    let wb : bitOr (a * 72057594037927936 % 18446744073709551616) (b * 281474976710656 % 18446744073709551616)
+    ≡ nb * 2 ^ 48 = under 56 na wa (omega arith) (omega arith) in
     let nc : ℕ = 256 * nb + c in
-    let wc : bitOr (bitOr (a * 72057594037927936 % 18446744073709551616) (b * 281474976710656 % 18446744073709551616)) (c * 1099511627776 % 18446744073709551616) ≡ nc * 2 ^ 40 = under 48 nb wb (omega arith) (omega arith) in
+    let wc : bitOr (bitOr (a * 72057594037927936 % 18446744073709551616) (b * 281474976710656 % 18446744073709551616))
+    (c * 1099511627776 % 18446744073709551616) ≡ nc * 2 ^ 40 = under 48 nb wb (omega arith) (omega arith) in
     let nd : ℕ = 256 * nc + d in
-    let wd : bitOr (bitOr (bitOr (a * 72057594037927936 % 18446744073709551616) (b * 281474976710656 % 18446744073709551616)) (c * 1099511627776 % 18446744073709551616)) (d * 4294967296 % 18446744073709551616) ≡ nd * 2 ^ 32 = under 40 nc wc (omega arith) (omega arith) in
+    let wd : bitOr (bitOr (bitOr (a * 72057594037927936 % 18446744073709551616) (b * 281474976710656 % 18446744073709551616))
+    (c * 1099511627776 % 18446744073709551616)) (d * 4294967296 % 18446744073709551616) ≡ nd * 2 ^ 32 = under 40 nc wc (omega arith) (omega arith) in
     let ne : ℕ = 256 * nd + e in
-    let we : bitOr (bitOr (bitOr (bitOr (a * 72057594037927936 % 18446744073709551616) (b * 281474976710656 % 18446744073709551616)) (c * 1099511627776 % 18446744073709551616)) (d * 4294967296 % 18446744073709551616)) (e * 16777216 % 18446744073709551616) ≡ ne * 2 ^ 24 = under 32 nd wd (omega arith) (omega arith) in
+    let we : bitOr (bitOr (bitOr (bitOr (a * 72057594037927936 % 18446744073709551616) (b * 281474976710656 % 18446744073709551616))
+    (c * 1099511627776 % 18446744073709551616)) (d * 4294967296 % 18446744073709551616)) (e * 16777216 % 18446744073709551616)
+    ≡ ne * 2 ^ 24 = under 32 nd wd (omega arith) (omega arith) in
     let nf : ℕ = 256 * ne + f in
-    let wf : bitOr (bitOr (bitOr (bitOr (bitOr (a * 72057594037927936 % 18446744073709551616) (b * 281474976710656 % 18446744073709551616)) (c * 1099511627776 % 18446744073709551616)) (d * 4294967296 % 18446744073709551616)) (e * 16777216 % 18446744073709551616)) (f * 65536 % 18446744073709551616) ≡ nf * 2 ^ 16 = under 24 ne we (omega arith) (omega arith) in
+    let wf : bitOr (bitOr (bitOr (bitOr (bitOr (a * 72057594037927936 % 18446744073709551616) (b * 281474976710656 % 18446744073709551616))
+    (c * 1099511627776 % 18446744073709551616)) (d * 4294967296 % 18446744073709551616)) (e * 16777216 % 18446744073709551616))
+    (f * 65536 % 18446744073709551616) ≡ nf * 2 ^ 16 = under 24 ne we (omega arith) (omega arith) in
     let ng : ℕ = 256 * nf + g in
-    let wg : bitOr (bitOr (bitOr (bitOr (bitOr (bitOr (a * 72057594037927936 % 18446744073709551616) (b * 281474976710656 % 18446744073709551616)) (c * 1099511627776 % 18446744073709551616)) (d * 4294967296 % 18446744073709551616)) (e * 16777216 % 18446744073709551616)) (f * 65536 % 18446744073709551616)) (g * 256 % 18446744073709551616) ≡ ng * 2 ^ 8 = under 16 nf wf (omega arith) (omega arith) in
+    let wg : bitOr (bitOr (bitOr (bitOr (bitOr (bitOr (a * 72057594037927936 % 18446744073709551616) (b * 281474976710656 % 18446744073709551616))
+    (c * 1099511627776 % 18446744073709551616)) (d * 4294967296 % 18446744073709551616)) (e * 16777216 % 18446744073709551616))
+    (f * 65536 % 18446744073709551616)) (g * 256 % 18446744073709551616) ≡ ng * 2 ^ 8 = under 16 nf wf (omega arith) (omega arith) in
     let nh : ℕ = 256 * ng + h in
-    let wh : bitOr (bitOr (bitOr (bitOr (bitOr (bitOr (bitOr (a * 72057594037927936 % 18446744073709551616) (b * 281474976710656 % 18446744073709551616)) (c * 1099511627776 % 18446744073709551616)) (d * 4294967296 % 18446744073709551616)) (e * 16777216 % 18446744073709551616)) (f * 65536 % 18446744073709551616)) (g * 256 % 18446744073709551616)) h ≡ nh = under 8 ng wg (omega arith) (omega arith) in
+    let wh : bitOr (bitOr (bitOr (bitOr (bitOr (bitOr (bitOr (a * 72057594037927936 % 18446744073709551616) (b * 281474976710656 % 18446744073709551616))
+    (c * 1099511627776 % 18446744073709551616)) (d * 4294967296 % 18446744073709551616)) (e * 16777216 % 18446744073709551616))
+    (f * 65536 % 18446744073709551616)) (g * 256 % 18446744073709551616)) h ≡ nh = under 8 ng wg (omega arith) (omega arith) in
     wh
 
 pub joined-four :
     (a b c d : ℕ) → a < 256 → b < 256 → c < 256 → d < 256 →
-    bitOr (bitOr (bitOr (a * 16777216 % 18446744073709551616) (b * 65536 % 18446744073709551616)) (c * 256 % 18446744073709551616)) d ≡ wordOf (a ∷ b ∷ c ∷ d ∷ [])
+    bitOr (bitOr (bitOr (a * 16777216 % 18446744073709551616) (b * 65536 % 18446744073709551616)) (c * 256 % 18446744073709551616)) d
+    ≡ wordOf (a ∷ b ∷ c ∷ d ∷ [])
 unfolding wordOf wordAfter
 joined-four a b c d pa pb pc pd =
     let na : ℕ = 256 * 0 + a in
@@ -191,9 +208,11 @@ joined-four a b c d pa pb pc pd =
     let nb : ℕ = 256 * na + b in
     let wb : bitOr (a * 16777216 % 18446744073709551616) (b * 65536 % 18446744073709551616) ≡ nb * 2 ^ 16 = under 24 na wa (omega arith) (omega arith) in
     let nc : ℕ = 256 * nb + c in
-    let wc : bitOr (bitOr (a * 16777216 % 18446744073709551616) (b * 65536 % 18446744073709551616)) (c * 256 % 18446744073709551616) ≡ nc * 2 ^ 8 = under 16 nb wb (omega arith) (omega arith) in
+    let wc : bitOr (bitOr (a * 16777216 % 18446744073709551616) (b * 65536 % 18446744073709551616)) (c * 256 % 18446744073709551616)
+    ≡ nc * 2 ^ 8 = under 16 nb wb (omega arith) (omega arith) in
     let nd : ℕ = 256 * nc + d in
-    let wd : bitOr (bitOr (bitOr (a * 16777216 % 18446744073709551616) (b * 65536 % 18446744073709551616)) (c * 256 % 18446744073709551616)) d ≡ nd = under 8 nc wc (omega arith) (omega arith) in
+    let wd : bitOr (bitOr (bitOr (a * 16777216 % 18446744073709551616) (b * 65536 % 18446744073709551616)) (c * 256 % 18446744073709551616)) d
+    ≡ nd = under 8 nc wc (omega arith) (omega arith) in
     wd
 
 -- ---- bytes whose top bit is clear
@@ -203,7 +222,8 @@ high-bit a h e =
     ⊎-elim (λ (l : a < 128). l)
     (λ (g : 128 ≤ a).
     let s : a ≡ 1 * 2 ^ 7 + (a - 128) = omega arith in
-    let b : bitAnd (1 * 2 ^ 7 + (a - 128)) (1 * 2 ^ 7 + 0) ≡ bitAnd 1 1 * 2 ^ 7 + bitAnd (a - 128) 0 = and-block 7 1 1 (a - 128) 0 (omega arith) (omega arith) in
+    let b : bitAnd (1 * 2 ^ 7 + (a - 128)) (1 * 2 ^ 7 + 0) ≡ bitAnd 1 1 * 2 ^ 7 + bitAnd (a - 128) 0 = and-block 7 1 1 (a - 128) 0 (omega arith)
+    (omega arith) in
     let o : bitAnd a 128 ≡ 1 * 2 ^ 7 + 0 = ap (λ (x : ℕ). bitAnd x 128) s ∙ b ∙ ap₂ (λ x y. x * 2 ^ 7 + y) (and-self 1) (and-zero-r (a - 128)) in
     absurd (omega (arith, o, e)))
     (lt-or-ge a 128)

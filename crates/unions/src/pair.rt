@@ -76,7 +76,8 @@ pub fn count_hash_union(a: &[u8], b: &[u8]) -> usize
 // Where one side alone is left, it is copied as it stands. The step is written out here, since a call of its own costs a tenth of the time.
 fn write_runs(form: Form, a: &[u8], b: &[u8], out: &mut [u8], at: usize) -> Joined
     requires { ⌜ Room form (now a) (now b) at (length (now out)) ⌝ }
-    ensures { λ r. ⌜ ((xs ys : List Text) → Run form (now (a .entry)) xs [] → Run form (now (b .entry)) ys [] → WroteUnion (now (out .entry)) at (run form (union texts xs ys)) (now (out .exit)) xs ys r) ⌝ }
+    ensures { λ r. ⌜ ((xs ys : List Text) → Run form (now (a .entry)) xs [] → Run form (now (b .entry)) ys []
+        → WroteUnion (now (out .entry)) at (run form (union texts xs ys)) (now (out .exit)) xs ys r) ⌝ }
 {
     let mut i: usize = 0;
     let mut j: usize = 0;
@@ -117,7 +118,8 @@ fn write_runs(form: Form, a: &[u8], b: &[u8], out: &mut [u8], at: usize) -> Join
 // Each writer writes from position `at` on, and answers the position after what it wrote.
 pub fn write_union(a: &[u8], b: &[u8], out: &mut [u8], at: usize) -> Joined
     requires { ⌜ TextsRoom (now a) (now b) at (length (now out)) ⌝ }
-    ensures { λ r. ⌜ ((xs ys : List Text) → now (a .entry) ≡ flatten (map text xs) → now (b .entry) ≡ flatten (map text ys) → rising texts xs ≡ true → rising texts ys ≡ true → WroteUnion (now (out .entry)) at (flatten (map text (union texts xs ys))) (now (out .exit)) xs ys r) ⌝ }
+    ensures { λ r. ⌜ ((xs ys : List Text) → now (a .entry) ≡ flatten (map text xs) → now (b .entry) ≡ flatten (map text ys) → rising texts xs ≡ true
+        → rising texts ys ≡ true → WroteUnion (now (out .entry)) at (flatten (map text (union texts xs ys))) (now (out .exit)) xs ys r) ⌝ }
 {
     write_runs(Form::Texts, a, b, out, at)
 }

@@ -70,7 +70,9 @@ returns-2 c =
     (c .answer2 .ensures .0) (c .answer2 .ensures .1) (omega (arith, c .before .if3 .taken))
 
 events-agree-requires : tie.Need-events-agree-requires Inv-loop μ-loop
-events-agree-requires c κs = accepted-is narrow _ _ _ (c .before .before .before .before .before .before .before .before .before .before .before .before .ask-one .ensures) (c .before .before .before .before .before .before .before .before .before .before .if1 .left) .type-is .are .few
+events-agree-requires c κs =
+    let first = c .before .before .before .before .before .before .before .before .before .before in
+    accepted-is narrow _ _ _ (first .before .before .ask-one .ensures) (first .if1 .left) .type-is .are .few
 
 first-apart-requires : tie.Need-first-apart-requires Inv-loop μ-loop
 first-apart-requires c κs = search needs

@@ -37,7 +37,8 @@ numeral-of-requires c κs =
     let marked = to-marked (c .before .before) in
     let h = to-start marked .pre in
     let stands = set-read (c .before .before .set-at .ensures) (marked-set _ _ _ _ h (marked .if1 .left)) in
-    version-digits _ _ _ _ h _ (marked .if1 .left) (c .value-in .ensures (setAt (h .event) (to-start marked .args .t .mark - 1)) (c .before .set-part .ensures _ stands))
+    version-digits _ _ _ _ h _ (marked .if1 .left) (c .value-in .ensures (setAt (h .event) (to-start marked .args .t .mark - 1))
+    (c .before .set-part .ensures _ stands))
 
 returns-2 : tie.Need-returns-2
 returns-2 c = λ h.
@@ -45,7 +46,8 @@ returns-2 c = λ h.
     let marked = to-marked (value .before .before) in
     let stands = set-read (value .before .before .set-at .ensures) (marked-set _ _ _ _ h (marked .if1 .left)) in
     c .numeral-of .ensures
-    ∙ version-is _ _ _ _ h _ (marked .if1 .left) (value .value-in .ensures (setAt (h .event) (to-start marked .args .t .mark - 1)) (value .before .set-part .ensures _ stands))
+    ∙ version-is _ _ _ _ h _ (marked .if1 .left) (value .value-in .ensures (setAt (h .event) (to-start marked .args .t .mark - 1))
+    (value .before .set-part .ensures _ stands))
 
 pub version-of-spec : {M : Type 1} → statement M
 version-of-spec = tie.close (tie.spec returns sub-set-at set-at-requires set-part-requires value-in-requires numeral-of-requires returns-2)

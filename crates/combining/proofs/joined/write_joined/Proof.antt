@@ -15,7 +15,8 @@ use Rattle.event.specs.EventLayout.{bitNumber}
 use Rattle.event.specs.code.EventIndex.{bitOf}
 use Rattle.dossier.specs.DossierBody.{snapshotBytes}
 use Rattle.combining.specs.code.CombineIndex.{Meet}
-use Rattle.combining.proofs.JoinedLaws.{Joins, to-go-same, joins, setsFrom, sets-step, sets-end, joined-place, joined-length, sets-room, joined-wrote, place-next, place-past}
+use Rattle.combining.proofs.JoinedLaws.{Joins, to-go-same, joins, setsFrom, sets-step, sets-end}
+use Rattle.combining.proofs.JoinedLaws.{joined-place, joined-length, sets-room, joined-wrote, place-next, place-past}
 use native.Mathlib.Omega.{arith}
 use borrow.Author.Needs.{needs}
 use Rattle.combining.proofs.joined.write_joined.Statement.{statement}
@@ -60,7 +61,8 @@ to-turn c = c .before .before .before .before
 
 -- ---- the facts
 
-abbrev asked : (c : tie.Start Inv-loop μ-loop) → let a = c .args in let q = c .pre in Joins (a .table .now) (a .a .now) (a .b .now) (a .t) (a .t3) (a .t5) (q .type) (q .left) (q .right)
+abbrev asked : (c : tie.Start Inv-loop μ-loop) → let a = c .args in let q = c .pre in
+    Joins (a .table .now) (a .a .now) (a .b .now) (a .t) (a .t3) (a .t5) (q .type) (q .left) (q .right)
 asked c = let q = c .pre in joins (q .left-is) (q .right-is) (q .typed) (q .unversioned) (q .meet)
 
 abbrev numbers : (c : tie.At-loop Inv-loop μ-loop) → let s = start (places c) in let a = s .args in let q = s .pre in
@@ -71,7 +73,8 @@ numbers c = asked (start (places c))
 size :
     (c : tie.After-joined-places Inv-loop μ-loop) → let q = start c .pre in
     length (snapshotBytes (joinSnapshots (typeView (q .type)) (q .left) (q .right)))
-    ≡ length (number 0) + length (number (bitNumber (map bitOf (c .joined-places .result)))) + length (number 0) + length (setsFrom (q .type) (q .left) (q .right) 0)
+    ≡ length (number 0) + length (number (bitNumber (map bitOf (c .joined-places .result)))) + length (number 0) + length
+    (setsFrom (q .type) (q .left) (q .right) 0)
 size c = joined-length (asked (start c)) _ (c .joined-places .ensures)
 
 -- ---- the needs
@@ -99,7 +102,16 @@ write-number-requires-3 c κs =
     let places = to-places version in
     let w = version .write-number .ensures in
     let v = presence .write-number2 .ensures in
-    omega (arith, start places .pre .room, size places, ap (λ (n : ℕ). length (number n)) (presence .before .number-of .ensures), w .after, wrote-length w, v .after, wrote-length v)
+    omega (
+      arith,
+      start places .pre .room,
+      size places,
+      ap (λ (n : ℕ). length (number n)) (presence .before .number-of .ensures),
+      w .after,
+      wrote-length w,
+      v .after,
+      wrote-length v,
+    )
 
 loop-holds : tie.Need-loop-holds Inv-loop μ-loop
 loop-holds c = λ ty x y w u m. to-go
@@ -123,7 +135,8 @@ write-place-requires c κs =
     let n = numbers at-loop in
     let room = sets-room n _ (places at-loop .joined-places .ensures) _ (presence at-loop .before .number-of .ensures) (version at-loop .write-number .ensures)
     (presence at-loop .write-number2 .ensures) (to-differ at-loop .write-number3 .ensures) (q .room) in
-    place-next n _ (places at-loop .joined-places .ensures) (at-loop .loop .k) (left .set-at .ensures) (right .set-at2 .ensures) (turn .before .loop-test .taken) (turn .if1 .taken)
+    place-next n _ (places at-loop .joined-places .ensures) (at-loop .loop .k) (left .set-at .ensures) (right .set-at2 .ensures)
+    (turn .before .loop-test .taken) (turn .if1 .taken)
     (at-loop .loop .inv (q .type) (q .left) (q .right) (q .typed) (q .unversioned) (q .meet)) room
 
 add-k : tie.Need-add-k Inv-loop μ-loop

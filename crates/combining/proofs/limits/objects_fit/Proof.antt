@@ -89,7 +89,8 @@ module _ (c : tie.After-count-place Inv-loop μ-loop) (u : List ℕ) (ty : Event
       let h = to-turn c .loop-test .taken in
       let p = left-cell a b ty x y un m k h in
       let q = right-cell a b ty x y un m k h in
-      c .count-place .ensures u ty lefts rights w (set-read (to-left c .set-at .ensures) (left-set a b ty x y un m k h left v)) (set-read (c .before .set-at2 .ensures) (right-set a b ty x y un m k h right z))
+      c .count-place .ensures u ty lefts rights w (set-read (to-left c .set-at .ensures) (left-set a b ty x y un m k h left v))
+      (set-read (c .before .set-at2 .ensures) (right-set a b ty x y un m k h right z))
       (p .rises) (q .rises) (λ e. (p .lone e, q .lone e))
 
 -- ---- the needs

@@ -98,7 +98,11 @@ part-ask-read-end-2 : tie.Need-part-ask-read-end-2 Inv-loop μ-loop
 part-ask-read-end-2 c = search needs
 
 ask-read-requires : tie.Need-ask-read-requires Inv-loop μ-loop
-ask-read-requires c κs = (to-start (c .before .before .before .before .before .before .before .before .before .before .before) .pre .0, search needs, search needs)
+ask-read-requires c κs = (
+  to-start (c .before .before .before .before .before .before .before .before .before .before .before) .pre .0,
+  search needs,
+  search needs,
+)
 
 returns-2 : tie.Need-returns-2 Inv-loop μ-loop
 returns-2 c = λ u ty h w g x.
@@ -145,7 +149,11 @@ part-ask-snapshot-end-2 : tie.Need-part-ask-snapshot-end-2 Inv-loop μ-loop
 part-ask-snapshot-end-2 c = search needs
 
 ask-snapshot-requires : tie.Need-ask-snapshot-requires Inv-loop μ-loop
-ask-snapshot-requires c κs = (to-start (to-lone (of-loop (c .before .before .before .before .before .before .before .before .before)) .before) .pre .0, search needs, search needs)
+ask-snapshot-requires c κs = (
+  to-start (to-lone (of-loop (c .before .before .before .before .before .before .before .before .before)) .before) .pre .0,
+  search needs,
+  search needs,
+)
 
 returns-3 : tie.Need-returns-3 Inv-loop μ-loop
 returns-3 c = λ u ty h w g x.

@@ -58,8 +58,10 @@ module _ (c : tie.After-cell-fits Inv-loop μ-loop) where
     within = omega (arith, w .count, c .before .before .before .loop-test .taken)
 
     cell :
-        {u : List ℕ} {cs : List Cell} (v : CellsAre u cs (start .args .differ) (start .args .sets .now)) (b : to-loop c .loop .bits ≡ bitNumber (map differBit (drop place cs))) →
-        c .cell-fits .result ≡ cellFits (start .args .versioned) (named u cs _ _ v _ _ inside b (start .args .versioned) qs within .what) (getD cs place (holds []))
+        {u : List ℕ} {cs : List Cell} (v : CellsAre u cs (start .args .differ) (start .args .sets .now)) (b : to-loop c .loop .bits
+        ≡ bitNumber (map differBit (drop place cs))) →
+        c .cell-fits .result ≡ cellFits (start .args .versioned) (named u cs _ _ v _ _ inside b (start .args .versioned) qs within .what)
+        (getD cs place (holds []))
     cell {u} {cs} v b =
         let q = named u cs _ _ v _ _ inside b (start .args .versioned) qs within in
         let property = subst (PropertyIs s (q .what)) (sym (c .before .property-at .ensures)) (w .each place (q .what) (q .is)) in
@@ -108,7 +110,8 @@ loop-again c = λ s u qs cs w v o.
     let asked = c .before .before .before .before in
     let l = to-loop asked .loop in
     let i = l .inv s u qs cs w v o in
-    let rest : l .left - asked .before .before .set-at .result .count ≡ sizes (drop (l .k + 1) cs) = omega (arith, objects asked, left-next u cs _ _ v _ _ (inside asked) (i .0) _ (i .1)) in (
+    let rest : l .left - asked .before .before .set-at .result .count ≡ sizes (drop (l .k + 1) cs) = omega
+    (arith, objects asked, left-next u cs _ _ v _ _ (inside asked) (i .0) _ (i .1)) in (
       bits-next cs (l .k) _ (i .0),
       rest,
       i .2 ∙ cells-more u cs _ _ v _ _ (inside asked) (i .0) _ qs (within asked w) (cell asked w v (i .0)) (not-false _ (c .before .before .before .if1 .left)),

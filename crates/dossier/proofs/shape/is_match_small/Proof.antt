@@ -42,7 +42,8 @@ module _ (c : tie.After-matches-at Inv-loop μ-loop) where
   inside : to-loop c .loop .k < start .args .count
   inside = c .before .before .before .loop-test .taken
 
-  matches : c .matches-at .result ≡ cond (hasMatch (propertyIn (start .args .properties .now) (to-loop c .loop .k))) (setIn (start .args .sets .now) (to-loop c .loop .k) .count) 0
+  matches : c .matches-at .result ≡ cond (hasMatch (propertyIn (start .args .properties .now) (to-loop c .loop .k)))
+      (setIn (start .args .sets .now) (to-loop c .loop .k) .count) 0
   matches =
       c .matches-at .ensures
       ∙ ap₂ (λ (p : PropertyAt) (x : SetAt). cond (hasMatch p) (x .count) 0) (c .before .property-at .ensures) (c .before .before .set-at .ensures)

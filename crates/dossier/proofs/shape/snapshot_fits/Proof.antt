@@ -22,7 +22,8 @@ module _ (c : tie.After-cells-fit) where
 
   cells :
       {u : List ℕ} (ty : EventType) {y : Snapshot} →
-      start .args .mark ≡ ty .mark → PropertiesAre u (ty .properties) (start .args .count) (start .args .properties .now) → SnapshotIs (start .args .s .now) y (start .args .t2) →
+      start .args .mark ≡ ty .mark → PropertiesAre u (ty .properties) (start .args .count) (start .args .properties .now) →
+      SnapshotIs (start .args .s .now) y (start .args .t2) →
       c .cells-fit .result ≡ eachCell (cellFits (isVersioned ty)) isVacant (ty .properties) (y .cells)
   cells {u} ty {y} m w v =
       c .cells-fit .ensures u _ (ty .properties) (y .cells) w (cells-are _ y _ v) (v .objects)

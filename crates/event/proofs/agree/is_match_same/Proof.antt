@@ -88,7 +88,8 @@ loop-again c = λ s ty xs ys w u v.
     l .inv s ty xs ys w u v ∙ same-more s ty _ _ w (l .k) inside _ _ xs ys _ _ u v is-same (not-false _ (c .if1 .left))
 
 returns-2 : tie.Need-returns-2 Inv-loop μ-loop
-returns-2 c = λ s ty xs ys w u v. sym (c .before .loop .inv s ty xs ys w u v ∙ same-end ty xs ys (c .before .loop .k) (omega (arith, w .count, c .loop-test .left)))
+returns-2 c = λ s ty xs ys w u v. sym (c .before .loop .inv s ty xs ys w u v
+    ∙ same-end ty xs ys (c .before .loop .k) (omega (arith, w .count, c .loop-test .left)))
 
 pub is-match-same-spec : {M : Type 1} → statement M
 is-match-same-spec =

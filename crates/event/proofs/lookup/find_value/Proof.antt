@@ -39,7 +39,8 @@ module _ (c : tie.After-set-at) where
   short : length (to-start c .args .event .now) < 2 ^ 64
   short = omega (arith, to-start c .good)
 
-  objects : {e : Event} → EventIs (to-start c .args .event .now) e (to-start c .args .t2) → c .set-at .result .count ≡ length (getD (e .sets) (to-start c .args .place) [])
+  objects : {e : Event} → EventIs (to-start c .args .event .now) e (to-start c .args .t2) →
+      c .set-at .result .count ≡ length (getD (e .sets) (to-start c .args .place) [])
   objects w = ap (λ (x : SetAt). x .count) (c .set-at .ensures) ∙ w .sets .each (to-start c .args .place) inside .count
 
 index-inside :

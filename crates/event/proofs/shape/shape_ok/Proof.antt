@@ -54,7 +54,8 @@ property-read c z = subst (PropertyIs _ _) (sym (c .before .before .property-at 
 
 fits :
     (c : tie.After-set-fits Inv-loop μ-loop) {table event : List ℕ} (y : EventType) {xs : List (List Text)} {b : Bool} →
-    PropertiesAre table (y .properties) (to-start (to-loop c) .args .count) (numbers c) → SetsAre event xs (to-start (to-loop c) .args .sets .now) → c .set-fits .result ≡ b →
+    PropertiesAre table (y .properties) (to-start (to-loop c) .args .count) (numbers c) → SetsAre event xs (to-start (to-loop c) .args .sets .now) →
+    c .set-fits .result ≡ b →
     let vs = getD xs (to-loop c .loop .k) [] in
     b ≡ atPlace (isEmpty vs) (λ q. setFits q vs) (getElem? (y .properties) (to-loop c .loop .k))
 fits c {table} {event} y {xs} u v e =
@@ -133,7 +134,8 @@ loop-again c =
       omega arith,
       λ table event y x u v n.
           let shape = l .inv .2 table event y x u v n in
-          shape-more y x _ _ (l .k) shape (place-inside asked v) _ _ (count asked v) (fits asked y u v (not-false _ (counted .before .if2 .left))) (matches counted y u v),
+          shape-more y x _ _ (l .k) shape (place-inside asked v) _ _ (count asked v) (fits asked y u v (not-false _ (counted .before .if2 .left)))
+          (matches counted y u v),
     )
 
 returns-4 : tie.Need-returns-4 Inv-loop μ-loop

@@ -18,7 +18,8 @@ use Rattle.event.proofs.spaces.sets_in_space.Tie as tie
 abbrev Inv-loop : tie.InvT-loop
 Inv-loop s sets count properties k₀ k =
     (k ≤ 32)
-    × ((u : List ℕ) (ty : EventType) (xs : List (List Text)) → PropertiesAre u (ty .properties) count properties → KindsAre ty → SetsAre s xs sets → Fit ty xs k)
+    × ((u : List ℕ) (ty : EventType) (xs : List (List Text)) → PropertiesAre u (ty .properties) count properties → KindsAre ty → SetsAre s xs sets →
+    Fit ty xs k)
 
 abbrev μ-loop : tie.MeasureT-loop
 μ-loop s sets count properties k₀ k = 32 - k

@@ -62,7 +62,13 @@ mul-result-6 : tie.Need-mul-result-6
 mul-result-6 c = omega (arith, c .bit-of2 .ensures, bit-small (c .before .before .before .before .before .before .before .args .p .multivalued))
 
 add-result-6 : tie.Need-add-result-6
-add-result-6 c = omega (arith, c .before .bit-of .ensures, bit-small (c .before .before .before .before .before .before .before .args .p .optional), c .bit-of2 .ensures, bit-small (c .before .before .before .before .before .before .before .args .p .multivalued))
+add-result-6 c = omega (
+  arith,
+  c .before .bit-of .ensures,
+  bit-small (c .before .before .before .before .before .before .before .args .p .optional),
+  c .bit-of2 .ensures,
+  bit-small (c .before .before .before .before .before .before .before .args .p .multivalued),
+)
 
 returns : tie.Need-returns
 returns c = search needs

@@ -13,7 +13,8 @@ use Rattle.ontology.proofs.types.all_fit.Statement.{statement}
 use Rattle.ontology.proofs.types.all_fit.Tie as tie
 
 abbrev Inv-loop : tie.InvT-loop
-Inv-loop versioned count properties k₀ k = (s : List ℕ) (qs : List Property) → PropertiesAre s qs count properties → allFit versioned qs ≡ allFit versioned (drop k qs)
+Inv-loop versioned count properties k₀ k = (s : List ℕ) (qs : List Property) → PropertiesAre s qs count properties →
+    allFit versioned qs ≡ allFit versioned (drop k qs)
 
 abbrev μ-loop : tie.MeasureT-loop
 μ-loop versioned count properties k₀ k = count - k

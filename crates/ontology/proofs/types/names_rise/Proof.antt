@@ -51,7 +51,8 @@ returns c = λ qs w.
     let compared = c .before in
     let turn = compared .before .before .before in
     let l = turn .before .loop in
-    let unordered = names-order _ qs _ _ w (l .k) (compared .before .before .property-at .ensures) (compared .before .property-at2 .ensures) (compared .is-before .ensures) in
+    let unordered = names-order _ qs _ _ w (l .k) (compared .before .before .property-at .ensures) (compared .before .property-at2 .ensures)
+    (compared .is-before .ensures) in
     sym (l .inv .1 qs w ∙ rise-not _ qs _ _ w (l .k) (l .inv .0) (turn .loop-test .taken) (sym unordered ∙ not-true _ (c .if1 .taken)))
 
 add-k : tie.Need-add-k Inv-loop μ-loop
@@ -67,7 +68,8 @@ loop-again c =
     let l = turn .before .loop in (
       omega arith,
       λ qs w.
-          let ordered = names-order _ qs _ _ w (l .k) (compared .before .before .property-at .ensures) (compared .before .property-at2 .ensures) (compared .is-before .ensures) in
+          let ordered = names-order _ qs _ _ w (l .k) (compared .before .before .property-at .ensures) (compared .before .property-at2 .ensures)
+          (compared .is-before .ensures) in
           l .inv .1 qs w ∙ rise-more _ qs _ _ w (l .k) (l .inv .0) (turn .loop-test .taken) (sym ordered ∙ not-false _ (c .if1 .left)),
     )
 

@@ -62,7 +62,8 @@ loop-again c =
     let turn = read .before in
     let l = turn .before .loop in
     let stops = property-got (put .before .before .before .p .given .1) (read .read-property .ensures) in
-    filled-more (l .inv) _ _ _ (turn .loop-test .taken) stops (omega (arith, l .inv .size, c .before .properties .given)) (put .put-property .ensures .0) (put .put-property .ensures .1)
+    filled-more (l .inv) _ _ _ (turn .loop-test .taken) stops (omega (arith, l .inv .size, c .before .properties .given)) (put .put-property .ensures .0)
+    (put .put-property .ensures .1)
 
 same-length-2 : tie.Need-same-length-2 Inv-loop μ-loop
 same-length-2 c = c .before .loop .inv .size ∙ sym (to-start (c .before) .pre .2)

@@ -19,7 +19,8 @@ returns : tie.Need-returns
 returns c =
     let taken = c .before .before .before in
     let start = taken .before .before .before .before in
-    λ s ty w. rule-some s ty _ w _ (taken .property-at .ensures) (start .pre .1) (c .before .before .is-replace .ensures) (c .before .is-extreme .ensures) (c .is-max .ensures)
+    λ s ty w. rule-some s ty _ w _ (taken .property-at .ensures) (start .pre .1) (c .before .before .is-replace .ensures) (c .before .is-extreme .ensures)
+    (c .is-max .ensures)
 
 pub rule-of-spec : {M : Type 1} → statement M
 rule-of-spec =

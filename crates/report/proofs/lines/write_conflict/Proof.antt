@@ -50,8 +50,20 @@ write-named-requires c κs =
     let start = to-start (word .before) in
     let w = word .copy .ensures in
     let v = version .write-decimal .ensures in
-    let s = space .copy2 .ensures in
-    (start .pre .0, omega (arith, conflict-length (start .pre .0) (start .args .version .0), start .pre .1, w .after, wrote-length w, v .after, wrote-length v, s .after, wrote-length s))
+    let s = space .copy2 .ensures in (
+      start .pre .0,
+      omega (
+        arith,
+        conflict-length (start .pre .0) (start .args .version .0),
+        start .pre .1,
+        w .after,
+        wrote-length w,
+        v .after,
+        wrote-length v,
+        s .after,
+        wrote-length s,
+      ),
+    )
 
 write-end-requires : tie.Need-write-end-requires
 write-end-requires c κs =
