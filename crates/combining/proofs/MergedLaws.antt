@@ -1,9 +1,10 @@
 -- The laws of writing a combined dossier: its head, and the snapshots of both sides by rising version.
 use mathlib.Core.Path.{_≡_, refl, sym, ap, ap₂, _∙_, subst, subst₂}
-use mathlib.Core.Bool.{Bool, true, false, cond}
+use mathlib.Core.Bool.{true, false, cond}
 use mathlib.Core.List.{List, [], _∷_, _++_, append-assoc, append-nil, map, flatten}
 use Prim.Native.Nat.{ℕ, zero, suc, _+_, _-_, _≤_, _<_, Ordering·lt}
 use native.Mathlib.Omega.{arith}
+use native.Mathlib.Nat.{add-zero}
 use lib.Dec.{leb}
 use lib.ListN.{length, take, drop, getD, length-append, drop-of-length-le, List·getD-map}
 use lib.Seq.{drop-cons, drop-drop, take-at}
@@ -18,7 +19,7 @@ use Rattle.model.proofs.KeyedLaws.{merge-left, merge-right, merge-meet, merge-n
 use Rattle.model.specs.Limits.{fits, standard}
 use Rattle.packed.specs.Packed.{number, part}
 use Rattle.packed.specs.code.Written.{Wrote, ToGo}
-use Rattle.packed.proofs.WriteLaws.{wrote-then, to-go, gone, all-gone, wrote-between, wrote-length}
+use Rattle.packed.proofs.WriteLaws.{wrote-then, wrote-as, to-go, gone, all-gone, wrote-between, wrote-length}
 use Rattle.packed.proofs.ReadLaws.{to-end, stretch}
 use Rattle.values.specs.declared.versions.EventVersion.{EventVersion}
 use Rattle.ontology.specs.Table.{EventType, isVersioned}
@@ -39,7 +40,7 @@ use Rattle.dossier.specs.DossierHead.{dossierHeadBytes}
 use Rattle.combining.proofs.RoomLaws.{combined-parents}
 use Rattle.combining.specs.CombineCall.{headedAs, combined}
 use Rattle.combining.specs.code.CombineIndex.{Combinable, Meet, AgreedRoom, JoinedRoom}
-use Rattle.combining.specs.code.WriteIndex.{SharedRoom, bytesFrom, RestRoom, nextSnapshot, stepBy, nextBytes, NextRoom, HeadsAre, bothHeads}
+use Rattle.combining.specs.code.WriteIndex.{SharedRoom, bytesFrom, RestRoom, HeadsAre, bothHeads}
 use Rattle.combining.proofs.MeetLaws.{versionIn, taken-rises, left-taken, right-taken, meet}
 use Rattle.combining.proofs.CountLaws.{versionAt, version-at}
 use Rattle.combining.proofs.FitLaws.{left-hashes, right-hashes, whole-versions, left-one, right-one}
@@ -131,6 +132,10 @@ module _ (s : List ℕ) (d : DossierIndex) (h : Headed) (w : DossierIs s h d) (i
 
 -- ---- the next snapshot of both sides
 
+-- the first snapshot of two sides that begin with x and y: that of the lower version, or both together
+unfoldable pub nextSnapshot : EventType → Snapshot → Snapshot → Snapshot
+nextSnapshot t x y = pick (numbers .cmp (x .version) (y .version)) x (joinSnapshots (typeView t) x y) y
+
 next-less : (ty : EventType) (x y : Snapshot) → x .version < y .version → nextSnapshot ty x y ≡ x
 unfolding nextSnapshot
 next-less ty x y l = rw (less-cmp (x .version) (y .version) l)
@@ -145,35 +150,17 @@ next-same ty x y e = ap (λ (o : _). pick o x (joinSnapshots (typeView ty) x y) 
 
 -- ---- how far the sides go on
 
-pub step-least : (v w : ℕ) → stepBy v w ≤ 1
-unfolding stepBy
-step-least v w = go (leb v w)
-  where
-    go : (b : Bool) → cond b 1 0 ≤ 1
-    go true = omega arith
-    go false = omega arith
+-- how many snapshots a side of version v goes on by, where the other one has version w
+unfoldable stepBy : ℕ → ℕ → ℕ
+stepBy v w = cond (leb v w) 1 0
 
-pub step-on : (v w : ℕ) → v ≤ w → stepBy v w ≡ 1
+step-on : (v w : ℕ) → v ≤ w → stepBy v w ≡ 1
 unfolding stepBy
 step-on v w h = rw (le-leb v w h)
 
-pub step-none : (v w : ℕ) → w < v → stepBy v w ≡ 0
+step-none : (v w : ℕ) → w < v → stepBy v w ≡ 0
 unfolding stepBy
 step-none v w h = rw (lt-leb v w h)
-
--- one of the sides goes on
-pub step-one : (v w : ℕ) → 1 ≤ stepBy v w + stepBy w v
-step-one v w =
-    three (numbers .cmp v w)
-    (λ l. omega (arith, step-on v w (lt-le (less-of v w l))))
-    (λ e. omega (arith, step-on v w (eq-le (numbers .same v w e))))
-    (λ g. omega (arith, step-on w v (lt-le (less-of w v (more-turn numbers v w g)))))
-  where
-    lt-le : {m n : ℕ} → m < n → m ≤ n
-    lt-le h = omega arith
-
-    eq-le : {m n : ℕ} → m ≡ n → m ≤ n
-    eq-le h = omega arith
 
 -- ---- the snapshots of both sides
 
@@ -249,6 +236,10 @@ module _ {table a b : List ℕ} {d e : DossierIndex} {t : TypeIndex} (c : Combin
   right-rising : (j : ℕ) → Rises (drop j rights)
   right-rising j = rising-drop j rights (taken-rises (right-taken (c .known)))
 
+  -- the bytes of the next snapshot
+  abbrev pub nextBytes : ℕ → ℕ → List ℕ
+  nextBytes i j = snapshotBytes (nextSnapshot (c .known .left .type) (getD lefts i noSnapshot) (getD rights j noSnapshot))
+
   -- one side alone is left
   pub merged-left : (i j : ℕ) → e .count ≤ j → mergedBytes i j ≡ bytesFrom lefts i
   merged-left i j h =
@@ -275,9 +266,9 @@ module _ {table a b : List ℕ} {d e : DossierIndex} {t : TypeIndex} (c : Combin
     rightOne = getD rights j noSnapshot
 
     -- the next one is written, and both sides have gone on
-    pub merged-next :
+    merged-next :
         (x y : ℕ) → x ≡ stepBy (versionAt (d .versions) i) (versionAt (e .versions) j) → y ≡ stepBy (versionAt (e .versions) j) (versionAt (d .versions) i) →
-        mergedBytes i j ≡ nextBytes c i j ++ mergedBytes (i + x) (j + y)
+        mergedBytes i j ≡ nextBytes i j ++ mergedBytes (i + x) (j + y)
     unfolding flatten
     merged-next x y p q =
         ap (λ (ss : List Snapshot). flatten (map snapshotBytes ss))
@@ -286,17 +277,17 @@ module _ {table a b : List ℕ} {d e : DossierIndex} {t : TypeIndex} (c : Combin
         (sym (p ∙ ap₂ stepBy (left-version i l) (right-version j m)))
         (sym (q ∙ ap₂ stepBy (right-version j m) (left-version i l))))
 
-    pub next-left : versionAt (d .versions) i < versionAt (e .versions) j → part a (getD (d .starts) i 0) (getD (d .ends) i 0) ≡ nextBytes c i j
+    pub next-left : versionAt (d .versions) i < versionAt (e .versions) j → part a (getD (d .starts) i 0) (getD (d .ends) i 0) ≡ nextBytes i j
     next-left h =
         c .left-read .snapshots .each i (omega (arith, c .left-read .count)) .bytes
         ∙ ap snapshotBytes (sym (next-less (c .known .left .type) leftOne rightOne (omega (arith, left-version i l, right-version j m))))
 
-    pub next-right : versionAt (e .versions) j < versionAt (d .versions) i → part b (getD (e .starts) j 0) (getD (e .ends) j 0) ≡ nextBytes c i j
+    pub next-right : versionAt (e .versions) j < versionAt (d .versions) i → part b (getD (e .starts) j 0) (getD (e .ends) j 0) ≡ nextBytes i j
     next-right h =
         c .right-read .snapshots .each j (omega (arith, c .right-read .count)) .bytes
         ∙ ap snapshotBytes (sym (next-more (c .known .left .type) leftOne rightOne (omega (arith, left-version i l, right-version j m))))
 
-    module _ (at size : ℕ) (room : at + length (nextBytes c i j) ≤ size) where
+    module _ (at size : ℕ) (room : at + length (nextBytes i j) ≤ size) where
       pub left-there :
           versionAt (d .versions) i < versionAt (e .versions) j →
           (getD (d .starts) i 0 ≤ getD (d .ends) i 0) × (getD (d .ends) i 0 ≤ length a)
@@ -315,7 +306,7 @@ module _ {table a b : List ℕ} {d e : DossierIndex} {t : TypeIndex} (c : Combin
 
     pub next-both :
         versionAt (e .versions) j ≤ versionAt (d .versions) i → versionAt (d .versions) i ≤ versionAt (e .versions) j →
-        snapshotBytes (joinSnapshots (typeView (c .known .left .type)) leftOne rightOne) ≡ nextBytes c i j
+        snapshotBytes (joinSnapshots (typeView (c .known .left .type)) leftOne rightOne) ≡ nextBytes i j
     next-both h k = ap snapshotBytes (sym (next-same (c .known .left .type) leftOne rightOne (one-version h k)))
 
     -- the two of one version meet where they start
@@ -337,7 +328,7 @@ module _ {table a b : List ℕ} {d e : DossierIndex} {t : TypeIndex} (c : Combin
         subst (λ (n : ℕ). SnapshotIs (take (length b - getD (e .starts) n 0) (drop (getD (e .starts) n 0) b)) (getD rights n noSnapshot) (e .first)) z (first-stands b (c .known .right .headed) e (c .right-read))
 
     pub shared-room :
-        (at size : ℕ) → at + length (nextBytes c i j) ≤ size →
+        (at size : ℕ) → at + length (nextBytes i j) ≤ size →
         versionAt (e .versions) j ≤ versionAt (d .versions) i → versionAt (d .versions) i ≤ versionAt (e .versions) j →
         SharedRoom table (take (length a - getD (d .starts) i 0) (drop (getD (d .starts) i 0) a)) (d .first) (take (length b - getD (e .starts) j 0) (drop (getD (e .starts) j 0) b)) (e .first) t at size
     shared-room at size room h k = record {
@@ -361,16 +352,11 @@ module _ {table a b : List ℕ} {d e : DossierIndex} {t : TypeIndex} (c : Combin
       pub right-room : d .count ≤ i → RestRoom b e j next (length l)
       right-room h = record { what = c .known .right .headed; is = c .right-read; room = omega (arith, g .after, g .long, ap length (merged-right i j h)) }
 
-      pub next-room : i < d .count → j < e .count → NextRoom table a d i b e j t next (length l)
+      pub next-room : i < d .count → j < e .count → next + length (nextBytes i j) ≤ length l
       next-room p q =
           let x = stepBy (versionAt (d .versions) i) (versionAt (e .versions) j) in
           let y = stepBy (versionAt (e .versions) j) (versionAt (d .versions) i) in
-          record {
-            both = c;
-            left-in = p;
-            right-in = q;
-            room = omega (arith, g .after, g .long, ap length (merged-next i j p q x y refl refl), length-append (nextBytes c i j) (mergedBytes (i + x) (j + y)));
-          }
+          omega (arith, g .after, g .long, ap length (merged-next i j p q x y refl refl), length-append (nextBytes i j) (mergedBytes (i + x) (j + y)))
 
     pub left-wrote : {l₁ : List ℕ} {to : ℕ} → e .count ≤ j → Wrote l next (bytesFrom lefts i) l₁ to → Wrote l₀ at snapshotsPart l₁ to
     left-wrote h w = all-gone (gone (bytesFrom lefts i) [] g (merged-left i j h ∙ sym (append-nil (bytesFrom lefts i))) w) refl
@@ -378,11 +364,35 @@ module _ {table a b : List ℕ} {d e : DossierIndex} {t : TypeIndex} (c : Combin
     pub right-wrote : {l₁ : List ℕ} {to : ℕ} → d .count ≤ i → Wrote l next (bytesFrom rights j) l₁ to → Wrote l₀ at snapshotsPart l₁ to
     right-wrote h w = all-gone (gone (bytesFrom rights j) [] g (merged-right i j h ∙ sym (append-nil (bytesFrom rights j))) w) refl
 
-    pub next-wrote :
+    next-wrote :
         {l₁ : List ℕ} {to : ℕ} (x y : ℕ) → i < d .count → j < e .count →
         x ≡ stepBy (versionAt (d .versions) i) (versionAt (e .versions) j) → y ≡ stepBy (versionAt (e .versions) j) (versionAt (d .versions) i) →
-        Wrote l next (nextBytes c i j) l₁ to → ToGo l₀ at snapshotsPart l₁ to (mergedBytes (i + x) (j + y))
-    next-wrote x y p q u v w = gone (nextBytes c i j) (mergedBytes (i + x) (j + y)) g (merged-next i j p q x y u v) w
+        Wrote l next (nextBytes i j) l₁ to → ToGo l₀ at snapshotsPart l₁ to (mergedBytes (i + x) (j + y))
+    next-wrote x y p q u v w = gone (nextBytes i j) (mergedBytes (i + x) (j + y)) g (merged-next i j p q x y u v) w
+
+    -- the left one is lower, the right one is, or both are of one version
+    abbrev v : ℕ
+    v = versionAt (d .versions) i
+
+    abbrev w : ℕ
+    w = versionAt (e .versions) j
+
+    module _ {l₁ : List ℕ} {to : ℕ} (p : i < d .count) (q : j < e .count) where
+      pub left-turn : v < w → Wrote l next (part a (getD (d .starts) i 0) (getD (d .ends) i 0)) l₁ to → ToGo l₀ at snapshotsPart l₁ to (mergedBytes (i + 1) j)
+      left-turn h o =
+          subst (λ (n : ℕ). ToGo l₀ at snapshotsPart l₁ to (mergedBytes (i + 1) n)) (add-zero j)
+          (next-wrote 1 0 p q (sym (step-on v w (omega arith))) (sym (step-none w v h)) (wrote-as (next-left i j p q h) o))
+
+      pub right-turn : w < v → Wrote l next (part b (getD (e .starts) j 0) (getD (e .ends) j 0)) l₁ to → ToGo l₀ at snapshotsPart l₁ to (mergedBytes i (j + 1))
+      right-turn h o =
+          subst (λ (n : ℕ). ToGo l₀ at snapshotsPart l₁ to (mergedBytes n (j + 1))) (add-zero i)
+          (next-wrote 0 1 p q (sym (step-none v w h)) (sym (step-on w v (omega arith))) (wrote-as (next-right i j p q h) o))
+
+      pub both-turn :
+          w ≤ v → v ≤ w →
+          Wrote l next (snapshotBytes (joinSnapshots (typeView (c .known .left .type)) (getD lefts i noSnapshot) (getD rights j noSnapshot))) l₁ to →
+          ToGo l₀ at snapshotsPart l₁ to (mergedBytes (i + 1) (j + 1))
+      both-turn h k o = next-wrote 1 1 p q (sym (step-on v w k)) (sym (step-on w v h)) (wrote-as (next-both i j p q h k) o)
 
   pub merged-to-go : {l : List ℕ} {at : ℕ} → ToGo l at snapshotsPart l at (mergedBytes 0 0)
   merged-to-go {l} {at} = subst (λ (z : List ℕ). ToGo l at snapshotsPart l at z) merged-all to-go

@@ -1,4 +1,3 @@
-ghost use mathlib.Core.Path.{_≡_};
 ghost use mathlib.Core.List.{map, flatten};
 ghost use lib.ListN.{length};
 ghost use Rattle.model.specs.Rule.{Snapshot, joinSnapshots};
@@ -13,7 +12,7 @@ ghost use Rattle.dossier.specs.code.DossierIndex.{DossierIs};
 ghost use Rattle.dossier.specs.DossierHead.{dossierHeadBytes};
 ghost use Rattle.combining.specs.CombineCall.{headedAs, combined};
 ghost use Rattle.combining.specs.code.CombineIndex.{Combinable, Meet};
-ghost use Rattle.combining.specs.code.WriteIndex.{SharedRoom, bytesFrom, RestRoom, stepBy, nextBytes, NextRoom, SnapshotsRoom, bothHeads, HeadsAre, HeadsRoom, CombinedRoom};
+ghost use Rattle.combining.specs.code.WriteIndex.{SharedRoom, bytesFrom, RestRoom, SnapshotsRoom, bothHeads, HeadsAre, HeadsRoom, CombinedRoom};
 use crate::agreed::write_agreed;
 use crate::joined::write_joined;
 use crate::limits::count_versions;
@@ -26,7 +25,6 @@ use ontology::types::TypeIndex;
 use packed::write::copy_part;
 use packed::write::write_number;
 use unions::pair::write_hash_union;
-use values::versions::EventVersion;
 
 // Writes what two snapshots of one version, at the front of a and b, are together. Unversioned ones stand there as the indexes say.
 fn write_shared<'a>(
@@ -61,47 +59,7 @@ fn write_rest(s: &[u8], d: DossierIndex, i: usize, out: &mut [u8], at: usize) ->
     copy_part(s, start, end, out, at)
 }
 
-// The next snapshot: that of the lower version as it stands, or what two of one version are together.
-fn write_next<'a>(
-    table: &[u8],
-    a: &'a [u8],
-    d: DossierIndex,
-    i: usize,
-    b: &'a [u8],
-    e: DossierIndex,
-    j: usize,
-    t: TypeIndex,
-    out: &mut [u8],
-    at: usize,
-) -> usize
-    requires { ⌜ NextRoom (now table) (now a) d i (now b) e j t at (length (now out)) ⌝ }
-    ensures { λ r. ⌜ ((h : Combinable (now (table .entry)) (now (a .entry)) d (now (b .entry)) e t) → Wrote (now (out .entry)) at (nextBytes h i j) (now (out .exit)) r) ⌝ }
-{
-    let left_start = d.starts[i];
-    let right_start = e.starts[j];
-    let v = d.versions[i];
-    let w = e.versions[j];
-    if v.0 < w.0 {
-        let end = d.ends[i];
-        return copy_part(a, left_start, end, out, at);
-    }
-    if w.0 < v.0 {
-        let end = e.ends[j];
-        return copy_part(b, right_start, end, out, at);
-    }
-    let x = d.first;
-    let y = e.first;
-    write_shared(table, &a[left_start..], x, &b[right_start..], y, t, out, at)
-}
-
-// How many snapshots a side of version v goes on by, where the other one has version w.
-fn step_by(v: EventVersion, w: EventVersion) -> usize
-    ensures { λ r. ⌜ r ≡ stepBy (v .0) (w .0) ⌝ }
-{
-    if v.0 <= w.0 { 1 } else { 0 }
-}
-
-// The snapshots of both sides by rising version.
+// The snapshots of both sides by rising version: that of the lower version as it stands, and two of one version together.
 fn write_snapshots<'a>(
     table: &[u8],
     a: &'a [u8],
@@ -122,11 +80,23 @@ fn write_snapshots<'a>(
         if e.count <= j {
             return write_rest(a, d, i, out, next);
         }
-        next = write_next(table, a, d, i, b, e, j, t, out, next);
         let v = d.versions[i];
         let w = e.versions[j];
-        i += step_by(v, w);
-        j += step_by(w, v);
+        let left = d.starts[i];
+        let right = e.starts[j];
+        if v.0 < w.0 {
+            next = copy_part(a, left, d.ends[i], out, next);
+            i += 1;
+        } else if w.0 < v.0 {
+            next = copy_part(b, right, e.ends[j], out, next);
+            j += 1;
+        } else {
+            let x = d.first;
+            let y = e.first;
+            next = write_shared(table, &a[left..], x, &b[right..], y, t, out, next);
+            i += 1;
+            j += 1;
+        }
     }
     write_rest(b, e, j, out, next)
 }

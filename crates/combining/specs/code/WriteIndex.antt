@@ -1,11 +1,10 @@
 -- What is still to be written of a combined dossier, as the code has it.
-use Prim.Native.Nat.{ℕ, _+_, _≤_, _<_}
+use Prim.Native.Nat.{ℕ, _+_, _≤_}
 use mathlib.Core.Path.{_≡_}
-use mathlib.Core.Bool.{true, cond}
+use mathlib.Core.Bool.{true}
 use mathlib.Core.List.{List, map, flatten}
-use lib.ListN.{length, drop, getD}
-use lib.Dec.{leb}
-use Rattle.model.specs.Order.{texts, numbers, rising, pick, Text}
+use lib.ListN.{length, drop}
+use Rattle.model.specs.Order.{texts, rising, Text}
 use Rattle.model.specs.Sets.{union}
 use Rattle.model.specs.Rule.{Snapshot, joinSnapshots}
 use Rattle.model.specs.Limits.{standard, fits}
@@ -19,7 +18,7 @@ use Rattle.event.specs.code.EventIndex.{HeadIs}
 use Rattle.unions.specs.code.Runs.{Hashes}
 use Rattle.dossier.specs.DossierLayout.{Headed, dossierBytes}
 use Rattle.dossier.specs.DossierBody.{snapshotBytes}
-use Rattle.dossier.specs.code.DossierIndex.{noSnapshot, SnapshotIs, DossierIs}
+use Rattle.dossier.specs.code.DossierIndex.{SnapshotIs, DossierIs}
 use Rattle.dossier.specs.declared.snapshots.SnapshotIndex.{SnapshotIndex}
 use Rattle.dossier.specs.declared.dossiers.DossierIndex.{DossierIndex}
 use Rattle.dossier.specs.DossierHead.{dossierHeadBytes}
@@ -46,27 +45,6 @@ pub record RestRoom (s : List ℕ) (d : DossierIndex) (i at size : ℕ) : Type 0
   pub what : Headed
   pub is : DossierIs s what d
   pub room : at + length (bytesFrom (what .snapshots) i) ≤ size
-
--- the first snapshot of two sides that begin with x and y: that of the lower version, or both together
-unfoldable pub nextSnapshot : EventType → Snapshot → Snapshot → Snapshot
-nextSnapshot t x y = pick (numbers .cmp (x .version) (y .version)) x (joinSnapshots (typeView t) x y) y
-
--- how many snapshots a side of version v goes on by, where the other one has version w
-unfoldable pub stepBy : ℕ → ℕ → ℕ
-stepBy v w = cond (leb v w) 1 0
-
--- the bytes of the next snapshot, where the sides have come to their i-th and their j-th
-abbrev pub nextBytes : {table a b : List ℕ} {d e : DossierIndex} {t : TypeIndex} → Combinable table a d b e t → ℕ → ℕ → List ℕ
-nextBytes h i j =
-    let left = h .known .left in
-    let right = h .known .right in
-    snapshotBytes (nextSnapshot (left .type) (getD (left .headed .snapshots) i noSnapshot) (getD (right .headed .snapshots) j noSnapshot))
-
-pub record NextRoom (table a : List ℕ) (d : DossierIndex) (i : ℕ) (b : List ℕ) (e : DossierIndex) (j : ℕ) (t : TypeIndex) (at size : ℕ) : Type 0 where
-  pub both : Combinable table a d b e t
-  pub left-in : i < d .count
-  pub right-in : j < e .count
-  pub room : at + length (nextBytes both i j) ≤ size
 
 -- the left one of two heads, with the parents of both
 abbrev pub bothHeads : Head → Head → Head
