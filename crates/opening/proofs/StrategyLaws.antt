@@ -4,7 +4,7 @@ use mathlib.Core.Bool.{Bool}
 use mathlib.Core.List.{List}
 use Prim.Native.Nat.{ℕ, _<_}
 use native.Mathlib.Omega.{arith}
-use lib.ListN.{getD, getElem?}
+use lib.ListN.{getElem?}
 use Rattle.ontology.specs.Table.{Property, EventType}
 use Rattle.ontology.specs.code.TypeIndex.{PropertyIs, propertyIn, hasMax, hasExtreme, hasReplace, TypeIs}
 use Rattle.ontology.specs.declared.properties.PropertyAt.{PropertyAt}
@@ -21,7 +21,7 @@ module _
   abbrev pub ruleFrom : PlaceRule
   ruleFrom = record { replaces = replaces; extreme = extreme; largest = largest; kind = x .kind }
 
-  rule-from : (s : List ℕ) (q : Property) → PropertyIs s q x → RuleOf q ruleFrom
+  pub rule-from : (s : List ℕ) (q : Property) → PropertyIs s q x → RuleOf q ruleFrom
   rule-from s q w = record {
     replaces = a ∙ replace-of w;
     extreme = b ∙ extreme-of w;
@@ -33,13 +33,11 @@ module _ (s : List ℕ) (ty : EventType) (t : TypeIndex) (w : TypeIs s ty t) (k 
   pub place : k < t .count → Elem (ty .properties) k
   place h = elem (ty .properties) k (omega (arith, w .are .count))
 
-  module _ {x : PropertyAt} (same : x ≡ propertyIn (t .properties) k) (h : k < t .count) where
-    pub rule-some :
-        {replaces extreme largest : Bool}
-        (a : replaces ≡ hasReplace x) (b : extreme ≡ hasExtreme x) (c : largest ≡ hasMax x) →
-        RuleIs (getElem? (ty .properties) k) (ruleFrom x a b c)
-    rule-some a b c = record {
-      what = place h .what;
-      is = place h .is;
-      rule = rule-from x a b c s (place h .what) (subst (PropertyIs s (place h .what)) (sym same) (w .are .each k (place h .what) (place h .is)));
-    }
+  pub rule-at :
+      {x : PropertyAt} {r : PlaceRule} → k < t .count → x ≡ propertyIn (t .properties) k →
+      ((u : List ℕ) (q : Property) → PropertyIs u q x → RuleOf q r) → RuleIs (getElem? (ty .properties) k) r
+  rule-at h same rule = record {
+    what = place h .what;
+    is = place h .is;
+    rule = rule s (place h .what) (subst (PropertyIs s (place h .what)) (sym same) (w .are .each k (place h .what) (place h .is)));
+  }

@@ -1,6 +1,6 @@
 ghost use Prim.Native.Nat.{ℕ, _<_, _≤_};
 ghost use mathlib.Core.Path.{_≡_};
-ghost use mathlib.Core.Bool.{Bool, _&&_};
+ghost use mathlib.Core.Bool.{_&&_};
 ghost use mathlib.Core.List.{List, [], map, flatten};
 ghost use lib.ListN.{length, take, getD, getElem?};
 ghost use lib.Dec.{leb};
@@ -145,7 +145,8 @@ pub fn plan_sets(s: &[u8], cells: &[usize], n: usize, t: TypeIndex, plan: &mut [
     let mut p: usize = 0;
     while p < 32 {
         if p < t.count {
-            put_place(plan, p, merged_at(s, cells, p, n, rule_of(t, p)));
+            let rule = rule_of(property_at(&t.properties, p));
+            put_place(plan, p, merged_at(s, cells, p, n, rule));
         } else {
             put_place(plan, p, PlaceMerged::Stands(none));
         }

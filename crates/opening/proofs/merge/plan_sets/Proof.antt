@@ -9,16 +9,17 @@ use Rattle.ontology.specs.Table.{EventType}
 use Rattle.ontology.specs.code.TypeIndex.{TypeIs}
 use Rattle.opening.specs.code.OpenIndex.{Mergeable}
 use Rattle.opening.proofs.MergeLaws.{stands-empty}
+use Rattle.opening.proofs.StrategyLaws.{rule-at}
 use Rattle.opening.proofs.PlanLaws.{place-length, PlannedTo, planned-none, planned-more, planned-all}
 use Rattle.opening.proofs.merge.plan_sets.Statement.{statement}
 use Rattle.opening.proofs.merge.plan_sets.Tie as tie
 
 abbrev Inv-loop : tie.InvT-loop
-Inv-loop s cells n t plan₀ none p₀ plan p =
+Inv-loop s cells n plan₀ t none p₀ plan p =
     (length plan ≡ 128) × ((u : List ℕ) (ty : EventType) (d : Dossier) → TypeIs u ty t → Mergeable s cells n ty d → PlannedTo s plan ty d p)
 
 abbrev μ-loop : tie.MeasureT-loop
-μ-loop s cells n t plan₀ none p₀ plan p = 32 - p
+μ-loop s cells n plan₀ t none p₀ plan p = 32 - p
 
 -- ---- the places
 
@@ -26,7 +27,7 @@ abbrev to-start : tie.At-loop Inv-loop μ-loop → tie.Start Inv-loop μ-loop
 to-start c = c .before .before .before .before
 
 abbrev to-turn : tie.After-merged-at Inv-loop μ-loop → tie.In-loop Inv-loop μ-loop
-to-turn c = c .before .before .before .before .before
+to-turn c = c .before .before .before .before .before .before .before .before
 
 -- ---- the needs
 
@@ -34,6 +35,9 @@ loop-holds : tie.Need-loop-holds Inv-loop μ-loop
 loop-holds c =
     let start = c .before .before .before in
     (start .pre .4, λ u ty d w m. planned-none _ _ ty d)
+
+property-at-requires : tie.Need-property-at-requires Inv-loop μ-loop
+property-at-requires c κs = search needs
 
 rule-of-requires : tie.Need-rule-of-requires Inv-loop μ-loop
 rule-of-requires c κs = search needs
@@ -48,7 +52,7 @@ put-place-requires c κs =
 
 put-place-requires-2 : tie.Need-put-place-requires-2 Inv-loop μ-loop
 put-place-requires-2 c κs =
-    let turn = c .before .before .before in
+    let turn = c .before .before in
     (turn .before .loop .inv .0, turn .loop-test .taken)
 
 add-p : tie.Need-add-p Inv-loop μ-loop
@@ -59,17 +63,19 @@ loop-less c = search needs
 
 loop-again : tie.Need-loop-again Inv-loop μ-loop
 loop-again c =
-    let turn = c .before .before in
+    let turn = c .before in
     let h = turn .loop-test .taken in
     let inv = turn .before .loop .inv in (
       ⊎-elim
-          (λ x. place-length _ _ _ (x .7 ∙ x .4 .ensures) ∙ inv .0)
+          (λ x. place-length _ _ _ (x .11 ∙ x .8 .ensures) ∙ inv .0)
           (λ y. place-length _ _ _ (y .5 ∙ y .2 .ensures) ∙ inv .0)
           (c .if1 .came),
       λ u ty d w m.
           let before = inv .1 u ty d w m in
           ⊎-elim
-          (λ x. planned-more _ _ ty d _ _ (inv .0) h before (x .3 .ensures ty d m (x .2 .ensures u ty w)) (x .7 ∙ x .4 .ensures))
+          (λ x.
+              let rule = rule-at u ty _ w _ (x .0 .taken) (x .4 .ensures) (x .5 .ensures) in
+              planned-more _ _ ty d _ _ (inv .0) h before (x .7 .ensures ty d m rule) (x .11 ∙ x .8 .ensures))
           (λ y. planned-more _ _ ty d _ _ (inv .0) h before (stands-empty _ _ u _ ty _ d _ w m (y .0 .left)) (y .5 ∙ y .2 .ensures))
           (c .if1 .came),
     )
@@ -87,6 +93,7 @@ plan-sets-spec =
     Inv-loop
     μ-loop
     loop-holds
+    property-at-requires
     rule-of-requires
     merged-at-requires
     put-place-requires
