@@ -3,10 +3,10 @@ ghost use mathlib.Core.List.{List};
 ghost use Rattle.ontology.specs.Table.{Property};
 ghost use Rattle.ontology.specs.code.TypeIndex.{PropertyIs};
 ghost use Rattle.opening.specs.code.OpenIndex.{RuleOf};
+use ontology::properties::PropertyAt;
 use ontology::properties::is_extreme;
 use ontology::properties::is_max;
 use ontology::properties::is_replace;
-use ontology::properties::PropertyAt;
 
 // How the sets of a place are merged: the last one, the smallest or the largest value by the order of a kind, or the union.
 pub struct PlaceRule {

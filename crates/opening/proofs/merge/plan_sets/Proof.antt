@@ -74,8 +74,8 @@ loop-again c =
           let before = inv .1 u ty d w m in
           ⊎-elim
           (λ x.
-              let rule = rule-at u ty _ w _ (x .0 .taken) (x .4 .ensures) (x .5 .ensures) in
-              planned-more _ _ ty d _ _ (inv .0) h before (x .7 .ensures ty d m rule) (x .11 ∙ x .8 .ensures))
+          let rule = rule-at u ty _ w _ (x .0 .taken) (x .4 .ensures) (x .5 .ensures) in
+          planned-more _ _ ty d _ _ (inv .0) h before (x .7 .ensures ty d m rule) (x .11 ∙ x .8 .ensures))
           (λ y. planned-more _ _ ty d _ _ (inv .0) h before (stands-empty _ _ u _ ty _ d _ w m (y .0 .left)) (y .5 ∙ y .2 .ensures))
           (c .if1 .came),
     )
