@@ -18,20 +18,17 @@ use Rattle.model.proofs.StepLaws.{join-map, join-at}
 use Rattle.packed.specs.Packed.{number}
 use Rattle.packed.specs.code.Written.{Wrote}
 use Rattle.packed.proofs.WriteLaws.{wrote-then, wrote-as}
+use Rattle.values.specs.declared.versions.EventVersion.{EventVersion}
 use Rattle.ontology.specs.Table.{EventType, isVersioned}
 use Rattle.event.specs.Event.{typeView, eventView}
 use Rattle.event.specs.EventLayout.{presenceBit, bitNumber, setBytes, setsBytes}
 use Rattle.event.specs.code.EventIndex.{SetIs, bitOf, setIn}
-use Rattle.event.specs.declared.sets.SetAt.{SetAt}
 use Rattle.event.specs.code.SetWriting.{placeBytes, presentBytes}
 use Rattle.event.proofs.SetWriteLaws.{present-nil, present-cons}
-use Rattle.dossier.specs.DossierBody.{differBit, readSnapshot, snapshotBytes}
-use Rattle.dossier.specs.code.DossierIndex.{CellsAre, SnapshotIs, SnapshotReads}
-use Rattle.dossier.specs.declared.snapshots.SnapshotIndex.{SnapshotIndex}
+use Rattle.dossier.specs.DossierBody.{differBit, snapshotBytes}
+use Rattle.dossier.specs.code.DossierIndex.{CellsAre}
 use Rattle.dossier.proofs.CellLaws.{held-at, bit-here, bits-next}
-use Rattle.dossier.proofs.AskLaws.{reads-got}
-use Rattle.dossier.proofs.VersionLaws.{cells-are}
-use Rattle.combining.specs.code.CombineIndex.{Meet}
+use Rattle.combining.specs.code.CombineIndex.{Shared}
 use Rattle.combining.specs.code.AgreedIndex.{isAgreed, isFilled, PlacesAre}
 use Rattle.combining.specs.declared.agreed.Places.{Places}
 
@@ -230,38 +227,31 @@ module _
   differ-is : (found : Places) → PlacesAre joined found → bitNumber (map bitOf (found .marked)) ≡ bitNumber (map differBit joined)
   differ-is found are = ap (λ (l : List Bool). bitNumber (map bitOf l)) (are .marked) ∙ ap bitNumber (mark-bits joined)
 
--- Two snapshots of one type that were read, with the presence and the differ number of what they are together
-pub record BothRead (a b : List ℕ) (i j : SnapshotIndex) (presence differ : ℕ) (ty : EventType) (left right : Snapshot) : Type 0 where
+-- Two versioned snapshots of one version, with the presence and the differ number of what they are together
+pub record Both
+    (version : EventVersion) (a x : List ℕ) (m : ℕ) (b y : List ℕ) (n presence differ : ℕ) (ty : EventType) (left right : Snapshot) : Type 0 where
   pub versioned : isVersioned ty ≡ true
-  pub left-is : SnapshotIs a left i
-  pub right-is : SnapshotIs b right j
+  pub shared : Shared version a x m b y n ty left right
   pub present : presence ≡ bitNumber (map presenceBit (map held (joinSnapshots (typeView ty) left right .cells)))
   pub marked : differ ≡ bitNumber (map differBit (joinSnapshots (typeView ty) left right .cells))
 
-pub both-read :
-    (a b : List ℕ) (i j : SnapshotIndex) (found : Places) (presence differ : ℕ) →
-    SnapshotReads (readSnapshot a) a i → SnapshotReads (readSnapshot b) b j →
-    ((ty : EventType) (left right : Snapshot) → isVersioned ty ≡ true → SnapshotIs a left i → SnapshotIs b right j →
-    PlacesAre (joinSnapshots (typeView ty) left right .cells) found) →
-    presence ≡ bitNumber (map bitOf (found .present)) → differ ≡ bitNumber (map bitOf (found .marked)) →
-    (ty : EventType) (left right : Snapshot) → isVersioned ty ≡ true → Meet a b ty left right → BothRead a b i j presence differ ty left right
-both-read a b i j found presence differ r s places p q ty left right v m =
-    let x = reads-got (readSnapshot a) a i left (m .left-rest) r (m .left-read) in
-    let y = reads-got (readSnapshot b) b j right (m .right-rest) s (m .right-read) in
-    let are = places ty left right v x y in
-    let c = cells-are a left i x in
-    let d = cells-are b right j y in
-    record {
-      versioned = v;
-      left-is = x;
-      right-is = y;
-      present = p ∙ presence-is a b (i .differ) (j .differ) (i .sets) (j .sets) ty left right v c d found are;
-      marked = q ∙ differ-is a b (i .differ) (j .differ) (i .sets) (j .sets) ty left right v c d found are;
-    }
+module _
+    {version : EventVersion} {a x : List ℕ} {m : ℕ} {b y : List ℕ} {n : ℕ} {ty : EventType} {left right : Snapshot}
+    (v : isVersioned ty ≡ true) (w : Shared version a x m b y n ty left right) where
+  pub both-found :
+      {presence differ : ℕ} (found : Places) → PlacesAre (joinSnapshots (typeView ty) left right .cells) found →
+      presence ≡ bitNumber (map bitOf (found .present)) → differ ≡ bitNumber (map bitOf (found .marked)) →
+      Both version a x m b y n presence differ ty left right
+  both-found found are p q = record {
+    versioned = v;
+    shared = w;
+    present = p ∙ presence-is a b m n x y ty left right v (w .left-is) (w .right-is) found are;
+    marked = q ∙ differ-is a b m n x y ty left right v (w .left-is) (w .right-is) found are;
+  }
 
 module _
-    {a b : List ℕ} {i j : SnapshotIndex} {presence differ : ℕ} {ty : EventType} {left right : Snapshot}
-    (w : BothRead a b i j presence differ ty left right) where
+    {version : EventVersion} {a x : List ℕ} {m : ℕ} {b y : List ℕ} {n presence differ : ℕ} {ty : EventType} {left right : Snapshot}
+    (w : Both version a x m b y n presence differ ty left right) where
   abbrev cells : List Cell
   cells = joinSnapshots (typeView ty) left right .cells
 
@@ -278,18 +268,18 @@ module _
       ap (λ (n : ℕ). presentBytes n (map held (left .cells))) (w .present)
       ∙ joins-bytes (typeView ty) (w .versioned) (places (typeView ty)) (left .cells) (right .cells)
 
-  parts : number (i .version .0) ++ number presence ++ number differ ++ kept ≡ joined-bytes
+  parts : number (version .0) ++ number presence ++ number differ ++ kept ≡ joined-bytes
   unfolding snapshotBytes joinSnapshots
   parts =
-      ap₂ (λ (n m : ℕ). number n ++ number m ++ number differ ++ kept) (w .left-is .version) (w .present)
+      ap₂ (λ (v p : ℕ). number v ++ number p ++ number differ ++ kept) (w .shared .number) (w .present)
       ∙ ap₂ (λ (n : ℕ) (l : List ℕ). number (left .version) ++ number (bitNumber (map presenceBit (map held cells))) ++ number n ++ l) (w .marked) kept-is
 
-  pub both-length : length joined-bytes ≡ length (number (i .version .0)) + length (number presence) + length (number differ) + length kept
+  pub both-length : length joined-bytes ≡ length (number (version .0)) + length (number presence) + length (number differ) + length kept
   both-length = ap length (sym parts) ∙ simp length-append
 
   pub wrote-both :
       {l l₁ l₂ l₃ l₄ : List ℕ} {at after-version after-presence after-differ next : ℕ} →
-      Wrote l at (number (i .version .0)) l₁ after-version → Wrote l₁ after-version (number presence) l₂ after-presence →
+      Wrote l at (number (version .0)) l₁ after-version → Wrote l₁ after-version (number presence) l₂ after-presence →
       Wrote l₂ after-presence (number differ) l₃ after-differ → Wrote l₃ after-differ kept l₄ next →
       Wrote l at joined-bytes l₄ next
   wrote-both o p q r = wrote-as parts (wrote-then (wrote-then (wrote-then o p) q) r)

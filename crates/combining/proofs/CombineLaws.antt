@@ -24,7 +24,7 @@ use Rattle.ontology.proofs.TypeIndexLaws.{table-refused, table-got, type-says, 
 use Rattle.event.specs.Event.{typeView}
 use Rattle.dossier.specs.DossierLayout.{Headed, dossierOf, dossierBytes}
 use Rattle.dossier.specs.DossierQuestions.{TypedDossier, dossierAsked, dossiersAgree}
-use Rattle.dossier.specs.code.DossierIndex.{DossierIs, IsDossier, DossierReads, DossierAnswers}
+use Rattle.dossier.specs.code.DossierIndex.{DossierIs, RowsAre, IsDossier, DossierReads, DossierAnswers}
 use Rattle.dossier.specs.declared.dossiers.DossierIndex.{DossierIndex}
 use Rattle.dossier.specs.declared.questions.DossierAsked.{DossierAsked}
 use Rattle.dossier.proofs.AnswerLaws.{reads-is}
@@ -50,11 +50,12 @@ module _ (table : List ℕ) (name : Text) (r : TableRead) (says : TableSays (tab
 -- ---- questions 3 to 6
 
 -- a dossier of which they are answered yes
-pub record Taken (table : List ℕ) (types : Table) (s : List ℕ) (d : DossierIndex) (t : TypeIndex) : Type 0 where
+pub record Taken (table : List ℕ) (types : Table) (s : List ℕ) (d : DossierIndex) (rows : List ℕ) (t : TypeIndex) : Type 0 where
   pub what : TypedDossier
   pub asked : dossierAsked standard types s ≡ accepted what
   pub typed : TypeIs table (what .type) t
   pub stands : DossierIs s (what .headed) d
+  pub in-rows : RowsAre s (what .headed .snapshots) rows
 
 -- what `ask_dossier` answers
 abbrev Asks : List ℕ → DossierIndex → TableRead → DossierAsked → Type 0
@@ -63,80 +64,102 @@ Asks s d read r =
     DossierAnswers (dossierAsked standard ts s) table r
 
 module _
-    (table s : List ℕ) (k : Tabled table) (d : DossierIndex) (w : DossierReads (dossierOf standard s) s d)
+    (table s : List ℕ) (k : Tabled table) (d : DossierIndex) (rows : List ℕ) (w : DossierReads (dossierOf standard s) s rows d)
     (name : Text) (names : (h : Headed) → DossierIs s h d → name ≡ h .head .type)
     (read : TableRead) (says : TableSays (tableOf table) table name read)
     (r : DossierAsked) (asks : Asks s d read r) where
   answers : DossierAnswers (dossierAsked standard (k .types) s) table r
-  answers = asks table (k .types) (k .is) (λ h i. subst (λ (n : Text). TypeSays (typeNamed n (k .types)) table read) (names h i) (type-says table name read (k .types) (k .is) says))
+  answers =
+      asks table (k .types) (k .is)
+      (λ h i. subst (λ (n : Text). TypeSays (typeNamed n (k .types)) table read) (names h i) (type-says table name read (k .types) (k .is) says))
 
   pub refused-by : (r .number ≡ 0 → ⊥) → dossierAsked standard (k .types) s ≡ refused (r .number)
   refused-by ne = asked-refused (k .types) table s r answers ne
 
-  pub taken-by : r .number ≡ 0 → Taken table (k .types) s d (r .«event_type»)
+  pub taken-by : r .number ≡ 0 → Taken table (k .types) s d rows (r .«event_type»)
   taken-by e =
       let a = asked-accepted (k .types) table s r answers e in
-      record { what = a .what; asked = a .asked; typed = a .typed; stands = reads-is s d (a .what .headed) w (dossier-taken (k .types) s (a .what) (a .asked) .read) }
+      let is = reads-is s rows d (a .what .headed) w (dossier-taken (k .types) s (a .what) (a .asked) .read) in
+      record { what = a .what; asked = a .asked; typed = a .typed; stands = is .0; in-rows = is .1 }
 
 -- ---- question 7
 
 -- both dossiers were asked questions 3 to 6
-pub record BothTaken (table a : List ℕ) (d : DossierIndex) (b : List ℕ) (e : DossierIndex) (t : TypeIndex) : Type 0 where
+pub record BothTaken
+    (table a : List ℕ) (d : DossierIndex) (left b : List ℕ) (e : DossierIndex) (right : List ℕ) (t : TypeIndex) : Type 0 where
   pub known : Tabled table
   pub right-type : TypeIndex
-  pub left : Taken table (known .types) a d t
-  pub right : Taken table (known .types) b e right-type
+  pub left-taken : Taken table (known .types) a d left t
+  pub right-taken : Taken table (known .types) b e right right-type
 
-abbrev pub both-taken : {table a b : List ℕ} {d e : DossierIndex} {t u : TypeIndex} (k : Tabled table) → Taken table (k .types) a d t → Taken table (k .types) b e u → BothTaken table a d b e t
-both-taken {u = u} k x y = record { known = k; right-type = u; left = x; right = y }
+abbrev pub both-taken :
+    {table a left b right : List ℕ} {d e : DossierIndex} {t u : TypeIndex} (k : Tabled table) →
+    Taken table (k .types) a d left t → Taken table (k .types) b e right u → BothTaken table a d left b e right t
+both-taken {u = u} k x y = record { known = k; right-type = u; left-taken = x; right-taken = y }
 
-module _ (table a : List ℕ) (d : DossierIndex) (b : List ℕ) (e : DossierIndex) (t : TypeIndex) (h : BothTaken table a d b e t) where
-  pub agree-asks : (t .count ≤ 32) × IsDossier a d × IsDossier b e
-  agree-asks = (
-    h .left .typed .are .few,
-    record { what = h .left .what .headed; is = h .left .stands },
-    record { what = h .right .what .headed; is = h .right .stands },
-  )
+module _
+    (table a : List ℕ) (d : DossierIndex) (left b : List ℕ) (e : DossierIndex) (right : List ℕ) (t : TypeIndex)
+    (h : BothTaken table a d left b e right t) where
+  abbrev x : Taken table (h .known .types) a d left t
+  x = h .left-taken
+
+  abbrev y : Taken table (h .known .types) b e right (h .right-type)
+  y = h .right-taken
+
+  pub type-short : t .count ≤ 32
+  type-short = x .typed .are .few
 
   module _
       (r : Bool)
-      (says : (u : List ℕ) (ty tz : EventType) (x y : Headed) → TypeIs u ty t → DossierIs a x d → DossierIs b y e → (x .head .type ≡ y .head .type → ty ≡ tz) → r ≡ dossiersAgree (record { type = ty; headed = x }) (record { type = tz; headed = y })) where
-    pub agree-is : r ≡ dossiersAgree (h .left .what) (h .right .what)
-    agree-is = says table (h .left .what .type) (h .right .what .type) (h .left .what .headed) (h .right .what .headed) (h .left .typed) (h .left .stands) (h .right .stands)
-        (one-type (dossier-taken (h .known .types) a (h .left .what) (h .left .asked)) (dossier-taken (h .known .types) b (h .right .what) (h .right .asked)))
+      (says : (u : List ℕ) (ty tz : EventType) (v w : Headed) → TypeIs u ty t → DossierIs a v d → DossierIs b w e →
+      RowsAre a (v .snapshots) left → RowsAre b (w .snapshots) right → (v .head .type ≡ w .head .type → ty ≡ tz) →
+      r ≡ dossiersAgree (record { type = ty; headed = v }) (record { type = tz; headed = w })) where
+    pub agree-is : r ≡ dossiersAgree (x .what) (y .what)
+    agree-is =
+        says table (x .what .type) (y .what .type) (x .what .headed) (y .what .headed) (x .typed) (x .stands) (y .stands) (x .in-rows) (y .in-rows)
+        (one-type (dossier-taken (h .known .types) a (x .what) (x .asked)) (dossier-taken (h .known .types) b (y .what) (y .asked)))
 
-    abbrev pub combinable : r ≡ true → Combinable table a d b e t
-    combinable y = record {
+    abbrev pub combinable : r ≡ true → Combinable table a d left b e right t
+    combinable so = record {
       known = record {
         types = h .known .types;
         is = h .known .is;
-        left = h .left .what;
-        right = h .right .what;
-        left-asked = h .left .asked;
-        right-asked = h .right .asked;
-        agree = sym agree-is ∙ y;
-        typed = h .left .typed;
+        left = x .what;
+        right = y .what;
+        left-asked = x .asked;
+        right-asked = y .asked;
+        agree = sym agree-is ∙ so;
+        typed = x .typed;
       };
-      left-read = h .left .stands;
-      right-read = h .right .stands;
+      left-read = x .stands;
+      right-read = y .stands;
+      left-rows = x .in-rows;
+      right-rows = y .in-rows;
     }
 
 -- so of dossiers of which the questions are known to be answered yes
-pub known-read :
-    {table a b : List ℕ} {t : TypeIndex} (d e : DossierIndex) → Known table a b t →
-    ((h : Headed) → dossierOf standard a ≡ some h → DossierIs a h d) → ((h : Headed) → dossierOf standard b ≡ some h → DossierIs b h e) → Combinable table a d b e t
-known-read d e k v w = record {
-  known = k;
-  left-read = v (k .left .headed) (left-taken k .read);
-  right-read = w (k .right .headed) (right-taken k .read);
-}
+module _ {table a b : List ℕ} {t : TypeIndex} (k : Known table a b t) where
+  pub left-dossier : IsDossier a
+  left-dossier = record { what = k .left .headed; is = left-taken k .read }
+
+  pub right-dossier : IsDossier b
+  right-dossier = record { what = k .right .headed; is = right-taken k .read }
+
+  pub known-read :
+      (left right : List ℕ) (d e : DossierIndex) →
+      DossierReads (dossierOf standard a) a left d → DossierReads (dossierOf standard b) b right e → Combinable table a d left b e right t
+  known-read left right d e v w =
+      let x = reads-is a left d (k .left .headed) v (left-taken k .read) in
+      let y = reads-is b right e (k .right .headed) w (right-taken k .read) in
+      record { known = k; left-read = x .0; right-read = y .0; left-rows = x .1; right-rows = y .1 }
 
 -- ---- question 8
 
 pub combine-room :
-    (table a b : List ℕ) {d e : DossierIndex} {t : TypeIndex} (h : Combinable table a d b e t) {r : Bool} → r ≡ fits standard (typeView (h .known .left .type)) (combined (h .known .left) (h .known .right)) → r ≡ true →
+    {table a left b right : List ℕ} {d e : DossierIndex} {t : TypeIndex} (h : Combinable table a d left b e right t) {r : Bool} →
+    r ≡ fits standard (typeView (h .known .left .type)) (combined (h .known .left) (h .known .right)) → r ≡ true →
     (size : ℕ) → dossierCapacity ≤ size → length (dossierBytes (headedAs (h .known .left .headed) (combined (h .known .left) (h .known .right)))) ≤ size
-combine-room table a b {d} {e} {t} h p y size l = omega (arith, combined-room h (sym p ∙ y))
+combine-room h p y size l = omega (arith, combined-room h (sym p ∙ y))
 
 -- ---- the replies
 
@@ -154,15 +177,23 @@ module _ (table left right out : List ℕ) where
     unfolding combineCall combineAnswer combineAsked
     combine-left k n e = rw (has-room dossierCapacity (length out) room, k .is, e)
 
-    pub combine-right : (k : Tabled table) {d : DossierIndex} {t : TypeIndex} → Taken table (k .types) left d t → (n : ℕ) → dossierAsked standard (k .types) right ≡ refused n → combineReplies (Refused n) out ≡ combineCall standard table left right out
+    pub combine-right :
+        (k : Tabled table) {d : DossierIndex} {rows : List ℕ} {t : TypeIndex} → Taken table (k .types) left d rows t →
+        (n : ℕ) → dossierAsked standard (k .types) right ≡ refused n → combineReplies (Refused n) out ≡ combineCall standard table left right out
     unfolding combineCall combineAnswer combineAsked
     combine-right k x n e = rw (has-room dossierCapacity (length out) room, k .is, x .asked, e)
 
-    pub combine-apart : {d e : DossierIndex} {t : TypeIndex} (h : BothTaken table left d right e t) {r : Bool} → r ≡ dossiersAgree (h .left .what) (h .right .what) → r ≡ false → combineReplies (Refused 7) out ≡ combineCall standard table left right out
+    pub combine-apart :
+        {d e : DossierIndex} {xs ys : List ℕ} {t : TypeIndex} (h : BothTaken table left d xs right e ys t) {r : Bool} →
+        r ≡ dossiersAgree (h .left-taken .what) (h .right-taken .what) → r ≡ false → combineReplies (Refused 7) out ≡ combineCall standard table left right out
     unfolding combineCall combineAnswer combineAsked
-    combine-apart h p n = let q = sym p ∙ n in rw (has-room dossierCapacity (length out) room, h .known .is, h .left .asked, h .right .asked, q)
+    combine-apart h p n =
+        let q = sym p ∙ n in
+        rw (has-room dossierCapacity (length out) room, h .known .is, h .left-taken .asked, h .right-taken .asked, q)
 
-    module _ {d e : DossierIndex} {t : TypeIndex} (h : Combinable table left d right e t) {r : Bool} (p : r ≡ fits standard (typeView (h .known .left .type)) (combined (h .known .left) (h .known .right))) where
+    module _
+        {d e : DossierIndex} {xs ys : List ℕ} {t : TypeIndex} (h : Combinable table left d xs right e ys t) {r : Bool}
+        (p : r ≡ fits standard (typeView (h .known .left .type)) (combined (h .known .left) (h .known .right))) where
       pub combine-full : r ≡ false → combineReplies (Refused 8) out ≡ combineCall standard table left right out
       unfolding combineCall combineAnswer combineAsked
       combine-full n = let q = sym p ∙ n in rw (has-room dossierCapacity (length out) room, h .known .is, h .known .left-asked, h .known .right-asked, h .known .agree, q)
@@ -177,7 +208,7 @@ module _ (table left right out : List ℕ) where
       pub combine-done : r ≡ true → (new : List ℕ) (n : ℕ) → Wrote out 0 whole new n → combineReplies (Done n) new ≡ combineCall standard table left right out
       unfolding combineCall combineAnswer
       combine-done y new n w =
-          let s : 0 + length whole ≤ length out = omega (arith, combine-room table left right h p y (length out) room) in
+          let s : 0 + length whole ≤ length out = omega (arith, combine-room h p y (length out) room) in
           let m : n ≡ length whole = omega (arith, w .after) in
           rw (asked-whole y)
           (ap₂ (λ (k : ℕ) (l : List ℕ). combineReplies (Done k) l) m (wrote-between s w ∙ ap (λ (k : ℕ). whole ++ drop k out) m))

@@ -1,11 +1,11 @@
 -- The laws of question 8: the limits of two dossiers together.
-use mathlib.Core.Path.{_≡_, refl, sym, ap, ap₂, _∙_, subst₂}
+use mathlib.Core.Path.{_≡_, refl, sym, ap, ap₂, _∙_}
 use mathlib.Core.Bool.{Bool, true, false, cond, _&&_, _||_}
 use mathlib.Core.List.{List, [], _∷_, map}
 use Prim.Native.Nat.{ℕ, zero, suc, _+_, _-_, _≤_, _<_}
 use native.Mathlib.Omega.{arith}
 use lib.Dec.{leb, eqb}
-use lib.ListN.{length, take, drop, getD, length-map}
+use lib.ListN.{length, take, getD, length-map}
 use borrow.Author.Tests.{lt-ltb, le-ltb, le-leb, lt-leb, eqb-true}
 use Rattle.model.specs.Order.{Order, Text, numbers, texts, rising}
 use Rattle.model.proofs.Cases.{three, and-parts, or-part}
@@ -15,7 +15,6 @@ use Rattle.model.specs.Rule.{Snapshot, joinSnapshots, Dossier, combine, sizes, 
 use Rattle.model.specs.Limits.{standard, fits}
 use Rattle.model.specs.Opening.{cellAt, held}
 use Rattle.packed.proofs.LayoutLaws.{All}
-use Rattle.packed.proofs.ReadLaws.{to-end}
 use Rattle.ontology.specs.Table.{EventType, Table, isVersioned}
 use Rattle.ontology.specs.declared.types.TypeIndex.{TypeIndex}
 use Rattle.event.specs.Event.{typeView, eventView}
@@ -24,7 +23,6 @@ use Rattle.unions.specs.code.Runs.{Hashes}
 use Rattle.dossier.specs.DossierQuestions.{eachCell, isVacant, holdsVersion, TypedDossier}
 use Rattle.dossier.specs.code.DossierIndex.{noSnapshot, versionNumbers, cellFits, versionFits, snapshotFits}
 use Rattle.dossier.specs.declared.dossiers.DossierIndex.{DossierIndex}
-use Rattle.dossier.proofs.AskLaws.{start-within}
 use Rattle.dossier.proofs.DossierLayoutLaws.{DossierWritten}
 use Rattle.dossier.proofs.AcceptedLaws.{DossierTaken, taken-written, taken-lone, taken-fits}
 use Rattle.combining.specs.CombineCall.{combined}
@@ -101,7 +99,9 @@ merge-alone join x y e = rw (ap (numbers .cmp (x .version)) (sym e) ∙ numbers 
 
 -- ---- two dossiers
 
-module _ (table a : List ℕ) (d : DossierIndex) (b : List ℕ) (e : DossierIndex) (t : TypeIndex) (c : Combinable table a d b e t) where
+module _
+    (table a : List ℕ) (d : DossierIndex) (left b : List ℕ) (e : DossierIndex) (right : List ℕ) (t : TypeIndex)
+    (c : Combinable table a d left b e right t) where
   abbrev ty : EventType
   ty = c .known .left .type
 
@@ -154,7 +154,7 @@ module _ (table a : List ℕ) (d : DossierIndex) (b : List ℕ) (e : DossierInde
       keys : (ss rs : List Snapshot) → versions (merge numbers versionIn (joinSnapshots (typeView ty)) ss rs) ≡ union numbers (versions ss) (versions rs)
       keys = merge-keys numbers versionIn (joinSnapshots (typeView ty)) (λ x y. unfold joinSnapshots in refl)
 
-  -- the first snapshots of an unversioned type, from where they start
+  -- the first snapshots of an unversioned type
   module _ (un : t .mark ≤ 0) where
     pub unversioned : isVersioned ty ≡ false
     unversioned = le-ltb 0 (ty .mark) (omega (arith, c .known .typed .mark))
@@ -179,13 +179,8 @@ module _ (table a : List ℕ) (d : DossierIndex) (b : List ℕ) (e : DossierInde
         version-none ty x unversioned (taken-fits (left-taken (c .known)) 0 (omega (arith, left-one)))
         ∙ sym (version-none (c .known .right .type) y right-unversioned (taken-fits (right-taken (c .known)) 0 (omega (arith, right-one))))
 
-    pub first-meet :
-        Meet
-        (take (length a - getD (d .starts) 0 0) (drop (getD (d .starts) 0 0) a))
-        (take (length b - getD (e .starts) 0 0) (drop (getD (e .starts) 0 0) b)) ty x y
-    first-meet =
-        subst₂ (λ (p q : List ℕ). Meet p q ty x y) (sym (to-end a (getD (d .starts) 0 0))) (sym (to-end b (getD (e .starts) 0 0)))
-        (meet c 0 0 (omega (arith, left-one)) (omega (arith, right-one)) same-version)
+    pub first-meet : Meet ty x y
+    first-meet = meet c 0 0 (omega (arith, left-one)) (omega (arith, right-one)) same-version
 
     whole-objects : objects (whole .snapshots) ≡ sizes (joinSnapshots (typeView ty) x y .cells)
     unfolding objects
@@ -195,13 +190,6 @@ module _ (table a : List ℕ) (d : DossierIndex) (b : List ℕ) (e : DossierInde
         (alone (snapshots (c .known .left)) left-one) (alone (snapshots (c .known .right)) right-one)
         ∙ merge-alone (joinSnapshots (typeView ty)) x y same-version)
         ∙ omega arith
-
-  -- where they start
-  pub first-start : (getD (d .starts) 0 0 ≤ length a) × (getD (e .starts) 0 0 ≤ length b)
-  first-start = (
-    start-within a (c .known .left .headed) d (c .left-read) 0 (omega (arith, c .left-read .one)),
-    start-within b (c .known .right .headed) e (c .right-read) 0 (omega (arith, c .right-read .one)),
-  )
 
   -- ---- the answers
 

@@ -33,7 +33,7 @@ use Rattle.ontology.proofs.TypeIndexLaws.{max-of}
 use Rattle.event.specs.Event.{typeView, eventView}
 use Rattle.event.specs.EventLayout.{setBytes, setsBytes, presenceBit, bitNumber}
 use Rattle.event.specs.EventQuestions.{areInSpace, matchCount, valuesFit}
-use Rattle.event.specs.code.EventIndex.{SetIs, setIn, bitOf}
+use Rattle.event.specs.code.EventIndex.{SetIs, SetsAre, setIn, bitOf}
 use Rattle.event.proofs.SetLaws.{set-read}
 use Rattle.event.specs.declared.sets.SetAt.{SetAt}
 use Rattle.event.proofs.BitLaws.{FilledTo, presence-bits}
@@ -44,8 +44,7 @@ use Rattle.unions.specs.declared.pair.Joined.{Joined}
 use Rattle.unions.specs.code.Runs.{TextsRoom, WroteUnion}
 use Rattle.dossier.specs.DossierBody.{readSnapshot, differBit, snapshotBytes}
 use Rattle.dossier.specs.DossierQuestions.{eachCell, isVacant, isPresent, isLone, isLoneIfExtreme, snapshotValues}
-use Rattle.dossier.specs.code.DossierIndex.{SnapshotIs, cellFits, versionFits, snapshotFits}
-use Rattle.dossier.specs.declared.snapshots.SnapshotIndex.{SnapshotIndex}
+use Rattle.dossier.specs.code.DossierIndex.{cellFits, versionFits, snapshotFits}
 use Rattle.dossier.proofs.DossierBodyLaws.{snapshot-was}
 use Rattle.dossier.proofs.CellLaws.{held-at}
 use Rattle.combining.specs.code.CombineIndex.{isExtremeAt, Fitting, Meet}
@@ -385,30 +384,18 @@ set-rises s x r e p = all-at SetWritten [] empty-written (map held (x .cells)) (
 
 -- ---- two unversioned snapshots
 
--- they stand at the front of a and b, as the indexes say
-pub record Joins (table a b : List ℕ) (t : TypeIndex) (i j : SnapshotIndex) (ty : EventType) (x y : Snapshot) : Type 0 where
+-- their sets stand in a and b where the numbers i and j say
+pub record Joins (table a b : List ℕ) (t : TypeIndex) (i j : List ℕ) (ty : EventType) (x y : Snapshot) : Type 0 where
   pub typed : TypeIs table ty t
   pub unversioned : isVersioned ty ≡ false
-  pub meet : Meet a b ty x y
-  pub left : SnapshotIs a x i
-  pub right : SnapshotIs b y j
+  pub meet : Meet ty x y
+  pub left : SetsAre a (map held (x .cells)) i
+  pub right : SetsAre b (map held (y .cells)) j
 
--- one snapshot stands at the front
-stands-as : (s : List ℕ) (z x : Snapshot) (i : SnapshotIndex) {r : List ℕ} → SnapshotIs s z i → readSnapshot s ≡ got x r → SnapshotIs s x i
-stands-as s z x i {r} w e =
-    let g : got z (drop (i .next) s) ≡ got x r = sym (w .is) ∙ e in
-    let same : z ≡ x = cc in
-    subst (λ (y : Snapshot). SnapshotIs s y i) same w
-
-pub joins : {table a b : List ℕ} {t : TypeIndex} {i j : SnapshotIndex} {ty : EventType} {x y z v : Snapshot} →
-    SnapshotIs a z i → SnapshotIs b v j → TypeIs table ty t → isVersioned ty ≡ false → Meet a b ty x y → Joins table a b t i j ty x y
-joins {table} {a} {b} {t} {i} {j} {ty} {x} {y} {z} {v} p q w u m = record {
-  typed = w;
-  unversioned = u;
-  meet = m;
-  left = stands-as a z x i p (m .left-read);
-  right = stands-as b v y j q (m .right-read);
-}
+pub joins : {table a b : List ℕ} {t : TypeIndex} {i j : List ℕ} {ty : EventType} {x y : Snapshot} →
+    TypeIs table ty t → isVersioned ty ≡ false → Meet ty x y → SetsAre a (map held (x .cells)) i → SetsAre b (map held (y .cells)) j →
+    Joins table a b t i j ty x y
+joins w u m l r = record { typed = w; unversioned = u; meet = m; left = l; right = r }
 
 -- the bytes of their sets together, from place k on
 unfoldable pub setsFrom : EventType → Snapshot → Snapshot → ℕ → List ℕ
@@ -429,7 +416,7 @@ pub sets-end : (ty : EventType) (x y : Snapshot) (k : ℕ) → 32 ≤ k → sets
 unfolding setsFrom setsBytes flatten upFrom
 sets-end ty x y k h = let e : 32 - k ≡ 0 = omega arith in ap (λ (n : ℕ). setsBytes (map (λ p. joinedSet ty p (setOf x p) (setOf y p)) (upFrom k n))) e
 
-module _ {table a b : List ℕ} {t : TypeIndex} {i j : SnapshotIndex} {ty : EventType} {x y : Snapshot} (h : Joins table a b t i j ty x y) where
+module _ {table a b : List ℕ} {t : TypeIndex} {i j : List ℕ} {ty : EventType} {x y : Snapshot} (h : Joins table a b t i j ty x y) where
   abbrev f : Fitting ty x y
   f = h .meet .fitting
 
@@ -438,29 +425,29 @@ module _ {table a b : List ℕ} {t : TypeIndex} {i j : SnapshotIndex} {ty : Even
 
   pub paired : (p : ℕ) → Paired ty p (setOf x p) (setOf y p)
   paired p = record {
-    left-rises = set-rises a x (h .meet .left-rest) (h .meet .left-read) p;
-    right-rises = set-rises b y (h .meet .right-rest) (h .meet .right-read) p;
+    left-rises = set-rises (h .meet .left-bytes) x (h .meet .left-rest) (h .meet .left-read) p;
+    right-rises = set-rises (h .meet .right-bytes) y (h .meet .right-rest) (h .meet .right-read) p;
     few = λ e. (plain-few ty x (f .left-fits) (h .unversioned) p e, plain-few ty y (f .right-fits) (h .unversioned) p e);
     values = λ q e. (set-values ty x (f .left-values) p q e, set-values ty y (f .right-values) p q e);
     ordered = λ q e o. f .ordered p q e o;
   }
 
   -- a place, with its sets as they were taken from the numbers
-  abbrev pub joined-place : {v w : SetAt} (p : ℕ) → v ≡ setIn (i .sets) p → w ≡ setIn (j .sets) p → p < 32 → PlaceIs t p a v b w
+  abbrev pub joined-place : {v w : SetAt} (p : ℕ) → v ≡ setIn i p → w ≡ setIn j p → p < 32 → PlaceIs t p a v b w
   joined-place p e f l = record {
     table = table;
     type = ty;
     typed = h .typed;
     xs = setOf x p;
     ys = setOf y p;
-    left = set-read e (h .left .sets .each p l);
-    right = set-read f (h .right .sets .each p l);
+    left = set-read e (h .left .each p l);
+    right = set-read f (h .right .each p l);
     paired = paired p;
   }
 
   -- their cells together
-  cells-long : (s : List ℕ) (z : Snapshot) (k : SnapshotIndex) → SnapshotIs s z k → length (z .cells) ≡ 32
-  cells-long s z k w = sym (length-map (z .cells) held) ∙ w .sets .long
+  cells-long : (s : List ℕ) (z : Snapshot) (ats : List ℕ) → SetsAre s (map held (z .cells)) ats → length (z .cells) ≡ 32
+  cells-long s z ats w = sym (length-map (z .cells) held) ∙ w .long
 
   joined-cell : (p : ℕ) → joinCell (isVersioned ty) (typeView ty .choice p) (cellAt x p) (cellAt y p) ≡ holds (joined p)
   joined-cell p =
@@ -482,12 +469,12 @@ module _ {table a b : List ℕ} {t : TypeIndex} {i j : SnapshotIndex} {ty : Even
   unfolding joinSnapshots
   joined-version = plain-version ty x (f .left-fits) (h .unversioned)
 
-  module _ (present : List Bool) (w : PresentAre (i .sets) (j .sets) present) where
+  module _ (present : List Bool) (w : PresentAre i j present) where
     joined-bits : map presenceBit (map joined (upTo 32)) ≡ map bitOf present
     joined-bits =
         presence-bits joined present (w .long)
         (λ p m.
-        presence-is a (setIn (i .sets) p) b (setIn (j .sets) p) (setOf x p) (setOf y p) (h .left .sets .each p m) (h .right .sets .each p m) ty p
+        presence-is a (setIn i p) b (setIn j p) (setOf x p) (setOf y p) (h .left .each p m) (h .right .each p m) ty p
         ∙ ap bitOf (sym (w .each p m)))
 
     pub joined-bytes : snapshotBytes (joinSnapshots (typeView ty) x y) ≡ number 0 ++ number (bitNumber (map bitOf present)) ++ number 0 ++ setsFrom ty x y 0
@@ -520,7 +507,7 @@ module _ {table a b : List ℕ} {t : TypeIndex} {i j : SnapshotIndex} {ty : Even
 
     -- a place that has objects, with its room, where the places before it are written
     pub place-next :
-        {l₀ l : List ℕ} {at p : ℕ} {v z : SetAt} (k : ℕ) → v ≡ setIn (i .sets) k → z ≡ setIn (j .sets) k → k < 32 → getD present k false ≡ true →
+        {l₀ l : List ℕ} {at p : ℕ} {v z : SetAt} (k : ℕ) → v ≡ setIn i k → z ≡ setIn j k → k < 32 → getD present k false ≡ true →
         ToGo l₀ at (setsFrom ty x y 0) l p (setsFrom ty x y k) → at + length (setsFrom ty x y 0) ≤ length l₀ → PlaceRoom t k a v b z p (length l)
     place-next k c d l e g r = record {
       low = l;
@@ -535,5 +522,5 @@ module _ {table a b : List ℕ} {t : TypeIndex} {i j : SnapshotIndex} {ty : Even
         ToGo l₀ at (setsFrom ty x y 0) l p (setsFrom ty x y k) → ToGo l₀ at (setsFrom ty x y 0) l p (setsFrom ty x y (k + 1))
     place-past {l₀} {l} {at} {p} k m e g =
         let none = sym (w .each k m) ∙ e in
-        let nothing = nothing-bytes a _ b _ (setOf x k) (setOf y k) (h .left .sets .each k m) (h .right .sets .each k m) ty k none in
+        let nothing = nothing-bytes a _ b _ (setOf x k) (setOf y k) (h .left .each k m) (h .right .each k m) ty k none in
         subst (ToGo l₀ at (setsFrom ty x y 0) l p) (sets-step ty x y k m ∙ ap (λ (z : List ℕ). z ++ setsFrom ty x y (k + 1)) nothing) g

@@ -45,7 +45,8 @@ module _ {table a b : List ℕ} {t : TypeIndex} (k : Known table a b t) where
   kept = taken-kept left-taken table (k .is)
 
 module _
-    {table a : List ℕ} {d : DossierIndex} {b : List ℕ} {e : DossierIndex} {t : TypeIndex} (c : Combinable table a d b e t)
+    {table a : List ℕ} {d : DossierIndex} {left b : List ℕ} {e : DossierIndex} {right : List ℕ} {t : TypeIndex}
+    (c : Combinable table a d left b e right t)
     (i j : ℕ) (l : i < length (c .known .left .headed .snapshots)) (m : j < length (c .known .right .headed .snapshots)) where
   abbrev leftOne : Snapshot
   leftOne = getD (c .known .left .headed .snapshots) i noSnapshot
@@ -64,12 +65,14 @@ module _
     ordered = λ p q x y. extreme-ordered (isVersioned (c .known .left .type)) q (kept (c .known) .fits p q x) y;
   }
 
-  -- two snapshots of one version, where they stand
-  pub meet : leftOne .version ≡ rightOne .version → Meet (drop (getD (d .starts) i 0) a) (drop (getD (e .starts) j 0) b) (c .known .left .type) leftOne rightOne
+  -- two snapshots of one version, each read from where it starts
+  pub meet : leftOne .version ≡ rightOne .version → Meet (c .known .left .type) leftOne rightOne
   meet h = record {
     fitting = fitting h;
+    left-bytes = drop (getD (d .starts) i 0) a;
     left-rest = drop (getD (d .ends) i 0) a;
-    right-rest = drop (getD (e .ends) j 0) b;
     left-read = c .left-read .snapshots .each i l .is;
+    right-bytes = drop (getD (e .starts) j 0) b;
+    right-rest = drop (getD (e .ends) j 0) b;
     right-read = c .right-read .snapshots .each j m .is;
   }

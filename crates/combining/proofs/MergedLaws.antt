@@ -1,8 +1,8 @@
 -- The laws of writing a combined dossier: its head, and the snapshots of both sides by rising version.
-use mathlib.Core.Path.{_≡_, refl, sym, ap, ap₂, _∙_, subst, subst₂}
+use mathlib.Core.Path.{_≡_, refl, sym, ap, ap₂, _∙_, subst}
 use mathlib.Core.Bool.{true, false, cond}
 use mathlib.Core.List.{List, [], _∷_, _++_, append-assoc, append-nil, map, flatten}
-use Prim.Native.Nat.{ℕ, zero, suc, _+_, _-_, _≤_, _<_, Ordering·lt}
+use Prim.Native.Nat.{ℕ, zero, suc, _+_, _-_, _*_, _≤_, _<_, Ordering·lt}
 use native.Mathlib.Omega.{arith}
 use native.Mathlib.Nat.{add-zero}
 use lib.Dec.{leb}
@@ -20,7 +20,7 @@ use Rattle.model.specs.Limits.{fits, standard}
 use Rattle.packed.specs.Packed.{number, part}
 use Rattle.packed.specs.code.Written.{Wrote, ToGo}
 use Rattle.packed.proofs.WriteLaws.{wrote-then, wrote-as, to-go, gone, all-gone, wrote-between, wrote-length}
-use Rattle.packed.proofs.ReadLaws.{to-end, stretch}
+use Rattle.packed.proofs.ReadLaws.{part-length, stretch}
 use Rattle.values.specs.declared.versions.EventVersion.{EventVersion}
 use Rattle.ontology.specs.Table.{EventType, isVersioned}
 use Rattle.ontology.specs.code.TypeIndex.{TypeIs}
@@ -32,18 +32,18 @@ use Rattle.event.proofs.HeadLayoutLaws.{hashes-size}
 use Rattle.unions.proofs.RunLaws.{part-then}
 use Rattle.dossier.specs.DossierLayout.{Headed, dossierBytes}
 use Rattle.dossier.specs.DossierBody.{snapshotBytes, bodyBytes}
-use Rattle.dossier.specs.code.DossierIndex.{noSnapshot, versionNumbers, SnapshotIs, SnapshotsAre, DossierIs}
-use Rattle.dossier.specs.declared.snapshots.SnapshotIndex.{SnapshotIndex}
+use Rattle.dossier.specs.code.DossierIndex.{noSnapshot, noVersion, versionNumbers, rowOf, SnapshotsAre, DossierIs}
 use Rattle.dossier.specs.declared.dossiers.DossierIndex.{DossierIndex}
-use Rattle.dossier.proofs.AskLaws.{first-stands}
+use Rattle.dossier.proofs.AskLaws.{snapshot-stands}
+use Rattle.dossier.proofs.VersionLaws.{cells-are}
 use Rattle.dossier.specs.DossierHead.{dossierHeadBytes}
 use Rattle.combining.proofs.RoomLaws.{combined-parents}
 use Rattle.combining.specs.CombineCall.{headedAs, combined}
-use Rattle.combining.specs.code.CombineIndex.{Combinable, Meet, AgreedRoom, JoinedRoom}
+use Rattle.combining.specs.code.CombineIndex.{Combinable, Shared, AgreedRoom, JoinedRoom}
 use Rattle.combining.specs.code.WriteIndex.{SharedRoom, bytesFrom, RestRoom, HeadsAre, bothHeads}
 use Rattle.combining.proofs.MeetLaws.{versionIn, taken-rises, left-taken, right-taken, meet}
 use Rattle.combining.proofs.CountLaws.{versionAt, version-at}
-use Rattle.combining.proofs.FitLaws.{left-hashes, right-hashes, whole-versions, left-one, right-one}
+use Rattle.combining.proofs.FitLaws.{left-hashes, right-hashes, whole-versions}
 
 -- ---- writes
 
@@ -59,12 +59,31 @@ module _ (table : List ℕ) (ty : EventType) (t : TypeIndex) (w : TypeIs table t
   pub not-versioned : t .mark ≤ 0 → isVersioned ty ≡ false
   not-versioned h = le-ltb 0 (ty .mark) (omega (arith, w .mark))
 
-module _ {table a b : List ℕ} {x y : SnapshotIndex} {t : TypeIndex} {at size : ℕ} (r : SharedRoom table a x b y t at size) where
-  pub agreed-room : 0 < t .mark → AgreedRoom a b at size
-  agreed-room h = record { type = r .type; left = r .left; right = r .right; versioned = is-versioned table (r .type) t (r .typed) h; meet = r .meet; room = r .room }
+module _
+    {version : EventVersion} {a x b y : List ℕ} {m n : ℕ} {t : TypeIndex} {at size : ℕ} (r : SharedRoom version a x m b y n t at size) where
+  pub agreed-room : 0 < t .mark → AgreedRoom version a x m b y n at size
+  agreed-room h = record {
+    type = r .type;
+    left = r .left;
+    right = r .right;
+    versioned = is-versioned (r .table) (r .type) t (r .typed) h;
+    shared = r .shared;
+    room = r .room;
+  }
 
-  pub joined-room : t .mark ≤ 0 → JoinedRoom table a x b y t at size
-  joined-room h = record { type = r .type; left = r .left; right = r .right; typed = r .typed; unversioned = not-versioned table (r .type) t (r .typed) h; meet = r .meet; left-is = r .left-is h; right-is = r .right-is h; room = r .room }
+  pub joined-room : t .mark ≤ 0 → JoinedRoom a x b y t at size
+  joined-room h = record {
+    table = r .table;
+    type = r .type;
+    left = r .left;
+    right = r .right;
+    typed = r .typed;
+    unversioned = not-versioned (r .table) (r .type) t (r .typed) h;
+    meet = r .shared .meet;
+    left-is = r .shared .left-is .sets;
+    right-is = r .shared .right-is .sets;
+    room = r .room;
+  }
 
 -- ---- the snapshots of one side
 
@@ -164,6 +183,10 @@ step-none v w h = rw (lt-leb v w h)
 
 -- ---- the snapshots of both sides
 
+-- the row of one of the 8 snapshots
+pub row-long : (rows : List ℕ) (j : ℕ) → length rows ≡ 768 → j < 8 → length (rowOf rows j) ≡ 96
+row-long rows j e l = part-length rows (96 * j) (96 * j + 96) (omega arith) (omega arith) ∙ omega arith
+
 join-keeps : (ty : EventType) (x y : Snapshot) → x .version ≡ y .version → joinSnapshots (typeView ty) x y .version ≡ x .version
 unfolding joinSnapshots
 join-keeps ty x y e = refl
@@ -211,7 +234,8 @@ merge-at ty xs ys i j l m hx hy =
         mergedOf ty zs ws ≡ nextSnapshot ty x y ∷ mergedOf ty (drop (stepBy (x .version) (y .version)) zs) (drop (stepBy (y .version) (x .version)) ws)
     go zs ws {x} {y} {us} {vs} e f hx hy = rw (e, f) (merge-next ty x us y vs (rw e at hx) (rw f at hy))
 
-module _ {table a b : List ℕ} {d e : DossierIndex} {t : TypeIndex} (c : Combinable table a d b e t) where
+module _
+    {table a left b right : List ℕ} {d e : DossierIndex} {t : TypeIndex} (c : Combinable table a d left b e right t) where
   abbrev lefts : List Snapshot
   lefts = c .known .left .headed .snapshots
 
@@ -309,36 +333,32 @@ module _ {table a b : List ℕ} {d e : DossierIndex} {t : TypeIndex} (c : Combin
         snapshotBytes (joinSnapshots (typeView (c .known .left .type)) leftOne rightOne) ≡ nextBytes i j
     next-both h k = ap snapshotBytes (sym (next-same (c .known .left .type) leftOne rightOne (one-version h k)))
 
-    -- the two of one version meet where they start
-    pub next-meet : versionAt (e .versions) j ≤ versionAt (d .versions) i → versionAt (d .versions) i ≤ versionAt (e .versions) j →
-        Meet (take (length a - getD (d .starts) i 0) (drop (getD (d .starts) i 0) a)) (take (length b - getD (e .starts) j 0) (drop (getD (e .starts) j 0) b)) (c .known .left .type) leftOne rightOne
-    next-meet h k =
-        subst₂ (λ (x y : List ℕ). Meet x y (c .known .left .type) leftOne rightOne) (sym (to-end a (getD (d .starts) i 0))) (sym (to-end b (getD (e .starts) j 0)))
-        (meet c i j (omega (arith, c .left-read .count)) (omega (arith, c .right-read .count)) (one-version h k))
-
-    -- an unversioned side has come to its first snapshot, which stands as its index says
-    left-first : t .mark ≤ 0 → SnapshotIs (take (length a - getD (d .starts) i 0) (drop (getD (d .starts) i 0) a)) leftOne (d .first)
-    left-first un =
-        let z : 0 ≡ i = omega (arith, left-one table a d b e t c un, c .left-read .count, l) in
-        subst (λ (n : ℕ). SnapshotIs (take (length a - getD (d .starts) n 0) (drop (getD (d .starts) n 0) a)) (getD lefts n noSnapshot) (d .first)) z (first-stands a (c .known .left .headed) d (c .left-read))
-
-    right-first : t .mark ≤ 0 → SnapshotIs (take (length b - getD (e .starts) j 0) (drop (getD (e .starts) j 0) b)) rightOne (e .first)
-    right-first un =
-        let z : 0 ≡ j = omega (arith, right-one table a d b e t c un, c .right-read .count, m) in
-        subst (λ (n : ℕ). SnapshotIs (take (length b - getD (e .starts) n 0) (drop (getD (e .starts) n 0) b)) (getD rights n noSnapshot) (e .first)) z (first-stands b (c .known .right .headed) e (c .right-read))
+    -- the two of one version, with the numbers of the indexes, stand where their rows say
+    pub next-shared :
+        versionAt (e .versions) j ≤ versionAt (d .versions) i → versionAt (d .versions) i ≤ versionAt (e .versions) j →
+        Shared (getD (d .versions) i noVersion) a (rowOf left i) (getD (d .differs) i 0) b (rowOf right j) (getD (e .differs) j 0)
+        (c .known .left .type) leftOne rightOne
+    next-shared h k =
+        let x = snapshot-stands a (c .known .left .headed) d (c .left-read) left (c .left-rows) i l in
+        let y = snapshot-stands b (c .known .right .headed) e (c .right-read) right (c .right-rows) j m in
+        record {
+          meet = meet c i j (omega (arith, c .left-read .count)) (omega (arith, c .right-read .count)) (one-version h k);
+          number = x .version;
+          left-is = cells-are a leftOne _ (rowOf left i) x;
+          right-is = cells-are b rightOne _ (rowOf right j) y;
+        }
 
     pub shared-room :
         (at size : ℕ) → at + length (nextBytes i j) ≤ size →
         versionAt (e .versions) j ≤ versionAt (d .versions) i → versionAt (d .versions) i ≤ versionAt (e .versions) j →
-        SharedRoom table (take (length a - getD (d .starts) i 0) (drop (getD (d .starts) i 0) a)) (d .first) (take (length b - getD (e .starts) j 0) (drop (getD (e .starts) j 0) b)) (e .first) t at size
+        SharedRoom (getD (d .versions) i noVersion) a (rowOf left i) (getD (d .differs) i 0) b (rowOf right j) (getD (e .differs) j 0) t at size
     shared-room at size room h k = record {
+      table = table;
       type = c .known .left .type;
       left = leftOne;
       right = rightOne;
       typed = c .known .typed;
-      meet = next-meet h k;
-      left-is = left-first;
-      right-is = right-first;
+      shared = next-shared h k;
       room = omega (arith, ap length (next-both h k));
     }
 
@@ -409,8 +429,8 @@ module _ {table a b : List ℕ} {d e : DossierIndex} {t : TypeIndex} (c : Combin
       fits standard (typeView (c .known .left .type)) (combined (c .known .left) (c .known .right)) ≡ true → HeadsAre a d b e leftHead rightHead
   unfolding combined combine
   heads-are inside =
-      let x = left-hashes table a d b e t c in
-      let y = right-hashes table a d b e t c in
+      let x = left-hashes table a d left b e right t c in
+      let y = right-hashes table a d left b e right t c in
       record {
         left = c .left-read .head;
         right = c .right-read .head;
@@ -430,7 +450,7 @@ module _ {table a b : List ℕ} {d e : DossierIndex} {t : TypeIndex} (c : Combin
   pub versions-counted :
       (n : ℕ) → n ≡ length (union numbers (versionNumbers (take (d .count) (d .versions))) (versionNumbers (take (e .count) (e .versions)))) →
       n ≡ length (combined (c .known .left) (c .known .right) .snapshots)
-  versions-counted n h = h ∙ sym (whole-versions table a d b e t c)
+  versions-counted n h = h ∙ sym (whole-versions table a d left b e right t c)
 
   module _ (n : ℕ) (is : n ≡ length (combined (c .known .left) (c .known .right) .snapshots)) where
     pub combined-length : length (dossierBytes (headedAs (c .known .left .headed) (combined (c .known .left) (c .known .right)))) ≡ length headPart + length (number n) + length snapshotsPart

@@ -27,7 +27,6 @@ use Rattle.ontology.proofs.TypeIndexLaws.{extreme-of}
 use Rattle.ontology.proofs.RunLaws.{no-element}
 use Rattle.event.specs.Event.{choiceOf, typeView, eventView}
 use Rattle.event.specs.code.EventIndex.{SetIs, SetsAre, setIn}
-use Rattle.event.specs.declared.sets.SetAt.{SetAt}
 use Rattle.event.specs.EventQuestions.{isEmpty, matchCount}
 use Rattle.event.proofs.EventLayoutLaws.{SetWritten}
 use Rattle.event.proofs.EventQuestionLaws.{all-at, empty-written, choice-every, choice-least}
@@ -222,13 +221,13 @@ module _ (ty : EventType) (x : Snapshot) (w : SnapshotWritten x) (un : isVersion
 
 -- ---- the objects of all places
 
--- two snapshots where they stand, of an unversioned type
-module _ (a b : List ℕ) (ty : EventType) (x y : Snapshot) (un : isVersioned ty ≡ false) (m : Meet a b ty x y) where
+-- two snapshots of an unversioned type
+module _ (ty : EventType) (x y : Snapshot) (un : isVersioned ty ≡ false) (m : Meet ty x y) where
   left-written : SnapshotWritten x
-  left-written = snapshot-was a x (m .left-rest) (m .left-read) .1
+  left-written = snapshot-was (m .left-bytes) x (m .left-rest) (m .left-read) .1
 
   right-written : SnapshotWritten y
-  right-written = snapshot-was b y (m .right-rest) (m .right-read) .1
+  right-written = snapshot-was (m .right-bytes) y (m .right-rest) (m .right-read) .1
 
   abbrev joined : List Cell
   joined = joinSnapshots (typeView ty) x y .cells
@@ -253,11 +252,11 @@ module _ (a b : List ℕ) (ty : EventType) (x y : Snapshot) (un : isVersioned ty
     pub right-cell : PlainCell ty k (getD (y .cells) k (holds []))
     right-cell = plain-cell ty y right-written un (m .fitting .right-fits) k h
 
-    pub left-set : (sets : List ℕ) → SetsAre a (map held (x .cells)) sets → SetIs a (held (getD (x .cells) k (holds []))) (setIn sets k)
-    left-set sets r = subst (λ (vs : List Text). SetIs a vs (setIn sets k)) (held-at (x .cells) k) (r .each k h)
+    pub left-set : (a sets : List ℕ) → SetsAre a (map held (x .cells)) sets → SetIs a (held (getD (x .cells) k (holds []))) (setIn sets k)
+    left-set a sets r = subst (λ (vs : List Text). SetIs a vs (setIn sets k)) (held-at (x .cells) k) (r .each k h)
 
-    pub right-set : (sets : List ℕ) → SetsAre b (map held (y .cells)) sets → SetIs b (held (getD (y .cells) k (holds []))) (setIn sets k)
-    right-set sets r = subst (λ (vs : List Text). SetIs b vs (setIn sets k)) (held-at (y .cells) k) (r .each k h)
+    pub right-set : (b sets : List ℕ) → SetsAre b (map held (y .cells)) sets → SetIs b (held (getD (y .cells) k (holds []))) (setIn sets k)
+    right-set b sets r = subst (λ (vs : List Text). SetIs b vs (setIn sets k)) (held-at (y .cells) k) (r .each k h)
 
     -- the cell that the two have together
     abbrev together-at : Cell

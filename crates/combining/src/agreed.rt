@@ -10,11 +10,9 @@ ghost use Rattle.ontology.specs.Table.{EventType, isVersioned};
 ghost use Rattle.event.specs.Event.{typeView};
 ghost use Rattle.event.specs.code.EventIndex.{SetIs};
 ghost use Rattle.dossier.specs.DossierBody.{differBit, snapshotBytes};
-ghost use Rattle.dossier.specs.code.DossierIndex.{SnapshotIs};
-ghost use Rattle.combining.specs.code.CombineIndex.{Meet, AgreedRoom};
+ghost use Rattle.dossier.specs.code.DossierIndex.{CellsAre};
+ghost use Rattle.combining.specs.code.CombineIndex.{Shared, AgreedRoom};
 ghost use Rattle.combining.specs.code.AgreedIndex.{isAgreed, PlacesAre};
-use dossier::snapshots::SnapshotIndex;
-use dossier::snapshots::read_snapshot;
 use event::bits::number_of;
 use event::sets::SetAt;
 use event::sets::set_at;
@@ -22,6 +20,7 @@ use event::sets::set_part;
 use event::write::write_sets;
 use packed::order::same;
 use packed::write::write_number;
+use values::versions::EventVersion;
 
 // The places of a joined snapshot that have objects, and those that are marked.
 pub struct Places {
@@ -55,47 +54,56 @@ fn has_objects(kept: bool, count: usize) -> bool
 }
 
 // The places of what two versioned snapshots are together.
-fn agreed_places(a: &[u8], x: SnapshotIndex, b: &[u8], y: SnapshotIndex) -> Places
+fn agreed_places(a: &[u8], x: &[usize], m: u64, b: &[u8], y: &[usize], n: u64) -> Places
+    requires { ⌜ (length (now x) ≡ 96) × (length (now y) ≡ 96) ⌝ }
     ensures { λ r. ⌜ ((ty : EventType) (left right : Snapshot) → isVersioned ty ≡ true
-        → SnapshotIs (now (a .entry)) left x → SnapshotIs (now (b .entry)) right y
+        → CellsAre (now (a .entry)) (left .cells) m (now (x .entry)) → CellsAre (now (b .entry)) (right .cells) n (now (y .entry))
         → PlacesAre (joinSnapshots (typeView ty) left right .cells) r) ⌝ }
 {
     let mut p = Places {
         present: [false; 32],
         marked: [false; 32],
     };
-    let mut m = x.differ;
-    let mut n = y.differ;
+    let mut left = m;
+    let mut right = n;
     let mut k: usize = 0;
     while k < 32 {
-        let v = set_at(&x.sets, k);
-        let w = set_at(&y.sets, k);
-        let kept = is_kept(a, v, b, w, m % 2 + n % 2);
+        let v = set_at(x, k);
+        let w = set_at(y, k);
+        let kept = is_kept(a, v, b, w, left % 2 + right % 2);
         p.present[k] = has_objects(kept, v.count);
         p.marked[k] = !kept;
-        m = m / 2;
-        n = n / 2;
+        left = left / 2;
+        right = right / 2;
         k += 1;
     }
     p
 }
 
-// Writes what two versioned snapshots of one version, at the front of a and b, are together.
-pub fn write_agreed(a: &[u8], b: &[u8], out: &mut [u8], at: usize) -> usize
-    requires { ⌜ AgreedRoom (now a) (now b) at (length (now out)) ⌝ }
-    ensures { λ r. ⌜ ((ty : EventType) (x y : Snapshot) → isVersioned ty ≡ true → Meet (now (a .entry)) (now (b .entry)) ty x y
-        → Wrote (now (out .entry)) at (snapshotBytes (joinSnapshots (typeView ty) x y)) (now (out .exit)) r) ⌝ }
+// Writes what two versioned snapshots of one version are together.
+pub fn write_agreed(
+    version: EventVersion,
+    a: &[u8],
+    x: &[usize],
+    m: u64,
+    b: &[u8],
+    y: &[usize],
+    n: u64,
+    out: &mut [u8],
+    at: usize,
+) -> usize
+    requires { ⌜ (length (now x) ≡ 96) × (length (now y) ≡ 96) × AgreedRoom version (now a) (now x) m (now b) (now y) n at (length (now out)) ⌝ }
+    ensures { λ r. ⌜ ((ty : EventType) (left right : Snapshot) → isVersioned ty ≡ true
+        → Shared version (now (a .entry)) (now (x .entry)) m (now (b .entry)) (now (y .entry)) n ty left right
+        → Wrote (now (out .entry)) at (snapshotBytes (joinSnapshots (typeView ty) left right)) (now (out .exit)) r) ⌝ }
 {
-    let x = read_snapshot(a);
-    let y = read_snapshot(b);
-    let p = agreed_places(a, x, b, y);
+    let p = agreed_places(a, x, m, b, y, n);
     let present = p.present;
     let marked = p.marked;
     let presence = number_of(present);
     let differ = number_of(marked);
-    let version = x.version;
     let after_version = write_number(out, at, version.0);
     let after_presence = write_number(out, after_version, presence);
     let after_differ = write_number(out, after_presence, differ);
-    write_sets(a, &x.sets, presence, out, after_differ)
+    write_sets(a, x, presence, out, after_differ)
 }

@@ -23,20 +23,23 @@ use replies::reply::Combined;
 // Question 8, and two dossiers of which the others are answered yes, written together at the front of `out`.
 fn combine_read<'a>(
     table: &[u8],
-    left: &'a [u8],
+    a: &'a [u8],
     d: DossierIndex,
-    right: &'a [u8],
+    left: &[usize],
+    b: &'a [u8],
     e: DossierIndex,
+    right: &[usize],
     t: TypeIndex,
     out: &mut [u8],
 ) -> Combined
-    requires { ⌜ Combinable (now table) (now left) d (now right) e t × (dossierCapacity ≤ length (now out)) ⌝ }
-    ensures { λ r. ⌜ combineReplies r (now (out .exit)) ≡ combineCall standard (now (table .entry)) (now (left .entry)) (now (right .entry)) (now (out .entry)) ⌝ }
+    requires { ⌜ (length (now left) ≡ 768) × (length (now right) ≡ 768) × (dossierCapacity ≤ length (now out)) ⌝ }
+    requires { ⌜ Combinable (now table) (now a) d (now left) (now b) e (now right) t ⌝ }
+    ensures { λ r. ⌜ combineReplies r (now (out .exit)) ≡ combineCall standard (now (table .entry)) (now (a .entry)) (now (b .entry)) (now (out .entry)) ⌝ }
 {
-    if !limits_fit(table, left, d, right, e, t) {
+    if !limits_fit(table, a, d, left, b, e, right, t) {
         return Combined::Refused(8);
     }
-    Combined::Done(write_combined(table, left, d, right, e, t, out))
+    Combined::Done(write_combined(table, a, d, left, b, e, right, t, out))
 }
 
 // Two dossiers together, written at the front of `out`.
@@ -46,26 +49,43 @@ pub fn combine<'a>(table: &[u8], left: &'a [u8], right: &'a [u8], out: &mut [u8]
     if out.len() < DOSSIER_CAPACITY {
         return Combined::Refused(1);
     }
-    let d = read_dossier(left);
-    let e = read_dossier(right);
+    let mut left_rows = [0usize; 768];
+    let mut right_rows = [0usize; 768];
+    let d = read_dossier(left, &mut left_rows);
+    let e = read_dossier(right, &mut right_rows);
     let name = type_name(left, d);
     let read = read_table(table, name);
     if !read.ok {
         return Combined::Refused(2);
     }
-    let a = ask_dossier(left, d, read);
+    let a = ask_dossier(left, d, &left_rows, read);
     if a.number != 0 {
         return Combined::Refused(a.number);
     }
-    let b = ask_dossier(right, e, table_for(table, name, type_name(right, e), read));
+    let b = ask_dossier(
+        right,
+        e,
+        &right_rows,
+        table_for(table, name, type_name(right, e), read),
+    );
     if b.number != 0 {
         return Combined::Refused(b.number);
     }
     let event_type = a.event_type;
-    if !dossiers_agree(left, d, right, e, event_type) {
+    if !dossiers_agree(left, d, &left_rows, right, e, &right_rows, event_type) {
         return Combined::Refused(7);
     }
-    combine_read(table, left, d, right, e, event_type, out)
+    combine_read(
+        table,
+        left,
+        d,
+        &left_rows,
+        right,
+        e,
+        &right_rows,
+        event_type,
+        out,
+    )
 }
 
 // The same of two dossiers of which questions 2 to 7 are known to be answered yes.
@@ -79,7 +99,9 @@ pub fn combine_known<'a>(
     requires { ⌜ Known (now table) (now left) (now right) t × (dossierCapacity ≤ length (now out)) ⌝ }
     ensures { λ r. ⌜ combineReplies r (now (out .exit)) ≡ combineCall standard (now (table .entry)) (now (left .entry)) (now (right .entry)) (now (out .entry)) ⌝ }
 {
-    let d = read_known(left);
-    let e = read_known(right);
-    combine_read(table, left, d, right, e, t, out)
+    let mut left_rows = [0usize; 768];
+    let mut right_rows = [0usize; 768];
+    let d = read_known(left, &mut left_rows);
+    let e = read_known(right, &mut right_rows);
+    combine_read(table, left, d, &left_rows, right, e, &right_rows, t, out)
 }

@@ -1,10 +1,12 @@
 ghost use mathlib.Core.Path.{_≡_};
 ghost use mathlib.Core.Bool.{false};
-ghost use mathlib.Core.List.{List, [], _∷_};
+ghost use mathlib.Core.List.{List, [], _∷_, map};
+ghost use Prim.Native.Nat.{ℕ};
 ghost use lib.ListN.{length, take};
 ghost use Rattle.model.specs.Order.{Text, texts};
 ghost use Rattle.model.specs.Sets.{union};
 ghost use Rattle.model.specs.Rule.{Snapshot, joinSnapshots};
+ghost use Rattle.model.specs.Opening.{held};
 ghost use Rattle.packed.specs.code.Written.{Wrote};
 ghost use Rattle.values.specs.Spaces.{Kind};
 ghost use Rattle.values.specs.ValueOrder.{extremeOrder};
@@ -12,12 +14,11 @@ ghost use Rattle.ontology.specs.Table.{EventType, isVersioned};
 ghost use Rattle.ontology.specs.code.TypeIndex.{TypeIs, hasMax};
 ghost use Rattle.event.specs.Event.{typeView};
 ghost use Rattle.event.specs.EventLayout.{setBytes};
-ghost use Rattle.event.specs.code.EventIndex.{SetIs};
+ghost use Rattle.event.specs.code.EventIndex.{SetIs, SetsAre};
 ghost use Rattle.dossier.specs.DossierBody.{snapshotBytes};
 ghost use Rattle.combining.specs.code.CombineIndex.{Meet, JoinedRoom};
 ghost use Rattle.combining.specs.code.JoinedIndex.{haveObjects, PresentAre, Extremes, joinedSet, ValuesAre, ValuesRoom, PlaceIs, PlaceRoom};
 use crate::limits::is_extreme_at;
-use dossier::snapshots::SnapshotIndex;
 use event::bits::number_of;
 use event::sets::SetAt;
 use event::sets::set_at;
@@ -102,29 +103,30 @@ fn joined_places(left: &[usize], right: &[usize]) -> [bool; 32]
     present
 }
 
-// Writes what two unversioned snapshots, at the front of a and b, are together.
+// Writes what two unversioned snapshots are together.
 pub fn write_joined<'a>(
-    table: &[u8],
     a: &'a [u8],
-    x: SnapshotIndex,
+    x: &[usize],
     b: &'a [u8],
-    y: SnapshotIndex,
+    y: &[usize],
     t: TypeIndex,
     out: &mut [u8],
     at: usize,
 ) -> usize
-    requires { ⌜ JoinedRoom (now table) (now a) x (now b) y t at (length (now out)) ⌝ }
-    ensures { λ r. ⌜ ((ty : EventType) (p q : Snapshot) → TypeIs (now (table .entry)) ty t → isVersioned ty ≡ false → Meet (now (a .entry)) (now (b .entry)) ty p q → Wrote (now (out .entry)) at (snapshotBytes (joinSnapshots (typeView ty) p q)) (now (out .exit)) r) ⌝ }
+    requires { ⌜ (length (now x) ≡ 96) × (length (now y) ≡ 96) × JoinedRoom (now a) (now x) (now b) (now y) t at (length (now out)) ⌝ }
+    ensures { λ r. ⌜ ((u : List ℕ) (ty : EventType) (left right : Snapshot) → TypeIs u ty t → isVersioned ty ≡ false → Meet ty left right
+        → SetsAre (now (a .entry)) (map held (left .cells)) (now (x .entry)) → SetsAre (now (b .entry)) (map held (right .cells)) (now (y .entry))
+        → Wrote (now (out .entry)) at (snapshotBytes (joinSnapshots (typeView ty) left right)) (now (out .exit)) r) ⌝ }
 {
-    let present = joined_places(&x.sets, &y.sets);
+    let present = joined_places(x, y);
     let after_version = write_number(out, at, 0);
     let after_presence = write_number(out, after_version, number_of(present));
     let mut next = write_number(out, after_presence, 0);
     let mut k: usize = 0;
     while k < 32 {
         if present[k] {
-            let v = set_at(&x.sets, k);
-            let w = set_at(&y.sets, k);
+            let v = set_at(x, k);
+            let w = set_at(y, k);
             next = write_place(t, k, a, v, b, w, out, next);
         }
         k += 1;

@@ -1,6 +1,6 @@
 ghost use Prim.Native.Nat.{ℕ, _≤_};
 ghost use mathlib.Core.Path.{_≡_};
-ghost use mathlib.Core.List.{List};
+ghost use mathlib.Core.List.{List, map};
 ghost use mathlib.Core.Bool.{true, false};
 ghost use lib.Dec.{leb};
 ghost use lib.ListN.{length, take};
@@ -12,13 +12,12 @@ ghost use Rattle.model.specs.Opening.{held};
 ghost use Rattle.ontology.specs.Table.{EventType, isVersioned};
 ghost use Rattle.ontology.specs.code.TypeIndex.{TypeIs};
 ghost use Rattle.event.specs.Event.{typeView};
-ghost use Rattle.event.specs.code.EventIndex.{SetIs, HashesAre};
+ghost use Rattle.event.specs.code.EventIndex.{SetIs, SetsAre, HashesAre};
 ghost use Rattle.unions.specs.code.Runs.{Hashes};
-ghost use Rattle.dossier.specs.code.DossierIndex.{versionNumbers, SnapshotIs};
+ghost use Rattle.dossier.specs.code.DossierIndex.{versionNumbers};
 ghost use Rattle.combining.specs.CombineCall.{combined};
 ghost use Rattle.combining.specs.code.CombineIndex.{isExtremeAt, Combinable, Meet};
 use dossier::dossiers::DossierIndex;
-use dossier::snapshots::SnapshotIndex;
 use event::head::hashes_part;
 use event::sets::SetAt;
 use event::sets::set_at;
@@ -80,25 +79,34 @@ fn count_place(t: TypeIndex, k: usize, a: &[u8], x: SetAt, b: &[u8], y: SetAt) -
     count_union(set_part(a, x), set_part(b, y))
 }
 
-// Whether two unversioned snapshots, at the front of a and b, have at most 256 objects when they are joined. They have no more than each has, added
-// up, so they are counted only where that is above 256.
-fn objects_fit(a: &[u8], x: SnapshotIndex, b: &[u8], y: SnapshotIndex, t: TypeIndex) -> bool
-    requires { ⌜ t .count ≤ 32 ⌝ }
-    ensures { λ r. ⌜ ((u : List ℕ) (ty : EventType) (p q : Snapshot) → TypeIs u ty t → isVersioned ty ≡ false → Meet (now (a .entry)) (now (b .entry)) ty p q → SnapshotIs (now (a .entry)) p x → SnapshotIs (now (b .entry)) q y → r ≡ leb (sizes (joinSnapshots (typeView ty) p q .cells)) 256) ⌝ }
+// Whether two unversioned snapshots of m and n objects have at most 256 when they are joined. They have no more than m and n together, so they are
+// counted only where that is above 256.
+fn objects_fit(
+    a: &[u8],
+    x: &[usize],
+    m: usize,
+    b: &[u8],
+    y: &[usize],
+    n: usize,
+    t: TypeIndex,
+) -> bool
+    requires { ⌜ (t .count ≤ 32) × (length (now x) ≡ 96) × (length (now y) ≡ 96) ⌝ }
+    ensures { λ r. ⌜ ((u : List ℕ) (ty : EventType) (left right : Snapshot) → TypeIs u ty t → isVersioned ty ≡ false → Meet ty left right
+        → m ≡ sizes (left .cells) → n ≡ sizes (right .cells)
+        → SetsAre (now (a .entry)) (map held (left .cells)) (now (x .entry)) → SetsAre (now (b .entry)) (map held (right .cells)) (now (y .entry))
+        → r ≡ leb (sizes (joinSnapshots (typeView ty) left right .cells)) 256) ⌝ }
 {
-    if x.objects <= 256 && y.objects <= 256 - x.objects {
+    if m <= 256 && n <= 256 - m {
         return true;
     }
     let mut room: usize = 256;
     let mut k: usize = 0;
     while k < 32 {
-        let v = set_at(&x.sets, k);
-        let w = set_at(&y.sets, k);
-        let n = count_place(t, k, a, v, b, w);
-        if room < n {
+        let count = count_place(t, k, a, set_at(x, k), b, set_at(y, k));
+        if room < count {
             return false;
         }
-        room -= n;
+        room -= count;
         k += 1;
     }
     true
@@ -120,12 +128,15 @@ pub fn limits_fit(
     table: &[u8],
     a: &[u8],
     d: DossierIndex,
+    left: &[usize],
     b: &[u8],
     e: DossierIndex,
+    right: &[usize],
     t: TypeIndex,
 ) -> bool
-    requires { ⌜ Combinable (now table) (now a) d (now b) e t ⌝ }
-    ensures { λ r. ⌜ ((h : Combinable (now (table .entry)) (now (a .entry)) d (now (b .entry)) e t) → r ≡ fits standard (typeView (h .known .left .type)) (combined (h .known .left) (h .known .right))) ⌝ }
+    requires { ⌜ (length (now left) ≡ 768) × (length (now right) ≡ 768) × Combinable (now table) (now a) d (now left) (now b) e (now right) t ⌝ }
+    ensures { λ r. ⌜ ((h : Combinable (now (table .entry)) (now (a .entry)) d (now (left .entry)) (now (b .entry)) e (now (right .entry)) t)
+        → r ≡ fits standard (typeView (h .known .left .type)) (combined (h .known .left) (h .known .right))) ⌝ }
 {
     let x = d.head;
     let y = e.head;
@@ -140,9 +151,7 @@ pub fn limits_fit(
     if 0 < t.mark {
         return true;
     }
-    let i = d.starts[0];
-    let j = e.starts[0];
-    let left = d.first;
-    let right = e.first;
-    objects_fit(&a[i..], left, &b[j..], right, t)
+    let m = d.objects[0];
+    let n = e.objects[0];
+    objects_fit(a, &left[0..96], m, b, &right[0..96], n, t)
 }

@@ -1,4 +1,6 @@
-ghost use mathlib.Core.List.{map, flatten};
+ghost use Prim.Native.Nat.{ℕ};
+ghost use mathlib.Core.Path.{_≡_};
+ghost use mathlib.Core.List.{List, map, flatten};
 ghost use lib.ListN.{length};
 ghost use Rattle.model.specs.Rule.{Snapshot, joinSnapshots};
 ghost use Rattle.packed.specs.code.Written.{Wrote};
@@ -11,39 +13,43 @@ ghost use Rattle.dossier.specs.DossierBody.{snapshotBytes};
 ghost use Rattle.dossier.specs.code.DossierIndex.{DossierIs};
 ghost use Rattle.dossier.specs.DossierHead.{dossierHeadBytes};
 ghost use Rattle.combining.specs.CombineCall.{headedAs, combined};
-ghost use Rattle.combining.specs.code.CombineIndex.{Combinable, Meet};
+ghost use Rattle.combining.specs.code.CombineIndex.{Combinable, Shared};
 ghost use Rattle.combining.specs.code.WriteIndex.{SharedRoom, bytesFrom, RestRoom, SnapshotsRoom, bothHeads, HeadsAre, HeadsRoom, CombinedRoom};
 use crate::agreed::write_agreed;
 use crate::joined::write_joined;
 use crate::limits::count_versions;
 use dossier::dossiers::DossierIndex;
 use dossier::head::write_dossier_head;
-use dossier::snapshots::SnapshotIndex;
 use event::head::hashes_part;
 use event::head::text_part;
 use ontology::types::TypeIndex;
 use packed::write::copy_part;
 use packed::write::write_number;
 use unions::pair::write_hash_union;
+use values::versions::EventVersion;
 
-// Writes what two snapshots of one version, at the front of a and b, are together. Unversioned ones stand there as the indexes say.
+// Writes what two snapshots of one version are together.
 fn write_shared<'a>(
-    table: &[u8],
+    version: EventVersion,
     a: &'a [u8],
-    x: SnapshotIndex,
+    x: &[usize],
+    m: u64,
     b: &'a [u8],
-    y: SnapshotIndex,
+    y: &[usize],
+    n: u64,
     t: TypeIndex,
     out: &mut [u8],
     at: usize,
 ) -> usize
-    requires { ⌜ SharedRoom (now table) (now a) x (now b) y t at (length (now out)) ⌝ }
-    ensures { λ r. ⌜ ((ty : EventType) (p q : Snapshot) → TypeIs (now (table .entry)) ty t → Meet (now (a .entry)) (now (b .entry)) ty p q → Wrote (now (out .entry)) at (snapshotBytes (joinSnapshots (typeView ty) p q)) (now (out .exit)) r) ⌝ }
+    requires { ⌜ (length (now x) ≡ 96) × (length (now y) ≡ 96) × SharedRoom version (now a) (now x) m (now b) (now y) n t at (length (now out)) ⌝ }
+    ensures { λ r. ⌜ ((u : List ℕ) (ty : EventType) (left right : Snapshot) → TypeIs u ty t
+        → Shared version (now (a .entry)) (now (x .entry)) m (now (b .entry)) (now (y .entry)) n ty left right
+        → Wrote (now (out .entry)) at (snapshotBytes (joinSnapshots (typeView ty) left right)) (now (out .exit)) r) ⌝ }
 {
     if 0 < t.mark {
-        return write_agreed(a, b, out, at);
+        return write_agreed(version, a, x, m, b, y, n, out, at);
     }
-    write_joined(table, a, x, b, y, t, out, at)
+    write_joined(a, x, b, y, t, out, at)
 }
 
 // The snapshots of one side from the i-th on, which stand one after the other.
@@ -64,14 +70,18 @@ fn write_snapshots<'a>(
     table: &[u8],
     a: &'a [u8],
     d: DossierIndex,
+    left: &[usize],
     b: &'a [u8],
     e: DossierIndex,
+    right: &[usize],
     t: TypeIndex,
     out: &mut [u8],
     at: usize,
 ) -> usize
-    requires { ⌜ SnapshotsRoom (now table) (now a) d (now b) e t at (length (now out)) ⌝ }
-    ensures { λ r. ⌜ ((h : Combinable (now (table .entry)) (now (a .entry)) d (now (b .entry)) e t) → Wrote (now (out .entry)) at (flatten (map snapshotBytes (combined (h .known .left) (h .known .right) .snapshots))) (now (out .exit)) r) ⌝ }
+    requires { ⌜ (length (now left) ≡ 768) × (length (now right) ≡ 768)
+        × SnapshotsRoom (now table) (now a) d (now left) (now b) e (now right) t at (length (now out)) ⌝ }
+    ensures { λ r. ⌜ ((h : Combinable (now (table .entry)) (now (a .entry)) d (now (left .entry)) (now (b .entry)) e (now (right .entry)) t)
+        → Wrote (now (out .entry)) at (flatten (map snapshotBytes (combined (h .known .left) (h .known .right) .snapshots))) (now (out .exit)) r) ⌝ }
 {
     let mut i: usize = 0;
     let mut j: usize = 0;
@@ -82,18 +92,25 @@ fn write_snapshots<'a>(
         }
         let v = d.versions[i];
         let w = e.versions[j];
-        let left = d.starts[i];
-        let right = e.starts[j];
         if v.0 < w.0 {
-            next = copy_part(a, left, d.ends[i], out, next);
+            next = copy_part(a, d.starts[i], d.ends[i], out, next);
             i += 1;
         } else if w.0 < v.0 {
-            next = copy_part(b, right, e.ends[j], out, next);
+            next = copy_part(b, e.starts[j], e.ends[j], out, next);
             j += 1;
         } else {
-            let x = d.first;
-            let y = e.first;
-            next = write_shared(table, &a[left..], x, &b[right..], y, t, out, next);
+            next = write_shared(
+                v,
+                a,
+                &left[96 * i..96 * i + 96],
+                d.differs[i],
+                b,
+                &right[96 * j..96 * j + 96],
+                e.differs[j],
+                t,
+                out,
+                next,
+            );
             i += 1;
             j += 1;
         }
@@ -132,13 +149,17 @@ pub fn write_combined<'a>(
     table: &[u8],
     a: &'a [u8],
     d: DossierIndex,
+    left: &[usize],
     b: &'a [u8],
     e: DossierIndex,
+    right: &[usize],
     t: TypeIndex,
     out: &mut [u8],
 ) -> usize
-    requires { ⌜ CombinedRoom (now table) (now a) d (now b) e t (length (now out)) ⌝ }
-    ensures { λ r. ⌜ ((h : Combinable (now (table .entry)) (now (a .entry)) d (now (b .entry)) e t) → Wrote (now (out .entry)) 0 (dossierBytes (headedAs (h .known .left .headed) (combined (h .known .left) (h .known .right)))) (now (out .exit)) r) ⌝ }
+    requires { ⌜ (length (now left) ≡ 768) × (length (now right) ≡ 768)
+        × CombinedRoom (now table) (now a) d (now left) (now b) e (now right) t (length (now out)) ⌝ }
+    ensures { λ r. ⌜ ((h : Combinable (now (table .entry)) (now (a .entry)) d (now (left .entry)) (now (b .entry)) e (now (right .entry)) t)
+        → Wrote (now (out .entry)) 0 (dossierBytes (headedAs (h .known .left .headed) (combined (h .known .left) (h .known .right)))) (now (out .exit)) r) ⌝ }
 {
     let v = d.versions;
     let w = e.versions;
@@ -148,5 +169,5 @@ pub fn write_combined<'a>(
         after_head,
         count_versions(v, d.count, w, e.count) as u64,
     );
-    write_snapshots(table, a, d, b, e, t, out, after_count)
+    write_snapshots(table, a, d, left, b, e, right, t, out, after_count)
 }

@@ -23,42 +23,46 @@ use Rattle.event.proofs.AskLaws.{table-kinds}
 use Rattle.event.specs.Agreement.{agree}
 use Rattle.dossier.specs.DossierLayout.{Headed, dossierOf}
 use Rattle.dossier.specs.DossierQuestions.{eachSnapshot, snapshotMatch, dossierShape, snapshotValues, dossierAsked, dossierMatch, dossiersAgree}
-use Rattle.dossier.specs.code.DossierIndex.{noSnapshot, DossierIs, IsDossier, DossierReads, DossierAnswers, shapeNumber}
+use Rattle.dossier.specs.code.DossierIndex.{noSnapshot, RowsAre, DossierIs, DossierReads, DossierAnswers, shapeNumber}
 use Rattle.dossier.specs.declared.dossiers.DossierIndex.{DossierIndex}
 
 -- ---- questions 3 to 6
 
-pub record Known (o : Option Headed) (s : List ℕ) (d : DossierIndex) : Type 0 where
+pub record Known (o : Option Headed) (s rows : List ℕ) (d : DossierIndex) : Type 0 where
   pub what : Headed
   pub is : o ≡ some what
   pub stands : DossierIs s what d
+  pub in-rows : RowsAre s (what .snapshots) rows
 
-pub dossier-known : (o : Option Headed) (s : List ℕ) (d : DossierIndex) → DossierReads o s d → d .ok ≡ true → Known o s d
+pub dossier-known : (o : Option Headed) (s rows : List ℕ) (d : DossierIndex) → DossierReads o s rows d → d .ok ≡ true → Known o s rows d
 unfolding DossierReads
-dossier-known none s d w h = let z : _≡_ {A = ℕ} 0 1 = cc in absurd (omega arith)
-dossier-known (some h) s d w e = record { what = h; is = refl; stands = w .1 }
+dossier-known none s rows d w h = let z : _≡_ {A = ℕ} 0 1 = cc in absurd (omega arith)
+dossier-known (some h) s rows d w e = record { what = h; is = refl; stands = w .1; in-rows = w .2 }
 
-dossier-no : (o : Option Headed) (s : List ℕ) (d : DossierIndex) → DossierReads o s d → d .ok ≡ false → o ≡ none
+dossier-no : (o : Option Headed) (s rows : List ℕ) (d : DossierIndex) → DossierReads o s rows d → d .ok ≡ false → o ≡ none
 unfolding DossierReads
-dossier-no none s d w h = refl
-dossier-no (some h) s d w e = let z : _≡_ {A = ℕ} 0 1 = cc (w .0) in absurd (omega arith)
+dossier-no none s rows d w h = refl
+dossier-no (some h) s rows d w e = let z : _≡_ {A = ℕ} 0 1 = cc (w .0) in absurd (omega arith)
 
 -- the dossier that was read stands as its index says
-pub reads-is : (s : List ℕ) (d : DossierIndex) (h : Headed) → DossierReads (dossierOf standard s) s d → dossierOf standard s ≡ some h → DossierIs s h d
+pub reads-is :
+    (s rows : List ℕ) (d : DossierIndex) (h : Headed) → DossierReads (dossierOf standard s) s rows d → dossierOf standard s ≡ some h →
+    DossierIs s h d × RowsAre s (h .snapshots) rows
 unfolding DossierReads
-reads-is s d h w e = subst (λ (o : Option Headed). DossierReads o s d) e w .1
+reads-is s rows d h w e = let r = subst (λ (o : Option Headed). DossierReads o s rows d) e w in (r .1, r .2)
 
-pub is-dossier : (o : Option Headed) (s : List ℕ) (d : DossierIndex) → DossierReads o s d → d .ok ≡ true → IsDossier s d
-is-dossier o s d w h = let k = dossier-known o s d w h in record { what = k .what; is = k .stands }
+-- a dossier has 8 snapshots at most
+pub reads-few : (o : Option Headed) (s rows : List ℕ) (d : DossierIndex) → DossierReads o s rows d → d .ok ≡ true → d .count ≤ 8
+reads-few o s rows d w h = dossier-known o s rows d w h .stands .few
 
-module _ (table : List ℕ) (ts : Table) (s : List ℕ) (d : DossierIndex) (w : DossierReads (dossierOf standard s) s d) where
+module _ (table : List ℕ) (ts : Table) (s rows : List ℕ) (d : DossierIndex) (w : DossierReads (dossierOf standard s) s rows d) where
   pub answer-layout : d .ok ≡ false → (k : TypeIndex) → DossierAnswers (dossierAsked standard ts s) table (record { number = 3; «event_type» = k })
   unfolding dossierAsked DossierAnswers
-  answer-layout h k = let e : dossierOf standard s ≡ none = dossier-no (dossierOf standard s) s d w h in rw e refl
+  answer-layout h k = let e : dossierOf standard s ≡ none = dossier-no (dossierOf standard s) s rows d w h in rw e refl
 
   module _ (ok : d .ok ≡ true) where
-    it : Known (dossierOf standard s) s d
-    it = dossier-known (dossierOf standard s) s d w ok
+    it : Known (dossierOf standard s) s rows d
+    it = dossier-known (dossierOf standard s) s rows d w ok
 
     module _ (read : TableRead) (says : (h : Headed) → DossierIs s h d → TypeSays (typeNamed (h .head .type) ts) table read) where
       pub answer-type : read .found ≡ false → (k : TypeIndex) → DossierAnswers (dossierAsked standard ts s) table (record { number = 4; «event_type» = k })
@@ -71,13 +75,14 @@ module _ (table : List ℕ) (ts : Table) (s : List ℕ) (d : DossierIndex) (w : 
 
         pub answer-rest :
             (n : ℕ) →
-            ((u : List ℕ) (ty : EventType) (h : Headed) → TypeIs u ty (read .index) → KindsAre ty → DossierIs s h d → n ≡ shapeNumber (dossierShape standard ty (h .snapshots)) (eachSnapshot (snapshotValues ty) (h .snapshots))) →
+            ((u : List ℕ) (ty : EventType) (h : Headed) → TypeIs u ty (read .index) → KindsAre ty → DossierIs s h d → RowsAre s (h .snapshots) rows →
+            n ≡ shapeNumber (dossierShape standard ty (h .snapshots)) (eachSnapshot (snapshotValues ty) (h .snapshots))) →
             DossierAnswers (dossierAsked standard ts s) table (record { number = n; «event_type» = read .index })
         unfolding dossierAsked DossierAnswers shapeNumber
         answer-rest n a =
             rw (it .is, type .is)
             (go (dossierShape standard (type .what) (it .what .snapshots)) (eachSnapshot (snapshotValues (type .what)) (it .what .snapshots))
-            (a table (type .what) (it .what) (type .stands) (table-kinds table ts (it .what .head .type) (type .what) e (type .is)) (it .stands)))
+            (a table (type .what) (it .what) (type .stands) (table-kinds table ts (it .what .head .type) (type .what) e (type .is)) (it .stands) (it .in-rows)))
           where
             go :
                 (x y : Bool) → n ≡ shapeNumber x y →

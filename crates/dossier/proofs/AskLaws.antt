@@ -7,25 +7,26 @@ use Prim.Native.Nat.{ℕ, _+_, _-_, _≤_, _<_}
 use native.Mathlib.Omega.{arith}
 use native.Mathlib.Numerals.{add-one}
 use lib.Dec.{ltb, leb, eqb}
-use lib.ListN.{length, take, drop, getD, drop-of-length-le}
-use lib.Seq.{drop-cons}
+use lib.ListN.{length, take, drop, getD, drop-of-length-le, List·getD-map}
+use lib.Seq.{drop-cons, getD-take}
 use Rattle.model.specs.Order.{sets, lists, equal}
 use Rattle.model.proofs.OrderLaws.{equal-true}
 use Rattle.model.specs.Rule.{Cell, holds, Snapshot, sizes}
 use Rattle.model.specs.Limits.{standard}
 use Rattle.model.specs.Opening.{held, isMark, cellAt}
 use Rattle.model.proofs.Cases.{and-false, and-true}
-use Rattle.packed.specs.Parse.{Parse, got}
-use Rattle.packed.proofs.ReadLaws.{to-end}
+use Rattle.values.specs.declared.versions.EventVersion.{EventVersion}
 use Rattle.ontology.specs.Table.{Property, EventType, isVersioned}
 use Rattle.ontology.specs.code.TypeIndex.{TypeIs}
 use Rattle.ontology.specs.declared.types.TypeIndex.{TypeIndex}
 use Rattle.event.specs.EventQuestions.{matchCount}
+use Rattle.event.specs.EventLayout.{bitNumber}
+use Rattle.event.specs.code.EventIndex.{SetsAre}
 use Rattle.dossier.specs.DossierLayout.{Headed}
-use Rattle.dossier.specs.DossierBody.{readSnapshot}
+use Rattle.dossier.specs.DossierBody.{differBit}
 use Rattle.dossier.specs.DossierQuestions.{eachCell, eachSnapshot, isVacant, isPresent, isLoneIfSingle, isLoneIfExtreme, isUnmarkedMatch, unversionedSnapshot, unversionedShape, holdsVersion, versionedSnapshot, snapshotMatch, matchFits, matchAlike, dossierShape, snapshotValues}
-use Rattle.dossier.specs.code.DossierIndex.{SnapshotIs, SnapshotReads, noSnapshot, DossierIs, cellFits, versionFits, snapshotFits, shapeNumber}
-use Rattle.dossier.specs.declared.snapshots.SnapshotIndex.{SnapshotIndex}
+use Rattle.dossier.specs.code.DossierIndex.{SnapshotIs, noSnapshot, noVersion, rowOf, RowsAre, DossierIs, cellFits, versionFits, snapshotFits, shapeNumber}
+use Rattle.dossier.specs.declared.snapshots.SnapshotNumbers.{SnapshotNumbers}
 use Rattle.dossier.specs.declared.dossiers.DossierIndex.{DossierIndex}
 
 -- ---- tests
@@ -161,11 +162,6 @@ module _ (f m v : Bool) where
     unfolding shapeNumber
     number-values l = sym (ap₂ (λ (x y : Bool). shapeNumber (x && y) v) (sym e ∙ h) (sym g ∙ k) ∙ ap (shapeNumber true) (sym n ∙ l))
 
--- the index of the snapshot that is there
-pub reads-got : (p : Parse Snapshot) (s : List ℕ) (i : SnapshotIndex) (x : Snapshot) (t : List ℕ) → SnapshotReads p s i → p ≡ got x t → SnapshotIs s x i
-unfolding SnapshotReads
-reads-got p s i x t w e = (rw e at w) .1
-
 -- ---- the numbers of all snapshots
 
 five : (a b : Bool) → shapeNumber a b ≡ 5 → a ≡ false
@@ -237,13 +233,40 @@ module _ (s : List ℕ) (h : Headed) (d : DossierIndex) (w : DossierIs s h d) wh
   pub start-within : (j : ℕ) → j < d .count → getD (d .starts) j 0 ≤ length s
   start-within j l = let a = w .snapshots .each j (omega (arith, w .count)) in omega (arith, a .order, a .within)
 
-  -- what the part of the dossier from a snapshot on reads as
-  pub start-reads : (j : ℕ) → j < d .count → readSnapshot (take (length s - getD (d .starts) j 0) (drop (getD (d .starts) j 0) s)) ≡ got (getD (h .snapshots) j noSnapshot) (drop (getD (d .ends) j 0) s)
-  start-reads j l = ap readSnapshot (to-end s (getD (d .starts) j 0)) ∙ w .snapshots .each j (omega (arith, w .count)) .is
+  -- the numbers that the index has of a snapshot
+  abbrev pub numbersAt : ℕ → SnapshotNumbers
+  numbersAt j = record { version = getD (d .versions) j noVersion; differ = getD (d .differs) j 0; objects = getD (d .objects) j 0 }
 
-  -- the first snapshot stands, as its index says, at the front of that part
-  pub first-stands : SnapshotIs (take (length s - getD (d .starts) 0 0) (drop (getD (d .starts) 0 0) s)) (getD (h .snapshots) 0 noSnapshot) (d .first)
-  first-stands = subst (λ (l : List ℕ). SnapshotIs l (getD (h .snapshots) 0 noSnapshot) (d .first)) (sym (to-end s (getD (d .starts) 0 0))) (w .first)
+  -- what is noted of each snapshot
+  noted :
+      (xs : List ℕ) (f : Snapshot → ℕ) → f noSnapshot ≡ 0 → take (length (h .snapshots)) xs ≡ map f (h .snapshots) →
+      (j : ℕ) → j < length (h .snapshots) → getD xs j 0 ≡ f (getD (h .snapshots) j noSnapshot)
+  noted xs f z e j l =
+      sym (getD-take (length (h .snapshots)) xs j 0 l)
+      ∙ ap (λ (ns : List ℕ). getD ns j 0) e
+      ∙ ap (getD (map f (h .snapshots)) j) (sym z)
+      ∙ List·getD-map f (h .snapshots) j noSnapshot
+
+  -- a snapshot has these numbers, and its sets stand where its row says
+  pub snapshot-stands :
+      (rows : List ℕ) → RowsAre s (h .snapshots) rows → (j : ℕ) → j < d .count →
+      SnapshotIs s (getD (h .snapshots) j noSnapshot) (numbersAt j) (rowOf rows j)
+  unfolding sizes bitNumber
+  snapshot-stands rows r j l =
+      let k = in-count j l in
+      record {
+        version =
+            ap (λ (v : EventVersion). v .0) (sym (getD-take (length (h .snapshots)) (d .versions) j noVersion k))
+            ∙ sym (List·getD-map (λ (v : EventVersion). v .0) (take (length (h .snapshots)) (d .versions)) j noVersion)
+            ∙ ap (λ (ns : List ℕ). getD ns j 0) (w .snapshots .numbers)
+            ∙ List·getD-map (λ (x : Snapshot). x .version) (h .snapshots) j noSnapshot;
+        differ = noted (d .differs) (λ (x : Snapshot). bitNumber (map differBit (x .cells))) refl (w .differs) j k;
+        objects = noted (d .objects) (λ (x : Snapshot). sizes (x .cells)) refl (w .objects) j k;
+        sets = r .each j k;
+      }
+
+  pub first-sets : (rows : List ℕ) → RowsAre s (h .snapshots) rows → SetsAre s (map held (getD (h .snapshots) 0 noSnapshot .cells)) (rowOf rows 0)
+  first-sets rows r = r .each 0 (omega (arith, w .one, w .count))
 
   module _ (u : List ℕ) (ty : EventType) (t : TypeIndex) (v : TypeIs u ty t) where
     lone-of : {r : Bool} → r ≡ (ltb 0 (t .mark) || eqb (d .count) 1) → r ≡ (isVersioned ty || eqb (length (h .snapshots)) 1)

@@ -1,24 +1,26 @@
 -- The laws of reading a dossier: its snapshots one after the other, their versions, and the whole.
-use mathlib.Core.Path.{_≡_, refl, sym, ap, ap₂, _∙_, subst}
-use mathlib.Core.Logic.{_⊎_, inl, inr, ⊎-elim}
+use mathlib.Core.Path.{_≡_, refl, sym, ap, ap₂, _∙_, subst, subst₂}
+use mathlib.Core.Logic.{⊎-elim}
 use mathlib.Core.Bool.{Bool, true, false}
 use mathlib.Core.Option.{Option, none, some}
-use mathlib.Core.List.{List, [], _∷_, _++_, append-nil, map}
-use Prim.Native.Nat.{ℕ, zero, suc, _+_, _-_, _≤_, _<_}
+use mathlib.Core.List.{List, [], _∷_, _++_, append-nil, map, map-id}
+use Prim.Native.Nat.{ℕ, zero, suc, _+_, _-_, _*_, _≤_, _<_}
 use native.Mathlib.Omega.{arith}
 use native.Mathlib.Numerals.{add-one, sub-one}
-use lib.ListN.{length, take, drop, getD, set, length-append, length-drop, length-map, length-set, List·getD-append, List·getD-map}
-use lib.Seq.{drop-cons, drop-length, getD-at, getD-set-same, getD-set-other, getD-take, length-take-le, take-suc-set}
+use lib.ListN.{length, take, drop, getD, set, replicate, length-append, length-drop, take-append-drop, length-map, length-set, List·getD-append, List·getD-map}
+use lib.Seq.{drop-cons, drop-length, getD-at, getD-set-same, getD-set-other, getD-take, length-take-le, take-suc-set, take-at, drop-at, take-append-le, drop-append-le}
 use borrow.Author.Count.{below-more}
+use borrow.Rule.Slice.PartMut.{midOf, postOf, putMid, same-len-mid, mid-len}
 use Rattle.model.specs.Order.{numbers, rising}
 use Rattle.model.proofs.Cases.{three, never}
 use Rattle.model.proofs.OrderLaws.{less-of, less-cmp}
-use Rattle.model.specs.Rule.{Snapshot}
+use Rattle.model.specs.Rule.{Snapshot, sizes}
+use Rattle.model.specs.Opening.{held}
 use Rattle.model.specs.Limits.{standard}
 use Rattle.model.proofs.PartLaws.{map-append}
 use Rattle.packed.specs.Parse.{Parse, fail, got, Layout, andThen, _>>=_, foundIf, suchThat, times, whole, found}
 use Rattle.packed.specs.Packed.{readNumber, isWithin}
-use Rattle.packed.proofs.LayoutLaws.{fail-got, lt-or-ge, times-was}
+use Rattle.packed.proofs.LayoutLaws.{lt-or-ge, times-was}
 use Rattle.packed.proofs.ReadLaws.{drop-next}
 use Rattle.packed.specs.code.Located.{Got}
 use Rattle.packed.proofs.FieldLaws.{got-bounds}
@@ -26,19 +28,21 @@ use Rattle.values.specs.declared.versions.EventVersion.{EventVersion}
 use Rattle.ontology.proofs.RunLaws.{prepend, prepend-nil, prepend-one}
 use Rattle.event.specs.Head.{Head}
 use Rattle.event.specs.EventLayout.{bitNumber}
+use Rattle.event.specs.code.EventIndex.{SetsAre, Promised}
 use Rattle.event.specs.declared.head.HeadAt.{HeadAt}
 use Rattle.dossier.specs.declared.head.DossierHeadRead.{DossierHeadRead}
 use Rattle.dossier.specs.declared.head.DossierHeadRead.the-variants as read
 use Rattle.dossier.specs.DossierHead.{readDossierHead}
 use Rattle.dossier.specs.DossierLayout.{Headed, readDossier, dossierOf}
 use Rattle.dossier.specs.DossierBody.{readSnapshot, differBit, snapshotBytes, readBody}
-use Rattle.dossier.specs.code.DossierIndex.{SnapshotIs, SnapshotReads, SnapshotAt, PassedIs, PassedSays, noSnapshot, versionNumbers, noVersion, SnapshotsAre, SnapshotsSay, DossierIs, DossierReads, DossierSays, DossierHeadStops, DossierHeadReads}
-use Rattle.dossier.specs.declared.snapshots.SnapshotIndex.{SnapshotIndex}
-use Rattle.dossier.specs.declared.snapshots.SnapshotPassed.{SnapshotPassed}
+use Rattle.dossier.specs.code.DossierIndex.{SnapshotAt, SnapshotStops, SnapshotReads, noSnapshot, versionNumbers, noVersion, rowOf, SnapshotsStop, SnapshotsSay}
+use Rattle.dossier.specs.code.DossierIndex.{DossierIs, DossierReads, IsDossier, DossierHeadStops, DossierHeadReads}
+use Rattle.dossier.specs.declared.snapshots.SnapshotNumbers.{SnapshotNumbers}
+use Rattle.dossier.specs.declared.snapshots.SnapshotRead.{SnapshotRead}
+use Rattle.dossier.specs.declared.snapshots.SnapshotRead.the-variants.{Found, NoSnapshot}
 use Rattle.dossier.specs.declared.dossiers.SnapshotsRead.{SnapshotsRead}
 use Rattle.dossier.specs.declared.dossiers.DossierIndex.{DossierIndex}
 use Rattle.dossier.proofs.DossierBodyLaws.{SnapshotWritten, snapshot-was}
-use Rattle.dossier.proofs.PassLaws.{reads-none, passedAt, read-one, read-passed, pass-refused}
 
 -- ---- versions that rise
 
@@ -109,30 +113,88 @@ as-many n t xs r e = times-was readSnapshot snapshotBytes SnapshotWritten snapsh
 abbrev differNumber : Snapshot → ℕ
 differNumber x = bitNumber (map differBit (x .cells))
 
--- an array of which each element is the same
-abbrev pub eight : {A : Type 0} → A → List A
-eight n = n ∷ n ∷ n ∷ n ∷ n ∷ n ∷ n ∷ n ∷ []
+abbrev objectsOf : Snapshot → ℕ
+objectsOf x = sizes (x .cells)
+
+-- a row put among the others, as a part of them that was lent
+abbrev pub withRow : List ℕ → List ℕ → ℕ → List ℕ
+withRow rows ats j = putMid (96 * j) (96 * j + 96 - 96 * j) rows ats
+
+-- what was lent has a row's length
+pub row-lent :
+    (rows ats : List ℕ) (j : ℕ) → 96 * j + 96 ≤ length rows → length ats ≡ length (midOf (96 * j) (96 * j + 96 - 96 * j) rows) → length ats ≡ 96
+row-lent rows ats j inside e = e ∙ mid-len (96 * j) (96 * j + 96) rows inside ∙ omega arith
+
+module _ (rows ats : List ℕ) (j : ℕ) (inside : 96 * j + 96 ≤ length rows) (long : length ats ≡ 96) where
+  front-long : length (take (96 * j) rows) ≡ 96 * j
+  front-long = length-take-le (96 * j) rows (omega arith)
+
+  pub row-here : rowOf (withRow rows ats j) j ≡ ats
+  row-here =
+      let after = postOf (96 * j) (96 * j + 96 - 96 * j) rows in
+      ap (take (96 * j + 96 - 96 * j)) (drop-at (take (96 * j) rows) (ats ++ after) (96 * j) front-long)
+      ∙ take-at ats after (96 * j + 96 - 96 * j) (omega (arith, long))
+
+  -- a row before it
+  row-front : (rest : List ℕ) (i : ℕ) → i < j → rowOf (take (96 * j) rows ++ rest) i ≡ rowOf (take (96 * j) rows) i
+  row-front rest i l =
+      ap (take (96 * i + 96 - 96 * i)) (drop-append-le (96 * i) (take (96 * j) rows) rest (omega (arith, front-long)))
+      ∙ take-append-le (96 * i + 96 - 96 * i) (drop (96 * i) (take (96 * j) rows)) rest
+      (omega (arith, length-drop (96 * i) (take (96 * j) rows), front-long))
+
+  pub row-other : (i : ℕ) → i < j → rowOf (withRow rows ats j) i ≡ rowOf rows i
+  row-other i l =
+      row-front (ats ++ postOf (96 * j) (96 * j + 96 - 96 * j) rows) i l
+      ∙ sym (row-front (drop (96 * j) rows) i l)
+      ∙ ap (λ (xs : List ℕ). rowOf xs i) (take-append-drop (96 * j) rows)
+
+  pub row-length : length (withRow rows ats j) ≡ length rows
+  row-length =
+      same-len-mid (96 * j) (96 * j + 96 - 96 * j) rows ats
+      (sym (mid-len (96 * j) (96 * j + 96) rows inside ∙ omega (arith, long)))
+
+-- what is noted of each snapshot in an array of eight, with one more
+noted-more :
+    {A : Type 0} (f : Snapshot → ℕ) (g : A → ℕ) (ns : List A) (xs : List Snapshot) (x : Snapshot) (n : A) (j : ℕ) →
+    j < length ns → map g (take j ns) ≡ map f xs → g n ≡ f x → map g (take (j + 1) (set ns j n)) ≡ map f (xs ++ (x ∷ []))
+noted-more f g ns xs x n j l e h =
+    ap (λ (k : ℕ). map g (take k (set ns j n))) (add-one j)
+    ∙ ap (map g) (take-suc-set ns j n l)
+    ∙ map-append g (take j ns) (n ∷ [])
+    ∙ ap₂ (λ (l : List ℕ) (k : ℕ). l ++ (k ∷ [])) e h
+    ∙ sym (map-append f xs (x ∷ []))
 
 -- The first j of n snapshots are read: they are xs, and the others stand from `next` on
-pub record Passed (p : Parse (List Snapshot)) (s starts ends : List ℕ) (versions : List EventVersion) (differs : List ℕ) (first : SnapshotIndex) (n next j : ℕ) : Type 0 where
+pub record Sofar (p : Parse (List Snapshot)) (s rows : List ℕ) (r : SnapshotsRead) (n next j : ℕ) : Type 0 where
   pub xs : List Snapshot
   pub long : length xs ≡ j
   pub below : j ≤ n
   pub rest : p ≡ prepend xs (times readSnapshot (n - j) (drop next s))
   pub within : next ≤ length s
-  pub each : (i : ℕ) → i < j → SnapshotAt s (getD xs i noSnapshot) (getD starts i 0) (getD ends i 0)
-  pub follows : (i : ℕ) → suc i < j → getD starts (suc i) 0 ≡ getD ends i 0
-  pub last : (i : ℕ) → suc i ≡ j → getD ends i 0 ≡ next
-  pub numbers : versionNumbers (take j versions) ≡ map (λ (x : Snapshot). x .version) xs
-  pub marks : take j differs ≡ map differNumber xs
-  pub front : 1 ≤ j → SnapshotIs (drop (getD starts 0 0) s) (getD xs 0 noSnapshot) first
-  pub starts-long : length starts ≡ 8
-  pub ends-long : length ends ≡ 8
-  pub versions-long : length versions ≡ 8
-  pub differs-long : length differs ≡ 8
+  pub each : (i : ℕ) → i < j → SnapshotAt s (getD xs i noSnapshot) (getD (r .starts) i 0) (getD (r .ends) i 0)
+  pub follows : (i : ℕ) → suc i < j → getD (r .starts) (suc i) 0 ≡ getD (r .ends) i 0
+  pub last : (i : ℕ) → suc i ≡ j → getD (r .ends) i 0 ≡ next
+  pub numbers : versionNumbers (take j (r .versions)) ≡ map (λ (x : Snapshot). x .version) xs
+  pub marks : map (λ (k : ℕ). k) (take j (r .differs)) ≡ map differNumber xs
+  pub counts : map (λ (k : ℕ). k) (take j (r .objects)) ≡ map objectsOf xs
+  pub stand : (i : ℕ) → i < j → SetsAre s (map held (getD xs i noSnapshot .cells)) (rowOf rows i)
+  pub refused : r .ok ≡ false
+  pub starts-long : length (r .starts) ≡ 8
+  pub ends-long : length (r .ends) ≡ 8
+  pub versions-long : length (r .versions) ≡ 8
+  pub differs-long : length (r .differs) ≡ 8
+  pub objects-long : length (r .objects) ≡ 8
+  pub rows-long : length rows ≡ 768
 
-passed-none : (s starts ends : List ℕ) (versions : List EventVersion) (differs : List ℕ) (first : SnapshotIndex) (n at : ℕ) → at ≤ length s → length starts ≡ 8 → length ends ≡ 8 → length versions ≡ 8 → length differs ≡ 8 → Passed (times readSnapshot n (drop at s)) s starts ends versions differs first n at 0
-passed-none s starts ends versions differs first n at h a b c d =
+-- where nothing is read yet
+abbrev pub noneRead : SnapshotsRead
+noneRead =
+    let none : List ℕ = replicate 8 0 in
+    record { ok = false; next = 0; starts = none; ends = none; versions = replicate 8 noVersion; differs = none; objects = none }
+
+pub sofar-none :
+    (s rows : List ℕ) (n at : ℕ) → at ≤ length s → length rows ≡ 768 → Sofar (times readSnapshot n (drop at s)) s rows noneRead n at 0
+sofar-none s rows n at h l =
     let z : n - 0 ≡ n = omega arith in
     record {
       xs = [];
@@ -145,194 +207,190 @@ passed-none s starts ends versions differs first n at h a b c d =
       last = λ i k. absurd (omega arith);
       numbers = refl;
       marks = refl;
-      front = λ k. absurd (omega arith);
-      starts-long = a;
-      ends-long = b;
-      versions-long = c;
-      differs-long = d;
+      counts = refl;
+      stand = λ i k. absurd (omega arith);
+      refused = refl;
+      starts-long = refl;
+      ends-long = refl;
+      versions-long = refl;
+      differs-long = refl;
+      objects-long = refl;
+      rows-long = l;
     }
 
-module _ (p : Parse (List Snapshot)) (s starts ends : List ℕ) (versions : List EventVersion) (differs : List ℕ) (first : SnapshotIndex) (n next j : ℕ) (w : Passed p s starts ends versions differs first n next j) where
+module _ (p : Parse (List Snapshot)) (s rows : List ℕ) (r : SnapshotsRead) (n next j : ℕ) (w : Sofar p s rows r n next j) where
   one-more : j < n → suc (n - (j + 1)) ≡ n - j
   one-more h = omega arith
 
   module _ (h : j < n) where
-    passed-stop : readSnapshot (drop next s) ≡ fail → p ≡ fail
-    passed-stop e =
+    pub sofar-bad : readSnapshot (drop next s) ≡ fail → p ≡ fail
+    sofar-bad e =
         w .rest
         ∙ ap (λ (m : ℕ). prepend (w .xs) (times readSnapshot m (drop next s))) (sym (one-more h))
         ∙ ap (prepend (w .xs)) (times-stop (n - (j + 1)) (drop next s) e)
 
-    -- the snapshot x stands at `next`
-    module _ (x : Snapshot) (r : SnapshotPassed) (k : PassedIs s x next r) (few : n ≤ 8) where
+    -- a snapshot that is promised with the others is read
+    pub sofar-promised : {known : Bool} → Promised known p → Promised known (readSnapshot (drop next s))
+    sofar-promised q k e = q k (sofar-bad e)
+
+    -- the next snapshot is read, and its row is put among the others
+    module _
+        (few : n ≤ 8) (x : SnapshotNumbers) (end : ℕ) (ats : List ℕ) (k : SnapshotStops s next x end ats) (long : length ats ≡ 96) where
+      inside : 96 * j + 96 ≤ length rows
+      inside = omega (arith, w .rows-long)
+
+      abbrev after : List ℕ
+      after = withRow rows ats j
+
+      abbrev it : Snapshot
+      it = k .what
+
+      abbrev all : List Snapshot
+      all = w .xs ++ (it ∷ [])
+
       old : (m : ℕ) → m < j → m ≡ j → ⊥
       old m l e = omega arith
 
-      each-old : (m : ℕ) → m < j → SnapshotAt s (getD (w .xs ++ (x ∷ [])) m noSnapshot) (getD (set starts j next) m 0) (getD (set ends j (r .next)) m 0)
-      each-old m l =
-          rw (getD-set-other starts j m next 0 (old m l), getD-set-other ends j m (r .next) 0 (old m l), List·getD-append (w .xs) (x ∷ []) noSnapshot m (omega (arith, w .long)))
-          (w .each m l)
+      abbrev pub with-one : SnapshotsRead
+      with-one = record {
+        ok = r .ok;
+        next = r .next;
+        starts = set (r .starts) j next;
+        ends = set (r .ends) j end;
+        versions = set (r .versions) j (x .version);
+        differs = set (r .differs) j (x .differ);
+        objects = set (r .objects) j (x .objects);
+      }
 
-      each-last : SnapshotAt s (getD (w .xs ++ (x ∷ [])) j noSnapshot) (getD (set starts j next) j 0) (getD (set ends j (r .next)) j 0)
+      was : (m : ℕ) → m < j → getD all m noSnapshot ≡ getD (w .xs) m noSnapshot
+      was m l = List·getD-append (w .xs) (it ∷ []) noSnapshot m (omega (arith, w .long))
+
+      is-last : getD all j noSnapshot ≡ it
+      is-last = getD-at (w .xs) it [] noSnapshot j (w .long)
+
+      each-old : (m : ℕ) → m < j → SnapshotAt s (getD all m noSnapshot) (getD (with-one .starts) m 0) (getD (with-one .ends) m 0)
+      each-old m l = rw (getD-set-other (r .starts) j m next 0 (old m l), getD-set-other (r .ends) j m end 0 (old m l), was m l) (w .each m l)
+
+      each-last : SnapshotAt s (getD all j noSnapshot) (getD (with-one .starts) j 0) (getD (with-one .ends) j 0)
       each-last =
-          let a : j < length starts = omega (arith, w .starts-long) in
-          let b : j < length ends = omega (arith, w .ends-long) in
-          rw (getD-set-same starts j next 0 a, getD-set-same ends j (r .next) 0 b, getD-at (w .xs) x [] noSnapshot j (w .long)) (k .stands)
+          let a : j < length (r .starts) = omega (arith, w .starts-long) in
+          let b : j < length (r .ends) = omega (arith, w .ends-long) in
+          rw (getD-set-same (r .starts) j next 0 a, getD-set-same (r .ends) j end 0 b, is-last) (k .stands)
 
-      follows-on : (m : ℕ) → suc m < j + 1 → getD (set starts j next) (suc m) 0 ≡ getD (set ends j (r .next)) m 0
+      stand-old : (m : ℕ) → m < j → SetsAre s (map held (getD all m noSnapshot .cells)) (rowOf after m)
+      stand-old m l = subst₂ (λ (y : Snapshot) (l : List ℕ). SetsAre s (map held (y .cells)) l) (sym (was m l)) (sym (row-other rows ats j inside long m l)) (w .stand m l)
+
+      stand-last : SetsAre s (map held (getD all j noSnapshot .cells)) (rowOf after j)
+      stand-last = subst₂ (λ (y : Snapshot) (l : List ℕ). SetsAre s (map held (y .cells)) l) (sym is-last) (sym (row-here rows ats j inside long)) (k .is .sets)
+
+      follows-on : (m : ℕ) → suc m < j + 1 → getD (with-one .starts) (suc m) 0 ≡ getD (with-one .ends) m 0
       follows-on m l =
           let ne : m ≡ j → ⊥ = λ e. omega arith in
-          let a : j < length starts = omega (arith, w .starts-long) in
-          ⊎-elim (λ (b : suc m < j). getD-set-other starts j (suc m) next 0 (old (suc m) b) ∙ w .follows m b ∙ sym (getD-set-other ends j m (r .next) 0 ne))
+          let a : j < length (r .starts) = omega (arith, w .starts-long) in
+          ⊎-elim
+          (λ (b : suc m < j). getD-set-other (r .starts) j (suc m) next 0 (old (suc m) b) ∙ w .follows m b ∙ sym (getD-set-other (r .ends) j m end 0 ne))
           (λ (b : j ≤ suc m).
           let e : suc m ≡ j = omega arith in
-          ap (λ (k : ℕ). getD (set starts j next) k 0) e ∙ getD-set-same starts j next 0 a ∙ sym (getD-set-other ends j m (r .next) 0 ne ∙ w .last m e))
+          ap (λ (i : ℕ). getD (with-one .starts) i 0) e
+          ∙ getD-set-same (r .starts) j next 0 a
+          ∙ sym (getD-set-other (r .ends) j m end 0 ne ∙ w .last m e))
           (lt-or-ge (suc m) j)
 
-      last-on : (m : ℕ) → suc m ≡ j + 1 → getD (set ends j (r .next)) m 0 ≡ r .next
+      last-on : (m : ℕ) → suc m ≡ j + 1 → getD (with-one .ends) m 0 ≡ end
       last-on m l =
           let e : m ≡ j = omega arith in
-          let a : j < length ends = omega (arith, w .ends-long) in
-          ap (λ (k : ℕ). getD (set ends j (r .next)) k 0) e ∙ getD-set-same ends j (r .next) 0 a
+          let a : j < length (r .ends) = omega (arith, w .ends-long) in
+          ap (λ (i : ℕ). getD (with-one .ends) i 0) e ∙ getD-set-same (r .ends) j end 0 a
 
-      numbers-on : versionNumbers (take (j + 1) (set versions j (r .version))) ≡ map (λ (y : Snapshot). y .version) (w .xs ++ (x ∷ []))
-      numbers-on =
-          let a : j < length versions = omega (arith, w .versions-long) in
-          ap (λ (k : ℕ). versionNumbers (take k (set versions j (r .version)))) (add-one j)
-          ∙ ap versionNumbers (take-suc-set versions j (r .version) a)
-          ∙ map-append (λ (v : EventVersion). v .0) (take j versions) (r .version ∷ [])
-          ∙ ap₂ (λ (l : List ℕ) (k : ℕ). l ++ (k ∷ [])) (w .numbers) (k .version)
-          ∙ sym (map-append (λ (y : Snapshot). y .version) (w .xs) (x ∷ []))
-
-      marks-on : take (j + 1) (set differs j (r .differ)) ≡ map differNumber (w .xs ++ (x ∷ []))
-      marks-on =
-          let a : j < length differs = omega (arith, w .differs-long) in
-          ap (λ (k : ℕ). take k (set differs j (r .differ))) (add-one j)
-          ∙ take-suc-set differs j (r .differ) a
-          ∙ ap₂ (λ (l : List ℕ) (k : ℕ). l ++ (k ∷ [])) (w .marks) (k .differ)
-          ∙ sym (map-append differNumber (w .xs) (x ∷ []))
-
-      -- the index of the first snapshot is that of the one that is read first
-      front-on : (j ≡ 0 → SnapshotIs (drop next s) x first) → SnapshotIs (drop (getD (set starts j next) 0 0) s) (getD (w .xs ++ (x ∷ [])) 0 noSnapshot) first
-      front-on is =
-          ⊎-elim (λ (b : 0 < j).
-          let o : 0 ≡ j → ⊥ = λ e. omega arith in
-          rw (getD-set-other starts j 0 next 0 o, List·getD-append (w .xs) (x ∷ []) noSnapshot 0 (omega (arith, w .long))) (w .front b))
-          (λ (b : j ≤ 0).
-          let e : j ≡ 0 = omega arith in
-          let a : j < length starts = omega (arith, w .starts-long) in
-          let g : SnapshotIs (drop (getD (set starts j next) j 0) s) (getD (w .xs ++ (x ∷ [])) j noSnapshot) first =
-          rw (getD-set-same starts j next 0 a, getD-at (w .xs) x [] noSnapshot j (w .long)) (is e) in
-          subst (λ (k : ℕ). SnapshotIs (drop (getD (set starts j next) k 0) s) (getD (w .xs ++ (x ∷ [])) k noSnapshot) first) e g)
-          (lt-or-ge 0 j)
-
-      passed-one : (j ≡ 0 → SnapshotIs (drop next s) x first) → Passed p s (set starts j next) (set ends j (r .next)) (set versions j (r .version)) (set differs j (r .differ)) first n (r .next) (j + 1)
-      passed-one is = record {
-        xs = w .xs ++ (x ∷ []);
-        long = length-append (w .xs) (x ∷ []) ∙ ap (λ (m : ℕ). m + 1) (w .long);
+      pub sofar-more : Sofar p s after with-one n end (j + 1)
+      sofar-more = record {
+        xs = all;
+        long = length-append (w .xs) (it ∷ []) ∙ ap (λ (m : ℕ). m + 1) (w .long);
         below = omega arith;
         rest =
             w .rest
             ∙ ap (λ (m : ℕ). prepend (w .xs) (times readSnapshot m (drop next s))) (sym (one-more h))
-            ∙ ap (prepend (w .xs)) (times-step (n - (j + 1)) (drop next s) x (drop (r .next) s) (k .stands .is))
-            ∙ prepend-one (w .xs) x (times readSnapshot (n - (j + 1)) (drop (r .next) s));
+            ∙ ap (prepend (w .xs)) (times-step (n - (j + 1)) (drop next s) it (drop end s) (k .stands .is))
+            ∙ prepend-one (w .xs) it (times readSnapshot (n - (j + 1)) (drop end s));
         within = k .stands .within;
-        each =
-            below-more (λ (m : ℕ). SnapshotAt s (getD (w .xs ++ (x ∷ [])) m noSnapshot) (getD (set starts j next) m 0) (getD (set ends j (r .next)) m 0))
-            j each-old each-last;
+        each = below-more (λ (m : ℕ). SnapshotAt s (getD all m noSnapshot) (getD (with-one .starts) m 0) (getD (with-one .ends) m 0)) j each-old each-last;
         follows = follows-on;
         last = last-on;
-        numbers = numbers-on;
-        marks = marks-on;
-        front = λ l. front-on is;
-        starts-long = length-set starts j next ∙ w .starts-long;
-        ends-long = length-set ends j (r .next) ∙ w .ends-long;
-        versions-long = length-set versions j (r .version) ∙ w .versions-long;
-        differs-long = length-set differs j (r .differ) ∙ w .differs-long;
+        numbers =
+            noted-more (λ (y : Snapshot). y .version) (λ (v : EventVersion). v .0) (r .versions) (w .xs) it (x .version) j
+            (omega (arith, w .versions-long)) (w .numbers) (k .is .version);
+        marks = noted-more differNumber (λ (i : ℕ). i) (r .differs) (w .xs) it (x .differ) j (omega (arith, w .differs-long)) (w .marks) (k .is .differ);
+        counts = noted-more objectsOf (λ (i : ℕ). i) (r .objects) (w .xs) it (x .objects) j (omega (arith, w .objects-long)) (w .counts) (k .is .objects);
+        stand = below-more (λ (m : ℕ). SetsAre s (map held (getD all m noSnapshot .cells)) (rowOf after m)) j stand-old stand-last;
+        refused = w .refused;
+        starts-long = length-set (r .starts) j next ∙ w .starts-long;
+        ends-long = length-set (r .ends) j end ∙ w .ends-long;
+        versions-long = length-set (r .versions) j (x .version) ∙ w .versions-long;
+        differs-long = length-set (r .differs) j (x .differ) ∙ w .differs-long;
+        objects-long = length-set (r .objects) j (x .objects) ∙ w .objects-long;
+        rows-long = row-length rows ats j inside long ∙ w .rows-long;
       }
 
-  -- `known` is true only of snapshots that are there
-  module _ (known : Bool) (there : p ≡ fail → known ≡ false) (h : j < n) (r : SnapshotPassed) (says : next ≤ length s → PassedSays known (readSnapshot (drop next s)) s next r) where
-    pub passed-bad : r .ok ≡ false → p ≡ fail
-    passed-bad b = passed-stop h (pass-refused known (readSnapshot (drop next s)) s next r (says (w .within)) b)
-
-    pub passed-more : n ≤ 8 → 1 ≤ j → r .ok ≡ true → Passed p s (set starts j next) (set ends j (r .next)) (set versions j (r .version)) (set differs j (r .differ)) first n (r .next) (j + 1)
-    unfolding PassedSays
-    passed-more few o ok = go (readSnapshot (drop next s)) refl (says (w .within))
-      where
-        go : (q : Parse Snapshot) → readSnapshot (drop next s) ≡ q → PassedSays known q s next r → Passed p s (set starts j next) (set ends j (r .next)) (set versions j (r .version)) (set differs j (r .differ)) first n (r .next) (j + 1)
-        go fail e u = let z : false ≡ true = sym (u (there (passed-stop h e))) ∙ ok in never (cc)
-        go (got x t) e u = passed-one h x r u few (λ z. absurd (omega arith))
-
   module _ (full : n ≤ j) where
-    all : p ≡ got (w .xs) (drop next s)
+    all-read : p ≡ got (w .xs) (drop next s)
     unfolding times
-    all =
+    all-read =
         let z : n - j ≡ 0 = omega arith in
         w .rest ∙ ap (λ (m : ℕ). prepend (w .xs) (times readSnapshot m (drop next s))) z ∙ ap (λ (l : List Snapshot). got l (drop next s)) (append-nil (w .xs))
 
-    pub passed-all : 1 ≤ j → (known : Bool) → SnapshotsSay known p s (record { ok = true; next = next; starts = starts; ends = ends; versions = versions; differs = differs; first = first })
+    -- what is noted of all snapshots
+    noted : (ns : List ℕ) (f : Snapshot → ℕ) → map (λ (k : ℕ). k) (take j ns) ≡ map f (w .xs) → take (length (w .xs)) ns ≡ map f (w .xs)
+    noted ns f e = ap (λ (k : ℕ). take k ns) (w .long) ∙ sym (map-id (take j ns)) ∙ e
+
+    pub sofar-all :
+        SnapshotsSay p s rows
+        (record { ok = true; next = next; starts = r .starts; ends = r .ends; versions = r .versions; differs = r .differs; objects = r .objects })
     unfolding SnapshotsSay
-    passed-all o known =
-        rw all (record {
+    sofar-all =
+        rw all-read (record {
           right = refl;
           rest = refl;
           within = w .within;
           are = record {
             each = λ i l. w .each i (omega (arith, w .long));
             follows = λ i l. w .follows i (omega (arith, w .long));
-            numbers = ap (λ (k : ℕ). versionNumbers (take k versions)) (w .long) ∙ w .numbers;
+            numbers = ap (λ (k : ℕ). versionNumbers (take k (r .versions))) (w .long) ∙ w .numbers;
           };
-          differs = ap (λ (k : ℕ). take k differs) (w .long) ∙ w .marks;
-          first = w .front o;
+          differs = noted (r .differs) differNumber (w .marks);
+          objects = noted (r .objects) objectsOf (w .counts);
+          stand = record { each = λ i l. w .stand i (omega (arith, w .long)) };
         })
 
--- the first snapshot, which is read before the others
-pub first-bad : (s : List ℕ) (n at : ℕ) (i : SnapshotIndex) → 1 ≤ n → SnapshotReads (readSnapshot (drop at s)) (drop at s) i → i .ok ≡ false → times readSnapshot n (drop at s) ≡ fail
-first-bad s zero at i o v b = absurd (omega arith)
-first-bad s (suc n) at i o v b = times-stop n (drop at s) (reads-none (readSnapshot (drop at s)) (drop at s) i v b)
-
-pub passed-first : (s starts ends : List ℕ) (versions : List EventVersion) (differs : List ℕ) (i : SnapshotIndex) (n at : ℕ) → at ≤ length s → length starts ≡ 8 → length ends ≡ 8 → length versions ≡ 8 → length differs ≡ 8 → SnapshotReads (readSnapshot (drop at s)) (drop at s) i → 1 ≤ n → i .ok ≡ true → n ≤ 8 → Passed (times readSnapshot n (drop at s)) s (set starts 0 at) (set ends 0 (at + i .next)) (set versions 0 (i .version)) (set differs 0 (i .differ)) i n (at + i .next) 1
-passed-first s starts ends versions differs i n at h a b c d v o ok few =
-    passed-one (times readSnapshot n (drop at s)) s starts ends versions differs i n at 0 (passed-none s starts ends versions differs i n at h a b c d) o (read-one s at h i v ok .what) (passedAt at i) (read-passed s at h i v ok) few
-    (λ e. read-one s at h i v ok .is)
-
-pub snapshots-none : (known : Bool) (p : Parse (List Snapshot)) (s : List ℕ) (r : SnapshotsRead) → p ≡ fail → r .ok ≡ false → SnapshotsSay known p s r
+pub snapshots-none : (p : Parse (List Snapshot)) (s rows : List ℕ) (r : SnapshotsRead) → p ≡ fail → r .ok ≡ false → SnapshotsSay p s rows r
 unfolding SnapshotsSay
-snapshots-none known p s r e h = rw e (λ (k : known ≡ false). h)
+snapshots-none p s rows r e h = rw e h
 
--- of snapshots that are known to be there and are not, nothing is said
-pub snapshots-there : (known : Bool) (p : Parse (List Snapshot)) (s : List ℕ) (r : SnapshotsRead) → ((p ≡ fail → known ≡ false) → SnapshotsSay known p s r) → SnapshotsSay known p s r
-unfolding SnapshotsSay
-snapshots-there true fail s r f = λ e. never (cc)
-snapshots-there false fail s r f = f (λ e. refl)
-snapshots-there true (got xs t) s r f = f (λ e. fail-got (sym e))
-snapshots-there false (got xs t) s r f = f (λ e. refl)
+-- what is known of a call's answer in the arm of a `match`
+pub snapshot-read :
+    {s : List ℕ} {at : ℕ} {ats : List ℕ} {r : SnapshotRead} {x : SnapshotNumbers} {next : ℕ} →
+    r ≡ Found x next → SnapshotReads s at ats r → SnapshotStops s at x next ats
+snapshot-read {s} {at} {ats} h w = subst (SnapshotReads s at ats) h w
+
+pub snapshot-refused : (s : List ℕ) (at : ℕ) (ats : List ℕ) {r : SnapshotRead} → r ≡ NoSnapshot → SnapshotReads s at ats r → readSnapshot (drop at s) ≡ fail
+snapshot-refused s at ats h w = subst (SnapshotReads s at ats) h w
 
 -- ---- the whole
 
-snapshots-refused : (known : Bool) (p : Parse (List Snapshot)) (s : List ℕ) (r : SnapshotsRead) → SnapshotsSay known p s r → r .ok ≡ false → p ≡ fail
+snapshots-refused : (p : Parse (List Snapshot)) (s rows : List ℕ) (r : SnapshotsRead) → SnapshotsSay p s rows r → r .ok ≡ false → p ≡ fail
 unfolding SnapshotsSay
-snapshots-refused known fail s r w h = refl
-snapshots-refused known (got xs t) s r w h = let z : _≡_ {A = ℕ} 0 1 = cc (w .right) in absurd (omega arith)
+snapshots-refused fail s rows r w h = refl
+snapshots-refused (got xs t) s rows r w h = let z : _≡_ {A = ℕ} 0 1 = cc (w .right) in absurd (omega arith)
 
-snapshots-fail : (known : Bool) (p : Parse (List Snapshot)) (s : List ℕ) (r : SnapshotsRead) → SnapshotsSay known p s r → p ≡ fail → known ≡ false → r .ok ≡ false
-unfolding SnapshotsSay
-snapshots-fail known fail s r w e k = w k
-snapshots-fail known (got xs t) s r w e k = fail-got (sym e)
-
-record Found (p : Parse (List Snapshot)) (s : List ℕ) (r : SnapshotsRead) : Type 0 where
+record AllFound (p : Parse (List Snapshot)) (s rows : List ℕ) (r : SnapshotsRead) : Type 0 where
   what : List Snapshot
   is : p ≡ got what (drop (r .next) s)
-  within : r .next ≤ length s
-  are : SnapshotsAre s what (r .starts) (r .ends) (r .versions)
-  differs : take (length what) (r .differs) ≡ map differNumber what
-  first : SnapshotIs (drop (getD (r .starts) 0 0) s) (getD what 0 noSnapshot) (r .first)
+  stop : SnapshotsStop s what (drop (r .next) s) rows r
 
-snapshots-found : (known : Bool) (p : Parse (List Snapshot)) (s : List ℕ) (r : SnapshotsRead) → SnapshotsSay known p s r → (p ≡ fail) ⊎ Found p s r
+snapshots-found : (p : Parse (List Snapshot)) (s rows : List ℕ) (r : SnapshotsRead) → SnapshotsSay p s rows r → r .ok ≡ true → AllFound p s rows r
 unfolding SnapshotsSay
-snapshots-found known fail s r w = inl refl
-snapshots-found known (got xs t) s r w = inr (record { what = xs; is = ap (got xs) (w .rest); within = w .within; are = w .are; differs = w .differs; first = w .first })
+snapshots-found fail s rows r w h = let z : _≡_ {A = ℕ} 0 1 = cc in absurd (omega arith)
+snapshots-found (got xs t) s rows r w h =
+    record { what = xs; is = ap (got xs) (w .rest); stop = subst (λ (u : List ℕ). SnapshotsStop s xs u rows r) (w .rest) w }
 
 -- what follows the head
 abbrev under : Head → List Snapshot → Layout Headed
@@ -351,20 +409,9 @@ head-first : (s : List ℕ) → readDossier standard s ≡ andThen (readDossierH
 unfolding readDossier readBody standard
 head-first s = refl
 
-pub dossier-none : (known : Bool) (o : Option Headed) (s : List ℕ) (i : DossierIndex) → o ≡ none → (known ≡ false → i .ok ≡ false) → DossierSays known o s i
-unfolding DossierSays
-dossier-none known o s i e h = rw e h
-
--- where nothing is known of the bytes
-pub dossier-reads : (o : Option Headed) (s : List ℕ) (i : DossierIndex) → DossierSays false o s i → DossierReads o s i
-unfolding DossierSays DossierReads
-dossier-reads none s i w = w refl
-dossier-reads (some h) s i w = w
-
-pub dossier-is : (known : Bool) (o : Option Headed) (s : List ℕ) (i : DossierIndex) → DossierSays known o s i → (h : Headed) → o ≡ some h → DossierIs s h i
-unfolding DossierSays
-dossier-is known none s i w h e = never (cc)
-dossier-is known (some g) s i w h e = let z : g ≡ h = cc in subst (λ (f : Headed). DossierIs s f i) z (w .1)
+pub dossier-none : (o : Option Headed) (s rows : List ℕ) (i : DossierIndex) → o ≡ none → i .ok ≡ false → DossierReads o s rows i
+unfolding DossierReads
+dossier-none o s rows i e h = rw e h
 
 no-dossier : (s : List ℕ) → readDossier standard s ≡ fail → dossierOf standard s ≡ none
 unfolding dossierOf
@@ -394,57 +441,74 @@ module _ (s : List ℕ) (x : HeadAt) (end : ℕ) (w : DossierHeadStops (readDoss
     none-there : times readSnapshot n (drop at s) ≡ fail → dossierOf standard s ≡ none
     none-there e = no-dossier s (times-all ∙ rw e)
 
-    module _ (r : SnapshotsRead) (these : Found (times readSnapshot n (drop at s)) s r) where
-      abbrev read-there : Headed
-      read-there = record { head = w .what; snapshots = these .what }
+    -- where the bytes are known to be a dossier, its snapshots are promised
+    pub all-promised : {known : Bool} → (known ≡ true → IsDossier s) → Promised known (times readSnapshot n (drop at s))
+    all-promised d k e = let z : none ≡ some (d k .what) = sym (none-there e) ∙ d k .is in never (cc z)
 
-      last-step : readDossier standard s ≡ andThen (risen (these .what) (drop (r .next) s)) (under (w .what))
-      last-step = times-all ∙ rw (these .is)
-
-      found-more : (r .next ≡ length s → ⊥) → dossierOf standard s ≡ none
-      unfolding dossierOf
-      found-more ne =
-          let l : r .next < length s = omega (arith, these .within, ne) in
-          ap whole last-step ∙ go (rising numbers (map (λ (s : Snapshot). s .version) (these .what))) (drop-next s (r .next) l)
-        where
-          go : (b : Bool) {y : ℕ} {t u : List ℕ} → t ≡ y ∷ u → whole (andThen (foundIf b (these .what) t) (under (w .what))) ≡ none
-          go true e = rw e
-          go false e = refl
-
-      many : length (these .what) ≡ n
-      many = as-many n (drop at s) (these .what) (drop (r .next) s) (these .is)
-
-      rises : (b : Bool) → b ≡ rising numbers (versionNumbers (take n (r .versions))) → rising numbers (map (λ (s : Snapshot). s .version) (these .what)) ≡ b
-      rises b e = ap (rising numbers) (sym (these .are .numbers) ∙ ap (λ (k : ℕ). versionNumbers (take k (r .versions))) many) ∙ sym e
-
-      found-mixed : false ≡ rising numbers (versionNumbers (take n (r .versions))) → dossierOf standard s ≡ none
-      found-mixed e = no-dossier s (last-step ∙ rw (rises false e))
-
-      found-all : (known : Bool) → true ≡ rising numbers (versionNumbers (take n (r .versions))) → r .next ≡ length s → DossierSays known (dossierOf standard s) s (record { ok = true; head = x; count = n; starts = r .starts; ends = r .ends; versions = r .versions; differs = r .differs; first = r .first })
-      unfolding DossierSays dossierOf
-      found-all known e z =
-          let g : readDossier standard s ≡ got read-there [] =
-          last-step
-          ∙ ap (λ (b : Bool). andThen (foundIf b (these .what) (drop (r .next) s)) (under (w .what))) (rises true e)
-          ∙ ap (got read-there) (ap (λ (k : ℕ). drop k s) z ∙ drop-length s) in
-          rw g (refl, record { head = w .stands; count = sym many; one = got-bounds 1 8 c .0; few = got-bounds 1 8 c .1; snapshots = these .are; differs = these .differs; first = these .first })
-
-    module _ (known : Bool) (r : SnapshotsRead) (v : SnapshotsSay known (times readSnapshot n (drop at s)) s r) where
-      either : (times readSnapshot n (drop at s) ≡ fail) ⊎ Found (times readSnapshot n (drop at s)) s r
-      either = snapshots-found known (times readSnapshot n (drop at s)) s r v
-
+    module _ (rows : List ℕ) (r : SnapshotsRead) (v : SnapshotsSay (times readSnapshot n (drop at s)) s rows r) where
       pub no-snapshots : r .ok ≡ false → dossierOf standard s ≡ none
-      no-snapshots h = none-there (snapshots-refused known (times readSnapshot n (drop at s)) s r v h)
+      no-snapshots h = none-there (snapshots-refused (times readSnapshot n (drop at s)) s rows r v h)
 
-      pub not-whole : (r .next ≡ length s → ⊥) → dossierOf standard s ≡ none
-      not-whole ne = ⊎-elim none-there (λ these. found-more r these ne) either
+      module _ (ok : r .ok ≡ true) where
+        these : AllFound (times readSnapshot n (drop at s)) s rows r
+        these = snapshots-found (times readSnapshot n (drop at s)) s rows r v ok
 
-      pub not-rising : false ≡ rising numbers (versionNumbers (take n (r .versions))) → dossierOf standard s ≡ none
-      not-rising e = ⊎-elim none-there (λ these. found-mixed r these e) either
+        abbrev read-there : Headed
+        read-there = record { head = w .what; snapshots = these .what }
 
-      pub dossier-found : r .ok ≡ true → true ≡ rising numbers (versionNumbers (take n (r .versions))) → r .next ≡ length s → DossierSays known (dossierOf standard s) s (record { ok = true; head = x; count = n; starts = r .starts; ends = r .ends; versions = r .versions; differs = r .differs; first = r .first })
-      dossier-found ok e z =
-          ⊎-elim
-          (λ f. dossier-none known (dossierOf standard s) s _ (none-there f) (λ k. sym ok ∙ snapshots-fail known (times readSnapshot n (drop at s)) s r v f k))
-          (λ these. found-all r these known e z)
-          either
+        last-step : readDossier standard s ≡ andThen (risen (these .what) (drop (r .next) s)) (under (w .what))
+        last-step = times-all ∙ rw (these .is)
+
+        pub not-whole : (r .next ≡ length s → ⊥) → dossierOf standard s ≡ none
+        unfolding dossierOf
+        not-whole ne =
+            let l : r .next < length s = omega (arith, these .stop .within, ne) in
+            ap whole last-step ∙ go (rising numbers (map (λ (s : Snapshot). s .version) (these .what))) (drop-next s (r .next) l)
+          where
+            go : (b : Bool) {y : ℕ} {t u : List ℕ} → t ≡ y ∷ u → whole (andThen (foundIf b (these .what) t) (under (w .what))) ≡ none
+            go true e = rw e
+            go false e = refl
+
+        many : length (these .what) ≡ n
+        many = as-many n (drop at s) (these .what) (drop (r .next) s) (these .is)
+
+        rises :
+            (b : Bool) → b ≡ rising numbers (versionNumbers (take n (r .versions))) →
+            rising numbers (map (λ (s : Snapshot). s .version) (these .what)) ≡ b
+        rises b e = ap (rising numbers) (sym (these .stop .are .numbers) ∙ ap (λ (k : ℕ). versionNumbers (take k (r .versions))) many) ∙ sym e
+
+        pub not-rising : false ≡ rising numbers (versionNumbers (take n (r .versions))) → dossierOf standard s ≡ none
+        not-rising e = no-dossier s (last-step ∙ rw (rises false e))
+
+        abbrev pub index : DossierIndex
+        index = record {
+          ok = true;
+          head = x;
+          count = n;
+          starts = r .starts;
+          ends = r .ends;
+          versions = r .versions;
+          differs = r .differs;
+          objects = r .objects;
+        }
+
+        stands : DossierIs s read-there index
+        stands = record {
+          head = w .stands;
+          count = sym many;
+          one = got-bounds 1 8 c .0;
+          few = got-bounds 1 8 c .1;
+          snapshots = these .stop .are;
+          differs = these .stop .differs;
+          objects = these .stop .objects;
+        }
+
+        pub dossier-found :
+            true ≡ rising numbers (versionNumbers (take n (r .versions))) → r .next ≡ length s → DossierReads (dossierOf standard s) s rows index
+        unfolding DossierReads dossierOf
+        dossier-found e z =
+            let g : readDossier standard s ≡ got read-there [] =
+            last-step
+            ∙ ap (λ (b : Bool). andThen (foundIf b (these .what) (drop (r .next) s)) (under (w .what))) (rises true e)
+            ∙ ap (got read-there) (ap (λ (k : ℕ). drop k s) z ∙ drop-length s) in
+            rw g (refl, stands, these .stop .stand)

@@ -4,7 +4,6 @@ pub mod DossierBodyLaws
 pub mod DossierLayoutLaws
 pub mod DossierSizeLaws
 pub mod SnapshotLaws
-pub mod PassLaws
 pub mod DossierReadLaws
 pub mod CellLaws
 pub mod VersionLaws

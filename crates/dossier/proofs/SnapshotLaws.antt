@@ -4,11 +4,10 @@ use mathlib.Core.Bool.{Bool, true, false, not, _&&_}
 use mathlib.Core.Logic.{_⊎_, inl, inr}
 use mathlib.Core.List.{List, [], map}
 use Prim.Native.Nat.{ℕ, zero, suc, _+_, _-_, _/_, _%_, _^_, _≤_, _<_}
-use native.Mathlib.Nat.{sub-zero}
 use native.Mathlib.Omega.{arith}
 use native.Mathlib.Numerals.{add-one, sub-one}
 use lib.Dec.{eqb}
-use lib.ListN.{length, take, drop, getD, drop-of-length-le}
+use lib.ListN.{length, drop, getD, drop-of-length-le}
 use lib.Seq.{drop-cons}
 use borrow.Author.Tests.{lt-ltb, le-ltb, le-leb, lt-leb, eq-eqb, ne-eqb, eqb-true}
 use Rattle.model.specs.Order.{Text}
@@ -18,17 +17,14 @@ use Rattle.packed.specs.Packed.{readNumber}
 use Rattle.packed.proofs.ReadLaws.{NumberStops, stretch}
 use Rattle.values.specs.declared.versions.EventVersion.{EventVersion}
 use Rattle.event.specs.Event.{objectCount}
-use Rattle.event.specs.EventLayout.{readBits, readSets, presenceBit, bitNumber, setsBytes}
-use Rattle.event.specs.code.EventIndex.{SetsAre, SetsStop, SetsReads, setIn}
+use Rattle.event.specs.EventLayout.{readBits, readSets, presenceBit, bitNumber}
+use Rattle.event.specs.code.EventIndex.{SetsAre, Promised, SetsStop, setIn}
 use Rattle.event.proofs.EventLayoutLaws.{SetsWas, sets-was}
 use Rattle.event.proofs.EventSizeLaws.{each-within}
-use Rattle.event.specs.declared.sets.SetsRead.{SetsRead}
-use Rattle.event.proofs.EventReadLaws.{sets-wrong}
 use Rattle.dossier.specs.DossierBody.{apart, cellsOf, areSmall, readSnapshot, snapshotBytes}
-use Rattle.dossier.specs.code.DossierIndex.{afterNumbers, NumbersStop, NumbersRead, SnapshotIs, SnapshotReads}
+use Rattle.dossier.specs.code.DossierIndex.{afterNumbers, NumbersStop, NumbersRead, SnapshotAt, SnapshotStops}
 use Rattle.dossier.specs.declared.snapshots.NumbersAt.{NumbersAt}
 use Rattle.dossier.specs.declared.snapshots.NumbersAt.the-variants.{Numbers, NoNumbers}
-use Rattle.dossier.specs.declared.snapshots.SnapshotIndex.{SnapshotIndex}
 use Rattle.dossier.proofs.DossierBodyLaws.{CellsWas, cells-was, all-small, snapshot-was}
 use Rattle.dossier.proofs.DossierSizeLaws.{held-objects}
 
@@ -94,9 +90,9 @@ bits-got : (t : List ℕ) (n : ℕ) (r : List ℕ) → readNumber t ≡ got n r 
 unfolding readBits
 bits-got t n r e h = rw (e, lt-ltb n (2 ^ 32) h)
 
-pub no-version : (s : List ℕ) → readNumber s ≡ fail → readSnapshot s ≡ fail
+pub no-version : (t : List ℕ) → readNumber t ≡ fail → readSnapshot t ≡ fail
 unfolding readSnapshot
-no-version s e = rw e
+no-version t e = rw e
 
 -- what follows the version, and the presence number
 abbrev afterPresence : ℕ → ℕ → Layout Snapshot
@@ -105,123 +101,98 @@ afterPresence version presence = suchThat (apart 32 presence) readBits >>= λ di
 abbrev afterVersion : ℕ → Layout Snapshot
 afterVersion version = readBits >>= λ presence. afterPresence version presence
 
-module _ (s : List ℕ) (version a : ℕ) (x : NumberStops s 0 version a) where
-  first-step : readSnapshot s ≡ afterVersion version (drop a s)
+module _ (s : List ℕ) (at version a : ℕ) (x : NumberStops s at version a) where
+  first-step : readSnapshot (drop at s) ≡ afterVersion version (drop a s)
   unfolding readSnapshot
   first-step = ap (λ (p : Parse ℕ). andThen p afterVersion) (x .is)
 
-  pub no-presence : readNumber (drop a s) ≡ fail → readSnapshot s ≡ fail
+  pub no-presence : readNumber (drop a s) ≡ fail → readSnapshot (drop at s) ≡ fail
   no-presence e = first-step ∙ rw (bits-none (drop a s) e)
 
   module _ (presence b : ℕ) (y : NumberStops s a presence b) where
-    pub presence-large : 4294967296 ≤ presence → readSnapshot s ≡ fail
+    pub presence-large : 4294967296 ≤ presence → readSnapshot (drop at s) ≡ fail
     presence-large h = first-step ∙ rw (bits-large (drop a s) presence (drop b s) (y .is) h)
 
-    second-step : presence < 4294967296 → readSnapshot s ≡ afterPresence version presence (drop b s)
+    second-step : presence < 4294967296 → readSnapshot (drop at s) ≡ afterPresence version presence (drop b s)
     second-step h = first-step ∙ ap (λ (p : Parse ℕ). andThen p (afterPresence version)) (bits-got (drop a s) presence (drop b s) (y .is) h)
 
-    pub no-differ : presence < 4294967296 → readNumber (drop b s) ≡ fail → readSnapshot s ≡ fail
+    pub no-differ : presence < 4294967296 → readNumber (drop b s) ≡ fail → readSnapshot (drop at s) ≡ fail
     no-differ h e = second-step h ∙ rw (bits-none (drop b s) e)
 
     module _ (h : presence < 4294967296) (differ c : ℕ) (z : NumberStops s b differ c) where
-      pub differ-large : 4294967296 ≤ differ → readSnapshot s ≡ fail
+      pub differ-large : 4294967296 ≤ differ → readSnapshot (drop at s) ≡ fail
       differ-large k = second-step h ∙ rw (bits-large (drop b s) differ (drop c s) (z .is) k)
 
-      third-step : differ < 4294967296 → readSnapshot s ≡ andThen (foundIf (apart 32 presence differ) differ (drop c s)) (afterNumbers version presence)
+      third-step : differ < 4294967296 → readSnapshot (drop at s) ≡ andThen (foundIf (apart 32 presence differ) differ (drop c s)) (afterNumbers version presence)
       third-step k = second-step h ∙ ap (λ (p : Parse ℕ). andThen (andThen p (λ d. foundIf (apart 32 presence d) d)) (afterNumbers version presence)) (bits-got (drop b s) differ (drop c s) (z .is) k)
 
-      pub not-apart : differ < 4294967296 → apart 32 presence differ ≡ false → readSnapshot s ≡ fail
+      pub not-apart : differ < 4294967296 → apart 32 presence differ ≡ false → readSnapshot (drop at s) ≡ fail
       not-apart k e = third-step k ∙ rw e
 
-      pub numbers-stop : differ < 4294967296 → apart 32 presence differ ≡ true → NumbersStop s version presence differ c
+      pub numbers-stop : differ < 4294967296 → apart 32 presence differ ≡ true → NumbersStop s at version presence differ c
       numbers-stop k e = record { is = third-step k ∙ rw e; within = z .within; presence-low = h; differ-low = k; clear = e }
 
 -- ---- the snapshot
 
 -- what is known of a call's answer in the arm of a `match`
 pub numbers-read :
-    {s : List ℕ} {r : NumbersAt} {version : EventVersion} {presence differ after-differ : ℕ} →
-    r ≡ Numbers version presence differ after-differ → NumbersRead s r → NumbersStop s (version .0) presence differ after-differ
-numbers-read {s} h w = subst (NumbersRead s) h w
+    {s : List ℕ} {at : ℕ} {r : NumbersAt} {version : EventVersion} {presence differ after-differ : ℕ} →
+    r ≡ Numbers version presence differ after-differ → NumbersRead s at r → NumbersStop s at (version .0) presence differ after-differ
+numbers-read {s} {at} h w = subst (NumbersRead s at) h w
 
-pub numbers-refused : (s : List ℕ) {r : NumbersAt} → r ≡ NoNumbers → NumbersRead s r → readSnapshot s ≡ fail
-numbers-refused s h w = subst (NumbersRead s) h w
+pub numbers-refused : (s : List ℕ) (at : ℕ) {r : NumbersAt} → r ≡ NoNumbers → NumbersRead s at r → readSnapshot (drop at s) ≡ fail
+numbers-refused s at h w = subst (NumbersRead s at) h w
 
-pub snapshot-none : (p : Parse Snapshot) (s : List ℕ) (i : SnapshotIndex) → p ≡ fail → i .ok ≡ false → SnapshotReads p s i
-unfolding SnapshotReads
-snapshot-none p s i e h = rw e h
+module _
+    (s : List ℕ) (at : ℕ) (within : at ≤ length s) (version : EventVersion) (presence differ after-differ : ℕ)
+    (n : NumbersStop s at (version .0) presence differ after-differ) where
+  pub no-sets : readSets 32 presence (drop after-differ s) ≡ fail → readSnapshot (drop at s) ≡ fail
+  no-sets e = n .is ∙ rw e
 
--- what the reader of sets found
-record SetsFound (p : Parse (List (List Text))) (s : List ℕ) (r : SetsRead) : Type 0 where
-  what : List (List Text)
-  is : p ≡ got what (drop (r .next) s)
-  stop : SetsStop what (drop (r .next) s) s r
+  -- where the snapshot is promised, its sets are
+  pub sets-promised : {known : Bool} → Promised known (readSnapshot (drop at s)) → Promised known (readSets 32 presence (drop after-differ s))
+  sets-promised q k e = q k (no-sets e)
 
-sets-found : (p : Parse (List (List Text))) (s : List ℕ) (r : SetsRead) → SetsReads p s r → r .ok ≡ true → SetsFound p s r
-unfolding SetsReads
-sets-found fail s r w h = let z : _≡_ {A = ℕ} 0 1 = cc in absurd (omega arith)
-sets-found (got xs t) s r w h = record { what = xs; is = ap (got xs) (w .rest); stop = subst (λ (u : List ℕ). SetsStop xs u s r) (w .rest) w }
+  -- the snapshot of some sets
+  module _ (ats : List ℕ) (next objects : ℕ) (found : SetsStop (readSets 32 presence (drop after-differ s)) s ats next objects) where
+    abbrev Small : Bool → Type 0
+    Small b = (t : List ℕ) (xs : List (List Text)) → SetsAre t xs ats → objects ≡ objectCount xs → b ≡ areSmall xs
 
--- the snapshot of some sets
-module _ (s : List ℕ) (version : EventVersion) (presence differ after-differ : ℕ) (n : NumbersStop s (version .0) presence differ after-differ) where
-  module _ (r : SetsRead) (w : SetsReads (readSets 32 presence (drop after-differ s)) s r) where
-    pub no-sets : r .ok ≡ false → readSnapshot s ≡ fail
-    no-sets h = n .is ∙ rw (sets-wrong (readSets 32 presence (drop after-differ s)) s r w h)
+    pub sets-large : Small false → readSnapshot (drop at s) ≡ fail
+    sets-large b = let e = sym (b s (found .what) (found .stands) (found .summed)) in n .is ∙ rw (found .is, e)
 
-    module _ (h : r .ok ≡ true) where
-      found : SetsFound (readSets 32 presence (drop after-differ s)) s r
-      found = sets-found (readSets 32 presence (drop after-differ s)) s r w h
+    module _ (b : Small true) where
+      small : areSmall (found .what) ≡ true
+      small = sym (b s (found .what) (found .stands) (found .summed))
 
-      pub sets-large : ((t : List ℕ) (xs : List (List Text)) → SetsAre t xs (r .sets) → r .objects ≡ objectCount xs → false ≡ areSmall xs) → readSnapshot s ≡ fail
-      sets-large b = let e = sym (b s (found .what) (found .stop .stands) (found .stop .objects)) in n .is ∙ rw (found .is, e)
+      was : SetsWas 32 presence (drop after-differ s) (found .what) (drop next s)
+      was = sets-was 32 presence (drop after-differ s) (found .what) (drop next s) (n .presence-low) (found .is)
 
-      module _ (b : (t : List ℕ) (xs : List (List Text)) → SetsAre t xs (r .sets) → r .objects ≡ objectCount xs → true ≡ areSmall xs) where
-        small : areSmall (found .what) ≡ true
-        small = sym (b s (found .what) (found .stop .stands) (found .stop .objects))
+      cells-are : (xs : List (List Text)) → length xs ≡ 32 → bitNumber (map presenceBit xs) ≡ presence → CellsWas differ xs
+      cells-are xs l p = cells-was differ xs (rw l (n .differ-low)) (rw (l, p) (n .clear))
 
-        was : SetsWas 32 presence (drop after-differ s) (found .what) (drop (r .next) s)
-        was = sets-was 32 presence (drop after-differ s) (found .what) (drop (r .next) s) (n .presence-low) (found .is)
+      cells : CellsWas differ (found .what)
+      cells = cells-are (found .what) (was .long) (was .present)
 
-        cells-are : (xs : List (List Text)) → length xs ≡ 32 → bitNumber (map presenceBit xs) ≡ presence → CellsWas differ xs
-        cells-are xs l p = cells-was differ xs (rw l (n .differ-low)) (rw (l, p) (n .clear))
+      abbrev it : Snapshot
+      it = record { version = version .0; cells = cellsOf differ (found .what) }
 
-        cells : CellsWas differ (found .what)
-        cells = cells-are (found .what) (was .long) (was .present)
+      reads : readSnapshot (drop at s) ≡ got it (drop next s)
+      reads = n .is ∙ rw (found .is, small)
 
-        abbrev it : Snapshot
-        it = record { version = version .0; cells = cellsOf differ (found .what) }
+      stands : SnapshotAt s it at next
+      stands =
+          let z = stretch s (snapshotBytes it) at next within (found .within) (snapshot-was (drop at s) it (drop next s) reads .0) in
+          record { is = reads; bytes = z .0; order = z .1; within = found .within }
 
-        abbrev pub index : SnapshotIndex
-        index = record {
-          ok = true;
-          next = r .next;
-          version = version;
-          presence = presence;
-          differ = differ;
-          «after_differ» = after-differ;
-          objects = r .objects;
-          sets = r .sets;
-        }
-
-        reads : readSnapshot s ≡ got it (drop (r .next) s)
-        reads = n .is ∙ rw (found .is, small)
-
-        snapshot-found : SnapshotIs s it index
-        snapshot-found = record {
-          is = reads;
-          bytes = ap (λ (k : ℕ). take k s) (sym (sub-zero (r .next))) ∙ stretch s (snapshotBytes it) 0 (r .next) (omega arith) (found .stop .within) (snapshot-was s it (drop (r .next) s) reads .0) .0;
-          within = found .stop .within;
+      pub snapshot-some : SnapshotStops s at (record { version = version; differ = differ; objects = objects }) next ats
+      snapshot-some = record {
+        what = it;
+        stands = stands;
+        is = record {
           version = refl;
-          presence = sym (was .present) ∙ ap (λ (l : List (List Text)). bitNumber (map presenceBit l)) (sym (cells .sets));
           differ = sym (cells .bits);
-          body =
-              stretch s (setsBytes (found .what)) after-differ (r .next) (n .within) (found .stop .within) (was .bytes) .0
-              ∙ ap setsBytes (sym (cells .sets));
-          order = stretch s (setsBytes (found .what)) after-differ (r .next) (n .within) (found .stop .within) (was .bytes) .1;
-          objects = found .stop .objects ∙ ap objectCount (sym (cells .sets)) ∙ held-objects (cellsOf differ (found .what));
-          sets = subst (λ (l : List (List Text)). SetsAre s l (r .sets)) (sym (cells .sets)) (found .stop .stands);
-        }
-
-        pub snapshot-some : SnapshotReads (readSnapshot s) s index
-        unfolding SnapshotReads
-        snapshot-some = rw reads (refl, snapshot-found)
+          objects = found .summed ∙ ap objectCount (sym (cells .sets)) ∙ held-objects (cellsOf differ (found .what));
+          sets = subst (λ (l : List (List Text)). SetsAre s l ats) (sym (cells .sets)) (found .stands);
+        };
+      }

@@ -15,10 +15,10 @@ use Rattle.model.specs.Opening.{held, cellAt}
 use Rattle.values.specs.Decimal.{inDecimal}
 use Rattle.ontology.specs.Table.{EventType, isVersioned}
 use Rattle.event.specs.EventQuestions.{matchCount}
-use Rattle.event.specs.code.EventIndex.{SetIs, setIn}
+use Rattle.event.specs.code.EventIndex.{SetIs, setIn, SetsAre}
 use Rattle.dossier.specs.DossierQuestions.{eachCell, isVacant, holdsVersion}
 use Rattle.dossier.specs.code.DossierIndex.{SnapshotIs, CellsAre, cellFits, versionFits, snapshotFits}
-use Rattle.dossier.specs.declared.snapshots.SnapshotIndex.{SnapshotIndex}
+use Rattle.dossier.specs.declared.snapshots.SnapshotNumbers.{SnapshotNumbers}
 use Rattle.dossier.proofs.CellLaws.{held-at}
 
 -- ---- a set of one value
@@ -39,9 +39,15 @@ unfolding holdsVersion held
 holds-held v (holds s) = refl
 holds-held v differs = sym (equal-false sets [] (inDecimal v ∷ []) .1 (λ e. absurd (omega (arith, ap length e))))
 
-module _ (s : List ℕ) (y : Snapshot) (x : SnapshotIndex) (w : SnapshotIs s y x) (mark : ℕ) where
+pub holds-here :
+    (y : Snapshot) (version mark : ℕ) → version ≡ y .version → {r : Bool} → r ≡ equal sets (held (cellAt y (mark - 1))) (inDecimal version ∷ []) →
+    r ≡ holdsVersion (y .version) (cellAt y (mark - 1))
+holds-here y version mark v e =
+    e ∙ ap (λ (n : ℕ). equal sets (held (cellAt y (mark - 1))) (inDecimal n ∷ [])) v ∙ sym (holds-held (y .version) (cellAt y (mark - 1)))
+
+module _ (s : List ℕ) (y : Snapshot) (ats : List ℕ) (w : SetsAre s (map held (y .cells)) ats) (mark : ℕ) where
   long : length (y .cells) ≡ 32
-  long = sym (length-map (y .cells) held) ∙ w .sets .long
+  long = sym (length-map (y .cells) held) ∙ w .long
 
   pub holds-far : 32 < mark → false ≡ holdsVersion (y .version) (cellAt y (mark - 1))
   unfolding cellAt held
@@ -51,14 +57,12 @@ module _ (s : List ℕ) (y : Snapshot) (x : SnapshotIndex) (w : SnapshotIs s y x
       ∙ ap (λ (c : Cell). equal sets (held c) (inDecimal (y .version) ∷ [])) (List·getD-eq-default (y .cells) (holds []) l)
       ∙ equal-false sets [] (inDecimal (y .version) ∷ []) .1 (λ e. absurd (omega (arith, ap length e))))
 
-  pub holds-set : 1 ≤ mark → mark ≤ 32 → SetIs s (held (cellAt y (mark - 1))) (setIn (x .sets) (mark - 1))
+  pub holds-set : 1 ≤ mark → mark ≤ 32 → SetIs s (held (cellAt y (mark - 1))) (setIn ats (mark - 1))
   unfolding cellAt
-  holds-set o h = subst (λ (vs : List Text). SetIs s vs (setIn (x .sets) (mark - 1))) (held-at (y .cells) (mark - 1)) (w .sets .each (mark - 1) (omega arith))
+  holds-set o h = subst (λ (vs : List Text). SetIs s vs (setIn ats (mark - 1))) (held-at (y .cells) (mark - 1)) (w .each (mark - 1) (omega arith))
 
-  pub holds-here : {r : Bool} → r ≡ equal sets (held (cellAt y (mark - 1))) (inDecimal (x .version .0) ∷ []) → r ≡ holdsVersion (y .version) (cellAt y (mark - 1))
-  holds-here e = e ∙ ap (λ (v : ℕ). equal sets (held (cellAt y (mark - 1))) (inDecimal v ∷ [])) (w .version) ∙ sym (holds-held (y .version) (cellAt y (mark - 1)))
-
-  -- by the type's mark
+-- by the type's mark
+module _ (s : List ℕ) (y : Snapshot) (x : SnapshotNumbers) (ats : List ℕ) (w : SnapshotIs s y x ats) (mark : ℕ) where
   module _ (ty : EventType) (m : mark ≡ ty .mark) where
     plain : mark ≡ 0 → versionFits ty y ≡ (eqb (y .version) 0 && leb (sizes (y .cells)) 256)
     unfolding versionFits
@@ -84,8 +88,8 @@ module _ (s : List ℕ) (y : Snapshot) (x : SnapshotIndex) (w : SnapshotIs s y x
 
 -- ---- one snapshot
 
-pub cells-are : (s : List ℕ) (y : Snapshot) (x : SnapshotIndex) → SnapshotIs s y x → CellsAre s (y .cells) (x .differ) (x .sets)
-cells-are s y x w = record { bits = w .differ; sets = w .sets }
+pub cells-are : (s : List ℕ) (y : Snapshot) (x : SnapshotNumbers) (ats : List ℕ) → SnapshotIs s y x ats → CellsAre s (y .cells) (x .differ) ats
+cells-are s y x ats w = record { bits = w .differ; sets = w .sets }
 
 module _ (ty : EventType) (y : Snapshot) where
   pub fits-cells : {a : Bool} → a ≡ eachCell (cellFits (isVersioned ty)) isVacant (ty .properties) (y .cells) → a ≡ false → false ≡ snapshotFits ty y

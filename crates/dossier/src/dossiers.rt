@@ -1,19 +1,17 @@
 ghost use mathlib.Core.Path.{_≡_};
-ghost use mathlib.Core.Bool.{false};
-ghost use mathlib.Core.Option.{some};
+ghost use mathlib.Core.Bool.{true, false};
 ghost use Prim.Native.Nat.{_≤_};
 ghost use lib.ListN.{length, take, drop};
 ghost use Rattle.model.specs.Order.{numbers, rising};
 ghost use Rattle.model.specs.Limits.{standard};
 ghost use Rattle.packed.specs.Parse.{times};
-ghost use Rattle.dossier.specs.DossierLayout.{Headed, dossierOf};
+ghost use Rattle.event.specs.code.EventIndex.{Promised};
+ghost use Rattle.dossier.specs.DossierLayout.{dossierOf};
 ghost use Rattle.dossier.specs.DossierBody.{readSnapshot};
-ghost use Rattle.dossier.specs.code.DossierIndex.{versionNumbers, SnapshotsSay, DossierIs, DossierReads, DossierSays};
+ghost use Rattle.dossier.specs.code.DossierIndex.{versionNumbers, SnapshotsSay, DossierReads, IsDossier};
 use crate::head::DossierHeadRead;
 use crate::head::read_dossier_head;
-use crate::snapshots::SnapshotIndex;
-use crate::snapshots::no_snapshot;
-use crate::snapshots::pass_snapshot;
+use crate::snapshots::SnapshotRead;
 use crate::snapshots::read_snapshot;
 use event::head::HeadAt;
 use event::head::no_head;
@@ -21,7 +19,7 @@ use packed::read::NumberAt;
 use packed::read::read_within;
 use values::versions::EventVersion;
 
-// Where each of the snapshots stands, its version and its differ number, the index of the first, and the position after the last.
+// Where each of the snapshots stands, its version, its differ number and how many objects it has; and the position after the last.
 pub struct SnapshotsRead {
     pub ok: bool,
     pub next: usize,
@@ -29,11 +27,11 @@ pub struct SnapshotsRead {
     pub ends: [usize; 8],
     pub versions: [EventVersion; 8],
     pub differs: [u64; 8],
-    pub first: SnapshotIndex,
+    pub objects: [usize; 8],
 }
 
-// Where each thing of a dossier stands: its head, and the start and the end of each of its `count` snapshots, with their versions and differ numbers. The
-// positions in the index of the first snapshot count from that snapshot's start.
+// Where each thing of a dossier stands: its head, and the start and the end of each of its `count` snapshots, with their versions, their differ numbers and
+// how many objects they have. Where their sets stand is lent beside it: rows of 96 numbers, one for each snapshot.
 pub struct DossierIndex {
     pub ok: bool,
     pub head: HeadAt,
@@ -42,42 +40,48 @@ pub struct DossierIndex {
     pub ends: [usize; 8],
     pub versions: [EventVersion; 8],
     pub differs: [u64; 8],
-    pub first: SnapshotIndex,
+    pub objects: [usize; 8],
 }
 
-// So many snapshots, from `at` on. Of the first the whole index is kept, so it is read in full, and the others are passed.
-fn read_snapshots(s: &[u8], at: usize, count: usize, known: bool) -> SnapshotsRead
-    requires { ⌜ (at ≤ length (now s)) × (1 ≤ count) × (count ≤ 8) ⌝ }
-    ensures { λ r. ⌜ SnapshotsSay known (times readSnapshot count (drop at (now (s .entry)))) (now (s .entry)) r ⌝ }
+// So many snapshots, from `at` on.
+fn read_snapshots(
+    s: &[u8],
+    at: usize,
+    count: usize,
+    known: bool,
+    rows: &mut [usize],
+) -> SnapshotsRead
+    requires { ⌜ (at ≤ length (now s)) × (1 ≤ count) × (count ≤ 8) × (length (now rows) ≡ 768) ⌝ }
+    requires { ⌜ Promised known (times readSnapshot count (drop at (now s))) ⌝ }
+    ensures { λ r. ⌜ SnapshotsSay (times readSnapshot count (drop at (now (s .entry)))) (now (s .entry)) (now (rows .exit)) r ⌝ }
 {
-    let first = read_snapshot(&s[at..]);
-    let version = first.version;
     let mut r = SnapshotsRead {
         ok: false,
         next: 0,
-        starts: [at; 8],
+        starts: [0; 8],
         ends: [0; 8],
-        versions: [version; 8],
-        differs: [first.differ; 8],
-        first,
+        versions: [EventVersion(0); 8],
+        differs: [0; 8],
+        objects: [0; 8],
     };
-    if !first.ok {
-        return r;
-    }
-    let mut next = at + first.next;
-    r.ends[0] = next;
-    let mut j: usize = 1;
+    let mut next = at;
+    let mut j: usize = 0;
     while j < count {
-        let x = pass_snapshot(s, next, known);
-        if !x.ok {
+        let SnapshotRead::Found(x, end) = read_snapshot(
+            s,
+            next,
+            known,
+            &mut rows[96 * j..96 * j + 96],
+        ) else {
             return r;
-        }
+        };
+        let version = x.version;
         r.starts[j] = next;
-        next = x.next;
-        r.ends[j] = next;
-        let later = x.version;
-        r.versions[j] = later;
+        r.ends[j] = end;
+        r.versions[j] = version;
         r.differs[j] = x.differ;
+        r.objects[j] = x.objects;
+        next = end;
         j += 1;
     }
     r.next = next;
@@ -112,13 +116,14 @@ fn no_dossier() -> DossierIndex
         ends: [0; 8],
         versions: [EventVersion(0); 8],
         differs: [0; 8],
-        first: no_snapshot(),
+        objects: [0; 8],
     }
 }
 
-// The index of a dossier that the bytes are, to their exact end. Where they are known to be one, its snapshots but the first are not checked.
-fn index_dossier(s: &[u8], known: bool) -> DossierIndex
-    ensures { λ r. ⌜ DossierSays known (dossierOf standard (now (s .entry))) (now (s .entry)) r ⌝ }
+// The index of a dossier that the bytes are, to their exact end. Where they are known to be one, its values are not compared.
+fn index_dossier(s: &[u8], known: bool, rows: &mut [usize]) -> DossierIndex
+    requires { ⌜ (length (now rows) ≡ 768) × (known ≡ true → IsDossier (now s)) ⌝ }
+    ensures { λ r. ⌜ DossierReads (dossierOf standard (now (s .entry))) (now (s .entry)) (now (rows .exit)) r ⌝ }
 {
     let DossierHeadRead::Head(head, after_head) = read_dossier_head(s) else {
         return no_dossier();
@@ -127,7 +132,7 @@ fn index_dossier(s: &[u8], known: bool) -> DossierIndex
         return no_dossier();
     };
     let count = number as usize;
-    let all = read_snapshots(s, after_count, count, known);
+    let all = read_snapshots(s, after_count, count, known, rows);
     if !all.ok {
         return no_dossier();
     }
@@ -138,7 +143,7 @@ fn index_dossier(s: &[u8], known: bool) -> DossierIndex
     let ends = all.ends;
     let versions = all.versions;
     let differs = all.differs;
-    let first = all.first;
+    let objects = all.objects;
     if !versions_rise(versions, count) {
         return no_dossier();
     }
@@ -150,20 +155,22 @@ fn index_dossier(s: &[u8], known: bool) -> DossierIndex
         ends,
         versions,
         differs,
-        first,
+        objects,
     }
 }
 
 // The index of a dossier that the bytes are.
-pub fn read_dossier(s: &[u8]) -> DossierIndex
-    ensures { λ r. ⌜ DossierReads (dossierOf standard (now (s .entry))) (now (s .entry)) r ⌝ }
+pub fn read_dossier(s: &[u8], rows: &mut [usize]) -> DossierIndex
+    requires { ⌜ length (now rows) ≡ 768 ⌝ }
+    ensures { λ r. ⌜ DossierReads (dossierOf standard (now (s .entry))) (now (s .entry)) (now (rows .exit)) r ⌝ }
 {
-    index_dossier(s, false)
+    index_dossier(s, false, rows)
 }
 
 // The index of bytes that are known to be a dossier.
-pub fn read_known(s: &[u8]) -> DossierIndex
-    ensures { λ r. ⌜ ((h : Headed) → dossierOf standard (now (s .entry)) ≡ some h → DossierIs (now (s .entry)) h r) ⌝ }
+pub fn read_known(s: &[u8], rows: &mut [usize]) -> DossierIndex
+    requires { ⌜ (length (now rows) ≡ 768) × IsDossier (now s) ⌝ }
+    ensures { λ r. ⌜ DossierReads (dossierOf standard (now (s .entry))) (now (s .entry)) (now (rows .exit)) r ⌝ }
 {
-    index_dossier(s, true)
+    index_dossier(s, true, rows)
 }

@@ -1,12 +1,12 @@
 ghost use Prim.Native.Nat.{ℕ, _-_, _≤_};
 ghost use mathlib.Core.Path.{_≡_};
 ghost use mathlib.Core.Bool.{not, _&&_, _||_};
-ghost use mathlib.Core.List.{List, [], _∷_};
+ghost use mathlib.Core.List.{List, [], _∷_, map};
 ghost use lib.ListN.{length};
 ghost use lib.Dec.{leb};
 ghost use Rattle.model.specs.Order.{Text, sets, equal};
 ghost use Rattle.model.specs.Rule.{Cell, Snapshot, sizes};
-ghost use Rattle.model.specs.Opening.{cellAt};
+ghost use Rattle.model.specs.Opening.{held, cellAt};
 ghost use Rattle.values.specs.Decimal.{inDecimal};
 ghost use Rattle.ontology.specs.Table.{Property, EventType};
 ghost use Rattle.ontology.specs.code.TypeIndex.{PropertyIs, PropertiesAre, hasExtreme, hasMatch};
@@ -14,7 +14,7 @@ ghost use Rattle.event.specs.EventQuestions.{matchCount};
 ghost use Rattle.event.specs.code.EventIndex.{SetIs, SetsAre};
 ghost use Rattle.dossier.specs.DossierQuestions.{eachCell, isVacant, holdsVersion};
 ghost use Rattle.dossier.specs.code.DossierIndex.{CellIs, CellsAre, cellFits, snapshotFits, versionFits, SnapshotIs};
-use crate::snapshots::SnapshotIndex;
+use crate::snapshots::SnapshotNumbers;
 use event::sets::SetAt;
 use event::sets::set_at;
 use event::sets::set_part;
@@ -162,20 +162,20 @@ fn is_version(s: &[u8], x: SetAt, version: EventVersion) -> bool
 }
 
 // The version property holds the snapshot's version. A marked one holds nothing.
-fn holds_version(s: &[u8], x: SnapshotIndex, mark: usize) -> bool
-    requires { ⌜ 1 ≤ mark ⌝ }
-    ensures { λ r. ⌜ ((y : Snapshot) → SnapshotIs (now (s .entry)) y x → r ≡ holdsVersion (y .version) (cellAt y (mark - 1))) ⌝ }
+fn holds_version(s: &[u8], sets: &[usize], version: EventVersion, mark: usize) -> bool
+    requires { ⌜ (1 ≤ mark) × (length (now sets) ≡ 96) ⌝ }
+    ensures { λ r. ⌜ ((y : Snapshot) → version .0 ≡ y .version → SetsAre (now (s .entry)) (map held (y .cells)) (now (sets .entry))
+        → r ≡ holdsVersion (y .version) (cellAt y (mark - 1))) ⌝ }
 {
     if 32 < mark {
         return false;
     }
-    let set = set_at(&x.sets, mark - 1);
-    let version = x.version;
-    is_version(s, set, version)
+    is_version(s, set_at(sets, mark - 1), version)
 }
 
-fn fits_by_version(s: &[u8], x: SnapshotIndex, mark: usize) -> bool
-    ensures { λ r. ⌜ ((y : Snapshot) (ty : EventType) → mark ≡ ty .mark → SnapshotIs (now (s .entry)) y x → r ≡ versionFits ty y) ⌝ }
+fn fits_by_version(s: &[u8], sets: &[usize], x: SnapshotNumbers, mark: usize) -> bool
+    requires { ⌜ length (now sets) ≡ 96 ⌝ }
+    ensures { λ r. ⌜ ((y : Snapshot) (ty : EventType) → mark ≡ ty .mark → SnapshotIs (now (s .entry)) y x (now (sets .entry)) → r ≡ versionFits ty y) ⌝ }
 {
     let version = x.version;
     if mark == 0 {
@@ -187,26 +187,27 @@ fn fits_by_version(s: &[u8], x: SnapshotIndex, mark: usize) -> bool
     if 32 < x.objects {
         return false;
     }
-    holds_version(s, x, mark)
+    holds_version(s, sets, version, mark)
 }
 
 // All that question 5 asks of one snapshot.
 pub fn snapshot_fits(
     s: &[u8],
-    x: SnapshotIndex,
+    sets: &[usize],
+    x: SnapshotNumbers,
     mark: usize,
     count: usize,
     properties: &[usize],
 ) -> bool
-    requires { ⌜ (count ≤ 32) × (length (now properties) ≡ 96) ⌝ }
+    requires { ⌜ (count ≤ 32) × (length (now sets) ≡ 96) × (length (now properties) ≡ 96) ⌝ }
     ensures { λ r. ⌜ ((u : List ℕ) (ty : EventType) (y : Snapshot) → mark ≡ ty .mark → PropertiesAre u (ty .properties) count (now (properties .entry))
-        → SnapshotIs (now (s .entry)) y x → r ≡ snapshotFits ty y) ⌝ }
+        → SnapshotIs (now (s .entry)) y x (now (sets .entry)) → r ≡ snapshotFits ty y) ⌝ }
 {
-    if !cells_fit(0 < mark, count, properties, x.differ, x.objects, &x.sets) {
+    if !cells_fit(0 < mark, count, properties, x.differ, x.objects, sets) {
         return false;
     }
-    if !is_match_small(count, properties, &x.sets) {
+    if !is_match_small(count, properties, sets) {
         return false;
     }
-    fits_by_version(s, x, mark)
+    fits_by_version(s, sets, x, mark)
 }

@@ -1,40 +1,30 @@
 ghost use mathlib.Core.Path.{_≡_};
-ghost use mathlib.Core.Bool.{false};
 ghost use mathlib.Core.List.{List};
 ghost use Prim.Native.Nat.{ℕ, _≤_};
 ghost use lib.ListN.{length, drop};
 ghost use Rattle.model.specs.Order.{Text};
-ghost use Rattle.model.specs.Rule.{Snapshot};
-ghost use Rattle.packed.specs.Parse.{got};
 ghost use Rattle.event.specs.Event.{objectCount};
-ghost use Rattle.event.specs.code.EventIndex.{SetsAre};
+ghost use Rattle.event.specs.code.EventIndex.{SetsAre, Promised};
 ghost use Rattle.dossier.specs.DossierBody.{apart, areSmall, readSnapshot};
-ghost use Rattle.dossier.specs.code.DossierIndex.{NumbersRead, SnapshotReads, PassedIs, PassedSays};
-use event::lookup::skip_sets;
+ghost use Rattle.dossier.specs.code.DossierIndex.{NumbersRead, SnapshotReads};
+use event::sets::SetsRead;
 use event::sets::read_sets;
 use event::sets::set_at;
 use packed::read::NumberAt;
 use packed::read::read_number;
 use values::versions::EventVersion;
 
-// Where each thing of a snapshot stands, from its first byte; `next` is the position of what follows.
-pub struct SnapshotIndex {
-    pub ok: bool,
-    pub next: usize,
+// A snapshot's version, its differ number, and how many objects it has. Where its sets stand is lent beside them, as 96 numbers.
+pub struct SnapshotNumbers {
     pub version: EventVersion,
-    pub presence: u64,
     pub differ: u64,
-    pub after_differ: usize,
     pub objects: usize,
-    pub sets: [usize; 96],
 }
 
-// Whether a snapshot stands at a place, its version and differ number, and the position after it.
-pub struct SnapshotPassed {
-    pub ok: bool,
-    pub version: EventVersion,
-    pub differ: u64,
-    pub next: usize,
+// The numbers of a snapshot, and the position after it.
+pub enum SnapshotRead {
+    Found(SnapshotNumbers, usize),
+    NoSnapshot,
 }
 
 // The numbers that a snapshot begins with, and the position after them.
@@ -66,10 +56,10 @@ fn are_apart(presence: u64, differ: u64) -> bool
     true
 }
 
-fn read_numbers(s: &[u8]) -> NumbersAt
-    ensures { λ r. ⌜ NumbersRead (now (s .entry)) r ⌝ }
+fn read_numbers(s: &[u8], at: usize) -> NumbersAt
+    ensures { λ r. ⌜ NumbersRead (now (s .entry)) at r ⌝ }
 {
-    let NumberAt::Number(version, after_version) = read_number(s, 0) else {
+    let NumberAt::Number(version, after_version) = read_number(s, at) else {
         return NumbersAt::NoNumbers;
     };
     let NumberAt::Number(presence, after_presence) = read_number(s, after_version) else {
@@ -115,104 +105,31 @@ fn are_small(sets: &[usize], objects: usize) -> bool
     true
 }
 
-pub fn no_snapshot() -> SnapshotIndex
-    ensures { λ r. ⌜ r .ok ≡ false ⌝ }
-{
-    SnapshotIndex {
-        ok: false,
-        next: 0,
-        version: EventVersion(0),
-        presence: 0,
-        differ: 0,
-        after_differ: 0,
-        objects: 0,
-        sets: [0; 96],
-    }
-}
-
-// The index of the snapshot that the bytes begin with. They are the rest of a dossier, from the snapshot's first byte on.
-pub fn read_snapshot(s: &[u8]) -> SnapshotIndex
-    ensures { λ r. ⌜ SnapshotReads (readSnapshot (now (s .entry))) (now (s .entry)) r ⌝ }
+// The snapshot at `at`, and where its sets stand. Where one is known to stand there, its values are not compared.
+pub fn read_snapshot(s: &[u8], at: usize, known: bool, sets: &mut [usize]) -> SnapshotRead
+    requires { ⌜ (at ≤ length (now s)) × (length (now sets) ≡ 96) × Promised known (readSnapshot (drop at (now s))) ⌝ }
+    ensures { λ r. ⌜ SnapshotReads (now (s .entry)) at (now (sets .exit)) r ⌝ }
 {
     let NumbersAt::Numbers {
         version,
         presence,
         differ,
         after_differ,
-    } = read_numbers(s)
+    } = read_numbers(s, at)
     else {
-        return no_snapshot();
+        return SnapshotRead::NoSnapshot;
     };
-    let found = read_sets(s, after_differ, presence);
-    if !found.ok {
-        return no_snapshot();
-    }
-    if !are_small(&found.sets, found.objects) {
-        return no_snapshot();
-    }
-    let sets = found.sets;
-    SnapshotIndex {
-        ok: true,
-        next: found.next,
-        version,
-        presence,
-        differ,
-        after_differ,
-        objects: found.objects,
-        sets,
-    }
-}
-
-// The snapshot that is known to stand at `at`. Its values are not compared.
-fn skip_snapshot(s: &[u8], at: usize) -> SnapshotPassed
-    ensures { λ r. ⌜ ((x : Snapshot) (t : List ℕ) → at ≤ length (now (s .entry)) → readSnapshot (drop at (now (s .entry))) ≡ got x t → PassedIs (now (s .entry)) x at r) ⌝ }
-{
-    let none = SnapshotPassed {
-        ok: false,
-        version: EventVersion(0),
-        differ: 0,
-        next: at,
+    let SetsRead::Sets { next, objects } = read_sets(s, after_differ, presence, known, sets) else {
+        return SnapshotRead::NoSnapshot;
     };
-    let NumberAt::Number(version, after_version) = read_number(s, at) else {
-        return none;
-    };
-    let NumberAt::Number(presence, after_presence) = read_number(s, after_version) else {
-        return none;
-    };
-    let NumberAt::Number(differ, after_differ) = read_number(s, after_presence) else {
-        return none;
-    };
-    let sets = u32::count_ones((presence % 4294967296) as u32);
-    SnapshotPassed {
-        ok: true,
-        version: EventVersion(version),
-        differ,
-        next: skip_sets(s, after_differ, sets),
-    }
-}
-
-// The snapshot at `at`, which is skipped over where it is known to stand there, and otherwise read.
-pub fn pass_snapshot(s: &[u8], at: usize, known: bool) -> SnapshotPassed
-    requires { ⌜ (known ≡ false → at ≤ length (now s)) ⌝ }
-    ensures { λ r. ⌜ (at ≤ length (now (s .entry)) → PassedSays known (readSnapshot (drop at (now (s .entry)))) (now (s .entry)) at r) ⌝ }
-{
-    if known {
-        return skip_snapshot(s, at);
-    }
-    let x = read_snapshot(&s[at..]);
-    let version = x.version;
-    if x.ok {
-        return SnapshotPassed {
-            ok: true,
+    if are_small(sets, objects) {
+        let x = SnapshotNumbers {
             version,
-            differ: x.differ,
-            next: at + x.next,
+            differ,
+            objects,
         };
-    }
-    SnapshotPassed {
-        ok: false,
-        version: EventVersion(0),
-        differ: 0,
-        next: at,
+        SnapshotRead::Found(x, next)
+    } else {
+        SnapshotRead::NoSnapshot
     }
 }

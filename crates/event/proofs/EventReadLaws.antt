@@ -16,10 +16,9 @@ use Rattle.packed.proofs.ReadLaws.{drop-next, NumberStops, stretch}
 use Rattle.event.specs.Event.{Event, objectCount}
 use Rattle.event.specs.Head.{Head, readHead, headBytes}
 use Rattle.event.specs.EventLayout.{readBits, readSets, Counts, readEvent, eventOf, setsBytes}
-use Rattle.event.specs.code.EventIndex.{SetsAre, SetsReads, HeadStops, EventReads}
+use Rattle.event.specs.code.EventIndex.{SetsAre, SetsStop, HeadStops, EventReads}
 use Rattle.event.proofs.HeadLayoutLaws.{head-was}
 use Rattle.event.proofs.EventLayoutLaws.{readBody, sets-was}
-use Rattle.event.specs.declared.sets.SetsRead.{SetsRead}
 use Rattle.event.specs.declared.head.HeadAt.{HeadAt}
 use Rattle.event.specs.declared.read.EventIndex.{EventIndex}
 
@@ -34,24 +33,6 @@ head-bytes most s h w = head-was most s (w .what) (drop (h .parents .end) s) (w 
 event-then : (counts : Counts) (s : List ℕ) → readEvent counts s ≡ andThen (readHead (counts .parents) s) (readBody counts)
 unfolding readEvent
 event-then counts s = refl
-
--- what is known of the sets that were read, and that none were read
-pub record Sets (p : Parse (List (List Text))) (s : List ℕ) (r : SetsRead) : Type 0 where
-  pub xs : List (List Text)
-  pub is : p ≡ got xs (drop (r .next) s)
-  pub within : r .next ≤ length s
-  pub objects : r .objects ≡ objectCount xs
-  pub stands : SetsAre s xs (r .sets)
-
-pub sets-right : (p : Parse (List (List Text))) (s : List ℕ) (r : SetsRead) → SetsReads p s r → r .ok ≡ true → Sets p s r
-unfolding SetsReads
-sets-right fail s r w h = let z : _≡_ {A = ℕ} 0 1 = cc in absurd (omega arith)
-sets-right (got xs t) s r w h = record { xs = xs; is = ap (got xs) (w .rest); within = w .within; objects = w .objects; stands = w .stands }
-
-pub sets-wrong : (p : Parse (List (List Text))) (s : List ℕ) (r : SetsRead) → SetsReads p s r → r .ok ≡ false → p ≡ fail
-unfolding SetsReads
-sets-wrong fail s r w h = refl
-sets-wrong (got xs t) s r w h = let z : _≡_ {A = ℕ} 0 1 = cc (w .right) in absurd (omega arith)
 
 pub event-none : (o : Option Event) (s : List ℕ) (x : EventIndex) → o ≡ none → x .ok ≡ false → EventReads o s x
 unfolding EventReads
@@ -79,59 +60,60 @@ module _ (counts : Counts) (s : List ℕ) (h : HeadAt) (w : HeadStops (readHead 
       unfolding readBits
       after-presence = rw (after-head, m .is, lt-ltb n (2 ^ 32) small)
 
-      module _ (r : SetsRead) (t : SetsReads (readSets 32 n (drop next s)) s r) where
-        pub no-sets : r .ok ≡ false → eventOf counts s ≡ none
+      pub no-sets : readSets 32 n (drop next s) ≡ fail → eventOf counts s ≡ none
+      unfolding eventOf
+      no-sets e = rw (after-presence, e)
+
+      module _ (ats : List ℕ) (end objects : ℕ) (t : SetsStop (readSets 32 n (drop next s)) s ats end objects) where
+        after-sets :
+            (l : List ℕ) → drop end s ≡ l →
+            readEvent counts s ≡ foundIf (leb (objectCount (t .what)) (counts .objects)) (record { head = w .what; sets = t .what }) l
+        after-sets l e =
+            after-presence
+            ∙ ap (λ (p : Parse (List (List Text))). andThen p (λ xs. foundIf (leb (objectCount xs) (counts .objects)) (record { head = w .what; sets = xs })))
+            (t .is ∙ ap (got (t .what)) e)
+
+        pub early : (end ≡ length s → ⊥) → eventOf counts s ≡ none
         unfolding eventOf
-        no-sets e = rw (after-presence, sets-wrong (readSets 32 n (drop next s)) s r t e)
+        early ne =
+            let k : end < length s = omega (arith, t .within, ne) in
+            ap whole (after-sets _ (drop-next s end k)) ∙ go (leb (objectCount (t .what)) (counts .objects)) _ _ _
+          where
+            go : (b : Bool) (e : Event) (y : ℕ) (l : List ℕ) → whole (foundIf b e (y ∷ l)) ≡ none
+            go true e y l = refl
+            go false e y l = refl
 
-        module _ (right : r .ok ≡ true) where
-          sets : Sets (readSets 32 n (drop next s)) s r
-          sets = sets-right (readSets 32 n (drop next s)) s r t right
+        module _ (whole-read : end ≡ length s) where
+          at-end : drop end s ≡ []
+          at-end = let l : length s ≤ end = omega arith in drop-of-length-le s l
 
-          after-sets : (l : List ℕ) → drop (r .next) s ≡ l → readEvent counts s ≡ foundIf (leb (objectCount (sets .xs)) (counts .objects)) (record { head = w .what; sets = sets .xs }) l
-          after-sets l e = after-presence ∙ ap (λ (p : Parse (List (List Text))). andThen p (λ xs. foundIf (leb (objectCount xs) (counts .objects)) (record { head = w .what; sets = xs }))) (sets .is ∙ ap (got (sets .xs)) e)
-
-          pub early : (r .next ≡ length s → ⊥) → eventOf counts s ≡ none
+          pub many : counts .objects < objects → eventOf counts s ≡ none
           unfolding eventOf
-          early ne =
-              let k : r .next < length s = omega (arith, sets .within, ne) in
-              ap whole (after-sets _ (drop-next s (r .next) k)) ∙ go (leb (objectCount (sets .xs)) (counts .objects)) _ _ _
-            where
-              go : (b : Bool) (e : Event) (y : ℕ) (l : List ℕ) → whole (foundIf b e (y ∷ l)) ≡ none
-              go true e y l = refl
-              go false e y l = refl
+          many k =
+              let l : counts .objects < objectCount (t .what) = omega (arith, t .summed) in
+              rw (after-sets [] at-end, lt-leb _ _ l)
 
-          module _ (end : r .next ≡ length s) where
-            at-end : drop (r .next) s ≡ []
-            at-end = let l : length s ≤ r .next = omega arith in drop-of-length-le s l
-
-            pub many : counts .objects < r .objects → eventOf counts s ≡ none
-            unfolding eventOf
-            many k =
-                let l : counts .objects < objectCount (sets .xs) = omega (arith, sets .objects) in
-                rw (after-sets [] at-end, lt-leb _ _ l)
-
-            pub event-found :
-                r .objects ≤ counts .objects → EventReads (eventOf counts s) s
-                (record { ok = true; head = h; presence = n; «after_presence» = next; objects = r .objects; sets = r .sets })
-            unfolding eventOf EventReads
-            event-found k =
-                let l : objectCount (sets .xs) ≤ counts .objects = omega (arith, sets .objects) in
-                let x = sets-was 32 n (drop next s) (sets .xs) (drop (r .next) s) small (sets .is) in
-                let front : drop 0 s ≡ (headBytes (w .what) ++ number n) ++ drop next s =
-                head-bytes (counts .parents) s h w
-                ∙ ap (λ (l : List ℕ). headBytes (w .what) ++ l) (number-was (drop (h .parents .end) s) n (drop next s) (m .is) .0)
-                ∙ sym (append-assoc (headBytes (w .what)) (number n) (drop next s)) in
-                let zero : next ≡ next - 0 = omega arith in
-                rw (after-sets [] at-end, le-leb _ _ l) (
-                  refl,
-                  record {
-                    head = w .stands;
-                    presence = sym (x .present);
-                    front = ap (λ (i : ℕ). take i s) zero ∙ stretch s (headBytes (w .what) ++ number n) 0 next (omega arith) (m .within) front .0;
-                    rest = x .bytes ∙ ap (λ (l : List ℕ). setsBytes (sets .xs) ++ l) at-end ∙ append-nil (setsBytes (sets .xs));
-                    within = m .within;
-                    objects = sets .objects;
-                    sets = sets .stands;
-                  },
-                )
+          pub event-found :
+              objects ≤ counts .objects → EventReads (eventOf counts s) s
+              (record { ok = true; head = h; presence = n; «after_presence» = next; objects = objects; sets = ats })
+          unfolding eventOf EventReads
+          event-found k =
+              let l : objectCount (t .what) ≤ counts .objects = omega (arith, t .summed) in
+              let x = sets-was 32 n (drop next s) (t .what) (drop end s) small (t .is) in
+              let front : drop 0 s ≡ (headBytes (w .what) ++ number n) ++ drop next s =
+              head-bytes (counts .parents) s h w
+              ∙ ap (λ (l : List ℕ). headBytes (w .what) ++ l) (number-was (drop (h .parents .end) s) n (drop next s) (m .is) .0)
+              ∙ sym (append-assoc (headBytes (w .what)) (number n) (drop next s)) in
+              let zero : next ≡ next - 0 = omega arith in
+              rw (after-sets [] at-end, le-leb _ _ l) (
+                refl,
+                record {
+                  head = w .stands;
+                  presence = sym (x .present);
+                  front = ap (λ (i : ℕ). take i s) zero ∙ stretch s (headBytes (w .what) ++ number n) 0 next (omega arith) (m .within) front .0;
+                  rest = x .bytes ∙ ap (λ (l : List ℕ). setsBytes (t .what) ++ l) at-end ∙ append-nil (setsBytes (t .what));
+                  within = m .within;
+                  objects = t .summed;
+                  sets = t .stands;
+                },
+              )

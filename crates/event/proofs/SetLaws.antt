@@ -7,25 +7,27 @@ use Prim.Native.Nat.{ℕ, zero, suc, _+_, _-_, _*_, _/_, _%_, _^_, _≤_, _<_, O
 use native.Mathlib.Nat.{sub-self, le-refl}
 use native.Mathlib.Omega.{arith}
 use lib.Dec.{eqb}
-use lib.ListN.{length, drop, getD, replicate, length-append, length-drop, length-replicate}
+use lib.ListN.{length, drop, getD, replicate, length-append, length-drop, length-replicate, List·getD-eq-default}
 use lib.Seq.{getD-at}
 use borrow.Author.Tests.{le-leb, eq-eqb, ne-eqb, eqb-true, eqb-false}
 use Rattle.model.specs.Order.{Text, texts, rising, pick}
+use Rattle.model.proofs.Cases.{never}
 use Rattle.packed.specs.Parse.{Parse, fail, got, Layout, andThen, _>>=_, foundIf, times, All}
 use Rattle.packed.specs.Packed.{number, readNumber, text, readText, part}
-use Rattle.packed.proofs.LayoutLaws.{andThen-got, foundIf-got, times-was, text-read, text-was, text-length, number-was, number-bounds}
+use Rattle.packed.proofs.LayoutLaws.{lt-or-ge, andThen-got, foundIf-got, times-was, text-read, text-was, text-length, number-was, number-bounds}
 use Rattle.packed.proofs.ReadLaws.{TextStops, stretch}
 pub use Rattle.ontology.proofs.RunLaws.{prepend}
 use Rattle.ontology.proofs.RunLaws.{prepend-nil, prepend-one}
 use Rattle.ontology.proofs.TripleLaws.{putThree, three-long, three-first, three-second, three-third, three-zero, three-other}
 use Rattle.event.specs.Event.{objectCount}
 use Rattle.event.specs.EventLayout.{readSet, readPlace, readSets, setBytes}
-use Rattle.event.specs.code.EventIndex.{countSize, SetIs, noSet, setIn, SetsAre, SetStops, SetReads, SetsStop, SetsReads}
+use Rattle.event.specs.code.EventIndex.{countSize, SetIs, noSet, setIn, SetsAre, Promised, SetStops, SetReads, SetsStop, SetsReads}
 use Rattle.event.proofs.EventLayoutLaws.{set-was, nonempty-was}
 use Rattle.event.specs.declared.sets.SetAt.{SetAt}
 use Rattle.event.specs.declared.sets.SetRead.{SetRead}
 use Rattle.event.specs.declared.sets.SetRead.the-variants.{Found, NoSet}
 use Rattle.event.specs.declared.sets.SetsRead.{SetsRead}
+use Rattle.event.specs.declared.sets.SetsRead.the-variants.{Sets, NoSets}
 
 -- ---- rising texts, each read by the layout p
 
@@ -103,6 +105,14 @@ module _ (p : Layout Text) where
           go Ordering·eq b (got ws o′) = refl
           go Ordering·gt b fail = refl
           go Ordering·gt b (got ws o′) = refl
+
+      -- where they are promised, the next one comes after
+      pub onward-promised : {known : Bool} → Promised known q → known ≡ true → pick (texts .cmp v u) true false false ≡ true
+      onward-promised m e = go (pick (texts .cmp v u) true false false) refl
+        where
+          go : (b : Bool) → pick (texts .cmp v u) true false false ≡ b → b ≡ true
+          go true k = refl
+          go false k = absurd (m e (onward-not k))
 
       pub onward-more : pick (texts .cmp v u) true false false ≡ true → Onward p q u (left - 1) r
       unfolding rising
@@ -279,14 +289,6 @@ unfolding setBytes
 set-long [] = omega arith
 set-long (v ∷ vs) = omega (arith, texts-long (v ∷ vs), length-append (number (length (v ∷ vs))) (flatten (map text (v ∷ vs))))
 
-pub sets-none : (p : Parse (List (List Text))) (s : List ℕ) (r : SetsRead) → p ≡ fail → r .ok ≡ false → SetsReads p s r
-unfolding SetsReads
-sets-none p s r e h = rw e h
-
-sets-got : (p : Parse (List (List Text))) (xs : List (List Text)) (t s : List ℕ) (r : SetsRead) → p ≡ got xs t → SetsStop xs t s r → SetsReads p s r
-unfolding SetsReads
-sets-got p xs t s r e w = rw e w
-
 -- a set that was taken from the numbers stands where they say
 pub set-read : {s : List ℕ} {vs : List Text} {x y : SetAt} → x ≡ y → SetIs s vs y → SetIs s vs x
 set-read {s} {vs} e w = subst (SetIs s vs) (sym e) w
@@ -307,7 +309,7 @@ module _ (ats : List ℕ) (k : ℕ) (x : SetAt) where
     three-other ats k (x .start) (x .end) (x .count) i 2 (omega arith) n,
   ) refl
 
--- The first k places are read: their sets are xs, and the others stand from `next` on. A place that is not read yet has the empty set
+-- The first k places are read: their sets are xs, and the others stand from `next` on
 pub record Sofar (p : Parse (List (List Text))) (s ats : List ℕ) (bits next objects k : ℕ) : Type 0 where
   pub xs : List (List Text)
   pub long : length xs ≡ k
@@ -316,16 +318,16 @@ pub record Sofar (p : Parse (List (List Text))) (s ats : List ℕ) (bits next ob
   pub within : next ≤ length s
   pub summed : objects ≡ objectCount xs
   pub small : objects ≤ next
-  pub each : (i : ℕ) → SetIs s (getD xs i []) (setIn ats i)
+  pub each : (i : ℕ) → i < k → SetIs s (getD xs i []) (setIn ats i)
   pub ats-long : length ats ≡ 96
 
 no-values : (s : List ℕ) → SetIs s [] noSet
 unfolding flatten countSize setBytes
 no-values s = record { bytes = refl; count = refl; order = omega arith; within = omega arith; counted = omega arith; whole = refl }
 
-pub sofar-none : (s : List ℕ) (bits at : ℕ) → at ≤ length s → Sofar (readSets 32 bits (drop at s)) s (replicate 96 0) bits at 0 0
+pub sofar-none : (s ats : List ℕ) (bits at : ℕ) → at ≤ length s → length ats ≡ 96 → Sofar (readSets 32 bits (drop at s)) s ats bits at 0 0
 unfolding objectCount
-sofar-none s bits at h = record {
+sofar-none s ats bits at h l = record {
   xs = [];
   long = refl;
   few = omega arith;
@@ -333,8 +335,8 @@ sofar-none s bits at h = record {
   within = h;
   summed = refl;
   small = omega arith;
-  each = λ i. rw (getD-filled {A = ℕ} 0 [] 96 (3 * i), getD-filled {A = ℕ} 0 [] 96 (3 * i + 1), getD-filled {A = ℕ} 0 [] 96 (3 * i + 2)) (no-values s);
-  ats-long = refl;
+  each = λ i j. absurd (omega arith);
+  ats-long = l;
 }
 
 module _ (p : Parse (List (List Text))) (s ats : List ℕ) (bits next objects k : ℕ) (w : Sofar p s ats bits next objects k) where
@@ -355,14 +357,14 @@ module _ (p : Parse (List (List Text))) (s ats : List ℕ) (bits next objects k 
     stand-last : SetIs s (getD (w .xs ++ (t .what ∷ [])) k []) (setIn after k)
     stand-last = rw (set-here ats k x (omega (arith, w .ats-long)), getD-at (w .xs) (t .what) [] [] k (w .long)) (t .stands)
 
-    stand : (i : ℕ) → SetIs s (getD (w .xs ++ (t .what ∷ [])) i []) (setIn after i)
-    stand i = go (eqb i k) refl
+    stand : (i : ℕ) → i < k + 1 → SetIs s (getD (w .xs ++ (t .what ∷ [])) i []) (setIn after i)
+    stand i l = go (eqb i k) refl
       where
         go : (b : Bool) → eqb i k ≡ b → SetIs s (getD (w .xs ++ (t .what ∷ [])) i []) (setIn after i)
         go true e = rw (eqb-true i k e) stand-last
         go false e =
             let ne = eqb-false i k e in
-            rw (set-other ats k x i ne, getD-other [] (w .xs) (t .what) i (λ q. ne (q ∙ w .long))) (w .each i)
+            rw (set-other ats k x i ne, getD-other [] (w .xs) (t .what) i (λ q. ne (q ∙ w .long))) (w .each i (omega (arith, ne)))
 
     -- the objects of a set are no more than its bytes
     pub few-more : (next ≤ x .end) × (x .count ≤ x .end - next)
@@ -393,26 +395,77 @@ module _ (p : Parse (List (List Text))) (s ats : List ℕ) (bits next objects k 
   left-clear (inl f) = let z : 32 - k ≡ 0 = omega arith in rw z
   left-clear (inr b) = let z : bits ≡ 0 = omega arith in rw z (sets-clear (32 - k) (drop next s))
 
-  module _ (end : (32 ≤ k) ⊎ (bits ≤ 0)) where
-    -- the places that are not read have no objects
+  -- the places that are not read have no objects, and are cleared in the numbers `after`
+  module _
+      (end : (32 ≤ k) ⊎ (bits ≤ 0)) (after : List ℕ)
+      (kept : (i : ℕ) → i < k → setIn after i ≡ setIn ats i) (clear : (i : ℕ) → k ≤ i → i < 32 → setIn after i ≡ noSet) where
     abbrev all : List (List Text)
     all = w .xs ++ replicate (32 - k) []
 
-    all-sets : SetsAre s all ats
+    all-each : (i : ℕ) → i < 32 → (i < k) ⊎ (k ≤ i) → SetIs s (getD (w .xs) i []) (setIn after i)
+    all-each i h (inl l) = rw (kept i l) (w .each i l)
+    all-each i h (inr l) = let e : length (w .xs) ≤ i = omega (arith, w .long) in rw (clear i l h, List·getD-eq-default (w .xs) [] e) (no-values s)
+
+    all-sets : SetsAre s all after
     all-sets = record {
       long = length-append (w .xs) (replicate (32 - k) []) ∙ omega (arith, w .long, w .few, length-replicate {A = List Text} (32 - k) []);
-      each = λ i h. rw (getD-filled [] (w .xs) (32 - k) i) (w .each i);
+      each = λ i h. rw (getD-filled [] (w .xs) (32 - k) i) (all-each i h (lt-or-ge i k));
     }
 
-    pub sofar-found : SetsReads p s (record { ok = true; next = next; objects = objects; sets = ats })
-    sofar-found =
-        sets-got p all (drop next s) s _ (w .rest ∙ ap (prepend (w .xs)) (left-clear end)) (record {
-          right = refl;
-          rest = refl;
-          within = w .within;
-          objects = omega (arith, w .summed, objects-append (w .xs) (replicate (32 - k) []), objects-clear (32 - k));
-          stands = all-sets;
-        })
+    pub sofar-found : SetsStop p s after next objects
+    sofar-found = record {
+      what = all;
+      is = w .rest ∙ ap (prepend (w .xs)) (left-clear end);
+      within = w .within;
+      summed = omega (arith, w .summed, objects-append (w .xs) (replicate (32 - k) []), objects-clear (32 - k));
+      stands = all-sets;
+    }
+
+  -- a set that is promised with the others is read
+  pub sofar-promised : {known : Bool} → k < 32 → Promised known p → Promised known (readPlace (bits % 2) (drop next s))
+  sofar-promised h q e f = q e (sofar-bad h f)
+
+-- of what is not known nothing is promised
+pub not-promised : {A : Type 0} (p : Parse A) → Promised false p
+not-promised p e f = never (cc e)
+
+-- what is known of a call's answer in the arm of a `match`
+pub sets-read :
+    {p : Parse (List (List Text))} {s ats : List ℕ} {r : SetsRead} {next objects : ℕ} →
+    r ≡ Sets next objects → SetsReads p s ats r → SetsStop p s ats next objects
+sets-read {p} {s} {ats} h w = subst (SetsReads p s ats) h w
+
+pub sets-refused : {p : Parse (List (List Text))} (s ats : List ℕ) {r : SetsRead} → r ≡ NoSets → SetsReads p s ats r → p ≡ fail
+sets-refused {p} s ats h w = subst (SetsReads p s ats) h w
+
+-- ---- places that are cleared
+
+-- those from `place` up to k are clear, and those before stand as in the numbers old
+pub record Cleared (old ats : List ℕ) (place k : ℕ) : Type 0 where
+  pub long : length ats ≡ length old
+  pub from : place ≤ k
+  pub kept : (i : ℕ) → i < place → setIn ats i ≡ setIn old i
+  pub clear : (i : ℕ) → place ≤ i → i < k → setIn ats i ≡ noSet
+
+pub cleared-none : (ats : List ℕ) (place : ℕ) → Cleared ats ats place place
+cleared-none ats place = record { long = refl; from = le-refl place; kept = λ i h. refl; clear = λ i a b. absurd (omega arith) }
+
+module _ (old ats : List ℕ) (place k : ℕ) (w : Cleared old ats place k) (h : 3 * k + 2 < length old) where
+  -- the numbers with place k cleared
+  abbrev next-ats : List ℕ
+  next-ats = putThree ats k 0 0 0
+
+  next-clear : (i : ℕ) → place ≤ i → i < k + 1 → (b : Bool) → eqb i k ≡ b → setIn next-ats i ≡ noSet
+  next-clear i a l true e = rw (eqb-true i k e) (set-here ats k noSet (omega (arith, w .long)))
+  next-clear i a l false e = let ne = eqb-false i k e in set-other ats k noSet i ne ∙ w .clear i a (omega (arith, ne))
+
+  pub cleared-more : Cleared old next-ats place (k + 1)
+  cleared-more = record {
+    long = three-long ats k 0 0 0 ∙ w .long;
+    from = omega (arith, w .from);
+    kept = λ i l. set-other ats k noSet i (λ e. absurd (omega (arith, w .from))) ∙ w .kept i l;
+    clear = λ i a l. next-clear i a l (eqb i k) refl;
+  }
 
 -- ---- the text at an index
 

@@ -6,6 +6,7 @@ use crate::head::HeadAt;
 use crate::head::HeadRead;
 use crate::head::no_head;
 use crate::head::read_head;
+use crate::sets::SetsRead;
 use crate::sets::read_sets;
 use packed::read::NumberAt;
 use packed::read::read_number;
@@ -47,23 +48,23 @@ pub fn read_event(s: &[u8], most_parents: usize, most_objects: usize) -> EventIn
     if 4294967296 <= presence {
         return no_event();
     }
-    let found = read_sets(s, after_presence, presence);
-    if !found.ok {
+    let mut sets = [0usize; 96];
+    let SetsRead::Sets { next, objects } = read_sets(s, after_presence, presence, false, &mut sets)
+    else {
+        return no_event();
+    };
+    if next != s.len() {
         return no_event();
     }
-    if found.next != s.len() {
+    if most_objects < objects {
         return no_event();
     }
-    if most_objects < found.objects {
-        return no_event();
-    }
-    let sets = found.sets;
     EventIndex {
         ok: true,
         head,
         presence,
         after_presence,
-        objects: found.objects,
+        objects,
         sets,
     }
 }

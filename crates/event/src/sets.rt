@@ -1,11 +1,13 @@
-ghost use Prim.Native.Nat.{_≤_, _<_};
+ghost use Prim.Native.Nat.{ℕ, _≤_, _<_};
 ghost use mathlib.Core.Path.{_≡_};
+ghost use mathlib.Core.Bool.{true};
 ghost use mathlib.Core.List.{List, [], map, flatten};
 ghost use lib.ListN.{length, drop, getD};
 ghost use Rattle.model.specs.Order.{Text};
-ghost use Rattle.packed.specs.Packed.{text};
+ghost use Rattle.packed.specs.Packed.{text, part};
+ghost use Rattle.packed.specs.code.Comparison.{precedes};
 ghost use Rattle.event.specs.EventLayout.{readSet, readPlace, readSets};
-ghost use Rattle.event.specs.code.EventIndex.{SetIs, setIn, SetReads, SetsReads};
+ghost use Rattle.event.specs.code.EventIndex.{SetIs, noSet, setIn, Promised, SetReads, SetsReads};
 use packed::order::is_before;
 use packed::read::NumberAt;
 use packed::read::TextAt;
@@ -25,16 +27,27 @@ pub enum SetRead {
     NoSet,
 }
 
-// The sets of all 32 places, three numbers for each, and the position after them.
-pub struct SetsRead {
-    pub ok: bool,
-    pub next: usize,
-    pub objects: usize,
-    pub sets: [usize; 96],
+// The position after the sets of all places, and how many objects they have together.
+pub enum SetsRead {
+    Sets { next: usize, objects: usize },
+    NoSets,
+}
+
+// Whether a value comes after the one before it. Of what is known to be a set it does, and is not compared.
+fn comes_after(s: &[u8], from: usize, to: usize, value: usize, end: usize, known: bool) -> bool
+    requires { ⌜ (from ≤ to) × (to ≤ length (now s)) × (value ≤ end) × (end ≤ length (now s)) ⌝ }
+    requires { ⌜ (known ≡ true → precedes (part (now s) from to) (part (now s) value end) ≡ true) ⌝ }
+    ensures { λ r. ⌜ r ≡ precedes (part (now (s .entry)) from to) (part (now (s .entry)) value end) ⌝ }
+{
+    if known {
+        return true;
+    }
+    is_before(s, from, to, value, end)
 }
 
 // A count of at least 1, and as many rising values. Each value is compared with the one before it where they stand.
-fn read_set(s: &[u8], at: usize) -> SetRead
+fn read_set(s: &[u8], at: usize, known: bool) -> SetRead
+    requires { ⌜ Promised known (readSet (drop at (now s))) ⌝ }
     ensures { λ r. ⌜ SetReads (readSet (drop at (now (s .entry)))) (now (s .entry)) r ⌝ }
 {
     let NumberAt::Number(count, after_count) = read_number(s, at) else {
@@ -53,7 +66,7 @@ fn read_set(s: &[u8], at: usize) -> SetRead
         let TextAt::Text(value, end) = read_text(s, to) else {
             return SetRead::NoSet;
         };
-        if !is_before(s, from, to, value, end) {
+        if !comes_after(s, from, to, value, end, known) {
             return SetRead::NoSet;
         }
         from = value;
@@ -68,12 +81,12 @@ fn read_set(s: &[u8], at: usize) -> SetRead
 }
 
 // The set of a place whose bit of the presence number is `bit`.
-fn read_place(s: &[u8], at: usize, bit: u64) -> SetRead
-    requires { ⌜ at ≤ length (now s) ⌝ }
+fn read_place(s: &[u8], at: usize, bit: u64, known: bool) -> SetRead
+    requires { ⌜ (at ≤ length (now s)) × Promised known (readPlace bit (drop at (now s))) ⌝ }
     ensures { λ r. ⌜ SetReads (readPlace bit (drop at (now (s .entry)))) (now (s .entry)) r ⌝ }
 {
     if bit == 1 {
-        read_set(s, at)
+        read_set(s, at, known)
     } else {
         SetRead::Found(SetAt {
             start: at,
@@ -83,37 +96,45 @@ fn read_place(s: &[u8], at: usize, bit: u64) -> SetRead
     }
 }
 
-// The sets of a presence number. Each value takes a byte at least, so there are fewer objects than bytes. Where no bit is left, the places that follow have no objects.
-pub fn read_sets(s: &[u8], at: usize, presence: u64) -> SetsRead
-    requires { ⌜ at ≤ length (now s) ⌝ }
-    ensures { λ r. ⌜ SetsReads (readSets 32 presence (drop at (now (s .entry)))) (now (s .entry)) r ⌝ }
+// The places from `place` on have no objects.
+fn clear_from(sets: &mut [usize], place: usize)
+    requires { ⌜ length (now sets) ≡ 96 ⌝ }
+    ensures kept { λ _. ⌜ ((i : ℕ) → i < place → setIn (now (sets .exit)) i ≡ setIn (now (sets .entry)) i) ⌝ }
+    ensures clear { λ _. ⌜ ((i : ℕ) → place ≤ i → i < 32 → setIn (now (sets .exit)) i ≡ noSet) ⌝ }
 {
-    let mut found = SetsRead {
-        ok: false,
-        next: 0,
-        objects: 0,
-        sets: [0; 96],
-    };
+    let mut k = place;
+    while k < 32 {
+        sets[3 * k] = 0;
+        sets[3 * k + 1] = 0;
+        sets[3 * k + 2] = 0;
+        k += 1;
+    }
+}
+
+// The sets of a presence number, three numbers for each place. Each value takes a byte at least, so there are fewer objects than bytes. Where no bit is left,
+// the places that follow have no objects.
+pub fn read_sets(s: &[u8], at: usize, presence: u64, known: bool, sets: &mut [usize]) -> SetsRead
+    requires { ⌜ (at ≤ length (now s)) × (length (now sets) ≡ 96) × Promised known (readSets 32 presence (drop at (now s))) ⌝ }
+    ensures { λ r. ⌜ SetsReads (readSets 32 presence (drop at (now (s .entry)))) (now (s .entry)) (now (sets .exit)) r ⌝ }
+{
     let mut bits = presence;
     let mut next = at;
     let mut objects: usize = 0;
     let mut k: usize = 0;
     while k < 32 && 0 < bits {
-        let SetRead::Found(x) = read_place(s, next, bits % 2) else {
-            return found;
+        let SetRead::Found(x) = read_place(s, next, bits % 2, known) else {
+            return SetsRead::NoSets;
         };
-        found.sets[3 * k] = x.start;
-        found.sets[3 * k + 1] = x.end;
-        found.sets[3 * k + 2] = x.count;
+        sets[3 * k] = x.start;
+        sets[3 * k + 1] = x.end;
+        sets[3 * k + 2] = x.count;
         objects += x.count;
         next = x.end;
         bits = bits / 2;
         k += 1;
     }
-    found.ok = true;
-    found.next = next;
-    found.objects = objects;
-    found
+    clear_from(sets, k);
+    SetsRead::Sets { next, objects }
 }
 
 // The sets of all places are lent as 96 numbers, three for each: where its values start and end, and how many they are.

@@ -23,8 +23,8 @@ use Rattle.dossier.specs.declared.dossiers.DossierIndex.{DossierIndex}
 use Rattle.dossier.proofs.CellLaws.{held-at}
 use Rattle.dossier.proofs.AcceptedLaws.{DossierTaken, dossier-taken, taken-kept, taken-fits, taken-values}
 use Rattle.dossier.specs.DossierLayout.{modelOf}
-use Rattle.opening.specs.code.OpenIndex.{CellsStand, Lone, Mergeable, Openable}
-use Rattle.opening.proofs.StandLaws.{column-at}
+use Rattle.opening.specs.code.OpenIndex.{Lone, Mergeable, Openable}
+use Rattle.opening.proofs.StandLaws.{column-at, cells-stand}
 
 -- ---- place by place
 
@@ -70,7 +70,7 @@ lone-cell v q c h m e =
 
 -- ---- a dossier that is opened
 
-module _ (s : List ℕ) (d : DossierIndex) (t : TypeIndex) (o : Openable s d t) where
+module _ (s : List ℕ) (d : DossierIndex) (rows : List ℕ) (t : TypeIndex) (o : Openable s d rows t) where
   abbrev snapshots : List Snapshot
   snapshots = o .headed .snapshots
 
@@ -108,9 +108,9 @@ module _ (s : List ℕ) (d : DossierIndex) (t : TypeIndex) (o : Openable s d t) 
     lone-there : Lone (q .kind) (getD (column snapshots p) j [])
     lone-there = subst (Lone (q .kind)) (sym (column-at snapshots p j)) (record { one = one-there; in-space = space-there })
 
-  pub mergeable : (cells : List ℕ) → CellsStand s snapshots cells → Mergeable s cells (d .count) (o .type) (modelOf (o .headed))
-  mergeable cells w = record {
-    stand = w;
+  pub mergeable : Mergeable s rows (d .count) (o .type) (modelOf (o .headed))
+  mergeable = record {
+    stand = cells-stand s (o .headed) d rows (o .is) (o .stand);
     count = sym (o .is .count);
     vacant = λ p e. column-none snapshots p (vacant-there p e);
     chosen = λ p q e x. record {

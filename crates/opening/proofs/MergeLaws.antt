@@ -5,7 +5,7 @@ use mathlib.Core.Bool.{Bool, true, false, cond, not}
 use mathlib.Core.Option.{Option, none, some}
 use mathlib.Core.List.{List, [], _∷_, _++_, map, flatten, append-nil}
 use mathlib.Core.List.{List·Memᴰ, List·Memᴰ·head, List·Memᴰ·cases-cons, List·Memᴰ·not-nil, List·Memᴰ·append-cases, Memᴰ·append-left, Memᴰ·append-right}
-use Prim.Native.Nat.{ℕ, zero, suc, _+_, _-_, _*_, _^_, _≤_, _<_, Ordering}
+use Prim.Native.Nat.{ℕ, zero, suc, _+_, _-_, _^_, _≤_, _<_, Ordering}
 use native.Mathlib.Omega.{arith}
 use native.Mathlib.Numerals.{add-one}
 use lib.ListN.{length, take, drop, getD, getElem?}
@@ -341,7 +341,7 @@ module _ {s : List ℕ} {xss : List (List Text)} {j : ℕ} {only x : SetAt} (g :
 -- ---- the merged set of a place
 
 module _
-    (s cells : List ℕ) (n : ℕ) (t : EventType) (d : Dossier) (p : ℕ) (h : p < 32) (m : Mergeable s cells n t d) (r : PlaceRule)
+    (s rows : List ℕ) (n : ℕ) (t : EventType) (d : Dossier) (p : ℕ) (h : p < 32) (m : Mergeable s rows n t d) (r : PlaceRule)
     (w : RuleIs (getElem? (t .properties) p) r) where
   abbrev sets-here : List (List Text)
   sets-here = column (d .snapshots) p
@@ -349,16 +349,14 @@ module _
   abbrev merged-here : List Text
   merged-here = mergedAt (typeView t) d p
 
-  here-stands : (j : ℕ) → j < n → SetIs s (getD sets-here j []) (cellIn cells (p * 8 + j))
-  here-stands j l = column-stands s (d .snapshots) cells p j h (m .stand) (omega (arith, m .count)) refl
+  here-stands : (j : ℕ) → j < n → SetIs s (getD sets-here j []) (cellIn rows p j)
+  here-stands j l = column-stands s (d .snapshots) rows p j h (m .stand) (omega (arith, m .count)) refl
 
-  last-cell : 1 ≤ n → merged-here ≡ getD sets-here (n - 1) [] → SetIs s merged-here (cellIn cells (p * 8 + n - 1))
+  last-cell : 1 ≤ n → merged-here ≡ getD sets-here (n - 1) [] → SetIs s merged-here (cellIn rows p (n - 1))
   last-cell k e =
-      let z : p * 8 + (n - 1) ≡ p * 8 + n - 1 = omega arith in
-      subst (λ (vs : List Text). SetIs s vs (cellIn cells (p * 8 + n - 1))) (sym e)
-      (subst (λ (i : ℕ). SetIs s (getD sets-here (n - 1) []) (cellIn cells i)) z (here-stands (n - 1) (omega arith)))
+      subst (λ (vs : List Text). SetIs s vs (cellIn rows p (n - 1))) (sym e) (here-stands (n - 1) (omega arith))
 
-  pub stands-last : 1 ≤ n → r .replaces ≡ true → SetIs s merged-here (cellIn cells (p * 8 + n - 1))
+  pub stands-last : 1 ≤ n → r .replaces ≡ true → SetIs s merged-here (cellIn rows p (n - 1))
   stands-last k e =
       let l : length sets-here ≡ suc (n - 1) = column-long (d .snapshots) p ∙ m .count ∙ omega arith in
       last-cell k (merged-last t d p r w e ∙ last-at sets-here (n - 1) l)
@@ -368,7 +366,7 @@ module _
     only-flat = only-set sets-here (column-long (d .snapshots) p ∙ m .count ∙ k)
 
     only-rises : rising texts (getD sets-here 0 []) ≡ true
-    only-rises = column-rises s (d .snapshots) cells p 0 h (m .stand) (omega (arith, m .count))
+    only-rises = column-rises s (d .snapshots) rows p 0 h (m .stand) (omega (arith, m .count))
 
     only-union : r .replaces ≡ false → r .extreme ≡ false → merged-here ≡ getD sets-here 0 []
     only-union e f =
@@ -381,19 +379,19 @@ module _
         merged-least t d p r w e f ∙ ap (smallest (chosen-order t d p r w)) only-flat
         ∙ lone-smallest (w .what .kind) (r .largest) (getD sets-here 0 []) (m .lone p (w .what) (w .is) o 0 (omega arith))
 
-    pub stands-only : SetIs s merged-here (cellIn cells (p * 8 + n - 1))
+    pub stands-only : SetIs s merged-here (cellIn rows p (n - 1))
     stands-only = by (r .replaces) (r .extreme) refl refl
       where
         first : n - 1 ≡ 0
         first = omega arith
 
-        by : (a b : Bool) → r .replaces ≡ a → r .extreme ≡ b → SetIs s merged-here (cellIn cells (p * 8 + n - 1))
+        by : (a b : Bool) → r .replaces ≡ a → r .extreme ≡ b → SetIs s merged-here (cellIn rows p (n - 1))
         by true b e f = stands-last (omega arith) e
         by false true e f = last-cell (omega arith) (only-least e f ∙ ap (λ (i : ℕ). getD sets-here i []) (sym first))
         by false false e f = last-cell (omega arith) (only-union e f ∙ ap (λ (i : ℕ). getD sets-here i []) (sym first))
 
   pub stands-chosen : (x : SetAt) → r .replaces ≡ false → r .extreme ≡ true →
-      ((ss : List Snapshot) (k : Kind) → CellsStand s ss cells → length ss ≡ n → Chooses k (r .kind) → ((j : ℕ) → j < n → Lone k (getD (column ss p) j [])) →
+      ((ss : List Snapshot) (k : Kind) → CellsStand s ss rows → length ss ≡ n → Chooses k (r .kind) → ((j : ℕ) → j < n → Lone k (getD (column ss p) j [])) →
       SetIs s (smallest (extremeOrder (r .largest) k) (flatten (column ss p))) x) →
       SetIs s merged-here x
   stands-chosen x e g h =
@@ -404,7 +402,7 @@ module _
       (h (d .snapshots) k (m .stand) (m .count) chooses (m .lone p (w .what) (w .is) o))
 
   pub place-every : (x : PlaceMerged) → r .replaces ≡ false → r .extreme ≡ false →
-      ((ss : List Snapshot) → CellsStand s ss cells → length ss ≡ n → PlaceIs s (canon texts (flatten (column ss p))) (column ss p) x) →
+      ((ss : List Snapshot) → CellsStand s ss rows → length ss ≡ n → PlaceIs s (canon texts (flatten (column ss p))) (column ss p) x) →
       PlaceIs s merged-here sets-here x
   place-every x e f h = subst (λ (vs : List Text). PlaceIs s vs sets-here x) (sym (merged-every t d p r w e f)) (h (d .snapshots) (m .stand) (m .count))
 
@@ -415,9 +413,9 @@ unfolding flatten countSize setBytes
 no-set s = record { bytes = refl; count = refl; order = omega arith; within = omega arith; counted = omega arith; whole = refl }
 
 pub stands-empty :
-    (s cells u : List ℕ) (n : ℕ) (ty : EventType) (t : TypeIndex) (d : Dossier) (p : ℕ) → TypeIs u ty t → Mergeable s cells n ty d → t .count ≤ p →
+    (s rows u : List ℕ) (n : ℕ) (ty : EventType) (t : TypeIndex) (d : Dossier) (p : ℕ) → TypeIs u ty t → Mergeable s rows n ty d → t .count ≤ p →
     SetIs s (mergedAt (typeView ty) d p) noSet
 unfolding canon
-stands-empty s cells u n ty t d p w m h =
+stands-empty s rows u n ty t d p w m h =
     let e : getElem? (ty .properties) p ≡ none = no-element (ty .properties) p (omega (arith, w .are .count)) in
     subst (λ (vs : List Text). SetIs s vs noSet) (sym (merged-none ty d p e ∙ ap (canon texts) (m .vacant p e))) (no-set s)

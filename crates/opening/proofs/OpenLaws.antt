@@ -33,40 +33,38 @@ use Rattle.event.specs.Event.{typeView, eventView}
 use Rattle.event.specs.EventLayout.{eventBytes}
 use Rattle.dossier.specs.DossierQuestions.{dossierAsked}
 use Rattle.dossier.specs.DossierLayout.{dossierOf, modelOf}
-use Rattle.dossier.specs.code.DossierIndex.{IsDossier, DossierReads, DossierAnswers}
+use Rattle.dossier.specs.code.DossierIndex.{DossierReads, DossierAnswers}
 use Rattle.dossier.specs.declared.dossiers.DossierIndex.{DossierIndex}
 use Rattle.dossier.specs.declared.questions.DossierAsked.{DossierAsked}
 use Rattle.dossier.proofs.AcceptedLaws.{dossier-taken, asked-accepted}
 use Rattle.dossier.proofs.AnswerLaws.{reads-is}
 use Rattle.opening.specs.OpenCall.{mergedEvent, openedAnswer, askedOpening, openAnswer, openCall}
-use Rattle.opening.specs.code.OpenIndex.{lowestOf, conflictOf, CellsStand, Openable}
+use Rattle.opening.specs.code.OpenIndex.{lowestOf, conflictOf, Openable}
 use Rattle.opening.specs.code.PlanIndex.{PlanIs, Writable}
 use Rattle.opening.specs.declared.conflict.Conflict as found
 use Rattle.opening.specs.declared.conflict.Conflict.the-variants.{Differs, NoConflict}
 use Rattle.opening.specs.declared.conflict.Lowest.{Lowest}
 use Rattle.opening.specs.declared.conflict.Lowest.the-variants.{Place, NoPlace}
+use Rattle.opening.proofs.StandLaws.{cells-stand}
 use Rattle.opening.proofs.SizeLaws.{merged-size}
 
 -- ---- a dossier that was asked its questions
 
-module _ (s : List ℕ) (d : DossierIndex) (t : TypeIndex) (o : Openable s d t) where
+module _ (s : List ℕ) (d : DossierIndex) (rows : List ℕ) (t : TypeIndex) (o : Openable s d rows t) where
   abbrev dossier : Dossier
   dossier = modelOf (o .headed)
 
-  pub is-dossier : IsDossier s d
-  is-dossier = record { what = o .headed; is = o .is }
-
   -- what the writer of the merged event needs
   abbrev pub writable :
-      (cells plan : List ℕ) (size : ℕ) → CellsStand s (dossier .snapshots) cells → PlanIs s plan (o .type) dossier → dossierCapacity ≤ size →
-      Writable s d cells plan size
-  writable cells plan size w v h = record {
+      (plan : List ℕ) (size : ℕ) → PlanIs s plan (o .type) dossier → dossierCapacity ≤ size →
+      Writable s d rows plan size
+  writable plan size v h = record {
     type = o .type;
     headed = o .headed;
     is = o .is;
-    stand = w;
+    stand = cells-stand s (o .headed) d rows (o .is) (o .stand);
     planned = v;
-    room = omega (arith, merged-size s d t o);
+    room = omega (arith, merged-size s d rows t o);
   }
 
   -- ---- what is answered
@@ -104,7 +102,7 @@ module _ (s : List ℕ) (d : DossierIndex) (t : TypeIndex) (o : Openable s d t) 
     pub replies-merged : {r : Lowest} → r ≡ NoPlace → lowestOf r ≡ overfull (typeView (o .type)) dossier → {out new : List ℕ} {n : ℕ} → dossierCapacity ≤ length out → Wrote out 0 bytes new n → openReplies (Merged n) new ≡ outcome (openedAnswer (o .headed) opens) out
     unfolding openedAnswer
     replies-merged e f {out} {new} {n} h w =
-        let a : 0 + length bytes ≤ length out = omega (arith, merged-size s d t o) in
+        let a : 0 + length bytes ≤ length out = omega (arith, merged-size s d rows t o) in
         let m : n ≡ length bytes = omega (arith, w .after) in
         ap₂ (λ (k : ℕ) (l : List ℕ). openReplies (Merged k) l) m (wrote-between a w ∙ ap (λ (k : ℕ). bytes ++ drop k out) m)
         ∙ ap (λ (x : model.Opened). outcome (openedAnswer (o .headed) x) out) (sym (opens-merged e f))
@@ -121,16 +119,17 @@ module _ (table : List ℕ) (name : Text) (r : TableRead) (w : TableGot table na
 -- ---- the questions of the dossier
 
 -- a dossier that is accepted can be opened, by the types of this table
-pub record Accepted (table s : List ℕ) (d : DossierIndex) (r : DossierAsked) : Type 0 where
-  pub openable : Openable s d (r .«event_type»)
+pub record Accepted (table s : List ℕ) (d : DossierIndex) (rows : List ℕ) (r : DossierAsked) : Type 0 where
+  pub openable : Openable s d rows (r .«event_type»)
   pub from : tableOf table ≡ some (openable .types)
 
 module _
-    (ts : Table) (table s : List ℕ) (d : DossierIndex) (v : DossierReads (dossierOf standard s) s d)
+    (ts : Table) (table s : List ℕ) (d : DossierIndex) (rows : List ℕ) (v : DossierReads (dossierOf standard s) s rows d)
     (r : DossierAsked) (w : DossierAnswers (dossierAsked standard ts s) table r) where
-  pub asked-open : tableOf table ≡ some ts → r .number ≡ 0 → Accepted table s d r
+  pub asked-open : tableOf table ≡ some ts → r .number ≡ 0 → Accepted table s d rows r
   asked-open i h =
       let a = asked-accepted ts table s r w h in
+      let stands = reads-is s rows d (a .what .headed) v (dossier-taken ts s (a .what) (a .asked) .read) in
       record {
         openable = record {
           table = table;
@@ -140,7 +139,8 @@ module _
           read = i;
           asked = a .asked;
           typed = a .typed;
-          is = reads-is s d (a .what .headed) v (dossier-taken ts s (a .what) (a .asked) .read);
+          is = stands .0;
+          stand = stands .1;
         };
         from = i;
       }
@@ -162,7 +162,7 @@ module _ (table s out : List ℕ) where
     open-refused ts n e f = rw (has-room dossierCapacity (length out) h, e, f)
 
     pub open-done :
-        (d : DossierIndex) (r : DossierAsked) (a : Accepted table s d r) →
+        (d : DossierIndex) (rows : List ℕ) (r : DossierAsked) (a : Accepted table s d rows r) →
         outcome (openedAnswer (a .openable .headed) (opening (typeView (a .openable .type)) (modelOf (a .openable .headed)))) out ≡ openCall standard table s out
     unfolding openCall openAnswer askedOpening
-    open-done d r a = rw (has-room dossierCapacity (length out) h, a .from, a .openable .asked)
+    open-done d rows r a = rw (has-room dossierCapacity (length out) h, a .from, a .openable .asked)

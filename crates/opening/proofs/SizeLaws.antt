@@ -112,6 +112,6 @@ module _ (table s : List ℕ) (types : Table) (a : TypedDossier) (t : tableOf ta
   merged-room = event-short (a .headed) (mergedSets v d) (taken-written w .head) (taken-name w table t) sets-long sets-few sets-short
 
 -- the same of a dossier that is opened
-pub merged-size : (s : List ℕ) (d : DossierIndex) (t : TypeIndex) (o : Openable s d t) →
+pub merged-size : (s : List ℕ) (d : DossierIndex) (rows : List ℕ) (t : TypeIndex) (o : Openable s d rows t) →
     length (eventBytes (mergedEvent (o .headed) (mergedSets (typeView (o .type)) (modelOf (o .headed))))) ≤ dossierCapacity
-merged-size s d t o = merged-room (o .table) s (o .types) (record { type = o .type; headed = o .headed }) (o .read) (taken s d t o)
+merged-size s d rows t o = merged-room (o .table) s (o .types) (record { type = o .type; headed = o .headed }) (o .read) (taken s d rows t o)

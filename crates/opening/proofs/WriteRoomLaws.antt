@@ -30,7 +30,7 @@ use Rattle.opening.specs.code.PlanIndex.{Joined, JoinedRoom, SetsRoom, W
 
 -- ---- the union of a place
 
-module _ {s cells : List ℕ} {place n at size : ℕ} (p : JoinedRoom s cells place n at size) where
+module _ {s rows : List ℕ} {place n at size : ℕ} (p : JoinedRoom s rows place n at size) where
   abbrev sets-here : List (List Text)
   sets-here = column (p .snapshots) place
 
@@ -87,7 +87,7 @@ module _ (ty : EventType) (d : Dossier) where
   sets-end p h = let e : 32 - p ≡ 0 = omega arith in rw e
 
 module _
-    {s cells : List ℕ} {n : ℕ} {plan : List ℕ} {at : ℕ} {l₀ : List ℕ} (q : SetsRoom s cells n plan at (length l₀))
+    {s rows : List ℕ} {n : ℕ} {plan : List ℕ} {at : ℕ} {l₀ : List ℕ} (q : SetsRoom s rows n plan at (length l₀))
     {l : List ℕ} {next : ℕ} (place : ℕ) (h : place < 32)
     (g : ToGo l₀ at (setsBytes (mergedSets (typeView (q .type)) (q .dossier))) l next (setsFrom (q .type) (q .dossier) place)) where
   abbrev this : List Text
@@ -112,7 +112,7 @@ module _
     pub joined : Joined this (column (q .dossier .snapshots) place)
     joined = q .planned .each place h .joins e
 
-    abbrev pub joined-room : JoinedRoom s cells place n next (length l)
+    abbrev pub joined-room : JoinedRoom s rows place n next (length l)
     joined-room = record {
       snapshots = q .dossier .snapshots;
       stand = q .stand;
@@ -139,7 +139,7 @@ module _
 
 -- ---- the whole event
 
-module _ {s : List ℕ} {d : DossierIndex} {cells plan : List ℕ} {size : ℕ} (w : Writable s d cells plan size) where
+module _ {s : List ℕ} {d : DossierIndex} {rows plan : List ℕ} {size : ℕ} (w : Writable s d rows plan size) where
   abbrev sets : List (List Text)
   sets = mergedSets (typeView (w .type)) (modelOf (w .headed))
 
@@ -161,7 +161,7 @@ module _ {s : List ℕ} {d : DossierIndex} {cells plan : List ℕ} {size : ℕ} 
     presence-room = omega (arith, event-length, v .after, wrote-length v, e, ap (λ (k : ℕ). length (number k)) f)
 
     module _ {l₂ : List ℕ} {after-presence : ℕ} (u : Wrote l₁ at (number presence) l₂ after-presence) where
-      abbrev pub sets-room : SetsRoom s cells (d .count) plan after-presence (length l₂)
+      abbrev pub sets-room : SetsRoom s rows (d .count) plan after-presence (length l₂)
       sets-room = record {
         type = w .type;
         dossier = modelOf (w .headed);

@@ -11,7 +11,6 @@ ghost use Rattle.event.specs.Event.{typeView};
 ghost use Rattle.dossier.specs.DossierLayout.{modelOf};
 ghost use Rattle.opening.specs.OpenCall.{openedAnswer, openCall};
 ghost use Rattle.opening.specs.code.OpenIndex.{Openable};
-use crate::cells::put_cells;
 use crate::conflict::Conflict;
 use crate::conflict::Lowest;
 use crate::conflict::find_conflict;
@@ -29,28 +28,26 @@ use replies::reply::Finding;
 use replies::reply::Opened;
 
 // Without a conflict. Which place is overfull is known before the first byte is written.
-fn open_merged(s: &[u8], d: DossierIndex, t: TypeIndex, out: &mut [u8]) -> Opened
-    requires { ⌜ Openable (now s) d t × (dossierCapacity ≤ length (now out)) ⌝ }
-    ensures { λ r. ⌜ ((o : Openable (now (s .entry)) d t) → conflict (upTo 32) (o .headed .snapshots) ≡ noConflict → openReplies r (now (out .exit)) ≡ outcome (openedAnswer (o .headed) (opening (typeView (o .type)) (modelOf (o .headed)))) (now (out .entry))) ⌝ }
+fn open_merged(s: &[u8], d: DossierIndex, rows: &[usize], t: TypeIndex, out: &mut [u8]) -> Opened
+    requires { ⌜ (length (now rows) ≡ 768) × (dossierCapacity ≤ length (now out)) × Openable (now s) d (now rows) t ⌝ }
+    ensures { λ r. ⌜ ((o : Openable (now (s .entry)) d (now (rows .entry)) t) → conflict (upTo 32) (o .headed .snapshots) ≡ noConflict → openReplies r (now (out .exit)) ≡ outcome (openedAnswer (o .headed) (opening (typeView (o .type)) (modelOf (o .headed)))) (now (out .entry))) ⌝ }
 {
-    let mut cells = [0usize; 768];
-    put_cells(s, d, &mut cells);
     let mut plan = [0usize; 128];
-    plan_sets(s, &cells, d.count, t, &mut plan);
+    plan_sets(s, rows, d.count, t, &mut plan);
     match find_overfull(t, &plan) {
         Lowest::Place(place) => Opened::Found(Finding::Overfull(place)),
-        Lowest::NoPlace => Opened::Merged(write_event(s, d, &cells, &plan, out)),
+        Lowest::NoPlace => Opened::Merged(write_event(s, d, rows, &plan, out)),
     }
 }
 
 // A dossier that was asked its questions.
-fn open_asked(s: &[u8], d: DossierIndex, t: TypeIndex, out: &mut [u8]) -> Opened
-    requires { ⌜ Openable (now s) d t × (dossierCapacity ≤ length (now out)) ⌝ }
-    ensures { λ r. ⌜ ((o : Openable (now (s .entry)) d t) → openReplies r (now (out .exit)) ≡ outcome (openedAnswer (o .headed) (opening (typeView (o .type)) (modelOf (o .headed)))) (now (out .entry))) ⌝ }
+fn open_asked(s: &[u8], d: DossierIndex, rows: &[usize], t: TypeIndex, out: &mut [u8]) -> Opened
+    requires { ⌜ (length (now rows) ≡ 768) × (dossierCapacity ≤ length (now out)) × Openable (now s) d (now rows) t ⌝ }
+    ensures { λ r. ⌜ ((o : Openable (now (s .entry)) d (now (rows .entry)) t) → openReplies r (now (out .exit)) ≡ outcome (openedAnswer (o .headed) (opening (typeView (o .type)) (modelOf (o .headed)))) (now (out .entry))) ⌝ }
 {
     match find_conflict(d) {
         Conflict::Differs(version, place) => Opened::Found(Finding::Conflict(version, place)),
-        Conflict::NoConflict => open_merged(s, d, t, out),
+        Conflict::NoConflict => open_merged(s, d, rows, t, out),
     }
 }
 
@@ -61,15 +58,16 @@ pub fn open_dossier(table: &[u8], dossier: &[u8], out: &mut [u8]) -> Opened
     if out.len() < DOSSIER_CAPACITY {
         return Opened::Refused(1);
     }
-    let d = read_dossier(dossier);
+    let mut rows = [0usize; 768];
+    let d = read_dossier(dossier, &mut rows);
     let read = read_table(table, type_name(dossier, d));
     if !read.ok {
         return Opened::Refused(2);
     }
-    let asked = ask_dossier(dossier, d, read);
+    let asked = ask_dossier(dossier, d, &rows, read);
     if asked.number != 0 {
         return Opened::Refused(asked.number);
     }
     let event_type = asked.event_type;
-    open_asked(dossier, d, event_type, out)
+    open_asked(dossier, d, &rows, event_type, out)
 }

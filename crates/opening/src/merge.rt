@@ -52,16 +52,16 @@ fn better(s: &[u8], kind: u8, largest: bool, a: SetAt, b: SetAt) -> SetAt
 }
 
 // The smallest or the largest value of a place in n snapshots.
-fn extreme_of(s: &[u8], cells: &[usize], place: usize, n: usize, kind: u8, largest: bool) -> SetAt
-    requires { ⌜ (length (now cells) ≡ 768) × (place < 32) × (1 ≤ n) × (n ≤ 8) ⌝ }
-    ensures { λ r. ⌜ ((ss : List Snapshot) (k : Kind) → CellsStand (now (s .entry)) ss (now (cells .entry)) → length ss ≡ n → Chooses k kind
+fn extreme_of(s: &[u8], rows: &[usize], place: usize, n: usize, kind: u8, largest: bool) -> SetAt
+    requires { ⌜ (length (now rows) ≡ 768) × (place < 32) × (1 ≤ n) × (n ≤ 8) ⌝ }
+    ensures { λ r. ⌜ ((ss : List Snapshot) (k : Kind) → CellsStand (now (s .entry)) ss (now (rows .entry)) → length ss ≡ n → Chooses k kind
         → ((j : ℕ) → j < n → Lone k (getD (column ss place) j []))
         → SetIs (now (s .entry)) (smallest (extremeOrder largest k) (flatten (column ss place))) r) ⌝ }
 {
-    let mut best = cell_at(cells, place * 8);
+    let mut best = cell_at(rows, place, 0);
     let mut j: usize = 1;
     while j < n {
-        let x = cell_at(cells, place * 8 + j);
+        let x = cell_at(rows, place, j);
         best = better(s, kind, largest, best, x);
         j += 1;
     }
@@ -75,15 +75,15 @@ pub enum PlaceMerged {
 }
 
 // The union of the sets of a place. It stands already where all sets that are not empty are the same.
-fn only_set(s: &[u8], cells: &[usize], place: usize, n: usize) -> PlaceMerged
-    requires { ⌜ (length (now cells) ≡ 768) × (place < 32) × (1 ≤ n) × (n ≤ 8) ⌝ }
-    ensures { λ r. ⌜ ((ss : List Snapshot) → CellsStand (now (s .entry)) ss (now (cells .entry)) → length ss ≡ n
+fn only_set(s: &[u8], rows: &[usize], place: usize, n: usize) -> PlaceMerged
+    requires { ⌜ (length (now rows) ≡ 768) × (place < 32) × (1 ≤ n) × (n ≤ 8) ⌝ }
+    ensures { λ r. ⌜ ((ss : List Snapshot) → CellsStand (now (s .entry)) ss (now (rows .entry)) → length ss ≡ n
         → PlaceIs (now (s .entry)) (canon texts (flatten (column ss place))) (column ss place) r) ⌝ }
 {
-    let mut only = cell_at(cells, place * 8);
+    let mut only = cell_at(rows, place, 0);
     let mut j: usize = 1;
     while j < n {
-        let x = cell_at(cells, place * 8 + j);
+        let x = cell_at(rows, place, j);
         if x.count != 0 {
             if only.count == 0 {
                 only = x;
@@ -99,18 +99,18 @@ fn only_set(s: &[u8], cells: &[usize], place: usize, n: usize) -> PlaceMerged
 }
 
 // The merged set of a place: the only snapshot's, the last one's, the one with the chosen value, or the union.
-fn merged_at(s: &[u8], cells: &[usize], place: usize, n: usize, rule: PlaceRule) -> PlaceMerged
-    requires { ⌜ (length (now cells) ≡ 768) × (place < 32) × (1 ≤ n) × (n ≤ 8) ⌝ }
-    ensures { λ r. ⌜ ((t : EventType) (d : Dossier) → Mergeable (now (s .entry)) (now (cells .entry)) n t d → RuleIs (getElem? (t .properties) place) rule
+fn merged_at(s: &[u8], rows: &[usize], place: usize, n: usize, rule: PlaceRule) -> PlaceMerged
+    requires { ⌜ (length (now rows) ≡ 768) × (place < 32) × (1 ≤ n) × (n ≤ 8) ⌝ }
+    ensures { λ r. ⌜ ((t : EventType) (d : Dossier) → Mergeable (now (s .entry)) (now (rows .entry)) n t d → RuleIs (getElem? (t .properties) place) rule
         → PlaceIs (now (s .entry)) (mergedAt (typeView t) d place) (column (d .snapshots) place) r) ⌝ }
 {
     if n == 1 || rule.replaces {
-        return PlaceMerged::Stands(cell_at(cells, place * 8 + n - 1));
+        return PlaceMerged::Stands(cell_at(rows, place, n - 1));
     }
     if rule.extreme {
-        return PlaceMerged::Stands(extreme_of(s, cells, place, n, rule.kind, rule.largest));
+        return PlaceMerged::Stands(extreme_of(s, rows, place, n, rule.kind, rule.largest));
     }
-    only_set(s, cells, place, n)
+    only_set(s, rows, place, n)
 }
 
 // The plan of a place has four numbers: the set that stands, and 0. Where the sets are to be joined, the fourth is 1, and the count is 2, since the union has
@@ -132,9 +132,9 @@ fn put_place(plan: &mut [usize], place: usize, x: PlaceMerged)
 }
 
 // The merged sets of all places, before any is made. A place without a property has no objects.
-pub fn plan_sets(s: &[u8], cells: &[usize], n: usize, t: TypeIndex, plan: &mut [usize])
-    requires { ⌜ (t .count ≤ 32) × (1 ≤ n) × (n ≤ 8) × (length (now cells) ≡ 768) × (length (now plan) ≡ 128) ⌝ }
-    ensures { λ r. ⌜ ((u : List ℕ) (ty : EventType) (d : Dossier) → TypeIs u ty t → Mergeable (now (s .entry)) (now (cells .entry)) n ty d
+pub fn plan_sets(s: &[u8], rows: &[usize], n: usize, t: TypeIndex, plan: &mut [usize])
+    requires { ⌜ (t .count ≤ 32) × (1 ≤ n) × (n ≤ 8) × (length (now rows) ≡ 768) × (length (now plan) ≡ 128) ⌝ }
+    ensures { λ r. ⌜ ((u : List ℕ) (ty : EventType) (d : Dossier) → TypeIs u ty t → Mergeable (now (s .entry)) (now (rows .entry)) n ty d
         → PlanIs (now (s .entry)) (now (plan .exit)) ty d) ⌝ }
 {
     let none = SetAt {
@@ -146,7 +146,7 @@ pub fn plan_sets(s: &[u8], cells: &[usize], n: usize, t: TypeIndex, plan: &mut [
     while p < 32 {
         if p < t.count {
             let rule = rule_of(property_at(&t.properties, p));
-            put_place(plan, p, merged_at(s, cells, p, n, rule));
+            put_place(plan, p, merged_at(s, rows, p, n, rule));
         } else {
             put_place(plan, p, PlaceMerged::Stands(none));
         }

@@ -26,17 +26,17 @@ use unions::many::write_merged;
 // The union of the sets of a place, which has a value at least: its values first, since they tell its count.
 fn write_joined(
     s: &[u8],
-    cells: &[usize],
+    rows: &[usize],
     place: usize,
     n: usize,
     out: &mut [u8],
     at: usize,
 ) -> usize
-    requires { ⌜ (length (now cells) ≡ 768) × (place < 32) × (n ≤ 8) × JoinedRoom (now s) (now cells) place n at (length (now out)) ⌝ }
-    ensures { λ r. ⌜ ((p : JoinedRoom (now (s .entry)) (now (cells .entry)) place n at (length (now (out .entry))))
+    requires { ⌜ (length (now rows) ≡ 768) × (place < 32) × (n ≤ 8) × JoinedRoom (now s) (now rows) place n at (length (now out)) ⌝ }
+    ensures { λ r. ⌜ ((p : JoinedRoom (now (s .entry)) (now (rows .entry)) place n at (length (now (out .entry))))
         → Wrote (now (out .entry)) at (setBytes (canon texts (flatten (column (p .snapshots) place)))) (now (out .exit)) r) ⌝ }
 {
-    let runs = runs_of(cells, place);
+    let runs = runs_of(rows, place);
     let starts = runs.starts;
     let ends = runs.ends;
     let joined = write_merged(s, starts, ends, n, out, at + 1);
@@ -46,21 +46,21 @@ fn write_joined(
 // The merged set of each place. One that stands already is copied, and nothing is written of an empty one.
 fn write_sets(
     s: &[u8],
-    cells: &[usize],
+    rows: &[usize],
     n: usize,
     plan: &[usize],
     out: &mut [u8],
     at: usize,
 ) -> usize
-    requires { ⌜ (length (now cells) ≡ 768) × (length (now plan) ≡ 128) × (n ≤ 8) × SetsRoom (now s) (now cells) n (now plan) at (length (now out)) ⌝ }
-    ensures { λ r. ⌜ ((p : SetsRoom (now (s .entry)) (now (cells .entry)) n (now (plan .entry)) at (length (now (out .entry))))
+    requires { ⌜ (length (now rows) ≡ 768) × (length (now plan) ≡ 128) × (n ≤ 8) × SetsRoom (now s) (now rows) n (now plan) at (length (now out)) ⌝ }
+    ensures { λ r. ⌜ ((p : SetsRoom (now (s .entry)) (now (rows .entry)) n (now (plan .entry)) at (length (now (out .entry))))
         → Wrote (now (out .entry)) at (setsBytes (mergedSets (typeView (p .type)) (p .dossier))) (now (out .exit)) r) ⌝ }
 {
     let mut next = at;
     let mut p: usize = 0;
     while p < 32 {
         if plan[4 * p + 3] == 1 {
-            next = write_joined(s, cells, p, n, out, next);
+            next = write_joined(s, rows, p, n, out, next);
         } else {
             next = write_set(s, set_from(plan, 4 * p), out, next);
         }
@@ -73,12 +73,12 @@ fn write_sets(
 pub fn write_event(
     s: &[u8],
     d: DossierIndex,
-    cells: &[usize],
+    rows: &[usize],
     plan: &[usize],
     out: &mut [u8],
 ) -> usize
-    requires { ⌜ (length (now cells) ≡ 768) × (length (now plan) ≡ 128) × Writable (now s) d (now cells) (now plan) (length (now out)) ⌝ }
-    ensures { λ r. ⌜ ((w : Writable (now (s .entry)) d (now (cells .entry)) (now (plan .entry)) (length (now (out .entry))))
+    requires { ⌜ (length (now rows) ≡ 768) × (length (now plan) ≡ 128) × Writable (now s) d (now rows) (now plan) (length (now out)) ⌝ }
+    ensures { λ r. ⌜ ((w : Writable (now (s .entry)) d (now (rows .entry)) (now (plan .entry)) (length (now (out .entry))))
         → Wrote (now (out .entry)) 0 (eventBytes (mergedEvent (w .headed) (mergedSets (typeView (w .type)) (modelOf (w .headed))))) (now (out .exit)) r) ⌝ }
 {
     let head = d.head;
@@ -87,5 +87,5 @@ pub fn write_event(
     let hashes = hashes_part(s, head.parents);
     let after_head = write_head(name, source, hashes, out, 0);
     let after_presence = write_number(out, after_head, presence_of(plan));
-    write_sets(s, cells, d.count, plan, out, after_presence)
+    write_sets(s, rows, d.count, plan, out, after_presence)
 }

@@ -109,13 +109,13 @@ module _ {table bytes : List ℕ} {t : EventType} {e : Event} {room : ℕ} (m : 
 -- ---- the type of a dossier
 
 pub type-read :
-    (table bytes name : List ℕ) (i : DossierIndex) (r : TableRead) → DossierReads (dossierOf standard bytes) bytes i →
+    (table bytes rows name : List ℕ) (i : DossierIndex) (r : TableRead) → DossierReads (dossierOf standard bytes) bytes rows i →
     ((h : Headed) → DossierIs bytes h i → name ≡ h .head .type) → TableSays (tableOf table) table name r → (types : Table) (d : TypedDossier) →
     tableOf table ≡ some types → dossierAsked standard types bytes ≡ questions.accepted d → TypeIs table (d .type) (r .index)
 unfolding DossierReads TableSays TypeSays
-type-read table bytes name i r w n s types d e a =
+type-read table bytes rows name i r w n s types d e a =
     let q = dossier-taken types bytes d a in
-    let is : DossierIs bytes (d .headed) i = subst (λ (m : Option Headed). DossierReads m bytes i) (q .read) w .1 in
+    let is : DossierIs bytes (d .headed) i = subst (λ (m : Option Headed). DossierReads m bytes rows i) (q .read) w .1 in
     let says : TypeSays (typeNamed name types) table r = subst (λ (m : Option Table). TableSays m table name r) e s .1 in
     let named : typeNamed name types ≡ some (d .type) = ap (λ (v : Text). typeNamed v types) (n (d .headed) is) ∙ q .typed in
     subst (λ (m : Option EventType). TypeSays m table r) named says .1

@@ -63,7 +63,9 @@ fn report_merged(table: &[u8], event: &[u8], out: &mut [u8]) -> usize
 fn type_of(table: &[u8], dossier: &[u8]) -> TypeIndex
     ensures { λ r. ⌜ ((types : Table) (d : TypedDossier) → tableOf (now (table .entry)) ≡ some types → dossierAsked standard types (now (dossier .entry)) ≡ accepted d → TypeIs (now (table .entry)) (d .type) r) ⌝ }
 {
-    let read = read_table(table, type_name(dossier, read_dossier(dossier)));
+    let mut rows = [0usize; 768];
+    let d = read_dossier(dossier, &mut rows);
+    let read = read_table(table, type_name(dossier, d));
     read.index
 }
 

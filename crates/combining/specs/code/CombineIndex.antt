@@ -3,22 +3,24 @@ use Prim.Native.Nat.{ℕ, _+_, _^_, _≤_, _<_}
 use mathlib.Core.Path.{_≡_}
 use mathlib.Core.Bool.{Bool, true, false, _||_}
 use mathlib.Core.Option.{some}
-use mathlib.Core.List.{List}
+use mathlib.Core.List.{List, map}
 use lib.ListN.{length, getElem?}
 use Rattle.model.specs.Rule.{Snapshot, joinSnapshots}
 use Rattle.model.specs.Limits.{standard}
+use Rattle.model.specs.Opening.{held}
 use Rattle.packed.specs.Parse.{got}
 use Rattle.values.specs.ValueOrder.{isOrdered}
+use Rattle.values.specs.declared.versions.EventVersion.{EventVersion}
 use Rattle.replies.specs.Questions.{accepted}
 use Rattle.ontology.specs.Table.{Property, EventType, Table, isMin, isMax, isVersioned, atPlace}
 use Rattle.ontology.specs.TableLayout.{tableOf}
 use Rattle.ontology.specs.code.TypeIndex.{TypeIs}
 use Rattle.ontology.specs.declared.types.TypeIndex.{TypeIndex}
 use Rattle.event.specs.Event.{typeView}
+use Rattle.event.specs.code.EventIndex.{SetsAre}
 use Rattle.dossier.specs.DossierBody.{readSnapshot, snapshotBytes}
 use Rattle.dossier.specs.DossierQuestions.{TypedDossier, dossierAsked, dossiersAgree, snapshotValues}
-use Rattle.dossier.specs.code.DossierIndex.{snapshotFits, SnapshotIs, DossierIs}
-use Rattle.dossier.specs.declared.snapshots.SnapshotIndex.{SnapshotIndex}
+use Rattle.dossier.specs.code.DossierIndex.{snapshotFits, CellsAre, DossierIs, RowsAre}
 use Rattle.dossier.specs.declared.dossiers.DossierIndex.{DossierIndex}
 
 -- questions 2 to 7 are answered yes
@@ -32,11 +34,13 @@ pub record Known (table a b : List ℕ) (t : TypeIndex) : Type 0 where
   pub agree : dossiersAgree left right ≡ true
   pub typed : TypeIs table (left .type) t
 
--- and both dossiers are read
-pub record Combinable (table a : List ℕ) (d : DossierIndex) (b : List ℕ) (e : DossierIndex) (t : TypeIndex) : Type 0 where
+-- and both dossiers are read, with the rows of their snapshots
+pub record Combinable (table a : List ℕ) (d : DossierIndex) (left b : List ℕ) (e : DossierIndex) (right : List ℕ) (t : TypeIndex) : Type 0 where
   pub known : Known table a b t
   pub left-read : DossierIs a (known .left .headed) d
   pub right-read : DossierIs b (known .right .headed) e
+  pub left-rows : RowsAre a (known .left .headed .snapshots) left
+  pub right-rows : RowsAre b (known .right .headed .snapshots) right
 
 -- strategy min or max at a place
 unfoldable pub isExtremeAt : EventType → ℕ → Bool
@@ -52,31 +56,41 @@ pub record Fitting (type : EventType) (left right : Snapshot) : Type 0 where
   pub below : left .version < 2 ^ 64
   pub ordered : (p : ℕ) (q : Property) → getElem? (type .properties) p ≡ some q → (isMin q || isMax q) ≡ true → isOrdered (q .kind) ≡ true
 
--- they stand at the front of a and b
-pub record Meet (a b : List ℕ) (type : EventType) (left right : Snapshot) : Type 0 where
+-- and each is read from some bytes
+pub record Meet (type : EventType) (left right : Snapshot) : Type 0 where
   pub fitting : Fitting type left right
+  pub left-bytes : List ℕ
   pub left-rest : List ℕ
+  pub left-read : readSnapshot left-bytes ≡ got left left-rest
+  pub right-bytes : List ℕ
   pub right-rest : List ℕ
-  pub left-read : readSnapshot a ≡ got left left-rest
-  pub right-read : readSnapshot b ≡ got right right-rest
+  pub right-read : readSnapshot right-bytes ≡ got right right-rest
+
+-- they have the version and the differ numbers m and n, and stand in a and b where x and y say
+pub record Shared (version : EventVersion) (a x : List ℕ) (m : ℕ) (b y : List ℕ) (n : ℕ) (type : EventType) (left right : Snapshot) : Type 0 where
+  pub meet : Meet type left right
+  pub number : version .0 ≡ left .version
+  pub left-is : CellsAre a (left .cells) m x
+  pub right-is : CellsAre b (right .cells) n y
 
 -- what two versioned snapshots are together has its room in an output of `size` bytes
-pub record AgreedRoom (a b : List ℕ) (at size : ℕ) : Type 0 where
+pub record AgreedRoom (version : EventVersion) (a x : List ℕ) (m : ℕ) (b y : List ℕ) (n at size : ℕ) : Type 0 where
   pub type : EventType
   pub left : Snapshot
   pub right : Snapshot
   pub versioned : isVersioned type ≡ true
-  pub meet : Meet a b type left right
+  pub shared : Shared version a x m b y n type left right
   pub room : at + length (snapshotBytes (joinSnapshots (typeView type) left right)) ≤ size
 
--- the same of two unversioned ones, which stand as their indexes say
-pub record JoinedRoom (table a : List ℕ) (x : SnapshotIndex) (b : List ℕ) (y : SnapshotIndex) (t : TypeIndex) (at size : ℕ) : Type 0 where
+-- the same of two unversioned ones
+pub record JoinedRoom (a x b y : List ℕ) (t : TypeIndex) (at size : ℕ) : Type 0 where
+  pub table : List ℕ
   pub type : EventType
   pub left : Snapshot
   pub right : Snapshot
   pub typed : TypeIs table type t
   pub unversioned : isVersioned type ≡ false
-  pub meet : Meet a b type left right
-  pub left-is : SnapshotIs a left x
-  pub right-is : SnapshotIs b right y
+  pub meet : Meet type left right
+  pub left-is : SetsAre a (map held (left .cells)) x
+  pub right-is : SetsAre b (map held (right .cells)) y
   pub room : at + length (snapshotBytes (joinSnapshots (typeView type) left right)) ≤ size

@@ -9,6 +9,7 @@ use Rattle.model.specs.Sets.{union}
 use Rattle.model.specs.Rule.{Snapshot, joinSnapshots}
 use Rattle.model.specs.Limits.{standard, fits}
 use Rattle.packed.specs.Parse.{All}
+use Rattle.values.specs.declared.versions.EventVersion.{EventVersion}
 use Rattle.ontology.specs.Table.{EventType}
 use Rattle.ontology.specs.code.TypeIndex.{TypeIs}
 use Rattle.ontology.specs.declared.types.TypeIndex.{TypeIndex}
@@ -18,22 +19,20 @@ use Rattle.event.specs.code.EventIndex.{HeadIs}
 use Rattle.unions.specs.code.Runs.{Hashes}
 use Rattle.dossier.specs.DossierLayout.{Headed, dossierBytes}
 use Rattle.dossier.specs.DossierBody.{snapshotBytes}
-use Rattle.dossier.specs.code.DossierIndex.{SnapshotIs, DossierIs}
-use Rattle.dossier.specs.declared.snapshots.SnapshotIndex.{SnapshotIndex}
+use Rattle.dossier.specs.code.DossierIndex.{DossierIs}
 use Rattle.dossier.specs.declared.dossiers.DossierIndex.{DossierIndex}
 use Rattle.dossier.specs.DossierHead.{dossierHeadBytes}
 use Rattle.combining.specs.CombineCall.{combined, headedAs}
-use Rattle.combining.specs.code.CombineIndex.{Combinable, Meet}
+use Rattle.combining.specs.code.CombineIndex.{Combinable, Shared}
 
--- what two snapshots of one version are together has its room in an output of `size` bytes; unversioned ones stand as their indexes say
-pub record SharedRoom (table a : List ℕ) (x : SnapshotIndex) (b : List ℕ) (y : SnapshotIndex) (t : TypeIndex) (at size : ℕ) : Type 0 where
+-- what two snapshots of one version are together has its room in an output of `size` bytes
+pub record SharedRoom (version : EventVersion) (a x : List ℕ) (m : ℕ) (b y : List ℕ) (n : ℕ) (t : TypeIndex) (at size : ℕ) : Type 0 where
+  pub table : List ℕ
   pub type : EventType
   pub left : Snapshot
   pub right : Snapshot
   pub typed : TypeIs table type t
-  pub meet : Meet a b type left right
-  pub left-is : t .mark ≤ 0 → SnapshotIs a left x
-  pub right-is : t .mark ≤ 0 → SnapshotIs b right y
+  pub shared : Shared version a x m b y n type left right
   pub room : at + length (snapshotBytes (joinSnapshots (typeView type) left right)) ≤ size
 
 -- the bytes of the snapshots from the i-th on
@@ -69,12 +68,12 @@ pub record HeadsRoom (a : List ℕ) (d : DossierIndex) (b : List ℕ) (e : Dossi
   pub room : length (dossierHeadBytes (bothHeads left right)) ≤ size
 
 -- the snapshots of both sides have their room
-pub record SnapshotsRoom (table a : List ℕ) (d : DossierIndex) (b : List ℕ) (e : DossierIndex) (t : TypeIndex) (at size : ℕ) : Type 0 where
-  pub both : Combinable table a d b e t
+pub record SnapshotsRoom (table a : List ℕ) (d : DossierIndex) (left b : List ℕ) (e : DossierIndex) (right : List ℕ) (t : TypeIndex) (at size : ℕ) : Type 0 where
+  pub both : Combinable table a d left b e right t
   pub room : at + length (flatten (map snapshotBytes (combined (both .known .left) (both .known .right) .snapshots))) ≤ size
 
 -- the two dossiers together pass no limit, and have their room
-pub record CombinedRoom (table a : List ℕ) (d : DossierIndex) (b : List ℕ) (e : DossierIndex) (t : TypeIndex) (size : ℕ) : Type 0 where
-  pub both : Combinable table a d b e t
-  pub inside : (h : Combinable table a d b e t) → fits standard (typeView (h .known .left .type)) (combined (h .known .left) (h .known .right)) ≡ true
+pub record CombinedRoom (table a : List ℕ) (d : DossierIndex) (left b : List ℕ) (e : DossierIndex) (right : List ℕ) (t : TypeIndex) (size : ℕ) : Type 0 where
+  pub both : Combinable table a d left b e right t
+  pub inside : (h : Combinable table a d left b e right t) → fits standard (typeView (h .known .left .type)) (combined (h .known .left) (h .known .right)) ≡ true
   pub room : length (dossierBytes (headedAs (both .known .left .headed) (combined (both .known .left) (both .known .right)))) ≤ size

@@ -1,5 +1,5 @@
 -- What the readers of a dossier answer, as relations between the bytes, what was read and the positions.
-use Prim.Native.Nat.{ℕ, suc, _-_, _≤_, _<_}
+use Prim.Native.Nat.{ℕ, suc, _+_, _-_, _*_, _≤_, _<_}
 use mathlib.Core.Path.{_≡_}
 use mathlib.Core.Bool.{Bool, true, false, cond, not, _&&_}
 use mathlib.Core.Option.{Option, none, some}
@@ -7,6 +7,7 @@ use mathlib.Core.List.{List, [], map}
 use lib.ListN.{length, take, drop, getD}
 use lib.Dec.{leb, eqb}
 use Rattle.model.specs.Rule.{Cell, Snapshot, sizes}
+use Rattle.model.specs.Limits.{standard}
 use Rattle.model.specs.Opening.{held, isMark, cellAt}
 use Rattle.packed.specs.Parse.{Parse, fail, got, Layout, _>>=_, foundIf}
 use Rattle.packed.specs.Packed.{part}
@@ -22,13 +23,14 @@ use Rattle.event.specs.declared.head.HeadAt.{HeadAt}
 use Rattle.dossier.specs.declared.head.DossierHeadRead.{DossierHeadRead}
 use Rattle.dossier.specs.declared.head.DossierHeadRead.the-variants as read
 use Rattle.dossier.specs.DossierHead.{dossierHeadBytes}
-use Rattle.dossier.specs.DossierLayout.{Headed}
+use Rattle.dossier.specs.DossierLayout.{Headed, dossierOf}
 use Rattle.dossier.specs.DossierBody.{apart, cellsOf, areSmall, readSnapshot, differBit, snapshotBytes}
 use Rattle.dossier.specs.DossierQuestions.{eachCell, isVacant, isPresent, isLoneIfSingle, isLoneIfExtreme, isUnmarkedMatch, holdsVersion, TypedDossier}
 use Rattle.dossier.specs.declared.snapshots.NumbersAt.{NumbersAt}
 use Rattle.dossier.specs.declared.snapshots.NumbersAt.the-variants.{Numbers, NoNumbers}
-use Rattle.dossier.specs.declared.snapshots.SnapshotIndex.{SnapshotIndex}
-use Rattle.dossier.specs.declared.snapshots.SnapshotPassed.{SnapshotPassed}
+use Rattle.dossier.specs.declared.snapshots.SnapshotNumbers.{SnapshotNumbers}
+use Rattle.dossier.specs.declared.snapshots.SnapshotRead.{SnapshotRead}
+use Rattle.dossier.specs.declared.snapshots.SnapshotRead.the-variants.{Found, NoSnapshot}
 use Rattle.dossier.specs.declared.dossiers.SnapshotsRead.{SnapshotsRead}
 use Rattle.dossier.specs.declared.dossiers.DossierIndex.{DossierIndex}
 use Rattle.dossier.specs.declared.questions.DossierAsked.{DossierAsked}
@@ -39,36 +41,17 @@ use Rattle.dossier.specs.declared.questions.DossierAsked.{DossierAsked}
 abbrev pub afterNumbers : ℕ → ℕ → ℕ → Layout Snapshot
 afterNumbers version presence differ = readSets 32 presence >>= λ sets. foundIf (areSmall sets) (record { version = version; cells = cellsOf differ sets })
 
--- the numbers were read, and what is left starts after the differ number
-pub record NumbersStop (s : List ℕ) (version presence differ after-differ : ℕ) : Type 0 where
-  pub is : readSnapshot s ≡ afterNumbers version presence differ (drop after-differ s)
+-- the numbers at `at` were read, and what is left starts after the differ number
+pub record NumbersStop (s : List ℕ) (at version presence differ after-differ : ℕ) : Type 0 where
+  pub is : readSnapshot (drop at s) ≡ afterNumbers version presence differ (drop after-differ s)
   pub within : after-differ ≤ length s
   pub presence-low : presence < 4294967296
   pub differ-low : differ < 4294967296
   pub clear : apart 32 presence differ ≡ true
 
-abbrev pub NumbersRead : List ℕ → NumbersAt → Type 0
-NumbersRead s (Numbers version presence differ after-differ) = NumbersStop s (version .0) presence differ after-differ
-NumbersRead s NoNumbers = readSnapshot s ≡ fail
-
--- The bytes s begin with the snapshot x, as the index says
-pub record SnapshotIs (s : List ℕ) (x : Snapshot) (i : SnapshotIndex) : Type 0 where
-  pub is : readSnapshot s ≡ got x (drop (i .next) s)
-  pub bytes : take (i .next) s ≡ snapshotBytes x
-  pub within : i .next ≤ length s
-  pub version : i .version .0 ≡ x .version
-  pub presence : i .presence ≡ bitNumber (map presenceBit (map held (x .cells)))
-  pub differ : i .differ ≡ bitNumber (map differBit (x .cells))
-  pub body : part s (i .«after_differ») (i .next) ≡ setsBytes (map held (x .cells))
-  pub order : i .«after_differ» ≤ i .next
-  pub objects : i .objects ≡ sizes (x .cells)
-  pub sets : SetsAre s (map held (x .cells)) (i .sets)
-
-unfoldable pub SnapshotReads : Parse Snapshot → List ℕ → SnapshotIndex → Type 0
-SnapshotReads fail s i = i .ok ≡ false
-SnapshotReads (got x t) s i = (i .ok ≡ true) × SnapshotIs s x i
-
--- ---- snapshots, one after the other
+abbrev pub NumbersRead : List ℕ → ℕ → NumbersAt → Type 0
+NumbersRead s at (Numbers version presence differ after-differ) = NumbersStop s at (version .0) presence differ after-differ
+NumbersRead s at NoNumbers = readSnapshot (drop at s) ≡ fail
 
 -- the snapshot x stands from `start` up to `end`
 pub record SnapshotAt (s : List ℕ) (x : Snapshot) (start end : ℕ) : Type 0 where
@@ -77,17 +60,25 @@ pub record SnapshotAt (s : List ℕ) (x : Snapshot) (start end : ℕ) : Type 0 w
   pub order : start ≤ end
   pub within : end ≤ length s
 
--- the snapshot x stands from `start` on, and is passed
-pub record PassedIs (s : List ℕ) (x : Snapshot) (start : ℕ) (r : SnapshotPassed) : Type 0 where
-  pub right : r .ok ≡ true
-  pub stands : SnapshotAt s x start (r .next)
-  pub version : r .version .0 ≡ x .version
-  pub differ : r .differ ≡ bitNumber (map differBit (x .cells))
+-- the snapshot x has these numbers, and its sets stand in s where ats say
+pub record SnapshotIs (s : List ℕ) (x : Snapshot) (n : SnapshotNumbers) (ats : List ℕ) : Type 0 where
+  pub version : n .version .0 ≡ x .version
+  pub differ : n .differ ≡ bitNumber (map differBit (x .cells))
+  pub objects : n .objects ≡ sizes (x .cells)
+  pub sets : SetsAre s (map held (x .cells)) ats
 
--- what is answered of the snapshot at `start`; of bytes that are known to be one, nothing is said where they are none
-unfoldable pub PassedSays : Bool → Parse Snapshot → List ℕ → ℕ → SnapshotPassed → Type 0
-PassedSays known fail s start r = known ≡ false → r .ok ≡ false
-PassedSays known (got x t) s start r = PassedIs s x start r
+-- a snapshot was read at `at`, and what is left starts at `next`
+pub record SnapshotStops (s : List ℕ) (at : ℕ) (n : SnapshotNumbers) (next : ℕ) (ats : List ℕ) : Type 0 where
+  pub what : Snapshot
+  pub stands : SnapshotAt s what at next
+  pub is : SnapshotIs s what n ats
+
+-- what the reader of a snapshot answers, and leaves in the numbers ats
+abbrev pub SnapshotReads : List ℕ → ℕ → List ℕ → SnapshotRead → Type 0
+SnapshotReads s at ats (Found n next) = SnapshotStops s at n next ats
+SnapshotReads s at ats NoSnapshot = readSnapshot (drop at s) ≡ fail
+
+-- ---- snapshots, one after the other
 
 abbrev pub noSnapshot : Snapshot
 noSnapshot = record { version = 0; cells = [] }
@@ -105,18 +96,27 @@ pub record SnapshotsAre (s : List ℕ) (xs : List Snapshot) (starts ends : List 
   pub follows : (j : ℕ) → suc j < length xs → getD starts (suc j) 0 ≡ getD ends j 0
   pub numbers : versionNumbers (take (length xs) versions) ≡ map (λ (x : Snapshot). x .version) xs
 
-pub record SnapshotsStop (s : List ℕ) (xs : List Snapshot) (t : List ℕ) (r : SnapshotsRead) : Type 0 where
+-- the row of snapshot j among those of all: the 96 numbers that tell where its sets stand
+abbrev pub rowOf : List ℕ → ℕ → List ℕ
+rowOf rows j = part rows (96 * j) (96 * j + 96)
+
+-- each of the snapshots xs has its row
+pub record RowsAre (s : List ℕ) (xs : List Snapshot) (rows : List ℕ) : Type 0 where
+  pub each : (j : ℕ) → j < length xs → SetsAre s (map held (getD xs j noSnapshot .cells)) (rowOf rows j)
+
+pub record SnapshotsStop (s : List ℕ) (xs : List Snapshot) (t rows : List ℕ) (r : SnapshotsRead) : Type 0 where
   pub right : r .ok ≡ true
   pub rest : t ≡ drop (r .next) s
   pub within : r .next ≤ length s
   pub are : SnapshotsAre s xs (r .starts) (r .ends) (r .versions)
   pub differs : take (length xs) (r .differs) ≡ map (λ (x : Snapshot). bitNumber (map differBit (x .cells))) xs
-  pub first : SnapshotIs (drop (getD (r .starts) 0 0) s) (getD xs 0 noSnapshot) (r .first)
+  pub objects : take (length xs) (r .objects) ≡ map (λ (x : Snapshot). sizes (x .cells)) xs
+  pub stand : RowsAre s xs rows
 
--- the same of several snapshots
-unfoldable pub SnapshotsSay : Bool → Parse (List Snapshot) → List ℕ → SnapshotsRead → Type 0
-SnapshotsSay known fail s r = known ≡ false → r .ok ≡ false
-SnapshotsSay known (got xs t) s r = SnapshotsStop s xs t r
+-- what the reader of several snapshots answers, and leaves in the rows
+unfoldable pub SnapshotsSay : Parse (List Snapshot) → List ℕ → List ℕ → SnapshotsRead → Type 0
+SnapshotsSay fail s rows r = r .ok ≡ false
+SnapshotsSay (got xs t) s rows r = SnapshotsStop s xs t rows r
 
 -- ---- the head
 
@@ -146,21 +146,17 @@ pub record DossierIs (s : List ℕ) (h : Headed) (i : DossierIndex) : Type 0 whe
   pub few : i .count ≤ 8
   pub snapshots : SnapshotsAre s (h .snapshots) (i .starts) (i .ends) (i .versions)
   pub differs : take (length (h .snapshots)) (i .differs) ≡ map (λ (x : Snapshot). bitNumber (map differBit (x .cells))) (h .snapshots)
-  pub first : SnapshotIs (drop (getD (i .starts) 0 0) s) (getD (h .snapshots) 0 noSnapshot) (i .first)
+  pub objects : take (length (h .snapshots)) (i .objects) ≡ map (λ (x : Snapshot). sizes (x .cells)) (h .snapshots)
 
-unfoldable pub DossierReads : Option Headed → List ℕ → DossierIndex → Type 0
-DossierReads none s i = i .ok ≡ false
-DossierReads (some h) s i = (i .ok ≡ true) × DossierIs s h i
+-- what the reader of a dossier answers, and leaves in the rows
+unfoldable pub DossierReads : Option Headed → List ℕ → List ℕ → DossierIndex → Type 0
+DossierReads none s rows i = i .ok ≡ false
+DossierReads (some h) s rows i = (i .ok ≡ true) × DossierIs s h i × RowsAre s (h .snapshots) rows
 
--- what is answered of bytes; of those that are known to be a dossier, nothing is said where they are none
-unfoldable pub DossierSays : Bool → Option Headed → List ℕ → DossierIndex → Type 0
-DossierSays known none s i = known ≡ false → i .ok ≡ false
-DossierSays known (some h) s i = (i .ok ≡ true) × DossierIs s h i
-
--- d is the index of some dossier
-pub record IsDossier (s : List ℕ) (i : DossierIndex) : Type 0 where
+-- the bytes are a dossier
+pub record IsDossier (s : List ℕ) : Type 0 where
   pub what : Headed
-  pub is : DossierIs s what i
+  pub is : dossierOf standard s ≡ some what
 
 -- ---- question 5 of a snapshot, place by place
 

@@ -22,6 +22,7 @@ use Rattle.event.specs.declared.sets.SetAt.{SetAt}
 use Rattle.event.specs.declared.sets.SetRead.{SetRead}
 use Rattle.event.specs.declared.sets.SetRead.the-variants.{Found, NoSet}
 use Rattle.event.specs.declared.sets.SetsRead.{SetsRead}
+use Rattle.event.specs.declared.sets.SetsRead.the-variants.{Sets, NoSets}
 use Rattle.event.specs.declared.head.PartAt.{PartAt}
 use Rattle.event.specs.declared.head.HeadAt.{HeadAt}
 use Rattle.event.specs.declared.head.HeadRead.{HeadRead}
@@ -69,6 +70,10 @@ unfoldable pub bitOf : Bool → ℕ
 bitOf true = 1
 bitOf false = 0
 
+-- where something is known to stand, reading finds it
+abbrev pub Promised : {A : Type 0} → Bool → Parse A → Type 0
+Promised known p = known ≡ true → p ≡ fail → ⊥
+
 -- a set was read, and what is left starts at its end
 pub record SetStops (p : Parse (List Text)) (s : List ℕ) (x : SetAt) : Type 0 where
   pub what : List Text
@@ -80,17 +85,18 @@ abbrev pub SetReads : Parse (List Text) → List ℕ → SetRead → Type 0
 SetReads p s (Found x) = SetStops p s x
 SetReads p s NoSet = p ≡ fail
 
--- the sets xs were read, and t is left
-pub record SetsStop (xs : List (List Text)) (t s : List ℕ) (r : SetsRead) : Type 0 where
-  pub right : r .ok ≡ true
-  pub rest : t ≡ drop (r .next) s
-  pub within : r .next ≤ length s
-  pub objects : r .objects ≡ objectCount xs
-  pub stands : SetsAre s xs (r .sets)
+-- the sets were read, and what is left starts at `next`; ats are the numbers of all places
+pub record SetsStop (p : Parse (List (List Text))) (s ats : List ℕ) (next objects : ℕ) : Type 0 where
+  pub what : List (List Text)
+  pub is : p ≡ got what (drop next s)
+  pub within : next ≤ length s
+  pub summed : objects ≡ objectCount what
+  pub stands : SetsAre s what ats
 
-unfoldable pub SetsReads : Parse (List (List Text)) → List ℕ → SetsRead → Type 0
-SetsReads fail s r = r .ok ≡ false
-SetsReads (got xs t) s r = SetsStop xs t s r
+-- what the reader of sets answers, and leaves in the numbers ats
+abbrev pub SetsReads : Parse (List (List Text)) → List ℕ → List ℕ → SetsRead → Type 0
+SetsReads p s ats (Sets next objects) = SetsStop p s ats next objects
+SetsReads p s ats NoSets = p ≡ fail
 
 -- hashes of 20 bytes stand in the bytes where x says
 pub record HashesAre (s : List ℕ) (hs : List Text) (x : SetAt) : Type 0 where

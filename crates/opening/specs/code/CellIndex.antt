@@ -11,6 +11,6 @@ setFrom xs at = record { start = getD xs at 0; end = getD xs (at + 1) 0; count =
 unfoldable pub withSet : List ℕ → ℕ → SetAt → List ℕ
 withSet xs at x = set (set (set xs at (x .start)) (at + 1) (x .end)) (at + 2) (x .count)
 
--- cell k
-abbrev pub cellIn : List ℕ → ℕ → SetAt
-cellIn cells k = setFrom cells (3 * k)
+-- the set of place p in snapshot j, whose row has 96 numbers
+abbrev pub cellIn : List ℕ → ℕ → ℕ → SetAt
+cellIn rows p j = setFrom rows (96 * j + 3 * p)

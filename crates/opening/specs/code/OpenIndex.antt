@@ -1,5 +1,5 @@
 -- What the code holds of a dossier that is opened.
-use Prim.Native.Nat.{ℕ, _+_, _*_, _≤_, _<_}
+use Prim.Native.Nat.{ℕ, _≤_, _<_}
 use mathlib.Core.Path.{_≡_}
 use mathlib.Core.Bool.{true, _||_}
 use mathlib.Core.Option.{Option, none, some}
@@ -22,7 +22,7 @@ use Rattle.event.specs.code.EventIndex.{SetIs}
 use Rattle.event.specs.declared.sets.SetAt.{SetAt}
 use Rattle.dossier.specs.DossierLayout.{Headed}
 use Rattle.dossier.specs.DossierQuestions.{dossierAsked}
-use Rattle.dossier.specs.code.DossierIndex.{noSnapshot, DossierIs}
+use Rattle.dossier.specs.code.DossierIndex.{noSnapshot, DossierIs, RowsAre}
 use Rattle.dossier.specs.declared.dossiers.DossierIndex.{DossierIndex}
 use Rattle.opening.specs.code.CellIndex.{cellIn}
 use Rattle.opening.specs.declared.conflict.Conflict.{Conflict}
@@ -48,14 +48,10 @@ pub record CellStands (s : List ℕ) (vs : List Text) (x : SetAt) : Type 0 where
   pub is : SetIs s vs x
   pub rises : rising texts vs ≡ true
 
--- r is x, `at` bytes further on
-pub record Shifted (x : SetAt) (at size : ℕ) (r : SetAt) : Type 0 where
-  pub is : at + x .start ≤ size → at + x .end ≤ size → r ≡ record { start = at + x .start; end = at + x .end; count = x .count }
-
--- the set of place p in snapshot j is cell p * 8 + j
-pub record CellsStand (s : List ℕ) (ss : List Snapshot) (cells : List ℕ) : Type 0 where
+-- each place of each snapshot has its set in the snapshot's row
+pub record CellsStand (s : List ℕ) (ss : List Snapshot) (rows : List ℕ) : Type 0 where
   pub few : length ss ≤ 8
-  pub each : (p j : ℕ) → p < 32 → j < length ss → CellStands s (held (cellAt (getD ss j noSnapshot) p)) (cellIn cells (p * 8 + j))
+  pub each : (p j : ℕ) → p < 32 → j < length ss → CellStands s (held (cellAt (getD ss j noSnapshot) p)) (cellIn rows p j)
 
 -- ---- merging
 
@@ -83,15 +79,15 @@ pub record Chooses (k : Kind) (kind : ℕ) : Type 0 where
   pub ordered : isOrdered k ≡ true
 
 -- the n snapshots of a dossier have their cells; no place without a property has objects, and the sets of min and max can be chosen from
-pub record Mergeable (s cells : List ℕ) (n : ℕ) (t : EventType) (d : Dossier) : Type 0 where
-  pub stand : CellsStand s (d .snapshots) cells
+pub record Mergeable (s rows : List ℕ) (n : ℕ) (t : EventType) (d : Dossier) : Type 0 where
+  pub stand : CellsStand s (d .snapshots) rows
   pub count : length (d .snapshots) ≡ n
   pub vacant : (p : ℕ) → getElem? (t .properties) p ≡ none → flatten (column (d .snapshots) p) ≡ []
   pub chosen : (p : ℕ) (q : Property) → getElem? (t .properties) p ≡ some q → (isMin q || isMax q) ≡ true → Chooses (q .kind) (kindNumber (q .kind))
   pub lone : (p : ℕ) (q : Property) → getElem? (t .properties) p ≡ some q → (isMin q || isMax q) ≡ true → (j : ℕ) → j < n → Lone (q .kind) (getD (column (d .snapshots) p) j [])
 
--- d and t are the indexes of a dossier that was asked its questions, and of its type
-pub record Openable (s : List ℕ) (d : DossierIndex) (t : TypeIndex) : Type 0 where
+-- d and t are the indexes of a dossier that was asked its questions, and of its type; the rows are those of its snapshots
+pub record Openable (s : List ℕ) (d : DossierIndex) (rows : List ℕ) (t : TypeIndex) : Type 0 where
   pub table : List ℕ
   pub types : Table
   pub type : EventType
@@ -100,3 +96,4 @@ pub record Openable (s : List ℕ) (d : DossierIndex) (t : TypeIndex) : Type 0 w
   pub asked : dossierAsked standard types s ≡ accepted (record { type = type; headed = headed })
   pub typed : TypeIs table type t
   pub is : DossierIs s headed d
+  pub stand : RowsAre s (headed .snapshots) rows

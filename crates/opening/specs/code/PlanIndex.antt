@@ -53,25 +53,25 @@ pub record PlanIs (s plan : List ℕ) (t : EventType) (d : Dossier) : Type 0 whe
 -- ---- writing: what is written has its room in an output of `size` bytes
 
 -- the union of the sets of a place, which has a value at least
-pub record JoinedRoom (s cells : List ℕ) (place n at size : ℕ) : Type 0 where
+pub record JoinedRoom (s rows : List ℕ) (place n at size : ℕ) : Type 0 where
   pub snapshots : List Snapshot
-  pub stand : CellsStand s snapshots cells
+  pub stand : CellsStand s snapshots rows
   pub count : length snapshots ≡ n
   pub some : 1 ≤ length (canon texts (flatten (column snapshots place)))
   pub room : at + length (setBytes (canon texts (flatten (column snapshots place)))) ≤ size
 
-pub record SetsRoom (s cells : List ℕ) (n : ℕ) (plan : List ℕ) (at size : ℕ) : Type 0 where
+pub record SetsRoom (s rows : List ℕ) (n : ℕ) (plan : List ℕ) (at size : ℕ) : Type 0 where
   pub type : EventType
   pub dossier : Dossier
-  pub stand : CellsStand s (dossier .snapshots) cells
+  pub stand : CellsStand s (dossier .snapshots) rows
   pub count : length (dossier .snapshots) ≡ n
   pub planned : PlanIs s plan type dossier
   pub room : at + length (setsBytes (mergedSets (typeView type) dossier)) ≤ size
 
-pub record Writable (s : List ℕ) (d : DossierIndex) (cells plan : List ℕ) (size : ℕ) : Type 0 where
+pub record Writable (s : List ℕ) (d : DossierIndex) (rows plan : List ℕ) (size : ℕ) : Type 0 where
   pub type : EventType
   pub headed : Headed
   pub is : DossierIs s headed d
-  pub stand : CellsStand s (headed .snapshots) cells
+  pub stand : CellsStand s (headed .snapshots) rows
   pub planned : PlanIs s plan type (modelOf headed)
   pub room : length (eventBytes (mergedEvent headed (mergedSets (typeView type) (modelOf headed)))) ≤ size

@@ -1,41 +1,36 @@
 use mathlib.Core.Path.{_≡_, refl, ap, _∙_}
-use mathlib.Core.Bool.{Bool, true, _&&_}
-use Prim.Native.Nat.{ℕ, _-_}
+use mathlib.Core.Bool.{true, _&&_}
+use Prim.Native.Nat.{_-_}
 use lib.Dec.{ltb}
 use lib.ListN.{length, length-set}
 use Rattle.model.specs.Rule.{Snapshot}
 use Rattle.ontology.specs.Table.{EventType, isVersioned}
-use Rattle.event.specs.code.EventIndex.{setIn}
 use Rattle.event.specs.declared.sets.SetAt.{SetAt}
 use Rattle.event.proofs.SetLaws.{set-read}
 use Rattle.dossier.specs.code.DossierIndex.{CellsAre}
-use Rattle.dossier.proofs.VersionLaws.{cells-are}
 use Rattle.combining.proofs.AgreedLaws.{PlacesSofar, places-none, places-marks, left-set, right-set, places-more, places-all}
 use borrow.Author.Needs.{needs}
 use Rattle.combining.proofs.agreed.agreed_places.Statement.{statement}
 use Rattle.combining.proofs.agreed.agreed_places.Tie as tie
 
 abbrev Inv-loop : tie.InvT-loop
-Inv-loop a b x y p₀ m₀ n₀ k₀ p m n k =
+Inv-loop a x m b y n p₀ left₀ right₀ k₀ p left right k =
     (length (p .present) ≡ 32)
     × (length (p .marked) ≡ 32)
-    × ((ty : EventType) (left right : Snapshot) → isVersioned ty ≡ true → CellsAre a (left .cells) m₀ (x .sets) → CellsAre b (right .cells) n₀ (y .sets) →
-    PlacesSofar ty left right (p .present) (p .marked) m n k)
+    × ((ty : EventType) (v w : Snapshot) → isVersioned ty ≡ true → CellsAre a (v .cells) m x → CellsAre b (w .cells) n y →
+    PlacesSofar ty v w (p .present) (p .marked) left right k)
 
 abbrev μ-loop : tie.MeasureT-loop
-μ-loop a b x y p₀ m₀ n₀ k₀ p m n k = 32 - k
-
-abbrev to-turn : tie.After-set-at Inv-loop μ-loop → tie.In-loop Inv-loop μ-loop
-to-turn c = c .before .before .before .before
+μ-loop a x m b y n p₀ left₀ right₀ k₀ p left right k = 32 - k
 
 loop-holds : tie.Need-loop-holds Inv-loop μ-loop
 loop-holds c = (refl, refl, λ ty x y v w u. places-none _ _ _ _ _ _ ty x y v w u _ _)
 
 set-at-requires : tie.Need-set-at-requires Inv-loop μ-loop
-set-at-requires c κs = (search needs, c .before .before .before .loop-test .taken)
+set-at-requires c κs = (search needs, c .loop-test .taken)
 
 set-at-requires-2 : tie.Need-set-at-requires-2 Inv-loop μ-loop
-set-at-requires-2 c κs = (search needs, to-turn (c .before .before .before) .loop-test .taken)
+set-at-requires-2 c κs = (search needs, c .before .loop-test .taken)
 
 add-is-kept : tie.Need-add-is-kept Inv-loop μ-loop
 add-is-kept c = search needs
@@ -62,8 +57,8 @@ loop-again : tie.Need-loop-again Inv-loop μ-loop
 loop-again c =
     let kept = c .before in
     let right = kept .before in
-    let left = right .before .before .before .before in
-    let turn = to-turn left in
+    let left = right .before in
+    let turn = left .before in
     let l = turn .before .loop in
     let inside = turn .loop-test .taken in
     let objects = c .has-objects .ensures ∙ ap (λ (x : SetAt). kept .is-kept .result && ltb 0 (x .count)) (left .set-at .ensures) in (
@@ -80,9 +75,7 @@ loop-again c =
 returns : tie.Need-returns Inv-loop μ-loop
 returns c = λ ty x y v w u.
     let l = c .before .loop in
-    let e = cells-are _ x _ w in
-    let f = cells-are _ y _ u in
-    places-all _ _ _ _ _ _ ty x y v e f _ _ _ (l .k) (c .loop-test .left) (l .inv .0) (l .inv .1) (l .inv .2 ty x y v e f)
+    places-all _ _ _ _ _ _ ty x y v w u _ _ _ (l .k) (c .loop-test .left) (l .inv .0) (l .inv .1) (l .inv .2 ty x y v w u)
 
 pub agreed-places-spec : {M : Type 1} → statement M
 agreed-places-spec =

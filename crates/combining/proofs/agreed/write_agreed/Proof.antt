@@ -11,21 +11,18 @@ use Rattle.model.specs.Opening.{held}
 use Rattle.packed.specs.Packed.{number}
 use Rattle.packed.proofs.WriteLaws.{Reached, reached-start, reached-by}
 use Rattle.ontology.specs.Table.{EventType, isVersioned}
-use Rattle.combining.specs.code.CombineIndex.{Meet}
-use Rattle.combining.proofs.AgreedLaws.{BothRead, both-read, both-length, wrote-both, kept}
+use Rattle.combining.specs.code.CombineIndex.{Shared}
+use Rattle.combining.proofs.AgreedLaws.{Both, both-found, both-length, wrote-both, kept}
 use Rattle.combining.proofs.agreed.write_agreed.Statement.{statement}
 use Rattle.combining.proofs.agreed.write_agreed.Tie as tie
 
 -- ---- the places: each write from the argument of the next, and the numbers from each
 
-abbrev to-read : tie.After-number-of2 → tie.After-agreed-places
-to-read c = c .before .before .before .before
+abbrev to-places : tie.After-number-of2 → tie.After-agreed-places
+to-places c = c .before .before .before .before
 
 abbrev to-start : tie.After-number-of2 → tie.Start
-to-start c = to-read c .before .before .before .before .before .before
-
-abbrev to-numbers : tie.After-write-number-arg → tie.After-number-of2
-to-numbers c = c .before .before
+to-start c = to-places c .before .before .before .before .before .before
 
 abbrev to-version : tie.After-write-number-arg2 → tie.After-write-number
 to-version c = c .before .before .before
@@ -33,11 +30,11 @@ to-version c = c .before .before .before
 abbrev to-presence : tie.After-write-number-arg3 → tie.After-write-number2
 to-presence c = c .before .before .before
 
-abbrev to-differ : tie.After-write-sets-arg3 → tie.After-write-number3
-to-differ c = c .before .before .before .before .before .before
+abbrev to-differ : tie.After-write-sets-arg → tie.After-write-number3
+to-differ c = c .before .before .before
 
 abbrev numbers₁ : tie.After-write-number → tie.After-number-of2
-numbers₁ c = to-numbers (c .before)
+numbers₁ c = c .before .before
 
 abbrev numbers₂ : tie.After-write-number2 → tie.After-number-of2
 numbers₂ c = numbers₁ (to-version (c .before))
@@ -55,26 +52,24 @@ module _ (c : tie.After-number-of2) where
   differ = c .number-of2 .result
 
   abbrev version : ℕ
-  version = to-read c .before .before .read-snapshot .result .version .0
+  version = to-start c .args .version .0
 
   abbrev out₀ : List ℕ
   out₀ = now (to-start c .args .out)
 
   both :
-      (ty : EventType) (x y : Snapshot) → let a = to-start c .args in
-      isVersioned ty ≡ true → Meet (now (a .a)) (now (a .b)) ty x y →
-      BothRead (now (a .a)) (now (a .b)) (to-read c .before .before .read-snapshot .result) (to-read c .before .read-snapshot2 .result) presence differ ty x y
-  both ty x y v m =
-      let read = to-read c in
-      both-read _ _ _ _ _ _ _ (read .before .before .read-snapshot .ensures) (read .before .read-snapshot2 .ensures) (read .agreed-places .ensures)
-      (c .before .number-of .ensures) (c .number-of2 .ensures) ty x y v m
+      (ty : EventType) (left right : Snapshot) → let a = to-start c .args in
+      isVersioned ty ≡ true → Shared (a .version) (now (a .a)) (now (a .x)) (a .m) (now (a .b)) (now (a .y)) (a .n) ty left right →
+      Both (a .version) (now (a .a)) (now (a .x)) (a .m) (now (a .b)) (now (a .y)) (a .n) presence differ ty left right
+  both ty left right v w =
+      let found = to-places c .agreed-places in
+      both-found v w (found .result) (found .ensures ty left right v (w .left-is) (w .right-is)) (c .before .number-of .ensures) (c .number-of2 .ensures)
 
   -- that of the room that is asked for
   abbrev asked :
-      let p = to-start c .pre in let a = to-start c .args in
-      BothRead (now (a .a)) (now (a .b)) (to-read c .before .before .read-snapshot .result) (to-read c .before .read-snapshot2 .result)
-      presence differ (p .type) (p .left) (p .right)
-  asked = let p = to-start c .pre in both (p .type) (p .left) (p .right) (p .versioned) (p .meet)
+      let p = to-start c .pre .2 in let a = to-start c .args in
+      Both (a .version) (now (a .a)) (now (a .x)) (a .m) (now (a .b)) (now (a .y)) (a .n) presence differ (p .type) (p .left) (p .right)
+  asked = let p = to-start c .pre .2 in both (p .type) (p .left) (p .right) (p .versioned) (p .shared)
 
   -- where each part ends
   abbrev version-end : ℕ
@@ -87,7 +82,7 @@ module _ (c : tie.After-number-of2) where
   differ-end = presence-end + length (number differ)
 
   fits : differ-end + length (kept asked) ≤ length out₀
-  fits = omega (arith, to-start c .pre .room, both-length asked)
+  fits = omega (arith, to-start c .pre .2 .room, both-length asked)
 
 -- ---- how far each write comes
 
@@ -105,12 +100,6 @@ differ-written c = reached-by (presence-written (to-presence (c .before))) (c .w
 
 -- ---- the needs
 
-read-snapshot-requires : tie.Need-read-snapshot-requires
-read-snapshot-requires c κs = search needs
-
-read-snapshot-requires-2 : tie.Need-read-snapshot-requires-2
-read-snapshot-requires-2 c κs = search needs
-
 agreed-places-requires : tie.Need-agreed-places-requires
 agreed-places-requires c κs = search needs
 
@@ -121,7 +110,7 @@ number-of-requires-2 : tie.Need-number-of-requires-2
 number-of-requires-2 c κs = search needs
 
 write-number-requires : tie.Need-write-number-requires
-write-number-requires c κs = omega (arith, fits (to-numbers c))
+write-number-requires c κs = omega (arith, fits (c .before))
 
 write-number-requires-2 : tie.Need-write-number-requires-2
 write-number-requires-2 c κs = omega (arith, fits (numbers₁ (to-version c)), version-written (to-version c))
@@ -134,8 +123,8 @@ write-sets-requires c κs =
     let numbers = numbers₃ (to-differ c) in (
       search needs,
       record {
-        values = map held (to-start numbers .pre .left .cells);
-        are = asked numbers .left-is .sets;
+        values = map held (to-start numbers .pre .2 .left .cells);
+        are = to-start numbers .pre .2 .shared .left-is .sets;
         room = omega (arith, fits numbers, differ-written (to-differ c));
       },
     )
@@ -144,22 +133,19 @@ same-length : tie.Need-same-length
 same-length c = search needs
 
 returns : tie.Need-returns
-returns c = λ ty x y v m.
+returns c = λ ty left right v w.
     let at-sets = c .before .before in
     let at-differ = to-differ (at-sets .before) in
     let at-presence = to-presence (at-differ .before) in
     let at-version = to-version (at-presence .before) in
-    let j = both (numbers₁ at-version) ty x y v m in
-    wrote-both j
+    wrote-both (both (numbers₁ at-version) ty left right v w)
     (at-version .write-number .ensures) (at-presence .write-number2 .ensures) (at-differ .write-number3 .ensures)
-    (at-sets .write-sets .ensures (map held (x .cells)) (j .left-is .sets))
+    (at-sets .write-sets .ensures (map held (left .cells)) (w .left-is .sets))
 
 pub write-agreed-spec : {M : Type 1} → statement M
 write-agreed-spec =
     tie.close
     (tie.spec
-    read-snapshot-requires
-    read-snapshot-requires-2
     agreed-places-requires
     number-of-requires
     number-of-requires-2

@@ -1,36 +1,67 @@
 use borrow.Author.Needs.{needs}
 use borrow.Author.Tests.{not-true, not-false}
 use mathlib.Core.Path.{sym, _∙_}
+use Prim.Native.Nat.{_≤_}
+use lib.ListN.{length}
+use denote.Ref.{now}
+use Rattle.replies.specs.Capacities.{dossierCapacity}
+use Rattle.combining.specs.code.CombineIndex.{Combinable}
 use Rattle.combining.proofs.CombineLaws.{combine-full, combine-room, combine-done}
 use Rattle.combining.proofs.combine.combine_read.Statement.{statement}
 use Rattle.combining.proofs.combine.combine_read.Tie as tie
-use Rattle.combining.proofs.combine.combine_read.Reads as reads
-use Rattle.combining.proofs.combine.combine_read.Lts as lts
-use Rattle.combining.proofs.limits.limits_fit.Reads as limits-fit-reads
-use Rattle.combining.proofs.write.write_combined.Reads as write-combined-reads
+
+-- ---- the places
+
+abbrev to-start : tie.After-slice-known → tie.Start
+to-start c = c .before .before .before .before .before .before
+
+-- ---- the facts
+
+module _ (c : tie.After-slice-known) where
+  abbrev both :
+      let a = to-start c .args in
+      Combinable (now (a .table)) (now (a .a)) (a .d) (now (a .left)) (now (a .b)) (a .e) (now (a .right)) (a .t)
+  both = to-start c .pre .1
+
+  room : dossierCapacity ≤ length (now (to-start c .args .out))
+  room = to-start c .pre .0 .2
+
+-- ---- the needs
 
 limits-fit-requires : tie.Need-limits-fit-requires
-limits-fit-requires c κs = c .before .before .before .before .pre .0
+limits-fit-requires c κs = let p = to-start c .pre in (p .0 .0, p .0 .1, both c)
 
 returns : tie.Need-returns
 returns c =
-    let p = c .before .before .before .before .before .before .pre in
-    combine-full _ _ _ _ (p .1) (p .0) (c .before .limits-fit .ensures (p .0)) (not-true _ (c .if1 .taken))
+    let at = c .before .before in
+    combine-full _ _ _ _ (room at) (both at) (c .before .limits-fit .ensures (both at)) (not-true _ (c .if1 .taken))
 
 write-combined-requires : tie.Need-write-combined-requires
 write-combined-requires c κs =
-    let p = c .before .before .before .before .before .before .before .pre in
-    let inside = c .before .before .limits-fit .ensures (p .0) in
-    let yes = not-false _ (c .before .if1 .left) in
-    record { both = p .0; inside = λ h. sym (c .before .before .limits-fit .ensures h) ∙ yes; room = combine-room _ _ _ (p .0) inside yes _ (p .1) }
+    let asked = c .before .before in
+    let at = asked .before in
+    let p = to-start at .pre in
+    let yes-all = not-false _ (c .before .if1 .left) in (
+      p .0 .0,
+      p .0 .1,
+      record {
+        both = both at;
+        inside = λ h. sym (asked .limits-fit .ensures h) ∙ yes-all;
+        room = combine-room (both at) (asked .limits-fit .ensures (both at)) yes-all _ (room at);
+      },
+    )
 
 same-length : tie.Need-same-length
 same-length c = search needs
 
 returns-2 : tie.Need-returns-2
 returns-2 c =
-    let p = c .before .before .before .before .before .before .before .before .before .before .pre in
-    combine-done _ _ _ _ (p .1) (p .0) (c .before .before .before .before .before .limits-fit .ensures (p .0)) (not-false _ (c .before .before .before .before .if1 .left)) _ _ (c .before .before .write-combined .ensures (p .0))
+    let wrote = c .before .before in
+    let fitted = wrote .before .before in
+    let asked = fitted .before in
+    let at = asked .before in
+    combine-done _ _ _ _ (room at) (both at) (asked .limits-fit .ensures (both at)) (not-false _ (fitted .if1 .left)) _ _
+    (wrote .write-combined .ensures (both at))
 
 pub combine-read-spec : {M : Type 1} → statement M
 combine-read-spec = tie.close (tie.spec limits-fit-requires returns write-combined-requires same-length returns-2)

@@ -1,10 +1,11 @@
 use mathlib.Core.Path.{_≡_, ap, _∙_}
 use mathlib.Core.Logic.{⊎-elim}
 use mathlib.Core.Bool.{false}
-use mathlib.Core.List.{map}
+use mathlib.Core.List.{List, map}
 use Prim.Native.Nat.{ℕ, _+_, _-_}
 use lib.ListN.{length}
 use Rattle.model.specs.Rule.{Snapshot, joinSnapshots}
+use Rattle.model.specs.Opening.{held}
 use Rattle.packed.specs.Packed.{number}
 use Rattle.packed.specs.code.Written.{ToGo}
 use Rattle.packed.proofs.WriteLaws.{wrote-length, to-go, gone, all-gone}
@@ -12,7 +13,7 @@ use Rattle.ontology.specs.Table.{EventType, isVersioned}
 use Rattle.ontology.specs.code.TypeIndex.{TypeIs}
 use Rattle.event.specs.Event.{typeView}
 use Rattle.event.specs.EventLayout.{bitNumber}
-use Rattle.event.specs.code.EventIndex.{bitOf}
+use Rattle.event.specs.code.EventIndex.{SetsAre, bitOf}
 use Rattle.dossier.specs.DossierBody.{snapshotBytes}
 use Rattle.combining.specs.code.CombineIndex.{Meet}
 use Rattle.combining.proofs.JoinedLaws.{Joins, to-go-same, joins, setsFrom, sets-step, sets-end}
@@ -23,17 +24,18 @@ use Rattle.combining.proofs.joined.write_joined.Statement.{statement}
 use Rattle.combining.proofs.joined.write_joined.Tie as tie
 
 abbrev Inv-loop : tie.InvT-loop
-Inv-loop table a b t out₀ at x y present after-version after-presence next₀ k₀ out next k =
-    (ty : EventType) (left right : Snapshot) → TypeIs table ty t → isVersioned ty ≡ false → Meet a b ty left right →
+Inv-loop a x b y t out₀ at present after-version after-presence next₀ k₀ out next k =
+    (u : List ℕ) (ty : EventType) (left right : Snapshot) → TypeIs u ty t → isVersioned ty ≡ false → Meet ty left right →
+    SetsAre a (map held (left .cells)) x → SetsAre b (map held (right .cells)) y →
     ToGo out₀ next₀ (setsFrom ty left right 0) out next (setsFrom ty left right k)
 
 abbrev μ-loop : tie.MeasureT-loop
-μ-loop table a b t out₀ at x y present after-version after-presence next₀ k₀ out next k = 32 - k
+μ-loop a x b y t out₀ at present after-version after-presence next₀ k₀ out next k = 32 - k
 
 -- ---- the places
 
 abbrev start : tie.After-joined-places Inv-loop μ-loop → tie.Start Inv-loop μ-loop
-start c = c .before .before .before .before .before .before .before .before .before .before .before
+start c = c .before .before .before .before .before .before
 
 abbrev to-places : tie.After-write-number Inv-loop μ-loop → tie.After-joined-places Inv-loop μ-loop
 to-places c = c .before .before
@@ -53,25 +55,25 @@ version c = to-version (presence c .before)
 abbrev places : tie.At-loop Inv-loop μ-loop → tie.After-joined-places Inv-loop μ-loop
 places c = to-places (version c)
 
-abbrev to-left : tie.After-set-at2 Inv-loop μ-loop → tie.After-set-at Inv-loop μ-loop
-to-left c = c .before .before .before .before
-
-abbrev to-turn : tie.After-set-at Inv-loop μ-loop → tie.Then1 Inv-loop μ-loop
-to-turn c = c .before .before .before .before
-
 -- ---- the facts
 
-abbrev asked : (c : tie.Start Inv-loop μ-loop) → let a = c .args in let q = c .pre in
-    Joins (a .table .now) (a .a .now) (a .b .now) (a .t) (a .t3) (a .t5) (q .type) (q .left) (q .right)
-asked c = let q = c .pre in joins (q .left-is) (q .right-is) (q .typed) (q .unversioned) (q .meet)
+-- the snapshots that the room is asked for
+abbrev asked : (c : tie.Start Inv-loop μ-loop) → let a = c .args in let q = c .pre .2 in
+    Joins (q .table) (a .a .now) (a .b .now) (a .t) (a .x .now) (a .y .now) (q .type) (q .left) (q .right)
+asked c = let q = c .pre .2 in joins (q .typed) (q .unversioned) (q .meet) (q .left-is) (q .right-is)
 
-abbrev numbers : (c : tie.At-loop Inv-loop μ-loop) → let s = start (places c) in let a = s .args in let q = s .pre in
-    Joins (a .table .now) (a .a .now) (a .b .now) (a .t) (a .t3) (a .t5) (q .type) (q .left) (q .right)
-numbers c = asked (start (places c))
+-- what is still to be written of that
+asked-to-go :
+    (c : tie.At-loop Inv-loop μ-loop) → let q = start (places c) .pre .2 in
+    ToGo (to-differ c .write-number3 .last .0) (to-differ c .write-number3 .result) (setsFrom (q .type) (q .left) (q .right) 0) (c .loop .out) (c .loop .next)
+    (setsFrom (q .type) (q .left) (q .right) (c .loop .k))
+asked-to-go c =
+    let q = start (places c) .pre .2 in
+    c .loop .inv (q .table) (q .type) (q .left) (q .right) (q .typed) (q .unversioned) (q .meet) (q .left-is) (q .right-is)
 
 -- how long the snapshot is, by the numbers before its sets
 size :
-    (c : tie.After-joined-places Inv-loop μ-loop) → let q = start c .pre in
+    (c : tie.After-joined-places Inv-loop μ-loop) → let q = start c .pre .2 in
     length (snapshotBytes (joinSnapshots (typeView (q .type)) (q .left) (q .right)))
     ≡ length (number 0) + length (number (bitNumber (map bitOf (c .joined-places .result)))) + length (number 0) + length
     (setsFrom (q .type) (q .left) (q .right) 0)
@@ -83,7 +85,7 @@ joined-places-requires : tie.Need-joined-places-requires Inv-loop μ-loop
 joined-places-requires c κs = search needs
 
 write-number-requires : tie.Need-write-number-requires Inv-loop μ-loop
-write-number-requires c κs = omega (arith, start (c .before) .pre .room, size (c .before))
+write-number-requires c κs = omega (arith, start (c .before) .pre .2 .room, size (c .before))
 
 number-of-requires : tie.Need-number-of-requires Inv-loop μ-loop
 number-of-requires c κs = search needs
@@ -93,7 +95,7 @@ write-number-requires-2 c κs =
     let version = to-version c in
     let places = to-places version in
     let w = version .write-number .ensures in
-    omega (arith, start places .pre .room, size places, ap (λ (n : ℕ). length (number n)) (c .number-of .ensures), w .after, wrote-length w)
+    omega (arith, start places .pre .2 .room, size places, ap (λ (n : ℕ). length (number n)) (c .number-of .ensures), w .after, wrote-length w)
 
 write-number-requires-3 : tie.Need-write-number-requires-3 Inv-loop μ-loop
 write-number-requires-3 c κs =
@@ -104,7 +106,7 @@ write-number-requires-3 c κs =
     let v = presence .write-number2 .ensures in
     omega (
       arith,
-      start places .pre .room,
+      start places .pre .2 .room,
       size places,
       ap (λ (n : ℕ). length (number n)) (presence .before .number-of .ensures),
       w .after,
@@ -114,30 +116,28 @@ write-number-requires-3 c κs =
     )
 
 loop-holds : tie.Need-loop-holds Inv-loop μ-loop
-loop-holds c = λ ty x y w u m. to-go
+loop-holds c = λ u ty x y w v m l r. to-go
 
 array-read-if1 : tie.Need-array-read-if1 Inv-loop μ-loop
 array-read-if1 c = search needs
 
 set-at-requires : tie.Need-set-at-requires Inv-loop μ-loop
-set-at-requires c κs = (search needs, c .before .before .before .before .loop-test .taken)
+set-at-requires c κs = (search needs, c .before .loop-test .taken)
 
 set-at-requires-2 : tie.Need-set-at-requires-2 Inv-loop μ-loop
-set-at-requires-2 c κs = (search needs, to-turn (c .before .before .before) .before .loop-test .taken)
+set-at-requires-2 c κs = (search needs, c .before .before .loop-test .taken)
 
 write-place-requires : tie.Need-write-place-requires Inv-loop μ-loop
 write-place-requires c κs =
     let right = c .before in
-    let left = to-left right in
-    let turn = to-turn left in
+    let left = right .before in
+    let turn = left .before in
     let at-loop = turn .before .before in
-    let q = start (places at-loop) .pre in
-    let n = numbers at-loop in
+    let n = asked (start (places at-loop)) in
     let room = sets-room n _ (places at-loop .joined-places .ensures) _ (presence at-loop .before .number-of .ensures) (version at-loop .write-number .ensures)
-    (presence at-loop .write-number2 .ensures) (to-differ at-loop .write-number3 .ensures) (q .room) in
+    (presence at-loop .write-number2 .ensures) (to-differ at-loop .write-number3 .ensures) (start (places at-loop) .pre .2 .room) in
     place-next n _ (places at-loop .joined-places .ensures) (at-loop .loop .k) (left .set-at .ensures) (right .set-at2 .ensures)
-    (turn .before .loop-test .taken) (turn .if1 .taken)
-    (at-loop .loop .inv (q .type) (q .left) (q .right) (q .typed) (q .unversioned) (q .meet)) room
+    (turn .before .loop-test .taken) (turn .if1 .taken) (asked-to-go at-loop) room
 
 add-k : tie.Need-add-k Inv-loop μ-loop
 add-k c = search needs
@@ -146,34 +146,31 @@ loop-less : tie.Need-loop-less Inv-loop μ-loop
 loop-less c = omega (arith, c .before .loop-test .taken)
 
 loop-again : tie.Need-loop-again Inv-loop μ-loop
-loop-again c = λ ty x y w u m.
+loop-again c = λ u ty x y w v m l r.
     let turn = c .before in
     let at-loop = turn .before in
-    let q = start (places at-loop) .pre in
-    let n = joins (q .left-is) (q .right-is) w u m in
+    let n = joins w v m l r in
     let k = at-loop .loop .k in
     let inside = turn .loop-test .taken in
-    let g = at-loop .loop .inv ty x y w u m in
+    let g = at-loop .loop .inv u ty x y w v m l r in
     ⊎-elim
-    (λ d. to-go-same (gone _ _ g (sets-step ty x y k inside) (d .10 .ensures (joined-place n k (d .4 .ensures) (d .8 .ensures) inside))) (d .13) (d .14))
+    (λ d. to-go-same (gone _ _ g (sets-step ty x y k inside) (d .4 .ensures (joined-place n k (d .1 .ensures) (d .2 .ensures) inside))) (d .7) (d .8))
     (λ d. to-go-same (place-past n _ (places at-loop .joined-places .ensures) k inside (d .0 .left) g) (d .1) (d .2))
     (c .if1 .came)
 
 same-length : tie.Need-same-length Inv-loop μ-loop
 same-length c =
     let at-loop = c .before in
-    let q = start (places at-loop) .pre in
-    at-loop .loop .inv (q .type) (q .left) (q .right) (q .typed) (q .unversioned) (q .meet) .long
+    asked-to-go at-loop .long
     ∙ wrote-length (to-differ at-loop .write-number3 .ensures) ∙ wrote-length (presence at-loop .write-number2 .ensures)
     ∙ wrote-length (version at-loop .write-number .ensures)
 
 returns : tie.Need-returns Inv-loop μ-loop
-returns c = λ ty x y w u m.
+returns c = λ u ty x y w v m l r.
     let at-loop = c .before in
-    let q = start (places at-loop) .pre in
-    joined-wrote (joins (q .left-is) (q .right-is) w u m) _ (places at-loop .joined-places .ensures) _ (presence at-loop .before .number-of .ensures)
+    joined-wrote (joins w v m l r) _ (places at-loop .joined-places .ensures) _ (presence at-loop .before .number-of .ensures)
     (version at-loop .write-number .ensures) (presence at-loop .write-number2 .ensures) (to-differ at-loop .write-number3 .ensures)
-    (all-gone (at-loop .loop .inv ty x y w u m) (sets-end ty x y _ (c .loop-test .left)))
+    (all-gone (at-loop .loop .inv u ty x y w v m l r) (sets-end ty x y _ (c .loop-test .left)))
 
 pub write-joined-spec : {M : Type 1} → statement M
 write-joined-spec =

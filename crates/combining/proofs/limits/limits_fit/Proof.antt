@@ -1,20 +1,22 @@
 use borrow.Author.Needs.{needs}
 use borrow.Author.Tests.{not-true, not-false}
-use Prim.Native.Nat.{_≤_}
+use Prim.Native.Nat.{ℕ}
+use native.Mathlib.Omega.{arith}
 use mathlib.Core.Path.{_≡_}
 use mathlib.Core.Bool.{true}
 use mathlib.Core.List.{List}
 use lib.Dec.{leb}
 use lib.ListN.{length, take, getD}
+use lib.Seq.{length-take-le}
 use denote.Ref.{now}
 use Rattle.model.specs.Order.{Text, numbers, texts}
 use Rattle.model.specs.Sets.{union}
 use Rattle.model.specs.Rule.{Snapshot}
 use Rattle.dossier.specs.DossierQuestions.{TypedDossier}
-use Rattle.dossier.specs.code.DossierIndex.{noSnapshot, versionNumbers}
-use Rattle.dossier.proofs.AskLaws.{first-stands}
+use Rattle.dossier.specs.code.DossierIndex.{SnapshotIs, noSnapshot, versionNumbers, rowOf}
+use Rattle.dossier.proofs.AskLaws.{numbersAt, snapshot-stands}
 use Rattle.combining.specs.code.CombineIndex.{Combinable}
-use Rattle.combining.proofs.FitLaws.{left-hashes, right-hashes, left-rises, right-rises, unversioned, first-meet, first-start}
+use Rattle.combining.proofs.FitLaws.{left-hashes, right-hashes, left-rises, right-rises, unversioned, first-meet}
 use Rattle.combining.proofs.FitLaws.{fits-parents, fits-versions, fits-versioned, fits-objects}
 use Rattle.combining.proofs.limits.limits_fit.Statement.{statement}
 use Rattle.combining.proofs.limits.limits_fit.Tie as tie
@@ -22,7 +24,7 @@ use Rattle.combining.proofs.limits.limits_fit.Tie as tie
 -- ---- the places
 
 abbrev to-start : tie.After-parents-fit → tie.Start
-to-start c = c .before .before .before .before .before .before
+to-start c = c .before .before .before .before .before .before .before .before
 
 abbrev to-parents : tie.After-count-versions → tie.Else1
 to-parents c = c .before .before .before
@@ -30,14 +32,19 @@ to-parents c = c .before .before .before
 abbrev to-versions : tie.After-struct-known → tie.Else2
 to-versions c = c .before
 
-abbrev to-objects : tie.After-right → tie.Else3
-to-objects c = c .before .before .before .before
+abbrev to-objects : tie.After-n → tie.Else3
+to-objects c = c .before .before
+
+abbrev objects-to-start : tie.After-n → tie.Start
+objects-to-start c = to-start (to-parents (to-versions (to-objects c .before) .before) .before)
 
 -- ---- the values
 
 module _ (c : tie.Start) where
   abbrev Asked : Type 0
-  Asked = Combinable (now (c .args .table)) (now (c .args .a)) (c .args .t3) (now (c .args .b)) (c .args .t5) (c .args .t)
+  Asked =
+      let a = c .args in
+      Combinable (now (a .table)) (now (a .a)) (a .t3) (now (a .left)) (now (a .b)) (a .t6) (now (a .right)) (a .t)
 
 abbrev parentsOf : TypedDossier → List Text
 parentsOf d = d .headed .head .parents
@@ -51,8 +58,8 @@ firstOf d = getD (d .headed .snapshots) 0 noSnapshot
 parents : (c : tie.After-parents-fit) (h : Asked (to-start c)) →
     c .parents-fit .result ≡ leb (length (union texts (parentsOf (h .known .left)) (parentsOf (h .known .right)))) 32
 parents c h =
-    let x = left-hashes _ _ _ _ _ _ h in
-    let y = right-hashes _ _ _ _ _ _ h in
+    let x = left-hashes _ _ _ _ _ _ _ _ h in
+    let y = right-hashes _ _ _ _ _ _ _ _ h in
     c .parents-fit .ensures (parentsOf (h .known .left)) (parentsOf (h .known .right)) (h .left-read .head .hashes) (h .right-read .head .hashes)
     (x .0) (y .0) (x .1) (y .1)
 
@@ -62,15 +69,22 @@ few-parents c = not-false _ (c .if1 .left)
 -- how many versions the two have
 versions : (c : tie.After-count-versions) → let s = to-start (to-parents c .before) in (h : Asked s) →
     let d = s .args .t3 in
-    let e = s .args .t5 in
+    let e = s .args .t6 in
     c .count-versions .result ≡ length (union numbers (versionNumbers (take (d .count) (d .versions))) (versionNumbers (take (e .count) (e .versions))))
-versions c h = c .count-versions .ensures (left-rises _ _ _ _ _ _ h) (right-rises _ _ _ _ _ _ h)
+versions c h = c .count-versions .ensures (left-rises _ _ _ _ _ _ _ _ h) (right-rises _ _ _ _ _ _ _ _ h)
 
--- where the first snapshots start
-starts : (c : tie.After-right) →
-    let s = to-start (to-parents (to-versions (to-objects c .before) .before) .before) in
-    (getD (s .args .t3 .starts) 0 0 ≤ length (now (s .args .a))) × (getD (s .args .t5 .starts) 0 0 ≤ length (now (s .args .b)))
-starts c = first-start _ _ _ _ _ _ (to-start (to-parents (to-versions (to-objects c .before) .before) .before) .pre)
+-- the first snapshots have the objects that are noted of them, and their sets stand where their rows say
+left-first : (c : tie.Start) (h : Asked c) →
+    SnapshotIs (now (c .args .a)) (firstOf (h .known .left)) (numbersAt _ _ (c .args .t3) (h .left-read) 0) (rowOf (now (c .args .left)) 0)
+left-first c h = snapshot-stands _ (h .known .left .headed) _ (h .left-read) _ (h .left-rows) 0 (omega (arith, h .left-read .one))
+
+right-first : (c : tie.Start) (h : Asked c) →
+    SnapshotIs (now (c .args .b)) (firstOf (h .known .right)) (numbersAt _ _ (c .args .t6) (h .right-read) 0) (rowOf (now (c .args .right)) 0)
+right-first c h = snapshot-stands _ (h .known .right .headed) _ (h .right-read) _ (h .right-rows) 0 (omega (arith, h .right-read .one))
+
+-- the first row is a whole one
+row-long : (rows : List ℕ) → length rows ≡ 768 → length (rowOf rows 0) ≡ 96
+row-long rows h = length-take-le 96 rows (omega (arith, h))
 
 -- ---- the needs
 
@@ -78,68 +92,70 @@ parents-fit-requires : tie.Need-parents-fit-requires
 parents-fit-requires c κs = search needs
 
 returns : tie.Need-returns
-returns c = λ h. fits-parents _ _ _ _ _ _ h _ (parents (c .before) h) (not-true _ (c .if1 .taken))
+returns c = λ h. fits-parents _ _ _ _ _ _ _ _ h _ (parents (c .before) h) (not-true _ (c .if1 .taken))
 
 count-versions-requires : tie.Need-count-versions-requires
 count-versions-requires c κs =
-    let h = to-start (c .before .before .before) .pre in
+    let h = to-start (c .before .before .before) .pre .2 in
     (h .left-read .few, h .right-read .few)
 
 returns-2 : tie.Need-returns-2
 returns-2 c = λ h.
     let v = c .before in
     let p = to-parents v in
-    fits-versions _ _ _ _ _ _ h _ (parents (p .before) h) (few-parents p) _ (versions v h) (c .if2 .taken)
+    fits-versions _ _ _ _ _ _ _ _ h _ (parents (p .before) h) (few-parents p) _ (versions v h) (c .if2 .taken)
 
 returns-3 : tie.Need-returns-3
 returns-3 c = λ h.
     let e = to-versions (c .before) in
     let v = e .before in
     let p = to-parents v in
-    fits-versioned _ _ _ _ _ _ h _ (parents (p .before) h) (few-parents p) _ (versions v h) (e .if2 .left) (c .if3 .taken)
+    fits-versioned _ _ _ _ _ _ _ _ h _ (parents (p .before) h) (few-parents p) _ (versions v h) (e .if2 .left) (c .if3 .taken)
 
-element-copy-out-i : tie.Need-element-copy-out-i
-element-copy-out-i c = search needs
+element-copy-out-m : tie.Need-element-copy-out-m
+element-copy-out-m c = search needs
 
-element-copy-out-j : tie.Need-element-copy-out-j
-element-copy-out-j c = search needs
+element-copy-out-n : tie.Need-element-copy-out-n
+element-copy-out-n c = search needs
 
 sub-objects-fit : tie.Need-sub-objects-fit
-sub-objects-fit c = starts c .0
+sub-objects-fit c = search needs
 
 part-objects-fit-start : tie.Need-part-objects-fit-start
-part-objects-fit-start c = starts c .0
+part-objects-fit-start c = search needs
 
 part-objects-fit-end : tie.Need-part-objects-fit-end
 part-objects-fit-end c = search needs
 
 sub-objects-fit-2 : tie.Need-sub-objects-fit-2
-sub-objects-fit-2 c = starts (c .before) .1
+sub-objects-fit-2 c = search needs
 
 part-objects-fit-start-2 : tie.Need-part-objects-fit-start-2
-part-objects-fit-start-2 c = starts (c .before) .1
+part-objects-fit-start-2 c = search needs
 
 part-objects-fit-end-2 : tie.Need-part-objects-fit-end-2
 part-objects-fit-end-2 c = search needs
 
 objects-fit-requires : tie.Need-objects-fit-requires
 objects-fit-requires c κs =
-    let o = to-objects (c .before .before) in
-    let v = to-versions (o .before) .before in
-    to-start (to-parents v .before) .pre .known .typed .are .few
+    let s = objects-to-start (c .before .before) in
+    (s .pre .2 .known .typed .are .few, row-long (now (s .args .left)) (s .pre .0), row-long (now (s .args .right)) (s .pre .1))
 
 returns-4 : tie.Need-returns-4
 returns-4 c = λ h.
-    let o = to-objects (c .before .before .before) in
+    let at-n = c .before .before .before in
+    let o = to-objects at-n in
     let un = o .if3 .left in
     let e = to-versions (o .before) in
     let v = e .before in
     let p = to-parents v in
     let l = h .known .left in
     let r = h .known .right in
-    fits-objects _ _ _ _ _ _ h _ (parents (p .before) h) (few-parents p) _ (versions v h) (e .if2 .left) un
-    (c .objects-fit .ensures _ (l .type) (firstOf l) (firstOf r) (h .known .typed) (unversioned _ _ _ _ _ _ h un) (first-meet _ _ _ _ _ _ h un)
-    (first-stands _ (l .headed) _ (h .left-read)) (first-stands _ (r .headed) _ (h .right-read)))
+    let x = left-first (objects-to-start at-n) h in
+    let y = right-first (objects-to-start at-n) h in
+    fits-objects _ _ _ _ _ _ _ _ h _ (parents (p .before) h) (few-parents p) _ (versions v h) (e .if2 .left) un
+    (c .objects-fit .ensures _ (l .type) (firstOf l) (firstOf r) (h .known .typed) (unversioned _ _ _ _ _ _ _ _ h un) (first-meet _ _ _ _ _ _ _ _ h un)
+    (x .objects) (y .objects) (x .sets) (y .sets))
 
 pub limits-fit-spec : {M : Type 1} → statement M
 limits-fit-spec =
@@ -150,8 +166,8 @@ limits-fit-spec =
     count-versions-requires
     returns-2
     returns-3
-    element-copy-out-i
-    element-copy-out-j
+    element-copy-out-m
+    element-copy-out-n
     sub-objects-fit
     part-objects-fit-start
     part-objects-fit-end

@@ -16,47 +16,40 @@ use Rattle.ontology.specs.Table.{EventType, isVersioned}
 use Rattle.ontology.specs.code.TypeIndex.{TypeIs}
 use Rattle.event.specs.Event.{typeView}
 use Rattle.event.specs.code.EventIndex.{SetsAre}
-use Rattle.event.specs.declared.sets.SetAt.{SetAt}
 use Rattle.combining.specs.code.CombineIndex.{Meet}
 use Rattle.combining.proofs.ObjectLaws.{objects-few, objects-end, objects-large, objects-more, left-cell, right-cell, left-set, right-set}
 use Rattle.combining.proofs.limits.objects_fit.Statement.{statement}
 use Rattle.combining.proofs.limits.objects_fit.Tie as tie
 
 abbrev Inv-loop : tie.InvT-loop
-Inv-loop a b t v w room₀ k₀ room k =
-    (u : List ℕ) (ty : EventType) (x y : Snapshot) → TypeIs u ty t → isVersioned ty ≡ false → Meet a b ty x y →
-    SetsAre a (map held (x .cells)) (v .sets) → SetsAre b (map held (y .cells)) (w .sets) →
-    leb (sizes (joinSnapshots (typeView ty) x y .cells)) 256 ≡ leb (sizes (drop k (joinSnapshots (typeView ty) x y .cells))) room
+Inv-loop a x m b y n t room₀ k₀ room k =
+    (u : List ℕ) (ty : EventType) (left right : Snapshot) → TypeIs u ty t → isVersioned ty ≡ false → Meet ty left right →
+    SetsAre a (map held (left .cells)) x → SetsAre b (map held (right .cells)) y →
+    leb (sizes (joinSnapshots (typeView ty) left right .cells)) 256 ≡ leb (sizes (drop k (joinSnapshots (typeView ty) left right .cells))) room
 
 abbrev μ-loop : tie.MeasureT-loop
-μ-loop a b t v w room₀ k₀ room k = 32 - k
+μ-loop a x m b y n t room₀ k₀ room k = 32 - k
 
 -- ---- the places
 
-abbrev to-if1 : tie.Then2 Inv-loop μ-loop → tie.Then1 Inv-loop μ-loop
-to-if1 c = c .before
-
 abbrev if1-to-start : tie.Then1 Inv-loop μ-loop → tie.Start Inv-loop μ-loop
-if1-to-start c = c .before .before .before
+if1-to-start c = c .before .before .before .before .before
 
 abbrev to-start : tie.At-loop Inv-loop μ-loop → tie.Start Inv-loop μ-loop
-to-start c = c .before .before .before .before
-
-abbrev to-left : tie.After-count-place Inv-loop μ-loop → tie.After-set-at Inv-loop μ-loop
-to-left c = c .before .before .before .before .before
+to-start c = c .before .before .before .before .before .before
 
 abbrev to-turn : tie.After-count-place Inv-loop μ-loop → tie.In-loop Inv-loop μ-loop
-to-turn c = to-left c .before .before .before .before
+to-turn c = c .before .before .before
 
 -- ---- the facts
 
-few : (c : tie.Then2 Inv-loop μ-loop) → let a = if1-to-start (to-if1 c) .args in a .t2 .objects + a .t4 .objects ≤ 256
+few : (c : tie.Then2 Inv-loop μ-loop) → let a = if1-to-start (c .before) .args in a .m + a .n ≤ 256
 few c =
-    let a = if1-to-start (to-if1 c) .args in
-    omega (arith, to-if1 c .if1 .taken, leb-true (a .t4 .objects) (256 - a .t2 .objects) (c .if2 .taken))
+    let a = if1-to-start (c .before) .args in
+    omega (arith, c .before .if1 .taken, leb-true (a .n) (256 - a .m) (c .if2 .taken))
 
 -- what is counted at a place, for the snapshots that are there
-module _ (c : tie.After-count-place Inv-loop μ-loop) (u : List ℕ) (ty : EventType) (x y : Snapshot) where
+module _ (c : tie.After-count-place Inv-loop μ-loop) (u : List ℕ) (ty : EventType) (left right : Snapshot) where
   abbrev start : tie.Start Inv-loop μ-loop
   start = to-start (to-turn c .before)
 
@@ -66,59 +59,56 @@ module _ (c : tie.After-count-place Inv-loop μ-loop) (u : List ℕ) (ty : Event
   abbrev b : List ℕ
   b = now (start .args .b)
 
-  abbrev left : List ℕ
-  left = start .args .t2 .sets
+  abbrev x : List ℕ
+  x = now (start .args .x)
 
-  abbrev right : List ℕ
-  right = start .args .t4 .sets
+  abbrev y : List ℕ
+  y = now (start .args .y)
 
   abbrev k : ℕ
   k = to-turn c .before .loop .k
 
   abbrev lefts : List Text
-  lefts = held (getD (x .cells) k (holds []))
+  lefts = held (getD (left .cells) k (holds []))
 
   abbrev rights : List Text
-  rights = held (getD (y .cells) k (holds []))
+  rights = held (getD (right .cells) k (holds []))
 
   counted :
-      TypeIs u ty (start .args .t) → isVersioned ty ≡ false → Meet a b ty x y →
-      SetsAre a (map held (x .cells)) left → SetsAre b (map held (y .cells)) right →
+      TypeIs u ty (start .args .t) → isVersioned ty ≡ false → Meet ty left right →
+      SetsAre a (map held (left .cells)) x → SetsAre b (map held (right .cells)) y →
       c .count-place .result ≡ length (held (joinCell false (typeView ty .choice k) (holds lefts) (holds rights)))
   counted w un m v z =
       let h = to-turn c .loop-test .taken in
-      let p = left-cell a b ty x y un m k h in
-      let q = right-cell a b ty x y un m k h in
-      c .count-place .ensures u ty lefts rights w (set-read (to-left c .set-at .ensures) (left-set a b ty x y un m k h left v))
-      (set-read (c .before .set-at2 .ensures) (right-set a b ty x y un m k h right z))
+      let p = left-cell ty left right un m k h in
+      let q = right-cell ty left right un m k h in
+      c .count-place .ensures u ty lefts rights w (set-read (c .before .before .set-at .ensures) (left-set ty left right un m k h a x v))
+      (set-read (c .before .set-at2 .ensures) (right-set ty left right un m k h b y z))
       (p .rises) (q .rises) (λ e. (p .lone e, q .lone e))
 
 -- ---- the needs
 
-sub-if2 : tie.Need-sub-if2 Inv-loop μ-loop
-sub-if2 c = search needs
-
 returns : tie.Need-returns Inv-loop μ-loop
-returns c = λ u ty x y w un m v z. objects-few (typeView ty) x y _ _ (v .objects) (z .objects) (few c)
+returns c = λ u ty left right w un m o p v z. objects-few (typeView ty) left right _ _ o p (few c)
 
 loop-holds : tie.Need-loop-holds Inv-loop μ-loop
-loop-holds c = λ u ty x y w un m v z. refl
+loop-holds c = λ u ty left right w un m v z. refl
 
 set-at-requires : tie.Need-set-at-requires Inv-loop μ-loop
-set-at-requires c κs = (search needs, c .before .before .before .loop-test .taken)
+set-at-requires c κs = (search needs, c .loop-test .taken)
 
 set-at-requires-2 : tie.Need-set-at-requires-2 Inv-loop μ-loop
-set-at-requires-2 c κs = (search needs, c .before .before .before .before .before .before .before .loop-test .taken)
+set-at-requires-2 c κs = (search needs, c .before .loop-test .taken)
 
 count-place-requires : tie.Need-count-place-requires Inv-loop μ-loop
 count-place-requires c κs = search needs
 
 returns-2 : tie.Need-returns-2 Inv-loop μ-loop
-returns-2 c = λ u ty x y w un m v z.
+returns-2 c = λ u ty left right w un m o p v z.
     let turn = to-turn (c .before) in
     let l = turn .before .loop in
-    let n = counted (c .before) u ty x y w un m (v .sets) (z .sets) in
-    sym (l .inv u ty x y w un m (v .sets) (z .sets) ∙ objects-large _ _ ty x y un m (l .k) (turn .loop-test .taken) _ (l .room) n (c .if3 .taken))
+    let n = counted (c .before) u ty left right w un m v z in
+    sym (l .inv u ty left right w un m v z ∙ objects-large ty left right un m (l .k) (turn .loop-test .taken) _ (l .room) n (c .if3 .taken))
 
 add-k : tie.Need-add-k Inv-loop μ-loop
 add-k c = search needs
@@ -127,16 +117,16 @@ loop-less : tie.Need-loop-less Inv-loop μ-loop
 loop-less c = search needs
 
 loop-again : tie.Need-loop-again Inv-loop μ-loop
-loop-again c = λ u ty x y w un m v z.
+loop-again c = λ u ty left right w un m v z.
     let turn = to-turn (c .before) in
     let l = turn .before .loop in
-    let n = counted (c .before) u ty x y w un m v z in
-    l .inv u ty x y w un m v z ∙ objects-more _ _ ty x y un m (l .k) (turn .loop-test .taken) _ (l .room) n (c .if3 .left)
+    let n = counted (c .before) u ty left right w un m v z in
+    l .inv u ty left right w un m v z ∙ objects-more ty left right un m (l .k) (turn .loop-test .taken) _ (l .room) n (c .if3 .left)
 
 returns-3 : tie.Need-returns-3 Inv-loop μ-loop
-returns-3 c = λ u ty x y w un m v z.
+returns-3 c = λ u ty left right w un m o p v z.
     let l = c .before .loop in
-    objects-end _ _ ty x y un m (l .k) (l .room) (c .loop-test .left) ∙ sym (l .inv u ty x y w un m (v .sets) (z .sets))
+    objects-end ty left right un m (l .k) (l .room) (c .loop-test .left) ∙ sym (l .inv u ty left right w un m v z)
 
 pub objects-fit-spec : {M : Type 1} → statement M
 objects-fit-spec =
@@ -144,7 +134,6 @@ objects-fit-spec =
     (tie.spec
     Inv-loop
     μ-loop
-    sub-if2
     returns
     loop-holds
     set-at-requires

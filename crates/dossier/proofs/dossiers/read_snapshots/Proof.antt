@@ -1,30 +1,47 @@
 use borrow.Author.Needs.{needs}
-use mathlib.Core.Path.{_≡_, refl}
-use mathlib.Core.Bool.{false}
-use Prim.Native.Nat.{_-_, _≤_}
 use native.Mathlib.Omega.{arith}
+use Prim.Native.Nat.{_-_, _≤_}
 use lib.ListN.{drop}
-use borrow.Author.Tests.{not-true, not-false}
-use Rattle.packed.specs.Parse.{fail, times}
+use Rattle.packed.specs.Parse.{times}
 use Rattle.dossier.specs.DossierBody.{readSnapshot}
-use Rattle.dossier.specs.code.DossierIndex.{SnapshotReads}
-use Rattle.dossier.proofs.PassLaws.{reads-at, read-within}
-use Rattle.dossier.proofs.DossierReadLaws.{eight, Passed, passed-bad, passed-more, passed-all, first-bad, passed-first, snapshots-none, snapshots-there}
+use Rattle.dossier.proofs.DossierReadLaws.{row-lent, Sofar, sofar-none, sofar-bad, sofar-promised, sofar-more, sofar-all}
+use Rattle.dossier.proofs.DossierReadLaws.{snapshots-none, snapshot-read, snapshot-refused}
 use Rattle.dossier.proofs.dossiers.read_snapshots.Statement.{statement}
 use Rattle.dossier.proofs.dossiers.read_snapshots.Tie as tie
 
 abbrev Inv-loop : tie.InvT-loop
-Inv-loop s at count known r₀ next₀ j₀ r next j =
-    (r .ok ≡ false)
-    × (1 ≤ j)
-    × ((times readSnapshot count (drop at s) ≡ fail → known ≡ false) → Passed (times readSnapshot count (drop at s)) s (r .starts) (r .ends) (r .versions) (r .differs) (r .first) count next j)
+Inv-loop s at count known rows₀ r₀ next₀ j₀ rows r next j = Sofar (times readSnapshot count (drop at s)) s rows r count next j
 
 abbrev μ-loop : tie.MeasureT-loop
-μ-loop s at count known r₀ next₀ j₀ r next j = count - j
+μ-loop s at count known rows₀ r₀ next₀ j₀ rows r next j = count - j
 
--- the first snapshot, at the front of the bytes from `at` on
-first : (c : tie.After-read-snapshot Inv-loop μ-loop) → SnapshotReads (readSnapshot (drop (c .before .before .before .args .at) (c .before .before .before .args .s .now))) (drop (c .before .before .before .args .at) (c .before .before .before .args .s .now)) (c .read-snapshot .result)
-first c = reads-at (c .before .before .before .args .s .now) (c .before .before .before .args .at) (c .read-snapshot .result) (c .read-snapshot .ensures)
+-- ---- the places
+
+abbrev to-start : tie.At-loop Inv-loop μ-loop → tie.Start Inv-loop μ-loop
+to-start c = c .before .before .before
+
+-- ---- the facts
+
+-- there are eight at most
+turn-low : (c : tie.In-loop Inv-loop μ-loop) → c .before .loop .j ≤ 7
+turn-low c = omega (arith, c .loop-test .taken, to-start (c .before) .pre .0 .2)
+
+-- ---- the needs
+
+loop-holds : tie.Need-loop-holds Inv-loop μ-loop
+loop-holds c = let start = c .before .before in sofar-none _ _ _ _ (start .pre .0 .0) (start .pre .0 .3)
+
+mul-read-snapshot : tie.Need-mul-read-snapshot Inv-loop μ-loop
+mul-read-snapshot c = search needs
+
+mul-read-snapshot-2 : tie.Need-mul-read-snapshot-2 Inv-loop μ-loop
+mul-read-snapshot-2 c = search needs
+
+add-read-snapshot : tie.Need-add-read-snapshot Inv-loop μ-loop
+add-read-snapshot c = search needs
+
+mul-read-snapshot-3 : tie.Need-mul-read-snapshot-3 Inv-loop μ-loop
+mul-read-snapshot-3 c = search needs
 
 sub-read-snapshot : tie.Need-sub-read-snapshot Inv-loop μ-loop
 sub-read-snapshot c = search needs
@@ -36,54 +53,54 @@ part-read-snapshot-end : tie.Need-part-read-snapshot-end Inv-loop μ-loop
 part-read-snapshot-end c = search needs
 
 read-snapshot-requires : tie.Need-read-snapshot-requires Inv-loop μ-loop
-read-snapshot-requires c κs = search needs
+read-snapshot-requires c κs =
+    let turn = c .before in
+    let w = turn .before .loop .inv in
+    (w .within, search needs, sofar-promised _ _ _ _ _ _ _ w (turn .loop-test .taken) (to-start (turn .before) .pre .1))
+
+enum-known-x : tie.Need-enum-known-x Inv-loop μ-loop
+enum-known-x c = search needs
+
+enum-told : tie.Need-enum-told Inv-loop μ-loop
+enum-told c = search needs
+
+same-length : tie.Need-same-length Inv-loop μ-loop
+same-length c = search needs
 
 returns : tie.Need-returns Inv-loop μ-loop
 returns c =
-    let i = c .before .before .before .read-snapshot .result in
-    let e = first-bad (c .before .before .before .before .before .before .args .s .now) (c .before .before .before .before .before .before .args .count) (c .before .before .before .before .before .before .args .at) i (c .before .before .before .before .before .before .pre .1) (first (c .before .before .before)) (not-true (i .ok) (c .if1 .taken)) in
-    snapshots-none _ (times readSnapshot (c .before .before .before .before .before .before .args .count) (drop (c .before .before .before .before .before .before .args .at) (c .before .before .before .before .before .before .args .s .now))) (c .before .before .before .before .before .before .args .s .now) (record { ok = false; next = 0; starts = eight (c .before .before .before .before .before .before .args .at); ends = eight 0; versions = eight (i .version); differs = eight (i .differ); first = i }) e refl
-
-add-next : tie.Need-add-next Inv-loop μ-loop
-add-next c =
-    let k = read-within _ _ (c .before .before .before .before .before .before .before .pre .0) _ (first (c .before .before .before .before)) (not-false _ (c .before .if1 .left)) in
-    omega (arith, k, c .before .before .before .before .before .before .before .good .0 .0)
-
-element-write-r : tie.Need-element-write-r Inv-loop μ-loop
-element-write-r c = search needs
-
-loop-holds : tie.Need-loop-holds Inv-loop μ-loop
-loop-holds c = (refl, omega arith, λ k. passed-first _ (eight (c .before .before .before .before .before .before .before .args .at)) (eight 0) (eight (c .before .before .before .before .read-snapshot .result .version)) (eight (c .before .before .before .before .read-snapshot .result .differ)) _ _ _ (c .before .before .before .before .before .before .before .pre .0) refl refl refl refl (first (c .before .before .before .before)) (c .before .before .before .before .before .before .before .pre .1) (not-false _ (c .before .if1 .left)) (c .before .before .before .before .before .before .before .pre .2))
-
-pass-snapshot-requires : tie.Need-pass-snapshot-requires Inv-loop μ-loop
-pass-snapshot-requires c κs = λ e. c .before .loop .inv .2 (λ f. e) .within
-
-returns-2 : tie.Need-returns-2 Inv-loop μ-loop
-returns-2 c =
-    let l = c .before .before .before .before .loop in
-    snapshots-there _ _ _ _
-    (λ k. snapshots-none _ _ _ _ (passed-bad _ _ _ _ _ _ _ _ _ _ (l .inv .2 k) _ k (c .before .before .before .loop-test .taken) _ (c .before .before .pass-snapshot .ensures) (not-true _ (c .if2 .taken))) (l .inv .0))
+    let at-read = c .before .before .before .before in
+    let turn = at-read .before .before in
+    let w = turn .before .loop .inv in
+    let bad = snapshot-refused _ _ _ (c .enum-told .given .1) (at-read .read-snapshot .ensures) in
+    snapshots-none _ _ _ _ (sofar-bad _ _ _ _ _ _ _ w (turn .loop-test .taken) bad) (w .refused)
 
 mul-r : tie.Need-mul-r Inv-loop μ-loop
 mul-r c = search needs
 
-element-write-r-2 : tie.Need-element-write-r-2 Inv-loop μ-loop
-element-write-r-2 c = search needs
+element-write-r : tie.Need-element-write-r Inv-loop μ-loop
+element-write-r c = search needs
 
 mul-r-2 : tie.Need-mul-r-2 Inv-loop μ-loop
 mul-r-2 c = search needs
 
-element-write-r-3 : tie.Need-element-write-r-3 Inv-loop μ-loop
-element-write-r-3 c = search needs
+element-write-r-2 : tie.Need-element-write-r-2 Inv-loop μ-loop
+element-write-r-2 c = search needs
 
-mul-later : tie.Need-mul-later Inv-loop μ-loop
-mul-later c = search needs
+mul-version : tie.Need-mul-version Inv-loop μ-loop
+mul-version c = search needs
 
-element-set-from-later : tie.Need-element-set-from-later Inv-loop μ-loop
-element-set-from-later c = search needs
+element-set-from-version : tie.Need-element-set-from-version Inv-loop μ-loop
+element-set-from-version c = search needs
 
 mul-r-3 : tie.Need-mul-r-3 Inv-loop μ-loop
 mul-r-3 c = search needs
+
+element-write-r-3 : tie.Need-element-write-r-3 Inv-loop μ-loop
+element-write-r-3 c = search needs
+
+mul-r-4 : tie.Need-mul-r-4 Inv-loop μ-loop
+mul-r-4 c = search needs
 
 element-write-r-4 : tie.Need-element-write-r-4 Inv-loop μ-loop
 element-write-r-4 c = search needs
@@ -96,11 +113,19 @@ loop-less c = search needs
 
 loop-again : tie.Need-loop-again Inv-loop μ-loop
 loop-again c =
-    let l = c .before .before .before .before .before .loop in
-    (l .inv .0, omega arith, λ k. passed-more _ _ _ _ _ _ _ _ _ _ (l .inv .2 k) _ k (c .before .before .before .before .loop-test .taken) _ (c .before .before .before .pass-snapshot .ensures) (c .before .before .before .before .before .before .before .before .before .before .before .before .before .pre .2) (l .inv .1) (not-false _ (c .before .if2 .left)))
+    let at-x = c .before .before in
+    let at-read = at-x .before .before .before .before in
+    let turn = at-read .before .before in
+    let w = turn .before .loop .inv in
+    let read = snapshot-read (at-x .x .given .1) (at-read .read-snapshot .ensures) in
+    let long = row-lent (turn .before .loop .rows) (at-read .read-snapshot .last .1 .1 .1 .0) (turn .before .loop .j) (omega (arith, turn-low turn, w .rows-long)) (at-x .before .before .before .rows .given .0) in
+    sofar-more _ _ _ _ _ _ _ w (turn .loop-test .taken) (to-start (turn .before) .pre .0 .2) _ _ _ read long
 
-returns-3 : tie.Need-returns-3 Inv-loop μ-loop
-returns-3 c = snapshots-there _ _ _ _ (λ k. passed-all _ _ _ _ _ _ _ _ _ _ (c .before .loop .inv .2 k) (c .loop-test .left) (c .before .loop .inv .1) _)
+same-length-2 : tie.Need-same-length-2 Inv-loop μ-loop
+same-length-2 c = search needs
+
+returns-2 : tie.Need-returns-2 Inv-loop μ-loop
+returns-2 c = sofar-all _ _ _ _ _ _ _ (c .before .loop .inv) (c .loop-test .left)
 
 pub read-snapshots-spec : {M : Type 1} → statement M
 read-snapshots-spec =
@@ -108,25 +133,31 @@ read-snapshots-spec =
     (tie.spec
     Inv-loop
     μ-loop
+    loop-holds
+    mul-read-snapshot
+    mul-read-snapshot-2
+    add-read-snapshot
+    mul-read-snapshot-3
     sub-read-snapshot
     part-read-snapshot-start
     part-read-snapshot-end
     read-snapshot-requires
+    enum-known-x
+    enum-told
+    same-length
     returns
-    add-next
-    element-write-r
-    loop-holds
-    pass-snapshot-requires
-    returns-2
     mul-r
-    element-write-r-2
+    element-write-r
     mul-r-2
-    element-write-r-3
-    mul-later
-    element-set-from-later
+    element-write-r-2
+    mul-version
+    element-set-from-version
     mul-r-3
+    element-write-r-3
+    mul-r-4
     element-write-r-4
     add-j
     loop-less
     loop-again
-    returns-3)
+    same-length-2
+    returns-2)

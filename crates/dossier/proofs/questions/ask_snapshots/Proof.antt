@@ -1,197 +1,158 @@
+use borrow.Author.Needs.{needs}
+use borrow.Author.Tests.{not-true, not-false}
+use native.Mathlib.Omega.{arith}
+use Prim.Native.Nat.{ℕ, _-_, _≤_, _<_}
 use mathlib.Core.Path.{_≡_, refl, sym, _∙_}
 use mathlib.Core.Logic.{_⊎_, inl}
 use mathlib.Core.List.{List}
+use lib.ListN.{length, getD}
+use Rattle.model.specs.Rule.{Snapshot}
 use Rattle.model.specs.Limits.{standard}
 use Rattle.ontology.specs.Table.{EventType}
 use Rattle.ontology.specs.code.TypeIndex.{TypeIs}
 use Rattle.event.specs.code.EventIndex.{KindsAre}
 use Rattle.dossier.specs.DossierLayout.{Headed}
 use Rattle.dossier.specs.DossierQuestions.{dossierShape, eachSnapshot, snapshotValues}
-use Rattle.dossier.specs.code.DossierIndex.{shapeNumber, DossierIs}
-use Rattle.dossier.proofs.AskLaws.{numberFrom, number-five, number-more, number-kept, number-end, in-count, past-count, start-within, start-reads, first-stands, not-lone, is-lone}
-use Prim.Native.Nat.{ℕ, _-_, _≤_, _<_}
-use lib.ListN.{length, getD}
-use Rattle.dossier.specs.declared.dossiers.DossierIndex.{DossierIndex}
-use borrow.Author.Tests.{not-true, not-false}
-use native.Mathlib.Omega.{arith}
-use borrow.Author.Needs.{needs}
+use Rattle.dossier.specs.code.DossierIndex.{noSnapshot, RowsAre, shapeNumber, DossierIs}
+use Rattle.dossier.proofs.AskLaws.{numberFrom, fitsWith, number-five, number-more, number-kept, number-end, in-count, past-count}
+use Rattle.dossier.proofs.AskLaws.{snapshot-stands, first-sets, not-lone, is-lone}
 use Rattle.dossier.proofs.questions.ask_snapshots.Statement.{statement}
 use Rattle.dossier.proofs.questions.ask_snapshots.Tie as tie
 
 abbrev Inv-loop : tie.InvT-loop
-Inv-loop s d t front asked number₀ j₀ number j =
-    ((u : List ℕ) (ty : EventType) (h : Headed) → TypeIs u ty t → KindsAre ty → DossierIs s h d →
+Inv-loop s rows d t number₀ j₀ number j =
+    ((u : List ℕ) (ty : EventType) (h : Headed) → TypeIs u ty t → KindsAre ty → DossierIs s h d → RowsAre s (h .snapshots) rows →
     shapeNumber (dossierShape standard ty (h .snapshots)) (eachSnapshot (snapshotValues ty) (h .snapshots)) ≡ numberFrom ty (h .snapshots) number j)
     × ((number ≡ 0) ⊎ (number ≡ 6))
 
 abbrev μ-loop : tie.MeasureT-loop
-μ-loop s d t front asked number₀ j₀ number j = d .count - j
+μ-loop s rows d t number₀ j₀ number j = d .count - j
 
 -- ---- the places
 
-abbrev to-start : tie.After-is-lone Inv-loop μ-loop → tie.Start Inv-loop μ-loop
-to-start c = c .before .before
+abbrev to-start : tie.At-loop Inv-loop μ-loop → tie.Start Inv-loop μ-loop
+to-start c = c .before .before .before .before .before
 
-abbrev to-lone : tie.After-ask-read Inv-loop μ-loop → tie.Else1 Inv-loop μ-loop
-to-lone c = c .before .before .before .before .before .before .before .before .before .before .before
+abbrev to-turn : tie.After-ask-snapshot-arg5 Inv-loop μ-loop → tie.In-loop Inv-loop μ-loop
+to-turn c = c .before .before .before .before .before .before .before .before
 
-abbrev of-loop : tie.In-loop Inv-loop μ-loop → tie.After-ask-read Inv-loop μ-loop
-of-loop c = c .before .before .before .before
+-- ---- the facts
 
-abbrev to-turn : tie.After-ask-snapshot Inv-loop μ-loop → tie.In-loop Inv-loop μ-loop
-to-turn c = c .before .before .before .before .before .before .before .before .before .before
+-- a snapshot is one of eight
+turn-low : (c : tie.In-loop Inv-loop μ-loop) → c .before .loop .j ≤ 7
+turn-low c = omega (arith, c .loop-test .taken, to-start (c .before) .pre .1)
 
--- ---- what is known
+-- the number of a snapshot
+module _ (c : tie.After-ask-snapshot Inv-loop μ-loop) where
+  abbrev turn : tie.In-loop Inv-loop μ-loop
+  turn = to-turn (c .before)
 
-module _ (c : tie.Start Inv-loop μ-loop) where
-  abbrev dossier : DossierIndex
-  dossier = c .args .t2
-
-  within : (j : ℕ) → j < dossier .count → getD (dossier .starts) j 0 ≤ length (c .args .s .now)
-  within = let p = c .pre .1 in start-within _ (p .what) _ (p .is)
-
-front-within : (c : tie.After-is-lone Inv-loop μ-loop) → getD (dossier (to-start c) .starts) 0 0 ≤ length (to-start c .args .s .now)
-front-within c = within (to-start c) 0 (to-start c .pre .1 .is .one)
-
-module _ (c : tie.In-loop Inv-loop μ-loop) where
   abbrev start : tie.Start Inv-loop μ-loop
-  start = to-start (to-lone (of-loop c) .before)
+  start = to-start (turn .before)
 
-  few : dossier start .count ≤ 8
-  few = start .pre .1 .is .few
+  module _ (u : List ℕ) (ty : EventType) (h : Headed) (w : TypeIs u ty (start .args .t4)) (g : KindsAre ty) where
+    module _ (x : DossierIs (start .args .s .now) h (start .args .t2)) (r : RowsAre (start .args .s .now) (h .snapshots) (start .args .rows .now)) where
+      abbrev one : Snapshot
+      one = getD (h .snapshots) (turn .before .loop .j) noSnapshot
 
-  turn-within : getD (dossier start .starts) (c .before .loop .j) 0 ≤ length (start .args .s .now)
-  turn-within = within start (c .before .loop .j) (c .loop-test .taken)
+      inside : turn .before .loop .j < length (h .snapshots)
+      inside = in-count _ h _ x _ (turn .loop-test .taken)
 
--- the number that a dossier of one snapshot, or of a versioned type, begins with
-lone :
-    (c : tie.Else1 Inv-loop μ-loop) {u : List ℕ} {ty : EventType} {h : Headed} →
-    TypeIs u ty (to-start (c .before) .args .t3) → DossierIs (to-start (c .before) .args .s .now) h (dossier (to-start (c .before))) →
-    shapeNumber (dossierShape standard ty (h .snapshots)) (eachSnapshot (snapshotValues ty) (h .snapshots)) ≡ numberFrom ty (h .snapshots) 0 0
-lone c {u} {ty} {h} w x = is-lone _ h _ x u ty _ w (c .before .is-lone .ensures) (not-false _ (c .if1 .left))
+      number : c .ask-snapshot .result ≡ shapeNumber (fitsWith ty (getD (h .snapshots) 0 noSnapshot) one) (snapshotValues ty one)
+      number =
+          let here = snapshot-stands _ h _ x _ r (turn .before .loop .j) (turn .loop-test .taken) in
+          c .ask-snapshot .ensures u ty _ _ (w .mark) (w .are) g (first-sets _ h _ x _ r) here
+
+-- ---- the needs
 
 is-lone-requires : tie.Need-is-lone-requires Inv-loop μ-loop
 is-lone-requires c κs = search needs
 
 returns : tie.Need-returns Inv-loop μ-loop
-returns c = λ u ty h w g x. not-lone _ h _ x u ty _ w (c .before .is-lone .ensures) (not-true _ (c .if1 .taken))
-
-element-copy-out-front : tie.Need-element-copy-out-front Inv-loop μ-loop
-element-copy-out-front c = search needs
-
-sub-ask-read : tie.Need-sub-ask-read Inv-loop μ-loop
-sub-ask-read c = front-within (c .before .before .before)
-
-part-ask-read-start : tie.Need-part-ask-read-start Inv-loop μ-loop
-part-ask-read-start c = front-within (c .before .before .before)
-
-part-ask-read-end : tie.Need-part-ask-read-end Inv-loop μ-loop
-part-ask-read-end c = search needs
-
-sub-ask-read-2 : tie.Need-sub-ask-read-2 Inv-loop μ-loop
-sub-ask-read-2 c = front-within (c .before .before .before .before .before .before .before)
-
-part-ask-read-start-2 : tie.Need-part-ask-read-start-2 Inv-loop μ-loop
-part-ask-read-start-2 c = front-within (c .before .before .before .before .before .before .before)
-
-part-ask-read-end-2 : tie.Need-part-ask-read-end-2 Inv-loop μ-loop
-part-ask-read-end-2 c = search needs
-
-ask-read-requires : tie.Need-ask-read-requires Inv-loop μ-loop
-ask-read-requires c κs = (
-  to-start (c .before .before .before .before .before .before .before .before .before .before .before) .pre .0,
-  search needs,
-  search needs,
-)
-
-returns-2 : tie.Need-returns-2 Inv-loop μ-loop
-returns-2 c = λ u ty h w g x.
-    let asked = c .before in
-    let first = first-stands _ h _ x in
-    let number = asked .ask-read .ensures u ty _ _ (w .mark) (w .are) g (first .sets) first in
-    number-five ty (h .snapshots) 0 0 (in-count _ h _ x 0 (x .one)) _ number (c .if2 .taken) ∙ sym (lone (to-lone asked) w x)
-
-first-number-requires : tie.Need-first-number-requires Inv-loop μ-loop
-first-number-requires c κs = search needs
+returns c = λ u ty h w g x r. not-lone _ h _ x u ty _ w (c .before .is-lone .ensures) (not-true _ (c .if1 .taken))
 
 loop-holds : tie.Need-loop-holds Inv-loop μ-loop
-loop-holds c =
-    let asked = c .before .before in (
-      λ u ty h w g x.
-          let first = first-stands _ h _ x in
-          let number = asked .ask-read .ensures u ty _ _ (w .mark) (w .are) g (first .sets) first in
-          lone (to-lone asked) w x ∙ number-more ty (h .snapshots) 0 0 (in-count _ h _ x 0 (x .one)) _ number (c .before .if2 .left) (c .first-number .ensures),
-      number-kept (asked .ask-read .result) 0 (c .first-number .ensures) (inl refl),
-    )
+loop-holds c = (λ u ty h w g x r. is-lone _ h _ x u ty _ w (c .before .is-lone .ensures) (not-false _ (c .if1 .left)), inl refl)
 
-mul-at : tie.Need-mul-at Inv-loop μ-loop
-mul-at c = omega (arith, c .loop-test .taken, few c)
+mul-version : tie.Need-mul-version Inv-loop μ-loop
+mul-version c = omega (arith, turn-low c)
 
-element-copy-out-at : tie.Need-element-copy-out-at Inv-loop μ-loop
-element-copy-out-at c = omega (arith, c .loop-test .taken, few c)
+element-copy-out-version : tie.Need-element-copy-out-version Inv-loop μ-loop
+element-copy-out-version c = omega (arith, turn-low c)
+
+mul-t16 : tie.Need-mul-t16 Inv-loop μ-loop
+mul-t16 c = omega (arith, turn-low (c .before))
+
+element-copy-out-t23 : tie.Need-element-copy-out-t23 Inv-loop μ-loop
+element-copy-out-t23 c = omega (arith, turn-low (c .before))
+
+mul-ask-snapshot : tie.Need-mul-ask-snapshot Inv-loop μ-loop
+mul-ask-snapshot c = omega (arith, turn-low (c .before .before))
+
+element-copy-out-ask-snapshot : tie.Need-element-copy-out-ask-snapshot Inv-loop μ-loop
+element-copy-out-ask-snapshot c = omega (arith, turn-low (c .before .before))
 
 sub-ask-snapshot : tie.Need-sub-ask-snapshot Inv-loop μ-loop
-sub-ask-snapshot c = front-within (to-lone (of-loop (c .before)) .before)
+sub-ask-snapshot c = search needs
 
 part-ask-snapshot-start : tie.Need-part-ask-snapshot-start Inv-loop μ-loop
-part-ask-snapshot-start c = front-within (to-lone (of-loop (c .before)) .before)
+part-ask-snapshot-start c = search needs
 
 part-ask-snapshot-end : tie.Need-part-ask-snapshot-end Inv-loop μ-loop
 part-ask-snapshot-end c = search needs
 
+mul-ask-snapshot-2 : tie.Need-mul-ask-snapshot-2 Inv-loop μ-loop
+mul-ask-snapshot-2 c = search needs
+
+mul-ask-snapshot-3 : tie.Need-mul-ask-snapshot-3 Inv-loop μ-loop
+mul-ask-snapshot-3 c = search needs
+
+add-ask-snapshot : tie.Need-add-ask-snapshot Inv-loop μ-loop
+add-ask-snapshot c = search needs
+
+mul-ask-snapshot-4 : tie.Need-mul-ask-snapshot-4 Inv-loop μ-loop
+mul-ask-snapshot-4 c = search needs
+
 sub-ask-snapshot-2 : tie.Need-sub-ask-snapshot-2 Inv-loop μ-loop
-sub-ask-snapshot-2 c = turn-within (c .before .before .before .before .before)
+sub-ask-snapshot-2 c = search needs
 
 part-ask-snapshot-start-2 : tie.Need-part-ask-snapshot-start-2 Inv-loop μ-loop
-part-ask-snapshot-start-2 c = turn-within (c .before .before .before .before .before)
+part-ask-snapshot-start-2 c = search needs
 
 part-ask-snapshot-end-2 : tie.Need-part-ask-snapshot-end-2 Inv-loop μ-loop
 part-ask-snapshot-end-2 c = search needs
 
 ask-snapshot-requires : tie.Need-ask-snapshot-requires Inv-loop μ-loop
-ask-snapshot-requires c κs = (
-  to-start (to-lone (of-loop (c .before .before .before .before .before .before .before .before .before)) .before) .pre .0,
-  search needs,
-  search needs,
-)
+ask-snapshot-requires c κs = search needs
 
-returns-3 : tie.Need-returns-3 Inv-loop μ-loop
-returns-3 c = λ u ty h w g x.
+returns-2 : tie.Need-returns-2 Inv-loop μ-loop
+returns-2 c = λ u ty h w g x r.
     let asked = c .before in
-    let turn = to-turn asked in
-    let l = turn .before .loop in
-    let inside = turn .loop-test .taken in
-    let first = first-stands _ h _ x in
-    let number = asked .ask-snapshot .ensures u _ ty _ _ (w .mark) (w .are) g (first .sets) (start-reads _ h _ x _ inside) in
-    number-five ty (h .snapshots) (l .number) (l .j) (in-count _ h _ x _ inside) _ number (c .if3 .taken) ∙ sym (l .inv .0 u ty h w g x)
+    let l = turn asked .before .loop in
+    number-five ty (h .snapshots) (l .number) (l .j) (inside asked u ty h w g x r) _ (number asked u ty h w g x r) (c .if2 .taken) ∙ sym (l .inv .0 u ty h w g x r)
 
-first-number-requires-2 : tie.Need-first-number-requires-2 Inv-loop μ-loop
-first-number-requires-2 c κs = search needs
+first-number-requires : tie.Need-first-number-requires Inv-loop μ-loop
+first-number-requires c κs = search needs
 
 add-j : tie.Need-add-j Inv-loop μ-loop
-add-j c = omega (arith, to-turn (c .before .before) .loop-test .taken, few (to-turn (c .before .before)))
+add-j c = search needs
 
 loop-less : tie.Need-loop-less Inv-loop μ-loop
-loop-less c = omega (arith, to-turn (c .before .before) .loop-test .taken)
+loop-less c = search needs
 
 loop-again : tie.Need-loop-again Inv-loop μ-loop
 loop-again c =
     let asked = c .before .before in
-    let turn = to-turn asked in
-    let l = turn .before .loop in
-    let inside = turn .loop-test .taken in (
-      λ u ty h w g x.
-          let first = first-stands _ h _ x in
-          let number = asked .ask-snapshot .ensures u _ ty _ _ (w .mark) (w .are) g (first .sets) (start-reads _ h _ x _ inside) in
-          l .inv .0 u ty h w g x
-          ∙ number-more ty (h .snapshots) (l .number) (l .j) (in-count _ h _ x _ inside) _ number (c .before .if3 .left) (c .first-number2 .ensures),
-      number-kept (asked .ask-snapshot .result) (l .number) (c .first-number2 .ensures) (l .inv .1),
+    let l = turn asked .before .loop in (
+      λ u ty h w g x r.
+          l .inv .0 u ty h w g x r
+          ∙ number-more ty (h .snapshots) _ _ (inside asked u ty h w g x r) _ (number asked u ty h w g x r) (c .before .if2 .left) (c .first-number .ensures),
+      number-kept (asked .ask-snapshot .result) _ (c .first-number .ensures) (l .inv .1),
     )
 
-returns-4 : tie.Need-returns-4 Inv-loop μ-loop
-returns-4 c = λ u ty h w g x.
-    let l = c .before .loop in
-    number-end ty (h .snapshots) (l .number) (l .j) (past-count _ h _ x _ (c .loop-test .left)) (l .inv .1) ∙ sym (l .inv .0 u ty h w g x)
+returns-3 : tie.Need-returns-3 Inv-loop μ-loop
+returns-3 c = λ u ty h w g x r.
+    number-end ty (h .snapshots) _ _ (past-count _ h _ x _ (c .loop-test .left)) (c .before .loop .inv .1) ∙ sym (c .before .loop .inv .0 u ty h w g x r)
 
 pub ask-snapshots-spec : {M : Type 1} → statement M
 ask-snapshots-spec =
@@ -201,29 +162,27 @@ ask-snapshots-spec =
     μ-loop
     is-lone-requires
     returns
-    element-copy-out-front
-    sub-ask-read
-    part-ask-read-start
-    part-ask-read-end
-    sub-ask-read-2
-    part-ask-read-start-2
-    part-ask-read-end-2
-    ask-read-requires
-    returns-2
-    first-number-requires
     loop-holds
-    mul-at
-    element-copy-out-at
+    mul-version
+    element-copy-out-version
+    mul-t16
+    element-copy-out-t23
+    mul-ask-snapshot
+    element-copy-out-ask-snapshot
     sub-ask-snapshot
     part-ask-snapshot-start
     part-ask-snapshot-end
+    mul-ask-snapshot-2
+    mul-ask-snapshot-3
+    add-ask-snapshot
+    mul-ask-snapshot-4
     sub-ask-snapshot-2
     part-ask-snapshot-start-2
     part-ask-snapshot-end-2
     ask-snapshot-requires
-    returns-3
-    first-number-requires-2
+    returns-2
+    first-number-requires
     add-j
     loop-less
     loop-again
-    returns-4)
+    returns-3)

@@ -19,7 +19,7 @@ enum-told : tie.Need-enum-told
 enum-told c = search needs
 
 returns : tie.Need-returns
-returns c = no-version _ (number-none _ 0 (sym (c .before .before .read-number .ensures) ∙ c .enum-told .given .1))
+returns c = no-version _ (number-none _ _ (sym (c .before .before .read-number .ensures) ∙ c .enum-told .given .1))
 
 read-number-requires-2 : tie.Need-read-number-requires-2
 read-number-requires-2 c κs = search needs
@@ -32,14 +32,14 @@ enum-told-2 c = search needs
 
 returns-2 : tie.Need-returns-2
 returns-2 c =
-    let n = number-stops _ 0 _ _ (sym (c .before .before .before .before .before .before .read-number .ensures) ∙ c .before .before .before .before .version .given .1) in
-    no-presence _ _ _ n (number-none _ _ (sym (c .before .before .read-number2 .ensures) ∙ c .enum-told2 .given .1))
+    let n = number-stops _ _ _ _ (sym (c .before .before .before .before .before .before .read-number .ensures) ∙ c .before .before .before .before .version .given .1) in
+    no-presence _ _ _ _ n (number-none _ _ (sym (c .before .before .read-number2 .ensures) ∙ c .enum-told2 .given .1))
 
 returns-3 : tie.Need-returns-3
 returns-3 c =
-    let n = number-stops _ 0 _ _ (sym (c .before .before .before .before .before .before .before .before .read-number .ensures) ∙ c .before .before .before .before .before .before .version .given .1) in
+    let n = number-stops _ _ _ _ (sym (c .before .before .before .before .before .before .before .before .read-number .ensures) ∙ c .before .before .before .before .before .before .version .given .1) in
     let p = number-stops _ _ _ _ (sym (c .before .before .before .before .read-number2 .ensures) ∙ c .before .before .presence .given .1) in
-    presence-large _ _ _ n _ _ p (c .if1 .taken)
+    presence-large _ _ _ _ n _ _ p (c .if1 .taken)
 
 read-number-requires-3 : tie.Need-read-number-requires-3
 read-number-requires-3 c κs = search needs
@@ -52,33 +52,33 @@ enum-told-3 c = search needs
 
 returns-4 : tie.Need-returns-4
 returns-4 c =
-    let n = number-stops _ 0 _ _ (sym (c .before .before .before .before .before .before .before .before .before .before .before .read-number .ensures) ∙ c .before .before .before .before .before .before .before .before .before .version .given .1) in
+    let n = number-stops _ _ _ _ (sym (c .before .before .before .before .before .before .before .before .before .before .before .read-number .ensures) ∙ c .before .before .before .before .before .before .before .before .before .version .given .1) in
     let p = number-stops _ _ _ _ (sym (c .before .before .before .before .before .before .before .read-number2 .ensures) ∙ c .before .before .before .before .before .presence .given .1) in
-    no-differ _ _ _ n _ _ p (c .before .before .before .if1 .left) (number-none _ _ (sym (c .before .before .read-number3 .ensures) ∙ c .enum-told3 .given .1))
+    no-differ _ _ _ _ n _ _ p (c .before .before .before .if1 .left) (number-none _ _ (sym (c .before .before .read-number3 .ensures) ∙ c .enum-told3 .given .1))
 
 returns-5 : tie.Need-returns-5
 returns-5 c =
-    let n = number-stops _ 0 _ _ (sym (c .before .before .before .before .before .before .before .before .before .before .before .before .before .read-number .ensures) ∙ c .before .before .before .before .before .before .before .before .before .before .before .version .given .1) in
+    let n = number-stops _ _ _ _ (sym (c .before .before .before .before .before .before .before .before .before .before .before .before .before .read-number .ensures) ∙ c .before .before .before .before .before .before .before .before .before .before .before .version .given .1) in
     let p = number-stops _ _ _ _ (sym (c .before .before .before .before .before .before .before .before .before .read-number2 .ensures) ∙ c .before .before .before .before .before .before .before .presence .given .1) in
     let d = number-stops _ _ _ _ (sym (c .before .before .before .before .read-number3 .ensures) ∙ c .before .before .differ .given .1) in
-    differ-large _ _ _ n _ _ p (c .before .before .before .before .before .if1 .left) _ _ d (c .if2 .taken)
+    differ-large _ _ _ _ n _ _ p (c .before .before .before .before .before .if1 .left) _ _ d (c .if2 .taken)
 
 are-apart-requires : tie.Need-are-apart-requires
 are-apart-requires c κs = search needs
 
 returns-6 : tie.Need-returns-6
 returns-6 c =
-    let n = number-stops _ 0 _ _ (sym (c .before .before .before .before .before .before .before .before .before .before .before .before .before .before .before .read-number .ensures) ∙ c .before .before .before .before .before .before .before .before .before .before .before .before .before .version .given .1) in
+    let n = number-stops _ _ _ _ (sym (c .before .before .before .before .before .before .before .before .before .before .before .before .before .before .before .read-number .ensures) ∙ c .before .before .before .before .before .before .before .before .before .before .before .before .before .version .given .1) in
     let p = number-stops _ _ _ _ (sym (c .before .before .before .before .before .before .before .before .before .before .before .read-number2 .ensures) ∙ c .before .before .before .before .before .before .before .before .before .presence .given .1) in
     let d = number-stops _ _ _ _ (sym (c .before .before .before .before .before .before .read-number3 .ensures) ∙ c .before .before .before .before .differ .given .1) in
-    numbers-stop _ _ _ n _ _ p (c .before .before .before .before .before .before .before .if1 .left) _ _ d (c .before .before .if2 .left) (sym (c .before .are-apart .ensures) ∙ c .if3 .taken)
+    numbers-stop _ _ _ _ n _ _ p (c .before .before .before .before .before .before .before .if1 .left) _ _ d (c .before .before .if2 .left) (sym (c .before .are-apart .ensures) ∙ c .if3 .taken)
 
 returns-7 : tie.Need-returns-7
 returns-7 c =
-    let n = number-stops _ 0 _ _ (sym (c .before .before .before .before .before .before .before .before .before .before .before .before .before .before .before .read-number .ensures) ∙ c .before .before .before .before .before .before .before .before .before .before .before .before .before .version .given .1) in
+    let n = number-stops _ _ _ _ (sym (c .before .before .before .before .before .before .before .before .before .before .before .before .before .before .before .read-number .ensures) ∙ c .before .before .before .before .before .before .before .before .before .before .before .before .before .version .given .1) in
     let p = number-stops _ _ _ _ (sym (c .before .before .before .before .before .before .before .before .before .before .before .read-number2 .ensures) ∙ c .before .before .before .before .before .before .before .before .before .presence .given .1) in
     let d = number-stops _ _ _ _ (sym (c .before .before .before .before .before .before .read-number3 .ensures) ∙ c .before .before .before .before .differ .given .1) in
-    not-apart _ _ _ n _ _ p (c .before .before .before .before .before .before .before .if1 .left) _ _ d (c .before .before .if2 .left) (sym (c .before .are-apart .ensures) ∙ c .if3 .left)
+    not-apart _ _ _ _ n _ _ p (c .before .before .before .before .before .before .before .if1 .left) _ _ d (c .before .before .if2 .left) (sym (c .before .are-apart .ensures) ∙ c .if3 .left)
 
 pub read-numbers-spec : {M : Type 1} → statement M
 read-numbers-spec =

@@ -1,23 +1,53 @@
 use borrow.Author.Needs.{needs}
 use mathlib.Core.Path.{sym, _∙_}
-use borrow.Author.Tests.{not-true, not-false}
-use Rattle.dossier.proofs.SnapshotLaws.{numbers-read, numbers-refused, snapshot-none, no-sets, sets-large, snapshot-some}
+use Prim.Native.Nat.{ℕ}
+use lib.ListN.{drop}
+use Rattle.event.specs.EventLayout.{readSets}
+use Rattle.event.specs.code.EventIndex.{SetsStop}
+use Rattle.event.proofs.SetLaws.{sets-read, sets-refused}
+use Rattle.dossier.specs.code.DossierIndex.{NumbersStop}
+use Rattle.dossier.proofs.SnapshotLaws.{numbers-read, numbers-refused, no-sets, sets-promised, sets-large, snapshot-some}
 use Rattle.dossier.proofs.snapshots.read_snapshot.Statement.{statement}
 use Rattle.dossier.proofs.snapshots.read_snapshot.Tie as tie
-use Rattle.dossier.proofs.snapshots.read_snapshot.Reads as reads
-use Rattle.dossier.proofs.snapshots.read_snapshot.Lts as lts
-use Rattle.dossier.proofs.snapshots.are_small.Reads as are-small-reads
-use Rattle.dossier.proofs.snapshots.no_snapshot.Reads as no-snapshot-reads
-use Rattle.dossier.proofs.snapshots.read_numbers.Reads as read-numbers-reads
-use Rattle.event.proofs.sets.read_sets.Reads as read-sets-reads
 
 -- ---- the places
 
-abbrev to-sets : tie.After-are-small → tie.Else1
-to-sets c = c .before .before .before .before
+abbrev to-start : tie.After-known-told → tie.Start
+to-start c = c .before .before .before .before .before .before
 
-abbrev to-numbers : tie.After-read-sets → tie.After-version
-to-numbers c = c .before .before
+abbrev to-numbers : tie.After-slice-known2 → tie.After-known-told
+to-numbers c = c .before .before .before .before
+
+abbrev to-read : tie.After-known-told2 → tie.After-slice-known2
+to-read c = c .before .before .before
+
+abbrev to-sets : tie.After-are-small → tie.After-known-told2
+to-sets c = c .before .before
+
+-- ---- the facts
+
+module _ (c : tie.After-known-told) where
+  abbrev presence : ℕ
+  presence = c .before .version .given .0 .1 .0
+
+  abbrev differ : ℕ
+  differ = c .before .version .given .0 .1 .1 .0
+
+  abbrev after-differ : ℕ
+  after-differ = c .before .version .given .0 .1 .1 .1 .0
+
+-- the numbers that the snapshot begins with
+numbers : (c : tie.After-known-told) → let a = to-start c .args in
+    NumbersStop (a .s .now) (a .at) (c .before .version .given .0 .0 .0) (presence c) (differ c) (after-differ c)
+numbers c = numbers-read (c .before .version .given .1) (c .before .before .before .read-numbers .ensures)
+
+-- and its sets
+sets : (c : tie.After-known-told2) →
+    let n = to-numbers (to-read c) in
+    let s = to-start n .args .s .now in
+    SetsStop (readSets 32 (presence n) (drop (after-differ n) s)) s (to-read c .before .before .read-sets .last .1 .1 .1 .1 .0)
+    (c .before .next .given .0 .0) (c .before .next .given .0 .1 .0)
+sets c = sets-read (c .before .next .given .1) (to-read c .before .before .read-sets .ensures)
 
 -- ---- the needs
 
@@ -30,52 +60,52 @@ enum-known-version c = search needs
 enum-told : tie.Need-enum-told
 enum-told c = search needs
 
-no-snapshot-requires : tie.Need-no-snapshot-requires
-no-snapshot-requires c κs = search needs
-
 returns : tie.Need-returns
-returns c = snapshot-none _ _ _ (numbers-refused _ (c .before .enum-told .given .1) (c .before .before .before .read-numbers .ensures)) (c .no-snapshot .ensures)
+returns c = numbers-refused _ _ (c .enum-told .given .1) (c .before .before .read-numbers .ensures)
 
 read-sets-requires : tie.Need-read-sets-requires
-read-sets-requires c κs = numbers-read (c .before .version .given .1) (c .before .before .before .read-numbers .ensures) .within
+read-sets-requires c κs =
+    let here = c .before in
+    let start = to-start here in
+    (numbers here .within, start .pre .1, sets-promised _ _ (start .pre .0) _ _ _ _ (numbers here) (start .pre .2))
 
-no-snapshot-requires-2 : tie.Need-no-snapshot-requires-2
-no-snapshot-requires-2 c κs = search needs
+enum-known-next : tie.Need-enum-known-next
+enum-known-next c = search needs
+
+enum-told-2 : tie.Need-enum-told-2
+enum-told-2 c = search needs
+
+same-length : tie.Need-same-length
+same-length c = search needs
 
 returns-2 : tie.Need-returns-2
 returns-2 c =
-    let refused = c .before in
-    let read = refused .before in
-    let numbers = numbers-read (to-numbers read .version .given .1) (to-numbers read .before .before .read-numbers .ensures) in
-    snapshot-none _ _ _ (no-sets _ _ _ _ _ numbers _ (read .read-sets .ensures) (not-true _ (refused .if1 .taken))) (c .no-snapshot2 .ensures)
+    let at-sets = c .before .before in
+    let here = to-numbers at-sets in
+    no-sets _ _ (to-start here .pre .0) _ _ _ _ (numbers here) (sets-refused _ _ (c .enum-told2 .given .1) (at-sets .before .before .read-sets .ensures))
 
 are-small-requires : tie.Need-are-small-requires
 are-small-requires c κs = search needs
 
-no-snapshot-requires-3 : tie.Need-no-snapshot-requires-3
-no-snapshot-requires-3 c κs = search needs
+same-length-2 : tie.Need-same-length-2
+same-length-2 c = search needs
 
 returns-3 : tie.Need-returns-3
 returns-3 c =
-    let large = c .before in
-    let asked = large .before in
-    let right = to-sets asked in
-    let read = right .before in
-    let numbers = numbers-read (to-numbers read .version .given .1) (to-numbers read .before .before .read-numbers .ensures) in
-    snapshot-none _ _ _
-    (sets-large _ _ _ _ _ numbers _ (read .read-sets .ensures) (not-false _ (right .if1 .left))
-    (λ t xs w e. sym (not-true _ (large .if2 .taken)) ∙ asked .are-small .ensures t xs w e))
-    (c .no-snapshot3 .ensures)
+    let asked = c .before in
+    let found = to-sets asked in
+    let here = to-numbers (to-read found) in
+    snapshot-some _ _ (to-start here .pre .0) _ _ _ _ (numbers here) _ _ _ (sets found) (λ t xs w e. sym (c .if1 .taken) ∙ asked .are-small .ensures t xs w e)
+
+same-length-3 : tie.Need-same-length-3
+same-length-3 c = search needs
 
 returns-4 : tie.Need-returns-4
 returns-4 c =
-    let small = c .before in
-    let asked = small .before in
-    let right = to-sets asked in
-    let read = right .before in
-    let numbers = numbers-read (to-numbers read .version .given .1) (to-numbers read .before .before .read-numbers .ensures) in
-    snapshot-some _ _ _ _ _ numbers _ (read .read-sets .ensures) (not-false _ (right .if1 .left))
-    (λ t xs w e. sym (not-false _ (small .if2 .left)) ∙ asked .are-small .ensures t xs w e)
+    let asked = c .before in
+    let found = to-sets asked in
+    let here = to-numbers (to-read found) in
+    sets-large _ _ (to-start here .pre .0) _ _ _ _ (numbers here) _ _ _ (sets found) (λ t xs w e. sym (c .if1 .left) ∙ asked .are-small .ensures t xs w e)
 
 pub read-snapshot-spec : {M : Type 1} → statement M
 read-snapshot-spec =
@@ -84,12 +114,14 @@ read-snapshot-spec =
     read-numbers-requires
     enum-known-version
     enum-told
-    no-snapshot-requires
     returns
     read-sets-requires
-    no-snapshot-requires-2
+    enum-known-next
+    enum-told-2
+    same-length
     returns-2
     are-small-requires
-    no-snapshot-requires-3
+    same-length-2
     returns-3
+    same-length-3
     returns-4)

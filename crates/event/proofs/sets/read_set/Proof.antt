@@ -7,16 +7,16 @@ use borrow.Author.Tests.{not-true, not-false}
 use Rattle.packed.specs.Packed.{readText, part}
 use Rattle.packed.proofs.ReadLaws.{number-stops, number-none, text-stops, text-none}
 use Rattle.event.specs.EventLayout.{readSet}
-use Rattle.event.proofs.SetLaws.{Onward, onward-first, onward-bad, onward-not, onward-more, onward-all, risen-bad, set-none, set-zero, set-some, set-found}
+use Rattle.event.proofs.SetLaws.{Onward, onward-first, onward-bad, onward-not, onward-promised, onward-more, onward-all, risen-bad, set-none, set-zero, set-some, set-found}
 use Rattle.event.proofs.sets.read_set.Statement.{statement}
 use Rattle.event.proofs.sets.read_set.Tie as tie
 
 abbrev Inv-loop : tie.InvT-loop
-Inv-loop s at count after-count first first-end from₀ to₀ left₀ from to left =
+Inv-loop s at known count after-count first first-end from₀ to₀ left₀ from to left =
     (from ≤ to) × (to ≤ length s) × Onward readText (readSet (drop at s)) (part s from to) left (drop to s)
 
 abbrev μ-loop : tie.MeasureT-loop
-μ-loop s at count after-count first first-end from₀ to₀ left₀ from to left = left
+μ-loop s at known count after-count first first-end from₀ to₀ left₀ from to left = left
 
 read-number-requires : tie.Need-read-number-requires Inv-loop μ-loop
 read-number-requires c κs = search needs
@@ -68,16 +68,18 @@ enum-told-3 c = search needs
 returns-4 : tie.Need-returns-4 Inv-loop μ-loop
 returns-4 c = onward-bad _ _ _ _ _ (c .before .before .before .before .loop .inv .2) (c .before .before .before .loop-test .taken) (text-none _ _ (sym (c .before .before .read-text2 .ensures) ∙ c .enum-told3 .given .1))
 
-is-before-requires : tie.Need-is-before-requires Inv-loop μ-loop
-is-before-requires c κs =
+comes-after-requires : tie.Need-comes-after-requires Inv-loop μ-loop
+comes-after-requires c κs =
     let l = c .before .before .before .before .before .loop in
     let t = text-stops _ _ _ _ (sym (c .before .before .before .read-text2 .ensures) ∙ c .before .value .given .1) in
-    (l .inv .0, l .inv .1, t .order, t .within)
+    let start = c .before .before .before .before .before .before .before .before .before .before .before .before .before .before .before .before in
+    let promised = onward-promised _ _ _ _ _ (l .inv .2) _ _ (c .before .before .before .before .loop-test .taken) (t .is) (start .pre) in
+    ((l .inv .0, l .inv .1, t .order, t .within), promised)
 
 returns-5 : tie.Need-returns-5 Inv-loop μ-loop
 returns-5 c =
     let t = text-stops _ _ _ _ (sym (c .before .before .before .before .before .read-text2 .ensures) ∙ c .before .before .before .value .given .1) in
-    onward-not _ _ _ _ _ (c .before .before .before .before .before .before .before .loop .inv .2) _ _ (c .before .before .before .before .before .before .loop-test .taken) (t .is) (sym (c .before .is-before .ensures) ∙ not-true _ (c .if2 .taken))
+    onward-not _ _ _ _ _ (c .before .before .before .before .before .before .before .loop .inv .2) _ _ (c .before .before .before .before .before .before .loop-test .taken) (t .is) (sym (c .before .comes-after .ensures) ∙ not-true _ (c .if2 .taken))
 
 sub-left-2 : tie.Need-sub-left-2 Inv-loop μ-loop
 sub-left-2 c = search needs
@@ -88,7 +90,7 @@ loop-less c = search needs
 loop-again : tie.Need-loop-again Inv-loop μ-loop
 loop-again c =
     let t = text-stops _ _ _ _ (sym (c .before .before .before .before .before .read-text2 .ensures) ∙ c .before .before .before .value .given .1) in
-    (t .order, t .within, onward-more _ _ _ _ _ (c .before .before .before .before .before .before .before .loop .inv .2) _ _ (c .before .before .before .before .before .before .loop-test .taken) (t .is) (sym (c .before .is-before .ensures) ∙ not-false _ (c .if2 .left)))
+    (t .order, t .within, onward-more _ _ _ _ _ (c .before .before .before .before .before .before .before .loop .inv .2) _ _ (c .before .before .before .before .before .before .loop-test .taken) (t .is) (sym (c .before .comes-after .ensures) ∙ not-false _ (c .if2 .left)))
 
 returns-6 : tie.Need-returns-6 Inv-loop μ-loop
 returns-6 c =
@@ -117,7 +119,7 @@ read-set-spec =
     enum-known-value
     enum-told-3
     returns-4
-    is-before-requires
+    comes-after-requires
     returns-5
     sub-left-2
     loop-less

@@ -1,18 +1,89 @@
 use borrow.Author.Needs.{needs}
-use mathlib.Core.Path.{_∙_}
+use mathlib.Core.Path.{refl, _∙_}
+use mathlib.Core.List.{List}
+use Prim.Native.Nat.{ℕ, _≤_}
 use native.Mathlib.Omega.{arith}
+use denote.Ref.{now}
+use lib.ListN.{length}
 use borrow.Author.Tests.{not-true, not-false}
+use Rattle.model.specs.Limits.{standard}
+use Rattle.replies.specs.Capacities.{dossierCapacity}
+use Rattle.ontology.proofs.TypeIndexLaws.{TableGot, table-refused, table-got}
+use Rattle.dossier.specs.DossierQuestions.{dossierAsked}
+use Rattle.dossier.specs.code.DossierIndex.{DossierAnswers}
+use Rattle.dossier.proofs.AcceptedLaws.{asked-refused}
 use Rattle.opening.proofs.OpenLaws.{found-low, type-says, open-small, open-table, open-refused, open-done, Accepted, asked-open}
 use Rattle.opening.proofs.calls.open_dossier.Statement.{statement}
 use Rattle.opening.proofs.calls.open_dossier.Tie as tie
-use Rattle.ontology.proofs.TypeIndexLaws.{table-refused, table-got}
-use Rattle.dossier.proofs.AcceptedLaws.{asked-refused}
+
+-- ---- the places
+
+abbrev to-start : tie.After-read-dossier → tie.Start
+to-start c = c .before .before .before .before .before .before
+
+abbrev to-read : tie.After-read-table → tie.After-read-dossier
+to-read c = c .before .before .before
+
+abbrev to-table : tie.Else2 → tie.After-read-table
+to-table c = c .before .before
+
+abbrev to-taken : tie.After-ask-dossier → tie.Else2
+to-taken c = c .before .before
+
+abbrev to-asked : tie.After-event-type → tie.After-ask-dossier
+to-asked c = c .before .before .before
+
+-- ---- the values
+
+module _ (c : tie.After-read-dossier) where
+  abbrev table : List ℕ
+  table = now (to-start c .args .table)
+
+  abbrev dossier : List ℕ
+  dossier = now (to-start c .args .dossier)
+
+  abbrev rows : List ℕ
+  rows = c .read-dossier .last .1 .0
+
+-- ---- the facts
+
+room : (c : tie.After-read-dossier) → dossierCapacity ≤ length (now (to-start c .args .out))
+room c = omega (arith, c .before .before .if1 .left)
+
+-- the table was read
+got :
+    (c : tie.Else2) → let at-table = to-table c in
+    TableGot (table (to-read at-table)) (now (at-table .before .type-name .result)) (at-table .read-table .result)
+got c = table-got _ _ _ (to-table c .read-table .ensures) (not-false _ (c .if2 .left))
+
+-- what the questions come to
+answered :
+    (c : tie.After-ask-dossier) → let taken = to-taken c in let read = to-read (to-table taken) in
+    DossierAnswers (dossierAsked standard (got taken .what) (dossier read)) (table read) (c .ask-dossier .result)
+answered c =
+    let taken = to-taken c in
+    let named = to-table taken .before in
+    c .ask-dossier .ensures _ _ (got taken .is) (λ h w. type-says _ _ _ (got taken) (named .type-name .ensures h w))
+
+-- the dossier is accepted
+accepted :
+    (c : tie.After-event-type) → let asked = to-asked c in let read = to-read (to-table (to-taken asked)) in
+    Accepted (table read) (dossier read) (read .read-dossier .result) (rows read) (asked .ask-dossier .result)
+accepted c =
+    let asked = to-asked c in
+    let taken = to-taken asked in
+    asked-open _ _ _ _ _ (to-read (to-table taken) .read-dossier .ensures) _ (answered asked) (got taken .is) (c .before .if3 .left)
+
+-- ---- the needs
 
 returns : tie.Need-returns
 returns c = open-small _ _ _ (c .if1 .taken)
 
+slice-aggregate-read-dossier : tie.Need-slice-aggregate-read-dossier
+slice-aggregate-read-dossier c = search needs
+
 read-dossier-requires : tie.Need-read-dossier-requires
-read-dossier-requires c κs = search needs
+read-dossier-requires c κs = refl
 
 type-name-requires : tie.Need-type-name-requires
 type-name-requires c κs = search needs
@@ -21,51 +92,56 @@ read-table-requires : tie.Need-read-table-requires
 read-table-requires c κs = search needs
 
 returns-2 : tie.Need-returns-2
-returns-2 c = open-table _ _ _ (omega (arith, c .before .before .before .before .before .if1 .left)) (table-refused _ _ _ (c .before .before .read-table .ensures) (not-true _ (c .if2 .taken)))
+returns-2 c =
+    let at-table = c .before .before in
+    open-table _ _ _ (room (to-read at-table)) (table-refused _ _ _ (at-table .read-table .ensures) (not-true _ (c .if2 .taken)))
+
+slice-aggregate-ask-dossier : tie.Need-slice-aggregate-ask-dossier
+slice-aggregate-ask-dossier c = search needs
 
 ask-dossier-requires : tie.Need-ask-dossier-requires
-ask-dossier-requires c κs = (c .before .before .before .before .read-dossier .ensures, found-low _ _ _ (table-got _ _ _ (c .before .before .read-table .ensures) (not-false _ (c .if2 .left))))
+ask-dossier-requires c κs =
+    let taken = c .before in
+    (search needs, (to-read (to-table taken) .read-dossier .ensures, found-low _ _ _ (got taken)))
 
 returns-3 : tie.Need-returns-3
 returns-3 c =
-    let th = table-got _ _ _ (c .before .before .before .before .before .read-table .ensures) (not-false _ (c .before .before .before .if2 .left)) in
-    open-refused _ _ _ (omega (arith, c .before .before .before .before .before .before .before .before .if1 .left)) _ _ (th .is) (asked-refused _ _ _ _ (c .before .before .ask-dossier .ensures _ _ (th .is) (λ h w. type-says _ _ _ th (c .before .before .before .before .before .before .type-name .ensures h w))) (c .if3 .taken))
+    let asked = c .before .before in
+    let taken = to-taken asked in
+    open-refused _ _ _ (room (to-read (to-table taken))) _ _ (got taken .is) (asked-refused _ _ _ _ (answered asked) (c .if3 .taken))
 
--- the dossier is accepted
-accepted :
-    (c : tie.After-event-type) →
-    let g = c .before .before .before .before .before .before .before .before .before .before .before .before .before .args in
-    Accepted (g .table .now) (g .dossier .now) (c .before .before .before .before .before .before .before .before .read-dossier .result) (c .before .before .before .ask-dossier .result)
-accepted c =
-    let f = c .before .before .before in
-    let t = f .before .before .before in
-    let th = table-got _ _ _ (t .read-table .ensures) (not-false _ (f .before .if2 .left)) in
-    asked-open _ _ _ _ (t .before .before .read-dossier .ensures) _
-    (f .ask-dossier .ensures _ _ (th .is) (λ h w. type-says _ _ _ th (t .before .type-name .ensures h w))) (th .is) (c .before .if3 .left)
+slice-aggregate-open-asked : tie.Need-slice-aggregate-open-asked
+slice-aggregate-open-asked c = search needs
 
 open-asked-requires : tie.Need-open-asked-requires
-open-asked-requires c κs = (accepted (c .before) .openable, omega (arith, c .before .before .before .before .before .before .before .before .before .before .if1 .left))
+open-asked-requires c κs =
+    let at-type = c .before .before in
+    (search needs, room (to-read (to-table (to-taken (to-asked at-type)))), accepted at-type .openable)
 
 same-length : tie.Need-same-length
 same-length c = search needs
 
 returns-4 : tie.Need-returns-4
 returns-4 c =
-    let o = c .before .before .before .before in
-    let a = accepted o in
-    c .before .before .open-asked .ensures (a .openable) ∙ open-done _ _ _ (omega (arith, o .before .before .before .before .before .before .before .before .before .if1 .left)) _ _ a
+    let opened = c .before .before in
+    let at-type = opened .before .before .before in
+    let a = accepted at-type in
+    opened .open-asked .ensures (a .openable) ∙ open-done _ _ _ (room (to-read (to-table (to-taken (to-asked at-type))))) _ _ _ a
 
 pub open-dossier-spec : {M : Type 1} → statement M
 open-dossier-spec =
     tie.close
     (tie.spec
     returns
+    slice-aggregate-read-dossier
     read-dossier-requires
     type-name-requires
     read-table-requires
     returns-2
+    slice-aggregate-ask-dossier
     ask-dossier-requires
     returns-3
+    slice-aggregate-open-asked
     open-asked-requires
     same-length
     returns-4)

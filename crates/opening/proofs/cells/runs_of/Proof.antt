@@ -6,19 +6,13 @@ use Rattle.opening.proofs.cells.runs_of.Statement.{statement}
 use Rattle.opening.proofs.cells.runs_of.Tie as tie
 
 abbrev Inv-loop : tie.InvT-loop
-Inv-loop cells place r₀ j₀ r j = RunsTo cells place (r .starts) (r .ends) j
+Inv-loop rows place r₀ j₀ r j = RunsTo rows place (r .starts) (r .ends) j
 
 abbrev μ-loop : tie.MeasureT-loop
-μ-loop cells place r₀ j₀ r j = 8 - j
+μ-loop rows place r₀ j₀ r j = 8 - j
 
 loop-holds : tie.Need-loop-holds Inv-loop μ-loop
 loop-holds c = runs-none _ _ _ _ refl refl
-
-mul-cell-at : tie.Need-mul-cell-at Inv-loop μ-loop
-mul-cell-at c = search needs
-
-add-cell-at : tie.Need-add-cell-at Inv-loop μ-loop
-add-cell-at c = search needs
 
 cell-at-requires : tie.Need-cell-at-requires Inv-loop μ-loop
 cell-at-requires c κs = search needs
@@ -58,8 +52,6 @@ runs-of-spec =
     Inv-loop
     μ-loop
     loop-holds
-    mul-cell-at
-    add-cell-at
     cell-at-requires
     mul-r
     element-write-r

@@ -1,5 +1,5 @@
 use borrow.Author.Needs.{needs}
-use mathlib.Core.Path.{_≡_, _∙_}
+use mathlib.Core.Path.{_≡_}
 use mathlib.Core.List.{List, []}
 use Prim.Native.Nat.{ℕ, _-_, _≤_, _<_}
 use native.Mathlib.Omega.{arith}
@@ -10,19 +10,19 @@ use Rattle.model.specs.Opening.{column}
 use Rattle.values.specs.Spaces.{Kind}
 use Rattle.event.specs.code.EventIndex.{SetIs}
 use Rattle.opening.specs.code.OpenIndex.{CellsStand, Chooses, Lone}
-use Rattle.opening.proofs.StandLaws.{column-long, column-stands, first-cell}
+use Rattle.opening.proofs.StandLaws.{column-long, column-stands}
 use Rattle.opening.proofs.MergeLaws.{Chosen, chosen-first, chosen-more, chosen-all}
 use Rattle.opening.proofs.merge.extreme_of.Statement.{statement}
 use Rattle.opening.proofs.merge.extreme_of.Tie as tie
 
 abbrev Inv-loop : tie.InvT-loop
-Inv-loop s cells place n kind largest best₀ j₀ best j =
+Inv-loop s rows place n kind largest best₀ j₀ best j =
     (j ≤ n)
-    × ((ss : List Snapshot) (k : Kind) → CellsStand s ss cells → length ss ≡ n → Chooses k kind → ((i : ℕ) → i < n → Lone k (getD (column ss place) i [])) →
+    × ((ss : List Snapshot) (k : Kind) → CellsStand s ss rows → length ss ≡ n → Chooses k kind → ((i : ℕ) → i < n → Lone k (getD (column ss place) i [])) →
     Chosen s k largest (column ss place) best j)
 
 abbrev μ-loop : tie.MeasureT-loop
-μ-loop s cells place n kind largest best₀ j₀ best j = n - j
+μ-loop s rows place n kind largest best₀ j₀ best j = n - j
 
 -- ---- the places
 
@@ -37,16 +37,13 @@ turn-to-start c = to-start (c .before .before)
 -- where the set of snapshot j stands
 here :
     (c : tie.After-cell-at2 Inv-loop μ-loop) → let a = turn-to-start (c .before) .args in
-    (ss : List Snapshot) → CellsStand (now (a .s)) ss (now (a .cells)) → length ss ≡ a .n →
+    (ss : List Snapshot) → CellsStand (now (a .s)) ss (now (a .rows)) → length ss ≡ a .n →
     SetIs (now (a .s)) (getD (column ss (a .place)) (c .before .before .loop .j) []) (c .cell-at2 .result)
 here c ss w e =
     let start = turn-to-start (c .before) in
     column-stands _ ss _ _ _ (start .pre .1) w (omega (arith, c .before .loop-test .taken, e)) (c .cell-at2 .ensures)
 
 -- ---- the needs
-
-mul-cell-at : tie.Need-mul-cell-at Inv-loop μ-loop
-mul-cell-at c = search needs
 
 cell-at-requires : tie.Need-cell-at-requires Inv-loop μ-loop
 cell-at-requires c κs = search needs
@@ -57,15 +54,9 @@ loop-holds c =
     let one = start .pre .2 in (
       one,
       λ ss k w e ch l.
-          let first = column-stands _ ss _ _ 0 (start .pre .1) w (omega (arith, one, e)) (c .cell-at .ensures ∙ first-cell _ _) in
+          let first = column-stands _ ss _ _ 0 (start .pre .1) w (omega (arith, one, e)) (c .cell-at .ensures) in
           chosen-first _ k _ (column ss _) _ (omega (arith, one, e, column-long ss (start .args .place))) (l 0 one) first,
     )
-
-mul-cell-at-2 : tie.Need-mul-cell-at-2 Inv-loop μ-loop
-mul-cell-at-2 c = search needs
-
-add-cell-at : tie.Need-add-cell-at Inv-loop μ-loop
-add-cell-at c = search needs
 
 cell-at-requires-2 : tie.Need-cell-at-requires-2 Inv-loop μ-loop
 cell-at-requires-2 c κs = search needs
@@ -104,11 +95,8 @@ extreme-of-spec =
     (tie.spec
     Inv-loop
     μ-loop
-    mul-cell-at
     cell-at-requires
     loop-holds
-    mul-cell-at-2
-    add-cell-at
     cell-at-requires-2
     better-requires
     add-j

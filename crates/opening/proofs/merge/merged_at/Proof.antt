@@ -17,12 +17,6 @@ made-to-start c = to-start (c .before .before)
 
 -- ---- the needs
 
-mul-cell-at : tie.Need-mul-cell-at
-mul-cell-at c = search needs
-
-add-cell-at : tie.Need-add-cell-at
-add-cell-at c = search needs
-
 sub-cell-at : tie.Need-sub-cell-at
 sub-cell-at c = search needs
 
@@ -60,8 +54,6 @@ pub merged-at-spec : {M : Type 1} → statement M
 merged-at-spec =
     tie.close
     (tie.spec
-    mul-cell-at
-    add-cell-at
     sub-cell-at
     cell-at-requires
     returns

@@ -1,6 +1,6 @@
 use borrow.Author.Needs.{needs}
 use borrow.Author.Tests.{not-true, not-false}
-use mathlib.Core.Path.{_≡_, sym, _∙_, subst}
+use mathlib.Core.Path.{_≡_, sym, subst}
 use mathlib.Core.Logic.{⊎-elim}
 use mathlib.Core.List.{List}
 use Prim.Native.Nat.{ℕ, _-_, _^_, _≤_, _<_}
@@ -13,17 +13,17 @@ use Rattle.model.specs.Opening.{column}
 use Rattle.event.specs.code.EventIndex.{SetIs}
 use Rattle.event.specs.declared.sets.SetAt.{SetAt}
 use Rattle.opening.specs.code.OpenIndex.{CellsStand}
-use Rattle.opening.proofs.StandLaws.{column-long, column-stands, column-rises, first-cell}
+use Rattle.opening.proofs.StandLaws.{column-long, column-stands, column-rises}
 use Rattle.opening.proofs.MergeLaws.{unionTo, OneMore, only-first, only-all, only-kept, only-taken, only-same, only-differs}
 use Rattle.opening.proofs.merge.only_set.Statement.{statement}
 use Rattle.opening.proofs.merge.only_set.Tie as tie
 
 abbrev Inv-loop : tie.InvT-loop
-Inv-loop s cells place n only₀ j₀ only j =
-    (j ≤ n) × ((ss : List Snapshot) → CellsStand s ss cells → length ss ≡ n → SetIs s (unionTo (column ss place) j) only)
+Inv-loop s rows place n only₀ j₀ only j =
+    (j ≤ n) × ((ss : List Snapshot) → CellsStand s ss rows → length ss ≡ n → SetIs s (unionTo (column ss place) j) only)
 
 abbrev μ-loop : tie.MeasureT-loop
-μ-loop s cells place n only₀ j₀ only j = n - j
+μ-loop s rows place n only₀ j₀ only j = n - j
 
 -- ---- the places
 
@@ -48,7 +48,7 @@ small c = omega arith
 -- where the union so far stands, and the set of snapshot j
 one-more :
     (c : tie.After-cell-at2 Inv-loop μ-loop) → let a = turn-to-start (c .before) .args in
-    (ss : List Snapshot) → CellsStand (now (a .s)) ss (now (a .cells)) → length ss ≡ a .n →
+    (ss : List Snapshot) → CellsStand (now (a .s)) ss (now (a .rows)) → length ss ≡ a .n →
     OneMore (now (a .s)) (column ss (a .place)) (c .before .before .loop .j) (c .before .before .loop .only) (c .cell-at2 .result)
 one-more c ss w e =
     let start = turn-to-start (c .before) in
@@ -66,9 +66,6 @@ standing-as {s} {vs} e w = subst (SetIs s vs) (sym e) w
 
 -- ---- the needs
 
-mul-cell-at : tie.Need-mul-cell-at Inv-loop μ-loop
-mul-cell-at c = search needs
-
 cell-at-requires : tie.Need-cell-at-requires Inv-loop μ-loop
 cell-at-requires c κs = search needs
 
@@ -80,15 +77,9 @@ loop-holds c =
       λ ss w e.
           let k : 0 < length ss = omega (arith, one, e) in
           let l : 1 ≤ length (column ss (start .args .place)) = omega (arith, k, column-long ss (start .args .place)) in
-          let first = column-stands _ ss _ _ 0 (start .pre .1) w k (c .cell-at .ensures ∙ first-cell _ _) in
+          let first = column-stands _ ss _ _ 0 (start .pre .1) w k (c .cell-at .ensures) in
           only-first _ (column ss _) _ l (column-rises _ ss _ _ 0 (start .pre .1) w k) first,
     )
-
-mul-cell-at-2 : tie.Need-mul-cell-at-2 Inv-loop μ-loop
-mul-cell-at-2 c = search needs
-
-add-cell-at : tie.Need-add-cell-at Inv-loop μ-loop
-add-cell-at c = search needs
 
 cell-at-requires-2 : tie.Need-cell-at-requires-2 Inv-loop μ-loop
 cell-at-requires-2 c κs = search needs
@@ -148,11 +139,8 @@ only-set-spec =
     (tie.spec
     Inv-loop
     μ-loop
-    mul-cell-at
     cell-at-requires
     loop-holds
-    mul-cell-at-2
-    add-cell-at
     cell-at-requires-2
     set-part-requires
     set-part-requires-2

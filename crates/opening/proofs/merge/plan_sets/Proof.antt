@@ -15,11 +15,11 @@ use Rattle.opening.proofs.merge.plan_sets.Statement.{statement}
 use Rattle.opening.proofs.merge.plan_sets.Tie as tie
 
 abbrev Inv-loop : tie.InvT-loop
-Inv-loop s cells n plan₀ t none p₀ plan p =
-    (length plan ≡ 128) × ((u : List ℕ) (ty : EventType) (d : Dossier) → TypeIs u ty t → Mergeable s cells n ty d → PlannedTo s plan ty d p)
+Inv-loop s rows n plan₀ t none p₀ plan p =
+    (length plan ≡ 128) × ((u : List ℕ) (ty : EventType) (d : Dossier) → TypeIs u ty t → Mergeable s rows n ty d → PlannedTo s plan ty d p)
 
 abbrev μ-loop : tie.MeasureT-loop
-μ-loop s cells n plan₀ t none p₀ plan p = 32 - p
+μ-loop s rows n plan₀ t none p₀ plan p = 32 - p
 
 -- ---- the places
 

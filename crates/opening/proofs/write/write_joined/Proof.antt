@@ -33,7 +33,7 @@ to-values c = c .before .before .before
 -- ---- the room of the union
 
 abbrev Room : tie.Start → Type 0
-Room c = let a = c .args in JoinedRoom (now (a .s)) (now (a .cells)) (a .place) (a .n) (a .at) (length (now (a .out)))
+Room c = let a = c .args in JoinedRoom (now (a .s)) (now (a .rows)) (a .place) (a .n) (a .at) (length (now (a .out)))
 
 -- ---- the facts
 

@@ -13,12 +13,12 @@ use Rattle.opening.proofs.write.write_sets.Statement.{statement}
 use Rattle.opening.proofs.write.write_sets.Tie as tie
 
 abbrev Inv-loop : tie.InvT-loop
-Inv-loop s cells n plan out₀ at next₀ p₀ out next p =
-    (q : SetsRoom s cells n plan at (length out₀)) →
+Inv-loop s rows n plan out₀ at next₀ p₀ out next p =
+    (q : SetsRoom s rows n plan at (length out₀)) →
     ToGo out₀ at (setsBytes (mergedSets (typeView (q .type)) (q .dossier))) out next (setsFrom (q .type) (q .dossier) p)
 
 abbrev μ-loop : tie.MeasureT-loop
-μ-loop s cells n plan out₀ at next₀ p₀ out next p = 32 - p
+μ-loop s rows n plan out₀ at next₀ p₀ out next p = 32 - p
 
 -- ---- the places
 

@@ -1,0 +1,98 @@
+use borrow.Author.Needs.{needs}
+use Prim.Native.Nat.{_+_, _-_, _*_}
+use native.Mathlib.Omega.{arith}
+use mathlib.Core.Path.{_≡_, _∙_}
+use lib.ListN.{length, set, length-set}
+use Rattle.ontology.proofs.TripleLaws.{three-long}
+use Rattle.event.proofs.SetLaws.{Cleared, cleared-none, cleared-more}
+use Rattle.event.proofs.sets.clear_from.Statement.{statement}
+use Rattle.event.proofs.sets.clear_from.Tie as tie
+
+abbrev Inv-loop : tie.InvT-loop
+Inv-loop sets₀ place k₀ sets k = (length sets ≡ 96) × Cleared sets₀ sets place k
+
+abbrev μ-loop : tie.MeasureT-loop
+μ-loop sets₀ place k₀ sets k = 32 - k
+
+loop-holds : tie.Need-loop-holds Inv-loop μ-loop
+loop-holds c = (c .pre, cleared-none _ _)
+
+mul-sets : tie.Need-mul-sets Inv-loop μ-loop
+mul-sets c = search needs
+
+mul-sets-2 : tie.Need-mul-sets-2 Inv-loop μ-loop
+mul-sets-2 c = search needs
+
+slice-write-sets : tie.Need-slice-write-sets Inv-loop μ-loop
+slice-write-sets c = search needs
+
+mul-sets-3 : tie.Need-mul-sets-3 Inv-loop μ-loop
+mul-sets-3 c = search needs
+
+add-sets : tie.Need-add-sets Inv-loop μ-loop
+add-sets c = search needs
+
+mul-sets-4 : tie.Need-mul-sets-4 Inv-loop μ-loop
+mul-sets-4 c = search needs
+
+slice-write-sets-2 : tie.Need-slice-write-sets-2 Inv-loop μ-loop
+slice-write-sets-2 c = let l = c .before .loop in omega (arith, length-set (l .sets) (3 * l .k) 0, l .inv .0)
+
+mul-sets-5 : tie.Need-mul-sets-5 Inv-loop μ-loop
+mul-sets-5 c = search needs
+
+add-sets-2 : tie.Need-add-sets-2 Inv-loop μ-loop
+add-sets-2 c = search needs
+
+mul-sets-6 : tie.Need-mul-sets-6 Inv-loop μ-loop
+mul-sets-6 c = search needs
+
+slice-write-sets-3 : tie.Need-slice-write-sets-3 Inv-loop μ-loop
+slice-write-sets-3 c =
+    let l = c .before .loop in
+    let first = set (l .sets) (3 * l .k) 0 in
+    omega (arith, length-set (l .sets) (3 * l .k) 0, length-set first (3 * l .k + 1) 0, l .inv .0)
+
+add-k : tie.Need-add-k Inv-loop μ-loop
+add-k c = search needs
+
+loop-less : tie.Need-loop-less Inv-loop μ-loop
+loop-less c = search needs
+
+loop-again : tie.Need-loop-again Inv-loop μ-loop
+loop-again c =
+    let l = c .before .loop in
+    let w = l .inv .1 in
+    (three-long (l .sets) (l .k) 0 0 0 ∙ l .inv .0, cleared-more _ _ _ _ w (omega (arith, c .loop-test .taken, w .long, l .inv .0)))
+
+same-length : tie.Need-same-length Inv-loop μ-loop
+same-length c = c .before .loop .inv .1 .long
+
+returns : tie.Need-returns Inv-loop μ-loop
+returns c =
+    let w = c .before .loop .inv .1 in
+    (w .kept, λ i a b. w .clear i a (omega (arith, c .loop-test .left)))
+
+pub clear-from-spec : {M : Type 1} → statement M
+clear-from-spec =
+    tie.close
+    (tie.spec
+    Inv-loop
+    μ-loop
+    loop-holds
+    mul-sets
+    mul-sets-2
+    slice-write-sets
+    mul-sets-3
+    add-sets
+    mul-sets-4
+    slice-write-sets-2
+    mul-sets-5
+    add-sets-2
+    mul-sets-6
+    slice-write-sets-3
+    add-k
+    loop-less
+    loop-again
+    same-length
+    returns)
