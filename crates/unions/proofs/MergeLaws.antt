@@ -7,7 +7,7 @@ use Prim.Native.Nat.{ℕ, zero, suc, _+_, _^_, _≤_, _<_, Ordering, Ordering·l
 use native.Mathlib.Omega.{arith}
 use native.Mathlib.Numerals.{add-one}
 use lib.ListN.{length, take, drop, getD, set, length-append}
-use lib.Seq.{take-suc, take-all, getD-set-same, getD-set-other}
+use lib.Seq.{take-suc, take-suc-set, take-all, getD-set-same, getD-set-other}
 use borrow.Author.Count.{below-more}
 use Rattle.model.specs.Order.{Text, texts, rising, equal, pick, flip}
 use Rattle.model.specs.Keyed.{Above, merge}
@@ -23,9 +23,8 @@ use Rattle.packed.proofs.ReadLaws.{part-length, stretch}
 use Rattle.packed.specs.code.Written.{Wrote, ToGo}
 use Rattle.packed.proofs.WriteLaws.{to-go, all-gone}
 use Rattle.unions.specs.declared.heads.Form.the-variants as form
-use Rattle.unions.specs.declared.many.Least.{Least}
 use Rattle.unions.specs.code.Runs.{written, run, Run, HeadIs, NoHead}
-use Rattle.unions.specs.code.Merging.{SetRun, SetRuns, passed, RightLeast, leastText, valueAt, LeastTo, Lesser, IsLeast}
+use Rattle.unions.specs.code.Merging.{SetRun, SetRuns, passed, Told, RightLeast, leastText, valueAt, LeastTo, Lesser, IsLeast}
 use Rattle.unions.proofs.RunLaws.{First, part-then, head-part, run-head, texts-fit, write-room, write-next}
 
 -- ---- the least value of rising lists is the first of their union, and the others follow without it
@@ -179,32 +178,45 @@ flat-at (xs ∷ xss) zero (suc j) h a n = Memᴰ·append-left (flatten (take j x
 flat-at (xs ∷ xss) (suc i) (suc j) h a n = Memᴰ·append-right xs (flat-at xss i j (omega arith) a n)
 
 -- what the answer tells of
-value-some : (s : List ℕ) (r : Least) → r .found ≡ true → valueAt s r ≡ leastText s r ∷ []
+value-some : (s : List ℕ) (r : Told) → r .found ≡ true → valueAt s r ≡ leastText s r ∷ []
 unfolding valueAt
 value-some s r f = ap (λ (b : Bool). cond b (leastText s r ∷ []) []) f
 
-value-none : (s : List ℕ) (r : Least) → r .found ≡ false → valueAt s r ≡ []
+value-none : (s : List ℕ) (r : Told) → r .found ≡ false → valueAt s r ≡ []
 unfolding valueAt
 value-none s r f = ap (λ (b : Bool). cond b (leastText s r ∷ []) []) f
 
-value-nil : (s : List ℕ) (r : Least) → take 1 (union texts (valueAt s r) (smallest texts [])) ≡ valueAt s r
+value-nil : (s : List ℕ) (r : Told) → take 1 (union texts (valueAt s r) (smallest texts [])) ≡ valueAt s r
 unfolding smallest canon
 value-nil s r =
     truth (r .found)
     (λ f. rw (value-some s r f) (ap (take 1) (union-right-nil texts (leastText s r ∷ []) (tt, tt))))
     (λ f. rw (value-none s r f) (ap (take 1) (union-left-nil texts [])))
 
+-- a list copied place by place
+pub copied-more :
+    (xs ys : List ℕ) (j : ℕ) → j < length xs → j < length ys → take j xs ≡ take j ys → take (j + 1) (set xs j (getD ys j 0)) ≡ take (j + 1) ys
+copied-more xs ys j a b e =
+    ap (λ (k : ℕ). take k (set xs j (getD ys j 0))) (add-one j)
+    ∙ take-suc-set xs j (getD ys j 0) a
+    ∙ ap (λ (l : List ℕ). l ++ (getD ys j 0 ∷ [])) e
+    ∙ sym (take-suc ys j 0 b)
+    ∙ ap (λ (k : ℕ). take k ys) (sym (add-one j))
+
+pub copied-all : (xs ys : List ℕ) (j : ℕ) → length xs ≤ j → length ys ≤ j → take j xs ≡ take j ys → xs ≡ ys
+copied-all xs ys j a b e = sym (take-all j xs a) ∙ e ∙ take-all j ys b
+
 -- the answer r, with run j going on at q
-abbrev onward : Least → ℕ → ℕ → Least
+abbrev onward : Told → ℕ → ℕ → Told
 onward r j q = record { found = r .found; start = r .start; value = r .value; end = r .end; after = set (r .after) j q }
 
 -- the value from p up to q, which stands first in run j
-abbrev headOf : List ℕ → ℕ → ℕ → ℕ → Least
+abbrev pub headOf : List ℕ → ℕ → ℕ → ℕ → Told
 headOf ats j p q = record { found = true; start = getD ats j 0; value = p; end = q; after = set ats j q }
 
 module _
     (s ats ends : List ℕ) (n : ℕ) (xss : List (List Text)) (w : SetRuns s ats ends n xss) (j : ℕ) (h : j < n)
-    (best : Least) (b : LeastTo s ends n xss j best) where
+    (best : Told) (b : LeastTo s ends n xss j best) where
   abbrev this : List Text
   this = getD xss j []
 
@@ -264,7 +276,7 @@ module _
         stays = λ f i k l. let ne : i ≡ j → ⊥ = λ e. omega arith in rw (getD-set-other ats j i q 0 ne) (w .each i l);
       }
 
-module _ (s : List ℕ) (best : Least) (ats : List ℕ) (j end : ℕ) where
+module _ (s : List ℕ) (best : Told) (ats : List ℕ) (j end : ℕ) where
   pub lesser-none : RightLeast s best → ((xs : List Text) → SetRun s (getD ats j 0) end xs → xs ≡ []) → Lesser s best ats j end best
   unfolding passed
   lesser-none r k = record {
@@ -351,7 +363,7 @@ module _ (s : List ℕ) (best : Least) (ats : List ℕ) (j end : ℕ) where
 -- ---- the least of the first values of all runs
 
 -- nothing is found in no runs
-pub least-none : (s ends : List ℕ) (n : ℕ) (xss : List (List Text)) (r : Least) → r .found ≡ false → LeastTo s ends n xss 0 r
+pub least-none : (s ends : List ℕ) (n : ℕ) (xss : List (List Text)) (r : Told) → r .found ≡ false → LeastTo s ends n xss 0 r
 unfolding smallest canon flatten
 least-none s ends n xss r f = record {
   least = value-none s r f;
@@ -371,7 +383,7 @@ length-map m (xs ∷ xss) = ap suc (length-map m xss)
 
 -- all of n runs are looked at
 pub least-all :
-    (s ats ends : List ℕ) (n j : ℕ) (r : Least) → n ≤ j → RightLeast s r →
+    (s ats ends : List ℕ) (n j : ℕ) (r : Told) → n ≤ j → RightLeast s r →
     ((xss : List (List Text)) → SetRuns s ats ends n xss → LeastTo s ends n xss j r) → IsLeast s ats ends n r
 least-all s ats ends n j r h right k = record {
   right = right;
@@ -394,7 +406,7 @@ all-ups : (xss : List (List Text)) → ((j : ℕ) → j < length xss → rising 
 all-ups [] h = tt
 all-ups (xs ∷ xss) h = (rising-ups texts xs .0 (h 0 (omega arith)), all-ups xss (λ j l. h (suc j) (omega arith)))
 
-module _ {s ats ends : List ℕ} {n : ℕ} {P : List Text → Type 0} (g : Merging s ats ends n P) {r : Least} (w : IsLeast s ats ends n r) where
+module _ {s ats ends : List ℕ} {n : ℕ} {P : List Text → Type 0} (g : Merging s ats ends n P) {r : Told} (w : IsLeast s ats ends n r) where
   merging-first : r .found ≡ true → P (leastText s r ∷ canon texts (flatten (map (passed (leastText s r)) (g .xss))))
   merging-first f =
       let ups = all-ups (g .xss) (λ j l. g .runs .each j (omega (arith, g .runs .long)) .rises) in
@@ -421,7 +433,7 @@ pub written-none : (l : List ℕ) (at : ℕ) (zs : List Text) → Written l at z
 written-none l at zs = record { go = to-go; counted = omega arith }
 
 module _ {s ats ends : List ℕ} {n : ℕ} {l₀ l : List ℕ} {all : List Text} {at p count : ℕ}
-    (g : Merging s ats ends n (Written l₀ at all l p count)) {r : Least} (w : IsLeast s ats ends n r) where
+    (g : Merging s ats ends n (Written l₀ at all l p count)) {r : Told} (w : IsLeast s ats ends n r) where
   pub merged-wrote : r .found ≡ false → Wrote l₀ at (flatten (map text all)) l p
   unfolding flatten
   merged-wrote f = all-gone (merging-none g w f .go) refl

@@ -2,77 +2,104 @@ use borrow.Author.Needs.{needs}
 use borrow.Author.Tests.{not-true, not-false}
 use native.Mathlib.Omega.{arith}
 use denote.Ref.{now}
-use Prim.Native.Nat.{_^_, _<_}
-use mathlib.Core.Path.{_≡_, sym, ap, _∙_}
+use Prim.Native.Nat.{ℕ, _^_, _<_}
+use mathlib.Core.Path.{_≡_, sym, ap, _∙_, subst}
 use mathlib.Core.Bool.{true}
-use lib.ListN.{length, getD}
+use mathlib.Core.List.{List}
+use lib.ListN.{length, getD, set}
 use Rattle.model.specs.Order.{texts}
+use Rattle.model.proofs.Cases.{never}
 use Rattle.packed.specs.Packed.{part}
 use Rattle.packed.specs.code.Comparison.{ordering}
 use Rattle.unions.specs.declared.heads.Form.the-variants as form
 use Rattle.unions.specs.code.Runs.{HeadIs}
-use Rattle.unions.specs.code.Merging.{leastText}
+use Rattle.unions.specs.code.Merging.{Told, told, leastText, Lesser}
 use Rattle.unions.proofs.RunLaws.{heads-some, heads-none}
-use Rattle.unions.proofs.MergeLaws.{set-end, set-no-head, lesser-none, lesser-first, lesser-less, lesser-both, lesser-kept}
+use Rattle.unions.proofs.MergeLaws.{headOf, set-end, set-no-head, lesser-none, lesser-first, lesser-less, lesser-both, lesser-kept}
 use Rattle.unions.proofs.many.lesser.Statement.{statement}
 use Rattle.unions.proofs.many.lesser.Tie as tie
 
 -- ---- the places
 
-abbrev head-to-start : tie.After-head-at → tie.Start
-head-to-start c = c .before .before .before
+abbrev to-start : tie.After-shared-slice-known3 → tie.Start
+to-start c = c .before .before .before .before
 
-abbrev to-head : tie.After-struct-known → tie.After-head-at
-to-head c = c .before .before .before .before
+abbrev to-some : tie.After-struct-known → tie.Else1
+to-some c = c .before .before .before .before .before
 
-abbrev to-start : tie.After-struct-known → tie.Start
-to-start c = head-to-start (to-head c)
+abbrev of-head : tie.After-struct-known → tie.Start
+of-head c = to-start (to-some c .before)
+
+-- ---- the values
+
+module _ (c : tie.Start) where
+  abbrev bytes : List ℕ
+  bytes = now (c .args .s)
+
+  abbrev ats : List ℕ
+  ats = now (c .args .at)
+
+  abbrev best : Told
+  best = told (c .args .best) (now (c .args .after))
 
 -- ---- the facts
 
 -- run j is one of the eight
-in-runs : (c : tie.Start) → c .args .j < length (c .args .t3)
-in-runs c = omega arith
+in-runs : (c : tie.Start) → c .args .j < length (ats c)
+in-runs c = omega (arith, c .pre .0 .0, c .pre .0 .1)
 
-in-after : (c : tie.After-struct-known) → to-start c .args .j < length (to-start c .args .best .after)
-in-after c = search needs
+in-after : (c : tie.Start) → c .args .j < length (now (c .args .after))
+in-after c = omega (arith, c .pre .0 .0, c .pre .0 .2)
 
 -- there are no more bytes than a `usize` counts
-small : (c : tie.After-shared-slice-known) → length (now (c .before .args .s)) < 2 ^ 64
+small : (c : tie.After-shared-slice-known) → length (bytes (c .before)) < 2 ^ 64
 small c = omega arith
 
 -- the value that stands first in run j
 module _ (c : tie.After-struct-known) where
-  head :
-      let a = to-start c .args in
-      let g = c .before .before .p .given .0 in
-      HeadIs form.Texts (now (a .s)) (getD (a .t3) (a .j) 0) (g .0) (g .1 .0)
-  head = heads-some (c .before .before .p .given .1) (to-head c .head-at .ensures)
+  abbrev value : ℕ
+  value = c .before .before .p .given .0 .0
+
+  abbrev end : ℕ
+  end = c .before .before .p .given .0 .1 .0
+
+  head : HeadIs form.Texts (bytes (of-head c)) (getD (ats (of-head c)) (of-head c .args .j) 0) value end
+  head = heads-some (c .before .before .p .given .1) (c .before .before .before .before .head-at .ensures)
 
 -- the least so far was found
-found : (c : tie.Else2) → to-start (c .before) .args .best .found ≡ true
+found : (c : tie.Else2) → of-head (c .before) .args .best .found ≡ true
 found c = not-false _ (c .if2 .left)
 
 -- the two are compared
 compared :
-    (c : tie.After-compare-parts) →
-    let a = to-start (c .before .before) .args in
-    let g = c .before .before .before .before .p .given .0 in
-    texts .cmp (part (now (a .s)) (g .0) (g .1 .0)) (leastText (now (a .s)) (a .best)) ≡ ordering (c .compare-parts .result)
+    (c : tie.After-compare-parts) → let x = c .before .before in let start = of-head x in
+    texts .cmp (part (bytes start) (value x) (end x)) (leastText (bytes start) (best start)) ≡ ordering (c .compare-parts .result)
 compared c = sym (c .compare-parts .ensures)
+
+-- the answer is the value of run j, where `after` was as `at` before
+taken :
+    (c : tie.After-struct-known) (l : List ℕ) → let start = of-head c in let a = start .args in l ≡ ats start →
+    Lesser (bytes start) (best start) (ats start) (a .j) (a .end) (headOf (ats start) (a .j) (value c) (end c)) →
+    Lesser (bytes start) (best start) (ats start) (a .j) (a .end)
+    (record { found = true; start = getD (ats start) (a .j) 0; value = value c; end = end c; after = set l (a .j) (end c) })
+taken c l e w =
+    let start = of-head c in
+    let a = start .args in
+    subst (λ (m : List ℕ). Lesser (bytes start) (best start) (ats start) (a .j) (a .end)
+    (record { found = true; start = getD (ats start) (a .j) 0; value = value c; end = end c; after = set m (a .j) (end c) })) (sym e) w
 
 -- ---- the needs
 
 mul-start : tie.Need-mul-start
 mul-start c = search needs
 
-array-read-start : tie.Need-array-read-start
-array-read-start c = search needs
+shared-slice-read-start : tie.Need-shared-slice-read-start
+shared-slice-read-start c = search needs
 
 returns : tie.Need-returns
 returns c =
-    let start = c .before .before in
-    lesser-none _ _ _ _ _ (start .pre .0) (λ xs r. set-end _ _ _ xs (c .if1 .taken) r)
+    let start = to-start (c .before) in
+    (lesser-none _ _ _ _ _ (start .pre .1 .0) (λ xs r. set-end _ _ _ xs (c .if1 .taken) r), start .pre .1 .1)
 
 head-at-requires : tie.Need-head-at-requires
 head-at-requires c κs = search needs
@@ -86,85 +113,126 @@ enum-told c = search needs
 returns-2 : tie.Need-returns-2
 returns-2 c =
     let at-head = c .before .before in
+    let start = to-start (at-head .before .before) in
     let none = heads-none (c .enum-told .given .1) (at-head .head-at .ensures) in
-    lesser-none _ _ _ _ _ (head-to-start at-head .pre .0) (set-no-head _ _ _ (small (at-head .before .before)) none)
+    let known = at-head .before .before .before .before .before in
+    (lesser-none _ _ _ _ _ (start .pre .1 .0) (set-no-head _ _ _ (small known) none), start .pre .1 .1)
 
 mul-after : tie.Need-mul-after
 mul-after c = search needs
 
-array-write-after : tie.Need-array-write-after
-array-write-after c = search needs
+slice-write-after : tie.Need-slice-write-after
+slice-write-after c = in-after (of-head (c .before))
+
+same-length : tie.Need-same-length
+same-length c = search needs
 
 returns-3 : tie.Need-returns-3
 returns-3 c =
-    let some = to-head (c .before) .before in
-    lesser-first _ _ _ _ _ (small (some .before)) (some .if1 .left) _ _ (head (c .before)) (in-runs (to-start (c .before))) (not-true _ (c .if2 .taken))
+    let x = c .before in
+    let some = to-some x in
+    let start = of-head x in
+    let none = not-true _ (c .if2 .taken) in
+    let first = lesser-first _ _ _ _ _ (small (some .before .before .before .before)) (some .if1 .left) _ _ (head x) (in-runs start) none in
+    (taken x _ (start .pre .1 .1 none) first, λ e. never (cc e))
 
 compare-parts-requires : tie.Need-compare-parts-requires
 compare-parts-requires c κs =
-    let best = to-start (c .before) .pre .0 (found c) in
-    (head (c .before) .order, head (c .before) .within, best .order, best .within)
+    let x = c .before in
+    let least = of-head x .pre .1 .0 (found c) in
+    (head x .order, head x .within, least .order, least .within)
 
 enum-told-2 : tie.Need-enum-told-2
 enum-told-2 c = search needs
 
+copy-eight-requires : tie.Need-copy-eight-requires
+copy-eight-requires c κs = search needs
+
+mul-after-2 : tie.Need-mul-after-2
+mul-after-2 c = search needs
+
+slice-write-after-2 : tie.Need-slice-write-after-2
+slice-write-after-2 c = search needs
+
 enum-told-3 : tie.Need-enum-told-3
 enum-told-3 c = search needs
 
-mul-both : tie.Need-mul-both
-mul-both c = search needs
+mul-after-3 : tie.Need-mul-after-3
+mul-after-3 c = search needs
 
-element-write-both : tie.Need-element-write-both
-element-write-both c = search needs
+slice-write-after-3 : tie.Need-slice-write-after-3
+slice-write-after-3 c = search needs
 
 enum-told-4 : tie.Need-enum-told-4
 enum-told-4 c = search needs
 
+same-length-2 : tie.Need-same-length-2
+same-length-2 c = search needs
+
 returns-4 : tie.Need-returns-4
 returns-4 c =
-    let at-compare = c .before .before in
+    let copied = c .before .before in
+    let at-compare = copied .before .before .before .before in
     let turn = at-compare .before in
-    let some = to-head (turn .before) .before in
-    let less = compared at-compare ∙ ap ordering (c .enum-told2 .given .1) in
-    lesser-less _ _ _ _ _ (small (some .before)) (some .if1 .left) _ _ (head (turn .before)) (found turn) (in-runs (to-start (turn .before))) less
+    let x = turn .before in
+    let some = to-some x in
+    let less = compared at-compare ∙ ap ordering (copied .before .before .enum-told2 .given .1) in
+    let known = some .before .before .before .before in
+    let first = lesser-less _ _ _ _ _ (small known) (some .if1 .left) _ _ (head x) (found turn) (in-runs (of-head x)) less in
+    (taken x _ (copied .copy-eight .ensures) first, λ e. never (cc e))
+
+same-length-3 : tie.Need-same-length-3
+same-length-3 c = search needs
 
 returns-5 : tie.Need-returns-5
 returns-5 c =
     let at-compare = c .before .before in
     let turn = at-compare .before in
-    let some = to-head (turn .before) .before in
+    let x = turn .before in
+    let some = to-some x in
+    let start = of-head x in
     let same = compared at-compare ∙ ap ordering (c .enum-told3 .given .1) in
-    let start = to-start (turn .before) in
-    lesser-both _ _ _ _ _ (small (some .before)) (some .if1 .left) _ _ (head (turn .before)) (found turn) (start .pre .0) (in-after (turn .before)) same
+    let known = some .before .before .before .before in
+    let both = lesser-both _ _ _ _ _ (small known) (some .if1 .left) _ _ (head x) (found turn) (start .pre .1 .0) (in-after start) same in
+    (both, λ e. never (cc (sym (found turn) ∙ e)))
 
 returns-6 : tie.Need-returns-6
 returns-6 c =
     let at-compare = c .before .before in
     let turn = at-compare .before in
-    let some = to-head (turn .before) .before in
+    let x = turn .before in
+    let some = to-some x in
+    let start = of-head x in
     let greater = compared at-compare ∙ ap ordering (c .enum-told4 .given .1) in
-    lesser-kept _ _ _ _ _ (small (some .before)) (some .if1 .left) _ _ (head (turn .before)) (found turn) (to-start (turn .before) .pre .0) greater
+    let known = some .before .before .before .before in
+    (lesser-kept _ _ _ _ _ (small known) (some .if1 .left) _ _ (head x) (found turn) (start .pre .1 .0) greater, start .pre .1 .1)
 
 pub lesser-spec : {M : Type 1} → statement M
 lesser-spec =
     tie.close
     (tie.spec
     mul-start
-    array-read-start
+    shared-slice-read-start
     returns
     head-at-requires
     enum-known-p
     enum-told
     returns-2
     mul-after
-    array-write-after
+    slice-write-after
+    same-length
     returns-3
     compare-parts-requires
     enum-told-2
+    copy-eight-requires
+    mul-after-2
+    slice-write-after-2
     enum-told-3
-    mul-both
-    element-write-both
+    mul-after-3
+    slice-write-after-3
     enum-told-4
+    same-length-2
     returns-4
+    same-length-3
     returns-5
     returns-6)

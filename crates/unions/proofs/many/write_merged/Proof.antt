@@ -22,31 +22,34 @@ use Rattle.unions.proofs.many.write_merged.Tie as tie
 
 -- each value takes a byte at least, so that the count has its room where the bytes have theirs
 abbrev Inv-loop : tie.InvT-loop
-Inv-loop s ends n out₀ at left₀ next₀ count₀ out left next count =
-    (length out ≡ length out₀) × (at + count ≤ next)
+Inv-loop s n out₀ at left₀ ends after₀ next₀ count₀ out left after next count =
+    (length out ≡ length out₀) × (at + count ≤ next) × (length left ≡ 8) × (length after ≡ 8)
     × ((xss : List (List Text)) → SetRuns s left₀ ends n xss → Merging s left ends n (Written out₀ at (canon texts (flatten xss)) out next count))
 
 abbrev μ-loop : tie.MeasureT-loop
-μ-loop s ends n out₀ at left₀ next₀ count₀ out left next count = length out₀ - next
+μ-loop s n out₀ at left₀ ends after₀ next₀ count₀ out left after next count = length out₀ - next
 
 -- ---- the places
 
 abbrev to-start : tie.At-loop Inv-loop μ-loop → tie.Start Inv-loop μ-loop
 to-start c = c .before .before .before
 
+abbrev to-least : tie.Else1 Inv-loop μ-loop → tie.After-least-head Inv-loop μ-loop
+to-least c = c .before .before .before
+
 abbrev to-loop : tie.Else1 Inv-loop μ-loop → tie.At-loop Inv-loop μ-loop
-to-loop c = c .before .before .before
+to-loop c = to-least c .before .before .before .before
 
-abbrev to-copy : tie.After-after Inv-loop μ-loop → tie.After-copy-part Inv-loop μ-loop
-to-copy c = c .before .before .before
+abbrev to-copy : tie.After-slice-known2 Inv-loop μ-loop → tie.After-copy-part Inv-loop μ-loop
+to-copy c = c .before .before
 
-abbrev to-turn : tie.After-after Inv-loop μ-loop → tie.Else1 Inv-loop μ-loop
+abbrev to-turn : tie.After-slice-known2 Inv-loop μ-loop → tie.Else1 Inv-loop μ-loop
 to-turn c = to-copy c .before .before
 
 -- ---- the values
 
 abbrev least : tie.Else1 Inv-loop μ-loop → Least
-least c = c .before .before .least-head .result
+least c = to-least c .least-head .result
 
 abbrev bytes : tie.Else1 Inv-loop μ-loop → List ℕ
 bytes c = now (to-start (to-loop c) .args .s)
@@ -61,13 +64,13 @@ found : (c : tie.Else1 Inv-loop μ-loop) → least c .found ≡ true
 found c = not-false _ (c .if1 .left)
 
 head : (c : tie.Else1 Inv-loop μ-loop) → HeadIs form.Texts (bytes c) (least c .start) (least c .value) (least c .end)
-head c = c .before .before .least-head .ensures .right (found c)
+head c = to-least c .least-head .ensures .right (found c)
 
 -- the value has its room, and takes a byte at least
 room : (c : tie.Else1 Inv-loop μ-loop) → to-loop c .loop .next + length (part (bytes c) (least c .start) (least c .end)) ≤ length (to-loop c .loop .out)
 room c =
     let q = to-start (to-loop c) .pre .1 in
-    least-room (to-loop c .loop .inv .2 (q .xss) (q .runs)) (c .before .before .least-head .ensures) (found c) (q .room)
+    least-room (to-loop c .loop .inv .4 (q .xss) (q .runs)) (to-least c .least-head .ensures) (found c) (q .room)
 
 some : (c : tie.Else1 Inv-loop μ-loop) → 1 ≤ length (part (bytes c) (least c .start) (least c .end))
 some c = omega (arith, head c .after, part-length (bytes c) (least c .start) (least c .end) (omega (arith, head c .after)) (head c .within))
@@ -75,18 +78,30 @@ some c = omega (arith, head c .after, part-length (bytes c) (least c .start) (le
 -- ---- the needs
 
 loop-holds : tie.Need-loop-holds Inv-loop μ-loop
-loop-holds c = (refl, omega arith, λ xss w. record { xss = xss; runs = w; so = written-none _ _ _ })
+loop-holds c = (refl, omega arith, search needs, refl, λ xss w. record { xss = xss; runs = w; so = written-none _ _ _ })
+
+slice-aggregate-least-head : tie.Need-slice-aggregate-least-head Inv-loop μ-loop
+slice-aggregate-least-head c = search needs
+
+slice-aggregate-least-head-2 : tie.Need-slice-aggregate-least-head-2 Inv-loop μ-loop
+slice-aggregate-least-head-2 c = search needs
+
+slice-aggregate-least-head-3 : tie.Need-slice-aggregate-least-head-3 Inv-loop μ-loop
+slice-aggregate-least-head-3 c = search needs
 
 least-head-requires : tie.Need-least-head-requires Inv-loop μ-loop
-least-head-requires c κs = to-start c .pre .0
+least-head-requires c κs =
+    let at-loop = c .before .before .before in
+    (to-start at-loop .pre .0, at-loop .loop .inv .2, search needs, at-loop .loop .inv .3)
 
 same-length : tie.Need-same-length Inv-loop μ-loop
-same-length c = c .before .before .before .loop .inv .0
+same-length c = c .before .before .before .before .before .before .before .loop .inv .0
 
 returns : tie.Need-returns Inv-loop μ-loop
 returns c =
-    let inv = c .before .before .before .loop .inv .2 in
-    let is-least = c .before .before .least-head .ensures in
+    let at-least = c .before .before .before in
+    let inv = at-least .before .before .before .before .loop .inv .4 in
+    let is-least = at-least .least-head .ensures in
     let none = not-true _ (c .if1 .taken) in
     (λ xss w. merged-wrote (inv xss w) is-least none, λ xss w. merged-counted (inv xss w) is-least none)
 
@@ -111,7 +126,9 @@ loop-again c =
     let inv = to-loop turn .loop .inv in (
       wrote-length copied ∙ inv .0,
       omega (arith, copied .after, some turn, inv .1),
-      λ xss w. least-wrote (inv .2 xss w) (turn .before .before .least-head .ensures) (found turn) copied,
+      search needs,
+      search needs,
+      λ xss w. least-wrote (inv .4 xss w) (to-least turn .least-head .ensures) (found turn) copied,
     )
 
 pub write-merged-spec : {M : Type 1} → statement M
@@ -121,6 +138,9 @@ write-merged-spec =
     Inv-loop
     μ-loop
     loop-holds
+    slice-aggregate-least-head
+    slice-aggregate-least-head-2
+    slice-aggregate-least-head-3
     least-head-requires
     same-length
     returns
