@@ -1,7 +1,7 @@
 -- The laws of questions 3 to 7 of the events of a batch.
 use mathlib.Core.Path.{_≡_, refl, sym, ap, _∙_, subst}
 use mathlib.Core.Bool.{Bool, true, false, _&&_}
-use mathlib.Core.Option.{Option, some}
+use mathlib.Core.Option.{Option, none, some}
 use mathlib.Core.List.{List, [], _∷_}
 use Prim.Native.Nat.{ℕ, zero, suc, _+_, _≤_, _<_}
 use native.Mathlib.Omega.{arith}
@@ -9,24 +9,25 @@ use native.Mathlib.Numerals.{add-one}
 use lib.ListN.{length, drop, getD}
 use lib.Seq.{drop-cons}
 use borrow.Author.Tests.{ne-eqb}
-use Rattle.model.specs.Order.{texts, sets, lists, equal}
+use Rattle.model.specs.Order.{Text, texts, sets, lists, equal}
 use Rattle.model.proofs.OrderLaws.{equal-true}
-use Rattle.model.proofs.Cases.{and-parts}
+use Rattle.model.proofs.Cases.{never, and-parts}
 use Rattle.replies.specs.Questions as questions
 use Rattle.replies.specs.Questions.{Asked, ask, ensure}
 use Rattle.ontology.specs.Table.{EventType, Table, typeNamed}
 use Rattle.ontology.specs.TableLayout.{tableOf}
-use Rattle.ontology.specs.code.TypeIndex.{TypeIs}
+use Rattle.ontology.specs.code.TypeIndex.{TypeIs, TypeSays, TableSays}
 use Rattle.ontology.specs.declared.types.TypeIndex.{TypeIndex}
+use Rattle.ontology.specs.declared.tables.TableRead.{TableRead}
 use Rattle.event.specs.Event.{Event}
-use Rattle.event.specs.EventLayout.{narrow}
+use Rattle.event.specs.EventLayout.{narrow, eventOf}
 use Rattle.event.specs.EventQuestions.{Typed, eventAsked}
 use Rattle.event.specs.code.EventIndex.{EventIs, eventQuestions, EventAnswers}
 use Rattle.event.specs.declared.ask.EventAsked.{EventAsked}
 use Rattle.event.proofs.EventQuestionLaws.{event-accepted}
 use Rattle.event.specs.Agreement.{matchSets, agree}
 use Rattle.batch.specs.Batch.{AskedAt, refusedAt, accepted, _>>=_, _>>_, at, eventsAsked, eventsAgree, agreeWith}
-use Rattle.batch.specs.code.BatchIndex.{BatchIs, eventsAgreed, eventsTogether, RefusalIs, firstApart}
+use Rattle.batch.specs.code.BatchIndex.{BatchIs, eventsAgreed, eventsTogether, OneAnswers, RefusalIs, firstApart}
 use Rattle.batch.specs.declared.asked.EventsAsked.{EventsAsked}
 use Rattle.batch.specs.declared.frame.BatchIndex.{BatchIndex}
 
@@ -66,10 +67,27 @@ module _ (table : List ℕ) (ts : Table) (isTable : tableOf table ≡ some ts) w
       ∙ (ap (eventQuestions narrow table) (sym e) ∙ h)
 
 pub answers-accepted :
-    (table event : List ℕ) (r : EventAsked) (a : Typed) → EventAnswers (eventQuestions narrow table event) table event r → eventQuestions narrow table event ≡ questions.accepted a →
-    TypeIs table (a .type) (r .«event_type») × EventIs event (a .event) (r .event)
+    (table event ats : List ℕ) (r : EventAsked) (a : Typed) → OneAnswers table event ats r → eventQuestions narrow table event ≡ questions.accepted a →
+    EventIs event (a .event) (r .event) ats
 unfolding EventAnswers
-answers-accepted table event r a w e = let g = rw e at w in (g .1, g .2)
+answers-accepted table event ats r a w e = subst (λ (q : Asked Typed). EventAnswers q table event (w .numbers) ats r) e (w .answers) .2
+
+-- where the table was read for the name of an accepted event's type, that type was read
+module _ (table : List ℕ) (name : Text) (ps : List ℕ) (read : TableRead) (says : TableSays (tableOf table) table name ps read) (event : List ℕ) where
+  pub read-typed :
+      ((e : Event) → eventOf narrow event ≡ some e → name ≡ e .head .type) →
+      (a : Typed) → eventQuestions narrow table event ≡ questions.accepted a → TypeIs table (a .type) (read .index) ps
+  unfolding TableSays TypeSays
+  read-typed names a e = go (tableOf table) says e
+    where
+      go :
+          (m : Option Table) → TableSays m table name ps read → questions._>>=_ (ask 2 m) (λ ts. eventAsked narrow ts event) ≡ questions.accepted a →
+          TypeIs table (a .type) (read .index) ps
+      go none s e = never (cc)
+      go (some ts) s e =
+          let w = event-accepted narrow ts event (a .type) (a .event) e in
+          let found = ap (λ (n : Text). typeNamed n ts) (names (a .event) (w .read)) ∙ w .typed in
+          subst (λ (o : Option EventType). TypeSays o table ps read) found (s .1) .1
 
 some-same : {A : Type 0} {a b : A} → some a ≡ some b → a ≡ b
 some-same e = cc
@@ -160,13 +178,13 @@ module _ (ts : Table) (a : Typed) (i : ℕ) (ss : List (List ℕ)) (past : lengt
 abbrev pub GoesOn : List ℕ → List ℕ → BatchIndex → Typed → ℕ → ℕ → Type 0
 GoesOn table batch x a i apart = (ts : Table) (ss : List (List ℕ)) → tableOf table ≡ some ts → BatchIs batch ss x → eventsTogether ts ss ≡ goingOn ts a i apart (drop i ss)
 
-module _ (table : List ℕ) (ts : Table) (ss : List (List ℕ)) (q : AskedAt (Unit {0})) where
-  pub refusal-is : (n i : ℕ) (r : EventsAsked) → q ≡ refusedAt n i → r .number ≡ n → r .position ≡ i → 1 ≤ n → RefusalIs table ts ss q r
+module _ (table : List ℕ) (ts : Table) (ss : List (List ℕ)) (q : AskedAt (Unit {0})) (t : TypeIndex) (ps : List ℕ) where
+  pub refusal-is : (n i : ℕ) (r : EventsAsked) → q ≡ refusedAt n i → r .number ≡ n → r .position ≡ i → 1 ≤ n → RefusalIs table ts ss q t ps r
   unfolding RefusalIs
   refusal-is n i r e a b h = rw e (a, b, h)
 
   pub no-refusal :
-      (a : Typed) (t : TypeIndex) (r : EventsAsked) → q ≡ accepted tt → r .number ≡ 0 → r .«event_type» ≡ t → eventAsked narrow ts (getD ss 0 []) ≡ questions.accepted a → TypeIs table (a .type) t →
-      RefusalIs table ts ss q r
+      (a : Typed) (r : EventsAsked) → q ≡ accepted tt → r .number ≡ 0 → eventAsked narrow ts (getD ss 0 []) ≡ questions.accepted a → TypeIs table (a .type) t ps →
+      RefusalIs table ts ss q t ps r
   unfolding RefusalIs
-  no-refusal a t r e n k h w = rw e (n, record { first = a; taken = h; typed = subst (λ (x : TypeIndex). TypeIs table (a .type) x) (sym k) w })
+  no-refusal a r e n h w = rw e (n, record { first = a; taken = h; typed = w })

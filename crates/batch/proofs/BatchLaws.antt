@@ -366,26 +366,28 @@ module _ (table : List ℕ) (ts : Table) (isTable : tableOf table ≡ some ts) (
   abbrev dossierOf : List (List ℕ) → TypedDossier
   dossierOf es = record { type = t; headed = headed (t .name) (k .source) (rule (view t) (map eventAt es)) }
 
-  first-type : (x : TypeIndex) → 1 ≤ length ss → FirstTyped table ts ss x → TypeIs table t x
-  first-type x l w =
+  first-type : (x : TypeIndex) (ps : List ℕ) → 1 ≤ length ss → FirstTyped table ts ss x ps → TypeIs table t x ps
+  first-type x ps l w =
       let e : questions.accepted (w .first) ≡ questions.accepted (typed (getD ss 0 [])) = sym (w .taken) ∙ last-is 1 (omega arith) l .taken in
-      subst (λ (y : EventType). TypeIs table y x) (ap (λ (a : Typed). a .type) (accepted-same e)) (w .typed)
+      subst (λ (y : EventType). TypeIs table y x ps) (ap (λ (a : Typed). a .type) (accepted-same e)) (w .typed)
 
   -- the n-th event was accepted, with the type of the first
-  nth-known : (n : ℕ) (s : List ℕ) (x : TypeIndex) → 1 ≤ n → n ≤ length ss → s ≡ getD ss (n - 1) [] → FirstTyped table ts ss x → KnownEvent table s x
-  nth-known n s x h l q w = record {
+  nth-known :
+      (n : ℕ) (s : List ℕ) (x : TypeIndex) (ps : List ℕ) → 1 ≤ n → n ≤ length ss → s ≡ getD ss (n - 1) [] → FirstTyped table ts ss x ps →
+      KnownEvent table s x
+  nth-known n s x ps h l q w = record {
     types = ts;
     is = isTable;
     event = typed (getD ss (n - 1) []);
     asked = ap (eventAsked narrow ts) q ∙ last-is n h l .taken;
-    typed = first-type x (omega arith) w;
+    mark = first-type x ps (omega arith) w .mark;
   }
 
-  both-known : (es fs : List (List ℕ)) (x : TypeIndex) → Has es → Has fs → Each S es → Each S fs →
-      fits standard (typeView t) (rules es) ≡ true → fits standard (typeView t) (rules fs) ≡ true → TypeIs table t x →
-      combining.Known table (bytes es) (bytes fs) x
+  both-known : (es fs : List (List ℕ)) (x : TypeIndex) (ps : List ℕ) → Has es → Has fs → Each S es → Each S fs →
+      fits standard (typeView t) (rules es) ≡ true → fits standard (typeView t) (rules fs) ≡ true → TypeIs table t x ps →
+      combining.Known table (bytes es) (bytes fs) x ps
   unfolding dossiersAgree
-  both-known es fs x n o h g p q w =
+  both-known es fs x ps n o h g p q w =
       let ms = matchSets (t .properties) (eventAt (k .first) .sets) in
       let left = same-match table ts isTable t (k .source) (k .first) (k .model) es n h p in
       let right = same-match table ts isTable t (k .source) (k .first) (k .model) fs o g q in
@@ -428,10 +430,11 @@ module _ (table : List ℕ) (ts : Table) (isTable : tableOf table ≡ some ts) (
     last-fits = one-fits table ts isTable t (k .source) (k .first) (k .model) last last-in
 
     -- of these two, questions 2 to 7 are answered yes
-    pub last-known : (x : TypeIndex) → FirstTyped table ts ss x → combining.Known table (take size sofar) (take m after) x
-    last-known x w =
+    pub last-known : (x : TypeIndex) (ps : List ℕ) → FirstTyped table ts ss x ps → combining.Known table (take size sofar) (take m after) x ps
+    last-known x ps w =
         rw (left-is .1, right-is)
-        (both-known others (last ∷ []) x has-others (last, List·Memᴰ·head refl) (first-each (n - 1)) (one-each last last-in) (left-is .0) last-fits (first-type x (omega arith) w))
+        (both-known others (last ∷ []) x ps has-others (last, List·Memᴰ·head refl) (first-each (n - 1)) (one-each last last-in) (left-is .0) last-fits
+        (first-type x ps (omega arith) w))
 
     -- and they combine to the dossier of the first n
     pub add-next : (out : List ℕ) → HasRoom out → combineCall standard table (take size sofar) (take m after) out ≡ outcome (combinedAnswer ts (take n ss)) out
@@ -470,8 +473,8 @@ module _ (table : List ℕ) (ts : Table) (isTable : tableOf table ≡ some ts) (
 
 -- ---- what adding the last event asks for
 
-module _ (table batch : List ℕ) (x : BatchIndex) (t : TypeIndex) (n : ℕ) (w : FirstOf table batch x t n) where
-  pub fewer : FirstOf table batch x t (n - 1)
+module _ (table batch : List ℕ) (x : BatchIndex) (t : TypeIndex) (ps : List ℕ) (n : ℕ) (w : FirstOf table batch x t ps n) where
+  pub fewer : FirstOf table batch x t ps (n - 1)
   fewer = record { types = w .types; events = w .events; agreed = w .agreed; typed = w .typed; within = omega (arith, w .within) }
 
   -- the i-th event was accepted, with the type t
@@ -479,12 +482,12 @@ module _ (table batch : List ℕ) (x : BatchIndex) (t : TypeIndex) (n : ℕ) (w 
   event-known i s h l e =
       let g = w .agreed in
       let m : i ≤ length (w .events) = omega (arith, w .within) in
-      nth-known table (w .types) (g .isTable) (w .events) (known (w .types) (w .events) (g .agreed)) i s t h m (e (w .events) (g .isBatch) (omega arith)) (w .typed)
+      nth-known table (w .types) (g .isTable) (w .events) (known (w .types) (w .events) (g .agreed)) i s t ps h m (e (w .events) (g .isBatch) (omega arith)) (w .typed)
 
   -- those before it are combined
   pub last-of : (m : ℕ) (after old : List ℕ) (r : reply.Reply) → 2 ≤ n →
       ((ts : Table) (ss : List (List ℕ)) → Agreed table batch x ts ss → n - 1 ≤ length ss → dossierReturned (replied r) after ≡ returned (outcome (combinedAnswer ts (take (n - 1) ss)) old)) →
-      r ≡ variant.Done m → LastOf table batch x t n (take m after)
+      r ≡ variant.Done m → LastOf table batch x t ps n (take m after)
   last-of m after old r h e f =
       let g = w .agreed in
       let l : n - 1 ≤ length (w .events) = omega (arith, w .within) in
@@ -605,20 +608,20 @@ given-refused ts ss n i e = go (eventsAsked ts 0 ss) e
     go (accepted []) e = cc
     go (accepted (a ∷ bs)) e = seven (agreeWith a 1 bs) _ e
 
-module _ (table : List ℕ) (ts : Table) (ss : List (List ℕ)) (q : AskedAt (Unit {0})) (r : EventsAsked) (w : RefusalIs table ts ss q r) where
+module _ (table : List ℕ) (ts : Table) (ss : List (List ℕ)) (q : AskedAt (Unit {0})) (t : TypeIndex) (ps : List ℕ) (r : EventsAsked) (w : RefusalIs table ts ss q t ps r) where
   pub refusal-was : (r .number ≡ 0 → ⊥) → q ≡ refusedAt (r .number) (r .position)
   unfolding RefusalIs
   refusal-was h = go q w
     where
-      go : (q : AskedAt (Unit {0})) → RefusalIs table ts ss q r → q ≡ refusedAt (r .number) (r .position)
+      go : (q : AskedAt (Unit {0})) → RefusalIs table ts ss q t ps r → q ≡ refusedAt (r .number) (r .position)
       go (refusedAt n i) w = sym (ap₂ (λ (x y : ℕ). refusedAt x y) (w .0) (w .1))
       go (accepted u) w = absurd (h (w .0))
 
-  pub all-agreed : r .number ≡ 0 → (q ≡ accepted tt) × FirstTyped table ts ss (r .«event_type»)
+  pub all-agreed : r .number ≡ 0 → (q ≡ accepted tt) × FirstTyped table ts ss t ps
   unfolding RefusalIs
   all-agreed h = go q w
     where
-      go : (q : AskedAt (Unit {0})) → RefusalIs table ts ss q r → (q ≡ accepted tt) × FirstTyped table ts ss (r .«event_type»)
+      go : (q : AskedAt (Unit {0})) → RefusalIs table ts ss q t ps r → (q ≡ accepted tt) × FirstTyped table ts ss t ps
       go (refusedAt n i) w = absurd (omega (arith, w .0, w .2))
       go (accepted u) w = (refl, w .1)
 

@@ -40,15 +40,16 @@ fn add_last(
     batch: &[u8],
     x: BatchIndex,
     t: TypeIndex,
+    properties: &[usize],
     n: usize,
     sofar: &[u8],
     size: usize,
     lone: &mut [u8],
     out: &mut [u8],
 ) -> Reply
-    requires { ⌜ (1 ≤ n) × (n ≤ 16) × (size ≤ length (now sofar)) ⌝ }
+    requires { ⌜ (1 ≤ n) × (n ≤ 16) × (size ≤ length (now sofar)) × (length (now properties) ≡ 96) ⌝ }
     requires { ⌜ (dossierCapacity ≤ length (now lone)) × (dossierCapacity ≤ length (now out)) ⌝ }
-    requires { ⌜ LastOf (now table) (now batch) x t n (take size (now sofar)) ⌝ }
+    requires { ⌜ LastOf (now table) (now batch) x t (now properties) n (take size (now sofar)) ⌝ }
     ensures within { λ r. ⌜ DoneWithin r (now (out .exit)) ⌝ }
     ensures added { λ r. ⌜ ((ts : Table) (ss : List (List ℕ)) → Agreed (now (table .entry)) (now (batch .entry)) x ts ss → 2 ≤ n → n ≤ length ss → combinedAnswer ts (take (n - 1) ss) ≡ gives (take size (now (sofar .entry))) → replies r (now (out .exit)) ≡ outcome (combinedAnswer ts (take n ss)) (now (out .entry))) ⌝ }
 {
@@ -56,7 +57,7 @@ fn add_last(
     let Reply::Done(m) = added else {
         return added;
     };
-    step_reply(combine_known(table, &sofar[..size], &lone[..m], t, out))
+    step_reply(combine_known(table, &sofar[..size], &lone[..m], t, properties, out))
 }
 
 // The dossier of the first n events, in the first of three buffers: all but the last are combined first, then the last is added. The buffers change roles.
@@ -65,25 +66,26 @@ fn combine_first(
     batch: &[u8],
     x: BatchIndex,
     t: TypeIndex,
+    properties: &[usize],
     n: usize,
     a: &mut [u8],
     b: &mut [u8],
     c: &mut [u8],
 ) -> Reply
-    requires { ⌜ (1 ≤ n) × (n ≤ 16) ⌝ }
+    requires { ⌜ (1 ≤ n) × (n ≤ 16) × (length (now properties) ≡ 96) ⌝ }
     requires { ⌜ (dossierCapacity ≤ length (now a)) × (dossierCapacity ≤ length (now b)) × (dossierCapacity ≤ length (now c)) ⌝ }
-    requires { ⌜ FirstOf (now table) (now batch) x t n ⌝ }
+    requires { ⌜ FirstOf (now table) (now batch) x t (now properties) n ⌝ }
     ensures within { λ r. ⌜ DoneWithin r (now (a .exit)) ⌝ }
     ensures first { λ r. ⌜ ((ts : Table) (ss : List (List ℕ)) → Agreed (now (table .entry)) (now (batch .entry)) x ts ss → n ≤ length ss → dossierReturned (replied r) (now (a .exit)) ≡ returned (outcome (combinedAnswer ts (take n ss)) (now (a .entry)))) ⌝ }
 {
     if n <= 1 {
         return check_known(table, event_part(batch, x, 0), t, a);
     }
-    let others = combine_first(table, batch, x, t, n - 1, b, c, a);
+    let others = combine_first(table, batch, x, t, properties, n - 1, b, c, a);
     let Reply::Done(size) = others else {
         return others;
     };
-    add_last(table, batch, x, t, n, b, size, c, a)
+    add_last(table, batch, x, t, properties, n, b, size, c, a)
 }
 
 // The dossier of all events of a batch that was asked its questions but the last.
@@ -92,25 +94,26 @@ fn combine_all(
     batch: &[u8],
     x: BatchIndex,
     t: TypeIndex,
+    properties: &[usize],
     out: &mut [u8],
     a: &mut [u8],
     b: &mut [u8],
     c: &mut [u8],
 ) -> Reply
-    requires { ⌜ (x .count ≤ 16) × (dossierCapacity ≤ length (now out)) ⌝ }
+    requires { ⌜ (x .count ≤ 16) × (dossierCapacity ≤ length (now out)) × (length (now properties) ≡ 96) ⌝ }
     requires { ⌜ (dossierCapacity ≤ length (now a)) × (dossierCapacity ≤ length (now b)) × (dossierCapacity ≤ length (now c)) ⌝ }
-    requires { ⌜ FirstOf (now table) (now batch) x t (x .count) ⌝ }
+    requires { ⌜ FirstOf (now table) (now batch) x t (now properties) (x .count) ⌝ }
     ensures { λ r. ⌜ ((ts : Table) (ss : List (List ℕ)) → Agreed (now (table .entry)) (now (batch .entry)) x ts ss → replies r (now (out .exit)) ≡ outcome (combinedAnswer ts ss) (now (out .entry))) ⌝ }
 {
     let n = x.count;
     if n <= 1 {
         return check_known(table, event_part(batch, x, 0), t, out);
     }
-    let others = combine_first(table, batch, x, t, n - 1, a, b, c);
+    let others = combine_first(table, batch, x, t, properties, n - 1, a, b, c);
     let Reply::Done(size) = others else {
         return others;
     };
-    add_last(table, batch, x, t, n, a, size, b, out)
+    add_last(table, batch, x, t, properties, n, a, size, b, out)
 }
 
 // A reply of the whole batch, whose refusal has the position 0.
@@ -156,16 +159,17 @@ pub fn batch(
     let x = read_batch(batch);
     // the table is read for the name of the first event's type; where the frame is bad, for any name, as question 2 asks for none
     let name = type_name(event_part(batch, x, 0));
-    let read = read_table(table, name);
+    let mut properties = [0usize; 96];
+    let read = read_table(table, name, &mut properties);
     if !read.ok {
         return BatchReply::Refused(2, 0);
     }
     if !x.ok {
         return BatchReply::Refused(9, 0);
     }
-    let asked = ask_events(table, batch, x, name, read);
+    let asked = ask_events(table, batch, x, name, read, &properties);
     if asked.number != 0 {
         return BatchReply::Refused(asked.number, asked.position);
     }
-    batch_reply(combine_all(table, batch, x, asked.event_type, out, a, b, c))
+    batch_reply(combine_all(table, batch, x, read.index, &properties, out, a, b, c))
 }

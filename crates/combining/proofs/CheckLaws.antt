@@ -101,7 +101,39 @@ of-table table event a e = go (tableOf table) refl e
     go none q e = never (cc)
     go (some ts) q e = record { what = ts; is = q; asked = e }
 
-module _ (table event : List ℕ) (r : EventAsked) (a : Accepted narrow table event r) where
+-- it stands as its index and the numbers of its sets say, and t has the mark of its type
+pub record Checked (table event : List ℕ) (t : TypeIndex) (x : EventIndex) (ats : List ℕ) : Type 0 where
+  pub type : EventType
+  pub e : Event
+  pub is : eventQuestions narrow table event ≡ accepted (record { type = type; event = e })
+  pub mark : t .mark ≡ type .mark
+  pub read : EventIs event e x ats
+
+-- so where it was asked
+abbrev pub asked-checked :
+    {table event ps ats : List ℕ} {r : EventAsked} → Accepted narrow table event ps ats r → Checked table event (r .«event_type») (r .event) ats
+asked-checked a = record { type = a .type; e = a .e; is = a .is; mark = a .type-is .mark; read = a .event-is }
+
+-- and where it is known to be accepted, once it is read
+module _
+    {table event : List ℕ} {t : TypeIndex} (k : KnownEvent table event t)
+    {ats : List ℕ} {x : EventIndex} (w : EventReads (eventOf (counts 8 32) event) event ats x) where
+  pub known-read : (x .ok ≡ true) × EventIs event (k .event .event) x ats
+  unfolding EventReads narrow
+  known-read =
+      let a = event-accepted narrow (k .types) event (k .event .type) (k .event .event) (k .asked) in
+      subst (λ (o : Option Event). EventReads o event ats x) (a .read) w
+
+  abbrev pub known-checked : Checked table event t x ats
+  known-checked = record {
+    type = k .event .type;
+    e = k .event .event;
+    is = ap (λ (m : Option Table). ask 2 m >>= λ ts. eventAsked narrow ts event) (k .is) ∙ k .asked;
+    mark = k .mark;
+    read = known-read .1;
+  }
+
+module _ {table event : List ℕ} {t : TypeIndex} {x : EventIndex} {ats : List ℕ} (a : Checked table event t x ats) where
   abbrev from : OfTable table event (record { type = a .type; event = a .e })
   from = of-table table event (record { type = a .type; event = a .e }) (a .is)
 
@@ -114,12 +146,12 @@ module _ (table event : List ℕ) (r : EventAsked) (a : Accepted narrow table ev
   pub kept : TypeKept (a .type)
   kept = table-type table (from .what) (from .is) (a .e .head .type) (a .type) (taken .typed)
 
-  abbrev pub checkable : Checkable table event (r .«event_type») (r .event)
+  abbrev pub checkable : Checkable event t ats
   checkable = record {
     type = a .type;
     event = a .e;
-    typed = a .type-is;
-    read = a .event-is;
+    mark = a .mark;
+    sets = a .read .sets;
     marked = λ u. (let m = kept .marked u in omega (arith, place-in (a .type) kept (a .type .mark - 1) (m .property) (m .at)), version-set (a .type) (a .e) kept fit u);
     below = version-below (a .type) (a .e) kept fit;
   }
@@ -149,31 +181,11 @@ module _ (table event : List ℕ) (r : EventAsked) (a : Accepted narrow table ev
   pub lone-is : dossierBytes (eventDossier (record { type = a .type; event = a .e })) ≡ loneBytes (a .e) (versionOf (a .type) (a .e))
   lone-is = lone-bytes (a .type) (a .e) kept fit
 
-  pub lone-room : (version room : ℕ) → version ≡ versionOf (a .type) (a .e) → dossierCapacity ≤ room → LoneRoom event (r .event) version room
+  pub lone-room : (version room : ℕ) → version ≡ versionOf (a .type) (a .e) → dossierCapacity ≤ room → LoneRoom event x ats version room
   lone-room version room q h = record {
     event = a .e;
-    read = a .event-is;
+    read = a .read;
     room = subst (λ (v : ℕ). length (loneBytes (a .e) v) ≤ room) (sym q) (omega (arith, lone-short));
-  }
-
--- an event that is known to be accepted is as one that was asked, once it is read
-module _ (table event : List ℕ) (t : TypeIndex) (k : KnownEvent table event t) (x : EventIndex) (w : EventReads (eventOf (counts 8 32) event) event x) where
-  abbrev pub asAsked : EventAsked
-  asAsked = record { number = 0; «event_type» = t; event = x }
-
-  pub known-read : (x .ok ≡ true) × EventIs event (k .event .event) x
-  unfolding EventReads narrow
-  known-read =
-      let a = event-accepted narrow (k .types) event (k .event .type) (k .event .event) (k .asked) in
-      subst (λ (o : Option Event). EventReads o event x) (a .read) w
-
-  abbrev pub known-accepted : Accepted narrow table event asAsked
-  known-accepted = record {
-    type = k .event .type;
-    e = k .event .event;
-    is = ap (λ (m : Option Table). ask 2 m >>= λ ts. eventAsked narrow ts event) (k .is) ∙ k .asked;
-    type-is = k .typed;
-    event-is = known-read .1;
   }
 
 -- ---- the questions
@@ -213,13 +225,13 @@ module _ (table event out : List ℕ) where
   check-refused n h e = rw (asked-of table event (length out) (refused n) h e)
 
   pub check-done :
-      (r : EventAsked) (a : Accepted narrow table event r) (new : List ℕ) (n version : ℕ) → dossierCapacity ≤ length out →
+      {t : TypeIndex} {x : EventIndex} {ats : List ℕ} (a : Checked table event t x ats) (new : List ℕ) (n version : ℕ) → dossierCapacity ≤ length out →
       version ≡ versionOf (a .type) (a .e) → Wrote out 0 (loneBytes (a .e) version) new n → replies (Done n) new ≡ checkCall table event out
   unfolding checkCall checkAnswer
-  check-done r a new n version h q w₀ =
+  check-done a new n version h q w₀ =
       let x = dossierBytes (eventDossier (record { type = a .type; event = a .e })) in
-      let w : Wrote out 0 x new n = subst (λ (z : List ℕ). Wrote out 0 z new n) (ap (loneBytes (a .e)) q ∙ sym (lone-is table event r a)) w₀ in
-      let s : 0 + length x ≤ length out = omega (arith, lone-short table event r a, ap length (lone-is table event r a)) in
+      let w : Wrote out 0 x new n = subst (λ (z : List ℕ). Wrote out 0 z new n) (ap (loneBytes (a .e)) q ∙ sym (lone-is a)) w₀ in
+      let s : 0 + length x ≤ length out = omega (arith, lone-short a, ap length (lone-is a)) in
       let m : n ≡ length x = omega (arith, w .after) in
       rw (asked-of table event (length out) (accepted (record { type = a .type; event = a .e })) h (a .is))
       (ap₂ (λ (k : ℕ) (l : List ℕ). replies (Done k) l) m (wrote-between s w ∙ ap (λ (k : ℕ). x ++ drop k out) m))

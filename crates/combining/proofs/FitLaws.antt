@@ -100,8 +100,8 @@ merge-alone join x y e = rw (ap (numbers .cmp (x .version)) (sym e) ∙ numbers 
 -- ---- two dossiers
 
 module _
-    (table a : List ℕ) (d : DossierIndex) (left b : List ℕ) (e : DossierIndex) (right : List ℕ) (t : TypeIndex)
-    (c : Combinable table a d left b e right t) where
+    {table a : List ℕ} {d : DossierIndex} {left b : List ℕ} {e : DossierIndex} {right : List ℕ} {t : TypeIndex} {ps : List ℕ}
+    (c : Combinable table a d left b e right t ps) where
   abbrev ty : EventType
   ty = c .known .left .type
 

@@ -26,9 +26,8 @@ use Rattle.packed.proofs.WriteLaws.{wrote-length, wrote-then, wrote-as}
 use Rattle.values.specs.Spaces.{Kind, kindNumber, inSpace}
 use Rattle.values.specs.ValueOrder.{isOrdered, extremeOrder}
 use Rattle.ontology.specs.Table.{Property, EventType, isMin, isMax, isVersioned, atPlace}
-use Rattle.ontology.specs.code.TypeIndex.{PropertyIs, propertyIn, hasMax, TypeIs}
+use Rattle.ontology.specs.code.TypeIndex.{PropertyIs, propertyIn, PropertiesAre, hasMax}
 use Rattle.ontology.specs.declared.properties.PropertyAt.{PropertyAt}
-use Rattle.ontology.specs.declared.types.TypeIndex.{TypeIndex}
 use Rattle.ontology.proofs.TypeIndexLaws.{max-of}
 use Rattle.event.specs.Event.{typeView, eventView}
 use Rattle.event.specs.EventLayout.{setBytes, setsBytes, presenceBit, bitNumber}
@@ -248,15 +247,16 @@ module _ {a : List ℕ} {m : ℕ} {b : List ℕ} {n : ℕ} {xs ys : List Text} (
 -- ---- writing a place
 
 -- what the chosen value asks
-module _ (t : TypeIndex) (p : ℕ) (a : List ℕ) (x : SetAt) (b : List ℕ) (y : SetAt) (some : haveObjects x y ≡ true) (h : PlaceIs t p a x b y) where
+module _
+    {count : ℕ} {ps : List ℕ} {p : ℕ} {a : List ℕ} {x : SetAt} {b : List ℕ} {y : SetAt} (some : haveObjects x y ≡ true) (h : PlaceIs count ps p a x b y) where
   module _ (e : isExtremeAt (h .type) p ≡ true) where
     abbrev here : ExtremeAt (h .type) p
     here = extreme-at (h .type) p e
 
-    property : {q : PropertyAt} → q ≡ propertyIn (t .properties) p → PropertyIs (h .table) (here .what) q
-    property same = subst (PropertyIs (h .table) (here .what)) (sym same) (h .typed .are .each p (here .what) (here .is))
+    property : {q : PropertyAt} → q ≡ propertyIn ps p → PropertyIs (h .table) (here .what) q
+    property same = subst (PropertyIs (h .table) (here .what)) (sym same) (h .typed .each p (here .what) (here .is))
 
-    extremes : {q : PropertyAt} → q ≡ propertyIn (t .properties) p → Extremes (here .what .kind) (q .kind) (h .xs) (h .ys)
+    extremes : {q : PropertyAt} → q ≡ propertyIn ps p → Extremes (here .what .kind) (q .kind) (h .xs) (h .ys)
     extremes same = record {
       number = sym (property same .kind .number);
       ordered = h .paired .ordered (here .what) (here .is) (here .extreme);
@@ -269,7 +269,7 @@ module _ (t : TypeIndex) (p : ℕ) (a : List ℕ) (x : SetAt) (b : List ℕ) (y 
 
     -- the text of the chosen value is all of the set
     pub chosen-text :
-        {q : PropertyAt} → q ≡ propertyIn (t .properties) p → (v : Text) →
+        {q : PropertyAt} → q ≡ propertyIn ps p → (v : Text) →
         ((k : Kind) (xs ys : List Text) → SetIs a xs x → SetIs b ys y → Extremes k (q .kind) xs ys →
         v ∷ [] ≡ take 1 (union (extremeOrder (hasMax q) k) xs ys)) →
         text v ≡ flatten (map text (joinedSet (h .type) p (h .xs) (h .ys)))
@@ -385,16 +385,16 @@ set-rises s x r e p = all-at SetWritten [] empty-written (map held (x .cells)) (
 -- ---- two unversioned snapshots
 
 -- their sets stand in a and b where the numbers i and j say
-pub record Joins (table a b : List ℕ) (t : TypeIndex) (i j : List ℕ) (ty : EventType) (x y : Snapshot) : Type 0 where
-  pub typed : TypeIs table ty t
+pub record Joins (table a b : List ℕ) (count : ℕ) (ps i j : List ℕ) (ty : EventType) (x y : Snapshot) : Type 0 where
+  pub typed : PropertiesAre table (ty .properties) count ps
   pub unversioned : isVersioned ty ≡ false
   pub meet : Meet ty x y
   pub left : SetsAre a (map held (x .cells)) i
   pub right : SetsAre b (map held (y .cells)) j
 
-pub joins : {table a b : List ℕ} {t : TypeIndex} {i j : List ℕ} {ty : EventType} {x y : Snapshot} →
-    TypeIs table ty t → isVersioned ty ≡ false → Meet ty x y → SetsAre a (map held (x .cells)) i → SetsAre b (map held (y .cells)) j →
-    Joins table a b t i j ty x y
+pub joins : {table a b : List ℕ} {count : ℕ} {ps i j : List ℕ} {ty : EventType} {x y : Snapshot} →
+    PropertiesAre table (ty .properties) count ps → isVersioned ty ≡ false → Meet ty x y →
+    SetsAre a (map held (x .cells)) i → SetsAre b (map held (y .cells)) j → Joins table a b count ps i j ty x y
 joins w u m l r = record { typed = w; unversioned = u; meet = m; left = l; right = r }
 
 -- the bytes of their sets together, from place k on
@@ -416,7 +416,7 @@ pub sets-end : (ty : EventType) (x y : Snapshot) (k : ℕ) → 32 ≤ k → sets
 unfolding setsFrom setsBytes flatten upFrom
 sets-end ty x y k h = let e : 32 - k ≡ 0 = omega arith in ap (λ (n : ℕ). setsBytes (map (λ p. joinedSet ty p (setOf x p) (setOf y p)) (upFrom k n))) e
 
-module _ {table a b : List ℕ} {t : TypeIndex} {i j : List ℕ} {ty : EventType} {x y : Snapshot} (h : Joins table a b t i j ty x y) where
+module _ {table a b : List ℕ} {count : ℕ} {ps i j : List ℕ} {ty : EventType} {x y : Snapshot} (h : Joins table a b count ps i j ty x y) where
   abbrev f : Fitting ty x y
   f = h .meet .fitting
 
@@ -433,7 +433,7 @@ module _ {table a b : List ℕ} {t : TypeIndex} {i j : List ℕ} {ty : EventType
   }
 
   -- a place, with its sets as they were taken from the numbers
-  abbrev pub joined-place : {v w : SetAt} (p : ℕ) → v ≡ setIn i p → w ≡ setIn j p → p < 32 → PlaceIs t p a v b w
+  abbrev pub joined-place : {v w : SetAt} (p : ℕ) → v ≡ setIn i p → w ≡ setIn j p → p < 32 → PlaceIs count ps p a v b w
   joined-place p e f l = record {
     table = table;
     type = ty;
@@ -508,7 +508,7 @@ module _ {table a b : List ℕ} {t : TypeIndex} {i j : List ℕ} {ty : EventType
     -- a place that has objects, with its room, where the places before it are written
     pub place-next :
         {l₀ l : List ℕ} {at p : ℕ} {v z : SetAt} (k : ℕ) → v ≡ setIn i k → z ≡ setIn j k → k < 32 → getD present k false ≡ true →
-        ToGo l₀ at (setsFrom ty x y 0) l p (setsFrom ty x y k) → at + length (setsFrom ty x y 0) ≤ length l₀ → PlaceRoom t k a v b z p (length l)
+        ToGo l₀ at (setsFrom ty x y 0) l p (setsFrom ty x y k) → at + length (setsFrom ty x y 0) ≤ length l₀ → PlaceRoom count ps k a v b z p (length l)
     place-next k c d l e g r = record {
       low = l;
       some = ap₂ haveObjects c d ∙ sym (w .each k l) ∙ e;

@@ -26,29 +26,29 @@ use Rattle.combining.specs.code.CheckIndex.{loneBytes, Checkable}
 
 -- ---- the version of an event
 
-module _ (table bytes : List ℕ) (t : TypeIndex) (e : EventIndex) (h : Checkable table bytes t e) where
+module _ {bytes : List ℕ} {t : TypeIndex} {ats : List ℕ} (h : Checkable bytes t ats) where
   versioned : (t .mark ≡ 0 → ⊥) → isVersioned (h .type) ≡ true
-  versioned n = lt-ltb 0 (h .type .mark) (positive (t .mark) n (h .typed .mark))
+  versioned n = lt-ltb 0 (h .type .mark) (positive (t .mark) n (h .mark))
     where
       positive : (m : ℕ) → (m ≡ 0 → ⊥) → m ≡ h .type .mark → 0 < h .type .mark
       positive zero n e = absurd (n refl)
       positive (suc m) n e = omega arith
 
   pub no-version : t .mark ≡ 0 → 0 ≡ versionOf (h .type) (h .event)
-  no-version n = sym (version-none (h .type) (h .event) (le-ltb 0 (h .type .mark) (omega (arith, h .typed .mark))))
+  no-version n = sym (version-none (h .type) (h .event) (le-ltb 0 (h .type .mark) (omega (arith, h .mark))))
 
   pub mark-low : (t .mark ≡ 0 → ⊥) → (1 ≤ t .mark) × (t .mark ≤ 32)
-  mark-low n = (one (t .mark) n, omega (arith, h .typed .mark, h .marked (versioned n) .0))
+  mark-low n = (one (t .mark) n, omega (arith, h .mark, h .marked (versioned n) .0))
     where
       one : (m : ℕ) → (m ≡ 0 → ⊥) → 1 ≤ m
       one zero n = absurd (n refl)
       one (suc m) n = omega arith
 
-  pub marked-set : (t .mark ≡ 0 → ⊥) → SetIs bytes (setAt (h .event) (t .mark - 1)) (setIn (e .sets) (t .mark - 1))
-  marked-set n = let (a, b) = mark-low n in h .read .sets .each (t .mark - 1) (omega arith)
+  pub marked-set : (t .mark ≡ 0 → ⊥) → SetIs bytes (setAt (h .event) (t .mark - 1)) (setIn ats (t .mark - 1))
+  marked-set n = let (a, b) = mark-low n in h .sets .each (t .mark - 1) (omega arith)
 
   pub set-there : (t .mark ≡ 0 → ⊥) → setAt (h .event) (t .mark - 1) ≡ inDecimal (versionOf (h .type) (h .event)) ∷ []
-  set-there n = ap (λ (m : ℕ). setAt (h .event) (m - 1)) (h .typed .mark) ∙ h .marked (versioned n) .1
+  set-there n = ap (λ (m : ℕ). setAt (h .event) (m - 1)) (h .mark) ∙ h .marked (versioned n) .1
 
   module _ (v : Text) (n : t .mark ≡ 0 → ⊥) (is : v ≡ getD (setAt (h .event) (t .mark - 1)) 0 []) where
     marked-text : v ≡ inDecimal (versionOf (h .type) (h .event))
@@ -68,7 +68,7 @@ module _ (table bytes : List ℕ) (t : TypeIndex) (e : EventIndex) (h : Checkabl
 
 -- ---- the parts of the dossier
 
-module _ {bytes : List ℕ} {e : Event} {x : EventIndex} (w : EventIs bytes e x) where
+module _ {bytes : List ℕ} {e : Event} {x : EventIndex} {ats : List ℕ} (w : EventIs bytes e x ats) where
   -- all sets, by the event's own presence number
   abbrev pub sets : List ℕ
   sets = presentBytes (x .presence) (e .sets)

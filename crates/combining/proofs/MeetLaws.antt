@@ -28,7 +28,7 @@ versionIn s = s .version
 pub taken-rises : {types : Table} {s : List ℕ} {a : TypedDossier} → DossierTaken types s a → Rising numbers versionIn (a .headed .snapshots)
 taken-rises {types} {s} {a} w = let ss = a .headed .snapshots in rising-keys numbers versionIn ss .1 (rising-ups numbers (map versionIn ss) .0 (taken-written w .body .rises))
 
-module _ {table a b : List ℕ} {t : TypeIndex} (k : Known table a b t) where
+module _ {table a b : List ℕ} {t : TypeIndex} {ps : List ℕ} (k : Known table a b t ps) where
   pub left-taken : DossierTaken (k .types) a (k .left)
   left-taken = dossier-taken (k .types) a (k .left) (k .left-asked)
 
@@ -45,8 +45,8 @@ module _ {table a b : List ℕ} {t : TypeIndex} (k : Known table a b t) where
   kept = taken-kept left-taken table (k .is)
 
 module _
-    {table a : List ℕ} {d : DossierIndex} {left b : List ℕ} {e : DossierIndex} {right : List ℕ} {t : TypeIndex}
-    (c : Combinable table a d left b e right t)
+    {table a : List ℕ} {d : DossierIndex} {left b : List ℕ} {e : DossierIndex} {right : List ℕ} {t : TypeIndex} {ps : List ℕ}
+    (c : Combinable table a d left b e right t ps)
     (i j : ℕ) (l : i < length (c .known .left .headed .snapshots)) (m : j < length (c .known .right .headed .snapshots)) where
   abbrev leftOne : Snapshot
   leftOne = getD (c .known .left .headed .snapshots) i noSnapshot

@@ -52,7 +52,7 @@ nothing-wrote e = all-gone to-go e
 
 -- ---- two snapshots of one version
 
-module _ (table : List ℕ) (ty : EventType) (t : TypeIndex) (w : TypeIs table ty t) where
+module _ {table : List ℕ} {ty : EventType} {t : TypeIndex} {ps : List ℕ} (w : TypeIs table ty t ps) where
   pub is-versioned : 0 < t .mark → isVersioned ty ≡ true
   is-versioned h = lt-ltb 0 (ty .mark) (omega (arith, w .mark))
 
@@ -60,25 +60,26 @@ module _ (table : List ℕ) (ty : EventType) (t : TypeIndex) (w : TypeIs table t
   not-versioned h = le-ltb 0 (ty .mark) (omega (arith, w .mark))
 
 module _
-    {version : EventVersion} {a x b y : List ℕ} {m n : ℕ} {t : TypeIndex} {at size : ℕ} (r : SharedRoom version a x m b y n t at size) where
+    {version : EventVersion} {a x b y : List ℕ} {m n : ℕ} {t : TypeIndex} {ps : List ℕ} {at size : ℕ}
+    (r : SharedRoom version a x m b y n t ps at size) where
   pub agreed-room : 0 < t .mark → AgreedRoom version a x m b y n at size
   agreed-room h = record {
     type = r .type;
     left = r .left;
     right = r .right;
-    versioned = is-versioned (r .table) (r .type) t (r .typed) h;
+    versioned = is-versioned (r .typed) h;
     shared = r .shared;
     room = r .room;
   }
 
-  pub joined-room : t .mark ≤ 0 → JoinedRoom a x b y t at size
+  pub joined-room : t .mark ≤ 0 → JoinedRoom a x b y (t .count) ps at size
   joined-room h = record {
     table = r .table;
     type = r .type;
     left = r .left;
     right = r .right;
-    typed = r .typed;
-    unversioned = not-versioned (r .table) (r .type) t (r .typed) h;
+    typed = r .typed .are;
+    unversioned = not-versioned (r .typed) h;
     meet = r .shared .meet;
     left-is = r .shared .left-is .sets;
     right-is = r .shared .right-is .sets;
@@ -235,7 +236,7 @@ merge-at ty xs ys i j l m hx hy =
     go zs ws {x} {y} {us} {vs} e f hx hy = rw (e, f) (merge-next ty x us y vs (rw e at hx) (rw f at hy))
 
 module _
-    {table a left b right : List ℕ} {d e : DossierIndex} {t : TypeIndex} (c : Combinable table a d left b e right t) where
+    {table a left b right : List ℕ} {d e : DossierIndex} {t : TypeIndex} {ps : List ℕ} (c : Combinable table a d left b e right t ps) where
   abbrev lefts : List Snapshot
   lefts = c .known .left .headed .snapshots
 
@@ -351,7 +352,7 @@ module _
     pub shared-room :
         (at size : ℕ) → at + length (nextBytes i j) ≤ size →
         versionAt (e .versions) j ≤ versionAt (d .versions) i → versionAt (d .versions) i ≤ versionAt (e .versions) j →
-        SharedRoom (getD (d .versions) i noVersion) a (rowOf left i) (getD (d .differs) i 0) b (rowOf right j) (getD (e .differs) j 0) t at size
+        SharedRoom (getD (d .versions) i noVersion) a (rowOf left i) (getD (d .differs) i 0) b (rowOf right j) (getD (e .differs) j 0) t ps at size
     shared-room at size room h k = record {
       table = table;
       type = c .known .left .type;
@@ -429,8 +430,8 @@ module _
       fits standard (typeView (c .known .left .type)) (combined (c .known .left) (c .known .right)) ≡ true → HeadsAre a d b e leftHead rightHead
   unfolding combined combine
   heads-are inside =
-      let x = left-hashes table a d left b e right t c in
-      let y = right-hashes table a d left b e right t c in
+      let x = left-hashes c in
+      let y = right-hashes c in
       record {
         left = c .left-read .head;
         right = c .right-read .head;
@@ -450,7 +451,7 @@ module _
   pub versions-counted :
       (n : ℕ) → n ≡ length (union numbers (versionNumbers (take (d .count) (d .versions))) (versionNumbers (take (e .count) (e .versions)))) →
       n ≡ length (combined (c .known .left) (c .known .right) .snapshots)
-  versions-counted n h = h ∙ sym (whole-versions table a d left b e right t c)
+  versions-counted n h = h ∙ sym (whole-versions c)
 
   module _ (n : ℕ) (is : n ≡ length (combined (c .known .left) (c .known .right) .snapshots)) where
     pub combined-length : length (dossierBytes (headedAs (c .known .left .headed) (combined (c .known .left) (c .known .right)))) ≡ length headPart + length (number n) + length snapshotsPart

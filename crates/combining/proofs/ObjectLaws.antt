@@ -20,9 +20,8 @@ use Rattle.model.proofs.PartLaws.{length-upTo}
 use Rattle.model.proofs.StepLaws.{join-map, join-at}
 use Rattle.model.proofs.SizeLaws.{held-size}
 use Rattle.ontology.specs.Table.{Property, EventType, isMin, isMax, isVersioned, atPlace}
-use Rattle.ontology.specs.code.TypeIndex.{propertyIn, hasExtreme, TypeIs}
+use Rattle.ontology.specs.code.TypeIndex.{propertyIn, hasExtreme, PropertiesAre}
 use Rattle.ontology.specs.declared.properties.PropertyAt.{PropertyAt}
-use Rattle.ontology.specs.declared.types.TypeIndex.{TypeIndex}
 use Rattle.ontology.proofs.TypeIndexLaws.{extreme-of}
 use Rattle.ontology.proofs.RunLaws.{no-element}
 use Rattle.event.specs.Event.{choiceOf, typeView, eventView}
@@ -39,17 +38,17 @@ use Rattle.combining.specs.code.CombineIndex.{isExtremeAt, Meet}
 
 -- ---- strategy min or max
 
-module _ (u : List ℕ) (ty : EventType) (t : TypeIndex) (k : ℕ) (w : TypeIs u ty t) where
-  pub extreme-past : t .count ≤ k → false ≡ isExtremeAt ty k
+module _ (u : List ℕ) (ty : EventType) (count : ℕ) (ps : List ℕ) (k : ℕ) (w : PropertiesAre u (ty .properties) count ps) where
+  pub extreme-past : count ≤ k → false ≡ isExtremeAt ty k
   unfolding isExtremeAt atPlace
-  extreme-past h = sym (ap (atPlace false (λ (q : Property). isMin q || isMax q)) (no-element (ty .properties) k (omega (arith, w .are .count))))
+  extreme-past h = sym (ap (atPlace false (λ (q : Property). isMin q || isMax q)) (no-element (ty .properties) k (omega (arith, w .count))))
 
-  module _ {p : PropertyAt} (same : p ≡ propertyIn (t .properties) k) (h : k < t .count) where
+  module _ {p : PropertyAt} (same : p ≡ propertyIn ps k) (h : k < count) where
     pub extreme-here : isExtremeAt ty k ≡ hasExtreme p
     unfolding isExtremeAt atPlace
     extreme-here =
-        let e = elem (ty .properties) k (omega (arith, w .are .count)) in
-        ap (atPlace false (λ (q : Property). isMin q || isMax q)) (e .is) ∙ sym (ap hasExtreme same ∙ extreme-of (w .are .each k (e .what) (e .is)))
+        let e = elem (ty .properties) k (omega (arith, w .count)) in
+        ap (atPlace false (λ (q : Property). isMin q || isMax q)) (e .is) ∙ sym (ap hasExtreme same ∙ extreme-of (w .each k (e .what) (e .is)))
 
 -- ---- which values such a place keeps
 

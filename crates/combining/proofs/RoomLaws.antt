@@ -208,14 +208,14 @@ module _ (table r s : List ℕ) (types : Table) (a b : TypedDossier) (t : tableO
 
 -- the same of what combining has read
 pub combined-room :
-    {table a left b right : List ℕ} {d e : DossierIndex} {t : TypeIndex} (h : Combinable table a d left b e right t) →
+    {table a left b right : List ℕ} {d e : DossierIndex} {t : TypeIndex} {ps : List ℕ} (h : Combinable table a d left b e right t ps) →
     fits standard (typeView (h .known .left .type)) (combined (h .known .left) (h .known .right)) ≡ true →
     length (dossierBytes (headedAs (h .known .left .headed) (combined (h .known .left) (h .known .right)))) ≤ dossierCapacity
 combined-room {table} {a} {b = b} h f =
     let k = h .known in combined-short table a b (k .types) (k .left) (k .right) (k .is) (left-taken k) (right-taken k) (k .agree) f
 
 pub combined-parents :
-    {table a left b right : List ℕ} {d e : DossierIndex} {t : TypeIndex} (h : Combinable table a d left b e right t) →
+    {table a left b right : List ℕ} {d e : DossierIndex} {t : TypeIndex} {ps : List ℕ} (h : Combinable table a d left b e right t ps) →
     fits standard (typeView (h .known .left .type)) (combined (h .known .left) (h .known .right)) ≡ true →
     ParentsWritten 32 (combined (h .known .left) (h .known .right) .parents)
 combined-parents {table} {a} {b = b} h f =

@@ -27,22 +27,28 @@ use values::numerals::numeral_of;
 use values::versions::EventVersion;
 
 // An event's version: the number in its marked property, or 0 where its type has none.
-fn version_of(table: &[u8], event: &[u8], t: TypeIndex, e: EventIndex) -> EventVersion
-    requires { ⌜ Checkable (now table) (now event) t e ⌝ }
-    ensures { λ r. ⌜ ((h : Checkable (now (table .entry)) (now (event .entry)) t e) → r .0 ≡ versionOf (h .type) (h .event)) ⌝ }
+fn version_of(event: &[u8], t: TypeIndex, sets: &[usize]) -> EventVersion
+    requires { ⌜ (length (now sets) ≡ 96) × Checkable (now event) t (now sets) ⌝ }
+    ensures { λ r. ⌜ ((h : Checkable (now (event .entry)) t (now (sets .entry))) → r .0 ≡ versionOf (h .type) (h .event)) ⌝ }
 {
     let mark = t.mark;
     if mark == 0 {
         return EventVersion(0);
     }
-    let x = set_at(&e.sets, mark - 1);
+    let x = set_at(sets, mark - 1);
     EventVersion(numeral_of(value_in(set_part(event, x), 0)))
 }
 
 // Writes the dossier of one event at the front of `out`: its head, the numbers of its snapshot, and all its sets.
-fn write_lone(event: &[u8], e: EventIndex, version: EventVersion, out: &mut [u8]) -> usize
-    requires { ⌜ LoneRoom (now event) e (version .0) (length (now out)) ⌝ }
-    ensures { λ r. ⌜ ((h : Event) → EventIs (now (event .entry)) h e
+fn write_lone(
+    event: &[u8],
+    e: EventIndex,
+    sets: &[usize],
+    version: EventVersion,
+    out: &mut [u8],
+) -> usize
+    requires { ⌜ (length (now sets) ≡ 96) × LoneRoom (now event) e (now sets) (version .0) (length (now out)) ⌝ }
+    ensures { λ r. ⌜ ((h : Event) → EventIs (now (event .entry)) h e (now (sets .entry))
         → Wrote (now (out .entry)) 0 (loneBytes h (version .0)) (now (out .exit)) r) ⌝ }
 {
     let head = e.head;
@@ -54,7 +60,7 @@ fn write_lone(event: &[u8], e: EventIndex, version: EventVersion, out: &mut [u8]
     let after_version = write_number(out, after_count, version.0);
     let after_presence = write_number(out, after_version, e.presence);
     let after_differ = write_number(out, after_presence, 0);
-    write_sets(event, &e.sets, e.presence, out, after_differ)
+    write_sets(event, sets, e.presence, out, after_differ)
 }
 
 // The dossier of an event, written at the front of `out`.
@@ -64,12 +70,20 @@ pub fn check_event(table: &[u8], event: &[u8], out: &mut [u8]) -> Reply
     if out.len() < DOSSIER_CAPACITY {
         return Reply::Refused(1);
     }
-    let asked = ask_event(table, event, EventCounts::Narrow);
+    let mut properties = [0usize; 96];
+    let mut sets = [0usize; 96];
+    let asked = ask_event(
+        table,
+        event,
+        EventCounts::Narrow,
+        &mut properties,
+        &mut sets,
+    );
     if asked.number != 0 {
         return Reply::Refused(asked.number);
     }
-    let version = version_of(table, event, asked.event_type, asked.event);
-    Reply::Done(write_lone(event, asked.event, version, out))
+    let version = version_of(event, asked.event_type, &sets);
+    Reply::Done(write_lone(event, asked.event, &sets, version, out))
 }
 
 // The same of an event that is known to be accepted, with the type t.
@@ -77,7 +91,8 @@ pub fn check_known(table: &[u8], event: &[u8], t: TypeIndex, out: &mut [u8]) -> 
     requires { ⌜ KnownEvent (now table) (now event) t × (dossierCapacity ≤ length (now out)) ⌝ }
     ensures { λ r. ⌜ replies r (now (out .exit)) ≡ checkCall (now (table .entry)) (now (event .entry)) (now (out .entry)) ⌝ }
 {
-    let e = read_event(event, 8, 32);
-    let version = version_of(table, event, t, e);
-    Reply::Done(write_lone(event, e, version, out))
+    let mut sets = [0usize; 96];
+    let e = read_event(event, 8, 32, &mut sets);
+    let version = version_of(event, t, &sets);
+    Reply::Done(write_lone(event, e, &sets, version, out))
 }

@@ -1,11 +1,19 @@
 ghost use Prim.Native.Nat.{_≤_};
 ghost use mathlib.Core.Path.{_≡_};
+ghost use mathlib.Core.Bool.{true};
+ghost use mathlib.Core.Option.{some};
 ghost use lib.ListN.{length};
 ghost use Rattle.model.specs.Limits.{standard};
 ghost use Rattle.replies.specs.Capacities.{dossierCapacity};
 ghost use Rattle.replies.specs.Replies.{combineReplies};
+ghost use Rattle.ontology.specs.Table.{Table};
+ghost use Rattle.ontology.specs.TableLayout.{tableOf};
+ghost use Rattle.ontology.specs.code.TypeIndex.{TableSays};
+ghost use Rattle.dossier.specs.DossierLayout.{dossierOf};
+ghost use Rattle.dossier.specs.DossierQuestions.{dossierAsked};
+ghost use Rattle.dossier.specs.code.DossierIndex.{DossierReads};
 ghost use Rattle.combining.specs.CombineCall.{combineCall};
-ghost use Rattle.combining.specs.code.CombineIndex.{Known, Combinable};
+ghost use Rattle.combining.specs.code.CombineIndex.{NumberIs, Known, Combinable};
 use crate::limits::limits_fit;
 use crate::write::write_combined;
 use dossier::dossiers::DossierIndex;
@@ -14,9 +22,10 @@ use dossier::dossiers::read_known;
 use dossier::questions::ask_dossier;
 use dossier::questions::dossiers_agree;
 use dossier::questions::type_name;
+use ontology::tables::TableRead;
 use ontology::tables::read_table;
-use ontology::tables::table_for;
 use ontology::types::TypeIndex;
+use packed::order::same;
 use replies::capacities::DOSSIER_CAPACITY;
 use replies::reply::Combined;
 
@@ -30,62 +39,72 @@ fn combine_read<'a>(
     e: DossierIndex,
     right: &[usize],
     t: TypeIndex,
+    properties: &[usize],
     out: &mut [u8],
 ) -> Combined
-    requires { ⌜ (length (now left) ≡ 768) × (length (now right) ≡ 768) × (dossierCapacity ≤ length (now out)) ⌝ }
-    requires { ⌜ Combinable (now table) (now a) d (now left) (now b) e (now right) t ⌝ }
+    requires { ⌜ (length (now left) ≡ 768) × (length (now right) ≡ 768) × (length (now properties) ≡ 96) × (dossierCapacity ≤ length (now out)) ⌝ }
+    requires { ⌜ Combinable (now table) (now a) d (now left) (now b) e (now right) t (now properties) ⌝ }
     ensures { λ r. ⌜ combineReplies r (now (out .exit)) ≡ combineCall standard (now (table .entry)) (now (a .entry)) (now (b .entry)) (now (out .entry)) ⌝ }
 {
-    if !limits_fit(table, a, d, left, b, e, right, t) {
+    if !limits_fit(a, d, left, b, e, right, t, properties) {
         return Combined::Refused(8);
     }
-    Combined::Done(write_combined(table, a, d, left, b, e, right, t, out))
+    Combined::Done(write_combined(a, d, left, b, e, right, t, properties, out))
+}
+
+// Questions 3 to 6 of a dossier. The table was read for a name, and is read again only where the dossier's type has another one.
+fn ask_other(
+    table: &[u8],
+    name: &[u8],
+    s: &[u8],
+    d: DossierIndex,
+    rows: &[usize],
+    read: TableRead,
+    properties: &[usize],
+) -> u8
+    requires { ⌜ (length (now rows) ≡ 768) × (length (now properties) ≡ 96) × DossierReads (dossierOf standard (now s)) (now s) (now rows) d ⌝ }
+    requires { ⌜ (read .ok ≡ true) × TableSays (tableOf (now table)) (now table) (now name) (now properties) read ⌝ }
+    ensures { λ r. ⌜ ((ts : Table) → tableOf (now (table .entry)) ≡ some ts → NumberIs (dossierAsked standard ts (now (s .entry))) r) ⌝ }
+{
+    let other = type_name(s, d);
+    if same(name, other) {
+        return ask_dossier(s, d, rows, read, properties);
+    }
+    let mut others = [0usize; 96];
+    let again = read_table(table, other, &mut others);
+    ask_dossier(s, d, rows, again, &others)
 }
 
 // Two dossiers together, written at the front of `out`.
-pub fn combine<'a>(table: &[u8], left: &'a [u8], right: &'a [u8], out: &mut [u8]) -> Combined
-    ensures { λ r. ⌜ combineReplies r (now (out .exit)) ≡ combineCall standard (now (table .entry)) (now (left .entry)) (now (right .entry)) (now (out .entry)) ⌝ }
+pub fn combine<'a>(table: &[u8], a: &'a [u8], b: &'a [u8], out: &mut [u8]) -> Combined
+    ensures { λ r. ⌜ combineReplies r (now (out .exit)) ≡ combineCall standard (now (table .entry)) (now (a .entry)) (now (b .entry)) (now (out .entry)) ⌝ }
 {
     if out.len() < DOSSIER_CAPACITY {
         return Combined::Refused(1);
     }
-    let mut left_rows = [0usize; 768];
-    let mut right_rows = [0usize; 768];
-    let d = read_dossier(left, &mut left_rows);
-    let e = read_dossier(right, &mut right_rows);
-    let name = type_name(left, d);
-    let read = read_table(table, name);
+    let mut left = [0usize; 768];
+    let mut right = [0usize; 768];
+    let d = read_dossier(a, &mut left);
+    let e = read_dossier(b, &mut right);
+    let name = type_name(a, d);
+    let mut properties = [0usize; 96];
+    let read = read_table(table, name, &mut properties);
     if !read.ok {
         return Combined::Refused(2);
     }
-    let a = ask_dossier(left, d, &left_rows, read);
-    if a.number != 0 {
-        return Combined::Refused(a.number);
+    let first = ask_dossier(a, d, &left, read, &properties);
+    if first != 0 {
+        return Combined::Refused(first);
     }
-    let b = ask_dossier(
-        right,
-        e,
-        &right_rows,
-        table_for(table, name, type_name(right, e), read),
-    );
-    if b.number != 0 {
-        return Combined::Refused(b.number);
+    let second = ask_other(table, name, b, e, &right, read, &properties);
+    if second != 0 {
+        return Combined::Refused(second);
     }
-    let event_type = a.event_type;
-    if !dossiers_agree(left, d, &left_rows, right, e, &right_rows, event_type) {
+    let t = read.index;
+    if !dossiers_agree(a, d, &left, b, e, &right, t.count, &properties) {
         return Combined::Refused(7);
     }
-    combine_read(
-        table,
-        left,
-        d,
-        &left_rows,
-        right,
-        e,
-        &right_rows,
-        event_type,
-        out,
-    )
+    combine_read(table, a, d, &left, b, e, &right, t, &properties, out)
 }
 
 // The same of two dossiers of which questions 2 to 7 are known to be answered yes.
@@ -94,14 +113,26 @@ pub fn combine_known<'a>(
     left: &'a [u8],
     right: &'a [u8],
     t: TypeIndex,
+    properties: &[usize],
     out: &mut [u8],
 ) -> Combined
-    requires { ⌜ Known (now table) (now left) (now right) t × (dossierCapacity ≤ length (now out)) ⌝ }
+    requires { ⌜ Known (now table) (now left) (now right) t (now properties) × (length (now properties) ≡ 96) × (dossierCapacity ≤ length (now out)) ⌝ }
     ensures { λ r. ⌜ combineReplies r (now (out .exit)) ≡ combineCall standard (now (table .entry)) (now (left .entry)) (now (right .entry)) (now (out .entry)) ⌝ }
 {
     let mut left_rows = [0usize; 768];
     let mut right_rows = [0usize; 768];
     let d = read_known(left, &mut left_rows);
     let e = read_known(right, &mut right_rows);
-    combine_read(table, left, d, &left_rows, right, e, &right_rows, t, out)
+    combine_read(
+        table,
+        left,
+        d,
+        &left_rows,
+        right,
+        e,
+        &right_rows,
+        t,
+        properties,
+        out,
+    )
 }

@@ -11,7 +11,7 @@ ghost use Rattle.packed.specs.code.Written.{Wrote};
 ghost use Rattle.values.specs.Spaces.{Kind};
 ghost use Rattle.values.specs.ValueOrder.{extremeOrder};
 ghost use Rattle.ontology.specs.Table.{EventType, isVersioned};
-ghost use Rattle.ontology.specs.code.TypeIndex.{TypeIs, hasMax};
+ghost use Rattle.ontology.specs.code.TypeIndex.{PropertiesAre, hasMax};
 ghost use Rattle.event.specs.Event.{typeView};
 ghost use Rattle.event.specs.EventLayout.{setBytes};
 ghost use Rattle.event.specs.code.EventIndex.{SetIs, SetsAre};
@@ -27,7 +27,6 @@ use event::sets::value_in;
 use ontology::properties::PropertyAt;
 use ontology::properties::is_max;
 use ontology::properties::property_at;
-use ontology::types::TypeIndex;
 use packed::write::write_number;
 use packed::write::write_text;
 use unions::counted::write_before;
@@ -69,7 +68,8 @@ fn write_values(a: &[u8], m: usize, b: &[u8], n: usize, out: &mut [u8], at: usiz
 
 // Writes the set of a place of two unversioned snapshots, one of which has objects there.
 fn write_place<'a>(
-    t: TypeIndex,
+    count: usize,
+    properties: &[usize],
     k: usize,
     a: &'a [u8],
     x: SetAt,
@@ -78,12 +78,13 @@ fn write_place<'a>(
     out: &mut [u8],
     at: usize,
 ) -> usize
-    requires { ⌜ PlaceRoom t k (now a) x (now b) y at (length (now out)) ⌝ }
-    ensures { λ r. ⌜ ((h : PlaceIs t k (now (a .entry)) x (now (b .entry)) y) → Wrote (now (out .entry)) at (setBytes (joinedSet (h .type) k (h .xs) (h .ys))) (now (out .exit)) r) ⌝ }
+    requires { ⌜ (length (now properties) ≡ 96) × PlaceRoom count (now properties) k (now a) x (now b) y at (length (now out)) ⌝ }
+    ensures { λ r. ⌜ ((h : PlaceIs count (now (properties .entry)) k (now (a .entry)) x (now (b .entry)) y)
+        → Wrote (now (out .entry)) at (setBytes (joinedSet (h .type) k (h .xs) (h .ys))) (now (out .exit)) r) ⌝ }
 {
-    if is_extreme_at(t, k) {
+    if is_extreme_at(count, properties, k) {
         let after_count = write_number(out, at, 1);
-        let p = property_at(&t.properties, k);
+        let p = property_at(properties, k);
         return write_text(chosen(p, a, x, b, y), out, after_count);
     }
     write_values(set_part(a, x), x.count, set_part(b, y), y.count, out, at)
@@ -109,12 +110,15 @@ pub fn write_joined<'a>(
     x: &[usize],
     b: &'a [u8],
     y: &[usize],
-    t: TypeIndex,
+    count: usize,
+    properties: &[usize],
     out: &mut [u8],
     at: usize,
 ) -> usize
-    requires { ⌜ (length (now x) ≡ 96) × (length (now y) ≡ 96) × JoinedRoom (now a) (now x) (now b) (now y) t at (length (now out)) ⌝ }
-    ensures { λ r. ⌜ ((u : List ℕ) (ty : EventType) (left right : Snapshot) → TypeIs u ty t → isVersioned ty ≡ false → Meet ty left right
+    requires { ⌜ (length (now x) ≡ 96) × (length (now y) ≡ 96) × (length (now properties) ≡ 96)
+        × JoinedRoom (now a) (now x) (now b) (now y) count (now properties) at (length (now out)) ⌝ }
+    ensures { λ r. ⌜ ((u : List ℕ) (ty : EventType) (left right : Snapshot)
+        → PropertiesAre u (ty .properties) count (now (properties .entry)) → isVersioned ty ≡ false → Meet ty left right
         → SetsAre (now (a .entry)) (map held (left .cells)) (now (x .entry)) → SetsAre (now (b .entry)) (map held (right .cells)) (now (y .entry))
         → Wrote (now (out .entry)) at (snapshotBytes (joinSnapshots (typeView ty) left right)) (now (out .exit)) r) ⌝ }
 {
@@ -127,7 +131,7 @@ pub fn write_joined<'a>(
         if present[k] {
             let v = set_at(x, k);
             let w = set_at(y, k);
-            next = write_place(t, k, a, v, b, w, out, next);
+            next = write_place(count, properties, k, a, v, b, w, out, next);
         }
         k += 1;
     }

@@ -10,7 +10,7 @@ ghost use Rattle.model.specs.Rule.{holds, joinCell, Snapshot, joinSnapshots, si
 ghost use Rattle.model.specs.Limits.{standard, fits};
 ghost use Rattle.model.specs.Opening.{held};
 ghost use Rattle.ontology.specs.Table.{EventType, isVersioned};
-ghost use Rattle.ontology.specs.code.TypeIndex.{TypeIs};
+ghost use Rattle.ontology.specs.code.TypeIndex.{PropertiesAre};
 ghost use Rattle.event.specs.Event.{typeView};
 ghost use Rattle.event.specs.code.EventIndex.{SetIs, SetsAre, HashesAre};
 ghost use Rattle.unions.specs.code.Runs.{Hashes};
@@ -55,22 +55,33 @@ pub fn count_versions(v: [EventVersion; 8], m: usize, w: [EventVersion; 8], n: u
 }
 
 // A place of strategy min or max has one value.
-pub fn is_extreme_at(t: TypeIndex, k: usize) -> bool
-    requires { ⌜ t .count ≤ 32 ⌝ }
-    ensures { λ r. ⌜ ((u : List ℕ) (ty : EventType) → TypeIs u ty t → r ≡ isExtremeAt ty k) ⌝ }
+pub fn is_extreme_at(count: usize, properties: &[usize], k: usize) -> bool
+    requires { ⌜ (count ≤ 32) × (length (now properties) ≡ 96) ⌝ }
+    ensures { λ r. ⌜ ((u : List ℕ) (ty : EventType) → PropertiesAre u (ty .properties) count (now (properties .entry)) → r ≡ isExtremeAt ty k) ⌝ }
 {
-    if t.count <= k {
+    if count <= k {
         return false;
     }
-    is_extreme(property_at(&t.properties, k))
+    is_extreme(property_at(properties, k))
 }
 
 // How many objects a place has where two unversioned snapshots are joined.
-fn count_place(t: TypeIndex, k: usize, a: &[u8], x: SetAt, b: &[u8], y: SetAt) -> usize
-    requires { ⌜ t .count ≤ 32 ⌝ }
-    ensures { λ r. ⌜ ((u : List ℕ) (ty : EventType) (xs ys : List Text) → TypeIs u ty t → SetIs (now (a .entry)) xs x → SetIs (now (b .entry)) ys y → rising texts xs ≡ true → rising texts ys ≡ true → (isExtremeAt ty k ≡ true → (length xs ≤ 1) × (length ys ≤ 1)) → r ≡ length (held (joinCell false (typeView ty .choice k) (holds xs) (holds ys)))) ⌝ }
+fn count_place(
+    count: usize,
+    properties: &[usize],
+    k: usize,
+    a: &[u8],
+    x: SetAt,
+    b: &[u8],
+    y: SetAt,
+) -> usize
+    requires { ⌜ (count ≤ 32) × (length (now properties) ≡ 96) ⌝ }
+    ensures { λ r. ⌜ ((u : List ℕ) (ty : EventType) (xs ys : List Text) → PropertiesAre u (ty .properties) count (now (properties .entry))
+        → SetIs (now (a .entry)) xs x → SetIs (now (b .entry)) ys y → rising texts xs ≡ true → rising texts ys ≡ true
+        → (isExtremeAt ty k ≡ true → (length xs ≤ 1) × (length ys ≤ 1))
+        → r ≡ length (held (joinCell false (typeView ty .choice k) (holds xs) (holds ys)))) ⌝ }
 {
-    if is_extreme_at(t, k) {
+    if is_extreme_at(count, properties, k) {
         if x.count == 0 {
             return y.count;
         }
@@ -88,10 +99,12 @@ fn objects_fit(
     b: &[u8],
     y: &[usize],
     n: usize,
-    t: TypeIndex,
+    count: usize,
+    properties: &[usize],
 ) -> bool
-    requires { ⌜ (t .count ≤ 32) × (length (now x) ≡ 96) × (length (now y) ≡ 96) ⌝ }
-    ensures { λ r. ⌜ ((u : List ℕ) (ty : EventType) (left right : Snapshot) → TypeIs u ty t → isVersioned ty ≡ false → Meet ty left right
+    requires { ⌜ (count ≤ 32) × (length (now x) ≡ 96) × (length (now y) ≡ 96) × (length (now properties) ≡ 96) ⌝ }
+    ensures { λ r. ⌜ ((u : List ℕ) (ty : EventType) (left right : Snapshot)
+        → PropertiesAre u (ty .properties) count (now (properties .entry)) → isVersioned ty ≡ false → Meet ty left right
         → m ≡ sizes (left .cells) → n ≡ sizes (right .cells)
         → SetsAre (now (a .entry)) (map held (left .cells)) (now (x .entry)) → SetsAre (now (b .entry)) (map held (right .cells)) (now (y .entry))
         → r ≡ leb (sizes (joinSnapshots (typeView ty) left right .cells)) 256) ⌝ }
@@ -102,11 +115,11 @@ fn objects_fit(
     let mut room: usize = 256;
     let mut k: usize = 0;
     while k < 32 {
-        let count = count_place(t, k, a, set_at(x, k), b, set_at(y, k));
-        if room < count {
+        let here = count_place(count, properties, k, a, set_at(x, k), b, set_at(y, k));
+        if room < here {
             return false;
         }
-        room -= count;
+        room -= here;
         k += 1;
     }
     true
@@ -125,7 +138,6 @@ fn parents_fit(a: &[u8], x: SetAt, b: &[u8], y: SetAt) -> bool
 
 // Question 8: 32 parents, 8 versions, and 256 objects of an unversioned type.
 pub fn limits_fit(
-    table: &[u8],
     a: &[u8],
     d: DossierIndex,
     left: &[usize],
@@ -133,9 +145,12 @@ pub fn limits_fit(
     e: DossierIndex,
     right: &[usize],
     t: TypeIndex,
+    properties: &[usize],
 ) -> bool
-    requires { ⌜ (length (now left) ≡ 768) × (length (now right) ≡ 768) × Combinable (now table) (now a) d (now left) (now b) e (now right) t ⌝ }
-    ensures { λ r. ⌜ ((h : Combinable (now (table .entry)) (now (a .entry)) d (now (left .entry)) (now (b .entry)) e (now (right .entry)) t)
+    requires { ⌜ (d .count ≤ 8) × (e .count ≤ 8) × (t .count ≤ 32) ⌝ }
+    requires { ⌜ (length (now left) ≡ 768) × (length (now right) ≡ 768) × (length (now properties) ≡ 96) ⌝ }
+    ensures { λ r. ⌜ ((table : List ℕ)
+        (h : Combinable table (now (a .entry)) d (now (left .entry)) (now (b .entry)) e (now (right .entry)) t (now (properties .entry)))
         → r ≡ fits standard (typeView (h .known .left .type)) (combined (h .known .left) (h .known .right))) ⌝ }
 {
     let x = d.head;
@@ -153,5 +168,5 @@ pub fn limits_fit(
     }
     let m = d.objects[0];
     let n = e.objects[0];
-    objects_fit(a, &left[0..96], m, b, &right[0..96], n, t)
+    objects_fit(a, &left[0..96], m, b, &right[0..96], n, t.count, properties)
 }

@@ -38,18 +38,20 @@ fn write_shared<'a>(
     y: &[usize],
     n: u64,
     t: TypeIndex,
+    properties: &[usize],
     out: &mut [u8],
     at: usize,
 ) -> usize
-    requires { ⌜ (length (now x) ≡ 96) × (length (now y) ≡ 96) × SharedRoom version (now a) (now x) m (now b) (now y) n t at (length (now out)) ⌝ }
-    ensures { λ r. ⌜ ((u : List ℕ) (ty : EventType) (left right : Snapshot) → TypeIs u ty t
+    requires { ⌜ (length (now x) ≡ 96) × (length (now y) ≡ 96) × (length (now properties) ≡ 96)
+        × SharedRoom version (now a) (now x) m (now b) (now y) n t (now properties) at (length (now out)) ⌝ }
+    ensures { λ r. ⌜ ((u : List ℕ) (ty : EventType) (left right : Snapshot) → TypeIs u ty t (now (properties .entry))
         → Shared version (now (a .entry)) (now (x .entry)) m (now (b .entry)) (now (y .entry)) n ty left right
         → Wrote (now (out .entry)) at (snapshotBytes (joinSnapshots (typeView ty) left right)) (now (out .exit)) r) ⌝ }
 {
     if 0 < t.mark {
         return write_agreed(version, a, x, m, b, y, n, out, at);
     }
-    write_joined(a, x, b, y, t, out, at)
+    write_joined(a, x, b, y, t.count, properties, out, at)
 }
 
 // The snapshots of one side from the i-th on, which stand one after the other.
@@ -67,7 +69,6 @@ fn write_rest(s: &[u8], d: DossierIndex, i: usize, out: &mut [u8], at: usize) ->
 
 // The snapshots of both sides by rising version: that of the lower version as it stands, and two of one version together.
 fn write_snapshots<'a>(
-    table: &[u8],
     a: &'a [u8],
     d: DossierIndex,
     left: &[usize],
@@ -75,12 +76,14 @@ fn write_snapshots<'a>(
     e: DossierIndex,
     right: &[usize],
     t: TypeIndex,
+    properties: &[usize],
     out: &mut [u8],
     at: usize,
 ) -> usize
-    requires { ⌜ (length (now left) ≡ 768) × (length (now right) ≡ 768)
-        × SnapshotsRoom (now table) (now a) d (now left) (now b) e (now right) t at (length (now out)) ⌝ }
-    ensures { λ r. ⌜ ((h : Combinable (now (table .entry)) (now (a .entry)) d (now (left .entry)) (now (b .entry)) e (now (right .entry)) t)
+    requires { ⌜ (length (now left) ≡ 768) × (length (now right) ≡ 768) × (length (now properties) ≡ 96)
+        × SnapshotsRoom (now a) d (now left) (now b) e (now right) t (now properties) at (length (now out)) ⌝ }
+    ensures { λ r. ⌜ ((table : List ℕ)
+        (h : Combinable table (now (a .entry)) d (now (left .entry)) (now (b .entry)) e (now (right .entry)) t (now (properties .entry)))
         → Wrote (now (out .entry)) at (flatten (map snapshotBytes (combined (h .known .left) (h .known .right) .snapshots))) (now (out .exit)) r) ⌝ }
 {
     let mut i: usize = 0;
@@ -108,6 +111,7 @@ fn write_snapshots<'a>(
                 &right[96 * j..96 * j + 96],
                 e.differs[j],
                 t,
+                properties,
                 out,
                 next,
             );
@@ -146,7 +150,6 @@ fn write_heads<'a>(
 
 // Writes the combined dossier at the front of `out`.
 pub fn write_combined<'a>(
-    table: &[u8],
     a: &'a [u8],
     d: DossierIndex,
     left: &[usize],
@@ -154,11 +157,13 @@ pub fn write_combined<'a>(
     e: DossierIndex,
     right: &[usize],
     t: TypeIndex,
+    properties: &[usize],
     out: &mut [u8],
 ) -> usize
-    requires { ⌜ (length (now left) ≡ 768) × (length (now right) ≡ 768)
-        × CombinedRoom (now table) (now a) d (now left) (now b) e (now right) t (length (now out)) ⌝ }
-    ensures { λ r. ⌜ ((h : Combinable (now (table .entry)) (now (a .entry)) d (now (left .entry)) (now (b .entry)) e (now (right .entry)) t)
+    requires { ⌜ (length (now left) ≡ 768) × (length (now right) ≡ 768) × (length (now properties) ≡ 96)
+        × CombinedRoom (now a) d (now left) (now b) e (now right) t (now properties) (length (now out)) ⌝ }
+    ensures { λ r. ⌜ ((table : List ℕ)
+        (h : Combinable table (now (a .entry)) d (now (left .entry)) (now (b .entry)) e (now (right .entry)) t (now (properties .entry)))
         → Wrote (now (out .entry)) 0 (dossierBytes (headedAs (h .known .left .headed) (combined (h .known .left) (h .known .right)))) (now (out .exit)) r) ⌝ }
 {
     let v = d.versions;
@@ -169,5 +174,5 @@ pub fn write_combined<'a>(
         after_head,
         count_versions(v, d.count, w, e.count) as u64,
     );
-    write_snapshots(table, a, d, left, b, e, right, t, out, after_count)
+    write_snapshots(a, d, left, b, e, right, t, properties, out, after_count)
 }

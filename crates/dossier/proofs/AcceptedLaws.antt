@@ -24,7 +24,7 @@ use Rattle.event.proofs.EventSizeLaws.{ValuesShort}
 use Rattle.dossier.specs.DossierLayout.{dossierOf, Headed}
 use Rattle.dossier.specs.DossierQuestions.{eachSnapshot, dossierShape, snapshotValues, TypedDossier, dossierAsked}
 use Rattle.dossier.specs.code.DossierIndex.{noSnapshot, snapshotFits, DossierAnswers}
-use Rattle.dossier.specs.declared.questions.DossierAsked.{DossierAsked}
+use Rattle.ontology.specs.declared.types.TypeIndex.{TypeIndex}
 use Rattle.dossier.proofs.DossierLayoutLaws.{DossierWritten, dossier-was}
 use Rattle.dossier.proofs.DossierSizeLaws.{snapshots-short, versioned-sizes, shape-parts, shape-objects}
 use Rattle.dossier.proofs.AskLaws.{alikeTo, fitsWith, shape-is}
@@ -74,25 +74,26 @@ asked-number types s e = at-layout (dossierOf standard s) e
     at-layout (some h) e = at-type h (typeNamed (h .head .type) types) e
 
 -- all are answered yes, and the indexes are of the dossier and its type
-pub record Answered (types : Table) (table s : List ℕ) (r : DossierAsked) : Type 0 where
+pub record Answered (types : Table) (table s : List ℕ) (t : TypeIndex) (ps : List ℕ) : Type 0 where
   pub what : TypedDossier
   pub asked : dossierAsked standard types s ≡ accepted what
-  pub typed : TypeIs table (what .type) (r .«event_type»)
+  pub typed : TypeIs table (what .type) t ps
 
-module _ (types : Table) (table s : List ℕ) (r : DossierAsked) (w : DossierAnswers (dossierAsked standard types s) table r) where
-  pub asked-refused : (r .number ≡ 0 → ⊥) → dossierAsked standard types s ≡ refused (r .number)
+module _
+    (types : Table) (table s : List ℕ) (t : TypeIndex) (ps : List ℕ) (r : ℕ) (w : DossierAnswers (dossierAsked standard types s) table t ps r) where
+  pub asked-refused : (r ≡ 0 → ⊥) → dossierAsked standard types s ≡ refused r
   unfolding DossierAnswers
   asked-refused h = go (dossierAsked standard types s) w
     where
-      go : (q : Asked TypedDossier) → DossierAnswers q table r → q ≡ refused (r .number)
+      go : (q : Asked TypedDossier) → DossierAnswers q table t ps r → q ≡ refused r
       go (refused n) w = ap refused (sym w)
       go (accepted a) w = absurd (h (w .0))
 
-  pub asked-accepted : r .number ≡ 0 → Answered types table s r
+  pub asked-accepted : r ≡ 0 → Answered types table s t ps
   unfolding DossierAnswers
   asked-accepted h = go (dossierAsked standard types s) refl w
     where
-      go : (q : Asked TypedDossier) → dossierAsked standard types s ≡ q → DossierAnswers q table r → Answered types table s r
+      go : (q : Asked TypedDossier) → dossierAsked standard types s ≡ q → DossierAnswers q table t ps r → Answered types table s t ps
       go (refused n) e w = absurd (asked-number types s (e ∙ ap refused (sym w ∙ h)))
       go (accepted a) e w = record { what = a; asked = e; typed = w .1 }
 

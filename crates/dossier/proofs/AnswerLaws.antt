@@ -56,28 +56,31 @@ pub reads-few : (o : Option Headed) (s rows : List ℕ) (d : DossierIndex) → D
 reads-few o s rows d w h = dossier-known o s rows d w h .stands .few
 
 module _ (table : List ℕ) (ts : Table) (s rows : List ℕ) (d : DossierIndex) (w : DossierReads (dossierOf standard s) s rows d) where
-  pub answer-layout : d .ok ≡ false → (k : TypeIndex) → DossierAnswers (dossierAsked standard ts s) table (record { number = 3; «event_type» = k })
+  pub answer-layout : d .ok ≡ false → (k : TypeIndex) (ps : List ℕ) → DossierAnswers (dossierAsked standard ts s) table k ps 3
   unfolding dossierAsked DossierAnswers
-  answer-layout h k = let e : dossierOf standard s ≡ none = dossier-no (dossierOf standard s) s rows d w h in rw e refl
+  answer-layout h k ps = let e : dossierOf standard s ≡ none = dossier-no (dossierOf standard s) s rows d w h in rw e refl
 
   module _ (ok : d .ok ≡ true) where
     it : Known (dossierOf standard s) s rows d
     it = dossier-known (dossierOf standard s) s rows d w ok
 
-    module _ (read : TableRead) (says : (h : Headed) → DossierIs s h d → TypeSays (typeNamed (h .head .type) ts) table read) where
-      pub answer-type : read .found ≡ false → (k : TypeIndex) → DossierAnswers (dossierAsked standard ts s) table (record { number = 4; «event_type» = k })
+    module _ (ps : List ℕ) (read : TableRead) (says : (h : Headed) → DossierIs s h d → TypeSays (typeNamed (h .head .type) ts) table ps read) where
+      pub answer-type : read .found ≡ false → (k : TypeIndex) → DossierAnswers (dossierAsked standard ts s) table k ps 4
       unfolding dossierAsked DossierAnswers
-      answer-type h k = let e : typeNamed (it .what .head .type) ts ≡ none = type-absent (typeNamed (it .what .head .type) ts) table read (says (it .what) (it .stands)) h in rw (it .is, e) refl
+      answer-type h k =
+          let absent = type-absent (typeNamed (it .what .head .type) ts) table ps read (says (it .what) (it .stands)) h in
+          let e : typeNamed (it .what .head .type) ts ≡ none = absent in
+          rw (it .is, e) refl
 
       module _ (e : tableOf table ≡ some ts) (f : read .found ≡ true) where
-        type : TypeFound (typeNamed (it .what .head .type) ts) table read
-        type = type-found (typeNamed (it .what .head .type) ts) table read (says (it .what) (it .stands)) f
+        type : TypeFound (typeNamed (it .what .head .type) ts) table ps read
+        type = type-found (typeNamed (it .what .head .type) ts) table ps read (says (it .what) (it .stands)) f
 
         pub answer-rest :
             (n : ℕ) →
-            ((u : List ℕ) (ty : EventType) (h : Headed) → TypeIs u ty (read .index) → KindsAre ty → DossierIs s h d → RowsAre s (h .snapshots) rows →
+            ((u : List ℕ) (ty : EventType) (h : Headed) → TypeIs u ty (read .index) ps → KindsAre ty → DossierIs s h d → RowsAre s (h .snapshots) rows →
             n ≡ shapeNumber (dossierShape standard ty (h .snapshots)) (eachSnapshot (snapshotValues ty) (h .snapshots))) →
-            DossierAnswers (dossierAsked standard ts s) table (record { number = n; «event_type» = read .index })
+            DossierAnswers (dossierAsked standard ts s) table (read .index) ps n
         unfolding dossierAsked DossierAnswers shapeNumber
         answer-rest n a =
             rw (it .is, type .is)
@@ -86,7 +89,7 @@ module _ (table : List ℕ) (ts : Table) (s rows : List ℕ) (d : DossierIndex) 
           where
             go :
                 (x y : Bool) → n ≡ shapeNumber x y →
-                DossierAnswers (ensure 5 x >> (ensure 6 y >> accepted (record { type = type .what; headed = it .what }))) table (record { number = n; «event_type» = read .index })
+                DossierAnswers (ensure 5 x >> (ensure 6 y >> accepted (record { type = type .what; headed = it .what }))) table (read .index) ps n
             go false y h = h
             go true false h = h
             go true true h = (h, type .stands)

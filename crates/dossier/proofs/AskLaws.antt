@@ -1,5 +1,5 @@
 -- The laws of questions 5 and 6 of all snapshots.
-use mathlib.Core.Path.{_≡_, refl, sym, ap, ap₂, _∙_, subst}
+use mathlib.Core.Path.{_≡_, refl, sym, ap, ap₂, _∙_}
 use mathlib.Core.Logic.{_⊎_, inl, inr, ⊎-elim}
 use mathlib.Core.Bool.{Bool, true, false, cond, not, _&&_, _||_}
 use mathlib.Core.List.{List, [], _∷_, map}
@@ -268,7 +268,7 @@ module _ (s : List ℕ) (h : Headed) (d : DossierIndex) (w : DossierIs s h d) wh
   pub first-sets : (rows : List ℕ) → RowsAre s (h .snapshots) rows → SetsAre s (map held (getD (h .snapshots) 0 noSnapshot .cells)) (rowOf rows 0)
   first-sets rows r = r .each 0 (omega (arith, w .one, w .count))
 
-  module _ (u : List ℕ) (ty : EventType) (t : TypeIndex) (v : TypeIs u ty t) where
+  module _ (u : List ℕ) (ty : EventType) (t : TypeIndex) (ps : List ℕ) (v : TypeIs u ty t ps) where
     lone-of : {r : Bool} → r ≡ (ltb 0 (t .mark) || eqb (d .count) 1) → r ≡ (isVersioned ty || eqb (length (h .snapshots)) 1)
     lone-of e = e ∙ ap₂ (λ (m n : ℕ). ltb 0 m || eqb n 1) (v .mark) (w .count)
 

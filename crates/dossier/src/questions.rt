@@ -73,9 +73,15 @@ fn is_lone(mark: usize, count: usize) -> bool
 }
 
 // Questions 5 and 6 of a dossier's snapshots.
-fn ask_snapshots(s: &[u8], d: DossierIndex, rows: &[usize], t: TypeIndex) -> u8
-    requires { ⌜ (t .count ≤ 32) × (d .count ≤ 8) × (length (now rows) ≡ 768) ⌝ }
-    ensures { λ r. ⌜ ((u : List ℕ) (ty : EventType) (h : Headed) → TypeIs u ty t → KindsAre ty → DossierIs (now (s .entry)) h d
+fn ask_snapshots(
+    s: &[u8],
+    d: DossierIndex,
+    rows: &[usize],
+    t: TypeIndex,
+    properties: &[usize],
+) -> u8
+    requires { ⌜ (t .count ≤ 32) × (d .count ≤ 8) × (length (now rows) ≡ 768) × (length (now properties) ≡ 96) ⌝ }
+    ensures { λ r. ⌜ ((u : List ℕ) (ty : EventType) (h : Headed) → TypeIs u ty t (now (properties .entry)) → KindsAre ty → DossierIs (now (s .entry)) h d
         → RowsAre (now (s .entry)) (h .snapshots) (now (rows .entry))
         → r ≡ shapeNumber (dossierShape standard ty (h .snapshots)) (eachSnapshot (snapshotValues ty) (h .snapshots))) ⌝ }
 {
@@ -98,7 +104,7 @@ fn ask_snapshots(s: &[u8], d: DossierIndex, rows: &[usize], t: TypeIndex) -> u8
             x,
             t.mark,
             t.count,
-            &t.properties,
+            properties,
         );
         if next == 5 {
             return 5;
@@ -107,12 +113,6 @@ fn ask_snapshots(s: &[u8], d: DossierIndex, rows: &[usize], t: TypeIndex) -> u8
         j += 1;
     }
     number
-}
-
-// A dossier that was asked questions 3 to 6: the number of the first that is answered no, or 0; and its type, where it is 0.
-pub struct DossierAsked {
-    pub number: u8,
-    pub event_type: TypeIndex,
 }
 
 // The name of a dossier's type, by which the table is read.
@@ -124,29 +124,28 @@ pub fn type_name(s: &[u8], d: DossierIndex) -> &[u8]
     text_part(s, name)
 }
 
-// Questions 3 to 6 of the dossier s, whose index is d. The table was read for the name of its type, and is read once for all dossiers of that type.
-pub fn ask_dossier(s: &[u8], d: DossierIndex, rows: &[usize], read: TableRead) -> DossierAsked
-    requires { ⌜ length (now rows) ≡ 768 ⌝ }
+// Questions 3 to 6 of the dossier s, whose index is d: the number of the first that is answered no, or 0. The table was read for the name of its type, and is
+// read once for all dossiers of that type.
+pub fn ask_dossier(
+    s: &[u8],
+    d: DossierIndex,
+    rows: &[usize],
+    read: TableRead,
+    properties: &[usize],
+) -> u8
+    requires { ⌜ (length (now rows) ≡ 768) × (length (now properties) ≡ 96) ⌝ }
     requires { ⌜ DossierReads (dossierOf standard (now s)) (now s) (now rows) d × (read .found ≡ true → read .index .count ≤ 32) ⌝ }
-    ensures { λ r. ⌜ ((table : List ℕ) (ts : Table) → tableOf table ≡ some ts → ((h : Headed) → DossierIs (now (s .entry)) h d → TypeSays (typeNamed (h .head .type) ts) table read) → DossierAnswers (dossierAsked standard ts (now (s .entry))) table r) ⌝ }
+    ensures { λ r. ⌜ ((table : List ℕ) (ts : Table) → tableOf table ≡ some ts
+        → ((h : Headed) → DossierIs (now (s .entry)) h d → TypeSays (typeNamed (h .head .type) ts) table (now (properties .entry)) read)
+        → DossierAnswers (dossierAsked standard ts (now (s .entry))) table (read .index) (now (properties .entry)) r) ⌝ }
 {
-    let event_type = read.index;
     if !d.ok {
-        return DossierAsked {
-            number: 3,
-            event_type,
-        };
+        return 3;
     }
     if !read.found {
-        return DossierAsked {
-            number: 4,
-            event_type,
-        };
+        return 4;
     }
-    DossierAsked {
-        number: ask_snapshots(s, d, rows, event_type),
-        event_type,
-    }
+    ask_snapshots(s, d, rows, read.index, properties)
 }
 
 // Question 7: whether two dossiers agree in type, source and match sets. The match sets of a dossier are those of its first snapshot.
@@ -157,10 +156,12 @@ pub fn dossiers_agree(
     b: &[u8],
     e: DossierIndex,
     right: &[usize],
-    t: TypeIndex,
+    count: usize,
+    properties: &[usize],
 ) -> bool
-    requires { ⌜ (t .count ≤ 32) × (length (now left) ≡ 768) × (length (now right) ≡ 768) ⌝ }
-    ensures { λ r. ⌜ ((u : List ℕ) (ty tz : EventType) (h g : Headed) → TypeIs u ty t → DossierIs (now (a .entry)) h d → DossierIs (now (b .entry)) g e
+    requires { ⌜ (count ≤ 32) × (length (now left) ≡ 768) × (length (now right) ≡ 768) × (length (now properties) ≡ 96) ⌝ }
+    ensures { λ r. ⌜ ((u : List ℕ) (ty tz : EventType) (h g : Headed) → PropertiesAre u (ty .properties) count (now (properties .entry))
+        → DossierIs (now (a .entry)) h d → DossierIs (now (b .entry)) g e
         → RowsAre (now (a .entry)) (h .snapshots) (now (left .entry)) → RowsAre (now (b .entry)) (g .snapshots) (now (right .entry))
         → (h .head .type ≡ g .head .type → ty ≡ tz)
         → r ≡ dossiersAgree (record { type = ty; headed = h }) (record { type = tz; headed = g })) ⌝ }
@@ -170,5 +171,5 @@ pub fn dossiers_agree(
     if !heads_agree(a, x, b, y) {
         return false;
     }
-    is_match_same(t.count, &t.properties, a, &left[0..96], b, &right[0..96])
+    is_match_same(count, properties, a, &left[0..96], b, &right[0..96])
 }

@@ -57,8 +57,10 @@ name-part counts s e a z h t = let g = sym (t .is) ∙ name-there counts s e h .
 
 -- ---- what asking answers
 
-pub with-counts : (k : Counts) (event : List ℕ) (x : EventIndex) (parents objects : ℕ) → parents ≡ k .parents → objects ≡ k .objects → EventReads (eventOf (counts parents objects) event) event x → EventReads (eventOf k event) event x
-with-counts k event x parents objects p o w = subst (λ (c : Counts). EventReads (eventOf c event) event x) (ap₂ counts p o) w
+pub with-counts :
+    (k : Counts) (event ats : List ℕ) (x : EventIndex) (parents objects : ℕ) → parents ≡ k .parents → objects ≡ k .objects →
+    EventReads (eventOf (counts parents objects) event) event ats x → EventReads (eventOf k event) event ats x
+with-counts k event ats x parents objects p o w = subst (λ (c : Counts). EventReads (eventOf c event) event ats x) (ap₂ counts p o) w
 
 -- the questions after 3, of a type and an event
 abbrev typed : EventType → Event → Asked Typed
@@ -67,48 +69,55 @@ typed t e = accepted (record { type = t; event = e })
 abbrev later : EventType → Event → Asked Typed
 later t e = questions._>>_ (ensure 5 (eventShape t e)) (questions._>>_ (ensure 6 (valuesFit t (e .sets))) (typed t e))
 
--- an event was read, and the table has its type
-pub record Met (table : List ℕ) (ts : Table) (event : List ℕ) (counts : Counts) (t : TableRead) (x : EventIndex) : Type 0 where
+-- an event was read, and the table has its type; ps are the numbers of the type's properties, ats those of the event's sets
+pub record Met (table : List ℕ) (ts : Table) (event ps ats : List ℕ) (counts : Counts) (t : TableRead) (x : EventIndex) : Type 0 where
   pub type : EventType
   pub e : Event
   pub is : eventAsked counts ts event ≡ later type e
-  pub type-is : TypeIs table type (t .index)
-  pub event-is : EventIs event e x
+  pub type-is : TypeIs table type (t .index) ps
+  pub event-is : EventIs event e x ats
   pub kinds : KindsAre type
 
-module _ (table : List ℕ) (ts : Table) (event : List ℕ) (counts : Counts) (x : EventIndex) (reads : EventReads (eventOf counts event) event x) where
-  pub no-event : (r : EventAsked) → x .ok ≡ false → r .number ≡ 3 → EventAnswers (eventAsked counts ts event) table event r
+module _ (table : List ℕ) (ts : Table) (event ps ats : List ℕ) (counts : Counts) (x : EventIndex)
+    (reads : EventReads (eventOf counts event) event ats x) where
+  pub no-event : (r : EventAsked) → x .ok ≡ false → r .number ≡ 3 → EventAnswers (eventAsked counts ts event) table event ps ats r
   unfolding EventReads EventAnswers eventAsked
   no-event r h n = go (eventOf counts event) reads
     where
-      go : (o : Option Event) → EventReads o event x → EventAnswers (questions._>>=_ (ask 3 o) (λ e. questions._>>=_ (ask 4 (typeNamed (e .head .type) ts)) (λ t. later t e))) table event r
+      go :
+          (o : Option Event) → EventReads o event ats x →
+          EventAnswers (questions._>>=_ (ask 3 o) (λ e. questions._>>=_ (ask 4 (typeNamed (e .head .type) ts)) (λ t. later t e))) table event ps ats r
       go none w = n
       go (some u) w = let z : _≡_ {A = Bool} true false = sym (w .0) ∙ h in let y : _≡_ {A = ℕ} 0 1 = cc in absurd (omega arith)
 
   module _ (ok : x .ok ≡ true) where
-    event-there : (e : Event) × (eventOf counts event ≡ some e) × EventIs event e x
+    event-there : (e : Event) × (eventOf counts event ≡ some e) × EventIs event e x ats
     unfolding EventReads
     event-there = go (eventOf counts event) refl reads
       where
-        go : (o : Option Event) → eventOf counts event ≡ o → EventReads o event x → (e : Event) × (eventOf counts event ≡ some e) × EventIs event e x
+        go : (o : Option Event) → eventOf counts event ≡ o → EventReads o event ats x → (e : Event) × (eventOf counts event ≡ some e) × EventIs event e x ats
         go none e w = let z : _≡_ {A = Bool} true false = sym ok ∙ w in let y : _≡_ {A = ℕ} 0 1 = cc in absurd (omega arith)
         go (some u) e w = (u, e, w .1)
 
-    so-far : (o : Option EventType) → typeNamed (event-there .0 .head .type) ts ≡ o → eventAsked counts ts event ≡ questions._>>=_ (ask 4 o) (λ y. later y (event-there .0))
+    so-far :
+        (o : Option EventType) → typeNamed (event-there .0 .head .type) ts ≡ o →
+        eventAsked counts ts event ≡ questions._>>=_ (ask 4 o) (λ y. later y (event-there .0))
     unfolding eventAsked
     so-far o h = rw (event-there .1, h)
 
-    module _ (t : TableRead) (says : (e : Event) → eventOf counts event ≡ some e → TypeSays (typeNamed (e .head .type) ts) table t) where
-      type-there : TypeSays (typeNamed (event-there .0 .head .type) ts) table t
+    module _ (t : TableRead) (says : (e : Event) → eventOf counts event ≡ some e → TypeSays (typeNamed (e .head .type) ts) table ps t) where
+      type-there : TypeSays (typeNamed (event-there .0 .head .type) ts) table ps t
       type-there = says (event-there .0) (event-there .1)
 
-      pub no-type : (r : EventAsked) → t .found ≡ false → r .number ≡ 4 → EventAnswers (eventAsked counts ts event) table event r
+      pub no-type : (r : EventAsked) → t .found ≡ false → r .number ≡ 4 → EventAnswers (eventAsked counts ts event) table event ps ats r
       unfolding EventAnswers
-      no-type r f n = subst (λ (q : Asked Typed). EventAnswers q table event r) (sym (so-far none (type-absent (typeNamed (event-there .0 .head .type) ts) table t type-there f))) n
+      no-type r f n =
+          let none-named = type-absent (typeNamed (event-there .0 .head .type) ts) table ps t type-there f in
+          subst (λ (q : Asked Typed). EventAnswers q table event ps ats r) (sym (so-far none none-named)) n
 
-      pub met : tableOf table ≡ some ts → t .found ≡ true → Met table ts event counts t x
+      pub met : tableOf table ≡ some ts → t .found ≡ true → Met table ts event ps ats counts t x
       met h f =
-          let y = type-found (typeNamed (event-there .0 .head .type) ts) table t type-there f in
+          let y = type-found (typeNamed (event-there .0 .head .type) ts) table ps t type-there f in
           record {
             type = y .what;
             e = event-there .0;
@@ -118,45 +127,55 @@ module _ (table : List ℕ) (ts : Table) (event : List ℕ) (counts : Counts) (x
             kinds = table-kinds table ts (event-there .0 .head .type) (y .what) h (y .is);
           }
 
-module _ (table : List ℕ) (ts : Table) (event : List ℕ) (counts : Counts) (t : TableRead) (x : EventIndex) (m : Met table ts event counts t x) (r : EventAsked) where
-  pub no-shape : false ≡ eventShape (m .type) (m .e) → r .number ≡ 5 → EventAnswers (eventAsked counts ts event) table event r
+module _ (table : List ℕ) (ts : Table) (event ps ats : List ℕ) (counts : Counts) (t : TableRead) (x : EventIndex)
+    (m : Met table ts event ps ats counts t x) (r : EventAsked) where
+  pub no-shape : false ≡ eventShape (m .type) (m .e) → r .number ≡ 5 → EventAnswers (eventAsked counts ts event) table event ps ats r
   unfolding EventAnswers
   no-shape h n = rw (m .is, ← h) n
 
-  pub no-values : true ≡ eventShape (m .type) (m .e) → false ≡ valuesFit (m .type) (m .e .sets) → r .number ≡ 6 → EventAnswers (eventAsked counts ts event) table event r
+  pub no-values :
+      true ≡ eventShape (m .type) (m .e) → false ≡ valuesFit (m .type) (m .e .sets) → r .number ≡ 6 →
+      EventAnswers (eventAsked counts ts event) table event ps ats r
   unfolding EventAnswers
   no-values h k n = rw (m .is, ← h, ← k) n
 
-  pub all-met : true ≡ eventShape (m .type) (m .e) → true ≡ valuesFit (m .type) (m .e .sets) → r .number ≡ 0 → TypeIs table (m .type) (r .«event_type») → EventIs event (m .e) (r .event) → EventAnswers (eventAsked counts ts event) table event r
+  pub all-met :
+      true ≡ eventShape (m .type) (m .e) → true ≡ valuesFit (m .type) (m .e .sets) → r .number ≡ 0 →
+      TypeIs table (m .type) (r .«event_type») ps → EventIs event (m .e) (r .event) ats →
+      EventAnswers (eventAsked counts ts event) table event ps ats r
   unfolding EventAnswers
   all-met h k n u v = rw (m .is, ← h, ← k) (n, u, v)
 
 -- ---- question 2
 
-module _ (table event : List ℕ) (counts : Counts) (name : Text) (t : TableRead) (says : TableSays (tableOf table) table name t) (r : EventAsked) where
-  pub no-table : t .ok ≡ false → r .number ≡ 2 → EventAnswers (eventQuestions counts table event) table event r
+module _ (table event ps ats : List ℕ) (counts : Counts) (name : Text) (t : TableRead)
+    (says : TableSays (tableOf table) table name ps t) (r : EventAsked) where
+  pub no-table : t .ok ≡ false → r .number ≡ 2 → EventAnswers (eventQuestions counts table event) table event ps ats r
   unfolding EventAnswers
-  no-table h n = rw (table-refused table name t says h) n
+  no-table h n = rw (table-refused table name ps t says h) n
 
 -- where the table is read, the questions are those that follow, and it says what it has of the event's type
-module _ (table event : List ℕ) (counts : Counts) (ts : Table) (h : tableOf table ≡ some ts) where
-  pub with-table : (r : EventAsked) → EventAnswers (eventAsked counts ts event) table event r → EventAnswers (eventQuestions counts table event) table event r
-  with-table r w = subst (λ (o : Option Table). EventAnswers (questions._>>=_ (ask 2 o) (λ us. eventAsked counts us event)) table event r) (sym h) w
+module _ (table event ps : List ℕ) (counts : Counts) (ts : Table) (h : tableOf table ≡ some ts) where
+  pub with-table :
+      (ats : List ℕ) (r : EventAsked) → EventAnswers (eventAsked counts ts event) table event ps ats r →
+      EventAnswers (eventQuestions counts table event) table event ps ats r
+  with-table ats r w =
+      subst (λ (o : Option Table). EventAnswers (questions._>>=_ (ask 2 o) (λ us. eventAsked counts us event)) table event ps ats r) (sym h) w
 
   pub type-of-event :
-      (name : Text) (t : TableRead) → TypeSays (typeNamed name ts) table t → ((e : Event) → eventOf counts event ≡ some e → name ≡ e .head .type) →
-      (e : Event) → eventOf counts event ≡ some e → TypeSays (typeNamed (e .head .type) ts) table t
-  type-of-event name t says names e k = subst (λ (n : Text). TypeSays (typeNamed n ts) table t) (names e k) says
+      (name : Text) (t : TableRead) → TypeSays (typeNamed name ts) table ps t → ((e : Event) → eventOf counts event ≡ some e → name ≡ e .head .type) →
+      (e : Event) → eventOf counts event ≡ some e → TypeSays (typeNamed (e .head .type) ts) table ps t
+  type-of-event name t says names e k = subst (λ (n : Text). TypeSays (typeNamed n ts) table ps t) (names e k) says
 
 -- ---- what is known after asking
 
 -- an event that was accepted
-pub record Accepted (counts : Counts) (table event : List ℕ) (r : EventAsked) : Type 0 where
+pub record Accepted (counts : Counts) (table event ps ats : List ℕ) (r : EventAsked) : Type 0 where
   pub type : EventType
   pub e : Event
   pub is : eventQuestions counts table event ≡ accepted (record { type = type; event = e })
-  pub type-is : TypeIs table type (r .«event_type»)
-  pub event-is : EventIs event e (r .event)
+  pub type-is : TypeIs table type (r .«event_type») ps
+  pub event-is : EventIs event e (r .event) ats
 
 -- no question has the number 0
 never-zero : (counts : Counts) (table event : List ℕ) (n : ℕ) → eventQuestions counts table event ≡ refused n → 0 < n
@@ -175,7 +194,9 @@ never-zero counts table event n e = first (tableOf table) e
     third u none e = above 4 (omega arith) e
     third u (some y) e = fourth y u (eventShape y u) (valuesFit y (u .sets)) e
 
-    second : (ts : Table) (o : Option Event) → questions._>>=_ (ask 3 o) (λ u. questions._>>=_ (ask 4 (typeNamed (u .head .type) ts)) (λ y. later y u)) ≡ refused n → 0 < n
+    second :
+        (ts : Table) (o : Option Event) →
+        questions._>>=_ (ask 3 o) (λ u. questions._>>=_ (ask 4 (typeNamed (u .head .type) ts)) (λ y. later y u)) ≡ refused n → 0 < n
     second ts none e = above 3 (omega arith) e
     second ts (some u) e = third u (typeNamed (u .head .type) ts) e
 
@@ -183,19 +204,25 @@ never-zero counts table event n e = first (tableOf table) e
     first none e = above 2 (omega arith) e
     first (some ts) e = second ts (eventOf counts event) e
 
-pub accepted-is : (counts : Counts) (table event : List ℕ) (r : EventAsked) → EventAnswers (eventQuestions counts table event) table event r → r .number ≡ 0 → Accepted counts table event r
+pub accepted-is :
+    (counts : Counts) (table event ps ats : List ℕ) (r : EventAsked) → EventAnswers (eventQuestions counts table event) table event ps ats r →
+    r .number ≡ 0 → Accepted counts table event ps ats r
 unfolding EventAnswers
-accepted-is counts table event r w h = go (eventQuestions counts table event) refl w
+accepted-is counts table event ps ats r w h = go (eventQuestions counts table event) refl w
   where
-    go : (q : Asked Typed) → eventQuestions counts table event ≡ q → EventAnswers q table event r → Accepted counts table event r
+    go : (q : Asked Typed) → eventQuestions counts table event ≡ q → EventAnswers q table event ps ats r → Accepted counts table event ps ats r
     go (refused n) e w = absurd (omega (arith, never-zero counts table event n e, w))
     go (accepted a) e w = record { type = a .type; e = a .event; is = e; type-is = w .1; event-is = w .2 }
 
-pub refused-is : (counts : Counts) (table event : List ℕ) (r : EventAsked) → EventAnswers (eventQuestions counts table event) table event r → (r .number ≡ 0 → ⊥) → eventQuestions counts table event ≡ refused (r .number)
+pub refused-is :
+    (counts : Counts) (table event ps ats : List ℕ) (r : EventAsked) → EventAnswers (eventQuestions counts table event) table event ps ats r →
+    (r .number ≡ 0 → ⊥) → eventQuestions counts table event ≡ refused (r .number)
 unfolding EventAnswers
-refused-is counts table event r w h = go (eventQuestions counts table event) refl w
+refused-is counts table event ps ats r w h = go (eventQuestions counts table event) refl w
   where
-    go : (q : Asked Typed) → eventQuestions counts table event ≡ q → EventAnswers q table event r → eventQuestions counts table event ≡ refused (r .number)
+    go :
+        (q : Asked Typed) → eventQuestions counts table event ≡ q → EventAnswers q table event ps ats r →
+        eventQuestions counts table event ≡ refused (r .number)
     go (refused n) e w = e ∙ ap refused (sym w)
     go (accepted a) e w = absurd (h (w .0))
 
@@ -216,7 +243,7 @@ module _ (table event : List ℕ) (place index : ℕ) where
   unfolding valueCall askedPart
   value-refused n e = ap (askedPart place index) e
 
-  module _ (r : EventAsked) (a : Accepted wide table event r) where
+  module _ (ps ats : List ℕ) (r : EventAsked) (a : Accepted wide table event ps ats r) where
     pub value-missing : getElem? (setAt (a .e) place) index ≡ none → valueCall table event place index ≡ nothing
     unfolding valueCall askedPart partOf
     value-missing h = ap (askedPart place index) (a .is) ∙ ap (partOf (a .e) place index) h

@@ -16,7 +16,7 @@ use Rattle.packed.proofs.ReadLaws.{drop-next, NumberStops, stretch}
 use Rattle.event.specs.Event.{Event, objectCount}
 use Rattle.event.specs.Head.{Head, readHead, headBytes}
 use Rattle.event.specs.EventLayout.{readBits, readSets, Counts, readEvent, eventOf, setsBytes}
-use Rattle.event.specs.code.EventIndex.{SetsAre, SetsStop, HeadStops, EventReads}
+use Rattle.event.specs.code.EventIndex.{SetsStop, HeadStops, EventReads}
 use Rattle.event.proofs.HeadLayoutLaws.{head-was}
 use Rattle.event.proofs.EventLayoutLaws.{readBody, sets-was}
 use Rattle.event.specs.declared.head.HeadAt.{HeadAt}
@@ -34,9 +34,9 @@ event-then : (counts : Counts) (s : List ℕ) → readEvent counts s ≡ andThen
 unfolding readEvent
 event-then counts s = refl
 
-pub event-none : (o : Option Event) (s : List ℕ) (x : EventIndex) → o ≡ none → x .ok ≡ false → EventReads o s x
+pub event-none : (o : Option Event) (s ats : List ℕ) (x : EventIndex) → o ≡ none → x .ok ≡ false → EventReads o s ats x
 unfolding EventReads
-event-none o s x e h = rw e h
+event-none o s ats x e h = rw e h
 
 pub no-head : (counts : Counts) (s : List ℕ) → readHead (counts .parents) s ≡ fail → eventOf counts s ≡ none
 unfolding eventOf
@@ -94,8 +94,8 @@ module _ (counts : Counts) (s : List ℕ) (h : HeadAt) (w : HeadStops (readHead 
               rw (after-sets [] at-end, lt-leb _ _ l)
 
           pub event-found :
-              objects ≤ counts .objects → EventReads (eventOf counts s) s
-              (record { ok = true; head = h; presence = n; «after_presence» = next; objects = objects; sets = ats })
+              objects ≤ counts .objects → EventReads (eventOf counts s) s ats
+              (record { ok = true; head = h; presence = n; «after_presence» = next; objects = objects })
           unfolding eventOf EventReads
           event-found k =
               let l : objectCount (t .what) ≤ counts .objects = omega (arith, t .summed) in

@@ -275,7 +275,8 @@ no-place [] place index h = refl
 no-place (x ∷ xs) zero index h = absurd (omega arith)
 no-place (x ∷ xs) (suc place) index h = no-place xs place index (omega arith)
 
-module _ (s : List ℕ) (small : length s < 2 ^ 64) (e : Event) (x : EventIndex) (w : EventIs s e x) (place index : ℕ) (p : place < 32) (i : index < length (setAt e place)) where
+module _ (s : List ℕ) (small : length s < 2 ^ 64) (e : Event) (x : EventIndex) (ats : List ℕ) (w : EventIs s e x ats)
+    (place index : ℕ) (p : place < 32) (i : index < length (setAt e place)) where
   long : place < length (e .sets)
   long = omega (arith, w .sets .long)
 

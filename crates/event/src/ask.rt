@@ -2,6 +2,7 @@ ghost use Prim.Native.Nat.{ℕ};
 ghost use mathlib.Core.Path.{_≡_};
 ghost use mathlib.Core.Option.{some};
 ghost use mathlib.Core.List.{List};
+ghost use lib.ListN.{length};
 ghost use Rattle.model.specs.Order.{Text};
 ghost use Rattle.ontology.specs.TableLayout.{tableOf};
 ghost use Rattle.ontology.specs.code.TypeIndex.{TableSays};
@@ -75,15 +76,23 @@ fn refused_with(number: u8, event_type: TypeIndex) -> EventAsked
 }
 
 // Questions 2 to 6 of an event. The table was read for the name of its type, and is read once for all events of that type.
-pub fn ask_typed(event: &[u8], read: TableRead, counts: EventCounts) -> EventAsked
-    ensures { λ r. ⌜ ((table : List ℕ) (name : Text) → TableSays (tableOf table) table name read
+pub fn ask_typed(
+    event: &[u8],
+    read: TableRead,
+    properties: &[usize],
+    counts: EventCounts,
+    sets: &mut [usize],
+) -> EventAsked
+    requires { ⌜ (length (now properties) ≡ 96) × (length (now sets) ≡ 96) ⌝ }
+    ensures { λ r. ⌜ ((table : List ℕ) (name : Text) → TableSays (tableOf table) table name (now (properties .entry)) read
         → ((e : Event) → eventOf (countsOf counts) (now (event .entry)) ≡ some e → name ≡ e .head .type)
-        → EventAnswers (eventQuestions (countsOf counts) table (now (event .entry))) table (now (event .entry)) r) ⌝ }
+        → EventAnswers (eventQuestions (countsOf counts) table (now (event .entry))) table (now (event .entry))
+        (now (properties .entry)) (now (sets .exit)) r) ⌝ }
 {
     if !read.ok {
         return refused_with(2, read.index);
     }
-    let e = read_event(event, most_parents(counts), most_objects(counts));
+    let e = read_event(event, most_parents(counts), most_objects(counts), sets);
     if !e.ok {
         return refused_with(3, read.index);
     }
@@ -91,10 +100,10 @@ pub fn ask_typed(event: &[u8], read: TableRead, counts: EventCounts) -> EventAsk
         return refused_with(4, read.index);
     }
     let t = read.index;
-    if !shape_ok(t.count, &t.properties, e.objects, &e.sets) {
+    if !shape_ok(t.count, properties, e.objects, sets) {
         return refused_with(5, t);
     }
-    if !sets_in_space(event, &e.sets, t.count, &t.properties) {
+    if !sets_in_space(event, sets, t.count, properties) {
         return refused_with(6, t);
     }
     EventAsked {
@@ -105,22 +114,33 @@ pub fn ask_typed(event: &[u8], read: TableRead, counts: EventCounts) -> EventAsk
 }
 
 // The same of a table that is not read yet: it is read once, for the name that the event begins with.
-pub fn ask_event(table: &[u8], event: &[u8], counts: EventCounts) -> EventAsked
-    ensures { λ r. ⌜ EventAnswers (eventQuestions (countsOf counts) (now (table .entry)) (now (event .entry))) (now (table .entry)) (now (event .entry)) r ⌝ }
+pub fn ask_event(
+    table: &[u8],
+    event: &[u8],
+    counts: EventCounts,
+    properties: &mut [usize],
+    sets: &mut [usize],
+) -> EventAsked
+    requires { ⌜ (length (now properties) ≡ 96) × (length (now sets) ≡ 96) ⌝ }
+    ensures { λ r. ⌜ EventAnswers (eventQuestions (countsOf counts) (now (table .entry)) (now (event .entry))) (now (table .entry)) (now (event .entry))
+        (now (properties .exit)) (now (sets .exit)) r ⌝ }
 {
-    ask_typed(event, read_table(table, type_name(event)), counts)
+    let read = read_table(table, type_name(event), properties);
+    ask_typed(event, read, properties, counts, sets)
 }
 
 // The value at a place and an index: its own bytes in the event. A refused table or event, or no value there, gives a part of 0 bytes.
 pub fn value<'a>(table: &[u8], event: &'a [u8], place: usize, index: usize) -> &'a [u8]
     ensures { λ r. ⌜ (now r, r .ptr) ≡ lentFrom (event .entry .ptr) (valueCall (now (table .entry)) (now (event .entry)) place index) ⌝ }
 {
-    let asked = ask_event(table, event, EventCounts::Wide);
+    let mut properties = [0usize; 96];
+    let mut sets = [0usize; 96];
+    let asked = ask_event(table, event, EventCounts::Wide, &mut properties, &mut sets);
     if asked.number != 0 {
         return &event[0..0];
     }
     let x = asked.event;
-    match find_value(event, x, place, index) {
+    match find_value(event, x, &sets, place, index) {
         ValueAt::Value(start, end) => &event[start..end],
         ValueAt::NoValue => &event[0..0],
     }

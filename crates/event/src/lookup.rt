@@ -62,13 +62,20 @@ fn sets_below(presence: u64, place: usize) -> u32
 }
 
 // The value at a place and an index of an event.
-pub fn find_value(event: &[u8], x: EventIndex, place: usize, index: usize) -> ValueAt
-    ensures { λ r. ⌜ ((e : Event) → EventIs (now (event .entry)) e x → ValueFound (now (event .entry)) e place index r) ⌝ }
+pub fn find_value(
+    event: &[u8],
+    x: EventIndex,
+    sets: &[usize],
+    place: usize,
+    index: usize,
+) -> ValueAt
+    requires { ⌜ length (now sets) ≡ 96 ⌝ }
+    ensures { λ r. ⌜ ((e : Event) → EventIs (now (event .entry)) e x (now (sets .entry)) → ValueFound (now (event .entry)) e place index r) ⌝ }
 {
     if 31 < place {
         return ValueAt::NoValue;
     }
-    let set = set_at(&x.sets, place);
+    let set = set_at(sets, place);
     if set.count <= index {
         return ValueAt::NoValue;
     }

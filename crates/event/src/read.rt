@@ -1,5 +1,6 @@
 ghost use mathlib.Core.Path.{_≡_};
 ghost use mathlib.Core.Bool.{false};
+ghost use lib.ListN.{length};
 ghost use Rattle.event.specs.EventLayout.{eventOf};
 ghost use Rattle.event.specs.code.EventIndex.{EventReads, counts};
 use crate::head::HeadAt;
@@ -11,14 +12,13 @@ use crate::sets::read_sets;
 use packed::read::NumberAt;
 use packed::read::read_number;
 
-// Where each thing of an event stands.
+// Where each thing of an event stands. Where its sets stand is lent beside it, as 96 numbers.
 pub struct EventIndex {
     pub ok: bool,
     pub head: HeadAt,
     pub presence: u64,
     pub after_presence: usize,
     pub objects: usize,
-    pub sets: [usize; 96],
 }
 
 pub fn no_event() -> EventIndex
@@ -30,13 +30,18 @@ pub fn no_event() -> EventIndex
         presence: 0,
         after_presence: 0,
         objects: 0,
-        sets: [0; 96],
     }
 }
 
 // The index of an event that the bytes are, to their exact end.
-pub fn read_event(s: &[u8], most_parents: usize, most_objects: usize) -> EventIndex
-    ensures { λ r. ⌜ EventReads (eventOf (counts «most_parents» «most_objects») (now (s .entry))) (now (s .entry)) r ⌝ }
+pub fn read_event(
+    s: &[u8],
+    most_parents: usize,
+    most_objects: usize,
+    sets: &mut [usize],
+) -> EventIndex
+    requires { ⌜ length (now sets) ≡ 96 ⌝ }
+    ensures { λ r. ⌜ EventReads (eventOf (counts «most_parents» «most_objects») (now (s .entry))) (now (s .entry)) (now (sets .exit)) r ⌝ }
 {
     let HeadRead::Head(head) = read_head(s, most_parents) else {
         return no_event();
@@ -48,8 +53,7 @@ pub fn read_event(s: &[u8], most_parents: usize, most_objects: usize) -> EventIn
     if 4294967296 <= presence {
         return no_event();
     }
-    let mut sets = [0usize; 96];
-    let SetsRead::Sets { next, objects } = read_sets(s, after_presence, presence, false, &mut sets)
+    let SetsRead::Sets { next, objects } = read_sets(s, after_presence, presence, false, sets)
     else {
         return no_event();
     };
@@ -65,6 +69,5 @@ pub fn read_event(s: &[u8], most_parents: usize, most_objects: usize) -> EventIn
         presence,
         after_presence,
         objects,
-        sets,
     }
 }

@@ -72,21 +72,23 @@ hash-short table event ts a t h =
     hash-fits (a .type) (a .event) (event-was wide event (a .event) (w .read) .1) (w .shape) (w .values) n p
 
 pub text-short :
-    (table event : List ℕ) (r : EventAsked) (a : Accepted wide table event r) →
+    (table event ps ats : List ℕ) (r : EventAsked) (a : Accepted wide table event ps ats r) →
     (matchCount (a .type .properties) (a .e .sets) ≤ 32) × (length (eventText (a .type) (a .e)) ≤ hashTextCapacity)
-text-short table event r a =
+text-short table event ps ats r a =
     let o = of-table table event (record { type = a .type; event = a .e }) (a .is) in
     let w = event-accepted wide (o .what) event (a .type) (a .e) (o .asked) in
     (event-match (a .type) (a .e) (w .shape), hash-short table event (o .what) (record { type = a .type; event = a .e }) (o .is) (o .asked))
 
-abbrev pub hashable : (table event : List ℕ) (r : EventAsked) → Accepted wide table event r → Hashable table event (r .«event_type») (r .event)
-hashable table event r a = record {
+abbrev pub hashable :
+    (table event ps ats : List ℕ) (r : EventAsked) → Accepted wide table event ps ats r →
+    Hashable table event (r .«event_type») ps (r .event) ats
+hashable table event ps ats r a = record {
   type = a .type;
   event = a .e;
   typed = a .type-is;
   read = a .event-is;
-  few = text-short table event r a .0;
-  short = text-short table event r a .1;
+  few = text-short table event ps ats r a .0;
+  short = text-short table event ps ats r a .1;
 }
 
 -- ---- the questions
@@ -121,12 +123,12 @@ module _ (table event out : List ℕ) where
   unfolding hashTextCall hashTextAnswer
   text-refused n h e = rw (asked-refused table event hashTextCapacity (length out) n h e)
 
-  module _ (r : EventAsked) (a : Accepted wide table event r) (new : List ℕ) where
+  module _ (ps ats : List ℕ) (r : EventAsked) (a : Accepted wide table event ps ats r) (new : List ℕ) where
     pub text-done : (n : ℕ) → hashTextCapacity ≤ length out → Wrote out 0 (eventText (a .type) (a .e)) new n → replies (Done n) new ≡ hashTextCall table event out
     unfolding hashTextCall hashTextAnswer
     text-done n h w =
         let x = eventText (a .type) (a .e) in
-        let s : 0 + length x ≤ length out = omega (arith, text-short table event r a .1) in
+        let s : 0 + length x ≤ length out = omega (arith, text-short table event ps ats r a .1) in
         let m : n ≡ length x = omega (arith, w .after) in
         rw (asked-accepted table event hashTextCapacity (length out) (a .type) (a .e) h (a .is))
         (ap₂ (λ (k : ℕ) (l : List ℕ). replies (Done k) l) m (wrote-between s w ∙ ap (λ (k : ℕ). x ++ drop k out) m))

@@ -9,7 +9,6 @@ use Rattle.packed.specs.Packed.{part}
 use Rattle.packed.specs.code.Strings.{stringOf, stringsOf, StringFits, noString, StringsFit}
 use Rattle.packed.specs.code.Written.{Wrote, ToGo}
 use Rattle.packed.specs.declared.strings.StringAt.{StringAt}
-use Rattle.packed.specs.declared.strings.Strings.{Strings}
 use Rattle.packed.proofs.ReadLaws.{part-length}
 use Rattle.packed.proofs.StringLaws.{drop-next, first-length, string-length, strings-length, string-at}
 use Rattle.packed.proofs.WriteLaws.{wrote-length, wrote-then, all-gone}
@@ -53,64 +52,59 @@ following-first s (r ∷ ss) =
     ∙ append-assoc s separator (r ++ following ss)
     ∙ ap (λ (l : List ℕ). s ++ l) (sym (append-assoc separator r (following ss)))
 
-module _ (table event : List ℕ) (objects : Strings) where
-  strings-none : objects .count ≡ 0 → separated (stringsOf table event objects) ≡ []
+module _ (table event : List ℕ) (objects : List StringAt) (count : ℕ) where
+  abbrev ss : List Text
+  ss = stringsOf table event objects count
+
+  abbrev string : ℕ → Text
+  string i = stringOf table event (getD objects i noString)
+
+  strings-none : count ≡ 0 → separated ss ≡ []
   unfolding separated stringsOf
   strings-none e = rw e
 
-  pub wrote-none : (l : List ℕ) (at : ℕ) → objects .count ≡ 0 → Wrote l at (separated (stringsOf table event objects)) l at
+  pub wrote-none : (l : List ℕ) (at : ℕ) → count ≡ 0 → Wrote l at (separated ss) l at
   wrote-none l at e = rw (strings-none e) (record { bytes = refl; after = omega arith })
 
-  module _ (fits : StringsFit table event objects) where
-    in-array : objects .count ≤ length (objects .at)
+  module _ (fits : StringsFit table event objects count) where
+    in-array : count ≤ length objects
     in-array = omega (arith, fits .few, fits .long)
 
-    strings-drop :
-        (i : ℕ) → i < objects .count →
-        drop i (stringsOf table event objects) ≡ stringOf table event (getD (objects .at) i noString) ∷ drop (i + 1) (stringsOf table event objects)
+    strings-drop : (i : ℕ) → i < count → drop i ss ≡ string i ∷ drop (i + 1) ss
     strings-drop i h =
-        drop-next (stringsOf table event objects) i (stringOf table event noString) (omega (arith, strings-length table event objects in-array))
-        ∙ ap (λ (s : Text). s ∷ drop (i + 1) (stringsOf table event objects)) (string-at table event objects i h)
+        drop-next ss i (stringOf table event noString) (omega (arith, strings-length table event objects count in-array))
+        ∙ ap (λ (s : Text). s ∷ drop (i + 1) ss) (string-at table event objects count i h)
 
-    strings-first :
-        0 < objects .count →
-        separated (stringsOf table event objects) ≡ stringOf table event (getD (objects .at) 0 noString) ++ following (drop 1 (stringsOf table event objects))
-    strings-first h =
-        ap separated (strings-drop 0 h) ∙ following-first (stringOf table event (getD (objects .at) 0 noString)) (drop 1 (stringsOf table event objects))
+    strings-first : 0 < count → separated ss ≡ string 0 ++ following (drop 1 ss)
+    strings-first h = ap separated (strings-drop 0 h) ∙ following-first (string 0) (drop 1 ss)
 
-    pub strings-next :
-        (i : ℕ) → i < objects .count →
-        following (drop i (stringsOf table event objects))
-        ≡ (separator ++ stringOf table event (getD (objects .at) i noString)) ++ following (drop (i + 1) (stringsOf table event objects))
+    pub strings-next : (i : ℕ) → i < count → following (drop i ss) ≡ (separator ++ string i) ++ following (drop (i + 1) ss)
     unfolding following
     strings-next i h = ap following (strings-drop i h)
 
-    strings-last : (i : ℕ) → objects .count ≤ i → following (drop i (stringsOf table event objects)) ≡ []
+    strings-last : (i : ℕ) → count ≤ i → following (drop i ss) ≡ []
     unfolding following
     strings-last i h =
-        let l : length (stringsOf table event objects) ≤ i = omega (arith, strings-length table event objects in-array) in
-        ap following (drop-of-length-le (stringsOf table event objects) l)
+        let l : length ss ≤ i = omega (arith, strings-length table event objects count in-array) in
+        ap following (drop-of-length-le ss l)
 
-    module _ (some : 0 < objects .count) where
-      pub room-first :
-          (at n : ℕ) → at + length (separated (stringsOf table event objects)) ≤ n →
-          at + length (stringOf table event (getD (objects .at) 0 noString)) ≤ n
+    module _ (some : 0 < count) where
+      pub room-first : (at n : ℕ) → at + length (separated ss) ≤ n → at + length (string 0) ≤ n
       room-first at n h =
-          let l = length-append (stringOf table event (getD (objects .at) 0 noString)) (following (drop 1 (stringsOf table event objects))) in
+          let l = length-append (string 0) (following (drop 1 ss)) in
           omega (arith, ap length (strings-first some), l)
 
       pub room-next :
-          (l₀ l₁ l : List ℕ) (at b p i : ℕ) → at + length (separated (stringsOf table event objects)) ≤ length l₀ →
-          Wrote l₀ at (stringOf table event (getD (objects .at) 0 noString)) l₁ b →
-          ToGo l₁ b (following (drop 1 (stringsOf table event objects))) l p (following (drop i (stringsOf table event objects))) → i < objects .count →
-          p + length (separator ++ stringOf table event (getD (objects .at) i noString)) ≤ length l
+          (l₀ l₁ l : List ℕ) (at b p i : ℕ) → at + length (separated ss) ≤ length l₀ → Wrote l₀ at (string 0) l₁ b →
+          ToGo l₁ b (following (drop 1 ss)) l p (following (drop i ss)) → i < count →
+          p + length (separator ++ string i) ≤ length l
       room-next l₀ l₁ l at b p i h w g k =
           omega (
             arith,
             ap length (strings-first some),
-            length-append (stringOf table event (getD (objects .at) 0 noString)) (following (drop 1 (stringsOf table event objects))),
+            length-append (string 0) (following (drop 1 ss)),
             ap length (strings-next i k),
-            length-append (separator ++ stringOf table event (getD (objects .at) i noString)) (following (drop (i + 1) (stringsOf table event objects))),
+            length-append (separator ++ string i) (following (drop (i + 1) ss)),
             w .after,
             wrote-length w,
             g .after,
@@ -118,7 +112,7 @@ module _ (table event : List ℕ) (objects : Strings) where
           )
 
       pub wrote-all :
-          (l₀ l₁ l : List ℕ) (at b p i : ℕ) → Wrote l₀ at (stringOf table event (getD (objects .at) 0 noString)) l₁ b →
-          ToGo l₁ b (following (drop 1 (stringsOf table event objects))) l p (following (drop i (stringsOf table event objects))) → objects .count ≤ i →
-          Wrote l₀ at (separated (stringsOf table event objects)) l p
+          (l₀ l₁ l : List ℕ) (at b p i : ℕ) → Wrote l₀ at (string 0) l₁ b →
+          ToGo l₁ b (following (drop 1 ss)) l p (following (drop i ss)) → count ≤ i →
+          Wrote l₀ at (separated ss) l p
       wrote-all l₀ l₁ l at b p i w g k = rw (strings-first some) (wrote-then w (all-gone g (strings-last i k)))

@@ -16,13 +16,15 @@ pub fn hash_text(table: &[u8], event: &[u8], out: &mut [u8]) -> Reply
     if out.len() < HASH_TEXT_CAPACITY {
         return Reply::Refused(1);
     }
-    let asked = ask_event(table, event, EventCounts::Wide);
+    let mut properties = [0usize; 96];
+    let mut sets = [0usize; 96];
+    let asked = ask_event(table, event, EventCounts::Wide, &mut properties, &mut sets);
     if asked.number != 0 {
         return Reply::Refused(asked.number);
     }
     let event_type = asked.event_type;
     let x = asked.event;
-    Reply::Done(write_hash_text(table, event, event_type, x, out))
+    Reply::Done(write_hash_text(table, event, event_type, &properties, x, &sets, out))
 }
 
 // The hash of an event, SHA-1 of its hash text, written at the front of `out`.

@@ -1,11 +1,12 @@
 ghost use Prim.Native.Nat.{_+_, _≤_};
+ghost use mathlib.Core.Path.{_≡_};
 ghost use mathlib.Core.List.{_++_};
 ghost use lib.ListN.{length};
-ghost use Rattle.packed.specs.code.Strings.{stringOf, stringsOf, StringFits, StringsFit};
+ghost use Rattle.packed.specs.code.Strings.{stringOf, stringsOf, StringFits, stringsIn, StringsFit};
 ghost use Rattle.packed.specs.code.Written.{Wrote};
 ghost use Rattle.hashing.specs.HashText.{separator, separated};
 use packed::strings::StringAt;
-use packed::strings::Strings;
+use packed::strings::string_at;
 use packed::write::copy;
 use packed::write::copy_part;
 
@@ -28,25 +29,28 @@ fn write_next(table: &[u8], event: &[u8], x: StringAt, out: &mut [u8], at: usize
     write_object(table, event, x, out, after_separator)
 }
 
-// The strings of the objects, with four bytes FF between.
+// The strings of the first `count` objects, with four bytes FF between.
 pub fn write_objects(
     table: &[u8],
     event: &[u8],
-    objects: Strings,
+    objects: &[usize],
+    count: usize,
     out: &mut [u8],
     at: usize,
 ) -> usize
-    requires { ⌜ StringsFit (now table) (now event) objects × (at + length (separated (stringsOf (now table) (now event) objects)) ≤ length (now out)) ⌝ }
-    ensures { λ r. ⌜ Wrote (now (out .entry)) at (separated (stringsOf (now (table .entry)) (now (event .entry)) objects)) (now (out .exit)) r ⌝ }
+    requires { ⌜ StringsFit (now table) (now event) (stringsIn (now objects)) count
+        × (at + length (separated (stringsOf (now table) (now event) (stringsIn (now objects)) count)) ≤ length (now out)) × (length (now objects) ≡ 128) ⌝ }
+    ensures { λ r. ⌜ Wrote (now (out .entry)) at (separated (stringsOf (now (table .entry)) (now (event .entry)) (stringsIn (now (objects .entry))) count))
+        (now (out .exit)) r ⌝ }
 {
-    if objects.count == 0 {
+    if count == 0 {
         return at;
     }
-    let first = objects.at[0];
+    let first = string_at(objects, 0);
     let mut next = write_object(table, event, first, out, at);
     let mut i: usize = 1;
-    while i < objects.count {
-        let x = objects.at[i];
+    while i < count {
+        let x = string_at(objects, i);
         next = write_next(table, event, x, out, next);
         i += 1;
     }

@@ -1,4 +1,5 @@
 ghost use Prim.Native.Nat.{_+_, _≤_};
+ghost use mathlib.Core.Path.{_≡_};
 ghost use mathlib.Core.List.{[], _∷_, _++_};
 ghost use lib.ListN.{length};
 ghost use Rattle.packed.specs.Packed.{part};
@@ -27,16 +28,21 @@ pub fn write_hash_text(
     table: &[u8],
     event: &[u8],
     t: TypeIndex,
+    properties: &[usize],
     e: EventIndex,
+    sets: &[usize],
     out: &mut [u8],
 ) -> usize
-    requires { ⌜ Hashable (now table) (now event) t e × (hashTextCapacity ≤ length (now out)) ⌝ }
-    ensures { λ r. ⌜ ((h : Hashable (now (table .entry)) (now (event .entry)) t e) → Wrote (now (out .entry)) 0 (eventText (h .type) (h .event)) (now (out .exit)) r) ⌝ }
+    requires { ⌜ Hashable (now table) (now event) t (now properties) e (now sets) × (hashTextCapacity ≤ length (now out))
+        × (length (now properties) ≡ 96) × (length (now sets) ≡ 96) ⌝ }
+    ensures { λ r. ⌜ ((h : Hashable (now (table .entry)) (now (event .entry)) t (now (properties .entry)) e (now (sets .entry)))
+        → Wrote (now (out .entry)) 0 (eventText (h .type) (h .event)) (now (out .exit)) r) ⌝ }
 {
-    let objects = gather(table, event, t, e);
+    let mut objects = [0usize; 128];
+    let count = gather(table, event, t.count, properties, sets, &mut objects);
     let head = e.head;
     let source = head.source;
     let after_source = write_line(event, source.start, source.end, out, 0);
     let after_name = write_line(table, t.start, t.end, out, after_source);
-    write_objects(table, event, objects, out, after_name)
+    write_objects(table, event, &objects, count, out, after_name)
 }

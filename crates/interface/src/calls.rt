@@ -106,12 +106,14 @@ pub extern "C" fn merger_open(
 pub extern "C" fn merger_value(table: &[u8], event: &[u8], place: usize, index: usize) -> u64
     ensures { λ r. ⌜ r ≡ packedPart (valueCall (now (table .entry)) (now (event .entry)) place index) ⌝ }
 {
-    let asked = ask_event(table, event, EventCounts::Wide);
+    let mut properties = [0usize; 96];
+    let mut sets = [0usize; 96];
+    let asked = ask_event(table, event, EventCounts::Wide, &mut properties, &mut sets);
     if asked.number != 0 {
         return 0;
     }
     let x = asked.event;
-    match find_value(event, x, place, index) {
+    match find_value(event, x, &sets, place, index) {
         ValueAt::Value(start, end) => (end - start) as u64 % 268435456
             + start as u64 % 268435456 * 268435456,
         ValueAt::NoValue => 0,

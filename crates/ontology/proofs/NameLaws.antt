@@ -1,15 +1,19 @@
--- The laws of names: their bytes, and how many.
-use mathlib.Core.Path.{_≡_, refl, ap, _∙_}
+-- The laws of names: their bytes, how many, and their order.
+use mathlib.Core.Path.{_≡_, refl, sym, ap, _∙_}
 use mathlib.Core.Bool.{Bool, true, false, _&&_, _||_}
 use mathlib.Core.List.{List, [], _∷_}
-use Prim.Native.Nat.{ℕ, _+_, _≤_, _<_}
+use Prim.Native.Nat.{ℕ, _+_, _-_, _≤_, _<_, Ordering}
 use native.Mathlib.Omega.{arith}
 use lib.ListN.{length, drop, getD, drop-of-length-le}
-use lib.Dec.{leb, eqb}
-use borrow.Author.Tests.{le-leb, lt-leb, leb-true, eq-eqb, ne-eqb, eqb-false}
-use Rattle.model.specs.Order.{Text}
+use lib.Seq.{getD-take, getD-drop}
+use lib.Dec.{ltb, leb, eqb}
+use borrow.Author.Tests.{le-leb, lt-leb, leb-true, ltb-true, ltb-false, eq-eqb, ne-eqb, eqb-false}
+use Rattle.model.specs.Order.{Text, pick}
 use Rattle.model.proofs.Cases.{and-parts}
-use Rattle.packed.proofs.ReadLaws.{drop-next}
+use Rattle.packed.specs.Packed.{part}
+use Rattle.packed.specs.code.Comparison.{precedes}
+use Rattle.packed.proofs.OrderLaws.{order-less, order-more}
+use Rattle.packed.proofs.ReadLaws.{drop-next, part-length}
 use Rattle.ontology.specs.Table.{isLetter, isNameByte, areNameBytes, isName, isNameWithin}
 
 -- ---- bytes
@@ -26,9 +30,9 @@ pub letter-above : (b : ℕ) → 122 < b → isLetter b ≡ false
 unfolding isLetter
 letter-above b h = rw (le-leb 97 b (omega arith), lt-leb b 122 h)
 
-pub byte-letter : (b : ℕ) → 97 ≤ b → b ≤ 122 → isNameByte b ≡ true
+pub byte-letter : (b : ℕ) → isLetter b ≡ true → isNameByte b ≡ true
 unfolding isNameByte
-byte-letter b h k = rw (letter-is b h k)
+byte-letter b h = rw h
 
 pub byte-digit : (b : ℕ) → 48 ≤ b → b ≤ 57 → isNameByte b ≡ true
 unfolding isNameByte
@@ -62,6 +66,39 @@ name-length most v e = let b = and-parts (isName v) (leb (length v) most) e in (
     go : (v : Text) → isName v ≡ true → 1 ≤ length v
     go [] e = let z : _≡_ {A = ℕ} 0 1 = cc in absurd (omega arith)
     go (b ∷ v) e = omega arith
+
+-- ---- the order of two names
+
+first-byte : (s : List ℕ) (a e : ℕ) → a < e → getD (part s a e) 0 0 ≡ getD s a 0
+first-byte s a e h =
+    getD-take (e - a) (drop a s) 0 0 (omega arith) ∙ getD-drop a s 0 0 ∙ ap (λ (i : ℕ). getD s i 0) (let z : a + 0 ≡ a = omega arith in z)
+
+-- two first bytes that differ decide it
+module _ (s : List ℕ) (a e b f : ℕ) (h : a < e) (k : e ≤ length s) (l : b < f) (m : f ≤ length s) where
+  abbrev one : List ℕ
+  one = part s a e
+
+  abbrev other : List ℕ
+  other = part s b f
+
+  some-one : 0 < length one
+  some-one = omega (arith, part-length s a e (omega arith) k)
+
+  some-other : 0 < length other
+  some-other = omega (arith, part-length s b f (omega arith) m)
+
+  pub first-decides : (getD s a 0 ≡ getD s b 0 → ⊥) → ltb (getD s a 0) (getD s b 0) ≡ precedes one other
+  first-decides n = go (ltb (getD s a 0) (getD s b 0)) refl
+    where
+      go : (t : Bool) → ltb (getD s a 0) (getD s b 0) ≡ t → t ≡ precedes one other
+      go true q =
+          let less = ltb-true (getD s a 0) (getD s b 0) q in
+          let first : getD one 0 0 < getD other 0 0 = omega (arith, less, first-byte s a e h, first-byte s b f l) in
+          sym (ap (λ (o : Ordering). pick o true false false) (order-less one other 0 some-one some-other first))
+      go false q =
+          let more = ltb-false (getD s a 0) (getD s b 0) q in
+          let first : getD other 0 0 < getD one 0 0 = omega (arith, more, n, first-byte s a e h, first-byte s b f l) in
+          sym (ap (λ (o : Ordering). pick o true false false) (order-more one other 0 some-one some-other first))
 
 -- ---- names, from their second byte on
 

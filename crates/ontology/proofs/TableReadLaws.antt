@@ -1,5 +1,5 @@
 -- The laws of a table: its types one by one, in the order of their names, and the type of a name among them.
-use mathlib.Core.Path.{_≡_, refl, sym, ap, _∙_}
+use mathlib.Core.Path.{_≡_, refl, sym, ap, _∙_, subst}
 use mathlib.Core.Bool.{Bool, true, false, cond}
 use mathlib.Core.Option.{Option, none, some}
 use mathlib.Core.List.{List, [], _∷_, _++_, map, append-nil}
@@ -8,7 +8,7 @@ use native.Mathlib.Omega.{arith}
 use lib.ListN.{length, drop, drop-of-length-le}
 use lib.Dec.{leb}
 use Rattle.model.specs.Order.{Text, texts, lists, lex, equal, rising, pick}
-use Rattle.model.proofs.Cases.{and-parts}
+use Rattle.model.proofs.Cases.{and-parts, never}
 use Rattle.packed.specs.Parse.{Parse, fail, got, Layout, andThen, foundIf, suchThat, times}
 use Rattle.packed.specs.Packed.{readNumber, part, isWithin}
 use Rattle.packed.proofs.LayoutLaws.{suchThat-got}
@@ -30,22 +30,38 @@ use Rattle.ontology.proofs.TypeLaws.{rules-hold}
 
 -- ---- what a caller of `read_type` has
 
-pub record TypeGot (p : Parse EventType) (s : List ℕ) (at : ℕ) (r : TypeRead) : Type 0 where
+pub record TypeGot (p : Parse EventType) (s : List ℕ) (at : ℕ) (ps : List ℕ) (r : TypeRead) : Type 0 where
   pub what : EventType
   pub is : p ≡ got what (drop (r .next) s)
   pub after : at < r .next
   pub within : r .next ≤ length s
-  pub index : TypeIs s what (r .index)
+  pub index : TypeIs s what (r .index) ps
 
-pub type-got : (p : Parse EventType) (s : List ℕ) (at : ℕ) (r : TypeRead) → TypeReads p s at r → r .ok ≡ true → TypeGot p s at r
+pub type-got : (p : Parse EventType) (s : List ℕ) (at : ℕ) (ps : List ℕ) (r : TypeRead) → TypeReads p s at ps r → r .ok ≡ true → TypeGot p s at ps r
 unfolding TypeReads
-type-got fail s at r w h = let z : _≡_ {A = ℕ} 0 1 = cc in absurd (omega arith)
-type-got (got t u) s at r w h = record { what = t; is = ap (got t) (w .follows); after = w .after; within = w .within; index = w .is }
+type-got fail s at ps r w h = let z : _≡_ {A = ℕ} 0 1 = cc in absurd (omega arith)
+type-got (got t u) s at ps r w h = record { what = t; is = ap (got t) (w .follows); after = w .after; within = w .within; index = w .is }
 
-pub type-not : (p : Parse EventType) (s : List ℕ) (at : ℕ) (r : TypeRead) → TypeReads p s at r → r .ok ≡ false → p ≡ fail
+pub type-not : (p : Parse EventType) (s : List ℕ) (at : ℕ) (ps : List ℕ) (r : TypeRead) → TypeReads p s at ps r → r .ok ≡ false → p ≡ fail
 unfolding TypeReads
-type-not fail s at r w h = refl
-type-not (got t u) s at r w h = let z : _≡_ {A = ℕ} 0 1 = cc (w .right) in absurd (omega arith)
+type-not fail s at ps r w h = refl
+type-not (got t u) s at ps r w h = let z : _≡_ {A = ℕ} 0 1 = cc (w .right) in absurd (omega arith)
+
+-- The next type of a table was read: into the numbers ps while the type that was asked for is not found, and elsewhere afterwards, so that ps stay as they
+-- were, ps₀.
+pub record NextReads (p : Parse EventType) (s : List ℕ) (at : ℕ) (found : Bool) (ps₀ ps : List ℕ) (r : TypeRead) : Type 0 where
+  pub numbers : List ℕ
+  pub reads : TypeReads p s at numbers r
+  pub here : found ≡ false → numbers ≡ ps
+  pub stay : found ≡ true → ps ≡ ps₀
+
+module _ {p : Parse EventType} {s : List ℕ} {at : ℕ} {found : Bool} {ps₀ ps : List ℕ} {r : TypeRead} where
+  module _ (qs : List ℕ) {t : TypeRead} (w : TypeReads p s at qs t) (e : r ≡ t) where
+    pub next-here : found ≡ false → ps ≡ qs → NextReads p s at found ps₀ ps r
+    next-here h k = record { numbers = qs; reads = subst (TypeReads p s at qs) (sym e) w; here = λ f. sym k; stay = λ f. never (cc) }
+
+    pub next-elsewhere : found ≡ true → ps ≡ ps₀ → NextReads p s at found ps₀ ps r
+    next-elsewhere h k = record { numbers = qs; reads = subst (TypeReads p s at qs) (sym e) w; here = λ f. never (cc); stay = λ f. k }
 
 -- ---- the types that are left, each name above the one before
 
@@ -155,21 +171,21 @@ unfolding readTable
 table-from s {n} {next} g =
     ap (λ (p : Parse ℕ). andThen p (λ count r. andThen (times readRuled count r) (λ ts. foundIf (namesRise (map nameOf ts)) ts))) (g .is) ∙ all-from n (drop next s)
 
--- The types before `at` are read, and r has the type of the name among them
-pub record Listed (s : List ℕ) (name : Text) (r : TableRead) (left at start end : ℕ) : Type 0 where
+-- The types before `at` are read, and r and the numbers ps have the type of the name among them
+pub record Listed (s : List ℕ) (name : Text) (ps : List ℕ) (r : TableRead) (left at start end : ℕ) : Type 0 where
   pub before : List EventType
   pub rest : readTable s ≡ prepend before (typesFrom (part s start end) left (drop at s))
   pub within : at ≤ length s
   pub order : start ≤ end
   pub ends : end ≤ length s
   pub unset : r .ok ≡ false
-  pub says : TypeSays (typeNamed name before) s r
+  pub says : TypeSays (typeNamed name before) s ps r
 
 pub listed-none :
-    (s : List ℕ) (name : Text) (r : TableRead) {n next : ℕ} → Got (suchThat (isWithin 1 16) readNumber (drop 0 s)) s 0 n next →
-    r .ok ≡ false → r .found ≡ false → Listed s name r n next 0 0
+    (s : List ℕ) (name : Text) (ps : List ℕ) (r : TableRead) {n next : ℕ} → Got (suchThat (isWithin 1 16) readNumber (drop 0 s)) s 0 n next →
+    r .ok ≡ false → r .found ≡ false → Listed s name ps r n next 0 0
 unfolding TypeSays typeNamed
-listed-none s name r {n} {next} g h k = record {
+listed-none s name ps r {n} {next} g h k = record {
   before = [];
   rest = table-from s g ∙ prepend-nil (typesFrom [] n (drop next s));
   within = g .within;
@@ -179,21 +195,21 @@ listed-none s name r {n} {next} g h k = record {
   says = k;
 }
 
-module _ {s : List ℕ} {name : Text} {r : TableRead} {left at start end : ℕ} (w : Listed s name r left at start end) where
+module _ {s : List ℕ} {name : Text} {ps : List ℕ} {r : TableRead} {left at start end : ℕ} (w : Listed s name ps r left at start end) where
   pub listed-bad : 0 < left → readRuled (drop at s) ≡ fail → readTable s ≡ fail
   listed-bad h e = w .rest ∙ ap (prepend (w .before)) (types-none (part s start end) left (drop at s) h e)
 
-  module _ {t : TypeRead} (h : 0 < left) (g : TypeGot (readRuled (drop at s)) s at t) where
+  module _ {qs : List ℕ} {t : TypeRead} (h : 0 < left) (g : TypeGot (readRuled (drop at s)) s at qs t) where
     pub listed-low : precedes (part s start end) (part s (t .index .start) (t .index .end)) ≡ false → readTable s ≡ fail
     listed-low b =
         w .rest
         ∙ ap (prepend (w .before)) (types-low (part s start end) left (drop at s) (g .what) (drop (t .next) s) h (g .is) (ap (precedes (part s start end)) (sym (g .index .name)) ∙ b))
 
     pub listed-more :
-        (q : TableRead) → precedes (part s start end) (part s (t .index .start) (t .index .end)) ≡ true → q .ok ≡ r .ok →
-        (TypeSays (typeNamed name (w .before)) s r → TypeSays (typeNamed name (w .before ++ (g .what ∷ []))) s q) →
-        Listed s name q (left - 1) (t .next) (t .index .start) (t .index .end)
-    listed-more q b o k = record {
+        (ps′ : List ℕ) (q : TableRead) → precedes (part s start end) (part s (t .index .start) (t .index .end)) ≡ true → q .ok ≡ r .ok →
+        (TypeSays (typeNamed name (w .before)) s ps r → TypeSays (typeNamed name (w .before ++ (g .what ∷ []))) s ps′ q) →
+        Listed s name ps′ q (left - 1) (t .next) (t .index .start) (t .index .end)
+    listed-more ps′ q b o k = record {
       before = w .before ++ (g .what ∷ []);
       rest =
           w .rest
@@ -211,25 +227,25 @@ module _ {s : List ℕ} {name : Text} {r : TableRead} {left at start end : ℕ} 
   listed-all h =
       w .rest ∙ ap (prepend (w .before)) (types-end (part s start end) left (drop at s) h) ∙ ap (λ (l : List EventType). got l (drop at s)) (append-nil (w .before))
 
-  pub listed-exact : left ≡ 0 → at ≡ length s → TableSays (tableOf s) s name (record { ok = true; found = r .found; index = r .index })
+  pub listed-exact : left ≡ 0 → at ≡ length s → TableSays (tableOf s) s name ps (record { ok = true; found = r .found; index = r .index })
   unfolding TableSays TypeSays tableOf
   listed-exact h e =
       let z : length s ≤ at = omega arith in
       rw (listed-all h, drop-of-length-le s z) (refl, again (typeNamed name (w .before)) (w .says))
     where
-      again : (o : Option EventType) → TypeSays o s r → TypeSays o s (record { ok = true; found = r .found; index = r .index })
+      again : (o : Option EventType) → TypeSays o s ps r → TypeSays o s ps (record { ok = true; found = r .found; index = r .index })
       again none k = k
       again (some t) k = k
 
-  pub listed-early : left ≡ 0 → (at ≡ length s → ⊥) → TableSays (tableOf s) s name r
+  pub listed-early : left ≡ 0 → (at ≡ length s → ⊥) → TableSays (tableOf s) s name ps r
   unfolding TableSays tableOf
   listed-early h e =
       let z : at < length s = omega (arith, w .within, e) in
       rw (listed-all h, drop-next s at z) (w .unset)
 
-pub table-fail : (s : List ℕ) (name : Text) (r : TableRead) → readTable s ≡ fail → r .ok ≡ false → TableSays (tableOf s) s name r
+pub table-fail : (s : List ℕ) (name : Text) (ps : List ℕ) (r : TableRead) → readTable s ≡ fail → r .ok ≡ false → TableSays (tableOf s) s name ps r
 unfolding TableSays tableOf
-table-fail s name r e h = rw e h
+table-fail s name ps r e h = rw e h
 
 -- ---- the type of a name
 
@@ -255,12 +271,18 @@ named-none n (x ∷ ts) t e = go (equal texts n (x .name)) (λ q. named-none n t
     go true f e = let z : _≡_ {A = ℕ} 0 1 = cc in absurd (omega arith)
     go false f e = f e
 
-module _ (n : Text) (ts : List EventType) (t : EventType) (s : List ℕ) (r : TableRead) (w : TypeSays (typeNamed n ts) s r) where
-  pub keep-old : r .found ≡ true → TypeSays (typeNamed n (ts ++ (t ∷ []))) s r
+-- what r says of the numbers ps it says of others, if these are the same where the type is found
+pub says-stay : (o : Option EventType) (s ps qs : List ℕ) (r : TableRead) → TypeSays o s ps r → (r .found ≡ true → qs ≡ ps) → TypeSays o s qs r
+unfolding TypeSays
+says-stay none s ps qs r w h = w
+says-stay (some t) s ps qs r w h = (w .0, subst (TypeIs s t (r .index)) (sym (h (w .0))) (w .1))
+
+module _ (n : Text) (ts : List EventType) (t : EventType) (s ps : List ℕ) (r : TableRead) (w : TypeSays (typeNamed n ts) s ps r) where
+  pub keep-old : r .found ≡ true → TypeSays (typeNamed n (ts ++ (t ∷ []))) s ps r
   unfolding TypeSays
   keep-old h = go (typeNamed n ts) refl w
     where
-      go : (o : Option EventType) → typeNamed n ts ≡ o → TypeSays o s r → TypeSays (typeNamed n (ts ++ (t ∷ []))) s r
+      go : (o : Option EventType) → typeNamed n ts ≡ o → TypeSays o s ps r → TypeSays (typeNamed n (ts ++ (t ∷ []))) s ps r
       go none e k = let z : _≡_ {A = ℕ} 0 1 = cc in absurd (omega arith)
       go (some u) e k = rw (named-some n ts t u e) k
 
@@ -268,34 +290,38 @@ module _ (n : Text) (ts : List EventType) (t : EventType) (s : List ℕ) (r : Ta
   unfolding TypeSays
   none-yet h = go (typeNamed n ts) w
     where
-      go : (o : Option EventType) → TypeSays o s r → o ≡ none
+      go : (o : Option EventType) → TypeSays o s ps r → o ≡ none
       go none k = refl
       go (some u) k = let y = k .0 in let z : _≡_ {A = ℕ} 0 1 = cc in absurd (omega arith)
 
   pub keep-new :
-      (q : TableRead) → r .found ≡ false → equal texts n (t .name) ≡ true → q .found ≡ true → TypeIs s t (q .index) →
-      TypeSays (typeNamed n (ts ++ (t ∷ []))) s q
+      (q : TableRead) → r .found ≡ false → equal texts n (t .name) ≡ true → q .found ≡ true → TypeIs s t (q .index) ps →
+      TypeSays (typeNamed n (ts ++ (t ∷ []))) s ps q
   unfolding TypeSays
   keep-new q h e f k = rw (named-none n ts t (none-yet h), e) (f, k)
 
-  pub keep-none : r .found ≡ false → equal texts n (t .name) ≡ false → TypeSays (typeNamed n (ts ++ (t ∷ []))) s r
+  pub keep-none : r .found ≡ false → equal texts n (t .name) ≡ false → TypeSays (typeNamed n (ts ++ (t ∷ []))) s ps r
   unfolding TypeSays
   keep-none h e = rw (named-none n ts t (none-yet h), e) h
 
 -- ---- the call
 
-pub reply-refused : (s : List ℕ) (name : Text) (r : TableRead) → TableSays (tableOf s) s name r → r .ok ≡ false → tableReplied (Refused 2) ≡ tableCall s
+pub reply-refused :
+    (s : List ℕ) (name : Text) (ps : List ℕ) (r : TableRead) →
+    TableSays (tableOf s) s name ps r → r .ok ≡ false → tableReplied (Refused 2) ≡ tableCall s
 unfolding TableSays tableReplied tableCall replyToTable
-reply-refused s name r w h = go (tableOf s) w
+reply-refused s name ps r w h = go (tableOf s) w
   where
-    go : (o : Option Table) → TableSays o s name r → Reply.refused 2 ≡ replyToTable o
+    go : (o : Option Table) → TableSays o s name ps r → Reply.refused 2 ≡ replyToTable o
     go none k = refl
     go (some ts) k = let y = k .0 in let z : _≡_ {A = ℕ} 0 1 = cc in absurd (omega arith)
 
-pub reply-accepted : (s : List ℕ) (name : Text) (r : TableRead) → TableSays (tableOf s) s name r → r .ok ≡ true → tableReplied Accepted ≡ tableCall s
+pub reply-accepted :
+    (s : List ℕ) (name : Text) (ps : List ℕ) (r : TableRead) →
+    TableSays (tableOf s) s name ps r → r .ok ≡ true → tableReplied Accepted ≡ tableCall s
 unfolding TableSays tableReplied tableCall replyToTable
-reply-accepted s name r w h = go (tableOf s) w
+reply-accepted s name ps r w h = go (tableOf s) w
   where
-    go : (o : Option Table) → TableSays o s name r → Reply.done 0 ≡ replyToTable o
+    go : (o : Option Table) → TableSays o s name ps r → Reply.done 0 ≡ replyToTable o
     go none k = let z : _≡_ {A = ℕ} 0 1 = cc in absurd (omega arith)
     go (some ts) k = refl

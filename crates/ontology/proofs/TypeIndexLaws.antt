@@ -63,51 +63,55 @@ module _ (s : List ℕ) (n : Text) (ts : Table) (t : EventType) (e : tableOf s �
 
 -- ---- what a caller of `read_table` has
 
-pub table-refused : (s : List ℕ) (n : Text) (r : TableRead) → TableSays (tableOf s) s n r → r .ok ≡ false → tableOf s ≡ none
+pub table-refused : (s : List ℕ) (n : Text) (ps : List ℕ) (r : TableRead) → TableSays (tableOf s) s n ps r → r .ok ≡ false → tableOf s ≡ none
 unfolding TableSays
-table-refused s n r w h = go (tableOf s) w
+table-refused s n ps r w h = go (tableOf s) w
   where
-    go : (o : Option Table) → TableSays o s n r → o ≡ none
+    go : (o : Option Table) → TableSays o s n ps r → o ≡ none
     go none k = refl
     go (some ts) k = never (cc (k .0))
 
-pub record TableGot (s : List ℕ) (n : Text) (r : TableRead) : Type 0 where
+pub record TableGot (s : List ℕ) (n : Text) (ps : List ℕ) (r : TableRead) : Type 0 where
   pub what : Table
   pub is : tableOf s ≡ some what
-  pub says : TypeSays (typeNamed n what) s r
+  pub says : TypeSays (typeNamed n what) s ps r
 
-pub table-got : (s : List ℕ) (n : Text) (r : TableRead) → TableSays (tableOf s) s n r → r .ok ≡ true → TableGot s n r
+pub table-got : (s : List ℕ) (n : Text) (ps : List ℕ) (r : TableRead) → TableSays (tableOf s) s n ps r → r .ok ≡ true → TableGot s n ps r
 unfolding TableSays
-table-got s n r w h = go (tableOf s) refl w
+table-got s n ps r w h = go (tableOf s) refl w
   where
-    go : (o : Option Table) → tableOf s ≡ o → TableSays o s n r → TableGot s n r
+    go : (o : Option Table) → tableOf s ≡ o → TableSays o s n ps r → TableGot s n ps r
     go none e k = never (cc)
     go (some ts) e k = record { what = ts; is = e; says = k .1 }
 
 -- so of the types that the table is known to have
-pub type-says : (s : List ℕ) (n : Text) (r : TableRead) (ts : Table) → tableOf s ≡ some ts → TableSays (tableOf s) s n r → TypeSays (typeNamed n ts) s r
+pub type-says :
+    (s : List ℕ) (n : Text) (ps : List ℕ) (r : TableRead) (ts : Table) →
+    tableOf s ≡ some ts → TableSays (tableOf s) s n ps r → TypeSays (typeNamed n ts) s ps r
 unfolding TableSays
-type-says s n r ts e w = subst (λ (o : Option Table). TableSays o s n r) e w .1
+type-says s n ps r ts e w = subst (λ (o : Option Table). TableSays o s n ps r) e w .1
 
 -- what was read for a name was read for the same name
-pub says-same : (s : List ℕ) (n m : Text) (r : TableRead) {b : Bool} → b ≡ equal texts n m → b ≡ true → TableSays (tableOf s) s n r → TableSays (tableOf s) s m r
-says-same s n m r e h = subst (λ (x : Text). TableSays (tableOf s) s x r) (texts-equal n m .0 (sym e ∙ h))
+pub says-same :
+    (s : List ℕ) (n m : Text) (ps : List ℕ) (r : TableRead) {b : Bool} →
+    b ≡ equal texts n m → b ≡ true → TableSays (tableOf s) s n ps r → TableSays (tableOf s) s m ps r
+says-same s n m ps r e h = subst (λ (x : Text). TableSays (tableOf s) s x ps r) (texts-equal n m .0 (sym e ∙ h))
 
 -- the type that was asked for, where there is one
-pub type-absent : (o : Option EventType) (s : List ℕ) (r : TableRead) → TypeSays o s r → r .found ≡ false → o ≡ none
+pub type-absent : (o : Option EventType) (s ps : List ℕ) (r : TableRead) → TypeSays o s ps r → r .found ≡ false → o ≡ none
 unfolding TypeSays
-type-absent none s r w h = refl
-type-absent (some t) s r w h = never (cc (w .0))
+type-absent none s ps r w h = refl
+type-absent (some t) s ps r w h = never (cc (w .0))
 
-pub record TypeFound (o : Option EventType) (s : List ℕ) (r : TableRead) : Type 0 where
+pub record TypeFound (o : Option EventType) (s ps : List ℕ) (r : TableRead) : Type 0 where
   pub what : EventType
   pub is : o ≡ some what
-  pub stands : TypeIs s what (r .index)
+  pub stands : TypeIs s what (r .index) ps
 
-pub type-found : (o : Option EventType) (s : List ℕ) (r : TableRead) → TypeSays o s r → r .found ≡ true → TypeFound o s r
+pub type-found : (o : Option EventType) (s ps : List ℕ) (r : TableRead) → TypeSays o s ps r → r .found ≡ true → TypeFound o s ps r
 unfolding TypeSays
-type-found none s r w h = never (cc)
-type-found (some t) s r w h = record { what = t; is = refl; stands = w .1 }
+type-found none s ps r w h = never (cc)
+type-found (some t) s ps r w h = record { what = t; is = refl; stands = w .1 }
 
-pub found-few : (o : Option EventType) (s : List ℕ) (r : TableRead) → TypeSays o s r → r .found ≡ true → r .index .count ≤ 32
-found-few o s r w h = type-found o s r w h .stands .are .few
+pub found-few : (o : Option EventType) (s ps : List ℕ) (r : TableRead) → TypeSays o s ps r → r .found ≡ true → r .index .count ≤ 32
+found-few o s ps r w h = type-found o s ps r w h .stands .are .few

@@ -261,9 +261,9 @@ properties-fail p s at n xs e w = subst (PropertiesSay p s at n xs) e w
 
 -- ---- the type
 
-pub type-none : (p : Parse EventType) (s : List ℕ) (at : ℕ) (r : TypeRead) → p ≡ fail → r .ok ≡ false → TypeReads p s at r
+pub type-none : (p : Parse EventType) (s : List ℕ) (at : ℕ) (ps : List ℕ) (r : TypeRead) → p ≡ fail → r .ok ≡ false → TypeReads p s at ps r
 unfolding TypeReads
-type-none p s at r e h = rw e h
+type-none p s at ps r e h = rw e h
 
 module _ {s : List ℕ} {at start end : ℕ} {definition : DefinitionVersion} {mark count next : ℕ} (w : HeadStops s at start end definition mark count next) where
   pub type-short : times readProperty count (drop next s) ≡ fail → suchThat typeRules readType (drop at s) ≡ fail
@@ -275,20 +275,20 @@ module _ {s : List ℕ} {at start end : ℕ} {definition : DefinitionVersion} {m
     headed = typeOf (part s start end) (definition .0) mark (u .what)
 
     abbrev pub indexed : TypeIndex
-    indexed = record { start = start; end = end; definition = definition; mark = mark; count = count; properties = xs }
+    indexed = record { start = start; end = end; definition = definition; mark = mark; count = count }
 
-    type-is : TypeIs s headed indexed
+    type-is : TypeIs s headed indexed xs
     type-is = record { name = refl; order = w .order; within = w .ends; definition = refl; mark = refl; are = u .are }
 
     pub type-reads :
         (b : Bool) → b ≡ propertyRules mark (u .what) →
-        TypeReads (suchThat typeRules readType (drop at s)) s at (record { ok = b; next = after; index = indexed })
+        TypeReads (suchThat typeRules readType (drop at s)) s at xs (record { ok = b; next = after; index = indexed })
     unfolding TypeReads
     type-reads b e =
         rw (w .is ∙ ap (λ (p : Parse (List Property)). andThen p (λ qs. foundIf (propertyRules mark qs) (typeOf (part s start end) (definition .0) mark qs))) (u .is))
         (go (propertyRules mark (u .what)) b e)
       where
-        go : (x b : Bool) → b ≡ x → TypeReads (cond x (got headed (drop after s)) fail) s at (record { ok = b; next = after; index = indexed })
+        go : (x b : Bool) → b ≡ x → TypeReads (cond x (got headed (drop after s)) fail) s at xs (record { ok = b; next = after; index = indexed })
         go true b e = record {
           right = e;
           follows = refl;

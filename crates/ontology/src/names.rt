@@ -19,8 +19,11 @@ fn is_letter(b: u8) -> bool
 fn is_name_byte(b: u8) -> bool
     ensures { λ r. ⌜ r ≡ isNameByte b ⌝ }
 {
+    // most bytes of a name are letters
+    if is_letter(b) {
+        return true;
+    }
     match b {
-        b'a'..=b'z' => true,
         b'0'..=b'9' => true,
         b'-' | b'.' => true,
         _ => false,

@@ -1,5 +1,6 @@
-ghost use Prim.Native.Nat.{_≤_};
+ghost use Prim.Native.Nat.{ℕ, _≤_};
 ghost use mathlib.Core.Path.{_≡_};
+ghost use mathlib.Core.Bool.{false};
 ghost use mathlib.Core.List.{List, [], _∷_, _++_};
 ghost use lib.ListN.{length};
 ghost use Rattle.replies.specs.Replies.{tableReplied};
@@ -27,7 +28,9 @@ pub struct TableRead {
 fn keep(r: TableRead, table: &[u8], name: &[u8], x: TypeIndex) -> TableRead
     requires { ⌜ (x .start ≤ x .end) × (x .end ≤ length (now table)) ⌝ }
     ensures same { λ q. ⌜ q .ok ≡ r .ok ⌝ }
-    ensures { λ q. ⌜ ((ts : List EventType) (t : EventType) → TypeSays (typeNamed (now (name .entry)) ts) (now (table .entry)) r → TypeIs (now (table .entry)) t x → TypeSays (typeNamed (now (name .entry)) (ts ++ (t ∷ []))) (now (table .entry)) q) ⌝ }
+    ensures { λ q. ⌜ ((ts : List EventType) (t : EventType) (ps : List ℕ) → TypeSays (typeNamed (now (name .entry)) ts) (now (table .entry)) ps r
+        → (r .found ≡ false → TypeIs (now (table .entry)) t x ps)
+        → TypeSays (typeNamed (now (name .entry)) (ts ++ (t ∷ []))) (now (table .entry)) ps q) ⌝ }
 {
     if r.found {
         return r;
@@ -45,9 +48,11 @@ fn keep(r: TableRead, table: &[u8], name: &[u8], x: TypeIndex) -> TableRead
     }
 }
 
-// Reads the table once: checks every rule, and keeps the index of the type of that name.
-pub fn read_table(table: &[u8], name: &[u8]) -> TableRead
-    ensures { λ r. ⌜ TableSays (tableOf (now (table .entry))) (now (table .entry)) (now (name .entry)) r ⌝ }
+// Reads the table once: checks every rule, and keeps the index of the type of that name. Until that type is found each type is read into `properties`; those
+// after it are read into `others`, so that its properties stay.
+pub fn read_table(table: &[u8], name: &[u8], properties: &mut [usize]) -> TableRead
+    requires { ⌜ length (now properties) ≡ 96 ⌝ }
+    ensures { λ r. ⌜ TableSays (tableOf (now (table .entry))) (now (table .entry)) (now (name .entry)) (now (properties .exit)) r ⌝ }
 {
     let mut r = TableRead {
         ok: false,
@@ -57,12 +62,17 @@ pub fn read_table(table: &[u8], name: &[u8]) -> TableRead
     let NumberAt::Number(count, after_count) = read_within(table, 0, 1, 16) else {
         return r;
     };
+    let mut others = [0usize; 96];
     let mut left = count;
     let mut at = after_count;
     let mut start: usize = 0;
     let mut end: usize = 0;
     while 0 < left {
-        let t = read_type(table, at);
+        let t = if r.found {
+            read_type(table, at, &mut others)
+        } else {
+            read_type(table, at, properties)
+        };
         if !t.ok {
             return r;
         }
@@ -83,20 +93,11 @@ pub fn read_table(table: &[u8], name: &[u8]) -> TableRead
     r
 }
 
-// The table read for another name: what was read for `name`, where the two are the same.
-pub fn table_for(table: &[u8], name: &[u8], other: &[u8], read: TableRead) -> TableRead
-    ensures { λ r. ⌜ (TableSays (tableOf (now (table .entry))) (now (table .entry)) (now (name .entry)) read → TableSays (tableOf (now (table .entry))) (now (table .entry)) (now (other .entry)) r) ⌝ }
-{
-    if same(name, other) {
-        return read;
-    }
-    read_table(table, other)
-}
-
 pub fn check_table(table: &[u8]) -> TableReply
     ensures { λ r. ⌜ tableReplied r ≡ tableCall (now (table .entry)) ⌝ }
 {
-    let r = read_table(table, &table[0..0]);
+    let mut properties = [0usize; 96];
+    let r = read_table(table, &table[0..0], &mut properties);
     if r.ok {
         TableReply::Accepted
     } else {

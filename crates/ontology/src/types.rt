@@ -4,6 +4,8 @@ ghost use mathlib.Core.Bool.{not, _&&_, _||_};
 ghost use mathlib.Core.List.{List, map};
 ghost use lib.ListN.{length, drop, getElem?};
 ghost use Rattle.packed.specs.Parse.{suchThat, times};
+ghost use Rattle.packed.specs.Packed.{part};
+ghost use Rattle.packed.specs.code.Comparison.{precedes};
 ghost use lib.Dec.{ltb};
 ghost use Rattle.ontology.specs.Table.{Property, namesRise, strategyFits, allFit, canBeMarked, markFits, typeRules};
 ghost use Rattle.ontology.specs.TableLayout.{readProperty, readType};
@@ -26,14 +28,14 @@ use values::kinds::SEQUENCE;
 use values::spaces::is_ordered;
 use values::versions::DefinitionVersion;
 
-// A type: where its name stands in the table, its definition version, its event-version mark, and its first `count` properties, three numbers for each.
+// A type: where its name stands in the table, its definition version, its event-version mark, and how many properties it has. These are lent beside it, as 96
+// numbers, three for each.
 pub struct TypeIndex {
     pub start: usize,
     pub end: usize,
     pub definition: DefinitionVersion,
     pub mark: usize,
     pub count: usize,
-    pub properties: [usize; 96],
 }
 
 // A type that meets its rules, and the position after it.
@@ -62,7 +64,7 @@ enum HeadRead {
     NoHead,
 }
 
-// An index to begin with, whose properties are read by nobody.
+// An index to begin with.
 pub fn no_type() -> TypeIndex {
     TypeIndex {
         start: 0,
@@ -70,7 +72,6 @@ pub fn no_type() -> TypeIndex {
         definition: DefinitionVersion(0),
         mark: 0,
         count: 0,
-        properties: [0; 96],
     }
 }
 
@@ -125,6 +126,21 @@ fn read_properties(
     PropertiesRead::Properties(next)
 }
 
+// Whether the name from a up to e comes before that from b up to f. Most names of a type differ in their first byte.
+fn name_before(table: &[u8], a: usize, e: usize, b: usize, f: usize) -> bool
+    requires { ⌜ (a ≤ e) × (e ≤ length (now table)) × (b ≤ f) × (f ≤ length (now table)) ⌝ }
+    ensures { λ r. ⌜ r ≡ precedes (part (now (table .entry)) a e) (part (now (table .entry)) b f) ⌝ }
+{
+    if a < e && b < f {
+        let x = table[a];
+        let y = table[b];
+        if x != y {
+            return x < y;
+        }
+    }
+    is_before(table, a, e, b, f)
+}
+
 fn names_rise(table: &[u8], count: usize, properties: &[usize]) -> bool
     requires { ⌜ (length (now properties) ≡ 96) × ArePropertiesOf (now table) count (now properties) ⌝ }
     ensures { λ r. ⌜ ((qs : List Property) → PropertiesAre (now (table .entry)) qs count (now (properties .entry))
@@ -134,7 +150,7 @@ fn names_rise(table: &[u8], count: usize, properties: &[usize]) -> bool
     while k < count {
         let p = property_at(properties, k - 1);
         let q = property_at(properties, k);
-        if !is_before(table, p.start, p.end, q.start, q.end) {
+        if !name_before(table, p.start, p.end, q.start, q.end) {
             return false;
         }
         k += 1;
@@ -220,8 +236,9 @@ fn rules_hold(table: &[u8], mark: usize, count: usize, properties: &[usize]) -> 
 }
 
 // The type at position `at`, if it meets its rules: those on single fields are tested as these are read, the others on the numbers.
-pub fn read_type(table: &[u8], at: usize) -> TypeRead
-    ensures { λ r. ⌜ TypeReads (suchThat typeRules readType (drop at (now (table .entry)))) (now (table .entry)) at r ⌝ }
+pub fn read_type(table: &[u8], at: usize, properties: &mut [usize]) -> TypeRead
+    requires { ⌜ length (now properties) ≡ 96 ⌝ }
+    ensures { λ r. ⌜ TypeReads (suchThat typeRules readType (drop at (now (table .entry)))) (now (table .entry)) at (now (properties .exit)) r ⌝ }
 {
     let mut r = TypeRead {
         ok: false,
@@ -239,12 +256,10 @@ pub fn read_type(table: &[u8], at: usize) -> TypeRead
     else {
         return r;
     };
-    let mut properties = [0usize; 96];
-    let PropertiesRead::Properties(after) = read_properties(table, next, count, &mut properties)
-    else {
+    let PropertiesRead::Properties(after) = read_properties(table, next, count, properties) else {
         return r;
     };
-    r.ok = rules_hold(table, mark, count, &properties);
+    r.ok = rules_hold(table, mark, count, properties);
     r.next = after;
     let index = TypeIndex {
         start,
@@ -252,7 +267,6 @@ pub fn read_type(table: &[u8], at: usize) -> TypeRead
         definition,
         mark,
         count,
-        properties,
     };
     r.index = index;
     r

@@ -13,7 +13,6 @@ use Rattle.model.specs.Rule.{Cell, holds, Snapshot}
 use Rattle.model.specs.Opening.{held, isMark, cellAt, column}
 use Rattle.model.proofs.Cases.{never, and-parts, or-part, where-so}
 use Rattle.ontology.specs.Table.{Property, isMin, isMax, isVersioned}
-use Rattle.ontology.specs.declared.types.TypeIndex.{TypeIndex}
 use Rattle.ontology.proofs.TableLaws.{extreme-single, extreme-ordered}
 use Rattle.event.specs.EventQuestions.{areInSpace, valuesFit}
 use Rattle.event.proofs.EventQuestionLaws.{each-place-at, no-value}
@@ -70,7 +69,7 @@ lone-cell v q c h m e =
 
 -- ---- a dossier that is opened
 
-module _ (s : List ℕ) (d : DossierIndex) (rows : List ℕ) (t : TypeIndex) (o : Openable s d rows t) where
+module _ (s : List ℕ) (d : DossierIndex) (rows : List ℕ) (count : ℕ) (ps : List ℕ) (o : Openable s d rows count ps) where
   abbrev snapshots : List Snapshot
   snapshots = o .headed .snapshots
 

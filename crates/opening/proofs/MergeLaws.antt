@@ -24,8 +24,7 @@ use Rattle.values.specs.Spaces.{Kind, inSpace}
 use Rattle.values.specs.ValueOrder.{valueOrder, extremeOrder}
 use Rattle.values.proofs.SpaceLaws.{chosen}
 use Rattle.ontology.specs.Table.{Property, EventType, isReplace, atPlace}
-use Rattle.ontology.specs.code.TypeIndex.{TypeIs}
-use Rattle.ontology.specs.declared.types.TypeIndex.{TypeIndex}
+use Rattle.ontology.specs.code.TypeIndex.{PropertiesAre}
 use Rattle.ontology.proofs.RunLaws.{no-element}
 use Rattle.event.specs.Event.{choiceOf, typeView, eventView}
 use Rattle.event.specs.EventLayout.{setBytes}
@@ -413,9 +412,10 @@ unfolding flatten countSize setBytes
 no-set s = record { bytes = refl; count = refl; order = omega arith; within = omega arith; counted = omega arith; whole = refl }
 
 pub stands-empty :
-    (s rows u : List ℕ) (n : ℕ) (ty : EventType) (t : TypeIndex) (d : Dossier) (p : ℕ) → TypeIs u ty t → Mergeable s rows n ty d → t .count ≤ p →
+    (s rows u : List ℕ) (n : ℕ) (ty : EventType) (count : ℕ) (ps : List ℕ) (d : Dossier) (p : ℕ) →
+    PropertiesAre u (ty .properties) count ps → Mergeable s rows n ty d → count ≤ p →
     SetIs s (mergedAt (typeView ty) d p) noSet
 unfolding canon
-stands-empty s rows u n ty t d p w m h =
-    let e : getElem? (ty .properties) p ≡ none = no-element (ty .properties) p (omega (arith, w .are .count)) in
+stands-empty s rows u n ty count ps d p w m h =
+    let e : getElem? (ty .properties) p ≡ none = no-element (ty .properties) p (omega (arith, w .count)) in
     subst (λ (vs : List Text). SetIs s vs noSet) (sym (merged-none ty d p e ∙ ap (canon texts) (m .vacant p e))) (no-set s)

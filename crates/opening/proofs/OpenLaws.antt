@@ -35,7 +35,6 @@ use Rattle.dossier.specs.DossierQuestions.{dossierAsked}
 use Rattle.dossier.specs.DossierLayout.{dossierOf, modelOf}
 use Rattle.dossier.specs.code.DossierIndex.{DossierReads, DossierAnswers}
 use Rattle.dossier.specs.declared.dossiers.DossierIndex.{DossierIndex}
-use Rattle.dossier.specs.declared.questions.DossierAsked.{DossierAsked}
 use Rattle.dossier.proofs.AcceptedLaws.{dossier-taken, asked-accepted}
 use Rattle.dossier.proofs.AnswerLaws.{reads-is}
 use Rattle.opening.specs.OpenCall.{mergedEvent, openedAnswer, askedOpening, openAnswer, openCall}
@@ -50,7 +49,7 @@ use Rattle.opening.proofs.SizeLaws.{merged-size}
 
 -- ---- a dossier that was asked its questions
 
-module _ (s : List ℕ) (d : DossierIndex) (rows : List ℕ) (t : TypeIndex) (o : Openable s d rows t) where
+module _ (s : List ℕ) (d : DossierIndex) (rows : List ℕ) (count : ℕ) (ps : List ℕ) (o : Openable s d rows count ps) where
   abbrev dossier : Dossier
   dossier = modelOf (o .headed)
 
@@ -64,7 +63,7 @@ module _ (s : List ℕ) (d : DossierIndex) (rows : List ℕ) (t : TypeIndex) (o 
     is = o .is;
     stand = cells-stand s (o .headed) d rows (o .is) (o .stand);
     planned = v;
-    room = omega (arith, merged-size s d rows t o);
+    room = omega (arith, merged-size s d rows count ps o);
   }
 
   -- ---- what is answered
@@ -102,33 +101,33 @@ module _ (s : List ℕ) (d : DossierIndex) (rows : List ℕ) (t : TypeIndex) (o 
     pub replies-merged : {r : Lowest} → r ≡ NoPlace → lowestOf r ≡ overfull (typeView (o .type)) dossier → {out new : List ℕ} {n : ℕ} → dossierCapacity ≤ length out → Wrote out 0 bytes new n → openReplies (Merged n) new ≡ outcome (openedAnswer (o .headed) opens) out
     unfolding openedAnswer
     replies-merged e f {out} {new} {n} h w =
-        let a : 0 + length bytes ≤ length out = omega (arith, merged-size s d rows t o) in
+        let a : 0 + length bytes ≤ length out = omega (arith, merged-size s d rows count ps o) in
         let m : n ≡ length bytes = omega (arith, w .after) in
         ap₂ (λ (k : ℕ) (l : List ℕ). openReplies (Merged k) l) m (wrote-between a w ∙ ap (λ (k : ℕ). bytes ++ drop k out) m)
         ∙ ap (λ (x : model.Opened). outcome (openedAnswer (o .headed) x) out) (sym (opens-merged e f))
 
 -- ---- the table
 
-module _ (table : List ℕ) (name : Text) (r : TableRead) (w : TableGot table name r) where
+module _ (table : List ℕ) (name : Text) (ps : List ℕ) (r : TableRead) (w : TableGot table name ps r) where
   pub found-low : r .found ≡ true → r .index .count ≤ 32
-  found-low h = found-few (typeNamed name (w .what)) table r (w .says) h
+  found-low h = found-few (typeNamed name (w .what)) table ps r (w .says) h
 
-  pub type-says : {type : Text} → name ≡ type → TypeSays (typeNamed type (w .what)) table r
-  type-says e = subst (λ (n : Text). TypeSays (typeNamed n (w .what)) table r) e (w .says)
+  pub type-says : {type : Text} → name ≡ type → TypeSays (typeNamed type (w .what)) table ps r
+  type-says e = subst (λ (n : Text). TypeSays (typeNamed n (w .what)) table ps r) e (w .says)
 
 -- ---- the questions of the dossier
 
 -- a dossier that is accepted can be opened, by the types of this table
-pub record Accepted (table s : List ℕ) (d : DossierIndex) (rows : List ℕ) (r : DossierAsked) : Type 0 where
-  pub openable : Openable s d rows (r .«event_type»)
+pub record Accepted (table s : List ℕ) (d : DossierIndex) (rows : List ℕ) (count : ℕ) (ps : List ℕ) : Type 0 where
+  pub openable : Openable s d rows count ps
   pub from : tableOf table ≡ some (openable .types)
 
 module _
     (ts : Table) (table s : List ℕ) (d : DossierIndex) (rows : List ℕ) (v : DossierReads (dossierOf standard s) s rows d)
-    (r : DossierAsked) (w : DossierAnswers (dossierAsked standard ts s) table r) where
-  pub asked-open : tableOf table ≡ some ts → r .number ≡ 0 → Accepted table s d rows r
+    (t : TypeIndex) (ps : List ℕ) (r : ℕ) (w : DossierAnswers (dossierAsked standard ts s) table t ps r) where
+  pub asked-open : tableOf table ≡ some ts → r ≡ 0 → Accepted table s d rows (t .count) ps
   asked-open i h =
-      let a = asked-accepted ts table s r w h in
+      let a = asked-accepted ts table s t ps r w h in
       let stands = reads-is s rows d (a .what .headed) v (dossier-taken ts s (a .what) (a .asked) .read) in
       record {
         openable = record {
@@ -138,7 +137,7 @@ module _
           headed = a .what .headed;
           read = i;
           asked = a .asked;
-          typed = a .typed;
+          typed = a .typed .are;
           is = stands .0;
           stand = stands .1;
         };
@@ -162,7 +161,7 @@ module _ (table s out : List ℕ) where
     open-refused ts n e f = rw (has-room dossierCapacity (length out) h, e, f)
 
     pub open-done :
-        (d : DossierIndex) (rows : List ℕ) (r : DossierAsked) (a : Accepted table s d rows r) →
+        (d : DossierIndex) (rows : List ℕ) (count : ℕ) (ps : List ℕ) (a : Accepted table s d rows count ps) →
         outcome (openedAnswer (a .openable .headed) (opening (typeView (a .openable .type)) (modelOf (a .openable .headed)))) out ≡ openCall standard table s out
     unfolding openCall openAnswer askedOpening
-    open-done d rows r a = rw (has-room dossierCapacity (length out) h, a .from, a .openable .asked)
+    open-done d rows count ps a = rw (has-room dossierCapacity (length out) h, a .from, a .openable .asked)

@@ -15,9 +15,8 @@ use Rattle.model.specs.Sets.{upFrom, upTo}
 use Rattle.model.specs.Rule.{places, Dossier}
 use Rattle.model.specs.Opening.{column, lowest, mergedAt, mergedSets, overfull}
 use Rattle.ontology.specs.Table.{Property, EventType, isSingle, atPlace}
-use Rattle.ontology.specs.code.TypeIndex.{propertyIn, TypeIs}
+use Rattle.ontology.specs.code.TypeIndex.{propertyIn, PropertiesAre}
 use Rattle.ontology.specs.declared.properties.PropertyAt.{PropertyAt}
-use Rattle.ontology.specs.declared.types.TypeIndex.{TypeIndex}
 use Rattle.ontology.proofs.RunLaws.{no-element}
 use Rattle.event.specs.Event.{typeView, eventView}
 use Rattle.event.specs.EventLayout.{presenceBit, bitNumber}
@@ -132,27 +131,28 @@ pub overfull-start : (ty : EventType) (d : Dossier) → overfull (typeView ty) d
 unfolding overfull places upTo typeView eventView
 overfull-start ty d = refl
 
-module _ (u : List ℕ) (ty : EventType) (t : TypeIndex) (w : TypeIs u ty t) (d : Dossier) (p : ℕ) where
+module _
+    (u : List ℕ) (ty : EventType) (count : ℕ) (ps : List ℕ) (w : PropertiesAre u (ty .properties) count ps) (d : Dossier) (p : ℕ) where
   single-at : (o : Option Property) → getElem? (ty .properties) p ≡ o → typeView ty .single p ≡ atPlace false isSingle o
   unfolding typeView eventView
   single-at o e = ap (atPlace false isSingle) e
 
   pub place-overfull :
-      (s plan : List ℕ) {q : PropertyAt} {b : Bool} → q ≡ propertyIn (t .properties) p → PlanIs s plan ty d → p < t .count →
+      (s plan : List ℕ) {q : PropertyAt} {b : Bool} → q ≡ propertyIn ps p → PlanIs s plan ty d → p < count →
       b ≡ (not (q .multivalued) && leb 2 (getD plan (4 * p + 2) 0)) → b ≡ isOverfull ty d p
   unfolding atPlace
   place-overfull s plan same v h e =
-      let o = this u ty _ _ (w .are) p h in
+      let o = this u ty _ _ w p h in
       e
       ∙ ap₂ _&&_
-      (ap not (ap (λ (x : PropertyAt). x .multivalued) same ∙ this-is u ty _ _ (w .are) p h .multivalued) ∙ sym (single-at (some (o .what)) (o .is)))
-      (v .each p (omega (arith, w .are .few)) .counts .several)
+      (ap not (ap (λ (x : PropertyAt). x .multivalued) same ∙ this-is u ty _ _ w p h .multivalued) ∙ sym (single-at (some (o .what)) (o .is)))
+      (v .each p (omega (arith, w .few)) .counts .several)
 
   -- there is no property
-  pub no-overfull : t .count ≤ p → isOverfull ty d p ≡ false
+  pub no-overfull : count ≤ p → isOverfull ty d p ≡ false
   unfolding atPlace
   no-overfull h =
-      ap (λ (b : Bool). b && leb 2 (length (mergedAt (typeView ty) d p))) (single-at _ (no-element (ty .properties) p (omega (arith, w .are .count))))
+      ap (λ (b : Bool). b && leb 2 (length (mergedAt (typeView ty) d p))) (single-at _ (no-element (ty .properties) p (omega (arith, w .count))))
 
 -- ---- the presence number
 

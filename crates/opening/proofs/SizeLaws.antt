@@ -19,7 +19,6 @@ use Rattle.packed.proofs.LayoutLaws.{All, number-length-5}
 use Rattle.replies.specs.Capacities.{dossierCapacity}
 use Rattle.ontology.specs.Table.{Table}
 use Rattle.ontology.specs.TableLayout.{tableOf}
-use Rattle.ontology.specs.declared.types.TypeIndex.{TypeIndex}
 use Rattle.event.specs.Event.{objectCount, typeView, eventView}
 use Rattle.event.specs.EventLayout.{presenceBit, bitNumber, eventBytes}
 use Rattle.event.proofs.HeadLayoutLaws.{HeadWritten}
@@ -112,6 +111,6 @@ module _ (table s : List ℕ) (types : Table) (a : TypedDossier) (t : tableOf ta
   merged-room = event-short (a .headed) (mergedSets v d) (taken-written w .head) (taken-name w table t) sets-long sets-few sets-short
 
 -- the same of a dossier that is opened
-pub merged-size : (s : List ℕ) (d : DossierIndex) (rows : List ℕ) (t : TypeIndex) (o : Openable s d rows t) →
+pub merged-size : (s : List ℕ) (d : DossierIndex) (rows : List ℕ) (count : ℕ) (ps : List ℕ) (o : Openable s d rows count ps) →
     length (eventBytes (mergedEvent (o .headed) (mergedSets (typeView (o .type)) (modelOf (o .headed))))) ≤ dossierCapacity
-merged-size s d rows t o = merged-room (o .table) s (o .types) (record { type = o .type; headed = o .headed }) (o .read) (taken s d rows t o)
+merged-size s d rows count ps o = merged-room (o .table) s (o .types) (record { type = o .type; headed = o .headed }) (o .read) (taken s d rows count ps o)

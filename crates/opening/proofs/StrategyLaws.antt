@@ -6,9 +6,8 @@ use Prim.Native.Nat.{ℕ, _<_}
 use native.Mathlib.Omega.{arith}
 use lib.ListN.{getElem?}
 use Rattle.ontology.specs.Table.{Property, EventType}
-use Rattle.ontology.specs.code.TypeIndex.{PropertyIs, propertyIn, hasMax, hasExtreme, hasReplace, TypeIs}
+use Rattle.ontology.specs.code.TypeIndex.{PropertyIs, propertyIn, PropertiesAre, hasMax, hasExtreme, hasReplace}
 use Rattle.ontology.specs.declared.properties.PropertyAt.{PropertyAt}
-use Rattle.ontology.specs.declared.types.TypeIndex.{TypeIndex}
 use Rattle.ontology.proofs.TypeIndexLaws.{max-of, extreme-of, replace-of}
 use Rattle.event.proofs.MatchLaws.{Elem, elem}
 use Rattle.opening.specs.code.OpenIndex.{RuleOf, RuleIs}
@@ -29,15 +28,15 @@ module _
     kind = w .kind .number;
   }
 
-module _ (s : List ℕ) (ty : EventType) (t : TypeIndex) (w : TypeIs s ty t) (k : ℕ) where
-  pub place : k < t .count → Elem (ty .properties) k
-  place h = elem (ty .properties) k (omega (arith, w .are .count))
+module _ (s : List ℕ) (ty : EventType) (count : ℕ) (ps : List ℕ) (w : PropertiesAre s (ty .properties) count ps) (k : ℕ) where
+  pub place : k < count → Elem (ty .properties) k
+  place h = elem (ty .properties) k (omega (arith, w .count))
 
   pub rule-at :
-      {x : PropertyAt} {r : PlaceRule} → k < t .count → x ≡ propertyIn (t .properties) k →
+      {x : PropertyAt} {r : PlaceRule} → k < count → x ≡ propertyIn ps k →
       ((u : List ℕ) (q : Property) → PropertyIs u q x → RuleOf q r) → RuleIs (getElem? (ty .properties) k) r
   rule-at h same rule = record {
     what = place h .what;
     is = place h .is;
-    rule = rule s (place h .what) (subst (PropertyIs s (place h .what)) (sym same) (w .are .each k (place h .what) (place h .is)));
+    rule = rule s (place h .what) (subst (PropertyIs s (place h .what)) (sym same) (w .each k (place h .what) (place h .is)));
   }

@@ -22,32 +22,50 @@ use dossier::dossiers::read_dossier;
 use dossier::questions::ask_dossier;
 use dossier::questions::type_name;
 use ontology::tables::read_table;
-use ontology::types::TypeIndex;
 use replies::capacities::DOSSIER_CAPACITY;
 use replies::reply::Finding;
 use replies::reply::Opened;
 
 // Without a conflict. Which place is overfull is known before the first byte is written.
-fn open_merged(s: &[u8], d: DossierIndex, rows: &[usize], t: TypeIndex, out: &mut [u8]) -> Opened
-    requires { ⌜ (length (now rows) ≡ 768) × (dossierCapacity ≤ length (now out)) × Openable (now s) d (now rows) t ⌝ }
-    ensures { λ r. ⌜ ((o : Openable (now (s .entry)) d (now (rows .entry)) t) → conflict (upTo 32) (o .headed .snapshots) ≡ noConflict → openReplies r (now (out .exit)) ≡ outcome (openedAnswer (o .headed) (opening (typeView (o .type)) (modelOf (o .headed)))) (now (out .entry))) ⌝ }
+fn open_merged(
+    s: &[u8],
+    d: DossierIndex,
+    rows: &[usize],
+    count: usize,
+    properties: &[usize],
+    out: &mut [u8],
+) -> Opened
+    requires { ⌜ (length (now rows) ≡ 768) × (length (now properties) ≡ 96) × (dossierCapacity ≤ length (now out)) ⌝ }
+    requires { ⌜ Openable (now s) d (now rows) count (now properties) ⌝ }
+    ensures { λ r. ⌜ ((o : Openable (now (s .entry)) d (now (rows .entry)) count (now (properties .entry)))
+        → conflict (upTo 32) (o .headed .snapshots) ≡ noConflict
+        → openReplies r (now (out .exit)) ≡ outcome (openedAnswer (o .headed) (opening (typeView (o .type)) (modelOf (o .headed)))) (now (out .entry))) ⌝ }
 {
     let mut plan = [0usize; 128];
-    plan_sets(s, rows, d.count, t, &mut plan);
-    match find_overfull(t, &plan) {
+    plan_sets(s, rows, d.count, count, properties, &mut plan);
+    match find_overfull(count, properties, &plan) {
         Lowest::Place(place) => Opened::Found(Finding::Overfull(place)),
         Lowest::NoPlace => Opened::Merged(write_event(s, d, rows, &plan, out)),
     }
 }
 
 // A dossier that was asked its questions.
-fn open_asked(s: &[u8], d: DossierIndex, rows: &[usize], t: TypeIndex, out: &mut [u8]) -> Opened
-    requires { ⌜ (length (now rows) ≡ 768) × (dossierCapacity ≤ length (now out)) × Openable (now s) d (now rows) t ⌝ }
-    ensures { λ r. ⌜ ((o : Openable (now (s .entry)) d (now (rows .entry)) t) → openReplies r (now (out .exit)) ≡ outcome (openedAnswer (o .headed) (opening (typeView (o .type)) (modelOf (o .headed)))) (now (out .entry))) ⌝ }
+fn open_asked(
+    s: &[u8],
+    d: DossierIndex,
+    rows: &[usize],
+    count: usize,
+    properties: &[usize],
+    out: &mut [u8],
+) -> Opened
+    requires { ⌜ (length (now rows) ≡ 768) × (length (now properties) ≡ 96) × (dossierCapacity ≤ length (now out)) ⌝ }
+    requires { ⌜ Openable (now s) d (now rows) count (now properties) ⌝ }
+    ensures { λ r. ⌜ ((o : Openable (now (s .entry)) d (now (rows .entry)) count (now (properties .entry)))
+        → openReplies r (now (out .exit)) ≡ outcome (openedAnswer (o .headed) (opening (typeView (o .type)) (modelOf (o .headed)))) (now (out .entry))) ⌝ }
 {
     match find_conflict(d) {
         Conflict::Differs(version, place) => Opened::Found(Finding::Conflict(version, place)),
-        Conflict::NoConflict => open_merged(s, d, rows, t, out),
+        Conflict::NoConflict => open_merged(s, d, rows, count, properties, out),
     }
 }
 
@@ -60,14 +78,15 @@ pub fn open_dossier(table: &[u8], dossier: &[u8], out: &mut [u8]) -> Opened
     }
     let mut rows = [0usize; 768];
     let d = read_dossier(dossier, &mut rows);
-    let read = read_table(table, type_name(dossier, d));
+    let mut properties = [0usize; 96];
+    let read = read_table(table, type_name(dossier, d), &mut properties);
     if !read.ok {
         return Opened::Refused(2);
     }
-    let asked = ask_dossier(dossier, d, &rows, read);
-    if asked.number != 0 {
-        return Opened::Refused(asked.number);
+    let number = ask_dossier(dossier, d, &rows, read, &properties);
+    if number != 0 {
+        return Opened::Refused(number);
     }
-    let event_type = asked.event_type;
-    open_asked(dossier, d, &rows, event_type, out)
+    let t = read.index;
+    open_asked(dossier, d, &rows, t.count, &properties, out)
 }

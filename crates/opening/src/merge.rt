@@ -11,7 +11,7 @@ ghost use Rattle.model.specs.Opening.{column, mergedAt, mergedSets, overfull};
 ghost use Rattle.values.specs.Spaces.{Kind};
 ghost use Rattle.values.specs.ValueOrder.{extremeOrder};
 ghost use Rattle.ontology.specs.Table.{EventType};
-ghost use Rattle.ontology.specs.code.TypeIndex.{TypeIs};
+ghost use Rattle.ontology.specs.code.TypeIndex.{PropertiesAre};
 ghost use Rattle.event.specs.Event.{typeView};
 ghost use Rattle.event.specs.EventLayout.{presenceBit, bitNumber};
 ghost use Rattle.event.specs.code.EventIndex.{SetIs};
@@ -27,7 +27,6 @@ use event::sets::SetAt;
 use event::sets::set_part;
 use event::sets::value_in;
 use ontology::properties::property_at;
-use ontology::types::TypeIndex;
 use packed::order::same;
 use values::spaces::compare_values;
 use values::spaces::takes_first;
@@ -132,10 +131,17 @@ fn put_place(plan: &mut [usize], place: usize, x: PlaceMerged)
 }
 
 // The merged sets of all places, before any is made. A place without a property has no objects.
-pub fn plan_sets(s: &[u8], rows: &[usize], n: usize, t: TypeIndex, plan: &mut [usize])
-    requires { ⌜ (t .count ≤ 32) × (1 ≤ n) × (n ≤ 8) × (length (now rows) ≡ 768) × (length (now plan) ≡ 128) ⌝ }
-    ensures { λ r. ⌜ ((u : List ℕ) (ty : EventType) (d : Dossier) → TypeIs u ty t → Mergeable (now (s .entry)) (now (rows .entry)) n ty d
-        → PlanIs (now (s .entry)) (now (plan .exit)) ty d) ⌝ }
+pub fn plan_sets(
+    s: &[u8],
+    rows: &[usize],
+    n: usize,
+    count: usize,
+    properties: &[usize],
+    plan: &mut [usize],
+)
+    requires { ⌜ (count ≤ 32) × (1 ≤ n) × (n ≤ 8) × (length (now rows) ≡ 768) × (length (now properties) ≡ 96) × (length (now plan) ≡ 128) ⌝ }
+    ensures { λ r. ⌜ ((u : List ℕ) (ty : EventType) (d : Dossier) → PropertiesAre u (ty .properties) count (now (properties .entry))
+        → Mergeable (now (s .entry)) (now (rows .entry)) n ty d → PlanIs (now (s .entry)) (now (plan .exit)) ty d) ⌝ }
 {
     let none = SetAt {
         start: 0,
@@ -144,8 +150,8 @@ pub fn plan_sets(s: &[u8], rows: &[usize], n: usize, t: TypeIndex, plan: &mut [u
     };
     let mut p: usize = 0;
     while p < 32 {
-        if p < t.count {
-            let rule = rule_of(property_at(&t.properties, p));
+        if p < count {
+            let rule = rule_of(property_at(properties, p));
             put_place(plan, p, merged_at(s, rows, p, n, rule));
         } else {
             put_place(plan, p, PlaceMerged::Stands(none));
@@ -164,14 +170,14 @@ fn is_overfull(single: bool, count: usize) -> bool
 }
 
 // The lowest single-valued place that would get more than one object.
-pub fn find_overfull(t: TypeIndex, plan: &[usize]) -> Lowest
-    requires { ⌜ (t .count ≤ 32) × (length (now plan) ≡ 128) ⌝ }
-    ensures { λ r. ⌜ ((u s : List ℕ) (ty : EventType) (d : Dossier) → TypeIs u ty t → PlanIs s (now (plan .entry)) ty d
-        → lowestOf r ≡ overfull (typeView ty) d) ⌝ }
+pub fn find_overfull(count: usize, properties: &[usize], plan: &[usize]) -> Lowest
+    requires { ⌜ (count ≤ 32) × (length (now properties) ≡ 96) × (length (now plan) ≡ 128) ⌝ }
+    ensures { λ r. ⌜ ((u s : List ℕ) (ty : EventType) (d : Dossier) → PropertiesAre u (ty .properties) count (now (properties .entry))
+        → PlanIs s (now (plan .entry)) ty d → lowestOf r ≡ overfull (typeView ty) d) ⌝ }
 {
     let mut p: usize = 0;
-    while p < t.count {
-        let property = property_at(&t.properties, p);
+    while p < count {
+        let property = property_at(properties, p);
         if is_overfull(!property.multivalued, plan[4 * p + 2]) {
             return Lowest::Place(p);
         }

@@ -13,7 +13,6 @@ use Rattle.model.proofs.SortLaws.{Ascends, sorted-ascends, past-one}
 use Rattle.packed.specs.Packed.{part}
 use Rattle.packed.specs.code.Strings.{joined, stringOf, stringsOf, StringFits, noString, StringsFit, Inserted}
 use Rattle.packed.specs.declared.strings.StringAt.{StringAt}
-use Rattle.packed.specs.declared.strings.Strings.{Strings}
 use Rattle.packed.proofs.LayoutLaws.{All}
 use Rattle.packed.proofs.OrderLaws.{order-step, order-less, order-more, order-first, order-second, order-same}
 use Rattle.packed.proofs.ReadLaws.{part-length}
@@ -223,111 +222,88 @@ after-more Ordering·lt e = cc
 after-more Ordering·eq e = cc
 after-more Ordering·gt e = refl
 
-module _ (a b : List ℕ) (strings : Strings) where
-  pub strings-length : strings .count ≤ length (strings .at) → length (stringsOf a b strings) ≡ strings .count
+module _ (a b : List ℕ) (xs : List StringAt) (n : ℕ) where
+  pub strings-length : n ≤ length xs → length (stringsOf a b xs n) ≡ n
   unfolding stringsOf
-  strings-length l = length-map (take (strings .count) (strings .at)) (stringOf a b) ∙ length-take-le (strings .count) (strings .at) l
+  strings-length l = length-map (take n xs) (stringOf a b) ∙ length-take-le n xs l
 
-  pub string-at : (j : ℕ) → j < strings .count → getD (stringsOf a b strings) j (stringOf a b noString) ≡ stringOf a b (getD (strings .at) j noString)
+  pub string-at : (j : ℕ) → j < n → getD (stringsOf a b xs n) j (stringOf a b noString) ≡ stringOf a b (getD xs j noString)
   unfolding stringsOf
-  string-at j h =
-      List·getD-map (stringOf a b) (take (strings .count) (strings .at)) j noString
-      ∙ ap (stringOf a b) (getD-take (strings .count) (strings .at) j noString h)
+  string-at j h = List·getD-map (stringOf a b) (take n xs) j noString ∙ ap (stringOf a b) (getD-take n xs j noString h)
 
--- the new string stands before those from place k on
-unfoldable pub Before : List ℕ → List ℕ → Strings → StringAt → ℕ → Type 0
-Before a b strings x k = insert texts (stringOf a b x) (drop k (stringsOf a b strings)) ≡ stringOf a b x ∷ drop k (stringsOf a b strings)
+-- the string x stands before those of the n strings xs from place k on
+unfoldable pub Before : List ℕ → List ℕ → List StringAt → ℕ → StringAt → ℕ → Type 0
+Before a b xs n x k = insert texts (stringOf a b x) (drop k (stringsOf a b xs n)) ≡ stringOf a b x ∷ drop k (stringsOf a b xs n)
 
-module _ (a b : List ℕ) (strings : Strings) (x : StringAt) (fits : StringsFit a b strings) (fit : StringFits a b x) (room : strings .count < 32) where
-  long : length (strings .at) ≡ 32
-  long = fits .long
+module _ (a b : List ℕ) (xs : List StringAt) (n : ℕ) (x : StringAt) (fits : StringsFit a b xs n) (fit : StringFits a b x) (room : n < 32) where
+  abbrev ss : List Text
+  ss = stringsOf a b xs n
 
-  count-long : strings .count ≤ length (strings .at)
-  count-long = omega (arith, long)
+  abbrev s : Text
+  s = stringOf a b x
 
-  pub before-none : Before a b strings x (strings .count)
+  count-long : n ≤ length xs
+  count-long = omega (arith, fits .long)
+
+  pub before-none : Before a b xs n x n
   unfolding Before insert
-  before-none =
-      let h : length (stringsOf a b strings) ≤ strings .count = omega (arith, strings-length a b strings count-long) in
-      rw (drop-of-length-le (stringsOf a b strings) h)
+  before-none = let h : length ss ≤ n = omega (arith, strings-length a b xs n count-long) in rw (drop-of-length-le ss h)
 
-  module _ (new : List StringAt) (k : ℕ) (w : Moved (strings .at) new (strings .count) k) where
+  module _ (new : List StringAt) (k : ℕ) (w : Moved xs new n k) where
     -- the string before place k
     pub last-fits : 0 < k → StringFits a b (getD new (k - 1) noString)
     last-fits h =
-        let i : k - 1 < strings .count = omega (arith, w .low) in
-        subst (StringFits a b) (sym (moved-same (strings .at) (strings .count) room long new k w (k - 1) (omega arith))) (fits .each (k - 1) i)
+        let i : k - 1 < n = omega (arith, w .low) in
+        subst (StringFits a b) (sym (moved-same xs n room (fits .long) new k w (k - 1) (omega arith))) (fits .each (k - 1) i)
 
-    last-string : 0 < k → getD (stringsOf a b strings) (k - 1) (stringOf a b noString) ≡ stringOf a b (getD new (k - 1) noString)
+    last-string : 0 < k → getD ss (k - 1) (stringOf a b noString) ≡ stringOf a b (getD new (k - 1) noString)
     last-string h =
-        string-at a b strings (k - 1) (omega (arith, w .low))
-        ∙ ap (stringOf a b) (sym (moved-same (strings .at) (strings .count) room long new k w (k - 1) (omega arith)))
+        string-at a b xs n (k - 1) (omega (arith, w .low))
+        ∙ ap (stringOf a b) (sym (moved-same xs n room (fits .long) new k w (k - 1) (omega arith)))
 
-    pub before-more :
-        0 < k → pick (texts .cmp (stringOf a b x) (stringOf a b (getD new (k - 1) noString))) false false true ≡ false →
-        Before a b strings x (k - 1)
+    pub before-more : 0 < k → pick (texts .cmp s (stringOf a b (getD new (k - 1) noString))) false false true ≡ false → Before a b xs n x (k - 1)
     unfolding Before
     before-more h e =
-        let ss = stringsOf a b strings in
-        let d = drop-next ss (k - 1) (stringOf a b noString) (omega (arith, strings-length a b strings count-long, w .low)) in
-        let q = d ∙ ap (λ (s : Text). s ∷ drop (k - 1 + 1) ss) (last-string h) in
-        ap (insert texts (stringOf a b x)) q
-        ∙ insert-here (stringOf a b x) (stringOf a b (getD new (k - 1) noString)) (drop (k - 1 + 1) ss) e
-        ∙ ap (λ (l : List Text). stringOf a b x ∷ l) (sym q)
+        let d = drop-next ss (k - 1) (stringOf a b noString) (omega (arith, strings-length a b xs n count-long, w .low)) in
+        let q = d ∙ ap (λ (t : Text). t ∷ drop (k - 1 + 1) ss) (last-string h) in
+        ap (insert texts s) q ∙ insert-here s (stringOf a b (getD new (k - 1) noString)) (drop (k - 1 + 1) ss) e ∙ ap (λ (l : List Text). s ∷ l) (sym q)
 
-    module _ (r : Strings) (more : r .count ≡ strings .count + 1) (is : r .at ≡ set new k x) where
-      still : StringsFit a b r
-      still =
-          let P = StringFits a b in
-          let c = strings .count in
-          let h : All P (take c (strings .at)) = all-below P noString c (strings .at) count-long (fits .each) in
-          let g : All P (take (c + 1) (set new k x)) =
-          subst (All P) (sym (moved-put (strings .at) c room long new k w x)) (all-put P k (take c (strings .at)) x h fit) in
-          record {
-            few = omega arith;
-            long = ap length is ∙ length-set new k x ∙ w .long;
-            each =
-                λ i l.
-                subst (λ (at : List StringAt). P (getD at i noString)) (sym is)
-                (below-all P noString (c + 1) (set new k x) (omega (arith, length-set new k x, w .long)) g i (omega arith));
-          }
+    still : StringsFit a b (set new k x) (n + 1)
+    still =
+        let P = StringFits a b in
+        let h : All P (take n xs) = all-below P noString n xs count-long (fits .each) in
+        let g : All P (take (n + 1) (set new k x)) = subst (All P) (sym (moved-put xs n room (fits .long) new k w x)) (all-put P k (take n xs) x h fit) in
+        let l : length (set new k x) ≡ 32 = length-set new k x ∙ w .long in
+        record { few = omega arith; long = l; each = below-all P noString (n + 1) (set new k x) (omega arith) g }
 
-      strings-put : stringsOf a b r ≡ take k (stringsOf a b strings) ++ (stringOf a b x ∷ drop k (stringsOf a b strings))
-      unfolding stringsOf
-      strings-put =
-          ap (map (stringOf a b))
-          (ap₂ take more is ∙ moved-put (strings .at) (strings .count) room long new k w x)
-          ∙ map-put (stringOf a b) k (take (strings .count) (strings .at)) x
+    strings-put : stringsOf a b (set new k x) (n + 1) ≡ take k ss ++ (s ∷ drop k ss)
+    unfolding stringsOf
+    strings-put = ap (map (stringOf a b)) (moved-put xs n room (fits .long) new k w x) ∙ map-put (stringOf a b) k (take n xs) x
 
-      placed :
-          Before a b strings x k →
-          (Ascends texts (stringsOf a b strings) → insert texts (stringOf a b x) (stringsOf a b strings)
-          ≡ take k (stringsOf a b strings) ++ insert texts (stringOf a b x) (drop k (stringsOf a b strings))) →
-          Inserted a b strings x r
-      unfolding Before
-      placed u p = record {
-        fit = still;
-        more = more;
-        is =
-            λ ws e.
-            strings-put
-            ∙ ap (λ (l : List Text). take k (stringsOf a b strings) ++ l) (sym u)
-            ∙ sym (p (subst (Ascends texts) (sym e) (sorted-ascends texts ws)));
-      }
+    placed :
+        Before a b xs n x k → (Ascends texts ss → insert texts s ss ≡ take k ss ++ insert texts s (drop k ss)) →
+        Inserted a b xs n x (set new k x)
+    unfolding Before
+    placed u p = record {
+      fit = still;
+      is =
+          λ ws e.
+          strings-put
+          ∙ ap (λ (l : List Text). take k ss ++ l) (sym u)
+          ∙ sym (p (subst (Ascends texts) (sym e) (sorted-ascends texts ws)));
+    }
 
-      -- there, after the one before it
-      pub inserted-after :
-          Before a b strings x k → 0 < k → pick (texts .cmp (stringOf a b x) (stringOf a b (getD new (k - 1) noString))) false false true ≡ true →
-          Inserted a b strings x r
-      inserted-after u h e =
-          let ss = stringsOf a b strings in
-          let g = ap (texts .cmp (stringOf a b x)) (last-string h) ∙ after-more (texts .cmp (stringOf a b x) (stringOf a b (getD new (k - 1) noString))) e in
-          let l : k ≤ length ss = omega (arith, strings-length a b strings count-long, w .low) in
-          placed u (past-one texts (stringOf a b x) (stringOf a b noString) ss k (k - 1) (omega arith) l g)
+    -- there, after the one before it
+    pub inserted-after :
+        Before a b xs n x k → 0 < k → pick (texts .cmp s (stringOf a b (getD new (k - 1) noString))) false false true ≡ true →
+        Inserted a b xs n x (set new k x)
+    inserted-after u h e =
+        let g = ap (texts .cmp s) (last-string h) ∙ after-more (texts .cmp s (stringOf a b (getD new (k - 1) noString))) e in
+        let l : k ≤ length ss = omega (arith, strings-length a b xs n count-long, w .low) in
+        placed u (past-one texts s (stringOf a b noString) ss k (k - 1) (omega arith) l g)
 
-      -- at the front
-      pub inserted-first : Before a b strings x k → k ≤ 0 → Inserted a b strings x r
-      inserted-first u h =
-          let z : k ≡ 0 = omega arith in
-          let ss = stringsOf a b strings in
-          placed u (λ s. ap (λ (i : ℕ). take i ss ++ insert texts (stringOf a b x) (drop i ss)) (sym z))
+    -- at the front
+    pub inserted-first : Before a b xs n x k → k ≤ 0 → Inserted a b xs n x (set new k x)
+    inserted-first u h =
+        let z : k ≡ 0 = omega arith in
+        placed u (λ t. ap (λ (i : ℕ). take i ss ++ insert texts s (drop i ss)) (sym z))

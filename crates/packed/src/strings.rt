@@ -1,10 +1,10 @@
-ghost use Prim.Native.Nat.{_+_, _<_};
+ghost use Prim.Native.Nat.{_<_};
 ghost use mathlib.Core.Path.{_≡_};
 ghost use mathlib.Core.Bool.{true, false};
 ghost use lib.ListN.{length, getD, set};
 ghost use Rattle.model.specs.Order.{texts, pick};
 ghost use Rattle.packed.specs.code.Comparison.{ordering};
-ghost use Rattle.packed.specs.code.Strings.{stringOf, StringFits, StringsFit, Inserted};
+ghost use Rattle.packed.specs.code.Strings.{stringOf, StringFits, stringIn, stringsIn, StringsFit, Inserted};
 use crate::order::Ordering;
 
 // Where a string's first part stands in one slice, and its second part, after a colon, in another. A plain string is one whose first part is empty: all
@@ -16,25 +16,27 @@ pub struct StringAt {
     pub end: usize,
 }
 
-// The first `count` are strings, sorted.
-pub struct Strings {
-    pub count: usize,
-    pub at: [StringAt; 32],
+// Strings are lent as 128 numbers, four for each of 32 places.
+pub fn string_at(strings: &[usize], k: usize) -> StringAt
+    requires { ⌜ (length (now strings) ≡ 128) × (k < 32) ⌝ }
+    ensures { λ r. ⌜ r ≡ stringIn (now (strings .entry)) k ⌝ }
+{
+    StringAt {
+        first: strings[4 * k],
+        colon: strings[4 * k + 1],
+        second: strings[4 * k + 2],
+        end: strings[4 * k + 3],
+    }
 }
 
-pub fn no_strings() -> Strings
-    ensures { λ r. ⌜ (r .count ≡ 0) × (length (r .at) ≡ 32) ⌝ }
+fn put_string(strings: &mut [usize], k: usize, x: StringAt)
+    requires { ⌜ (length (now strings) ≡ 128) × (k < 32) ⌝ }
+    ensures { λ _. ⌜ stringsIn (now (strings .exit)) ≡ set (stringsIn (now (strings .entry))) k x ⌝ }
 {
-    let none = StringAt {
-        first: 0,
-        colon: 0,
-        second: 0,
-        end: 0,
-    };
-    Strings {
-        count: 0,
-        at: [none; 32],
-    }
+    strings[4 * k] = x.first;
+    strings[4 * k + 1] = x.colon;
+    strings[4 * k + 2] = x.second;
+    strings[4 * k + 3] = x.end;
 }
 
 fn string_size(a: &[u8], b: &[u8], x: StringAt) -> usize
@@ -101,31 +103,21 @@ fn is_after(a: &[u8], b: &[u8], x: StringAt, y: StringAt) -> bool
     }
 }
 
-// One string more, at place k.
-fn put(strings: Strings, k: usize, x: StringAt) -> Strings
-    requires { ⌜ (k < 32) × (strings .count < 32) ⌝ }
-    ensures { λ r. ⌜ (r .count ≡ strings .count + 1) × (r .at ≡ set (strings .at) k x) ⌝ }
+// The first `count` places have strings, sorted. Strings come nearly sorted, so the place of the one to insert is looked for from the end; the strings after
+// it move up on the way.
+pub fn insert_string(a: &[u8], b: &[u8], strings: &mut [usize], count: usize, x: StringAt)
+    requires { ⌜ StringsFit (now a) (now b) (stringsIn (now strings)) count × StringFits (now a) (now b) x × (count < 32) × (length (now strings) ≡ 128) ⌝ }
+    ensures { λ _. ⌜ Inserted (now (a .entry)) (now (b .entry)) (stringsIn (now (strings .entry))) count x (stringsIn (now (strings .exit))) ⌝ }
 {
-    let mut r = strings;
-    r.at[k] = x;
-    r.count += 1;
-    r
-}
-
-// Strings come nearly sorted, so the place of the new one is looked for from the end; the strings after it move up on the way.
-pub fn insert_string(a: &[u8], b: &[u8], strings: Strings, x: StringAt) -> Strings
-    requires { ⌜ StringsFit (now a) (now b) strings × StringFits (now a) (now b) x × (strings .count < 32) ⌝ }
-    ensures { λ r. ⌜ Inserted (now (a .entry)) (now (b .entry)) strings x r ⌝ }
-{
-    let mut r = strings;
-    let mut k = strings.count;
+    let mut k = count;
     while 0 < k {
-        let y = r.at[k - 1];
+        let y = string_at(strings, k - 1);
         if is_after(a, b, x, y) {
-            return put(r, k, x);
+            put_string(strings, k, x);
+            return;
         }
-        r.at[k] = y;
+        put_string(strings, k, y);
         k -= 1;
     }
-    put(r, k, x)
+    put_string(strings, k, x);
 }

@@ -1,6 +1,5 @@
 -- The laws of the report's lines.
 use mathlib.Core.Path.{_≡_, refl, sym, ap, ap₂, _∙_, subst}
-use mathlib.Core.Bool.{false}
 use mathlib.Core.Option.{some}
 use mathlib.Core.List.{List, [], _∷_, _++_, append-assoc, map, flatten}
 use Prim.Native.Nat.{ℕ, zero, suc, _+_, _-_, _*_, _/_, _%_, _^_, _≤_, _<_}
@@ -27,7 +26,6 @@ use Rattle.replies.specs.declared.reply.Finding.the-variants.{Conflict, Overful
 use Rattle.ontology.specs.Table.{Property, EventType, atPlace, nameAt}
 use Rattle.ontology.specs.code.TypeIndex.{PropertyIs, propertyIn}
 use Rattle.ontology.specs.declared.properties.PropertyAt.{PropertyAt}
-use Rattle.ontology.specs.declared.types.TypeIndex.{TypeIndex}
 use Rattle.event.specs.Event.{Event, objectCount}
 use Rattle.event.specs.code.EventIndex.{SetIs, setIn}
 use Rattle.event.specs.declared.sets.SetAt.{SetAt}
@@ -109,13 +107,13 @@ some-below [] i a e = never (cc)
 some-below (x ∷ xs) zero a e = omega arith
 some-below (x ∷ xs) (suc i) a e = omega (arith, some-below xs i a e)
 
-module _ {table : List ℕ} {t : TypeIndex} {place : ℕ} (p : PlaceNamed table t place) where
+module _ {table ps : List ℕ} {place : ℕ} (p : PlaceNamed table ps place) where
   name-is : nameAt (p .type) place ≡ p .property .name
   unfolding nameAt atPlace
   name-is = rw (p .named)
 
   pub place-below : place < 32
-  place-below = omega (arith, some-below (p .type .properties) place (p .property) (p .named), p .typed .are .count, p .typed .are .few)
+  place-below = omega (arith, some-below (p .type .properties) place (p .property) (p .named), p .are .few)
 
   -- `conflict 1 state`
   module _ (v : ℕ) where
@@ -135,9 +133,9 @@ module _ {table : List ℕ} {t : TypeIndex} {place : ℕ} (p : PlaceNamed table 
   overfull-length = ap length overfull-is ∙ simp length-append (omega arith)
 
   -- the property that was taken from the numbers
-  module _ {q : PropertyAt} (same : q ≡ propertyIn (t .properties) place) where
+  module _ {q : PropertyAt} (same : q ≡ propertyIn ps place) where
     pub place-is : PropertyIs table (p .property) q
-    place-is = subst (PropertyIs table (p .property)) (sym same) (p .typed .are .each place (p .property) (p .named))
+    place-is = subst (PropertyIs table (p .property)) (sym same) (p .are .each place (p .property) (p .named))
 
     pub place-name : part table (q .start) (q .end) ≡ nameAt (p .type) place
     place-name = place-is .name ∙ sym name-is
@@ -154,7 +152,7 @@ module _ {table : List ℕ} {t : TypeIndex} {place : ℕ} (p : PlaceNamed table 
 
 -- ---- what opening finds
 
-module _ {table : List ℕ} {t : TypeIndex} (f : Finding) (p : FindingNamed table t f) where
+module _ {table ps : List ℕ} (f : Finding) (p : FindingNamed table ps f) where
   pub named-at : {place : ℕ} → placeOf (findingOf f) ≡ place → getElem? (p .type .properties) place ≡ some (p .property)
   named-at e = subst (λ (k : ℕ). getElem? (p .type .properties) k ≡ some (p .property)) e (p .named)
 
@@ -164,8 +162,8 @@ module _ {table : List ℕ} {t : TypeIndex} (f : Finding) (p : FindingNamed tabl
     unfolding placeOf
     at-conflict = ap (λ (g : Finding). placeOf (findingOf g)) e
 
-    abbrev pub conflict-named : PlaceNamed table t place
-    conflict-named = record { type = p .type; property = p .property; typed = p .typed; named = named-at at-conflict }
+    abbrev pub conflict-named : PlaceNamed table ps place
+    conflict-named = record { type = p .type; property = p .property; are = p .are; named = named-at at-conflict }
 
     conflict-line : findingLine (p .type) (findingOf f) ≡ conflictLine (p .type) (v .0) place
     unfolding findingLine
@@ -183,8 +181,8 @@ module _ {table : List ℕ} {t : TypeIndex} (f : Finding) (p : FindingNamed tabl
     unfolding placeOf
     at-overfull = ap (λ (g : Finding). placeOf (findingOf g)) e
 
-    abbrev pub overfull-named : PlaceNamed table t place
-    overfull-named = record { type = p .type; property = p .property; typed = p .typed; named = named-at at-overfull }
+    abbrev pub overfull-named : PlaceNamed table ps place
+    overfull-named = record { type = p .type; property = p .property; are = p .are; named = named-at at-overfull }
 
     overfull-line : findingLine (p .type) (findingOf f) ≡ overfullLine (p .type) place
     unfolding findingLine
@@ -300,28 +298,38 @@ objects-end ps ss k h = ap (λ (l : List Property). objectLines l (drop k ss)) (
 abbrev pub ObjectsGo : List Property → List (List Text) → List ℕ → ℕ → List ℕ → ℕ → ℕ → Type 0
 ObjectsGo ps ss out₀ at out next k = ToGo out₀ at (objectLines ps ss) out next (objectLines (drop k ps) (drop k ss))
 
-module _ {table event : List ℕ} {t : TypeIndex} {e : EventIndex} {at room : ℕ} (o : ObjectsRoom table t event e at room) where
-  module _ {out₀ out : List ℕ} {next : ℕ} (k : ℕ) (below : k < t .count) (long : room ≡ length out₀) (g : ObjectsGo (o .type .properties) (o .event .sets) out₀ at out next k) where
-    property : At (o .type .properties) k
-    property = at-place (o .type .properties) k (omega (arith, o .typed .are .count))
+module _ {table ps event ats : List ℕ} {count at room : ℕ} (o : ObjectsRoom table count ps event ats at room) where
+  module _ {out₀ out : List ℕ} {next : ℕ} (k : ℕ) (below : k < count) (long : room ≡ length out₀)
+      (g : ObjectsGo (o .properties) (o .sets) out₀ at out next k) where
+    property : At (o .properties) k
+    property = at-place (o .properties) k (omega (arith, o .are .count))
 
-    step : objectLines (drop k (o .type .properties)) (drop k (o .event .sets)) ≡ valueLines (property .what .name) (getD (o .event .sets) k []) ++ objectLines (drop (k + 1) (o .type .properties)) (drop (k + 1) (o .event .sets))
-    step = objects-step (o .type .properties) (o .event .sets) k property (omega (arith, o .read .sets .long, o .typed .are .few))
+    -- the lines of this place, and those that follow
+    abbrev here : List ℕ
+    here = valueLines (property .what .name) (getD (o .sets) k [])
+
+    abbrev later : List ℕ
+    later = objectLines (drop (k + 1) (o .properties)) (drop (k + 1) (o .sets))
+
+    step : objectLines (drop k (o .properties)) (drop k (o .sets)) ≡ here ++ later
+    step = objects-step (o .properties) (o .sets) k property (omega (arith, o .stand .long, o .are .few))
 
     -- the property and the set of this place, as they were taken from the numbers
-    module _ {q : PropertyAt} {x : SetAt} (same-property : q ≡ propertyIn (t .properties) k) (same-set : x ≡ setIn (e .sets) k) where
+    module _ {q : PropertyAt} {x : SetAt} (same-property : q ≡ propertyIn ps k) (same-set : x ≡ setIn ats k) where
       pub values-room : ValuesRoom table q event x next (length out)
       values-room = record {
         property = property .what;
-        values = getD (o .event .sets) k [];
-        named = subst (PropertyIs table (property .what)) (sym same-property) (o .typed .are .each k (property .what) (property .is));
-        is = set-read same-set (o .read .sets .each k (omega (arith, o .typed .are .few)));
-        fits = part-room (valueLines (property .what .name) (getD (o .event .sets) k [])) (objectLines (drop (k + 1) (o .type .properties)) (drop (k + 1) (o .event .sets))) g (omega (arith, o .fits, long)) step;
+        values = getD (o .sets) k [];
+        named = subst (PropertyIs table (property .what)) (sym same-property) (o .are .each k (property .what) (property .is));
+        is = set-read same-set (o .stand .each k (omega (arith, o .are .few)));
+        fits = part-room here later g (omega (arith, o .fits, long)) step;
       }
 
-      pub objects-more : {out₁ : List ℕ} {next₁ : ℕ} → Wrote out next (valueLines (values-room .property .name) (values-room .values)) out₁ next₁ → ObjectsGo (o .type .properties) (o .event .sets) out₀ at out₁ next₁ (k + 1)
+      pub objects-more :
+          {out₁ : List ℕ} {next₁ : ℕ} → Wrote out next (valueLines (values-room .property .name) (values-room .values)) out₁ next₁ →
+          ObjectsGo (o .properties) (o .sets) out₀ at out₁ next₁ (k + 1)
       unfolding values-room
-      objects-more w = gone (valueLines (property .what .name) (getD (o .event .sets) k [])) (objectLines (drop (k + 1) (o .type .properties)) (drop (k + 1) (o .event .sets))) g step w
+      objects-more w = gone here later g step w
 
 -- ---- the lines of a merged event
 
@@ -346,12 +354,12 @@ module _ (t : EventType) (e : Event) (hash : List ℕ) where
   wrote-hashed k w₁ w₂ w₃ w₄ w₅ w₆ w₇ = rw (hashed-is, ← k) (wrote-then w₁ (wrote-then w₂ (wrote-then w₃ (wrote-then w₄ (wrote-then w₅ (wrote-then w₆ w₇))))))
 
 abbrev pub objects-room :
-    {table bytes hash : List ℕ} {t : TypeIndex} {e : EventIndex} {room at room₁ : ℕ} (l : LinesRoom table t bytes e hash room) →
-    at ≡ 8 + length (inDecimal (e .objects)) → room₁ ≡ room → ObjectsRoom table t bytes e at room₁
-objects-room {table} {bytes} {hash} {t} {e} {room} {at} {room₁} l h r = record {
-  type = l .type;
-  event = l .event;
-  typed = l .typed;
-  read = l .read;
+    {table ps bytes ats hash : List ℕ} {count : ℕ} {e : EventIndex} {room at room₁ : ℕ} (l : LinesRoom table count ps bytes e ats hash room) →
+    at ≡ 8 + length (inDecimal (e .objects)) → room₁ ≡ room → ObjectsRoom table count ps bytes ats at room₁
+objects-room {hash} l h r = record {
+  properties = l .type .properties;
+  sets = l .event .sets;
+  are = l .are;
+  stand = l .read .sets;
   fits = omega (arith, h, r, l .fits, hashed-length (l .type) (l .event) hash, ap (λ (n : ℕ). length (inDecimal n)) (l .read .objects));
 }

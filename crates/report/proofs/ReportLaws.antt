@@ -40,9 +40,9 @@ use Rattle.replies.specs.declared.reply.BatchReply.{BatchReply}
 use Rattle.replies.specs.declared.reply.BatchReply.the-variants as batch
 use Rattle.ontology.specs.Table.{Property, EventType, Table, isSingle, typeNamed, atPlace}
 use Rattle.ontology.specs.TableLayout.{tableOf}
-use Rattle.ontology.specs.code.TypeIndex.{TypeIs, TypeSays, TableSays}
+use Rattle.ontology.specs.code.TypeIndex.{PropertiesAre, TypeIs, TypeSays, TableSays}
 use Rattle.ontology.specs.declared.tables.TableRead.{TableRead}
-use Rattle.ontology.specs.declared.types.TypeIndex.{TypeIndex}
+use Rattle.ontology.proofs.TypeIndexLaws.{type-says}
 use Rattle.event.specs.Event.{Event, typeView, eventView, view}
 use Rattle.event.specs.EventLayout.{wide, eventBytes}
 use Rattle.event.specs.EventQuestions.{Typed, eventAsked}
@@ -64,7 +64,7 @@ use Rattle.ways.proofs.MergedEventLaws.{merged-asked}
 use Rattle.batch.specs.Batch.{AskedAt, refusedAt, accepted, at, batchAsked, batchGiven, Rooms, haveRoom, batchAnswer, batchCall}
 use Rattle.batch.proofs.GatheredLaws.{ruledHead, batch-gathers}
 use Rattle.report.specs.Report.{hashedLines, mergedLines, findingLine, openedLines, refusedLine, askedLines, framedLines, mostInput, report, reportAnswer, reportCall}
-use Rattle.report.specs.code.ReportIndex.{PlaceNamed, LinesRoom, MergedAsked, opens, HasProperty, DossierOpens}
+use Rattle.report.specs.code.ReportIndex.{NumbersOf, PlaceNamed, LinesRoom, MergedAsked, opens, HasProperty, DossierOpens}
 use Rattle.report.proofs.LineLaws.{refused-short}
 use Rattle.report.proofs.ReportSizeLaws.{merged-short, finding-short}
 
@@ -82,43 +82,41 @@ module _ {table bytes : List ℕ} {t : EventType} {e : Event} {room : ℕ} (m : 
       hashed = unfold hashCall hashAnswer hashTextAsked in (rw (le-leb hashCapacity (length old) (omega arith), m .tabled, m .asked))
 
   -- its questions are answered with the indexes
-  pub answers-are : (r : EventAsked) → EventAnswers (eventQuestions wide table bytes) table bytes r →
-      TypeIs table t (r .«event_type») × EventIs bytes e (r .event)
-  unfolding EventAnswers
-  answers-are r a = let x = subst (λ (q : Asked Typed). EventAnswers q table bytes r) asked a in (x .1, x .2)
-    where
-      asked : eventQuestions wide table bytes ≡ questions.accepted (record { type = t; event = e })
-      asked = rw (m .tabled) (m .asked)
+  module _ {ps ats : List ℕ} (r : EventAsked) (a : EventAnswers (eventQuestions wide table bytes) table bytes ps ats r) where
+    pub answers-are : TypeIs table t (r .«event_type») ps × EventIs bytes e (r .event) ats
+    unfolding EventAnswers
+    answers-are = let x = subst (λ (q : Asked Typed). EventAnswers q table bytes ps ats r) asked a in (x .1, x .2)
+      where
+        asked : eventQuestions wide table bytes ≡ questions.accepted (record { type = t; event = e })
+        asked = rw (m .tabled) (m .asked)
 
-  -- what the writer of its lines needs
-  abbrev pub lines-ready :
-      (r : EventAsked) {hash : List ℕ} → EventAnswers (eventQuestions wide table bytes) table bytes r → hash ≡ sha1Of (eventText t e) →
-      LinesRoom table (r .«event_type») bytes (r .event) hash room
-  lines-ready r {hash} a h = record {
-    type = t;
-    event = e;
-    typed = answers-are r a .0;
-    read = answers-are r a .1;
-    fits = omega (arith, m .fits, ap length (ap (hashedLines t e) h));
-  }
+    -- what the writer of its lines needs
+    abbrev pub lines-ready : {hash : List ℕ} → hash ≡ sha1Of (eventText t e) → LinesRoom table (r .«event_type» .count) ps bytes (r .event) ats hash room
+    lines-ready h = record {
+      type = t;
+      event = e;
+      are = answers-are .0 .are;
+      read = answers-are .1;
+      fits = omega (arith, m .fits, ap length (ap (hashedLines t e) h));
+    }
 
   pub lines-merged : {hash out new : List ℕ} {n : ℕ} → hash ≡ sha1Of (eventText t e) → Wrote out 0 (hashedLines t e hash) new n →
       Wrote out 0 (mergedLines t e) new n
   lines-merged {hash} {out} {new} {n} h w = subst (λ (x : List ℕ). Wrote out 0 (hashedLines t e x) new n) h w
 
--- ---- the type of a dossier
+-- ---- the properties of a dossier's type
 
-pub type-read :
-    (table bytes rows name : List ℕ) (i : DossierIndex) (r : TableRead) → DossierReads (dossierOf standard bytes) bytes rows i →
-    ((h : Headed) → DossierIs bytes h i → name ≡ h .head .type) → TableSays (tableOf table) table name r → (types : Table) (d : TypedDossier) →
-    tableOf table ≡ some types → dossierAsked standard types bytes ≡ questions.accepted d → TypeIs table (d .type) (r .index)
-unfolding DossierReads TableSays TypeSays
-type-read table bytes rows name i r w n s types d e a =
+pub properties-read :
+    (table bytes rows name ps : List ℕ) (i : DossierIndex) (r : TableRead) → DossierReads (dossierOf standard bytes) bytes rows i →
+    ((h : Headed) → DossierIs bytes h i → name ≡ h .head .type) → TableSays (tableOf table) table name ps r → (types : Table) (d : TypedDossier) →
+    tableOf table ≡ some types → dossierAsked standard types bytes ≡ questions.accepted d → NumbersOf table (d .type) ps
+unfolding DossierReads TypeSays
+properties-read table bytes rows name ps i r w n s types d e a =
     let q = dossier-taken types bytes d a in
     let is : DossierIs bytes (d .headed) i = subst (λ (m : Option Headed). DossierReads m bytes rows i) (q .read) w .1 in
-    let says : TypeSays (typeNamed name types) table r = subst (λ (m : Option Table). TableSays m table name r) e s .1 in
     let named : typeNamed name types ≡ some (d .type) = ap (λ (v : Text). typeNamed v types) (n (d .headed) is) ∙ q .typed in
-    subst (λ (m : Option EventType). TypeSays m table r) named says .1
+    let typed : TypeIs table (d .type) (r .index) ps = subst (λ (m : Option EventType). TypeSays m table ps r) named (type-says table name ps r types e s) .1 in
+    subst (λ (n : ℕ). PropertiesAre table (d .type .properties) n ps) (typed .are .count) (typed .are)
 
 -- ---- a dossier that is opened
 
@@ -192,8 +190,8 @@ module _ {table bytes : List ℕ} {d : TypedDossier} {room : ℕ} (w : DossierOp
 
   -- a conflict or an overfull place
   module _ {f : model.Finding} (o : opens d ≡ finds f) where
-    abbrev pub finding-place : {t : TypeIndex} → TypeIs table (d .type) t → PlaceNamed table t (placeOf f)
-    finding-place i = record { type = d .type; property = w .names f o .0; typed = i; named = w .names f o .1 }
+    abbrev pub finding-place : {ps : List ℕ} → NumbersOf table (d .type) ps → PlaceNamed table ps (placeOf f)
+    finding-place i = record { type = d .type; property = w .names f o .0; are = i; named = w .names f o .1 }
 
     pub finding-room : length (findingLine (d .type) f) ≤ room
     unfolding openedLines

@@ -9,12 +9,11 @@ ghost use Rattle.replies.specs.Replies.{replies};
 ghost use Rattle.replies.specs.Capacities.{dossierCapacity, reportCapacity};
 ghost use Rattle.ontology.specs.Table.{EventType, Table};
 ghost use Rattle.ontology.specs.TableLayout.{tableOf};
-ghost use Rattle.ontology.specs.code.TypeIndex.{TypeIs};
 ghost use Rattle.event.specs.Event.{Event};
 ghost use Rattle.dossier.specs.DossierQuestions.{TypedDossier, dossierAsked};
 ghost use Rattle.batch.specs.Batch.{batchAsked};
 ghost use Rattle.report.specs.Report.{mergedLines, openedLines, askedLines, reportCall};
-ghost use Rattle.report.specs.code.ReportIndex.{MergedAsked, opens, DossierOpens};
+ghost use Rattle.report.specs.code.ReportIndex.{NumbersOf, MergedAsked, opens, DossierOpens};
 use crate::lines::write_finding;
 use crate::lines::write_merged;
 use crate::lines::write_refused;
@@ -25,7 +24,6 @@ use event::ask::EventCounts;
 use event::ask::ask_event;
 use hashing::calls::hash;
 use ontology::tables::read_table;
-use ontology::types::TypeIndex;
 use opening::calls::open_dossier;
 use packed::read::TextAt;
 use packed::read::read_text;
@@ -53,20 +51,24 @@ fn report_merged(table: &[u8], event: &[u8], out: &mut [u8]) -> usize
 {
     let mut digest = [0u8; HASH_CAPACITY];
     hash(table, event, &mut digest);
-    let asked = ask_event(table, event, EventCounts::Wide);
+    let mut properties = [0usize; 96];
+    let mut sets = [0usize; 96];
+    let asked = ask_event(table, event, EventCounts::Wide, &mut properties, &mut sets);
     let t = asked.event_type;
     let e = asked.event;
-    write_merged(table, t, event, e, &digest, out)
+    write_merged(table, t.count, &properties, event, e, &sets, &digest, out)
 }
 
-// The index of a dossier's type.
-fn type_of(table: &[u8], dossier: &[u8]) -> TypeIndex
-    ensures { λ r. ⌜ ((types : Table) (d : TypedDossier) → tableOf (now (table .entry)) ≡ some types → dossierAsked standard types (now (dossier .entry)) ≡ accepted d → TypeIs (now (table .entry)) (d .type) r) ⌝ }
+// The properties of a dossier's type.
+fn properties_of(table: &[u8], dossier: &[u8], properties: &mut [usize])
+    requires { ⌜ length (now properties) ≡ 96 ⌝ }
+    ensures { λ _. ⌜ ((types : Table) (d : TypedDossier) → tableOf (now (table .entry)) ≡ some types
+        → dossierAsked standard types (now (dossier .entry)) ≡ accepted d
+        → NumbersOf (now (table .entry)) (d .type) (now (properties .exit))) ⌝ }
 {
     let mut rows = [0usize; 768];
     let d = read_dossier(dossier, &mut rows);
-    let read = read_table(table, type_name(dossier, d));
-    read.index
+    read_table(table, type_name(dossier, d), properties);
 }
 
 // What a dossier opens as.
@@ -77,8 +79,9 @@ fn report_opened(table: &[u8], dossier: &[u8], opened: &mut [u8], out: &mut [u8]
     match open_dossier(table, dossier, opened) {
         Opened::Merged(n) => report_merged(table, &opened[..n], out),
         Opened::Found(f) => {
-            let t = type_of(table, dossier);
-            write_finding(table, t, f, out)
+            let mut properties = [0usize; 96];
+            properties_of(table, dossier, &mut properties);
+            write_finding(table, &properties, f, out)
         }
         Opened::Refused(n) => write_refused(n, 0, out),
     }

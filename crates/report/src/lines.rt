@@ -14,7 +14,6 @@ use event::sets::SetAt;
 use event::sets::set_at;
 use ontology::properties::PropertyAt;
 use ontology::properties::property_at;
-use ontology::types::TypeIndex;
 use packed::read::TextAt;
 use packed::read::read_text;
 use packed::write::copy;
@@ -76,49 +75,57 @@ fn write_name(table: &[u8], p: PropertyAt, out: &mut [u8], at: usize) -> usize
 }
 
 // The name of the property at a place.
-fn write_named(table: &[u8], t: TypeIndex, place: usize, out: &mut [u8], at: usize) -> usize
-    requires { ⌜ ((p : PlaceNamed (now table) t place) × (at + length (nameAt (p .type) place) ≤ length (now out))) ⌝ }
-    ensures { λ r. ⌜ ((p : PlaceNamed (now (table .entry)) t place) → Wrote (now (out .entry)) at (nameAt (p .type) place) (now (out .exit)) r) ⌝ }
+fn write_named(table: &[u8], properties: &[usize], place: usize, out: &mut [u8], at: usize) -> usize
+    requires { ⌜ ((length (now properties) ≡ 96)
+        × (p : PlaceNamed (now table) (now properties) place) × (at + length (nameAt (p .type) place) ≤ length (now out))) ⌝ }
+    ensures { λ r. ⌜ ((p : PlaceNamed (now (table .entry)) (now (properties .entry)) place)
+        → Wrote (now (out .entry)) at (nameAt (p .type) place) (now (out .exit)) r) ⌝ }
 {
-    write_name(table, property_at(&t.properties, place), out, at)
+    write_name(table, property_at(properties, place), out, at)
 }
 
 // `conflict 1 state`: the version and the property.
 fn write_conflict(
     table: &[u8],
-    t: TypeIndex,
+    properties: &[usize],
     version: EventVersion,
     place: usize,
     out: &mut [u8],
 ) -> usize
-    requires { ⌜ ((p : PlaceNamed (now table) t place) × (length (conflictLine (p .type) (version .0) place) ≤ length (now out))) ⌝ }
-    ensures { λ r. ⌜ ((p : PlaceNamed (now (table .entry)) t place) → Wrote (now (out .entry)) 0 (conflictLine (p .type) (version .0) place) (now (out .exit)) r) ⌝ }
+    requires { ⌜ ((length (now properties) ≡ 96)
+        × (p : PlaceNamed (now table) (now properties) place) × (length (conflictLine (p .type) (version .0) place) ≤ length (now out))) ⌝ }
+    ensures { λ r. ⌜ ((p : PlaceNamed (now (table .entry)) (now (properties .entry)) place)
+        → Wrote (now (out .entry)) 0 (conflictLine (p .type) (version .0) place) (now (out .exit)) r) ⌝ }
 {
     let after_word = copy(b"conflict ", out, 0);
     let after_version = write_decimal(version.0, out, after_word);
     let after_space = copy(b" ", out, after_version);
-    let after_name = write_named(table, t, place, out, after_space);
+    let after_name = write_named(table, properties, place, out, after_space);
     write_end(out, after_name)
 }
 
 // `overfull serial`: the property.
-fn write_overfull(table: &[u8], t: TypeIndex, place: usize, out: &mut [u8]) -> usize
-    requires { ⌜ ((p : PlaceNamed (now table) t place) × (length (overfullLine (p .type) place) ≤ length (now out))) ⌝ }
-    ensures { λ r. ⌜ ((p : PlaceNamed (now (table .entry)) t place) → Wrote (now (out .entry)) 0 (overfullLine (p .type) place) (now (out .exit)) r) ⌝ }
+fn write_overfull(table: &[u8], properties: &[usize], place: usize, out: &mut [u8]) -> usize
+    requires { ⌜ ((length (now properties) ≡ 96)
+        × (p : PlaceNamed (now table) (now properties) place) × (length (overfullLine (p .type) place) ≤ length (now out))) ⌝ }
+    ensures { λ r. ⌜ ((p : PlaceNamed (now (table .entry)) (now (properties .entry)) place)
+        → Wrote (now (out .entry)) 0 (overfullLine (p .type) place) (now (out .exit)) r) ⌝ }
 {
     let after_word = copy(b"overfull ", out, 0);
-    let after_name = write_named(table, t, place, out, after_word);
+    let after_name = write_named(table, properties, place, out, after_word);
     write_end(out, after_name)
 }
 
 // The line of what opening finds in place of a merged event.
-pub fn write_finding(table: &[u8], t: TypeIndex, f: Finding, out: &mut [u8]) -> usize
-    requires { ⌜ ((p : FindingNamed (now table) t f) × (length (findingLine (p .type) (findingOf f)) ≤ length (now out))) ⌝ }
-    ensures { λ r. ⌜ ((p : FindingNamed (now (table .entry)) t f) → Wrote (now (out .entry)) 0 (findingLine (p .type) (findingOf f)) (now (out .exit)) r) ⌝ }
+pub fn write_finding(table: &[u8], properties: &[usize], f: Finding, out: &mut [u8]) -> usize
+    requires { ⌜ ((length (now properties) ≡ 96)
+        × (p : FindingNamed (now table) (now properties) f) × (length (findingLine (p .type) (findingOf f)) ≤ length (now out))) ⌝ }
+    ensures { λ r. ⌜ ((p : FindingNamed (now (table .entry)) (now (properties .entry)) f)
+        → Wrote (now (out .entry)) 0 (findingLine (p .type) (findingOf f)) (now (out .exit)) r) ⌝ }
 {
     match f {
-        Finding::Conflict(version, place) => write_conflict(table, t, version, place, out),
-        Finding::Overfull(place) => write_overfull(table, t, place, out),
+        Finding::Conflict(version, place) => write_conflict(table, properties, version, place, out),
+        Finding::Overfull(place) => write_overfull(table, properties, place, out),
     }
 }
 
@@ -170,20 +177,24 @@ fn write_values(
 // The lines of all objects, by place and then by value.
 fn write_objects(
     table: &[u8],
-    t: TypeIndex,
+    count: usize,
+    properties: &[usize],
     event: &[u8],
-    e: EventIndex,
+    sets: &[usize],
     out: &mut [u8],
     at: usize,
 ) -> usize
-    requires { ⌜ ObjectsRoom (now table) t (now event) e at (length (now out)) ⌝ }
-    ensures { λ r. ⌜ ((o : ObjectsRoom (now (table .entry)) t (now (event .entry)) e at (length (now (out .entry)))) → Wrote (now (out .entry)) at (objectLines (o .type .properties) (o .event .sets)) (now (out .exit)) r) ⌝ }
+    requires { ⌜ (length (now properties) ≡ 96) × (length (now sets) ≡ 96)
+        × ObjectsRoom (now table) count (now properties) (now event) (now sets) at (length (now out)) ⌝ }
+    ensures { λ r. ⌜ ((o : ObjectsRoom (now (table .entry)) count (now (properties .entry)) (now (event .entry)) (now (sets .entry)) at
+        (length (now (out .entry))))
+        → Wrote (now (out .entry)) at (objectLines (o .properties) (o .sets)) (now (out .exit)) r) ⌝ }
 {
     let mut next = at;
     let mut k: usize = 0;
-    while k < t.count {
-        let p = property_at(&t.properties, k);
-        next = write_values(table, p, event, set_at(&e.sets, k), out, next);
+    while k < count {
+        let p = property_at(properties, k);
+        next = write_values(table, p, event, set_at(sets, k), out, next);
         k += 1;
     }
     next
@@ -192,20 +203,25 @@ fn write_objects(
 // The lines of a merged event, whose hash is given.
 pub fn write_merged(
     table: &[u8],
-    t: TypeIndex,
+    count: usize,
+    properties: &[usize],
     event: &[u8],
     e: EventIndex,
+    sets: &[usize],
     hash: &[u8],
     out: &mut [u8],
 ) -> usize
-    requires { ⌜ LinesRoom (now table) t (now event) e (now hash) (length (now out)) ⌝ }
-    ensures { λ r. ⌜ ((l : LinesRoom (now (table .entry)) t (now (event .entry)) e (now (hash .entry)) (length (now (out .entry)))) → Wrote (now (out .entry)) 0 (hashedLines (l .type) (l .event) (now (hash .entry))) (now (out .exit)) r) ⌝ }
+    requires { ⌜ (length (now properties) ≡ 96) × (length (now sets) ≡ 96)
+        × LinesRoom (now table) count (now properties) (now event) e (now sets) (now hash) (length (now out)) ⌝ }
+    ensures { λ r. ⌜ ((l : LinesRoom (now (table .entry)) count (now (properties .entry)) (now (event .entry)) e (now (sets .entry)) (now (hash .entry))
+        (length (now (out .entry))))
+        → Wrote (now (out .entry)) 0 (hashedLines (l .type) (l .event) (now (hash .entry))) (now (out .exit)) r) ⌝ }
 {
     let after_merged = copy(b"merged ", out, 0);
     let objects = e.objects;
     let after_count = write_decimal(objects as u64, out, after_merged);
     let after_line = write_end(out, after_count);
-    let after_objects = write_objects(table, t, event, e, out, after_line);
+    let after_objects = write_objects(table, count, properties, event, sets, out, after_line);
     let after_word = copy(b"hash ", out, after_objects);
     let after_hash = write_hex(hash, out, after_word);
     write_end(out, after_hash)

@@ -7,6 +7,7 @@ use mathlib.Core.List.{List, [], _∷_}
 use lib.ListN.{length, take, getD}
 use lib.Dec.{eqb}
 use Rattle.model.specs.Limits.{standard}
+use Rattle.model.specs.Order.{Text}
 use Rattle.packed.specs.Packed.{part}
 use Rattle.replies.specs.Questions as questions
 use Rattle.replies.specs.Answers as answers
@@ -15,10 +16,14 @@ use Rattle.replies.specs.declared.reply.Reply as reply
 use Rattle.replies.specs.declared.reply.Reply.the-variants as replied
 use Rattle.ontology.specs.Table.{Table}
 use Rattle.ontology.specs.TableLayout.{tableOf}
-use Rattle.ontology.specs.code.TypeIndex.{TypeIs}
+use Rattle.ontology.specs.code.TypeIndex.{TypeIs, TableSays}
 use Rattle.ontology.specs.declared.types.TypeIndex.{TypeIndex}
-use Rattle.event.specs.EventLayout.{narrow}
+use Rattle.ontology.specs.declared.tables.TableRead.{TableRead}
+use Rattle.event.specs.Event.{Event}
+use Rattle.event.specs.EventLayout.{narrow, eventOf}
 use Rattle.event.specs.EventQuestions.{Typed, eventAsked}
+use Rattle.event.specs.code.EventIndex.{eventQuestions, EventAnswers}
+use Rattle.event.specs.declared.ask.EventAsked.{EventAsked}
 use Rattle.dossier.specs.DossierLayout.{dossierBytes}
 use Rattle.dossier.specs.DossierQuestions.{TypedDossier}
 use Rattle.batch.specs.Batch.{AskedAt, refusedAt, accepted, _>>=_, eventsAsked, agreeWith, together}
@@ -47,16 +52,28 @@ eventsAgreed (a ∷ bs) = agreeWith a 1 bs
 unfoldable pub eventsTogether : Table → List (List ℕ) → AskedAt (Unit {0})
 eventsTogether ts ss = eventsAsked ts 0 ss >>= eventsAgreed
 
--- the first of the events ss is accepted, and has the type t
-pub record FirstTyped (table : List ℕ) (ts : Table) (ss : List (List ℕ)) (t : TypeIndex) : Type 0 where
+-- x is the index of a batch, and the table was read for the name that the type of its first event has
+pub record FirstNamed (table batch : List ℕ) (x : BatchIndex) (name : Text) (read : TableRead) (ps : List ℕ) : Type 0 where
+  pub events : List (List ℕ)
+  pub stands : BatchIs batch events x
+  pub named : (e : Event) → eventOf narrow (getD events 0 []) ≡ some e → name ≡ e .head .type
+  pub says : TableSays (tableOf table) table name ps read
+
+-- r is what asking an event answers, and ats are the numbers of its sets; those of its type's properties are not kept
+pub record OneAnswers (table event ats : List ℕ) (r : EventAsked) : Type 0 where
+  pub numbers : List ℕ
+  pub answers : EventAnswers (eventQuestions narrow table event) table event numbers ats r
+
+-- the first of the events ss is accepted, and has the type t with the numbers ps of its properties
+pub record FirstTyped (table : List ℕ) (ts : Table) (ss : List (List ℕ)) (t : TypeIndex) (ps : List ℕ) : Type 0 where
   pub first : Typed
   pub taken : eventAsked narrow ts (getD ss 0 []) ≡ questions.accepted first
-  pub typed : TypeIs table (first .type) t
+  pub typed : TypeIs table (first .type) t ps
 
--- the number and the position of a refusal; 0 where there is none, and then the type of the events
-unfoldable pub RefusalIs : List ℕ → Table → List (List ℕ) → AskedAt (Unit {0}) → EventsAsked → Type 0
-RefusalIs table ts ss (refusedAt n i) r = (r .number ≡ n) × (r .position ≡ i) × (1 ≤ n)
-RefusalIs table ts ss (accepted u) r = (r .number ≡ 0) × FirstTyped table ts ss (r .«event_type»)
+-- the number and the position of a refusal; 0 where there is none, and then t is the type of the events
+unfoldable pub RefusalIs : List ℕ → Table → List (List ℕ) → AskedAt (Unit {0}) → TypeIndex → List ℕ → EventsAsked → Type 0
+RefusalIs table ts ss (refusedAt n i) t ps r = (r .number ≡ n) × (r .position ≡ i) × (1 ≤ n)
+RefusalIs table ts ss (accepted u) t ps r = (r .number ≡ 0) × FirstTyped table ts ss t ps
 
 -- the position of the first event that does not agree with the first one, or 0: as it was, or of the event that was asked now
 unfoldable pub firstApart : ℕ → Bool → ℕ → ℕ
@@ -78,17 +95,17 @@ pub record Agreed (table batch : List ℕ) (x : BatchIndex) (ts : Table) (ss : L
   pub isBatch : BatchIs batch ss x
   pub agreed : eventsTogether ts ss ≡ accepted tt
 
--- such a batch has n events at least, and its events have the type t
-pub record FirstOf (table batch : List ℕ) (x : BatchIndex) (t : TypeIndex) (n : ℕ) : Type 0 where
+-- such a batch has n events at least, and its events have the type t with the numbers ps
+pub record FirstOf (table batch : List ℕ) (x : BatchIndex) (t : TypeIndex) (ps : List ℕ) (n : ℕ) : Type 0 where
   pub types : Table
   pub events : List (List ℕ)
   pub agreed : Agreed table batch x types events
-  pub typed : FirstTyped table types events t
+  pub typed : FirstTyped table types events t ps
   pub within : n ≤ length events
 
 -- and `sofar` is the dossier of those before the n-th
-pub record LastOf (table batch : List ℕ) (x : BatchIndex) (t : TypeIndex) (n : ℕ) (sofar : List ℕ) : Type 0 where
-  pub all : FirstOf table batch x t n
+pub record LastOf (table batch : List ℕ) (x : BatchIndex) (t : TypeIndex) (ps : List ℕ) (n : ℕ) (sofar : List ℕ) : Type 0 where
+  pub all : FirstOf table batch x t ps n
   pub more : 2 ≤ n
   pub before : combinedAnswer (all .types) (take (n - 1) (all .events)) ≡ gives sofar
 

@@ -10,12 +10,11 @@ use Rattle.values.specs.Decimal.{inDecimal}
 use Rattle.replies.specs.Questions.{accepted}
 use Rattle.ontology.specs.Table.{EventType, Table, isVersioned}
 use Rattle.ontology.specs.TableLayout.{tableOf}
-use Rattle.ontology.specs.code.TypeIndex.{TypeIs}
 use Rattle.ontology.specs.declared.types.TypeIndex.{TypeIndex}
 use Rattle.event.specs.Event.{Event, setAt, versionOf}
 use Rattle.event.specs.EventLayout.{presenceBit, bitNumber, setsBytes}
 use Rattle.event.specs.EventQuestions.{Typed, newEventAsked}
-use Rattle.event.specs.code.EventIndex.{EventIs}
+use Rattle.event.specs.code.EventIndex.{SetsAre, EventIs}
 use Rattle.event.specs.declared.read.EventIndex.{EventIndex}
 use Rattle.dossier.specs.DossierHead.{dossierHeadBytes}
 
@@ -26,25 +25,25 @@ loneBytes e version =
     ++ (number 1
     ++ (number version ++ number (bitNumber (map presenceBit (e .sets))) ++ number 0 ++ setsBytes (e .sets)))
 
--- t and e are the indexes of a type and of an event whose version is to be had
-pub record Checkable (table bytes : List ℕ) (t : TypeIndex) (e : EventIndex) : Type 0 where
+-- t has the mark of the type of an event whose version is to be had, and whose sets stand where the numbers ats say
+pub record Checkable (bytes : List ℕ) (t : TypeIndex) (ats : List ℕ) : Type 0 where
   pub type : EventType
   pub event : Event
-  pub typed : TypeIs table type t
-  pub read : EventIs bytes event e
+  pub mark : t .mark ≡ type .mark
+  pub sets : SetsAre bytes (event .sets) ats
   pub marked : isVersioned type ≡ true → (type .mark ≤ 32) × (setAt event (type .mark - 1) ≡ inDecimal (versionOf type event) ∷ [])
   pub below : versionOf type event < 2 ^ 64
 
 -- the dossier has its room in an output of `size` bytes
-pub record LoneRoom (bytes : List ℕ) (e : EventIndex) (version size : ℕ) : Type 0 where
+pub record LoneRoom (bytes : List ℕ) (e : EventIndex) (ats : List ℕ) (version size : ℕ) : Type 0 where
   pub event : Event
-  pub read : EventIs bytes event e
+  pub read : EventIs bytes event e ats
   pub room : length (loneBytes event version) ≤ size
 
--- questions 2 to 6 are answered yes, and t is the index of the event's type
+-- questions 2 to 6 are answered yes, and t has the mark of the event's type
 pub record KnownEvent (table bytes : List ℕ) (t : TypeIndex) : Type 0 where
   pub types : Table
   pub is : tableOf table ≡ some types
   pub event : Typed
   pub asked : newEventAsked types bytes ≡ accepted event
-  pub typed : TypeIs table (event .type) t
+  pub mark : t .mark ≡ event .type .mark

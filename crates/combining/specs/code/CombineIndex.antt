@@ -11,10 +11,10 @@ use Rattle.model.specs.Opening.{held}
 use Rattle.packed.specs.Parse.{got}
 use Rattle.values.specs.ValueOrder.{isOrdered}
 use Rattle.values.specs.declared.versions.EventVersion.{EventVersion}
-use Rattle.replies.specs.Questions.{accepted}
+use Rattle.replies.specs.Questions.{Asked, refused, accepted}
 use Rattle.ontology.specs.Table.{Property, EventType, Table, isMin, isMax, isVersioned, atPlace}
 use Rattle.ontology.specs.TableLayout.{tableOf}
-use Rattle.ontology.specs.code.TypeIndex.{TypeIs}
+use Rattle.ontology.specs.code.TypeIndex.{PropertiesAre, TypeIs}
 use Rattle.ontology.specs.declared.types.TypeIndex.{TypeIndex}
 use Rattle.event.specs.Event.{typeView}
 use Rattle.event.specs.code.EventIndex.{SetsAre}
@@ -23,8 +23,13 @@ use Rattle.dossier.specs.DossierQuestions.{TypedDossier, dossierAsked, dossiers
 use Rattle.dossier.specs.code.DossierIndex.{snapshotFits, CellsAre, DossierIs, RowsAre}
 use Rattle.dossier.specs.declared.dossiers.DossierIndex.{DossierIndex}
 
+-- the number of the question that is answered no, or 0
+unfoldable pub NumberIs : Asked TypedDossier → ℕ → Type 0
+NumberIs (refused n) r = (r ≡ n) × (0 < r)
+NumberIs (accepted a) r = r ≡ 0
+
 -- questions 2 to 7 are answered yes
-pub record Known (table a b : List ℕ) (t : TypeIndex) : Type 0 where
+pub record Known (table a b : List ℕ) (t : TypeIndex) (ps : List ℕ) : Type 0 where
   pub types : Table
   pub is : tableOf table ≡ some types
   pub left : TypedDossier
@@ -32,11 +37,12 @@ pub record Known (table a b : List ℕ) (t : TypeIndex) : Type 0 where
   pub left-asked : dossierAsked standard types a ≡ accepted left
   pub right-asked : dossierAsked standard types b ≡ accepted right
   pub agree : dossiersAgree left right ≡ true
-  pub typed : TypeIs table (left .type) t
+  pub typed : TypeIs table (left .type) t ps
 
 -- and both dossiers are read, with the rows of their snapshots
-pub record Combinable (table a : List ℕ) (d : DossierIndex) (left b : List ℕ) (e : DossierIndex) (right : List ℕ) (t : TypeIndex) : Type 0 where
-  pub known : Known table a b t
+pub record Combinable
+    (table a : List ℕ) (d : DossierIndex) (left b : List ℕ) (e : DossierIndex) (right : List ℕ) (t : TypeIndex) (ps : List ℕ) : Type 0 where
+  pub known : Known table a b t ps
   pub left-read : DossierIs a (known .left .headed) d
   pub right-read : DossierIs b (known .right .headed) e
   pub left-rows : RowsAre a (known .left .headed .snapshots) left
@@ -83,12 +89,12 @@ pub record AgreedRoom (version : EventVersion) (a x : List ℕ) (m : ℕ) (b y :
   pub room : at + length (snapshotBytes (joinSnapshots (typeView type) left right)) ≤ size
 
 -- the same of two unversioned ones
-pub record JoinedRoom (a x b y : List ℕ) (t : TypeIndex) (at size : ℕ) : Type 0 where
+pub record JoinedRoom (a x b y : List ℕ) (count : ℕ) (ps : List ℕ) (at size : ℕ) : Type 0 where
   pub table : List ℕ
   pub type : EventType
   pub left : Snapshot
   pub right : Snapshot
-  pub typed : TypeIs table type t
+  pub typed : PropertiesAre table (type .properties) count ps
   pub unversioned : isVersioned type ≡ false
   pub meet : Meet type left right
   pub left-is : SetsAre a (map held (left .cells)) x

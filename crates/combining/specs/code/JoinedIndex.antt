@@ -14,8 +14,7 @@ use Rattle.packed.specs.Packed.{text}
 use Rattle.values.specs.Spaces.{Kind, kindNumber}
 use Rattle.values.specs.ValueOrder.{isOrdered}
 use Rattle.ontology.specs.Table.{Property, EventType, isMin, isMax}
-use Rattle.ontology.specs.code.TypeIndex.{TypeIs}
-use Rattle.ontology.specs.declared.types.TypeIndex.{TypeIndex}
+use Rattle.ontology.specs.code.TypeIndex.{PropertiesAre}
 use Rattle.event.specs.Event.{typeView}
 use Rattle.event.specs.EventLayout.{setBytes}
 use Rattle.event.specs.EventQuestions.{areInSpace}
@@ -72,10 +71,10 @@ pub record Paired (ty : EventType) (p : ℕ) (xs ys : List Text) : Type 0 where
   pub ordered : (q : Property) → getElem? (ty .properties) p ≡ some q → (isMin q || isMax q) ≡ true → isOrdered (q .kind) ≡ true
 
 -- they stand in a and b where x and y say
-pub record PlaceIs (t : TypeIndex) (p : ℕ) (a : List ℕ) (x : SetAt) (b : List ℕ) (y : SetAt) : Type 0 where
+pub record PlaceIs (count : ℕ) (ps : List ℕ) (p : ℕ) (a : List ℕ) (x : SetAt) (b : List ℕ) (y : SetAt) : Type 0 where
   pub table : List ℕ
   pub type : EventType
-  pub typed : TypeIs table type t
+  pub typed : PropertiesAre table (type .properties) count ps
   pub xs : List Text
   pub ys : List Text
   pub left : SetIs a xs x
@@ -83,8 +82,8 @@ pub record PlaceIs (t : TypeIndex) (p : ℕ) (a : List ℕ) (x : SetAt) (b : Lis
   pub paired : Paired type p xs ys
 
 -- one of them has objects, and what they are together has its room in an output of `size` bytes
-pub record PlaceRoom (t : TypeIndex) (p : ℕ) (a : List ℕ) (x : SetAt) (b : List ℕ) (y : SetAt) (at size : ℕ) : Type 0 where
+pub record PlaceRoom (count : ℕ) (ps : List ℕ) (p : ℕ) (a : List ℕ) (x : SetAt) (b : List ℕ) (y : SetAt) (at size : ℕ) : Type 0 where
   pub low : p < 32
   pub some : haveObjects x y ≡ true
-  pub place : PlaceIs t p a x b y
+  pub place : PlaceIs count ps p a x b y
   pub room : at + length (setBytes (joinedSet (place .type) p (place .xs) (place .ys))) ≤ size

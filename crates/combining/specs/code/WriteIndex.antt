@@ -26,12 +26,13 @@ use Rattle.combining.specs.CombineCall.{combined, headedAs}
 use Rattle.combining.specs.code.CombineIndex.{Combinable, Shared}
 
 -- what two snapshots of one version are together has its room in an output of `size` bytes
-pub record SharedRoom (version : EventVersion) (a x : List ℕ) (m : ℕ) (b y : List ℕ) (n : ℕ) (t : TypeIndex) (at size : ℕ) : Type 0 where
+pub record SharedRoom
+    (version : EventVersion) (a x : List ℕ) (m : ℕ) (b y : List ℕ) (n : ℕ) (t : TypeIndex) (ps : List ℕ) (at size : ℕ) : Type 0 where
   pub table : List ℕ
   pub type : EventType
   pub left : Snapshot
   pub right : Snapshot
-  pub typed : TypeIs table type t
+  pub typed : TypeIs table type t ps
   pub shared : Shared version a x m b y n type left right
   pub room : at + length (snapshotBytes (joinSnapshots (typeView type) left right)) ≤ size
 
@@ -68,12 +69,18 @@ pub record HeadsRoom (a : List ℕ) (d : DossierIndex) (b : List ℕ) (e : Dossi
   pub room : length (dossierHeadBytes (bothHeads left right)) ≤ size
 
 -- the snapshots of both sides have their room
-pub record SnapshotsRoom (table a : List ℕ) (d : DossierIndex) (left b : List ℕ) (e : DossierIndex) (right : List ℕ) (t : TypeIndex) (at size : ℕ) : Type 0 where
-  pub both : Combinable table a d left b e right t
+pub record SnapshotsRoom
+    (a : List ℕ) (d : DossierIndex) (left b : List ℕ) (e : DossierIndex) (right : List ℕ) (t : TypeIndex) (ps : List ℕ) (at size : ℕ) : Type 0 where
+  pub table : List ℕ
+  pub both : Combinable table a d left b e right t ps
   pub room : at + length (flatten (map snapshotBytes (combined (both .known .left) (both .known .right) .snapshots))) ≤ size
 
 -- the two dossiers together pass no limit, and have their room
-pub record CombinedRoom (table a : List ℕ) (d : DossierIndex) (left b : List ℕ) (e : DossierIndex) (right : List ℕ) (t : TypeIndex) (size : ℕ) : Type 0 where
-  pub both : Combinable table a d left b e right t
-  pub inside : (h : Combinable table a d left b e right t) → fits standard (typeView (h .known .left .type)) (combined (h .known .left) (h .known .right)) ≡ true
+pub record CombinedRoom
+    (a : List ℕ) (d : DossierIndex) (left b : List ℕ) (e : DossierIndex) (right : List ℕ) (t : TypeIndex) (ps : List ℕ) (size : ℕ) : Type 0 where
+  pub table : List ℕ
+  pub both : Combinable table a d left b e right t ps
+  pub inside :
+      (u : List ℕ) (h : Combinable u a d left b e right t ps) →
+      fits standard (typeView (h .known .left .type)) (combined (h .known .left) (h .known .right)) ≡ true
   pub room : length (dossierBytes (headedAs (both .known .left .headed) (combined (both .known .left) (both .known .right)))) ≤ size

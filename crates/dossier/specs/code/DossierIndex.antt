@@ -15,8 +15,9 @@ use Rattle.values.specs.declared.versions.EventVersion.{EventVersion}
 use Rattle.replies.specs.Questions.{Asked, refused, accepted}
 use Rattle.ontology.specs.Table.{Property, EventType, isVersioned}
 use Rattle.ontology.specs.code.TypeIndex.{TypeIs}
+use Rattle.ontology.specs.declared.types.TypeIndex.{TypeIndex}
 use Rattle.event.specs.EventQuestions.{matchCount}
-use Rattle.event.specs.EventLayout.{readSets, presenceBit, bitNumber, setsBytes}
+use Rattle.event.specs.EventLayout.{readSets, bitNumber}
 use Rattle.event.specs.code.EventIndex.{SetsAre, HeadIs, HeadParts}
 use Rattle.event.specs.Head.{Head}
 use Rattle.event.specs.declared.head.HeadAt.{HeadAt}
@@ -33,7 +34,6 @@ use Rattle.dossier.specs.declared.snapshots.SnapshotRead.{SnapshotRead}
 use Rattle.dossier.specs.declared.snapshots.SnapshotRead.the-variants.{Found, NoSnapshot}
 use Rattle.dossier.specs.declared.dossiers.SnapshotsRead.{SnapshotsRead}
 use Rattle.dossier.specs.declared.dossiers.DossierIndex.{DossierIndex}
-use Rattle.dossier.specs.declared.questions.DossierAsked.{DossierAsked}
 
 -- ---- a snapshot
 
@@ -195,7 +195,7 @@ shapeNumber true true = 0
 
 -- ---- questions 3 to 6
 
--- what is answered where the questions come to a number or to a dossier with its type
-unfoldable pub DossierAnswers : Asked TypedDossier → List ℕ → DossierAsked → Type 0
-DossierAnswers (refused n) table r = r .number ≡ n
-DossierAnswers (accepted a) table r = (r .number ≡ 0) × TypeIs table (a .type) (r .«event_type»)
+-- what is answered where the questions come to a number or to a dossier, whose type is then the one that was asked by
+unfoldable pub DossierAnswers : Asked TypedDossier → List ℕ → TypeIndex → List ℕ → ℕ → Type 0
+DossierAnswers (refused n) table t ps r = r ≡ n
+DossierAnswers (accepted a) table t ps r = (r ≡ 0) × TypeIs table (a .type) t ps

@@ -148,20 +148,20 @@ abbrev pub HeadReads : Parse Head → List ℕ → HeadRead → Type 0
 HeadReads p s (read.Head h) = HeadStops p s h
 HeadReads p s read.NoHead = p ≡ fail
 
--- The event e stands in the bytes s as the index says
-pub record EventIs (s : List ℕ) (e : Event) (x : EventIndex) : Type 0 where
+-- The event e stands in the bytes s as the index says, and its sets where the numbers ats say
+pub record EventIs (s : List ℕ) (e : Event) (x : EventIndex) (ats : List ℕ) : Type 0 where
   pub head : HeadIs s (e .head) (x .head)
   pub presence : x .presence ≡ bitNumber (map presenceBit (e .sets))
   pub front : take (x .«after_presence») s ≡ headBytes (e .head) ++ number (x .presence)
   pub rest : drop (x .«after_presence») s ≡ setsBytes (e .sets)
   pub within : x .«after_presence» ≤ length s
   pub objects : x .objects ≡ objectCount (e .sets)
-  pub sets : SetsAre s (e .sets) (x .sets)
+  pub sets : SetsAre s (e .sets) ats
 
--- what the reader of an event answers
-unfoldable pub EventReads : Option Event → List ℕ → EventIndex → Type 0
-EventReads none s x = x .ok ≡ false
-EventReads (some e) s x = (x .ok ≡ true) × EventIs s e x
+-- what the reader of an event answers, and leaves in the numbers ats
+unfoldable pub EventReads : Option Event → List ℕ → List ℕ → EventIndex → Type 0
+EventReads none s ats x = x .ok ≡ false
+EventReads (some e) s ats x = (x .ok ≡ true) × EventIs s e x ats
 
 -- the counts that a reader takes
 abbrev pub counts : ℕ → ℕ → Counts
@@ -206,7 +206,7 @@ countsOf taken.Wide = wide
 abbrev pub eventQuestions : Counts → List ℕ → List ℕ → Asked Typed
 eventQuestions counts table event = questions._>>=_ (ask 2 (tableOf table)) (λ ts. eventAsked counts ts event)
 
--- what asking answers, where the questions come to a
-unfoldable pub EventAnswers : Asked Typed → List ℕ → List ℕ → EventAsked → Type 0
-EventAnswers (refused n) table event r = r .number ≡ n
-EventAnswers (accepted a) table event r = (r .number ≡ 0) × TypeIs table (a .type) (r .«event_type») × EventIs event (a .event) (r .event)
+-- what asking answers, where the questions come to a; ps are the numbers of the type's properties, ats those of the event's sets
+unfoldable pub EventAnswers : Asked Typed → List ℕ → List ℕ → List ℕ → List ℕ → EventAsked → Type 0
+EventAnswers (refused n) table event ps ats r = r .number ≡ n
+EventAnswers (accepted a) table event ps ats r = (r .number ≡ 0) × TypeIs table (a .type) (r .«event_type») ps × EventIs event (a .event) (r .event) ats

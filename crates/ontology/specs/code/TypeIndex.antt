@@ -182,34 +182,35 @@ abbrev pub HeadReads : List ℕ → ℕ → HeadRead → Type 0
 HeadReads s at (Head start end definition mark count next) = HeadStops s at start end definition mark count next
 HeadReads s at NoHead = suchThat typeRules readType (drop at s) ≡ fail
 
--- The type t, as the index has it
-pub record TypeIs (s : List ℕ) (t : EventType) (x : TypeIndex) : Type 0 where
+-- The type t, as the index has it, with its properties at their places among the numbers ps
+pub record TypeIs (s : List ℕ) (t : EventType) (x : TypeIndex) (ps : List ℕ) : Type 0 where
   pub name : part s (x .start) (x .end) ≡ t .name
   pub order : x .start ≤ x .end
   pub within : x .end ≤ length s
   pub definition : x .definition .0 ≡ t .definition
   pub mark : x .mark ≡ t .mark
-  pub are : PropertiesAre s (t .properties) (x .count) (x .properties)
+  pub are : PropertiesAre s (t .properties) (x .count) ps
 
-pub record TypeStops (s : List ℕ) (at : ℕ) (t : EventType) (u : List ℕ) (r : TypeRead) : Type 0 where
+pub record TypeStops (s : List ℕ) (at : ℕ) (t : EventType) (u ps : List ℕ) (r : TypeRead) : Type 0 where
   pub right : r .ok ≡ true
   pub follows : u ≡ drop (r .next) s
   pub after : at < r .next
   pub within : r .next ≤ length s
-  pub is : TypeIs s t (r .index)
+  pub is : TypeIs s t (r .index) ps
 
-unfoldable pub TypeReads : Parse EventType → List ℕ → ℕ → TypeRead → Type 0
-TypeReads fail s at r = r .ok ≡ false
-TypeReads (got t u) s at r = TypeStops s at t u r
+-- what the reader of a type answers, and leaves in the numbers ps
+unfoldable pub TypeReads : Parse EventType → List ℕ → ℕ → List ℕ → TypeRead → Type 0
+TypeReads fail s at ps r = r .ok ≡ false
+TypeReads (got t u) s at ps r = TypeStops s at t u ps r
 
 -- ---- tables
 
 -- the type of the name that was asked for, where there is one
-unfoldable pub TypeSays : Option EventType → List ℕ → TableRead → Type 0
-TypeSays none s r = r .found ≡ false
-TypeSays (some t) s r = (r .found ≡ true) × TypeIs s t (r .index)
+unfoldable pub TypeSays : Option EventType → List ℕ → List ℕ → TableRead → Type 0
+TypeSays none s ps r = r .found ≡ false
+TypeSays (some t) s ps r = (r .found ≡ true) × TypeIs s t (r .index) ps
 
--- what the reader of a table answers that is asked for the type of a name
-unfoldable pub TableSays : Option Table → List ℕ → Text → TableRead → Type 0
-TableSays none s name r = r .ok ≡ false
-TableSays (some ts) s name r = (r .ok ≡ true) × TypeSays (typeNamed name ts) s r
+-- what the reader of a table answers that is asked for the type of a name, and leaves in the numbers ps
+unfoldable pub TableSays : Option Table → List ℕ → Text → List ℕ → TableRead → Type 0
+TableSays none s name ps r = r .ok ≡ false
+TableSays (some ts) s name ps r = (r .ok ≡ true) × TypeSays (typeNamed name ts) s ps r

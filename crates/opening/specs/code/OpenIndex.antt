@@ -15,8 +15,7 @@ use Rattle.values.specs.ValueOrder.{isOrdered}
 use Rattle.replies.specs.Questions.{accepted}
 use Rattle.ontology.specs.Table.{Property, EventType, Table, isMin, isMax, isReplace}
 use Rattle.ontology.specs.TableLayout.{tableOf}
-use Rattle.ontology.specs.code.TypeIndex.{TypeIs}
-use Rattle.ontology.specs.declared.types.TypeIndex.{TypeIndex}
+use Rattle.ontology.specs.code.TypeIndex.{PropertiesAre}
 use Rattle.event.specs.EventQuestions.{areInSpace}
 use Rattle.event.specs.code.EventIndex.{SetIs}
 use Rattle.event.specs.declared.sets.SetAt.{SetAt}
@@ -86,14 +85,14 @@ pub record Mergeable (s rows : List ℕ) (n : ℕ) (t : EventType) (d : Dossier)
   pub chosen : (p : ℕ) (q : Property) → getElem? (t .properties) p ≡ some q → (isMin q || isMax q) ≡ true → Chooses (q .kind) (kindNumber (q .kind))
   pub lone : (p : ℕ) (q : Property) → getElem? (t .properties) p ≡ some q → (isMin q || isMax q) ≡ true → (j : ℕ) → j < n → Lone (q .kind) (getD (column (d .snapshots) p) j [])
 
--- d and t are the indexes of a dossier that was asked its questions, and of its type; the rows are those of its snapshots
-pub record Openable (s : List ℕ) (d : DossierIndex) (rows : List ℕ) (t : TypeIndex) : Type 0 where
+-- d is the index of a dossier that was asked its questions; the rows are those of its snapshots, and ps the numbers of its type's properties
+pub record Openable (s : List ℕ) (d : DossierIndex) (rows : List ℕ) (count : ℕ) (ps : List ℕ) : Type 0 where
   pub table : List ℕ
   pub types : Table
   pub type : EventType
   pub headed : Headed
   pub read : tableOf table ≡ some types
   pub asked : dossierAsked standard types s ≡ accepted (record { type = type; headed = headed })
-  pub typed : TypeIs table type t
+  pub typed : PropertiesAre table (type .properties) count ps
   pub is : DossierIs s headed d
   pub stand : RowsAre s (headed .snapshots) rows

@@ -12,13 +12,12 @@ use Rattle.replies.specs.Replies.{findingOf}
 use Rattle.replies.specs.declared.reply.Finding as reply
 use Rattle.ontology.specs.Table.{Property, EventType, Table}
 use Rattle.ontology.specs.TableLayout.{tableOf}
-use Rattle.ontology.specs.code.TypeIndex.{PropertyIs, TypeIs}
+use Rattle.ontology.specs.code.TypeIndex.{PropertyIs, PropertiesAre}
 use Rattle.ontology.specs.declared.properties.PropertyAt.{PropertyAt}
-use Rattle.ontology.specs.declared.types.TypeIndex.{TypeIndex}
 use Rattle.event.specs.Event.{Event, typeView}
 use Rattle.event.specs.EventLayout.{wide, eventBytes}
 use Rattle.event.specs.EventQuestions.{eventAsked}
-use Rattle.event.specs.code.EventIndex.{SetIs, EventIs}
+use Rattle.event.specs.code.EventIndex.{SetIs, SetsAre, EventIs}
 use Rattle.event.specs.declared.sets.SetAt.{SetAt}
 use Rattle.event.specs.declared.read.EventIndex.{EventIndex}
 use Rattle.dossier.specs.DossierQuestions.{TypedDossier, dossierAsked}
@@ -28,16 +27,20 @@ use Rattle.report.specs.Report.{valueLines, objectLines, hashedLines, me
 
 -- ---- what the writers are given
 
--- t is the index of a type that has a property at a place
-pub record PlaceNamed (table : List ℕ) (t : TypeIndex) (place : ℕ) : Type 0 where
+-- ps are the numbers of all properties of a type
+abbrev pub NumbersOf : List ℕ → EventType → List ℕ → Type 0
+NumbersOf table t ps = PropertiesAre table (t .properties) (length (t .properties)) ps
+
+-- ps are the numbers of a type's properties, one of which stands at a place
+pub record PlaceNamed (table ps : List ℕ) (place : ℕ) : Type 0 where
   pub type : EventType
   pub property : Property
-  pub typed : TypeIs table type t
+  pub are : NumbersOf table type ps
   pub named : getElem? (type .properties) place ≡ some property
 
 -- the same of the place of what opening finds
-abbrev pub FindingNamed : List ℕ → TypeIndex → reply.Finding → Type 0
-FindingNamed table t f = PlaceNamed table t (placeOf (findingOf f))
+abbrev pub FindingNamed : List ℕ → List ℕ → reply.Finding → Type 0
+FindingNamed table ps f = PlaceNamed table ps (placeOf (findingOf f))
 
 -- a property's values stand in the bytes of an event, and their lines have room
 pub record ValuesRoom (table : List ℕ) (p : PropertyAt) (bytes : List ℕ) (x : SetAt) (at room : ℕ) : Type 0 where
@@ -47,20 +50,20 @@ pub record ValuesRoom (table : List ℕ) (p : PropertyAt) (bytes : List ℕ) (x 
   pub is : SetIs bytes values x
   pub fits : at + length (valueLines (property .name) values) ≤ room
 
--- t and e are the indexes of a type and of an event of it, whose objects' lines have room
-pub record ObjectsRoom (table : List ℕ) (t : TypeIndex) (bytes : List ℕ) (e : EventIndex) (at room : ℕ) : Type 0 where
-  pub type : EventType
-  pub event : Event
-  pub typed : TypeIs table type t
-  pub read : EventIs bytes event e
-  pub fits : at + length (objectLines (type .properties) (event .sets)) ≤ room
+-- ps are the numbers of properties and ats those of their sets, and the objects' lines have room
+pub record ObjectsRoom (table : List ℕ) (count : ℕ) (ps bytes ats : List ℕ) (at room : ℕ) : Type 0 where
+  pub properties : List Property
+  pub sets : List (List Text)
+  pub are : PropertiesAre table properties count ps
+  pub stand : SetsAre bytes sets ats
+  pub fits : at + length (objectLines properties sets) ≤ room
 
--- the same, with the first and the last line
-pub record LinesRoom (table : List ℕ) (t : TypeIndex) (bytes : List ℕ) (e : EventIndex) (hash : List ℕ) (room : ℕ) : Type 0 where
+-- the same of a type and an event of it, whose index is e, with the first and the last line
+pub record LinesRoom (table : List ℕ) (count : ℕ) (ps bytes : List ℕ) (e : EventIndex) (ats hash : List ℕ) (room : ℕ) : Type 0 where
   pub type : EventType
   pub event : Event
-  pub typed : TypeIs table type t
-  pub read : EventIs bytes event e
+  pub are : PropertiesAre table (type .properties) count ps
+  pub read : EventIs bytes event e ats
   pub fits : length (hashedLines type event hash) ≤ room
 
 -- ---- what the report is made of

@@ -1,37 +1,96 @@
 use borrow.Author.Needs.{needs}
+use denote.Ref.{now}
 use mathlib.Core.Path.{_≡_, sym, ap, _∙_}
 use mathlib.Core.Bool.{Bool}
+use mathlib.Core.List.{List}
 use Prim.Native.Nat.{ℕ, _+_, _-_, _≤_, _<_}
 use native.Mathlib.Omega.{arith}
 use lib.ListN.{length, drop}
 use Rattle.replies.specs.Questions.{accepted}
-use Rattle.event.specs.EventLayout.{narrow}
+use Rattle.ontology.specs.code.TypeIndex.{TypeIs}
+use Rattle.event.specs.EventLayout.{narrow, eventOf}
 use Rattle.event.specs.EventQuestions.{Typed}
 use Rattle.event.specs.code.EventIndex.{eventQuestions}
 use Rattle.event.proofs.AskLaws.{accepted-is, refused-is}
 use Rattle.batch.specs.code.BatchIndex.{firstApart}
-use Rattle.batch.proofs.AskedLaws.{asked-of, answers-accepted, same-type, goingOn, first-accepted, first-refused, next-accepted, next-refused, none-apart, one-apart, GoesOn, refusal-is, no-refusal}
+use Rattle.batch.proofs.AskedLaws.{asked-of, answers-accepted, read-typed, same-type, goingOn, first-accepted, first-refused}
+use Rattle.batch.proofs.AskedLaws.{next-accepted, next-refused, none-apart, one-apart, GoesOn, refusal-is, no-refusal}
 use Rattle.batch.proofs.asked.ask_events.Statement.{statement}
 use Rattle.batch.proofs.asked.ask_events.Tie as tie
-use Rattle.batch.proofs.asked.ask_events.Reads as reads
-use Rattle.batch.proofs.asked.ask_events.Lts as lts
-use Rattle.batch.proofs.asked.ask_one.Reads as ask-one-reads
-use Rattle.batch.proofs.asked.events_agree.Reads as events-agree-reads
-use Rattle.batch.proofs.asked.first_apart.Reads as first-apart-reads
-use Rattle.batch.proofs.asked.answer.Reads as answer-reads
-use Rattle.batch.proofs.frame.event_part.Reads as event-part-reads
 
 abbrev Inv-loop : tie.InvT-loop
-Inv-loop table batch x name read head t d apart₀ i₀ apart i = (1 ≤ i) × ((a : Typed) → eventQuestions narrow table head ≡ accepted a → GoesOn table batch x a i apart)
+Inv-loop table batch x name read properties head left right₀ t d apart₀ i₀ right apart i =
+    (1 ≤ i) × (length left ≡ 96) × (length right ≡ 96)
+    × ((a : Typed) → eventQuestions narrow table head ≡ accepted a → GoesOn table batch x a i apart)
 
 abbrev μ-loop : tie.MeasureT-loop
-μ-loop table batch x name read head t d apart₀ i₀ apart i = x .count - i
+μ-loop table batch x name read properties head left right₀ t d apart₀ i₀ right apart i = x .count - i
+
+-- ---- the places
+
+abbrev to-start : tie.After-event-part Inv-loop μ-loop → tie.Start Inv-loop μ-loop
+to-start c = c .before .before .before .before .before
+
+-- the first event was asked
+abbrev to-part : tie.After-ask-one Inv-loop μ-loop → tie.After-event-part Inv-loop μ-loop
+to-part c = c .before .before
+
+-- and was accepted
+abbrev to-asked : tie.Else1 Inv-loop μ-loop → tie.After-ask-one Inv-loop μ-loop
+to-asked c = c .before .before .before
+
+abbrev to-first : tie.At-loop Inv-loop μ-loop → tie.Else1 Inv-loop μ-loop
+to-first c = c .before .before .before
+
+abbrev to-begin : tie.At-loop Inv-loop μ-loop → tie.Start Inv-loop μ-loop
+to-begin c = to-start (to-part (to-asked (to-first c)))
+
+-- the next one was asked
+abbrev to-turn : tie.After-event-part2 Inv-loop μ-loop → tie.At-loop Inv-loop μ-loop
+to-turn c = c .before .before .before
+
+abbrev to-part2 : tie.After-ask-one2 Inv-loop μ-loop → tie.After-event-part2 Inv-loop μ-loop
+to-part2 c = c .before .before
+
+-- and was accepted
+abbrev to-asked2 : tie.Else3 Inv-loop μ-loop → tie.After-ask-one2 Inv-loop μ-loop
+to-asked2 c = c .before .before .before
+
+abbrev to-next : tie.After-events-agree Inv-loop μ-loop → tie.Else3 Inv-loop μ-loop
+to-next c = c .before .before .before .before
+
+-- ---- the facts
+
+few : (c : tie.At-loop Inv-loop μ-loop) → to-begin c .args .x .count ≤ 16
+few c = to-begin c .pre .0 .stands .few
+
+-- the type that was read is that of the first event
+module _ (c : tie.Else1 Inv-loop μ-loop) where
+  abbrev table : List ℕ
+  table = now (to-start (to-part (to-asked c)) .args .table)
+
+  abbrev head : List ℕ
+  head = now (to-part (to-asked c) .event-part .result)
+
+  typed :
+      (a : Typed) → eventQuestions narrow table head ≡ accepted a →
+      TypeIs table (a .type) (to-start (to-part (to-asked c)) .args .read .index) (now (to-start (to-part (to-asked c)) .args .properties))
+  typed a h =
+      let part = to-part (to-asked c) in
+      let n = to-start part .pre .0 in
+      let is = part .event-part .ensures (n .events) (n .stands) (omega (arith, n .stands .one, n .stands .count)) in
+      read-typed _ _ _ _ (n .says) _ (λ e k. n .named e (ap (eventOf narrow) (sym is) ∙ k)) a h
+
+-- ---- the needs
 
 event-part-requires : tie.Need-event-part-requires Inv-loop μ-loop
 event-part-requires c κs = search needs
 
+slice-aggregate-ask-one : tie.Need-slice-aggregate-ask-one Inv-loop μ-loop
+slice-aggregate-ask-one c = search needs
+
 ask-one-requires : tie.Need-ask-one-requires Inv-loop μ-loop
-ask-one-requires c κs = c .before .before .before .before .pre .1
+ask-one-requires c κs = let p = to-start (c .before) .pre in (p .0 .says, p .1, search needs)
 
 answer-requires : tie.Need-answer-requires Inv-loop μ-loop
 answer-requires c κs = search needs
@@ -39,22 +98,32 @@ answer-requires c κs = search needs
 returns : tie.Need-returns Inv-loop μ-loop
 returns c =
     λ ts ss t w.
+    let refused = c .before in
+    let asked = refused .before .before .before in
     let z : 0 < length ss = omega (arith, w .one, w .count) in
-    refusal-is _ ts ss _ _ 0 _
-    (first-refused ts ss _ z (asked-of _ ts t _ _ _ (c .before .before .before .before .event-part .ensures ss w z) (refused-is narrow _ _ _ (c .before .before .before .ask-one .ensures) (c .before .if1 .taken))))
-    (c .answer .ensures .0) (c .answer .ensures .1) (omega (arith, c .before .if1 .taken))
+    let number = refused-is narrow _ _ _ _ _ (asked .ask-one .ensures .answers) (refused .if1 .taken) in
+    refusal-is _ ts ss _ _ _ _ 0 _ (first-refused ts ss _ z (asked-of _ ts t _ _ _ (to-part asked .event-part .ensures ss w z) number))
+    (c .answer .ensures .0) (c .answer .ensures .1) (omega (arith, refused .if1 .taken))
 
 loop-holds : tie.Need-loop-holds Inv-loop μ-loop
 loop-holds c = (
   omega arith,
-  λ a h ts ss t w. let z : 0 < length ss = omega (arith, w .one, w .count) in first-accepted ts ss a z (asked-of _ ts t _ _ _ (c .before .before .before .before .before .event-part .ensures ss w z) h),
+  search needs,
+  search needs,
+  λ a h ts ss t w.
+      let part = to-part (to-asked (c .before .before)) in
+      let z : 0 < length ss = omega (arith, w .one, w .count) in
+      first-accepted ts ss a z (asked-of _ ts t _ _ _ (part .event-part .ensures ss w z) h),
 )
 
 event-part-requires-2 : tie.Need-event-part-requires-2 Inv-loop μ-loop
-event-part-requires-2 c κs = omega (arith, c .if2 .taken, c .before .before .before .before .before .before .before .before .before .before .before .before .pre .0)
+event-part-requires-2 c κs = omega (arith, c .if2 .taken, few (c .before .before))
+
+slice-aggregate-ask-one-2 : tie.Need-slice-aggregate-ask-one-2 Inv-loop μ-loop
+slice-aggregate-ask-one-2 c = search needs
 
 ask-one-requires-2 : tie.Need-ask-one-requires-2 Inv-loop μ-loop
-ask-one-requires-2 c κs = c .before .before .before .before .before .before .before .before .before .before .before .before .before .pre .1
+ask-one-requires-2 c κs = let p = to-begin (to-turn (c .before)) .pre in (p .0 .says, p .1, search needs)
 
 answer-requires-2 : tie.Need-answer-requires-2 Inv-loop μ-loop
 answer-requires-2 c κs = search needs
@@ -62,42 +131,70 @@ answer-requires-2 c κs = search needs
 returns-2 : tie.Need-returns-2 Inv-loop μ-loop
 returns-2 c =
     λ ts ss t w.
-    let a = accepted-is narrow _ _ _ (c .before .before .before .before .before .before .before .before .before .before .before .before .ask-one .ensures) (c .before .before .before .before .before .before .before .before .before .before .if1 .left) in
-    let l : c .before .before .before .before .before .before .before .loop .i < length ss = omega (arith, c .before .before .before .before .before .if2 .taken, w .count) in
-    refusal-is _ ts ss _ _ _ _
-    (c .before .before .before .before .before .before .before .loop .inv .1 _ (a .is) ts ss t w
-    ∙ next-refused ts _ _ _ ss _ l (asked-of _ ts t _ _ _ (c .before .before .before .before .event-part2 .ensures ss w l) (refused-is narrow _ _ _ (c .before .before .before .ask-one2 .ensures) (c .before .if3 .taken))))
-    (c .answer2 .ensures .0) (c .answer2 .ensures .1) (omega (arith, c .before .if3 .taken))
+    let refused = c .before in
+    let asked = refused .before .before .before in
+    let part = to-part2 asked in
+    let turn = to-turn part in
+    let first = to-first turn in
+    let a = accepted-is narrow _ _ _ _ _ (to-asked first .ask-one .ensures .answers) (first .if1 .left) in
+    let here : turn .loop .i < length ss = omega (arith, part .before .if2 .taken, w .count) in
+    let number = refused-is narrow _ _ _ _ _ (asked .ask-one2 .ensures .answers) (refused .if3 .taken) in
+    refusal-is _ ts ss _ _ _ _ _ _
+    (turn .loop .inv .3 _ (a .is) ts ss t w
+    ∙ next-refused ts _ _ _ ss _ here (asked-of _ ts t _ _ _ (part .event-part2 .ensures ss w here) number))
+    (c .answer2 .ensures .0) (c .answer2 .ensures .1) (omega (arith, refused .if3 .taken))
+
+slice-aggregate-events-agree : tie.Need-slice-aggregate-events-agree Inv-loop μ-loop
+slice-aggregate-events-agree c = sym (to-turn (to-part2 (to-asked2 (c .before .before))) .loop .inv .1)
+
+slice-aggregate-events-agree-2 : tie.Need-slice-aggregate-events-agree-2 Inv-loop μ-loop
+slice-aggregate-events-agree-2 c = search needs
 
 events-agree-requires : tie.Need-events-agree-requires Inv-loop μ-loop
 events-agree-requires c κs =
-    let first = c .before .before .before .before .before .before .before .before .before .before in
-    accepted-is narrow _ _ _ (first .before .before .ask-one .ensures) (first .if1 .left) .type-is .are .few
+    let turn = to-turn (to-part2 (to-asked2 (c .before .before .before))) in
+    let first = to-first turn in
+    let a = accepted-is narrow _ _ _ _ _ (to-asked first .ask-one .ensures .answers) (first .if1 .left) in
+    (typed first _ (a .is) .are .few, to-begin turn .pre .1, turn .loop .inv .1, search needs)
 
 first-apart-requires : tie.Need-first-apart-requires Inv-loop μ-loop
 first-apart-requires c κs = search needs
 
 add-i : tie.Need-add-i Inv-loop μ-loop
-add-i c = omega (arith, c .before .before .before .before .before .before .before .if2 .taken, c .before .before .before .before .before .before .before .before .before .before .before .before .before .before .before .before .before .before .before .pre .0)
+add-i c =
+    let part = to-part2 (to-asked2 (to-next (c .before))) in
+    omega (arith, part .before .if2 .taken, few (to-turn part))
 
 loop-less : tie.Need-loop-less Inv-loop μ-loop
-loop-less c = omega (arith, c .before .before .before .before .before .before .before .if2 .taken, c .before .before .before .before .before .before .before .before .before .before .before .before .before .before .before .before .before .before .before .pre .0)
+loop-less c =
+    let part = to-part2 (to-asked2 (to-next (c .before))) in
+    omega (arith, part .before .if2 .taken, few (to-turn part))
 
 loop-again : tie.Need-loop-again Inv-loop μ-loop
 loop-again c = (
   omega arith,
+  to-turn (to-part2 (to-asked2 (to-next (c .before)))) .loop .inv .1,
+  search needs,
   λ a h ts ss t w.
+      let next = to-next (c .before) in
+      let asked = to-asked2 next in
+      let part = to-part2 asked in
+      let turn = to-turn part in
+      let l = turn .loop in
+      let first = to-first turn in
       let z : 0 < length ss = omega (arith, w .one, w .count) in
-      let l : c .before .before .before .before .before .before .before .before .before .loop .i < length ss = omega (arith, c .before .before .before .before .before .before .before .if2 .taken, w .count) in
-      let k = accepted-is narrow _ _ _ (c .before .before .before .before .before .ask-one2 .ensures) (c .before .before .before .if3 .left) in
+      let here : l .i < length ss = omega (arith, part .before .if2 .taken, w .count) in
+      let k = accepted-is narrow _ _ _ _ _ (asked .ask-one2 .ensures .answers) (next .if3 .left) in
       let b : Typed = record { type = k .type; event = k .e } in
-      let p = asked-of _ ts t _ _ _ (c .before .before .before .before .before .before .before .before .before .before .before .before .before .before .before .event-part .ensures ss w z) h in
-      let q = asked-of _ ts t _ _ _ (c .before .before .before .before .before .before .event-part2 .ensures ss w l) (k .is) in
-      let f = answers-accepted _ _ _ a (c .before .before .before .before .before .before .before .before .before .before .before .before .before .before .ask-one .ensures) h in
-      let g = c .before .events-agree .ensures _ (a .type) (b .type) (a .event) (b .event) (f .0) (f .1) (k .event-is) (same-type ts _ _ a b p q) in
-      c .before .before .before .before .before .before .before .before .before .loop .inv .1 a h ts ss t w
-      ∙ (next-accepted ts a _ _ ss b (c .before .before .before .before .before .before .before .before .before .loop .inv .0) l q
-      ∙ ap (λ (n : ℕ). goingOn ts a (c .before .before .before .before .before .before .before .before .before .loop .i + 1) n (drop (c .before .before .before .before .before .before .before .before .before .loop .i + 1) ss)) (sym (c .first-apart .ensures ∙ ap (λ (r : Bool). firstApart (c .before .before .before .before .before .before .before .before .before .loop .apart) r (c .before .before .before .before .before .before .before .before .before .loop .i)) g))),
+      let p = asked-of _ ts t _ _ _ (to-part (to-asked first) .event-part .ensures ss w z) h in
+      let q = asked-of _ ts t _ _ _ (part .event-part2 .ensures ss w here) (k .is) in
+      let f = answers-accepted _ _ _ _ a (to-asked first .ask-one .ensures) h in
+      let agree = c .before .events-agree .ensures _ (a .type) (b .type) (a .event) (b .event) in
+      let g = agree (typed first a h .are) f (k .event-is) (same-type ts _ _ a b p q) in
+      l .inv .3 a h ts ss t w
+      ∙ (next-accepted ts a _ _ ss b (l .inv .0) here q
+      ∙ ap (λ (n : ℕ). goingOn ts a (l .i + 1) n (drop (l .i + 1) ss))
+      (sym (c .first-apart .ensures ∙ ap (λ (r : Bool). firstApart (l .apart) r (l .i)) g))),
 )
 
 answer-requires-3 : tie.Need-answer-requires-3 Inv-loop μ-loop
@@ -106,11 +203,14 @@ answer-requires-3 c κs = search needs
 returns-3 : tie.Need-returns-3 Inv-loop μ-loop
 returns-3 c =
     λ ts ss t w.
-    let a = accepted-is narrow _ _ _ (c .before .before .before .before .before .before .before .before .before .ask-one .ensures) (c .before .before .before .before .before .before .before .if1 .left) in
+    let past = c .before .before in
+    let turn = past .before .before in
+    let first = to-first turn in
+    let a = accepted-is narrow _ _ _ _ _ (to-asked first .ask-one .ensures .answers) (first .if1 .left) in
     let z : 0 < length ss = omega (arith, w .one, w .count) in
-    no-refusal _ ts ss _ (record { type = a .type; event = a .e }) _ _
-    (c .before .before .before .before .loop .inv .1 _ (a .is) ts ss t w ∙ none-apart ts _ _ ss (omega (arith, c .before .before .if2 .left, w .count)) _ (c .before .if4 .taken)) (c .answer3 .ensures .0) (c .answer3 .ensures .2)
-    (asked-of _ ts t _ _ _ (c .before .before .before .before .before .before .before .before .before .before .event-part .ensures ss w z) (a .is)) (a .type-is)
+    let none = none-apart ts _ (turn .loop .i) ss (omega (arith, past .if2 .left, w .count)) _ (c .before .if4 .taken) in
+    no-refusal _ ts ss _ _ _ (record { type = a .type; event = a .e }) _ (turn .loop .inv .3 _ (a .is) ts ss t w ∙ none) (c .answer3 .ensures .0)
+    (asked-of _ ts t _ _ _ (to-part (to-asked first) .event-part .ensures ss w z) (a .is)) (typed first _ (a .is))
 
 answer-requires-4 : tie.Need-answer-requires-4 Inv-loop μ-loop
 answer-requires-4 c κs = search needs
@@ -118,8 +218,12 @@ answer-requires-4 c κs = search needs
 returns-4 : tie.Need-returns-4 Inv-loop μ-loop
 returns-4 c =
     λ ts ss t w.
-    let a = accepted-is narrow _ _ _ (c .before .before .before .before .before .before .before .before .before .ask-one .ensures) (c .before .before .before .before .before .before .before .if1 .left) in
-    refusal-is _ ts ss _ 7 _ _ (c .before .before .before .before .loop .inv .1 _ (a .is) ts ss t w ∙ one-apart ts _ _ ss (omega (arith, c .before .before .if2 .left, w .count)) _ (c .before .if4 .left)) (c .answer4 .ensures .0) (c .answer4 .ensures .1) (omega arith)
+    let past = c .before .before in
+    let turn = past .before .before in
+    let first = to-first turn in
+    let a = accepted-is narrow _ _ _ _ _ (to-asked first .ask-one .ensures .answers) (first .if1 .left) in
+    let one = one-apart ts _ (turn .loop .i) ss (omega (arith, past .if2 .left, w .count)) _ (c .before .if4 .left) in
+    refusal-is _ ts ss _ _ _ 7 _ _ (turn .loop .inv .3 _ (a .is) ts ss t w ∙ one) (c .answer4 .ensures .0) (c .answer4 .ensures .1) (omega arith)
 
 pub ask-events-spec : {M : Type 1} → statement M
 ask-events-spec =
@@ -128,14 +232,18 @@ ask-events-spec =
     Inv-loop
     μ-loop
     event-part-requires
+    slice-aggregate-ask-one
     ask-one-requires
     answer-requires
     returns
     loop-holds
     event-part-requires-2
+    slice-aggregate-ask-one-2
     ask-one-requires-2
     answer-requires-2
     returns-2
+    slice-aggregate-events-agree
+    slice-aggregate-events-agree-2
     events-agree-requires
     first-apart-requires
     add-i

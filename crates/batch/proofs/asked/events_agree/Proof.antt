@@ -4,9 +4,6 @@ use Rattle.batch.proofs.AskedLaws.{agree-heads, agree-match}
 use Rattle.batch.proofs.asked.events_agree.Statement.{statement}
 use Rattle.batch.proofs.asked.events_agree.Tie as tie
 
-abbrev to-heads : tie.After-is-match-same → tie.Else1
-to-heads c = c .before .before .before .before .before .before .before .before .before .before
-
 heads-agree-requires : tie.Need-heads-agree-requires
 heads-agree-requires c κs = search needs
 
@@ -18,9 +15,9 @@ is-match-same-requires c κs = search needs
 
 returns-2 : tie.Need-returns-2
 returns-2 c = λ u ty tz f g w x y e.
-    let agreed = to-heads c in
+    let agreed = c .before in
     agree-match ty tz f g (agreed .before .heads-agree .ensures _ _ (x .head) (y .head)) (not-false _ (agreed .if1 .left)) e
-    (c .is-match-same .ensures u ty (f .sets) (g .sets) (w .are) (x .sets) (y .sets))
+    (c .is-match-same .ensures u ty (f .sets) (g .sets) w (x .sets) (y .sets))
 
 pub events-agree-spec : {M : Type 1} → statement M
 events-agree-spec =

@@ -18,19 +18,19 @@ use Rattle.batch.proofs.frame.event_part.Reads as event-part-reads
 use Rattle.batch.proofs.calls.+combine_first.{statement}
 use Rattle.batch.proofs.calls.+combine_first.Tie.{close}
 
-abbrev μ-combine-first : Measures 5 combine-first-kinds.ps ℕ
-μ-combine-first κs a = a .1 .1 .1 .1 .0
+abbrev μ-combine-first : Measures 6 combine-first-kinds.ps ℕ
+μ-combine-first κs a = a .1 .1 .1 .1 .1 .0
 
-abbrev combine-first-at : ℕ → In 5 combine-first-kinds.ps
+abbrev combine-first-at : ℕ → In 6 combine-first-kinds.ps
 combine-first-at t =
-    and 5 combine-first-kinds.ps (is 5 combine-first-kinds.ps μ-combine-first t) combine-first.Pre
+    and 6 combine-first-kinds.ps (is 6 combine-first-kinds.ps μ-combine-first t) combine-first.Pre
 
-abbrev combine-first-below : ℕ → In 5 combine-first-kinds.ps
+abbrev combine-first-below : ℕ → In 6 combine-first-kinds.ps
 combine-first-below t =
     and
-    5
+    6
     combine-first-kinds.ps
-    (falls 5 combine-first-kinds.ps _<_ μ-combine-first t)
+    (falls 6 combine-first-kinds.ps _<_ μ-combine-first t)
     combine-first.Pre
 
 -- what each callee asks and gives
@@ -51,8 +51,8 @@ combine-first-event-part-requires t c κs = search needs
 
 combine-first-check-known-requires : (t : ℕ) → combine-first-lts.Need-check-known-requires (claims t) (combine-first-at t) combine-first.Post
 combine-first-check-known-requires t c κs =
-    let p = c .before .before .before .before .before .before .before .before .pre .1 in
-    (event-known _ _ _ _ _ (p .1 .1) 1 _ (omega arith) (p .0 .0) (c .before .event-part .ensures), p .1 .0 .0)
+    let p = c .before .before .before .before .before .before .before .before .before .pre .1 in
+    (event-known _ _ _ _ _ _ (p .1 .1) 1 _ (omega arith) (p .0 .0) (c .before .event-part .ensures), p .1 .0 .0)
 
 combine-first-same-length : (t : ℕ) → combine-first-lts.Need-same-length (claims t) (combine-first-at t) combine-first.Post
 combine-first-same-length t c = search needs
@@ -62,8 +62,8 @@ combine-first-returns t c = (
   check-within _ _ _ _ _ (c .before .before .check-known .ensures),
   λ ts ss g l.
       ap (λ (o : Outcome). returned o)
-      (check-one _ ts (g .isTable) ss (known ts ss (g .agreed)) (c .before .before .before .before .before .before .before .before .before .before .before .args .n) _ (c .before .before .before .before .before .before .before .before .before .before .before .args .a .now) (c .before .before .check-known .last .1 .1 .1 .0) (c .before .before .check-known .result) (omega (arith, c .before .before .before .before .before .if1 .taken, c .before .before .before .before .before .before .before .before .before .before .before .pre .1 .0 .0)) (omega (arith, l, c .before .before .before .before .before .before .before .before .before .before .before .pre .1 .0 .0)) (c .before .before .before .before .before .before .before .before .before .before .before .pre .1 .1 .0 .0)
-      (c .before .before .before .before .event-part .ensures ss (g .isBatch) (omega (arith, l, c .before .before .before .before .before .before .before .before .before .before .before .pre .1 .0 .0))) (c .before .before .check-known .ensures)),
+      (check-one _ ts (g .isTable) ss (known ts ss (g .agreed)) (c .before .before .before .before .before .before .before .before .before .before .before .before .args .n) _ (c .before .before .before .before .before .before .before .before .before .before .before .before .args .a .now) (c .before .before .check-known .last .1 .1 .1 .0) (c .before .before .check-known .result) (omega (arith, c .before .before .before .before .before .if1 .taken, c .before .before .before .before .before .before .before .before .before .before .before .before .pre .1 .0 .0)) (omega (arith, l, c .before .before .before .before .before .before .before .before .before .before .before .before .pre .1 .0 .0)) (c .before .before .before .before .before .before .before .before .before .before .before .before .pre .1 .1 .0 .0)
+      (c .before .before .before .before .event-part .ensures ss (g .isBatch) (omega (arith, l, c .before .before .before .before .before .before .before .before .before .before .before .before .pre .1 .0 .0))) (c .before .before .check-known .ensures)),
 )
 
 combine-first-sub-combine-first : (t : ℕ) → combine-first-lts.Need-sub-combine-first (claims t) (combine-first-at t) combine-first.Post
@@ -71,8 +71,8 @@ combine-first-sub-combine-first t c = search needs
 
 combine-first-combine-first-requires : (t : ℕ) → combine-first-lts.Need-combine-first-requires (claims t) (combine-first-at t) combine-first.Post
 combine-first-combine-first-requires t c κs =
-    let a = c .before .before .before .before .before .before .before .before .before .args in
-    (search needs, (search needs, (search needs, fewer _ _ _ _ (a .n) (c .before .before .before .before .before .before .before .before .before .pre .1 .1 .1))))
+    let a = c .before .before .before .before .before .before .before .before .before .before .args in
+    (search needs, (search needs, (search needs, fewer _ _ _ _ _ (a .n) (c .before .before .before .before .before .before .before .before .before .before .pre .1 .1 .1))))
 
 combine-first-enum-known-others : (t : ℕ) → combine-first-lts.Need-enum-known-others (claims t) (combine-first-at t) combine-first.Post
 combine-first-enum-known-others t c = search needs
@@ -93,18 +93,18 @@ combine-first-returns-2 : (t : ℕ) → combine-first-lts.Need-returns-2 (claims
 combine-first-returns-2 t c = (
   refused-within _ _ _ (c .enum-told .given .1),
   λ ts ss g l.
-      stopped _ ts (g .isTable) ss (known ts ss (g .agreed)) (c .before .before .before .before .before .before .before .before .before .before .before .before .before .before .before .before .before .before .args .n - 1) (omega (arith, c .before .before .before .before .before .before .before .before .before .before .before .before .if1 .left)) (omega (arith, l)) (c .before .before .before .before .before .before .before .before .combine-first .result) _ _ (c .before .before .before .before .before .before .before .before .combine-first .ensures .1 ts ss g (omega (arith, l)))
-      (c .before .before .before .before .before .before .before .before .before .before .before .before .before .before .before .before .before .before .args .n) _ _ _ (omega (arith, c .before .before .before .before .before .before .before .before .before .before .before .before .if1 .left)) l (c .enum-told .given .1),
+      stopped _ ts (g .isTable) ss (known ts ss (g .agreed)) (c .before .before .before .before .before .before .before .before .before .before .before .before .before .before .before .before .before .before .before .args .n - 1) (omega (arith, c .before .before .before .before .before .before .before .before .before .before .before .before .if1 .left)) (omega (arith, l)) (c .before .before .before .before .before .before .before .before .combine-first .result) _ _ (c .before .before .before .before .before .before .before .before .combine-first .ensures .1 ts ss g (omega (arith, l)))
+      (c .before .before .before .before .before .before .before .before .before .before .before .before .before .before .before .before .before .before .before .args .n) _ _ _ (omega (arith, c .before .before .before .before .before .before .before .before .before .before .before .before .if1 .left)) l (c .enum-told .given .1),
 )
 
 combine-first-add-last-requires : (t : ℕ) → combine-first-lts.Need-add-last-requires (claims t) (combine-first-at t) combine-first.Post
 combine-first-add-last-requires t c κs =
-    let a = c .before .before .before .before .before .before .before .before .before .before .before .before .before .before .before .before .before .before .before .before .before .before .args in
+    let a = c .before .before .before .before .before .before .before .before .before .before .before .before .before .before .before .before .before .before .before .before .before .before .before .args in
     let i = c .before .before .before .before .before .before .before .before .before .before .before .before .combine-first in (
-      (c .before .before .before .before .before .before .before .before .before .before .before .before .before .before .before .before .before .before .before .before .before .before .pre .1 .0 .0, c .before .before .before .before .before .before .before .before .before .before .before .before .before .before .before .before .before .before .before .before .before .before .pre .1 .0 .1, done-within _ _ _ (c .before .before .before .before .before .before .before .before .before .before .before .before .combine-first .ensures .0) (c .before .before .before .before .others .given .1)),
+      (c .before .before .before .before .before .before .before .before .before .before .before .before .before .before .before .before .before .before .before .before .before .before .before .pre .1 .0 .0, c .before .before .before .before .before .before .before .before .before .before .before .before .before .before .before .before .before .before .before .before .before .before .before .pre .1 .0 .1, done-within _ _ _ (c .before .before .before .before .before .before .before .before .before .before .before .before .combine-first .ensures .0) (c .before .before .before .before .others .given .1), c .before .before .before .before .before .before .before .before .before .before .before .before .before .before .before .before .before .before .before .before .before .before .before .pre .1 .0 .2),
       (
-        (omega (arith, c .before .before .before .before .before .before .before .before .before .before .before .before .combine-first .kept .1 .1 .1 .1 .1 .1 .0, c .before .before .before .before .before .before .before .before .before .before .before .before .before .before .before .before .before .before .before .before .before .before .pre .1 .1 .0 .2), omega (arith, c .before .before .before .before .before .before .before .before .before .before .before .before .combine-first .kept .1 .1 .1 .1 .1 .1 .1 .0, c .before .before .before .before .before .before .before .before .before .before .before .before .before .before .before .before .before .before .before .before .before .before .pre .1 .1 .0 .0)),
-        last-of _ _ _ _ (a .n) (c .before .before .before .before .before .before .before .before .before .before .before .before .before .before .before .before .before .before .before .before .before .before .pre .1 .1 .1) _ _ _ (i .result) (omega (arith, c .before .before .before .before .before .before .before .before .before .before .before .before .before .before .before .before .if1 .left)) (i .ensures .1) (c .before .before .before .before .others .given .1),
+        (omega (arith, c .before .before .before .before .before .before .before .before .before .before .before .before .combine-first .kept .1 .1 .1 .1 .1 .1 .1 .0, c .before .before .before .before .before .before .before .before .before .before .before .before .before .before .before .before .before .before .before .before .before .before .before .pre .1 .1 .0 .2), omega (arith, c .before .before .before .before .before .before .before .before .before .before .before .before .combine-first .kept .1 .1 .1 .1 .1 .1 .1 .1 .0, c .before .before .before .before .before .before .before .before .before .before .before .before .before .before .before .before .before .before .before .before .before .before .before .pre .1 .1 .0 .0)),
+        last-of _ _ _ _ _ (a .n) (c .before .before .before .before .before .before .before .before .before .before .before .before .before .before .before .before .before .before .before .before .before .before .before .pre .1 .1 .1) _ _ _ (i .result) (omega (arith, c .before .before .before .before .before .before .before .before .before .before .before .before .before .before .before .before .if1 .left)) (i .ensures .1) (c .before .before .before .before .others .given .1),
       ),
     )
 
@@ -121,13 +121,13 @@ combine-first-returns-3 : (t : ℕ) → combine-first-lts.Need-returns-3 (claims
 combine-first-returns-3 t c = (
   c .before .before .before .before .add-last .ensures .0,
   λ ts ss g l.
-      let a = c .before .before .before .before .before .before .before .before .before .before .before .before .before .before .before .before .before .before .before .before .before .before .before .before .before .before .before .args in
+      let a = c .before .before .before .before .before .before .before .before .before .before .before .before .before .before .before .before .before .before .before .before .before .before .before .before .before .before .before .before .args in
       let i = c .before .before .before .before .before .before .before .before .before .before .before .before .before .before .before .before .before .combine-first in
       let two = c .before .before .before .before .before .before .before .before .before .before .before .before .before .before .before .before .before .before .before .before .before .if1 .left in
       ap (λ (o : Outcome). returned o)
       (c .before .before .before .before .add-last .ensures .1 ts ss g (omega (arith, two)) l
       (first-done _ ts (g .isTable) ss (known ts ss (g .agreed)) (a .n - 1) (omega (arith, two)) (omega (arith, l)) (i .result) _ _ (i .ensures .1 ts ss g (omega (arith, l))) _ (c .before .before .before .before .before .before .before .before .before .others .given .1)))
-      ∙ any-buffer (combinedAnswer ts (take (a .n) ss)) (i .last .1 .1 .1 .1 .1 .1 .1 .0) (a .a .now),
+      ∙ any-buffer (combinedAnswer ts (take (a .n) ss)) (i .last .1 .1 .1 .1 .1 .1 .1 .1 .0) (a .a .now),
 )
 
 pub +combine-first-spec : {M : Type 1} → statement M

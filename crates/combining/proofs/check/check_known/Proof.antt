@@ -1,39 +1,64 @@
 use borrow.Author.Needs.{needs}
+use mathlib.Core.Path.{_≡_}
+use mathlib.Core.List.{List}
+use Prim.Native.Nat.{ℕ}
+use lib.ListN.{length}
 use denote.Ref.{now}
-use Rattle.event.specs.EventLayout.{narrow}
-use Rattle.event.proofs.AskLaws.{Accepted}
-use Rattle.combining.proofs.CheckLaws.{asAsked, known-accepted, checkable, lone-room, check-done}
+use Rattle.combining.proofs.CheckLaws.{Checked, known-checked, checkable, lone-room, check-done}
 use Rattle.combining.proofs.check.check_known.Statement.{statement}
 use Rattle.combining.proofs.check.check_known.Tie as tie
 
 -- ---- the places
 
 abbrev to-start : tie.After-read-event → tie.Start
-to-start c = c .before .before .before .before
+to-start c = c .before .before .before .before .before
+
+abbrev to-read : tie.After-version-of → tie.After-read-event
+to-read c = c .before .before .before
 
 abbrev to-version : tie.After-write-lone-arg → tie.After-version-of
-to-version c = c .before
+to-version c = c .before .before
 
--- ---- the event is accepted, as it is known to be
+-- ---- the values
 
+-- the numbers of the event's sets
+abbrev sets : tie.After-read-event → List ℕ
+sets c = c .read-event .last .1 .1 .1 .0
+
+-- ---- the facts
+
+sets-long : (c : tie.After-read-event) → length (sets c) ≡ 96
+sets-long c = search needs
+
+-- the event is accepted, as it is known to be
 abbrev event-taken :
     (c : tie.After-read-event) → let a = to-start c .args in
-    Accepted narrow (now (a .table)) (now (a .event)) (asAsked _ _ _ (to-start c .pre .0) _ (c .read-event .ensures))
-event-taken c = known-accepted _ _ _ (to-start c .pre .0) _ (c .read-event .ensures)
+    Checked (now (a .table)) (now (a .event)) (a .t) (c .read-event .result) (sets c)
+event-taken c = known-checked (to-start c .pre .0) (c .read-event .ensures)
 
 -- ---- the needs
+
+slice-aggregate-read-event : tie.Need-slice-aggregate-read-event
+slice-aggregate-read-event c = search needs
 
 read-event-requires : tie.Need-read-event-requires
 read-event-requires c κs = search needs
 
+slice-aggregate-version-of : tie.Need-slice-aggregate-version-of
+slice-aggregate-version-of c = search needs
+
 version-of-requires : tie.Need-version-of-requires
-version-of-requires c κs = checkable _ _ _ (event-taken c)
+version-of-requires c κs = let read = c .before .before in (sets-long read, checkable (event-taken read))
+
+slice-aggregate-write-lone : tie.Need-slice-aggregate-write-lone
+slice-aggregate-write-lone c = search needs
 
 write-lone-requires : tie.Need-write-lone-requires
 write-lone-requires c κs =
     let v = to-version c in
-    let a = event-taken (v .before) in
-    lone-room _ _ _ a _ _ (v .version-of .ensures (checkable _ _ _ a)) (to-start (v .before) .pre .1)
+    let read = to-read v in
+    let a = event-taken read in
+    (sets-long read, lone-room a _ _ (v .version-of .ensures (checkable a)) (to-start read .pre .1))
 
 same-length : tie.Need-same-length
 same-length c = search needs
@@ -42,11 +67,18 @@ returns : tie.Need-returns
 returns c =
     let written = c .before .before in
     let v = to-version (written .before) in
-    let a = event-taken (v .before) in
-    check-done _ _ _ _ a _ _ _
-    (to-start (v .before) .pre .1) (v .version-of .ensures (checkable _ _ _ a)) (written .write-lone .ensures _ (a .event-is))
+    let a = event-taken (to-read v) in
+    check-done _ _ _ a _ _ _ (to-start (to-read v) .pre .1) (v .version-of .ensures (checkable a)) (written .write-lone .ensures _ (a .read))
 
 pub check-known-spec : {M : Type 1} → statement M
 check-known-spec =
     tie.close
-    (tie.spec read-event-requires version-of-requires write-lone-requires same-length returns)
+    (tie.spec
+    slice-aggregate-read-event
+    read-event-requires
+    slice-aggregate-version-of
+    version-of-requires
+    slice-aggregate-write-lone
+    write-lone-requires
+    same-length
+    returns)

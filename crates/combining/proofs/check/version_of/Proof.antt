@@ -12,18 +12,17 @@ abbrev to-start : tie.Else1 → tie.Start
 to-start c = c .before .before .before
 
 abbrev to-marked : tie.After-set-at → tie.Else1
-to-marked c = c .before .before .before .before
+to-marked c = c .before
 
 returns : tie.Need-returns
-returns c = λ h. no-version _ _ _ _ h (c .if1 .taken)
+returns c = λ h. no-version h (c .if1 .taken)
 
 sub-set-at : tie.Need-sub-set-at
-sub-set-at c = mark-low _ _ _ _ (to-start (c .before .before .before) .pre) (c .before .before .before .if1 .left) .0
+sub-set-at c = mark-low (to-start c .pre .1) (c .if1 .left) .0
 
 set-at-requires : tie.Need-set-at-requires
 set-at-requires c κs =
-    let marked = c .before .before .before in
-    let low = mark-low _ _ _ _ (to-start marked .pre) (marked .if1 .left) in
+    let low = mark-low (to-start c .pre .1) (c .if1 .left) in
     (search needs, omega (arith, low .0, low .1))
 
 set-part-requires : tie.Need-set-part-requires
@@ -35,18 +34,18 @@ value-in-requires c κs = search needs
 numeral-of-requires : tie.Need-numeral-of-requires
 numeral-of-requires c κs =
     let marked = to-marked (c .before .before) in
-    let h = to-start marked .pre in
-    let stands = set-read (c .before .before .set-at .ensures) (marked-set _ _ _ _ h (marked .if1 .left)) in
-    version-digits _ _ _ _ h _ (marked .if1 .left) (c .value-in .ensures (setAt (h .event) (to-start marked .args .t .mark - 1))
+    let h = to-start marked .pre .1 in
+    let stands = set-read (c .before .before .set-at .ensures) (marked-set h (marked .if1 .left)) in
+    version-digits h _ (marked .if1 .left) (c .value-in .ensures (setAt (h .event) (to-start marked .args .t .mark - 1))
     (c .before .set-part .ensures _ stands))
 
 returns-2 : tie.Need-returns-2
 returns-2 c = λ h.
     let value = c .before in
     let marked = to-marked (value .before .before) in
-    let stands = set-read (value .before .before .set-at .ensures) (marked-set _ _ _ _ h (marked .if1 .left)) in
+    let stands = set-read (value .before .before .set-at .ensures) (marked-set h (marked .if1 .left)) in
     c .numeral-of .ensures
-    ∙ version-is _ _ _ _ h _ (marked .if1 .left) (value .value-in .ensures (setAt (h .event) (to-start marked .args .t .mark - 1))
+    ∙ version-is h _ (marked .if1 .left) (value .value-in .ensures (setAt (h .event) (to-start marked .args .t .mark - 1))
     (value .before .set-part .ensures _ stands))
 
 pub version-of-spec : {M : Type 1} → statement M

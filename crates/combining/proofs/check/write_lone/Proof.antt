@@ -18,7 +18,7 @@ use Rattle.combining.proofs.check.write_lone.Tie as tie
 -- ---- the places: each write from the argument of the next, and the start from each
 
 abbrev start₀ : tie.After-write-dossier-head-arg → tie.Start
-start₀ c = c .before .before .before .before .before .before .before
+start₀ c = c .before .before .before .before .before .before .before .before
 
 abbrev to-head : tie.After-write-number-arg → tie.After-write-dossier-head
 to-head c = c .before .before .before
@@ -32,8 +32,8 @@ to-version c = c .before .before .before
 abbrev to-presence : tie.After-write-number-arg4 → tie.After-write-number3
 to-presence c = c .before .before .before
 
-abbrev to-differ : tie.After-write-sets-arg3 → tie.After-write-number4
-to-differ c = c .before .before .before .before .before .before
+abbrev to-differ : tie.After-write-sets-arg → tie.After-write-number4
+to-differ c = c .before .before .before
 
 abbrev start₁ : tie.After-write-dossier-head → tie.Start
 start₁ c = start₀ (c .before)
@@ -58,7 +58,7 @@ module _ (c : tie.Start) where
 
   -- where each part ends
   abbrev head-end : ℕ
-  head-end = length (dossierHeadBytes (c .pre .event .head))
+  head-end = length (dossierHeadBytes (c .pre .1 .event .head))
 
   abbrev count-end : ℕ
   count-end = head-end + length (number 1)
@@ -67,18 +67,18 @@ module _ (c : tie.Start) where
   version-end = count-end + length (number (c .args .version .0))
 
   abbrev presence-end : ℕ
-  presence-end = version-end + length (number (c .args .t2 .presence))
+  presence-end = version-end + length (number (c .args .e .presence))
 
   abbrev differ-end : ℕ
   differ-end = presence-end + length (number 0)
 
-  fits : differ-end + length (sets (c .pre .read)) ≤ length out₀
-  fits = omega (arith, c .pre .room, lone-length (c .pre .read) (c .args .version .0))
+  fits : differ-end + length (sets (c .pre .1 .read)) ≤ length out₀
+  fits = omega (arith, c .pre .1 .room, lone-length (c .pre .1 .read) (c .args .version .0))
 
 -- ---- the head
 
 parts :
-    (c : tie.After-write-dossier-head-arg) (e : Event) → EventIs (now (start₀ c .args .event)) e (start₀ c .args .t2) →
+    (c : tie.After-write-dossier-head-arg) (e : Event) → EventIs (now (start₀ c .args .event)) e (start₀ c .args .e) (now (start₀ c .args .sets)) →
     let hashes = c .before in let source = hashes .before in let name = source .before in
     HeadParts (now (name .text-part .result)) (now (source .text-part2 .result)) (now (hashes .hashes-part .result)) (e .head)
 parts c e w =
@@ -94,7 +94,7 @@ head-written :
     (c : tie.After-write-dossier-head) →
     Reached (out₀ (start₁ c)) (head-end (start₁ c)) (c .write-dossier-head .last .1 .1 .1 .0) (c .write-dossier-head .result)
 head-written c =
-    reached-by reached-start (c .write-dossier-head .ensures _ (parts (c .before) (start₁ c .pre .event) (start₁ c .pre .read))) (omega arith)
+    reached-by reached-start (c .write-dossier-head .ensures _ (parts (c .before) (start₁ c .pre .1 .event) (start₁ c .pre .1 .read))) (omega arith)
 
 count-written : (c : tie.After-write-number) → Reached (out₀ (start₂ c)) (count-end (start₂ c)) (c .write-number .last .0) (c .write-number .result)
 count-written c = reached-by (head-written (to-head (c .before))) (c .write-number .ensures) refl
@@ -121,7 +121,7 @@ hashes-part-requires c κs = search needs
 
 write-dossier-head-requires : tie.Need-write-dossier-head-requires
 write-dossier-head-requires c κs =
-    let p = start₀ c .pre in
+    let p = start₀ c .pre .1 in
     record { head = p .event .head; parts = parts c (p .event) (p .read); room = omega (arith, fits (start₀ c)) }
 
 write-number-requires : tie.Need-write-number-requires
@@ -138,8 +138,9 @@ write-number-requires-4 c κs = omega (arith, fits (start₄ (to-presence c)), p
 
 write-sets-requires : tie.Need-write-sets-requires
 write-sets-requires c κs =
-    let p = start₅ (to-differ c) .pre in
-    (search needs, record { values = p .event .sets; are = p .read .sets; room = omega (arith, fits (start₅ (to-differ c)), differ-written (to-differ c)) })
+    let begin = start₅ (to-differ c) in
+    let p = begin .pre .1 in
+    (begin .pre .0, record { values = p .event .sets; are = p .read .sets; room = omega (arith, fits begin, differ-written (to-differ c)) })
 
 same-length : tie.Need-same-length
 same-length c = search needs

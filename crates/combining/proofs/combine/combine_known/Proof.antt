@@ -7,7 +7,7 @@ use Rattle.combining.proofs.combine.combine_known.Tie as tie
 -- ---- the places
 
 abbrev to-start : tie.After-left-rows → tie.Start
-to-start c = c .before .before .before .before .before
+to-start c = c .before .before .before .before .before .before
 
 -- ---- the needs
 
@@ -34,7 +34,7 @@ combine-read-requires c κs =
     let right-read = c .before .before .before .before in
     let left-read = right-read .before .before .before in
     let p = to-start (left-read .before) .pre in (
-      (search needs, search needs, p .1),
+      (search needs, search needs, p .1, p .2),
       known-read (p .0) _ _ _ _ (left-read .read-known .ensures) (right-read .read-known2 .ensures),
     )
 

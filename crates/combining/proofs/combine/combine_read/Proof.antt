@@ -13,41 +13,45 @@ use Rattle.combining.proofs.combine.combine_read.Tie as tie
 -- ---- the places
 
 abbrev to-start : tie.After-slice-known → tie.Start
-to-start c = c .before .before .before .before .before .before
+to-start c = c .before .before .before .before .before .before .before
 
 -- ---- the facts
 
 module _ (c : tie.After-slice-known) where
   abbrev both :
       let a = to-start c .args in
-      Combinable (now (a .table)) (now (a .a)) (a .d) (now (a .left)) (now (a .b)) (a .e) (now (a .right)) (a .t)
+      Combinable (now (a .table)) (now (a .a)) (a .d) (now (a .left)) (now (a .b)) (a .e) (now (a .right)) (a .t) (now (a .properties))
   both = to-start c .pre .1
 
   room : dossierCapacity ≤ length (now (to-start c .args .out))
-  room = to-start c .pre .0 .2
+  room = to-start c .pre .0 .3
 
 -- ---- the needs
 
 limits-fit-requires : tie.Need-limits-fit-requires
-limits-fit-requires c κs = let p = to-start c .pre in (p .0 .0, p .0 .1, both c)
+limits-fit-requires c κs =
+    let long = to-start c .pre .0 in
+    ((both c .left-read .few, both c .right-read .few, both c .known .typed .are .few), (long .0, long .1, long .2))
 
 returns : tie.Need-returns
 returns c =
     let at = c .before .before in
-    combine-full _ _ _ _ (room at) (both at) (c .before .limits-fit .ensures (both at)) (not-true _ (c .if1 .taken))
+    combine-full _ _ _ _ (room at) (both at) (c .before .limits-fit .ensures _ (both at)) (not-true _ (c .if1 .taken))
 
 write-combined-requires : tie.Need-write-combined-requires
 write-combined-requires c κs =
     let asked = c .before .before in
     let at = asked .before in
-    let p = to-start at .pre in
+    let long = to-start at .pre .0 in
     let yes-all = not-false _ (c .before .if1 .left) in (
-      p .0 .0,
-      p .0 .1,
+      long .0,
+      long .1,
+      long .2,
       record {
+        table = _;
         both = both at;
-        inside = λ h. sym (asked .limits-fit .ensures h) ∙ yes-all;
-        room = combine-room (both at) (asked .limits-fit .ensures (both at)) yes-all _ (room at);
+        inside = λ u h. sym (asked .limits-fit .ensures u h) ∙ yes-all;
+        room = combine-room (both at) (asked .limits-fit .ensures _ (both at)) yes-all _ (room at);
       },
     )
 
@@ -60,8 +64,8 @@ returns-2 c =
     let fitted = wrote .before .before in
     let asked = fitted .before in
     let at = asked .before in
-    combine-done _ _ _ _ (room at) (both at) (asked .limits-fit .ensures (both at)) (not-false _ (fitted .if1 .left)) _ _
-    (wrote .write-combined .ensures (both at))
+    combine-done _ _ _ _ (room at) (both at) (asked .limits-fit .ensures _ (both at)) (not-false _ (fitted .if1 .left)) _ _
+    (wrote .write-combined .ensures _ (both at))
 
 pub combine-read-spec : {M : Type 1} → statement M
 combine-read-spec = tie.close (tie.spec limits-fit-requires returns write-combined-requires same-length returns-2)

@@ -10,7 +10,7 @@ use Rattle.packed.specs.Packed.{number}
 use Rattle.packed.specs.code.Written.{ToGo}
 use Rattle.packed.proofs.WriteLaws.{wrote-length, to-go, gone, all-gone}
 use Rattle.ontology.specs.Table.{EventType, isVersioned}
-use Rattle.ontology.specs.code.TypeIndex.{TypeIs}
+use Rattle.ontology.specs.code.TypeIndex.{PropertiesAre}
 use Rattle.event.specs.Event.{typeView}
 use Rattle.event.specs.EventLayout.{bitNumber}
 use Rattle.event.specs.code.EventIndex.{SetsAre, bitOf}
@@ -24,18 +24,18 @@ use Rattle.combining.proofs.joined.write_joined.Statement.{statement}
 use Rattle.combining.proofs.joined.write_joined.Tie as tie
 
 abbrev Inv-loop : tie.InvT-loop
-Inv-loop a x b y t out₀ at present after-version after-presence next₀ k₀ out next k =
-    (u : List ℕ) (ty : EventType) (left right : Snapshot) → TypeIs u ty t → isVersioned ty ≡ false → Meet ty left right →
+Inv-loop a x b y count ps out₀ at present after-version after-presence next₀ k₀ out next k =
+    (u : List ℕ) (ty : EventType) (left right : Snapshot) → PropertiesAre u (ty .properties) count ps → isVersioned ty ≡ false → Meet ty left right →
     SetsAre a (map held (left .cells)) x → SetsAre b (map held (right .cells)) y →
     ToGo out₀ next₀ (setsFrom ty left right 0) out next (setsFrom ty left right k)
 
 abbrev μ-loop : tie.MeasureT-loop
-μ-loop a x b y t out₀ at present after-version after-presence next₀ k₀ out next k = 32 - k
+μ-loop a x b y count ps out₀ at present after-version after-presence next₀ k₀ out next k = 32 - k
 
 -- ---- the places
 
 abbrev start : tie.After-joined-places Inv-loop μ-loop → tie.Start Inv-loop μ-loop
-start c = c .before .before .before .before .before .before
+start c = c .before .before .before .before .before .before .before
 
 abbrev to-places : tie.After-write-number Inv-loop μ-loop → tie.After-joined-places Inv-loop μ-loop
 to-places c = c .before .before
@@ -58,22 +58,22 @@ places c = to-places (version c)
 -- ---- the facts
 
 -- the snapshots that the room is asked for
-abbrev asked : (c : tie.Start Inv-loop μ-loop) → let a = c .args in let q = c .pre .2 in
-    Joins (q .table) (a .a .now) (a .b .now) (a .t) (a .x .now) (a .y .now) (q .type) (q .left) (q .right)
-asked c = let q = c .pre .2 in joins (q .typed) (q .unversioned) (q .meet) (q .left-is) (q .right-is)
+abbrev asked : (c : tie.Start Inv-loop μ-loop) → let a = c .args in let q = c .pre .3 in
+    Joins (q .table) (a .a .now) (a .b .now) (a .count) (a .properties .now) (a .x .now) (a .y .now) (q .type) (q .left) (q .right)
+asked c = let q = c .pre .3 in joins (q .typed) (q .unversioned) (q .meet) (q .left-is) (q .right-is)
 
 -- what is still to be written of that
 asked-to-go :
-    (c : tie.At-loop Inv-loop μ-loop) → let q = start (places c) .pre .2 in
+    (c : tie.At-loop Inv-loop μ-loop) → let q = start (places c) .pre .3 in
     ToGo (to-differ c .write-number3 .last .0) (to-differ c .write-number3 .result) (setsFrom (q .type) (q .left) (q .right) 0) (c .loop .out) (c .loop .next)
     (setsFrom (q .type) (q .left) (q .right) (c .loop .k))
 asked-to-go c =
-    let q = start (places c) .pre .2 in
+    let q = start (places c) .pre .3 in
     c .loop .inv (q .table) (q .type) (q .left) (q .right) (q .typed) (q .unversioned) (q .meet) (q .left-is) (q .right-is)
 
 -- how long the snapshot is, by the numbers before its sets
 size :
-    (c : tie.After-joined-places Inv-loop μ-loop) → let q = start c .pre .2 in
+    (c : tie.After-joined-places Inv-loop μ-loop) → let q = start c .pre .3 in
     length (snapshotBytes (joinSnapshots (typeView (q .type)) (q .left) (q .right)))
     ≡ length (number 0) + length (number (bitNumber (map bitOf (c .joined-places .result)))) + length (number 0) + length
     (setsFrom (q .type) (q .left) (q .right) 0)
@@ -85,7 +85,7 @@ joined-places-requires : tie.Need-joined-places-requires Inv-loop μ-loop
 joined-places-requires c κs = search needs
 
 write-number-requires : tie.Need-write-number-requires Inv-loop μ-loop
-write-number-requires c κs = omega (arith, start (c .before) .pre .2 .room, size (c .before))
+write-number-requires c κs = omega (arith, start (c .before) .pre .3 .room, size (c .before))
 
 number-of-requires : tie.Need-number-of-requires Inv-loop μ-loop
 number-of-requires c κs = search needs
@@ -95,7 +95,7 @@ write-number-requires-2 c κs =
     let version = to-version c in
     let places = to-places version in
     let w = version .write-number .ensures in
-    omega (arith, start places .pre .2 .room, size places, ap (λ (n : ℕ). length (number n)) (c .number-of .ensures), w .after, wrote-length w)
+    omega (arith, start places .pre .3 .room, size places, ap (λ (n : ℕ). length (number n)) (c .number-of .ensures), w .after, wrote-length w)
 
 write-number-requires-3 : tie.Need-write-number-requires-3 Inv-loop μ-loop
 write-number-requires-3 c κs =
@@ -106,7 +106,7 @@ write-number-requires-3 c κs =
     let v = presence .write-number2 .ensures in
     omega (
       arith,
-      start places .pre .2 .room,
+      start places .pre .3 .room,
       size places,
       ap (λ (n : ℕ). length (number n)) (presence .before .number-of .ensures),
       w .after,
@@ -133,11 +133,14 @@ write-place-requires c κs =
     let left = right .before in
     let turn = left .before in
     let at-loop = turn .before .before in
-    let n = asked (start (places at-loop)) in
+    let begin = start (places at-loop) in
+    let n = asked begin in
     let room = sets-room n _ (places at-loop .joined-places .ensures) _ (presence at-loop .before .number-of .ensures) (version at-loop .write-number .ensures)
-    (presence at-loop .write-number2 .ensures) (to-differ at-loop .write-number3 .ensures) (start (places at-loop) .pre .2 .room) in
-    place-next n _ (places at-loop .joined-places .ensures) (at-loop .loop .k) (left .set-at .ensures) (right .set-at2 .ensures)
-    (turn .before .loop-test .taken) (turn .if1 .taken) (asked-to-go at-loop) room
+    (presence at-loop .write-number2 .ensures) (to-differ at-loop .write-number3 .ensures) (begin .pre .3 .room) in (
+      begin .pre .2,
+      place-next n _ (places at-loop .joined-places .ensures) (at-loop .loop .k) (left .set-at .ensures) (right .set-at2 .ensures)
+          (turn .before .loop-test .taken) (turn .if1 .taken) (asked-to-go at-loop) room,
+    )
 
 add-k : tie.Need-add-k Inv-loop μ-loop
 add-k c = search needs

@@ -18,11 +18,11 @@ use Rattle.combining.proofs.joined.write_place.Tie as tie
 -- ---- the places
 
 abbrev to-start : tie.After-is-extreme-at → tie.Start
-to-start c = c .before .before .before .before
+to-start c = c .before .before .before .before .before
 
 -- a place of strategy min or max
 abbrev to-number : tie.After-chosen → tie.After-write-number
-to-number c = c .before .before .before .before .before .before .before
+to-number c = c .before .before .before .before
 
 abbrev number-to-if : tie.After-write-number → tie.Then1
 number-to-if c = c .before .before
@@ -56,10 +56,12 @@ module _ (c : tie.Start) where
   out₀ = now (c .args .out)
 
   abbrev Place : Type 0
-  Place = PlaceIs (c .args .t1) k (now (c .args .a)) (c .args .x) (now (c .args .b)) (c .args .y)
+  Place = PlaceIs (c .args .count) (now (c .args .properties)) k (now (c .args .a)) (c .args .x) (now (c .args .b)) (c .args .y)
 
-  abbrev wanted : PlaceRoom (c .args .t1) k (now (c .args .a)) (c .args .x) (now (c .args .b)) (c .args .y) at (length out₀)
-  wanted = c .pre
+  abbrev wanted :
+      let a = c .args in
+      PlaceRoom (a .count) (now (a .properties)) k (now (a .a)) (a .x) (now (a .b)) (a .y) at (length out₀)
+  wanted = c .pre .1
 
   abbrev set : Place → List Text
   set h = joinedSet (h .type) k (h .xs) (h .ys)
@@ -81,7 +83,7 @@ module _ (c : tie.Then1) where
   one h = joined-one (h .type) (k s) (h .xs) (h .ys) (have-some _ _ _ _ _ _ (h .left) (h .right) (wanted s .some)) (extreme c h)
 
   room : at s + length (number 1) + length (flatten (map text (set s (wanted s .place)))) ≤ length (out₀ s)
-  room = place-room _ _ _ _ _ _ (wanted s .some) (wanted s .place) 1 _ _ (one (wanted s .place)) (wanted s .room)
+  room = place-room (wanted s .some) (wanted s .place) 1 _ _ (one (wanted s .place)) (wanted s .room)
 
 low : (c : tie.After-write-number) → k (s (number-to-if c)) < 32
 low c = wanted (s (number-to-if c)) .low
@@ -91,7 +93,7 @@ module _ (c : tie.After-chosen) where
   taken = number-to-if (to-number c)
 
   value : (h : Place (s taken)) → text (now (c .chosen .result)) ≡ flatten (map text (set (s taken) h))
-  value h = chosen-text _ _ _ _ _ _ (wanted (s taken) .some) h (extreme taken h) (c .before .property-at .ensures) _ (c .chosen .ensures)
+  value h = chosen-text (wanted (s taken) .some) h (extreme taken h) (c .before .property-at .ensures) _ (c .chosen .ensures)
 
 -- elsewhere all values of both
 module _ (c : tie.After-set-part2) where
@@ -100,18 +102,18 @@ module _ (c : tie.After-set-part2) where
 
   values : (h : Place start) →
       ValuesAre (now (c .before .set-part .result)) (start .args .x .count) (now (c .set-part2 .result)) (start .args .y .count) (h .xs) (h .ys)
-  values h = place-values _ _ _ _ _ _ (wanted start .some) h _ _ (c .before .set-part .ensures (h .xs) (h .left)) (c .set-part2 .ensures (h .ys) (h .right))
+  values h = place-values (wanted start .some) h _ _ (c .before .set-part .ensures (h .xs) (h .left)) (c .set-part2 .ensures (h .ys) (h .right))
 
 -- ---- the needs
 
 is-extreme-at-requires : tie.Need-is-extreme-at-requires
-is-extreme-at-requires c κs = search needs
+is-extreme-at-requires c κs = (wanted (c .before .before .before .before) .place .typed .few, search needs)
 
 write-number-requires : tie.Need-write-number-requires
 write-number-requires c κs = omega (arith, room (c .before))
 
 property-at-requires : tie.Need-property-at-requires
-property-at-requires c κs = (search needs, low (c .before .before .before .before .before))
+property-at-requires c κs = (search needs, low (c .before .before))
 
 chosen-requires : tie.Need-chosen-requires
 chosen-requires c κs = search needs
@@ -131,7 +133,7 @@ returns c = λ h.
     let o = to-text c in
     let n = to-number (to-chosen o) in
     let i = number-to-if n in
-    place-wrote _ _ _ _ _ _ (wanted (s i) .some) h 1 (one i h) (n .write-number .ensures) (wrote-as (value (to-chosen o) h) (o .write-text .ensures))
+    place-wrote (wanted (s i) .some) h 1 (one i h) (n .write-number .ensures) (wrote-as (value (to-chosen o) h) (o .write-text .ensures))
 
 set-part-requires : tie.Need-set-part-requires
 set-part-requires c κs = search needs
@@ -148,7 +150,7 @@ write-values-requires c κs =
       ys = h .ys;
       are = values (c .before) h;
       some = omega (arith, have-some _ _ _ _ _ _ (h .left) (h .right) (q .some), h .left .count, h .right .count);
-      room = omega (arith, q .room, ap length (place-union _ _ _ _ _ _ (q .some) h (plain (parts-to-if (c .before)) h)));
+      room = omega (arith, q .room, ap length (place-union (q .some) h (plain (parts-to-if (c .before)) h)));
     }
 
 same-length-2 : tie.Need-same-length-2
@@ -160,7 +162,7 @@ same-length-2 c =
 returns-2 : tie.Need-returns-2
 returns-2 c = λ h.
     let p = to-parts (to-values c) in
-    wrote-as (place-union _ _ _ _ _ _ (wanted (start p) .some) h (plain (parts-to-if p) h)) (to-values c .write-values .ensures (h .xs) (h .ys) (values p h))
+    wrote-as (place-union (wanted (start p) .some) h (plain (parts-to-if p) h)) (to-values c .write-values .ensures (h .xs) (h .ys) (values p h))
 
 pub write-place-spec : {M : Type 1} → statement M
 write-place-spec =

@@ -1,11 +1,12 @@
 use mathlib.Core.Path.{sym, _∙_}
 use Rattle.combining.proofs.ObjectLaws.{extreme-past, extreme-here}
 use borrow.Author.Needs.{needs}
+use denote.Ref.{now}
 use Rattle.combining.proofs.limits.is_extreme_at.Statement.{statement}
 use Rattle.combining.proofs.limits.is_extreme_at.Tie as tie
 
 returns : tie.Need-returns
-returns c = λ u ty w. extreme-past u ty (c .before .args .t1) (c .before .args .k) w (c .if1 .taken)
+returns c = λ u ty w. let a = c .before .before .args in extreme-past u ty (a .count) (now (a .properties)) (a .k) w (c .if1 .taken)
 
 property-at-requires : tie.Need-property-at-requires
 property-at-requires c κs = search needs
@@ -15,9 +16,10 @@ is-extreme-requires c κs = search needs
 
 returns-2 : tie.Need-returns-2
 returns-2 c = λ u ty w.
-    let taken = c .before in
-    let inside = taken .before .before .before .before in
-    c .is-extreme .ensures ∙ sym (extreme-here u ty (inside .before .args .t1) (inside .before .args .k) w (taken .property-at .ensures) (inside .if1 .left))
+    let read = c .before in
+    let inside = read .before in
+    let a = inside .before .before .args in
+    c .is-extreme .ensures ∙ sym (extreme-here u ty (a .count) (now (a .properties)) (a .k) w (read .property-at .ensures) (inside .if1 .left))
 
 pub is-extreme-at-spec : {M : Type 1} → statement M
 is-extreme-at-spec = tie.close (tie.spec returns property-at-requires is-extreme-requires returns-2)

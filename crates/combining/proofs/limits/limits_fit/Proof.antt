@@ -40,11 +40,11 @@ objects-to-start c = to-start (to-parents (to-versions (to-objects c .before) .b
 
 -- ---- the values
 
-module _ (c : tie.Start) where
+module _ (c : tie.Start) (table : List ℕ) where
   abbrev Asked : Type 0
   Asked =
       let a = c .args in
-      Combinable (now (a .table)) (now (a .a)) (a .t3) (now (a .left)) (now (a .b)) (a .t6) (now (a .right)) (a .t)
+      Combinable table (now (a .a)) (a .t2) (now (a .left)) (now (a .b)) (a .t5) (now (a .right)) (a .t) (now (a .properties))
 
 abbrev parentsOf : TypedDossier → List Text
 parentsOf d = d .headed .head .parents
@@ -55,11 +55,11 @@ firstOf d = getD (d .headed .snapshots) 0 noSnapshot
 -- ---- the facts
 
 -- whether the parents of the two are few enough
-parents : (c : tie.After-parents-fit) (h : Asked (to-start c)) →
+parents : (c : tie.After-parents-fit) {table : List ℕ} (h : Asked (to-start c) table) →
     c .parents-fit .result ≡ leb (length (union texts (parentsOf (h .known .left)) (parentsOf (h .known .right)))) 32
 parents c h =
-    let x = left-hashes _ _ _ _ _ _ _ _ h in
-    let y = right-hashes _ _ _ _ _ _ _ _ h in
+    let x = left-hashes h in
+    let y = right-hashes h in
     c .parents-fit .ensures (parentsOf (h .known .left)) (parentsOf (h .known .right)) (h .left-read .head .hashes) (h .right-read .head .hashes)
     (x .0) (y .0) (x .1) (y .1)
 
@@ -67,19 +67,19 @@ few-parents : (c : tie.Else1) → c .before .parents-fit .result ≡ true
 few-parents c = not-false _ (c .if1 .left)
 
 -- how many versions the two have
-versions : (c : tie.After-count-versions) → let s = to-start (to-parents c .before) in (h : Asked s) →
-    let d = s .args .t3 in
-    let e = s .args .t6 in
+versions : (c : tie.After-count-versions) {table : List ℕ} (h : Asked (to-start (to-parents c .before)) table) →
+    let d = to-start (to-parents c .before) .args .t2 in
+    let e = to-start (to-parents c .before) .args .t5 in
     c .count-versions .result ≡ length (union numbers (versionNumbers (take (d .count) (d .versions))) (versionNumbers (take (e .count) (e .versions))))
-versions c h = c .count-versions .ensures (left-rises _ _ _ _ _ _ _ _ h) (right-rises _ _ _ _ _ _ _ _ h)
+versions c h = c .count-versions .ensures (left-rises h) (right-rises h)
 
 -- the first snapshots have the objects that are noted of them, and their sets stand where their rows say
-left-first : (c : tie.Start) (h : Asked c) →
-    SnapshotIs (now (c .args .a)) (firstOf (h .known .left)) (numbersAt _ _ (c .args .t3) (h .left-read) 0) (rowOf (now (c .args .left)) 0)
+left-first : (c : tie.Start) {table : List ℕ} (h : Asked c table) →
+    SnapshotIs (now (c .args .a)) (firstOf (h .known .left)) (numbersAt _ _ (c .args .t2) (h .left-read) 0) (rowOf (now (c .args .left)) 0)
 left-first c h = snapshot-stands _ (h .known .left .headed) _ (h .left-read) _ (h .left-rows) 0 (omega (arith, h .left-read .one))
 
-right-first : (c : tie.Start) (h : Asked c) →
-    SnapshotIs (now (c .args .b)) (firstOf (h .known .right)) (numbersAt _ _ (c .args .t6) (h .right-read) 0) (rowOf (now (c .args .right)) 0)
+right-first : (c : tie.Start) {table : List ℕ} (h : Asked c table) →
+    SnapshotIs (now (c .args .b)) (firstOf (h .known .right)) (numbersAt _ _ (c .args .t5) (h .right-read) 0) (rowOf (now (c .args .right)) 0)
 right-first c h = snapshot-stands _ (h .known .right .headed) _ (h .right-read) _ (h .right-rows) 0 (omega (arith, h .right-read .one))
 
 -- the first row is a whole one
@@ -92,25 +92,25 @@ parents-fit-requires : tie.Need-parents-fit-requires
 parents-fit-requires c κs = search needs
 
 returns : tie.Need-returns
-returns c = λ h. fits-parents _ _ _ _ _ _ _ _ h _ (parents (c .before) h) (not-true _ (c .if1 .taken))
+returns c = λ table h. fits-parents h _ (parents (c .before) h) (not-true _ (c .if1 .taken))
 
 count-versions-requires : tie.Need-count-versions-requires
 count-versions-requires c κs =
-    let h = to-start (c .before .before .before) .pre .2 in
-    (h .left-read .few, h .right-read .few)
+    let few = to-start (c .before .before .before) .pre .0 in
+    (few .0, few .1)
 
 returns-2 : tie.Need-returns-2
-returns-2 c = λ h.
+returns-2 c = λ table h.
     let v = c .before in
     let p = to-parents v in
-    fits-versions _ _ _ _ _ _ _ _ h _ (parents (p .before) h) (few-parents p) _ (versions v h) (c .if2 .taken)
+    fits-versions h _ (parents (p .before) h) (few-parents p) _ (versions v h) (c .if2 .taken)
 
 returns-3 : tie.Need-returns-3
-returns-3 c = λ h.
+returns-3 c = λ table h.
     let e = to-versions (c .before) in
     let v = e .before in
     let p = to-parents v in
-    fits-versioned _ _ _ _ _ _ _ _ h _ (parents (p .before) h) (few-parents p) _ (versions v h) (e .if2 .left) (c .if3 .taken)
+    fits-versioned h _ (parents (p .before) h) (few-parents p) _ (versions v h) (e .if2 .left) (c .if3 .taken)
 
 element-copy-out-m : tie.Need-element-copy-out-m
 element-copy-out-m c = search needs
@@ -139,10 +139,11 @@ part-objects-fit-end-2 c = search needs
 objects-fit-requires : tie.Need-objects-fit-requires
 objects-fit-requires c κs =
     let s = objects-to-start (c .before .before) in
-    (s .pre .2 .known .typed .are .few, row-long (now (s .args .left)) (s .pre .0), row-long (now (s .args .right)) (s .pre .1))
+    let long = s .pre .1 in
+    (s .pre .0 .2, row-long (now (s .args .left)) (long .0), row-long (now (s .args .right)) (long .1), long .2)
 
 returns-4 : tie.Need-returns-4
-returns-4 c = λ h.
+returns-4 c = λ table h.
     let at-n = c .before .before .before in
     let o = to-objects at-n in
     let un = o .if3 .left in
@@ -153,8 +154,8 @@ returns-4 c = λ h.
     let r = h .known .right in
     let x = left-first (objects-to-start at-n) h in
     let y = right-first (objects-to-start at-n) h in
-    fits-objects _ _ _ _ _ _ _ _ h _ (parents (p .before) h) (few-parents p) _ (versions v h) (e .if2 .left) un
-    (c .objects-fit .ensures _ (l .type) (firstOf l) (firstOf r) (h .known .typed) (unversioned _ _ _ _ _ _ _ _ h un) (first-meet _ _ _ _ _ _ _ _ h un)
+    fits-objects h _ (parents (p .before) h) (few-parents p) _ (versions v h) (e .if2 .left) un
+    (c .objects-fit .ensures _ (l .type) (firstOf l) (firstOf r) (h .known .typed .are) (unversioned h un) (first-meet h un)
     (x .objects) (y .objects) (x .sets) (y .sets))
 
 pub limits-fit-spec : {M : Type 1} → statement M

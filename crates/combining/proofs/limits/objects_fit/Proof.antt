@@ -13,7 +13,7 @@ use Rattle.model.specs.Order.{Text}
 use Rattle.model.specs.Rule.{holds, joinCell, Snapshot, joinSnapshots, sizes}
 use Rattle.model.specs.Opening.{held}
 use Rattle.ontology.specs.Table.{EventType, isVersioned}
-use Rattle.ontology.specs.code.TypeIndex.{TypeIs}
+use Rattle.ontology.specs.code.TypeIndex.{PropertiesAre}
 use Rattle.event.specs.Event.{typeView}
 use Rattle.event.specs.code.EventIndex.{SetsAre}
 use Rattle.combining.specs.code.CombineIndex.{Meet}
@@ -22,21 +22,21 @@ use Rattle.combining.proofs.limits.objects_fit.Statement.{statement}
 use Rattle.combining.proofs.limits.objects_fit.Tie as tie
 
 abbrev Inv-loop : tie.InvT-loop
-Inv-loop a x m b y n t room₀ k₀ room k =
-    (u : List ℕ) (ty : EventType) (left right : Snapshot) → TypeIs u ty t → isVersioned ty ≡ false → Meet ty left right →
+Inv-loop a x m b y n count ps room₀ k₀ room k =
+    (u : List ℕ) (ty : EventType) (left right : Snapshot) → PropertiesAre u (ty .properties) count ps → isVersioned ty ≡ false → Meet ty left right →
     SetsAre a (map held (left .cells)) x → SetsAre b (map held (right .cells)) y →
     leb (sizes (joinSnapshots (typeView ty) left right .cells)) 256 ≡ leb (sizes (drop k (joinSnapshots (typeView ty) left right .cells))) room
 
 abbrev μ-loop : tie.MeasureT-loop
-μ-loop a x m b y n t room₀ k₀ room k = 32 - k
+μ-loop a x m b y n count ps room₀ k₀ room k = 32 - k
 
 -- ---- the places
 
 abbrev if1-to-start : tie.Then1 Inv-loop μ-loop → tie.Start Inv-loop μ-loop
-if1-to-start c = c .before .before .before .before .before
+if1-to-start c = c .before .before .before .before .before .before
 
 abbrev to-start : tie.At-loop Inv-loop μ-loop → tie.Start Inv-loop μ-loop
-to-start c = c .before .before .before .before .before .before
+to-start c = c .before .before .before .before .before .before .before
 
 abbrev to-turn : tie.After-count-place Inv-loop μ-loop → tie.In-loop Inv-loop μ-loop
 to-turn c = c .before .before .before
@@ -75,7 +75,7 @@ module _ (c : tie.After-count-place Inv-loop μ-loop) (u : List ℕ) (ty : Event
   rights = held (getD (right .cells) k (holds []))
 
   counted :
-      TypeIs u ty (start .args .t) → isVersioned ty ≡ false → Meet ty left right →
+      PropertiesAre u (ty .properties) (start .args .count) (now (start .args .properties)) → isVersioned ty ≡ false → Meet ty left right →
       SetsAre a (map held (left .cells)) x → SetsAre b (map held (right .cells)) y →
       c .count-place .result ≡ length (held (joinCell false (typeView ty .choice k) (holds lefts) (holds rights)))
   counted w un m v z =

@@ -1,6 +1,8 @@
 use borrow.Author.Needs.{needs}
 use native.Mathlib.Omega.{arith}
 use mathlib.Core.Path.{_≡_, refl}
+use mathlib.Core.List.{List}
+use Prim.Native.Nat.{ℕ}
 use lib.ListN.{length}
 use denote.Ref.{now}
 use Rattle.packed.proofs.WriteLaws.{wrote-length}
@@ -27,38 +29,38 @@ to-number c = c .before .before .before
 
 module _ (c : tie.After-write-heads-arg) where
   -- what is known of the two dossiers that are lent
-  abbrev Both : Type 0
-  Both =
+  abbrev Both : List ℕ → Type 0
+  Both table =
       let a = to-start c .args in
-      Combinable (now (a .table)) (now (a .a)) (a .d) (now (a .left)) (now (a .b)) (a .e) (now (a .right)) (a .t)
+      Combinable table (now (a .a)) (a .d) (now (a .left)) (now (a .b)) (a .e) (now (a .right)) (a .t) (now (a .properties))
 
-  heads-there :
+  heads-there : {table : List ℕ} (h : Both table) →
       let a = to-start c .args in
-      (h : Both) → HeadsAre (now (a .a)) (a .d) (now (a .b)) (a .e) (leftHead h) (rightHead h)
-  heads-there h = heads-are h (to-start c .pre .2 .inside h)
+      HeadsAre (now (a .a)) (a .d) (now (a .b)) (a .e) (leftHead h) (rightHead h)
+  heads-there h = heads-are h (to-start c .pre .3 .inside _ h)
 
 counted :
-    (c : tie.After-count-versions) (h : Both (to-heads (c .before) .before)) →
+    (c : tie.After-count-versions) {table : List ℕ} (h : Both (to-heads (c .before) .before) table) →
     c .count-versions .result ≡ length (combined (h .known .left) (h .known .right) .snapshots)
-counted c h = versions-counted h _ (c .count-versions .ensures (left-rises _ _ _ _ _ _ _ _ h) (right-rises _ _ _ _ _ _ _ _ h))
+counted c h = versions-counted h _ (c .count-versions .ensures (left-rises h) (right-rises h))
 
 -- ---- the needs
 
 write-heads-requires : tie.Need-write-heads-requires
 write-heads-requires c κs =
-    let p = to-start c .pre .2 in
+    let p = to-start c .pre .3 in
     let h = p .both in
     record { left = leftHead h; right = rightHead h; are = heads-there c h; room = omega (arith, p .room, combined-length h _ refl) }
 
 count-versions-requires : tie.Need-count-versions-requires
 count-versions-requires c κs =
-    let h = to-start (to-heads c .before) .pre .2 .both in
+    let h = to-start (to-heads c .before) .pre .3 .both in
     (h .left-read .few, h .right-read .few)
 
 write-number-requires : tie.Need-write-number-requires
 write-number-requires c κs =
     let heads = to-heads (c .before) in
-    let p = to-start (heads .before) .pre .2 in
+    let p = to-start (heads .before) .pre .3 in
     let w = heads .write-heads .ensures _ _ (heads-there (heads .before) (p .both)) in
     omega (arith, p .room, combined-length (p .both) _ (counted c (p .both)), w .after, wrote-length w)
 
@@ -67,14 +69,16 @@ write-snapshots-requires c κs =
     let written = to-number c in
     let heads = to-heads (written .before .before) in
     let p = to-start (heads .before) .pre in
-    let h = p .2 .both in
+    let h = p .3 .both in
     let w = heads .write-heads .ensures _ _ (heads-there (heads .before) h) in
     let n = written .write-number .ensures in (
       p .0,
       p .1,
+      p .2,
       record {
+        table = p .3 .table;
         both = h;
-        room = omega (arith, p .2 .room, combined-length h _ (counted (written .before) h), w .after, wrote-length w, n .after, wrote-length n);
+        room = omega (arith, p .3 .room, combined-length h _ (counted (written .before) h), w .after, wrote-length w, n .after, wrote-length n);
       },
     )
 
@@ -82,12 +86,12 @@ same-length : tie.Need-same-length
 same-length c = search needs
 
 returns : tie.Need-returns
-returns c = λ h.
+returns c = λ table h.
     let snapshots = c .before .before in
     let written = to-number (snapshots .before) in
     let heads = to-heads (written .before .before) in
     wrote-combined h _ (counted (written .before) h) (heads .write-heads .ensures _ _ (heads-there (heads .before) h)) (written .write-number .ensures)
-    (snapshots .write-snapshots .ensures h)
+    (snapshots .write-snapshots .ensures _ h)
 
 pub write-combined-spec : {M : Type 1} → statement M
 write-combined-spec =

@@ -1,6 +1,6 @@
 use mathlib.Core.Path.{_≡_, refl, _∙_}
-use mathlib.Core.List.{map, flatten}
-use Prim.Native.Nat.{_+_, _-_, _≤_, _<_}
+use mathlib.Core.List.{List, map, flatten}
+use Prim.Native.Nat.{ℕ, _+_, _-_, _≤_, _<_}
 use lib.ListN.{length}
 use denote.Ref.{now}
 use Rattle.packed.specs.code.Written.{ToGo}
@@ -16,13 +16,13 @@ use Rattle.combining.proofs.write.write_snapshots.Statement.{statement}
 use Rattle.combining.proofs.write.write_snapshots.Tie as tie
 
 abbrev Inv-loop : tie.InvT-loop
-Inv-loop table a left b right t out₀ at d e i₀ j₀ next₀ out i j next =
+Inv-loop a left b right t ps out₀ at d e i₀ j₀ next₀ out i j next =
     (i ≤ d .count) × (j ≤ e .count) × (length out ≡ length out₀)
-    × ((h : Combinable table a d left b e right t) →
+    × ((table : List ℕ) (h : Combinable table a d left b e right t ps) →
     ToGo out₀ at (flatten (map snapshotBytes (combined (h .known .left) (h .known .right) .snapshots))) out next (mergedBytes h i j))
 
 abbrev μ-loop : tie.MeasureT-loop
-μ-loop table a left b right t out₀ at d e i₀ j₀ next₀ out i j next = d .count + e .count - (i + j)
+μ-loop a left b right t ps out₀ at d e i₀ j₀ next₀ out i j next = d .count + e .count - (i + j)
 
 -- ---- the places
 
@@ -50,16 +50,16 @@ shared-to-one c = c .before .before .before .before .before
 module _ (c : tie.At-loop Inv-loop μ-loop) where
   abbrev both :
       let a = to-start c .args in
-      Combinable (now (a .table)) (now (a .a)) (a .t3) (now (a .left)) (now (a .b)) (a .t6) (now (a .right)) (a .t)
-  both = to-start c .pre .2 .both
+      Combinable (to-start c .pre .3 .table) (now (a .a)) (a .t2) (now (a .left)) (now (a .b)) (a .t5) (now (a .right)) (a .t) (now (a .properties))
+  both = to-start c .pre .3 .both
 
 -- ---- what is known of the turn
 
 module _ (c : tie.Else1 Inv-loop μ-loop) where
-  left-in : c .before .before .loop .i < to-start (c .before .before) .args .t3 .count
+  left-in : c .before .before .loop .i < to-start (c .before .before) .args .t2 .count
   left-in = c .before .loop-test .taken
 
-  right-in : c .before .before .loop .j < to-start (c .before .before) .args .t6 .count
+  right-in : c .before .before .loop .j < to-start (c .before .before) .args .t5 .count
   right-in = c .if1 .left
 
   room :
@@ -68,7 +68,7 @@ module _ (c : tie.Else1 Inv-loop μ-loop) where
   room =
       let at-loop = c .before .before in
       let l = at-loop .loop in
-      next-room (both at-loop) (l .i) (l .j) (l .inv .3 (both at-loop)) (to-start at-loop .pre .2 .room) left-in right-in
+      next-room (both at-loop) (l .i) (l .j) (l .inv .3 _ (both at-loop)) (to-start at-loop .pre .3 .room) left-in right-in
 
   -- a dossier has 8 snapshots at most, so the rows of these two are there
   left-low : c .before .before .loop .i < 8
@@ -80,23 +80,23 @@ module _ (c : tie.Else1 Inv-loop μ-loop) where
 -- ---- the needs
 
 loop-holds : tie.Need-loop-holds Inv-loop μ-loop
-loop-holds c = (omega arith, omega arith, refl, λ h. merged-to-go h)
+loop-holds c = (omega arith, omega arith, refl, λ table h. merged-to-go h)
 
 write-rest-requires : tie.Need-write-rest-requires Inv-loop μ-loop
 write-rest-requires c κs =
     let at-loop = c .before .before .before in
     let l = at-loop .loop in
-    left-room (both at-loop) (l .i) (l .j) (l .inv .3 (both at-loop)) (to-start at-loop .pre .2 .room) (c .before .if1 .taken)
+    left-room (both at-loop) (l .i) (l .j) (l .inv .3 _ (both at-loop)) (to-start at-loop .pre .3 .room) (c .before .if1 .taken)
 
 same-length : tie.Need-same-length Inv-loop μ-loop
 same-length c = search needs
 
 returns : tie.Need-returns Inv-loop μ-loop
-returns c = λ h.
+returns c = λ table h.
     let rest = c .before .before in
     let ended = rest .before .before in
     let l = ended .before .before .loop in
-    left-wrote h (l .i) (l .j) (l .inv .3 h) (ended .if1 .taken) (rest .write-rest .ensures (h .known .left .headed) (h .left-read))
+    left-wrote h (l .i) (l .j) (l .inv .3 _ h) (ended .if1 .taken) (rest .write-rest .ensures (h .known .left .headed) (h .left-read))
 
 mul-v : tie.Need-mul-v Inv-loop μ-loop
 mul-v c = search needs
@@ -144,7 +144,7 @@ loop-again c =
       omega arith,
       omega arith,
       wrote-length (copied .copy-part .ensures) ∙ l .inv .2,
-      λ h. left-turn h (l .i) (l .j) (l .inv .3 h) (left-in turn) (right-in turn) (lower .if2 .taken) (copied .copy-part .ensures),
+      λ table h. left-turn h (l .i) (l .j) (l .inv .3 _ h) (left-in turn) (right-in turn) (lower .if2 .taken) (copied .copy-part .ensures),
     )
 
 mul-copy-part-3 : tie.Need-mul-copy-part-3 Inv-loop μ-loop
@@ -181,7 +181,7 @@ loop-again-2 c =
       omega arith,
       omega arith,
       wrote-length (copied .copy-part2 .ensures) ∙ l .inv .2,
-      λ h. right-turn h (l .i) (l .j) (l .inv .3 h) (left-in turn) (right-in turn) (lower .if3 .taken) (copied .copy-part2 .ensures),
+      λ table h. right-turn h (l .i) (l .j) (l .inv .3 _ h) (left-in turn) (right-in turn) (lower .if3 .taken) (copied .copy-part2 .ensures),
     )
 
 mul-write-shared : tie.Need-mul-write-shared Inv-loop μ-loop
@@ -248,7 +248,8 @@ write-shared-requires c κs =
     let p = to-start (turn .before .before) .pre in (
       row-long _ _ (p .0) (left-low turn),
       row-long _ _ (p .1) (right-low turn),
-      shared-room (p .2 .both) (l .i) (l .j) (left-in turn) (right-in turn) _ _ (room turn) (one .before .before .before .if2 .left) (one .if3 .left),
+      p .2,
+      shared-room (p .3 .both) (l .i) (l .j) (left-in turn) (right-in turn) _ _ (room turn) (one .before .before .before .if2 .left) (one .if3 .left),
     )
 
 add-i-2 : tie.Need-add-i-2 Inv-loop μ-loop
@@ -273,8 +274,8 @@ loop-again-3 c =
       omega arith,
       omega arith,
       wrote-length (wrote _ (h₀ .known .left .type) _ _ (h₀ .known .typed) (next-shared h₀ (l .i) (l .j) (left-in turn) (right-in turn) m n)) ∙ l .inv .2,
-      λ h.
-          both-turn h (l .i) (l .j) (l .inv .3 h) (left-in turn) (right-in turn) m n
+      λ table h.
+          both-turn h (l .i) (l .j) (l .inv .3 _ h) (left-in turn) (right-in turn) m n
           (wrote _ (h .known .left .type) _ _ (h .known .typed) (next-shared h (l .i) (l .j) (left-in turn) (right-in turn) m n)),
     )
 
@@ -282,17 +283,17 @@ write-rest-requires-2 : tie.Need-write-rest-requires-2 Inv-loop μ-loop
 write-rest-requires-2 c κs =
     let at-loop = c .before .before in
     let l = at-loop .loop in
-    right-room (both at-loop) (l .i) (l .j) (l .inv .3 (both at-loop)) (to-start at-loop .pre .2 .room) (c .before .loop-test .left)
+    right-room (both at-loop) (l .i) (l .j) (l .inv .3 _ (both at-loop)) (to-start at-loop .pre .3 .room) (c .before .loop-test .left)
 
 same-length-2 : tie.Need-same-length-2 Inv-loop μ-loop
 same-length-2 c = search needs
 
 returns-2 : tie.Need-returns-2 Inv-loop μ-loop
-returns-2 c = λ h.
+returns-2 c = λ table h.
     let rest = c .before .before in
     let ended = rest .before .before in
     let l = ended .before .loop in
-    right-wrote h (l .i) (l .j) (l .inv .3 h) (ended .loop-test .left) (rest .write-rest2 .ensures (h .known .right .headed) (h .right-read))
+    right-wrote h (l .i) (l .j) (l .inv .3 _ h) (ended .loop-test .left) (rest .write-rest2 .ensures (h .known .right .headed) (h .right-read))
 
 pub write-snapshots-spec : {M : Type 1} → statement M
 write-snapshots-spec =

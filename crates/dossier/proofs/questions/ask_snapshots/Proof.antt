@@ -20,21 +20,21 @@ use Rattle.dossier.proofs.questions.ask_snapshots.Statement.{statement}
 use Rattle.dossier.proofs.questions.ask_snapshots.Tie as tie
 
 abbrev Inv-loop : tie.InvT-loop
-Inv-loop s rows d t number₀ j₀ number j =
-    ((u : List ℕ) (ty : EventType) (h : Headed) → TypeIs u ty t → KindsAre ty → DossierIs s h d → RowsAre s (h .snapshots) rows →
+Inv-loop s rows t properties d number₀ j₀ number j =
+    ((u : List ℕ) (ty : EventType) (h : Headed) → TypeIs u ty t properties → KindsAre ty → DossierIs s h d → RowsAre s (h .snapshots) rows →
     shapeNumber (dossierShape standard ty (h .snapshots)) (eachSnapshot (snapshotValues ty) (h .snapshots)) ≡ numberFrom ty (h .snapshots) number j)
     × ((number ≡ 0) ⊎ (number ≡ 6))
 
 abbrev μ-loop : tie.MeasureT-loop
-μ-loop s rows d t number₀ j₀ number j = d .count - j
+μ-loop s rows t properties d number₀ j₀ number j = d .count - j
 
 -- ---- the places
 
 abbrev to-start : tie.At-loop Inv-loop μ-loop → tie.Start Inv-loop μ-loop
-to-start c = c .before .before .before .before .before
+to-start c = c .before .before .before .before .before .before
 
-abbrev to-turn : tie.After-ask-snapshot-arg5 Inv-loop μ-loop → tie.In-loop Inv-loop μ-loop
-to-turn c = c .before .before .before .before .before .before .before .before
+abbrev to-turn : tie.After-ask-snapshot-arg3 Inv-loop μ-loop → tie.In-loop Inv-loop μ-loop
+to-turn c = c .before .before .before .before .before
 
 -- ---- the facts
 
@@ -50,7 +50,7 @@ module _ (c : tie.After-ask-snapshot Inv-loop μ-loop) where
   abbrev start : tie.Start Inv-loop μ-loop
   start = to-start (turn .before)
 
-  module _ (u : List ℕ) (ty : EventType) (h : Headed) (w : TypeIs u ty (start .args .t4)) (g : KindsAre ty) where
+  module _ (u : List ℕ) (ty : EventType) (h : Headed) (w : TypeIs u ty (start .args .t) (start .args .properties .now)) (g : KindsAre ty) where
     module _ (x : DossierIs (start .args .s .now) h (start .args .t2)) (r : RowsAre (start .args .s .now) (h .snapshots) (start .args .rows .now)) where
       abbrev one : Snapshot
       one = getD (h .snapshots) (turn .before .loop .j) noSnapshot
@@ -69,10 +69,10 @@ is-lone-requires : tie.Need-is-lone-requires Inv-loop μ-loop
 is-lone-requires c κs = search needs
 
 returns : tie.Need-returns Inv-loop μ-loop
-returns c = λ u ty h w g x r. not-lone _ h _ x u ty _ w (c .before .is-lone .ensures) (not-true _ (c .if1 .taken))
+returns c = λ u ty h w g x r. not-lone _ h _ x u ty _ _ w (c .before .is-lone .ensures) (not-true _ (c .if1 .taken))
 
 loop-holds : tie.Need-loop-holds Inv-loop μ-loop
-loop-holds c = (λ u ty h w g x r. is-lone _ h _ x u ty _ w (c .before .is-lone .ensures) (not-false _ (c .if1 .left)), inl refl)
+loop-holds c = (λ u ty h w g x r. is-lone _ h _ x u ty _ _ w (c .before .is-lone .ensures) (not-false _ (c .if1 .left)), inl refl)
 
 mul-version : tie.Need-mul-version Inv-loop μ-loop
 mul-version c = omega (arith, turn-low c)
@@ -80,11 +80,11 @@ mul-version c = omega (arith, turn-low c)
 element-copy-out-version : tie.Need-element-copy-out-version Inv-loop μ-loop
 element-copy-out-version c = omega (arith, turn-low c)
 
-mul-t16 : tie.Need-mul-t16 Inv-loop μ-loop
-mul-t16 c = omega (arith, turn-low (c .before))
+mul-t15 : tie.Need-mul-t15 Inv-loop μ-loop
+mul-t15 c = omega (arith, turn-low (c .before))
 
-element-copy-out-t23 : tie.Need-element-copy-out-t23 Inv-loop μ-loop
-element-copy-out-t23 c = omega (arith, turn-low (c .before))
+element-copy-out-t22 : tie.Need-element-copy-out-t22 Inv-loop μ-loop
+element-copy-out-t22 c = omega (arith, turn-low (c .before))
 
 mul-ask-snapshot : tie.Need-mul-ask-snapshot Inv-loop μ-loop
 mul-ask-snapshot c = omega (arith, turn-low (c .before .before))
@@ -129,7 +129,8 @@ returns-2 : tie.Need-returns-2 Inv-loop μ-loop
 returns-2 c = λ u ty h w g x r.
     let asked = c .before in
     let l = turn asked .before .loop in
-    number-five ty (h .snapshots) (l .number) (l .j) (inside asked u ty h w g x r) _ (number asked u ty h w g x r) (c .if2 .taken) ∙ sym (l .inv .0 u ty h w g x r)
+    let five = number-five ty (h .snapshots) (l .number) (l .j) (inside asked u ty h w g x r) _ (number asked u ty h w g x r) (c .if2 .taken) in
+    five ∙ sym (l .inv .0 u ty h w g x r)
 
 first-number-requires : tie.Need-first-number-requires Inv-loop μ-loop
 first-number-requires c κs = search needs
@@ -165,8 +166,8 @@ ask-snapshots-spec =
     loop-holds
     mul-version
     element-copy-out-version
-    mul-t16
-    element-copy-out-t23
+    mul-t15
+    element-copy-out-t22
     mul-ask-snapshot
     element-copy-out-ask-snapshot
     sub-ask-snapshot

@@ -1,20 +1,9 @@
 use borrow.Author.Needs.{needs}
 use borrow.Author.Tests.{not-true, not-false}
-use native.Mathlib.Omega.{arith}
 use Rattle.dossier.proofs.AskLaws.{in-count, first-sets}
 use Rattle.dossier.proofs.AnswerLaws.{agree-heads, agree-match}
 use Rattle.dossier.proofs.questions.dossiers_agree.Statement.{statement}
 use Rattle.dossier.proofs.questions.dossiers_agree.Tie as tie
-
--- ---- the places
-
-abbrev to-start : tie.After-heads-agree → tie.Start
-to-start c = c .before .before .before .before .before .before .before
-
-abbrev to-heads : tie.After-is-match-same-arg4 → tie.Else1
-to-heads c = c .before .before .before .before .before
-
--- ---- the needs
 
 heads-agree-requires : tie.Need-heads-agree-requires
 heads-agree-requires c κs = search needs
@@ -45,9 +34,9 @@ is-match-same-requires c κs = search needs
 
 returns-2 : tie.Need-returns-2
 returns-2 c = λ u ty tz h g w x y l r e.
-    let agreed = to-heads (c .before) in
+    let agreed = c .before .before .before in
     let heads = agreed .before .heads-agree .ensures _ _ (x .head) (y .head) in
-    let matches = c .is-match-same .ensures u ty _ _ (w .are) (first-sets _ h _ x _ l) (first-sets _ g _ y _ r) in
+    let matches = c .is-match-same .ensures u ty _ _ w (first-sets _ h _ x _ l) (first-sets _ g _ y _ r) in
     agree-match ty tz h g heads (not-false _ (agreed .if1 .left)) (in-count _ h _ x 0 (x .one)) (in-count _ g _ y 0 (y .one)) e matches
 
 pub dossiers-agree-spec : {M : Type 1} → statement M

@@ -5,6 +5,7 @@ use mathlib.Core.Option.{some}
 use mathlib.Core.List.{List}
 use Prim.Native.Nat.{ℕ}
 use denote.Ref.{now}
+use lib.ListN.{length}
 use borrow.Author.Tests.{not-true, not-false}
 use Rattle.model.specs.Order.{Text}
 use Rattle.ontology.specs.Table.{typeNamed}
@@ -21,26 +22,29 @@ use Rattle.event.proofs.ask.ask_typed.Tie as tie
 
 -- ---- the places
 
+abbrev entry : tie.After-struct-known → tie.Start
+entry c = c .before .before .before .before
+
 abbrev to-start : tie.Else1 → tie.Start
-to-start c = c .before .before .before
+to-start c = entry (c .before)
 
 abbrev to-table : tie.After-read-event → tie.Else1
-to-table c = c .before .before .before
+to-table c = c .before .before .before .before
 
-abbrev to-event : tie.Else2 → tie.After-read-event
-to-event c = c .before
+abbrev to-event : tie.After-struct-known2 → tie.After-read-event
+to-event c = c .before .before .before
 
 abbrev to-right : tie.Else3 → tie.Else2
 to-right c = c .before .before
 
 abbrev to-typed : tie.After-shape-ok → tie.Else3
-to-typed c = c .before .before .before .before .before .before .before .before
+to-typed c = c .before .before .before
 
 abbrev to-shape : tie.After-sets-in-space → tie.Else4
-to-shape c = c .before .before .before .before .before .before .before
+to-shape c = c .before .before
 
 abbrev of-event : tie.Else3 → tie.After-read-event
-of-event c = to-event (to-right c)
+of-event c = to-event (to-right c .before)
 
 abbrev of-start : tie.Else3 → tie.Start
 of-start c = to-start (to-table (of-event c))
@@ -54,30 +58,44 @@ module _ (c : tie.Start) where
   abbrev event : List ℕ
   event = now (c .args .event)
 
+  -- the numbers of the type's properties
+  abbrev ps : List ℕ
+  ps = now (c .args .properties)
+
   record Given (table : List ℕ) (name : Text) : Type 0 where
-    says : TableSays (tableOf table) table name (c .args .read)
+    says : TableSays (tableOf table) table name ps (c .args .read)
     names : (e : Event) → eventOf counts event ≡ some e → name ≡ e .head .type
+
+-- where the event's sets stand
+abbrev ats : tie.After-read-event → List ℕ
+ats c = c .read-event .last .1 .1 .1 .0
 
 -- ---- the facts, each where it first holds
 
 module _ (c : tie.Else1) {table : List ℕ} {name : Text} (g : Given (to-start c) table name) where
-  table-right : TableGot table name (to-start c .args .read)
-  table-right = table-got _ _ _ (g .says) (not-false _ (c .if1 .left))
+  table-right : TableGot table name (ps (to-start c)) (to-start c .args .read)
+  table-right = table-got _ _ _ _ (g .says) (not-false _ (c .if1 .left))
 
   type-said :
       (e : Event) → eventOf (counts (to-start c)) (event (to-start c)) ≡ some e →
-      TypeSays (typeNamed (e .head .type) (table-right .what)) table (to-start c .args .read)
-  type-said = type-of-event _ _ (counts (to-start c)) _ (table-right .is) _ _ (table-right .says) (g .names)
+      TypeSays (typeNamed (e .head .type) (table-right .what)) table (ps (to-start c)) (to-start c .args .read)
+  type-said = type-of-event _ _ _ (counts (to-start c)) _ (table-right .is) _ _ (table-right .says) (g .names)
 
-reads : (c : tie.After-read-event) → let s = to-start (to-table c) in EventReads (eventOf (counts s) (event s)) (event s) (c .read-event .result)
-reads c = with-counts _ _ _ _ _ (c .before .before .most-parents .ensures) (c .before .most-objects .ensures) (c .read-event .ensures)
+reads : (c : tie.After-read-event) → let s = to-start (to-table c) in EventReads (eventOf (counts s) (event s)) (event s) (ats c) (c .read-event .result)
+reads c =
+    let counted = c .before .before in
+    with-counts _ _ _ _ _ _ (counted .before .most-parents .ensures) (counted .most-objects .ensures) (c .read-event .ensures)
+
+-- they are as many numbers as were lent
+sets-long : (c : tie.After-read-event) → length (ats c) ≡ 96
+sets-long c = search needs
 
 has-type :
     (c : tie.Else3) {table : List ℕ} {name : Text} → let e = of-event c in let s = of-start c in
-    (g : Given s table name) → Met table (table-right (to-table e) g .what) (event s) (counts s) (s .args .read) (e .read-event .result)
+    (g : Given s table name) → Met table (table-right (to-table e) g .what) (event s) (ps s) (ats e) (counts s) (s .args .read) (e .read-event .result)
 has-type c g =
     let t = to-table (of-event c) in
-    met _ _ _ (counts (of-start c)) _ (reads (of-event c)) (not-false _ (to-right c .if2 .left)) _
+    met _ _ _ _ _ (counts (of-start c)) _ (reads (of-event c)) (not-false _ (to-right c .if2 .left)) _
     (type-said t g) (table-right t g .is) (not-false _ (c .if3 .left))
 
 shape-right :
@@ -95,8 +113,8 @@ refused-with-requires c κs = search needs
 returns : tie.Need-returns
 returns c = λ table name says names.
     let bad = c .before in
-    let start = bad .before .before .before in
-    no-table _ _ (counts start) _ _ says _ (not-true _ (bad .if1 .taken)) (c .refused-with .ensures)
+    let start = entry (bad .before) in
+    no-table _ _ _ _ (counts start) _ _ says _ (not-true _ (bad .if1 .taken)) (c .refused-with .ensures)
 
 most-parents-requires : tie.Need-most-parents-requires
 most-parents-requires c κs = search needs
@@ -110,27 +128,33 @@ read-event-requires c κs = search needs
 refused-with-requires-2 : tie.Need-refused-with-requires-2
 refused-with-requires-2 c κs = search needs
 
+same-length : tie.Need-same-length
+same-length c = search needs
+
 returns-2 : tie.Need-returns-2
 returns-2 c = λ table name says names.
     let unread = c .before in
-    let e = unread .before in
+    let e = to-event (unread .before) in
     let s = to-start (to-table e) in
     let t = table-right (to-table e) (record { says = says; names = names }) in
-    with-table _ _ (counts s) _ (t .is) _
-    (no-event table _ _ (counts s) _ (reads e) _ (not-true _ (unread .if2 .taken)) (c .refused-with2 .ensures))
+    with-table _ _ _ (counts s) _ (t .is) _ _
+    (no-event table _ _ _ _ (counts s) _ (reads e) _ (not-true _ (unread .if2 .taken)) (c .refused-with2 .ensures))
 
 refused-with-requires-3 : tie.Need-refused-with-requires-3
 refused-with-requires-3 c κs = search needs
+
+same-length-2 : tie.Need-same-length-2
+same-length-2 c = search needs
 
 returns-3 : tie.Need-returns-3
 returns-3 c = λ table name says names.
     let untyped = c .before in
     let right = untyped .before .before in
-    let e = to-event right in
+    let e = to-event (right .before) in
     let s = to-start (to-table e) in
     let g : Given s table name = record { says = says; names = names } in
-    with-table _ _ (counts s) _ (table-right (to-table e) g .is) _
-    (no-type table _ _ (counts s) _ (reads e) (not-false _ (right .if2 .left)) _ (type-said (to-table e) g) _
+    with-table _ _ _ (counts s) _ (table-right (to-table e) g .is) _ _
+    (no-type table _ _ _ _ (counts s) _ (reads e) (not-false _ (right .if2 .left)) _ (type-said (to-table e) g) _
     (not-true _ (untyped .if3 .taken)) (c .refused-with3 .ensures))
 
 shape-ok-requires : tie.Need-shape-ok-requires
@@ -139,6 +163,9 @@ shape-ok-requires c κs = search needs
 refused-with-requires-4 : tie.Need-refused-with-requires-4
 refused-with-requires-4 c κs = search needs
 
+same-length-3 : tie.Need-same-length-3
+same-length-3 c = search needs
+
 returns-4 : tie.Need-returns-4
 returns-4 c = λ table name says names.
     let unshaped = c .before in
@@ -146,16 +173,21 @@ returns-4 c = λ table name says names.
     let typed = to-typed asked in
     let g : Given (of-start typed) table name = record { says = says; names = names } in
     let m = has-type typed g in
-    with-table _ _ (counts (of-start typed)) _ (table-right (to-table (of-event typed)) g .is) _
-    (no-shape table _ _ _ _ _ m _
+    with-table _ _ _ (counts (of-start typed)) _ (table-right (to-table (of-event typed)) g .is) _ _
+    (no-shape table _ _ _ _ _ _ _ m _
     (sym (not-true _ (unshaped .if4 .taken)) ∙ asked .shape-ok .ensures _ _ (m .type) (m .e) (m .type-is .are) (m .event-is .sets) (m .event-is .objects))
     (c .refused-with4 .ensures))
 
 sets-in-space-requires : tie.Need-sets-in-space-requires
-sets-in-space-requires c κs = search needs
+sets-in-space-requires c κs =
+    let typed = to-typed (c .before .before) in
+    (sets-long (of-event typed), of-start typed .pre .0)
 
 refused-with-requires-5 : tie.Need-refused-with-requires-5
 refused-with-requires-5 c κs = search needs
+
+same-length-4 : tie.Need-same-length-4
+same-length-4 c = search needs
 
 returns-5 : tie.Need-returns-5
 returns-5 c = λ table name says names.
@@ -165,10 +197,13 @@ returns-5 c = λ table name says names.
     let typed = to-typed (shaped .before) in
     let g : Given (of-start typed) table name = record { says = says; names = names } in
     let m = has-type typed g in
-    with-table _ _ (counts (of-start typed)) _ (table-right (to-table (of-event typed)) g .is) _
-    (no-values table _ _ _ _ _ m _ (shape-right shaped g)
+    with-table _ _ _ (counts (of-start typed)) _ (table-right (to-table (of-event typed)) g .is) _ _
+    (no-values table _ _ _ _ _ _ _ m _ (shape-right shaped g)
     (sym (not-true _ (outside .if5 .taken)) ∙ asked .sets-in-space .ensures _ (m .type) (m .e .sets) (m .type-is .are) (m .kinds) (m .event-is .sets))
     (c .refused-with5 .ensures))
+
+same-length-5 : tie.Need-same-length-5
+same-length-5 c = search needs
 
 returns-6 : tie.Need-returns-6
 returns-6 c = λ table name says names.
@@ -177,8 +212,8 @@ returns-6 c = λ table name says names.
     let typed = to-typed (shaped .before) in
     let g : Given (of-start typed) table name = record { says = says; names = names } in
     let m = has-type typed g in
-    with-table _ _ (counts (of-start typed)) _ (table-right (to-table (of-event typed)) g .is) _
-    (all-met table _ _ _ _ _ m _ (shape-right shaped g)
+    with-table _ _ _ (counts (of-start typed)) _ (table-right (to-table (of-event typed)) g .is) _ _
+    (all-met table _ _ _ _ _ _ _ m _ (shape-right shaped g)
     (sym (not-false _ (c .if5 .left)) ∙ asked .sets-in-space .ensures _ (m .type) (m .e .sets) (m .type-is .are) (m .kinds) (m .event-is .sets))
     refl (m .type-is) (m .event-is))
 
@@ -192,13 +227,18 @@ ask-typed-spec =
     most-objects-requires
     read-event-requires
     refused-with-requires-2
+    same-length
     returns-2
     refused-with-requires-3
+    same-length-2
     returns-3
     shape-ok-requires
     refused-with-requires-4
+    same-length-3
     returns-4
     sets-in-space-requires
     refused-with-requires-5
+    same-length-4
     returns-5
+    same-length-5
     returns-6)

@@ -3,9 +3,11 @@ use Prim.Native.Nat.{ℕ, _+_}
 use native.Mathlib.Nat.{add-comm}
 use mathlib.Core.Path.{_≡_, sym, ap, _∙_}
 use mathlib.Core.List.{List}
+use denote.Ref.{now}
 use Rattle.event.specs.EventLayout.{wide}
 use Rattle.event.specs.Value.{Part, Lent, lentFrom}
-use Rattle.event.proofs.AskLaws.{accepted-is, refused-is, found-value, found-none, value-refused, value-missing, value-is}
+use Rattle.event.specs.code.EventIndex.{ValueFound, ValueStands}
+use Rattle.event.proofs.AskLaws.{Accepted, accepted-is, refused-is, found-value, found-none, value-refused, value-missing, value-is}
 use Rattle.event.proofs.ask.value.Statement.{statement}
 use Rattle.event.proofs.ask.value.Tie as tie
 
@@ -14,6 +16,64 @@ lent-is :
     {x : Part} {bytes : List ℕ} {start : ℕ} (at : ℕ × ℕ) → x ≡ record { bytes = bytes; start = start } →
     _≡_ {A = Lent} (bytes, (at .0, start + at .1)) (lentFrom at x)
 lent-is {bytes} {start} at e = ap (λ (n : ℕ). (bytes, (at .0, n))) (add-comm start (at .1)) ∙ ap (lentFrom at) (sym e)
+
+-- ---- the places
+
+abbrev to-start : tie.After-ask-event → tie.Start
+to-start c = c .before .before .before .before .before
+
+abbrev to-asked : tie.After-struct-known → tie.After-ask-event
+to-asked c = c .before .before .before
+
+abbrev to-taken : tie.After-find-value → tie.Else1
+to-taken c = c .before .before .before
+
+abbrev of-start : tie.After-find-value → tie.Start
+of-start c = to-start (to-asked (to-taken c .before))
+
+-- ---- the values
+
+module _ (c : tie.Start) where
+  abbrev table : List ℕ
+  table = now (c .args .table)
+
+  abbrev event : List ℕ
+  event = now (c .args .event)
+
+module _ (c : tie.After-ask-event) where
+  -- the numbers of the type's properties
+  abbrev ps : List ℕ
+  ps = c .ask-event .last .1 .1 .1 .0
+
+  -- where the event's sets stand
+  abbrev ats : List ℕ
+  ats = c .ask-event .last .1 .1 .1 .1 .0
+
+-- ---- the facts
+
+abbrev accepted : (c : tie.Else1) →
+    let asked = to-asked (c .before) in let s = to-start asked in
+    Accepted wide (table s) (event s) (ps asked) (ats asked) (asked .ask-event .result)
+accepted c = accepted-is wide _ _ _ _ _ (to-asked (c .before) .ask-event .ensures) (c .if1 .left)
+
+found : (c : tie.After-find-value) →
+    let a = of-start c .args in
+    ValueFound (event (of-start c)) (accepted (to-taken c) .e) (a .place) (a .index) (c .find-value .result)
+found c = c .find-value .ensures (accepted (to-taken c) .e) (accepted (to-taken c) .event-is)
+
+-- where the value stands
+stands : (c : tie.After-start) →
+    let at-find = c .before .before in let a = of-start at-find .args in
+    ValueStands (event (of-start at-find)) (accepted (to-taken at-find) .e) (a .place) (a .index) (c .start .given .0 .0) (c .start .given .0 .1 .0)
+stands c = found-value (c .start .given .1) (found (c .before .before))
+
+-- ---- the needs
+
+slice-aggregate-ask-event : tie.Need-slice-aggregate-ask-event
+slice-aggregate-ask-event c = search needs
+
+slice-aggregate-ask-event-2 : tie.Need-slice-aggregate-ask-event-2
+slice-aggregate-ask-event-2 c = search needs
 
 ask-event-requires : tie.Need-ask-event-requires
 ask-event-requires c κs = search needs
@@ -29,9 +89,13 @@ part-result-end c = search needs
 
 returns : tie.Need-returns
 returns c =
-    let b = c .before .before .before .before .before .before .args in
-    let q = refused-is wide _ _ _ (c .before .before .before .ask-event .ensures) (c .before .if1 .taken) in
-    lent-is (b .event .ptr) (value-refused _ _ (b .place) (b .index) _ q)
+    let refused = c .before in
+    let asked = to-asked (refused .before) in
+    let a = to-start asked .args in
+    lent-is (a .event .ptr) (value-refused _ _ (a .place) (a .index) _ (refused-is wide _ _ _ _ _ (asked .ask-event .ensures) (refused .if1 .taken)))
+
+slice-aggregate-find-value : tie.Need-slice-aggregate-find-value
+slice-aggregate-find-value c = search needs
 
 find-value-requires : tie.Need-find-value-requires
 find-value-requires c κs = search needs
@@ -40,22 +104,13 @@ enum-known-start : tie.Need-enum-known-start
 enum-known-start c = search needs
 
 sub-result-2 : tie.Need-sub-result-2
-sub-result-2 c =
-    let k = c .before .before .before .before .before in
-    let a = accepted-is wide _ _ _ (k .before .before .ask-event .ensures) (k .if1 .left) in
-    found-value (c .before .start .given .1) (c .before .before .before .find-value .ensures (a .e) (a .event-is)) .order
+sub-result-2 c = stands (c .before) .order
 
 part-result-start-2 : tie.Need-part-result-start-2
-part-result-start-2 c =
-    let k = c .before .before .before .before .before in
-    let a = accepted-is wide _ _ _ (k .before .before .ask-event .ensures) (k .if1 .left) in
-    found-value (c .before .start .given .1) (c .before .before .before .find-value .ensures (a .e) (a .event-is)) .order
+part-result-start-2 c = stands (c .before) .order
 
 part-result-end-2 : tie.Need-part-result-end-2
-part-result-end-2 c =
-    let k = c .before .before .before .before .before in
-    let a = accepted-is wide _ _ _ (k .before .before .ask-event .ensures) (k .if1 .left) in
-    found-value (c .before .start .given .1) (c .before .before .before .find-value .ensures (a .e) (a .event-is)) .within
+part-result-end-2 c = stands (c .before) .within
 
 enum-told : tie.Need-enum-told
 enum-told c = search needs
@@ -71,30 +126,32 @@ part-result-end-3 c = search needs
 
 returns-2 : tie.Need-returns-2
 returns-2 c =
-    let k = c .before .before .before .before .before .before in
-    let b = k .before .before .before .before .before .args in
-    let a = accepted-is wide _ _ _ (k .before .before .ask-event .ensures) (k .if1 .left) in
-    let v = found-value (c .before .before .start .given .1) (c .before .before .before .before .find-value .ensures (a .e) (a .event-is)) in
-    lent-is (b .event .ptr) (value-is _ _ (b .place) (b .index) _ a _ _ v)
+    let here = c .before .before in
+    let at-find = here .before .before in
+    let a = of-start at-find .args in
+    lent-is (a .event .ptr) (value-is _ _ (a .place) (a .index) _ _ _ (accepted (to-taken at-find)) _ _ (stands here))
 
 returns-3 : tie.Need-returns-3
 returns-3 c =
-    let k = c .before .before .before .before .before in
-    let b = k .before .before .before .before .before .args in
-    let a = accepted-is wide _ _ _ (k .before .before .ask-event .ensures) (k .if1 .left) in
-    let f = c .before .before .before .find-value .ensures (a .e) (a .event-is) in
-    let n = found-none (b .event .now) (a .e) (b .place) (b .index) (c .before .enum-told .given .1) f in
-    lent-is (b .event .ptr) (value-missing _ _ (b .place) (b .index) _ a n)
+    let none-told = c .before in
+    let at-find = none-told .before .before in
+    let a = of-start at-find .args in
+    let known = accepted (to-taken at-find) in
+    let none-there = found-none (event (of-start at-find)) (known .e) (a .place) (a .index) (none-told .enum-told .given .1) (found at-find) in
+    lent-is (a .event .ptr) (value-missing _ _ (a .place) (a .index) _ _ _ known none-there)
 
 pub value-spec : {M : Type 1} → statement M
 value-spec =
     tie.close
     (tie.spec
+    slice-aggregate-ask-event
+    slice-aggregate-ask-event-2
     ask-event-requires
     sub-result
     part-result-start
     part-result-end
     returns
+    slice-aggregate-find-value
     find-value-requires
     enum-known-start
     sub-result-2

@@ -1,5 +1,5 @@
 use borrow.Author.Needs.{needs}
-use mathlib.Core.Path.{refl, sym, _∙_}
+use mathlib.Core.Path.{sym, _∙_}
 use lib.ListN.{drop}
 use Rattle.packed.proofs.ReadLaws.{NumberStops, number-stops, number-none}
 use Rattle.event.specs.Head.{readHead}
@@ -14,16 +14,19 @@ use Rattle.event.proofs.read.read_event.Tie as tie
 -- ---- the places
 
 abbrev to-start : tie.After-known-told → tie.Start
-to-start c = c .before .before .before .before .before
+to-start c = c .before .before .before .before .before .before
 
 abbrev to-head : tie.After-known-told2 → tie.After-known-told
 to-head c = c .before .before .before .before .before
 
-abbrev to-presence : tie.After-sets2 → tie.Else1
-to-presence c = c .before .before .before
+abbrev to-presence : tie.After-read-sets → tie.Else1
+to-presence c = c .before .before
 
-abbrev to-sets : tie.After-known-told3 → tie.After-sets2
-to-sets c = c .before .before .before
+abbrev to-read : tie.After-slice-known2 → tie.After-read-sets
+to-read c = c .before .before
+
+abbrev to-sets : tie.After-known-told3 → tie.After-read-sets
+to-sets c = to-read (c .before .before .before)
 
 -- ---- the facts
 
@@ -42,8 +45,8 @@ sets : (c : tie.After-known-told3) →
     let at-presence = to-presence (to-sets c) .before in
     let s = to-start (to-head at-presence) .args .s .now in
     SetsStop (readSets 32 (at-presence .before .presence .given .0 .0) (drop (at-presence .before .presence .given .0 .1 .0) s)) s
-    (to-sets c .before .read-sets .last .1 .1 .1 .1 .0) (c .before .next .given .0 .0) (c .before .next .given .0 .1 .0)
-sets c = sets-read (c .before .next .given .1) (to-sets c .before .read-sets .ensures)
+    (to-sets c .read-sets .last .1 .1 .1 .1 .0) (c .before .next .given .0 .0) (c .before .next .given .0 .1 .0)
+sets c = sets-read (c .before .next .given .1) (to-sets c .read-sets .ensures)
 
 -- ---- the needs
 
@@ -62,7 +65,7 @@ no-event-requires c κs = search needs
 returns : tie.Need-returns
 returns c =
     let at-head = c .before .before .before in
-    event-none _ _ _ (no-head _ _ (head-refused _ (c .before .enum-told .given .1) (at-head .read-head .ensures))) (c .no-event .ensures)
+    event-none _ _ _ _ (no-head _ _ (head-refused _ (c .before .enum-told .given .1) (at-head .read-head .ensures))) (c .no-event .ensures)
 
 read-number-requires : tie.Need-read-number-requires
 read-number-requires c κs = search needs
@@ -80,7 +83,7 @@ returns-2 : tie.Need-returns-2
 returns-2 c =
     let at-number = c .before .before .before in
     let none-there = number-none _ _ (sym (at-number .read-number .ensures) ∙ c .before .enum-told2 .given .1) in
-    event-none _ _ _ (no-presence _ _ _ (head (at-number .before .before)) none-there) (c .no-event2 .ensures)
+    event-none _ _ _ _ (no-presence _ _ _ (head (at-number .before .before)) none-there) (c .no-event2 .ensures)
 
 no-event-requires-3 : tie.Need-no-event-requires-3
 no-event-requires-3 c κs = search needs
@@ -88,13 +91,10 @@ no-event-requires-3 c κs = search needs
 returns-3 : tie.Need-returns-3
 returns-3 c =
     let here = c .before .before in
-    event-none _ _ _ (presence-large _ _ _ (head (to-head here)) _ _ (presence here) (c .before .if1 .taken)) (c .no-event3 .ensures)
-
-slice-aggregate-read-sets : tie.Need-slice-aggregate-read-sets
-slice-aggregate-read-sets c = search needs
+    event-none _ _ _ _ (presence-large _ _ _ (head (to-head here)) _ _ (presence here) (c .before .if1 .taken)) (c .no-event3 .ensures)
 
 read-sets-requires : tie.Need-read-sets-requires
-read-sets-requires c κs = (presence (c .before .before) .within, refl, not-promised _)
+read-sets-requires c κs = let at-presence = c .before .before in (presence at-presence .within, to-start (to-head at-presence) .pre, not-promised _)
 
 enum-known-next : tie.Need-enum-known-next
 enum-known-next c = search needs
@@ -105,25 +105,34 @@ enum-told-3 c = search needs
 no-event-requires-4 : tie.Need-no-event-requires-4
 no-event-requires-4 c κs = search needs
 
+same-length : tie.Need-same-length
+same-length c = search needs
+
 returns-4 : tie.Need-returns-4
 returns-4 c =
-    let at-sets = c .before .before .before in
+    let at-sets = to-read (c .before .before .before) in
     let here = to-presence at-sets in
-    let none-there = sets-refused _ _ (c .before .enum-told3 .given .1) (at-sets .before .read-sets .ensures) in
-    event-none _ _ _ (no-sets _ _ _ (head (to-head (here .before))) _ _ (presence (here .before)) (here .if1 .left) none-there) (c .no-event4 .ensures)
+    let none-there = sets-refused _ _ (c .before .enum-told3 .given .1) (at-sets .read-sets .ensures) in
+    event-none _ _ _ _ (no-sets _ _ _ (head (to-head (here .before))) _ _ (presence (here .before)) (here .if1 .left) none-there) (c .no-event4 .ensures)
 
 no-event-requires-5 : tie.Need-no-event-requires-5
 no-event-requires-5 c κs = search needs
+
+same-length-2 : tie.Need-same-length-2
+same-length-2 c = search needs
 
 returns-5 : tie.Need-returns-5
 returns-5 c =
     let at-sets = c .before .before in
     let here = to-presence (to-sets at-sets) in
     let passed = early _ _ _ (head (to-head (here .before))) _ _ (presence (here .before)) (here .if1 .left) _ _ _ (sets at-sets) (c .before .if2 .taken) in
-    event-none _ _ _ passed (c .no-event5 .ensures)
+    event-none _ _ _ _ passed (c .no-event5 .ensures)
 
 no-event-requires-6 : tie.Need-no-event-requires-6
 no-event-requires-6 c κs = search needs
+
+same-length-3 : tie.Need-same-length-3
+same-length-3 c = search needs
 
 returns-6 : tie.Need-returns-6
 returns-6 c =
@@ -132,7 +141,10 @@ returns-6 c =
     let large =
     many _ _ _ (head (to-head (here .before))) _ _ (presence (here .before)) (here .if1 .left) _ _ _ (sets (at-end .before)) (at-end .if2 .left)
     (c .before .if3 .taken) in
-    event-none _ _ _ large (c .no-event6 .ensures)
+    event-none _ _ _ _ large (c .no-event6 .ensures)
+
+same-length-4 : tie.Need-same-length-4
+same-length-4 c = search needs
 
 returns-7 : tie.Need-returns-7
 returns-7 c =
@@ -157,14 +169,17 @@ read-event-spec =
     returns-2
     no-event-requires-3
     returns-3
-    slice-aggregate-read-sets
     read-sets-requires
     enum-known-next
     enum-told-3
     no-event-requires-4
+    same-length
     returns-4
     no-event-requires-5
+    same-length-2
     returns-5
     no-event-requires-6
+    same-length-3
     returns-6
+    same-length-4
     returns-7)

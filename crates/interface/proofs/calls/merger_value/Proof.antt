@@ -1,17 +1,83 @@
 use borrow.Author.Needs.{needs}
+use Prim.Native.Nat.{ℕ}
+use mathlib.Core.List.{List}
+use denote.Ref.{now}
 use Rattle.event.specs.EventLayout.{wide}
-use Rattle.event.proofs.AskLaws.{accepted-is, refused-is, found-value, found-none, value-refused, value-missing, value-is}
+use Rattle.event.specs.code.EventIndex.{ValueFound, ValueStands}
+use Rattle.event.proofs.AskLaws.{Accepted, accepted-is, refused-is, found-value, found-none, value-refused, value-missing, value-is}
 use Rattle.interface.proofs.PackingLaws.{part-none, part-packed}
 use Rattle.interface.proofs.calls.merger_value.Statement.{statement}
 use Rattle.interface.proofs.calls.merger_value.Tie as tie
+
+-- ---- the places
+
+abbrev to-start : tie.After-ask-event → tie.Start
+to-start c = c .before .before .before .before .before
+
+abbrev to-asked : tie.After-struct-known → tie.After-ask-event
+to-asked c = c .before .before .before
+
+abbrev to-taken : tie.After-find-value → tie.Else1
+to-taken c = c .before .before .before
+
+abbrev of-start : tie.After-find-value → tie.Start
+of-start c = to-start (to-asked (to-taken c .before))
+
+-- ---- the values
+
+module _ (c : tie.Start) where
+  abbrev table : List ℕ
+  table = now (c .args .table)
+
+  abbrev event : List ℕ
+  event = now (c .args .event)
+
+module _ (c : tie.After-ask-event) where
+  -- the numbers of the type's properties
+  abbrev ps : List ℕ
+  ps = c .ask-event .last .1 .1 .1 .0
+
+  -- where the event's sets stand
+  abbrev ats : List ℕ
+  ats = c .ask-event .last .1 .1 .1 .1 .0
+
+-- ---- the facts
+
+abbrev accepted : (c : tie.Else1) →
+    let asked = to-asked (c .before) in let s = to-start asked in
+    Accepted wide (table s) (event s) (ps asked) (ats asked) (asked .ask-event .result)
+accepted c = accepted-is wide _ _ _ _ _ (to-asked (c .before) .ask-event .ensures) (c .if1 .left)
+
+found : (c : tie.After-find-value) →
+    let a = of-start c .args in
+    ValueFound (event (of-start c)) (accepted (to-taken c) .e) (a .place) (a .index) (c .find-value .result)
+found c = c .find-value .ensures (accepted (to-taken c) .e) (accepted (to-taken c) .event-is)
+
+-- where the value stands
+stands : (c : tie.After-start) →
+    let at-find = c .before .before in let a = of-start at-find .args in
+    ValueStands (event (of-start at-find)) (accepted (to-taken at-find) .e) (a .place) (a .index) (c .start .given .0 .0) (c .start .given .0 .1 .0)
+stands c = found-value (c .start .given .1) (found (c .before .before))
+
+-- ---- the needs
+
+slice-aggregate-ask-event : tie.Need-slice-aggregate-ask-event
+slice-aggregate-ask-event c = search needs
+
+slice-aggregate-ask-event-2 : tie.Need-slice-aggregate-ask-event-2
+slice-aggregate-ask-event-2 c = search needs
 
 ask-event-requires : tie.Need-ask-event-requires
 ask-event-requires c κs = search needs
 
 returns : tie.Need-returns
 returns c =
-    let b = c .before .before .before .before .before .args in
-    part-none (value-refused _ _ (b .place) (b .index) _ (refused-is wide _ _ _ (c .before .before .ask-event .ensures) (c .if1 .taken)))
+    let asked = to-asked (c .before) in
+    let a = to-start asked .args in
+    part-none (value-refused _ _ (a .place) (a .index) _ (refused-is wide _ _ _ _ _ (asked .ask-event .ensures) (c .if1 .taken)))
+
+slice-aggregate-find-value : tie.Need-slice-aggregate-find-value
+slice-aggregate-find-value c = search needs
 
 find-value-requires : tie.Need-find-value-requires
 find-value-requires c κs = search needs
@@ -20,9 +86,7 @@ enum-known-start : tie.Need-enum-known-start
 enum-known-start c = search needs
 
 sub-result : tie.Need-sub-result
-sub-result c =
-    let a = accepted-is wide _ _ _ (c .before .before .before .before .before .before .before .ask-event .ensures) (c .before .before .before .before .before .if1 .left) in
-    found-value (c .before .start .given .1) (c .before .before .before .find-value .ensures (a .e) (a .event-is)) .order
+sub-result c = stands (c .before) .order
 
 mul-result : tie.Need-mul-result
 mul-result c = search needs
@@ -35,23 +99,28 @@ enum-told c = search needs
 
 returns-2 : tie.Need-returns-2
 returns-2 c =
-    let b = c .before .before .before .before .before .before .before .before .before .before .args in
-    let a = accepted-is wide _ _ _ (c .before .before .before .before .before .before .before .ask-event .ensures) (c .before .before .before .before .before .if1 .left) in
-    let v = found-value (c .before .start .given .1) (c .before .before .before .find-value .ensures (a .e) (a .event-is)) in
-    part-packed v (value-is _ _ (b .place) (b .index) _ a _ _ v)
+    let here = c .before in
+    let at-find = here .before .before in
+    let a = of-start at-find .args in
+    part-packed (stands here) (value-is _ _ (a .place) (a .index) _ _ _ (accepted (to-taken at-find)) _ _ (stands here))
 
 returns-3 : tie.Need-returns-3
 returns-3 c =
-    let b = c .before .before .before .before .before .before .before .before .before .args in
-    let a = accepted-is wide _ _ _ (c .before .before .before .before .before .before .ask-event .ensures) (c .before .before .before .before .if1 .left) in
-    part-none (value-missing _ _ (b .place) (b .index) _ a (found-none (b .event .now) (a .e) (b .place) (b .index) (c .enum-told .given .1) (c .before .before .find-value .ensures (a .e) (a .event-is))))
+    let at-find = c .before .before in
+    let a = of-start at-find .args in
+    let known = accepted (to-taken at-find) in
+    let none-there = found-none (event (of-start at-find)) (known .e) (a .place) (a .index) (c .enum-told .given .1) (found at-find) in
+    part-none (value-missing _ _ (a .place) (a .index) _ _ _ known none-there)
 
 pub merger-value-spec : {M : Type 1} → statement M
 merger-value-spec =
     tie.close
     (tie.spec
+    slice-aggregate-ask-event
+    slice-aggregate-ask-event-2
     ask-event-requires
     returns
+    slice-aggregate-find-value
     find-value-requires
     enum-known-start
     sub-result

@@ -1,6 +1,6 @@
 use Rattle.model.specs.Order.{texts, rising}
 use Rattle.ontology.specs.Table.{Property, namesRise}
-use Rattle.ontology.specs.code.TypeIndex.{propertyIn, PropertiesAre}
+use Rattle.ontology.specs.code.TypeIndex.{PropertiesAre}
 use Rattle.ontology.proofs.RuleLaws.{is-place, names-order, rise-not, rise-more, rise-end}
 use Prim.Native.Nat.{_-_, _≤_, _<_}
 use mathlib.Core.Path.{_≡_, refl, sym, _∙_}
@@ -36,8 +36,8 @@ property-at-requires c κs = (to-start (c .before) .pre .0, omega (arith, to-sta
 property-at-requires-2 : tie.Need-property-at-requires-2 Inv-loop μ-loop
 property-at-requires-2 c κs = (to-start (c .before .before) .pre .0, omega (arith, to-start (c .before .before) .pre .1 .are .few))
 
-is-before-requires : tie.Need-is-before-requires Inv-loop μ-loop
-is-before-requires c κs =
+name-before-requires : tie.Need-name-before-requires Inv-loop μ-loop
+name-before-requires c κs =
     let turn = c .before .before in
     let l = turn .before .loop in
     let w = to-start (turn .before) .pre .1 .are in
@@ -52,7 +52,7 @@ returns c = λ qs w.
     let turn = compared .before .before .before in
     let l = turn .before .loop in
     let unordered = names-order _ qs _ _ w (l .k) (compared .before .before .property-at .ensures) (compared .before .property-at2 .ensures)
-    (compared .is-before .ensures) in
+    (compared .name-before .ensures) in
     sym (l .inv .1 qs w ∙ rise-not _ qs _ _ w (l .k) (l .inv .0) (turn .loop-test .taken) (sym unordered ∙ not-true _ (c .if1 .taken)))
 
 add-k : tie.Need-add-k Inv-loop μ-loop
@@ -69,7 +69,7 @@ loop-again c =
       omega arith,
       λ qs w.
           let ordered = names-order _ qs _ _ w (l .k) (compared .before .before .property-at .ensures) (compared .before .property-at2 .ensures)
-          (compared .is-before .ensures) in
+          (compared .name-before .ensures) in
           l .inv .1 qs w ∙ rise-more _ qs _ _ w (l .k) (l .inv .0) (turn .loop-test .taken) (sym ordered ∙ not-false _ (c .if1 .left)),
     )
 
@@ -86,7 +86,7 @@ names-rise-spec =
     sub-property-at
     property-at-requires
     property-at-requires-2
-    is-before-requires
+    name-before-requires
     returns
     add-k
     loop-less

@@ -1,9 +1,68 @@
+use Rattle.packed.specs.Parse.{times}
+use Rattle.ontology.specs.TableLayout.{readProperty}
+use Rattle.ontology.specs.code.TypeIndex.{HeadStops, PropertiesStop}
 use Rattle.ontology.proofs.TypeLaws.{head-got, head-fail, properties-got, properties-fail, type-none, type-short, type-reads}
+use Prim.Native.Nat.{ℕ}
 use mathlib.Core.Path.{refl}
-use native.Mathlib.Omega.{arith}
+use mathlib.Core.List.{List}
+use lib.ListN.{drop}
 use borrow.Author.Needs.{needs}
 use Rattle.ontology.proofs.types.read_type.Statement.{statement}
 use Rattle.ontology.proofs.types.read_type.Tie as tie
+
+-- ---- the places
+
+abbrev to-start : tie.After-read-head → tie.Start
+to-start c = c .before .before .before .before
+
+abbrev to-head : tie.After-start → tie.After-read-head
+to-head c = c .before .before
+
+abbrev to-told : tie.After-read-properties → tie.After-known-told
+to-told c = c .before .before
+
+abbrev to-read : tie.After-slice-known2 → tie.After-read-properties
+to-read c = c .before .before
+
+abbrev to-filled : tie.After-after → tie.After-slice-known2
+to-filled c = c .before .before
+
+-- ---- the values
+
+module _ (c : tie.After-read-head) where
+  abbrev table : List ℕ
+  table = to-start c .args .table .now
+
+  abbrev at : ℕ
+  at = to-start c .args .at
+
+module _ (c : tie.After-start) where
+  abbrev count : ℕ
+  count = c .start .given .0 .1 .1 .1 .1 .0
+
+  abbrev next : ℕ
+  next = c .start .given .0 .1 .1 .1 .1 .1 .0
+
+-- the numbers of the properties
+abbrev numbers : tie.After-read-properties → List ℕ
+numbers c = c .read-properties .last .1 .1 .1 .0
+
+-- ---- the facts
+
+head :
+    (c : tie.After-start) →
+    HeadStops (table (to-head c)) (at (to-head c)) (c .start .given .0 .0) (c .start .given .0 .1 .0) (c .start .given .0 .1 .1 .0)
+    (c .start .given .0 .1 .1 .1 .0) (count c) (next c)
+head c = head-got (c .start .given .1) (to-head c .read-head .ensures)
+
+properties :
+    (c : tie.After-after) →
+    let told = to-told (to-read (to-filled c)) .before in
+    PropertiesStop (times readProperty (count told) (drop (next told) (table (to-head told)))) (table (to-head told)) (next told) (count told)
+    (c .after .given .0 .0) (numbers (to-read (to-filled c)))
+properties c = properties-got (c .after .given .1) (to-read (to-filled c) .read-properties .ensures)
+
+-- ---- the needs
 
 no-type-requires : tie.Need-no-type-requires
 no-type-requires c κs = search needs
@@ -20,17 +79,12 @@ enum-told c = search needs
 returns : tie.Need-returns
 returns c =
     let read = c .before .before in
-    let a = read .before .before .before .args in
-    type-none _ _ _ _ (head-fail (a .table .now) (a .at) (c .enum-told .given .1) (read .read-head .ensures)) refl
-
-slice-aggregate-read-properties : tie.Need-slice-aggregate-read-properties
-slice-aggregate-read-properties c = search needs
+    type-none _ _ _ _ _ (head-fail (table read) (at read) (c .enum-told .given .1) (read .read-head .ensures)) refl
 
 read-properties-requires : tie.Need-read-properties-requires
 read-properties-requires c κs =
-    let told = c .before in
-    let head = head-got (told .before .start .given .1) (told .before .before .before .read-head .ensures) in
-    (head .within, head .few, refl)
+    let told = c .before .before in
+    (head told .within, head told .few, search needs)
 
 enum-known-after : tie.Need-enum-known-after
 enum-known-after c = search needs
@@ -38,33 +92,29 @@ enum-known-after c = search needs
 enum-told-2 : tie.Need-enum-told-2
 enum-told-2 c = search needs
 
+same-length : tie.Need-same-length
+same-length c = search needs
+
 returns-2 : tie.Need-returns-2
 returns-2 c =
-    let filled = c .before .before in
-    let told = filled .before .before .before in
-    let read = told .before .before .before in
-    let table = read .before .before .before .args .table .now in
-    let head = head-got (told .before .start .given .1) (read .read-head .ensures) in
-    type-none _ _ _ _ (type-short head (properties-fail _ table _ _ _ (c .enum-told2 .given .1) (filled .before .read-properties .ensures))) refl
-
-slice-aggregate-rules-hold : tie.Need-slice-aggregate-rules-hold
-slice-aggregate-rules-hold c = search needs
+    let read = to-read (c .before .before) in
+    let told = to-told read .before in
+    let fails = properties-fail _ (table (to-head told)) _ _ _ (c .enum-told2 .given .1) (read .read-properties .ensures) in
+    type-none _ _ _ _ _ (type-short (head told) fails) refl
 
 rules-hold-requires : tie.Need-rules-hold-requires
 rules-hold-requires c κs =
-    let after = c .before .before in
-    let filled = after .before .before in
-    let properties = properties-got (after .after .given .1) (filled .before .read-properties .ensures) in
-    (search needs, record { what = properties .what; are = properties .are })
+    let p = properties (c .before .before) in
+    (search needs, record { what = p .what; are = p .are })
+
+same-length-2 : tie.Need-same-length-2
+same-length-2 c = search needs
 
 returns-3 : tie.Need-returns-3
 returns-3 c =
     let after = c .before .before .before in
-    let filled = after .before .before in
-    let told = filled .before .before .before in
-    let head = head-got (told .before .start .given .1) (told .before .before .before .read-head .ensures) in
-    let properties = properties-got (after .after .given .1) (filled .before .read-properties .ensures) in
-    type-reads head properties _ (c .rules-hold .ensures (properties .what) (properties .are))
+    let p = properties after in
+    type-reads (head (to-told (to-read (to-filled after)) .before)) p _ (c .rules-hold .ensures (p .what) (p .are))
 
 pub read-type-spec : {M : Type 1} → statement M
 read-type-spec =
@@ -75,11 +125,11 @@ read-type-spec =
     enum-known-start
     enum-told
     returns
-    slice-aggregate-read-properties
     read-properties-requires
     enum-known-after
     enum-told-2
+    same-length
     returns-2
-    slice-aggregate-rules-hold
     rules-hold-requires
+    same-length-2
     returns-3)

@@ -10,7 +10,7 @@ use Rattle.opening.proofs.calls.open_asked.Tie as tie
 
 -- ---- the places
 
-abbrev to-start : tie.After-find-conflict → tie.Start
+abbrev to-start : tie.After-slice-known → tie.Start
 to-start c = c .before .before .before .before
 
 abbrev to-find : tie.After-open-merged-arg → tie.After-find-conflict
@@ -19,19 +19,18 @@ to-find c = c .before .before .before
 -- ---- the values
 
 abbrev Opens : tie.Start → Type 0
-Opens c = let a = c .args in Openable (now (a .s)) (a .d) (now (a .rows)) (a .t)
+Opens c = let a = c .args in Openable (now (a .s)) (a .d) (now (a .rows)) (a .count) (now (a .properties))
 
 -- ---- the facts
 
-found : (c : tie.After-find-conflict) (o : Opens (to-start c)) → conflictOf (c .find-conflict .result) ≡ conflict (upTo 32) (o .headed .snapshots)
+found :
+    (c : tie.After-find-conflict) (o : Opens (to-start (c .before))) → conflictOf (c .find-conflict .result) ≡ conflict (upTo 32) (o .headed .snapshots)
 found c o = c .find-conflict .ensures _ _ (o .is)
 
 -- ---- the needs
 
 find-conflict-requires : tie.Need-find-conflict-requires
-find-conflict-requires c κs =
-    let start = c .before .before .before in
-    start .pre .2 .is .few
+find-conflict-requires c κs = to-start c .pre .1 .is .few
 
 enum-known-version : tie.Need-enum-known-version
 enum-known-version c = search needs
@@ -40,12 +39,12 @@ enum-told : tie.Need-enum-told
 enum-told c = search needs
 
 open-merged-requires : tie.Need-open-merged-requires
-open-merged-requires c κs = to-start (to-find c) .pre
+open-merged-requires c κs = to-start (to-find c .before) .pre
 
 returns : tie.Need-returns
 returns c =
     let at-find = c .before .before .before in
-    λ o. replies-conflict _ _ _ _ o _ _ (c .before .version .given .1) (found at-find o) _
+    λ o. replies-conflict _ _ _ _ _ o _ _ (c .before .version .given .1) (found at-find o) _
 
 same-length : tie.Need-same-length
 same-length c = search needs
@@ -54,7 +53,7 @@ returns-2 : tie.Need-returns-2
 returns-2 c =
     let merged = c .before .before in
     let told = merged .before .before in
-    λ o. merged .open-merged .ensures o (no-conflict _ _ _ _ o (told .enum-told .given .1) (found (to-find (merged .before)) o))
+    λ o. merged .open-merged .ensures o (no-conflict _ _ _ _ _ o (told .enum-told .given .1) (found (to-find (merged .before)) o))
 
 pub open-asked-spec : {M : Type 1} → statement M
 open-asked-spec =

@@ -22,16 +22,19 @@ abbrev to-start : tie.After-read-dossier → tie.Start
 to-start c = c .before .before .before .before .before .before
 
 abbrev to-read : tie.After-read-table → tie.After-read-dossier
-to-read c = c .before .before .before
+to-read c = c .before .before .before .before
 
 abbrev to-table : tie.Else2 → tie.After-read-table
-to-table c = c .before .before
+to-table c = c .before .before .before
 
 abbrev to-taken : tie.After-ask-dossier → tie.Else2
-to-taken c = c .before .before
+to-taken c = c .before .before .before
 
-abbrev to-asked : tie.After-event-type → tie.After-ask-dossier
-to-asked c = c .before .before .before
+abbrev to-asked : tie.After-t → tie.After-ask-dossier
+to-asked c = c .before .before
+
+abbrev to-type : tie.After-open-asked-arg → tie.After-t
+to-type c = c .before .before .before
 
 -- ---- the values
 
@@ -45,6 +48,13 @@ module _ (c : tie.After-read-dossier) where
   abbrev rows : List ℕ
   rows = c .read-dossier .last .1 .0
 
+module _ (c : tie.After-read-table) where
+  abbrev name : List ℕ
+  name = now (c .before .before .type-name .result)
+
+  abbrev properties : List ℕ
+  properties = c .read-table .last .1 .1 .0
+
 -- ---- the facts
 
 room : (c : tie.After-read-dossier) → dossierCapacity ≤ length (now (to-start c .args .out))
@@ -53,26 +63,27 @@ room c = omega (arith, c .before .before .if1 .left)
 -- the table was read
 got :
     (c : tie.Else2) → let at-table = to-table c in
-    TableGot (table (to-read at-table)) (now (at-table .before .type-name .result)) (at-table .read-table .result)
-got c = table-got _ _ _ (to-table c .read-table .ensures) (not-false _ (c .if2 .left))
+    TableGot (table (to-read at-table)) (name at-table) (properties at-table) (at-table .read-table .result)
+got c = table-got _ _ _ _ (to-table c .read-table .ensures) (not-false _ (c .if2 .left))
 
 -- what the questions come to
 answered :
-    (c : tie.After-ask-dossier) → let taken = to-taken c in let read = to-read (to-table taken) in
-    DossierAnswers (dossierAsked standard (got taken .what) (dossier read)) (table read) (c .ask-dossier .result)
+    (c : tie.After-ask-dossier) → let taken = to-taken c in let at-table = to-table taken in let read = to-read at-table in
+    DossierAnswers (dossierAsked standard (got taken .what) (dossier read)) (table read)
+    (at-table .read-table .result .index) (properties at-table) (c .ask-dossier .result)
 answered c =
     let taken = to-taken c in
-    let named = to-table taken .before in
-    c .ask-dossier .ensures _ _ (got taken .is) (λ h w. type-says _ _ _ (got taken) (named .type-name .ensures h w))
+    let named = to-table taken .before .before in
+    c .ask-dossier .ensures _ _ (got taken .is) (λ h w. type-says _ _ _ _ (got taken) (named .type-name .ensures h w))
 
 -- the dossier is accepted
 accepted :
-    (c : tie.After-event-type) → let asked = to-asked c in let read = to-read (to-table (to-taken asked)) in
-    Accepted (table read) (dossier read) (read .read-dossier .result) (rows read) (asked .ask-dossier .result)
+    (c : tie.After-t) → let at-table = to-table (to-taken (to-asked c)) in let read = to-read at-table in
+    Accepted (table read) (dossier read) (read .read-dossier .result) (rows read) (at-table .read-table .result .index .count) (properties at-table)
 accepted c =
     let asked = to-asked c in
     let taken = to-taken asked in
-    asked-open _ _ _ _ _ (to-read (to-table taken) .read-dossier .ensures) _ (answered asked) (got taken .is) (c .before .if3 .left)
+    asked-open _ _ _ _ _ (to-read (to-table taken) .read-dossier .ensures) _ _ _ (answered asked) (got taken .is) (c .before .if3 .left)
 
 -- ---- the needs
 
@@ -88,35 +99,44 @@ read-dossier-requires c κs = refl
 type-name-requires : tie.Need-type-name-requires
 type-name-requires c κs = search needs
 
+slice-aggregate-read-table : tie.Need-slice-aggregate-read-table
+slice-aggregate-read-table c = search needs
+
 read-table-requires : tie.Need-read-table-requires
 read-table-requires c κs = search needs
 
 returns-2 : tie.Need-returns-2
 returns-2 c =
-    let at-table = c .before .before in
-    open-table _ _ _ (room (to-read at-table)) (table-refused _ _ _ (at-table .read-table .ensures) (not-true _ (c .if2 .taken)))
+    let at-table = c .before .before .before in
+    open-table _ _ _ (room (to-read at-table)) (table-refused _ _ _ _ (at-table .read-table .ensures) (not-true _ (c .if2 .taken)))
 
 slice-aggregate-ask-dossier : tie.Need-slice-aggregate-ask-dossier
 slice-aggregate-ask-dossier c = search needs
 
+slice-aggregate-ask-dossier-2 : tie.Need-slice-aggregate-ask-dossier-2
+slice-aggregate-ask-dossier-2 c = search needs
+
 ask-dossier-requires : tie.Need-ask-dossier-requires
 ask-dossier-requires c κs =
-    let taken = c .before in
-    (search needs, (to-read (to-table taken) .read-dossier .ensures, found-low _ _ _ (got taken)))
+    let taken = c .before .before in
+    ((search needs, search needs), (to-read (to-table taken) .read-dossier .ensures, found-low _ _ _ _ (got taken)))
 
 returns-3 : tie.Need-returns-3
 returns-3 c =
-    let asked = c .before .before in
+    let asked = c .before in
     let taken = to-taken asked in
-    open-refused _ _ _ (room (to-read (to-table taken))) _ _ (got taken .is) (asked-refused _ _ _ _ (answered asked) (c .if3 .taken))
+    open-refused _ _ _ (room (to-read (to-table taken))) _ _ (got taken .is) (asked-refused _ _ _ _ _ _ (answered asked) (c .if3 .taken))
 
 slice-aggregate-open-asked : tie.Need-slice-aggregate-open-asked
 slice-aggregate-open-asked c = search needs
 
+slice-aggregate-open-asked-2 : tie.Need-slice-aggregate-open-asked-2
+slice-aggregate-open-asked-2 c = search needs
+
 open-asked-requires : tie.Need-open-asked-requires
 open-asked-requires c κs =
-    let at-type = c .before .before in
-    (search needs, room (to-read (to-table (to-taken (to-asked at-type)))), accepted at-type .openable)
+    let at-type = to-type c in
+    ((search needs, search needs, room (to-read (to-table (to-taken (to-asked at-type))))), accepted at-type .openable)
 
 same-length : tie.Need-same-length
 same-length c = search needs
@@ -124,9 +144,9 @@ same-length c = search needs
 returns-4 : tie.Need-returns-4
 returns-4 c =
     let opened = c .before .before in
-    let at-type = opened .before .before .before in
+    let at-type = to-type (opened .before) in
     let a = accepted at-type in
-    opened .open-asked .ensures (a .openable) ∙ open-done _ _ _ (room (to-read (to-table (to-taken (to-asked at-type))))) _ _ _ a
+    opened .open-asked .ensures (a .openable) ∙ open-done _ _ _ (room (to-read (to-table (to-taken (to-asked at-type))))) _ _ _ _ a
 
 pub open-dossier-spec : {M : Type 1} → statement M
 open-dossier-spec =
@@ -136,12 +156,15 @@ open-dossier-spec =
     slice-aggregate-read-dossier
     read-dossier-requires
     type-name-requires
+    slice-aggregate-read-table
     read-table-requires
     returns-2
     slice-aggregate-ask-dossier
+    slice-aggregate-ask-dossier-2
     ask-dossier-requires
     returns-3
     slice-aggregate-open-asked
+    slice-aggregate-open-asked-2
     open-asked-requires
     same-length
     returns-4)

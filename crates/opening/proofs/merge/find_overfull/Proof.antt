@@ -1,6 +1,5 @@
 use borrow.Author.Needs.{needs}
 use mathlib.Core.Path.{_≡_, sym, _∙_}
-use mathlib.Core.Bool.{Bool}
 use mathlib.Core.List.{List}
 use Prim.Native.Nat.{ℕ, _-_, _<_}
 use native.Mathlib.Omega.{arith}
@@ -9,7 +8,7 @@ use Rattle.model.specs.Sets.{upFrom}
 use Rattle.model.specs.Rule.{Dossier}
 use Rattle.model.specs.Opening.{lowest, overfull}
 use Rattle.ontology.specs.Table.{EventType}
-use Rattle.ontology.specs.code.TypeIndex.{TypeIs}
+use Rattle.ontology.specs.code.TypeIndex.{PropertiesAre}
 use Rattle.event.specs.Event.{typeView}
 use Rattle.opening.specs.code.PlanIndex.{PlanIs}
 use Rattle.opening.proofs.ConflictLaws.{lowest-here, lowest-next, lowest-none}
@@ -18,12 +17,12 @@ use Rattle.opening.proofs.merge.find_overfull.Statement.{statement}
 use Rattle.opening.proofs.merge.find_overfull.Tie as tie
 
 abbrev Inv-loop : tie.InvT-loop
-Inv-loop plan t p₀ p =
-    (u s : List ℕ) (ty : EventType) (d : Dossier) → TypeIs u ty t → PlanIs s plan ty d →
+Inv-loop count properties plan p₀ p =
+    (u s : List ℕ) (ty : EventType) (d : Dossier) → PropertiesAre u (ty .properties) count properties → PlanIs s plan ty d →
     overfull (typeView ty) d ≡ lowest (isOverfull ty d) (upFrom p (32 - p))
 
 abbrev μ-loop : tie.MeasureT-loop
-μ-loop plan t p₀ p = t .count - p
+μ-loop count properties plan p₀ p = count - p
 
 -- ---- the places
 
@@ -31,10 +30,10 @@ abbrev taken : tie.After-is-overfull Inv-loop μ-loop → tie.After-property-at 
 taken c = c .before .before .before
 
 abbrev to-turn : tie.After-is-overfull Inv-loop μ-loop → tie.In-loop Inv-loop μ-loop
-to-turn c = taken c .before .before .before .before
+to-turn c = taken c .before
 
 abbrev to-start : tie.In-loop Inv-loop μ-loop → tie.Start Inv-loop μ-loop
-to-start c = c .before .before .before
+to-start c = c .before .before .before .before
 
 -- ---- the facts
 
@@ -44,9 +43,9 @@ in-all c = omega (arith, c .loop-test .taken, to-start c .pre .0)
 -- the answer of the test is what is asked of the place
 asked :
     (c : tie.After-is-overfull Inv-loop μ-loop) → let a = to-start (to-turn c) .args in
-    (u s : List ℕ) (ty : EventType) (d : Dossier) → TypeIs u ty (a .t1) → PlanIs s (now (a .plan)) ty d →
+    (u s : List ℕ) (ty : EventType) (d : Dossier) → PropertiesAre u (ty .properties) (a .count) (now (a .properties)) → PlanIs s (now (a .plan)) ty d →
     c .is-overfull .result ≡ isOverfull ty d (to-turn c .before .loop .p)
-asked c u s ty d w v = place-overfull u ty _ w d _ s _ (taken c .property-at .ensures) v (to-turn c .loop-test .taken) (c .is-overfull .ensures)
+asked c u s ty d w v = place-overfull u ty _ _ w d _ s _ (taken c .property-at .ensures) v (to-turn c .loop-test .taken) (c .is-overfull .ensures)
 
 -- ---- the needs
 
@@ -54,7 +53,7 @@ loop-holds : tie.Need-loop-holds Inv-loop μ-loop
 loop-holds c = λ u s ty d w v. overfull-start ty d
 
 property-at-requires : tie.Need-property-at-requires Inv-loop μ-loop
-property-at-requires c κs = (search needs, in-all (c .before .before .before))
+property-at-requires c κs = (search needs, in-all c)
 
 mul-is-overfull : tie.Need-mul-is-overfull Inv-loop μ-loop
 mul-is-overfull c = search needs
@@ -94,7 +93,7 @@ loop-again c =
 returns-2 : tie.Need-returns-2 Inv-loop μ-loop
 returns-2 c =
     λ u s ty d w v.
-    sym (c .before .loop .inv u s ty d w v ∙ lowest-none (isOverfull ty d) _ (λ i h. no-overfull u ty _ w d i (omega (arith, h, c .loop-test .left))))
+    sym (c .before .loop .inv u s ty d w v ∙ lowest-none (isOverfull ty d) _ (λ i h. no-overfull u ty _ _ w d i (omega (arith, h, c .loop-test .left))))
 
 pub find-overfull-spec : {M : Type 1} → statement M
 find-overfull-spec =

@@ -1,4 +1,4 @@
-use mathlib.Core.Path.{ap, _∙_}
+use mathlib.Core.Path.{ap}
 use lib.ListN.{length}
 use Rattle.packed.proofs.WriteLaws.{wrote-as}
 use Rattle.report.proofs.LineLaws.{place-below, place-is, place-name}
@@ -7,19 +7,23 @@ use borrow.Author.Needs.{needs}
 use Rattle.report.proofs.lines.write_named.Statement.{statement}
 use Rattle.report.proofs.lines.write_named.Tie as tie
 
+-- ---- the places
+
 abbrev to-start : tie.After-property-at → tie.Start
-to-start c = c .before .before .before .before .before .before
+to-start c = c .before .before .before .before
+
+-- ---- the needs
 
 property-at-requires : tie.Need-property-at-requires
-property-at-requires c κs = (search needs, place-below (c .before .before .before .before .before .pre .0))
+property-at-requires c κs = (search needs, place-below (c .before .before .before .pre .1))
 
 write-name-requires : tie.Need-write-name-requires
 write-name-requires c κs =
     let taken = c .before in
-    let start = to-start taken in
+    let (long, named, fits) = to-start taken .pre in
     let same = taken .property-at .ensures in
-    let property = place-is (start .pre .0) same in
-    (property .order, property .within, omega (arith, ap length (place-name (start .pre .0) same), start .pre .1))
+    let property = place-is named same in
+    (property .order, property .within, omega (arith, ap length (place-name named same), fits))
 
 same-length : tie.Need-same-length
 same-length c = search needs

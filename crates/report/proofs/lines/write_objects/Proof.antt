@@ -1,6 +1,7 @@
-use mathlib.Core.Path.{_≡_, refl}
+use mathlib.Core.Path.{refl}
 use Prim.Native.Nat.{_-_, _≤_}
 use lib.ListN.{length}
+use denote.Ref.{now}
 use Rattle.packed.proofs.WriteLaws.{to-go, all-gone}
 use Rattle.report.specs.code.ReportIndex.{ObjectsRoom}
 use Rattle.report.proofs.LineLaws.{ObjectsGo, values-room, objects-more, objects-end}
@@ -10,22 +11,24 @@ use Rattle.report.proofs.lines.write_objects.Statement.{statement}
 use Rattle.report.proofs.lines.write_objects.Tie as tie
 
 abbrev Inv-loop : tie.InvT-loop
-Inv-loop table event out₀ at t e next₀ k₀ out next k =
-    (o : ObjectsRoom table t event e at (length out₀)) → ObjectsGo (o .type .properties) (o .event .sets) out₀ at out next k
+Inv-loop table count properties event sets out₀ at next₀ k₀ out next k =
+    (o : ObjectsRoom table count properties event sets at (length out₀)) → ObjectsGo (o .properties) (o .sets) out₀ at out next k
 
 abbrev μ-loop : tie.MeasureT-loop
-μ-loop table event out₀ at t e next₀ k₀ out next k = t .count - k
+μ-loop table count properties event sets out₀ at next₀ k₀ out next k = count - k
 
 -- ---- the places
 
 abbrev to-start : tie.At-loop Inv-loop μ-loop → tie.Start Inv-loop μ-loop
-to-start c = c .before .before .before .before
+to-start c = c .before .before .before .before .before .before
 
-abbrev to-turn : tie.After-property-at Inv-loop μ-loop → tie.In-loop Inv-loop μ-loop
-to-turn c = c .before .before .before .before
+-- ---- the values
 
-abbrev to-property : tie.After-set-at Inv-loop μ-loop → tie.After-property-at Inv-loop μ-loop
-to-property c = c .before .before .before .before
+module _ (c : tie.At-loop Inv-loop μ-loop) where
+  abbrev room : ObjectsRoom
+      (now (to-start c .args .table)) (to-start c .args .count) (now (to-start c .args .properties)) (now (to-start c .args .event))
+      (now (to-start c .args .sets)) (to-start c .args .at) (length (now (to-start c .args .out)))
+  room = to-start c .pre .2
 
 -- ---- the needs
 
@@ -33,24 +36,25 @@ loop-holds : tie.Need-loop-holds Inv-loop μ-loop
 loop-holds c = λ o. to-go
 
 property-at-requires : tie.Need-property-at-requires Inv-loop μ-loop
-property-at-requires c κs = (search needs, omega (arith, to-start (c .before .before .before .before) .pre .typed .are .few))
+property-at-requires c κs = (search needs, omega (arith, room (c .before) .are .few))
 
 set-at-requires : tie.Need-set-at-requires Inv-loop μ-loop
-set-at-requires c κs = (search needs, omega (arith, to-start (to-turn (c .before .before .before) .before) .pre .typed .are .few))
+set-at-requires c κs = (search needs, omega (arith, room (c .before .before) .are .few))
 
 write-values-requires : tie.Need-write-values-requires Inv-loop μ-loop
 write-values-requires c κs =
     let set = c .before in
-    let taken = to-property set in
-    let turn = to-turn taken in
+    let taken = set .before in
+    let turn = taken .before in
     let l = turn .before .loop in
-    let room = to-start (turn .before) .pre in
-    values-room room (l .k) (turn .loop-test .taken) refl (l .inv room) (taken .property-at .ensures) (set .set-at .ensures)
+    let given = room (turn .before) in
+    values-room given (l .k) (turn .loop-test .taken) refl (l .inv given) (taken .property-at .ensures) (set .set-at .ensures)
 
 add-k : tie.Need-add-k Inv-loop μ-loop
 add-k c =
-    let turn = to-turn (to-property (c .before .before .before .before)) in
-    omega (arith, turn .loop-test .taken, to-start (turn .before) .pre .typed .are .few)
+    let set = c .before .before .before .before in
+    let turn = set .before .before in
+    omega (arith, turn .loop-test .taken, room (turn .before) .are .few)
 
 loop-less : tie.Need-loop-less Inv-loop μ-loop
 loop-less c = search needs
@@ -59,8 +63,8 @@ loop-again : tie.Need-loop-again Inv-loop μ-loop
 loop-again c = λ o.
     let written = c .before .before in
     let set = written .before .before in
-    let taken = to-property set in
-    let turn = to-turn taken in
+    let taken = set .before in
+    let turn = taken .before in
     let l = turn .before .loop in
     let inside = turn .loop-test .taken in
     let g = l .inv o in
@@ -69,13 +73,13 @@ loop-again c = λ o.
     objects-more o (l .k) inside refl g property values (written .write-values .ensures (values-room o (l .k) inside refl g property values))
 
 same-length : tie.Need-same-length Inv-loop μ-loop
-same-length c = c .before .loop .inv (to-start (c .before) .pre) .long
+same-length c = c .before .loop .inv (room (c .before)) .long
 
 returns : tie.Need-returns Inv-loop μ-loop
 returns c = λ o.
     let l = c .before .loop in
-    let past : length (o .type .properties) ≤ l .k = omega (arith, o .typed .are .count, c .loop-test .left) in
-    all-gone (l .inv o) (objects-end (o .type .properties) (o .event .sets) (l .k) past)
+    let past : length (o .properties) ≤ l .k = omega (arith, o .are .count, c .loop-test .left) in
+    all-gone (l .inv o) (objects-end (o .properties) (o .sets) (l .k) past)
 
 pub write-objects-spec : {M : Type 1} → statement M
 write-objects-spec =

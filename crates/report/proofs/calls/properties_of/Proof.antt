@@ -1,7 +1,7 @@
 use borrow.Author.Needs.{needs}
-use Rattle.report.proofs.ReportLaws.{type-read}
-use Rattle.report.proofs.calls.type_of.Statement.{statement}
-use Rattle.report.proofs.calls.type_of.Tie as tie
+use Rattle.report.proofs.ReportLaws.{properties-read}
+use Rattle.report.proofs.calls.properties_of.Statement.{statement}
+use Rattle.report.proofs.calls.properties_of.Tie as tie
 
 slice-aggregate-read-dossier : tie.Need-slice-aggregate-read-dossier
 slice-aggregate-read-dossier c = search needs
@@ -15,18 +15,22 @@ type-name-requires c κs = search needs
 read-table-requires : tie.Need-read-table-requires
 read-table-requires c κs = search needs
 
+same-length : tie.Need-same-length
+same-length c = search needs
+
 returns : tie.Need-returns
 returns c =
-    let named = c .before .before in
-    let read = named .before .before in
-    type-read _ _ _ _ _ _ (read .read-dossier .ensures) (named .type-name .ensures) (c .before .read-table .ensures)
+    let read = c .before .before in
+    let named = read .before .before in
+    properties-read _ _ _ _ _ _ _ (named .before .before .read-dossier .ensures) (named .type-name .ensures) (read .read-table .ensures)
 
-pub type-of-spec : {M : Type 1} → statement M
-type-of-spec =
+pub properties-of-spec : {M : Type 1} → statement M
+properties-of-spec =
     tie.close
     (tie.spec
     slice-aggregate-read-dossier
     read-dossier-requires
     type-name-requires
     read-table-requires
+    same-length
     returns)

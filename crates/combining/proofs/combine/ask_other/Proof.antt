@@ -1,0 +1,111 @@
+use borrow.Author.Needs.{needs}
+use mathlib.Core.Path.{_≡_}
+use mathlib.Core.List.{List}
+use Prim.Native.Nat.{ℕ}
+use denote.Ref.{now}
+use Rattle.model.specs.Order.{Text}
+use Rattle.ontology.specs.TableLayout.{tableOf}
+use Rattle.ontology.specs.code.TypeIndex.{TableSays}
+use Rattle.ontology.proofs.TypeIndexLaws.{says-same}
+use Rattle.dossier.specs.DossierLayout.{Headed}
+use Rattle.dossier.specs.code.DossierIndex.{DossierIs}
+use Rattle.combining.proofs.CombineLaws.{Tabled, tabled, type-few, numbered}
+use Rattle.combining.proofs.combine.ask_other.Statement.{statement}
+use Rattle.combining.proofs.combine.ask_other.Tie as tie
+
+-- ---- the places
+
+abbrev to-start : tie.After-type-name → tie.Start
+to-start c = c .before .before .before .before .before .before
+
+abbrev to-named : tie.Else1 → tie.After-type-name
+to-named c = c .before .before
+
+abbrev to-else : tie.After-read-table → tie.Else1
+to-else c = c .before .before
+
+abbrev to-read : tie.After-others3 → tie.After-read-table
+to-read c = c .before .before
+
+-- ---- the values
+
+module _ (c : tie.After-type-name) where
+  abbrev table : List ℕ
+  table = now (to-start c .args .table)
+
+  abbrev other : Text
+  other = now (c .type-name .result)
+
+-- ---- the facts
+
+module _ (c : tie.After-type-name) where
+  known : Tabled (table c)
+  known = let p = to-start c .pre .1 in tabled _ _ _ _ (p .1) (p .0)
+
+  named : (h : Headed) → DossierIs (now (to-start c .args .s)) h (to-start c .args .d) → other c ≡ h .head .type
+  named = c .type-name .ensures
+
+-- the table was read for the name of this dossier's type
+read-before :
+    (c : tie.Then1) → let n = c .before .before in
+    let a = to-start n .args in
+    TableSays (tableOf (table n)) (table n) (other n) (now (a .properties)) (a .read)
+read-before c = says-same _ _ _ _ _ (c .before .same .ensures) (c .if1 .taken) (to-start (c .before .before) .pre .1 .1)
+
+-- or is read for it
+read-again :
+    (c : tie.After-read-table) → let n = to-named (to-else c) in
+    TableSays (tableOf (table n)) (table n) (other n) (c .read-table .last .1 .1 .0) (c .read-table .result)
+read-again c = c .read-table .ensures
+
+-- ---- the needs
+
+type-name-requires : tie.Need-type-name-requires
+type-name-requires c κs = search needs
+
+same-requires : tie.Need-same-requires
+same-requires c κs = search needs
+
+ask-dossier-requires : tie.Need-ask-dossier-requires
+ask-dossier-requires c κs =
+    let n = c .before .before in
+    let p = to-start n .pre .0 in
+    ((p .0, p .1), (p .2, type-few _ _ _ _ (read-before c) (known n)))
+
+returns : tie.Need-returns
+returns c = λ ts e.
+    numbered _ _ (record { types = ts; is = e }) _ _ (named (c .before .before .before)) _ _ (read-before (c .before)) _ (c .ask-dossier .ensures)
+
+slice-aggregate-read-table : tie.Need-slice-aggregate-read-table
+slice-aggregate-read-table c = search needs
+
+read-table-requires : tie.Need-read-table-requires
+read-table-requires c κs = search needs
+
+slice-aggregate-ask-dossier : tie.Need-slice-aggregate-ask-dossier
+slice-aggregate-ask-dossier c = search needs
+
+ask-dossier-requires-2 : tie.Need-ask-dossier-requires-2
+ask-dossier-requires-2 c κs =
+    let n = to-named (to-else (to-read c)) in
+    let p = to-start n .pre .0 in
+    ((p .0, search needs), (p .2, type-few _ _ _ _ (read-again (to-read c)) (known n)))
+
+returns-2 : tie.Need-returns-2
+returns-2 c = λ ts e.
+    let read = to-read (c .before) in
+    numbered _ _ (record { types = ts; is = e }) _ _ (named (to-named (to-else read))) _ _ (read-again read) _ (c .ask-dossier2 .ensures)
+
+pub ask-other-spec : {M : Type 1} → statement M
+ask-other-spec =
+    tie.close
+    (tie.spec
+    type-name-requires
+    same-requires
+    ask-dossier-requires
+    returns
+    slice-aggregate-read-table
+    read-table-requires
+    slice-aggregate-ask-dossier
+    ask-dossier-requires-2
+    returns-2)

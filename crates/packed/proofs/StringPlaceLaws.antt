@@ -1,0 +1,124 @@
+-- The laws of strings that are lent as numbers, four for each place.
+use mathlib.Core.Path.{_≡_, refl, ap, ap₂, _∙_}
+use mathlib.Core.List.{List, _∷_}
+use Prim.Native.Nat.{ℕ, zero, suc, _+_, _*_, _<_}
+use native.Mathlib.Omega.{arith}
+use lib.ListN.{length, getD, set, length-set}
+use lib.Seq.{getD-set-same, getD-set-other}
+use Rattle.packed.specs.code.Strings.{noString, stringIn, stringsFrom, stringsIn}
+use Rattle.packed.specs.declared.strings.StringAt.{StringAt}
+
+-- ---- the four numbers of a place
+
+-- the numbers with the string x at place k
+abbrev pub putFour : List ℕ → ℕ → StringAt → List ℕ
+putFour xs k x = set (set (set (set xs (4 * k) (x .first)) (4 * k + 1) (x .colon)) (4 * k + 2) (x .second)) (4 * k + 3) (x .end)
+
+module _ (xs : List ℕ) (k : ℕ) (x : StringAt) where
+  abbrev one : List ℕ
+  one = set xs (4 * k) (x .first)
+
+  abbrev two : List ℕ
+  two = set one (4 * k + 1) (x .colon)
+
+  abbrev three : List ℕ
+  three = set two (4 * k + 2) (x .second)
+
+  pub one-long : length one ≡ length xs
+  one-long = length-set xs (4 * k) (x .first)
+
+  pub two-long : length two ≡ length xs
+  two-long = length-set one (4 * k + 1) (x .colon) ∙ one-long
+
+  pub three-long : length three ≡ length xs
+  three-long = length-set two (4 * k + 2) (x .second) ∙ two-long
+
+  module _ (h : 4 * k + 3 < length xs) where
+    four-first : getD (putFour xs k x) (4 * k) 0 ≡ x .first
+    four-first =
+        getD-set-other three (4 * k + 3) (4 * k) (x .end) 0 (λ e. omega arith)
+        ∙ getD-set-other two (4 * k + 2) (4 * k) (x .second) 0 (λ e. omega arith)
+        ∙ getD-set-other one (4 * k + 1) (4 * k) (x .colon) 0 (λ e. omega arith)
+        ∙ getD-set-same xs (4 * k) (x .first) 0 (omega arith)
+
+    four-second : getD (putFour xs k x) (4 * k + 1) 0 ≡ x .colon
+    four-second =
+        getD-set-other three (4 * k + 3) (4 * k + 1) (x .end) 0 (λ e. omega arith)
+        ∙ getD-set-other two (4 * k + 2) (4 * k + 1) (x .second) 0 (λ e. omega arith)
+        ∙ getD-set-same one (4 * k + 1) (x .colon) 0 (omega (arith, one-long))
+
+    four-third : getD (putFour xs k x) (4 * k + 2) 0 ≡ x .second
+    four-third =
+        getD-set-other three (4 * k + 3) (4 * k + 2) (x .end) 0 (λ e. omega arith)
+        ∙ getD-set-same two (4 * k + 2) (x .second) 0 (omega (arith, two-long))
+
+    four-fourth : getD (putFour xs k x) (4 * k + 3) 0 ≡ x .end
+    four-fourth = getD-set-same three (4 * k + 3) (x .end) 0 (omega (arith, three-long))
+
+    four-here : stringIn (putFour xs k x) k ≡ x
+    four-here = rw (four-first, four-second, four-third, four-fourth) refl
+
+  -- number i of another place j, which is number m of all, stays
+  number-other : (j i m : ℕ) → m ≡ 4 * j + i → i < 4 → (j ≡ k → ⊥) → getD (putFour xs k x) m 0 ≡ getD xs m 0
+  number-other j i m e h n =
+      getD-set-other three (4 * k + 3) m (x .end) 0 (λ f. n (omega (arith, e, f, h)))
+      ∙ getD-set-other two (4 * k + 2) m (x .second) 0 (λ f. n (omega (arith, e, f, h)))
+      ∙ getD-set-other one (4 * k + 1) m (x .colon) 0 (λ f. n (omega (arith, e, f, h)))
+      ∙ getD-set-other xs (4 * k) m (x .first) 0 (λ f. n (omega (arith, e, f, h)))
+
+  four-other : (j : ℕ) → (j ≡ k → ⊥) → stringIn (putFour xs k x) j ≡ stringIn xs j
+  four-other j n =
+      rw (
+        number-other j 0 (4 * j) (omega arith) (omega arith) n,
+        number-other j 1 (4 * j + 1) refl (omega arith) n,
+        number-other j 2 (4 * j + 2) refl (omega arith) n,
+        number-other j 3 (4 * j + 3) refl (omega arith) n,
+      ) refl
+
+-- ---- all places
+
+from-length : (xs : List ℕ) (k m : ℕ) → length (stringsFrom xs k m) ≡ m
+unfolding stringsFrom
+from-length xs k zero = refl
+from-length xs k (suc m) = ap suc (from-length xs (suc k) m)
+
+from-at : (xs : List ℕ) (k m j : ℕ) → j < m → stringIn xs (k + j) ≡ getD (stringsFrom xs k m) j noString
+unfolding stringsFrom
+from-at xs k zero j h = absurd (omega arith)
+from-at xs k (suc m) zero h = ap (stringIn xs) (omega arith)
+from-at xs k (suc m) (suc j) h = ap (stringIn xs) (omega arith) ∙ from-at xs (suc k) m j (omega arith)
+
+-- numbers that have the same strings from place k on
+from-same : (xs ys : List ℕ) (k m : ℕ) → ((j : ℕ) → k < suc j → stringIn ys j ≡ stringIn xs j) → stringsFrom ys k m ≡ stringsFrom xs k m
+unfolding stringsFrom
+from-same xs ys k zero h = refl
+from-same xs ys k (suc m) h =
+    ap₂ (λ (x : StringAt) (l : List StringAt). x ∷ l) (h k (omega arith)) (from-same xs ys (suc k) m (λ j l. h j (omega arith)))
+
+-- and numbers that have but for one place, which is j places after place k
+from-put :
+    (xs ys : List ℕ) (x : StringAt) (k m j : ℕ) → j < m → stringIn ys (k + j) ≡ x →
+    ((i : ℕ) → (i ≡ k + j → ⊥) → stringIn ys i ≡ stringIn xs i) → stringsFrom ys k m ≡ set (stringsFrom xs k m) j x
+unfolding stringsFrom
+from-put xs ys x k zero j l here others = absurd (omega arith)
+from-put xs ys x k (suc m) zero l here others =
+    ap₂ (λ (y : StringAt) (l : List StringAt). y ∷ l) (ap (stringIn ys) (omega arith) ∙ here)
+    (from-same xs ys (suc k) m (λ i h. others i (λ e. omega arith)))
+from-put xs ys x k (suc m) (suc j) l here others =
+    ap₂ (λ (y : StringAt) (l : List StringAt). y ∷ l) (others k (λ e. omega arith))
+    (from-put xs ys x (suc k) m j (omega arith) (ap (stringIn ys) (omega arith) ∙ here) (λ i n. others i (λ e. n (omega arith))))
+
+pub strings-long : (xs : List ℕ) → length (stringsIn xs) ≡ 32
+unfolding stringsIn
+strings-long xs = from-length xs 0 32
+
+pub string-taken : (xs : List ℕ) (k : ℕ) → k < 32 → stringIn xs k ≡ getD (stringsIn xs) k noString
+unfolding stringsIn
+string-taken xs k h = ap (stringIn xs) (omega arith) ∙ from-at xs 0 32 k h
+
+pub string-put : (xs : List ℕ) (k : ℕ) (x : StringAt) → k < 32 → length xs ≡ 128 → stringsIn (putFour xs k x) ≡ set (stringsIn xs) k x
+unfolding stringsIn
+string-put xs k x h l =
+    from-put xs (putFour xs k x) x 0 32 k h
+    (ap (stringIn (putFour xs k x)) (omega arith) ∙ four-here xs k x (omega arith))
+    (λ i n. four-other xs k x i (λ e. n (omega arith)))
