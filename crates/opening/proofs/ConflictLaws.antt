@@ -1,5 +1,6 @@
 -- The laws of a conflict: the lowest place with a differ bit, and the lowest snapshot that has one.
-use mathlib.Core.Path.{_≡_, refl, sym, ap, ap₂, _∙_}
+use mathlib.Core.Path.{_≡_, refl, sym, ap, ap₂, _∙_, subst}
+use mathlib.Core.Logic.{_⊎_, inl, inr}
 use mathlib.Core.Bool.{Bool, true, false, cond}
 use mathlib.Core.Option.{Option, none, some}
 use mathlib.Core.List.{List, [], _∷_, map}
@@ -20,7 +21,7 @@ use Rattle.dossier.specs.DossierLayout.{Headed}
 use Rattle.dossier.specs.DossierBody.{differBit}
 use Rattle.dossier.specs.code.DossierIndex.{noSnapshot, noVersion, DossierIs}
 use Rattle.dossier.specs.declared.dossiers.DossierIndex.{DossierIndex}
-use Rattle.dossier.proofs.CellLaws.{mark-here}
+use Rattle.dossier.proofs.CellLaws.{mark-here, bits-next}
 use Rattle.opening.specs.code.OpenIndex.{conflictOf}
 use Rattle.opening.specs.declared.conflict.Conflict.{Conflict}
 use Rattle.opening.specs.declared.conflict.Conflict.the-variants.{Differs, NoConflict}
@@ -51,7 +52,7 @@ module _ (test : ℕ → Bool) where
       go zero k h = refl
       go (suc n) k h = rw (h k (omega arith)) (go n (suc k) (λ i l. h i (omega arith)))
 
-  pub lowest-end : (k : ℕ) → 32 ≤ k → lowest test (upFrom k (32 - k)) ≡ none
+  lowest-end : (k : ℕ) → 32 ≤ k → lowest test (upFrom k (32 - k)) ≡ none
   unfolding lowest upFrom
   lowest-end k h = let e : 32 - k ≡ 0 = omega arith in rw e
 
@@ -63,6 +64,24 @@ module _ (cs : List Cell) (k bits : ℕ) (b : bits ≡ bitNumber (map differBit 
 
   pub bit-clear : (bits % 2 ≡ 1 → ⊥) → isMark (getD cs k (holds [])) ≡ false
   bit-clear e = sym (mark-here cs k bits b) ∙ ne-eqb (bits % 2) 1 e
+
+-- where no bit is set from place k on, no later place has one
+zero-from :
+    (cs : List Cell) (k n i : ℕ) → 0 ≡ bitNumber (map differBit (drop k cs)) → i ≡ k + n → 0 ≡ bitNumber (map differBit (drop i cs))
+zero-from cs k zero i b e = let f : k ≡ i = omega arith in subst (λ (j : ℕ). 0 ≡ bitNumber (map differBit (drop j cs))) f b
+zero-from cs k (suc n) i b e =
+    let f : k + n + 1 ≡ i = omega arith in
+    subst (λ (j : ℕ). 0 ≡ bitNumber (map differBit (drop j cs))) f (bits-next cs (k + n) 0 (zero-from cs k n (k + n) b refl))
+
+-- the loop has passed the last place, or no bit is left
+pub lowest-over :
+    (cs : List Cell) (k bits : ℕ) → bits ≡ bitNumber (map differBit (drop k cs)) → (32 ≤ k) ⊎ (bits ≤ 0) →
+    lowest (λ p. isMark (getD cs p (holds []))) (upFrom k (32 - k)) ≡ none
+lowest-over cs k bits b (inl h) = lowest-end (λ p. isMark (getD cs p (holds []))) k h
+lowest-over cs k bits b (inr h) =
+    let z : 0 ≡ bits = omega arith in
+    lowest-none (λ p. isMark (getD cs p (holds []))) k
+    (λ i l. bit-clear cs i 0 (zero-from cs k (i - k) i (z ∙ b) (omega arith)) (λ e. omega (arith, e)))
 
 -- ---- a snapshot
 

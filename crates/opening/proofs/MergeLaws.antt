@@ -407,15 +407,15 @@ module _
 
 -- ---- a place without a property
 
-no-set : (s : List ℕ) → SetIs s [] noSet
+pub no-set : (s : List ℕ) → SetIs s [] noSet
 unfolding flatten countSize setBytes
 no-set s = record { bytes = refl; count = refl; order = omega arith; within = omega arith; counted = omega arith; whole = refl }
 
-pub stands-empty :
+pub merged-vacant :
     (s rows u : List ℕ) (n : ℕ) (ty : EventType) (count : ℕ) (ps : List ℕ) (d : Dossier) (p : ℕ) →
     PropertiesAre u (ty .properties) count ps → Mergeable s rows n ty d → count ≤ p →
-    SetIs s (mergedAt (typeView ty) d p) noSet
+    mergedAt (typeView ty) d p ≡ []
 unfolding canon
-stands-empty s rows u n ty count ps d p w m h =
+merged-vacant s rows u n ty count ps d p w m h =
     let e : getElem? (ty .properties) p ≡ none = no-element (ty .properties) p (omega (arith, w .count)) in
-    subst (λ (vs : List Text). SetIs s vs noSet) (sym (merged-none ty d p e ∙ ap (canon texts) (m .vacant p e))) (no-set s)
+    merged-none ty d p e ∙ ap (canon texts) (m .vacant p e)

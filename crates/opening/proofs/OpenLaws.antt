@@ -45,6 +45,8 @@ use Rattle.opening.specs.declared.conflict.Conflict.the-variants.{Differ
 use Rattle.opening.specs.declared.conflict.Lowest.{Lowest}
 use Rattle.opening.specs.declared.conflict.Lowest.the-variants.{Place, NoPlace}
 use Rattle.opening.proofs.StandLaws.{cells-stand}
+use Rattle.opening.proofs.MergeLaws.{merged-vacant}
+use Rattle.opening.proofs.AcceptedLaws.{mergeable}
 use Rattle.opening.proofs.SizeLaws.{merged-size}
 
 -- ---- a dossier that was asked its questions
@@ -56,13 +58,14 @@ module _ (s : List ℕ) (d : DossierIndex) (rows : List ℕ) (count : ℕ) (ps :
   -- what the writer of the merged event needs
   abbrev pub writable :
       (plan : List ℕ) (size : ℕ) → PlanIs s plan (o .type) dossier → dossierCapacity ≤ size →
-      Writable s d rows plan size
+      Writable s d rows count plan size
   writable plan size v h = record {
     type = o .type;
     headed = o .headed;
     is = o .is;
     stand = cells-stand s (o .headed) d rows (o .is) (o .stand);
     planned = v;
+    vacant = λ p l. merged-vacant s rows (o .table) (d .count) (o .type) count ps dossier p (o .typed) (mergeable s d rows count ps o) l;
     room = omega (arith, merged-size s d rows count ps o);
   }
 

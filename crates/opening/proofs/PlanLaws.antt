@@ -1,5 +1,6 @@
 -- The laws of the plan of the merged sets: how it is filled, which place is overfull, and the presence number.
 use mathlib.Core.Path.{_≡_, refl, sym, ap, ap₂, _∙_}
+use mathlib.Core.Logic.{⊎-elim}
 use mathlib.Core.Bool.{Bool, true, false, not, _&&_}
 use mathlib.Core.Option.{Option, some}
 use mathlib.Core.List.{List, [], _∷_, map}
@@ -14,13 +15,14 @@ use Rattle.model.specs.Order.{Text}
 use Rattle.model.specs.Sets.{upFrom, upTo}
 use Rattle.model.specs.Rule.{places, Dossier}
 use Rattle.model.specs.Opening.{column, lowest, mergedAt, mergedSets, overfull}
+use Rattle.packed.proofs.LayoutLaws.{lt-or-ge}
 use Rattle.ontology.specs.Table.{Property, EventType, isSingle, atPlace}
 use Rattle.ontology.specs.code.TypeIndex.{propertyIn, PropertiesAre}
 use Rattle.ontology.specs.declared.properties.PropertyAt.{PropertyAt}
 use Rattle.ontology.proofs.RunLaws.{no-element}
 use Rattle.event.specs.Event.{typeView, eventView}
 use Rattle.event.specs.EventLayout.{presenceBit, bitNumber}
-use Rattle.event.specs.code.EventIndex.{bitOf}
+use Rattle.event.specs.code.EventIndex.{bitOf, noSet}
 use Rattle.event.specs.declared.sets.SetAt.{SetAt}
 use Rattle.event.proofs.BitLaws.{FilledTo, presence-bits}
 use Rattle.event.proofs.MatchLaws.{this, this-is}
@@ -29,6 +31,7 @@ use Rattle.opening.specs.code.PlanIndex.{PlaceIs, withPlace, TellsCount,
 use Rattle.opening.specs.declared.merge.PlaceMerged.{PlaceMerged}
 use Rattle.opening.specs.declared.merge.PlaceMerged.the-variants.{Stands, Joins}
 use Rattle.opening.proofs.StandLaws.{set-put, put-other, put-length, set-kept}
+use Rattle.opening.proofs.MergeLaws.{no-set}
 
 -- ---- the plan of a place
 
@@ -47,23 +50,27 @@ module _ (plan : List ℕ) (p : ℕ) {x : PlaceMerged} where
   unfolding withPlace
   place-joins e = sym (ap (withPlace plan p) e)
 
--- the numbers of another place
-place-other : (plan : List ℕ) (p q : ℕ) (x : PlaceMerged) → (q ≡ p → ⊥) → (i : ℕ) → 4 * q ≤ i → i < 4 * q + 4 → getD (withPlace plan p x) i 0 ≡ getD plan i 0
+-- the numbers of other places
+place-other :
+    (plan : List ℕ) (p : ℕ) (x : PlaceMerged) (i : ℕ) → (4 * p ≤ i → i < 4 * p + 4 → ⊥) → getD (withPlace plan p x) i 0 ≡ getD plan i 0
 unfolding withPlace
-place-other plan p q (Stands x) ne i a b =
-    getD-set-other (withSet plan (4 * p) x) (4 * p + 3) i 0 0 (λ e. ne (omega arith))
-    ∙ put-other plan (4 * p) x i (λ e. ne (omega arith)) (λ e. ne (omega arith)) (λ e. ne (omega arith))
-place-other plan p q Joins ne i a b =
-    getD-set-other (set plan (4 * p + 2) 2) (4 * p + 3) i 1 0 (λ e. ne (omega arith))
-    ∙ getD-set-other plan (4 * p + 2) i 2 0 (λ e. ne (omega arith))
+place-other plan p (Stands x) i ne =
+    getD-set-other (withSet plan (4 * p) x) (4 * p + 3) i 0 0 (λ e. ne (omega arith) (omega arith))
+    ∙ put-other plan (4 * p) x i
+    (λ e. ne (omega arith) (omega arith))
+    (λ e. ne (omega arith) (omega arith))
+    (λ e. ne (omega arith) (omega arith))
+place-other plan p Joins i ne =
+    getD-set-other (set plan (4 * p + 2) 2) (4 * p + 3) i 1 0 (λ e. ne (omega arith) (omega arith))
+    ∙ getD-set-other plan (4 * p + 2) i 2 0 (λ e. ne (omega arith) (omega arith))
 
 plan-kept :
     (s plan : List ℕ) (p q : ℕ) (x : PlaceMerged) (vs : List Text) (xss : List (List Text)) → (q ≡ p → ⊥) → PlanAt s plan q vs xss →
     PlanAt s (withPlace plan p x) q vs xss
 plan-kept s plan p q x vs xss ne w =
-    let flag = place-other plan p q x ne (4 * q + 3) (omega arith) (omega arith) in
-    let count = place-other plan p q x ne (4 * q + 2) (omega arith) (omega arith) in
-    let stands = set-kept plan (withPlace plan p x) (4 * q) (λ i a b. place-other plan p q x ne i a (omega arith)) in
+    let flag = place-other plan p x (4 * q + 3) (λ a b. ne (omega arith)) in
+    let count = place-other plan p x (4 * q + 2) (λ a b. ne (omega arith)) in
+    let stands = set-kept plan (withPlace plan p x) (4 * q) (λ i f l. place-other plan p x i (λ a b. ne (omega arith))) in
     record { joins = λ e. w .joins (sym flag ∙ e); stands = λ n. rw stands (w .stands (λ e. n (flag ∙ e))); counts = rw count (w .counts) }
 
 -- a set that stands has its count, and one that is to be made has two values at least
@@ -96,15 +103,30 @@ plan-put s plan p Joins vs xss l h w =
     getD-set-other l₁ (4 * p + 3) (4 * p + 2) 1 0 (λ e. omega arith) ∙ getD-set-same plan (4 * p + 2) 2 0 (omega arith) in
     record { joins = λ e. w; stands = λ n. absurd (n flag); counts = rw count (tells-several (w .several)) }
 
+-- numbers that are 0 are an empty set, and the plan of a place that has no objects
+set-clear : (plan : List ℕ) (at : ℕ) → ((i : ℕ) → at ≤ i → i < at + 3 → getD plan i 0 ≡ 0) → setFrom plan at ≡ noSet
+unfolding setFrom
+set-clear plan at z = rw (z at (omega arith) (omega arith), z (at + 1) (omega arith) (omega arith), z (at + 2) (omega arith) (omega arith))
+
+plan-clear :
+    (s plan : List ℕ) (p : ℕ) (vs : List Text) (xss : List (List Text)) → vs ≡ [] →
+    ((i : ℕ) → 4 * p ≤ i → i < 4 * p + 4 → getD plan i 0 ≡ 0) → PlanAt s plan p vs xss
+plan-clear s plan p vs xss e z = record {
+  joins = λ f. absurd (omega (arith, f, z (4 * p + 3) (omega arith) (omega arith)));
+  stands = λ n. rw (set-clear plan (4 * p) (λ i a b. z i a (omega arith)), e) (no-set s);
+  counts = tells-same (z (4 * p + 2) (omega arith) (omega arith) ∙ sym (ap length e));
+}
+
 -- ---- the plan of all places
 
--- the first p places are planned
+-- the first p places are planned, and the numbers of the places from p on are 0
 pub record PlannedTo (s plan : List ℕ) (t : EventType) (d : Dossier) (p : ℕ) : Type 0 where
   pub each : (i : ℕ) → i < p → PlanAt s plan i (mergedAt (typeView t) d i) (column (d .snapshots) i)
+  pub clear : (i : ℕ) → 4 * p ≤ i → i < 128 → getD plan i 0 ≡ 0
 
 module _ (s plan : List ℕ) (t : EventType) (d : Dossier) where
-  pub planned-none : PlannedTo s plan t d 0
-  planned-none = record { each = λ i h. absurd (omega arith) }
+  pub planned-none : ((i : ℕ) → i < 128 → getD plan i 0 ≡ 0) → PlannedTo s plan t d 0
+  planned-none z = record { each = λ i h. absurd (omega arith); clear = λ i h l. z i l }
 
   pub planned-more :
       (p : ℕ) (x : PlaceMerged) {new : List ℕ} → length plan ≡ 128 → p < 32 → PlannedTo s plan t d p →
@@ -114,10 +136,17 @@ module _ (s plan : List ℕ) (t : EventType) (d : Dossier) where
         below-more (λ (i : ℕ). PlanAt s (withPlace plan p x) i (mergedAt (typeView t) d i) (column (d .snapshots) i)) p
         (λ i k. plan-kept s plan p i x (mergedAt (typeView t) d i) (column (d .snapshots) i) (λ e. omega arith) (w .each i k))
         (plan-put s plan p x (mergedAt (typeView t) d p) (column (d .snapshots) p) l h here);
+    clear = λ i a b. place-other plan p x i (λ f g. omega arith) ∙ w .clear i (omega arith) b;
   })
 
-  pub planned-all : (p : ℕ) → 32 ≤ p → PlannedTo s plan t d p → PlanIs s plan t d
-  planned-all p h w = record { each = λ i l. w .each i (omega arith) }
+  -- the places from p on have no objects
+  pub planned-all : (p : ℕ) → ((i : ℕ) → p ≤ i → mergedAt (typeView t) d i ≡ []) → PlannedTo s plan t d p → PlanIs s plan t d
+  planned-all p v w = record {
+    each = λ i l.
+        ⊎-elim (λ h. w .each i h)
+        (λ h. plan-clear s plan i (mergedAt (typeView t) d i) (column (d .snapshots) i) (v i h) (λ j a b. w .clear j (omega arith) (omega arith)))
+        (lt-or-ge i p);
+  }
 
 -- ---- which place is overfull
 

@@ -1,7 +1,7 @@
 -- The laws of writing a merged event: the union of a place, the sets of all places, and the whole.
 use mathlib.Core.Path.{_≡_, refl, sym, ap, _∙_, subst, subst₂}
 use mathlib.Core.List.{List, [], _++_, map, flatten}
-use Prim.Native.Nat.{ℕ, suc, _+_, _-_, _*_, _≤_, _<_}
+use Prim.Native.Nat.{ℕ, zero, suc, _+_, _-_, _*_, _≤_, _<_}
 use native.Mathlib.Omega.{arith}
 use native.Mathlib.Numerals.{add-one}
 use lib.ListN.{length, getD, length-append}
@@ -82,12 +82,17 @@ module _ (ty : EventType) (d : Dossier) where
   unfolding setsBytes flatten upFrom
   sets-next p h = let e : 32 - p ≡ suc (32 - (p + 1)) = omega arith in rw (e, add-one)
 
-  pub sets-end : (p : ℕ) → 32 ≤ p → setsFrom ty d p ≡ []
-  unfolding setsBytes flatten upFrom
-  sets-end p h = let e : 32 - p ≡ 0 = omega arith in rw e
+  -- the places from p on have no objects
+  pub sets-end : (p : ℕ) → ((i : ℕ) → p ≤ i → mergedAt (typeView ty) d i ≡ []) → setsFrom ty d p ≡ []
+  unfolding setsBytes setBytes flatten upFrom
+  sets-end p v = go (32 - p) p v
+    where
+      go : (n p : ℕ) → ((i : ℕ) → p ≤ i → mergedAt (typeView ty) d i ≡ []) → setsBytes (map (mergedAt (typeView ty) d) (upFrom p n)) ≡ []
+      go zero p v = refl
+      go (suc n) p v = rw (v p (omega arith)) (go n (suc p) (λ i l. v i (omega arith)))
 
 module _
-    {s rows : List ℕ} {n : ℕ} {plan : List ℕ} {at : ℕ} {l₀ : List ℕ} (q : SetsRoom s rows n plan at (length l₀))
+    {s rows : List ℕ} {n count : ℕ} {plan : List ℕ} {at : ℕ} {l₀ : List ℕ} (q : SetsRoom s rows n count plan at (length l₀))
     {l : List ℕ} {next : ℕ} (place : ℕ) (h : place < 32)
     (g : ToGo l₀ at (setsBytes (mergedSets (typeView (q .type)) (q .dossier))) l next (setsFrom (q .type) (q .dossier) place)) where
   abbrev this : List Text
@@ -139,7 +144,7 @@ module _
 
 -- ---- the whole event
 
-module _ {s : List ℕ} {d : DossierIndex} {rows plan : List ℕ} {size : ℕ} (w : Writable s d rows plan size) where
+module _ {s : List ℕ} {d : DossierIndex} {rows : List ℕ} {count : ℕ} {plan : List ℕ} {size : ℕ} (w : Writable s d rows count plan size) where
   abbrev sets : List (List Text)
   sets = mergedSets (typeView (w .type)) (modelOf (w .headed))
 
@@ -161,13 +166,14 @@ module _ {s : List ℕ} {d : DossierIndex} {rows plan : List ℕ} {size : ℕ} (
     presence-room = omega (arith, event-length, v .after, wrote-length v, e, ap (λ (k : ℕ). length (number k)) f)
 
     module _ {l₂ : List ℕ} {after-presence : ℕ} (u : Wrote l₁ at (number presence) l₂ after-presence) where
-      abbrev pub sets-room : SetsRoom s rows (d .count) plan after-presence (length l₂)
+      abbrev pub sets-room : SetsRoom s rows (d .count) count plan after-presence (length l₂)
       sets-room = record {
         type = w .type;
         dossier = modelOf (w .headed);
         stand = w .stand;
         count = sym (w .is .count);
         planned = w .planned;
+        vacant = w .vacant;
         room = omega (arith, event-length, v .after, wrote-length v, e, u .after, wrote-length u, ap (λ (k : ℕ). length (number k)) f);
       }
 

@@ -45,7 +45,7 @@ fn open_merged(
     plan_sets(s, rows, d.count, count, properties, &mut plan);
     match find_overfull(count, properties, &plan) {
         Lowest::Place(place) => Opened::Found(Finding::Overfull(place)),
-        Lowest::NoPlace => Opened::Merged(write_event(s, d, rows, &plan, out)),
+        Lowest::NoPlace => Opened::Merged(write_event(s, d, rows, count, &plan, out)),
     }
 }
 

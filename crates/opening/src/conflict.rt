@@ -25,13 +25,13 @@ pub enum Conflict {
     NoConflict,
 }
 
-// The lowest place whose differ bit is set.
+// The lowest place whose differ bit is set. Most numbers have no bit set, and where none is left no place is looked at.
 fn lowest_mark(differ: u64) -> Lowest
     ensures { λ r. ⌜ ((cs : List Cell) → differ ≡ bitNumber (map differBit cs) → lowestOf r ≡ lowest (λ p. isMark (getD cs p (holds []))) (upTo 32)) ⌝ }
 {
     let mut bits = differ;
     let mut k: usize = 0;
-    while k < 32 {
+    while k < 32 && 0 < bits {
         if bits % 2 == 1 {
             return Lowest::Place(k);
         }

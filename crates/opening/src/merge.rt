@@ -130,7 +130,7 @@ fn put_place(plan: &mut [usize], place: usize, x: PlaceMerged)
     }
 }
 
-// The merged sets of all places, before any is made. A place without a property has no objects.
+// The merged sets of all places, before any is made. A place without a property has no objects: its numbers stay 0, as they are lent.
 pub fn plan_sets(
     s: &[u8],
     rows: &[usize],
@@ -140,22 +140,14 @@ pub fn plan_sets(
     plan: &mut [usize],
 )
     requires { ⌜ (count ≤ 32) × (1 ≤ n) × (n ≤ 8) × (length (now rows) ≡ 768) × (length (now properties) ≡ 96) × (length (now plan) ≡ 128) ⌝ }
+    requires { ⌜ ((i : ℕ) → i < 128 → getD (now plan) i 0 ≡ 0) ⌝ }
     ensures { λ r. ⌜ ((u : List ℕ) (ty : EventType) (d : Dossier) → PropertiesAre u (ty .properties) count (now (properties .entry))
         → Mergeable (now (s .entry)) (now (rows .entry)) n ty d → PlanIs (now (s .entry)) (now (plan .exit)) ty d) ⌝ }
 {
-    let none = SetAt {
-        start: 0,
-        end: 0,
-        count: 0,
-    };
     let mut p: usize = 0;
-    while p < 32 {
-        if p < count {
-            let rule = rule_of(property_at(properties, p));
-            put_place(plan, p, merged_at(s, rows, p, n, rule));
-        } else {
-            put_place(plan, p, PlaceMerged::Stands(none));
-        }
+    while p < count {
+        let rule = rule_of(property_at(properties, p));
+        put_place(plan, p, merged_at(s, rows, p, n, rule));
         p += 1;
     }
 }

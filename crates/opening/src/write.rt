@@ -43,22 +43,24 @@ fn write_joined(
     write_before(out, at, joined.next, joined.count as u64)
 }
 
-// The merged set of each place. One that stands already is copied, and nothing is written of an empty one.
+// The merged set of each place that has a property. One that stands already is copied, and nothing is written of an empty one.
 fn write_sets(
     s: &[u8],
     rows: &[usize],
     n: usize,
+    count: usize,
     plan: &[usize],
     out: &mut [u8],
     at: usize,
 ) -> usize
-    requires { ⌜ (length (now rows) ≡ 768) × (length (now plan) ≡ 128) × (n ≤ 8) × SetsRoom (now s) (now rows) n (now plan) at (length (now out)) ⌝ }
-    ensures { λ r. ⌜ ((p : SetsRoom (now (s .entry)) (now (rows .entry)) n (now (plan .entry)) at (length (now (out .entry))))
+    requires { ⌜ (length (now rows) ≡ 768) × (length (now plan) ≡ 128) × (n ≤ 8) × (count ≤ 32) ⌝ }
+    requires { ⌜ SetsRoom (now s) (now rows) n count (now plan) at (length (now out)) ⌝ }
+    ensures { λ r. ⌜ ((p : SetsRoom (now (s .entry)) (now (rows .entry)) n count (now (plan .entry)) at (length (now (out .entry))))
         → Wrote (now (out .entry)) at (setsBytes (mergedSets (typeView (p .type)) (p .dossier))) (now (out .exit)) r) ⌝ }
 {
     let mut next = at;
     let mut p: usize = 0;
-    while p < 32 {
+    while p < count {
         if plan[4 * p + 3] == 1 {
             next = write_joined(s, rows, p, n, out, next);
         } else {
@@ -74,11 +76,12 @@ pub fn write_event(
     s: &[u8],
     d: DossierIndex,
     rows: &[usize],
+    count: usize,
     plan: &[usize],
     out: &mut [u8],
 ) -> usize
-    requires { ⌜ (length (now rows) ≡ 768) × (length (now plan) ≡ 128) × Writable (now s) d (now rows) (now plan) (length (now out)) ⌝ }
-    ensures { λ r. ⌜ ((w : Writable (now (s .entry)) d (now (rows .entry)) (now (plan .entry)) (length (now (out .entry))))
+    requires { ⌜ (length (now rows) ≡ 768) × (length (now plan) ≡ 128) × (count ≤ 32) × Writable (now s) d (now rows) count (now plan) (length (now out)) ⌝ }
+    ensures { λ r. ⌜ ((w : Writable (now (s .entry)) d (now (rows .entry)) count (now (plan .entry)) (length (now (out .entry))))
         → Wrote (now (out .entry)) 0 (eventBytes (mergedEvent (w .headed) (mergedSets (typeView (w .type)) (modelOf (w .headed))))) (now (out .exit)) r) ⌝ }
 {
     let head = d.head;
@@ -87,5 +90,5 @@ pub fn write_event(
     let hashes = hashes_part(s, head.parents);
     let after_head = write_head(name, source, hashes, out, 0);
     let after_presence = write_number(out, after_head, presence_of(plan));
-    write_sets(s, rows, d.count, plan, out, after_presence)
+    write_sets(s, rows, d.count, count, plan, out, after_presence)
 }

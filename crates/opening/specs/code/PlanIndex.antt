@@ -1,7 +1,7 @@
 -- What is planned of the merged sets before any is made, and the room that they have in the output.
 use Prim.Native.Nat.{ℕ, _+_, _*_, _≤_, _<_}
 use mathlib.Core.Path.{_≡_}
-use mathlib.Core.List.{List, flatten}
+use mathlib.Core.List.{List, [], flatten}
 use lib.Dec.{ltb, leb}
 use lib.ListN.{length, getD, set}
 use Rattle.model.specs.Order.{Text, texts}
@@ -60,18 +60,22 @@ pub record JoinedRoom (s rows : List ℕ) (place n at size : ℕ) : Type 0 where
   pub some : 1 ≤ length (canon texts (flatten (column snapshots place)))
   pub room : at + length (setBytes (canon texts (flatten (column snapshots place)))) ≤ size
 
-pub record SetsRoom (s rows : List ℕ) (n : ℕ) (plan : List ℕ) (at size : ℕ) : Type 0 where
+-- the merged sets, of which those from place k on are empty
+pub record SetsRoom (s rows : List ℕ) (n k : ℕ) (plan : List ℕ) (at size : ℕ) : Type 0 where
   pub type : EventType
   pub dossier : Dossier
   pub stand : CellsStand s (dossier .snapshots) rows
   pub count : length (dossier .snapshots) ≡ n
   pub planned : PlanIs s plan type dossier
+  pub vacant : (p : ℕ) → k ≤ p → mergedAt (typeView type) dossier p ≡ []
   pub room : at + length (setsBytes (mergedSets (typeView type) dossier)) ≤ size
 
-pub record Writable (s : List ℕ) (d : DossierIndex) (rows plan : List ℕ) (size : ℕ) : Type 0 where
+-- the merged event, whose sets from place k on are empty
+pub record Writable (s : List ℕ) (d : DossierIndex) (rows : List ℕ) (k : ℕ) (plan : List ℕ) (size : ℕ) : Type 0 where
   pub type : EventType
   pub headed : Headed
   pub is : DossierIs s headed d
   pub stand : CellsStand s (headed .snapshots) rows
   pub planned : PlanIs s plan type (modelOf headed)
+  pub vacant : (p : ℕ) → k ≤ p → mergedAt (typeView type) (modelOf headed) p ≡ []
   pub room : length (eventBytes (mergedEvent headed (mergedSets (typeView type) (modelOf headed)))) ≤ size

@@ -3,6 +3,7 @@ use mathlib.Core.Path.{refl}
 use mathlib.Core.List.{List}
 use Prim.Native.Nat.{ℕ}
 use denote.Ref.{now}
+use lib.ListN.{getD-replicate}
 use Rattle.dossier.specs.DossierLayout.{modelOf}
 use Rattle.opening.specs.code.OpenIndex.{Openable}
 use Rattle.opening.specs.code.PlanIndex.{PlanIs}
@@ -44,7 +45,7 @@ slice-aggregate-plan-sets c = search needs
 plan-sets-requires : tie.Need-plan-sets-requires
 plan-sets-requires c κs =
     let m = to-start c .pre in
-    (m .1 .typed .few, m .1 .is .one, m .1 .is .few, m .0 .0, m .0 .1, refl)
+    ((m .1 .typed .few, m .1 .is .one, m .1 .is .few, m .0 .0, m .0 .1, refl), λ i h. getD-replicate 128 i 0 0 h)
 
 slice-aggregate-find-overfull : tie.Need-slice-aggregate-find-overfull
 slice-aggregate-find-overfull c = search needs
@@ -67,7 +68,7 @@ write-event-requires : tie.Need-write-event-requires
 write-event-requires c κs =
     let at-plan = to-plan (to-find c) in
     let m = to-start (at-plan .before) .pre in
-    (m .0 .0, search needs, writable _ _ _ _ _ (m .1) _ _ (planned at-plan (m .1)) (m .0 .2))
+    (m .0 .0, search needs, m .1 .typed .few, writable _ _ _ _ _ (m .1) _ _ (planned at-plan (m .1)) (m .0 .2))
 
 returns : tie.Need-returns
 returns c =

@@ -45,7 +45,7 @@ hashes-part-requires c κs = search needs
 
 write-head-requires : tie.Need-write-head-requires
 write-head-requires c κs =
-    let w = to-start c .pre .2 in
+    let w = to-start c .pre .3 in
     record { head = w .headed .head; parts = parts c _ (w .is .head); room = omega (arith, event-length w) }
 
 presence-of-requires : tie.Need-presence-of-requires
@@ -54,7 +54,7 @@ presence-of-requires c κs = search needs
 write-number-requires : tie.Need-write-number-requires
 write-number-requires c κs =
     let at-head = to-head c in
-    let w = to-start (at-head .before) .pre .2 in
+    let w = to-start (at-head .before) .pre .3 in
     presence-room w refl (at-head .write-head .ensures _ (parts (at-head .before) _ (w .is .head))) _ (c .presence-of .ensures _ _ _ (w .planned))
 
 write-sets-requires : tie.Need-write-sets-requires
@@ -62,10 +62,10 @@ write-sets-requires c κs =
     let at-presence = to-presence c in
     let at-head = to-head at-presence in
     let m = to-start (at-head .before) .pre in
-    let w = m .2 in
+    let w = m .3 in
     let head = at-head .write-head .ensures _ (parts (at-head .before) _ (w .is .head)) in
     let presence = at-presence .presence-of .ensures _ _ _ (w .planned) in
-    (m .0, m .1, w .is .few, sets-room w refl head _ presence (c .before .before .before .write-number .ensures))
+    ((m .0, m .1, w .is .few, m .2), sets-room w refl head _ presence (c .before .before .before .write-number .ensures))
 
 same-length : tie.Need-same-length
 same-length c = search needs

@@ -1,5 +1,6 @@
 use borrow.Author.Needs.{needs}
-use Prim.Native.Nat.{_-_}
+use native.Mathlib.Omega.{arith}
+use Prim.Native.Nat.{_-_, _<_}
 use mathlib.Core.Logic.{⊎-elim}
 use lib.ListN.{length}
 use Rattle.model.specs.Opening.{mergedSets}
@@ -13,12 +14,12 @@ use Rattle.opening.proofs.write.write_sets.Statement.{statement}
 use Rattle.opening.proofs.write.write_sets.Tie as tie
 
 abbrev Inv-loop : tie.InvT-loop
-Inv-loop s rows n plan out₀ at next₀ p₀ out next p =
-    (q : SetsRoom s rows n plan at (length out₀)) →
+Inv-loop s rows n count plan out₀ at next₀ p₀ out next p =
+    (q : SetsRoom s rows n count plan at (length out₀)) →
     ToGo out₀ at (setsBytes (mergedSets (typeView (q .type)) (q .dossier))) out next (setsFrom (q .type) (q .dossier) p)
 
 abbrev μ-loop : tie.MeasureT-loop
-μ-loop s rows n plan out₀ at next₀ p₀ out next p = 32 - p
+μ-loop s rows n count plan out₀ at next₀ p₀ out next p = count - p
 
 -- ---- the places
 
@@ -30,6 +31,12 @@ to-turn c = c .before .before .before
 
 abbrev set-to-turn : tie.After-set-from Inv-loop μ-loop → tie.In-loop Inv-loop μ-loop
 set-to-turn c = c .before .before .before
+
+-- ---- the facts
+
+-- the place is one of 32
+inside : (c : tie.In-loop Inv-loop μ-loop) → c .before .loop .p < 32
+inside c = omega (arith, c .loop-test .taken, to-start (c .before) .pre .0 .3)
 
 -- ---- the needs
 
@@ -53,8 +60,8 @@ write-joined-requires c κs =
     let turn = to-turn c in
     let l = turn .before .loop in
     let m = to-start (turn .before) .pre in
-    let h = turn .loop-test .taken in
-    (m .0, h, m .2, joined-room (m .3) (l .p) h (l .inv (m .3)) (c .before .if1 .taken))
+    let h = inside turn in
+    (m .0 .0, h, m .0 .2, joined-room (m .1) (l .p) h (l .inv (m .1)) (c .before .if1 .taken))
 
 mul-set-from : tie.Need-mul-set-from Inv-loop μ-loop
 mul-set-from c = search needs
@@ -67,8 +74,8 @@ write-set-requires c κs =
     let found = c .before in
     let turn = set-to-turn found in
     let l = turn .before .loop in
-    let q = to-start (turn .before) .pre .3 in
-    standing-room q (l .p) (turn .loop-test .taken) (l .inv q) (found .set-from .ensures) (found .before .if1 .left)
+    let q = to-start (turn .before) .pre .1 in
+    standing-room q (l .p) (inside turn) (l .inv q) (found .set-from .ensures) (found .before .if1 .left)
 
 add-p : tie.Need-add-p Inv-loop μ-loop
 add-p c = search needs
@@ -80,7 +87,7 @@ loop-again : tie.Need-loop-again Inv-loop μ-loop
 loop-again c =
     let turn = c .before .before in
     let l = turn .before .loop in
-    let h = turn .loop-test .taken in
+    let h = inside turn in
     λ q.
     let g = l .inv q in
     ⊎-elim
@@ -93,10 +100,10 @@ loop-again c =
     (c .if1 .came)
 
 same-length : tie.Need-same-length Inv-loop μ-loop
-same-length c = c .before .loop .inv (to-start (c .before) .pre .3) .long
+same-length c = c .before .loop .inv (to-start (c .before) .pre .1) .long
 
 returns : tie.Need-returns Inv-loop μ-loop
-returns c = λ q. all-gone (c .before .loop .inv q) (sets-end (q .type) (q .dossier) _ (c .loop-test .left))
+returns c = λ q. all-gone (c .before .loop .inv q) (sets-end (q .type) (q .dossier) _ (λ i l. q .vacant i (omega (arith, c .loop-test .left, l))))
 
 pub write-sets-spec : {M : Type 1} → statement M
 write-sets-spec =
