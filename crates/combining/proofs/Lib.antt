@@ -4,6 +4,7 @@ pub mod CheckLaws
 pub mod MeetLaws
 pub mod CountLaws
 pub mod ObjectLaws
+pub mod SelfLaws
 pub mod FitLaws
 pub mod AgreedLaws
 pub mod JoinedLaws

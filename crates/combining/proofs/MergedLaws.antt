@@ -9,12 +9,12 @@ use lib.Dec.{leb}
 use lib.ListN.{length, take, drop, getD, length-append, drop-of-length-le, List·getD-map}
 use lib.Seq.{drop-cons, drop-drop, take-at}
 use borrow.Author.Tests.{lt-ltb, le-ltb, le-leb, lt-leb}
-use Rattle.model.specs.Order.{texts, numbers, pick}
+use Rattle.model.specs.Order.{texts, numbers, pick, equal}
 use Rattle.model.proofs.Cases.{three}
 use Rattle.model.specs.Keyed.{Rising, merge}
 use Rattle.model.specs.Sets.{union}
 use Rattle.model.specs.Rule.{Snapshot, joinSnapshots, combine}
-use Rattle.model.proofs.OrderLaws.{less-of, less-cmp, less-turn, more-turn}
+use Rattle.model.proofs.OrderLaws.{less-of, less-cmp, less-turn, more-turn, equal-true}
 use Rattle.model.proofs.KeyedLaws.{merge-left, merge-right, merge-meet, merge-nil, above-trans}
 use Rattle.model.specs.Limits.{fits, standard}
 use Rattle.packed.specs.Packed.{number, part}
@@ -39,10 +39,11 @@ use Rattle.dossier.proofs.VersionLaws.{cells-are}
 use Rattle.dossier.specs.DossierHead.{dossierHeadBytes}
 use Rattle.combining.proofs.RoomLaws.{combined-parents}
 use Rattle.combining.specs.CombineCall.{headedAs, combined}
-use Rattle.combining.specs.code.CombineIndex.{Combinable, Shared, AgreedRoom, JoinedRoom}
+use Rattle.combining.specs.code.CombineIndex.{Combinable, Meet, Shared, AgreedRoom, JoinedRoom}
 use Rattle.combining.specs.code.WriteIndex.{SharedRoom, bytesFrom, RestRoom, HeadsAre, bothHeads}
 use Rattle.combining.proofs.MeetLaws.{versionIn, taken-rises, left-taken, right-taken, meet}
 use Rattle.combining.proofs.CountLaws.{versionAt, version-at}
+use Rattle.combining.proofs.SelfLaws.{same-joined}
 use Rattle.combining.proofs.FitLaws.{left-hashes, right-hashes, whole-versions}
 
 -- ---- writes
@@ -52,6 +53,13 @@ nothing-wrote e = all-gone to-go e
 
 -- ---- two snapshots of one version
 
+-- two of the same bytes have these bytes together
+pub same-written :
+    {ty : EventType} {x y : Snapshot} {left right : List ℕ} → Meet ty x y → left ≡ snapshotBytes x → right ≡ snapshotBytes y →
+    equal texts left right ≡ true → left ≡ snapshotBytes (joinSnapshots (typeView ty) x y)
+same-written {ty} {x} {y} {left} {right} m p q e =
+    p ∙ ap snapshotBytes (sym (same-joined m (sym p ∙ equal-true texts left right .0 e ∙ q)))
+
 module _ {table : List ℕ} {ty : EventType} {t : TypeIndex} {ps : List ℕ} (w : TypeIs table ty t ps) where
   pub is-versioned : 0 < t .mark → isVersioned ty ≡ true
   is-versioned h = lt-ltb 0 (ty .mark) (omega (arith, w .mark))
@@ -60,8 +68,11 @@ module _ {table : List ℕ} {ty : EventType} {t : TypeIndex} {ps : List ℕ} (w 
   not-versioned h = le-ltb 0 (ty .mark) (omega (arith, w .mark))
 
 module _
-    {version : EventVersion} {a x b y : List ℕ} {m n : ℕ} {t : TypeIndex} {ps : List ℕ} {at size : ℕ}
-    (r : SharedRoom version a x m b y n t ps at size) where
+    {version : EventVersion} {a x b y left right : List ℕ} {m n : ℕ} {t : TypeIndex} {ps : List ℕ} {at size : ℕ}
+    (r : SharedRoom version a x m b y n left right t ps at size) where
+  pub same-room : equal texts left right ≡ true → at + length left ≤ size
+  same-room e = omega (arith, r .room, ap length (same-written (r .shared .meet) (r .left-bytes) (r .right-bytes) e))
+
   pub agreed-room : 0 < t .mark → AgreedRoom version a x m b y n at size
   agreed-room h = record {
     type = r .type;
@@ -87,6 +98,10 @@ module _
   }
 
 -- ---- the snapshots of one side
+
+-- what `part_of` says of its answer p
+abbrev StandsIn : List ℕ → ℕ → ℕ → List ℕ → Type 0
+StandsIn s start end p = start ≤ end → end ≤ length s → p ≡ part s start end
 
 abbrev Rises : List Snapshot → Type 0
 Rises = Rising numbers versionIn
@@ -349,17 +364,27 @@ module _
           right-is = cells-are b rightOne _ (rowOf right j) y;
         }
 
+    -- the parts of a and b that `part_of` lends are their bytes
+    pub left-bytes : {p : List ℕ} → StandsIn a (getD (d .starts) i 0) (getD (d .ends) i 0) p → p ≡ snapshotBytes leftOne
+    left-bytes w = let s = c .left-read .snapshots .each i (omega (arith, c .left-read .count)) in w (s .order) (s .within) ∙ s .bytes
+
+    pub right-bytes : {q : List ℕ} → StandsIn b (getD (e .starts) j 0) (getD (e .ends) j 0) q → q ≡ snapshotBytes rightOne
+    right-bytes w = let s = c .right-read .snapshots .each j (omega (arith, c .right-read .count)) in w (s .order) (s .within) ∙ s .bytes
+
     pub shared-room :
         (at size : ℕ) → at + length (nextBytes i j) ≤ size →
         versionAt (e .versions) j ≤ versionAt (d .versions) i → versionAt (d .versions) i ≤ versionAt (e .versions) j →
-        SharedRoom (getD (d .versions) i noVersion) a (rowOf left i) (getD (d .differs) i 0) b (rowOf right j) (getD (e .differs) j 0) t ps at size
-    shared-room at size room h k = record {
+        {p q : List ℕ} → p ≡ snapshotBytes leftOne → q ≡ snapshotBytes rightOne →
+        SharedRoom (getD (d .versions) i noVersion) a (rowOf left i) (getD (d .differs) i 0) b (rowOf right j) (getD (e .differs) j 0) p q t ps at size
+    shared-room at size room h k p-is q-is = record {
       table = table;
       type = c .known .left .type;
       left = leftOne;
       right = rightOne;
       typed = c .known .typed;
       shared = next-shared h k;
+      left-bytes = p-is;
+      right-bytes = q-is;
       room = omega (arith, ap length (next-both h k));
     }
 

@@ -23,12 +23,15 @@ use dossier::head::write_dossier_head;
 use event::head::hashes_part;
 use event::head::text_part;
 use ontology::types::TypeIndex;
+use packed::order::same;
+use packed::read::part_of;
+use packed::write::copy;
 use packed::write::copy_part;
 use packed::write::write_number;
 use unions::pair::write_hash_union;
 use values::versions::EventVersion;
 
-// Writes what two snapshots of one version are together.
+// Writes what two snapshots of one version are together, of which `left` and `right` are the bytes.
 fn write_shared<'a>(
     version: EventVersion,
     a: &'a [u8],
@@ -37,17 +40,24 @@ fn write_shared<'a>(
     b: &'a [u8],
     y: &[usize],
     n: u64,
+    left: &[u8],
+    right: &[u8],
     t: TypeIndex,
     properties: &[usize],
     out: &mut [u8],
     at: usize,
 ) -> usize
     requires { ⌜ (length (now x) ≡ 96) × (length (now y) ≡ 96) × (length (now properties) ≡ 96)
-        × SharedRoom version (now a) (now x) m (now b) (now y) n t (now properties) at (length (now out)) ⌝ }
-    ensures { λ r. ⌜ ((u : List ℕ) (ty : EventType) (left right : Snapshot) → TypeIs u ty t (now (properties .entry))
-        → Shared version (now (a .entry)) (now (x .entry)) m (now (b .entry)) (now (y .entry)) n ty left right
-        → Wrote (now (out .entry)) at (snapshotBytes (joinSnapshots (typeView ty) left right)) (now (out .exit)) r) ⌝ }
+        × SharedRoom version (now a) (now x) m (now b) (now y) n (now left) (now right) t (now properties) at (length (now out)) ⌝ }
+    ensures { λ r. ⌜ ((u : List ℕ) (ty : EventType) (g h : Snapshot) → TypeIs u ty t (now (properties .entry))
+        → Shared version (now (a .entry)) (now (x .entry)) m (now (b .entry)) (now (y .entry)) n ty g h
+        → now (left .entry) ≡ snapshotBytes g → now (right .entry) ≡ snapshotBytes h
+        → Wrote (now (out .entry)) at (snapshotBytes (joinSnapshots (typeView ty) g h)) (now (out .exit)) r) ⌝ }
 {
+    // a snapshot together with itself is itself
+    if same(left, right) {
+        return copy(left, out, at);
+    }
     if 0 < t.mark {
         return write_agreed(version, a, x, m, b, y, n, out, at);
     }
@@ -110,6 +120,8 @@ fn write_snapshots<'a>(
                 b,
                 &right[96 * j..96 * j + 96],
                 e.differs[j],
+                part_of(a, d.starts[i], d.ends[i]),
+                part_of(b, e.starts[j], e.ends[j]),
                 t,
                 properties,
                 out,

@@ -25,15 +25,18 @@ use Rattle.dossier.specs.DossierHead.{dossierHeadBytes}
 use Rattle.combining.specs.CombineCall.{combined, headedAs}
 use Rattle.combining.specs.code.CombineIndex.{Combinable, Shared}
 
--- what two snapshots of one version are together has its room in an output of `size` bytes
+-- what two snapshots of one version are together, which have the bytes p and q, has its room in an output of `size` bytes
 pub record SharedRoom
-    (version : EventVersion) (a x : List ℕ) (m : ℕ) (b y : List ℕ) (n : ℕ) (t : TypeIndex) (ps : List ℕ) (at size : ℕ) : Type 0 where
+    (version : EventVersion) (a x : List ℕ) (m : ℕ) (b y : List ℕ) (n : ℕ) (p q : List ℕ) (t : TypeIndex) (ps : List ℕ)
+    (at size : ℕ) : Type 0 where
   pub table : List ℕ
   pub type : EventType
   pub left : Snapshot
   pub right : Snapshot
   pub typed : TypeIs table type t ps
   pub shared : Shared version a x m b y n type left right
+  pub left-bytes : p ≡ snapshotBytes left
+  pub right-bytes : q ≡ snapshotBytes right
   pub room : at + length (snapshotBytes (joinSnapshots (typeView type) left right)) ≤ size
 
 -- the bytes of the snapshots from the i-th on

@@ -1,48 +1,79 @@
+use mathlib.Core.Path.{_≡_, sym, _∙_}
+use mathlib.Core.Bool.{true}
+use denote.Ref.{now}
+use Rattle.model.specs.Order.{texts, equal}
+use Rattle.packed.proofs.WriteLaws.{wrote-as}
+use Rattle.combining.proofs.MergedLaws.{same-written, same-room, is-versioned, not-versioned, agreed-room, joined-room}
 use borrow.Author.Needs.{needs}
-use Rattle.combining.proofs.MergedLaws.{is-versioned, not-versioned, agreed-room, joined-room}
 use Rattle.combining.proofs.write.write_shared.Statement.{statement}
 use Rattle.combining.proofs.write.write_shared.Tie as tie
 
 -- ---- the places
 
-abbrev to-start : tie.After-struct-known → tie.Start
-to-start c = c .before .before .before .before .before .before .before
+abbrev to-start : tie.After-same → tie.Start
+to-start c = c .before .before .before .before .before .before .before .before .before
+
+abbrev of-type : tie.After-struct-known → tie.Start
+of-type c = to-start (c .before .before)
+
+-- ---- the facts
+
+alike : (c : tie.Then1) → let a = to-start (c .before) .args in equal texts (now (a .left)) (now (a .right)) ≡ true
+alike c = sym (c .before .same .ensures) ∙ c .if1 .taken
 
 -- ---- the needs
 
-write-agreed-requires : tie.Need-write-agreed-requires
-write-agreed-requires c κs =
-    let p = to-start (c .before .before) .pre in
-    (p .0, p .1, agreed-room (p .3) (c .before .if1 .taken))
+same-requires : tie.Need-same-requires
+same-requires c κs = search needs
+
+copy-requires : tie.Need-copy-requires
+copy-requires c κs = same-room (to-start (c .before .before) .pre .3) (alike (c .before))
 
 same-length : tie.Need-same-length
 same-length c = search needs
 
 returns : tie.Need-returns
-returns c = λ u ty x y w s.
-    let wrote = c .before .before in
-    wrote .write-agreed .ensures ty x y (is-versioned w (wrote .before .before .if1 .taken)) s
+returns c = λ u ty x y w s p q.
+    let copied = c .before .before in
+    wrote-as (same-written (s .meet) p q (alike (copied .before .before))) (copied .copy .ensures)
 
-write-joined-requires : tie.Need-write-joined-requires
-write-joined-requires c κs =
-    let p = to-start (c .before .before) .pre in
-    (p .0, p .1, p .2, joined-room (p .3) (c .before .if1 .left))
+write-agreed-requires : tie.Need-write-agreed-requires
+write-agreed-requires c κs =
+    let p = of-type (c .before .before) .pre in
+    (p .0, p .1, agreed-room (p .3) (c .before .if2 .taken))
 
 same-length-2 : tie.Need-same-length-2
 same-length-2 c = search needs
 
 returns-2 : tie.Need-returns-2
-returns-2 c = λ u ty x y w s.
+returns-2 c = λ u ty x y w s p q.
     let wrote = c .before .before in
-    wrote .write-joined .ensures u ty x y (w .are) (not-versioned w (wrote .before .before .if1 .left)) (s .meet) (s .left-is .sets) (s .right-is .sets)
+    wrote .write-agreed .ensures ty x y (is-versioned w (wrote .before .before .if2 .taken)) s
+
+write-joined-requires : tie.Need-write-joined-requires
+write-joined-requires c κs =
+    let p = of-type (c .before .before) .pre in
+    (p .0, p .1, p .2, joined-room (p .3) (c .before .if2 .left))
+
+same-length-3 : tie.Need-same-length-3
+same-length-3 c = search needs
+
+returns-3 : tie.Need-returns-3
+returns-3 c = λ u ty x y w s p q.
+    let wrote = c .before .before in
+    wrote .write-joined .ensures u ty x y (w .are) (not-versioned w (wrote .before .before .if2 .left)) (s .meet) (s .left-is .sets) (s .right-is .sets)
 
 pub write-shared-spec : {M : Type 1} → statement M
 write-shared-spec =
     tie.close
     (tie.spec
-    write-agreed-requires
+    same-requires
+    copy-requires
     same-length
     returns
-    write-joined-requires
+    write-agreed-requires
     same-length-2
-    returns-2)
+    returns-2
+    write-joined-requires
+    same-length-3
+    returns-3)

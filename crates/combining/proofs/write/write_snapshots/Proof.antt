@@ -1,15 +1,17 @@
 use mathlib.Core.Path.{_≡_, refl, _∙_}
 use mathlib.Core.List.{List, map, flatten}
 use Prim.Native.Nat.{ℕ, _+_, _-_, _≤_, _<_}
-use lib.ListN.{length}
+use lib.ListN.{length, getD}
 use denote.Ref.{now}
 use Rattle.packed.specs.code.Written.{ToGo}
 use Rattle.packed.proofs.WriteLaws.{wrote-length}
 use Rattle.dossier.specs.DossierBody.{snapshotBytes}
+use Rattle.dossier.specs.code.DossierIndex.{noSnapshot}
 use Rattle.combining.specs.CombineCall.{combined}
 use Rattle.combining.specs.code.CombineIndex.{Combinable}
 use Rattle.combining.proofs.MergedLaws.{mergedBytes, nextBytes, merged-to-go, left-room, right-room, next-room, left-there, right-there}
-use Rattle.combining.proofs.MergedLaws.{row-long, shared-room, next-shared, left-wrote, right-wrote, left-turn, right-turn, both-turn}
+use Rattle.combining.proofs.MergedLaws.{row-long, left-bytes, right-bytes, shared-room, next-shared}
+use Rattle.combining.proofs.MergedLaws.{left-wrote, right-wrote, left-turn, right-turn, both-turn}
 use native.Mathlib.Omega.{arith}
 use borrow.Author.Needs.{needs}
 use Rattle.combining.proofs.write.write_snapshots.Statement.{statement}
@@ -42,15 +44,21 @@ right-lower c = to-turn (c .before .before .before .before)
 abbrev of-one : tie.Else3 Inv-loop μ-loop → tie.Else1 Inv-loop μ-loop
 of-one c = to-turn (c .before .before .before .before)
 
+abbrev parts-to-one : tie.After-part-of2 Inv-loop μ-loop → tie.Else3 Inv-loop μ-loop
+parts-to-one c = c .before .before .before .before .before .before .before .before .before .before
+
 abbrev shared-to-one : tie.After-write-shared-arg5 Inv-loop μ-loop → tie.Else3 Inv-loop μ-loop
-shared-to-one c = c .before .before .before .before .before
+shared-to-one c = parts-to-one (c .before)
 
 -- ---- the two dossiers
 
 module _ (c : tie.At-loop Inv-loop μ-loop) where
-  abbrev both :
+  abbrev Both : List ℕ → Type 0
+  Both table =
       let a = to-start c .args in
-      Combinable (to-start c .pre .3 .table) (now (a .a)) (a .t2) (now (a .left)) (now (a .b)) (a .t5) (now (a .right)) (a .t) (now (a .properties))
+      Combinable table (now (a .a)) (a .t2) (now (a .left)) (now (a .b)) (a .t5) (now (a .right)) (a .t) (now (a .properties))
+
+  abbrev both : Both (to-start c .pre .3 .table)
   both = to-start c .pre .3 .both
 
 -- ---- what is known of the turn
@@ -76,6 +84,24 @@ module _ (c : tie.Else1 Inv-loop μ-loop) where
 
   right-low : c .before .before .loop .j < 8
   right-low = omega (arith, both (c .before .before) .right-read .few, right-in)
+
+-- ---- the parts that are lent are the bytes of the two snapshots
+
+module _ (c : tie.After-part-of2 Inv-loop μ-loop) where
+  abbrev turn-of : tie.Else1 Inv-loop μ-loop
+  turn-of = of-one (parts-to-one c)
+
+  abbrev loop-of : tie.At-loop Inv-loop μ-loop
+  loop-of = turn-of .before .before
+
+  module _ {table : List ℕ} (h : Both loop-of table) where
+    left-part :
+        now (c .before .before .before .part-of .result) ≡ snapshotBytes (getD (h .known .left .headed .snapshots) (loop-of .loop .i) noSnapshot)
+    left-part =
+        left-bytes h (loop-of .loop .i) (loop-of .loop .j) (left-in turn-of) (right-in turn-of) (c .before .before .before .part-of .ensures)
+
+    right-part : now (c .part-of2 .result) ≡ snapshotBytes (getD (h .known .right .headed .snapshots) (loop-of .loop .j) noSnapshot)
+    right-part = right-bytes h (loop-of .loop .i) (loop-of .loop .j) (left-in turn-of) (right-in turn-of) (c .part-of2 .ensures)
 
 -- ---- the needs
 
@@ -240,6 +266,36 @@ mul-write-shared-8 c = search needs
 element-copy-out-write-shared-2 : tie.Need-element-copy-out-write-shared-2 Inv-loop μ-loop
 element-copy-out-write-shared-2 c = search needs
 
+mul-part-of : tie.Need-mul-part-of Inv-loop μ-loop
+mul-part-of c = search needs
+
+element-copy-out-part-of : tie.Need-element-copy-out-part-of Inv-loop μ-loop
+element-copy-out-part-of c = search needs
+
+mul-part-of-2 : tie.Need-mul-part-of-2 Inv-loop μ-loop
+mul-part-of-2 c = search needs
+
+element-copy-out-part-of-2 : tie.Need-element-copy-out-part-of-2 Inv-loop μ-loop
+element-copy-out-part-of-2 c = search needs
+
+part-of-requires : tie.Need-part-of-requires Inv-loop μ-loop
+part-of-requires c κs = search needs
+
+mul-part-of-3 : tie.Need-mul-part-of-3 Inv-loop μ-loop
+mul-part-of-3 c = search needs
+
+element-copy-out-part-of-3 : tie.Need-element-copy-out-part-of-3 Inv-loop μ-loop
+element-copy-out-part-of-3 c = search needs
+
+mul-part-of-4 : tie.Need-mul-part-of-4 Inv-loop μ-loop
+mul-part-of-4 c = search needs
+
+element-copy-out-part-of-4 : tie.Need-element-copy-out-part-of-4 Inv-loop μ-loop
+element-copy-out-part-of-4 c = search needs
+
+part-of-requires-2 : tie.Need-part-of-requires-2 Inv-loop μ-loop
+part-of-requires-2 c κs = search needs
+
 write-shared-requires : tie.Need-write-shared-requires Inv-loop μ-loop
 write-shared-requires c κs =
     let one = shared-to-one c in
@@ -249,7 +305,8 @@ write-shared-requires c κs =
       row-long _ _ (p .0) (left-low turn),
       row-long _ _ (p .1) (right-low turn),
       p .2,
-      shared-room (p .3 .both) (l .i) (l .j) (left-in turn) (right-in turn) _ _ (room turn) (one .before .before .before .if2 .left) (one .if3 .left),
+      shared-room (p .3 .both) (l .i) (l .j) (left-in turn) (right-in turn) _ _ (room turn) (one .before .before .before .if2 .left) (one .if3 .left)
+          (left-part (c .before) (p .3 .both)) (right-part (c .before) (p .3 .both)),
     )
 
 add-i-2 : tie.Need-add-i-2 Inv-loop μ-loop
@@ -264,7 +321,8 @@ loop-less-3 c = search needs
 loop-again-3 : tie.Need-loop-again-3 Inv-loop μ-loop
 loop-again-3 c =
     let shared = c .before .before in
-    let one = shared-to-one (shared .before) in
+    let parts = shared .before .before in
+    let one = parts-to-one parts in
     let turn = of-one one in
     let l = turn .before .before .loop in
     let h₀ = both (turn .before .before) in
@@ -273,10 +331,14 @@ loop-again-3 c =
     let wrote = shared .write-shared .ensures in (
       omega arith,
       omega arith,
-      wrote-length (wrote _ (h₀ .known .left .type) _ _ (h₀ .known .typed) (next-shared h₀ (l .i) (l .j) (left-in turn) (right-in turn) m n)) ∙ l .inv .2,
+      wrote-length
+          (wrote _ (h₀ .known .left .type) _ _ (h₀ .known .typed) (next-shared h₀ (l .i) (l .j) (left-in turn) (right-in turn) m n)
+          (left-part parts h₀) (right-part parts h₀))
+          ∙ l .inv .2,
       λ table h.
           both-turn h (l .i) (l .j) (l .inv .3 _ h) (left-in turn) (right-in turn) m n
-          (wrote _ (h .known .left .type) _ _ (h .known .typed) (next-shared h (l .i) (l .j) (left-in turn) (right-in turn) m n)),
+          (wrote _ (h .known .left .type) _ _ (h .known .typed) (next-shared h (l .i) (l .j) (left-in turn) (right-in turn) m n)
+          (left-part parts h) (right-part parts h)),
     )
 
 write-rest-requires-2 : tie.Need-write-rest-requires-2 Inv-loop μ-loop
@@ -343,6 +405,16 @@ write-snapshots-spec =
     part-write-shared-end-2
     mul-write-shared-8
     element-copy-out-write-shared-2
+    mul-part-of
+    element-copy-out-part-of
+    mul-part-of-2
+    element-copy-out-part-of-2
+    part-of-requires
+    mul-part-of-3
+    element-copy-out-part-of-3
+    mul-part-of-4
+    element-copy-out-part-of-4
+    part-of-requires-2
     write-shared-requires
     add-i-2
     add-j-2
