@@ -104,25 +104,43 @@ module _ (a b : List ℕ) (i : ℕ) (e : take i a ≡ take i b) where
   pub alike-byte : i < length a → i < length b → getD a i 0 ≡ getD b i 0 → take (i + 1) a ≡ take (i + 1) b
   alike-byte h k g = rw add-one (take-suc a i 0 h ∙ ap₂ {C = List ℕ} (λ x y. x ++ (y ∷ [])) e g ∙ sym (take-suc b i 0 k))
 
-  module _ (p : Bytes a) (q : Bytes b) (n : ℕ) (h : i + n ≤ length a) (k : i + n ≤ length b) where
-    pub alike-word : wordOf (take n (drop i a)) ≡ wordOf (take n (drop i b)) → take (i + n) a ≡ take (i + n) b
-    unfolding wordOf
-    alike-word w =
-        let s = words-same n 0 0 (drop i a) (drop i b) (bytes-drop a i p) (bytes-drop b i q) (omega (arith, length-drop i a))
-        (omega (arith, length-drop i b)) w in
-        take-add i n a ∙ ap₂ {C = List ℕ} (λ x y. x ++ y) e (s .1) ∙ sym (take-add i n b)
+-- x and y are the words of n bytes at i, and the bytes before i are the same
+pub record WordsAt (a b : List ℕ) (i n x y : ℕ) : Type 0 where
+  pub alike : take i a ≡ take i b
+  pub a-bytes : Bytes a
+  pub b-bytes : Bytes b
+  pub in-a : i + n ≤ length a
+  pub in-b : i + n ≤ length b
+  pub a-word : x ≡ wordOf (take n (drop i a))
+  pub b-word : y ≡ wordOf (take n (drop i b))
 
-    by-word : texts .cmp a b
-        ≡ pick (compare (wordOf (take n (drop i a))) (wordOf (take n (drop i b)))) Ordering·lt (lex numbers (drop n (drop i a)) (drop n (drop i b))) Ordering·gt
-    unfolding wordOf texts lists
-    by-word = alike-order
-        ∙ words-order n 0 0 (drop i a) (drop i b) (bytes-drop a i p) (bytes-drop b i q) (omega (arith, length-drop i a)) (omega (arith, length-drop i b))
+module _ {a b : List ℕ} {i n x y : ℕ} (w : WordsAt a b i n x y) where
+  a-left : n ≤ length (drop i a)
+  a-left = omega (arith, w .in-a, length-drop i a)
 
-    pub word-less : wordOf (take n (drop i a)) < wordOf (take n (drop i b)) → texts .cmp a b ≡ Ordering·lt
-    word-less l = by-word ∙ rw (lt-compare (wordOf (take n (drop i a))) (wordOf (take n (drop i b))) l)
+  b-left : n ≤ length (drop i b)
+  b-left = omega (arith, w .in-b, length-drop i b)
 
-    pub word-more : wordOf (take n (drop i b)) < wordOf (take n (drop i a)) → texts .cmp a b ≡ Ordering·gt
-    word-more l = by-word ∙ rw (gt-compare (wordOf (take n (drop i a))) (wordOf (take n (drop i b))) l)
+  pub alike-word : x ≡ y → take (i + n) a ≡ take (i + n) b
+  unfolding wordOf
+  alike-word e =
+      let words = sym (w .a-word) ∙ e ∙ w .b-word in
+      let same = words-same n 0 0 (drop i a) (drop i b) (bytes-drop a i (w .a-bytes)) (bytes-drop b i (w .b-bytes)) a-left b-left words in
+      take-add i n a ∙ ap₂ {C = List ℕ} (λ u v. u ++ v) (w .alike) (same .1) ∙ sym (take-add i n b)
+
+  by-word : texts .cmp a b ≡ pick (compare x y) Ordering·lt (lex numbers (drop n (drop i a)) (drop n (drop i b))) Ordering·gt
+  unfolding wordOf texts lists
+  by-word =
+      rw (w .a-word)
+      (rw (w .b-word)
+      (alike-order a b i (w .alike)
+      ∙ words-order n 0 0 (drop i a) (drop i b) (bytes-drop a i (w .a-bytes)) (bytes-drop b i (w .b-bytes)) a-left b-left))
+
+  pub word-less : x < y → texts .cmp a b ≡ Ordering·lt
+  word-less l = by-word ∙ rw (lt-compare x y l)
+
+  pub word-more : y < x → texts .cmp a b ≡ Ordering·gt
+  word-more l = by-word ∙ rw (gt-compare x y l)
 
 -- ---- reading a word
 
