@@ -2,6 +2,7 @@
 pub mod ConflictLaws
 pub mod StrategyLaws
 pub mod StandLaws
+pub mod MarkLaws
 pub mod MergeLaws
 pub mod PlanLaws
 pub mod WriteRoomLaws

@@ -1,15 +1,17 @@
 -- The laws of merged sets: the value that is chosen, the set of each strategy, and the union of sets that are the same.
 use mathlib.Core.Path.{_≡_, refl, sym, ap, ap₂, _∙_, subst}
 use mathlib.Core.Logic.{⊎-elim}
-use mathlib.Core.Bool.{Bool, true, false, cond, not}
+use mathlib.Core.Bool.{Bool, true, false, cond, not, _||_}
 use mathlib.Core.Option.{Option, none, some}
 use mathlib.Core.List.{List, [], _∷_, _++_, map, flatten, append-nil}
 use mathlib.Core.List.{List·Memᴰ, List·Memᴰ·head, List·Memᴰ·cases-cons, List·Memᴰ·not-nil, List·Memᴰ·append-cases, Memᴰ·append-left, Memᴰ·append-right}
 use Prim.Native.Nat.{ℕ, zero, suc, _+_, _-_, _^_, _≤_, _<_, Ordering}
 use native.Mathlib.Omega.{arith}
 use native.Mathlib.Numerals.{add-one}
+use lib.Dec.{eqb}
 use lib.ListN.{length, take, drop, getD, getElem?}
 use lib.Seq.{take-suc, take-all, drop-cons}
+use borrow.Author.Tests.{eqb-true}
 use Rattle.model.specs.Order.{Order, Text, texts, sets, equal, rising, pick}
 use Rattle.model.specs.Keyed.{put, merge}
 use Rattle.model.specs.Sets.{Ups, Within, canon, union, smallest}
@@ -23,7 +25,7 @@ use Rattle.packed.specs.Packed.{text}
 use Rattle.values.specs.Spaces.{Kind, inSpace}
 use Rattle.values.specs.ValueOrder.{valueOrder, extremeOrder}
 use Rattle.values.proofs.SpaceLaws.{chosen}
-use Rattle.ontology.specs.Table.{Property, EventType, isReplace, atPlace}
+use Rattle.ontology.specs.Table.{Property, EventType, strategyNumber, isMax, isReplace, atPlace}
 use Rattle.ontology.specs.code.TypeIndex.{PropertiesAre}
 use Rattle.ontology.proofs.RunLaws.{no-element}
 use Rattle.event.specs.Event.{choiceOf, typeView, eventView}
@@ -171,6 +173,16 @@ module _ (t : EventType) (d : Dossier) (p : ℕ) where
   merged-none : property ≡ none → mergedAt (typeView t) d p ≡ canon texts (flatten (column (d .snapshots) p))
   unfolding mergedSet atPlace
   merged-none e = merged-by none false every e refl refl
+
+  -- strategy max
+  pub merged-largest :
+      (q : Property) → property ≡ some q → isMax q ≡ true →
+      mergedAt (typeView t) d p ≡ smallest (extremeOrder true (q .kind)) (flatten (column (d .snapshots) p))
+  unfolding mergedSet atPlace
+  merged-largest q e m =
+      let number : strategyNumber (q .strategy) ≡ 2 = eqb-true (strategyNumber (q .strategy)) 2 m in
+      merged-by (some q) false (least (extremeOrder true (q .kind))) e (ap (λ (n : ℕ). eqb n 4) number)
+      (choice-least q (ap (λ (n : ℕ). eqb n 1 || eqb n 2) number) ∙ ap (λ (b : Bool). least (extremeOrder b (q .kind))) m)
 
   module _ (r : PlaceRule) (w : RuleIs property r) where
     merged-last : r .replaces ≡ true → mergedAt (typeView t) d p ≡ lastOf (column (d .snapshots) p)
@@ -359,6 +371,9 @@ module _
   stands-last k e =
       let l : length sets-here ≡ suc (n - 1) = column-long (d .snapshots) p ∙ m .count ∙ omega arith in
       last-cell k (merged-last t d p r w e ∙ last-at sets-here (n - 1) l)
+
+  pub stands-marked : 1 ≤ n → p + 1 ≡ t .mark → SetIs s merged-here (cellIn rows p (n - 1))
+  stands-marked k e = last-cell k (m .marked p e)
 
   module _ (k : n ≡ 1) where
     only-flat : flatten sets-here ≡ getD sets-here 0 []

@@ -51,22 +51,22 @@ use Rattle.opening.proofs.SizeLaws.{merged-size}
 
 -- ---- a dossier that was asked its questions
 
-module _ (s : List ℕ) (d : DossierIndex) (rows : List ℕ) (count : ℕ) (ps : List ℕ) (o : Openable s d rows count ps) where
+module _ (s : List ℕ) (d : DossierIndex) (rows : List ℕ) (t : TypeIndex) (ps : List ℕ) (o : Openable s d rows t ps) where
   abbrev dossier : Dossier
   dossier = modelOf (o .headed)
 
   -- what the writer of the merged event needs
   abbrev pub writable :
       (plan : List ℕ) (size : ℕ) → PlanIs s plan (o .type) dossier → dossierCapacity ≤ size →
-      Writable s d rows count plan size
+      Writable s d rows (t .count) plan size
   writable plan size v h = record {
     type = o .type;
     headed = o .headed;
     is = o .is;
     stand = cells-stand s (o .headed) d rows (o .is) (o .stand);
     planned = v;
-    vacant = λ p l. merged-vacant s rows (o .table) (d .count) (o .type) count ps dossier p (o .typed) (mergeable s d rows count ps o) l;
-    room = omega (arith, merged-size s d rows count ps o);
+    vacant = λ p l. merged-vacant s rows (o .table) (d .count) (o .type) (t .count) ps dossier p (o .typed .are) (mergeable s d rows t ps o) l;
+    room = omega (arith, merged-size s d rows t ps o);
   }
 
   -- ---- what is answered
@@ -104,7 +104,7 @@ module _ (s : List ℕ) (d : DossierIndex) (rows : List ℕ) (count : ℕ) (ps :
     pub replies-merged : {r : Lowest} → r ≡ NoPlace → lowestOf r ≡ overfull (typeView (o .type)) dossier → {out new : List ℕ} {n : ℕ} → dossierCapacity ≤ length out → Wrote out 0 bytes new n → openReplies (Merged n) new ≡ outcome (openedAnswer (o .headed) opens) out
     unfolding openedAnswer
     replies-merged e f {out} {new} {n} h w =
-        let a : 0 + length bytes ≤ length out = omega (arith, merged-size s d rows count ps o) in
+        let a : 0 + length bytes ≤ length out = omega (arith, merged-size s d rows t ps o) in
         let m : n ≡ length bytes = omega (arith, w .after) in
         ap₂ (λ (k : ℕ) (l : List ℕ). openReplies (Merged k) l) m (wrote-between a w ∙ ap (λ (k : ℕ). bytes ++ drop k out) m)
         ∙ ap (λ (x : model.Opened). outcome (openedAnswer (o .headed) x) out) (sym (opens-merged e f))
@@ -121,14 +121,14 @@ module _ (table : List ℕ) (name : Text) (ps : List ℕ) (r : TableRead) (w : T
 -- ---- the questions of the dossier
 
 -- a dossier that is accepted can be opened, by the types of this table
-pub record Accepted (table s : List ℕ) (d : DossierIndex) (rows : List ℕ) (count : ℕ) (ps : List ℕ) : Type 0 where
-  pub openable : Openable s d rows count ps
+pub record Accepted (table s : List ℕ) (d : DossierIndex) (rows : List ℕ) (t : TypeIndex) (ps : List ℕ) : Type 0 where
+  pub openable : Openable s d rows t ps
   pub from : tableOf table ≡ some (openable .types)
 
 module _
     (ts : Table) (table s : List ℕ) (d : DossierIndex) (rows : List ℕ) (v : DossierReads (dossierOf standard s) s rows d)
     (t : TypeIndex) (ps : List ℕ) (r : ℕ) (w : DossierAnswers (dossierAsked standard ts s) table t ps r) where
-  pub asked-open : tableOf table ≡ some ts → r ≡ 0 → Accepted table s d rows (t .count) ps
+  pub asked-open : tableOf table ≡ some ts → r ≡ 0 → Accepted table s d rows t ps
   asked-open i h =
       let a = asked-accepted ts table s t ps r w h in
       let stands = reads-is s rows d (a .what .headed) v (dossier-taken ts s (a .what) (a .asked) .read) in
@@ -140,7 +140,7 @@ module _
           headed = a .what .headed;
           read = i;
           asked = a .asked;
-          typed = a .typed .are;
+          typed = a .typed;
           is = stands .0;
           stand = stands .1;
         };
@@ -164,7 +164,7 @@ module _ (table s out : List ℕ) where
     open-refused ts n e f = rw (has-room dossierCapacity (length out) h, e, f)
 
     pub open-done :
-        (d : DossierIndex) (rows : List ℕ) (count : ℕ) (ps : List ℕ) (a : Accepted table s d rows count ps) →
+        (d : DossierIndex) (rows : List ℕ) (t : TypeIndex) (ps : List ℕ) (a : Accepted table s d rows t ps) →
         outcome (openedAnswer (a .openable .headed) (opening (typeView (a .openable .type)) (modelOf (a .openable .headed)))) out ≡ openCall standard table s out
     unfolding openCall openAnswer askedOpening
-    open-done d rows count ps a = rw (has-room dossierCapacity (length out) h, a .from, a .openable .asked)
+    open-done d rows t ps a = rw (has-room dossierCapacity (length out) h, a .from, a .openable .asked)

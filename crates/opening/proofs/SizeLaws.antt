@@ -32,6 +32,7 @@ use Rattle.dossier.proofs.CellLaws.{held-at}
 use Rattle.dossier.proofs.DossierBodyLaws.{SnapshotWritten, snapshot-cells}
 use Rattle.dossier.proofs.AcceptedLaws.{DossierTaken, taken-written, taken-name, taken-objects, taken-short}
 use Rattle.opening.specs.OpenCall.{mergedEvent}
+use Rattle.ontology.specs.declared.types.TypeIndex.{TypeIndex}
 use Rattle.opening.specs.code.OpenIndex.{Openable}
 use Rattle.opening.proofs.AcceptedLaws.{taken}
 
@@ -111,6 +112,6 @@ module _ (table s : List ℕ) (types : Table) (a : TypedDossier) (t : tableOf ta
   merged-room = event-short (a .headed) (mergedSets v d) (taken-written w .head) (taken-name w table t) sets-long sets-few sets-short
 
 -- the same of a dossier that is opened
-pub merged-size : (s : List ℕ) (d : DossierIndex) (rows : List ℕ) (count : ℕ) (ps : List ℕ) (o : Openable s d rows count ps) →
+pub merged-size : (s : List ℕ) (d : DossierIndex) (rows : List ℕ) (t : TypeIndex) (ps : List ℕ) (o : Openable s d rows t ps) →
     length (eventBytes (mergedEvent (o .headed) (mergedSets (typeView (o .type)) (modelOf (o .headed))))) ≤ dossierCapacity
-merged-size s d rows count ps o = merged-room (o .table) s (o .types) (record { type = o .type; headed = o .headed }) (o .read) (taken s d rows count ps o)
+merged-size s d rows t ps o = merged-room (o .table) s (o .types) (record { type = o .type; headed = o .headed }) (o .read) (taken s d rows t ps o)

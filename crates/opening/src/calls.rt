@@ -22,6 +22,7 @@ use dossier::dossiers::read_dossier;
 use dossier::questions::ask_dossier;
 use dossier::questions::type_name;
 use ontology::tables::read_table;
+use ontology::types::TypeIndex;
 use replies::capacities::DOSSIER_CAPACITY;
 use replies::reply::Finding;
 use replies::reply::Opened;
@@ -31,21 +32,21 @@ fn open_merged(
     s: &[u8],
     d: DossierIndex,
     rows: &[usize],
-    count: usize,
+    t: TypeIndex,
     properties: &[usize],
     out: &mut [u8],
 ) -> Opened
     requires { ⌜ (length (now rows) ≡ 768) × (length (now properties) ≡ 96) × (dossierCapacity ≤ length (now out)) ⌝ }
-    requires { ⌜ Openable (now s) d (now rows) count (now properties) ⌝ }
-    ensures { λ r. ⌜ ((o : Openable (now (s .entry)) d (now (rows .entry)) count (now (properties .entry)))
+    requires { ⌜ Openable (now s) d (now rows) t (now properties) ⌝ }
+    ensures { λ r. ⌜ ((o : Openable (now (s .entry)) d (now (rows .entry)) t (now (properties .entry)))
         → conflict (upTo 32) (o .headed .snapshots) ≡ noConflict
         → openReplies r (now (out .exit)) ≡ outcome (openedAnswer (o .headed) (opening (typeView (o .type)) (modelOf (o .headed)))) (now (out .entry))) ⌝ }
 {
     let mut plan = [0usize; 128];
-    plan_sets(s, rows, d.count, count, properties, &mut plan);
-    match find_overfull(count, properties, &plan) {
+    plan_sets(s, rows, d.count, t.count, t.mark, properties, &mut plan);
+    match find_overfull(t.count, properties, &plan) {
         Lowest::Place(place) => Opened::Found(Finding::Overfull(place)),
-        Lowest::NoPlace => Opened::Merged(write_event(s, d, rows, count, &plan, out)),
+        Lowest::NoPlace => Opened::Merged(write_event(s, d, rows, t.count, &plan, out)),
     }
 }
 
@@ -54,18 +55,18 @@ fn open_asked(
     s: &[u8],
     d: DossierIndex,
     rows: &[usize],
-    count: usize,
+    t: TypeIndex,
     properties: &[usize],
     out: &mut [u8],
 ) -> Opened
     requires { ⌜ (length (now rows) ≡ 768) × (length (now properties) ≡ 96) × (dossierCapacity ≤ length (now out)) ⌝ }
-    requires { ⌜ Openable (now s) d (now rows) count (now properties) ⌝ }
-    ensures { λ r. ⌜ ((o : Openable (now (s .entry)) d (now (rows .entry)) count (now (properties .entry)))
+    requires { ⌜ Openable (now s) d (now rows) t (now properties) ⌝ }
+    ensures { λ r. ⌜ ((o : Openable (now (s .entry)) d (now (rows .entry)) t (now (properties .entry)))
         → openReplies r (now (out .exit)) ≡ outcome (openedAnswer (o .headed) (opening (typeView (o .type)) (modelOf (o .headed)))) (now (out .entry))) ⌝ }
 {
     match find_conflict(d) {
         Conflict::Differs(version, place) => Opened::Found(Finding::Conflict(version, place)),
-        Conflict::NoConflict => open_merged(s, d, rows, count, properties, out),
+        Conflict::NoConflict => open_merged(s, d, rows, t, properties, out),
     }
 }
 
@@ -88,5 +89,5 @@ pub fn open_dossier(table: &[u8], dossier: &[u8], out: &mut [u8]) -> Opened
         return Opened::Refused(number);
     }
     let t = read.index;
-    open_asked(dossier, d, &rows, t.count, &properties, out)
+    open_asked(dossier, d, &rows, t, &properties, out)
 }

@@ -1,6 +1,6 @@
-ghost use Prim.Native.Nat.{ℕ, _<_, _≤_};
+ghost use Prim.Native.Nat.{ℕ, _+_, _<_, _≤_};
 ghost use mathlib.Core.Path.{_≡_};
-ghost use mathlib.Core.Bool.{_&&_};
+ghost use mathlib.Core.Bool.{true, _&&_};
 ghost use mathlib.Core.List.{List, [], map, flatten};
 ghost use lib.ListN.{length, take, getD, getElem?};
 ghost use lib.Dec.{leb};
@@ -97,13 +97,21 @@ fn only_set(s: &[u8], rows: &[usize], place: usize, n: usize) -> PlaceMerged
     PlaceMerged::Stands(only)
 }
 
-// The merged set of a place: the only snapshot's, the last one's, the one with the chosen value, or the union.
-fn merged_at(s: &[u8], rows: &[usize], place: usize, n: usize, rule: PlaceRule) -> PlaceMerged
+// The merged set of a place: the only snapshot's, the last one's, the one with the chosen value, or the union. At the marked place each snapshot has its own
+// version, and versions rise, so the largest is the last one's.
+fn merged_at(
+    s: &[u8],
+    rows: &[usize],
+    place: usize,
+    n: usize,
+    marked: bool,
+    rule: PlaceRule,
+) -> PlaceMerged
     requires { ⌜ (length (now rows) ≡ 768) × (place < 32) × (1 ≤ n) × (n ≤ 8) ⌝ }
     ensures { λ r. ⌜ ((t : EventType) (d : Dossier) → Mergeable (now (s .entry)) (now (rows .entry)) n t d → RuleIs (getElem? (t .properties) place) rule
-        → PlaceIs (now (s .entry)) (mergedAt (typeView t) d place) (column (d .snapshots) place) r) ⌝ }
+        → (marked ≡ true → place + 1 ≡ t .mark) → PlaceIs (now (s .entry)) (mergedAt (typeView t) d place) (column (d .snapshots) place) r) ⌝ }
 {
-    if n == 1 || rule.replaces {
+    if n == 1 || marked || rule.replaces {
         return PlaceMerged::Stands(cell_at(rows, place, n - 1));
     }
     if rule.extreme {
@@ -136,18 +144,19 @@ pub fn plan_sets(
     rows: &[usize],
     n: usize,
     count: usize,
+    mark: usize,
     properties: &[usize],
     plan: &mut [usize],
 )
     requires { ⌜ (count ≤ 32) × (1 ≤ n) × (n ≤ 8) × (length (now rows) ≡ 768) × (length (now properties) ≡ 96) × (length (now plan) ≡ 128) ⌝ }
     requires { ⌜ ((i : ℕ) → i < 128 → getD (now plan) i 0 ≡ 0) ⌝ }
     ensures { λ r. ⌜ ((u : List ℕ) (ty : EventType) (d : Dossier) → PropertiesAre u (ty .properties) count (now (properties .entry))
-        → Mergeable (now (s .entry)) (now (rows .entry)) n ty d → PlanIs (now (s .entry)) (now (plan .exit)) ty d) ⌝ }
+        → mark ≡ ty .mark → Mergeable (now (s .entry)) (now (rows .entry)) n ty d → PlanIs (now (s .entry)) (now (plan .exit)) ty d) ⌝ }
 {
     let mut p: usize = 0;
     while p < count {
         let rule = rule_of(property_at(properties, p));
-        put_place(plan, p, merged_at(s, rows, p, n, rule));
+        put_place(plan, p, merged_at(s, rows, p, n, p + 1 == mark, rule));
         p += 1;
     }
 }

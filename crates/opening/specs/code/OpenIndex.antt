@@ -1,5 +1,5 @@
 -- What the code holds of a dossier that is opened.
-use Prim.Native.Nat.{ℕ, _≤_, _<_}
+use Prim.Native.Nat.{ℕ, _+_, _-_, _≤_, _<_}
 use mathlib.Core.Path.{_≡_}
 use mathlib.Core.Bool.{true, _||_}
 use mathlib.Core.Option.{Option, none, some}
@@ -9,13 +9,15 @@ use Rattle.model.specs.Order.{Text, texts, rising}
 use Rattle.model.specs.Rule.{Snapshot, Dossier}
 use Rattle.model.specs.Limits.{standard}
 use Rattle.model.specs.Opening as model
-use Rattle.model.specs.Opening.{held, cellAt, column}
+use Rattle.model.specs.Opening.{held, cellAt, column, mergedAt}
 use Rattle.values.specs.Spaces.{Kind, kindNumber}
 use Rattle.values.specs.ValueOrder.{isOrdered}
 use Rattle.replies.specs.Questions.{accepted}
 use Rattle.ontology.specs.Table.{Property, EventType, Table, isMin, isMax, isReplace}
 use Rattle.ontology.specs.TableLayout.{tableOf}
-use Rattle.ontology.specs.code.TypeIndex.{PropertiesAre}
+use Rattle.ontology.specs.code.TypeIndex.{TypeIs}
+use Rattle.ontology.specs.declared.types.TypeIndex.{TypeIndex}
+use Rattle.event.specs.Event.{typeView}
 use Rattle.event.specs.EventQuestions.{areInSpace}
 use Rattle.event.specs.code.EventIndex.{SetIs}
 use Rattle.event.specs.declared.sets.SetAt.{SetAt}
@@ -77,22 +79,25 @@ pub record Chooses (k : Kind) (kind : ℕ) : Type 0 where
   pub number : kindNumber k ≡ kind
   pub ordered : isOrdered k ≡ true
 
--- the n snapshots of a dossier have their cells; no place without a property has objects, and the sets of min and max can be chosen from
+-- the n snapshots of a dossier have their cells; no place without a property has objects, the sets of min and max can be chosen from, and the marked place
+-- merges to the last snapshot's set
 pub record Mergeable (s rows : List ℕ) (n : ℕ) (t : EventType) (d : Dossier) : Type 0 where
   pub stand : CellsStand s (d .snapshots) rows
   pub count : length (d .snapshots) ≡ n
   pub vacant : (p : ℕ) → getElem? (t .properties) p ≡ none → flatten (column (d .snapshots) p) ≡ []
   pub chosen : (p : ℕ) (q : Property) → getElem? (t .properties) p ≡ some q → (isMin q || isMax q) ≡ true → Chooses (q .kind) (kindNumber (q .kind))
   pub lone : (p : ℕ) (q : Property) → getElem? (t .properties) p ≡ some q → (isMin q || isMax q) ≡ true → (j : ℕ) → j < n → Lone (q .kind) (getD (column (d .snapshots) p) j [])
+  pub marked : (p : ℕ) → p + 1 ≡ t .mark → mergedAt (typeView t) d p ≡ getD (column (d .snapshots) p) (n - 1) []
 
--- d is the index of a dossier that was asked its questions; the rows are those of its snapshots, and ps the numbers of its type's properties
-pub record Openable (s : List ℕ) (d : DossierIndex) (rows : List ℕ) (count : ℕ) (ps : List ℕ) : Type 0 where
+-- d is the index of a dossier that was asked its questions; the rows are those of its snapshots, t is the index of its type, and ps the numbers of the type's
+-- properties
+pub record Openable (s : List ℕ) (d : DossierIndex) (rows : List ℕ) (t : TypeIndex) (ps : List ℕ) : Type 0 where
   pub table : List ℕ
   pub types : Table
   pub type : EventType
   pub headed : Headed
   pub read : tableOf table ≡ some types
   pub asked : dossierAsked standard types s ≡ accepted (record { type = type; headed = headed })
-  pub typed : PropertiesAre table (type .properties) count ps
+  pub typed : TypeIs table type t ps
   pub is : DossierIs s headed d
   pub stand : RowsAre s (headed .snapshots) rows

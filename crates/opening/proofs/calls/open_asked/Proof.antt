@@ -19,7 +19,7 @@ to-find c = c .before .before .before
 -- ---- the values
 
 abbrev Opens : tie.Start → Type 0
-Opens c = let a = c .args in Openable (now (a .s)) (a .d) (now (a .rows)) (a .count) (now (a .properties))
+Opens c = let a = c .args in Openable (now (a .s)) (a .d) (now (a .rows)) (a .t) (now (a .properties))
 
 -- ---- the facts
 

@@ -79,7 +79,7 @@ answered c =
 -- the dossier is accepted
 accepted :
     (c : tie.After-t) → let at-table = to-table (to-taken (to-asked c)) in let read = to-read at-table in
-    Accepted (table read) (dossier read) (read .read-dossier .result) (rows read) (at-table .read-table .result .index .count) (properties at-table)
+    Accepted (table read) (dossier read) (read .read-dossier .result) (rows read) (at-table .read-table .result .index) (properties at-table)
 accepted c =
     let asked = to-asked c in
     let taken = to-taken asked in

@@ -26,16 +26,16 @@ to-find c = c .before .before .before .before
 -- ---- the values
 
 abbrev plan : tie.After-plan-sets → List ℕ
-plan c = c .plan-sets .last .1 .1 .1 .1 .1 .0
+plan c = c .plan-sets .last .1 .1 .1 .1 .1 .1 .0
 
 abbrev Opens : tie.Start → Type 0
-Opens c = let a = c .args in Openable (now (a .s)) (a .d) (now (a .rows)) (a .count) (now (a .properties))
+Opens c = let a = c .args in Openable (now (a .s)) (a .d) (now (a .rows)) (a .t) (now (a .properties))
 
 -- ---- the facts
 
 planned :
     (c : tie.After-plan-sets) → let start = to-start (c .before) in (o : Opens start) → PlanIs (now (start .args .s)) (plan c) (o .type) (modelOf (o .headed))
-planned c o = c .plan-sets .ensures _ _ _ (o .typed) (mergeable _ _ _ _ _ o)
+planned c o = c .plan-sets .ensures _ _ _ (o .typed .are) (o .typed .mark) (mergeable _ _ _ _ _ o)
 
 -- ---- the needs
 
@@ -45,7 +45,7 @@ slice-aggregate-plan-sets c = search needs
 plan-sets-requires : tie.Need-plan-sets-requires
 plan-sets-requires c κs =
     let m = to-start c .pre in
-    ((m .1 .typed .few, m .1 .is .one, m .1 .is .few, m .0 .0, m .0 .1, refl), λ i h. getD-replicate 128 i 0 0 h)
+    ((m .1 .typed .are .few, m .1 .is .one, m .1 .is .few, m .0 .0, m .0 .1, refl), λ i h. getD-replicate 128 i 0 0 h)
 
 slice-aggregate-find-overfull : tie.Need-slice-aggregate-find-overfull
 slice-aggregate-find-overfull c = search needs
@@ -53,7 +53,7 @@ slice-aggregate-find-overfull c = search needs
 find-overfull-requires : tie.Need-find-overfull-requires
 find-overfull-requires c κs =
     let m = to-start (c .before .before .before) .pre in
-    (m .1 .typed .few, m .0 .1, search needs)
+    (m .1 .typed .are .few, m .0 .1, search needs)
 
 enum-known-place : tie.Need-enum-known-place
 enum-known-place c = search needs
@@ -68,13 +68,13 @@ write-event-requires : tie.Need-write-event-requires
 write-event-requires c κs =
     let at-plan = to-plan (to-find c) in
     let m = to-start (at-plan .before) .pre in
-    (m .0 .0, search needs, m .1 .typed .few, writable _ _ _ _ _ (m .1) _ _ (planned at-plan (m .1)) (m .0 .2))
+    (m .0 .0, search needs, m .1 .typed .are .few, writable _ _ _ _ _ (m .1) _ _ (planned at-plan (m .1)) (m .0 .2))
 
 returns : tie.Need-returns
 returns c =
     let found = c .before .before .before in
     λ o free.
-    replies-overfull _ _ _ _ _ o free _ (c .before .place .given .1) (found .find-overfull .ensures _ _ _ _ (o .typed) (planned (to-plan found) o)) _
+    replies-overfull _ _ _ _ _ o free _ (c .before .place .given .1) (found .find-overfull .ensures _ _ _ _ (o .typed .are) (planned (to-plan found) o)) _
 
 same-length : tie.Need-same-length
 same-length c = search needs
@@ -88,7 +88,7 @@ returns-2 c =
     let told = written .before .before .before in
     λ o free.
     let plans = planned at-plan o in
-    let none = found .find-overfull .ensures _ _ _ _ (o .typed) plans in
+    let none = found .find-overfull .ensures _ _ _ _ (o .typed .are) plans in
     replies-merged _ _ _ _ _ o free (told .enum-told .given .1) none room (written .write-event .ensures (writable _ _ _ _ _ o _ _ plans room))
 
 pub open-merged-spec : {M : Type 1} → statement M

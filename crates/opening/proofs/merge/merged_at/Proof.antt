@@ -3,7 +3,7 @@ use mathlib.Core.Logic.{⊎-elim}
 use mathlib.Core.Path.{sym, subst}
 use denote.Ref.{now}
 use Rattle.event.specs.code.EventIndex.{SetIs}
-use Rattle.opening.proofs.MergeLaws.{stands-only, stands-last, stands-chosen, place-every}
+use Rattle.opening.proofs.MergeLaws.{stands-only, stands-marked, stands-last, stands-chosen, place-every}
 use Rattle.opening.proofs.merge.merged_at.Statement.{statement}
 use Rattle.opening.proofs.merge.merged_at.Tie as tie
 
@@ -12,8 +12,8 @@ use Rattle.opening.proofs.merge.merged_at.Tie as tie
 abbrev to-start : tie.After-shared-slice-known2 → tie.Start
 to-start c = c .before .before
 
-abbrev made-to-start : tie.Else2 → tie.Start
-made-to-start c = to-start (c .before .before)
+abbrev made-to-start : tie.Else3 → tie.Start
+made-to-start c = to-start (c .before .before .before)
 
 -- ---- the needs
 
@@ -27,11 +27,13 @@ returns : tie.Need-returns
 returns c =
     let start = to-start (c .before .before) in
     let within = start .pre .1 in
-    λ t d m w.
+    λ t d m w k.
     subst (SetIs (now (start .args .s)) _) (sym (c .cell-at .ensures))
     (⊎-elim
     (λ only. stands-only _ _ _ t d _ within m _ w (only .taken))
-    (λ last. stands-last _ _ _ t d _ within m _ w (start .pre .2) (last .1 .taken))
+    (⊎-elim
+    (λ marked. stands-marked _ _ _ t d _ within m _ w (start .pre .2) (k (marked .1 .taken)))
+    (λ last. stands-last _ _ _ t d _ within m _ w (start .pre .2) (last .2 .taken)))
     (c .before .if1 .came))
 
 extreme-of-requires : tie.Need-extreme-of-requires
@@ -40,7 +42,7 @@ extreme-of-requires c κs = search needs
 returns-2 : tie.Need-returns-2
 returns-2 c =
     let made = c .before .before in
-    λ t d m w. stands-chosen _ _ _ t d _ (made-to-start made .pre .1) m _ w _ (made .if2 .left) (c .before .if3 .taken) (c .extreme-of .ensures)
+    λ t d m w k. stands-chosen _ _ _ t d _ (made-to-start made .pre .1) m _ w _ (made .if3 .left) (c .before .if4 .taken) (c .extreme-of .ensures)
 
 only-set-requires : tie.Need-only-set-requires
 only-set-requires c κs = search needs
@@ -48,7 +50,8 @@ only-set-requires c κs = search needs
 returns-3 : tie.Need-returns-3
 returns-3 c =
     let made = c .before .before in
-    λ t d m w. place-every _ _ _ t d _ (made-to-start made .pre .1) m _ w (c .only-set .result) (made .if2 .left) (c .before .if3 .left) (c .only-set .ensures)
+    λ t d m w k.
+    place-every _ _ _ t d _ (made-to-start made .pre .1) m _ w (c .only-set .result) (made .if3 .left) (c .before .if4 .left) (c .only-set .ensures)
 
 pub merged-at-spec : {M : Type 1} → statement M
 merged-at-spec =

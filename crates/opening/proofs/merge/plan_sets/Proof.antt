@@ -4,6 +4,7 @@ use mathlib.Core.Path.{_≡_, sym, _∙_}
 use mathlib.Core.List.{List}
 use Prim.Native.Nat.{ℕ, _-_, _<_}
 use lib.ListN.{length}
+use borrow.Author.Tests.{eqb-true}
 use Rattle.model.specs.Rule.{Dossier}
 use Rattle.ontology.specs.Table.{EventType}
 use Rattle.ontology.specs.code.TypeIndex.{PropertiesAre}
@@ -15,12 +16,13 @@ use Rattle.opening.proofs.merge.plan_sets.Statement.{statement}
 use Rattle.opening.proofs.merge.plan_sets.Tie as tie
 
 abbrev Inv-loop : tie.InvT-loop
-Inv-loop s rows n count properties plan₀ p₀ plan p =
+Inv-loop s rows n count mark properties plan₀ p₀ plan p =
     (length plan ≡ 128)
-    × ((u : List ℕ) (ty : EventType) (d : Dossier) → PropertiesAre u (ty .properties) count properties → Mergeable s rows n ty d → PlannedTo s plan ty d p)
+    × ((u : List ℕ) (ty : EventType) (d : Dossier) → PropertiesAre u (ty .properties) count properties → mark ≡ ty .mark → Mergeable s rows n ty d
+    → PlannedTo s plan ty d p)
 
 abbrev μ-loop : tie.MeasureT-loop
-μ-loop s rows n count properties plan₀ p₀ plan p = count - p
+μ-loop s rows n count mark properties plan₀ p₀ plan p = count - p
 
 -- ---- the places
 
@@ -41,13 +43,16 @@ inside c = omega (arith, c .loop-test .taken, to-start (c .before) .pre .0 .0)
 loop-holds : tie.Need-loop-holds Inv-loop μ-loop
 loop-holds c =
     let start = c .before .before .before .before in
-    (start .pre .0 .5, λ u ty d w m. planned-none _ _ ty d (start .pre .1))
+    (start .pre .0 .5, λ u ty d w k m. planned-none _ _ ty d (start .pre .1))
 
 property-at-requires : tie.Need-property-at-requires Inv-loop μ-loop
 property-at-requires c κs = search needs
 
 rule-of-requires : tie.Need-rule-of-requires Inv-loop μ-loop
 rule-of-requires c κs = search needs
+
+add-merged-at : tie.Need-add-merged-at Inv-loop μ-loop
+add-merged-at c = search needs
 
 merged-at-requires : tie.Need-merged-at-requires Inv-loop μ-loop
 merged-at-requires c κs = search needs
@@ -68,10 +73,11 @@ loop-again c =
     let turn = to-turn merged in
     let inv = turn .before .loop .inv in (
       place-length _ _ _ (put .put-place .ensures) ∙ inv .0,
-      λ u ty d w m.
+      λ u ty d w k m.
           let asked = merged .before .before in
           let rule = rule-at u ty _ _ w _ (turn .loop-test .taken) (asked .before .property-at .ensures) (asked .rule-of .ensures) in
-          planned-more _ _ ty d _ _ (inv .0) (inside turn) (inv .1 u ty d w m) (merged .merged-at .ensures ty d m rule) (put .put-place .ensures),
+          let is = merged .merged-at .ensures ty d m rule (λ b. eqb-true _ _ b ∙ k) in
+          planned-more _ _ ty d _ _ (inv .0) (inside turn) (inv .1 u ty d w k m) is (put .put-place .ensures),
     )
 
 same-length : tie.Need-same-length Inv-loop μ-loop
@@ -79,8 +85,8 @@ same-length c = c .before .loop .inv .0 ∙ sym (to-start (c .before) .pre .0 .5
 
 returns : tie.Need-returns Inv-loop μ-loop
 returns c =
-    λ u ty d w m.
-    planned-all _ _ ty d _ (λ i l. merged-vacant _ _ u _ ty _ _ d i w m (omega (arith, c .loop-test .left, l))) (c .before .loop .inv .1 u ty d w m)
+    λ u ty d w k m.
+    planned-all _ _ ty d _ (λ i l. merged-vacant _ _ u _ ty _ _ d i w m (omega (arith, c .loop-test .left, l))) (c .before .loop .inv .1 u ty d w k m)
 
 pub plan-sets-spec : {M : Type 1} → statement M
 plan-sets-spec =
@@ -91,6 +97,7 @@ plan-sets-spec =
     loop-holds
     property-at-requires
     rule-of-requires
+    add-merged-at
     merged-at-requires
     put-place-requires
     add-p
