@@ -1,19 +1,17 @@
 -- The laws of writing a number before bytes that stand already: stores at different places can change their order, and what is stored last covers.
 use mathlib.Core.Path.{_≡_, refl, sym, ap, ap₂, _∙_}
-use mathlib.Core.Logic.{⊎-elim}
 use mathlib.Core.List.{List, [], _∷_, _++_, append-assoc}
 use Prim.Native.Nat.{ℕ, suc, _+_, _-_, _≤_, _<_}
 use native.Mathlib.Omega.{arith}
 use lib.ListN.{length, take, drop, set, getD, length-append, take-append-drop}
-use lib.Seq.{sets, sets-eq, length-sets, set-set, set-comm, getD-set-other, length-take-le, take-at, drop-at}
+use lib.Seq.{sets, sets-eq, length-sets, set-comm, getD-set-other, length-take-le, take-at, drop-at}
 use Rattle.packed.specs.Packed.{part}
 use Rattle.packed.specs.code.Written.{Wrote}
-use Rattle.packed.proofs.LayoutLaws.{lt-or-ge}
 use Rattle.packed.proofs.ReadLaws.{part-length, drop-next}
-use Rattle.packed.proofs.WriteLaws.{wrote-then, wrote-between}
+use Rattle.packed.proofs.WriteLaws.{stores-under, wrote-then, wrote-between}
 use Rattle.unions.proofs.RunLaws.{part-then}
 
--- ---- a store before, or under, a run of stores
+-- ---- a store before a run of stores
 
 load-before : (l : List ℕ) (i : ℕ) (vs : List ℕ) (k : ℕ) → k < i → getD (sets l i vs) k 0 ≡ getD l k 0
 load-before l i [] k h = refl
@@ -24,30 +22,11 @@ store-before l i [] k a h = refl
 store-before l i (v ∷ vs) k a h =
     store-before (set l i v) (suc i) vs k a (omega arith) ∙ ap (λ (m : List ℕ). sets m (suc i) vs) (set-comm l i k v a (λ e. omega (arith, e)))
 
-store-under : (l : List ℕ) (i : ℕ) (vs : List ℕ) (k a : ℕ) → i ≤ k → k < i + length vs → sets (set l k a) i vs ≡ sets l i vs
-store-under l i [] k a h b = absurd (omega (arith, b))
-store-under l i (v ∷ vs) k a h b = ⊎-elim
-    (λ (m : i < k).
-    ap (λ (x : List ℕ). sets x (suc i) vs) (set-comm l k i a v (λ e. omega (arith, e)))
-    ∙ store-under (set l i v) (suc i) vs k a (omega arith) (omega (arith, b)))
-    (λ (m : k ≤ i).
-    let e : k ≡ i = omega arith in
-    ap (λ (x : List ℕ). sets x (suc i) vs) (ap (λ (j : ℕ). set (set l j a) i v) e ∙ set-set l i a v))
-    (lt-or-ge i k)
-
--- ---- two runs of stores
-
--- the later one stands before the earlier one
+-- two runs of stores, the later one before the earlier one
 stores-before : (l : List ℕ) (i : ℕ) (xs : List ℕ) (j : ℕ) (ys : List ℕ) → i + length xs ≤ j → sets (sets l j ys) i xs ≡ sets (sets l i xs) j ys
 stores-before l i [] j ys h = refl
 stores-before l i (x ∷ xs) j ys h =
     ap (λ (m : List ℕ). sets m (suc i) xs) (store-before l j ys i x (omega (arith, h))) ∙ stores-before (set l i x) (suc i) xs j ys (omega (arith, h))
-
--- the later one covers the earlier one
-stores-under : (l : List ℕ) (i : ℕ) (xs : List ℕ) (j : ℕ) (ys : List ℕ) → i ≤ j → j + length ys ≤ i + length xs → sets (sets l j ys) i xs ≡ sets l i xs
-stores-under l i xs j [] h k = refl
-stores-under l i xs j (y ∷ ys) h k =
-    stores-under (set l j y) i xs (suc j) ys (omega arith) (omega (arith, k)) ∙ store-under l i xs j y h (omega (arith, k))
 
 -- ---- bytes that move up, the last one first
 
