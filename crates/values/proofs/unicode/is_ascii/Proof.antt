@@ -1,8 +1,7 @@
 use mathlib.Core.Path.{_≡_, subst}
 use lib.ListN.{length}
-use borrow.Author.Tests.{eqb-true}
+use borrow.Author.Tests.{eqb-true, ltb-true}
 use Rattle.values.specs.code.LowBytes.{Low}
-use native.Mathlib.Omega.{arith}
 use borrow.Author.Needs.{needs}
 use Rattle.values.proofs.unicode.is_ascii.Statement.{statement}
 use Rattle.values.proofs.unicode.is_ascii.Tie as tie
@@ -12,9 +11,15 @@ ascii-end-requires c κs = search needs
 
 returns : tie.Need-returns
 returns c = λ e.
-    let v = c .before .before .args .v .now in
+    let v = c .before .before .before .args .v .now in
     let all : c .ascii-end .result ≡ length v = eqb-true _ _ e in
     subst (Low v 0) all (c .ascii-end .ensures .1 .0)
 
+all-bits-requires : tie.Need-all-bits-requires
+all-bits-requires c κs = search needs
+
+returns-2 : tie.Need-returns-2
+returns-2 c = λ e. c .all-bits .ensures (ltb-true _ _ e)
+
 pub is-ascii-spec : {M : Type 1} → statement M
-is-ascii-spec = tie.close (tie.spec ascii-end-requires returns)
+is-ascii-spec = tie.close (tie.spec ascii-end-requires returns all-bits-requires returns-2)
