@@ -4,6 +4,7 @@ pub mod KindLaws
 pub mod PropertyLaws
 pub mod RunLaws
 pub mod RuleLaws
+pub mod TurnLaws
 pub mod TripleLaws
 pub mod CodeLaws
 pub mod TypeLaws

@@ -1,18 +1,21 @@
 -- The laws of a property's fields, one after the other.
-use mathlib.Core.Path.{_≡_, refl, sym, _∙_, subst}
+use mathlib.Core.Path.{_≡_, refl, sym, ap, _∙_, subst}
 use mathlib.Core.Bool.{Bool, true, false, cond}
 use mathlib.Core.List.{List}
 use Prim.Native.Nat.{ℕ, zero, suc, _≤_}
 use native.Mathlib.Omega.{arith}
-use lib.ListN.{drop}
+use lib.ListN.{length, drop}
+use lib.Dec.{leb}
 use borrow.Author.Tests.{ne-eqb}
 use Rattle.model.specs.Order.{Text}
+use Rattle.model.proofs.Cases.{and-parts}
 use Rattle.packed.specs.Parse.{Parse, fail, got, Layout, andThen, found, foundIf, suchThat}
 use Rattle.packed.specs.Packed.{readNumber, readText, part, isWithin}
 use Rattle.packed.specs.code.Located.{Got, NameStops}
+use Rattle.packed.proofs.LayoutLaws.{andThen-got, suchThat-got}
 use Rattle.packed.proofs.FieldLaws.{then-none, then-fail, then-got, then-found, such-was, within-bounds, is-within}
 use Rattle.values.specs.Spaces.{Kind}
-use Rattle.ontology.specs.Table.{Strategy, min, max, add, replace, match, set, any, strategyNumber, Property, isNameWithin}
+use Rattle.ontology.specs.Table.{Strategy, min, max, add, replace, match, set, any, strategyNumber, Property, isName, isNameWithin}
 use Rattle.ontology.specs.TableLayout.{readFlag, readKind, readStrategy, readProperty}
 use Rattle.ontology.specs.declared.properties.PropertyAt.{PropertyAt}
 use Rattle.ontology.specs.declared.properties.PropertyRead.{PropertyRead}
@@ -173,3 +176,16 @@ property-is {s} {at} {start} {end} {kind} {size} {after} {sign} {f} {l} {n} {z} 
     strategy = y .number;
   };
 }
+
+-- a property that was read has a name
+pub property-named : (s : List ℕ) (q : Property) (r : List ℕ) → readProperty s ≡ got q r → isName (q .name) ≡ true
+unfolding readProperty isNameWithin
+property-named s q r e =
+    let a = andThen-got (suchThat (isNameWithin 32) readText s) _ q r e in
+    let b = andThen-got (readKind (a .left)) _ q r (a .second) in
+    let c = andThen-got (readFlag (b .left)) _ q r (b .second) in
+    let d = andThen-got (readFlag (c .left)) _ q r (c .second) in
+    let f = andThen-got (readStrategy (d .left)) _ q r (d .second) in
+    let x : property (a .value) (b .value) (c .value) (d .value) (f .value) ≡ q = cc (f .second) in
+    let n = suchThat-got (isNameWithin 32) readText s (a .value) (a .left) (a .first) in
+    ap (λ (y : Property). isName (y .name)) (sym x) ∙ and-parts (isName (a .value)) (leb (length (a .value)) 32) (n .test) .0

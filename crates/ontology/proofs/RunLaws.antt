@@ -1,13 +1,14 @@
 -- The laws of so many of a layout, read one by one: what was read, then what is left, gives the whole. And of places in lists.
 use mathlib.Core.Path.{_≡_, refl, sym, ap, _∙_, subst}
 use mathlib.Core.Logic.{_⊎_, inl, inr}
+use mathlib.Core.Bool.{Bool, true, false, cond}
 use mathlib.Core.Option.{none, some}
-use mathlib.Core.List.{List, [], _∷_, _++_, append-assoc, map}
-use Prim.Native.Nat.{ℕ, zero, suc, _+_, _-_, _≤_, _<_}
+use mathlib.Core.List.{List, [], _∷_, _++_, append-assoc}
+use Prim.Native.Nat.{ℕ, zero, suc, _-_, _≤_, _<_}
 use native.Mathlib.Omega.{arith}
-use lib.ListN.{length, drop, getD, getElem?}
+use lib.ListN.{length, getElem?}
 use Rattle.model.proofs.Cases.{never}
-use Rattle.packed.specs.Parse.{All, Parse, fail, got, Layout, andThen, times}
+use Rattle.packed.specs.Parse.{All, Parse, fail, got, Layout, andThen, foundIf, suchThat, times}
 use Rattle.packed.proofs.LayoutLaws.{andThen-got}
 
 -- what is read is what was read before, and then what is read next
@@ -36,17 +37,17 @@ module _ {A : Type 0} (p : Layout A) where
       go fail = refl
       go (got xs u) = refl
 
-  pub times-more : (n : ℕ) (s : List ℕ) (a : A) (t : List ℕ) → 0 < n → p s ≡ got a t → times p n s ≡ prepend (a ∷ []) (times p (n - 1) t)
+  times-more : (n : ℕ) (s : List ℕ) (a : A) (t : List ℕ) → 0 < n → p s ≡ got a t → times p n s ≡ prepend (a ∷ []) (times p (n - 1) t)
   times-more n s a t h e = ap (λ (k : ℕ). times p k s) (let z : n ≡ suc (n - 1) = omega arith in z) ∙ times-one (n - 1) s a t e
 
-  pub times-stop : (n : ℕ) (s : List ℕ) → 0 < n → p s ≡ fail → times p n s ≡ fail
+  times-stop : (n : ℕ) (s : List ℕ) → 0 < n → p s ≡ fail → times p n s ≡ fail
   unfolding times
   times-stop n s h e = ap (λ (k : ℕ). times p k s) (let z : n ≡ suc (n - 1) = omega arith in z) ∙ go (n - 1)
     where
       go : (k : ℕ) → times p (suc k) s ≡ fail
       go k = ap (λ (q : Parse A). andThen q (λ b r. andThen (times p k r) (λ xs u. got (b ∷ xs) u))) e
 
-  pub times-end : (n : ℕ) (s : List ℕ) → n ≡ 0 → times p n s ≡ got [] s
+  times-end : (n : ℕ) (s : List ℕ) → n ≡ 0 → times p n s ≡ got [] s
   unfolding times
   times-end n s h = rw h
 
@@ -59,26 +60,61 @@ module _ {A : Type 0} (p : Layout A) where
       let a : (c .value) ∷ (d .value) ≡ xs = cc (d .second) in
       sym (ap length a) ∙ ap suc (times-length n (c .left) (d .value) (d .left) (d .first))
 
+  -- the first of them was read
+  pub times-first : (n : ℕ) (s : List ℕ) (x : A) (xs : List A) (r : List ℕ) → times p n s ≡ got (x ∷ xs) r → (t : List ℕ) × (p s ≡ got x t)
+  unfolding times
+  times-first zero s x xs r e = never (cc)
+  times-first (suc n) s x xs r e =
+      let c = andThen-got (p s) _ (x ∷ xs) r e in
+      let d = andThen-got (times p n (c .left)) _ (x ∷ xs) r (c .second) in
+      let a : c .value ≡ x = cc (d .second) in
+      (c .left, c .first ∙ ap (λ (y : A). got y (c .left)) a)
+
+-- ---- so many that pass a test together
+
+-- a test may be said in another way
+such-same :
+    {A : Type 0} (t u : List A → Bool) (q : Parse (List A)) → ((xs : List A) → t xs ≡ u xs) →
+    andThen q (λ xs. foundIf (t xs) xs) ≡ andThen q (λ xs. foundIf (u xs) xs)
+such-same t u fail h = refl
+such-same t u (got xs r) h = ap (λ (b : Bool). cond b (got xs r) fail) (h xs)
+
+module _ {A : Type 0} (p : Layout A) (t : List A → Bool) (n : ℕ) (s : List ℕ) where
+  -- what `times` reads, tested
+  tested : {q : Parse (List A)} → times p n s ≡ q → suchThat t (times p n) s ≡ andThen q (λ xs. foundIf (t xs) xs)
+  tested e = ap (λ (q : Parse (List A)). andThen q (λ xs. foundIf (t xs) xs)) e
+
+  pub such-stop : 0 < n → p s ≡ fail → suchThat t (times p n) s ≡ fail
+  such-stop h e = tested (times-stop p n s h e)
+
+  pub such-end : n ≡ 0 → t [] ≡ true → suchThat t (times p n) s ≡ got [] s
+  such-end h k = tested (times-end p n s h) ∙ ap (λ (b : Bool). cond b (got [] s) fail) k
+
+  module _ (a : A) (r : List ℕ) (h : 0 < n) (e : p s ≡ got a r) where
+    -- the test of those after the first is what is left of the whole test
+    pub such-more : (u : List A → Bool) → ((xs : List A) → t (a ∷ xs) ≡ u xs) → suchThat t (times p n) s ≡ prepend (a ∷ []) (suchThat u (times p (n - 1)) r)
+    such-more u k =
+        tested (times-more p n s a r h e)
+        ∙ go (times p (n - 1) r)
+        ∙ ap (prepend (a ∷ [])) (such-same (λ xs. t (a ∷ xs)) u (times p (n - 1) r) k)
+      where
+        test : (b : Bool) (xs : List A) (v : List ℕ) → cond b (got (a ∷ xs) v) fail ≡ prepend (a ∷ []) (cond b (got xs v) fail)
+        test true xs v = refl
+        test false xs v = refl
+
+        go : (q : Parse (List A)) → andThen (prepend (a ∷ []) q) (λ xs. foundIf (t xs) xs) ≡ prepend (a ∷ []) (andThen q (λ xs. foundIf (t (a ∷ xs)) xs))
+        go fail = refl
+        go (got xs v) = test (t (a ∷ xs)) xs v
+
+    -- where the first does not pass, no list that begins with it does
+    pub such-bad : ((xs : List A) → t (a ∷ xs) ≡ false) → suchThat t (times p n) s ≡ fail
+    such-bad k = such-more (λ xs. false) k ∙ go (times p (n - 1) r)
+      where
+        go : (q : Parse (List A)) → prepend (a ∷ []) (andThen q (λ xs. foundIf false xs)) ≡ fail
+        go fail = refl
+        go (got xs v) = refl
+
 -- ---- places in a list
-
--- the element at a place of a list, and how a map f and the rest of the list have it
-pub record Nth {A : Type 0} (f : A → List ℕ) (xs : List A) (i : ℕ) : Type 0 where
-  pub what : A
-  pub is : getElem? xs i ≡ some what
-  pub under : getD (map f xs) i [] ≡ f what
-  pub rest : drop i xs ≡ what ∷ drop (i + 1) xs
-
-module _ {A : Type 0} (f : A → List ℕ) where
-  pub nth : (xs : List A) (i : ℕ) → i < length xs → Nth f xs i
-  nth [] i h = absurd (omega arith)
-  nth (x ∷ xs) zero h = record { what = x; is = refl; under = refl; rest = refl }
-  nth (x ∷ xs) (suc i) h =
-      let n = nth xs i (omega arith) in
-      record { what = n .what; is = n .is; under = n .under; rest = n .rest ∙ ap (λ (k : ℕ). n .what ∷ drop k (x ∷ xs)) (let z : suc (i + 1) ≡ suc i + 1 = omega arith in z) }
-
-  pub map-length : (xs : List A) → length (map f xs) ≡ length xs
-  map-length [] = refl
-  map-length (x ∷ xs) = ap suc (map-length xs)
 
 pub no-element : {A : Type 0} (xs : List A) (i : ℕ) → length xs ≤ i → getElem? xs i ≡ none
 no-element [] i h = refl

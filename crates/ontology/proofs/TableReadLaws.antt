@@ -1,13 +1,13 @@
 -- The laws of a table: its types one by one, in the order of their names, and the type of a name among them.
 use mathlib.Core.Path.{_≡_, refl, sym, ap, _∙_, subst}
-use mathlib.Core.Bool.{Bool, true, false, cond}
+use mathlib.Core.Bool.{Bool, true, false, cond, _&&_}
 use mathlib.Core.Option.{Option, none, some}
 use mathlib.Core.List.{List, [], _∷_, _++_, map, append-nil}
-use Prim.Native.Nat.{ℕ, zero, suc, _-_, _≤_, _<_}
+use Prim.Native.Nat.{ℕ, _-_, _≤_, _<_}
 use native.Mathlib.Omega.{arith}
 use lib.ListN.{length, drop, drop-of-length-le}
 use lib.Dec.{leb}
-use Rattle.model.specs.Order.{Text, texts, lists, lex, equal, rising, pick}
+use Rattle.model.specs.Order.{Text, texts, equal, rising}
 use Rattle.model.proofs.Cases.{and-parts, never}
 use Rattle.packed.specs.Parse.{Parse, fail, got, Layout, andThen, foundIf, suchThat, times}
 use Rattle.packed.specs.Packed.{readNumber, part, isWithin}
@@ -23,45 +23,35 @@ use Rattle.ontology.specs.TableLayout.{readType, readTable, tableOf}
 use Rattle.ontology.specs.TableCall.{replyToTable, tableCall}
 use Rattle.ontology.specs.declared.types.TypeRead.{TypeRead}
 use Rattle.ontology.specs.declared.tables.TableRead.{TableRead}
-use Rattle.ontology.specs.code.TypeIndex.{TypeIs, TypeReads, TypeSays, TableSays}
-use Rattle.ontology.proofs.RunLaws.{prepend, prepend-nil, prepend-two, times-more, times-stop, times-end}
-use Rattle.ontology.proofs.RuleLaws.{picked, picked-not}
+use Rattle.ontology.specs.code.TypeIndex.{TypeIs, TypeStops, TypeReads, TypeSays, TableSays}
+use Rattle.ontology.proofs.RunLaws.{prepend, prepend-nil, prepend-two, such-stop, such-bad, such-more, such-end}
+use Rattle.ontology.proofs.TurnLaws.{rise-step, rise-from}
 use Rattle.ontology.proofs.TypeLaws.{rules-hold}
 
 -- ---- what a caller of `read_type` has
 
-pub record TypeGot (p : Parse EventType) (s : List ℕ) (at : ℕ) (ps : List ℕ) (r : TypeRead) : Type 0 where
+pub record TypeGot (p : Parse EventType) (s : List ℕ) (at : ℕ) (keep : Bool) (ps : List ℕ) (r : TypeRead) : Type 0 where
   pub what : EventType
+  pub left : List ℕ
   pub is : p ≡ got what (drop (r .next) s)
-  pub after : at < r .next
-  pub within : r .next ≤ length s
-  pub index : TypeIs s what (r .index) ps
+  pub stops : TypeStops s at what left keep ps r
 
-pub type-got : (p : Parse EventType) (s : List ℕ) (at : ℕ) (ps : List ℕ) (r : TypeRead) → TypeReads p s at ps r → r .ok ≡ true → TypeGot p s at ps r
-unfolding TypeReads
-type-got fail s at ps r w h = let z : _≡_ {A = ℕ} 0 1 = cc in absurd (omega arith)
-type-got (got t u) s at ps r w h = record { what = t; is = ap (got t) (w .follows); after = w .after; within = w .within; index = w .is }
+module _ (p : Parse EventType) (s : List ℕ) (at : ℕ) (keep : Bool) (ps : List ℕ) (r : TypeRead) (w : TypeReads p s at keep ps r) where
+  pub type-got : r .ok ≡ true → TypeGot p s at keep ps r
+  unfolding TypeReads
+  type-got h = go p w
+    where
+      go : (q : Parse EventType) → TypeReads q s at keep ps r → TypeGot q s at keep ps r
+      go fail k = never (cc)
+      go (got t u) k = record { what = t; left = u; is = ap (got t) (k .follows); stops = k }
 
-pub type-not : (p : Parse EventType) (s : List ℕ) (at : ℕ) (ps : List ℕ) (r : TypeRead) → TypeReads p s at ps r → r .ok ≡ false → p ≡ fail
-unfolding TypeReads
-type-not fail s at ps r w h = refl
-type-not (got t u) s at ps r w h = let z : _≡_ {A = ℕ} 0 1 = cc (w .right) in absurd (omega arith)
-
--- The next type of a table was read: into the numbers ps while the type that was asked for is not found, and elsewhere afterwards, so that ps stay as they
--- were, ps₀.
-pub record NextReads (p : Parse EventType) (s : List ℕ) (at : ℕ) (found : Bool) (ps₀ ps : List ℕ) (r : TypeRead) : Type 0 where
-  pub numbers : List ℕ
-  pub reads : TypeReads p s at numbers r
-  pub here : found ≡ false → numbers ≡ ps
-  pub stay : found ≡ true → ps ≡ ps₀
-
-module _ {p : Parse EventType} {s : List ℕ} {at : ℕ} {found : Bool} {ps₀ ps : List ℕ} {r : TypeRead} where
-  module _ (qs : List ℕ) {t : TypeRead} (w : TypeReads p s at qs t) (e : r ≡ t) where
-    pub next-here : found ≡ false → ps ≡ qs → NextReads p s at found ps₀ ps r
-    next-here h k = record { numbers = qs; reads = subst (TypeReads p s at qs) (sym e) w; here = λ f. sym k; stay = λ f. never (cc) }
-
-    pub next-elsewhere : found ≡ true → ps ≡ ps₀ → NextReads p s at found ps₀ ps r
-    next-elsewhere h k = record { numbers = qs; reads = subst (TypeReads p s at qs) (sym e) w; here = λ f. never (cc); stay = λ f. k }
+  pub type-not : r .ok ≡ false → p ≡ fail
+  unfolding TypeReads
+  type-not h = go p w
+    where
+      go : (q : Parse EventType) → TypeReads q s at keep ps r → q ≡ fail
+      go fail k = refl
+      go (got t u) k = never (cc (k .right))
 
 -- ---- the types that are left, each name above the one before
 
@@ -71,94 +61,45 @@ nameOf t = t .name
 abbrev readRuled : Layout EventType
 readRuled = suchThat typeRules readType
 
--- so many types, whose names rise from `last` on
-unfoldable pub typesFrom : Text → ℕ → Layout (List EventType)
-typesFrom last n s = andThen (times readRuled n s) (λ ts. foundIf (rising texts (last ∷ map nameOf ts)) ts)
+-- their names rise from `last` on
+abbrev risesFrom : Text → List EventType → Bool
+risesFrom last ts = rising texts (last ∷ map nameOf ts)
+
+-- so many types, whose names do
+abbrev pub typesFrom : Text → ℕ → Layout (List EventType)
+typesFrom last n = suchThat (risesFrom last) (times readRuled n)
 
 module _ (last : Text) (n : ℕ) (s : List ℕ) where
   pub types-none : 0 < n → readRuled s ≡ fail → typesFrom last n s ≡ fail
-  unfolding typesFrom
-  types-none h e = ap (λ (p : Parse (List EventType)). andThen p (λ ts. foundIf (rising texts (last ∷ map nameOf ts)) ts)) (times-stop readRuled n s h e)
+  types-none = such-stop readRuled (risesFrom last) n s
 
   pub types-end : n ≡ 0 → typesFrom last n s ≡ got [] s
-  unfolding typesFrom rising
-  types-end h = ap (λ (p : Parse (List EventType)). andThen p (λ ts. foundIf (rising texts (last ∷ map nameOf ts)) ts)) (times-end readRuled n s h)
+  unfolding rising
+  types-end h = such-end readRuled (risesFrom last) n s h refl
 
   module _ (t : EventType) (u : List ℕ) (h : 0 < n) (e : readRuled s ≡ got t u) where
-    types-step :
-        typesFrom last n s ≡
-        andThen (times readRuled (n - 1) u) (λ ts r. cond (pick (texts .cmp last (t .name)) (rising texts (t .name ∷ map nameOf ts)) false false) (got (t ∷ ts) r) fail)
-    unfolding typesFrom rising
-    types-step =
-        ap (λ (p : Parse (List EventType)). andThen p (λ ts. foundIf (rising texts (last ∷ map nameOf ts)) ts)) (times-more readRuled n s t u h e)
-        ∙ go (times readRuled (n - 1) u)
-      where
-        go :
-            (p : Parse (List EventType)) →
-            andThen (prepend (t ∷ []) p) (λ ts. foundIf (rising texts (last ∷ map nameOf ts)) ts)
-            ≡ andThen p (λ ts r. cond (pick (texts .cmp last (t .name)) (rising texts (t .name ∷ map nameOf ts)) false false) (got (t ∷ ts) r) fail)
-        go fail = refl
-        go (got ts r) = refl
+    rises-by : {b : Bool} → precedes last (t .name) ≡ b → (ts : List EventType) → risesFrom last (t ∷ ts) ≡ (b && risesFrom (t .name) ts)
+    rises-by k ts = rise-step last (t .name) (map nameOf ts) ∙ ap (λ (x : Bool). x && risesFrom (t .name) ts) k
 
     pub types-low : precedes last (t .name) ≡ false → typesFrom last n s ≡ fail
-    types-low b = types-step ∙ go (times readRuled (n - 1) u)
-      where
-        go :
-            (p : Parse (List EventType)) →
-            andThen p (λ ts r. cond (pick (texts .cmp last (t .name)) (rising texts (t .name ∷ map nameOf ts)) false false) (got (t ∷ ts) r) fail) ≡ fail
-        go fail = refl
-        go (got ts r) = ap (λ (x : Bool). cond x (got (t ∷ ts) r) fail) (picked-not (texts .cmp last (t .name)) (rising texts (t .name ∷ map nameOf ts)) b)
+    types-low k = such-bad readRuled (risesFrom last) n s t u h e (rises-by k)
 
     pub types-more : precedes last (t .name) ≡ true → typesFrom last n s ≡ prepend (t ∷ []) (typesFrom (t .name) (n - 1) u)
-    unfolding typesFrom
-    types-more b = types-step ∙ go (times readRuled (n - 1) u)
-      where
-        go :
-            (p : Parse (List EventType)) →
-            andThen p (λ ts r. cond (pick (texts .cmp last (t .name)) (rising texts (t .name ∷ map nameOf ts)) false false) (got (t ∷ ts) r) fail)
-            ≡ prepend (t ∷ []) (andThen p (λ ts. foundIf (rising texts (t .name ∷ map nameOf ts)) ts))
-        go fail = refl
-        go (got ts r) =
-            ap (λ (x : Bool). cond x (got (t ∷ ts) r) fail) (picked (texts .cmp last (t .name)) (rising texts (t .name ∷ map nameOf ts)) b)
-            ∙ test (rising texts (t .name ∷ map nameOf ts))
-          where
-            test : (x : Bool) → cond x (got (t ∷ ts) r) fail ≡ prepend (t ∷ []) (cond x (got ts r) fail)
-            test true = refl
-            test false = refl
+    types-more k = such-more readRuled (risesFrom last) n s t u h e (risesFrom (t .name)) (rises-by k)
 
--- every name comes after the empty text, so the first may be asked the same
-module _ (t : EventType) (h : typeRules t ≡ true) where
-  name-there : isName (t .name) ≡ true
-  unfolding isNameWithin
-  name-there = and-parts (isName (t .name)) (leb (length (t .name)) 64) (rules-hold t h .name) .0
+type-named : (s : List ℕ) (t : EventType) (r : List ℕ) → readRuled s ≡ got t r → isName (t .name) ≡ true
+unfolding isNameWithin
+type-named s t r e =
+    and-parts (isName (t .name)) (leb (length (t .name)) 64) (rules-hold t (suchThat-got typeRules readType s t r e .test) .name) .0
 
-  first-name : (ns : List Text) → rising texts (t .name ∷ ns) ≡ rising texts ([] ∷ t .name ∷ ns)
-  unfolding rising texts lists lex isName
-  first-name ns = go (t .name) name-there
-    where
-      go : (v : Text) → isName v ≡ true → rising texts (v ∷ ns) ≡ rising texts ([] ∷ v ∷ ns)
-      go [] e = let z : _≡_ {A = ℕ} 0 1 = cc in absurd (omega arith)
-      go (b ∷ v) e = refl
-
-all-from : (n : ℕ) (s : List ℕ) → andThen (times readRuled n s) (λ ts. foundIf (namesRise (map nameOf ts)) ts) ≡ typesFrom [] n s
-unfolding typesFrom namesRise times rising
-all-from zero s = refl
-all-from (suc n) s = go (readRuled s) refl
+all-from : (n : ℕ) (s : List ℕ) → suchThat (λ ts. namesRise (map nameOf ts)) (times readRuled n) s ≡ typesFrom [] n s
+all-from n s = go (times readRuled n s) refl
   where
     go :
-        (p : Parse EventType) → readRuled s ≡ p →
-        andThen (andThen p (λ a r. andThen (times readRuled n r) (λ xs t. got (a ∷ xs) t))) (λ ts. foundIf (rising texts (map nameOf ts)) ts)
-        ≡ andThen (andThen p (λ a r. andThen (times readRuled n r) (λ xs t. got (a ∷ xs) t))) (λ ts. foundIf (rising texts ([] ∷ map nameOf ts)) ts)
+        (p : Parse (List EventType)) → times readRuled n s ≡ p →
+        andThen p (λ ts. foundIf (namesRise (map nameOf ts)) ts) ≡ andThen p (λ ts. foundIf (risesFrom [] ts) ts)
     go fail e = refl
-    go (got t r) e = rest (times readRuled n r)
-      where
-        rest :
-            (p : Parse (List EventType)) →
-            andThen (andThen p (λ xs u. got (t ∷ xs) u)) (λ ts. foundIf (rising texts (map nameOf ts)) ts)
-            ≡ andThen (andThen p (λ xs u. got (t ∷ xs) u)) (λ ts. foundIf (rising texts ([] ∷ map nameOf ts)) ts)
-        rest fail = refl
-        rest (got ts u) =
-            ap (λ (x : Bool). cond x (got (t ∷ ts) u) fail) (first-name t (suchThat-got typeRules readType s t r e .test) (map nameOf ts))
+    go (got ts r) e = ap (λ (x : Bool). cond x (got ts r) fail) (rise-from readRuled nameOf type-named n s ts r e)
 
 -- ---- the table
 
@@ -199,11 +140,15 @@ module _ {s : List ℕ} {name : Text} {ps : List ℕ} {r : TableRead} {left at s
   pub listed-bad : 0 < left → readRuled (drop at s) ≡ fail → readTable s ≡ fail
   listed-bad h e = w .rest ∙ ap (prepend (w .before)) (types-none (part s start end) left (drop at s) h e)
 
-  module _ {qs : List ℕ} {t : TypeRead} (h : 0 < left) (g : TypeGot (readRuled (drop at s)) s at qs t) where
+  module _ {keep : Bool} {qs : List ℕ} {t : TypeRead} (h : 0 < left) (g : TypeGot (readRuled (drop at s)) s at keep qs t) where
+    -- the names, where the type's stands in the bytes
+    named-here : {b : Bool} → precedes (part s start end) (part s (t .index .start) (t .index .end)) ≡ b → precedes (part s start end) (g .what .name) ≡ b
+    named-here e = ap (precedes (part s start end)) (sym (g .stops .name)) ∙ e
+
     pub listed-low : precedes (part s start end) (part s (t .index .start) (t .index .end)) ≡ false → readTable s ≡ fail
     listed-low b =
         w .rest
-        ∙ ap (prepend (w .before)) (types-low (part s start end) left (drop at s) (g .what) (drop (t .next) s) h (g .is) (ap (precedes (part s start end)) (sym (g .index .name)) ∙ b))
+        ∙ ap (prepend (w .before)) (types-low (part s start end) left (drop at s) (g .what) (drop (t .next) s) h (g .is) (named-here b))
 
     pub listed-more :
         (ps′ : List ℕ) (q : TableRead) → precedes (part s start end) (part s (t .index .start) (t .index .end)) ≡ true → q .ok ≡ r .ok →
@@ -213,12 +158,12 @@ module _ {s : List ℕ} {name : Text} {ps : List ℕ} {r : TableRead} {left at s
       before = w .before ++ (g .what ∷ []);
       rest =
           w .rest
-          ∙ ap (prepend (w .before)) (types-more (part s start end) left (drop at s) (g .what) (drop (t .next) s) h (g .is) (ap (precedes (part s start end)) (sym (g .index .name)) ∙ b))
+          ∙ ap (prepend (w .before)) (types-more (part s start end) left (drop at s) (g .what) (drop (t .next) s) h (g .is) (named-here b))
           ∙ prepend-two (w .before) (g .what ∷ []) (typesFrom (g .what .name) (left - 1) (drop (t .next) s))
-          ∙ ap (λ (v : Text). prepend (w .before ++ (g .what ∷ [])) (typesFrom v (left - 1) (drop (t .next) s))) (sym (g .index .name));
-      within = g .within;
-      order = g .index .order;
-      ends = g .index .within;
+          ∙ ap (λ (v : Text). prepend (w .before ++ (g .what ∷ [])) (typesFrom v (left - 1) (drop (t .next) s))) (sym (g .stops .name));
+      within = g .stops .within;
+      order = g .stops .order;
+      ends = g .stops .ends;
       unset = o ∙ w .unset;
       says = k (w .says);
     }

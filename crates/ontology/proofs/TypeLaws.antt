@@ -7,10 +7,10 @@ use mathlib.Core.List.{List, [], _∷_, _++_, map, append-nil}
 use Prim.Native.Nat.{ℕ, _+_, _-_, _≤_, _<_}
 use native.Mathlib.Omega.{arith}
 use lib.ListN.{length, drop, getElem?, length-append}
-use lib.Dec.{leb}
-use borrow.Author.Tests.{le-leb, leb-true}
+use lib.Dec.{ltb, leb, eqb}
+use borrow.Author.Tests.{le-leb, leb-true, eq-eqb, ne-eqb, eqb-true, eqb-false}
 use Rattle.model.specs.Order.{Text}
-use Rattle.model.proofs.Cases.{and-parts}
+use Rattle.model.proofs.Cases.{never, truth, and-parts}
 use Rattle.packed.specs.Parse.{Parse, fail, got, andThen, found, foundIf, suchThat, times}
 use Rattle.packed.specs.Packed.{readNumber, readText, part, isWithin}
 use Rattle.packed.proofs.LayoutLaws.{andThen-got, suchThat-got}
@@ -27,8 +27,9 @@ use Rattle.ontology.specs.declared.types.PropertiesRead.the-variants.{Pr
 use Rattle.ontology.specs.declared.types.TypeIndex.{TypeIndex}
 use Rattle.ontology.specs.declared.types.TypeRead.{TypeRead}
 use Rattle.ontology.specs.code.TypeIndex.{PropertyIs, PropertyStops, propertyIn, PropertiesStop, PropertiesSay}
-use Rattle.ontology.specs.code.TypeIndex.{propertyRules, typeOf, HeadStops, HeadReads, TypeIs, TypeReads}
-use Rattle.ontology.proofs.RunLaws.{prepend, prepend-nil, prepend-two, times-more, times-stop, times-end, times-length, snoc-at}
+use Rattle.ontology.specs.code.TypeIndex.{propertyFits, fitInTurn, fittingFrom, readFitting, propertyRules, typeOf, HeadStops, HeadReads, TypeReads}
+use Rattle.ontology.proofs.RunLaws.{prepend, prepend-nil, prepend-two, times-length, snoc-at}
+use Rattle.ontology.proofs.TurnLaws.{fitting-stop, fitting-end, fitting-not, fitting-more, rules-in-turn}
 
 -- what is known of a call's answer in the arm of a `match`
 pub head-got : {s : List ℕ} {at : ℕ} {r : HeadRead} {a e : ℕ} {d : DefinitionVersion} {m n f : ℕ} → r ≡ Head a e d m n f → HeadReads s at r → HeadStops s at a e d m n f
@@ -128,6 +129,12 @@ type-fail s never = go (suchThat typeRules readType s) refl
         let z = never t r (type-was s t r (w .was)) (rules-hold t (w .test)) in
         absurd (omega arith)
 
+-- two tests, one after the other
+two-tests :
+    {A B : Type 0} (a b : Bool) (f : A → B) (x : A) (r : List ℕ) → cond (a && b) (got (f x) r) fail ≡ andThen (cond a (got x r) fail) (λ y. foundIf b (f y))
+two-tests true b f x r = refl
+two-tests false b f x r = refl
+
 -- ---- what stands before the properties, each for a return of `read_head`
 
 module _ (s : List ℕ) (at : ℕ) where
@@ -170,130 +177,197 @@ module _ (s : List ℕ) (at : ℕ) where
               go :
                   (p : Parse (List Property)) → times readProperty n (drop z s) ≡ p →
                   andThen (andThen p (λ qs. found (typeOf v d m qs))) (λ t. foundIf (typeRules t) t)
-                  ≡ andThen p (λ qs. foundIf (propertyRules m qs) (typeOf (part s start e) d m qs))
+                  ≡ andThen (andThen p (λ qs. foundIf (fitInTurn (ltb 0 m) m [] qs) qs)) (λ qs. foundIf (leb m n) (typeOf (part s start e) d m qs))
               go fail x = refl
               go (got qs r) x =
                   let len = times-length readProperty n (drop z s) qs r x in
                   ap (λ (b : Bool). cond b (got (typeOf v d m qs) r) fail) (rules-are v d m qs name (omega arith) (omega (arith, few)) (omega (arith, few)))
-                  ∙ ap (λ (u : Text). cond (propertyRules m qs) (got (typeOf u d m qs) r) fail) q
+                  ∙ ap₂ (λ (b : Bool) (u : Text). cond b (got (typeOf u d m qs) r) fail) (rules-in-turn m n (drop z s) qs r x) q
+                  ∙ two-tests (fitInTurn (ltb 0 m) m [] qs) (leb m n) (typeOf (part s start e) d m) qs r
 
 -- ---- properties, one by one
 
-pub record Filled (p : Parse (List Property)) (s : List ℕ) (at : ℕ) (xs : List ℕ) (next k count : ℕ) : Type 0 where
+-- The properties before place k are read and meet the rules, the last of them with its name from start up to end. Where they are kept, each is at its place.
+pub record Filled
+    (p : Parse (List Property)) (s : List ℕ) (at mark : ℕ) (keep : Bool) (xs₀ xs : List ℕ) (next start end k count : ℕ)
+    : Type 0 where
   pub before : List Property
   pub long : length before ≡ k
   pub few : k ≤ count
-  pub rest : p ≡ prepend before (times readProperty (count - k) (drop next s))
+  pub rest : p ≡ prepend before (fittingFrom (ltb 0 mark) (mark - k) (part s start end) (count - k) (drop next s))
   pub low : at ≤ next
   pub within : next ≤ length s
-  pub each : (i : ℕ) (q : Property) → getElem? before i ≡ some q → PropertyIs s q (propertyIn xs i)
+  pub order : start ≤ end
+  pub ends : end ≤ length s
+  pub each : keep ≡ true → (i : ℕ) (q : Property) → getElem? before i ≡ some q → PropertyIs s q (propertyIn xs i)
+  pub stay : keep ≡ false → xs ≡ xs₀
   pub size : length xs ≡ 96
 
 pub filled-none :
-    (s : List ℕ) (at count : ℕ) (xs : List ℕ) → at ≤ length s → length xs ≡ 96 →
-    Filled (times readProperty count (drop at s)) s at xs at 0 count
-filled-none s at count xs h z = record {
+    (s : List ℕ) (at mark count : ℕ) (keep : Bool) (xs : List ℕ) → at ≤ length s → length xs ≡ 96 →
+    Filled (readFitting mark count (drop at s)) s at mark keep xs xs at 0 0 0 count
+filled-none s at mark count keep xs h z = record {
   before = [];
   long = refl;
   few = omega arith;
-  rest = prepend-nil (times readProperty count (drop at s)) ∙ ap (λ (n : ℕ). prepend [] (times readProperty n (drop at s))) (let e : count ≡ count - 0 = omega arith in e);
+  rest =
+      prepend-nil (readFitting mark count (drop at s))
+      ∙ ap₂ (λ (m n : ℕ). prepend [] (fittingFrom (ltb 0 mark) m [] n (drop at s)))
+      (let e : mark ≡ mark - 0 = omega arith in e) (let e : count ≡ count - 0 = omega arith in e);
   low = omega arith;
   within = h;
-  each = λ i q e. let y : _≡_ {A = ℕ} 0 1 = cc in absurd (omega arith);
+  order = omega arith;
+  ends = omega arith;
+  each = λ k i q e. never (cc);
+  stay = λ k. refl;
   size = z;
 }
 
-module _ {p : Parse (List Property)} {s : List ℕ} {at : ℕ} {xs : List ℕ} {next k count : ℕ} (w : Filled p s at xs next k count) where
-  pub filled-bad : k < count → readProperty (drop next s) ≡ fail → p ≡ fail
-  filled-bad h e = w .rest ∙ ap (prepend (w .before)) (times-stop readProperty (count - k) (drop next s) (omega arith) e)
+-- the property x was put at place k, and the others stay; or it is not kept, and all stay
+pub record Placed (keep : Bool) (k : ℕ) (x : PropertyAt) (xs ys : List ℕ) : Type 0 where
+  pub here : keep ≡ true → propertyIn ys k ≡ x
+  pub others : keep ≡ true → (i : ℕ) → (i ≡ k → ⊥) → propertyIn ys i ≡ propertyIn xs i
+  pub stay : keep ≡ false → ys ≡ xs
+  pub size : length ys ≡ 96
 
-  -- the property x is put at place k, and the others stay
-  pub filled-more :
-      (x : PropertyAt) (e : ℕ) (ys : List ℕ) → k < count → PropertyStops (readProperty (drop next s)) s next x e →
-      length ys ≡ 96 → propertyIn ys k ≡ x → ((i : ℕ) → (i ≡ k → ⊥) → propertyIn ys i ≡ propertyIn xs i) → Filled p s at ys e (k + 1) count
-  filled-more x e ys h t n here others = record {
-    before = w .before ++ (t .what ∷ []);
-    long = length-append (w .before) (t .what ∷ []) ∙ ap (λ (n : ℕ). n + 1) (w .long);
-    few = omega arith;
-    rest =
-        w .rest
-        ∙ ap (prepend (w .before)) (times-more readProperty (count - k) (drop next s) (t .what) (drop e s) (omega arith) (t .stops .is))
-        ∙ prepend-two (w .before) (t .what ∷ []) (times readProperty (count - k - 1) (drop e s))
-        ∙ ap (λ (n : ℕ). prepend (w .before ++ (t .what ∷ [])) (times readProperty n (drop e s))) (let z : count - k - 1 ≡ count - (k + 1) = omega arith in z);
-    low = omega (arith, w .low, t .stops .after);
-    within = t .stops .within;
-    each = λ i q f. one i q (snoc-at (w .before) (t .what) i q f);
-    size = n;
-  }
-    where
-      one :
-          (i : ℕ) (q : Property) →
-          ((i < length (w .before)) × (getElem? (w .before) i ≡ some q)) ⊎ ((i ≡ length (w .before)) × (t .what ≡ q)) → PropertyIs s q (propertyIn ys i)
-      one i q (inl a) =
-          let ne : i ≡ k → ⊥ = λ b. omega (arith, a .0, w .long) in
-          subst (PropertyIs s q) (sym (others i ne)) (w .each i q (a .1))
-      one i q (inr a) =
-          let b : k ≡ i = sym (a .0 ∙ w .long) in
-          let f : propertyIn ys i ≡ x = ap (λ (j : ℕ). propertyIn ys j) (sym b) ∙ here in
-          subst (PropertyIs s q) (sym f) (subst (λ (u : Property). PropertyIs s u x) (a .1) (t .is))
+module _ {keep : Bool} {k : ℕ} {x : PropertyAt} {xs ys : List ℕ} where
+  pub placed :
+      keep ≡ true → {zs : List ℕ} → ys ≡ zs → propertyIn zs k ≡ x → ((i : ℕ) → (i ≡ k → ⊥) → propertyIn zs i ≡ propertyIn xs i) → length zs ≡ 96 →
+      Placed keep k x xs ys
+  placed o {zs} e here others size =
+      subst (Placed keep k x xs) (sym e) (record { here = λ a. here; others = λ a. others; stay = λ a. never (cc); size = size })
 
-  pub filled-all : count ≤ 32 → count ≤ k → PropertiesStop p s at count next xs
-  filled-all m h = record {
-    what = w .before;
-    is =
-        w .rest
-        ∙ ap (prepend (w .before)) (times-end readProperty (count - k) (drop next s) (omega (arith, w .few)))
-        ∙ ap (λ (l : List Property). got l (drop next s)) (append-nil (w .before));
-    after = w .low;
-    within = w .within;
-    are = record { count = omega (arith, w .few, w .long); few = m; each = w .each };
-  }
+  pub not-placed : keep ≡ false → ys ≡ xs → length xs ≡ 96 → Placed keep k x xs ys
+  not-placed o e size = record { here = λ a. never (cc); others = λ a. never (cc); stay = λ a. e; size = ap length e ∙ size }
+
+-- the place after k is the mark where the mark is 1 from k on
+mark-here : (mark k : ℕ) → eqb (k + 1) mark ≡ eqb (mark - k) 1
+mark-here mark k =
+    truth (eqb (k + 1) mark)
+    (λ e. e ∙ sym (eq-eqb (mark - k) 1 (omega (arith, eqb-true (k + 1) mark e))))
+    (λ e. e ∙ sym (ne-eqb (mark - k) 1 (λ f. eqb-false (k + 1) mark e (omega arith))))
+
+module _
+    {p : Parse (List Property)} {s : List ℕ} {at mark : ℕ} {keep : Bool} {xs₀ xs : List ℕ} {next start end k count : ℕ}
+    (w : Filled p s at mark keep xs₀ xs next start end k count)
+  where
+    -- the whole, by what is left
+    whole-by :
+        {q : Parse (List Property)} → fittingFrom (ltb 0 mark) (mark - k) (part s start end) (count - k) (drop next s) ≡ q → p ≡ prepend (w .before) q
+    whole-by e = w .rest ∙ ap (prepend (w .before)) e
+
+    pub filled-bad : k < count → readProperty (drop next s) ≡ fail → p ≡ fail
+    filled-bad h e = whole-by (fitting-stop (ltb 0 mark) (mark - k) (part s start end) (count - k) (drop next s) (omega arith) e)
+
+    pub filled-all : count ≤ 32 → count ≤ k → PropertiesStop p s at count next keep xs
+    filled-all m h = record {
+      what = w .before;
+      is =
+          whole-by (fitting-end (ltb 0 mark) (mark - k) (part s start end) (count - k) (drop next s) (omega (arith, w .few)))
+          ∙ ap (λ (l : List Property). got l (drop next s)) (append-nil (w .before));
+      after = w .low;
+      within = w .within;
+      are = λ o. record { count = omega (arith, w .few, w .long); few = m; each = w .each o };
+    }
+
+    module _ {x : PropertyAt} {e : ℕ} (h : k < count) (t : PropertyStops (readProperty (drop next s)) s next x e) where
+      -- the answer of `property_fits`
+      abbrev pub Fits : Bool → Type 0
+      Fits b = propertyFits (ltb 0 mark) (eqb (k + 1) mark) (part s start end) (t .what) ≡ b
+
+      -- the same with the mark counted from here
+      fits-here : {b : Bool} → Fits b → propertyFits (ltb 0 mark) (eqb (mark - k) 1) (part s start end) (t .what) ≡ b
+      fits-here f = ap (λ (m : Bool). propertyFits (ltb 0 mark) m (part s start end) (t .what)) (sym (mark-here mark k)) ∙ f
+
+      pub filled-not : Fits false → p ≡ fail
+      filled-not f =
+          whole-by
+          (fitting-not (ltb 0 mark) (mark - k) (part s start end) (count - k) (drop next s) (t .what) (drop e s) (omega arith) (t .stops .is) (fits-here f))
+
+      -- what is left after it, with the mark m, the last name v and n properties
+      abbrev after : ℕ → Text → ℕ → Parse (List Property)
+      after m v n = prepend (w .before ++ (t .what ∷ [])) (fittingFrom (ltb 0 mark) m v n (drop e s))
+
+      pub filled-more : {ys : List ℕ} → Fits true → Placed keep k x xs ys → Filled p s at mark keep xs₀ ys e (x .start) (x .end) (k + 1) count
+      filled-more {ys} f d = record {
+        before = w .before ++ (t .what ∷ []);
+        long = length-append (w .before) (t .what ∷ []) ∙ ap (λ (n : ℕ). n + 1) (w .long);
+        few = omega arith;
+        rest =
+            whole-by
+            (fitting-more (ltb 0 mark) (mark - k) (part s start end) (count - k) (drop next s) (t .what) (drop e s) (omega arith) (t .stops .is) (fits-here f))
+            ∙ prepend-two (w .before) (t .what ∷ []) (fittingFrom (ltb 0 mark) (mark - k - 1) (t .what .name) (count - k - 1) (drop e s))
+            ∙ ap₂ (λ (m n : ℕ). after m (t .what .name) n)
+            (let z : mark - k - 1 ≡ mark - (k + 1) = omega arith in z) (let z : count - k - 1 ≡ count - (k + 1) = omega arith in z)
+            ∙ ap (λ (v : Text). after (mark - (k + 1)) v (count - (k + 1))) (sym (t .is .name));
+        low = omega (arith, w .low, t .stops .after);
+        within = t .stops .within;
+        order = t .is .order;
+        ends = t .is .within;
+        each = λ o i q g. one o i q (snoc-at (w .before) (t .what) i q g);
+        stay = λ o. d .stay o ∙ w .stay o;
+        size = d .size;
+      }
+        where
+          one :
+              keep ≡ true → (i : ℕ) (q : Property) →
+              ((i < length (w .before)) × (getElem? (w .before) i ≡ some q)) ⊎ ((i ≡ length (w .before)) × (t .what ≡ q)) → PropertyIs s q (propertyIn ys i)
+          one o i q (inl a) =
+              let ne : i ≡ k → ⊥ = λ b. omega (arith, a .0, w .long) in
+              subst (PropertyIs s q) (sym (d .others o i ne)) (w .each o i q (a .1))
+          one o i q (inr a) =
+              let b : k ≡ i = sym (a .0 ∙ w .long) in
+              let g : propertyIn ys i ≡ x = ap (λ (j : ℕ). propertyIn ys j) (sym b) ∙ d .here o in
+              subst (PropertyIs s q) (sym g) (subst (λ (u : Property). PropertyIs s u x) (a .1) (t .is))
 
 -- what the reader of some properties answered
 pub properties-got :
-    {p : Parse (List Property)} {s : List ℕ} {at n : ℕ} {xs : List ℕ} {r : PropertiesRead} {next : ℕ} →
-    r ≡ Properties next → PropertiesSay p s at n xs r → PropertiesStop p s at n next xs
-properties-got {p} {s} {at} {n} {xs} e w = subst (PropertiesSay p s at n xs) e w
+    {p : Parse (List Property)} {s : List ℕ} {at n : ℕ} {keep : Bool} {xs : List ℕ} {r : PropertiesRead} {next : ℕ} →
+    r ≡ Properties next → PropertiesSay p s at n keep xs r → PropertiesStop p s at n next keep xs
+properties-got {p} {s} {at} {n} {keep} {xs} e w = subst (PropertiesSay p s at n keep xs) e w
 
 pub properties-fail :
-    (p : Parse (List Property)) (s : List ℕ) (at n : ℕ) (xs : List ℕ) {r : PropertiesRead} → r ≡ NoProperties → PropertiesSay p s at n xs r → p ≡ fail
-properties-fail p s at n xs e w = subst (PropertiesSay p s at n xs) e w
+    (p : Parse (List Property)) (s : List ℕ) (at n : ℕ) (keep : Bool) (xs : List ℕ) {r : PropertiesRead} →
+    r ≡ NoProperties → PropertiesSay p s at n keep xs r → p ≡ fail
+properties-fail p s at n keep xs e w = subst (PropertiesSay p s at n keep xs) e w
 
 -- ---- the type
 
-pub type-none : (p : Parse EventType) (s : List ℕ) (at : ℕ) (ps : List ℕ) (r : TypeRead) → p ≡ fail → r .ok ≡ false → TypeReads p s at ps r
+pub type-none : (p : Parse EventType) (s : List ℕ) (at : ℕ) (keep : Bool) (ps : List ℕ) (r : TypeRead) → p ≡ fail → r .ok ≡ false → TypeReads p s at keep ps r
 unfolding TypeReads
-type-none p s at ps r e h = rw e h
+type-none p s at keep ps r e h = rw e h
 
 module _ {s : List ℕ} {at start end : ℕ} {definition : DefinitionVersion} {mark count next : ℕ} (w : HeadStops s at start end definition mark count next) where
-  pub type-short : times readProperty count (drop next s) ≡ fail → suchThat typeRules readType (drop at s) ≡ fail
-  type-short e = w .is ∙ ap (λ (p : Parse (List Property)). andThen p (λ qs. foundIf (propertyRules mark qs) (typeOf (part s start end) (definition .0) mark qs))) e
+  -- the type, by what its properties come to
+  type-by :
+      {q : Parse (List Property)} → readFitting mark count (drop next s) ≡ q →
+      suchThat typeRules readType (drop at s) ≡ andThen q (λ qs. foundIf (leb mark count) (typeOf (part s start end) (definition .0) mark qs))
+  type-by e = w .is ∙ ap (λ (q : Parse (List Property)). andThen q (λ qs. foundIf (leb mark count) (typeOf (part s start end) (definition .0) mark qs))) e
 
-  module _ {after : ℕ} {xs : List ℕ} (u : PropertiesStop (times readProperty count (drop next s)) s next count after xs) where
-    -- the type that was read, if it meets the rules
+  pub type-short : readFitting mark count (drop next s) ≡ fail → suchThat typeRules readType (drop at s) ≡ fail
+  type-short e = type-by e
+
+  module _ {after : ℕ} {keep : Bool} {xs : List ℕ} (u : PropertiesStop (readFitting mark count (drop next s)) s next count after keep xs) where
+    -- the type that was read, if its mark is at most their count
     abbrev pub headed : EventType
     headed = typeOf (part s start end) (definition .0) mark (u .what)
 
     abbrev pub indexed : TypeIndex
     indexed = record { start = start; end = end; definition = definition; mark = mark; count = count }
 
-    type-is : TypeIs s headed indexed xs
-    type-is = record { name = refl; order = w .order; within = w .ends; definition = refl; mark = refl; are = u .are }
-
-    pub type-reads :
-        (b : Bool) → b ≡ propertyRules mark (u .what) →
-        TypeReads (suchThat typeRules readType (drop at s)) s at xs (record { ok = b; next = after; index = indexed })
+    pub type-reads : TypeReads (suchThat typeRules readType (drop at s)) s at keep xs (record { ok = leb mark count; next = after; index = indexed })
     unfolding TypeReads
-    type-reads b e =
-        rw (w .is ∙ ap (λ (p : Parse (List Property)). andThen p (λ qs. foundIf (propertyRules mark qs) (typeOf (part s start end) (definition .0) mark qs))) (u .is))
-        (go (propertyRules mark (u .what)) b e)
+    type-reads = rw (type-by (u .is)) (go (leb mark count))
       where
-        go : (x b : Bool) → b ≡ x → TypeReads (cond x (got headed (drop after s)) fail) s at xs (record { ok = b; next = after; index = indexed })
-        go true b e = record {
-          right = e;
+        go : (b : Bool) → TypeReads (cond b (got headed (drop after s)) fail) s at keep xs (record { ok = b; next = after; index = indexed })
+        go true = record {
+          right = refl;
           follows = refl;
           after = omega (arith, w .after, u .after);
           within = u .within;
-          is = type-is;
+          name = refl;
+          order = w .order;
+          ends = w .ends;
+          is = λ o. record { name = refl; order = w .order; within = w .ends; definition = refl; mark = refl; are = u .are o };
         }
-        go false b e = e
+        go false = refl

@@ -48,8 +48,8 @@ fn keep(r: TableRead, table: &[u8], name: &[u8], x: TypeIndex) -> TableRead
     }
 }
 
-// Reads the table once: checks every rule, and keeps the index of the type of that name. Until that type is found each type is read into `properties`; those
-// after it are read into `others`, so that its properties stay.
+// Reads the table once: checks every rule, and keeps the index of the type of that name. Until that type is found each type is read into `properties`; the
+// properties of those after it are not kept, so that its own stay.
 pub fn read_table(table: &[u8], name: &[u8], properties: &mut [usize]) -> TableRead
     requires { ⌜ length (now properties) ≡ 96 ⌝ }
     ensures { λ r. ⌜ TableSays (tableOf (now (table .entry))) (now (table .entry)) (now (name .entry)) (now (properties .exit)) r ⌝ }
@@ -62,17 +62,12 @@ pub fn read_table(table: &[u8], name: &[u8], properties: &mut [usize]) -> TableR
     let NumberAt::Number(count, after_count) = read_within(table, 0, 1, 16) else {
         return r;
     };
-    let mut others = [0usize; 96];
     let mut left = count;
     let mut at = after_count;
     let mut start: usize = 0;
     let mut end: usize = 0;
     while 0 < left {
-        let t = if r.found {
-            read_type(table, at, &mut others)
-        } else {
-            read_type(table, at, properties)
-        };
+        let t = read_type(table, at, !r.found, properties);
         if !t.ok {
             return r;
         }

@@ -1,22 +1,20 @@
-ghost use Prim.Native.Nat.{ℕ, _-_, _≤_};
+ghost use Prim.Native.Nat.{ℕ, _≤_};
 ghost use mathlib.Core.Path.{_≡_};
-ghost use mathlib.Core.Bool.{not, _&&_, _||_};
-ghost use mathlib.Core.List.{List, map};
-ghost use lib.ListN.{length, drop, getElem?};
-ghost use Rattle.packed.specs.Parse.{suchThat, times};
+ghost use mathlib.Core.Bool.{false, not, _&&_};
+ghost use mathlib.Core.List.{List};
+ghost use lib.ListN.{length, drop};
+ghost use Rattle.packed.specs.Parse.{suchThat};
 ghost use Rattle.packed.specs.Packed.{part};
 ghost use Rattle.packed.specs.code.Comparison.{precedes};
-ghost use lib.Dec.{ltb};
-ghost use Rattle.ontology.specs.Table.{Property, namesRise, strategyFits, allFit, canBeMarked, markFits, typeRules};
-ghost use Rattle.ontology.specs.TableLayout.{readProperty, readType};
-ghost use Rattle.ontology.specs.code.TypeIndex.{PropertyIs, PropertiesAre, ArePropertiesOf, PropertiesSay, propertyRules, HeadReads, TypeReads};
+ghost use Rattle.ontology.specs.Table.{Property, strategyFits, canBeMarked, typeRules};
+ghost use Rattle.ontology.specs.TableLayout.{readType};
+ghost use Rattle.ontology.specs.code.TypeIndex.{PropertyIs, propertyFits, readFitting, PropertiesSay, HeadReads, TypeReads};
 use crate::names::read_name;
 use crate::properties::PropertyAt;
 use crate::properties::PropertyRead;
 use crate::properties::is_extreme;
 use crate::properties::is_max;
 use crate::properties::is_replace;
-use crate::properties::property_at;
 use crate::properties::put_property;
 use crate::properties::read_property;
 use packed::order::is_before;
@@ -104,28 +102,6 @@ fn read_head(table: &[u8], at: usize) -> HeadRead
     }
 }
 
-fn read_properties(
-    table: &[u8],
-    at: usize,
-    count: usize,
-    properties: &mut [usize],
-) -> PropertiesRead
-    requires { ⌜ (at ≤ length (now table)) × (count ≤ 32) × (length (now properties) ≡ 96) ⌝ }
-    ensures { λ r. ⌜ PropertiesSay (times readProperty count (drop at (now (table .entry)))) (now (table .entry)) at count (now (properties .exit)) r ⌝ }
-{
-    let mut next = at;
-    let mut k: usize = 0;
-    while k < count {
-        let PropertyRead::Property(p, after) = read_property(table, next) else {
-            return PropertiesRead::NoProperties;
-        };
-        put_property(properties, k, p);
-        next = after;
-        k += 1;
-    }
-    PropertiesRead::Properties(next)
-}
-
 // Whether the name from a up to e comes before that from b up to f. Most names of a type differ in their first byte.
 fn name_before(table: &[u8], a: usize, e: usize, b: usize, f: usize) -> bool
     requires { ⌜ (a ≤ e) × (e ≤ length (now table)) × (b ≤ f) × (f ≤ length (now table)) ⌝ }
@@ -139,23 +115,6 @@ fn name_before(table: &[u8], a: usize, e: usize, b: usize, f: usize) -> bool
         }
     }
     is_before(table, a, e, b, f)
-}
-
-fn names_rise(table: &[u8], count: usize, properties: &[usize]) -> bool
-    requires { ⌜ (length (now properties) ≡ 96) × ArePropertiesOf (now table) count (now properties) ⌝ }
-    ensures { λ r. ⌜ ((qs : List Property) → PropertiesAre (now (table .entry)) qs count (now (properties .entry))
-        → r ≡ namesRise (map (λ (p : Property). p .name) qs)) ⌝ }
-{
-    let mut k: usize = 1;
-    while k < count {
-        let p = property_at(properties, k - 1);
-        let q = property_at(properties, k);
-        if !name_before(table, p.start, p.end, q.start, q.end) {
-            return false;
-        }
-        k += 1;
-    }
-    true
 }
 
 fn is_mandatory_single(p: PropertyAt) -> bool
@@ -182,20 +141,6 @@ fn strategy_fits(p: PropertyAt, versioned: bool) -> bool
     true
 }
 
-fn all_fit(versioned: bool, count: usize, properties: &[usize]) -> bool
-    requires { ⌜ (count ≤ 32) × (length (now properties) ≡ 96) ⌝ }
-    ensures { λ r. ⌜ ((s : List ℕ) (qs : List Property) → PropertiesAre s qs count (now (properties .entry)) → r ≡ allFit versioned qs) ⌝ }
-{
-    let mut k: usize = 0;
-    while k < count {
-        if !strategy_fits(property_at(properties, k), versioned) {
-            return false;
-        }
-        k += 1;
-    }
-    true
-}
-
 fn can_be_marked(p: PropertyAt) -> bool
     ensures { λ r. ⌜ ((s : List ℕ) (q : Property) → PropertyIs s q p → r ≡ canBeMarked q) ⌝ }
 {
@@ -208,37 +153,70 @@ fn can_be_marked(p: PropertyAt) -> bool
     is_mandatory_single(p)
 }
 
-fn mark_fits(mark: usize, count: usize, properties: &[usize]) -> bool
-    requires { ⌜ (count ≤ 32) × (length (now properties) ≡ 96) ⌝ }
-    ensures { λ r. ⌜ ((s : List ℕ) (qs : List Property) → PropertiesAre s qs count (now (properties .entry))
-        → r ≡ (not (ltb 0 mark) || markFits (getElem? qs (mark - 1)))) ⌝ }
+// Whether the property p meets its rules: its name comes after the last one, which is from start up to end; its strategy fits; and it can be marked if it is.
+fn property_fits(
+    table: &[u8],
+    start: usize,
+    end: usize,
+    p: PropertyAt,
+    versioned: bool,
+    marked: bool,
+) -> bool
+    requires { ⌜ (start ≤ end) × (end ≤ length (now table)) × (p .start ≤ p .end) × (p .end ≤ length (now table)) ⌝ }
+    ensures { λ r. ⌜ ((q : Property) → PropertyIs (now (table .entry)) q p
+        → r ≡ propertyFits versioned marked (part (now (table .entry)) start end) q) ⌝ }
 {
-    if mark == 0 {
-        return true;
-    }
-    if count < mark {
+    if !name_before(table, start, end, p.start, p.end) {
         return false;
     }
-    can_be_marked(property_at(properties, mark - 1))
+    if !strategy_fits(p, versioned) {
+        return false;
+    }
+    if marked { can_be_marked(p) } else { true }
 }
 
-fn rules_hold(table: &[u8], mark: usize, count: usize, properties: &[usize]) -> bool
-    requires { ⌜ (length (now properties) ≡ 96) × ArePropertiesOf (now table) count (now properties) ⌝ }
-    ensures { λ r. ⌜ ((qs : List Property) → PropertiesAre (now (table .entry)) qs count (now (properties .entry)) → r ≡ propertyRules mark qs) ⌝ }
+// Each property is asked its rules as it is read. The first name comes after the empty one.
+fn read_properties(
+    table: &[u8],
+    at: usize,
+    count: usize,
+    mark: usize,
+    keep: bool,
+    properties: &mut [usize],
+) -> PropertiesRead
+    requires { ⌜ (at ≤ length (now table)) × (count ≤ 32) × (length (now properties) ≡ 96) ⌝ }
+    ensures says { λ r. ⌜ PropertiesSay (readFitting mark count (drop at (now (table .entry)))) (now (table .entry)) at count keep
+        (now (properties .exit)) r ⌝ }
+    ensures stay { λ _. ⌜ (keep ≡ false → now (properties .exit) ≡ now (properties .entry)) ⌝ }
 {
-    if !names_rise(table, count, properties) {
-        return false;
+    let mut next = at;
+    let mut start: usize = 0;
+    let mut end: usize = 0;
+    let mut k: usize = 0;
+    while k < count {
+        let PropertyRead::Property(p, after) = read_property(table, next) else {
+            return PropertiesRead::NoProperties;
+        };
+        if !property_fits(table, start, end, p, 0 < mark, k + 1 == mark) {
+            return PropertiesRead::NoProperties;
+        }
+        if keep {
+            put_property(properties, k, p);
+        }
+        start = p.start;
+        end = p.end;
+        next = after;
+        k += 1;
     }
-    if !all_fit(0 < mark, count, properties) {
-        return false;
-    }
-    mark_fits(mark, count, properties)
+    PropertiesRead::Properties(next)
 }
 
-// The type at position `at`, if it meets its rules: those on single fields are tested as these are read, the others on the numbers.
-pub fn read_type(table: &[u8], at: usize, properties: &mut [usize]) -> TypeRead
+// The type at position `at`, if it meets its rules: those on a field or a property are asked as it is read, and at last that the mark is at most their count.
+// Where the properties are not kept, the numbers stay as they were.
+pub fn read_type(table: &[u8], at: usize, keep: bool, properties: &mut [usize]) -> TypeRead
     requires { ⌜ length (now properties) ≡ 96 ⌝ }
-    ensures { λ r. ⌜ TypeReads (suchThat typeRules readType (drop at (now (table .entry)))) (now (table .entry)) at (now (properties .exit)) r ⌝ }
+    ensures reads { λ r. ⌜ TypeReads (suchThat typeRules readType (drop at (now (table .entry)))) (now (table .entry)) at keep (now (properties .exit)) r ⌝ }
+    ensures stay { λ _. ⌜ (keep ≡ false → now (properties .exit) ≡ now (properties .entry)) ⌝ }
 {
     let mut r = TypeRead {
         ok: false,
@@ -256,10 +234,11 @@ pub fn read_type(table: &[u8], at: usize, properties: &mut [usize]) -> TypeRead
     else {
         return r;
     };
-    let PropertiesRead::Properties(after) = read_properties(table, next, count, properties) else {
+    let answer = read_properties(table, next, count, mark, keep, properties);
+    let PropertiesRead::Properties(after) = answer else {
         return r;
     };
-    r.ok = rules_hold(table, mark, count, properties);
+    r.ok = mark <= count;
     r.next = after;
     let index = TypeIndex {
         start,

@@ -4,18 +4,20 @@ use mathlib.Core.Path.{_≡_}
 use mathlib.Core.Logic.{_⊎_}
 use mathlib.Core.Bool.{Bool, true, false, cond, not, _&&_, _||_}
 use mathlib.Core.Option.{Option, none, some}
-use mathlib.Core.List.{List, map}
+use mathlib.Core.List.{List, [], _∷_, map}
 use lib.ListN.{length, drop, getD, getElem?}
 use lib.Dec.{ltb, leb, eqb}
 use Rattle.model.specs.Order.{Text}
-use Rattle.packed.specs.Parse.{Parse, fail, got, andThen, foundIf, suchThat, times}
+use Rattle.packed.specs.Parse.{Parse, fail, got, Layout, andThen, foundIf, suchThat, times}
 use Rattle.packed.specs.Packed.{part, isWithin}
 use Rattle.packed.specs.declared.read.TextAt.the-variants as text
 use Rattle.packed.specs.code.Located.{Got}
+use Rattle.packed.specs.code.Comparison.{precedes}
 use Rattle.values.specs.Spaces.{Kind, kindNumber, unsignedNumber, signedNumber, stringNumber, hexNumber, isWidth}
 use Rattle.values.specs.code.KindNumbers.{sizeParameter, afterParameter, signParameter}
 use Rattle.values.specs.declared.versions.DefinitionVersion.{DefinitionVersion}
-use Rattle.ontology.specs.Table.{Strategy, min, max, replace, match, strategyNumber, Property, EventType, Table, namesRise, allFit, markFits, typeRules, typeNamed}
+use Rattle.ontology.specs.Table.{Strategy, min, max, replace, match, strategyNumber, Property, EventType, Table, typeNamed}
+use Rattle.ontology.specs.Table.{namesRise, strategyFits, allFit, canBeMarked, markFits, typeRules}
 use Rattle.ontology.specs.TableLayout.{readProperty, readType}
 use Rattle.ontology.specs.declared.fields.FlagAt.{FlagAt}
 use Rattle.ontology.specs.declared.fields.FlagAt.the-variants.{Flag, NoFlag}
@@ -140,22 +142,34 @@ pub record PropertiesAre (s : List ℕ) (qs : List Property) (n : ℕ) (xs : Lis
   pub few : n ≤ 32
   pub each : (i : ℕ) (q : Property) → getElem? qs i ≡ some q → PropertyIs s q (propertyIn xs i)
 
--- xs are the numbers of some properties
-pub record ArePropertiesOf (s : List ℕ) (n : ℕ) (xs : List ℕ) : Type 0 where
-  pub what : List Property
-  pub are : PropertiesAre s what n xs
+-- the rules that a property of a type has to meet: its name comes after the last one, its strategy fits, and it can be marked if it is marked
+unfoldable pub propertyFits : Bool → Bool → Text → Property → Bool
+propertyFits versioned marked last q = precedes last (q .name) && strategyFits versioned q && (not marked || canBeMarked q)
 
-pub record PropertiesStop (p : Parse (List Property)) (s : List ℕ) (at n next : ℕ) (xs : List ℕ) : Type 0 where
+-- Each property meets them in its turn. The mark is counted from the first of these properties: 1 marks that one, and 0 none of them.
+unfoldable pub fitInTurn : Bool → ℕ → Text → List Property → Bool
+fitInTurn versioned mark last [] = true
+fitInTurn versioned mark last (q ∷ qs) = propertyFits versioned (eqb mark 1) last q && fitInTurn versioned (mark - 1) (q .name) qs
+
+-- so many properties that meet them
+abbrev pub fittingFrom : Bool → ℕ → Text → ℕ → Layout (List Property)
+fittingFrom versioned mark last n = suchThat (fitInTurn versioned mark last) (times readProperty n)
+
+-- the properties of a type with that mark: every name comes after the empty one, so that the first is asked the same as the others
+abbrev pub readFitting : ℕ → ℕ → Layout (List Property)
+readFitting mark n = fittingFrom (ltb 0 mark) mark [] n
+
+pub record PropertiesStop (p : Parse (List Property)) (s : List ℕ) (at n next : ℕ) (keep : Bool) (xs : List ℕ) : Type 0 where
   pub what : List Property
   pub is : p ≡ got what (drop next s)
   pub after : at ≤ next
   pub within : next ≤ length s
-  pub are : PropertiesAre s what n xs
+  pub are : keep ≡ true → PropertiesAre s what n xs
 
--- what the reader of n properties answers, and leaves in the numbers xs
-abbrev pub PropertiesSay : Parse (List Property) → List ℕ → ℕ → ℕ → List ℕ → PropertiesRead → Type 0
-PropertiesSay p s at n xs (Properties next) = PropertiesStop p s at n next xs
-PropertiesSay p s at n xs NoProperties = p ≡ fail
+-- what the reader of n properties answers, and leaves in the numbers xs where it keeps the properties
+abbrev pub PropertiesSay : Parse (List Property) → List ℕ → ℕ → ℕ → Bool → List ℕ → PropertiesRead → Type 0
+PropertiesSay p s at n keep xs (Properties next) = PropertiesStop p s at n next keep xs
+PropertiesSay p s at n keep xs NoProperties = p ≡ fail
 
 -- ---- types
 
@@ -167,11 +181,11 @@ propertyRules mark qs =
 abbrev pub typeOf : Text → ℕ → ℕ → List Property → EventType
 typeOf name definition mark qs = record { name = name; definition = definition; mark = mark; properties = qs }
 
--- What stands before the properties was read: what is left of the type, and of its rules, is about them.
+-- What stands before the properties was read: what is left of the type, and of its rules, is about them, and that the mark is at most their count.
 pub record HeadStops (s : List ℕ) (at start end : ℕ) (definition : DefinitionVersion) (mark count next : ℕ) : Type 0 where
   pub is :
       suchThat typeRules readType (drop at s) ≡
-      andThen (times readProperty count (drop next s)) (λ qs. foundIf (propertyRules mark qs) (typeOf (part s start end) (definition .0) mark qs))
+      andThen (readFitting mark count (drop next s)) (λ qs. foundIf (leb mark count) (typeOf (part s start end) (definition .0) mark qs))
   pub order : start ≤ end
   pub ends : end ≤ length s
   pub few : count ≤ 32
@@ -191,17 +205,20 @@ pub record TypeIs (s : List ℕ) (t : EventType) (x : TypeIndex) (ps : List ℕ)
   pub mark : x .mark ≡ t .mark
   pub are : PropertiesAre s (t .properties) (x .count) ps
 
-pub record TypeStops (s : List ℕ) (at : ℕ) (t : EventType) (u ps : List ℕ) (r : TypeRead) : Type 0 where
+pub record TypeStops (s : List ℕ) (at : ℕ) (t : EventType) (u : List ℕ) (keep : Bool) (ps : List ℕ) (r : TypeRead) : Type 0 where
   pub right : r .ok ≡ true
   pub follows : u ≡ drop (r .next) s
   pub after : at < r .next
   pub within : r .next ≤ length s
-  pub is : TypeIs s t (r .index) ps
+  pub name : part s (r .index .start) (r .index .end) ≡ t .name
+  pub order : r .index .start ≤ r .index .end
+  pub ends : r .index .end ≤ length s
+  pub is : keep ≡ true → TypeIs s t (r .index) ps
 
--- what the reader of a type answers, and leaves in the numbers ps
-unfoldable pub TypeReads : Parse EventType → List ℕ → ℕ → List ℕ → TypeRead → Type 0
-TypeReads fail s at ps r = r .ok ≡ false
-TypeReads (got t u) s at ps r = TypeStops s at t u ps r
+-- what the reader of a type answers, and leaves in the numbers ps where it keeps the properties
+unfoldable pub TypeReads : Parse EventType → List ℕ → ℕ → Bool → List ℕ → TypeRead → Type 0
+TypeReads fail s at keep ps r = r .ok ≡ false
+TypeReads (got t u) s at keep ps r = TypeStops s at t u keep ps r
 
 -- ---- tables
 

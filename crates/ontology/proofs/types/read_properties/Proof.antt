@@ -1,26 +1,87 @@
-use Rattle.packed.specs.Parse.{times}
+-- Each turn reads a property and asks its rules. Where the property is none or breaks one, no list that begins with what was read so far meets the rules;
+-- else one more is read, and what is left of the rules is about those after it.
 use Rattle.ontology.specs.TableLayout.{readProperty}
+use Rattle.ontology.specs.declared.properties.PropertyAt.{PropertyAt}
+use Rattle.ontology.specs.code.TypeIndex.{PropertyStops, readFitting}
 use Rattle.ontology.proofs.PropertyLaws.{property-got, property-fail}
-use Rattle.ontology.proofs.TypeLaws.{Filled, filled-none, filled-bad, filled-more, filled-all}
-use Prim.Native.Nat.{_-_}
+use Rattle.ontology.proofs.TypeLaws.{Fits, Placed, placed, not-placed, Filled, filled-none, filled-bad, filled-not, filled-more, filled-all}
+use Prim.Native.Nat.{ℕ, _-_}
 use mathlib.Core.Path.{_≡_, sym, _∙_}
-use lib.ListN.{drop}
+use mathlib.Core.Bool.{Bool}
+use mathlib.Core.List.{List}
+use mathlib.Core.Logic.{⊎-elim}
+use lib.ListN.{drop, length}
+use borrow.Author.Tests.{not-true, not-false}
 use native.Mathlib.Omega.{arith}
 use borrow.Author.Needs.{needs}
 use Rattle.ontology.proofs.types.read_properties.Statement.{statement}
 use Rattle.ontology.proofs.types.read_properties.Tie as tie
 
 abbrev Inv-loop : tie.InvT-loop
-Inv-loop table at count properties₀ next₀ k₀ properties next k = Filled (times readProperty count (drop at table)) table at properties next k count
+Inv-loop table at count mark keep properties₀ next₀ start₀ end₀ k₀ properties next start end k =
+    Filled (readFitting mark count (drop at table)) table at mark keep properties₀ properties next start end k count
 
 abbrev μ-loop : tie.MeasureT-loop
-μ-loop table at count properties₀ next₀ k₀ properties next k = count - k
+μ-loop table at count mark keep properties₀ next₀ start₀ end₀ k₀ properties next start end k = count - k
+
+-- ---- the places
 
 abbrev to-start : tie.At-loop Inv-loop μ-loop → tie.Start Inv-loop μ-loop
 to-start c = c .before .before .before
 
+abbrev to-turn : tie.After-p Inv-loop μ-loop → tie.In-loop Inv-loop μ-loop
+to-turn c = c .before .before .before
+
+abbrev to-read : tie.After-property-fits Inv-loop μ-loop → tie.After-p Inv-loop μ-loop
+to-read c = c .before .before
+
+-- ---- the values
+
+abbrev table : tie.At-loop Inv-loop μ-loop → List ℕ
+table c = to-start c .args .table .now
+
+module _ (c : tie.After-p Inv-loop μ-loop) where
+  abbrev loop : tie.At-loop Inv-loop μ-loop
+  loop = to-turn c .before
+
+  abbrev property : PropertyAt
+  property = c .p .given .0 .0
+
+-- ---- the facts
+
+-- the array is as long as it was, which is lent
+same : (c : tie.At-loop Inv-loop μ-loop) → length (c .loop .properties) ≡ length (to-start c .args .properties .now)
+same c = c .loop .inv .size ∙ sym (to-start c .pre .2)
+
+-- the property that was read
+stops :
+    (c : tie.After-p Inv-loop μ-loop) →
+    let l = loop c in
+    PropertyStops (readProperty (drop (l .loop .next) (table l))) (table l) (l .loop .next) (property c) (c .p .given .0 .1 .0)
+stops c = property-got (c .p .given .1) (c .before .before .read-property .ensures)
+
+-- the answer of `property_fits` is about that property
+fits :
+    (c : tie.After-property-fits Inv-loop μ-loop) {b : Bool} → c .property-fits .result ≡ b →
+    Fits (loop (to-read c) .loop .inv) (to-turn (to-read c) .loop-test .taken) (stops (to-read c)) b
+fits c e = sym (c .property-fits .ensures _ (stops (to-read c) .is)) ∙ e
+
+-- where properties are kept, it has its place
+put : (c : tie.Joined2 Inv-loop μ-loop) →
+    let read = to-read (c .before .before) in
+    let l = loop read in
+    Placed (to-start l .args .keep) (l .loop .k) (property read) (l .loop .properties) (c .if2 .properties)
+put c =
+    let size = loop (to-read (c .before .before)) .loop .inv .size in
+    ⊎-elim
+    (λ w. placed (w .0 .taken) (w .5) (w .2 .ensures .0) (w .2 .ensures .1) (omega (arith, size, w .3 .given)))
+    (λ w. not-placed (w .0 .left) (w .1) size)
+    (c .if2 .came)
+
+-- ---- the needs
+
 loop-holds : tie.Need-loop-holds Inv-loop μ-loop
-loop-holds c = filled-none _ _ _ _ (c .before .before .pre .0) (c .before .before .pre .2)
+loop-holds c = filled-none _ _ _ _ _ _ (c .before .before .pre .0) (c .before .before .pre .2)
 
 read-property-requires : tie.Need-read-property-requires Inv-loop μ-loop
 read-property-requires c κs = search needs
@@ -32,22 +93,37 @@ enum-told : tie.Need-enum-told Inv-loop μ-loop
 enum-told c = search needs
 
 same-length : tie.Need-same-length Inv-loop μ-loop
-same-length c =
-    let at-loop = c .before .before .before .before in
-    at-loop .loop .inv .size ∙ sym (to-start at-loop .pre .2)
+same-length c = let turn = c .before .before .before in same (turn .before)
 
 returns : tie.Need-returns Inv-loop μ-loop
 returns c =
-    let read = c .before .before in
-    let turn = read .before in
-    let l = turn .before .loop in
-    let table = to-start (turn .before) .args .table .now in
-    filled-bad (l .inv) (turn .loop-test .taken) (property-fail table (l .next) (c .enum-told .given .1) (read .read-property .ensures))
+    let turn = c .before .before .before in
+    let l = turn .before in
+    let fails = property-fail (table l) (l .loop .next) (c .enum-told .given .1) (c .before .before .read-property .ensures) in
+    (filled-bad (l .loop .inv) (turn .loop-test .taken) fails, l .loop .inv .stay)
+
+add-property-fits : tie.Need-add-property-fits Inv-loop μ-loop
+add-property-fits c = search needs
+
+property-fits-requires : tie.Need-property-fits-requires Inv-loop μ-loop
+property-fits-requires c κs =
+    let i = loop (c .before) .loop .inv in
+    let p = stops (c .before) .is in
+    (i .order, i .ends, p .order, p .within)
+
+same-length-2 : tie.Need-same-length-2 Inv-loop μ-loop
+same-length-2 c = same (loop (to-read (c .before)))
+
+returns-2 : tie.Need-returns-2 Inv-loop μ-loop
+returns-2 c =
+    let read = to-read (c .before) in
+    let i = loop read .loop .inv in
+    (filled-not i (to-turn read .loop-test .taken) (stops read) (fits (c .before) (not-true _ (c .if1 .taken))), i .stay)
 
 put-property-requires : tie.Need-put-property-requires Inv-loop μ-loop
 put-property-requires c κs =
-    let turn = c .before .before .before .before .before in
-    (turn .before .loop .inv .size, omega (arith, to-start (turn .before) .pre .1))
+    let l = loop (to-read (c .before .before .before)) in
+    (l .loop .inv .size, omega (arith, to-start l .pre .1))
 
 add-k : tie.Need-add-k Inv-loop μ-loop
 add-k c = search needs
@@ -57,19 +133,17 @@ loop-less c = search needs
 
 loop-again : tie.Need-loop-again Inv-loop μ-loop
 loop-again c =
-    let put = c .before .before in
-    let read = put .before .before .before .before .before in
-    let turn = read .before in
-    let l = turn .before .loop in
-    let stops = property-got (put .before .before .before .p .given .1) (read .read-property .ensures) in
-    filled-more (l .inv) _ _ _ (turn .loop-test .taken) stops (omega (arith, l .inv .size, c .before .properties .given)) (put .put-property .ensures .0)
-    (put .put-property .ensures .1)
+    let asked = c .before .before in
+    let read = to-read asked in
+    filled-more (loop read .loop .inv) (to-turn read .loop-test .taken) (stops read) (fits asked (not-false _ (c .before .if1 .left))) (put c)
 
-same-length-2 : tie.Need-same-length-2 Inv-loop μ-loop
-same-length-2 c = c .before .loop .inv .size ∙ sym (to-start (c .before) .pre .2)
+same-length-3 : tie.Need-same-length-3 Inv-loop μ-loop
+same-length-3 c = same (c .before)
 
-returns-2 : tie.Need-returns-2 Inv-loop μ-loop
-returns-2 c = filled-all (c .before .loop .inv) (to-start (c .before) .pre .1) (c .loop-test .left)
+returns-3 : tie.Need-returns-3 Inv-loop μ-loop
+returns-3 c =
+    let i = c .before .loop .inv in
+    (filled-all i (to-start (c .before) .pre .1) (c .loop-test .left), i .stay)
 
 pub read-properties-spec : {M : Type 1} → statement M
 read-properties-spec =
@@ -83,9 +157,13 @@ read-properties-spec =
     enum-told
     same-length
     returns
+    add-property-fits
+    property-fits-requires
+    same-length-2
+    returns-2
     put-property-requires
     add-k
     loop-less
     loop-again
-    same-length-2
-    returns-2)
+    same-length-3
+    returns-3)

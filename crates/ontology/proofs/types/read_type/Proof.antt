@@ -1,6 +1,5 @@
-use Rattle.packed.specs.Parse.{times}
-use Rattle.ontology.specs.TableLayout.{readProperty}
-use Rattle.ontology.specs.code.TypeIndex.{HeadStops, PropertiesStop}
+-- What stands before the properties says what is left of the type: its properties, which are read with their rules, and that its mark is at most their count.
+use Rattle.ontology.specs.code.TypeIndex.{HeadStops, PropertiesStop, readFitting}
 use Rattle.ontology.proofs.TypeLaws.{head-got, head-fail, properties-got, properties-fail, type-none, type-short, type-reads}
 use Prim.Native.Nat.{ℕ}
 use mathlib.Core.Path.{refl}
@@ -24,7 +23,7 @@ to-told c = c .before .before
 abbrev to-read : tie.After-slice-known2 → tie.After-read-properties
 to-read c = c .before .before
 
-abbrev to-filled : tie.After-after → tie.After-slice-known2
+abbrev to-filled : tie.After-answer → tie.After-slice-known2
 to-filled c = c .before .before
 
 -- ---- the values
@@ -37,6 +36,9 @@ module _ (c : tie.After-read-head) where
   at = to-start c .args .at
 
 module _ (c : tie.After-start) where
+  abbrev mark : ℕ
+  mark = c .start .given .0 .1 .1 .1 .0
+
   abbrev count : ℕ
   count = c .start .given .0 .1 .1 .1 .1 .0
 
@@ -45,22 +47,21 @@ module _ (c : tie.After-start) where
 
 -- the numbers of the properties
 abbrev numbers : tie.After-read-properties → List ℕ
-numbers c = c .read-properties .last .1 .1 .1 .0
+numbers c = c .read-properties .last .1 .1 .1 .1 .1 .0
 
 -- ---- the facts
 
 head :
     (c : tie.After-start) →
-    HeadStops (table (to-head c)) (at (to-head c)) (c .start .given .0 .0) (c .start .given .0 .1 .0) (c .start .given .0 .1 .1 .0)
-    (c .start .given .0 .1 .1 .1 .0) (count c) (next c)
+    HeadStops (table (to-head c)) (at (to-head c)) (c .start .given .0 .0) (c .start .given .0 .1 .0) (c .start .given .0 .1 .1 .0) (mark c) (count c) (next c)
 head c = head-got (c .start .given .1) (to-head c .read-head .ensures)
 
 properties :
-    (c : tie.After-after) →
+    (c : tie.After-answer) →
     let told = to-told (to-read (to-filled c)) .before in
-    PropertiesStop (times readProperty (count told) (drop (next told) (table (to-head told)))) (table (to-head told)) (next told) (count told)
-    (c .after .given .0 .0) (numbers (to-read (to-filled c)))
-properties c = properties-got (c .after .given .1) (to-read (to-filled c) .read-properties .ensures)
+    PropertiesStop (readFitting (mark told) (count told) (drop (next told) (table (to-head told)))) (table (to-head told)) (next told) (count told)
+    (c .answer .given .0 .0) (to-start (to-head told) .args .keep) (numbers (to-read (to-filled c)))
+properties c = properties-got (c .answer .given .1) (to-read (to-filled c) .read-properties .ensures .0)
 
 -- ---- the needs
 
@@ -79,15 +80,15 @@ enum-told c = search needs
 returns : tie.Need-returns
 returns c =
     let read = c .before .before in
-    type-none _ _ _ _ _ (head-fail (table read) (at read) (c .enum-told .given .1) (read .read-head .ensures)) refl
+    (type-none _ _ _ _ _ _ (head-fail (table read) (at read) (c .enum-told .given .1) (read .read-head .ensures)) refl, λ e. refl)
 
 read-properties-requires : tie.Need-read-properties-requires
 read-properties-requires c κs =
     let told = c .before .before in
     (head told .within, head told .few, search needs)
 
-enum-known-after : tie.Need-enum-known-after
-enum-known-after c = search needs
+enum-known-answer : tie.Need-enum-known-answer
+enum-known-answer c = search needs
 
 enum-told-2 : tie.Need-enum-told-2
 enum-told-2 c = search needs
@@ -99,22 +100,16 @@ returns-2 : tie.Need-returns-2
 returns-2 c =
     let read = to-read (c .before .before) in
     let told = to-told read .before in
-    let fails = properties-fail _ (table (to-head told)) _ _ _ (c .enum-told2 .given .1) (read .read-properties .ensures) in
-    type-none _ _ _ _ _ (type-short (head told) fails) refl
-
-rules-hold-requires : tie.Need-rules-hold-requires
-rules-hold-requires c κs =
-    let p = properties (c .before .before) in
-    (search needs, record { what = p .what; are = p .are })
+    let fails = properties-fail _ (table (to-head told)) _ _ _ _ (c .enum-told2 .given .1) (read .read-properties .ensures .0) in
+    (type-none _ _ _ _ _ _ (type-short (head told) fails) refl, read .read-properties .ensures .1)
 
 same-length-2 : tie.Need-same-length-2
 same-length-2 c = search needs
 
 returns-3 : tie.Need-returns-3
 returns-3 c =
-    let after = c .before .before .before in
-    let p = properties after in
-    type-reads (head (to-told (to-read (to-filled after)) .before)) p _ (c .rules-hold .ensures (p .what) (p .are))
+    let read = to-read (to-filled (c .before)) in
+    (type-reads (head (to-told read .before)) (properties (c .before)), read .read-properties .ensures .1)
 
 pub read-type-spec : {M : Type 1} → statement M
 read-type-spec =
@@ -126,10 +121,9 @@ read-type-spec =
     enum-told
     returns
     read-properties-requires
-    enum-known-after
+    enum-known-answer
     enum-told-2
     same-length
     returns-2
-    rules-hold-requires
     same-length-2
     returns-3)
