@@ -14,7 +14,7 @@ use lib.Dec.{leb}
 use borrow.Author.Tests.{leb-true}
 use Rattle.model.specs.Order.{Text}
 use Rattle.model.specs.Sets.{Within}
-use Rattle.model.specs.Rule.{Dossier, rule}
+use Rattle.model.specs.Rule.{Snapshot, Dossier, rule, combine}
 use Rattle.model.specs.Limits.{standard, fits}
 use Rattle.model.specs.Ways as ways
 use Rattle.model.specs.Ways.{wrote, said, limited}
@@ -28,8 +28,7 @@ use Rattle.replies.specs.Answers as answers
 use Rattle.replies.specs.Questions.{Asked, ensure}
 use Rattle.replies.specs.Capacities.{dossierCapacity}
 use Rattle.replies.specs.Answers.{Answer, gives, refuses, refusesAt, replyOf, laid, answer, Outcome, outcome}
-use Rattle.replies.specs.Replies.{replied, replies, combineReplied, combineReplies, batchReplied, batchReplies}
-use Rattle.replies.specs.declared.reply.Combined.{Combined}
+use Rattle.replies.specs.Replies.{replied, replies, batchReplied, batchReplies}
 use Rattle.replies.specs.declared.reply.Reply as reply
 use Rattle.replies.specs.declared.reply.Reply.the-variants as variant
 use Rattle.replies.specs.declared.reply.BatchReply.{BatchReply}
@@ -43,17 +42,19 @@ use Rattle.event.specs.EventQuestions.{Typed, eventAsked}
 use Rattle.event.proofs.EventQuestionLaws.{EventFits, event-accepted, event-fits}
 use Rattle.event.specs.Agreement.{matchSets}
 use Rattle.dossier.specs.DossierLayout.{Headed, dossierBytes, headed, modelOf}
-use Rattle.dossier.specs.DossierQuestions.{TypedDossier, dossiersAgree}
+use Rattle.dossier.specs.DossierQuestions.{TypedDossier, dossierAsked, dossiersAgree}
 use Rattle.dossier.proofs.DossierQuestionLaws.{match-sets, agree-exact}
-use Rattle.combining.specs.CheckCall.{checkAsked, checkAnswer, checkCall}
+use Rattle.combining.specs.CheckCall.{eventDossier, checkAsked, checkAnswer, checkCall}
 use Rattle.combining.specs.code.CheckIndex.{KnownEvent}
-use Rattle.combining.specs.code.CombineIndex as combining
+use Rattle.combining.specs.code.AddIndex.{Measured, Addable}
+use Rattle.combining.specs.declared.measures.Measures.{Measures}
 use Rattle.combining.specs.CombineCall.{combined, combineAsked, combineAnswer, combineCall}
 use Rattle.ways.specs.ByteWays.{eventOr, eventAt, byteView, dossierReturned, returned, wayAnswer, HasRoom, SameMatch}
 use Rattle.ways.proofs.RuleQuestionLaws.{has-length}
 use Rattle.ways.proofs.CallLaws.{returned-gives, rule-bytes, Colliding, ruleOf, bytesOf, checked-one, asked, same-match, one-fits, two-joined, byte-calls}
 use Rattle.batch.specs.Batch.{AskedAt, refusedAt, accepted, _>>=_, _>>_, at, eventsAsked, eventsAgree, agreeWith, batchOf, batchDossier, together, batchAsked, batchGiven, Rooms, haveRoom, batchAnswer, batchCall}
-use Rattle.batch.specs.code.BatchIndex.{BatchIs, BatchReads, eventsAgreed, eventsTogether, FirstTyped, RefusalIs, combinedGiven, combinedAnswer, Agreed, FirstOf, LastOf, DoneWithin, atFirst}
+use Rattle.batch.specs.code.BatchIndex.{BatchIs, BatchReads, eventsAgreed, eventsTogether, FirstTyped, RefusalIs, combinedGiven, combinedAnswer}
+use Rattle.batch.specs.code.BatchIndex.{Agreed, FirstOf, MeasuredFirst, DoneWithin, atFirst}
 use Rattle.batch.specs.declared.asked.EventsAsked.{EventsAsked}
 use Rattle.batch.specs.declared.frame.BatchIndex.{BatchIndex}
 use Rattle.batch.proofs.AskedLaws.{same-type, apartThen, goingOn, first-accepted, first-refused}
@@ -190,7 +191,7 @@ unfolding combineCall combineAnswer
 combine-for table x y out = ap (λ (a : Answer). outcome a out) (answer-for (combineAsked standard (length out) table x y) out)
 
 -- what was in the buffer before does not matter
-pub any-buffer : (a : Answer) (x y : List ℕ) → returned (outcome a x) ≡ returned (outcome a y)
+any-buffer : (a : Answer) (x y : List ℕ) → returned (outcome a x) ≡ returned (outcome a y)
 any-buffer (gives d) x y = returned-gives d x ∙ sym (returned-gives d y)
 any-buffer (Answer.finds f) x y = refl
 any-buffer (refuses n) x y = refl
@@ -206,8 +207,20 @@ unfolding answerFor
 for-refused (wrote x) n old e = let z = e ∙ returned-gives x old in never (cc)
 for-refused (said m) n old e = cc
 
+some-same : {A : Type 0} {a b : A} → some a ≡ some b → a ≡ b
+some-same e = cc
+
 accepted-same : {A : Type 0} {a b : A} → questions.accepted a ≡ questions.accepted b → a ≡ b
 accepted-same e = cc
+
+-- The event s can be added to the dossier `sofar` of which the code has the measures m, and that gives the dossier of the events es
+record Adds
+    (table sofar : List ℕ) (m : Measures) (s : List ℕ) (t : TypeIndex) (ps : List ℕ) (ts : Table) (es : List (List ℕ)) : Type 0 where
+  addable : Addable table sofar m s t ps
+  joined : (out : List ℕ) → HasRoom out → combineCall standard table sofar (addable .lone) out ≡ outcome (combinedAnswer ts es) out
+  measured :
+      (r : reply.Reply) (p : Measures) →
+      ((z : ℕ) → r ≡ variant.Done z → Measured (combined (addable .both .left) (addable .both .right) .snapshots) p) → MeasuredFirst ts es r p
 
 -- ---- combining such events
 
@@ -227,6 +240,10 @@ module _ (table : List ℕ) (ts : Table) (isTable : tableOf table ≡ some ts) (
   -- the answer of the rule over some of them
   abbrev ruled : List (List ℕ) → ways.Reply (List ℕ)
   ruled es = limited standard (typeView t) (λ d. dossierBytes (headed (t .name) (k .source) d)) (rules es)
+
+  -- its dossier
+  abbrev ruledDossier : List (List ℕ) → TypedDossier
+  ruledDossier es = record { type = t; headed = headed (t .name) (k .source) (rules es) }
 
   abbrev typed : List ℕ → Typed
   typed s = record { type = t; event = eventAt s }
@@ -269,7 +286,7 @@ module _ (table : List ℕ) (ts : Table) (isTable : tableOf table ≡ some ts) (
 
   all-together : (s : List ℕ) (es : List (List ℕ)) → Each S (s ∷ es) →
       (eventsAsked ts 0 (s ∷ es) >>= together standard)
-      ≡ (at 0 (ensure 8 (fits standard (typeView t) (rules (s ∷ es)))) >> accepted (record { type = t; headed = headed (t .name) (k .source) (rules (s ∷ es)) }))
+      ≡ (at 0 (ensure 8 (fits standard (typeView t) (rules (s ∷ es)))) >> accepted (ruledDossier (s ∷ es)))
   all-together s es h =
       let first = h s (List·Memᴰ·head refl) in
       let d = the-dossier s es first in
@@ -283,7 +300,7 @@ module _ (table : List ℕ) (ts : Table) (isTable : tableOf table ≡ some ts) (
   combined-is (s ∷ es) n h = ap combinedGiven (all-together s es h) ∙ go (fits standard (typeView t) (rules (s ∷ es))) refl
     where
       go : (b : Bool) → fits standard (typeView t) (rules (s ∷ es)) ≡ b →
-          combinedGiven (at 0 (ensure 8 b) >> accepted (record { type = t; headed = headed (t .name) (k .source) (rules (s ∷ es)) })) ≡ answerFor (ruled (s ∷ es))
+          combinedGiven (at 0 (ensure 8 b) >> accepted (ruledDossier (s ∷ es))) ≡ answerFor (ruled (s ∷ es))
       go true e = rw e
       go false e = rw e
 
@@ -339,7 +356,7 @@ module _ (table : List ℕ) (ts : Table) (isTable : tableOf table ≡ some ts) (
   one-each s h r m = subst S (sym (List·Memᴰ·eq-of-singleton m)) h
 
   -- the dossier of the first event
-  pub check-first : (out : List ℕ) → 1 ≤ length ss → HasRoom out → checkCall table (getD ss 0 []) out ≡ outcome (combinedAnswer ts (take 1 ss)) out
+  check-first : (out : List ℕ) → 1 ≤ length ss → HasRoom out → checkCall table (getD ss 0 []) out ≡ outcome (combinedAnswer ts (take 1 ss)) out
   check-first out l r =
       let h : S (getD ss 0 []) = last-is 1 (omega arith) l in
       let e : take 1 ss ≡ getD ss 0 [] ∷ [] = first-last 1 (omega arith) l in
@@ -348,21 +365,13 @@ module _ (table : List ℕ) (ts : Table) (isTable : tableOf table ≡ some ts) (
       (ap answerFor (checked-for (getD ss 0 []) out h r ∙ sym (one-is (getD ss 0 []) h))
       ∙ sym (ap (combinedAnswer ts) e ∙ combined-is (getD ss 0 [] ∷ []) (getD ss 0 [], List·Memᴰ·head refl) (one-each (getD ss 0 []) h)))
 
-  pub check-one : (n : ℕ) (s out after : List ℕ) (r : reply.Reply) → n ≡ 1 → 1 ≤ length ss → HasRoom out → s ≡ getD ss 0 [] → replies r after ≡ checkCall table s out →
-      replies r after ≡ outcome (combinedAnswer ts (take n ss)) out
+  check-one :
+      (n : ℕ) (s out after : List ℕ) (r : reply.Reply) → n ≡ 1 → 1 ≤ length ss → HasRoom out → s ≡ getD ss 0 [] →
+      replies r after ≡ checkCall table s out → replies r after ≡ outcome (combinedAnswer ts (take n ss)) out
   check-one n s out after r o l h q e =
       e ∙ (ap (λ (y : List ℕ). checkCall table y out) q ∙ (check-first out l h ∙ ap (λ (m : ℕ). outcome (combinedAnswer ts (take m ss)) out) (sym o)))
 
-  -- the n-th event is not refused
-  pub never-refused : (n : ℕ) (s out : List ℕ) (r : reply.Reply) (m : ℕ) (after : List ℕ) → 1 ≤ n → n ≤ length ss → HasRoom out → s ≡ getD ss (n - 1) [] →
-      replies r after ≡ checkCall table s out → r ≡ variant.Refused m → ⊥
-  never-refused n s out r m after h l o q e f =
-      let x = getD ss (n - 1) [] in
-      let g = ap returned (e ∙ ap (λ (y : List ℕ). checkCall table y out) q) ∙ checked-for x out (last-is n h l) o in
-      let z : said m ≡ wrote (bytes (x ∷ [])) = ap (λ (y : reply.Reply). returned (replies y after)) (sym f) ∙ g in
-      never (cc)
-
-  -- a dossier of some of these events, and what is asked of two
+  -- a dossier of some of these events
   abbrev dossierOf : List (List ℕ) → TypedDossier
   dossierOf es = record { type = t; headed = headed (t .name) (k .source) (rule (view t) (map eventAt es)) }
 
@@ -372,7 +381,7 @@ module _ (table : List ℕ) (ts : Table) (isTable : tableOf table ≡ some ts) (
       subst (λ (y : EventType). TypeIs table y x ps) (ap (λ (a : Typed). a .type) (accepted-same e)) (w .typed)
 
   -- the n-th event was accepted, with the type of the first
-  nth-known :
+  abbrev nth-known :
       (n : ℕ) (s : List ℕ) (x : TypeIndex) (ps : List ℕ) → 1 ≤ n → n ≤ length ss → s ≡ getD ss (n - 1) [] → FirstTyped table ts ss x ps →
       KnownEvent table s x
   nth-known n s x ps h l q w = record {
@@ -383,28 +392,52 @@ module _ (table : List ℕ) (ts : Table) (isTable : tableOf table ≡ some ts) (
     mark = first-type x ps (omega arith) w .mark;
   }
 
-  both-known : (es fs : List (List ℕ)) (x : TypeIndex) (ps : List ℕ) → Has es → Has fs → Each S es → Each S fs →
-      fits standard (typeView t) (rules es) ≡ true → fits standard (typeView t) (rules fs) ≡ true → TypeIs table t x ps →
-      combining.Known table (bytes es) (bytes fs) x ps
-  unfolding dossiersAgree
-  both-known es fs x ps n o h g p q w =
-      let ms = matchSets (t .properties) (eventAt (k .first) .sets) in
-      let left = same-match table ts isTable t (k .source) (k .first) (k .model) es n h p in
-      let right = same-match table ts isTable t (k .source) (k .first) (k .model) fs o g q in
-      record {
-        types = ts;
-        is = isTable;
-        left = dossierOf es;
-        right = dossierOf fs;
-        left-asked = asked table ts isTable t (k .source) (k .first) (k .model) es n h p;
-        right-asked = asked table ts isTable t (k .source) (k .first) (k .model) fs o g q;
-        agree = rw (left, right) (agree-exact (t .name) (k .source) ms (t .name) (k .source) ms .1 (refl, refl, refl));
-        typed = w;
-      }
+  event-dossier : (s : List ℕ) → S s → dossierOf (s ∷ []) .headed ≡ eventDossier (typed s)
+  unfolding eventDossier
+  event-dossier s h = λ i. headed (sym (fitting s h .named) i) (sym (h .source) i) (rule (view t) (eventAt s ∷ []))
 
-  -- the n-th event, checked, and the dossier of those before it
-  module _ (n size m : ℕ) (s sofar lone after : List ℕ) (r : reply.Reply) (h : 2 ≤ n) (l : n ≤ length ss) (v : HasRoom lone) (q : s ≡ getD ss (n - 1) [])
-      (c : combinedAnswer ts (take (n - 1) ss) ≡ gives (take size sofar)) (e : replies r after ≡ checkCall table s lone) (f : r ≡ variant.Done m) where
+  -- ---- the measures of their dossier
+
+  -- where they are accepted together, their dossier has the snapshots of the rule over them
+  given-snapshots :
+      (es : List (List ℕ)) (d : TypedDossier) → Has es → Each S es → (eventsAsked ts 0 es >>= together standard) ≡ accepted d →
+      d .headed .snapshots ≡ rules es .snapshots
+  given-snapshots [] d n h e = absurd (List·Memᴰ·not-nil (n .1))
+  given-snapshots (s ∷ es) d n h e = go (fits standard (typeView t) (rules (s ∷ es))) (sym (all-together s es h) ∙ e)
+    where
+      go : (b : Bool) → (at 0 (ensure 8 b) >> accepted (ruledDossier (s ∷ es))) ≡ accepted d → d .headed .snapshots ≡ rules (s ∷ es) .snapshots
+      go true e = let z : d ≡ ruledDossier (s ∷ es) = cc in ap (λ (x : TypedDossier). x .headed .snapshots) z
+      go false e = never (cc)
+
+  first-measured : (es : List (List ℕ)) (r : reply.Reply) (m : Measures) → Has es → Each S es → Measured (rules es .snapshots) m → MeasuredFirst ts es r m
+  unfolding MeasuredFirst
+  first-measured es (variant.Done z) m n h w = λ d e. subst (λ (xs : List Snapshot). Measured xs m) (sym (given-snapshots es d n h e)) w
+  first-measured es (variant.Refused z) m n h w = tt
+
+  rule-measured :
+      (es : List (List ℕ)) (z : ℕ) (m : Measures) → Has es → Each S es → fits standard (typeView t) (rules es) ≡ true →
+      MeasuredFirst ts es (variant.Done z) m → Measured (rules es .snapshots) m
+  unfolding MeasuredFirst
+  rule-measured [] z m n h f w = absurd (List·Memᴰ·not-nil (n .1))
+  rule-measured (s ∷ es) z m n h f w = w (ruledDossier (s ∷ es)) (rw (all-together s es h, f))
+
+  -- the first event alone
+  one-measured :
+      (s : List ℕ) (x : TypeIndex) (ps : List ℕ) (r : reply.Reply) (m : Measures) → 1 ≤ length ss → s ≡ getD ss 0 [] → FirstTyped table ts ss x ps →
+      ((e : KnownEvent table s x) → Measured (eventDossier (e .event) .snapshots) m) → MeasuredFirst ts (take 1 ss) r m
+  one-measured s x ps r m l q f w =
+      let one = getD ss 0 [] in
+      let h : S one = last-is 1 (omega arith) l in
+      let same : eventDossier (typed one) .snapshots ≡ rules (one ∷ []) .snapshots =
+      ap (λ (d : Headed). d .snapshots) (sym (event-dossier one h)) ∙ ap (λ (d : Dossier). d .snapshots) (sym (rule-bytes t (one ∷ []))) in
+      let measured : Measured (rules (one ∷ []) .snapshots) m =
+      subst (λ (xs : List Snapshot). Measured xs m) same (w (nth-known 1 s x ps (omega arith) l q f)) in
+      rw (first-last 1 (omega arith) l) (first-measured (one ∷ []) r m (one, List·Memᴰ·head refl) (one-each one h) measured)
+
+  -- the n-th event s, and the dossier `sofar` of those before it, of which the code has the measures m
+  module _ (n size : ℕ) (s sofar : List ℕ) (m : Measures) (x : TypeIndex) (ps : List ℕ) (h : 2 ≤ n) (l : n ≤ length ss) (q : s ≡ getD ss (n - 1) [])
+      (c : combinedAnswer ts (take (n - 1) ss) ≡ gives sofar) (w : MeasuredFirst ts (take (n - 1) ss) (variant.Done size) m)
+      (f : FirstTyped table ts ss x ps) where
     abbrev others : List (List ℕ)
     others = take (n - 1) ss
 
@@ -414,92 +447,105 @@ module _ (table : List ℕ) (ts : Table) (isTable : tableOf table ≡ some ts) (
     has-others : Has others
     has-others = first-has ss (n - 1) (omega arith) (omega arith)
 
+    has-last : Has (last ∷ [])
+    has-last = (last, List·Memᴰ·head refl)
+
     last-in : S last
     last-in = last-is n (omega arith) l
 
-    left-is : (fits standard (typeView t) (rules others) ≡ true) × (take size sofar ≡ bytes others)
-    left-is = inside-of others (take size sofar) (sym (first-is (n - 1) (omega arith) (omega arith)) ∙ c)
-
-    right-is : take m after ≡ bytes (last ∷ [])
-    right-is =
-        let w : wrote (take m after) ≡ wrote (bytes (last ∷ [])) =
-        ap (λ (y : reply.Reply). returned (replies y after)) (sym f) ∙ (ap returned (e ∙ ap (λ (y : List ℕ). checkCall table y lone) q) ∙ checked-for last lone last-in v) in
-        cc
+    others-are : (fits standard (typeView t) (rules others) ≡ true) × (sofar ≡ bytes others)
+    others-are = inside-of others sofar (sym (first-is (n - 1) (omega arith) (omega arith)) ∙ c)
 
     last-fits : fits standard (typeView t) (rules (last ∷ [])) ≡ true
     last-fits = one-fits table ts isTable t (k .source) (k .first) (k .model) last last-in
 
-    -- of these two, questions 2 to 7 are answered yes
-    pub last-known : (x : TypeIndex) (ps : List ℕ) → FirstTyped table ts ss x ps → combining.Known table (take size sofar) (take m after) x ps
-    last-known x ps w =
-        rw (left-is .1, right-is)
-        (both-known others (last ∷ []) x ps has-others (last, List·Memᴰ·head refl) (first-each (n - 1)) (one-each last last-in) (left-is .0) last-fits
-        (first-type x ps (omega arith) w))
+    all-joined : combine (typeView t) (rules others) (rules (last ∷ [])) ≡ rules (take n ss)
+    all-joined = rule-append (byteView t) others (last ∷ []) ∙ ap (rule (byteView t)) (sym (first-last n (omega arith) l))
 
-    -- and they combine to the dossier of the first n
-    pub add-next : (out : List ℕ) → HasRoom out → combineCall standard table (take size sofar) (take m after) out ≡ outcome (combinedAnswer ts (take n ss)) out
+    both-agree : dossiersAgree (dossierOf others) (dossierOf (last ∷ [])) ≡ true
+    unfolding dossiersAgree
+    both-agree =
+        let ms = matchSets (t .properties) (eventAt (k .first) .sets) in
+        let left = same-match table ts isTable t (k .source) (k .first) (k .model) others has-others (first-each (n - 1)) (others-are .0) in
+        let right = same-match table ts isTable t (k .source) (k .first) (k .model) (last ∷ []) has-last (one-each last last-in) last-fits in
+        rw (left, right) (agree-exact (t .name) (k .source) ms (t .name) (k .source) ms .1 (refl, refl, refl))
+
+    abbrev addable : Addable table sofar m s x ps
+    addable = record {
+      new = nth-known n s x ps (omega arith) l q f;
+      lone = bytes (last ∷ []);
+      both = record {
+        types = ts;
+        is = isTable;
+        left = dossierOf others;
+        right = dossierOf (last ∷ []);
+        left-asked = ap (dossierAsked standard ts) (others-are .1)
+            ∙ asked table ts isTable t (k .source) (k .first) (k .model) others has-others (first-each (n - 1)) (others-are .0);
+        right-asked = asked table ts isTable t (k .source) (k .first) (k .model) (last ∷ []) has-last (one-each last last-in) last-fits;
+        agree = both-agree;
+        typed = first-type x ps (omega arith) f;
+      };
+      type-is = refl;
+      headed-is = event-dossier last last-in;
+      measured = subst (λ (d : Dossier). Measured (d .snapshots) m) (rule-bytes t others)
+          (rule-measured others size m has-others (first-each (n - 1)) (others-are .0) w);
+    }
+
+    add-next : (out : List ℕ) → HasRoom out → combineCall standard table sofar (bytes (last ∷ [])) out ≡ outcome (combinedAnswer ts (take n ss)) out
     add-next out o =
-        let both = two-joined table ts isTable t (k .source) (k .first) (k .model) out others (last ∷ []) o has-others (last, List·Memᴰ·head refl) (first-each (n - 1)) (one-each last last-in) (left-is .0) last-fits in
+        let both =
+        two-joined table ts isTable t (k .source) (k .first) (k .model) out others (last ∷ []) o has-others has-last (first-each (n - 1))
+        (one-each last last-in) (others-are .0) last-fits in
         let all : returned (combineCall standard table (bytes others) (bytes (last ∷ [])) out) ≡ ruled (take n ss) =
-        both ∙ ap (limited standard (typeView t) (λ d. dossierBytes (headed (t .name) (k .source) d)))
-        (rule-append (byteView t) others (last ∷ []) ∙ ap (rule (byteView t)) (sym (first-last n (omega arith) l))) in
-        rw (left-is .1, right-is)
+        both ∙ ap (limited standard (typeView t) (λ d. dossierBytes (headed (t .name) (k .source) d))) all-joined in
+        rw (others-are .1)
         (combine-for table (bytes others) (bytes (last ∷ [])) out
         ∙ ap (λ (a : Answer). outcome a out) (ap answerFor all ∙ sym (first-is n (omega arith) l)))
 
+    both-joined : combined (dossierOf others) (dossierOf (last ∷ [])) ≡ rules (take n ss)
+    unfolding combined
+    both-joined = sym (ap₂ (combine (typeView t)) (rule-bytes t others) (rule-bytes t (last ∷ []))) ∙ all-joined
+
+    next-measured :
+        (r : reply.Reply) (p : Measures) →
+        ((z : ℕ) → r ≡ variant.Done z → Measured (combined (dossierOf others) (dossierOf (last ∷ [])) .snapshots) p) →
+        MeasuredFirst ts (take n ss) r p
+    unfolding MeasuredFirst
+    next-measured (variant.Done z) p g =
+        first-measured (take n ss) (variant.Done z) p (first-has ss n (omega arith) l) (first-each n)
+        (subst (λ (d : Dossier). Measured (d .snapshots) p) both-joined (g z refl))
+    next-measured (variant.Refused z) p g = tt
+
+    nth-adds : Adds table sofar m s x ps ts (take n ss)
+    nth-adds = record { addable = addable; joined = add-next; measured = next-measured }
+
   -- what the first n came to
-  module _ (n : ℕ) (h : 1 ≤ n) (l : n ≤ length ss) (r : reply.Reply) (after old : List ℕ) (e : dossierReturned (replied r) after ≡ returned (outcome (combinedAnswer ts (take n ss)) old)) where
+  module _ (n : ℕ) (h : 1 ≤ n) (l : n ≤ length ss) (r : reply.Reply) (after old : List ℕ)
+      (e : dossierReturned (replied r) after ≡ returned (outcome (combinedAnswer ts (take n ss)) old)) where
     as-ruled : dossierReturned (replied r) after ≡ returned (outcome (answerFor (ruled (take n ss))) old)
     as-ruled = e ∙ ap (λ (a : Answer). returned (outcome a old)) (first-is n h l)
 
-    pub first-done : (m : ℕ) → r ≡ variant.Done m → combinedAnswer ts (take n ss) ≡ gives (take m after)
+    first-done : (m : ℕ) → r ≡ variant.Done m → combinedAnswer ts (take n ss) ≡ gives (take m after)
     first-done m f = first-is n h l ∙ for-done (ruled (take n ss)) m after old (ap (λ (y : reply.Reply). dossierReturned (replied y) after) (sym f) ∙ as-ruled)
 
     -- so are more of them
-    pub more-refused : (i m : ℕ) → i ≡ n + 1 → i ≤ length ss → r ≡ variant.Refused m → combinedAnswer ts (take i ss) ≡ refuses m
+    more-refused : (i m : ℕ) → i ≡ n + 1 → i ≤ length ss → r ≡ variant.Refused m → combinedAnswer ts (take i ss) ≡ refuses m
     more-refused i m q g f =
         let s = ap (λ (y : reply.Reply). dossierReturned (replied y) after) (sym f) ∙ as-ruled in
         let j : i - 1 ≡ n = omega arith in
-        let w : Within (take n ss) (take i ss) = λ a x. subst (λ (xs : List (List ℕ)). List·Memᴰ a xs) (sym (first-last i (omega arith) g ∙ ap (λ (y : ℕ). take y ss ++ (getD ss (i - 1) [] ∷ [])) j)) (Memᴰ·append-left (getD ss (i - 1) [] ∷ []) x) in
+        let last = getD ss (i - 1) [] ∷ [] in
+        let all : take i ss ≡ take n ss ++ last = first-last i (omega arith) g ∙ ap (λ (y : ℕ). take y ss ++ last) j in
+        let w : Within (take n ss) (take i ss) = λ a x. subst (λ (xs : List (List ℕ)). List·Memᴰ a xs) (sym all) (Memᴰ·append-left last x) in
         first-is i (omega arith) g ∙ refused-more (take n ss) (take i ss) m w (for-refused (ruled (take n ss)) m old s)
 
-    pub stopped : (i m : ℕ) (y z : List ℕ) → i ≡ n + 1 → i ≤ length ss → r ≡ variant.Refused m → dossierReturned (replied r) y ≡ returned (outcome (combinedAnswer ts (take i ss)) z)
-    stopped i m y z q g f =
-        ap (λ (x : reply.Reply). dossierReturned (replied x) y) f ∙ ap (λ (a : Answer). returned (outcome a z)) (sym (more-refused i m q g f))
-
-    pub stopped-exact : (i m : ℕ) (z : List ℕ) → i ≡ n + 1 → i ≤ length ss → r ≡ variant.Refused m → replies r z ≡ outcome (combinedAnswer ts (take i ss)) z
-    stopped-exact i m z q g f =
+    stopped :
+        (i m : ℕ) (z : List ℕ) → i ≡ n + 1 → i ≤ length ss → r ≡ variant.Refused m → replies r z ≡ outcome (combinedAnswer ts (take i ss)) z
+    stopped i m z q g f =
         ap (λ (x : reply.Reply). replies x z) f ∙ ap (λ (a : Answer). outcome a z) (sym (more-refused i m q g f))
-
--- ---- what adding the last event asks for
-
-module _ (table batch : List ℕ) (x : BatchIndex) (t : TypeIndex) (ps : List ℕ) (n : ℕ) (w : FirstOf table batch x t ps n) where
-  pub fewer : FirstOf table batch x t ps (n - 1)
-  fewer = record { types = w .types; events = w .events; agreed = w .agreed; typed = w .typed; within = omega (arith, w .within) }
-
-  -- the i-th event was accepted, with the type t
-  pub event-known : (i : ℕ) (s : List ℕ) → 1 ≤ i → i ≤ n → ((ss : List (List ℕ)) → BatchIs batch ss x → i - 1 < length ss → s ≡ getD ss (i - 1) []) → KnownEvent table s t
-  event-known i s h l e =
-      let g = w .agreed in
-      let m : i ≤ length (w .events) = omega (arith, w .within) in
-      nth-known table (w .types) (g .isTable) (w .events) (known (w .types) (w .events) (g .agreed)) i s t ps h m (e (w .events) (g .isBatch) (omega arith)) (w .typed)
-
-  -- those before it are combined
-  pub last-of : (m : ℕ) (after old : List ℕ) (r : reply.Reply) → 2 ≤ n →
-      ((ts : Table) (ss : List (List ℕ)) → Agreed table batch x ts ss → n - 1 ≤ length ss → dossierReturned (replied r) after ≡ returned (outcome (combinedAnswer ts (take (n - 1) ss)) old)) →
-      r ≡ variant.Done m → LastOf table batch x t ps n (take m after)
-  last-of m after old r h e f =
-      let g = w .agreed in
-      let l : n - 1 ≤ length (w .events) = omega (arith, w .within) in
-      record {
-        all = w;
-        more = h;
-        before = first-done table (w .types) (g .isTable) (w .events) (known (w .types) (w .events) (g .agreed)) (n - 1) (omega arith) l r after old (e (w .types) (w .events) g l) m f;
-      }
 
 -- ---- replies and what they wrote
 
-pub call-within : (r : reply.Reply) (after old : List ℕ) (a : Answer) → replies r after ≡ outcome a old → DoneWithin r after
+call-within : (r : reply.Reply) (after old : List ℕ) (a : Answer) → replies r after ≡ outcome a old → DoneWithin r after
 unfolding DoneWithin
 call-within (variant.Refused n) after old a e = tt
 call-within (variant.Done n) after old a e = go a (ap (λ (o : Outcome). o .reply) e) (ap (λ (o : Outcome). o .bytes) e)
@@ -510,32 +556,148 @@ call-within (variant.Done n) after old a e = go a (ap (λ (o : Outcome). o .repl
     go (refuses m) p b = never (cc)
     go (refusesAt m i) p b = never (cc)
 
-pub check-within : (r : reply.Reply) (after table s out : List ℕ) → replies r after ≡ checkCall table s out → DoneWithin r after
+check-within : (r : reply.Reply) (after table s out : List ℕ) → replies r after ≡ checkCall table s out → DoneWithin r after
 unfolding checkCall
 check-within r after table s out e = call-within r after out (checkAnswer (length out) table s) e
 
-pub combine-within : (r : reply.Reply) (after table x y out : List ℕ) → replies r after ≡ combineCall standard table x y out → DoneWithin r after
+combine-within : (r : reply.Reply) (after table x y out : List ℕ) → replies r after ≡ combineCall standard table x y out → DoneWithin r after
 unfolding combineCall
 combine-within r after table x y out e = call-within r after out (combineAnswer standard (length out) table x y) e
-
--- the reply of combining, told as that of a step
-pub step-replies : (r : reply.Reply) (c : Combined) (after : List ℕ) {o : Outcome} → replied r ≡ combineReplied c → combineReplies c after ≡ o →
-    replies r after ≡ o
-step-replies r c after e h = ap (told after) e ∙ h
-  where
-    told : List ℕ → answers.Reply → Outcome
-    told bytes x = record { reply = x; bytes = bytes }
 
 pub done-within : (r : reply.Reply) (s : List ℕ) (n : ℕ) → DoneWithin r s → r ≡ variant.Done n → n ≤ length s
 unfolding DoneWithin
 done-within r s n w e = subst (λ (y : reply.Reply). DoneWithin y s) e w
 
-pub refused-within : (r : reply.Reply) (s : List ℕ) (n : ℕ) → r ≡ variant.Refused n → DoneWithin r s
+refused-within : (r : reply.Reply) (s : List ℕ) (n : ℕ) → r ≡ variant.Refused n → DoneWithin r s
 unfolding DoneWithin
 refused-within r s n e = subst (λ (y : reply.Reply). DoneWithin y s) (sym e) tt
 
+refused-measured : (ts : Table) (es : List (List ℕ)) (r : reply.Reply) (m : Measures) (n : ℕ) → r ≡ variant.Refused n → MeasuredFirst ts es r m
+unfolding MeasuredFirst
+refused-measured ts es r m n e = subst (λ (y : reply.Reply). MeasuredFirst ts es y m) (sym e) tt
+
 pub taken-count : (n : ℕ) (l : List ℕ) → n ≤ length l → n ≡ length (take n l)
 taken-count n l h = sym (length-take-le n l h)
+
+-- ---- what the code knows of the first n events
+
+-- s stands where the index has the i-th event, counted from 1
+abbrev pub IsEvent : List ℕ → BatchIndex → ℕ → List ℕ → Type 0
+IsEvent batch x i s = (ss : List (List ℕ)) → BatchIs batch ss x → i - 1 < length ss → s ≡ getD ss (i - 1) []
+
+-- r and m are what combining the first n events answered, in a buffer that had the bytes `old` and has `after`
+pub record CombinedFirst (table batch : List ℕ) (x : BatchIndex) (n : ℕ) (r : reply.Reply) (m : Measures) (after old : List ℕ) : Type 0 where
+  pub within : DoneWithin r after
+  pub first :
+      (ts : Table) (ss : List (List ℕ)) → Agreed table batch x ts ss → n ≤ length ss →
+      dossierReturned (replied r) after ≡ returned (outcome (combinedAnswer ts (take n ss)) old)
+  pub measured : (ts : Table) (ss : List (List ℕ)) → Agreed table batch x ts ss → n ≤ length ss → MeasuredFirst ts (take n ss) r m
+
+module _ (table batch : List ℕ) (x : BatchIndex) (t : TypeIndex) (ps : List ℕ) (n : ℕ) (w : FirstOf table batch x t ps n) where
+  pub fewer : FirstOf table batch x t ps (n - 1)
+  fewer = record { types = w .types; events = w .events; agreed = w .agreed; typed = w .typed; within = omega (arith, w .within) }
+
+  -- the i-th event was accepted, with the type t
+  pub event-known : (i : ℕ) (s : List ℕ) → 1 ≤ i → i ≤ n → IsEvent batch x i s → KnownEvent table s t
+  event-known i s h l e =
+      let g = w .agreed in
+      let m : i ≤ length (w .events) = omega (arith, w .within) in
+      nth-known table (w .types) (g .isTable) (w .events) (known (w .types) (w .events) (g .agreed)) i s t ps h m
+      (e (w .events) (g .isBatch) (omega arith)) (w .typed)
+
+  -- the table and the batch have one reading, so that under any the type is that of the first event
+  first-typed : (ts : Table) (ss : List (List ℕ)) → Agreed table batch x ts ss → FirstTyped table ts ss t ps
+  first-typed ts ss g =
+      let here = w .agreed .isBatch in
+      let there = g .isBatch in
+      let types : ts ≡ w .types = some-same (sym (g .isTable) ∙ w .agreed .isTable) in
+      let first : getD ss 0 [] ≡ getD (w .events) 0 [] =
+      sym (there .each 0 (omega (arith, there .one, there .count))) ∙ here .each 0 (omega (arith, here .one, here .count)) in
+      record {
+        first = w .typed .first;
+        taken = ap₂ (λ (u : Table) (s : List ℕ). eventAsked narrow u s) types first ∙ w .typed .taken;
+        typed = w .typed .typed;
+      }
+
+  -- one event, checked
+  module _ (s after old : List ℕ) (r : reply.Reply) (one : n ≡ 1) (room : HasRoom old) (is : IsEvent batch x 1 s)
+      (e : replies r after ≡ checkCall table s old) where
+    pub one-checked :
+        (ts : Table) (ss : List (List ℕ)) → Agreed table batch x ts ss → n ≤ length ss → replies r after ≡ outcome (combinedAnswer ts (take n ss)) old
+    one-checked ts ss g l =
+        check-one table ts (g .isTable) ss (known ts ss (g .agreed)) n s old after r one (omega arith) room (is ss (g .isBatch) (omega arith)) e
+
+    pub one-combined :
+        (m : Measures) → ((k : KnownEvent table s t) → Measured (eventDossier (k .event) .snapshots) m) → CombinedFirst table batch x n r m after old
+    one-combined m f = record {
+      within = check-within r after table s old e;
+      first = λ ts ss g l. ap (λ (o : Outcome). returned o) (one-checked ts ss g l);
+      measured = λ ts ss g l.
+          subst (λ (i : ℕ). MeasuredFirst ts (take i ss) r m) (sym one)
+          (one-measured table ts (g .isTable) ss (known ts ss (g .agreed)) s t ps r m (omega arith) (is ss (g .isBatch) (omega arith)) (first-typed ts ss g) f);
+    }
+
+  -- those before the n-th, combined
+  module _ (two : 2 ≤ n) (r : reply.Reply) (m : Measures) (after old : List ℕ) (others : CombinedFirst table batch x (n - 1) r m after old) where
+    -- a refusal of these is one of all
+    pub all-refused :
+        (z : ℕ) (out : List ℕ) → r ≡ variant.Refused z →
+        (ts : Table) (ss : List (List ℕ)) → Agreed table batch x ts ss → n ≤ length ss → replies r out ≡ outcome (combinedAnswer ts (take n ss)) out
+    all-refused z out e ts ss g l =
+        stopped table ts (g .isTable) ss (known ts ss (g .agreed)) (n - 1) (omega arith) (omega arith) r after old
+        (others .first ts ss g (omega arith)) n z out (omega arith) l e
+
+    pub refused-combined : (z : ℕ) (out old′ : List ℕ) → r ≡ variant.Refused z → CombinedFirst table batch x n r m out old′
+    refused-combined z out old′ e = record {
+      within = refused-within r out z e;
+      first = λ ts ss g l.
+          ap (λ (o : Outcome). returned o) (all-refused z out e ts ss g l) ∙ any-buffer (combinedAnswer ts (take n ss)) out old′;
+      measured = λ ts ss g l. refused-measured ts (take n ss) r m z e;
+    }
+
+    -- to their dossier the n-th, s, is added
+    module _ (size : ℕ) (done : r ≡ variant.Done size) (s : List ℕ) (is : IsEvent batch x n s) where
+      last-adds :
+          (ts : Table) (ss : List (List ℕ)) → Agreed table batch x ts ss → n ≤ length ss → Adds table (take size after) m s t ps ts (take n ss)
+      last-adds ts ss g l =
+          let these = known ts ss (g .agreed) in
+          let given =
+          first-done table ts (g .isTable) ss these (n - 1) (omega arith) (omega arith) r after old (others .first ts ss g (omega arith)) size done in
+          let measured = subst (λ (y : reply.Reply). MeasuredFirst ts (take (n - 1) ss) y m) done (others .measured ts ss g (omega arith)) in
+          nth-adds table ts (g .isTable) ss these n size s (take size after) m t ps two l (is ss (g .isBatch) (omega arith)) given measured
+          (first-typed ts ss g)
+
+      pub last-addable : Addable table (take size after) m s t ps
+      last-addable = last-adds (w .types) (w .events) (w .agreed) (w .within) .addable
+
+      -- what that answered
+      module _ (r′ : reply.Reply) (after′ out : List ℕ) (room : HasRoom out)
+          (e : (h : Addable table (take size after) m s t ps) → replies r′ after′ ≡ combineCall standard table (take size after) (h .lone) out) where
+        pub last-added :
+            (ts : Table) (ss : List (List ℕ)) → Agreed table batch x ts ss → n ≤ length ss → replies r′ after′ ≡ outcome (combinedAnswer ts (take n ss)) out
+        last-added ts ss g l = let a = last-adds ts ss g l in e (a .addable) ∙ a .joined out room
+
+        pub last-combined :
+            (m′ : Measures) (old′ : List ℕ) →
+            ((h : Addable table (take size after) m s t ps) (z : ℕ) → r′ ≡ variant.Done z →
+            Measured (combined (h .both .left) (h .both .right) .snapshots) m′) →
+            CombinedFirst table batch x n r′ m′ after′ old′
+        last-combined m′ old′ f = record {
+          within = combine-within r′ after′ table (take size after) (last-addable .lone) out (e last-addable);
+          first = λ ts ss g l.
+              ap (λ (o : Outcome). returned o) (last-added ts ss g l) ∙ any-buffer (combinedAnswer ts (take n ss)) out old′;
+          measured = λ ts ss g l. let a = last-adds ts ss g l in a .measured r′ m′ (f (a .addable));
+        }
+
+-- as many events as the index has are all
+pub all-taken :
+    (table batch : List ℕ) (x : BatchIndex) (r : reply.Reply) (after old : List ℕ) →
+    ((ts : Table) (ss : List (List ℕ)) → Agreed table batch x ts ss → x .count ≤ length ss →
+    replies r after ≡ outcome (combinedAnswer ts (take (x .count) ss)) old) →
+    (ts : Table) (ss : List (List ℕ)) → Agreed table batch x ts ss → replies r after ≡ outcome (combinedAnswer ts ss) old
+all-taken table batch x r after old e ts ss g =
+    let n = g .isBatch .count in
+    e ts ss g (omega (arith, n)) ∙ ap (λ (xs : List (List ℕ)). outcome (combinedAnswer ts xs) old) (take-all (x .count) ss (omega (arith, n)))
 
 -- ---- the whole batch
 
@@ -646,9 +808,6 @@ unframed batch x w h = go (batchOf batch) refl w
     go : (o : Option (List (List ℕ))) → batchOf batch ≡ o → BatchReads o batch x → batchOf batch ≡ none
     go none e w = e
     go (some ss) e w = let z = w .0 in never (cc)
-
-pub all-taken : (ts : Table) (ss : List (List ℕ)) (n : ℕ) (out : List ℕ) → n ≡ length ss → outcome (combinedAnswer ts (take n ss)) out ≡ outcome (combinedAnswer ts ss) out
-all-taken ts ss n out e = ap (λ (xs : List (List ℕ)). outcome (combinedAnswer ts xs) out) (take-all n ss (omega (arith, e)))
 
 pub rooms-are : (r : Rooms) → haveRoom r ≡ true → (dossierCapacity ≤ r .output) × (dossierCapacity ≤ r .first) × (dossierCapacity ≤ r .second) × (dossierCapacity ≤ r .third)
 unfolding haveRoom

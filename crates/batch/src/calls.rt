@@ -1,66 +1,31 @@
-ghost use Prim.Native.Nat.{ℕ, _-_, _≤_};
+ghost use Prim.Native.Nat.{ℕ, _≤_};
 ghost use mathlib.Core.Path.{_≡_};
 ghost use mathlib.Core.List.{List};
 ghost use lib.ListN.{length, take};
 ghost use Rattle.model.specs.Limits.{standard};
-ghost use Rattle.replies.specs.Answers.{gives, outcome};
-ghost use Rattle.replies.specs.Replies.{replied, replies, combineReplied, batchReplied, batchReplies};
+ghost use Rattle.replies.specs.Answers.{outcome};
+ghost use Rattle.replies.specs.Replies.{replied, replies, batchReplied, batchReplies};
 ghost use Rattle.replies.specs.Capacities.{dossierCapacity};
 ghost use Rattle.ontology.specs.Table.{Table};
 ghost use Rattle.ways.specs.ByteWays.{dossierReturned, returned};
 ghost use Rattle.batch.specs.Batch.{haveRoom, batchCall};
-ghost use Rattle.batch.specs.code.BatchIndex.{Agreed, combinedAnswer, FirstOf, LastOf, DoneWithin, atFirst};
+ghost use Rattle.batch.specs.code.BatchIndex.{Agreed, combinedAnswer, FirstOf, MeasuredFirst, DoneWithin, atFirst};
 use crate::asked::ask_events;
 use crate::frame::BatchIndex;
 use crate::frame::event_part;
 use crate::frame::read_batch;
+use combining::add::Added;
+use combining::add::add_event;
 use combining::check::check_known;
-use combining::combine::combine_known;
 use event::ask::type_name;
 use ontology::tables::read_table;
 use ontology::types::TypeIndex;
 use replies::capacities::DOSSIER_CAPACITY;
 use replies::reply::BatchReply;
-use replies::reply::Combined;
 use replies::reply::Reply;
 
-// What combining replied, as a step of the batch.
-fn step_reply(c: Combined) -> Reply
-    ensures { λ r. ⌜ replied r ≡ combineReplied c ⌝ }
-{
-    match c {
-        Combined::Done(n) => Reply::Done(n),
-        Combined::Refused(n) => Reply::Refused(n),
-    }
-}
-
-// The n-th event added to the dossier of those before it, the first `size` bytes of `sofar`: the dossier of all is the answer. Of the event, which was accepted, and of both dossiers, which the batch made itself, no question before the last need be asked again.
-fn add_last(
-    table: &[u8],
-    batch: &[u8],
-    x: BatchIndex,
-    t: TypeIndex,
-    properties: &[usize],
-    n: usize,
-    sofar: &[u8],
-    size: usize,
-    lone: &mut [u8],
-    out: &mut [u8],
-) -> Reply
-    requires { ⌜ (1 ≤ n) × (n ≤ 16) × (size ≤ length (now sofar)) × (length (now properties) ≡ 96) ⌝ }
-    requires { ⌜ (dossierCapacity ≤ length (now lone)) × (dossierCapacity ≤ length (now out)) ⌝ }
-    requires { ⌜ LastOf (now table) (now batch) x t (now properties) n (take size (now sofar)) ⌝ }
-    ensures within { λ r. ⌜ DoneWithin r (now (out .exit)) ⌝ }
-    ensures added { λ r. ⌜ ((ts : Table) (ss : List (List ℕ)) → Agreed (now (table .entry)) (now (batch .entry)) x ts ss → 2 ≤ n → n ≤ length ss → combinedAnswer ts (take (n - 1) ss) ≡ gives (take size (now (sofar .entry))) → replies r (now (out .exit)) ≡ outcome (combinedAnswer ts (take n ss)) (now (out .entry))) ⌝ }
-{
-    let added = check_known(table, event_part(batch, x, n - 1), t, lone);
-    let Reply::Done(m) = added else {
-        return added;
-    };
-    step_reply(combine_known(table, &sofar[..size], &lone[..m], t, properties, out))
-}
-
-// The dossier of the first n events, in the first of three buffers: all but the last are combined first, then the last is added. The buffers change roles.
+// The dossier of the first n events, in the first of three buffers: all but the last are combined first, then the last is added. The buffers change roles. Of
+// the events, which were accepted, and of the dossiers, which the batch made itself, no question before the last need be asked again.
 fn combine_first(
     table: &[u8],
     batch: &[u8],
@@ -71,21 +36,35 @@ fn combine_first(
     a: &mut [u8],
     b: &mut [u8],
     c: &mut [u8],
-) -> Reply
+) -> Added
     requires { ⌜ (1 ≤ n) × (n ≤ 16) × (length (now properties) ≡ 96) ⌝ }
     requires { ⌜ (dossierCapacity ≤ length (now a)) × (dossierCapacity ≤ length (now b)) × (dossierCapacity ≤ length (now c)) ⌝ }
     requires { ⌜ FirstOf (now table) (now batch) x t (now properties) n ⌝ }
-    ensures within { λ r. ⌜ DoneWithin r (now (a .exit)) ⌝ }
-    ensures first { λ r. ⌜ ((ts : Table) (ss : List (List ℕ)) → Agreed (now (table .entry)) (now (batch .entry)) x ts ss → n ≤ length ss → dossierReturned (replied r) (now (a .exit)) ≡ returned (outcome (combinedAnswer ts (take n ss)) (now (a .entry)))) ⌝ }
+    ensures within { λ r. ⌜ DoneWithin (r .reply) (now (a .exit)) ⌝ }
+    ensures first { λ r. ⌜ ((ts : Table) (ss : List (List ℕ)) → Agreed (now (table .entry)) (now (batch .entry)) x ts ss → n ≤ length ss
+        → dossierReturned (replied (r .reply)) (now (a .exit)) ≡ returned (outcome (combinedAnswer ts (take n ss)) (now (a .entry)))) ⌝ }
+    ensures measured { λ r. ⌜ ((ts : Table) (ss : List (List ℕ)) → Agreed (now (table .entry)) (now (batch .entry)) x ts ss → n ≤ length ss
+        → MeasuredFirst ts (take n ss) (r .reply) (r .measures)) ⌝ }
 {
     if n <= 1 {
         return check_known(table, event_part(batch, x, 0), t, a);
     }
     let others = combine_first(table, batch, x, t, properties, n - 1, b, c, a);
-    let Reply::Done(size) = others else {
+    let reply = others.reply;
+    let Reply::Done(size) = reply else {
         return others;
     };
-    add_last(table, batch, x, t, properties, n, b, size, c, a)
+    let event = event_part(batch, x, n - 1);
+    add_event(
+        table,
+        &b[..size],
+        others.measures,
+        event,
+        t,
+        properties,
+        c,
+        a,
+    )
 }
 
 // The dossier of all events of a batch that was asked its questions but the last.
@@ -103,17 +82,31 @@ fn combine_all(
     requires { ⌜ (x .count ≤ 16) × (dossierCapacity ≤ length (now out)) × (length (now properties) ≡ 96) ⌝ }
     requires { ⌜ (dossierCapacity ≤ length (now a)) × (dossierCapacity ≤ length (now b)) × (dossierCapacity ≤ length (now c)) ⌝ }
     requires { ⌜ FirstOf (now table) (now batch) x t (now properties) (x .count) ⌝ }
-    ensures { λ r. ⌜ ((ts : Table) (ss : List (List ℕ)) → Agreed (now (table .entry)) (now (batch .entry)) x ts ss → replies r (now (out .exit)) ≡ outcome (combinedAnswer ts ss) (now (out .entry))) ⌝ }
+    ensures { λ r. ⌜ ((ts : Table) (ss : List (List ℕ)) → Agreed (now (table .entry)) (now (batch .entry)) x ts ss
+        → replies r (now (out .exit)) ≡ outcome (combinedAnswer ts ss) (now (out .entry))) ⌝ }
 {
     let n = x.count;
     if n <= 1 {
-        return check_known(table, event_part(batch, x, 0), t, out);
+        let one = check_known(table, event_part(batch, x, 0), t, out);
+        return one.reply;
     }
     let others = combine_first(table, batch, x, t, properties, n - 1, a, b, c);
-    let Reply::Done(size) = others else {
-        return others;
+    let reply = others.reply;
+    let Reply::Done(size) = reply else {
+        return reply;
     };
-    add_last(table, batch, x, t, properties, n, a, size, b, out)
+    let event = event_part(batch, x, n - 1);
+    let all = add_event(
+        table,
+        &a[..size],
+        others.measures,
+        event,
+        t,
+        properties,
+        b,
+        out,
+    );
+    all.reply
 }
 
 // A reply of the whole batch, whose refusal has the position 0.

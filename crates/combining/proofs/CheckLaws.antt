@@ -42,7 +42,9 @@ use Rattle.dossier.specs.DossierLayout.{dossierBytes, headed}
 use Rattle.dossier.specs.DossierHead.{dossierHeadBytes}
 use Rattle.dossier.proofs.DossierHeadLaws.{dossier-head-size}
 use Rattle.combining.specs.CheckCall.{eventDossier, checkAsked, checkAnswer, checkCall}
-use Rattle.combining.specs.code.CheckIndex.{loneBytes, Checkable, LoneRoom, KnownEvent}
+use Rattle.combining.specs.code.CheckIndex.{aloneBytes, loneBytes, Checkable, LoneRoom, KnownEvent}
+use Rattle.combining.specs.code.AddIndex.{bytesOf, Measured, alone}
+use Rattle.combining.specs.declared.measures.Measures.{Measures}
 
 -- ---- the bytes of one event's dossier
 
@@ -59,33 +61,40 @@ none-differ f (p ∷ ps) = omega (arith, none-differ f ps)
 
 module _ (t : EventType) (e : Event) (k : TypeKept t) (a : EventFits t e) where
   abbrev lone : Dossier
-  lone = record { parents = e .head .parents; snapshots = record { version = versionOf t e; cells = map (λ p. holds (setAt e p)) (upTo 32) } ∷ [] }
+  lone = record { parents = e .head .parents; snapshots = alone (record { type = t; event = e }) ∷ [] }
 
   lone-rule : rule (view t) (e ∷ []) ≡ lone
   unfolding typeView eventView places
   lone-rule =
-      rule-one (view t) e (λ p l. set-rises t e a p) (λ p l O c. least-few t e k a p O c) (rising-ups texts (e .head .parents) .0 (a .written .head .parents .rises))
+      rule-one (view t) e (λ p l. set-rises t e a p) (λ p l O c. least-few t e k a p O c)
+      (rising-ups texts (e .head .parents) .0 (a .written .head .parents .rises))
 
-  lone-sets : map held (map (λ p. holds (setAt e p)) (upTo 32)) ≡ e .sets
+  pub lone-snapshots : eventDossier (record { type = t; event = e }) .snapshots ≡ alone (record { type = t; event = e }) ∷ []
+  unfolding eventDossier
+  lone-snapshots = ap (λ (d : Dossier). d .snapshots) lone-rule
+
+  pub lone-head : eventDossier (record { type = t; event = e }) .head ≡ e .head
+  unfolding eventDossier
+  lone-head = ap (λ (d : Dossier). record { type = e .head .type; source = e .head .source; parents = d .parents }) lone-rule
+
+  pub lone-sets : map held (map (λ p. holds (setAt e p)) (upTo 32)) ≡ e .sets
   lone-sets = sets-held (setAt e) (upTo 32) ∙ map-getD (e .sets) [] 32 (a .written .sets .long)
 
-  abbrev alone : Snapshot
-  alone = record { version = versionOf t e; cells = map (λ p. holds (setAt e p)) (upTo 32) }
-
-  one-snapshot : flatten (map snapshotBytes (alone ∷ [])) ≡ snapshotBytes alone
-  unfolding flatten
-  one-snapshot = append-nil (snapshotBytes alone)
-
-  snapshot-parts : snapshotBytes alone ≡ number (versionOf t e) ++ number (bitNumber (map presenceBit (e .sets))) ++ number 0 ++ setsBytes (e .sets)
+  pub alone-bytes : snapshotBytes (alone (record { type = t; event = e })) ≡ aloneBytes e (versionOf t e)
   unfolding snapshotBytes
-  snapshot-parts =
-      ap₂ (λ (ss : List (List Text)) (n : ℕ). number (versionOf t e) ++ number (bitNumber (map presenceBit ss)) ++ number n ++ setsBytes ss) lone-sets (none-differ (setAt e) (upTo 32))
+  alone-bytes =
+      ap₂ (λ (ss : List (List Text)) (n : ℕ). number (versionOf t e) ++ number (bitNumber (map presenceBit ss)) ++ number n ++ setsBytes ss)
+      lone-sets (none-differ (setAt e) (upTo 32))
+
+  one-snapshot : bytesOf (alone (record { type = t; event = e }) ∷ []) ≡ aloneBytes e (versionOf t e)
+  unfolding flatten
+  one-snapshot = append-nil (snapshotBytes (alone (record { type = t; event = e }))) ∙ alone-bytes
 
   pub lone-bytes : dossierBytes (eventDossier (record { type = t; event = e })) ≡ loneBytes e (versionOf t e)
   unfolding eventDossier dossierBytes bodyBytes loneBytes
   lone-bytes =
       ap (λ (d : Dossier). dossierBytes (headed (e .head .type) (e .head .source) d)) lone-rule
-      ∙ ap (λ (l : List ℕ). dossierHeadBytes (e .head) ++ (number 1 ++ l)) (one-snapshot ∙ snapshot-parts)
+      ∙ ap (λ (l : List ℕ). dossierHeadBytes (e .head) ++ (number 1 ++ l)) one-snapshot
 
 -- ---- an accepted event
 
@@ -187,6 +196,17 @@ module _ {table event : List ℕ} {t : TypeIndex} {x : EventIndex} {ats : List �
     read = a .read;
     room = subst (λ (v : ℕ). length (loneBytes (a .e) v) ≤ room) (sym q) (omega (arith, lone-short));
   }
+
+  -- the measures of its snapshot are those of its dossier
+  pub lone-measured :
+      {m : Measures} (version : ℕ) {size : ℕ} → version ≡ versionOf (a .type) (a .e) → length (aloneBytes (a .e) version) ≡ size →
+      ((s : Snapshot) → s .version ≡ version → length (snapshotBytes s) ≡ size → Measured (s ∷ []) m) →
+      Measured (eventDossier (record { type = a .type; event = a .e }) .snapshots) m
+  lone-measured {m} version {size} q long of =
+      let s : Snapshot = alone (record { type = a .type; event = a .e }) in
+      let n : length (snapshotBytes s) ≡ size =
+      ap length (alone-bytes (a .type) (a .e) kept fit) ∙ ap (λ (v : ℕ). length (aloneBytes (a .e) v)) (sym q) ∙ long in
+      subst (λ (ss : List Snapshot). Measured ss m) (sym (lone-snapshots (a .type) (a .e) kept fit)) (of s (sym q) n)
 
 -- ---- the questions
 

@@ -26,13 +26,12 @@ use Rattle.ontology.proofs.TypeIndexLaws.{table-refused, table-got, type-says, 
 use Rattle.event.specs.Event.{typeView}
 use Rattle.dossier.specs.DossierLayout.{Headed, dossierOf, dossierBytes}
 use Rattle.dossier.specs.DossierQuestions.{TypedDossier, dossierAsked, dossiersAgree}
-use Rattle.dossier.specs.code.DossierIndex.{DossierIs, RowsAre, IsDossier, DossierReads, DossierAnswers}
+use Rattle.dossier.specs.code.DossierIndex.{DossierIs, RowsAre, DossierReads, DossierAnswers}
 use Rattle.dossier.specs.declared.dossiers.DossierIndex.{DossierIndex}
 use Rattle.dossier.proofs.AnswerLaws.{reads-is}
 use Rattle.dossier.proofs.AcceptedLaws.{dossier-taken, one-type, Answered, asked-accepted}
 use Rattle.combining.specs.CombineCall.{headedAs, combined, combineAsked, combineAnswer, combineCall}
 use Rattle.combining.specs.code.CombineIndex.{NumberIs, Known, Combinable}
-use Rattle.combining.proofs.MeetLaws.{left-taken, right-taken}
 use Rattle.combining.proofs.RoomLaws.{combined-room}
 
 -- ---- the table
@@ -165,29 +164,13 @@ module _
       right-rows = y .in-rows;
     }
 
--- so of dossiers of which the questions are known to be answered yes
-module _ {table a b : List ℕ} {t : TypeIndex} {ps : List ℕ} (k : Known table a b t ps) where
-  pub left-dossier : IsDossier a
-  left-dossier = record { what = k .left .headed; is = left-taken k .read }
-
-  pub right-dossier : IsDossier b
-  right-dossier = record { what = k .right .headed; is = right-taken k .read }
-
-  pub known-read :
-      (left right : List ℕ) (d e : DossierIndex) →
-      DossierReads (dossierOf standard a) a left d → DossierReads (dossierOf standard b) b right e → Combinable table a d left b e right t ps
-  known-read left right d e v w =
-      let x = reads-is a left d (k .left .headed) v (left-taken k .read) in
-      let y = reads-is b right e (k .right .headed) w (right-taken k .read) in
-      record { known = k; left-read = x .0; right-read = y .0; left-rows = x .1; right-rows = y .1 }
-
 -- ---- question 8
 
 pub combine-room :
-    {table a left b right : List ℕ} {d e : DossierIndex} {t : TypeIndex} {ps : List ℕ} (h : Combinable table a d left b e right t ps) {r : Bool} →
-    r ≡ fits standard (typeView (h .known .left .type)) (combined (h .known .left) (h .known .right)) → r ≡ true →
-    (size : ℕ) → dossierCapacity ≤ size → length (dossierBytes (headedAs (h .known .left .headed) (combined (h .known .left) (h .known .right)))) ≤ size
-combine-room h p y size l = omega (arith, combined-room h (sym p ∙ y))
+    {table a b : List ℕ} {t : TypeIndex} {ps : List ℕ} (k : Known table a b t ps) {r : Bool} →
+    r ≡ fits standard (typeView (k .left .type)) (combined (k .left) (k .right)) → r ≡ true →
+    (size : ℕ) → dossierCapacity ≤ size → length (dossierBytes (headedAs (k .left .headed) (combined (k .left) (k .right)))) ≤ size
+combine-room k p y size l = omega (arith, combined-room k (sym p ∙ y))
 
 -- ---- the replies
 
@@ -222,23 +205,27 @@ module _ (table left right out : List ℕ) where
         rw (has-room dossierCapacity (length out) room, h .known .is, h .left-taken .asked, h .right-taken .asked, q)
 
     module _
-        {d e : DossierIndex} {xs ys : List ℕ} {t : TypeIndex} {ps : List ℕ} (h : Combinable table left d xs right e ys t ps) {r : Bool}
-        (p : r ≡ fits standard (typeView (h .known .left .type)) (combined (h .known .left) (h .known .right))) where
+        {t : TypeIndex} {ps : List ℕ} (k : Known table left right t ps) {r : Bool}
+        (p : r ≡ fits standard (typeView (k .left .type)) (combined (k .left) (k .right))) where
       pub combine-full : r ≡ false → combineReplies (Refused 8) out ≡ combineCall standard table left right out
       unfolding combineCall combineAnswer combineAsked
-      combine-full n = let q = sym p ∙ n in rw (has-room dossierCapacity (length out) room, h .known .is, h .known .left-asked, h .known .right-asked, h .known .agree, q)
+      combine-full n =
+          let q = sym p ∙ n in
+          rw (has-room dossierCapacity (length out) room, k .is, k .left-asked, k .right-asked, k .agree, q)
 
       abbrev whole : List ℕ
-      whole = dossierBytes (headedAs (h .known .left .headed) (combined (h .known .left) (h .known .right)))
+      whole = dossierBytes (headedAs (k .left .headed) (combined (k .left) (k .right)))
 
       asked-whole : r ≡ true → combineAsked standard (length out) table left right ≡ accepted whole
       unfolding combineAsked
-      asked-whole y = let q = sym p ∙ y in rw (has-room dossierCapacity (length out) room, h .known .is, h .known .left-asked, h .known .right-asked, h .known .agree, q)
+      asked-whole y =
+          let q = sym p ∙ y in
+          rw (has-room dossierCapacity (length out) room, k .is, k .left-asked, k .right-asked, k .agree, q)
 
       pub combine-done : r ≡ true → (new : List ℕ) (n : ℕ) → Wrote out 0 whole new n → combineReplies (Done n) new ≡ combineCall standard table left right out
       unfolding combineCall combineAnswer
       combine-done y new n w =
-          let s : 0 + length whole ≤ length out = omega (arith, combine-room h p y (length out) room) in
+          let s : 0 + length whole ≤ length out = omega (arith, combine-room k p y (length out) room) in
           let m : n ≡ length whole = omega (arith, w .after) in
           rw (asked-whole y)
           (ap₂ (λ (k : ℕ) (l : List ℕ). combineReplies (Done k) l) m (wrote-between s w ∙ ap (λ (k : ℕ). whole ++ drop k out) m))

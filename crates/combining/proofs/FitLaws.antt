@@ -26,7 +26,7 @@ use Rattle.dossier.specs.declared.dossiers.DossierIndex.{DossierIndex}
 use Rattle.dossier.proofs.DossierLayoutLaws.{DossierWritten}
 use Rattle.dossier.proofs.AcceptedLaws.{DossierTaken, taken-written, taken-lone, taken-fits}
 use Rattle.combining.specs.CombineCall.{combined}
-use Rattle.combining.specs.code.CombineIndex.{Combinable, Meet}
+use Rattle.combining.specs.code.CombineIndex.{Known, Combinable, Meet}
 use Rattle.combining.proofs.ObjectLaws.{union-few}
 use Rattle.combining.proofs.MeetLaws.{versionIn, left-taken, right-taken, same-type, meet}
 
@@ -97,97 +97,66 @@ merge-alone : (join : Snapshot → Snapshot → Snapshot) (x y : Snapshot) → x
 unfolding merge put
 merge-alone join x y e = rw (ap (numbers .cmp (x .version)) (sym e) ∙ numbers .self (x .version))
 
--- ---- two dossiers
+-- ---- two dossiers of which questions 2 to 7 are answered yes
 
-module _
-    {table a : List ℕ} {d : DossierIndex} {left b : List ℕ} {e : DossierIndex} {right : List ℕ} {t : TypeIndex} {ps : List ℕ}
-    (c : Combinable table a d left b e right t ps) where
+module _ {table a b : List ℕ} {t : TypeIndex} {ps : List ℕ} (k : Known table a b t ps) where
   abbrev ty : EventType
-  ty = c .known .left .type
+  ty = k .left .type
 
   abbrev whole : Dossier
-  whole = combined (c .known .left) (c .known .right)
+  whole = combined (k .left) (k .right)
 
-  left-written : DossierWritten standard (c .known .left .headed)
-  left-written = taken-written (left-taken (c .known))
+  pub left-written : DossierWritten standard (k .left .headed)
+  left-written = taken-written (left-taken k)
 
-  right-written : DossierWritten standard (c .known .right .headed)
-  right-written = taken-written (right-taken (c .known))
+  pub right-written : DossierWritten standard (k .right .headed)
+  right-written = taken-written (right-taken k)
 
   -- the parents of each are hashes and rise
-  pub left-hashes : Hashes (c .known .left .headed .head .parents) × (rising texts (c .known .left .headed .head .parents) ≡ true)
-  left-hashes = (all-hashes (c .known .left .headed .head .parents) (left-written .head .parents .each), left-written .head .parents .rises)
+  pub left-hashes : Hashes (k .left .headed .head .parents) × (rising texts (k .left .headed .head .parents) ≡ true)
+  left-hashes = (all-hashes (k .left .headed .head .parents) (left-written .head .parents .each), left-written .head .parents .rises)
 
-  pub right-hashes : Hashes (c .known .right .headed .head .parents) × (rising texts (c .known .right .headed .head .parents) ≡ true)
-  right-hashes = (all-hashes (c .known .right .headed .head .parents) (right-written .head .parents .each), right-written .head .parents .rises)
+  pub right-hashes : Hashes (k .right .headed .head .parents) × (rising texts (k .right .headed .head .parents) ≡ true)
+  right-hashes = (all-hashes (k .right .headed .head .parents) (right-written .head .parents .each), right-written .head .parents .rises)
 
-  -- and so do the versions
-  left-versions : versionNumbers (take (d .count) (d .versions)) ≡ versions (snapshots (c .known .left))
-  left-versions = ap (λ (n : ℕ). versionNumbers (take n (d .versions))) (c .left-read .count) ∙ c .left-read .snapshots .numbers
-
-  right-versions : versionNumbers (take (e .count) (e .versions)) ≡ versions (snapshots (c .known .right))
-  right-versions = ap (λ (n : ℕ). versionNumbers (take n (e .versions))) (c .right-read .count) ∙ c .right-read .snapshots .numbers
-
-  pub left-rises : rising numbers (versionNumbers (take (d .count) (d .versions))) ≡ true
-  left-rises = ap (rising numbers) left-versions ∙ left-written .body .rises
-
-  pub right-rises : rising numbers (versionNumbers (take (e .count) (e .versions))) ≡ true
-  right-rises = ap (rising numbers) right-versions ∙ right-written .body .rises
-
-  whole-parents : whole .parents ≡ union texts (c .known .left .headed .head .parents) (c .known .right .headed .head .parents)
+  whole-parents : whole .parents ≡ union texts (k .left .headed .head .parents) (k .right .headed .head .parents)
   unfolding combined combine
   whole-parents = refl
 
-  whole-snapshots : whole .snapshots ≡ merge numbers versionIn (joinSnapshots (typeView ty)) (snapshots (c .known .left)) (snapshots (c .known .right))
+  pub whole-snapshots : whole .snapshots ≡ merge numbers versionIn (joinSnapshots (typeView ty)) (snapshots (k .left)) (snapshots (k .right))
   unfolding combined combine
   whole-snapshots = refl
-
-  pub whole-versions :
-      length (whole .snapshots)
-      ≡ length (union numbers (versionNumbers (take (d .count) (d .versions))) (versionNumbers (take (e .count) (e .versions))))
-  whole-versions =
-      sym (length-map (whole .snapshots) versionIn)
-      ∙ ap (λ (ss : List Snapshot). length (versions ss)) whole-snapshots
-      ∙ ap length (keys (snapshots (c .known .left)) (snapshots (c .known .right)))
-      ∙ sym (ap₂ (λ (v w : List ℕ). length (union numbers v w)) left-versions right-versions)
-    where
-      keys : (ss rs : List Snapshot) → versions (merge numbers versionIn (joinSnapshots (typeView ty)) ss rs) ≡ union numbers (versions ss) (versions rs)
-      keys = merge-keys numbers versionIn (joinSnapshots (typeView ty)) (λ x y. unfold joinSnapshots in refl)
 
   -- the first snapshots of an unversioned type
   module _ (un : t .mark ≤ 0) where
     pub unversioned : isVersioned ty ≡ false
-    unversioned = le-ltb 0 (ty .mark) (omega (arith, c .known .typed .mark))
+    unversioned = le-ltb 0 (ty .mark) (omega (arith, k .typed .mark))
 
-    pub left-one : length (snapshots (c .known .left)) ≡ 1
-    left-one = one-snapshot (left-taken (c .known)) unversioned
+    pub left-one : length (snapshots (k .left)) ≡ 1
+    left-one = one-snapshot (left-taken k) unversioned
 
-    right-unversioned : isVersioned (c .known .right .type) ≡ false
-    right-unversioned = ap isVersioned (sym (same-type (c .known))) ∙ unversioned
+    right-unversioned : isVersioned (k .right .type) ≡ false
+    right-unversioned = ap isVersioned (sym (same-type k)) ∙ unversioned
 
-    pub right-one : length (snapshots (c .known .right)) ≡ 1
-    right-one = one-snapshot (right-taken (c .known)) right-unversioned
+    pub right-one : length (snapshots (k .right)) ≡ 1
+    right-one = one-snapshot (right-taken k) right-unversioned
 
     abbrev x : Snapshot
-    x = getD (snapshots (c .known .left)) 0 noSnapshot
+    x = getD (snapshots (k .left)) 0 noSnapshot
 
     abbrev y : Snapshot
-    y = getD (snapshots (c .known .right)) 0 noSnapshot
+    y = getD (snapshots (k .right)) 0 noSnapshot
 
-    same-version : x .version ≡ y .version
+    pub same-version : x .version ≡ y .version
     same-version =
-        version-none ty x unversioned (taken-fits (left-taken (c .known)) 0 (omega (arith, left-one)))
-        ∙ sym (version-none (c .known .right .type) y right-unversioned (taken-fits (right-taken (c .known)) 0 (omega (arith, right-one))))
-
-    pub first-meet : Meet ty x y
-    first-meet = meet c 0 0 (omega (arith, left-one)) (omega (arith, right-one)) same-version
+        version-none ty x unversioned (taken-fits (left-taken k) 0 (omega (arith, left-one)))
+        ∙ sym (version-none (k .right .type) y right-unversioned (taken-fits (right-taken k) 0 (omega (arith, right-one))))
 
     whole-objects : objects (whole .snapshots) ≡ sizes (joinSnapshots (typeView ty) x y .cells)
     unfolding objects
     whole-objects =
         ap objects (whole-snapshots
-        ∙ ap₂ (merge numbers versionIn (joinSnapshots (typeView ty)))
-        (alone (snapshots (c .known .left)) left-one) (alone (snapshots (c .known .right)) right-one)
+        ∙ ap₂ (merge numbers versionIn (joinSnapshots (typeView ty))) (alone (snapshots (k .left)) left-one) (alone (snapshots (k .right)) right-one)
         ∙ merge-alone (joinSnapshots (typeView ty)) x y same-version)
         ∙ omega arith
 
@@ -203,37 +172,72 @@ module _
   abbrev fewVersions : Bool
   fewVersions = leb (length (whole .snapshots)) 8 && fewObjects
 
-  module _ (n : Bool) (p : n ≡ leb (length (union texts (c .known .left .headed .head .parents) (c .known .right .headed .head .parents))) 32) where
+  module _ (n : Bool) (p : n ≡ leb (length (union texts (k .left .headed .head .parents) (k .right .headed .head .parents))) 32) where
     then-parents : asked ≡ (n && fewVersions)
     then-parents = fits-parts ty whole ∙ ap (λ (z : Bool). z && fewVersions) (ap (λ (hs : List Text). leb (length hs) 32) whole-parents ∙ sym p)
 
     pub fits-parents : n ≡ false → false ≡ asked
     fits-parents l = sym (then-parents ∙ rw l)
 
-    module _
-        (l : n ≡ true) (m : ℕ)
-        (q : m ≡ length (union numbers (versionNumbers (take (d .count) (d .versions))) (versionNumbers (take (e .count) (e .versions))))) where
+    module _ (l : n ≡ true) (m : ℕ) (q : m ≡ length (whole .snapshots)) where
       then-versions : asked ≡ fewVersions
       then-versions = then-parents ∙ rw l
 
       pub fits-versions : 8 < m → false ≡ asked
-      fits-versions k =
-          sym (then-versions ∙ ap (λ (z : Bool). z && fewObjects) (lt-leb (length (whole .snapshots)) 8 (omega (arith, q, whole-versions))))
+      fits-versions h = sym (then-versions ∙ ap (λ (z : Bool). z && fewObjects) (lt-leb (length (whole .snapshots)) 8 (omega (arith, q))))
 
-      module _ (k : m ≤ 8) where
+      module _ (h : m ≤ 8) where
         then-objects : asked ≡ fewObjects
-        then-objects = then-versions ∙ ap (λ (z : Bool). z && fewObjects) (le-leb (length (whole .snapshots)) 8 (omega (arith, q, whole-versions)))
+        then-objects = then-versions ∙ ap (λ (z : Bool). z && fewObjects) (le-leb (length (whole .snapshots)) 8 (omega (arith, q)))
 
         pub fits-versioned : 0 < t .mark → true ≡ asked
-        fits-versioned h =
+        fits-versioned v =
             sym (
             then-objects
-            ∙ ap (λ (z : Bool). z || leb (objects (whole .snapshots)) 256) (lt-ltb 0 (ty .mark) (omega (arith, c .known .typed .mark)))
+            ∙ ap (λ (z : Bool). z || leb (objects (whole .snapshots)) 256) (lt-ltb 0 (ty .mark) (omega (arith, k .typed .mark)))
             )
 
         pub fits-objects : (un : t .mark ≤ 0) {r : Bool} → r ≡ leb (sizes (joinSnapshots (typeView ty) (x un) (y un) .cells)) 256 → r ≡ asked
-        fits-objects un h =
-            h
+        fits-objects un r =
+            r
             ∙ sym (then-objects
             ∙ ap (λ (z : Bool). z || leb (objects (whole .snapshots)) 256) (unversioned un)
             ∙ ap (λ (z : ℕ). leb z 256) (whole-objects un))
+
+-- ---- and both are read
+
+module _
+    {table a : List ℕ} {d : DossierIndex} {left b : List ℕ} {e : DossierIndex} {right : List ℕ} {t : TypeIndex} {ps : List ℕ}
+    (c : Combinable table a d left b e right t ps) where
+  -- the versions of each rise
+  left-versions : versionNumbers (take (d .count) (d .versions)) ≡ versions (snapshots (c .known .left))
+  left-versions = ap (λ (n : ℕ). versionNumbers (take n (d .versions))) (c .left-read .count) ∙ c .left-read .snapshots .numbers
+
+  right-versions : versionNumbers (take (e .count) (e .versions)) ≡ versions (snapshots (c .known .right))
+  right-versions = ap (λ (n : ℕ). versionNumbers (take n (e .versions))) (c .right-read .count) ∙ c .right-read .snapshots .numbers
+
+  pub left-rises : rising numbers (versionNumbers (take (d .count) (d .versions))) ≡ true
+  left-rises = ap (rising numbers) left-versions ∙ left-written (c .known) .body .rises
+
+  pub right-rises : rising numbers (versionNumbers (take (e .count) (e .versions))) ≡ true
+  right-rises = ap (rising numbers) right-versions ∙ right-written (c .known) .body .rises
+
+  pub whole-versions :
+      length (union numbers (versionNumbers (take (d .count) (d .versions))) (versionNumbers (take (e .count) (e .versions))))
+      ≡ length (combined (c .known .left) (c .known .right) .snapshots)
+  whole-versions =
+      ap₂ (λ (v w : List ℕ). length (union numbers v w)) left-versions right-versions
+      ∙ sym (ap length (keys (snapshots (c .known .left)) (snapshots (c .known .right))))
+      ∙ sym (ap (λ (ss : List Snapshot). length (versions ss)) (whole-snapshots (c .known)))
+      ∙ length-map (combined (c .known .left) (c .known .right) .snapshots) versionIn
+    where
+      join : Snapshot → Snapshot → Snapshot
+      join = joinSnapshots (typeView (c .known .left .type))
+
+      keys : (ss rs : List Snapshot) → versions (merge numbers versionIn join ss rs) ≡ union numbers (versions ss) (versions rs)
+      keys = merge-keys numbers versionIn join (λ x y. unfold joinSnapshots in refl)
+
+  -- two first snapshots of an unversioned type
+  pub first-meet : (un : t .mark ≤ 0) → Meet (c .known .left .type) (x (c .known) un) (y (c .known) un)
+  first-meet un =
+      meet c 0 0 (omega (arith, left-one (c .known) un)) (omega (arith, right-one (c .known) un)) (same-version (c .known) un)

@@ -1,6 +1,7 @@
 -- The laws of the calls check an event and combine.
 pub mod LoneLaws
 pub mod CheckLaws
+pub mod MeasureLaws
 pub mod MeetLaws
 pub mod CountLaws
 pub mod ObjectLaws
@@ -11,3 +12,5 @@ pub mod JoinedLaws
 pub mod MergedLaws
 pub mod RoomLaws
 pub mod CombineLaws
+pub mod InsertLaws
+pub mod AddLaws

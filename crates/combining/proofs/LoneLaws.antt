@@ -22,7 +22,7 @@ use Rattle.event.specs.declared.read.EventIndex.{EventIndex}
 use Rattle.event.proofs.EventQuestionLaws.{version-none}
 use Rattle.event.proofs.SetWriteLaws.{present-own}
 use Rattle.dossier.specs.DossierHead.{dossierHeadBytes}
-use Rattle.combining.specs.code.CheckIndex.{loneBytes, Checkable}
+use Rattle.combining.specs.code.CheckIndex.{aloneBytes, loneBytes, Checkable}
 
 -- ---- the version of an event
 
@@ -66,7 +66,7 @@ module _ {bytes : List ℕ} {t : TypeIndex} {ats : List ℕ} (h : Checkable byte
       omega (arith, version-is, h .below),
     )
 
--- ---- the parts of the dossier
+-- ---- the parts of the snapshot
 
 module _ {bytes : List ℕ} {e : Event} {x : EventIndex} {ats : List ℕ} (w : EventIs bytes e x ats) where
   -- all sets, by the event's own presence number
@@ -77,17 +77,31 @@ module _ {bytes : List ℕ} {e : Event} {x : EventIndex} {ats : List ℕ} (w : E
   sets-are = ap (λ (n : ℕ). presentBytes n (e .sets)) (w .presence) ∙ present-own (e .sets)
 
   -- their lengths, one after the other
-  pub lone-length :
+  pub alone-length :
       (version : ℕ) →
-      length (loneBytes e version)
-      ≡ length (dossierHeadBytes (e .head)) + length (number 1) + length (number version) + length (number (x .presence)) + length (number 0) + length sets
+      length (aloneBytes e version) ≡ length (number version) + length (number (x .presence)) + length (number 0) + length sets
+  alone-length version = simp length-append (omega (arith, ap length sets-are, ap (λ (n : ℕ). length (number n)) (w .presence)))
+
+  pub wrote-alone :
+      (version : ℕ) {l l₁ l₂ l₃ l₄ : List ℕ} {at a b c d : ℕ} →
+      Wrote l at (number version) l₁ a → Wrote l₁ a (number (x .presence)) l₂ b → Wrote l₂ b (number 0) l₃ c → Wrote l₃ c sets l₄ d →
+      Wrote l at (aloneBytes e version) l₄ d
+  wrote-alone version p q r s = wrote-then (wrote-then (wrote-then p (wrote-as (ap number (w .presence)) q)) r) (wrote-as sets-are s)
+
+-- where bytes were written, their place says how many they are
+pub wrote-size : {l xs l₁ : List ℕ} {at next : ℕ} → Wrote l at xs l₁ next → (at ≤ next) × (length xs ≡ next - at)
+wrote-size w = (omega (arith, w .after), omega (arith, w .after))
+
+-- ---- the parts of the dossier
+
+module _ (e : Event) (version : ℕ) where
+  pub lone-length : length (loneBytes e version) ≡ length (dossierHeadBytes (e .head)) + length (number 1) + length (aloneBytes e version)
   unfolding loneBytes
-  lone-length version = simp length-append (omega (arith, ap length sets-are, ap (λ (n : ℕ). length (number n)) (w .presence)))
+  lone-length = simp length-append (omega arith)
 
   pub wrote-lone :
-      (version : ℕ) {l l₁ l₂ l₃ l₄ l₅ l₆ : List ℕ} {a b c d f g : ℕ} →
-      Wrote l 0 (dossierHeadBytes (e .head)) l₁ a → Wrote l₁ a (number 1) l₂ b → Wrote l₂ b (number version) l₃ c →
-      Wrote l₃ c (number (x .presence)) l₄ d → Wrote l₄ d (number 0) l₅ f → Wrote l₅ f sets l₆ g → Wrote l 0 (loneBytes e version) l₆ g
+      {l l₁ l₂ l₃ : List ℕ} {a b c : ℕ} →
+      Wrote l 0 (dossierHeadBytes (e .head)) l₁ a → Wrote l₁ a (number 1) l₂ b → Wrote l₂ b (aloneBytes e version) l₃ c →
+      Wrote l 0 (loneBytes e version) l₃ c
   unfolding loneBytes
-  wrote-lone version p q r s u v =
-      wrote-then p (wrote-then q (wrote-then (wrote-then (wrote-then r (wrote-as (ap number (w .presence)) s)) u) (wrote-as sets-are v)))
+  wrote-lone p q r = wrote-then p (wrote-then q r)

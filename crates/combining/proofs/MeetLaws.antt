@@ -2,16 +2,18 @@
 use mathlib.Core.Path.{_≡_, sym, subst}
 use mathlib.Core.Bool.{true}
 use mathlib.Core.List.{List, map}
-use Prim.Native.Nat.{ℕ, _<_}
-use lib.ListN.{length, drop, getD}
+use Prim.Native.Nat.{ℕ, _^_, _<_}
+use lib.ListN.{length, getD}
 use Rattle.model.specs.Order.{numbers}
 use Rattle.model.specs.Keyed.{Rising}
 use Rattle.model.specs.Rule.{Snapshot}
 use Rattle.model.proofs.KeyedLaws.{rising-keys}
 use Rattle.model.proofs.SetLaws.{rising-ups}
+use Rattle.packed.specs.Parse.{got}
 use Rattle.ontology.specs.Table.{EventType, Table, isVersioned}
 use Rattle.ontology.specs.declared.types.TypeIndex.{TypeIndex}
 use Rattle.ontology.proofs.TableLaws.{TypeKept, extreme-ordered}
+use Rattle.dossier.specs.DossierBody.{readSnapshot}
 use Rattle.dossier.specs.DossierQuestions.{TypedDossier, snapshotValues, dossierMatch, dossiersAgree}
 use Rattle.dossier.specs.code.DossierIndex.{noSnapshot, snapshotFits}
 use Rattle.dossier.specs.declared.dossiers.DossierIndex.{DossierIndex}
@@ -45,34 +47,44 @@ module _ {table a b : List ℕ} {t : TypeIndex} {ps : List ℕ} (k : Known table
   kept = taken-kept left-taken table (k .is)
 
 module _
-    {table a : List ℕ} {d : DossierIndex} {left b : List ℕ} {e : DossierIndex} {right : List ℕ} {t : TypeIndex} {ps : List ℕ}
-    (c : Combinable table a d left b e right t ps)
-    (i j : ℕ) (l : i < length (c .known .left .headed .snapshots)) (m : j < length (c .known .right .headed .snapshots)) where
+    {table a b : List ℕ} {t : TypeIndex} {ps : List ℕ} (k : Known table a b t ps)
+    (i j : ℕ) (l : i < length (k .left .headed .snapshots)) (m : j < length (k .right .headed .snapshots)) where
   abbrev leftOne : Snapshot
-  leftOne = getD (c .known .left .headed .snapshots) i noSnapshot
+  leftOne = getD (k .left .headed .snapshots) i noSnapshot
 
   abbrev rightOne : Snapshot
-  rightOne = getD (c .known .right .headed .snapshots) j noSnapshot
+  rightOne = getD (k .right .headed .snapshots) j noSnapshot
 
-  fitting : leftOne .version ≡ rightOne .version → Fitting (c .known .left .type) leftOne rightOne
-  fitting h = record {
-    left-fits = taken-fits (left-taken (c .known)) i l;
-    right-fits = subst (λ (t : EventType). snapshotFits t rightOne ≡ true) (sym (same-type (c .known))) (taken-fits (right-taken (c .known)) j m);
-    left-values = taken-values (left-taken (c .known)) i l;
-    right-values = subst (λ (t : EventType). snapshotValues t rightOne ≡ true) (sym (same-type (c .known))) (taken-values (right-taken (c .known)) j m);
+  fitting : leftOne .version < 2 ^ 64 → leftOne .version ≡ rightOne .version → Fitting (k .left .type) leftOne rightOne
+  fitting z h = record {
+    left-fits = taken-fits (left-taken k) i l;
+    right-fits = subst (λ (t : EventType). snapshotFits t rightOne ≡ true) (sym (same-type k)) (taken-fits (right-taken k) j m);
+    left-values = taken-values (left-taken k) i l;
+    right-values = subst (λ (t : EventType). snapshotValues t rightOne ≡ true) (sym (same-type k)) (taken-values (right-taken k) j m);
     same = h;
-    below = snapshot-was (drop (getD (d .starts) i 0) a) leftOne (drop (getD (d .ends) i 0) a) (c .left-read .snapshots .each i l .is) .1 .version;
-    ordered = λ p q x y. extreme-ordered (isVersioned (c .known .left .type)) q (kept (c .known) .fits p q x) y;
+    below = z;
+    ordered = λ p q x y. extreme-ordered (isVersioned (k .left .type)) q (kept k .fits p q x) y;
   }
 
-  -- two snapshots of one version, each read from where it starts
-  pub meet : leftOne .version ≡ rightOne .version → Meet (c .known .left .type) leftOne rightOne
-  meet h = record {
-    fitting = fitting h;
-    left-bytes = drop (getD (d .starts) i 0) a;
-    left-rest = drop (getD (d .ends) i 0) a;
-    left-read = c .left-read .snapshots .each i l .is;
-    right-bytes = drop (getD (e .starts) j 0) b;
-    right-rest = drop (getD (e .ends) j 0) b;
-    right-read = c .right-read .snapshots .each j m .is;
+  -- two snapshots of one version, each read from some bytes
+  pub known-meet :
+      (p q r s : List ℕ) → readSnapshot p ≡ got leftOne q → readSnapshot r ≡ got rightOne s → leftOne .version ≡ rightOne .version →
+      Meet (k .left .type) leftOne rightOne
+  known-meet p q r s x y h = record {
+    fitting = fitting (snapshot-was p leftOne q x .1 .version) h;
+    left-bytes = p;
+    left-rest = q;
+    left-read = x;
+    right-bytes = r;
+    right-rest = s;
+    right-read = y;
   }
+
+-- and where each stands in its dossier
+pub meet :
+    {table a : List ℕ} {d : DossierIndex} {left b : List ℕ} {e : DossierIndex} {right : List ℕ} {t : TypeIndex} {ps : List ℕ}
+    (c : Combinable table a d left b e right t ps)
+    (i j : ℕ) (l : i < length (c .known .left .headed .snapshots)) (m : j < length (c .known .right .headed .snapshots)) →
+    leftOne (c .known) i j l m .version ≡ rightOne (c .known) i j l m .version →
+    Meet (c .known .left .type) (leftOne (c .known) i j l m) (rightOne (c .known) i j l m)
+meet c i j l m = known-meet (c .known) i j l m _ _ _ _ (c .left-read .snapshots .each i l .is) (c .right-read .snapshots .each j m .is)

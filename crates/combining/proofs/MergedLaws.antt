@@ -27,7 +27,8 @@ use Rattle.ontology.specs.code.TypeIndex.{TypeIs}
 use Rattle.ontology.specs.declared.types.TypeIndex.{TypeIndex}
 use Rattle.event.specs.Event.{typeView}
 use Rattle.event.specs.Head.{Head}
-use Rattle.event.specs.code.EventIndex.{HeadParts}
+use Rattle.event.specs.code.EventIndex.{HeadIs, HeadParts}
+use Rattle.event.specs.declared.head.HeadAt.{HeadAt}
 use Rattle.event.proofs.HeadLayoutLaws.{hashes-size}
 use Rattle.unions.proofs.RunLaws.{part-then}
 use Rattle.dossier.specs.DossierLayout.{Headed, dossierBytes}
@@ -39,7 +40,7 @@ use Rattle.dossier.proofs.VersionLaws.{cells-are}
 use Rattle.dossier.specs.DossierHead.{dossierHeadBytes}
 use Rattle.combining.proofs.RoomLaws.{combined-parents}
 use Rattle.combining.specs.CombineCall.{headedAs, combined}
-use Rattle.combining.specs.code.CombineIndex.{Combinable, Meet, Shared, AgreedRoom, JoinedRoom}
+use Rattle.combining.specs.code.CombineIndex.{Known, Combinable, Meet, Shared, AgreedRoom, JoinedRoom}
 use Rattle.combining.specs.code.WriteIndex.{SharedRoom, bytesFrom, RestRoom, HeadsAre, bothHeads}
 use Rattle.combining.proofs.MeetLaws.{versionIn, taken-rises, left-taken, right-taken, meet}
 use Rattle.combining.proofs.CountLaws.{versionAt, version-at}
@@ -250,6 +251,52 @@ merge-at ty xs ys i j l m hx hy =
         mergedOf ty zs ws ≡ nextSnapshot ty x y ∷ mergedOf ty (drop (stepBy (x .version) (y .version)) zs) (drop (stepBy (y .version) (x .version)) ws)
     go zs ws {x} {y} {us} {vs} e f hx hy = rw (e, f) (merge-next ty x us y vs (rw e at hx) (rw f at hy))
 
+-- ---- the heads of both sides
+
+pub known-heads :
+    {table a b : List ℕ} {t : TypeIndex} {ps : List ℕ} (k : Known table a b t ps) →
+    fits standard (typeView (k .left .type)) (combined (k .left) (k .right)) ≡ true → {r s : List ℕ} {x y : HeadAt} →
+    HeadIs r (k .left .headed .head) x → HeadIs s (k .right .headed .head) y → HeadsAre r x s y (k .left .headed .head) (k .right .headed .head)
+unfolding combined combine
+known-heads k inside p q =
+    let x = left-hashes k in
+    let y = right-hashes k in
+    let both = combined-parents k inside in
+    record {
+      left = p;
+      right = q;
+      left-each = x .0;
+      right-each = y .0;
+      left-rise = x .1;
+      right-rise = y .1;
+      few = both .within;
+      both-each = both .each;
+    }
+
+-- ---- a combined dossier: its head, how many snapshots it has, and these
+
+module _
+    {table a b : List ℕ} {t : TypeIndex} {ps : List ℕ} (k : Known table a b t ps)
+    (n : ℕ) (is : n ≡ length (combined (k .left) (k .right) .snapshots)) where
+  abbrev wholeHead : List ℕ
+  wholeHead = dossierHeadBytes (bothHeads (k .left .headed .head) (k .right .headed .head))
+
+  abbrev wholeSnapshots : List ℕ
+  wholeSnapshots = flatten (map snapshotBytes (combined (k .left) (k .right) .snapshots))
+
+  pub known-length :
+      length (dossierBytes (headedAs (k .left .headed) (combined (k .left) (k .right))))
+      ≡ length wholeHead + length (number n) + length wholeSnapshots
+  unfolding dossierBytes bodyBytes combined combine
+  known-length = rw is (simp length-append (omega arith))
+
+  pub known-wrote :
+      {l l₁ l₂ l₃ : List ℕ} {x y z : ℕ} → Wrote l 0 wholeHead l₁ x → Wrote l₁ x (number n) l₂ y → Wrote l₂ y wholeSnapshots l₃ z →
+      Wrote l 0 (dossierBytes (headedAs (k .left .headed) (combined (k .left) (k .right)))) l₃ z
+  unfolding dossierBytes bodyBytes combined combine
+  known-wrote {l} {l₁} {l₂} {l₃} {x} {y} {z} p q r =
+      wrote-then p (wrote-then (subst (λ (k : ℕ). Wrote l₁ x (number k) l₂ y) is q) r)
+
 module _
     {table a left b right : List ℕ} {d e : DossierIndex} {t : TypeIndex} {ps : List ℕ} (c : Combinable table a d left b e right t ps) where
   abbrev lefts : List Snapshot
@@ -452,21 +499,9 @@ module _
   rightHead = c .known .right .headed .head
 
   pub heads-are :
-      fits standard (typeView (c .known .left .type)) (combined (c .known .left) (c .known .right)) ≡ true → HeadsAre a d b e leftHead rightHead
-  unfolding combined combine
-  heads-are inside =
-      let x = left-hashes c in
-      let y = right-hashes c in
-      record {
-        left = c .left-read .head;
-        right = c .right-read .head;
-        left-each = x .0;
-        right-each = y .0;
-        left-rise = x .1;
-        right-rise = y .1;
-        few = combined-parents c inside .within;
-        both-each = combined-parents c inside .each;
-      }
+      fits standard (typeView (c .known .left .type)) (combined (c .known .left) (c .known .right)) ≡ true →
+      HeadsAre a (d .head) b (e .head) leftHead rightHead
+  heads-are inside = known-heads (c .known) inside (c .left-read .head) (c .right-read .head)
 
   -- ---- the whole
 
@@ -476,21 +511,22 @@ module _
   pub versions-counted :
       (n : ℕ) → n ≡ length (union numbers (versionNumbers (take (d .count) (d .versions))) (versionNumbers (take (e .count) (e .versions)))) →
       n ≡ length (combined (c .known .left) (c .known .right) .snapshots)
-  versions-counted n h = h ∙ sym (whole-versions c)
+  versions-counted n h = h ∙ whole-versions c
 
   module _ (n : ℕ) (is : n ≡ length (combined (c .known .left) (c .known .right) .snapshots)) where
-    pub combined-length : length (dossierBytes (headedAs (c .known .left .headed) (combined (c .known .left) (c .known .right)))) ≡ length headPart + length (number n) + length snapshotsPart
-    unfolding dossierBytes bodyBytes combined combine
-    combined-length = rw is (simp length-append (omega arith))
+    abbrev pub combined-length :
+        length (dossierBytes (headedAs (c .known .left .headed) (combined (c .known .left) (c .known .right))))
+        ≡ length headPart + length (number n) + length snapshotsPart
+    combined-length = known-length (c .known) n is
 
-    pub wrote-combined : {l l₁ l₂ l₃ : List ℕ} {x y z : ℕ} → Wrote l 0 headPart l₁ x → Wrote l₁ x (number n) l₂ y → Wrote l₂ y snapshotsPart l₃ z → Wrote l 0 (dossierBytes (headedAs (c .known .left .headed) (combined (c .known .left) (c .known .right)))) l₃ z
-    unfolding dossierBytes bodyBytes combined combine
-    wrote-combined {l} {l₁} {l₂} {l₃} {x} {y} {z} p q r =
-        wrote-then p (wrote-then (subst (λ (k : ℕ). Wrote l₁ x (number k) l₂ y) is q) r)
+    abbrev pub wrote-combined :
+        {l l₁ l₂ l₃ : List ℕ} {x y z : ℕ} → Wrote l 0 headPart l₁ x → Wrote l₁ x (number n) l₂ y → Wrote l₂ y snapshotsPart l₃ z →
+        Wrote l 0 (dossierBytes (headedAs (c .known .left .headed) (combined (c .known .left) (c .known .right)))) l₃ z
+    wrote-combined = known-wrote (c .known) n is
 
 -- ---- the union of the parents, made apart
 
-pub union-room : {a b : List ℕ} {d e : DossierIndex} {g h : Head} → HeadsAre a d b e g h → length (flatten (union texts (g .parents) (h .parents))) ≤ 640
+pub union-room : {a b : List ℕ} {x y : HeadAt} {g h : Head} → HeadsAre a x b y g h → length (flatten (union texts (g .parents) (h .parents))) ≤ 640
 union-room {g = g} {h = h} w = omega (arith, w .few, hashes-size (union texts (g .parents) (h .parents)) (w .both-each))
 
 -- the bytes in front of where it ends are the hashes
@@ -501,6 +537,6 @@ union-part {l} {xs} {l₁} {n} r w =
     (omega (arith, w .after, wrote-length w), ap (take (n - 0)) e ∙ take-at xs (drop n l) (n - 0) (sym k))
 
 pub both-parts :
-    {a b name source hashes : List ℕ} {d e : DossierIndex} {g h : Head} → HeadsAre a d b e g h →
+    {a b name source hashes : List ℕ} {x y : HeadAt} {g h : Head} → HeadsAre a x b y g h →
     name ≡ g .type → source ≡ g .source → hashes ≡ flatten (union texts (g .parents) (h .parents)) → HeadParts name source hashes (bothHeads g h)
 both-parts w x y z = record { type = x; uri = y; parents = z; each = w .both-each }

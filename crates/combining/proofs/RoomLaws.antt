@@ -33,10 +33,9 @@ use Rattle.dossier.proofs.DossierBodyLaws.{SnapshotWritten, snapshot-cells}
 use Rattle.dossier.proofs.DossierSizeLaws.{held-objects, versioned-objects}
 use Rattle.dossier.proofs.DossierQuestionLaws.{agree-exact}
 use Rattle.dossier.proofs.AcceptedLaws.{DossierTaken, one-type, taken-written, taken-name, taken-short, taken-sizes}
-use Rattle.dossier.specs.declared.dossiers.DossierIndex.{DossierIndex}
 use Rattle.dossier.proofs.DossierHeadLaws.{dossier-head-size}
 use Rattle.combining.specs.CombineCall.{headedAs, combined}
-use Rattle.combining.specs.code.CombineIndex.{Combinable}
+use Rattle.combining.specs.code.CombineIndex.{Known}
 use Rattle.combining.proofs.MeetLaws.{left-taken, right-taken}
 
 -- ---- sets with values of at most 120 bytes
@@ -206,17 +205,12 @@ module _ (table r s : List ℕ) (types : Table) (a b : TypedDossier) (t : tableO
         snapshots-size (isVersioned (a .type)) ss together-small most,
       ))
 
--- the same of what combining has read
-pub combined-room :
-    {table a left b right : List ℕ} {d e : DossierIndex} {t : TypeIndex} {ps : List ℕ} (h : Combinable table a d left b e right t ps) →
-    fits standard (typeView (h .known .left .type)) (combined (h .known .left) (h .known .right)) ≡ true →
-    length (dossierBytes (headedAs (h .known .left .headed) (combined (h .known .left) (h .known .right)))) ≤ dossierCapacity
-combined-room {table} {a} {b = b} h f =
-    let k = h .known in combined-short table a b (k .types) (k .left) (k .right) (k .is) (left-taken k) (right-taken k) (k .agree) f
+-- the same of two dossiers of which questions 2 to 7 are answered yes
+module _
+    {table a b : List ℕ} {t : TypeIndex} {ps : List ℕ} (k : Known table a b t ps)
+    (f : fits standard (typeView (k .left .type)) (combined (k .left) (k .right)) ≡ true) where
+  pub combined-room : length (dossierBytes (headedAs (k .left .headed) (combined (k .left) (k .right)))) ≤ dossierCapacity
+  combined-room = combined-short table a b (k .types) (k .left) (k .right) (k .is) (left-taken k) (right-taken k) (k .agree) f
 
-pub combined-parents :
-    {table a left b right : List ℕ} {d e : DossierIndex} {t : TypeIndex} {ps : List ℕ} (h : Combinable table a d left b e right t ps) →
-    fits standard (typeView (h .known .left .type)) (combined (h .known .left) (h .known .right)) ≡ true →
-    ParentsWritten 32 (combined (h .known .left) (h .known .right) .parents)
-combined-parents {table} {a} {b = b} h f =
-    let k = h .known in parents-written table a b (k .types) (k .left) (k .right) (k .is) (left-taken k) (right-taken k) (k .agree) f
+  pub combined-parents : ParentsWritten 32 (combined (k .left) (k .right) .parents)
+  combined-parents = parents-written table a b (k .types) (k .left) (k .right) (k .is) (left-taken k) (right-taken k) (k .agree) f

@@ -1,4 +1,4 @@
-ghost use Prim.Native.Nat.{_≤_};
+ghost use Prim.Native.Nat.{_-_, _≤_};
 ghost use mathlib.Core.Path.{_≡_};
 ghost use lib.ListN.{length};
 ghost use Rattle.packed.specs.code.Written.{Wrote};
@@ -6,8 +6,11 @@ ghost use Rattle.replies.specs.Capacities.{dossierCapacity};
 ghost use Rattle.replies.specs.Replies.{replies};
 ghost use Rattle.event.specs.Event.{Event, versionOf};
 ghost use Rattle.event.specs.code.EventIndex.{EventIs};
-ghost use Rattle.combining.specs.CheckCall.{checkCall};
-ghost use Rattle.combining.specs.code.CheckIndex.{Checkable, KnownEvent, LoneRoom, loneBytes};
+ghost use Rattle.combining.specs.CheckCall.{checkCall, eventDossier};
+ghost use Rattle.combining.specs.code.AddIndex.{Measured};
+ghost use Rattle.combining.specs.code.CheckIndex.{Checkable, KnownEvent, AloneRoom, LoneRoom, aloneBytes, loneBytes};
+use crate::add::Added;
+use crate::measures::measures_of;
 use dossier::head::write_dossier_head;
 use event::ask::EventCounts;
 use event::ask::ask_event;
@@ -27,7 +30,7 @@ use values::numerals::numeral_of;
 use values::versions::EventVersion;
 
 // An event's version: the number in its marked property, or 0 where its type has none.
-fn version_of(event: &[u8], t: TypeIndex, sets: &[usize]) -> EventVersion
+pub fn version_of(event: &[u8], t: TypeIndex, sets: &[usize]) -> EventVersion
     requires { ⌜ (length (now sets) ≡ 96) × Checkable (now event) t (now sets) ⌝ }
     ensures { λ r. ⌜ ((h : Checkable (now (event .entry)) t (now (sets .entry))) → r .0 ≡ versionOf (h .type) (h .event)) ⌝ }
 {
@@ -39,28 +42,53 @@ fn version_of(event: &[u8], t: TypeIndex, sets: &[usize]) -> EventVersion
     EventVersion(numeral_of(value_in(set_part(event, x), 0)))
 }
 
-// Writes the dossier of one event at the front of `out`: its head, the numbers of its snapshot, and all its sets.
+// Where the only snapshot of a dossier stands in its bytes, of which it is the end.
+struct LoneAt {
+    start: usize,
+    end: usize,
+}
+
+// Writes the snapshot of an event: its version, its presence and differ numbers, and all its sets.
+pub fn write_alone(
+    event: &[u8],
+    e: EventIndex,
+    sets: &[usize],
+    version: EventVersion,
+    out: &mut [u8],
+    at: usize,
+) -> usize
+    requires { ⌜ (length (now sets) ≡ 96) × AloneRoom (now event) e (now sets) (version .0) at (length (now out)) ⌝ }
+    ensures { λ r. ⌜ ((h : Event) → EventIs (now (event .entry)) h e (now (sets .entry))
+        → Wrote (now (out .entry)) at (aloneBytes h (version .0)) (now (out .exit)) r) ⌝ }
+{
+    let after_version = write_number(out, at, version.0);
+    let after_presence = write_number(out, after_version, e.presence);
+    let after_differ = write_number(out, after_presence, 0);
+    write_sets(event, sets, e.presence, out, after_differ)
+}
+
+// Writes the dossier of one event at the front of `out`: its head, and its snapshot.
 fn write_lone(
     event: &[u8],
     e: EventIndex,
     sets: &[usize],
     version: EventVersion,
     out: &mut [u8],
-) -> usize
+) -> LoneAt
     requires { ⌜ (length (now sets) ≡ 96) × LoneRoom (now event) e (now sets) (version .0) (length (now out)) ⌝ }
     ensures { λ r. ⌜ ((h : Event) → EventIs (now (event .entry)) h e (now (sets .entry))
-        → Wrote (now (out .entry)) 0 (loneBytes h (version .0)) (now (out .exit)) r) ⌝ }
+        → Wrote (now (out .entry)) 0 (loneBytes h (version .0)) (now (out .exit)) (r .end)) ⌝ }
+    ensures size { λ r. ⌜ ((h : Event) → EventIs (now (event .entry)) h e (now (sets .entry))
+        → (r .start ≤ r .end) × (length (aloneBytes h (version .0)) ≡ r .end - r .start)) ⌝ }
 {
     let head = e.head;
     let name = text_part(event, head.name);
     let source = text_part(event, head.source);
     let hashes = hashes_part(event, head.parents);
     let after_head = write_dossier_head(name, source, hashes, out);
-    let after_count = write_number(out, after_head, 1);
-    let after_version = write_number(out, after_count, version.0);
-    let after_presence = write_number(out, after_version, e.presence);
-    let after_differ = write_number(out, after_presence, 0);
-    write_sets(event, sets, e.presence, out, after_differ)
+    let start = write_number(out, after_head, 1);
+    let end = write_alone(event, e, sets, version, out, start);
+    LoneAt { start, end }
 }
 
 // The dossier of an event, written at the front of `out`.
@@ -83,16 +111,22 @@ pub fn check_event(table: &[u8], event: &[u8], out: &mut [u8]) -> Reply
         return Reply::Refused(asked.number);
     }
     let version = version_of(event, asked.event_type, &sets);
-    Reply::Done(write_lone(event, asked.event, &sets, version, out))
+    let lone = write_lone(event, asked.event, &sets, version, out);
+    Reply::Done(lone.end)
 }
 
-// The same of an event that is known to be accepted, with the type t.
-pub fn check_known(table: &[u8], event: &[u8], t: TypeIndex, out: &mut [u8]) -> Reply
+// The same of an event that is known to be accepted, with the type t; and the measures of its dossier.
+pub fn check_known(table: &[u8], event: &[u8], t: TypeIndex, out: &mut [u8]) -> Added
     requires { ⌜ KnownEvent (now table) (now event) t × (dossierCapacity ≤ length (now out)) ⌝ }
-    ensures { λ r. ⌜ replies r (now (out .exit)) ≡ checkCall (now (table .entry)) (now (event .entry)) (now (out .entry)) ⌝ }
+    ensures { λ r. ⌜ replies (r .reply) (now (out .exit)) ≡ checkCall (now (table .entry)) (now (event .entry)) (now (out .entry)) ⌝ }
+    ensures measured { λ r. ⌜ ((k : KnownEvent (now (table .entry)) (now (event .entry)) t) → Measured (eventDossier (k .event) .snapshots) (r .measures)) ⌝ }
 {
     let mut sets = [0usize; 96];
     let e = read_event(event, 8, 32, &mut sets);
     let version = version_of(event, t, &sets);
-    Reply::Done(write_lone(event, e, &sets, version, out))
+    let lone = write_lone(event, e, &sets, version, out);
+    Added {
+        reply: Reply::Done(lone.end),
+        measures: measures_of(version, lone.end - lone.start),
+    }
 }

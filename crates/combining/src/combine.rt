@@ -13,12 +13,11 @@ ghost use Rattle.dossier.specs.DossierLayout.{dossierOf};
 ghost use Rattle.dossier.specs.DossierQuestions.{dossierAsked};
 ghost use Rattle.dossier.specs.code.DossierIndex.{DossierReads};
 ghost use Rattle.combining.specs.CombineCall.{combineCall};
-ghost use Rattle.combining.specs.code.CombineIndex.{NumberIs, Known, Combinable};
+ghost use Rattle.combining.specs.code.CombineIndex.{NumberIs, Combinable};
 use crate::limits::limits_fit;
 use crate::write::write_combined;
 use dossier::dossiers::DossierIndex;
 use dossier::dossiers::read_dossier;
-use dossier::dossiers::read_known;
 use dossier::questions::ask_dossier;
 use dossier::questions::dossiers_agree;
 use dossier::questions::type_name;
@@ -105,34 +104,4 @@ pub fn combine<'a>(table: &[u8], a: &'a [u8], b: &'a [u8], out: &mut [u8]) -> Co
         return Combined::Refused(7);
     }
     combine_read(table, a, d, &left, b, e, &right, t, &properties, out)
-}
-
-// The same of two dossiers of which questions 2 to 7 are known to be answered yes.
-pub fn combine_known<'a>(
-    table: &[u8],
-    left: &'a [u8],
-    right: &'a [u8],
-    t: TypeIndex,
-    properties: &[usize],
-    out: &mut [u8],
-) -> Combined
-    requires { ⌜ Known (now table) (now left) (now right) t (now properties) × (length (now properties) ≡ 96) × (dossierCapacity ≤ length (now out)) ⌝ }
-    ensures { λ r. ⌜ combineReplies r (now (out .exit)) ≡ combineCall standard (now (table .entry)) (now (left .entry)) (now (right .entry)) (now (out .entry)) ⌝ }
-{
-    let mut left_rows = [0usize; 768];
-    let mut right_rows = [0usize; 768];
-    let d = read_known(left, &mut left_rows);
-    let e = read_known(right, &mut right_rows);
-    combine_read(
-        table,
-        left,
-        d,
-        &left_rows,
-        right,
-        e,
-        &right_rows,
-        t,
-        properties,
-        out,
-    )
 }

@@ -92,7 +92,7 @@ fn count_place(
 
 // Whether two unversioned snapshots of m and n objects have at most 256 when they are joined. They have no more than m and n together, so they are
 // counted only where that is above 256.
-fn objects_fit(
+pub fn objects_fit(
     a: &[u8],
     x: &[usize],
     m: usize,
@@ -126,7 +126,7 @@ fn objects_fit(
 }
 
 // Whether two sides have at most 32 parents together. They are counted only where those of each, added up, are more.
-fn parents_fit(a: &[u8], x: SetAt, b: &[u8], y: SetAt) -> bool
+pub fn parents_fit(a: &[u8], x: SetAt, b: &[u8], y: SetAt) -> bool
     ensures { λ r. ⌜ ((gs hs : List Text) → HashesAre (now (a .entry)) gs x → HashesAre (now (b .entry)) hs y → Hashes gs → Hashes hs
         → rising texts gs ≡ true → rising texts hs ≡ true → r ≡ leb (length (union texts gs hs)) 32) ⌝ }
 {

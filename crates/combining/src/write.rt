@@ -20,6 +20,7 @@ use crate::joined::write_joined;
 use crate::limits::count_versions;
 use dossier::dossiers::DossierIndex;
 use dossier::head::write_dossier_head;
+use event::head::HeadAt;
 use event::head::hashes_part;
 use event::head::text_part;
 use ontology::types::TypeIndex;
@@ -32,7 +33,7 @@ use unions::pair::write_hash_union;
 use values::versions::EventVersion;
 
 // Writes what two snapshots of one version are together, of which `left` and `right` are the bytes.
-fn write_shared<'a>(
+pub fn write_shared<'a>(
     version: EventVersion,
     a: &'a [u8],
     x: &[usize],
@@ -136,18 +137,11 @@ fn write_snapshots<'a>(
 
 // The head of the left side, with the parents of both. Their union is made apart first, since a head is written from hashes that stand one after the other;
 // it has at most 32, as question 8 was answered yes.
-fn write_heads<'a>(
-    a: &'a [u8],
-    d: DossierIndex,
-    b: &'a [u8],
-    e: DossierIndex,
-    out: &mut [u8],
-) -> usize
-    requires { ⌜ HeadsRoom (now a) d (now b) e (length (now out)) ⌝ }
-    ensures { λ r. ⌜ ((g h : Head) → HeadsAre (now (a .entry)) d (now (b .entry)) e g h → Wrote (now (out .entry)) 0 (dossierHeadBytes (bothHeads g h)) (now (out .exit)) r) ⌝ }
+pub fn write_heads<'a>(a: &'a [u8], x: HeadAt, b: &'a [u8], y: HeadAt, out: &mut [u8]) -> usize
+    requires { ⌜ HeadsRoom (now a) x (now b) y (length (now out)) ⌝ }
+    ensures { λ r. ⌜ ((g h : Head) → HeadsAre (now (a .entry)) x (now (b .entry)) y g h
+        → Wrote (now (out .entry)) 0 (dossierHeadBytes (bothHeads g h)) (now (out .exit)) r) ⌝ }
 {
-    let x = d.head;
-    let y = e.head;
     let mut hashes = [0u8; 640];
     let size = write_hash_union(
         hashes_part(a, x.parents),
@@ -180,7 +174,9 @@ pub fn write_combined<'a>(
 {
     let v = d.versions;
     let w = e.versions;
-    let after_head = write_heads(a, d, b, e, out);
+    let x = d.head;
+    let y = e.head;
+    let after_head = write_heads(a, x, b, y, out);
     let after_count = write_number(
         out,
         after_head,

@@ -2,7 +2,7 @@
 use mathlib.Core.Path.{_≡_, refl, sym, ap, ap₂, _∙_, subst, subst₂}
 use mathlib.Core.Logic.{⊎-elim}
 use mathlib.Core.Bool.{Bool, true, false}
-use mathlib.Core.Option.{Option, none, some}
+use mathlib.Core.Option.{Option, none}
 use mathlib.Core.List.{List, [], _∷_, _++_, append-nil, map, map-id}
 use Prim.Native.Nat.{ℕ, zero, suc, _+_, _-_, _*_, _≤_, _<_}
 use native.Mathlib.Omega.{arith}
@@ -12,7 +12,7 @@ use lib.Seq.{drop-cons, drop-length, getD-at, getD-set-same, getD-set-other, get
 use borrow.Author.Count.{below-more}
 use borrow.Rule.Slice.PartMut.{midOf, postOf, putMid, same-len-mid, mid-len}
 use Rattle.model.specs.Order.{numbers, rising}
-use Rattle.model.proofs.Cases.{three, never}
+use Rattle.model.proofs.Cases.{three}
 use Rattle.model.proofs.OrderLaws.{less-of, less-cmp}
 use Rattle.model.specs.Rule.{Snapshot, sizes}
 use Rattle.model.specs.Opening.{held}
@@ -28,7 +28,7 @@ use Rattle.values.specs.declared.versions.EventVersion.{EventVersion}
 use Rattle.ontology.proofs.RunLaws.{prepend, prepend-nil, prepend-one}
 use Rattle.event.specs.Head.{Head}
 use Rattle.event.specs.EventLayout.{bitNumber}
-use Rattle.event.specs.code.EventIndex.{SetsAre, Promised}
+use Rattle.event.specs.code.EventIndex.{SetsAre}
 use Rattle.event.specs.declared.head.HeadAt.{HeadAt}
 use Rattle.dossier.specs.declared.head.DossierHeadRead.{DossierHeadRead}
 use Rattle.dossier.specs.declared.head.DossierHeadRead.the-variants as read
@@ -36,7 +36,7 @@ use Rattle.dossier.specs.DossierHead.{readDossierHead}
 use Rattle.dossier.specs.DossierLayout.{Headed, readDossier, dossierOf}
 use Rattle.dossier.specs.DossierBody.{readSnapshot, differBit, snapshotBytes, readBody}
 use Rattle.dossier.specs.code.DossierIndex.{SnapshotAt, SnapshotStops, SnapshotReads, noSnapshot, versionNumbers, noVersion, rowOf, SnapshotsStop, SnapshotsSay}
-use Rattle.dossier.specs.code.DossierIndex.{DossierIs, DossierReads, IsDossier, DossierHeadStops, DossierHeadReads}
+use Rattle.dossier.specs.code.DossierIndex.{DossierIs, DossierReads, DossierHeadStops, DossierHeadReads}
 use Rattle.dossier.specs.declared.snapshots.SnapshotNumbers.{SnapshotNumbers}
 use Rattle.dossier.specs.declared.snapshots.SnapshotRead.{SnapshotRead}
 use Rattle.dossier.specs.declared.snapshots.SnapshotRead.the-variants.{Found, NoSnapshot}
@@ -228,10 +228,6 @@ module _ (p : Parse (List Snapshot)) (s rows : List ℕ) (r : SnapshotsRead) (n 
         w .rest
         ∙ ap (λ (m : ℕ). prepend (w .xs) (times readSnapshot m (drop next s))) (sym (one-more h))
         ∙ ap (prepend (w .xs)) (times-stop (n - (j + 1)) (drop next s) e)
-
-    -- a snapshot that is promised with the others is read
-    pub sofar-promised : {known : Bool} → Promised known p → Promised known (readSnapshot (drop next s))
-    sofar-promised q k e = q k (sofar-bad e)
 
     -- the next snapshot is read, and its row is put among the others
     module _
@@ -440,10 +436,6 @@ module _ (s : List ℕ) (x : HeadAt) (end : ℕ) (w : DossierHeadStops (readDoss
 
     none-there : times readSnapshot n (drop at s) ≡ fail → dossierOf standard s ≡ none
     none-there e = no-dossier s (times-all ∙ rw e)
-
-    -- where the bytes are known to be a dossier, its snapshots are promised
-    pub all-promised : {known : Bool} → (known ≡ true → IsDossier s) → Promised known (times readSnapshot n (drop at s))
-    all-promised d k e = let z : none ≡ some (d k .what) = sym (none-there e) ∙ d k .is in never (cc z)
 
     module _ (rows : List ℕ) (r : SnapshotsRead) (v : SnapshotsSay (times readSnapshot n (drop at s)) s rows r) where
       pub no-snapshots : r .ok ≡ false → dossierOf standard s ≡ none

@@ -5,10 +5,9 @@ ghost use lib.ListN.{length, take, drop};
 ghost use Rattle.model.specs.Order.{numbers, rising};
 ghost use Rattle.model.specs.Limits.{standard};
 ghost use Rattle.packed.specs.Parse.{times};
-ghost use Rattle.event.specs.code.EventIndex.{Promised};
 ghost use Rattle.dossier.specs.DossierLayout.{dossierOf};
 ghost use Rattle.dossier.specs.DossierBody.{readSnapshot};
-ghost use Rattle.dossier.specs.code.DossierIndex.{versionNumbers, SnapshotsSay, DossierReads, IsDossier};
+ghost use Rattle.dossier.specs.code.DossierIndex.{versionNumbers, SnapshotsSay, DossierReads};
 use crate::head::DossierHeadRead;
 use crate::head::read_dossier_head;
 use crate::snapshots::SnapshotRead;
@@ -44,15 +43,8 @@ pub struct DossierIndex {
 }
 
 // So many snapshots, from `at` on.
-fn read_snapshots(
-    s: &[u8],
-    at: usize,
-    count: usize,
-    known: bool,
-    rows: &mut [usize],
-) -> SnapshotsRead
+fn read_snapshots(s: &[u8], at: usize, count: usize, rows: &mut [usize]) -> SnapshotsRead
     requires { ⌜ (at ≤ length (now s)) × (1 ≤ count) × (count ≤ 8) × (length (now rows) ≡ 768) ⌝ }
-    requires { ⌜ Promised known (times readSnapshot count (drop at (now s))) ⌝ }
     ensures { λ r. ⌜ SnapshotsSay (times readSnapshot count (drop at (now (s .entry)))) (now (s .entry)) (now (rows .exit)) r ⌝ }
 {
     let mut r = SnapshotsRead {
@@ -70,7 +62,7 @@ fn read_snapshots(
         let SnapshotRead::Found(x, end) = read_snapshot(
             s,
             next,
-            known,
+            false,
             &mut rows[96 * j..96 * j + 96],
         ) else {
             return r;
@@ -120,9 +112,9 @@ fn no_dossier() -> DossierIndex
     }
 }
 
-// The index of a dossier that the bytes are, to their exact end. Where they are known to be one, its values are not compared.
-fn index_dossier(s: &[u8], known: bool, rows: &mut [usize]) -> DossierIndex
-    requires { ⌜ (length (now rows) ≡ 768) × (known ≡ true → IsDossier (now s)) ⌝ }
+// The index of a dossier that the bytes are, to their exact end.
+pub fn read_dossier(s: &[u8], rows: &mut [usize]) -> DossierIndex
+    requires { ⌜ length (now rows) ≡ 768 ⌝ }
     ensures { λ r. ⌜ DossierReads (dossierOf standard (now (s .entry))) (now (s .entry)) (now (rows .exit)) r ⌝ }
 {
     let DossierHeadRead::Head(head, after_head) = read_dossier_head(s) else {
@@ -132,7 +124,7 @@ fn index_dossier(s: &[u8], known: bool, rows: &mut [usize]) -> DossierIndex
         return no_dossier();
     };
     let count = number as usize;
-    let all = read_snapshots(s, after_count, count, known, rows);
+    let all = read_snapshots(s, after_count, count, rows);
     if !all.ok {
         return no_dossier();
     }
@@ -157,20 +149,4 @@ fn index_dossier(s: &[u8], known: bool, rows: &mut [usize]) -> DossierIndex
         differs,
         objects,
     }
-}
-
-// The index of a dossier that the bytes are.
-pub fn read_dossier(s: &[u8], rows: &mut [usize]) -> DossierIndex
-    requires { ⌜ length (now rows) ≡ 768 ⌝ }
-    ensures { λ r. ⌜ DossierReads (dossierOf standard (now (s .entry))) (now (s .entry)) (now (rows .exit)) r ⌝ }
-{
-    index_dossier(s, false, rows)
-}
-
-// The index of bytes that are known to be a dossier.
-pub fn read_known(s: &[u8], rows: &mut [usize]) -> DossierIndex
-    requires { ⌜ (length (now rows) ≡ 768) × IsDossier (now s) ⌝ }
-    ensures { λ r. ⌜ DossierReads (dossierOf standard (now (s .entry))) (now (s .entry)) (now (rows .exit)) r ⌝ }
-{
-    index_dossier(s, true, rows)
 }

@@ -1,10 +1,10 @@
 -- What the code holds of a batch, and what it answers.
-use Prim.Native.Nat.{ℕ, _-_, _≤_, _<_}
+use Prim.Native.Nat.{ℕ, _≤_, _<_}
 use mathlib.Core.Path.{_≡_}
 use mathlib.Core.Bool.{Bool, true, false, cond, not, _&&_}
 use mathlib.Core.Option.{Option, none, some}
 use mathlib.Core.List.{List, [], _∷_}
-use lib.ListN.{length, take, getD}
+use lib.ListN.{length, getD}
 use lib.Dec.{eqb}
 use Rattle.model.specs.Limits.{standard}
 use Rattle.model.specs.Order.{Text}
@@ -26,6 +26,8 @@ use Rattle.event.specs.code.EventIndex.{eventQuestions, EventAnswers}
 use Rattle.event.specs.declared.ask.EventAsked.{EventAsked}
 use Rattle.dossier.specs.DossierLayout.{dossierBytes}
 use Rattle.dossier.specs.DossierQuestions.{TypedDossier}
+use Rattle.combining.specs.code.AddIndex.{Measured}
+use Rattle.combining.specs.declared.measures.Measures.{Measures}
 use Rattle.batch.specs.Batch.{AskedAt, refusedAt, accepted, _>>=_, eventsAsked, agreeWith, together}
 use Rattle.batch.specs.declared.asked.EventsAsked.{EventsAsked}
 use Rattle.batch.specs.declared.frame.BatchIndex.{BatchIndex}
@@ -103,11 +105,10 @@ pub record FirstOf (table batch : List ℕ) (x : BatchIndex) (t : TypeIndex) (ps
   pub typed : FirstTyped table types events t ps
   pub within : n ≤ length events
 
--- and `sofar` is the dossier of those before the n-th
-pub record LastOf (table batch : List ℕ) (x : BatchIndex) (t : TypeIndex) (ps : List ℕ) (n : ℕ) (sofar : List ℕ) : Type 0 where
-  pub all : FirstOf table batch x t ps n
-  pub more : 2 ≤ n
-  pub before : combinedAnswer (all .types) (take (n - 1) (all .events)) ≡ gives sofar
+-- where the events ss were combined, m are the measures of their dossier
+unfoldable pub MeasuredFirst : Table → List (List ℕ) → reply.Reply → Measures → Type 0
+MeasuredFirst ts ss (replied.Done n) m = (d : TypedDossier) → (eventsAsked ts 0 ss >>= together standard) ≡ accepted d → Measured (d .headed .snapshots) m
+MeasuredFirst ts ss (replied.Refused n) m = Unit {0}
 
 -- what a call says that it wrote is inside its buffer
 unfoldable pub DoneWithin : reply.Reply → List ℕ → Type 0

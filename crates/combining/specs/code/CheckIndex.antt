@@ -1,5 +1,5 @@
 -- The dossier of one event, as it is written from the event's own bytes.
-use Prim.Native.Nat.{ℕ, _-_, _^_, _≤_, _<_}
+use Prim.Native.Nat.{ℕ, _+_, _-_, _^_, _≤_, _<_}
 use mathlib.Core.Path.{_≡_}
 use mathlib.Core.Bool.{true}
 use mathlib.Core.Option.{some}
@@ -18,12 +18,13 @@ use Rattle.event.specs.code.EventIndex.{SetsAre, EventIs}
 use Rattle.event.specs.declared.read.EventIndex.{EventIndex}
 use Rattle.dossier.specs.DossierHead.{dossierHeadBytes}
 
--- the head, one snapshot, its version, its presence and differ numbers, and its sets
+-- the snapshot of an event: its version, its presence and differ numbers, and its sets
+abbrev pub aloneBytes : Event → ℕ → List ℕ
+aloneBytes e version = number version ++ number (bitNumber (map presenceBit (e .sets))) ++ number 0 ++ setsBytes (e .sets)
+
+-- the head, and one snapshot
 unfoldable pub loneBytes : Event → ℕ → List ℕ
-loneBytes e version =
-    dossierHeadBytes (e .head)
-    ++ (number 1
-    ++ (number version ++ number (bitNumber (map presenceBit (e .sets))) ++ number 0 ++ setsBytes (e .sets)))
+loneBytes e version = dossierHeadBytes (e .head) ++ (number 1 ++ aloneBytes e version)
 
 -- t has the mark of the type of an event whose version is to be had, and whose sets stand where the numbers ats say
 pub record Checkable (bytes : List ℕ) (t : TypeIndex) (ats : List ℕ) : Type 0 where
@@ -33,6 +34,12 @@ pub record Checkable (bytes : List ℕ) (t : TypeIndex) (ats : List ℕ) : Type 
   pub sets : SetsAre bytes (event .sets) ats
   pub marked : isVersioned type ≡ true → (type .mark ≤ 32) × (setAt event (type .mark - 1) ≡ inDecimal (versionOf type event) ∷ [])
   pub below : versionOf type event < 2 ^ 64
+
+-- the snapshot has its room in an output of `size` bytes
+pub record AloneRoom (bytes : List ℕ) (e : EventIndex) (ats : List ℕ) (version at size : ℕ) : Type 0 where
+  pub event : Event
+  pub read : EventIs bytes event e ats
+  pub room : at + length (aloneBytes event version) ≤ size
 
 -- the dossier has its room in an output of `size` bytes
 pub record LoneRoom (bytes : List ℕ) (e : EventIndex) (ats : List ℕ) (version size : ℕ) : Type 0 where

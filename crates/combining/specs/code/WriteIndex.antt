@@ -16,6 +16,7 @@ use Rattle.ontology.specs.declared.types.TypeIndex.{TypeIndex}
 use Rattle.event.specs.Event.{typeView}
 use Rattle.event.specs.Head.{Head}
 use Rattle.event.specs.code.EventIndex.{HeadIs}
+use Rattle.event.specs.declared.head.HeadAt.{HeadAt}
 use Rattle.unions.specs.code.Runs.{Hashes}
 use Rattle.dossier.specs.DossierLayout.{Headed, dossierBytes}
 use Rattle.dossier.specs.DossierBody.{snapshotBytes}
@@ -53,10 +54,10 @@ pub record RestRoom (s : List ℕ) (d : DossierIndex) (i at size : ℕ) : Type 0
 abbrev pub bothHeads : Head → Head → Head
 bothHeads g h = record { type = g .type; source = g .source; parents = union texts (g .parents) (h .parents) }
 
--- the heads of two dossiers, with the hashes of their parents rising
-pub record HeadsAre (a : List ℕ) (d : DossierIndex) (b : List ℕ) (e : DossierIndex) (g h : Head) : Type 0 where
-  pub left : HeadIs a g (d .head)
-  pub right : HeadIs b h (e .head)
+-- the heads g and h stand in a and b where x and y say, with the hashes of their parents rising
+pub record HeadsAre (a : List ℕ) (x : HeadAt) (b : List ℕ) (y : HeadAt) (g h : Head) : Type 0 where
+  pub left : HeadIs a g x
+  pub right : HeadIs b h y
   pub left-each : Hashes (g .parents)
   pub right-each : Hashes (h .parents)
   pub left-rise : rising texts (g .parents) ≡ true
@@ -65,10 +66,10 @@ pub record HeadsAre (a : List ℕ) (d : DossierIndex) (b : List ℕ) (e : Dossie
   pub both-each : All (λ (p : Text). length p ≡ 20) (union texts (g .parents) (h .parents))
 
 -- what is written of them has its room in an output of `size` bytes
-pub record HeadsRoom (a : List ℕ) (d : DossierIndex) (b : List ℕ) (e : DossierIndex) (size : ℕ) : Type 0 where
+pub record HeadsRoom (a : List ℕ) (x : HeadAt) (b : List ℕ) (y : HeadAt) (size : ℕ) : Type 0 where
   pub left : Head
   pub right : Head
-  pub are : HeadsAre a d b e left right
+  pub are : HeadsAre a x b y left right
   pub room : length (dossierHeadBytes (bothHeads left right)) ≤ size
 
 -- the snapshots of both sides have their room

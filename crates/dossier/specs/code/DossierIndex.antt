@@ -7,7 +7,6 @@ use mathlib.Core.List.{List, [], map}
 use lib.ListN.{length, take, drop, getD}
 use lib.Dec.{leb, eqb}
 use Rattle.model.specs.Rule.{Cell, Snapshot, sizes}
-use Rattle.model.specs.Limits.{standard}
 use Rattle.model.specs.Opening.{held, isMark, cellAt}
 use Rattle.packed.specs.Parse.{Parse, fail, got, Layout, _>>=_, foundIf}
 use Rattle.packed.specs.Packed.{part}
@@ -24,7 +23,7 @@ use Rattle.event.specs.declared.head.HeadAt.{HeadAt}
 use Rattle.dossier.specs.declared.head.DossierHeadRead.{DossierHeadRead}
 use Rattle.dossier.specs.declared.head.DossierHeadRead.the-variants as read
 use Rattle.dossier.specs.DossierHead.{dossierHeadBytes}
-use Rattle.dossier.specs.DossierLayout.{Headed, dossierOf}
+use Rattle.dossier.specs.DossierLayout.{Headed}
 use Rattle.dossier.specs.DossierBody.{apart, cellsOf, areSmall, readSnapshot, differBit, snapshotBytes}
 use Rattle.dossier.specs.DossierQuestions.{eachCell, isVacant, isPresent, isLoneIfSingle, isLoneIfExtreme, isUnmarkedMatch, holdsVersion, TypedDossier}
 use Rattle.dossier.specs.declared.snapshots.NumbersAt.{NumbersAt}
@@ -152,11 +151,6 @@ pub record DossierIs (s : List ℕ) (h : Headed) (i : DossierIndex) : Type 0 whe
 unfoldable pub DossierReads : Option Headed → List ℕ → List ℕ → DossierIndex → Type 0
 DossierReads none s rows i = i .ok ≡ false
 DossierReads (some h) s rows i = (i .ok ≡ true) × DossierIs s h i × RowsAre s (h .snapshots) rows
-
--- the bytes are a dossier
-pub record IsDossier (s : List ℕ) : Type 0 where
-  pub what : Headed
-  pub is : dossierOf standard s ≡ some what
 
 -- ---- question 5 of a snapshot, place by place
 

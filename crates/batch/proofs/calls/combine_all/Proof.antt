@@ -1,45 +1,154 @@
-use borrow.Author.Needs.{needs}
-use mathlib.Core.Path.{_∙_}
-use Prim.Native.Nat.{_-_}
+-- As `combine_first` of all events, with the last step into the output: one event is checked. Of more, those before the last are combined; what that gave is
+-- what adding the last asks for (`last-addable`), and adding answers what the batch answers (`last-added`). Where those before the last are refused, so are
+-- all (`all-refused`).
+use Prim.Native.Nat.{ℕ, _-_, _≤_}
 use native.Mathlib.Omega.{arith}
-use Rattle.batch.proofs.BatchLaws.{known, event-known, check-one, first-done, fewer, last-of, stopped-exact, done-within, all-taken}
+use mathlib.Core.Path.{_≡_}
+use mathlib.Core.List.{List}
+use lib.ListN.{length}
+use denote.Ref.{now}
+use borrow.Author.Needs.{needs}
+use Rattle.replies.specs.Capacities.{dossierCapacity}
+use Rattle.replies.specs.declared.reply.Reply.{Reply}
+use Rattle.replies.specs.declared.reply.Reply.the-variants.{Done}
+use Rattle.combining.specs.declared.measures.Measures.{Measures}
+use Rattle.batch.specs.code.BatchIndex.{FirstOf}
+use Rattle.batch.specs.declared.frame.BatchIndex.{BatchIndex}
+use Rattle.batch.proofs.BatchLaws.{IsEvent, CombinedFirst, fewer, event-known, one-checked, all-refused, last-addable, last-added, all-taken}
+use Rattle.batch.proofs.BatchLaws.{done-within, taken-count}
 use Rattle.batch.proofs.calls.combine_all.Statement.{statement}
 use Rattle.batch.proofs.calls.combine_all.Tie as tie
-use Rattle.batch.proofs.calls.combine_all.Reads as reads
-use Rattle.batch.proofs.calls.combine_all.Lts as lts
-use Rattle.combining.proofs.check.check_known.Reads as check-known-reads
-use Rattle.batch.proofs.calls.add_last.Reads as add-last-reads
-use Rattle.batch.proofs.calls.combine_first.Reads as combine-first-reads
-use Rattle.batch.proofs.frame.event_part.Reads as event-part-reads
+
+-- ---- the places
+
+-- One event is taken at `After-event-part`. There are more at `Else1`; those before the last are combined at `After-combine-first`, and the last is taken at
+-- `After-event-part2`.
+abbrev taken-to-start : tie.After-event-part → tie.Start
+taken-to-start c = c .before .before .before .before .before .before .before .before .before
+
+abbrev more-to-start : tie.Else1 → tie.Start
+more-to-start c = c .before .before .before .before .before .before .before .before
+
+abbrev to-more : tie.After-combine-first → tie.Else1
+to-more c = c .before .before .before .before
+
+abbrev to-start : tie.After-combine-first → tie.Start
+to-start c = more-to-start (to-more c)
+
+abbrev to-reply : tie.After-event-part2 → tie.After-reply
+to-reply c = c .before .before
+
+abbrev to-combined : tie.After-event-part2 → tie.After-combine-first
+to-combined c = to-reply c .before .before .before .before .before .before .before .before
+
+abbrev added-to-taken : tie.After-add-event → tie.After-event-part2
+added-to-taken c = c .before .before .before .before
+
+abbrev to-added : tie.After-slice-known10 → tie.After-add-event
+to-added c = c .before .before .before .before
+
+abbrev refused-to-combined : tie.After-enum-told → tie.After-combine-first
+refused-to-combined c = c .before .before .before .before .before .before .before .before
+
+-- ---- the facts
+
+module _ (c : tie.Start) where
+  abbrev table : List ℕ
+  table = now (c .args .table)
+
+  abbrev batch : List ℕ
+  batch = now (c .args .batch)
+
+  abbrev x : BatchIndex
+  x = c .args .x
+
+  abbrev n : ℕ
+  n = x .count
+
+  first-of : FirstOf table batch x (c .args .t) (now (c .args .properties)) n
+  first-of = c .pre .1 .1
+
+  some : 1 ≤ n
+  some = first-of .agreed .isBatch .one
+
+  out-room : dossierCapacity ≤ length (now (c .args .out))
+  out-room = c .pre .0 .1
+
+module _ (c : tie.After-event-part) where
+  is-first : IsEvent (batch (taken-to-start c)) (x (taken-to-start c)) 1 (now (c .event-part .result))
+  is-first = c .event-part .ensures
+
+  is-one : n (taken-to-start c) ≡ 1
+  is-one = omega (arith, c .before .if1 .taken, some (taken-to-start c))
+
+two : (c : tie.Else1) → 2 ≤ n (more-to-start c)
+two c = omega (arith, c .if1 .left)
+
+module _ (c : tie.After-combine-first) where
+  abbrev r : Reply
+  r = c .combine-first .result .reply
+
+  abbrev m : Measures
+  m = c .combine-first .result .measures
+
+  -- what two of the buffers have then
+  abbrev a-after : List ℕ
+  a-after = c .combine-first .last .1 .1 .1 .1 .1 .1 .0
+
+  abbrev b-after : List ℕ
+  b-after = c .combine-first .last .1 .1 .1 .1 .1 .1 .1 .0
+
+  others : CombinedFirst (table (to-start c)) (batch (to-start c)) (x (to-start c)) (n (to-start c) - 1) r m a-after (now (to-start c .args .a))
+  others = let e = c .combine-first .ensures in record { within = e .0; first = e .1 .0; measured = e .1 .1 }
+
+  lone-room : dossierCapacity ≤ length b-after
+  lone-room = omega (arith, c .combine-first .kept .1 .1 .1 .1 .1 .1 .1 .0, to-start c .pre .1 .0 .1)
+
+module _ (c : tie.After-event-part2) where
+  abbrev size : ℕ
+  size = to-reply c .reply .given .0 .0
+
+  done : r (to-combined c) ≡ Done size
+  done = to-reply c .reply .given .1
+
+  size-within : size ≤ length (a-after (to-combined c))
+  size-within = done-within _ _ _ (others (to-combined c) .within) done
+
+  is-last : IsEvent (batch (to-start (to-combined c))) (x (to-start (to-combined c))) (n (to-start (to-combined c))) (now (c .event-part2 .result))
+  is-last = c .event-part2 .ensures
+
+-- ---- the needs
 
 event-part-requires : tie.Need-event-part-requires
 event-part-requires c κs = search needs
 
 check-known-requires : tie.Need-check-known-requires
 check-known-requires c κs =
-    let p = c .before .before .before .before .before .before .before .before .before .before .pre in
-    (event-known _ _ _ _ _ _ (p .1 .1) 1 _ (omega arith) (omega (arith, p .1 .1 .agreed .isBatch .one)) (c .before .event-part .ensures), p .0 .1)
+    let start = taken-to-start (c .before) in
+    (event-known _ _ _ _ _ _ (first-of start) 1 _ (omega arith) (some start) (is-first (c .before)), out-room start)
 
 same-length : tie.Need-same-length
 same-length c = search needs
 
 returns : tie.Need-returns
 returns c =
-    λ ts ss g.
-    check-one _ ts (g .isTable) ss (known ts ss (g .agreed)) (c .before .before .before .before .before .before .before .before .before .before .before .before .before .args .x .count) _ (c .before .before .before .before .before .before .before .before .before .before .before .before .before .args .out .now) (c .before .before .check-known .last .1 .1 .1 .0) (c .before .before .check-known .result) (omega (arith, c .before .before .before .before .before .if1 .taken, g .isBatch .one)) (omega (arith, g .isBatch .one, g .isBatch .count)) (c .before .before .before .before .before .before .before .before .before .before .before .before .before .pre .0 .1)
-    (c .before .before .before .before .event-part .ensures ss (g .isBatch) (omega (arith, g .isBatch .one, g .isBatch .count))) (c .before .before .check-known .ensures)
-    ∙ all-taken ts ss _ _ (g .isBatch .count)
+    let checked = c .before .before in
+    let taken = checked .before .before in
+    let start = taken-to-start taken in
+    let one = checked .check-known .result .reply in
+    all-taken _ _ (x start) one _ _
+    (one-checked _ _ _ _ _ (n start) (first-of start) _ _ _ one (is-one taken) (out-room start) (is-first taken) (checked .check-known .ensures .0))
 
 sub-combine-first : tie.Need-sub-combine-first
 sub-combine-first c = search needs
 
 combine-first-requires : tie.Need-combine-first-requires
 combine-first-requires c κs =
-    let a = c .before .before .before .before .before .before .before .before .before .before .before .args in
-    (search needs, (search needs, fewer _ _ _ _ _ (a .x .count) (c .before .before .before .before .before .before .before .before .before .before .before .pre .1 .1)))
+    let start = more-to-start (c .before .before .before) in
+    (search needs, (search needs, fewer _ _ _ _ _ (n start) (first-of start)))
 
-enum-known-others : tie.Need-enum-known-others
-enum-known-others c = search needs
+enum-known-reply : tie.Need-enum-known-reply
+enum-known-reply c = search needs
 
 enum-told : tie.Need-enum-told
 enum-told c = search needs
@@ -55,21 +164,32 @@ same-length-4 c = search needs
 
 returns-2 : tie.Need-returns-2
 returns-2 c =
-    λ ts ss g.
-    stopped-exact _ ts (g .isTable) ss (known ts ss (g .agreed)) (c .before .before .before .before .before .before .before .before .before .before .before .before .before .before .before .before .before .before .before .before .args .x .count - 1) (omega (arith, c .before .before .before .before .before .before .before .before .before .before .before .before .if1 .left)) (omega (arith, g .isBatch .count)) (c .before .before .before .before .before .before .before .before .combine-first .result) _ _
-    (c .before .before .before .before .before .before .before .before .combine-first .ensures .1 ts ss g (omega (arith, g .isBatch .count))) (c .before .before .before .before .before .before .before .before .before .before .before .before .before .before .before .before .before .before .before .before .args .x .count) _ _ (omega (arith, c .before .before .before .before .before .before .before .before .before .before .before .before .if1 .left)) (omega (arith, g .isBatch .count)) (c .enum-told .given .1)
-    ∙ all-taken ts ss _ _ (g .isBatch .count)
+    let combined = refused-to-combined c in
+    let start = to-start combined in
+    all-taken _ _ (x start) (r combined) _ _
+    (all-refused _ _ _ _ _ (n start) (first-of start) (two (to-more combined)) (r combined) (m combined) _ _ (others combined)
+    _ (now (start .args .out)) (c .enum-told .given .1))
 
-add-last-requires : tie.Need-add-last-requires
-add-last-requires c κs =
-    let a = c .before .before .before .before .before .before .before .before .before .before .before .before .before .before .before .before .before .before .before .before .before .before .before .before .args in
-    let i = c .before .before .before .before .before .before .before .before .before .before .before .before .combine-first in (
-      (omega (arith, c .before .before .before .before .before .before .before .before .before .before .before .before .before .before .before .before .if1 .left), c .before .before .before .before .before .before .before .before .before .before .before .before .before .before .before .before .before .before .before .before .before .before .before .before .pre .0 .0, done-within _ _ _ (c .before .before .before .before .before .before .before .before .before .before .before .before .combine-first .ensures .0) (c .before .before .before .before .others .given .1), c .before .before .before .before .before .before .before .before .before .before .before .before .before .before .before .before .before .before .before .before .before .before .before .before .pre .0 .2),
-      (
-        (omega (arith, c .before .before .before .before .before .before .before .before .before .before .before .before .combine-first .kept .1 .1 .1 .1 .1 .1 .1 .0, c .before .before .before .before .before .before .before .before .before .before .before .before .before .before .before .before .before .before .before .before .before .before .before .before .pre .1 .0 .1), c .before .before .before .before .before .before .before .before .before .before .before .before .before .before .before .before .before .before .before .before .before .before .before .before .pre .0 .1),
-        last-of _ _ _ _ _ (a .x .count) (c .before .before .before .before .before .before .before .before .before .before .before .before .before .before .before .before .before .before .before .before .before .before .before .before .pre .1 .1) _ _ _ (i .result) (omega (arith, c .before .before .before .before .before .before .before .before .before .before .before .before .before .before .before .before .if1 .left)) (i .ensures .1) (c .before .before .before .before .others .given .1),
-      ),
-    )
+sub-event-part : tie.Need-sub-event-part
+sub-event-part c = search needs
+
+event-part-requires-2 : tie.Need-event-part-requires-2
+event-part-requires-2 c κs = search needs
+
+slice-reshare-prefix-add-event : tie.Need-slice-reshare-prefix-add-event
+slice-reshare-prefix-add-event c = size-within c
+
+slice-aggregate-add-event : tie.Need-slice-aggregate-add-event
+slice-aggregate-add-event c = taken-count (size (c .before)) (a-after (to-combined (c .before))) (size-within (c .before))
+
+add-event-requires : tie.Need-add-event-requires
+add-event-requires c κs =
+    let taken = c .before .before .before in
+    let combined = to-combined taken in
+    let start = to-start combined in
+    let addable = last-addable _ _ _ _ _ (n start) (first-of start) (two (to-more combined)) (r combined) (m combined) _ _ (others combined)
+    (size taken) (done taken) _ (is-last taken) in
+    ((addable, start .pre .0 .2), (lone-room combined, out-room start))
 
 same-length-5 : tie.Need-same-length-5
 same-length-5 c = search needs
@@ -85,11 +205,14 @@ same-length-8 c = search needs
 
 returns-3 : tie.Need-returns-3
 returns-3 c =
-    λ ts ss g.
-    c .before .before .before .before .add-last .ensures .1 ts ss g (omega (arith, c .before .before .before .before .before .before .before .before .before .before .before .before .before .before .before .before .before .before .before .before .before .if1 .left)) (omega (arith, g .isBatch .count))
-    (first-done _ ts (g .isTable) ss (known ts ss (g .agreed)) (c .before .before .before .before .before .before .before .before .before .before .before .before .before .before .before .before .before .before .before .before .before .before .before .before .before .before .before .before .before .args .x .count - 1) (omega (arith, c .before .before .before .before .before .before .before .before .before .before .before .before .before .before .before .before .before .before .before .before .before .if1 .left)) (omega (arith, g .isBatch .count)) (c .before .before .before .before .before .before .before .before .before .before .before .before .before .before .before .before .before .combine-first .result) _ _
-    (c .before .before .before .before .before .before .before .before .before .before .before .before .before .before .before .before .before .combine-first .ensures .1 ts ss g (omega (arith, g .isBatch .count))) _ (c .before .before .before .before .before .before .before .before .before .others .given .1))
-    ∙ all-taken ts ss _ _ (g .isBatch .count)
+    let added = to-added c in
+    let taken = added-to-taken added in
+    let combined = to-combined taken in
+    let start = to-start combined in
+    let all = added .add-event .result .reply in
+    all-taken _ _ (x start) all _ _
+    (last-added _ _ _ _ _ (n start) (first-of start) (two (to-more combined)) (r combined) (m combined) _ _ (others combined)
+    (size taken) (done taken) _ (is-last taken) all _ (now (start .args .out)) (out-room start) (added .add-event .ensures .0))
 
 pub combine-all-spec : {M : Type 1} → statement M
 combine-all-spec =
@@ -101,13 +224,17 @@ combine-all-spec =
     returns
     sub-combine-first
     combine-first-requires
-    enum-known-others
+    enum-known-reply
     enum-told
     same-length-2
     same-length-3
     same-length-4
     returns-2
-    add-last-requires
+    sub-event-part
+    event-part-requires-2
+    slice-reshare-prefix-add-event
+    slice-aggregate-add-event
+    add-event-requires
     same-length-5
     same-length-6
     same-length-7

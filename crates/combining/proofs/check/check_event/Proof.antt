@@ -1,3 +1,5 @@
+-- `check::check_event` meets its contract: each question that is answered no refuses with its number, and the dossier of an event that is accepted has its room
+-- in the output and is what is written (`check-done`).
 use borrow.Author.Needs.{needs}
 use native.Mathlib.Omega.{arith}
 use mathlib.Core.Path.{_≡_}
@@ -95,7 +97,7 @@ returns-3 c =
     let v = to-version (written .before) in
     let a = event-taken (to-else v) in
     check-done _ _ _ a _ _ _
-    (room (to-if1 (to-asked (to-else v)))) (v .version-of .ensures (checkable a)) (written .write-lone .ensures _ (a .read))
+    (room (to-if1 (to-asked (to-else v)))) (v .version-of .ensures (checkable a)) (written .write-lone .ensures .0 _ (a .read))
 
 pub check-event-spec : {M : Type 1} → statement M
 check-event-spec =

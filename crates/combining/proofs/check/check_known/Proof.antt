@@ -1,10 +1,12 @@
+-- `check::check_known` meets its contract: the event is known to be accepted, so that it reads, its version is had, and what is written is its dossier
+-- (`check-done`). Its one snapshot is the last thing written, and by its version and its size it is measured (`lone-measured`).
 use borrow.Author.Needs.{needs}
 use mathlib.Core.Path.{_≡_}
 use mathlib.Core.List.{List}
 use Prim.Native.Nat.{ℕ}
 use lib.ListN.{length}
 use denote.Ref.{now}
-use Rattle.combining.proofs.CheckLaws.{Checked, known-checked, checkable, lone-room, check-done}
+use Rattle.combining.proofs.CheckLaws.{Checked, known-checked, checkable, lone-room, lone-measured, check-done}
 use Rattle.combining.proofs.check.check_known.Statement.{statement}
 use Rattle.combining.proofs.check.check_known.Tie as tie
 
@@ -18,6 +20,9 @@ to-read c = c .before .before .before
 
 abbrev to-version : tie.After-write-lone-arg → tie.After-version-of
 to-version c = c .before .before
+
+abbrev to-written : tie.After-struct-known → tie.After-write-lone
+to-written c = c .before .before .before
 
 -- ---- the values
 
@@ -60,15 +65,27 @@ write-lone-requires c κs =
     let a = event-taken read in
     (sets-long read, lone-room a _ _ (v .version-of .ensures (checkable a)) (to-start read .pre .1))
 
+sub-measures-of : tie.Need-sub-measures-of
+sub-measures-of c =
+    let written = to-written c in
+    written .write-lone .ensures .1 _ (event-taken (to-read (to-version (written .before))) .read) .0
+
+measures-of-requires : tie.Need-measures-of-requires
+measures-of-requires c κs = search needs
+
 same-length : tie.Need-same-length
 same-length c = search needs
 
 returns : tie.Need-returns
 returns c =
-    let written = c .before .before in
+    let written = to-written (c .before) in
     let v = to-version (written .before) in
-    let a = event-taken (to-read v) in
-    check-done _ _ _ a _ _ _ (to-start (to-read v) .pre .1) (v .version-of .ensures (checkable a)) (written .write-lone .ensures _ (a .read))
+    let a = event-taken (to-read v) in (
+      check-done _ _ _ a _ _ _ (to-start (to-read v) .pre .1) (v .version-of .ensures (checkable a)) (written .write-lone .ensures .0 _ (a .read)),
+      λ k.
+          let a = known-checked k (to-read v .read-event .ensures) in
+          lone-measured a _ (v .version-of .ensures (checkable a)) (written .write-lone .ensures .1 _ (a .read) .1) (c .measures-of .ensures),
+    )
 
 pub check-known-spec : {M : Type 1} → statement M
 check-known-spec =
@@ -80,5 +97,7 @@ check-known-spec =
     version-of-requires
     slice-aggregate-write-lone
     write-lone-requires
+    sub-measures-of
+    measures-of-requires
     same-length
     returns)

@@ -1,3 +1,5 @@
+-- `check::write_lone` meets its contract: the head, the count of one snapshot and the snapshot are written one after the other, and `lone-length` says that
+-- each has its room. The snapshot is the last write, so that its start and its end say its size.
 use borrow.Author.Needs.{needs}
 use native.Mathlib.Omega.{arith}
 use mathlib.Core.Path.{refl}
@@ -11,7 +13,8 @@ use Rattle.event.specs.Event.{Event}
 use Rattle.event.specs.code.EventIndex.{EventIs, HeadParts}
 use Rattle.event.proofs.HeadLaws.{parts-of}
 use Rattle.dossier.specs.DossierHead.{dossierHeadBytes}
-use Rattle.combining.proofs.LoneLaws.{sets, lone-length, wrote-lone}
+use Rattle.combining.specs.code.CheckIndex.{aloneBytes}
+use Rattle.combining.proofs.LoneLaws.{wrote-size, lone-length, wrote-lone}
 use Rattle.combining.proofs.check.write_lone.Statement.{statement}
 use Rattle.combining.proofs.check.write_lone.Tie as tie
 
@@ -23,32 +26,17 @@ start₀ c = c .before .before .before .before .before .before .before .before
 abbrev to-head : tie.After-write-number-arg → tie.After-write-dossier-head
 to-head c = c .before .before .before
 
-abbrev to-count : tie.After-write-number-arg2 → tie.After-write-number
+abbrev to-count : tie.After-write-alone-arg → tie.After-write-number
 to-count c = c .before .before .before
 
-abbrev to-version : tie.After-write-number-arg3 → tie.After-write-number2
-to-version c = c .before .before .before
-
-abbrev to-presence : tie.After-write-number-arg4 → tie.After-write-number3
-to-presence c = c .before .before .before
-
-abbrev to-differ : tie.After-write-sets-arg → tie.After-write-number4
-to-differ c = c .before .before .before
+abbrev to-alone : tie.After-slice-known4 → tie.After-write-alone
+to-alone c = c .before .before
 
 abbrev start₁ : tie.After-write-dossier-head → tie.Start
 start₁ c = start₀ (c .before)
 
 abbrev start₂ : tie.After-write-number → tie.Start
 start₂ c = start₁ (to-head (c .before))
-
-abbrev start₃ : tie.After-write-number2 → tie.Start
-start₃ c = start₂ (to-count (c .before))
-
-abbrev start₄ : tie.After-write-number3 → tie.Start
-start₄ c = start₃ (to-version (c .before))
-
-abbrev start₅ : tie.After-write-number4 → tie.Start
-start₅ c = start₄ (to-presence (c .before))
 
 -- ---- at the start
 
@@ -63,17 +51,8 @@ module _ (c : tie.Start) where
   abbrev count-end : ℕ
   count-end = head-end + length (number 1)
 
-  abbrev version-end : ℕ
-  version-end = count-end + length (number (c .args .version .0))
-
-  abbrev presence-end : ℕ
-  presence-end = version-end + length (number (c .args .e .presence))
-
-  abbrev differ-end : ℕ
-  differ-end = presence-end + length (number 0)
-
-  fits : differ-end + length (sets (c .pre .1 .read)) ≤ length out₀
-  fits = omega (arith, c .pre .1 .room, lone-length (c .pre .1 .read) (c .args .version .0))
+  fits : count-end + length (aloneBytes (c .pre .1 .event) (c .args .version .0)) ≤ length out₀
+  fits = omega (arith, c .pre .1 .room, lone-length (c .pre .1 .event) (c .args .version .0))
 
 -- ---- the head
 
@@ -99,15 +78,6 @@ head-written c =
 count-written : (c : tie.After-write-number) → Reached (out₀ (start₂ c)) (count-end (start₂ c)) (c .write-number .last .0) (c .write-number .result)
 count-written c = reached-by (head-written (to-head (c .before))) (c .write-number .ensures) refl
 
-version-written : (c : tie.After-write-number2) → Reached (out₀ (start₃ c)) (version-end (start₃ c)) (c .write-number2 .last .0) (c .write-number2 .result)
-version-written c = reached-by (count-written (to-count (c .before))) (c .write-number2 .ensures) refl
-
-presence-written : (c : tie.After-write-number3) → Reached (out₀ (start₄ c)) (presence-end (start₄ c)) (c .write-number3 .last .0) (c .write-number3 .result)
-presence-written c = reached-by (version-written (to-version (c .before))) (c .write-number3 .ensures) refl
-
-differ-written : (c : tie.After-write-number4) → Reached (out₀ (start₅ c)) (differ-end (start₅ c)) (c .write-number4 .last .0) (c .write-number4 .result)
-differ-written c = reached-by (presence-written (to-presence (c .before))) (c .write-number4 .ensures) refl
-
 -- ---- the needs
 
 text-part-requires : tie.Need-text-part-requires
@@ -127,36 +97,24 @@ write-dossier-head-requires c κs =
 write-number-requires : tie.Need-write-number-requires
 write-number-requires c κs = omega (arith, fits (start₁ (to-head c)), head-written (to-head c))
 
-write-number-requires-2 : tie.Need-write-number-requires-2
-write-number-requires-2 c κs = omega (arith, fits (start₂ (to-count c)), count-written (to-count c))
-
-write-number-requires-3 : tie.Need-write-number-requires-3
-write-number-requires-3 c κs = omega (arith, fits (start₃ (to-version c)), version-written (to-version c))
-
-write-number-requires-4 : tie.Need-write-number-requires-4
-write-number-requires-4 c κs = omega (arith, fits (start₄ (to-presence c)), presence-written (to-presence c))
-
-write-sets-requires : tie.Need-write-sets-requires
-write-sets-requires c κs =
-    let begin = start₅ (to-differ c) in
+write-alone-requires : tie.Need-write-alone-requires
+write-alone-requires c κs =
+    let begin = start₂ (to-count c) in
     let p = begin .pre .1 in
-    (begin .pre .0, record { values = p .event .sets; are = p .read .sets; room = omega (arith, fits begin, differ-written (to-differ c)) })
+    (begin .pre .0, record { event = p .event; read = p .read; room = omega (arith, fits begin, count-written (to-count c)) })
 
 same-length : tie.Need-same-length
 same-length c = search needs
 
 returns : tie.Need-returns
-returns c = λ e w.
-    let at-sets = c .before .before in
-    let at-differ = to-differ (at-sets .before) in
-    let at-presence = to-presence (at-differ .before) in
-    let at-version = to-version (at-presence .before) in
-    let at-count = to-count (at-version .before) in
-    let at-head = to-head (at-count .before) in
-    wrote-lone w _
-    (at-head .write-dossier-head .ensures _ (parts (at-head .before) e w))
-    (at-count .write-number .ensures) (at-version .write-number2 .ensures) (at-presence .write-number3 .ensures) (at-differ .write-number4 .ensures)
-    (at-sets .write-sets .ensures _ (w .sets))
+returns c =
+    let at-alone = to-alone c in
+    let at-count = to-count (at-alone .before) in
+    let at-head = to-head (at-count .before) in (
+      λ e w. wrote-lone e _
+          (at-head .write-dossier-head .ensures _ (parts (at-head .before) e w)) (at-count .write-number .ensures) (at-alone .write-alone .ensures e w),
+      λ e w. wrote-size (at-alone .write-alone .ensures e w),
+    )
 
 pub write-lone-spec : {M : Type 1} → statement M
 write-lone-spec =
@@ -167,9 +125,6 @@ write-lone-spec =
     hashes-part-requires
     write-dossier-head-requires
     write-number-requires
-    write-number-requires-2
-    write-number-requires-3
-    write-number-requires-4
-    write-sets-requires
+    write-alone-requires
     same-length
     returns)

@@ -36,7 +36,7 @@ limits-fit-requires c κs =
 returns : tie.Need-returns
 returns c =
     let at = c .before .before in
-    combine-full _ _ _ _ (room at) (both at) (c .before .limits-fit .ensures _ (both at)) (not-true _ (c .if1 .taken))
+    combine-full _ _ _ _ (room at) (both at .known) (c .before .limits-fit .ensures _ (both at)) (not-true _ (c .if1 .taken))
 
 write-combined-requires : tie.Need-write-combined-requires
 write-combined-requires c κs =
@@ -51,7 +51,7 @@ write-combined-requires c κs =
         table = _;
         both = both at;
         inside = λ u h. sym (asked .limits-fit .ensures u h) ∙ yes-all;
-        room = combine-room (both at) (asked .limits-fit .ensures _ (both at)) yes-all _ (room at);
+        room = combine-room (both at .known) (asked .limits-fit .ensures _ (both at)) yes-all _ (room at);
       },
     )
 
@@ -64,7 +64,7 @@ returns-2 c =
     let fitted = wrote .before .before in
     let asked = fitted .before in
     let at = asked .before in
-    combine-done _ _ _ _ (room at) (both at) (asked .limits-fit .ensures _ (both at)) (not-false _ (fitted .if1 .left)) _ _
+    combine-done _ _ _ _ (room at) (both at .known) (asked .limits-fit .ensures _ (both at)) (not-false _ (fitted .if1 .left)) _ _
     (wrote .write-combined .ensures _ (both at))
 
 pub combine-read-spec : {M : Type 1} → statement M

@@ -2,21 +2,22 @@ use borrow.Author.Needs.{needs}
 use borrow.Author.Tests.{not-true, not-false}
 use Prim.Native.Nat.{ℕ}
 use native.Mathlib.Omega.{arith}
-use mathlib.Core.Path.{_≡_}
+use mathlib.Core.Path.{_≡_, _∙_}
 use mathlib.Core.Bool.{true}
 use mathlib.Core.List.{List}
 use lib.Dec.{leb}
-use lib.ListN.{length, take, getD}
+use lib.ListN.{length, getD}
 use lib.Seq.{length-take-le}
 use denote.Ref.{now}
-use Rattle.model.specs.Order.{Text, numbers, texts}
+use Rattle.model.specs.Order.{Text, texts}
 use Rattle.model.specs.Sets.{union}
 use Rattle.model.specs.Rule.{Snapshot}
 use Rattle.dossier.specs.DossierQuestions.{TypedDossier}
-use Rattle.dossier.specs.code.DossierIndex.{SnapshotIs, noSnapshot, versionNumbers, rowOf}
+use Rattle.dossier.specs.code.DossierIndex.{SnapshotIs, noSnapshot, rowOf}
 use Rattle.dossier.proofs.AskLaws.{numbersAt, snapshot-stands}
+use Rattle.combining.specs.CombineCall.{combined}
 use Rattle.combining.specs.code.CombineIndex.{Combinable}
-use Rattle.combining.proofs.FitLaws.{left-hashes, right-hashes, left-rises, right-rises, unversioned, first-meet}
+use Rattle.combining.proofs.FitLaws.{left-hashes, right-hashes, left-rises, right-rises, whole-versions, unversioned, first-meet}
 use Rattle.combining.proofs.FitLaws.{fits-parents, fits-versions, fits-versioned, fits-objects}
 use Rattle.combining.proofs.limits.limits_fit.Statement.{statement}
 use Rattle.combining.proofs.limits.limits_fit.Tie as tie
@@ -58,8 +59,8 @@ firstOf d = getD (d .headed .snapshots) 0 noSnapshot
 parents : (c : tie.After-parents-fit) {table : List ℕ} (h : Asked (to-start c) table) →
     c .parents-fit .result ≡ leb (length (union texts (parentsOf (h .known .left)) (parentsOf (h .known .right)))) 32
 parents c h =
-    let x = left-hashes h in
-    let y = right-hashes h in
+    let x = left-hashes (h .known) in
+    let y = right-hashes (h .known) in
     c .parents-fit .ensures (parentsOf (h .known .left)) (parentsOf (h .known .right)) (h .left-read .head .hashes) (h .right-read .head .hashes)
     (x .0) (y .0) (x .1) (y .1)
 
@@ -68,10 +69,8 @@ few-parents c = not-false _ (c .if1 .left)
 
 -- how many versions the two have
 versions : (c : tie.After-count-versions) {table : List ℕ} (h : Asked (to-start (to-parents c .before)) table) →
-    let d = to-start (to-parents c .before) .args .t2 in
-    let e = to-start (to-parents c .before) .args .t5 in
-    c .count-versions .result ≡ length (union numbers (versionNumbers (take (d .count) (d .versions))) (versionNumbers (take (e .count) (e .versions))))
-versions c h = c .count-versions .ensures (left-rises h) (right-rises h)
+    c .count-versions .result ≡ length (combined (h .known .left) (h .known .right) .snapshots)
+versions c h = c .count-versions .ensures (left-rises h) (right-rises h) ∙ whole-versions h
 
 -- the first snapshots have the objects that are noted of them, and their sets stand where their rows say
 left-first : (c : tie.Start) {table : List ℕ} (h : Asked c table) →
@@ -92,7 +91,7 @@ parents-fit-requires : tie.Need-parents-fit-requires
 parents-fit-requires c κs = search needs
 
 returns : tie.Need-returns
-returns c = λ table h. fits-parents h _ (parents (c .before) h) (not-true _ (c .if1 .taken))
+returns c = λ table h. fits-parents (h .known) _ (parents (c .before) h) (not-true _ (c .if1 .taken))
 
 count-versions-requires : tie.Need-count-versions-requires
 count-versions-requires c κs =
@@ -103,14 +102,14 @@ returns-2 : tie.Need-returns-2
 returns-2 c = λ table h.
     let v = c .before in
     let p = to-parents v in
-    fits-versions h _ (parents (p .before) h) (few-parents p) _ (versions v h) (c .if2 .taken)
+    fits-versions (h .known) _ (parents (p .before) h) (few-parents p) _ (versions v h) (c .if2 .taken)
 
 returns-3 : tie.Need-returns-3
 returns-3 c = λ table h.
     let e = to-versions (c .before) in
     let v = e .before in
     let p = to-parents v in
-    fits-versioned h _ (parents (p .before) h) (few-parents p) _ (versions v h) (e .if2 .left) (c .if3 .taken)
+    fits-versioned (h .known) _ (parents (p .before) h) (few-parents p) _ (versions v h) (e .if2 .left) (c .if3 .taken)
 
 element-copy-out-m : tie.Need-element-copy-out-m
 element-copy-out-m c = search needs
@@ -154,8 +153,8 @@ returns-4 c = λ table h.
     let r = h .known .right in
     let x = left-first (objects-to-start at-n) h in
     let y = right-first (objects-to-start at-n) h in
-    fits-objects h _ (parents (p .before) h) (few-parents p) _ (versions v h) (e .if2 .left) un
-    (c .objects-fit .ensures _ (l .type) (firstOf l) (firstOf r) (h .known .typed .are) (unversioned h un) (first-meet h un)
+    fits-objects (h .known) _ (parents (p .before) h) (few-parents p) _ (versions v h) (e .if2 .left) un
+    (c .objects-fit .ensures _ (l .type) (firstOf l) (firstOf r) (h .known .typed .are) (unversioned (h .known) un) (first-meet h un)
     (x .objects) (y .objects) (x .sets) (y .sets))
 
 pub limits-fit-spec : {M : Type 1} → statement M

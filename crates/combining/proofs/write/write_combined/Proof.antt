@@ -17,7 +17,7 @@ use Rattle.combining.proofs.write.write_combined.Tie as tie
 -- ---- the places
 
 abbrev to-start : tie.After-write-heads-arg → tie.Start
-to-start c = c .before .before .before .before .before .before .before .before .before
+to-start c = c .before .before .before .before .before .before .before .before .before .before .before
 
 abbrev to-heads : tie.After-write-number-arg → tie.After-write-heads
 to-heads c = c .before .before .before
@@ -36,7 +36,7 @@ module _ (c : tie.After-write-heads-arg) where
 
   heads-there : {table : List ℕ} (h : Both table) →
       let a = to-start c .args in
-      HeadsAre (now (a .a)) (a .d) (now (a .b)) (a .e) (leftHead h) (rightHead h)
+      HeadsAre (now (a .a)) (a .d .head) (now (a .b)) (a .e .head) (leftHead h) (rightHead h)
   heads-there h = heads-are h (to-start c .pre .3 .inside _ h)
 
 counted :

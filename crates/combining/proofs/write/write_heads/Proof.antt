@@ -17,16 +17,16 @@ use Rattle.combining.proofs.write.write_heads.Tie as tie
 -- ---- the places
 
 abbrev to-start : tie.After-hashes → tie.Start
-to-start c = c .before .before .before .before .before .before .before .before
+to-start c = c .before .before .before .before .before .before
 
 abbrev to-union : tie.After-hashes3 → tie.After-write-hash-union
 to-union c = c .before .before .before .before
 
 -- ---- the facts
 
--- the heads of the two dossiers that are lent
+-- the heads that are lent
 abbrev Heads : tie.After-hashes → Head → Head → Type 0
-Heads c g h = let a = to-start c .args in HeadsAre (now (a .a)) (a .d) (now (a .b)) (a .e) g h
+Heads c g h = let a = to-start c .args in HeadsAre (now (a .a)) (a .x) (now (a .b)) (a .y) g h
 
 -- the union of the parents stands at the front of what was written apart
 hashes :

@@ -2,18 +2,19 @@ use borrow.Author.Needs.{needs}
 use native.Mathlib.Omega.{arith}
 use Prim.Native.Nat.{_-_, _≤_}
 use lib.ListN.{drop}
+use Rattle.model.proofs.Cases.{never}
 use Rattle.packed.specs.Parse.{times}
 use Rattle.dossier.specs.DossierBody.{readSnapshot}
-use Rattle.dossier.proofs.DossierReadLaws.{row-lent, Sofar, sofar-none, sofar-bad, sofar-promised, sofar-more, sofar-all}
+use Rattle.dossier.proofs.DossierReadLaws.{row-lent, Sofar, sofar-none, sofar-bad, sofar-more, sofar-all}
 use Rattle.dossier.proofs.DossierReadLaws.{snapshots-none, snapshot-read, snapshot-refused}
 use Rattle.dossier.proofs.dossiers.read_snapshots.Statement.{statement}
 use Rattle.dossier.proofs.dossiers.read_snapshots.Tie as tie
 
 abbrev Inv-loop : tie.InvT-loop
-Inv-loop s at count known rows₀ r₀ next₀ j₀ rows r next j = Sofar (times readSnapshot count (drop at s)) s rows r count next j
+Inv-loop s at count rows₀ r₀ next₀ j₀ rows r next j = Sofar (times readSnapshot count (drop at s)) s rows r count next j
 
 abbrev μ-loop : tie.MeasureT-loop
-μ-loop s at count known rows₀ r₀ next₀ j₀ rows r next j = count - j
+μ-loop s at count rows₀ r₀ next₀ j₀ rows r next j = count - j
 
 -- ---- the places
 
@@ -24,12 +25,12 @@ to-start c = c .before .before .before
 
 -- there are eight at most
 turn-low : (c : tie.In-loop Inv-loop μ-loop) → c .before .loop .j ≤ 7
-turn-low c = omega (arith, c .loop-test .taken, to-start (c .before) .pre .0 .2)
+turn-low c = omega (arith, c .loop-test .taken, to-start (c .before) .pre .2)
 
 -- ---- the needs
 
 loop-holds : tie.Need-loop-holds Inv-loop μ-loop
-loop-holds c = let start = c .before .before in sofar-none _ _ _ _ (start .pre .0 .0) (start .pre .0 .3)
+loop-holds c = let start = c .before .before in sofar-none _ _ _ _ (start .pre .0) (start .pre .3)
 
 mul-read-snapshot : tie.Need-mul-read-snapshot Inv-loop μ-loop
 mul-read-snapshot c = search needs
@@ -54,9 +55,7 @@ part-read-snapshot-end c = search needs
 
 read-snapshot-requires : tie.Need-read-snapshot-requires Inv-loop μ-loop
 read-snapshot-requires c κs =
-    let turn = c .before in
-    let w = turn .before .loop .inv in
-    (w .within, search needs, sofar-promised _ _ _ _ _ _ _ w (turn .loop-test .taken) (to-start (turn .before) .pre .1))
+    (c .before .before .loop .inv .within, search needs, λ known. never (cc known))
 
 enum-known-x : tie.Need-enum-known-x Inv-loop μ-loop
 enum-known-x c = search needs
@@ -119,7 +118,7 @@ loop-again c =
     let w = turn .before .loop .inv in
     let read = snapshot-read (at-x .x .given .1) (at-read .read-snapshot .ensures) in
     let long = row-lent (turn .before .loop .rows) (at-read .read-snapshot .last .1 .1 .1 .0) (turn .before .loop .j) (omega (arith, turn-low turn, w .rows-long)) (at-x .before .before .before .rows .given .0) in
-    sofar-more _ _ _ _ _ _ _ w (turn .loop-test .taken) (to-start (turn .before) .pre .0 .2) _ _ _ read long
+    sofar-more _ _ _ _ _ _ _ w (turn .loop-test .taken) (to-start (turn .before) .pre .2) _ _ _ read long
 
 same-length-2 : tie.Need-same-length-2 Inv-loop μ-loop
 same-length-2 c = search needs

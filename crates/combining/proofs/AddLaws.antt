@@ -1,0 +1,546 @@
+-- The laws of adding an event to a dossier that is known by its measures.
+use mathlib.Core.Path.{_≡_, refl, sym, ap, ap₂, _∙_, subst}
+use mathlib.Core.Logic.{⊎-elim}
+use mathlib.Core.Bool.{Bool, true, false, cond}
+use mathlib.Core.Option.{Option}
+use mathlib.Core.List.{List, [], _∷_, _++_, map, flatten}
+use Prim.Native.Nat.{ℕ, zero, suc, _+_, _≤_, _<_}
+use native.Mathlib.Omega.{arith}
+use lib.ListN.{length, take, drop, getD, length-append, length-drop}
+use lib.Dec.{leb, ltb}
+use borrow.Author.Tests.{lt-ltb, le-ltb}
+use lib.Seq.{take-at}
+use Rattle.model.specs.Order.{Text, texts, numbers}
+use Rattle.model.specs.Keyed.{merge}
+use Rattle.model.specs.Rule.{Snapshot, joinSnapshots, sizes}
+use Rattle.model.specs.Opening.{held}
+use Rattle.model.specs.Sets.{upTo, union}
+use Rattle.model.specs.Limits.{standard, fits}
+use Rattle.model.proofs.Cases.{never}
+use Rattle.model.proofs.LimitLaws.{fits-bounds}
+use Rattle.packed.specs.Parse.{All, fail, got}
+use Rattle.packed.specs.Packed.{number, part}
+use Rattle.packed.specs.code.Written.{Wrote}
+use Rattle.packed.proofs.WriteLaws.{wrote-length, wrote-between, wrote-as, wrote-then}
+use Rattle.packed.proofs.LayoutLaws.{lt-or-ge, number-length-1}
+use Rattle.packed.proofs.ReadLaws.{drop-on, to-end}
+use Rattle.values.specs.declared.versions.EventVersion.{EventVersion}
+use Rattle.replies.specs.Questions.{ask, _>>=_}
+use Rattle.replies.specs.Capacities.{dossierCapacity}
+use Rattle.replies.specs.Answers.{Outcome}
+use Rattle.replies.specs.Replies.{replies}
+use Rattle.replies.specs.declared.reply.Reply.{Reply}
+use Rattle.ontology.specs.Table.{EventType, Table, isVersioned}
+use Rattle.ontology.specs.code.TypeIndex.{PropertiesAre}
+use Rattle.ontology.specs.declared.types.TypeIndex.{TypeIndex}
+use Rattle.event.specs.Event.{setAt, objectCount, typeView, versionOf}
+use Rattle.event.specs.Head.{Head}
+use Rattle.event.specs.EventLayout.{narrow}
+use Rattle.event.specs.EventQuestions.{Typed, eventAsked}
+use Rattle.event.specs.code.EventIndex.{SetsAre, HeadIs, EventIs}
+use Rattle.event.specs.declared.head.HeadAt.{HeadAt}
+use Rattle.event.specs.declared.read.EventIndex.{EventIndex}
+use Rattle.dossier.specs.DossierBody.{readSnapshot, snapshotBytes, bodyBytes}
+use Rattle.dossier.specs.DossierHead.{readDossierHead, dossierHeadBytes}
+use Rattle.dossier.specs.DossierLayout.{Headed, dossierBytes}
+use Rattle.dossier.specs.code.DossierIndex.{noSnapshot, SnapshotAt, SnapshotIs, SnapshotStops, CellsAre, DossierHeadStops}
+use Rattle.dossier.specs.declared.snapshots.SnapshotNumbers.{SnapshotNumbers}
+use Rattle.dossier.proofs.VersionLaws.{cells-are}
+use Rattle.dossier.proofs.DossierBodyLaws.{SnapshotWritten, snapshot-read}
+use Rattle.dossier.proofs.DossierHeadLaws.{dossier-head-read}
+use Rattle.dossier.proofs.DossierLayoutLaws.{DossierWritten, dossier-was}
+use Rattle.dossier.proofs.DossierSizeLaws.{held-objects}
+use Rattle.combining.specs.CombineCall.{combined}
+use Rattle.combining.specs.code.AddIndex.{bytesOf, Splits, lowerOrSame, withSnapshot, Adding, alone, metWith, Met, newSnapshot, Inside}
+use Rattle.combining.specs.code.AddIndex.{Addable, Measured, MeasuredIn}
+use Rattle.combining.specs.code.CheckIndex.{KnownEvent, aloneBytes, loneBytes}
+use Rattle.combining.specs.code.CombineIndex.{Known, Meet, Shared}
+use Rattle.combining.specs.code.WriteIndex.{SharedRoom, HeadsAre}
+use Rattle.combining.specs.declared.measures.Measures.{Measures}
+use Rattle.combining.specs.declared.measures.Place.{Place}
+use Rattle.combining.proofs.InsertLaws.{Stands, stands, join-keeps, merged-with, bytes-split, bytes-next, bytes-with, length-with, written-at}
+use Rattle.combining.proofs.CheckLaws.{Checked, fit, kept, lone-short, none-differ, lone-sets, lone-snapshots, lone-head, alone-bytes}
+use Rattle.combining.proofs.MeetLaws.{versionIn, taken-rises, left-taken, known-meet}
+use Rattle.combining.proofs.MergedLaws.{known-heads}
+use Rattle.combining.proofs.FitLaws.{left-written, right-written, whole-snapshots, left-one, same-version, unversioned, fits-versions, fits-versioned}
+
+-- ---- a snapshot that was read where one is known to stand
+
+pub read-is :
+    {s : List ℕ} {at : ℕ} {n : SnapshotNumbers} {next : ℕ} {ats : List ℕ} {z : Snapshot} {rest : List ℕ} →
+    SnapshotStops s at n next ats → readSnapshot (drop at s) ≡ got z rest → SnapshotIs s z n ats
+read-is {s} {n = n} {ats = ats} {z = z} w q =
+    let both = sym (w .stands .is) ∙ q in
+    let same : w .what ≡ z = cc in
+    subst (λ (x : Snapshot). SnapshotIs s x n ats) same (w .is)
+
+-- ---- a snapshot of a dossier, and that of an event of the same version
+
+-- what is written at the front is the front
+pub front-is : {l xs l₁ : List ℕ} {n : ℕ} → length xs ≤ length l → Wrote l 0 xs l₁ n → (n ≤ length l₁) × (take n l₁ ≡ xs)
+front-is {l} {xs} {l₁} {n} r w =
+    let k : n ≡ length xs = omega (arith, w .after) in
+    (omega (arith, w .after, wrote-length w), ap (take n) (wrote-between (omega arith) w) ∙ take-at xs (drop n l) n (sym k))
+
+module _
+    {version : EventVersion} {sofar : List ℕ} {start end : ℕ} {event : List ℕ} {e : EventIndex} {ats : List ℕ} {t : TypeIndex} {ps : List ℕ} where
+  pub met-promised : Met version sofar start end event e ats t ps → (start ≤ length sofar) × (readSnapshot (drop start sofar) ≡ fail → ⊥)
+  met-promised h = (omega (arith, h .stands .order, h .stands .within), λ z. unread (sym (h .stands .is) ∙ z))
+    where
+      unread : {x : Snapshot} {rest : List ℕ} → got x rest ≡ fail → ⊥
+      unread z = never (cc)
+
+  -- the event's snapshot has one form
+  pub same-alone : (g h : Met version sofar start end event e ats t ps) → snapshotBytes (g .right) ≡ snapshotBytes (h .right)
+  same-alone g h =
+      g .bytes
+      ∙ ap₂ (λ (n : ℕ) (l : List ℕ). number (version .0) ++ number n ++ number 0 ++ l)
+      (sym (g .read .presence) ∙ h .read .presence)
+      (sym (g .read .rest) ∙ h .read .rest)
+      ∙ sym (h .bytes)
+
+  module _ (h : Met version sofar start end event e ats t ps) {n : SnapshotNumbers} {row : List ℕ} (is : SnapshotIs sofar (h .left) n row) where
+    abbrev pub met-shared : Shared version sofar row (n .differ) event ats 0 (h .type) (h .left) (h .right)
+    met-shared = record { meet = h .meet; number = h .number; left-is = cells-are sofar (h .left) n row is; right-is = h .right-is }
+
+    abbrev pub met-room :
+        {at size : ℕ} → at + length (snapshotBytes (joinSnapshots (typeView (h .type)) (h .left) (h .right))) ≤ size →
+        SharedRoom version sofar row (n .differ) event ats 0 (snapshotBytes (h .left)) (snapshotBytes (h .right)) t ps at size
+    met-room room = record {
+      table = h .table;
+      type = h .type;
+      left = h .left;
+      right = h .right;
+      typed = h .typed;
+      shared = met-shared;
+      left-bytes = refl;
+      right-bytes = refl;
+      room = room;
+    }
+
+-- ---- a reply that was made
+
+pub reply-is : {r q : Reply} {bytes : List ℕ} {o : Outcome} → r ≡ q → replies q bytes ≡ o → replies r bytes ≡ o
+reply-is {bytes = bytes} {o = o} e h = subst (λ (r : Reply). replies r bytes ≡ o) (sym e) h
+
+-- ---- a dossier that an event can be added to
+
+module _ {table sofar : List ℕ} {m : Measures} {event : List ℕ} {t : TypeIndex} {ps : List ℕ} (a : Addable table sofar m event t ps) where
+  abbrev pub dossier : Headed
+  dossier = a .both .left .headed
+
+  is-dossier : (sofar ≡ dossierBytes dossier) × DossierWritten standard dossier
+  is-dossier = dossier-was standard sofar dossier (left-taken (a .both) .read)
+
+  -- its head, and what follows it
+  head-is : readDossierHead standard sofar ≡ got (dossier .head) (bodyBytes (dossier .snapshots))
+  unfolding dossierBytes
+  head-is = ap (readDossierHead standard) (is-dossier .0) ∙ dossier-head-read standard (dossier .head) (bodyBytes (dossier .snapshots)) (is-dossier .1 .head)
+
+  pub has-head : readDossierHead standard sofar ≡ fail → ⊥
+  has-head z = let both = sym head-is ∙ z in never (cc)
+
+  pub measured-in : MeasuredIn sofar m
+  unfolding dossierBytes bodyBytes
+  measured-in =
+      let ss = dossier .snapshots in
+      let n = ap length (is-dossier .0) in
+      record {
+        snapshots = ss;
+        measured = a .measured;
+        within = omega (
+          arith,
+          n,
+          length-append (dossierHeadBytes (dossier .head)) (number (length ss) ++ bytesOf ss),
+          length-append (number (length ss)) (bytesOf ss),
+        );
+      }
+
+  -- where the event's snapshot has its place
+  pub split-at :
+      {version : ℕ} {p : Place} → version ≡ versionOf (a .new .event .type) (a .new .event .event) →
+      ((ss : List Snapshot) → Measured ss m → Splits ss version p) →
+      Splits (dossier .snapshots) (versionOf (a .new .event .type) (a .new .event .event)) p
+  split-at {p = p} n says = subst (λ (v : ℕ). Splits (dossier .snapshots) v p) n (says (dossier .snapshots) (a .measured))
+
+  module _ {x : HeadAt} {end : ℕ} (w : DossierHeadStops (readDossierHead standard sofar) sofar x end) where
+    pub follows : (w .what ≡ dossier .head) × (drop end sofar ≡ bodyBytes (dossier .snapshots))
+    follows =
+        let both : got (w .what) (drop end sofar) ≡ got (dossier .head) (bodyBytes (dossier .snapshots)) = sym (w .is) ∙ head-is in
+        (cc, cc)
+
+    -- the count of snapshots is one byte, and these follow it
+    pub body-begins : (end + 1 ≤ length sofar) × (drop (end + 1) sofar ≡ bytesOf (dossier .snapshots))
+    unfolding bodyBytes
+    body-begins =
+        let ss = dossier .snapshots in
+        let one : length (number (length ss)) ≡ 1 = number-length-1 (length ss) (omega (arith, a .measured .few)) in
+        let left = length-append (number (length ss)) (bytesOf ss) in (
+          omega (arith, one, left, ap length (follows .1), length-drop end sofar),
+          ap (λ (i : ℕ). drop (end + i) sofar) (sym one) ∙ drop-on sofar end (number (length ss)) (bytesOf ss) (follows .1),
+        )
+
+    abbrev pub adding :
+        {e : EventIndex} {ats : List ℕ} {p : Place} → EventIs event (a .new .event .event) e ats →
+        Splits (dossier .snapshots) (versionOf (a .new .event .type) (a .new .event .event)) p → Adding table sofar m event e ats x (end + 1) p t ps
+    adding read splits = record {
+      added = a;
+      read = read;
+      head = subst (λ (g : Head). HeadIs sofar g x) (follows .0) (w .stands);
+      begins = body-begins .0;
+      rest = body-begins .1;
+      splits = splits;
+    }
+
+-- ---- an event that is added
+
+-- it is accepted, as it is known to be
+abbrev taken-event :
+    {table event : List ℕ} {t : TypeIndex} (k : KnownEvent table event t) {e : EventIndex} {ats : List ℕ} →
+    EventIs event (k .event .event) e ats → Checked table event t e ats
+taken-event {table} {event} k w = record {
+  type = k .event .type;
+  e = k .event .event;
+  is = ap (λ (m : Option Table). ask 2 m >>= λ ts. eventAsked narrow ts event) (k .is) ∙ k .asked;
+  mark = k .mark;
+  read = w;
+}
+
+module _
+    {table sofar : List ℕ} {m : Measures} {event : List ℕ} {e : EventIndex} {ats : List ℕ} {x : HeadAt} {body : ℕ} {p : Place}
+    {t : TypeIndex} {ps : List ℕ} (h : Adding table sofar m event e ats x body p t ps) where
+  abbrev k : Known table sofar (h .added .lone) t ps
+  k = h .added .both
+
+  abbrev ty : EventType
+  ty = k .left .type
+
+  abbrev ss : List Snapshot
+  ss = k .left .headed .snapshots
+
+  abbrev typed : Typed
+  typed = h .added .new .event
+
+  abbrev y : Snapshot
+  y = alone typed
+
+  abbrev pub checked : Checked table event t e ats
+  checked = taken-event (h .added .new) (h .read)
+
+  right-snapshots : k .right .headed .snapshots ≡ y ∷ []
+  right-snapshots = ap (λ (d : Headed). d .snapshots) (h .added .headed-is) ∙ lone-snapshots (typed .type) (typed .event) (kept checked) (fit checked)
+
+  right-head : k .right .headed .head ≡ typed .event .head
+  right-head = ap (λ (d : Headed). d .head) (h .added .headed-is) ∙ lone-head (typed .type) (typed .event) (kept checked) (fit checked)
+
+  pub right-head-is : HeadIs event (k .right .headed .head) (e .head)
+  right-head-is = subst (λ (g : Head). HeadIs event g (e .head)) (sym right-head) (h .read .head)
+
+  -- the snapshots of both
+  pub whole-with : combined (k .left) (k .right) .snapshots ≡ withSnapshot ss p (metWith ty ss p y)
+  whole-with =
+      whole-snapshots k
+      ∙ ap (merge numbers versionIn (joinSnapshots (typeView ty)) ss) right-snapshots
+      ∙ merged-with ty ss y p (taken-rises (left-taken k)) (h .splits)
+
+  -- ---- how many they are
+
+  pub many-met : p .meets ≡ true → length (combined (k .left) (k .right) .snapshots) ≡ length ss
+  many-met q =
+      ap length whole-with
+      ∙ ap (λ (b : Bool). length (take (p .index) ss ++ (metWith ty ss p y ∷ drop (cond b (suc (p .index)) (p .index)) ss))) q
+      ∙ length-with ss (p .index) (suc (p .index)) (metWith ty ss p y) (h .splits .within) (omega (arith, h .splits .met q .0))
+      ∙ omega (arith, h .splits .met q .0)
+
+  pub many-unmet : p .meets ≡ false → length (combined (k .left) (k .right) .snapshots) ≡ length ss + 1
+  many-unmet q =
+      ap length whole-with
+      ∙ ap (λ (b : Bool). length (take (p .index) ss ++ (metWith ty ss p y ∷ drop (cond b (suc (p .index)) (p .index)) ss))) q
+      ∙ length-with ss (p .index) (p .index) (metWith ty ss p y) (h .splits .within) (h .splits .within)
+      ∙ omega (arith, h .splits .within)
+
+  -- ---- where the others stand
+
+  abbrev start : ℕ
+  start = body + p .before
+
+  lower-stands : Stands sofar body (bytesOf (take (p .index) ss)) (bytesOf (drop (p .index) ss))
+  lower-stands = stands sofar body _ _ (h .begins) (h .rest ∙ bytes-split (p .index) ss)
+
+  pub lower-within : start ≤ length sofar
+  lower-within = omega (arith, h .splits .before, lower-stands .within)
+
+  pub lower-part : part sofar body start ≡ bytesOf (take (p .index) ss)
+  lower-part = ap (λ (n : ℕ). part sofar body (body + n)) (h .splits .before) ∙ lower-stands .here
+
+  from-start : drop start sofar ≡ bytesOf (drop (p .index) ss)
+  from-start = ap (λ (n : ℕ). drop (body + n) sofar) (h .splits .before) ∙ lower-stands .then
+
+  met-there :
+      (q : p .meets ≡ true) → Stands sofar start (snapshotBytes (getD ss (p .index) noSnapshot)) (bytesOf (drop (suc (p .index)) ss))
+  met-there q = stands sofar start _ _ lower-within (from-start ∙ bytes-next ss (p .index) (h .splits .met q .0))
+
+  pub higher-there : (start + p .size ≤ length sofar) × (drop (start + p .size) sofar ≡ bytesOf (drop (lowerOrSame p) ss))
+  higher-there = go (p .meets) refl
+    where
+      go : (b : Bool) → p .meets ≡ b → (start + p .size ≤ length sofar) × (drop (start + p .size) sofar ≡ bytesOf (drop (lowerOrSame p) ss))
+      go true q =
+          let w = met-there q in
+          let n = h .splits .met q .2 in (
+            omega (arith, n, w .within),
+            ap (λ (n : ℕ). drop (start + n) sofar) n
+                ∙ w .then
+                ∙ ap (λ (b : Bool). bytesOf (drop (cond b (suc (p .index)) (p .index)) ss)) (sym q),
+          )
+      go false q =
+          let n : start + p .size ≡ start = omega (arith, h .splits .unmet q .0) in (
+            omega (arith, n, lower-within),
+            ap (λ (n : ℕ). drop n sofar) n ∙ from-start ∙ ap (λ (b : Bool). bytesOf (drop (cond b (suc (p .index)) (p .index)) ss)) (sym q),
+          )
+
+  pub higher-part : part sofar (start + p .size) (length sofar) ≡ bytesOf (drop (lowerOrSame p) ss)
+  higher-part = to-end sofar (start + p .size) ∙ higher-there .1
+
+  -- ---- the snapshot of the event, and the one of its version
+
+  y-written : SnapshotWritten y
+  y-written = subst (λ (zs : List Snapshot). All SnapshotWritten zs) right-snapshots (right-written k .body .snapshots) .0
+
+  pub y-cells : CellsAre event (y .cells) 0 ats
+  y-cells = record {
+    bits = sym (none-differ (setAt (typed .event)) (upTo 32));
+    sets = subst (λ (xs : List (List Text)). SetsAre event xs ats) (sym y-sets) (h .read .sets);
+  }
+    where
+      y-sets : map held (y .cells) ≡ typed .event .sets
+      y-sets = lone-sets (typed .type) (typed .event) (kept checked) (fit checked)
+
+  pub y-objects : e .objects ≡ sizes (y .cells)
+  y-objects =
+      h .read .objects
+      ∙ ap objectCount (sym (lone-sets (typed .type) (typed .event) (kept checked) (fit checked)))
+      ∙ held-objects (y .cells)
+
+  module _ (q : p .meets ≡ true) where
+    abbrev here : Snapshot
+    here = getD ss (p .index) noSnapshot
+
+    pub met-stands : SnapshotAt sofar here start (start + p .size)
+    met-stands =
+        let w = met-there q in
+        let n = h .splits .met q .2 in
+        let written = written-at ss (left-written k .body .snapshots) (p .index) (h .splits .met q .0) in
+        let follows : drop start sofar ≡ snapshotBytes here ++ drop (start + p .size) sofar =
+        from-start
+        ∙ bytes-next ss (p .index) (h .splits .met q .0)
+        ∙ ap (λ (l : List ℕ). snapshotBytes here ++ l) (sym (ap (λ (n : ℕ). drop (start + n) sofar) n ∙ w .then)) in
+        record {
+          is = ap readSnapshot follows ∙ snapshot-read here (drop (start + p .size) sofar) written;
+          bytes = ap (λ (n : ℕ). part sofar start (start + n)) n ∙ w .here;
+          order = omega arith;
+          within = higher-there .0;
+        }
+
+    pub met-meet : Meet ty here y
+    met-meet =
+        subst (Meet ty here) first-is
+        (known-meet k (p .index) 0 (h .splits .met q .0) some-right _ _ (snapshotBytes (getD (k .right .headed .snapshots) 0 noSnapshot) ++ []) []
+        (met-stands .is)
+        (snapshot-read (getD (k .right .headed .snapshots) 0 noSnapshot) [] (subst SnapshotWritten (sym first-is) y-written))
+        (h .splits .met q .1 ∙ sym (ap (λ (z : Snapshot). z .version) first-is)))
+      where
+        first-is : getD (k .right .headed .snapshots) 0 noSnapshot ≡ y
+        first-is = ap (λ (zs : List Snapshot). getD zs 0 noSnapshot) right-snapshots
+
+        some-right : 0 < length (k .right .headed .snapshots)
+        some-right = subst (λ (n : ℕ). 0 < n) (sym (ap length right-snapshots)) (omega arith)
+
+    abbrev pub met-both :
+        (version : EventVersion) → version .0 ≡ versionOf (typed .type) (typed .event) → Met version sofar start (start + p .size) event e ats t ps
+    met-both version n = record {
+      table = table;
+      type = ty;
+      typed = k .typed;
+      left = here;
+      right = y;
+      meet = met-meet;
+      number = n ∙ sym (h .splits .met q .1);
+      stands = met-stands;
+      what = typed .event;
+      read = h .read;
+      bytes = alone-bytes (typed .type) (typed .event) (kept checked) (fit checked) ∙ ap (aloneBytes (typed .event)) (sym n);
+      right-is = y-cells;
+    }
+
+    pub new-met : metWith ty ss p y ≡ joinSnapshots (typeView ty) here y
+    new-met = ap (λ (b : Bool). cond b (joinSnapshots (typeView ty) here y) y) q
+
+  pub new-alone : p .meets ≡ false → metWith ty ss p y ≡ y
+  new-alone q = ap (λ (b : Bool). cond b (joinSnapshots (typeView ty) (getD ss (p .index) noSnapshot) y) y) q
+
+  pub y-bytes : snapshotBytes y ≡ aloneBytes (typed .event) (versionOf (typed .type) (typed .event))
+  y-bytes = alone-bytes (typed .type) (typed .event) (kept checked) (fit checked)
+
+  -- ---- the snapshots of both, as bytes
+
+  pub whole-bytes :
+      bytesOf (combined (k .left) (k .right) .snapshots)
+      ≡ bytesOf (take (p .index) ss) ++ (snapshotBytes (metWith ty ss p y) ++ bytesOf (drop (lowerOrSame p) ss))
+  whole-bytes = ap bytesOf whole-with ∙ bytes-with ss p (metWith ty ss p y)
+
+  -- ---- what is written of them
+
+  pub new-alone-bytes :
+      p .meets ≡ false → (version : ℕ) → version ≡ versionOf (typed .type) (typed .event) → snapshotBytes (newSnapshot h) ≡ aloneBytes (typed .event) version
+  new-alone-bytes q version n = ap snapshotBytes (new-alone q) ∙ y-bytes ∙ ap (aloneBytes (typed .event)) (sym n)
+
+  pub alone-short : length (snapshotBytes y) ≤ dossierCapacity
+  unfolding loneBytes
+  alone-short =
+      let v = versionOf (typed .type) (typed .event) in
+      let g = dossierHeadBytes (typed .event .head) in
+      omega (
+        arith,
+        lone-short checked,
+        ap length y-bytes,
+        length-append g (number 1 ++ aloneBytes (typed .event) v),
+        length-append (number 1) (aloneBytes (typed .event) v),
+      )
+
+  -- the lower ones, the new one and the higher ones
+  pub parts-length :
+      length (bytesOf (combined (k .left) (k .right) .snapshots))
+      ≡ length (part sofar body start) + length (snapshotBytes (newSnapshot h)) + length (part sofar (start + p .size) (length sofar))
+  parts-length =
+      let lower = bytesOf (take (p .index) ss) in
+      let higher = bytesOf (drop (lowerOrSame p) ss) in
+      let new = snapshotBytes (newSnapshot h) in
+      omega (arith, ap length whole-bytes, length-append lower (new ++ higher), length-append new higher, ap length lower-part, ap length higher-part)
+
+  pub wrote-parts :
+      {l l₁ l₂ l₃ : List ℕ} {a b c d : ℕ} → Wrote l a (part sofar body start) l₁ b → Wrote l₁ b (snapshotBytes (newSnapshot h)) l₂ c →
+      Wrote l₂ c (part sofar (start + p .size) (length sofar)) l₃ d → Wrote l a (bytesOf (combined (k .left) (k .right) .snapshots)) l₃ d
+  wrote-parts u v w = wrote-as (sym whole-bytes) (wrote-then (wrote-as lower-part u) (wrote-then v (wrote-as higher-part w)))
+
+  -- ---- the whole dossier, and its measures
+
+  pub counted : {n : ℕ} → n ≡ cond (p .meets) (m .count) (m .count + 1) → n ≡ length (combined (k .left) (k .right) .snapshots)
+  counted is = is ∙ go (p .meets) refl
+    where
+      go : (b : Bool) → p .meets ≡ b → cond (p .meets) (m .count) (m .count + 1) ≡ length (combined (k .left) (k .right) .snapshots)
+      go true q = ap (λ (b : Bool). cond b (m .count) (m .count + 1)) q ∙ h .added .measured .count ∙ sym (many-met q)
+      go false q = ap (λ (b : Bool). cond b (m .count) (m .count + 1)) q ∙ ap (λ (i : ℕ). i + 1) (h .added .measured .count) ∙ sym (many-unmet q)
+
+  pub added-heads : Inside h → HeadsAre sofar x event (e .head) (k .left .headed .head) (k .right .headed .head)
+  added-heads inside = known-heads k inside (h .head) right-head-is
+
+  -- there is a place for the measures of one more
+  pub has-place :
+      Inside h → (m .count ≤ 8) × (p .index ≤ m .count) × (p .meets ≡ true → p .index < m .count) × (p .meets ≡ false → m .count < 8)
+  unfolding standard
+  has-place inside =
+      let c = h .added .measured .count in
+      let versions = fits-bounds standard (typeView ty) (combined (k .left) (k .right)) inside .1 in (
+        omega (arith, c, h .added .measured .few),
+        omega (arith, c, h .splits .within),
+        λ q. omega (arith, c, h .splits .met q .0),
+        λ q. omega (arith, c, many-unmet q, versions),
+      )
+
+  new-version : newSnapshot h .version ≡ versionOf (typed .type) (typed .event)
+  new-version = go (p .meets) refl
+    where
+      go : (b : Bool) → p .meets ≡ b → newSnapshot h .version ≡ versionOf (typed .type) (typed .event)
+      go true q = ap (λ (z : Snapshot). z .version) (new-met q) ∙ join-keeps ty (getD ss (p .index) noSnapshot) y ∙ h .splits .met q .1
+      go false q = ap (λ (z : Snapshot). z .version) (new-alone q)
+
+  pub measured-with :
+      {version size : ℕ} {r : Measures} → version ≡ versionOf (typed .type) (typed .event) → length (snapshotBytes (newSnapshot h)) ≡ size →
+      ((zs : List Snapshot) (z : Snapshot) → Measured zs m → z .version ≡ version → length (snapshotBytes z) ≡ size → Measured (withSnapshot zs p z) r) →
+      Measured (combined (k .left) (k .right) .snapshots) r
+  measured-with {r = r} n s says =
+      subst (λ (zs : List Snapshot). Measured zs r) (sym whole-with) (says ss (newSnapshot h) (h .added .measured) (new-version ∙ sym n) s)
+
+  -- ---- an unversioned dossier has the event's version
+
+  pub always-met : t .mark ≤ 0 → p .meets ≡ true
+  always-met un = go (p .meets) refl
+    where
+      one : length ss ≡ 1
+      one = left-one k un
+
+      version : getD ss 0 noSnapshot .version ≡ y .version
+      version = same-version k un ∙ ap (λ (zs : List Snapshot). getD zs 0 noSnapshot .version) right-snapshots
+
+      apart : (i : ℕ) → i ≤ 1 → ((j : ℕ) → j < i → getD ss j noSnapshot .version < y .version) →
+          (i < length ss → y .version < getD ss i noSnapshot .version) → ⊥
+      apart zero l lower higher = omega (arith, higher (omega (arith, one)), version)
+      apart (suc i) l lower higher = omega (arith, lower 0 (omega arith), version)
+
+      go : (b : Bool) → p .meets ≡ b → p .meets ≡ true
+      go true q = q
+      go false q = absurd (apart (p .index) (omega (arith, one, h .splits .within)) (h .splits .lower) (h .splits .unmet q .1))
+
+  pub first-place : t .mark ≤ 0 → (p .index ≡ 0) × (start ≡ body)
+  unfolding flatten
+  first-place un =
+      let z : p .index ≡ 0 = omega (arith, left-one k un, h .splits .met (always-met un) .0) in
+      (z, omega (arith, h .splits .before, ap (λ (i : ℕ). length (bytesOf (take i ss))) z))
+
+  -- ---- question 8
+
+  pub met-few : length ss ≤ 8
+  met-few = h .added .measured .few
+
+  abbrev asked : Bool
+  asked = fits standard (typeView ty) (combined (k .left) (k .right))
+
+  -- one snapshot more, of a versioned type
+  pub fits-unmet :
+      (n : Bool) → n ≡ leb (length (union texts (k .left .headed .head .parents) (k .right .headed .head .parents))) 32 → n ≡ true →
+      p .meets ≡ false → ltb (m .count) 8 ≡ asked
+  fits-unmet n w o q = ⊎-elim below above (lt-or-ge (m .count) 8)
+    where
+      many : m .count + 1 ≡ length (combined (k .left) (k .right) .snapshots)
+      many = ap (λ (i : ℕ). i + 1) (h .added .measured .count) ∙ sym (many-unmet q)
+
+      marked : 0 < t .mark
+      marked = ⊎-elim (λ (v : 0 < t .mark). v) (λ (un : t .mark ≤ 0). absurd (unlike (sym (always-met un) ∙ q))) (lt-or-ge 0 (t .mark))
+        where
+          unlike : true ≡ false → ⊥
+          unlike z = never (cc)
+
+      below : m .count < 8 → ltb (m .count) 8 ≡ asked
+      below l = lt-ltb (m .count) 8 l ∙ fits-versioned k n w o (m .count + 1) many (omega arith) marked
+
+      above : 8 ≤ m .count → ltb (m .count) 8 ≡ asked
+      above l = le-ltb (m .count) 8 l ∙ fits-versions k n w o (m .count + 1) many (omega arith)
+
+  module _ (un : t .mark ≤ 0) where
+    abbrev first : Snapshot
+    first = getD ss 0 noSnapshot
+
+    first-read : readSnapshot (drop body sofar) ≡ got first (drop (start + p .size) sofar)
+    first-read =
+        let at = first-place un in
+        ap (λ (i : ℕ). readSnapshot (drop i sofar)) (sym (at .1))
+        ∙ met-stands (always-met un) .is
+        ∙ ap (λ (i : ℕ). got (getD ss i noSnapshot) (drop (start + p .size) sofar)) (at .0)
+
+    pub promised-first : (body ≤ length sofar) × (readSnapshot (drop body sofar) ≡ fail → ⊥)
+    promised-first = (h .begins, λ z. never-read (sym first-read ∙ z))
+      where
+        never-read : got first (drop (start + p .size) sofar) ≡ fail → ⊥
+        never-read z = never (cc)
+
+    -- what counting the objects of both says is what the question asks
+    pub first-joined :
+        {r : Bool} →
+        ((u : List ℕ) (tz : EventType) (a b : Snapshot) (rest : List ℕ) → PropertiesAre u (tz .properties) (t .count) ps → isVersioned tz ≡ false →
+        Meet tz a b → readSnapshot (drop body sofar) ≡ got a rest → e .objects ≡ sizes (b .cells) → SetsAre event (map held (b .cells)) ats →
+        r ≡ leb (sizes (joinSnapshots (typeView tz) a b .cells)) 256) →
+        r ≡ leb (sizes (joinSnapshots (typeView ty) first (getD (k .right .headed .snapshots) 0 noSnapshot) .cells)) 256
+    first-joined says =
+        says table ty first y _ (k .typed .are) (unversioned k un)
+        (subst (λ (i : ℕ). Meet ty (getD ss i noSnapshot) y) (first-place un .0) (met-meet (always-met un))) first-read y-objects (y-cells .sets)
+        ∙ ap (λ (zs : List Snapshot). leb (sizes (joinSnapshots (typeView ty) first (getD zs 0 noSnapshot) .cells)) 256) (sym right-snapshots)

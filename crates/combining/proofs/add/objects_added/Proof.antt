@@ -1,0 +1,61 @@
+-- The snapshot that is promised at `at` is the left one of the two: its numbers and its row are what joining it with the event's snapshot is counted by.
+use borrow.Author.Needs.{needs}
+use Rattle.dossier.proofs.DossierReadLaws.{snapshot-read, snapshot-refused}
+use Rattle.combining.proofs.AddLaws.{read-is}
+use Rattle.combining.proofs.add.objects_added.Statement.{statement}
+use Rattle.combining.proofs.add.objects_added.Tie as tie
+
+-- ---- the places
+
+abbrev to-start : tie.After-row → tie.Start
+to-start c = c .before .before .before .before .before
+
+abbrev read-to-start : tie.After-read-snapshot → tie.Start
+read-to-start c = to-start (c .before)
+
+-- ---- the needs
+
+slice-aggregate-read-snapshot : tie.Need-slice-aggregate-read-snapshot
+slice-aggregate-read-snapshot c = search needs
+
+read-snapshot-requires : tie.Need-read-snapshot-requires
+read-snapshot-requires c κs =
+    let promised = to-start c .pre .1 in
+    (promised .0, search needs, λ known. promised .1)
+
+enum-known-x : tie.Need-enum-known-x
+enum-known-x c = search needs
+
+enum-told : tie.Need-enum-told
+enum-told c = search needs
+
+returns : tie.Need-returns
+returns c = λ u ty left right rest typed un meet e objects sets.
+    let read = c .before .before .before in
+    absurd (read-to-start read .pre .1 .1 (snapshot-refused _ _ _ (c .enum-told .given .1) (read .read-snapshot .ensures)))
+
+slice-aggregate-objects-fit : tie.Need-slice-aggregate-objects-fit
+slice-aggregate-objects-fit c = search needs
+
+objects-fit-requires : tie.Need-objects-fit-requires
+objects-fit-requires c κs = search needs
+
+returns-2 : tie.Need-returns-2
+returns-2 c = λ u ty left right rest typed un meet e objects sets.
+    let at-x = c .before .before .before in
+    let read = at-x .before .before .before in
+    let is = read-is (snapshot-read (at-x .x .given .1) (read .read-snapshot .ensures)) e in
+    c .objects-fit .ensures u ty left right typed un meet (is .objects) objects (is .sets) sets
+
+pub objects-added-spec : {M : Type 1} → statement M
+objects-added-spec =
+    tie.close
+    (tie.spec
+    slice-aggregate-read-snapshot
+    read-snapshot-requires
+    enum-known-x
+    enum-told
+    returns
+    slice-aggregate-objects-fit
+    objects-fit-requires
+    returns-2)

@@ -1,0 +1,378 @@
+// An event added to a dossier, which is known by its measures: the snapshots of other versions are copied as they stand, and at most one of them is read.
+ghost use Prim.Native.Nat.{ℕ, _+_, _≤_};
+ghost use mathlib.Core.Path.{_≡_};
+ghost use mathlib.Core.Bool.{false, cond};
+ghost use mathlib.Core.List.{List, map};
+ghost use lib.ListN.{length, drop};
+ghost use lib.Dec.{leb};
+ghost use Rattle.model.specs.Rule.{Snapshot, joinSnapshots, sizes};
+ghost use Rattle.model.specs.Limits.{standard, fits};
+ghost use Rattle.model.specs.Opening.{held};
+ghost use Rattle.packed.specs.Parse.{fail, got};
+ghost use Rattle.packed.specs.code.Written.{Wrote};
+ghost use Rattle.replies.specs.Capacities.{dossierCapacity};
+ghost use Rattle.replies.specs.Replies.{replies};
+ghost use Rattle.replies.specs.declared.reply.Reply.the-variants.{Done};
+ghost use Rattle.ontology.specs.Table.{EventType, isVersioned};
+ghost use Rattle.ontology.specs.code.TypeIndex.{PropertiesAre};
+ghost use Rattle.event.specs.Event.{typeView, versionOf};
+ghost use Rattle.event.specs.code.EventIndex.{SetsAre};
+ghost use Rattle.dossier.specs.DossierBody.{readSnapshot, snapshotBytes};
+ghost use Rattle.combining.specs.CombineCall.{combined, combineCall};
+ghost use Rattle.combining.specs.code.CombineIndex.{Meet};
+ghost use Rattle.combining.specs.code.AddIndex.{bytesOf, Measured, Addable, Adding, AddingIn, Met, MetRoom, newSnapshot, NewRoom, WithRoom};
+ghost use Rattle.combining.specs.code.AddIndex.{Inside, addedBytes, AddedRoom};
+use crate::agreed::write_agreed;
+use crate::check::version_of;
+use crate::check::write_alone;
+use crate::joined::write_joined;
+use crate::limits::objects_fit;
+use crate::limits::parents_fit;
+use crate::measures::Measures;
+use crate::measures::Place;
+use crate::measures::place_of;
+use crate::measures::with_snapshot;
+use crate::write::write_heads;
+use dossier::head::DossierHeadRead;
+use dossier::head::read_dossier_head;
+use dossier::snapshots::SnapshotRead;
+use dossier::snapshots::read_snapshot;
+use event::head::HeadAt;
+use event::read::EventIndex;
+use event::read::read_event;
+use ontology::types::TypeIndex;
+use packed::order::same;
+use packed::read::part_of;
+use packed::write::copy;
+use packed::write::copy_part;
+use packed::write::write_number;
+use replies::reply::Reply;
+use values::versions::EventVersion;
+
+// What adding an event replies, and the measures of the dossier that was written.
+pub struct Added {
+    pub reply: Reply,
+    pub measures: Measures,
+}
+
+fn answer(reply: Reply, measures: Measures) -> Added
+    ensures { λ r. ⌜ (r .reply ≡ reply) × (r .measures ≡ measures) ⌝ }
+{
+    Added { reply, measures }
+}
+
+// Where the snapshots that were written end, and how many bytes the one of the event's version has.
+struct SnapshotWritten {
+    next: usize,
+    size: usize,
+}
+
+// How many bytes a dossier has that was written, and its measures.
+struct DossierWritten {
+    size: usize,
+    measures: Measures,
+}
+
+// Question 8 of the objects of an unversioned dossier, whose only snapshot stands at `at`, and of an event.
+fn objects_added(
+    sofar: &[u8],
+    at: usize,
+    event: &[u8],
+    e: EventIndex,
+    sets: &[usize],
+    t: TypeIndex,
+    properties: &[usize],
+) -> bool
+    requires { ⌜ (t .count ≤ 32) × (length (now sets) ≡ 96) × (length (now properties) ≡ 96) ⌝ }
+    requires { ⌜ (at ≤ length (now sofar)) × (readSnapshot (drop at (now sofar)) ≡ fail → ⊥) ⌝ }
+    ensures { λ r. ⌜ ((u : List ℕ) (ty : EventType) (left right : Snapshot) (rest : List ℕ)
+        → PropertiesAre u (ty .properties) (t .count) (now (properties .entry)) → isVersioned ty ≡ false → Meet ty left right
+        → readSnapshot (drop at (now (sofar .entry))) ≡ got left rest → e .objects ≡ sizes (right .cells)
+        → SetsAre (now (event .entry)) (map held (right .cells)) (now (sets .entry))
+        → r ≡ leb (sizes (joinSnapshots (typeView ty) left right .cells)) 256) ⌝ }
+{
+    let mut row = [0usize; 96];
+    let SnapshotRead::Found(x, _) = read_snapshot(sofar, at, true, &mut row) else {
+        return false;
+    };
+    objects_fit(
+        sofar,
+        &row,
+        x.objects,
+        event,
+        sets,
+        e.objects,
+        t.count,
+        properties,
+    )
+}
+
+// Question 8 of a dossier and an event.
+fn added_fits(
+    sofar: &[u8],
+    x: HeadAt,
+    body: usize,
+    m: Measures,
+    p: Place,
+    event: &[u8],
+    e: EventIndex,
+    sets: &[usize],
+    t: TypeIndex,
+    properties: &[usize],
+) -> bool
+    requires { ⌜ (length (now sets) ≡ 96) × (length (now properties) ≡ 96) ⌝ }
+    requires { ⌜ AddingIn (now sofar) m (now event) e (now sets) x body p t (now properties) ⌝ }
+    ensures { λ r. ⌜ ((table : List ℕ) (h : Adding table (now (sofar .entry)) m (now (event .entry)) e (now (sets .entry)) x body p t (now (properties .entry)))
+        → r ≡ fits standard (typeView (h .added .both .left .type)) (combined (h .added .both .left) (h .added .both .right))) ⌝ }
+{
+    let y = e.head;
+    if !parents_fit(sofar, x.parents, event, y.parents) {
+        return false;
+    }
+    if !p.meets {
+        return m.count < 8;
+    }
+    if 0 < t.mark {
+        return true;
+    }
+    objects_added(sofar, body, event, e, sets, t, properties)
+}
+
+// Writes the event's snapshot together with the one of its version, which stands in `sofar` from `start` up to `end`. It is made apart first, since the two are
+// mostly the same, and the other one need not be read then.
+fn write_met<'a>(
+    version: EventVersion,
+    sofar: &'a [u8],
+    start: usize,
+    end: usize,
+    event: &'a [u8],
+    e: EventIndex,
+    sets: &[usize],
+    t: TypeIndex,
+    properties: &[usize],
+    lone: &mut [u8],
+    out: &mut [u8],
+    at: usize,
+) -> usize
+    requires { ⌜ (length (now sets) ≡ 96) × (length (now properties) ≡ 96)
+        × MetRoom version (now sofar) start end (now event) e (now sets) t (now properties) (length (now lone)) at (length (now out)) ⌝ }
+    ensures { λ r. ⌜ ((h : Met version (now (sofar .entry)) start end (now (event .entry)) e (now (sets .entry)) t (now (properties .entry)))
+        → Wrote (now (out .entry)) at (snapshotBytes (joinSnapshots (typeView (h .type)) (h .left) (h .right))) (now (out .exit)) r) ⌝ }
+{
+    let met = part_of(sofar, start, end);
+    let size = write_alone(event, e, sets, version, lone, 0);
+    if same(met, &lone[..size]) {
+        return copy(met, out, at);
+    }
+    let mut row = [0usize; 96];
+    let SnapshotRead::Found(x, _) = read_snapshot(sofar, start, true, &mut row) else {
+        return at;
+    };
+    if 0 < t.mark {
+        return write_agreed(version, sofar, &row, x.differ, event, sets, 0, out, at);
+    }
+    write_joined(sofar, &row, event, sets, t.count, properties, out, at)
+}
+
+// Writes the snapshot that the dossier has of the event's version then.
+fn write_new<'a>(
+    sofar: &'a [u8],
+    x: HeadAt,
+    body: usize,
+    m: Measures,
+    p: Place,
+    event: &'a [u8],
+    e: EventIndex,
+    sets: &[usize],
+    version: EventVersion,
+    t: TypeIndex,
+    properties: &[usize],
+    lone: &mut [u8],
+    out: &mut [u8],
+    at: usize,
+) -> usize
+    requires { ⌜ (length (now sets) ≡ 96) × (length (now properties) ≡ 96)
+        × NewRoom (now sofar) m (now event) e (now sets) x body p version t (now properties) (length (now lone)) at (length (now out)) ⌝ }
+    ensures { λ r. ⌜ ((table : List ℕ) (h : Adding table (now (sofar .entry)) m (now (event .entry)) e (now (sets .entry)) x body p t (now (properties .entry)))
+        → version .0 ≡ versionOf (h .added .new .event .type) (h .added .new .event .event)
+        → Wrote (now (out .entry)) at (snapshotBytes (newSnapshot h)) (now (out .exit)) r) ⌝ }
+{
+    if !p.meets {
+        return write_alone(event, e, sets, version, out, at);
+    }
+    let start = body + p.before;
+    let end = start + p.size;
+    write_met(
+        version,
+        sofar,
+        start,
+        end,
+        event,
+        e,
+        sets,
+        t,
+        properties,
+        lone,
+        out,
+        at,
+    )
+}
+
+// Writes the snapshots of the dossier with that one among them.
+fn write_with<'a>(
+    sofar: &'a [u8],
+    x: HeadAt,
+    body: usize,
+    m: Measures,
+    p: Place,
+    event: &'a [u8],
+    e: EventIndex,
+    sets: &[usize],
+    version: EventVersion,
+    t: TypeIndex,
+    properties: &[usize],
+    lone: &mut [u8],
+    out: &mut [u8],
+    at: usize,
+) -> SnapshotWritten
+    requires { ⌜ (length (now sets) ≡ 96) × (length (now properties) ≡ 96)
+        × WithRoom (now sofar) m (now event) e (now sets) x body p version t (now properties) (length (now lone)) at (length (now out)) ⌝ }
+    ensures { λ r. ⌜ ((table : List ℕ) (h : Adding table (now (sofar .entry)) m (now (event .entry)) e (now (sets .entry)) x body p t (now (properties .entry)))
+        → version .0 ≡ versionOf (h .added .new .event .type) (h .added .new .event .event)
+        → Wrote (now (out .entry)) at (bytesOf (combined (h .added .both .left) (h .added .both .right) .snapshots)) (now (out .exit)) (r .next)) ⌝ }
+    ensures size { λ r. ⌜ ((table : List ℕ)
+        (h : Adding table (now (sofar .entry)) m (now (event .entry)) e (now (sets .entry)) x body p t (now (properties .entry)))
+        → version .0 ≡ versionOf (h .added .new .event .type) (h .added .new .event .event)
+        → length (snapshotBytes (newSnapshot h)) ≡ r .size) ⌝ }
+{
+    let start = body + p.before;
+    let end = start + p.size;
+    let from = copy_part(sofar, body, start, out, at);
+    let to = write_new(
+        sofar,
+        x,
+        body,
+        m,
+        p,
+        event,
+        e,
+        sets,
+        version,
+        t,
+        properties,
+        lone,
+        out,
+        from,
+    );
+    SnapshotWritten {
+        next: copy_part(sofar, end, sofar.len(), out, to),
+        size: to - from,
+    }
+}
+
+// How many snapshots there are then.
+fn count_with(m: Measures, p: Place) -> usize
+    requires { ⌜ m .count ≤ 8 ⌝ }
+    ensures { λ r. ⌜ r ≡ cond (p .meets) (m .count) (m .count + 1) ⌝ }
+{
+    if p.meets { m.count } else { m.count + 1 }
+}
+
+// Writes the dossier with the event at the front of `out`.
+fn write_added<'a>(
+    sofar: &'a [u8],
+    x: HeadAt,
+    body: usize,
+    m: Measures,
+    p: Place,
+    event: &'a [u8],
+    e: EventIndex,
+    sets: &[usize],
+    version: EventVersion,
+    t: TypeIndex,
+    properties: &[usize],
+    lone: &mut [u8],
+    out: &mut [u8],
+) -> DossierWritten
+    requires { ⌜ (length (now sets) ≡ 96) × (length (now properties) ≡ 96)
+        × AddedRoom (now sofar) m (now event) e (now sets) x body p version t (now properties) (length (now lone)) (length (now out)) ⌝ }
+    ensures { λ r. ⌜ ((table : List ℕ) (h : Adding table (now (sofar .entry)) m (now (event .entry)) e (now (sets .entry)) x body p t (now (properties .entry)))
+        → version .0 ≡ versionOf (h .added .new .event .type) (h .added .new .event .event) → Inside h
+        → Wrote (now (out .entry)) 0 (addedBytes h) (now (out .exit)) (r .size)) ⌝ }
+    ensures measured { λ r. ⌜ ((table : List ℕ)
+        (h : Adding table (now (sofar .entry)) m (now (event .entry)) e (now (sets .entry)) x body p t (now (properties .entry)))
+        → version .0 ≡ versionOf (h .added .new .event .type) (h .added .new .event .event)
+        → Measured (combined (h .added .both .left) (h .added .both .right) .snapshots) (r .measures)) ⌝ }
+{
+    let y = e.head;
+    let after_head = write_heads(sofar, x, event, y, out);
+    let at = write_number(out, after_head, count_with(m, p) as u64);
+    let w = write_with(
+        sofar,
+        x,
+        body,
+        m,
+        p,
+        event,
+        e,
+        sets,
+        version,
+        t,
+        properties,
+        lone,
+        out,
+        at,
+    );
+    DossierWritten {
+        size: w.next,
+        measures: with_snapshot(m, p, version, w.size),
+    }
+}
+
+// An event that is known to be accepted, added to a dossier of which questions 2 to 7 are known to be answered yes.
+pub fn add_event<'a>(
+    table: &[u8],
+    sofar: &'a [u8],
+    m: Measures,
+    event: &'a [u8],
+    t: TypeIndex,
+    properties: &[usize],
+    lone: &mut [u8],
+    out: &mut [u8],
+) -> Added
+    requires { ⌜ Addable (now table) (now sofar) m (now event) t (now properties) × (length (now properties) ≡ 96) ⌝ }
+    requires { ⌜ (dossierCapacity ≤ length (now lone)) × (dossierCapacity ≤ length (now out)) ⌝ }
+    ensures { λ r. ⌜ ((h : Addable (now (table .entry)) (now (sofar .entry)) m (now (event .entry)) t (now (properties .entry)))
+        → replies (r .reply) (now (out .exit)) ≡ combineCall standard (now (table .entry)) (now (sofar .entry)) (h .lone) (now (out .entry))) ⌝ }
+    ensures measured { λ r. ⌜ ((h : Addable (now (table .entry)) (now (sofar .entry)) m (now (event .entry)) t (now (properties .entry)))
+        (n : ℕ) → r .reply ≡ Done n → Measured (combined (h .both .left) (h .both .right) .snapshots) (r .measures)) ⌝ }
+{
+    let mut sets = [0usize; 96];
+    let e = read_event(event, 8, 32, &mut sets);
+    let version = version_of(event, t, &sets);
+    let DossierHeadRead::Head(x, after_head) = read_dossier_head(sofar) else {
+        return answer(Reply::Refused(3), m);
+    };
+    // the count of snapshots is one byte
+    let body = after_head + 1;
+    let p = place_of(sofar, m, version);
+    if !added_fits(sofar, x, body, m, p, event, e, &sets, t, properties) {
+        return answer(Reply::Refused(8), m);
+    }
+    let w = write_added(
+        sofar,
+        x,
+        body,
+        m,
+        p,
+        event,
+        e,
+        &sets,
+        version,
+        t,
+        properties,
+        lone,
+        out,
+    );
+    answer(Reply::Done(w.size), w.measures)
+}
