@@ -17,8 +17,10 @@ ghost use Rattle.ontology.specs.Table.{EventType, isVersioned};
 ghost use Rattle.ontology.specs.code.TypeIndex.{PropertiesAre};
 ghost use Rattle.event.specs.Event.{typeView, versionOf};
 ghost use Rattle.event.specs.code.EventIndex.{SetsAre};
+ghost use Rattle.event.specs.declared.head.HeadAt.{HeadAt};
 ghost use Rattle.dossier.specs.DossierBody.{readSnapshot, snapshotBytes};
 ghost use Rattle.combining.specs.CombineCall.{combined, combineCall};
+ghost use Rattle.combining.specs.declared.measures.Measures.{Measures};
 ghost use Rattle.combining.specs.code.CombineIndex.{Meet};
 ghost use Rattle.combining.specs.code.AddIndex.{bytesOf, Measured, Addable, Adding, AddingIn, Met, MetRoom, newSnapshot, NewRoom, WithRoom};
 ghost use Rattle.combining.specs.code.AddIndex.{Inside, addedBytes, AddedRoom};
@@ -177,9 +179,7 @@ fn write_met<'a>(
 // Writes the snapshot that the dossier has of the event's version then.
 fn write_new<'a>(
     sofar: &'a [u8],
-    x: HeadAt,
     body: usize,
-    m: Measures,
     p: Place,
     event: &'a [u8],
     e: EventIndex,
@@ -192,8 +192,9 @@ fn write_new<'a>(
     at: usize,
 ) -> usize
     requires { ⌜ (length (now sets) ≡ 96) × (length (now properties) ≡ 96)
-        × NewRoom (now sofar) m (now event) e (now sets) x body p version t (now properties) (length (now lone)) at (length (now out)) ⌝ }
-    ensures { λ r. ⌜ ((table : List ℕ) (h : Adding table (now (sofar .entry)) m (now (event .entry)) e (now (sets .entry)) x body p t (now (properties .entry)))
+        × NewRoom (now sofar) (now event) e (now sets) body p version t (now properties) (length (now lone)) at (length (now out)) ⌝ }
+    ensures { λ r. ⌜ ((table : List ℕ) (m : Measures) (x : HeadAt)
+        (h : Adding table (now (sofar .entry)) m (now (event .entry)) e (now (sets .entry)) x body p t (now (properties .entry)))
         → version .0 ≡ versionOf (h .added .new .event .type) (h .added .new .event .event)
         → Wrote (now (out .entry)) at (snapshotBytes (newSnapshot h)) (now (out .exit)) r) ⌝ }
 {
@@ -221,9 +222,7 @@ fn write_new<'a>(
 // Writes the snapshots of the dossier with that one among them.
 fn write_with<'a>(
     sofar: &'a [u8],
-    x: HeadAt,
     body: usize,
-    m: Measures,
     p: Place,
     event: &'a [u8],
     e: EventIndex,
@@ -236,11 +235,12 @@ fn write_with<'a>(
     at: usize,
 ) -> SnapshotWritten
     requires { ⌜ (length (now sets) ≡ 96) × (length (now properties) ≡ 96)
-        × WithRoom (now sofar) m (now event) e (now sets) x body p version t (now properties) (length (now lone)) at (length (now out)) ⌝ }
-    ensures { λ r. ⌜ ((table : List ℕ) (h : Adding table (now (sofar .entry)) m (now (event .entry)) e (now (sets .entry)) x body p t (now (properties .entry)))
+        × WithRoom (now sofar) (now event) e (now sets) body p version t (now properties) (length (now lone)) at (length (now out)) ⌝ }
+    ensures { λ r. ⌜ ((table : List ℕ) (m : Measures) (x : HeadAt)
+        (h : Adding table (now (sofar .entry)) m (now (event .entry)) e (now (sets .entry)) x body p t (now (properties .entry)))
         → version .0 ≡ versionOf (h .added .new .event .type) (h .added .new .event .event)
         → Wrote (now (out .entry)) at (bytesOf (combined (h .added .both .left) (h .added .both .right) .snapshots)) (now (out .exit)) (r .next)) ⌝ }
-    ensures size { λ r. ⌜ ((table : List ℕ)
+    ensures size { λ r. ⌜ ((table : List ℕ) (m : Measures) (x : HeadAt)
         (h : Adding table (now (sofar .entry)) m (now (event .entry)) e (now (sets .entry)) x body p t (now (properties .entry)))
         → version .0 ≡ versionOf (h .added .new .event .type) (h .added .new .event .event)
         → length (snapshotBytes (newSnapshot h)) ≡ r .size) ⌝ }
@@ -250,9 +250,7 @@ fn write_with<'a>(
     let from = copy_part(sofar, body, start, out, at);
     let to = write_new(
         sofar,
-        x,
         body,
-        m,
         p,
         event,
         e,
@@ -264,9 +262,10 @@ fn write_with<'a>(
         out,
         from,
     );
+    let size = to - from;
     SnapshotWritten {
         next: copy_part(sofar, end, sofar.len(), out, to),
-        size: to - from,
+        size,
     }
 }
 
@@ -309,9 +308,7 @@ fn write_added<'a>(
     let at = write_number(out, after_head, count_with(m, p) as u64);
     let w = write_with(
         sofar,
-        x,
         body,
-        m,
         p,
         event,
         e,

@@ -97,6 +97,14 @@ pub record AddingIn
   pub table : List ℕ
   pub is : Adding table sofar m event e ats x body p t ps
 
+-- with some measures and some head besides
+pub record AddingAt
+    (sofar event : List ℕ) (e : EventIndex) (ats : List ℕ) (body : ℕ) (p : Place) (t : TypeIndex) (ps : List ℕ) : Type 0 where
+  pub table : List ℕ
+  pub measures : Measures
+  pub head : HeadAt
+  pub is : Adding table sofar measures event e ats head body p t ps
+
 -- the snapshot of an event
 abbrev pub alone : Typed → Snapshot
 alone a = record { version = versionOf (a .type) (a .event); cells = map (λ p. holds (setAt (a .event) p)) (upTo 32) }
@@ -137,18 +145,18 @@ newSnapshot {p = p} h = metWith (h .added .both .left .type) (h .added .both .le
 
 -- it has its room in an output of `size` bytes; `apart` bytes are scratch
 pub record NewRoom
-    (sofar : List ℕ) (m : Measures) (event : List ℕ) (e : EventIndex) (ats : List ℕ) (x : HeadAt) (body : ℕ) (p : Place) (version : EventVersion)
-    (t : TypeIndex) (ps : List ℕ) (apart at size : ℕ) : Type 0 where
-  pub in-some : AddingIn sofar m event e ats x body p t ps
+    (sofar event : List ℕ) (e : EventIndex) (ats : List ℕ) (body : ℕ) (p : Place) (version : EventVersion) (t : TypeIndex) (ps : List ℕ)
+    (apart at size : ℕ) : Type 0 where
+  pub in-some : AddingAt sofar event e ats body p t ps
   pub number : version .0 ≡ versionOf (in-some .is .added .new .event .type) (in-some .is .added .new .event .event)
   pub scratch : dossierCapacity ≤ apart
   pub room : at + length (snapshotBytes (newSnapshot (in-some .is))) ≤ size
 
 -- the snapshots of a dossier and of an event together, from `at` on, have their room
 pub record WithRoom
-    (sofar : List ℕ) (m : Measures) (event : List ℕ) (e : EventIndex) (ats : List ℕ) (x : HeadAt) (body : ℕ) (p : Place) (version : EventVersion)
-    (t : TypeIndex) (ps : List ℕ) (apart at size : ℕ) : Type 0 where
-  pub in-some : AddingIn sofar m event e ats x body p t ps
+    (sofar event : List ℕ) (e : EventIndex) (ats : List ℕ) (body : ℕ) (p : Place) (version : EventVersion) (t : TypeIndex) (ps : List ℕ)
+    (apart at size : ℕ) : Type 0 where
+  pub in-some : AddingAt sofar event e ats body p t ps
   pub number : version .0 ≡ versionOf (in-some .is .added .new .event .type) (in-some .is .added .new .event .event)
   pub scratch : dossierCapacity ≤ apart
   pub room : at + length (bytesOf (combined (in-some .is .added .both .left) (in-some .is .added .both .right) .snapshots)) ≤ size

@@ -98,7 +98,7 @@ write-with-requires c κs =
       s .pre .0,
       s .pre .1,
       record {
-        in-some = r .in-some;
+        in-some = record { table = _; measures = _; head = _; is = is s };
         number = r .number;
         scratch = r .scratch;
         room = omega (
@@ -131,8 +131,8 @@ returns c =
     let at = to-heads (to-count numbered) in
     let s = heads-to-start at in (
       λ table h n within. known-wrote (h .added .both) _ (many (to-count numbered) h) (at .write-heads .ensures _ _ (heads s h))
-          (numbered .write-number .ensures) (wrote .write-with .ensures .0 table h n),
-      λ table h n. measured-with h n (wrote .write-with .ensures .1 table h n) (c .with-snapshot .ensures),
+          (numbered .write-number .ensures) (wrote .write-with .ensures .0 table _ _ h n),
+      λ table h n. measured-with h n (wrote .write-with .ensures .1 table _ _ h n) (c .with-snapshot .ensures),
     )
 
 pub write-added-spec : {M : Type 1} → statement M

@@ -25,7 +25,7 @@ met-to-start c = to-start (c .before .before)
 
 abbrev room :
     (c : tie.Start) → let a = c .args in
-    NewRoom (now (a .sofar)) (a .m) (now (a .event)) (a .e) (now (a .sets)) (a .x) (a .body) (a .p) (a .version) (a .t) (now (a .properties))
+    NewRoom (now (a .sofar)) (now (a .event)) (a .e) (now (a .sets)) (a .body) (a .p) (a .version) (a .t) (now (a .properties))
     (length (now (a .lone))) (a .at) (length (now (a .out)))
 room c = c .pre .2
 
@@ -54,7 +54,7 @@ same-length : tie.Need-same-length
 same-length c = search needs
 
 returns : tie.Need-returns
-returns c = λ table h n.
+returns c = λ table m x h n.
     let wrote = c .before .before in
     wrote-as (sym (new-alone-bytes h (unmet (wrote .before .before)) _ n)) (wrote .write-alone .ensures _ (h .read))
 
@@ -86,7 +86,7 @@ same-length-3 : tie.Need-same-length-3
 same-length-3 c = search needs
 
 returns-2 : tie.Need-returns-2
-returns-2 c = λ table h n.
+returns-2 c = λ table m x h n.
     let wrote = c .before .before .before .before in
     let q = met (wrote .before .before .before .before) in
     wrote-as (ap snapshotBytes (sym (new-met h q))) (wrote .write-met .ensures (met-both h q _ n))

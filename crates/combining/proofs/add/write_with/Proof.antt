@@ -26,21 +26,22 @@ lower-to-start c = to-start (c .before .before .before)
 abbrev to-new : tie.After-copy-part2 → tie.After-write-new
 to-new c = c .before .before .before .before .before .before
 
+abbrev written-new : tie.After-slice-known5 → tie.After-write-new
+written-new c = c .before .before .before .before
+
 -- ---- the facts
 
 module _ (c : tie.Start) where
   abbrev room :
       let a = c .args in
-      WithRoom (now (a .sofar)) (a .m) (now (a .event)) (a .e) (now (a .sets)) (a .x) (a .body) (a .p) (a .version) (a .t) (now (a .properties))
+      WithRoom (now (a .sofar)) (now (a .event)) (a .e) (now (a .sets)) (a .body) (a .p) (a .version) (a .t) (now (a .properties))
       (length (now (a .lone))) (a .at) (length (now (a .out)))
   room = c .pre .2
 
-  abbrev IsAdded : List ℕ → Type 0
-  IsAdded table =
+  abbrev is :
       let a = c .args in
-      Adding table (now (a .sofar)) (a .m) (now (a .event)) (a .e) (now (a .sets)) (a .x) (a .body) (a .p) (a .t) (now (a .properties))
-
-  abbrev is : IsAdded (room .in-some .table)
+      let s = room .in-some in
+      Adding (s .table) (now (a .sofar)) (s .measures) (now (a .event)) (a .e) (now (a .sets)) (s .head) (a .body) (a .p) (a .t) (now (a .properties))
   is = room .in-some .is
 
 -- ---- the needs
@@ -72,21 +73,21 @@ write-new-requires c κs =
       },
     )
 
+sub-size : tie.Need-sub-size
+sub-size c =
+    let new = written-new c in
+    let s = lower-to-start (to-lower new) in
+    omega (arith, new .write-new .ensures _ _ _ (is s) (room s .number) .after)
+
 copy-part-requires-2 : tie.Need-copy-part-requires-2
 copy-part-requires-2 c κs =
-    let new = c .before .before .before .before .before in
+    let new = written-new (c .before) in
     let lower = to-lower new in
     let s = lower-to-start lower in
     let r = room s in
     let w = lower .copy-part .ensures in
-    let v = new .write-new .ensures _ (is s) (r .number) in
+    let v = new .write-new .ensures _ _ _ (is s) (r .number) in
     (higher-there (is s) .0, omega arith, omega (arith, r .room, parts-length (is s), w .after, wrote-length w, v .after, wrote-length v))
-
-sub-t29 : tie.Need-sub-t29
-sub-t29 c =
-    let new = to-new (c .before .before) in
-    let s = lower-to-start (to-lower new) in
-    omega (arith, new .write-new .ensures _ (is s) (room s .number) .after)
 
 same-length : tie.Need-same-length
 same-length c = search needs
@@ -99,8 +100,8 @@ returns c =
     let higher = c .before .before in
     let new = to-new higher in
     let lower = to-lower new in (
-      λ table h n. wrote-parts h (lower .copy-part .ensures) (new .write-new .ensures table h n) (higher .copy-part2 .ensures),
-      λ table h n. omega (arith, new .write-new .ensures table h n .after),
+      λ table m x h n. wrote-parts h (lower .copy-part .ensures) (new .write-new .ensures table m x h n) (higher .copy-part2 .ensures),
+      λ table m x h n. omega (arith, new .write-new .ensures table m x h n .after),
     )
 
 pub write-with-spec : {M : Type 1} → statement M
@@ -111,8 +112,8 @@ write-with-spec =
     add-end
     copy-part-requires
     write-new-requires
+    sub-size
     copy-part-requires-2
-    sub-t29
     same-length
     same-length-2
     returns)
