@@ -4,17 +4,14 @@ use mathlib.Core.Bool.{Bool, true, false, cond, not, _&&_}
 use mathlib.Core.List.{List, [], _∷_, _++_, map}
 use Prim.Native.Nat.{ℕ, suc, _+_, _/_, _%_, _≤_, _<_}
 use native.Mathlib.Omega.{arith}
-use native.Mathlib.Numerals.{add-one}
 use lib.Dec.{ltb}
-use lib.ListN.{length, take, drop, set, getD, length-append, length-map, List·getD-map}
-use lib.Seq.{take-suc, take-suc-set, take-all}
+use lib.ListN.{length, drop, set, getD, replicate, length-append, length-map, List·getD-map}
 use borrow.Author.Tests.{lt-ltb}
 use Rattle.model.specs.Order.{Text, sets, equal}
 use Rattle.model.proofs.OrderLaws.{equal-true, equal-false}
 use Rattle.model.specs.Rule.{Cell, holds, differs, Choice, TypeView, Snapshot, places, joinCell, joinCells, joinSnapshots}
 use Rattle.model.specs.Opening.{held, isMark, cellAt}
-use Rattle.model.proofs.PartLaws.{length-upTo}
-use Rattle.model.proofs.StepLaws.{join-map, join-at}
+use Rattle.model.proofs.StepLaws.{join-at}
 use Rattle.packed.specs.Packed.{number}
 use Rattle.packed.specs.code.Written.{Wrote}
 use Rattle.packed.proofs.WriteLaws.{wrote-then, wrote-as}
@@ -28,9 +25,10 @@ use Rattle.event.proofs.SetWriteLaws.{present-nil, present-cons}
 use Rattle.dossier.specs.DossierBody.{differBit, snapshotBytes}
 use Rattle.dossier.specs.code.DossierIndex.{CellsAre}
 use Rattle.dossier.proofs.CellLaws.{held-at, bit-here, bits-next}
-use Rattle.combining.specs.code.CombineIndex.{Shared}
+use Rattle.combining.specs.code.CombineIndex.{VacantFrom, Shared}
 use Rattle.combining.specs.code.AgreedIndex.{isAgreed, isFilled, PlacesAre}
 use Rattle.combining.specs.declared.agreed.Places.{Places}
+use Rattle.combining.proofs.PlaceLaws.{joined-long, joined-vacant, FilledOnly, only-none, only-more, only-list}
 
 -- ---- a place
 
@@ -122,16 +120,19 @@ mark-bits [] = refl
 mark-bits (differs ∷ cs) = ap (λ (l : List ℕ). 1 ∷ l) (mark-bits cs)
 mark-bits (holds s ∷ cs) = ap (λ (l : List ℕ). 0 ∷ l) (mark-bits cs)
 
--- the first k elements are right, and so is the next one
-take-step :
-    {A : Type 0} (l w : List A) (k : ℕ) (a d : A) → k < length l → k < length w → a ≡ getD w k d → take k l ≡ take k w →
-    take (k + 1) (set l k a) ≡ take (k + 1) w
-take-step {A} l w k a d h i e q = rw add-one (take-suc-set l k a h ∙ ap₂ (λ (r : List A) (z : A). r ++ (z ∷ [])) q e ∙ sym (take-suc w k d i))
+-- what some cells have at a place
+filled-at : (cs : List Cell) (k : ℕ) → getD (map isFilled cs) k false ≡ isFilled (getD cs k (holds []))
+unfolding isFilled
+filled-at cs k = List·getD-map isFilled cs k (holds [])
+
+mark-at : (cs : List Cell) (k : ℕ) → getD (map isMark cs) k false ≡ isMark (getD cs k (holds []))
+unfolding isMark
+mark-at cs k = List·getD-map isMark cs k (holds [])
 
 -- The first k places are found; m and n have the differ bits of the others
 pub record PlacesSofar (ty : EventType) (left right : Snapshot) (present marked : List Bool) (m n k : ℕ) : Type 0 where
-  pub filled : take k present ≡ take k (map isFilled (joinSnapshots (typeView ty) left right .cells))
-  pub differing : take k marked ≡ take k (map isMark (joinSnapshots (typeView ty) left right .cells))
+  pub filled : FilledOnly (λ p. getD (map isFilled (joinSnapshots (typeView ty) left right .cells)) p false) present k
+  pub differing : FilledOnly (λ p. getD (map isMark (joinSnapshots (typeView ty) left right .cells)) p false) marked k
   pub left-bits : m ≡ bitNumber (map differBit (drop k (left .cells)))
   pub right-bits : n ≡ bitNumber (map differBit (drop k (right .cells)))
 
@@ -147,10 +148,6 @@ module _
   abbrev joined : List Cell
   joined = joinSnapshots (typeView ty) left right .cells
 
-  joined-long : length joined ≡ 32
-  unfolding typeView eventView places
-  joined-long = ap length (join-map (typeView ty) left right left-long right-long) ∙ simp (length-map, length-upTo)
-
   abbrev leftAt : ℕ → Cell
   leftAt k = getD (left .cells) k (holds [])
 
@@ -163,8 +160,8 @@ module _
       join-at (typeView ty) left right left-long right-long k h
       ∙ ap (λ (f : Bool). joinCell f (typeView ty .choice k) (leftAt k) (rightAt k)) v
 
-  pub places-none : (present marked : List Bool) → PlacesSofar ty left right present marked e f 0
-  places-none present marked = record { filled = refl; differing = refl; left-bits = x .bits; right-bits = y .bits }
+  pub places-none : PlacesSofar ty left right (replicate 32 false) (replicate 32 false) e f 0
+  places-none = record { filled = only-none; differing = only-none; left-bits = x .bits; right-bits = y .bits }
 
   module _ (present marked : List Bool) (m n k : ℕ) (h : k < 32) (t : PlacesSofar ty left right present marked m n k) where
     pub places-marks : m % 2 + n % 2 ≡ differBit (leftAt k) + differBit (rightAt k)
@@ -179,43 +176,45 @@ module _
     -- whether it has objects, and whether it is marked
     has-objects :
         (kept fill : Bool) → kept ≡ isAgreed (leftAt k) (rightAt k) → fill ≡ (kept && ltb 0 (setIn ats k .count)) →
-        fill ≡ getD (map isFilled joined) k (isFilled (holds []))
+        fill ≡ getD (map isFilled joined) k false
     has-objects kept fill g o =
         o ∙ ap₂ (λ (z : Bool) (c : ℕ). z && ltb 0 c) g (left-set .count)
         ∙ sym (join-filled (typeView ty .choice k) (leftAt k) (rightAt k))
         ∙ ap isFilled (sym (joined-at k h))
-        ∙ sym (List·getD-map isFilled joined k (holds []))
+        ∙ sym (filled-at joined k)
 
-    is-marked : (kept : Bool) → kept ≡ isAgreed (leftAt k) (rightAt k) → not kept ≡ getD (map isMark joined) k (isMark (holds []))
+    is-marked : (kept : Bool) → kept ≡ isAgreed (leftAt k) (rightAt k) → not kept ≡ getD (map isMark joined) k false
     is-marked kept g =
         ap not g
         ∙ sym (join-mark (typeView ty .choice k) (leftAt k) (rightAt k))
         ∙ ap isMark (sym (joined-at k h))
-        ∙ sym (List·getD-map isMark joined k (holds []))
+        ∙ sym (mark-at joined k)
 
     pub places-more :
         (kept fill : Bool) → kept ≡ isAgreed (leftAt k) (rightAt k) → fill ≡ (kept && ltb 0 (setIn ats k .count)) →
-        length present ≡ 32 → length marked ≡ 32 →
         PlacesSofar ty left right (set present k fill) (set marked k (not kept)) (m / 2) (n / 2) (k + 1)
-    places-more kept fill g o p q =
-        let filled-inside : k < length (map isFilled joined) = omega (arith, length-map joined isFilled, joined-long) in
-        let marked-inside : k < length (map isMark joined) = omega (arith, length-map joined isMark, joined-long) in
-        record {
-          filled = take-step present (map isFilled joined) k fill (isFilled (holds [])) (omega arith) filled-inside (has-objects kept fill g o) (t .filled);
-          differing = take-step marked (map isMark joined) k (not kept) (isMark (holds [])) (omega arith) marked-inside (is-marked kept g) (t .differing);
-          left-bits = bits-next (left .cells) k m (t .left-bits);
-          right-bits = bits-next (right .cells) k n (t .right-bits);
-        }
+    places-more kept fill g o = record {
+      filled = only-more (t .filled) h (has-objects kept fill g o);
+      differing = only-more (t .differing) h (is-marked kept g);
+      left-bits = bits-next (left .cells) k m (t .left-bits);
+      right-bits = bits-next (right .cells) k n (t .right-bits);
+    }
 
+  -- the places from `count` on have nothing and no mark, as the bits of the loop have there
   pub places-all :
-      (p : Places) (m n k : ℕ) → 32 ≤ k → length (p .present) ≡ 32 → length (p .marked) ≡ 32 →
+      {count : ℕ} (p : Places) (m n k : ℕ) → VacantFrom count (left .cells) → VacantFrom count (right .cells) → count ≤ k →
       PlacesSofar ty left right (p .present) (p .marked) m n k → PlacesAre joined p
-  places-all p m n k h q r t =
-      let filled-past : length (map isFilled joined) ≤ k = omega (arith, length-map joined isFilled, joined-long) in
-      let marked-past : length (map isMark joined) ≤ k = omega (arith, length-map joined isMark, joined-long) in
+  unfolding isFilled isMark
+  places-all p m n k v w h t =
+      let long = joined-long ty left right left-long right-long in
+      let past : VacantFrom _ joined = joined-vacant ty left right left-long right-long v w in
       record {
-        present = sym (take-all k (p .present) (omega arith)) ∙ t .filled ∙ take-all k (map isFilled joined) filled-past;
-        marked = sym (take-all k (p .marked) (omega arith)) ∙ t .differing ∙ take-all k (map isMark joined) marked-past;
+        present =
+            only-list (length-map joined isFilled ∙ long) (t .filled)
+            (λ q l i. filled-at joined q ∙ ap isFilled (past .each q (omega arith)));
+        marked =
+            only-list (length-map joined isMark ∙ long) (t .differing)
+            (λ q l i. mark-at joined q ∙ ap isMark (past .each q (omega arith)));
       }
 
   -- ---- written

@@ -6,7 +6,7 @@ use mathlib.Core.List.{List, [], _∷_, _++_, map, flatten, append-nil, List·Me
 use Prim.Native.Nat.{ℕ, zero, suc, _+_, _-_, _≤_, _<_}
 use native.Mathlib.Omega.{arith}
 use native.Mathlib.Numerals.{add-one}
-use lib.Dec.{ltb, leb, eqb}
+use lib.Dec.{ltb, eqb}
 use lib.ListN.{length, take, drop, getD, getElem?, length-append, length-map}
 use lib.Seq.{take-all}
 use borrow.Author.Tests.{lt-ltb, le-ltb, leb-true, eqb-true, not-true}
@@ -31,7 +31,7 @@ use Rattle.ontology.specs.declared.properties.PropertyAt.{PropertyAt}
 use Rattle.ontology.proofs.TypeIndexLaws.{max-of}
 use Rattle.event.specs.Event.{typeView, eventView}
 use Rattle.event.specs.EventLayout.{setBytes, setsBytes, presenceBit, bitNumber}
-use Rattle.event.specs.EventQuestions.{areInSpace, matchCount, valuesFit}
+use Rattle.event.specs.EventQuestions.{areInSpace, valuesFit}
 use Rattle.event.specs.code.EventIndex.{SetIs, SetsAre, setIn, bitOf}
 use Rattle.event.proofs.SetLaws.{set-read}
 use Rattle.event.specs.declared.sets.SetAt.{SetAt}
@@ -42,14 +42,15 @@ use Rattle.event.proofs.SetWriteLaws.{set-some, set-room, wrote-set}
 use Rattle.unions.specs.declared.pair.Joined.{Joined}
 use Rattle.unions.specs.code.Runs.{TextsRoom, WroteUnion}
 use Rattle.dossier.specs.DossierBody.{readSnapshot, differBit, snapshotBytes}
-use Rattle.dossier.specs.DossierQuestions.{eachCell, isVacant, isPresent, isLone, isLoneIfExtreme, snapshotValues}
+use Rattle.dossier.specs.DossierQuestions.{isVacant, isPresent, isLone, isLoneIfExtreme, snapshotValues}
 use Rattle.dossier.specs.code.DossierIndex.{cellFits, versionFits, snapshotFits}
 use Rattle.dossier.proofs.DossierBodyLaws.{snapshot-was}
 use Rattle.dossier.proofs.CellLaws.{held-at}
 use Rattle.combining.specs.code.CombineIndex.{isExtremeAt, Fitting, Meet}
 use Rattle.combining.specs.code.JoinedIndex.{haveObjects, PresentAre, Extremes, joinedSet, ValuesAre, Paired, PlaceIs, PlaceRoom}
 use Rattle.combining.proofs.CheckLaws.{sets-held, none-differ}
-use Rattle.combining.proofs.ObjectLaws.{keeps-every, placeFits, fits-at}
+use Rattle.combining.proofs.ObjectLaws.{keeps-every}
+use Rattle.combining.proofs.PlaceLaws.{fits-parts, placeFits, place-fits}
 
 -- ---- the smaller or larger of two values
 
@@ -344,15 +345,8 @@ unfolding isLoneIfExtreme isLone
 lone-extreme q c h e = leb-true (length (held c)) 1 (rw e at h)
 
 module _ (ty : EventType) (x : Snapshot) (f : snapshotFits ty x ≡ true) (u : isVersioned ty ≡ false) where
-  fits-parts : (eachCell (cellFits (isVersioned ty)) isVacant (ty .properties) (x .cells) ≡ true) × (versionFits ty x ≡ true)
-  unfolding snapshotFits
-  fits-parts =
-      let cells = eachCell (cellFits (isVersioned ty)) isVacant (ty .properties) (x .cells) in
-      let (a, b) = and-parts (cells && leb (matchCount (ty .properties) (map held (x .cells))) 32) (versionFits ty x) f in
-      (and-parts cells _ a .0, b)
-
   cell-fits : (p : ℕ) → placeFits (isVersioned ty) (getElem? (ty .properties) p) (getD (x .cells) p (holds [])) ≡ true
-  cell-fits p = fits-at (isVersioned ty) (ty .properties) (x .cells) (fits-parts .0) p
+  cell-fits = place-fits ty x f
 
   plain-cell : (p : ℕ) → cellAt x p ≡ holds (setOf x p)
   unfolding cellAt
@@ -371,7 +365,7 @@ module _ (ty : EventType) (x : Snapshot) (f : snapshotFits ty x ≡ true) (u : i
 
   plain-version : x .version ≡ 0
   unfolding versionFits
-  plain-version = eqb-true (x .version) 0 (and-parts (eqb (x .version) 0) _ (rw u at (fits-parts .1)) .0)
+  plain-version = eqb-true (x .version) 0 (and-parts (eqb (x .version) 0) _ (rw u at (fits-parts ty x f .1)) .0)
 
 set-values : (ty : EventType) (x : Snapshot) → snapshotValues ty x ≡ true → (p : ℕ) (q : Property) → getElem? (ty .properties) p ≡ some q →
     areInSpace (q .kind) (setOf x p) ≡ true

@@ -4,6 +4,7 @@ pub mod CheckLaws
 pub mod MeasureLaws
 pub mod MeetLaws
 pub mod CountLaws
+pub mod PlaceLaws
 pub mod ObjectLaws
 pub mod SelfLaws
 pub mod FitLaws

@@ -74,9 +74,11 @@ module _
   pub same-room : equal texts left right ≡ true → at + length left ≤ size
   same-room e = omega (arith, r .room, ap length (same-written (r .shared .meet) (r .left-bytes) (r .right-bytes) e))
 
-  pub agreed-room : 0 < t .mark → AgreedRoom version a x m b y n at size
+  pub agreed-room : 0 < t .mark → AgreedRoom version a x m b y n (t .count) at size
   agreed-room h = record {
     type = r .type;
+    counted = r .typed .are .count;
+    few = r .typed .are .few;
     left = r .left;
     right = r .right;
     versioned = is-versioned (r .typed) h;

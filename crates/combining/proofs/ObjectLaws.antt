@@ -3,7 +3,7 @@ use mathlib.Core.Path.{_≡_, refl, sym, ap, ap₂, _∙_, subst}
 use mathlib.Core.Bool.{Bool, true, false, not, _&&_, _||_}
 use mathlib.Core.Option.{Option, none, some}
 use mathlib.Core.List.{List, [], _∷_, map}
-use Prim.Native.Nat.{ℕ, zero, suc, _+_, _-_, _≤_, _<_}
+use Prim.Native.Nat.{ℕ, _+_, _-_, _≤_, _<_}
 use native.Mathlib.Omega.{arith}
 use native.Mathlib.Numerals.{add-one}
 use lib.Dec.{leb}
@@ -26,15 +26,16 @@ use Rattle.ontology.proofs.TypeIndexLaws.{extreme-of}
 use Rattle.ontology.proofs.RunLaws.{no-element}
 use Rattle.event.specs.Event.{choiceOf, typeView, eventView}
 use Rattle.event.specs.code.EventIndex.{SetIs, SetsAre, setIn}
-use Rattle.event.specs.EventQuestions.{isEmpty, matchCount}
+use Rattle.event.specs.EventQuestions.{isEmpty}
 use Rattle.event.proofs.EventLayoutLaws.{SetWritten}
 use Rattle.event.proofs.EventQuestionLaws.{all-at, empty-written, choice-every, choice-least}
 use Rattle.event.proofs.MatchLaws.{elem}
-use Rattle.dossier.specs.DossierQuestions.{eachCell, isVacant, isPresent, isLone, isLoneIfExtreme, isUnmarkedMatch}
-use Rattle.dossier.specs.code.DossierIndex.{cellFits, versionFits, snapshotFits}
+use Rattle.dossier.specs.DossierQuestions.{isVacant, isPresent, isLone, isLoneIfExtreme, isUnmarkedMatch}
+use Rattle.dossier.specs.code.DossierIndex.{cellFits, snapshotFits}
 use Rattle.dossier.proofs.CellLaws.{held-at, leb-sub}
 use Rattle.dossier.proofs.DossierBodyLaws.{SnapshotWritten, snapshot-cells, snapshot-was}
 use Rattle.combining.specs.code.CombineIndex.{isExtremeAt, Meet}
+use Rattle.combining.proofs.PlaceLaws.{placeFits, place-fits}
 
 -- ---- strategy min or max
 
@@ -148,23 +149,6 @@ objects-few t x y m n p q h =
 
 -- ---- the cells of an unversioned snapshot of which question 5 is answered yes
 
--- what is asked of the cell of a place, which has no property where there is none
-unfoldable pub placeFits : Bool → Option Property → Cell → Bool
-placeFits versioned none c = isVacant c
-placeFits versioned (some p) c = cellFits versioned p c
-
-pub fits-at :
-    (f : Bool) (ps : List Property) (cs : List Cell) → eachCell (cellFits f) isVacant ps cs ≡ true → (p : ℕ) →
-    placeFits f (getElem? ps p) (getD cs p (holds [])) ≡ true
-unfolding eachCell placeFits isVacant isMark held
-fits-at f [] [] h p = refl
-fits-at f [] (c ∷ cs) h zero = and-parts (isVacant c) _ h .0
-fits-at f [] (c ∷ cs) h (suc p) = fits-at f [] cs (and-parts (isVacant c) _ h .1) p
-fits-at f (q ∷ ps) [] h zero = and-parts (cellFits f q (holds [])) _ h .0
-fits-at f (q ∷ ps) [] h (suc p) = fits-at f ps [] (and-parts (cellFits f q (holds [])) _ h .1) p
-fits-at f (q ∷ ps) (c ∷ cs) h zero = and-parts (cellFits f q c) _ h .0
-fits-at f (q ∷ ps) (c ∷ cs) h (suc p) = fits-at f ps cs (and-parts (cellFits f q c) _ h .1) p
-
 -- a cell at a place: it is not marked, and where its strategy is min or max it has one value at most
 pub record PlainCell (ty : EventType) (k : ℕ) (c : Cell) : Type 0 where
   pub holds-it : c ≡ holds (held c)
@@ -198,13 +182,7 @@ module _ (ty : EventType) (x : Snapshot) (w : SnapshotWritten x) (un : isVersion
   cell = getD (x .cells) k (holds [])
 
   fits-here : placeFits false (getElem? (ty .properties) k) cell ≡ true
-  unfolding snapshotFits
-  fits-here =
-      let cells = eachCell (cellFits (isVersioned ty)) isVacant (ty .properties) (x .cells) in
-      let matches = leb (matchCount (ty .properties) (map held (x .cells))) 32 in
-      let a = and-parts (cells && matches) (versionFits ty x) fits .0 in
-      let b = and-parts cells matches a .0 in
-      fits-at false (ty .properties) (x .cells) (subst (λ (f : Bool). eachCell (cellFits f) isVacant (ty .properties) (x .cells) ≡ true) un b) k
+  fits-here = subst (λ (f : Bool). placeFits f (getElem? (ty .properties) k) cell ≡ true) un (place-fits ty x fits k)
 
   pub plain-cell : PlainCell ty k cell
   unfolding isExtremeAt

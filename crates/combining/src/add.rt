@@ -171,7 +171,18 @@ fn write_met<'a>(
         return at;
     };
     if 0 < t.mark {
-        return write_agreed(version, sofar, &row, x.differ, event, sets, 0, out, at);
+        return write_agreed(
+            version,
+            sofar,
+            &row,
+            x.differ,
+            event,
+            sets,
+            0,
+            t.count,
+            out,
+            at,
+        );
     }
     write_joined(sofar, &row, event, sets, t.count, properties, out, at)
 }

@@ -1,4 +1,4 @@
-ghost use Prim.Native.Nat.{_+_};
+ghost use Prim.Native.Nat.{_+_, _≤_};
 ghost use mathlib.Core.Path.{_≡_};
 ghost use mathlib.Core.Bool.{true, _&&_};
 ghost use lib.ListN.{length};
@@ -11,7 +11,7 @@ ghost use Rattle.event.specs.Event.{typeView};
 ghost use Rattle.event.specs.code.EventIndex.{SetIs};
 ghost use Rattle.dossier.specs.DossierBody.{differBit, snapshotBytes};
 ghost use Rattle.dossier.specs.code.DossierIndex.{CellsAre};
-ghost use Rattle.combining.specs.code.CombineIndex.{Shared, AgreedRoom};
+ghost use Rattle.combining.specs.code.CombineIndex.{VacantFrom, Shared, AgreedRoom};
 ghost use Rattle.combining.specs.code.AgreedIndex.{isAgreed, PlacesAre};
 use event::bits::number_of;
 use event::sets::SetAt;
@@ -53,11 +53,20 @@ fn has_objects(kept: bool, count: usize) -> bool
     if kept { 0 < count } else { false }
 }
 
-// The places of what two versioned snapshots are together.
-fn agreed_places(a: &[u8], x: &[usize], m: u64, b: &[u8], y: &[usize], n: u64) -> Places
-    requires { ⌜ (length (now x) ≡ 96) × (length (now y) ≡ 96) ⌝ }
+// The places of what two versioned snapshots are together, of a type that has `count` properties. A place past these is vacant in both, and stays so.
+fn agreed_places(
+    a: &[u8],
+    x: &[usize],
+    m: u64,
+    b: &[u8],
+    y: &[usize],
+    n: u64,
+    count: usize,
+) -> Places
+    requires { ⌜ (count ≤ 32) × (length (now x) ≡ 96) × (length (now y) ≡ 96) ⌝ }
     ensures { λ r. ⌜ ((ty : EventType) (left right : Snapshot) → isVersioned ty ≡ true
         → CellsAre (now (a .entry)) (left .cells) m (now (x .entry)) → CellsAre (now (b .entry)) (right .cells) n (now (y .entry))
+        → VacantFrom count (left .cells) → VacantFrom count (right .cells)
         → PlacesAre (joinSnapshots (typeView ty) left right .cells) r) ⌝ }
 {
     let mut p = Places {
@@ -67,7 +76,7 @@ fn agreed_places(a: &[u8], x: &[usize], m: u64, b: &[u8], y: &[usize], n: u64) -
     let mut left = m;
     let mut right = n;
     let mut k: usize = 0;
-    while k < 32 {
+    while k < count {
         let v = set_at(x, k);
         let w = set_at(y, k);
         let kept = is_kept(a, v, b, w, left % 2 + right % 2);
@@ -80,7 +89,7 @@ fn agreed_places(a: &[u8], x: &[usize], m: u64, b: &[u8], y: &[usize], n: u64) -
     p
 }
 
-// Writes what two versioned snapshots of one version are together.
+// Writes what two versioned snapshots of one version are together, of a type that has `count` properties.
 pub fn write_agreed(
     version: EventVersion,
     a: &[u8],
@@ -89,15 +98,17 @@ pub fn write_agreed(
     b: &[u8],
     y: &[usize],
     n: u64,
+    count: usize,
     out: &mut [u8],
     at: usize,
 ) -> usize
-    requires { ⌜ (length (now x) ≡ 96) × (length (now y) ≡ 96) × AgreedRoom version (now a) (now x) m (now b) (now y) n at (length (now out)) ⌝ }
-    ensures { λ r. ⌜ ((ty : EventType) (left right : Snapshot) → isVersioned ty ≡ true
+    requires { ⌜ (length (now x) ≡ 96) × (length (now y) ≡ 96)
+        × AgreedRoom version (now a) (now x) m (now b) (now y) n count at (length (now out)) ⌝ }
+    ensures { λ r. ⌜ ((ty : EventType) (left right : Snapshot) → isVersioned ty ≡ true → count ≡ length (ty .properties)
         → Shared version (now (a .entry)) (now (x .entry)) m (now (b .entry)) (now (y .entry)) n ty left right
         → Wrote (now (out .entry)) at (snapshotBytes (joinSnapshots (typeView ty) left right)) (now (out .exit)) r) ⌝ }
 {
-    let p = agreed_places(a, x, m, b, y, n);
+    let p = agreed_places(a, x, m, b, y, n, count);
     let present = p.present;
     let marked = p.marked;
     let presence = number_of(present);

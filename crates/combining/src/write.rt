@@ -60,7 +60,7 @@ pub fn write_shared<'a>(
         return copy(left, out, at);
     }
     if 0 < t.mark {
-        return write_agreed(version, a, x, m, b, y, n, out, at);
+        return write_agreed(version, a, x, m, b, y, n, t.count, out, at);
     }
     write_joined(a, x, b, y, t.count, properties, out, at)
 }

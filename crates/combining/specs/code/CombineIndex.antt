@@ -3,9 +3,9 @@ use Prim.Native.Nat.{ℕ, _+_, _^_, _≤_, _<_}
 use mathlib.Core.Path.{_≡_}
 use mathlib.Core.Bool.{Bool, true, false, _||_}
 use mathlib.Core.Option.{some}
-use mathlib.Core.List.{List, map}
-use lib.ListN.{length, getElem?}
-use Rattle.model.specs.Rule.{Snapshot, joinSnapshots}
+use mathlib.Core.List.{List, [], map}
+use lib.ListN.{length, getD, getElem?}
+use Rattle.model.specs.Rule.{Cell, holds, Snapshot, joinSnapshots}
 use Rattle.model.specs.Limits.{standard}
 use Rattle.model.specs.Opening.{held}
 use Rattle.packed.specs.Parse.{got}
@@ -52,6 +52,10 @@ pub record Combinable
 unfoldable pub isExtremeAt : EventType → ℕ → Bool
 isExtremeAt t p = atPlace false (λ (q : Property). isMin q || isMax q) (getElem? (t .properties) p)
 
+-- a place from `count` on has no objects and no mark
+pub record VacantFrom (count : ℕ) (cs : List Cell) : Type 0 where
+  pub each : (p : ℕ) → count ≤ p → getD cs p (holds []) ≡ holds []
+
 -- two snapshots of one version and one type, of each of which questions 5 and 6 are answered yes
 pub record Fitting (type : EventType) (left right : Snapshot) : Type 0 where
   pub left-fits : snapshotFits type left ≡ true
@@ -79,9 +83,11 @@ pub record Shared (version : EventVersion) (a x : List ℕ) (m : ℕ) (b y : Lis
   pub left-is : CellsAre a (left .cells) m x
   pub right-is : CellsAre b (right .cells) n y
 
--- what two versioned snapshots are together has its room in an output of `size` bytes
-pub record AgreedRoom (version : EventVersion) (a x : List ℕ) (m : ℕ) (b y : List ℕ) (n at size : ℕ) : Type 0 where
+-- what two versioned snapshots are together, of a type that has `count` properties, has its room in an output of `size` bytes
+pub record AgreedRoom (version : EventVersion) (a x : List ℕ) (m : ℕ) (b y : List ℕ) (n count at size : ℕ) : Type 0 where
   pub type : EventType
+  pub counted : count ≡ length (type .properties)
+  pub few : count ≤ 32
   pub left : Snapshot
   pub right : Snapshot
   pub versioned : isVersioned type ≡ true

@@ -177,7 +177,8 @@ returns-3 c = λ h.
     let marked = wrote .before .before .before in
     let at = to-x (marked .before) in
     let is = read-is (snapshot-read (at .x .given .1) (x-to-read at .read-snapshot .ensures)) (h .stands .is) in
-    wrote .write-agreed .ensures (h .type) (h .left) (h .right) (is-versioned (h .typed) (marked .if2 .taken)) (met-shared h is)
+    wrote .write-agreed .ensures (h .type) (h .left) (h .right) (is-versioned (h .typed) (marked .if2 .taken)) (h .typed .are .count)
+    (met-shared h is)
 
 slice-aggregate-write-joined : tie.Need-slice-aggregate-write-joined
 slice-aggregate-write-joined c = search needs

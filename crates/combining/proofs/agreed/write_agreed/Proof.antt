@@ -1,3 +1,5 @@
+-- The places of both together are found first, since the presence and the differ number stand before the sets. A set that is kept is the same on both sides,
+-- so the sets are written from the left one: those that the presence number names.
 use borrow.Author.Needs.{needs}
 use mathlib.Core.Path.{_≡_, refl}
 use mathlib.Core.Bool.{true}
@@ -12,6 +14,7 @@ use Rattle.packed.specs.Packed.{number}
 use Rattle.packed.proofs.WriteLaws.{Reached, reached-start, reached-by}
 use Rattle.ontology.specs.Table.{EventType, isVersioned}
 use Rattle.combining.specs.code.CombineIndex.{Shared}
+use Rattle.combining.proofs.PlaceLaws.{left-vacant, right-vacant}
 use Rattle.combining.proofs.AgreedLaws.{Both, both-found, both-length, wrote-both, kept}
 use Rattle.combining.proofs.agreed.write_agreed.Statement.{statement}
 use Rattle.combining.proofs.agreed.write_agreed.Tie as tie
@@ -59,17 +62,20 @@ module _ (c : tie.After-number-of2) where
 
   both :
       (ty : EventType) (left right : Snapshot) → let a = to-start c .args in
-      isVersioned ty ≡ true → Shared (a .version) (now (a .a)) (now (a .x)) (a .m) (now (a .b)) (now (a .y)) (a .n) ty left right →
+      isVersioned ty ≡ true → a .count ≡ length (ty .properties) →
+      Shared (a .version) (now (a .a)) (now (a .x)) (a .m) (now (a .b)) (now (a .y)) (a .n) ty left right →
       Both (a .version) (now (a .a)) (now (a .x)) (a .m) (now (a .b)) (now (a .y)) (a .n) presence differ ty left right
-  both ty left right v w =
+  both ty left right v n w =
       let found = to-places c .agreed-places in
-      both-found v w (found .result) (found .ensures ty left right v (w .left-is) (w .right-is)) (c .before .number-of .ensures) (c .number-of2 .ensures)
+      let fits = w .meet .fitting in
+      let places = found .ensures ty left right v (w .left-is) (w .right-is) (left-vacant fits n) (right-vacant fits n) in
+      both-found v w (found .result) places (c .before .number-of .ensures) (c .number-of2 .ensures)
 
   -- that of the room that is asked for
   abbrev asked :
       let p = to-start c .pre .2 in let a = to-start c .args in
       Both (a .version) (now (a .a)) (now (a .x)) (a .m) (now (a .b)) (now (a .y)) (a .n) presence differ (p .type) (p .left) (p .right)
-  asked = let p = to-start c .pre .2 in both (p .type) (p .left) (p .right) (p .versioned) (p .shared)
+  asked = let p = to-start c .pre .2 in both (p .type) (p .left) (p .right) (p .versioned) (p .counted) (p .shared)
 
   -- where each part ends
   abbrev version-end : ℕ
@@ -133,12 +139,12 @@ same-length : tie.Need-same-length
 same-length c = search needs
 
 returns : tie.Need-returns
-returns c = λ ty left right v w.
+returns c = λ ty left right v n w.
     let at-sets = c .before .before in
     let at-differ = to-differ (at-sets .before) in
     let at-presence = to-presence (at-differ .before) in
     let at-version = to-version (at-presence .before) in
-    wrote-both (both (numbers₁ at-version) ty left right v w)
+    wrote-both (both (numbers₁ at-version) ty left right v n w)
     (at-version .write-number .ensures) (at-presence .write-number2 .ensures) (at-differ .write-number3 .ensures)
     (at-sets .write-sets .ensures (map held (left .cells)) (w .left-is .sets))
 

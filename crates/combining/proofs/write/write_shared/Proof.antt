@@ -1,3 +1,5 @@
+-- Two snapshots of the same bytes are one, and together with itself a snapshot is itself. Of others the type's mark says by which of the two rules they are
+-- joined; each needs the count of the type's properties, past which both sides are vacant.
 use mathlib.Core.Path.{_≡_, sym, _∙_}
 use mathlib.Core.Bool.{true}
 use denote.Ref.{now}
@@ -48,7 +50,7 @@ same-length-2 c = search needs
 returns-2 : tie.Need-returns-2
 returns-2 c = λ u ty x y w s p q.
     let wrote = c .before .before in
-    wrote .write-agreed .ensures ty x y (is-versioned w (wrote .before .before .if2 .taken)) s
+    wrote .write-agreed .ensures ty x y (is-versioned w (wrote .before .before .if2 .taken)) (w .are .count) s
 
 write-joined-requires : tie.Need-write-joined-requires
 write-joined-requires c κs =
