@@ -35,7 +35,7 @@ use Rattle.event.specs.EventQuestions.{areInSpace, valuesFit}
 use Rattle.event.specs.code.EventIndex.{SetIs, SetsAre, setIn, bitOf}
 use Rattle.event.proofs.SetLaws.{set-read}
 use Rattle.event.specs.declared.sets.SetAt.{SetAt}
-use Rattle.event.proofs.BitLaws.{FilledTo, presence-bits}
+use Rattle.event.proofs.BitLaws.{presence-bits}
 use Rattle.event.proofs.EventLayoutLaws.{SetWritten}
 use Rattle.event.proofs.EventQuestionLaws.{all-at, each-place-at, empty-written, choice-least, no-value, one-value, one-in-space}
 use Rattle.event.proofs.SetWriteLaws.{set-some, set-room, wrote-set}
@@ -47,10 +47,10 @@ use Rattle.dossier.specs.code.DossierIndex.{cellFits, versionFits, snapshotFits
 use Rattle.dossier.proofs.DossierBodyLaws.{snapshot-was}
 use Rattle.dossier.proofs.CellLaws.{held-at}
 use Rattle.combining.specs.code.CombineIndex.{isExtremeAt, Fitting, Meet}
-use Rattle.combining.specs.code.JoinedIndex.{haveObjects, PresentAre, Extremes, joinedSet, ValuesAre, Paired, PlaceIs, PlaceRoom}
+use Rattle.combining.specs.code.JoinedIndex.{haveObjects, PresentAre, NoObjectsFrom, Extremes, joinedSet, ValuesAre, Paired, PlaceIs, PlaceRoom}
 use Rattle.combining.proofs.CheckLaws.{sets-held, none-differ}
 use Rattle.combining.proofs.ObjectLaws.{keeps-every}
-use Rattle.combining.proofs.PlaceLaws.{fits-parts, placeFits, place-fits}
+use Rattle.combining.proofs.PlaceLaws.{fits-parts, placeFits, place-fits, left-vacant, right-vacant, FilledOnly, only-all}
 
 -- ---- the smaller or larger of two values
 
@@ -314,9 +314,9 @@ to-go-same g e f = rw (e, f) g
 
 -- ---- the places that have objects
 
-pub places-all : {left right : List ℕ} {l : List Bool} {k : ℕ} →
-    FilledTo (λ p. haveObjects (setIn left p) (setIn right p)) l k → 32 ≤ k → PresentAre left right l
-places-all w h = record { long = w .long; each = λ p m. w .each p (omega arith) }
+pub places-all : {left right : List ℕ} {l : List Bool} {count k : ℕ} →
+    FilledOnly (λ p. haveObjects (setIn left p) (setIn right p)) l k → NoObjectsFrom count left right → count ≤ k → PresentAre left right l
+places-all w n h = record { long = w .filled .long; each = only-all w (λ p l m. n .each p (omega arith) m) }
 
 -- ---- an unversioned snapshot
 
@@ -406,10 +406,6 @@ sets-step ty x y k h =
     one-more : (k : ℕ) → k < 32 → 32 - k ≡ suc (32 - (k + 1))
     one-more k h = omega arith
 
-pub sets-end : (ty : EventType) (x y : Snapshot) (k : ℕ) → 32 ≤ k → setsFrom ty x y k ≡ []
-unfolding setsFrom setsBytes flatten upFrom
-sets-end ty x y k h = let e : 32 - k ≡ 0 = omega arith in ap (λ (n : ℕ). setsBytes (map (λ p. joinedSet ty p (setOf x p) (setOf y p)) (upFrom k n))) e
-
 module _ {table a b : List ℕ} {count : ℕ} {ps i j : List ℕ} {ty : EventType} {x y : Snapshot} (h : Joins table a b count ps i j ty x y) where
   abbrev f : Fitting ty x y
   f = h .meet .fitting
@@ -425,6 +421,33 @@ module _ {table a b : List ℕ} {count : ℕ} {ps i j : List ℕ} {ty : EventTyp
     values = λ q e. (set-values ty x (f .left-values) p q e, set-values ty y (f .right-values) p q e);
     ordered = λ q e o. f .ordered p q e o;
   }
+
+  -- from the count of the type's properties on, both have none
+  left-none : (p : ℕ) → count ≤ p → setOf x p ≡ []
+  unfolding held
+  left-none p l = held-at (x .cells) p ∙ ap held (left-vacant f (h .typed .count) .each p l)
+
+  right-none : (p : ℕ) → count ≤ p → setOf y p ≡ []
+  unfolding held
+  right-none p l = held-at (y .cells) p ∙ ap held (right-vacant f (h .typed .count) .each p l)
+
+  pub objects-none : NoObjectsFrom count i j
+  objects-none = record {
+    each = λ p l m.
+        ap₂ (λ (a b : ℕ). ltb 0 a || ltb 0 b) (h .left .each p m .count ∙ ap length (left-none p l)) (h .right .each p m .count ∙ ap length (right-none p l));
+  }
+
+  none-bytes : (n k : ℕ) → count ≤ k → setsBytes (map joined (upFrom k n)) ≡ []
+  unfolding setsBytes setBytes flatten upFrom
+  none-bytes zero k l = refl
+  none-bytes (suc n) k l =
+      ap₂ (λ (s : List Text) (t : List ℕ). setBytes s ++ t) (joined-none ty k (setOf x k) (setOf y k) (left-none k l) (right-none k l))
+      (none-bytes n (suc k) (omega arith))
+
+  -- so nothing is left to write there
+  pub sets-end : (k : ℕ) → count ≤ k → setsFrom ty x y k ≡ []
+  unfolding setsFrom
+  sets-end k l = none-bytes (32 - k) k l
 
   -- a place, with its sets as they were taken from the numbers
   abbrev pub joined-place : {v w : SetAt} (p : ℕ) → v ≡ setIn i p → w ≡ setIn j p → p < 32 → PlaceIs count ps p a v b w

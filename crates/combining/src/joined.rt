@@ -1,7 +1,7 @@
 ghost use mathlib.Core.Path.{_≡_};
 ghost use mathlib.Core.Bool.{false};
 ghost use mathlib.Core.List.{List, [], _∷_, map};
-ghost use Prim.Native.Nat.{ℕ};
+ghost use Prim.Native.Nat.{ℕ, _≤_};
 ghost use lib.ListN.{length, take};
 ghost use Rattle.model.specs.Order.{Text, texts};
 ghost use Rattle.model.specs.Sets.{union};
@@ -17,7 +17,8 @@ ghost use Rattle.event.specs.EventLayout.{setBytes};
 ghost use Rattle.event.specs.code.EventIndex.{SetIs, SetsAre};
 ghost use Rattle.dossier.specs.DossierBody.{snapshotBytes};
 ghost use Rattle.combining.specs.code.CombineIndex.{Meet, JoinedRoom};
-ghost use Rattle.combining.specs.code.JoinedIndex.{haveObjects, PresentAre, Extremes, joinedSet, ValuesAre, ValuesRoom, PlaceIs, PlaceRoom};
+ghost use Rattle.combining.specs.code.JoinedIndex.{haveObjects, PresentAre, NoObjectsFrom};
+ghost use Rattle.combining.specs.code.JoinedIndex.{Extremes, joinedSet, ValuesAre, ValuesRoom, PlaceIs, PlaceRoom};
 use crate::limits::is_extreme_at;
 use event::bits::number_of;
 use event::sets::SetAt;
@@ -90,14 +91,14 @@ fn write_place<'a>(
     write_values(set_part(a, x), x.count, set_part(b, y), y.count, out, at)
 }
 
-// The places at which one of two unversioned snapshots has objects.
-fn joined_places(left: &[usize], right: &[usize]) -> [bool; 32]
-    requires { ⌜ (length (now left) ≡ 96) × (length (now right) ≡ 96) ⌝ }
-    ensures { λ r. ⌜ PresentAre (now (left .entry)) (now (right .entry)) r ⌝ }
+// The places at which one of two unversioned snapshots has objects, of a type that has `count` properties. Neither has any at a place past these.
+fn joined_places(left: &[usize], right: &[usize], count: usize) -> [bool; 32]
+    requires { ⌜ (count ≤ 32) × (length (now left) ≡ 96) × (length (now right) ≡ 96) ⌝ }
+    ensures { λ r. ⌜ (NoObjectsFrom count (now (left .entry)) (now (right .entry)) → PresentAre (now (left .entry)) (now (right .entry)) r) ⌝ }
 {
     let mut present = [false; 32];
     let mut k: usize = 0;
-    while k < 32 {
+    while k < count {
         present[k] = have_objects(set_at(left, k), set_at(right, k));
         k += 1;
     }
@@ -122,12 +123,12 @@ pub fn write_joined<'a>(
         → SetsAre (now (a .entry)) (map held (left .cells)) (now (x .entry)) → SetsAre (now (b .entry)) (map held (right .cells)) (now (y .entry))
         → Wrote (now (out .entry)) at (snapshotBytes (joinSnapshots (typeView ty) left right)) (now (out .exit)) r) ⌝ }
 {
-    let present = joined_places(x, y);
+    let present = joined_places(x, y, count);
     let after_version = write_number(out, at, 0);
     let after_presence = write_number(out, after_version, number_of(present));
     let mut next = write_number(out, after_presence, 0);
     let mut k: usize = 0;
-    while k < 32 {
+    while k < count {
         if present[k] {
             let v = set_at(x, k);
             let w = set_at(y, k);

@@ -31,6 +31,10 @@ pub record PresentAre (left right : List ℕ) (r : List Bool) : Type 0 where
   pub long : length r ≡ 32
   pub each : (p : ℕ) → p < 32 → getD r p false ≡ haveObjects (setIn left p) (setIn right p)
 
+-- no place from `count` on has any
+pub record NoObjectsFrom (count : ℕ) (left right : List ℕ) : Type 0 where
+  pub each : (p : ℕ) → count ≤ p → p < 32 → haveObjects (setIn left p) (setIn right p) ≡ false
+
 -- at most one value on each side and one at least, in the space of an ordered kind of this number
 pub record Extremes (k : Kind) (kind : ℕ) (xs ys : List Text) : Type 0 where
   pub number : kindNumber k ≡ kind

@@ -1,8 +1,10 @@
+-- The places that have objects are found first, since their number stands before the sets. Then the set of each is written. At a place of the loop the sets
+-- that are left to write are those from this place on; from `count` on there are none, since a place that has no property is empty on both sides.
 use mathlib.Core.Path.{_≡_, ap, _∙_}
 use mathlib.Core.Logic.{⊎-elim}
 use mathlib.Core.Bool.{false}
 use mathlib.Core.List.{List, map}
-use Prim.Native.Nat.{ℕ, _+_, _-_}
+use Prim.Native.Nat.{ℕ, _+_, _-_, _<_}
 use lib.ListN.{length}
 use Rattle.model.specs.Rule.{Snapshot, joinSnapshots}
 use Rattle.model.specs.Opening.{held}
@@ -16,7 +18,8 @@ use Rattle.event.specs.EventLayout.{bitNumber}
 use Rattle.event.specs.code.EventIndex.{SetsAre, bitOf}
 use Rattle.dossier.specs.DossierBody.{snapshotBytes}
 use Rattle.combining.specs.code.CombineIndex.{Meet}
-use Rattle.combining.proofs.JoinedLaws.{Joins, to-go-same, joins, setsFrom, sets-step, sets-end}
+use Rattle.combining.specs.code.JoinedIndex.{PresentAre}
+use Rattle.combining.proofs.JoinedLaws.{Joins, to-go-same, joins, setsFrom, sets-step, objects-none, sets-end}
 use Rattle.combining.proofs.JoinedLaws.{joined-place, joined-length, sets-room, joined-wrote, place-next, place-past}
 use native.Mathlib.Omega.{arith}
 use borrow.Author.Needs.{needs}
@@ -30,7 +33,7 @@ Inv-loop a x b y count ps out₀ at present after-version after-presence next₀
     ToGo out₀ next₀ (setsFrom ty left right 0) out next (setsFrom ty left right k)
 
 abbrev μ-loop : tie.MeasureT-loop
-μ-loop a x b y count ps out₀ at present after-version after-presence next₀ k₀ out next k = 32 - k
+μ-loop a x b y count ps out₀ at present after-version after-presence next₀ k₀ out next k = count - k
 
 -- ---- the places
 
@@ -57,6 +60,17 @@ places c = to-places (version c)
 
 -- ---- the facts
 
+-- a place of the loop is one of the 32
+inside : (c : tie.In-loop Inv-loop μ-loop) → c .before .loop .k < 32
+inside c = omega (arith, c .loop-test .taken, start (places (c .before)) .pre .3 .typed .few)
+
+-- the places that have objects, of any two such snapshots
+found :
+    {u : List ℕ} {ty : EventType} {left right : Snapshot} (c : tie.After-joined-places Inv-loop μ-loop) → let a = start c .args in
+    Joins u (a .a .now) (a .b .now) (a .count) (a .properties .now) (a .x .now) (a .y .now) ty left right →
+    PresentAre (a .x .now) (a .y .now) (c .joined-places .result)
+found c n = c .joined-places .ensures (objects-none n)
+
 -- the snapshots that the room is asked for
 abbrev asked : (c : tie.Start Inv-loop μ-loop) → let a = c .args in let q = c .pre .3 in
     Joins (q .table) (a .a .now) (a .b .now) (a .count) (a .properties .now) (a .x .now) (a .y .now) (q .type) (q .left) (q .right)
@@ -77,7 +91,7 @@ size :
     length (snapshotBytes (joinSnapshots (typeView (q .type)) (q .left) (q .right)))
     ≡ length (number 0) + length (number (bitNumber (map bitOf (c .joined-places .result)))) + length (number 0) + length
     (setsFrom (q .type) (q .left) (q .right) 0)
-size c = joined-length (asked (start c)) _ (c .joined-places .ensures)
+size c = joined-length (asked (start c)) _ (found c (asked (start c)))
 
 -- ---- the needs
 
@@ -122,10 +136,10 @@ array-read-if1 : tie.Need-array-read-if1 Inv-loop μ-loop
 array-read-if1 c = search needs
 
 set-at-requires : tie.Need-set-at-requires Inv-loop μ-loop
-set-at-requires c κs = (search needs, c .before .loop-test .taken)
+set-at-requires c κs = (search needs, inside (c .before))
 
 set-at-requires-2 : tie.Need-set-at-requires-2 Inv-loop μ-loop
-set-at-requires-2 c κs = (search needs, c .before .before .loop-test .taken)
+set-at-requires-2 c κs = (search needs, inside (c .before .before))
 
 write-place-requires : tie.Need-write-place-requires Inv-loop μ-loop
 write-place-requires c κs =
@@ -135,11 +149,11 @@ write-place-requires c κs =
     let at-loop = turn .before .before in
     let begin = start (places at-loop) in
     let n = asked begin in
-    let room = sets-room n _ (places at-loop .joined-places .ensures) _ (presence at-loop .before .number-of .ensures) (version at-loop .write-number .ensures)
+    let room = sets-room n _ (found (places at-loop) n) _ (presence at-loop .before .number-of .ensures) (version at-loop .write-number .ensures)
     (presence at-loop .write-number2 .ensures) (to-differ at-loop .write-number3 .ensures) (begin .pre .3 .room) in (
       begin .pre .2,
-      place-next n _ (places at-loop .joined-places .ensures) (at-loop .loop .k) (left .set-at .ensures) (right .set-at2 .ensures)
-          (turn .before .loop-test .taken) (turn .if1 .taken) (asked-to-go at-loop) room,
+      place-next n _ (found (places at-loop) n) (at-loop .loop .k) (left .set-at .ensures) (right .set-at2 .ensures)
+          (inside (turn .before)) (turn .if1 .taken) (asked-to-go at-loop) room,
     )
 
 add-k : tie.Need-add-k Inv-loop μ-loop
@@ -154,11 +168,11 @@ loop-again c = λ u ty x y w v m l r.
     let at-loop = turn .before in
     let n = joins w v m l r in
     let k = at-loop .loop .k in
-    let inside = turn .loop-test .taken in
+    let low = inside turn in
     let g = at-loop .loop .inv u ty x y w v m l r in
     ⊎-elim
-    (λ d. to-go-same (gone _ _ g (sets-step ty x y k inside) (d .4 .ensures (joined-place n k (d .1 .ensures) (d .2 .ensures) inside))) (d .7) (d .8))
-    (λ d. to-go-same (place-past n _ (places at-loop .joined-places .ensures) k inside (d .0 .left) g) (d .1) (d .2))
+    (λ d. to-go-same (gone _ _ g (sets-step ty x y k low) (d .4 .ensures (joined-place n k (d .1 .ensures) (d .2 .ensures) low))) (d .7) (d .8))
+    (λ d. to-go-same (place-past n _ (found (places at-loop) n) k low (d .0 .left) g) (d .1) (d .2))
     (c .if1 .came)
 
 same-length : tie.Need-same-length Inv-loop μ-loop
@@ -171,9 +185,10 @@ same-length c =
 returns : tie.Need-returns Inv-loop μ-loop
 returns c = λ u ty x y w v m l r.
     let at-loop = c .before in
-    joined-wrote (joins w v m l r) _ (places at-loop .joined-places .ensures) _ (presence at-loop .before .number-of .ensures)
+    let n = joins w v m l r in
+    joined-wrote n _ (found (places at-loop) n) _ (presence at-loop .before .number-of .ensures)
     (version at-loop .write-number .ensures) (presence at-loop .write-number2 .ensures) (to-differ at-loop .write-number3 .ensures)
-    (all-gone (at-loop .loop .inv u ty x y w v m l r) (sets-end ty x y _ (c .loop-test .left)))
+    (all-gone (at-loop .loop .inv u ty x y w v m l r) (sets-end n _ (c .loop-test .left)))
 
 pub write-joined-spec : {M : Type 1} → statement M
 write-joined-spec =
