@@ -28,7 +28,7 @@ use Rattle.dossier.proofs.CellLaws.{held-at, bit-here, bits-next}
 use Rattle.combining.specs.code.CombineIndex.{VacantFrom, Shared}
 use Rattle.combining.specs.code.AgreedIndex.{isAgreed, isFilled, PlacesAre}
 use Rattle.combining.specs.declared.agreed.Places.{Places}
-use Rattle.combining.proofs.PlaceLaws.{joined-long, joined-vacant, FilledOnly, only-none, only-more, only-list}
+use Rattle.combining.proofs.PlaceLaws.{join-long, join-vacant, FilledOnly, only-none, only-more, only-list}
 
 -- ---- a place
 
@@ -206,8 +206,8 @@ module _
       PlacesSofar ty left right (p .present) (p .marked) m n k → PlacesAre joined p
   unfolding isFilled isMark
   places-all p m n k v w h t =
-      let long = joined-long ty left right left-long right-long in
-      let past : VacantFrom _ joined = joined-vacant ty left right left-long right-long v w in
+      let long = join-long ty left right left-long right-long in
+      let past : VacantFrom _ joined = join-vacant ty left right left-long right-long v w in
       record {
         present =
             only-list (length-map joined isFilled ∙ long) (t .filled)

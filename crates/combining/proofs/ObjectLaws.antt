@@ -3,21 +3,20 @@ use mathlib.Core.Path.{_≡_, refl, sym, ap, ap₂, _∙_, subst}
 use mathlib.Core.Bool.{Bool, true, false, not, _&&_, _||_}
 use mathlib.Core.Option.{Option, none, some}
 use mathlib.Core.List.{List, [], _∷_, map}
-use Prim.Native.Nat.{ℕ, _+_, _-_, _≤_, _<_}
+use Prim.Native.Nat.{ℕ, zero, suc, _+_, _-_, _≤_, _<_}
 use native.Mathlib.Omega.{arith}
 use native.Mathlib.Numerals.{add-one}
 use lib.Dec.{leb}
-use lib.ListN.{length, take, drop, getD, getElem?, length-take, length-map, drop-of-length-le}
+use lib.ListN.{length, take, drop, getD, getElem?, length-take}
 use lib.Seq.{drop-cons}
 use borrow.Author.Tests.{le-leb, lt-leb, leb-true}
 use Rattle.model.specs.Order.{Order, Text, texts, sets, equal, rising}
 use Rattle.model.proofs.Cases.{three, truth, never, and-parts}
 use Rattle.model.specs.Keyed.{put, merge}
-use Rattle.model.specs.Sets.{itself, first, union, upTo}
+use Rattle.model.specs.Sets.{itself, first, union}
 use Rattle.model.specs.Rule.{Cell, holds, differs, Choice, every, least, TypeView, places, Snapshot, joinCell, joinCells, joinSnapshots, size, sizes}
 use Rattle.model.specs.Opening.{cellAt, isMark, held}
-use Rattle.model.proofs.PartLaws.{length-upTo}
-use Rattle.model.proofs.StepLaws.{join-map, join-at}
+use Rattle.model.proofs.StepLaws.{join-at}
 use Rattle.model.proofs.SizeLaws.{held-size}
 use Rattle.ontology.specs.Table.{Property, EventType, isMin, isMax, isVersioned, atPlace}
 use Rattle.ontology.specs.code.TypeIndex.{propertyIn, hasExtreme, PropertiesAre}
@@ -35,7 +34,7 @@ use Rattle.dossier.specs.code.DossierIndex.{cellFits, snapshotFits}
 use Rattle.dossier.proofs.CellLaws.{held-at, leb-sub}
 use Rattle.dossier.proofs.DossierBodyLaws.{SnapshotWritten, snapshot-cells, snapshot-was}
 use Rattle.combining.specs.code.CombineIndex.{isExtremeAt, Meet}
-use Rattle.combining.proofs.PlaceLaws.{placeFits, place-fits}
+use Rattle.combining.proofs.PlaceLaws.{placeFits, place-fits, left-vacant, right-vacant, join-long, join-vacant}
 
 -- ---- strategy min or max
 
@@ -198,6 +197,14 @@ module _ (ty : EventType) (x : Snapshot) (w : SnapshotWritten x) (un : isVersion
 
 -- ---- the objects of all places
 
+-- cells that are vacant from a place on have none from there on
+no-sizes : (cs : List Cell) (k : ℕ) → ((p : ℕ) → k ≤ p → getD cs p (holds []) ≡ holds []) → sizes (drop k cs) ≡ 0
+unfolding sizes size
+no-sizes [] zero h = refl
+no-sizes [] (suc k) h = refl
+no-sizes (c ∷ cs) zero h = ap₂ (λ (d : Cell) (n : ℕ). size d + n) (h 0 (omega arith)) (no-sizes cs 0 (λ p l. h (suc p) (omega arith)))
+no-sizes (c ∷ cs) (suc k) h = no-sizes cs k (λ p l. h (suc p) (omega arith))
+
 -- two snapshots of an unversioned type
 module _ (ty : EventType) (x y : Snapshot) (un : isVersioned ty ≡ false) (m : Meet ty x y) where
   left-written : SnapshotWritten x
@@ -209,18 +216,16 @@ module _ (ty : EventType) (x y : Snapshot) (un : isVersioned ty ≡ false) (m : 
   abbrev joined : List Cell
   joined = joinSnapshots (typeView ty) x y .cells
 
-  joined-map : joined ≡ map (λ p. joinCell (isVersioned ty) (typeView ty .choice p) (cellAt x p) (cellAt y p)) (upTo 32)
-  unfolding typeView eventView places
-  joined-map = join-map (typeView ty) x y (snapshot-cells x left-written) (snapshot-cells y right-written)
-
   joined-long : length joined ≡ 32
-  joined-long = ap length joined-map ∙ length-map (upTo 32) (λ p. joinCell (isVersioned ty) (typeView ty .choice p) (cellAt x p) (cellAt y p)) ∙ length-upTo 32
+  joined-long = join-long ty x y (snapshot-cells x left-written) (snapshot-cells y right-written)
 
-  pub objects-end : (k room : ℕ) → 32 ≤ k → true ≡ leb (sizes (drop k joined)) room
-  unfolding sizes
-  objects-end k room h =
-      let none = drop-of-length-le joined {i = k} (omega (arith, joined-long)) in
-      sym (ap (λ (cs : List Cell). leb (sizes cs) room) none ∙ le-leb 0 room (omega arith))
+  -- no place past the type's properties has any
+  pub objects-end : {count : ℕ} (k room : ℕ) → count ≡ length (ty .properties) → count ≤ k → true ≡ leb (sizes (drop k joined)) room
+  objects-end k room e h =
+      let v = left-vacant (m .fitting) e in
+      let w = right-vacant (m .fitting) e in
+      let past = join-vacant ty x y (snapshot-cells x left-written) (snapshot-cells y right-written) v w in
+      sym (le-leb (sizes (drop k joined)) room (omega (arith, no-sizes joined k (λ p l. past .each p (omega arith)))))
 
   module _ (k : ℕ) (h : k < 32) where
     pub left-cell : PlainCell ty k (getD (x .cells) k (holds []))

@@ -82,26 +82,26 @@ module _ {ty : EventType} {x y : Snapshot} (f : Fitting ty x y) {count : ℕ} (e
   pub right-vacant : VacantFrom count (y .cells)
   right-vacant = fits-vacant ty y (f .right-fits) e
 
-joined-cell : (v : Bool) (ch : Choice) → joinCell v ch (holds []) (holds []) ≡ holds []
+cell-vacant : (v : Bool) (ch : Choice) → joinCell v ch (holds []) (holds []) ≡ holds []
 unfolding joinCell union merge
-joined-cell true ch = ap (λ (b : Bool). cond b (holds []) differs) (equal-true sets [] [] .1 refl)
-joined-cell false every = refl
-joined-cell false (least O) = refl
+cell-vacant true ch = ap (λ (b : Bool). cond b (holds []) differs) (equal-true sets [] [] .1 refl)
+cell-vacant false every = refl
+cell-vacant false (least O) = refl
 
 module _ (ty : EventType) (x y : Snapshot) (l : length (x .cells) ≡ 32) (r : length (y .cells) ≡ 32) where
-  pub joined-long : length (joinSnapshots (typeView ty) x y .cells) ≡ 32
+  pub join-long : length (joinSnapshots (typeView ty) x y .cells) ≡ 32
   unfolding typeView eventView places
-  joined-long = ap length (join-map (typeView ty) x y l r) ∙ simp (length-map, length-upTo)
+  join-long = ap length (join-map (typeView ty) x y l r) ∙ simp (length-map, length-upTo)
 
-  pub joined-vacant : {count : ℕ} → VacantFrom count (x .cells) → VacantFrom count (y .cells) → VacantFrom count (joinSnapshots (typeView ty) x y .cells)
+  pub join-vacant : {count : ℕ} → VacantFrom count (x .cells) → VacantFrom count (y .cells) → VacantFrom count (joinSnapshots (typeView ty) x y .cells)
   unfolding typeView eventView cellAt
-  joined-vacant v w = record {
+  join-vacant v w = record {
     each = λ p h. ⊎-elim
         (λ (k : p < 32).
         join-at (typeView ty) x y l r p k
         ∙ ap₂ (joinCell (typeView ty .versioned) (typeView ty .choice p)) (v .each p h) (w .each p h)
-        ∙ joined-cell (typeView ty .versioned) (typeView ty .choice p))
-        (λ (k : 32 ≤ p). List·getD-eq-default (joinSnapshots (typeView ty) x y .cells) (holds []) (omega (arith, joined-long)))
+        ∙ cell-vacant (typeView ty .versioned) (typeView ty .choice p))
+        (λ (k : 32 ≤ p). List·getD-eq-default (joinSnapshots (typeView ty) x y .cells) (holds []) (omega (arith, join-long)))
         (lt-or-ge p 32);
   }
 

@@ -91,7 +91,7 @@ fn count_place(
 }
 
 // Whether two unversioned snapshots of m and n objects have at most 256 when they are joined. They have no more than m and n together, so they are
-// counted only where that is above 256.
+// counted only where that is above 256. A place past the type's properties has none.
 pub fn objects_fit(
     a: &[u8],
     x: &[usize],
@@ -114,7 +114,7 @@ pub fn objects_fit(
     }
     let mut room: usize = 256;
     let mut k: usize = 0;
-    while k < 32 {
+    while k < count {
         let here = count_place(count, properties, k, a, set_at(x, k), b, set_at(y, k));
         if room < here {
             return false;

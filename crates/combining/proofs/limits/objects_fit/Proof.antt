@@ -1,8 +1,10 @@
+-- Two snapshots have no more objects together than each has by itself, added up. Where that is above 256 they are counted place by place: whether all fit is
+-- whether those from this place on fit in the room that is left. From `count` on there are none, since a place that has no property is empty on both sides.
 use Rattle.event.proofs.SetLaws.{set-read}
 use borrow.Author.Needs.{needs}
 use borrow.Author.Tests.{leb-true}
 use native.Mathlib.Omega.{arith}
-use Prim.Native.Nat.{ℕ, _+_, _-_, _≤_}
+use Prim.Native.Nat.{ℕ, _+_, _-_, _≤_, _<_}
 use mathlib.Core.Path.{_≡_, refl, sym, _∙_}
 use mathlib.Core.Bool.{false}
 use mathlib.Core.List.{List, [], map}
@@ -28,7 +30,7 @@ Inv-loop a x m b y n count ps room₀ k₀ room k =
     leb (sizes (joinSnapshots (typeView ty) left right .cells)) 256 ≡ leb (sizes (drop k (joinSnapshots (typeView ty) left right .cells))) room
 
 abbrev μ-loop : tie.MeasureT-loop
-μ-loop a x m b y n count ps room₀ k₀ room k = 32 - k
+μ-loop a x m b y n count ps room₀ k₀ room k = count - k
 
 -- ---- the places
 
@@ -42,6 +44,10 @@ abbrev to-turn : tie.After-count-place Inv-loop μ-loop → tie.In-loop Inv-loop
 to-turn c = c .before .before .before
 
 -- ---- the facts
+
+-- a place of the loop is one of the 32
+inside : (c : tie.In-loop Inv-loop μ-loop) → c .before .loop .k < 32
+inside c = omega (arith, c .loop-test .taken, to-start (c .before) .pre .0)
 
 few : (c : tie.Then2 Inv-loop μ-loop) → let a = if1-to-start (c .before) .args in a .m + a .n ≤ 256
 few c =
@@ -79,7 +85,7 @@ module _ (c : tie.After-count-place Inv-loop μ-loop) (u : List ℕ) (ty : Event
       SetsAre a (map held (left .cells)) x → SetsAre b (map held (right .cells)) y →
       c .count-place .result ≡ length (held (joinCell false (typeView ty .choice k) (holds lefts) (holds rights)))
   counted w un m v z =
-      let h = to-turn c .loop-test .taken in
+      let h = inside (to-turn c) in
       let p = left-cell ty left right un m k h in
       let q = right-cell ty left right un m k h in
       c .count-place .ensures u ty lefts rights w (set-read (c .before .before .set-at .ensures) (left-set ty left right un m k h a x v))
@@ -95,10 +101,10 @@ loop-holds : tie.Need-loop-holds Inv-loop μ-loop
 loop-holds c = λ u ty left right w un m v z. refl
 
 set-at-requires : tie.Need-set-at-requires Inv-loop μ-loop
-set-at-requires c κs = (search needs, c .loop-test .taken)
+set-at-requires c κs = (search needs, inside c)
 
 set-at-requires-2 : tie.Need-set-at-requires-2 Inv-loop μ-loop
-set-at-requires-2 c κs = (search needs, c .before .loop-test .taken)
+set-at-requires-2 c κs = (search needs, inside (c .before))
 
 count-place-requires : tie.Need-count-place-requires Inv-loop μ-loop
 count-place-requires c κs = search needs
@@ -108,7 +114,7 @@ returns-2 c = λ u ty left right w un m o p v z.
     let turn = to-turn (c .before) in
     let l = turn .before .loop in
     let n = counted (c .before) u ty left right w un m v z in
-    sym (l .inv u ty left right w un m v z ∙ objects-large ty left right un m (l .k) (turn .loop-test .taken) _ (l .room) n (c .if3 .taken))
+    sym (l .inv u ty left right w un m v z ∙ objects-large ty left right un m (l .k) (inside turn) _ (l .room) n (c .if3 .taken))
 
 add-k : tie.Need-add-k Inv-loop μ-loop
 add-k c = search needs
@@ -121,12 +127,12 @@ loop-again c = λ u ty left right w un m v z.
     let turn = to-turn (c .before) in
     let l = turn .before .loop in
     let n = counted (c .before) u ty left right w un m v z in
-    l .inv u ty left right w un m v z ∙ objects-more ty left right un m (l .k) (turn .loop-test .taken) _ (l .room) n (c .if3 .left)
+    l .inv u ty left right w un m v z ∙ objects-more ty left right un m (l .k) (inside turn) _ (l .room) n (c .if3 .left)
 
 returns-3 : tie.Need-returns-3 Inv-loop μ-loop
 returns-3 c = λ u ty left right w un m o p v z.
     let l = c .before .loop in
-    objects-end ty left right un m (l .k) (l .room) (c .loop-test .left) ∙ sym (l .inv u ty left right w un m v z)
+    objects-end ty left right un m (l .k) (l .room) (w .count) (c .loop-test .left) ∙ sym (l .inv u ty left right w un m v z)
 
 pub objects-fit-spec : {M : Type 1} → statement M
 objects-fit-spec =
