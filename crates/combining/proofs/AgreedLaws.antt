@@ -129,7 +129,7 @@ mark-at : (cs : List Cell) (k : ℕ) → getD (map isMark cs) k false ≡ isMark
 unfolding isMark
 mark-at cs k = List·getD-map isMark cs k (holds [])
 
--- The first k places are found; m and n have the differ bits of the others
+-- The first k places are found, and the others are still false; m and n have the differ bits of these
 pub record PlacesSofar (ty : EventType) (left right : Snapshot) (present marked : List Bool) (m n k : ℕ) : Type 0 where
   pub filled : FilledOnly (λ p. getD (map isFilled (joinSnapshots (typeView ty) left right .cells)) p false) present k
   pub differing : FilledOnly (λ p. getD (map isMark (joinSnapshots (typeView ty) left right .cells)) p false) marked k

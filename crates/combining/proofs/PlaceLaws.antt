@@ -35,7 +35,7 @@ unfoldable pub placeFits : Bool → Option Property → Cell → Bool
 placeFits versioned none c = isVacant c
 placeFits versioned (some p) c = cellFits versioned p c
 
-pub fits-at :
+fits-at :
     (f : Bool) (ps : List Property) (cs : List Cell) → eachCell (cellFits f) isVacant ps cs ≡ true → (p : ℕ) →
     placeFits f (getElem? ps p) (getD cs p (holds [])) ≡ true
 unfolding eachCell placeFits isVacant isMark held
@@ -82,11 +82,12 @@ module _ {ty : EventType} {x y : Snapshot} (f : Fitting ty x y) {count : ℕ} (e
   pub right-vacant : VacantFrom count (y .cells)
   right-vacant = fits-vacant ty y (f .right-fits) e
 
-cell-vacant : (v : Bool) (ch : Choice) → joinCell v ch (holds []) (holds []) ≡ holds []
+-- two vacant cells together are vacant
+vacant-joined : (v : Bool) (ch : Choice) → joinCell v ch (holds []) (holds []) ≡ holds []
 unfolding joinCell union merge
-cell-vacant true ch = ap (λ (b : Bool). cond b (holds []) differs) (equal-true sets [] [] .1 refl)
-cell-vacant false every = refl
-cell-vacant false (least O) = refl
+vacant-joined true ch = ap (λ (b : Bool). cond b (holds []) differs) (equal-true sets [] [] .1 refl)
+vacant-joined false every = refl
+vacant-joined false (least O) = refl
 
 module _ (ty : EventType) (x y : Snapshot) (l : length (x .cells) ≡ 32) (r : length (y .cells) ≡ 32) where
   pub join-long : length (joinSnapshots (typeView ty) x y .cells) ≡ 32
@@ -100,7 +101,7 @@ module _ (ty : EventType) (x y : Snapshot) (l : length (x .cells) ≡ 32) (r : l
         (λ (k : p < 32).
         join-at (typeView ty) x y l r p k
         ∙ ap₂ (joinCell (typeView ty .versioned) (typeView ty .choice p)) (v .each p h) (w .each p h)
-        ∙ cell-vacant (typeView ty .versioned) (typeView ty .choice p))
+        ∙ vacant-joined (typeView ty .versioned) (typeView ty .choice p))
         (λ (k : 32 ≤ p). List·getD-eq-default (joinSnapshots (typeView ty) x y .cells) (holds []) (omega (arith, join-long)))
         (lt-or-ge p 32);
   }
