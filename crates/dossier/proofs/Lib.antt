@@ -6,6 +6,7 @@ pub mod DossierSizeLaws
 pub mod SnapshotLaws
 pub mod DossierReadLaws
 pub mod CellLaws
+pub mod MaskLaws
 pub mod VersionLaws
 pub mod AskLaws
 pub mod AnswerLaws

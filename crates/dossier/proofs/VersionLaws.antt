@@ -19,7 +19,7 @@ use Rattle.event.specs.code.EventIndex.{SetIs, setIn, SetsAre}
 use Rattle.dossier.specs.DossierQuestions.{eachCell, isVacant, holdsVersion}
 use Rattle.dossier.specs.code.DossierIndex.{SnapshotIs, CellsAre, cellFits, versionFits, snapshotFits}
 use Rattle.dossier.specs.declared.snapshots.SnapshotNumbers.{SnapshotNumbers}
-use Rattle.dossier.proofs.CellLaws.{held-at}
+use Rattle.dossier.proofs.CellLaws.{held-at, match-few}
 
 -- ---- a set of one value
 
@@ -102,6 +102,12 @@ module _ (ty : EventType) (y : Snapshot) where
       sym (ap (λ (b : Bool). eachCell (cellFits (isVersioned ty)) isVacant (ty .properties) (y .cells) && b && versionFits ty y) (sym e ∙ f)
       ∙ ap (λ (b : Bool). b && versionFits ty y) (and-false (eachCell (cellFits (isVersioned ty)) isVacant (ty .properties) (y .cells))))
 
-  pub fits-all : {a b r : Bool} → a ≡ eachCell (cellFits (isVersioned ty)) isVacant (ty .properties) (y .cells) → a ≡ true → b ≡ leb (matchCount (ty .properties) (map held (y .cells))) 32 → b ≡ true → r ≡ versionFits ty y → r ≡ snapshotFits ty y
+  pub fits-all :
+      {a r : Bool} → a ≡ eachCell (cellFits (isVersioned ty)) isVacant (ty .properties) (y .cells) → a ≡ true →
+      leb (matchCount (ty .properties) (map held (y .cells))) 32 ≡ true → r ≡ versionFits ty y → r ≡ snapshotFits ty y
   unfolding snapshotFits
-  fits-all e f g h k = k ∙ sym (ap₂ (λ (a b : Bool). a && b && versionFits ty y) (sym e ∙ f) (sym g ∙ h))
+  fits-all e f g k = k ∙ sym (ap₂ (λ (a b : Bool). a && b && versionFits ty y) (sym e ∙ f) g)
+
+  -- where there are few objects, there are few match objects
+  pub match-within : {objects : ℕ} → objects ≡ sizes (y .cells) → objects ≤ 32 → leb (matchCount (ty .properties) (map held (y .cells))) 32 ≡ true
+  match-within e h = le-leb (matchCount (ty .properties) (map held (y .cells))) 32 (omega (arith, e, match-few (ty .properties) (y .cells)))

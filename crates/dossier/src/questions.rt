@@ -8,15 +8,17 @@ ghost use lib.Dec.{ltb, eqb};
 ghost use Rattle.model.specs.Order.{Text, sets, lists, equal};
 ghost use Rattle.model.specs.Rule.{Snapshot};
 ghost use Rattle.model.specs.Limits.{standard};
-ghost use Rattle.ontology.specs.Table.{EventType, Table, typeNamed};
+ghost use Rattle.ontology.specs.Table.{EventType, Table, isVersioned, typeNamed};
 ghost use Rattle.ontology.specs.TableLayout.{tableOf};
 ghost use Rattle.ontology.specs.code.TypeIndex.{PropertiesAre, TypeIs, TypeSays};
 ghost use Rattle.event.specs.code.EventIndex.{SetsAre, KindsAre};
 ghost use Rattle.event.specs.Agreement.{matchSets};
 ghost use Rattle.dossier.specs.DossierLayout.{Headed, dossierOf};
 ghost use Rattle.dossier.specs.DossierQuestions.{snapshotMatch, dossierShape, eachSnapshot, snapshotValues, dossierAsked, dossiersAgree};
-ghost use Rattle.dossier.specs.code.DossierIndex.{SnapshotIs, RowsAre, snapshotFits, shapeNumber, DossierIs, DossierReads, DossierAnswers};
+ghost use Rattle.dossier.specs.code.DossierIndex.{SnapshotIs, RowsAre, MasksAre, snapshotFits, shapeNumber, DossierIs, DossierReads, DossierAnswers};
 use crate::dossiers::DossierIndex;
+use crate::shape::ShapeMasks;
+use crate::shape::masks_of;
 use crate::shape::snapshot_fits;
 use crate::snapshots::SnapshotNumbers;
 use event::agree::is_match_same;
@@ -32,17 +34,18 @@ fn ask_snapshot(
     first: &[usize],
     row: &[usize],
     x: SnapshotNumbers,
+    m: ShapeMasks,
     mark: usize,
     count: usize,
     properties: &[usize],
 ) -> u8
     requires { ⌜ (count ≤ 32) × (length (now first) ≡ 96) × (length (now row) ≡ 96) × (length (now properties) ≡ 96) ⌝ }
     ensures { λ r. ⌜ ((u : List ℕ) (ty : EventType) (xs : List (List Text)) (y : Snapshot) → mark ≡ ty .mark
-        → PropertiesAre u (ty .properties) count (now (properties .entry)) → KindsAre ty → SetsAre (now (s .entry)) xs (now (first .entry))
-        → SnapshotIs (now (s .entry)) y x (now (row .entry))
+        → PropertiesAre u (ty .properties) count (now (properties .entry)) → MasksAre (isVersioned ty) (ty .properties) m → KindsAre ty
+        → SetsAre (now (s .entry)) xs (now (first .entry)) → SnapshotIs (now (s .entry)) y x (now (row .entry))
         → r ≡ shapeNumber (snapshotFits ty y && equal (lists sets) (matchSets (ty .properties) xs) (snapshotMatch ty y)) (snapshotValues ty y)) ⌝ }
 {
-    if !snapshot_fits(s, row, x, mark, count, properties) {
+    if !snapshot_fits(s, row, x, m, mark, count, properties) {
         return 5;
     }
     if !is_match_same(count, properties, s, first, s, row) {
@@ -88,6 +91,7 @@ fn ask_snapshots(
     if !is_lone(t.mark, d.count) {
         return 5;
     }
+    let m = masks_of(0 < t.mark, t.count, properties);
     let mut number: u8 = 0;
     let mut j: usize = 0;
     while j < d.count {
@@ -102,6 +106,7 @@ fn ask_snapshots(
             &rows[0..96],
             &rows[96 * j..96 * j + 96],
             x,
+            m,
             t.mark,
             t.count,
             properties,

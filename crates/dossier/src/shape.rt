@@ -1,6 +1,6 @@
 ghost use Prim.Native.Nat.{ℕ, _-_, _≤_};
 ghost use mathlib.Core.Path.{_≡_};
-ghost use mathlib.Core.Bool.{not, _&&_, _||_};
+ghost use mathlib.Core.Bool.{Bool, cond, not, _&&_, _||_};
 ghost use mathlib.Core.List.{List, [], _∷_, map};
 ghost use lib.ListN.{length};
 ghost use lib.Dec.{leb};
@@ -8,12 +8,12 @@ ghost use Rattle.model.specs.Order.{Text, sets, equal};
 ghost use Rattle.model.specs.Rule.{Cell, Snapshot, sizes};
 ghost use Rattle.model.specs.Opening.{held, cellAt};
 ghost use Rattle.values.specs.Decimal.{inDecimal};
-ghost use Rattle.ontology.specs.Table.{Property, EventType};
-ghost use Rattle.ontology.specs.code.TypeIndex.{PropertyIs, PropertiesAre, hasExtreme, hasMatch};
+ghost use Rattle.ontology.specs.Table.{Property, EventType, isVersioned};
+ghost use Rattle.ontology.specs.code.TypeIndex.{PropertiesAre, hasExtreme, hasMatch};
 ghost use Rattle.event.specs.EventQuestions.{matchCount};
-ghost use Rattle.event.specs.code.EventIndex.{SetIs, SetsAre};
+ghost use Rattle.event.specs.code.EventIndex.{SetIs, SetsAre, bitOf};
 ghost use Rattle.dossier.specs.DossierQuestions.{eachCell, isVacant, holdsVersion};
-ghost use Rattle.dossier.specs.code.DossierIndex.{CellIs, CellsAre, cellFits, snapshotFits, versionFits, SnapshotIs};
+ghost use Rattle.dossier.specs.code.DossierIndex.{CellsAre, cellFits, MasksAre, masksFit, snapshotFits, versionFits, SnapshotIs};
 use crate::snapshots::SnapshotNumbers;
 use event::sets::SetAt;
 use event::sets::set_at;
@@ -27,108 +27,104 @@ use ontology::properties::property_at;
 use values::numerals::is_in_decimal;
 use values::versions::EventVersion;
 
-// A mandatory one is present or marked.
-fn is_present(p: PropertyAt, marked: bool, count: usize) -> bool
-    ensures { λ r. ⌜ r ≡ (p .optional || marked || leb 1 count) ⌝ }
-{
-    if p.optional {
-        return true;
-    }
-    if marked {
-        return true;
-    }
-    1 <= count
+// What question 5 asks of the places of a snapshot, a bit for each place, the first by the lowest: which places have a property, which have to be present or
+// marked, which have at most one object, and which are not marked. They are the same for all snapshots of a dossier.
+pub struct ShapeMasks {
+    pub all: u64,
+    pub mandatory: u64,
+    pub lone: u64,
+    pub unmarked: u64,
 }
 
-fn is_lone_if_single(p: PropertyAt, count: usize) -> bool
-    ensures { λ r. ⌜ r ≡ (p .multivalued || leb count 1) ⌝ }
+fn bit(flag: bool) -> u64
+    ensures { λ r. ⌜ r ≡ bitOf flag ⌝ }
 {
-    if p.multivalued {
-        return true;
-    }
-    count <= 1
+    if flag { 1 } else { 0 }
 }
 
-// In an unversioned dossier nothing is marked, and min and max are single.
-fn fits_unversioned(p: PropertyAt, marked: bool, count: usize) -> bool
-    ensures { λ r. ⌜ r ≡ (not marked && (not (hasExtreme p) || leb count 1)) ⌝ }
+// At most one object is allowed: in a versioned dossier in a single set, in an unversioned one in min and max, and in a match set that is single.
+fn is_lone_place(p: PropertyAt, versioned: bool) -> bool
+    ensures { λ r. ⌜ r ≡ cond versioned (not (p .multivalued)) (hasExtreme p || (hasMatch p && not (p .multivalued))) ⌝ }
 {
-    if marked {
-        return false;
+    if versioned {
+        return !p.multivalued;
     }
     if is_extreme(p) {
-        return count <= 1;
-    }
-    true
-}
-
-// A match set is unmarked, and single where single.
-fn is_unmarked_match(p: PropertyAt, marked: bool, count: usize) -> bool
-    ensures { λ r. ⌜ r ≡ (not (hasMatch p) || (not marked && (p .multivalued || leb count 1))) ⌝ }
-{
-    if !is_match(p) {
         return true;
     }
-    if marked {
-        return false;
-    }
-    is_lone_if_single(p, count)
+    if is_match(p) { !p.multivalued } else { false }
 }
 
-// What question 5 asks of a property's cell, by its differ bit and the number of its objects.
-fn cell_fits(p: PropertyAt, versioned: bool, marked: bool, count: usize) -> bool
-    ensures { λ r. ⌜ ((s : List ℕ) (q : Property) (c : Cell) → PropertyIs s q p → CellIs c marked count → r ≡ cellFits versioned q c) ⌝ }
+// A match set is unmarked, and in an unversioned dossier every set is.
+fn is_unmarked_place(p: PropertyAt, versioned: bool) -> bool
+    ensures { λ r. ⌜ r ≡ (not versioned || hasMatch p) ⌝ }
 {
-    if !is_present(p, marked, count) {
-        return false;
-    }
-    if !is_unmarked_match(p, marked, count) {
-        return false;
-    }
-    if versioned {
-        is_lone_if_single(p, count)
-    } else {
-        fits_unversioned(p, marked, count)
-    }
+    if versioned { is_match(p) } else { true }
 }
 
-// The same of each place. The differ bits and the objects that are left after the last property stand at places without one.
-fn cells_fit(
-    versioned: bool,
-    count: usize,
-    properties: &[usize],
-    differ: u64,
-    objects: usize,
-    sets: &[usize],
-) -> bool
-    requires { ⌜ (count ≤ 32) × (length (now properties) ≡ 96) × (length (now sets) ≡ 96) ⌝ }
-    ensures { λ r. ⌜ ((s u : List ℕ) (qs : List Property) (cs : List Cell) → PropertiesAre s qs count (now (properties .entry))
+// The masks of a type, from the highest place down.
+pub fn masks_of(versioned: bool, count: usize, properties: &[usize]) -> ShapeMasks
+    requires { ⌜ (count ≤ 32) × (length (now properties) ≡ 96) ⌝ }
+    ensures { λ r. ⌜ ((s : List ℕ) (qs : List Property) → PropertiesAre s qs count (now (properties .entry)) → MasksAre versioned qs r) ⌝ }
+{
+    let mut m = ShapeMasks {
+        all: 0,
+        mandatory: 0,
+        lone: 0,
+        unmarked: 0,
+    };
+    let mut k = count;
+    while 0 < k {
+        k -= 1;
+        let p = property_at(properties, k);
+        m.all = 2 * m.all + 1;
+        m.mandatory = 2 * m.mandatory + bit(!p.optional);
+        m.lone = 2 * m.lone + bit(is_lone_place(p, versioned));
+        m.unmarked = 2 * m.unmarked + bit(is_unmarked_place(p, versioned));
+    }
+    m
+}
+
+// What question 5 asks of all places at once, by the places that have objects, those that have several, and those that are marked.
+fn masks_fit(m: ShapeMasks, present: u64, several: u64, differ: u64) -> bool
+    ensures { λ r. ⌜ r ≡ masksFit m present several differ ⌝ }
+{
+    if m.all < differ {
+        return false;
+    }
+    if (present | differ) & m.mandatory != m.mandatory {
+        return false;
+    }
+    if several & m.lone != 0 {
+        return false;
+    }
+    differ & m.unmarked == 0
+}
+
+// The same of a snapshot's sets. The objects that are left after the places of all properties stand at places without one.
+fn cells_fit(m: ShapeMasks, count: usize, differ: u64, objects: usize, sets: &[usize]) -> bool
+    requires { ⌜ (count ≤ 32) × (length (now sets) ≡ 96) ⌝ }
+    ensures { λ r. ⌜ ((u : List ℕ) (qs : List Property) (cs : List Cell) (versioned : Bool) → count ≡ length qs → MasksAre versioned qs m
         → CellsAre u cs differ (now (sets .entry)) → objects ≡ sizes cs → r ≡ eachCell (cellFits versioned) isVacant qs cs) ⌝ }
 {
-    let mut bits = differ;
+    let mut present: u64 = 0;
+    let mut several: u64 = 0;
     let mut left = objects;
-    let mut k: usize = 0;
-    while k < count {
-        let x = set_at(sets, k);
-        if !cell_fits(
-            property_at(properties, k),
-            versioned,
-            bits % 2 == 1,
-            x.count,
-        ) {
+    let mut k = count;
+    while 0 < k {
+        k -= 1;
+        let n = sets[3 * k + 2];
+        if left < n {
             return false;
         }
-        if left < x.count {
-            return false;
-        }
-        bits = bits / 2;
-        left -= x.count;
-        k += 1;
+        left -= n;
+        present = 2 * present + bit(0 < n);
+        several = 2 * several + bit(1 < n);
     }
-    if bits != 0 {
+    if left != 0 {
         return false;
     }
-    left == 0
+    masks_fit(m, present, several, differ)
 }
 
 // At most 32 match objects.
@@ -190,24 +186,27 @@ fn fits_by_version(s: &[u8], sets: &[usize], x: SnapshotNumbers, mark: usize) ->
     holds_version(s, sets, version, mark)
 }
 
-// All that question 5 asks of one snapshot.
+// All that question 5 asks of one snapshot. There are no more match objects than objects.
 pub fn snapshot_fits(
     s: &[u8],
     sets: &[usize],
     x: SnapshotNumbers,
+    m: ShapeMasks,
     mark: usize,
     count: usize,
     properties: &[usize],
 ) -> bool
     requires { ⌜ (count ≤ 32) × (length (now sets) ≡ 96) × (length (now properties) ≡ 96) ⌝ }
     ensures { λ r. ⌜ ((u : List ℕ) (ty : EventType) (y : Snapshot) → mark ≡ ty .mark → PropertiesAre u (ty .properties) count (now (properties .entry))
-        → SnapshotIs (now (s .entry)) y x (now (sets .entry)) → r ≡ snapshotFits ty y) ⌝ }
+        → MasksAre (isVersioned ty) (ty .properties) m → SnapshotIs (now (s .entry)) y x (now (sets .entry)) → r ≡ snapshotFits ty y) ⌝ }
 {
-    if !cells_fit(0 < mark, count, properties, x.differ, x.objects, sets) {
+    if !cells_fit(m, count, x.differ, x.objects, sets) {
         return false;
     }
-    if !is_match_small(count, properties, sets) {
-        return false;
+    if 32 < x.objects {
+        if !is_match_small(count, properties, sets) {
+            return false;
+        }
     }
     fits_by_version(s, sets, x, mark)
 }

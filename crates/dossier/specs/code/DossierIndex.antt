@@ -1,10 +1,11 @@
 -- What the readers of a dossier answer, as relations between the bytes, what was read and the positions.
 use Prim.Native.Nat.{ℕ, suc, _+_, _-_, _*_, _≤_, _<_}
 use mathlib.Core.Path.{_≡_}
-use mathlib.Core.Bool.{Bool, true, false, cond, not, _&&_}
+use mathlib.Core.Bool.{Bool, true, false, cond, not, _&&_, _||_}
 use mathlib.Core.Option.{Option, none, some}
 use mathlib.Core.List.{List, [], map}
 use lib.ListN.{length, take, drop, getD}
+use lib.Bits.{bitAnd, bitOr}
 use lib.Dec.{leb, eqb}
 use Rattle.model.specs.Rule.{Cell, Snapshot, sizes}
 use Rattle.model.specs.Opening.{held, isMark, cellAt}
@@ -12,12 +13,12 @@ use Rattle.packed.specs.Parse.{Parse, fail, got, Layout, _>>=_, foundIf}
 use Rattle.packed.specs.Packed.{part}
 use Rattle.values.specs.declared.versions.EventVersion.{EventVersion}
 use Rattle.replies.specs.Questions.{Asked, refused, accepted}
-use Rattle.ontology.specs.Table.{Property, EventType, isVersioned}
+use Rattle.ontology.specs.Table.{Property, EventType, isMin, isMax, isMatch, isVersioned}
 use Rattle.ontology.specs.code.TypeIndex.{TypeIs}
 use Rattle.ontology.specs.declared.types.TypeIndex.{TypeIndex}
 use Rattle.event.specs.EventQuestions.{matchCount}
 use Rattle.event.specs.EventLayout.{readSets, bitNumber}
-use Rattle.event.specs.code.EventIndex.{SetsAre, HeadIs, HeadParts}
+use Rattle.event.specs.code.EventIndex.{SetsAre, HeadIs, HeadParts, bitOf}
 use Rattle.event.specs.Head.{Head}
 use Rattle.event.specs.declared.head.HeadAt.{HeadAt}
 use Rattle.dossier.specs.declared.head.DossierHeadRead.{DossierHeadRead}
@@ -26,6 +27,7 @@ use Rattle.dossier.specs.DossierHead.{dossierHeadBytes}
 use Rattle.dossier.specs.DossierLayout.{Headed}
 use Rattle.dossier.specs.DossierBody.{apart, cellsOf, areSmall, readSnapshot, differBit, snapshotBytes}
 use Rattle.dossier.specs.DossierQuestions.{eachCell, isVacant, isPresent, isLoneIfSingle, isLoneIfExtreme, isUnmarkedMatch, holdsVersion, TypedDossier}
+use Rattle.dossier.specs.declared.shape.ShapeMasks.{ShapeMasks}
 use Rattle.dossier.specs.declared.snapshots.NumbersAt.{NumbersAt}
 use Rattle.dossier.specs.declared.snapshots.NumbersAt.the-variants.{Numbers, NoNumbers}
 use Rattle.dossier.specs.declared.snapshots.SnapshotNumbers.{SnapshotNumbers}
@@ -154,11 +156,6 @@ DossierReads (some h) s rows i = (i .ok ≡ true) × DossierIs s h i × RowsAre 
 
 -- ---- question 5 of a snapshot, place by place
 
--- a cell, by its differ bit and the number of its objects
-pub record CellIs (c : Cell) (marked : Bool) (count : ℕ) : Type 0 where
-  pub mark : marked ≡ isMark c
-  pub size : count ≡ length (held c)
-
 -- the cells of all places, by the differ number and the sets
 pub record CellsAre (s : List ℕ) (cs : List Cell) (differ : ℕ) (ats : List ℕ) : Type 0 where
   pub bits : differ ≡ bitNumber (map differBit cs)
@@ -186,6 +183,33 @@ unfoldable pub shapeNumber : Bool → Bool → ℕ
 shapeNumber false fits = 5
 shapeNumber true false = 6
 shapeNumber true true = 0
+
+-- ---- question 5 of a snapshot, by bit masks
+
+-- the number whose bits say which of xs pass a test, the first by the lowest bit
+abbrev pub maskOf : {A : Type 0} → (A → Bool) → List A → ℕ
+maskOf test xs = bitNumber (map (λ x. bitOf (test x)) xs)
+
+-- at most one object is allowed
+unfoldable pub mustBeLone : Bool → Property → Bool
+mustBeLone versioned p = cond versioned (not (p .multivalued)) (isMin p || isMax p || (isMatch p && not (p .multivalued)))
+
+-- no mark is allowed
+unfoldable pub mustBeUnmarked : Bool → Property → Bool
+mustBeUnmarked versioned p = not versioned || isMatch p
+
+-- the masks of a type's properties
+pub record MasksAre (versioned : Bool) (qs : List Property) (m : ShapeMasks) : Type 0 where
+  pub all : m .all ≡ maskOf (λ (p : Property). true) qs
+  pub mandatory : m .mandatory ≡ maskOf (λ (p : Property). not (p .optional)) qs
+  pub lone : m .lone ≡ maskOf (mustBeLone versioned) qs
+  pub unmarked : m .unmarked ≡ maskOf (mustBeUnmarked versioned) qs
+
+-- no mark past the last property, the mandatory ones present or marked, the lone ones not several, and the unmarked ones not marked
+unfoldable pub masksFit : ShapeMasks → ℕ → ℕ → ℕ → Bool
+masksFit m present several differ =
+    leb differ (m .all) && eqb (bitAnd (bitOr present differ) (m .mandatory)) (m .mandatory)
+    && eqb (bitAnd several (m .lone)) 0 && eqb (bitAnd differ (m .unmarked)) 0
 
 -- ---- questions 3 to 6
 

@@ -1,37 +1,40 @@
+-- The masks are those of the type, and so serve for each snapshot. The number reached is that of the snapshots before, and going on from it gives the number
+-- of all: a snapshot's 5 is the answer, and a 6 stays while others follow.
 use borrow.Author.Needs.{needs}
 use borrow.Author.Tests.{not-true, not-false}
 use native.Mathlib.Omega.{arith}
 use Prim.Native.Nat.{ℕ, _-_, _≤_, _<_}
-use mathlib.Core.Path.{_≡_, refl, sym, _∙_}
+use mathlib.Core.Path.{_≡_, refl, sym, subst, _∙_}
 use mathlib.Core.Logic.{_⊎_, inl}
 use mathlib.Core.List.{List}
+use lib.Dec.{ltb}
 use lib.ListN.{length, getD}
 use Rattle.model.specs.Rule.{Snapshot}
 use Rattle.model.specs.Limits.{standard}
-use Rattle.ontology.specs.Table.{EventType}
+use Rattle.ontology.specs.Table.{EventType, isVersioned}
 use Rattle.ontology.specs.code.TypeIndex.{TypeIs}
 use Rattle.event.specs.code.EventIndex.{KindsAre}
 use Rattle.dossier.specs.DossierLayout.{Headed}
 use Rattle.dossier.specs.DossierQuestions.{dossierShape, eachSnapshot, snapshotValues}
-use Rattle.dossier.specs.code.DossierIndex.{noSnapshot, RowsAre, shapeNumber, DossierIs}
+use Rattle.dossier.specs.code.DossierIndex.{noSnapshot, RowsAre, MasksAre, shapeNumber, DossierIs}
 use Rattle.dossier.proofs.AskLaws.{numberFrom, fitsWith, number-five, number-more, number-kept, number-end, in-count, past-count}
 use Rattle.dossier.proofs.AskLaws.{snapshot-stands, first-sets, not-lone, is-lone}
 use Rattle.dossier.proofs.questions.ask_snapshots.Statement.{statement}
 use Rattle.dossier.proofs.questions.ask_snapshots.Tie as tie
 
 abbrev Inv-loop : tie.InvT-loop
-Inv-loop s rows t properties d number₀ j₀ number j =
+Inv-loop s rows t properties d m number₀ j₀ number j =
     ((u : List ℕ) (ty : EventType) (h : Headed) → TypeIs u ty t properties → KindsAre ty → DossierIs s h d → RowsAre s (h .snapshots) rows →
     shapeNumber (dossierShape standard ty (h .snapshots)) (eachSnapshot (snapshotValues ty) (h .snapshots)) ≡ numberFrom ty (h .snapshots) number j)
     × ((number ≡ 0) ⊎ (number ≡ 6))
 
 abbrev μ-loop : tie.MeasureT-loop
-μ-loop s rows t properties d number₀ j₀ number j = d .count - j
+μ-loop s rows t properties d m number₀ j₀ number j = d .count - j
 
 -- ---- the places
 
 abbrev to-start : tie.At-loop Inv-loop μ-loop → tie.Start Inv-loop μ-loop
-to-start c = c .before .before .before .before .before .before
+to-start c = c .before .before .before .before .before .before .before .before
 
 abbrev to-turn : tie.After-ask-snapshot-arg3 Inv-loop μ-loop → tie.In-loop Inv-loop μ-loop
 to-turn c = c .before .before .before .before .before
@@ -51,6 +54,12 @@ module _ (c : tie.After-ask-snapshot Inv-loop μ-loop) where
   start = to-start (turn .before)
 
   module _ (u : List ℕ) (ty : EventType) (h : Headed) (w : TypeIs u ty (start .args .t) (start .args .properties .now)) (g : KindsAre ty) where
+    abbrev masked : tie.After-masks-of Inv-loop μ-loop
+    masked = turn .before .before
+
+    masks : MasksAre (isVersioned ty) (ty .properties) (masked .masks-of .result)
+    masks = subst (λ (n : ℕ). MasksAre (ltb 0 n) (ty .properties) (masked .masks-of .result)) (w .mark) (masked .masks-of .ensures u _ (w .are))
+
     module _ (x : DossierIs (start .args .s .now) h (start .args .t2)) (r : RowsAre (start .args .s .now) (h .snapshots) (start .args .rows .now)) where
       abbrev one : Snapshot
       one = getD (h .snapshots) (turn .before .loop .j) noSnapshot
@@ -61,7 +70,7 @@ module _ (c : tie.After-ask-snapshot Inv-loop μ-loop) where
       number : c .ask-snapshot .result ≡ shapeNumber (fitsWith ty (getD (h .snapshots) 0 noSnapshot) one) (snapshotValues ty one)
       number =
           let here = snapshot-stands _ h _ x _ r (turn .before .loop .j) (turn .loop-test .taken) in
-          c .ask-snapshot .ensures u ty _ _ (w .mark) (w .are) g (first-sets _ h _ x _ r) here
+          c .ask-snapshot .ensures u ty _ _ (w .mark) (w .are) masks g (first-sets _ h _ x _ r) here
 
 -- ---- the needs
 
@@ -71,8 +80,13 @@ is-lone-requires c κs = search needs
 returns : tie.Need-returns Inv-loop μ-loop
 returns c = λ u ty h w g x r. not-lone _ h _ x u ty _ _ w (c .before .is-lone .ensures) (not-true _ (c .if1 .taken))
 
+masks-of-requires : tie.Need-masks-of-requires Inv-loop μ-loop
+masks-of-requires c κs = search needs
+
 loop-holds : tie.Need-loop-holds Inv-loop μ-loop
-loop-holds c = (λ u ty h w g x r. is-lone _ h _ x u ty _ _ w (c .before .is-lone .ensures) (not-false _ (c .if1 .left)), inl refl)
+loop-holds c =
+    let lone = c .before .before in
+    (λ u ty h w g x r. is-lone _ h _ x u ty _ _ w (lone .before .is-lone .ensures) (not-false _ (lone .if1 .left)), inl refl)
 
 mul-version : tie.Need-mul-version Inv-loop μ-loop
 mul-version c = omega (arith, turn-low c)
@@ -80,11 +94,11 @@ mul-version c = omega (arith, turn-low c)
 element-copy-out-version : tie.Need-element-copy-out-version Inv-loop μ-loop
 element-copy-out-version c = omega (arith, turn-low c)
 
-mul-t15 : tie.Need-mul-t15 Inv-loop μ-loop
-mul-t15 c = omega (arith, turn-low (c .before))
+mul-t16 : tie.Need-mul-t16 Inv-loop μ-loop
+mul-t16 c = omega (arith, turn-low (c .before))
 
-element-copy-out-t22 : tie.Need-element-copy-out-t22 Inv-loop μ-loop
-element-copy-out-t22 c = omega (arith, turn-low (c .before))
+element-copy-out-t23 : tie.Need-element-copy-out-t23 Inv-loop μ-loop
+element-copy-out-t23 c = omega (arith, turn-low (c .before))
 
 mul-ask-snapshot : tie.Need-mul-ask-snapshot Inv-loop μ-loop
 mul-ask-snapshot c = omega (arith, turn-low (c .before .before))
@@ -163,11 +177,12 @@ ask-snapshots-spec =
     μ-loop
     is-lone-requires
     returns
+    masks-of-requires
     loop-holds
     mul-version
     element-copy-out-version
-    mul-t15
-    element-copy-out-t22
+    mul-t16
+    element-copy-out-t23
     mul-ask-snapshot
     element-copy-out-ask-snapshot
     sub-ask-snapshot

@@ -1,135 +1,118 @@
-use mathlib.Core.Path.{_≡_, refl, sym, ap, _∙_, subst}
-use mathlib.Core.Bool.{Bool, _&&_}
-use mathlib.Core.List.{List, [], map}
-use Prim.Native.Nat.{ℕ, _+_, _-_, _≤_, _<_}
-use lib.Dec.{eqb}
-use lib.ListN.{length, drop, getD}
-use Rattle.model.specs.Rule.{Cell, holds, sizes}
-use Rattle.ontology.specs.Table.{Property}
-use Rattle.ontology.specs.code.TypeIndex.{PropertyIs, PropertiesAre}
-use Rattle.event.specs.EventLayout.{bitNumber}
-use Rattle.event.specs.code.EventIndex.{setIn}
-use Rattle.event.specs.declared.sets.SetAt.{SetAt}
-use Rattle.dossier.specs.DossierBody.{differBit}
-use Rattle.dossier.specs.DossierQuestions.{eachCell, isVacant}
-use Rattle.dossier.specs.code.DossierIndex.{CellIs, CellsAre, cellFits}
-use Rattle.dossier.proofs.CellLaws.{cell-here, bits-next, left-few, left-next, named, cells-bad, cells-more, cells-end}
-use borrow.Author.Tests.{not-true, not-false, eq-eqb, ne-eqb}
-use native.Mathlib.Omega.{arith}
+-- The loop goes from the highest place with a property down. The masks are those of the places from the one reached on, and the objects left are those of the
+-- places below it and of the places without a property. At place 0 the masks and what is left answer for all cells (`counts-fit`).
 use borrow.Author.Needs.{needs}
+use mathlib.Core.Path.{_≡_, _∙_}
+use mathlib.Core.List.{List}
+use Prim.Native.Nat.{ℕ, _+_, _-_, _*_, _^_, _≤_, _<_}
+use native.Mathlib.Omega.{arith}
+use lib.Pow.{pow-pos}
+use Rattle.model.specs.Rule.{Cell, sizes}
+use Rattle.dossier.specs.code.DossierIndex.{CellsAre}
+use Rattle.dossier.proofs.MaskLaws.{bits-room, bits-more, bit-low, CountsFrom, counts-none, counts-few, counts-more, counts-over, counts-fit}
 use Rattle.dossier.proofs.shape.cells_fit.Statement.{statement}
 use Rattle.dossier.proofs.shape.cells_fit.Tie as tie
 
 abbrev Inv-loop : tie.InvT-loop
-Inv-loop versioned count properties differ objects sets bits₀ left₀ k₀ bits left k =
-    (s u : List ℕ) (qs : List Property) (cs : List Cell) → PropertiesAre s qs count properties → CellsAre u cs differ sets → objects ≡ sizes cs →
-    (bits ≡ bitNumber (map differBit (drop k cs)))
-    × (left ≡ sizes (drop k cs))
-    × (eachCell (cellFits versioned) isVacant qs cs ≡ eachCell (cellFits versioned) isVacant (drop k qs) (drop k cs))
+Inv-loop m count differ objects sets present₀ several₀ left₀ k₀ present several left k =
+    (k ≤ count) × (present < 2 ^ (32 - k)) × (several < 2 ^ (32 - k))
+    × ((u : List ℕ) (cs : List Cell) → CellsAre u cs differ sets → objects ≡ sizes cs → CountsFrom cs count k present several left)
 
 abbrev μ-loop : tie.MeasureT-loop
-μ-loop versioned count properties differ objects sets bits₀ left₀ k₀ bits left k = count - k
+μ-loop m count differ objects sets present₀ several₀ left₀ k₀ present several left k = k
 
 -- ---- the places
 
 abbrev to-start : tie.At-loop Inv-loop μ-loop → tie.Start Inv-loop μ-loop
-to-start c = c .before .before .before
+to-start c = c .before .before
 
-abbrev to-loop : tie.After-cell-fits Inv-loop μ-loop → tie.At-loop Inv-loop μ-loop
-to-loop c = c .before .before .before .before
+abbrev to-turn : tie.Else1 Inv-loop μ-loop → tie.In-loop Inv-loop μ-loop
+to-turn c = c .before .before
 
--- ---- what is known of the place
+-- ---- a turn
 
-module _ (c : tie.After-cell-fits Inv-loop μ-loop) where
-  abbrev start : tie.Start Inv-loop μ-loop
-  start = to-start (to-loop c)
+module _ (c : tie.In-loop Inv-loop μ-loop) where
+  few : c .before .loop .k ≤ 32
+  few = omega (arith, c .before .loop .inv .0, to-start (c .before) .pre .0)
 
-  abbrev place : ℕ
-  place = to-loop c .loop .k
+  present-room : 2 * c .before .loop .present + 1 < 4294967296
+  present-room = bits-room _ _ (c .loop-test .taken) (c .before .loop .inv .1)
 
-  inside : place < 32
-  inside = omega (arith, c .before .before .before .loop-test .taken, start .pre .0)
-
-  objects : c .before .before .set-at .result .count ≡ setIn (start .args .sets .now) place .count
-  objects = ap (λ (x : SetAt). x .count) (c .before .before .set-at .ensures)
-
-  module _ {s : List ℕ} {qs : List Property} (w : PropertiesAre s qs (start .args .count) (start .args .properties .now)) where
-    within : place < length qs
-    within = omega (arith, w .count, c .before .before .before .loop-test .taken)
-
-    cell :
-        {u : List ℕ} {cs : List Cell} (v : CellsAre u cs (start .args .differ) (start .args .sets .now)) (b : to-loop c .loop .bits
-        ≡ bitNumber (map differBit (drop place cs))) →
-        c .cell-fits .result ≡ cellFits (start .args .versioned) (named u cs _ _ v _ _ inside b (start .args .versioned) qs within .what)
-        (getD cs place (holds []))
-    cell {u} {cs} v b =
-        let q = named u cs _ _ v _ _ inside b (start .args .versioned) qs within in
-        let property = subst (PropertyIs s (q .what)) (sym (c .before .property-at .ensures)) (w .each place (q .what) (q .is)) in
-        c .cell-fits .ensures s (q .what) (getD cs place (holds [])) property (subst (CellIs _ _) (sym objects) (cell-here u cs _ _ v _ _ inside b))
+  several-room : 2 * c .before .loop .several + 1 < 4294967296
+  several-room = bits-room _ _ (c .loop-test .taken) (c .before .loop .inv .2)
 
 -- ---- the needs
 
 loop-holds : tie.Need-loop-holds Inv-loop μ-loop
-loop-holds c = λ s u qs cs w v o. (v .bits, o, refl)
+loop-holds c = (omega arith, pow-pos _, pow-pos _, λ u cs y o. counts-none cs _ _ o)
 
-set-at-requires : tie.Need-set-at-requires Inv-loop μ-loop
-set-at-requires c κs =
-    let start = to-start (c .before) in
-    (start .pre .2, omega (arith, start .pre .0))
+sub-k : tie.Need-sub-k Inv-loop μ-loop
+sub-k c = search needs
 
-property-at-requires : tie.Need-property-at-requires Inv-loop μ-loop
-property-at-requires c κs =
-    let start = to-start (c .before .before) in
-    (start .pre .1, omega (arith, start .pre .0))
+mul-n : tie.Need-mul-n Inv-loop μ-loop
+mul-n c = omega (arith, few c)
 
-cell-fits-requires : tie.Need-cell-fits-requires Inv-loop μ-loop
-cell-fits-requires c κs = search needs
+add-n : tie.Need-add-n Inv-loop μ-loop
+add-n c = omega (arith, few c)
+
+mul-n-2 : tie.Need-mul-n-2 Inv-loop μ-loop
+mul-n-2 c = omega (arith, few c)
+
+shared-slice-read-n : tie.Need-shared-slice-read-n Inv-loop μ-loop
+shared-slice-read-n c = let turn = c .before in omega (arith, few turn, turn .loop-test .taken, to-start (turn .before) .pre .1)
 
 returns : tie.Need-returns Inv-loop μ-loop
-returns c = λ s u qs cs w v o.
-    let asked = c .before in
-    let l = to-loop asked .loop in
-    let i = l .inv s u qs cs w v o in
-    sym (i .2 ∙ cells-bad u cs _ _ v _ _ (inside asked) (i .0) _ qs (within asked w) (cell asked w v (i .0)) (not-true _ (c .if1 .taken)))
+returns c = λ u qs cs versioned n x y o.
+    let turn = c .before .before in
+    let l = turn .before .loop in
+    absurd (counts-few y _ _ _ _ _ (turn .loop-test .taken) (l .inv .0) (to-start (turn .before) .pre .0) (l .inv .3 u cs y o) (c .if1 .taken))
 
-returns-2 : tie.Need-returns-2 Inv-loop μ-loop
-returns-2 c = λ s u qs cs w v o.
-    let asked = c .before .before .before in
-    let l = to-loop asked .loop in
-    let i = l .inv s u qs cs w v o in
-    absurd (left-few u cs _ _ v _ _ (inside asked) (i .0) _ (i .1) (omega (arith, objects asked, c .if2 .taken)))
+mul-present : tie.Need-mul-present Inv-loop μ-loop
+mul-present c = omega (arith, present-room (to-turn c))
 
-add-k : tie.Need-add-k Inv-loop μ-loop
-add-k c = omega (arith, inside (c .before .before .before .before))
+bit-requires : tie.Need-bit-requires Inv-loop μ-loop
+bit-requires c κs = search needs
+
+add-present : tie.Need-add-present Inv-loop μ-loop
+add-present c = omega (arith, present-room (to-turn (c .before)), bit-low _ (c .bit .ensures))
+
+mul-several : tie.Need-mul-several Inv-loop μ-loop
+mul-several c = omega (arith, several-room (to-turn (c .before)))
+
+bit-requires-2 : tie.Need-bit-requires-2 Inv-loop μ-loop
+bit-requires-2 c κs = search needs
+
+add-several : tie.Need-add-several Inv-loop μ-loop
+add-several c = omega (arith, several-room (to-turn (c .before .before)), bit-low _ (c .bit2 .ensures))
 
 loop-less : tie.Need-loop-less Inv-loop μ-loop
-loop-less c = search needs
+loop-less c = omega (arith, to-turn (c .before .before) .loop-test .taken)
 
 loop-again : tie.Need-loop-again Inv-loop μ-loop
-loop-again c = λ s u qs cs w v o.
-    let asked = c .before .before .before .before in
-    let l = to-loop asked .loop in
-    let i = l .inv s u qs cs w v o in
-    let rest : l .left - asked .before .before .set-at .result .count ≡ sizes (drop (l .k + 1) cs) = omega
-    (arith, objects asked, left-next u cs _ _ v _ _ (inside asked) (i .0) _ (i .1)) in (
-      bits-next cs (l .k) _ (i .0),
-      rest,
-      i .2 ∙ cells-more u cs _ _ v _ _ (inside asked) (i .0) _ qs (within asked w) (cell asked w v (i .0)) (not-false _ (c .before .before .before .if1 .left)),
+loop-again c =
+    let turn = to-turn (c .before .before) in
+    let some = turn .loop-test .taken in
+    let l = turn .before .loop in (
+      omega (arith, l .inv .0),
+      bits-more _ _ _ some (few turn) (l .inv .1) (bit-low _ (c .before .bit .ensures)),
+      bits-more _ _ _ some (few turn) (l .inv .2) (bit-low _ (c .bit2 .ensures)),
+      λ u cs y o.
+          counts-more y _ _ _ _ _ some (l .inv .0) (to-start (turn .before) .pre .0) (l .inv .3 u cs y o) _ _ (c .before .bit .ensures) (c .bit2 .ensures),
     )
 
-returns-3 : tie.Need-returns-3 Inv-loop μ-loop
-returns-3 c = λ s u qs cs w v o.
-    let l = c .before .before .loop in
-    let i = l .inv s u qs cs w v o in
-    let past : length qs ≤ l .k = omega (arith, w .count, c .before .loop-test .left) in
-    sym (i .2 ∙ cells-end qs cs _ (l .k) _ _ past (i .0) (i .1) ∙ ap (λ (b : Bool). b && eqb (l .left) 0) (ne-eqb (l .bits) 0 (c .if3 .taken)))
+returns-2 : tie.Need-returns-2 Inv-loop μ-loop
+returns-2 c = λ u qs cs versioned n x y o.
+    let l = c .before .before in
+    counts-over n (to-start l .pre .0) x y (l .loop .inv .3 u cs y o) (omega (arith, c .before .loop-test .left)) (c .if2 .taken)
 
-returns-4 : tie.Need-returns-4 Inv-loop μ-loop
-returns-4 c = λ s u qs cs w v o.
-    let l = c .before .before .loop in
-    let i = l .inv s u qs cs w v o in
-    let past : length qs ≤ l .k = omega (arith, w .count, c .before .loop-test .left) in
-    sym (i .2 ∙ cells-end qs cs _ (l .k) _ _ past (i .0) (i .1) ∙ ap (λ (b : Bool). b && eqb (l .left) 0) (eq-eqb (l .bits) 0 (c .if3 .left)))
+masks-fit-requires : tie.Need-masks-fit-requires Inv-loop μ-loop
+masks-fit-requires c κs = search needs
+
+returns-3 : tie.Need-returns-3 Inv-loop μ-loop
+returns-3 c = λ u qs cs versioned n x y o.
+    let counted = c .before in
+    let l = counted .before .before in
+    c .masks-fit .ensures
+    ∙ counts-fit n (to-start l .pre .0) x y (l .loop .inv .3 u cs y o) (omega (arith, counted .before .loop-test .left)) (counted .if2 .left)
 
 pub cells-fit-spec : {M : Type 1} → statement M
 cells-fit-spec =
@@ -138,13 +121,20 @@ cells-fit-spec =
     Inv-loop
     μ-loop
     loop-holds
-    set-at-requires
-    property-at-requires
-    cell-fits-requires
+    sub-k
+    mul-n
+    add-n
+    mul-n-2
+    shared-slice-read-n
     returns
-    returns-2
-    add-k
+    mul-present
+    bit-requires
+    add-present
+    mul-several
+    bit-requires-2
+    add-several
     loop-less
     loop-again
-    returns-3
-    returns-4)
+    returns-2
+    masks-fit-requires
+    returns-3)
