@@ -230,9 +230,6 @@ module _ (s : List ℕ) (h : Headed) (d : DossierIndex) (w : DossierIs s h d) wh
   pub past-count : (j : ℕ) → d .count ≤ j → length (h .snapshots) ≤ j
   past-count j l = omega (arith, w .count)
 
-  pub start-within : (j : ℕ) → j < d .count → getD (d .starts) j 0 ≤ length s
-  start-within j l = let a = w .snapshots .each j (omega (arith, w .count)) in omega (arith, a .order, a .within)
-
   -- the numbers that the index has of a snapshot
   abbrev pub numbersAt : ℕ → SnapshotNumbers
   numbersAt j = record { version = getD (d .versions) j noVersion; differ = getD (d .differs) j 0; objects = getD (d .objects) j 0 }

@@ -46,7 +46,3 @@ dossier-was limits s h e =
         let f : (record { head = g; snapshots = ss }) ≡ h = cc in
         let k : u ≡ [] = cc in
         rw (← f) (a .0 ∙ rw (b .0, k) (sym (dossier-parts (record { head = g; snapshots = ss }))), record { head = a .1; body = b .1 })
-
--- bytes that are one dossier are equal
-pub dossier-injective : (limits : Limits) (s t : List ℕ) (h : Headed) → dossierOf limits s ≡ some h → dossierOf limits t ≡ some h → s ≡ t
-dossier-injective limits s t h e f = dossier-was limits s h e .0 ∙ sym (dossier-was limits t h f .0)
