@@ -1,62 +1,48 @@
 use borrow.Author.Needs.{needs}
 use denote.Ref.{now}
-use mathlib.Core.Bool.{Bool, true, false}
-use mathlib.Core.List.{List}
-use mathlib.Core.Path.{_≡_, sym, ap, _∙_}
-use Prim.Native.Nat as nat
-use Prim.Native.Nat.{ℕ}
-use Rattle.model.specs.Order.{pick}
 use Rattle.packed.specs.Packed.{part}
-use Rattle.packed.specs.code.Comparison.{ordering, precedes}
-use Rattle.packed.specs.declared.order.Ordering.{Ordering}
+use Rattle.packed.proofs.OrderLaws.{less-is}
 use Rattle.packed.proofs.order.is_before.Statement.{statement}
 use Rattle.packed.proofs.order.is_before.Tie as tie
 
--- the answer, by the comparison
-abbrev earlier : nat.Ordering → Bool
-earlier o = pick o true false false
+abbrev to-start : tie.After-order-number → tie.Start
+to-start c = c .before .before .before .before
 
-abbrev first : Ordering → Bool
-first x = earlier (ordering x)
+sub-order-number : tie.Need-sub-order-number
+sub-order-number c = search needs
 
--- ---- the values
+part-order-number-start : tie.Need-part-order-number-start
+part-order-number-start c = search needs
 
-module _ (c : tie.After-compare-parts) where
-  abbrev left : List ℕ
-  left = let args = c .before .before .args in part (now (args .s)) (args .a) (args .e)
+part-order-number-end : tie.Need-part-order-number-end
+part-order-number-end c = search needs
 
-  abbrev right : List ℕ
-  right = let args = c .before .before .args in part (now (args .s)) (args .b) (args .f)
+sub-order-number-2 : tie.Need-sub-order-number-2
+sub-order-number-2 c = search needs
 
--- ---- the facts
+part-order-number-start-2 : tie.Need-part-order-number-start-2
+part-order-number-start-2 c = search needs
 
-answer : (c : tie.After-compare-parts) {r : Ordering} → c .compare-parts .result ≡ r → first r ≡ precedes (left c) (right c)
-answer c e = sym (ap first e) ∙ ap earlier (c .compare-parts .ensures)
+part-order-number-end-2 : tie.Need-part-order-number-end-2
+part-order-number-end-2 c = search needs
 
--- ---- the needs
-
-compare-parts-requires : tie.Need-compare-parts-requires
-compare-parts-requires c κs = search needs
-
-enum-told : tie.Need-enum-told
-enum-told c = search needs
-
-enum-told-2 : tie.Need-enum-told-2
-enum-told-2 c = search needs
-
-enum-told-3 : tie.Need-enum-told-3
-enum-told-3 c = search needs
+order-number-requires : tie.Need-order-number-requires
+order-number-requires c κs = search needs
 
 returns : tie.Need-returns
-returns c = answer (c .before .before) (c .enum-told .given .1)
-
-returns-2 : tie.Need-returns-2
-returns-2 c = answer (c .before .before) (c .enum-told2 .given .1)
-
-returns-3 : tie.Need-returns-3
-returns-3 c = answer (c .before .before) (c .enum-told3 .given .1)
+returns c =
+    let a = to-start c .args in
+    less-is (part (now (a .s)) (a .a) (a .e)) (part (now (a .s)) (a .b) (a .f)) (c .order-number .ensures)
 
 pub is-before-spec : {M : Type 1} → statement M
 is-before-spec =
     tie.close
-    (tie.spec compare-parts-requires enum-told enum-told-2 enum-told-3 returns returns-2 returns-3)
+    (tie.spec
+    sub-order-number
+    part-order-number-start
+    part-order-number-end
+    sub-order-number-2
+    part-order-number-start-2
+    part-order-number-end-2
+    order-number-requires
+    returns)
