@@ -107,7 +107,7 @@ of-kind k v e = and-right (leb 1 (length v) && leb (length v) 120) (isOfKind k v
 -- ---- order and choice
 
 -- a string of bytes below 0x80 is told by its length
-short-string : (most : ℕ) (v : Text) → AllLow v → (leb 1 (length v) && leb (length v) 120 && leb (length v) most) ≡ inSpace (string most) v
+pub short-string : (most : ℕ) (v : Text) → AllLow v → (leb 1 (length v) && leb (length v) 120 && leb (length v) most) ≡ inSpace (string most) v
 unfolding inSpace isOfKind
 short-string most v low = rw (low-utf8 v low, and-true (leb (length v) most)) refl
 
@@ -115,13 +115,11 @@ kind-string : (size after sign : ℕ) → kindOf stringNumber size after sign �
 unfolding kindOf
 kind-string size after sign = refl
 
-pub plain-string :
-    (kind size after sign : ℕ) (v : Text) → kind ≡ stringNumber → AllLow v → (k : Kind) → kindOf kind size after sign ≡ some k →
-    (leb 1 (length v) && leb (length v) 120 && leb (length v) size) ≡ inSpace k v
-plain-string kind size after sign v n low k e =
+-- what has the number of strings is one
+pub is-string-kind : (kind size after sign : ℕ) (k : Kind) → kind ≡ stringNumber → kindOf kind size after sign ≡ some k → string size ≡ k
+is-string-kind kind size after sign k n e =
     let told : kindOf stringNumber size after sign ≡ some (string size) = kind-string size after sign in
-    let same : string size ≡ k = cc in
-    subst (λ (x : Kind). (leb 1 (length v) && leb (length v) 120 && leb (length v) size) ≡ inSpace x v) same (short-string size v low)
+    cc
 
 pub is-datetime-kind : (k : Kind) → kindNumber k ≡ kindNumber datetime → k ≡ datetime
 is-datetime-kind (unsigned width) e = absurd (omega arith)

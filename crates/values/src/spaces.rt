@@ -112,7 +112,7 @@ pub fn is_plain(kind: u8, v: &[u8]) -> bool
     is_ascii(v)
 }
 
-fn is_short(most: u8, length: usize) -> bool
+pub fn is_short(most: u8, length: usize) -> bool
     ensures { λ r. ⌜ r ≡ (leb 1 length && leb length 120 && leb length most) ⌝ }
 {
     if length < 1 {
@@ -122,17 +122,6 @@ fn is_short(most: u8, length: usize) -> bool
         return false;
     }
     length <= most as usize
-}
-
-// The same as `in_space` of a part of what is plain or not.
-pub fn part_in_space(plain: bool, kind: u8, size: u8, after: u8, sign: u8, v: &[u8]) -> bool
-    ensures { λ r. ⌜ ((k : Kind) → kindOf kind size after sign ≡ some k → isKind k ≡ true → (plain ≡ true → (kind ≡ stringNumber) × AllLow (now (v .entry)))
-        → r ≡ inSpace k (now (v .entry))) ⌝ }
-{
-    if plain {
-        return is_short(size, v.len());
-    }
-    in_space(kind, size, after, sign, v)
 }
 
 // "Kinds 1 to 6 are ordered by their numbers or instants"
