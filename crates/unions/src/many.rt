@@ -10,8 +10,9 @@ ghost use Rattle.packed.specs.code.Written.{Wrote};
 ghost use Rattle.unions.specs.code.Merging.{SetRuns, told, RightLeast, Lesser, IsLeast, MergedRoom};
 use crate::heads::Form;
 use crate::heads::head_at;
-use packed::order::Ordering;
-use packed::order::compare_parts;
+use packed::order::EQUAL;
+use packed::order::LESS;
+use packed::order::order_parts;
 use packed::read::TextAt;
 use packed::write::copy_part;
 
@@ -60,17 +61,17 @@ fn lesser(s: &[u8], best: Least, at: &[usize], j: usize, end: usize, after: &mut
         after[j] = q;
         return first;
     }
-    match compare_parts(s, p, q, s, best.value, best.end) {
-        Ordering::Less => {
+    match order_parts(s, p, q, s, best.value, best.end) {
+        LESS => {
             copy_eight(at, after);
             after[j] = q;
             first
         }
-        Ordering::Equal => {
+        EQUAL => {
             after[j] = q;
             best
         }
-        Ordering::Greater => best,
+        _ => best,
     }
 }
 

@@ -10,8 +10,9 @@ ghost use Rattle.unions.specs.code.Runs.{run, Run, Hashes, Steps, Room, 
 use crate::heads::Form;
 use crate::heads::count_rest;
 use crate::heads::head_at;
-use packed::order::Ordering;
-use packed::order::compare_parts;
+use packed::order::EQUAL;
+use packed::order::LESS;
+use packed::order::order_parts;
 use packed::read::TextAt;
 use packed::write::copy_part;
 
@@ -37,10 +38,10 @@ fn next_of(form: Form, a: &[u8], i: usize, b: &[u8], j: usize) -> Step
     let TextAt::Text(q, y) = head_at(form, b, j) else {
         return Step::Alone;
     };
-    match compare_parts(a, p, x, b, q, y) {
-        Ordering::Less => Step::Next(x, j),
-        Ordering::Equal => Step::Next(x, y),
-        Ordering::Greater => Step::Next(i, y),
+    match order_parts(a, p, x, b, q, y) {
+        LESS => Step::Next(x, j),
+        EQUAL => Step::Next(x, y),
+        _ => Step::Next(i, y),
     }
 }
 
@@ -96,18 +97,18 @@ fn write_runs(form: Form, a: &[u8], b: &[u8], out: &mut [u8], at: usize) -> Join
                 shared,
             };
         };
-        match compare_parts(a, p, x, b, q, y) {
-            Ordering::Less => {
+        match order_parts(a, p, x, b, q, y) {
+            LESS => {
                 next = copy_part(a, i, x, out, next);
                 i = x;
             }
-            Ordering::Equal => {
+            EQUAL => {
                 next = copy_part(a, i, x, out, next);
                 i = x;
                 j = y;
                 shared += 1;
             }
-            Ordering::Greater => {
+            _ => {
                 next = copy_part(b, j, y, out, next);
                 j = y;
             }

@@ -3,14 +3,15 @@ use borrow.Author.Tests.{not-true, not-false}
 use native.Mathlib.Omega.{arith}
 use denote.Ref.{now}
 use Prim.Native.Nat.{ℕ, _^_, _<_}
-use mathlib.Core.Path.{_≡_, sym, ap, _∙_, subst}
+use mathlib.Core.Path.{_≡_, sym, _∙_, subst}
 use mathlib.Core.Bool.{true}
 use mathlib.Core.List.{List}
 use lib.ListN.{length, getD, set}
 use Rattle.model.specs.Order.{texts}
 use Rattle.model.proofs.Cases.{never}
 use Rattle.packed.specs.Packed.{part}
-use Rattle.packed.specs.code.Comparison.{ordering}
+use Rattle.packed.specs.code.Comparison.{orderNumber}
+use Rattle.packed.proofs.OrderLaws.{number-less, number-equal, number-more}
 use Rattle.unions.specs.declared.heads.Form.the-variants as form
 use Rattle.unions.specs.code.Runs.{HeadIs}
 use Rattle.unions.specs.code.Merging.{Told, told, leastText, Lesser}
@@ -72,9 +73,9 @@ found c = not-false _ (c .if2 .left)
 
 -- the two are compared
 compared :
-    (c : tie.After-compare-parts) → let x = c .before .before in let start = of-head x in
-    texts .cmp (part (bytes start) (value x) (end x)) (leastText (bytes start) (best start)) ≡ ordering (c .compare-parts .result)
-compared c = sym (c .compare-parts .ensures)
+    (c : tie.After-order-parts) → let x = c .before .before in let start = of-head x in
+    c .order-parts .result ≡ orderNumber (texts .cmp (part (bytes start) (value x) (end x)) (leastText (bytes start) (best start)))
+compared c = c .order-parts .ensures
 
 -- the answer is the value of run j, where `after` was as `at` before
 taken :
@@ -136,14 +137,11 @@ returns-3 c =
     let first = lesser-first _ _ _ _ _ (small (some .before .before .before .before)) (some .if1 .left) _ _ (head x) (in-runs start) none in
     (taken x _ (start .pre .1 .1 none) first, λ e. never (cc e))
 
-compare-parts-requires : tie.Need-compare-parts-requires
-compare-parts-requires c κs =
+order-parts-requires : tie.Need-order-parts-requires
+order-parts-requires c κs =
     let x = c .before in
     let least = of-head x .pre .1 .0 (found c) in
     (head x .order, head x .within, least .order, least .within)
-
-enum-told-2 : tie.Need-enum-told-2
-enum-told-2 c = search needs
 
 copy-eight-requires : tie.Need-copy-eight-requires
 copy-eight-requires c κs = search needs
@@ -154,17 +152,11 @@ mul-after-2 c = search needs
 slice-write-after-2 : tie.Need-slice-write-after-2
 slice-write-after-2 c = search needs
 
-enum-told-3 : tie.Need-enum-told-3
-enum-told-3 c = search needs
-
 mul-after-3 : tie.Need-mul-after-3
 mul-after-3 c = search needs
 
 slice-write-after-3 : tie.Need-slice-write-after-3
 slice-write-after-3 c = search needs
-
-enum-told-4 : tie.Need-enum-told-4
-enum-told-4 c = search needs
 
 same-length-2 : tie.Need-same-length-2
 same-length-2 c = search needs
@@ -172,11 +164,11 @@ same-length-2 c = search needs
 returns-4 : tie.Need-returns-4
 returns-4 c =
     let copied = c .before .before in
-    let at-compare = copied .before .before .before .before in
+    let at-compare = copied .before .before .before in
     let turn = at-compare .before in
     let x = turn .before in
     let some = to-some x in
-    let less = compared at-compare ∙ ap ordering (copied .before .before .enum-told2 .given .1) in
+    let less = sym (number-less _ (compared at-compare) (omega (arith, copied .before .before .match2 .keys1))) in
     let known = some .before .before .before .before in
     let first = lesser-less _ _ _ _ _ (small known) (some .if1 .left) _ _ (head x) (found turn) (in-runs (of-head x)) less in
     (taken x _ (copied .copy-eight .ensures) first, λ e. never (cc e))
@@ -186,24 +178,24 @@ same-length-3 c = search needs
 
 returns-5 : tie.Need-returns-5
 returns-5 c =
-    let at-compare = c .before .before in
+    let at-compare = c .before in
     let turn = at-compare .before in
     let x = turn .before in
     let some = to-some x in
     let start = of-head x in
-    let same = compared at-compare ∙ ap ordering (c .enum-told3 .given .1) in
+    let same = sym (number-equal _ (compared at-compare) (omega (arith, c .match2 .keys2))) in
     let known = some .before .before .before .before in
     let both = lesser-both _ _ _ _ _ (small known) (some .if1 .left) _ _ (head x) (found turn) (start .pre .1 .0) (in-after start) same in
     (both, λ e. never (cc (sym (found turn) ∙ e)))
 
 returns-6 : tie.Need-returns-6
 returns-6 c =
-    let at-compare = c .before .before in
+    let at-compare = c .before in
     let turn = at-compare .before in
     let x = turn .before in
     let some = to-some x in
     let start = of-head x in
-    let greater = compared at-compare ∙ ap ordering (c .enum-told4 .given .1) in
+    let greater = sym (number-more _ (compared at-compare) (omega (arith, c .match2 .rest))) in
     let known = some .before .before .before .before in
     (lesser-kept _ _ _ _ _ (small known) (some .if1 .left) _ _ (head x) (found turn) (start .pre .1 .0) greater, start .pre .1 .1)
 
@@ -222,15 +214,12 @@ lesser-spec =
     slice-write-after
     same-length
     returns-3
-    compare-parts-requires
-    enum-told-2
+    order-parts-requires
     copy-eight-requires
     mul-after-2
     slice-write-after-2
-    enum-told-3
     mul-after-3
     slice-write-after-3
-    enum-told-4
     same-length-2
     returns-4
     same-length-3

@@ -1,10 +1,11 @@
 use borrow.Author.Needs.{needs}
+use native.Mathlib.Omega.{arith}
 use Prim.Native.Nat.{ℕ}
-use mathlib.Core.Path.{sym, ap, _∙_}
+use mathlib.Core.Path.{sym}
 use mathlib.Core.Logic.{inl, inr}
 use mathlib.Core.List.{List}
 use denote.Ref.{now}
-use Rattle.packed.specs.code.Comparison.{ordering}
+use Rattle.packed.proofs.OrderLaws.{number-less, number-equal, number-more}
 use Rattle.unions.specs.declared.heads.Form.{Form}
 use Rattle.unions.specs.code.Runs.{HeadIs}
 use Rattle.unions.proofs.RunLaws.{heads-some, heads-none, step-less, step-same, step-more, stepped}
@@ -85,38 +86,29 @@ enum-told-2 c = search needs
 returns-2 : tie.Need-returns-2
 returns-2 c = record { either = inr (heads-none (c .enum-told2 .given .1) (c .before .before .head-at2 .ensures)) }
 
-compare-parts-requires : tie.Need-compare-parts-requires
-compare-parts-requires c κs =
+order-parts-requires : tie.Need-order-parts-requires
+order-parts-requires c κs =
     let u = left (c .before) in
     let v = right (c .before) in
     (u .order, u .within, v .order, v .within)
 
-enum-told-3 : tie.Need-enum-told-3
-enum-told-3 c = search needs
-
-enum-told-4 : tie.Need-enum-told-4
-enum-told-4 c = search needs
-
-enum-told-5 : tie.Need-enum-told-5
-enum-told-5 c = search needs
-
 returns-3 : tie.Need-returns-3
 returns-3 c =
-    let compared = c .before .before in
+    let compared = c .before in
     let at-q = compared .before .before in
-    stepped (step-less (left at-q) (right at-q) (sym (compared .compare-parts .ensures) ∙ ap ordering (c .enum-told3 .given .1)))
+    stepped (step-less (left at-q) (right at-q) (sym (number-less _ (compared .order-parts .ensures) (omega (arith, c .match3 .keys1)))))
 
 returns-4 : tie.Need-returns-4
 returns-4 c =
-    let compared = c .before .before in
+    let compared = c .before in
     let at-q = compared .before .before in
-    stepped (step-same (left at-q) (right at-q) (sym (compared .compare-parts .ensures) ∙ ap ordering (c .enum-told4 .given .1)))
+    stepped (step-same (left at-q) (right at-q) (sym (number-equal _ (compared .order-parts .ensures) (omega (arith, c .match3 .keys2)))))
 
 returns-5 : tie.Need-returns-5
 returns-5 c =
-    let compared = c .before .before in
+    let compared = c .before in
     let at-q = compared .before .before in
-    stepped (step-more (left at-q) (right at-q) (sym (compared .compare-parts .ensures) ∙ ap ordering (c .enum-told5 .given .1)))
+    stepped (step-more (left at-q) (right at-q) (sym (number-more _ (compared .order-parts .ensures) (omega (arith, c .match3 .rest)))))
 
 pub next-of-spec : {M : Type 1} → statement M
 next-of-spec =
@@ -130,10 +122,7 @@ next-of-spec =
     enum-known-q
     enum-told-2
     returns-2
-    compare-parts-requires
-    enum-told-3
-    enum-told-4
-    enum-told-5
+    order-parts-requires
     returns-3
     returns-4
     returns-5)

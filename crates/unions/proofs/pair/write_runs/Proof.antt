@@ -1,16 +1,15 @@
 use borrow.Author.Needs.{needs}
 use native.Mathlib.Omega.{arith}
-use Prim.Native.Nat.{ℕ, _≤_, _+_, _-_}
-use mathlib.Core.Path.{_≡_, refl, sym, ap, _∙_}
+use Prim.Native.Nat.{ℕ, _+_, _-_, _^_, _≤_, _<_}
+use mathlib.Core.Path.{_≡_, refl, sym, _∙_}
 use mathlib.Core.List.{List, []}
 use lib.ListN.{length, drop}
 use denote.Ref.{now}
 use Rattle.model.specs.Order.{Text, texts}
 use Rattle.model.specs.Sets.{union}
 use Rattle.packed.specs.Packed.{part}
-use Rattle.packed.specs.declared.order.Ordering.the-variants.{Less, Equal, Greater}
-use Rattle.packed.specs.code.Comparison.{ordering}
 use Rattle.packed.specs.code.Written.{Wrote}
+use Rattle.packed.proofs.OrderLaws.{number-less, number-equal, number-more}
 use Rattle.packed.proofs.WriteLaws.{to-go, wrote-length}
 use Rattle.unions.specs.declared.heads.Form.{Form}
 use Rattle.unions.specs.code.Runs.{run, Run, HeadIs, NoHead, StepIs, Room, WroteUnion}
@@ -49,7 +48,7 @@ to-p c = c .before .before .before .before
 abbrev to-loop : tie.After-q Inv-loop μ-loop → tie.At-loop Inv-loop μ-loop
 to-loop c = p-to-loop (to-p c)
 
-abbrev to-q : tie.After-compare-parts Inv-loop μ-loop → tie.After-q Inv-loop μ-loop
+abbrev to-q : tie.After-order-parts Inv-loop μ-loop → tie.After-q Inv-loop μ-loop
 to-q c = c .before .before
 
 -- ---- the values
@@ -97,6 +96,10 @@ module _ (c : tie.After-q Inv-loop μ-loop) where
   y = c .q .given .0 .1 .0
 
 -- ---- the facts
+
+-- there are no more bytes than a `usize` counts
+a-short : (c : tie.After-shared-slice-known Inv-loop μ-loop) → length (now (c .before .args .a)) < 2 ^ 64
+a-short c = omega arith
 
 -- What is written of the union of the values that stand in a and b: a head, or all of one side where the other has no more.
 module _ (l : tie.At-loop Inv-loop μ-loop) (xs ys : List Text) (rx : Run (form l) (a l) xs []) (ry : Run (form l) (b l) ys []) where
@@ -149,7 +152,7 @@ module _ (c : tie.After-q Inv-loop μ-loop) where
   right : let l = to-loop c in HeadIs (form l) (b l) (j l) (q c) (y c)
   right = heads-some (c .q .given .1) (c .before .before .head-at2 .ensures)
 
-module _ (c : tie.After-compare-parts Inv-loop μ-loop) where
+module _ (c : tie.After-order-parts Inv-loop μ-loop) where
   abbrev turn : tie.At-loop Inv-loop μ-loop
   turn = to-loop (to-q c)
 
@@ -162,25 +165,25 @@ module _ (c : tie.After-compare-parts Inv-loop μ-loop) where
   abbrev More-step : Type 0
   More-step = let l = turn in StepIs (form l) (a l) (i l) (b l) (j l) (part (b l) (j l) (y (to-q c))) 1 (i l) (y (to-q c))
 
-  less : c .compare-parts .result ≡ Less → Less-step
-  less e = step-less (left (to-q c)) (right (to-q c)) (sym (c .compare-parts .ensures) ∙ ap ordering e)
+  less : c .order-parts .result ≡ 0 → Less-step
+  less e = step-less (left (to-q c)) (right (to-q c)) (sym (number-less _ (c .order-parts .ensures) e))
 
-  same : c .compare-parts .result ≡ Equal → Same-step
-  same e = step-same (left (to-q c)) (right (to-q c)) (sym (c .compare-parts .ensures) ∙ ap ordering e)
+  same : c .order-parts .result ≡ 1 → Same-step
+  same e = step-same (left (to-q c)) (right (to-q c)) (sym (number-equal _ (c .order-parts .ensures) e))
 
-  more : c .compare-parts .result ≡ Greater → More-step
-  more e = step-more (left (to-q c)) (right (to-q c)) (sym (c .compare-parts .ensures) ∙ ap ordering e)
+  more : 2 ≤ c .order-parts .result → More-step
+  more e = step-more (left (to-q c)) (right (to-q c)) (sym (number-more _ (c .order-parts .ensures) e))
 
 -- ---- the arms
 
-less-step : (c : tie.After-copy-part-arg3 Inv-loop μ-loop) → Less-step (c .before .before .before)
-less-step c = less (c .before .before .before) (c .before .enum-told3 .given .1)
+less-step : (c : tie.After-copy-part-arg3 Inv-loop μ-loop) → Less-step (c .before .before)
+less-step c = less (c .before .before) (omega (arith, c .before .match3 .keys1))
 
-same-step : (c : tie.After-copy-part-arg4 Inv-loop μ-loop) → Same-step (c .before .before .before)
-same-step c = same (c .before .before .before) (c .before .enum-told4 .given .1)
+same-step : (c : tie.After-copy-part-arg4 Inv-loop μ-loop) → Same-step (c .before .before)
+same-step c = same (c .before .before) (omega (arith, c .before .match3 .keys2))
 
-more-step : (c : tie.After-copy-part-arg5 Inv-loop μ-loop) → More-step (c .before .before .before)
-more-step c = more (c .before .before .before) (c .before .enum-told5 .given .1)
+more-step : (c : tie.After-copy-part-arg5 Inv-loop μ-loop) → More-step (c .before .before)
+more-step c = more (c .before .before) (omega (arith, c .before .match3 .rest))
 
 -- ---- the needs
 
@@ -239,19 +242,16 @@ returns-2 c =
     let none = copied .before .before in
     λ xs ys rx ry. wrote-left (p-to-loop (none-to-p none)) xs ys rx ry (no-right none) (copied .copy-part2 .ensures)
 
-compare-parts-requires : tie.Need-compare-parts-requires Inv-loop μ-loop
-compare-parts-requires c κs =
+order-parts-requires : tie.Need-order-parts-requires Inv-loop μ-loop
+order-parts-requires c κs =
     let u = left (c .before) in
     let v = right (c .before) in
     (u .order, u .within, v .order, v .within)
 
-enum-told-3 : tie.Need-enum-told-3 Inv-loop μ-loop
-enum-told-3 c = search needs
-
 copy-part-requires-3 : tie.Need-copy-part-requires-3 Inv-loop μ-loop
 copy-part-requires-3 c κs =
     let w = less-step c in
-    let compared = c .before .before .before in
+    let compared = c .before .before in
     (omega (arith, left (to-q compared) .after), w .within, step-room (turn compared) w)
 
 loop-less : tie.Need-loop-less Inv-loop μ-loop
@@ -262,30 +262,28 @@ loop-less c =
 loop-again : tie.Need-loop-again Inv-loop μ-loop
 loop-again c =
     let arg = c .before .before .before in
-    let l = turn (arg .before .before .before) in
+    let l = turn (arg .before .before) in
     let w = less-step arg in
     let o = c .before .before .copy-part3 .ensures in (
       w .within,
       w .within′,
       wrote-length o ∙ l .loop .inv .2,
-      omega (arith, l .loop .inv .3, left (to-q (arg .before .before .before)) .after),
+      omega (arith, l .loop .inv .3, left (to-q (arg .before .before)) .after),
       λ xs ys rx ry. head-wrote _ (a l) (i l) (b l) (j l) _ _ _ _ _ _ _ (going l xs ys rx ry) w (omega arith) o,
     )
-
-enum-told-4 : tie.Need-enum-told-4 Inv-loop μ-loop
-enum-told-4 c = search needs
 
 copy-part-requires-4 : tie.Need-copy-part-requires-4 Inv-loop μ-loop
 copy-part-requires-4 c κs =
     let w = same-step c in
-    let compared = c .before .before .before in
+    let compared = c .before .before in
     (omega (arith, left (to-q compared) .after), w .within, step-room (turn compared) w)
 
 add-shared : tie.Need-add-shared Inv-loop μ-loop
 add-shared c =
     let arg = c .before .before .before in
-    let compared = arg .before .before .before in
-    omega (arith, turn compared .loop .inv .3, left (to-q compared) .after, left (to-q compared) .within)
+    let compared = arg .before .before in
+    let l = turn compared in
+    omega (arith, l .loop .inv .3, left (to-q compared) .after, left (to-q compared) .within, a-short (l .before .before .before))
 
 loop-less-2 : tie.Need-loop-less-2 Inv-loop μ-loop
 loop-less-2 c =
@@ -295,23 +293,20 @@ loop-less-2 c =
 loop-again-2 : tie.Need-loop-again-2 Inv-loop μ-loop
 loop-again-2 c =
     let arg = c .before .before .before in
-    let l = turn (arg .before .before .before) in
+    let l = turn (arg .before .before) in
     let w = same-step arg in
     let o = c .before .before .copy-part4 .ensures in (
       w .within,
       w .within′,
       wrote-length o ∙ l .loop .inv .2,
-      omega (arith, l .loop .inv .3, left (to-q (arg .before .before .before)) .after),
+      omega (arith, l .loop .inv .3, left (to-q (arg .before .before)) .after),
       λ xs ys rx ry. head-wrote _ (a l) (i l) (b l) (j l) _ _ _ _ _ _ _ (going l xs ys rx ry) w (omega arith) o,
     )
-
-enum-told-5 : tie.Need-enum-told-5 Inv-loop μ-loop
-enum-told-5 c = search needs
 
 copy-part-requires-5 : tie.Need-copy-part-requires-5 Inv-loop μ-loop
 copy-part-requires-5 c κs =
     let w = more-step c in
-    let compared = c .before .before .before in
+    let compared = c .before .before in
     (omega (arith, right (to-q compared) .after), w .within′, step-room (turn compared) w)
 
 loop-less-3 : tie.Need-loop-less-3 Inv-loop μ-loop
@@ -322,13 +317,13 @@ loop-less-3 c =
 loop-again-3 : tie.Need-loop-again-3 Inv-loop μ-loop
 loop-again-3 c =
     let arg = c .before .before .before in
-    let l = turn (arg .before .before .before) in
+    let l = turn (arg .before .before) in
     let w = more-step arg in
     let o = c .before .before .copy-part5 .ensures in (
       w .within,
       w .within′,
       wrote-length o ∙ l .loop .inv .2,
-      omega (arith, l .loop .inv .3, right (to-q (arg .before .before .before)) .after),
+      omega (arith, l .loop .inv .3, right (to-q (arg .before .before)) .after),
       λ xs ys rx ry. head-wrote _ (a l) (i l) (b l) (j l) _ _ _ _ _ _ _ (going l xs ys rx ry) w (omega arith) o,
     )
 
@@ -351,17 +346,14 @@ write-runs-spec =
     copy-part-requires-2
     same-length-2
     returns-2
-    compare-parts-requires
-    enum-told-3
+    order-parts-requires
     copy-part-requires-3
     loop-less
     loop-again
-    enum-told-4
     copy-part-requires-4
     add-shared
     loop-less-2
     loop-again-2
-    enum-told-5
     copy-part-requires-5
     loop-less-3
     loop-again-3)
