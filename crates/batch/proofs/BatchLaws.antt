@@ -47,7 +47,6 @@ use Rattle.dossier.proofs.DossierQuestionLaws.{match-sets, agree-exact}
 use Rattle.combining.specs.CheckCall.{eventDossier, checkAsked, checkAnswer, checkCall}
 use Rattle.combining.specs.code.CheckIndex.{KnownEvent}
 use Rattle.combining.specs.code.AddIndex.{Measured, Addable}
-use Rattle.combining.specs.declared.measures.Measures.{Measures}
 use Rattle.combining.specs.CombineCall.{combined, combineAsked, combineAnswer, combineCall}
 use Rattle.ways.specs.ByteWays.{eventOr, eventAt, byteView, dossierReturned, returned, wayAnswer, HasRoom, SameMatch}
 use Rattle.ways.proofs.RuleQuestionLaws.{has-length}
@@ -215,11 +214,11 @@ accepted-same e = cc
 
 -- The event s can be added to the dossier `sofar` of which the code has the measures m, and that gives the dossier of the events es
 record Adds
-    (table sofar : List ℕ) (m : Measures) (s : List ℕ) (t : TypeIndex) (ps : List ℕ) (ts : Table) (es : List (List ℕ)) : Type 0 where
+    (table sofar m s : List ℕ) (t : TypeIndex) (ps : List ℕ) (ts : Table) (es : List (List ℕ)) : Type 0 where
   addable : Addable table sofar m s t ps
   joined : (out : List ℕ) → HasRoom out → combineCall standard table sofar (addable .lone) out ≡ outcome (combinedAnswer ts es) out
   measured :
-      (r : reply.Reply) (p : Measures) →
+      (r : reply.Reply) (p : List ℕ) →
       ((z : ℕ) → r ≡ variant.Done z → Measured (combined (addable .both .left) (addable .both .right) .snapshots) p) → MeasuredFirst ts es r p
 
 -- ---- combining such events
@@ -409,13 +408,13 @@ module _ (table : List ℕ) (ts : Table) (isTable : tableOf table ≡ some ts) (
       go true e = let z : d ≡ ruledDossier (s ∷ es) = cc in ap (λ (x : TypedDossier). x .headed .snapshots) z
       go false e = never (cc)
 
-  first-measured : (es : List (List ℕ)) (r : reply.Reply) (m : Measures) → Has es → Each S es → Measured (rules es .snapshots) m → MeasuredFirst ts es r m
+  first-measured : (es : List (List ℕ)) (r : reply.Reply) (m : List ℕ) → Has es → Each S es → Measured (rules es .snapshots) m → MeasuredFirst ts es r m
   unfolding MeasuredFirst
   first-measured es (variant.Done z) m n h w = λ d e. subst (λ (xs : List Snapshot). Measured xs m) (sym (given-snapshots es d n h e)) w
   first-measured es (variant.Refused z) m n h w = tt
 
   rule-measured :
-      (es : List (List ℕ)) (z : ℕ) (m : Measures) → Has es → Each S es → fits standard (typeView t) (rules es) ≡ true →
+      (es : List (List ℕ)) (z : ℕ) (m : List ℕ) → Has es → Each S es → fits standard (typeView t) (rules es) ≡ true →
       MeasuredFirst ts es (variant.Done z) m → Measured (rules es .snapshots) m
   unfolding MeasuredFirst
   rule-measured [] z m n h f w = absurd (List·Memᴰ·not-nil (n .1))
@@ -423,7 +422,7 @@ module _ (table : List ℕ) (ts : Table) (isTable : tableOf table ≡ some ts) (
 
   -- the first event alone
   one-measured :
-      (s : List ℕ) (x : TypeIndex) (ps : List ℕ) (r : reply.Reply) (m : Measures) → 1 ≤ length ss → s ≡ getD ss 0 [] → FirstTyped table ts ss x ps →
+      (s : List ℕ) (x : TypeIndex) (ps : List ℕ) (r : reply.Reply) (m : List ℕ) → 1 ≤ length ss → s ≡ getD ss 0 [] → FirstTyped table ts ss x ps →
       ((e : KnownEvent table s x) → Measured (eventDossier (e .event) .snapshots) m) → MeasuredFirst ts (take 1 ss) r m
   one-measured s x ps r m l q f w =
       let one = getD ss 0 [] in
@@ -435,7 +434,7 @@ module _ (table : List ℕ) (ts : Table) (isTable : tableOf table ≡ some ts) (
       rw (first-last 1 (omega arith) l) (first-measured (one ∷ []) r m (one, List·Memᴰ·head refl) (one-each one h) measured)
 
   -- the n-th event s, and the dossier `sofar` of those before it, of which the code has the measures m
-  module _ (n size : ℕ) (s sofar : List ℕ) (m : Measures) (x : TypeIndex) (ps : List ℕ) (h : 2 ≤ n) (l : n ≤ length ss) (q : s ≡ getD ss (n - 1) [])
+  module _ (n size : ℕ) (s sofar m : List ℕ) (x : TypeIndex) (ps : List ℕ) (h : 2 ≤ n) (l : n ≤ length ss) (q : s ≡ getD ss (n - 1) [])
       (c : combinedAnswer ts (take (n - 1) ss) ≡ gives sofar) (w : MeasuredFirst ts (take (n - 1) ss) (variant.Done size) m)
       (f : FirstTyped table ts ss x ps) where
     abbrev others : List (List ℕ)
@@ -507,7 +506,7 @@ module _ (table : List ℕ) (ts : Table) (isTable : tableOf table ≡ some ts) (
     both-joined = sym (ap₂ (combine (typeView t)) (rule-bytes t others) (rule-bytes t (last ∷ []))) ∙ all-joined
 
     next-measured :
-        (r : reply.Reply) (p : Measures) →
+        (r : reply.Reply) (p : List ℕ) →
         ((z : ℕ) → r ≡ variant.Done z → Measured (combined (dossierOf others) (dossierOf (last ∷ [])) .snapshots) p) →
         MeasuredFirst ts (take n ss) r p
     unfolding MeasuredFirst
@@ -572,7 +571,7 @@ refused-within : (r : reply.Reply) (s : List ℕ) (n : ℕ) → r ≡ variant.Re
 unfolding DoneWithin
 refused-within r s n e = subst (λ (y : reply.Reply). DoneWithin y s) (sym e) tt
 
-refused-measured : (ts : Table) (es : List (List ℕ)) (r : reply.Reply) (m : Measures) (n : ℕ) → r ≡ variant.Refused n → MeasuredFirst ts es r m
+refused-measured : (ts : Table) (es : List (List ℕ)) (r : reply.Reply) (m : List ℕ) (n : ℕ) → r ≡ variant.Refused n → MeasuredFirst ts es r m
 unfolding MeasuredFirst
 refused-measured ts es r m n e = subst (λ (y : reply.Reply). MeasuredFirst ts es y m) (sym e) tt
 
@@ -586,7 +585,7 @@ abbrev pub IsEvent : List ℕ → BatchIndex → ℕ → List ℕ → Type 0
 IsEvent batch x i s = (ss : List (List ℕ)) → BatchIs batch ss x → i - 1 < length ss → s ≡ getD ss (i - 1) []
 
 -- r and m are what combining the first n events answered, in a buffer that had the bytes `old` and has `after`
-pub record CombinedFirst (table batch : List ℕ) (x : BatchIndex) (n : ℕ) (r : reply.Reply) (m : Measures) (after old : List ℕ) : Type 0 where
+pub record CombinedFirst (table batch : List ℕ) (x : BatchIndex) (n : ℕ) (r : reply.Reply) (m after old : List ℕ) : Type 0 where
   pub within : DoneWithin r after
   pub first :
       (ts : Table) (ss : List (List ℕ)) → Agreed table batch x ts ss → n ≤ length ss →
@@ -628,7 +627,7 @@ module _ (table batch : List ℕ) (x : BatchIndex) (t : TypeIndex) (ps : List �
         check-one table ts (g .isTable) ss (known ts ss (g .agreed)) n s old after r one (omega arith) room (is ss (g .isBatch) (omega arith)) e
 
     pub one-combined :
-        (m : Measures) → ((k : KnownEvent table s t) → Measured (eventDossier (k .event) .snapshots) m) → CombinedFirst table batch x n r m after old
+        (m : List ℕ) → ((k : KnownEvent table s t) → Measured (eventDossier (k .event) .snapshots) m) → CombinedFirst table batch x n r m after old
     one-combined m f = record {
       within = check-within r after table s old e;
       first = λ ts ss g l. ap (λ (o : Outcome). returned o) (one-checked ts ss g l);
@@ -638,7 +637,7 @@ module _ (table batch : List ℕ) (x : BatchIndex) (t : TypeIndex) (ps : List �
     }
 
   -- those before the n-th, combined
-  module _ (two : 2 ≤ n) (r : reply.Reply) (m : Measures) (after old : List ℕ) (others : CombinedFirst table batch x (n - 1) r m after old) where
+  module _ (two : 2 ≤ n) (r : reply.Reply) (m after old : List ℕ) (others : CombinedFirst table batch x (n - 1) r m after old) where
     -- a refusal of these is one of all
     pub all-refused :
         (z : ℕ) (out : List ℕ) → r ≡ variant.Refused z →
@@ -678,7 +677,7 @@ module _ (table batch : List ℕ) (x : BatchIndex) (t : TypeIndex) (ps : List �
         last-added ts ss g l = let a = last-adds ts ss g l in e (a .addable) ∙ a .joined out room
 
         pub last-combined :
-            (m′ : Measures) (old′ : List ℕ) →
+            (m′ old′ : List ℕ) →
             ((h : Addable table (take size after) m s t ps) (z : ℕ) → r′ ≡ variant.Done z →
             Measured (combined (h .both .left) (h .both .right) .snapshots) m′) →
             CombinedFirst table batch x n r′ m′ after′ old′

@@ -14,7 +14,6 @@ use crate::asked::ask_events;
 use crate::frame::BatchIndex;
 use crate::frame::event_part;
 use crate::frame::read_batch;
-use combining::add::Added;
 use combining::add::add_event;
 use combining::check::check_known;
 use event::ask::type_name;
@@ -24,8 +23,8 @@ use replies::capacities::DOSSIER_CAPACITY;
 use replies::reply::BatchReply;
 use replies::reply::Reply;
 
-// The dossier of the first n events, in the first of three buffers: all but the last are combined first, then the last is added. The buffers change roles. Of
-// the events, which were accepted, and of the dossiers, which the batch made itself, no question before the last need be asked again.
+// The dossier of the first n events, in the first of three buffers, and its measures: all but the last are combined first, then the last is added. The buffers
+// change roles. Of the events, which were accepted, and of the dossiers, which the batch made itself, no question before the last need be asked again.
 fn combine_first(
     table: &[u8],
     batch: &[u8],
@@ -33,38 +32,29 @@ fn combine_first(
     t: TypeIndex,
     properties: &[usize],
     n: usize,
+    measures: &mut [usize],
     a: &mut [u8],
     b: &mut [u8],
     c: &mut [u8],
-) -> Added
-    requires { ⌜ (1 ≤ n) × (n ≤ 16) × (length (now properties) ≡ 96) ⌝ }
+) -> Reply
+    requires { ⌜ (1 ≤ n) × (n ≤ 16) × (length (now properties) ≡ 96) × (length (now measures) ≡ 17) ⌝ }
     requires { ⌜ (dossierCapacity ≤ length (now a)) × (dossierCapacity ≤ length (now b)) × (dossierCapacity ≤ length (now c)) ⌝ }
     requires { ⌜ FirstOf (now table) (now batch) x t (now properties) n ⌝ }
-    ensures within { λ r. ⌜ DoneWithin (r .reply) (now (a .exit)) ⌝ }
+    ensures within { λ r. ⌜ DoneWithin r (now (a .exit)) ⌝ }
     ensures first { λ r. ⌜ ((ts : Table) (ss : List (List ℕ)) → Agreed (now (table .entry)) (now (batch .entry)) x ts ss → n ≤ length ss
-        → dossierReturned (replied (r .reply)) (now (a .exit)) ≡ returned (outcome (combinedAnswer ts (take n ss)) (now (a .entry)))) ⌝ }
+        → dossierReturned (replied r) (now (a .exit)) ≡ returned (outcome (combinedAnswer ts (take n ss)) (now (a .entry)))) ⌝ }
     ensures measured { λ r. ⌜ ((ts : Table) (ss : List (List ℕ)) → Agreed (now (table .entry)) (now (batch .entry)) x ts ss → n ≤ length ss
-        → MeasuredFirst ts (take n ss) (r .reply) (r .measures)) ⌝ }
+        → MeasuredFirst ts (take n ss) r (now (measures .exit))) ⌝ }
 {
     if n <= 1 {
-        return check_known(table, event_part(batch, x, 0), t, a);
+        return check_known(table, event_part(batch, x, 0), t, measures, a);
     }
-    let others = combine_first(table, batch, x, t, properties, n - 1, b, c, a);
-    let reply = others.reply;
-    let Reply::Done(size) = reply else {
+    let others = combine_first(table, batch, x, t, properties, n - 1, measures, b, c, a);
+    let Reply::Done(size) = others else {
         return others;
     };
     let event = event_part(batch, x, n - 1);
-    add_event(
-        table,
-        &b[..size],
-        others.measures,
-        event,
-        t,
-        properties,
-        c,
-        a,
-    )
+    add_event(table, &b[..size], measures, event, t, properties, c, a)
 }
 
 // The dossier of all events of a batch that was asked its questions but the last.
@@ -85,28 +75,37 @@ fn combine_all(
     ensures { λ r. ⌜ ((ts : Table) (ss : List (List ℕ)) → Agreed (now (table .entry)) (now (batch .entry)) x ts ss
         → replies r (now (out .exit)) ≡ outcome (combinedAnswer ts ss) (now (out .entry))) ⌝ }
 {
+    let mut measures = [0usize; 17];
     let n = x.count;
     if n <= 1 {
-        let one = check_known(table, event_part(batch, x, 0), t, out);
-        return one.reply;
+        return check_known(table, event_part(batch, x, 0), t, &mut measures, out);
     }
-    let others = combine_first(table, batch, x, t, properties, n - 1, a, b, c);
-    let reply = others.reply;
-    let Reply::Done(size) = reply else {
-        return reply;
+    let others = combine_first(
+        table,
+        batch,
+        x,
+        t,
+        properties,
+        n - 1,
+        &mut measures,
+        a,
+        b,
+        c,
+    );
+    let Reply::Done(size) = others else {
+        return others;
     };
     let event = event_part(batch, x, n - 1);
-    let all = add_event(
+    add_event(
         table,
         &a[..size],
-        others.measures,
+        &mut measures,
         event,
         t,
         properties,
         b,
         out,
-    );
-    all.reply
+    )
 }
 
 // A reply of the whole batch, whose refusal has the position 0.

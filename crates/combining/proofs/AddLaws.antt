@@ -52,11 +52,10 @@ use Rattle.dossier.proofs.DossierLayoutLaws.{DossierWritten, dossier-was}
 use Rattle.dossier.proofs.DossierSizeLaws.{held-objects}
 use Rattle.combining.specs.CombineCall.{combined}
 use Rattle.combining.specs.code.AddIndex.{bytesOf, Splits, lowerOrSame, withSnapshot, Adding, alone, metWith, Met, newSnapshot, Inside}
-use Rattle.combining.specs.code.AddIndex.{Addable, Measured, MeasuredIn}
+use Rattle.combining.specs.code.AddIndex.{countIn, Addable, Measured, MeasuredIn}
 use Rattle.combining.specs.code.CheckIndex.{KnownEvent, aloneBytes, loneBytes}
 use Rattle.combining.specs.code.CombineIndex.{Known, Meet, Shared}
 use Rattle.combining.specs.code.WriteIndex.{SharedRoom, HeadsAre}
-use Rattle.combining.specs.declared.measures.Measures.{Measures}
 use Rattle.combining.specs.declared.measures.Place.{Place}
 use Rattle.combining.proofs.InsertLaws.{Stands, stands, join-keeps, merged-with, bytes-split, bytes-next, bytes-with, length-with, written-at}
 use Rattle.combining.proofs.CheckLaws.{Checked, fit, kept, lone-short, none-differ, lone-sets, lone-snapshots, lone-head, alone-bytes}
@@ -120,12 +119,9 @@ module _
 
 -- ---- a reply that was made
 
-pub reply-is : {r q : Reply} {bytes : List ℕ} {o : Outcome} → r ≡ q → replies q bytes ≡ o → replies r bytes ≡ o
-reply-is {bytes = bytes} {o = o} e h = subst (λ (r : Reply). replies r bytes ≡ o) (sym e) h
-
 -- ---- a dossier that an event can be added to
 
-module _ {table sofar : List ℕ} {m : Measures} {event : List ℕ} {t : TypeIndex} {ps : List ℕ} (a : Addable table sofar m event t ps) where
+module _ {table sofar m event : List ℕ} {t : TypeIndex} {ps : List ℕ} (a : Addable table sofar m event t ps) where
   abbrev pub dossier : Headed
   dossier = a .both .left .headed
 
@@ -207,7 +203,7 @@ taken-event {table} {event} k w = record {
 }
 
 module _
-    {table sofar : List ℕ} {m : Measures} {event : List ℕ} {e : EventIndex} {ats : List ℕ} {x : HeadAt} {body : ℕ} {p : Place}
+    {table sofar m event : List ℕ} {e : EventIndex} {ats : List ℕ} {x : HeadAt} {body : ℕ} {p : Place}
     {t : TypeIndex} {ps : List ℕ} (h : Adding table sofar m event e ats x body p t ps) where
   abbrev k : Known table sofar (h .added .lone) t ps
   k = h .added .both
@@ -424,19 +420,19 @@ module _
 
   -- ---- the whole dossier, and its measures
 
-  pub counted : {n : ℕ} → n ≡ cond (p .meets) (m .count) (m .count + 1) → n ≡ length (combined (k .left) (k .right) .snapshots)
+  pub counted : {n : ℕ} → n ≡ cond (p .meets) (countIn m) (countIn m + 1) → n ≡ length (combined (k .left) (k .right) .snapshots)
   counted is = is ∙ go (p .meets) refl
     where
-      go : (b : Bool) → p .meets ≡ b → cond (p .meets) (m .count) (m .count + 1) ≡ length (combined (k .left) (k .right) .snapshots)
-      go true q = ap (λ (b : Bool). cond b (m .count) (m .count + 1)) q ∙ h .added .measured .count ∙ sym (many-met q)
-      go false q = ap (λ (b : Bool). cond b (m .count) (m .count + 1)) q ∙ ap (λ (i : ℕ). i + 1) (h .added .measured .count) ∙ sym (many-unmet q)
+      go : (b : Bool) → p .meets ≡ b → cond (p .meets) (countIn m) (countIn m + 1) ≡ length (combined (k .left) (k .right) .snapshots)
+      go true q = ap (λ (b : Bool). cond b (countIn m) (countIn m + 1)) q ∙ h .added .measured .count ∙ sym (many-met q)
+      go false q = ap (λ (b : Bool). cond b (countIn m) (countIn m + 1)) q ∙ ap (λ (i : ℕ). i + 1) (h .added .measured .count) ∙ sym (many-unmet q)
 
   pub added-heads : Inside h → HeadsAre sofar x event (e .head) (k .left .headed .head) (k .right .headed .head)
   added-heads inside = known-heads k inside (h .head) right-head-is
 
   -- there is a place for the measures of one more
   pub has-place :
-      Inside h → (m .count ≤ 8) × (p .index ≤ m .count) × (p .meets ≡ true → p .index < m .count) × (p .meets ≡ false → m .count < 8)
+      Inside h → (countIn m ≤ 8) × (p .index ≤ countIn m) × (p .meets ≡ true → p .index < countIn m) × (p .meets ≡ false → countIn m < 8)
   unfolding standard
   has-place inside =
       let c = h .added .measured .count in
@@ -455,7 +451,7 @@ module _
       go false q = ap (λ (z : Snapshot). z .version) (new-alone q)
 
   pub measured-with :
-      {version size : ℕ} {r : Measures} → version ≡ versionOf (typed .type) (typed .event) → length (snapshotBytes (newSnapshot h)) ≡ size →
+      {version size : ℕ} {r : List ℕ} → version ≡ versionOf (typed .type) (typed .event) → length (snapshotBytes (newSnapshot h)) ≡ size →
       ((zs : List Snapshot) (z : Snapshot) → Measured zs m → z .version ≡ version → length (snapshotBytes z) ≡ size → Measured (withSnapshot zs p z) r) →
       Measured (combined (k .left) (k .right) .snapshots) r
   measured-with {r = r} n s says =
@@ -498,10 +494,10 @@ module _
   -- one snapshot more, of a versioned type
   pub fits-unmet :
       (n : Bool) → n ≡ leb (length (union texts (k .left .headed .head .parents) (k .right .headed .head .parents))) 32 → n ≡ true →
-      p .meets ≡ false → ltb (m .count) 8 ≡ asked
-  fits-unmet n w o q = ⊎-elim below above (lt-or-ge (m .count) 8)
+      p .meets ≡ false → ltb (countIn m) 8 ≡ asked
+  fits-unmet n w o q = ⊎-elim below above (lt-or-ge (countIn m) 8)
     where
-      many : m .count + 1 ≡ length (combined (k .left) (k .right) .snapshots)
+      many : countIn m + 1 ≡ length (combined (k .left) (k .right) .snapshots)
       many = ap (λ (i : ℕ). i + 1) (h .added .measured .count) ∙ sym (many-unmet q)
 
       marked : 0 < t .mark
@@ -510,11 +506,11 @@ module _
           unlike : true ≡ false → ⊥
           unlike z = never (cc)
 
-      below : m .count < 8 → ltb (m .count) 8 ≡ asked
-      below l = lt-ltb (m .count) 8 l ∙ fits-versioned k n w o (m .count + 1) many (omega arith) marked
+      below : countIn m < 8 → ltb (countIn m) 8 ≡ asked
+      below l = lt-ltb (countIn m) 8 l ∙ fits-versioned k n w o (countIn m + 1) many (omega arith) marked
 
-      above : 8 ≤ m .count → ltb (m .count) 8 ≡ asked
-      above l = le-ltb (m .count) 8 l ∙ fits-versions k n w o (m .count + 1) many (omega arith)
+      above : 8 ≤ countIn m → ltb (countIn m) 8 ≡ asked
+      above l = le-ltb (countIn m) 8 l ∙ fits-versions k n w o (countIn m + 1) many (omega arith)
 
   module _ (un : t .mark ≤ 0) where
     abbrev first : Snapshot

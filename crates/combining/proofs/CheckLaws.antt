@@ -44,7 +44,6 @@ use Rattle.dossier.proofs.DossierHeadLaws.{dossier-head-size}
 use Rattle.combining.specs.CheckCall.{eventDossier, checkAsked, checkAnswer, checkCall}
 use Rattle.combining.specs.code.CheckIndex.{aloneBytes, loneBytes, Checkable, LoneRoom, KnownEvent}
 use Rattle.combining.specs.code.AddIndex.{bytesOf, Measured, alone}
-use Rattle.combining.specs.declared.measures.Measures.{Measures}
 
 -- ---- the bytes of one event's dossier
 
@@ -199,7 +198,7 @@ module _ {table event : List ℕ} {t : TypeIndex} {x : EventIndex} {ats : List �
 
   -- the measures of its snapshot are those of its dossier
   pub lone-measured :
-      {m : Measures} (version : ℕ) {size : ℕ} → version ≡ versionOf (a .type) (a .e) → length (aloneBytes (a .e) version) ≡ size →
+      {m : List ℕ} (version : ℕ) {size : ℕ} → version ≡ versionOf (a .type) (a .e) → length (aloneBytes (a .e) version) ≡ size →
       ((s : Snapshot) → s .version ≡ version → length (snapshotBytes s) ≡ size → Measured (s ∷ []) m) →
       Measured (eventDossier (record { type = a .type; event = a .e }) .snapshots) m
   lone-measured {m} version {size} q long of =

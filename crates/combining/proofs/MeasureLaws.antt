@@ -1,25 +1,20 @@
--- The laws of the versions and sizes of a dossier's snapshots: finding a place among them, and putting a snapshot there.
+-- The laws of the measures of a dossier's snapshots: finding a place among them, and putting a snapshot there.
 use mathlib.Core.Path.{_≡_, refl, sym, ap, _∙_, subst}
 use mathlib.Core.Bool.{Bool, true, false, cond}
 use mathlib.Core.Logic.{⊎-elim}
 use mathlib.Core.List.{List, [], _∷_, _++_, map, flatten}
-use Prim.Native.Nat.{ℕ, zero, suc, _+_, _-_, _≤_, _<_}
+use Prim.Native.Nat.{ℕ, zero, suc, _+_, _-_, _*_, _≤_, _<_}
 use native.Mathlib.Omega.{arith}
-use lib.ListN.{length, take, drop, getD, set, length-append, length-map, length-set, length-drop}
+use lib.ListN.{length, take, drop, getD, set, length-append, length-set, length-drop}
 use lib.Seq.{getD-set-same, getD-set-other, getD-take, getD-drop, length-take-le}
 use Rattle.model.specs.Rule.{Snapshot}
 use Rattle.model.proofs.Cases.{never}
-use Rattle.values.specs.declared.versions.EventVersion.{EventVersion}
 use Rattle.packed.proofs.LayoutLaws.{lt-or-ge}
 use Rattle.dossier.specs.DossierBody.{snapshotBytes}
-use Rattle.dossier.specs.code.DossierIndex.{noSnapshot, noVersion}
-use Rattle.combining.specs.code.AddIndex.{bytesOf, Measured, MeasuredIn, Splits, MovedUp, withSnapshot}
-use Rattle.combining.specs.declared.measures.Measures.{Measures}
+use Rattle.dossier.specs.code.DossierIndex.{noSnapshot}
+use Rattle.combining.specs.code.AddIndex.{bytesOf, countIn, measureIn, measureOf, Measured, MeasuredIn, Splits, MovedUp, withSnapshot}
+use Rattle.combining.specs.declared.measures.Measure.{Measure}
 use Rattle.combining.specs.declared.measures.Place.{Place}
-
--- what is known of an array of structs that a struct holds is the length of the list of its elements' fields
-pub mapped-long : (A B : Type 0) (f : A → B) (l : List A) (n : ℕ) → length (map f l) ≡ n → length l ≡ n
-mapped-long A B f l n e = sym (length-map l f) ∙ e
 
 -- ---- the bytes of the first so many snapshots
 
@@ -37,21 +32,65 @@ bytes-within ss zero = omega arith
 bytes-within [] (suc k) = omega arith
 bytes-within (x ∷ ss) (suc k) = simp length-append (omega (arith, bytes-within ss k))
 
+-- ---- the numbers of one snapshot
+
+-- the numbers m with x at place k
+abbrev pub putTwo : List ℕ → ℕ → Measure → List ℕ
+putTwo m k x = set (set m (2 * k + 1) (x .version .0)) (2 * k + 2) (x .size)
+
+module _ (m : List ℕ) (k : ℕ) (x : Measure) where
+  abbrev one : List ℕ
+  one = set m (2 * k + 1) (x .version .0)
+
+  one-long : length one ≡ length m
+  one-long = length-set m (2 * k + 1) (x .version .0)
+
+  pub put-here : length m ≡ 17 → k < 8 → measureIn (putTwo m k x) k ≡ x
+  put-here long low =
+      let v : getD (putTwo m k x) (2 * k + 1) 0 ≡ x .version .0 =
+      getD-set-other one (2 * k + 2) (2 * k + 1) (x .size) 0 (λ e. omega arith)
+      ∙ getD-set-same m (2 * k + 1) (x .version .0) 0 (omega arith) in
+      let z : getD (putTwo m k x) (2 * k + 2) 0 ≡ x .size = getD-set-same one (2 * k + 2) (x .size) 0 (omega (arith, one-long)) in
+      λ i. record { version = record { 0 = v i }; size = z i }
+
+  kept : (i : ℕ) → (i ≡ 2 * k + 1 → ⊥) → (i ≡ 2 * k + 2 → ⊥) → getD (putTwo m k x) i 0 ≡ getD m i 0
+  kept i p q =
+      getD-set-other one (2 * k + 2) i (x .size) 0 (λ e. q (omega (arith, e))) ∙ getD-set-other m (2 * k + 1) i (x .version .0) 0 (λ e. p (omega (arith, e)))
+
+  pub put-others : (j : ℕ) → (j ≡ k → ⊥) → measureIn (putTwo m k x) j ≡ measureIn m j
+  put-others j n =
+      let v = kept (2 * j + 1) (λ e. n (omega (arith, e))) (λ e. omega (arith, e)) in
+      let z = kept (2 * j + 2) (λ e. omega (arith, e)) (λ e. n (omega (arith, e))) in
+      λ i. record { version = record { 0 = v i }; size = z i }
+
+  pub put-count : countIn (putTwo m k x) ≡ countIn m
+  put-count = kept 0 (λ e. omega (arith, e)) (λ e. omega (arith, e))
+
+-- the count is put
+module _ (m : List ℕ) (n : ℕ) where
+  pub count-here : length m ≡ 17 → countIn (set m 0 n) ≡ n
+  count-here long = getD-set-same m 0 n 0 (omega arith)
+
+  pub count-others : (j : ℕ) → measureIn (set m 0 n) j ≡ measureIn m j
+  count-others j =
+      let v = getD-set-other m 0 (2 * j + 1) n 0 (λ e. omega (arith, e)) in
+      let z = getD-set-other m 0 (2 * j + 2) n 0 (λ e. omega (arith, e)) in
+      λ i. record { version = record { 0 = v i }; size = z i }
+
+-- a measure that has the numbers of a snapshot is its measure
+is-measure : (x : Measure) (s : Snapshot) → s .version ≡ x .version .0 → length (snapshotBytes s) ≡ x .size → x ≡ measureOf s
+is-measure x s v z = λ i. record { version = record { 0 = sym v i }; size = sym z i }
+
 -- ---- one snapshot
 
 pub measured-one :
-    (m : Measures) (x : Snapshot) → m .count ≡ 1 → x .version ≡ getD (m .versions) 0 noVersion .0 → length (snapshotBytes x) ≡ getD (m .sizes) 0 0 →
-    Measured (x ∷ []) m
-measured-one m x count version size = record {
-  count = count;
-  few = omega arith;
-  versions = λ j l. at-first (λ i. getD (m .versions) i noVersion .0) (λ (s : Snapshot). s .version) (sym version) j l;
-  sizes = λ j l. at-first (λ i. getD (m .sizes) i 0) (λ (s : Snapshot). length (snapshotBytes s)) (sym size) j l;
-}
+    (m : List ℕ) (x : Measure) (s : Snapshot) → countIn m ≡ 1 → measureIn m 0 ≡ x → s .version ≡ x .version .0 → length (snapshotBytes s) ≡ x .size →
+    Measured (s ∷ []) m
+measured-one m x s count here v z = record { count = count; few = omega arith; each = first }
   where
-    at-first : (f : ℕ → ℕ) (g : Snapshot → ℕ) → f 0 ≡ g x → (j : ℕ) → j < 1 → f j ≡ g (getD (x ∷ []) j noSnapshot)
-    at-first f g e zero l = e
-    at-first f g e (suc j) l = absurd (omega (arith, l))
+    first : (j : ℕ) → j < 1 → measureIn m j ≡ measureOf (getD (s ∷ []) j noSnapshot)
+    first zero l = here ∙ is-measure x s v z
+    first (suc j) l = absurd (omega (arith, l))
 
 -- ---- the place of a version
 
@@ -62,37 +101,39 @@ pub record Passed (ss : List Snapshot) (v before k : ℕ) : Type 0 where
   pub lower : (j : ℕ) → j < k → getD ss j noSnapshot .version < v
 
 -- so of all snapshots whose measures m are
-abbrev pub PassedIn : Measures → ℕ → ℕ → ℕ → Type 0
+abbrev pub PassedIn : List ℕ → ℕ → ℕ → ℕ → Type 0
 PassedIn m v before k = (ss : List Snapshot) → Measured ss m → Passed ss v before k
 
-pub none-passed : {m : Measures} {v : ℕ} → PassedIn m v 0 0
+pub none-passed : {m : List ℕ} {v : ℕ} → PassedIn m v 0 0
 unfolding flatten
 none-passed ss w = record { within = omega arith; sum = refl; lower = λ j l. absurd (omega (arith, l)) }
 
-module _ {m : Measures} {v before k : ℕ} (p : PassedIn m v before k) where
-  pub passed-low : {s : List ℕ} → MeasuredIn s m → (k ≤ m .count) × (m .count ≤ 8)
+module _ {m : List ℕ} {v before k : ℕ} (p : PassedIn m v before k) where
+  pub passed-low : {s : List ℕ} → MeasuredIn s m → (k ≤ countIn m) × (countIn m ≤ 8)
   passed-low i =
       let w = i .measured in
       (omega (arith, p (i .snapshots) w .within, w .count), omega (arith, w .count, w .few))
 
-  module _ (l : k < m .count) where
-    here-passed :
+  -- x is the measure of the next one
+  module _ (l : k < countIn m) (x : Measure) (here : x ≡ measureIn m k) where
+    next-passed :
         (ss : List Snapshot) → Measured ss m →
-        (k < length ss)
-        × (getD (m .versions) k noVersion .0 ≡ getD ss k noSnapshot .version)
-        × (getD (m .sizes) k 0 ≡ length (snapshotBytes (getD ss k noSnapshot)))
-    here-passed ss w = let h : k < length ss = omega (arith, w .count) in (h, w .versions k h, w .sizes k h)
+        (k < length ss) × (x .version .0 ≡ getD ss k noSnapshot .version) × (x .size ≡ length (snapshotBytes (getD ss k noSnapshot)))
+    next-passed ss w =
+        let h : k < length ss = omega (arith, w .count) in
+        let e : x ≡ measureOf (getD ss k noSnapshot) = here ∙ w .each k h in
+        (h, ap (λ (y : Measure). y .version .0) e, ap (λ (y : Measure). y .size) e)
 
-    -- the next one has its bytes among those of all
-    pub passed-fits : {s : List ℕ} → MeasuredIn s m → before + getD (m .sizes) k 0 ≤ length s
+    -- it has its bytes among those of all
+    pub passed-fits : {s : List ℕ} → MeasuredIn s m → before + x .size ≤ length s
     passed-fits {s} i =
         let ss = i .snapshots in
-        let (h, _, size) = here-passed ss (i .measured) in
+        let (h, _, size) = next-passed ss (i .measured) in
         omega (arith, p ss (i .measured) .sum, size, bytes-next ss k h, bytes-within ss (suc k), i .within)
 
-    pub passed-next : getD (m .versions) k noVersion .0 < v → PassedIn m v (before + getD (m .sizes) k 0) (k + 1)
+    pub passed-next : x .version .0 < v → PassedIn m v (before + x .size) (k + 1)
     passed-next below ss w =
-        let (h, version, size) = here-passed ss w in
+        let (h, version, size) = next-passed ss w in
         let u = p ss w in
         record {
           within = omega arith;
@@ -110,10 +151,9 @@ module _ {m : Measures} {v before k : ℕ} (p : PassedIn m v before k) where
         at-last j g b = omega arith
 
     pub splits-met :
-        v ≡ getD (m .versions) k noVersion .0 → (ss : List Snapshot) → Measured ss m →
-        Splits ss v (record { index = k; before = before; meets = true; size = getD (m .sizes) k 0 })
+        v ≡ x .version .0 → (ss : List Snapshot) → Measured ss m → Splits ss v (record { index = k; before = before; meets = true; size = x .size })
     splits-met same ss w =
-        let (h, version, size) = here-passed ss w in
+        let (h, version, size) = next-passed ss w in
         let u = p ss w in
         record {
           within = u .within;
@@ -124,10 +164,9 @@ module _ {m : Measures} {v before k : ℕ} (p : PassedIn m v before k) where
         }
 
     pub splits-unmet :
-        v < getD (m .versions) k noVersion .0 → (ss : List Snapshot) → Measured ss m →
-        Splits ss v (record { index = k; before = before; meets = false; size = 0 })
+        v < x .version .0 → (ss : List Snapshot) → Measured ss m → Splits ss v (record { index = k; before = before; meets = false; size = 0 })
     splits-unmet below ss w =
-        let (h, version, size) = here-passed ss w in
+        let (h, version, size) = next-passed ss w in
         let u = p ss w in
         record {
           within = u .within;
@@ -138,7 +177,7 @@ module _ {m : Measures} {v before k : ℕ} (p : PassedIn m v before k) where
         }
 
   pub splits-end :
-      m .count ≤ k → (ss : List Snapshot) → Measured ss m → Splits ss v (record { index = k; before = before; meets = false; size = 0 })
+      countIn m ≤ k → (ss : List Snapshot) → Measured ss m → Splits ss v (record { index = k; before = before; meets = false; size = 0 })
   splits-end all ss w =
       let u = p ss w in
       record {
@@ -151,153 +190,118 @@ module _ {m : Measures} {v before k : ℕ} (p : PassedIn m v before k) where
 
 -- ---- room for one more
 
--- of one column: what stands from k on is moved up by one, up to n
-pub record Moved {A : Type 0} (d : A) (old : List A) (k n : ℕ) (new : List A) : Type 0 where
-  pub long : length new ≡ 8
-  pub lower : (j : ℕ) → j < k → getD new j d ≡ getD old j d
-  pub higher : (j : ℕ) → k ≤ j → j < n → getD new (suc j) d ≡ getD old j d
+-- those from k on are moved up by one
+pub record Moved (old : List ℕ) (k : ℕ) (new : List ℕ) : Type 0 where
+  pub long : length new ≡ 17
+  pub lower : (j : ℕ) → j < k → measureIn new j ≡ measureIn old j
+  pub higher : (j : ℕ) → k ≤ j → j < countIn old → measureIn new (suc j) ≡ measureIn old j
 
-pub none-moved : {A : Type 0} (d : A) (old : List A) (n : ℕ) → length old ≡ 8 → Moved d old n n old
-none-moved d old n e = record { long = e; lower = λ j l. refl; higher = λ j l h. absurd (omega arith) }
+pub none-moved : (old : List ℕ) → length old ≡ 17 → Moved old (countIn old) old
+none-moved old long = record { long = long; lower = λ j l. refl; higher = λ j l h. absurd (omega arith) }
 
+-- `next` has at k what `new` has below it
 pub moved-next :
-    {A : Type 0} (d : A) (old : List A) (k n : ℕ) (new : List A) → Moved d old k n new → 0 < k → k < 8 →
-    Moved d old (k - 1) n (set new k (getD old (k - 1) d))
-moved-next d old k n new w pos low = record {
-  long = length-set new k (getD old (k - 1) d) ∙ w .long;
-  lower = λ j l. getD-set-other new k j (getD old (k - 1) d) d (λ e. omega (arith, e)) ∙ w .lower j (omega arith);
+    (old : List ℕ) (k : ℕ) (new next : List ℕ) → Moved old k new → 0 < k → length next ≡ length new →
+    measureIn next k ≡ measureIn new (k - 1) → ((j : ℕ) → (j ≡ k → ⊥) → measureIn next j ≡ measureIn new j) → Moved old (k - 1) next
+moved-next old k new next w pos long here others = record {
+  long = long ∙ w .long;
+  lower = λ j l. others j (λ e. omega (arith, e)) ∙ w .lower j (omega arith);
   higher = λ j l h. ⊎-elim
       (λ (b : j < k). moved-here j (last j l b))
-      (λ (b : k ≤ j). getD-set-other new k (suc j) (getD old (k - 1) d) d (λ e. omega (arith, e)) ∙ w .higher j b h)
+      (λ (b : k ≤ j). others (suc j) (λ e. omega (arith, e)) ∙ w .higher j b h)
       (lt-or-ge j k);
 }
   where
     last : (j : ℕ) → k - 1 ≤ j → j < k → k ≡ suc j
     last j l b = omega arith
 
-    moved-here : (j : ℕ) → k ≡ suc j → getD (set new k (getD old (k - 1) d)) (suc j) d ≡ getD old j d
+    moved-here : (j : ℕ) → k ≡ suc j → measureIn next (suc j) ≡ measureIn old j
     moved-here j e =
-        ap (λ (i : ℕ). getD (set new k (getD old (k - 1) d)) i d) (sym e)
-        ∙ getD-set-same new k (getD old (k - 1) d) d (omega (arith, w .long))
-        ∙ ap (λ (i : ℕ). getD old i d) (omega (arith, e))
+        let below : k - 1 ≡ j = omega (arith, e) in
+        ap (measureIn next) (sym e) ∙ here ∙ w .lower (k - 1) (omega arith) ∙ ap (measureIn old) below
 
-pub moved-up :
-    (m r : Measures) (index k : ℕ) → index ≤ k → k ≤ index → r .count ≡ m .count + 1 → Moved noVersion (m .versions) k (m .count) (r .versions) →
-    Moved 0 (m .sizes) k (m .count) (r .sizes) → MovedUp m index r
-moved-up m r index k low high count versions sizes = record {
-  count = count;
-  lower-versions = λ j l. versions .lower j (omega arith);
-  lower-sizes = λ j l. sizes .lower j (omega arith);
-  higher-versions = λ j l h. versions .higher j (omega arith) h;
-  higher-sizes = λ j l h. sizes .higher j (omega arith) h;
+pub moved-up : (old new : List ℕ) (index k : ℕ) → index ≤ k → k ≤ index → Moved old k new → MovedUp old index (set new 0 (countIn old + 1))
+moved-up old new index k low high w = record {
+  count = count-here new (countIn old + 1) (w .long);
+  lower = λ j l. count-others new (countIn old + 1) j ∙ w .lower j (omega arith);
+  higher = λ j l h. count-others new (countIn old + 1) (suc j) ∙ w .higher j (omega arith) h;
 }
 
 -- ---- a snapshot at its place
 
--- of one measure g of snapshots, which h has for each place
-module _ (g : Snapshot → ℕ) where
-  column-parts :
-      (h : ℕ → ℕ) (before : List Snapshot) (x : Snapshot) (after : List Snapshot) →
-      ((j : ℕ) → j < length before → h j ≡ g (getD before j noSnapshot)) → h (length before) ≡ g x →
-      ((j : ℕ) → j < length after → h (suc (length before + j)) ≡ g (getD after j noSnapshot)) →
-      (j : ℕ) → j < length (before ++ (x ∷ after)) → h j ≡ g (getD (before ++ (x ∷ after)) j noSnapshot)
-  column-parts h [] x after lower here higher zero l = here
-  column-parts h [] x after lower here higher (suc j) l = ap h (omega arith) ∙ higher j (omega (arith, l))
-  column-parts h (y ∷ before) x after lower here higher zero l = lower 0 (omega arith)
-  column-parts h (y ∷ before) x after lower here higher (suc j) l =
-      column-parts (λ i. h (suc i)) before x after
-      (λ i b. lower (suc i) (omega arith)) here (λ i b. ap h (omega arith) ∙ higher i b) j (omega (arith, l))
+column-parts :
+    (h : ℕ → Measure) (before : List Snapshot) (x : Snapshot) (after : List Snapshot) →
+    ((j : ℕ) → j < length before → h j ≡ measureOf (getD before j noSnapshot)) → h (length before) ≡ measureOf x →
+    ((j : ℕ) → j < length after → h (suc (length before + j)) ≡ measureOf (getD after j noSnapshot)) →
+    (j : ℕ) → j < length (before ++ (x ∷ after)) → h j ≡ measureOf (getD (before ++ (x ∷ after)) j noSnapshot)
+column-parts h [] x after lower here higher zero l = here
+column-parts h [] x after lower here higher (suc j) l = ap h (omega arith) ∙ higher j (omega (arith, l))
+column-parts h (y ∷ before) x after lower here higher zero l = lower 0 (omega arith)
+column-parts h (y ∷ before) x after lower here higher (suc j) l =
+    column-parts (λ i. h (suc i)) before x after
+    (λ i b. lower (suc i) (omega arith)) here (λ i b. ap h (omega arith) ∙ higher i b) j (omega (arith, l))
 
-  -- h has the measure of those below i, of x at i, and behind it of those from n on
-  column-with :
-      (h : ℕ → ℕ) (ss : List Snapshot) (i n : ℕ) (x : Snapshot) → i ≤ length ss →
-      ((j : ℕ) → j < i → h j ≡ g (getD ss j noSnapshot)) → h i ≡ g x →
-      ((j : ℕ) → n + j < length ss → h (suc (i + j)) ≡ g (getD ss (n + j) noSnapshot)) →
-      (j : ℕ) → j < length (take i ss ++ (x ∷ drop n ss)) → h j ≡ g (getD (take i ss ++ (x ∷ drop n ss)) j noSnapshot)
-  column-with h ss i n x w lower here higher =
-      let long : length (take i ss) ≡ i = length-take-le i ss w in
-      column-parts h (take i ss) x (drop n ss)
-      (λ j l. lower j (omega arith) ∙ ap g (sym (getD-take i ss j noSnapshot (omega arith))))
-      (ap h long ∙ here)
-      (λ j l. ap (λ (k : ℕ). h (suc (k + j))) long ∙ higher j (omega (arith, l, length-drop n ss)) ∙ ap g (sym (getD-drop n ss j noSnapshot)))
-
--- of one column of measures: `new` has those that `old` has below i, and behind i those that `old`, which has `count` of them, has from n on
-pub record Column {A : Type 0} (d : A) (old : List A) (count i n : ℕ) (new : List A) : Type 0 where
-  pub long : length new ≡ 8
-  pub lower : (j : ℕ) → j < i → getD new j d ≡ getD old j d
-  pub higher : (j : ℕ) → n + j < count → getD new (suc (i + j)) d ≡ getD old (n + j) d
-
-column-same : {A : Type 0} (d : A) (old : List A) (count i : ℕ) → length old ≡ 8 → Column d old count i (suc i) old
-column-same d old count i long = record { long = long; lower = λ j l. refl; higher = λ j l. ap (λ (k : ℕ). getD old k d) (omega arith) }
-
--- with a store at i it has the measure g of the snapshots ss with x there
-column-put :
-    {A : Type 0} (d : A) (f : A → ℕ) (g : Snapshot → ℕ) (old new : List A) (ss : List Snapshot) (i n : ℕ) (a : A) (x : Snapshot) →
-    Column d old (length ss) i n new → i ≤ length ss → i < 8 → f a ≡ g x → ((j : ℕ) → j < length ss → f (getD old j d) ≡ g (getD ss j noSnapshot)) →
-    (j : ℕ) → j < length (take i ss ++ (x ∷ drop n ss)) → f (getD (set new i a) j d) ≡ g (getD (take i ss ++ (x ∷ drop n ss)) j noSnapshot)
-column-put d f g old new ss i n a x w within low e is =
-    column-with g (λ j. f (getD (set new i a) j d)) ss i n x within
-    (λ j l. ap f (getD-set-other new i j a d (λ e. omega (arith, e)) ∙ w .lower j l) ∙ is j (omega arith))
-    (ap f (getD-set-same new i a d (omega (arith, w .long))) ∙ e)
-    (λ j l. ap f (getD-set-other new i (suc (i + j)) a d (λ e. omega (arith, e)) ∙ w .higher j l) ∙ is (n + j) l)
-
--- the measures with a store at i
-abbrev pub stored : Measures → ℕ → EventVersion → ℕ → Measures
-stored r i version size = record { count = r .count; versions = set (r .versions) i version; sizes = set (r .sizes) i size }
-
--- the arrays of the measures have their eight places
-pub record Eight (m : Measures) : Type 0 where
-  pub versions : length (m .versions) ≡ 8
-  pub sizes : length (m .sizes) ≡ 8
+-- h has the measures of those below i, of x at i, and behind it of those from n on
+column-with :
+    (h : ℕ → Measure) (ss : List Snapshot) (i n : ℕ) (x : Snapshot) → i ≤ length ss →
+    ((j : ℕ) → j < i → h j ≡ measureOf (getD ss j noSnapshot)) → h i ≡ measureOf x →
+    ((j : ℕ) → n + j < length ss → h (suc (i + j)) ≡ measureOf (getD ss (n + j) noSnapshot)) →
+    (j : ℕ) → j < length (take i ss ++ (x ∷ drop n ss)) → h j ≡ measureOf (getD (take i ss ++ (x ∷ drop n ss)) j noSnapshot)
+column-with h ss i n x w lower here higher =
+    let long : length (take i ss) ≡ i = length-take-le i ss w in
+    column-parts h (take i ss) x (drop n ss)
+    (λ j l. lower j (omega arith) ∙ ap measureOf (sym (getD-take i ss j noSnapshot (omega arith))))
+    (ap h long ∙ here)
+    (λ j l. ap (λ (k : ℕ). h (suc (k + j))) long ∙ higher j (omega (arith, l, length-drop n ss)) ∙ ap measureOf (sym (getD-drop n ss j noSnapshot)))
 
 module _
-    (m : Measures) (ss : List Snapshot) (w : Measured ss m) (version : EventVersion) (size : ℕ) (x : Snapshot)
-    (v : x .version ≡ version .0) (z : length (snapshotBytes x) ≡ size) where
+    (m : List ℕ) (ss : List Snapshot) (w : Measured ss m) (x : Measure) (s : Snapshot)
+    (v : s .version ≡ x .version .0) (z : length (snapshotBytes s) ≡ x .size) where
+  -- r has what m has below i, x at i, and behind it what m has from n on
   measured-put :
-      (r : Measures) (i n : ℕ) → i ≤ length ss → i < 8 → r .count ≡ i + suc (length ss - n) → r .count ≤ 8 →
-      Column noVersion (m .versions) (length ss) i n (r .versions) → Column 0 (m .sizes) (length ss) i n (r .sizes) →
-      Measured (take i ss ++ (x ∷ drop n ss)) (stored r i version size)
-  measured-put r i n within low count few versions sizes =
-      let long : length (take i ss ++ (x ∷ drop n ss)) ≡ r .count =
-      omega (arith, length-append (take i ss) (x ∷ drop n ss), length-take-le i ss within, length-drop n ss, count) in
+      (r : List ℕ) (i n : ℕ) → i ≤ length ss → countIn r ≡ i + suc (length ss - n) → countIn r ≤ 8 →
+      ((j : ℕ) → j < i → measureIn r j ≡ measureIn m j) → measureIn r i ≡ x →
+      ((j : ℕ) → n + j < length ss → measureIn r (suc (i + j)) ≡ measureIn m (n + j)) →
+      Measured (take i ss ++ (s ∷ drop n ss)) r
+  measured-put r i n within count few lower here higher =
+      let long : length (take i ss ++ (s ∷ drop n ss)) ≡ countIn r =
+      omega (arith, length-append (take i ss) (s ∷ drop n ss), length-take-le i ss within, length-drop n ss, count) in
       record {
         count = sym long;
         few = omega (arith, long, few);
-        versions =
-            column-put noVersion (λ (e : EventVersion). e .0) (λ (s : Snapshot). s .version) (m .versions) (r .versions) ss i n version x
-            versions within low (sym v) (w .versions);
-        sizes =
-            column-put 0 (λ k. k) (λ (s : Snapshot). length (snapshotBytes s)) (m .sizes) (r .sizes) ss i n size x sizes within low (sym z) (w .sizes);
+        each =
+            column-with (measureIn r) ss i n s within
+            (λ j l. lower j l ∙ w .each j (omega arith))
+            (here ∙ is-measure x s v z)
+            (λ j l. higher j l ∙ w .each (n + j) l);
       }
 
-  module _ (p : Place) (r : Measures) where
+  -- r is `old` with x put at the place p
+  module _
+      (p : Place) (old r : List ℕ) (here : measureIn r (p .index) ≡ x)
+      (others : (j : ℕ) → (j ≡ p .index → ⊥) → measureIn r j ≡ measureIn old j) (same : countIn r ≡ countIn old) where
     abbrev i : ℕ
     i = p .index
 
-    at-place :
-        (q : Measures) {b : Bool} → p .meets ≡ b → r ≡ q → Measured (take i ss ++ (x ∷ drop (cond b (suc i) i) ss)) (stored q i version size) →
-        Measured (withSnapshot ss p x) (stored r i version size)
-    at-place q meets same put =
-        subst (λ (q : Measures). Measured (withSnapshot ss p x) (stored q i version size)) (sym same)
-        (subst (λ (b : Bool). Measured (take i ss ++ (x ∷ drop (cond b (suc i) i) ss)) (stored q i version size)) (sym meets) put)
+    at-place : {b : Bool} → p .meets ≡ b → Measured (take i ss ++ (s ∷ drop (cond b (suc i) i) ss)) r → Measured (withSnapshot ss p s) r
+    at-place meets put = subst (λ (b : Bool). Measured (take i ss ++ (s ∷ drop (cond b (suc i) i) ss)) r) (sym meets) put
 
     -- the snapshot is put instead of the one of its version
-    pub put-met : p .meets ≡ true → i < m .count → Eight m → r ≡ m → Measured (withSnapshot ss p x) (stored r i version size)
-    put-met meets l long same =
+    pub put-met : p .meets ≡ true → i < countIn m → old ≡ m → Measured (withSnapshot ss p s) r
+    put-met meets l e =
         let within : i < length ss = omega (arith, w .count) in
-        let put : Measured (take i ss ++ (x ∷ drop (suc i) ss)) (stored m i version size) =
-        measured-put m i (suc i) (omega arith) (omega (arith, w .few)) (omega (arith, w .count)) (omega (arith, w .count, w .few))
-        (column-same noVersion (m .versions) (length ss) i (long .versions)) (column-same 0 (m .sizes) (length ss) i (long .sizes)) in
-        at-place m meets same put
+        let count : countIn r ≡ length ss = same ∙ ap countIn e ∙ w .count in
+        let kept : (j : ℕ) → (j ≡ i → ⊥) → measureIn r j ≡ measureIn m j = λ j n. others j n ∙ ap (λ (o : List ℕ). measureIn o j) e in
+        at-place meets
+        (measured-put r i (suc i) (omega arith) (omega (arith, count)) (omega (arith, count, w .few))
+        (λ j b. kept j (λ q. omega (arith, q))) here (λ j b. kept (suc (i + j)) (λ q. omega (arith, q)) ∙ ap (measureIn m) (omega arith)))
 
     -- none has its version: it is put between others, of which the higher ones have moved up
-    pub put-unmet :
-        (q : Measures) → p .meets ≡ false → i ≤ m .count → m .count < 8 → Eight q → MovedUp m i q → r ≡ q →
-        Measured (withSnapshot ss p x) (stored r i version size)
-    put-unmet q meets l below long up same =
-        let n : m .count ≡ length ss = w .count in
-        let put : Measured (take i ss ++ (x ∷ drop i ss)) (stored q i version size) =
-        measured-put q i i (omega arith) (omega arith) (omega (arith, up .count)) (omega (arith, up .count))
-        (record { long = long .versions; lower = up .lower-versions; higher = λ j h. up .higher-versions (i + j) (omega arith) (omega arith) })
-        (record { long = long .sizes; lower = up .lower-sizes; higher = λ j h. up .higher-sizes (i + j) (omega arith) (omega arith) }) in
-        at-place q meets same put
+    pub put-unmet : p .meets ≡ false → i ≤ countIn m → countIn m < 8 → MovedUp m i old → Measured (withSnapshot ss p s) r
+    put-unmet meets l below up =
+        let n : countIn m ≡ length ss = w .count in
+        let count : countIn r ≡ countIn m + 1 = same ∙ up .count in
+        at-place meets
+        (measured-put r i i (omega arith) (omega (arith, count)) (omega (arith, count))
+        (λ j b. others j (λ q. omega (arith, q)) ∙ up .lower j b) here
+        (λ j b. others (suc (i + j)) (λ q. omega (arith, q)) ∙ up .higher (i + j) (omega arith) (omega arith)))

@@ -20,7 +20,6 @@ ghost use Rattle.event.specs.code.EventIndex.{SetsAre};
 ghost use Rattle.event.specs.declared.head.HeadAt.{HeadAt};
 ghost use Rattle.dossier.specs.DossierBody.{readSnapshot, snapshotBytes};
 ghost use Rattle.combining.specs.CombineCall.{combined, combineCall};
-ghost use Rattle.combining.specs.declared.measures.Measures.{Measures};
 ghost use Rattle.combining.specs.code.CombineIndex.{Meet};
 ghost use Rattle.combining.specs.code.AddIndex.{bytesOf, Measured, Addable, Adding, AddingIn, Met, MetRoom, newSnapshot, NewRoom, WithRoom};
 ghost use Rattle.combining.specs.code.AddIndex.{Inside, addedBytes, AddedRoom};
@@ -30,10 +29,10 @@ use crate::check::write_alone;
 use crate::joined::write_joined;
 use crate::limits::objects_fit;
 use crate::limits::parents_fit;
-use crate::measures::Measures;
+use crate::measures::Measure;
 use crate::measures::Place;
 use crate::measures::place_of;
-use crate::measures::with_snapshot;
+use crate::measures::put_snapshot;
 use crate::write::write_heads;
 use dossier::head::DossierHeadRead;
 use dossier::head::read_dossier_head;
@@ -51,28 +50,10 @@ use packed::write::write_number;
 use replies::reply::Reply;
 use values::versions::EventVersion;
 
-// What adding an event replies, and the measures of the dossier that was written.
-pub struct Added {
-    pub reply: Reply,
-    pub measures: Measures,
-}
-
-fn answer(reply: Reply, measures: Measures) -> Added
-    ensures { λ r. ⌜ (r .reply ≡ reply) × (r .measures ≡ measures) ⌝ }
-{
-    Added { reply, measures }
-}
-
 // Where the snapshots that were written end, and how many bytes the one of the event's version has.
 struct SnapshotWritten {
     next: usize,
     size: usize,
-}
-
-// How many bytes a dossier has that was written, and its measures.
-struct DossierWritten {
-    size: usize,
-    measures: Measures,
 }
 
 // Question 8 of the objects of an unversioned dossier, whose only snapshot stands at `at`, and of an event.
@@ -114,7 +95,7 @@ fn added_fits(
     sofar: &[u8],
     x: HeadAt,
     body: usize,
-    m: Measures,
+    measures: &[usize],
     p: Place,
     event: &[u8],
     e: EventIndex,
@@ -122,9 +103,10 @@ fn added_fits(
     t: TypeIndex,
     properties: &[usize],
 ) -> bool
-    requires { ⌜ (length (now sets) ≡ 96) × (length (now properties) ≡ 96) ⌝ }
-    requires { ⌜ AddingIn (now sofar) m (now event) e (now sets) x body p t (now properties) ⌝ }
-    ensures { λ r. ⌜ ((table : List ℕ) (h : Adding table (now (sofar .entry)) m (now (event .entry)) e (now (sets .entry)) x body p t (now (properties .entry)))
+    requires { ⌜ (length (now sets) ≡ 96) × (length (now properties) ≡ 96) × (length (now measures) ≡ 17) ⌝ }
+    requires { ⌜ AddingIn (now sofar) (now measures) (now event) e (now sets) x body p t (now properties) ⌝ }
+    ensures { λ r. ⌜ ((table : List ℕ)
+        (h : Adding table (now (sofar .entry)) (now (measures .entry)) (now (event .entry)) e (now (sets .entry)) x body p t (now (properties .entry)))
         → r ≡ fits standard (typeView (h .added .both .left .type)) (combined (h .added .both .left) (h .added .both .right))) ⌝ }
 {
     let y = e.head;
@@ -132,7 +114,7 @@ fn added_fits(
         return false;
     }
     if !p.meets {
-        return m.count < 8;
+        return measures[0] < 8;
     }
     if 0 < t.mark {
         return true;
@@ -204,7 +186,7 @@ fn write_new<'a>(
 ) -> usize
     requires { ⌜ (length (now sets) ≡ 96) × (length (now properties) ≡ 96)
         × NewRoom (now sofar) (now event) e (now sets) body p version t (now properties) (length (now lone)) at (length (now out)) ⌝ }
-    ensures { λ r. ⌜ ((table : List ℕ) (m : Measures) (x : HeadAt)
+    ensures { λ r. ⌜ ((table : List ℕ) (m : List ℕ) (x : HeadAt)
         (h : Adding table (now (sofar .entry)) m (now (event .entry)) e (now (sets .entry)) x body p t (now (properties .entry)))
         → version .0 ≡ versionOf (h .added .new .event .type) (h .added .new .event .event)
         → Wrote (now (out .entry)) at (snapshotBytes (newSnapshot h)) (now (out .exit)) r) ⌝ }
@@ -247,11 +229,11 @@ fn write_with<'a>(
 ) -> SnapshotWritten
     requires { ⌜ (length (now sets) ≡ 96) × (length (now properties) ≡ 96)
         × WithRoom (now sofar) (now event) e (now sets) body p version t (now properties) (length (now lone)) at (length (now out)) ⌝ }
-    ensures { λ r. ⌜ ((table : List ℕ) (m : Measures) (x : HeadAt)
+    ensures { λ r. ⌜ ((table : List ℕ) (m : List ℕ) (x : HeadAt)
         (h : Adding table (now (sofar .entry)) m (now (event .entry)) e (now (sets .entry)) x body p t (now (properties .entry)))
         → version .0 ≡ versionOf (h .added .new .event .type) (h .added .new .event .event)
         → Wrote (now (out .entry)) at (bytesOf (combined (h .added .both .left) (h .added .both .right) .snapshots)) (now (out .exit)) (r .next)) ⌝ }
-    ensures size { λ r. ⌜ ((table : List ℕ) (m : Measures) (x : HeadAt)
+    ensures size { λ r. ⌜ ((table : List ℕ) (m : List ℕ) (x : HeadAt)
         (h : Adding table (now (sofar .entry)) m (now (event .entry)) e (now (sets .entry)) x body p t (now (properties .entry)))
         → version .0 ≡ versionOf (h .added .new .event .type) (h .added .new .event .event)
         → length (snapshotBytes (newSnapshot h)) ≡ r .size) ⌝ }
@@ -281,19 +263,19 @@ fn write_with<'a>(
 }
 
 // How many snapshots there are then.
-fn count_with(m: Measures, p: Place) -> usize
-    requires { ⌜ m .count ≤ 8 ⌝ }
-    ensures { λ r. ⌜ r ≡ cond (p .meets) (m .count) (m .count + 1) ⌝ }
+fn count_with(count: usize, p: Place) -> usize
+    requires { ⌜ count ≤ 8 ⌝ }
+    ensures { λ r. ⌜ r ≡ cond (p .meets) count (count + 1) ⌝ }
 {
-    if p.meets { m.count } else { m.count + 1 }
+    if p.meets { count } else { count + 1 }
 }
 
-// Writes the dossier with the event at the front of `out`.
+// Writes the dossier with the event at the front of `out`, and measures it.
 fn write_added<'a>(
     sofar: &'a [u8],
     x: HeadAt,
     body: usize,
-    m: Measures,
+    measures: &mut [usize],
     p: Place,
     event: &'a [u8],
     e: EventIndex,
@@ -303,20 +285,21 @@ fn write_added<'a>(
     properties: &[usize],
     lone: &mut [u8],
     out: &mut [u8],
-) -> DossierWritten
-    requires { ⌜ (length (now sets) ≡ 96) × (length (now properties) ≡ 96)
-        × AddedRoom (now sofar) m (now event) e (now sets) x body p version t (now properties) (length (now lone)) (length (now out)) ⌝ }
-    ensures { λ r. ⌜ ((table : List ℕ) (h : Adding table (now (sofar .entry)) m (now (event .entry)) e (now (sets .entry)) x body p t (now (properties .entry)))
+) -> usize
+    requires { ⌜ (length (now sets) ≡ 96) × (length (now properties) ≡ 96) × (length (now measures) ≡ 17)
+        × AddedRoom (now sofar) (now measures) (now event) e (now sets) x body p version t (now properties) (length (now lone)) (length (now out)) ⌝ }
+    ensures { λ r. ⌜ ((table : List ℕ)
+        (h : Adding table (now (sofar .entry)) (now (measures .entry)) (now (event .entry)) e (now (sets .entry)) x body p t (now (properties .entry)))
         → version .0 ≡ versionOf (h .added .new .event .type) (h .added .new .event .event) → Inside h
-        → Wrote (now (out .entry)) 0 (addedBytes h) (now (out .exit)) (r .size)) ⌝ }
-    ensures measured { λ r. ⌜ ((table : List ℕ)
-        (h : Adding table (now (sofar .entry)) m (now (event .entry)) e (now (sets .entry)) x body p t (now (properties .entry)))
+        → Wrote (now (out .entry)) 0 (addedBytes h) (now (out .exit)) r) ⌝ }
+    ensures measured { λ _. ⌜ ((table : List ℕ)
+        (h : Adding table (now (sofar .entry)) (now (measures .entry)) (now (event .entry)) e (now (sets .entry)) x body p t (now (properties .entry)))
         → version .0 ≡ versionOf (h .added .new .event .type) (h .added .new .event .event)
-        → Measured (combined (h .added .both .left) (h .added .both .right) .snapshots) (r .measures)) ⌝ }
+        → Measured (combined (h .added .both .left) (h .added .both .right) .snapshots) (now (measures .exit))) ⌝ }
 {
     let y = e.head;
     let after_head = write_heads(sofar, x, event, y, out);
-    let at = write_number(out, after_head, count_with(m, p) as u64);
+    let at = write_number(out, after_head, count_with(measures[0], p) as u64);
     let w = write_with(
         sofar,
         body,
@@ -331,47 +314,54 @@ fn write_added<'a>(
         out,
         at,
     );
-    DossierWritten {
-        size: w.next,
-        measures: with_snapshot(m, p, version, w.size),
-    }
+    put_snapshot(
+        measures,
+        p,
+        Measure {
+            version,
+            size: w.size,
+        },
+    );
+    w.next
 }
 
-// An event that is known to be accepted, added to a dossier of which questions 2 to 7 are known to be answered yes.
+// An event that is known to be accepted, added to a dossier of which questions 2 to 7 are known to be answered yes, and which is known by its measures; they
+// are those of the new dossier then.
 pub fn add_event<'a>(
     table: &[u8],
     sofar: &'a [u8],
-    m: Measures,
+    measures: &mut [usize],
     event: &'a [u8],
     t: TypeIndex,
     properties: &[usize],
     lone: &mut [u8],
     out: &mut [u8],
-) -> Added
-    requires { ⌜ Addable (now table) (now sofar) m (now event) t (now properties) × (length (now properties) ≡ 96) ⌝ }
+) -> Reply
+    requires { ⌜ Addable (now table) (now sofar) (now measures) (now event) t (now properties)
+        × (length (now properties) ≡ 96) × (length (now measures) ≡ 17) ⌝ }
     requires { ⌜ (dossierCapacity ≤ length (now lone)) × (dossierCapacity ≤ length (now out)) ⌝ }
-    ensures { λ r. ⌜ ((h : Addable (now (table .entry)) (now (sofar .entry)) m (now (event .entry)) t (now (properties .entry)))
-        → replies (r .reply) (now (out .exit)) ≡ combineCall standard (now (table .entry)) (now (sofar .entry)) (h .lone) (now (out .entry))) ⌝ }
-    ensures measured { λ r. ⌜ ((h : Addable (now (table .entry)) (now (sofar .entry)) m (now (event .entry)) t (now (properties .entry)))
-        (n : ℕ) → r .reply ≡ Done n → Measured (combined (h .both .left) (h .both .right) .snapshots) (r .measures)) ⌝ }
+    ensures { λ r. ⌜ ((h : Addable (now (table .entry)) (now (sofar .entry)) (now (measures .entry)) (now (event .entry)) t (now (properties .entry)))
+        → replies r (now (out .exit)) ≡ combineCall standard (now (table .entry)) (now (sofar .entry)) (h .lone) (now (out .entry))) ⌝ }
+    ensures measured { λ r. ⌜ ((h : Addable (now (table .entry)) (now (sofar .entry)) (now (measures .entry)) (now (event .entry)) t (now (properties .entry)))
+        (n : ℕ) → r ≡ Done n → Measured (combined (h .both .left) (h .both .right) .snapshots) (now (measures .exit))) ⌝ }
 {
     let mut sets = [0usize; 96];
     let e = read_event(event, 8, 32, &mut sets);
     let version = version_of(event, t, &sets);
     let DossierHeadRead::Head(x, after_head) = read_dossier_head(sofar) else {
-        return answer(Reply::Refused(3), m);
+        return Reply::Refused(3);
     };
     // the count of snapshots is one byte
     let body = after_head + 1;
-    let p = place_of(sofar, m, version);
-    if !added_fits(sofar, x, body, m, p, event, e, &sets, t, properties) {
-        return answer(Reply::Refused(8), m);
+    let p = place_of(sofar, measures, version);
+    if !added_fits(sofar, x, body, measures, p, event, e, &sets, t, properties) {
+        return Reply::Refused(8);
     }
-    let w = write_added(
+    Reply::Done(write_added(
         sofar,
         x,
         body,
-        m,
+        measures,
         p,
         event,
         e,
@@ -381,6 +371,5 @@ pub fn add_event<'a>(
         properties,
         lone,
         out,
-    );
-    answer(Reply::Done(w.size), w.measures)
+    ))
 }

@@ -9,8 +9,8 @@ ghost use Rattle.event.specs.code.EventIndex.{EventIs};
 ghost use Rattle.combining.specs.CheckCall.{checkCall, eventDossier};
 ghost use Rattle.combining.specs.code.AddIndex.{Measured};
 ghost use Rattle.combining.specs.code.CheckIndex.{Checkable, KnownEvent, AloneRoom, LoneRoom, aloneBytes, loneBytes};
-use crate::add::Added;
-use crate::measures::measures_of;
+use crate::measures::Measure;
+use crate::measures::measure_one;
 use dossier::head::write_dossier_head;
 use event::ask::EventCounts;
 use event::ask::ask_event;
@@ -116,17 +116,23 @@ pub fn check_event(table: &[u8], event: &[u8], out: &mut [u8]) -> Reply
 }
 
 // The same of an event that is known to be accepted, with the type t; and the measures of its dossier.
-pub fn check_known(table: &[u8], event: &[u8], t: TypeIndex, out: &mut [u8]) -> Added
-    requires { ⌜ KnownEvent (now table) (now event) t × (dossierCapacity ≤ length (now out)) ⌝ }
-    ensures { λ r. ⌜ replies (r .reply) (now (out .exit)) ≡ checkCall (now (table .entry)) (now (event .entry)) (now (out .entry)) ⌝ }
-    ensures measured { λ r. ⌜ ((k : KnownEvent (now (table .entry)) (now (event .entry)) t) → Measured (eventDossier (k .event) .snapshots) (r .measures)) ⌝ }
+pub fn check_known(
+    table: &[u8],
+    event: &[u8],
+    t: TypeIndex,
+    measures: &mut [usize],
+    out: &mut [u8],
+) -> Reply
+    requires { ⌜ KnownEvent (now table) (now event) t × (length (now measures) ≡ 17) × (dossierCapacity ≤ length (now out)) ⌝ }
+    ensures { λ r. ⌜ replies r (now (out .exit)) ≡ checkCall (now (table .entry)) (now (event .entry)) (now (out .entry)) ⌝ }
+    ensures measured { λ _. ⌜ ((k : KnownEvent (now (table .entry)) (now (event .entry)) t)
+        → Measured (eventDossier (k .event) .snapshots) (now (measures .exit))) ⌝ }
 {
     let mut sets = [0usize; 96];
     let e = read_event(event, 8, 32, &mut sets);
     let version = version_of(event, t, &sets);
     let lone = write_lone(event, e, &sets, version, out);
-    Added {
-        reply: Reply::Done(lone.end),
-        measures: measures_of(version, lone.end - lone.start),
-    }
+    let size = lone.end - lone.start;
+    measure_one(measures, Measure { version, size });
+    Reply::Done(lone.end)
 }

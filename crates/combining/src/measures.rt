@@ -1,18 +1,18 @@
-ghost use Prim.Native.Nat.{_≤_, _<_};
+ghost use Prim.Native.Nat.{ℕ, _≤_, _<_};
 ghost use mathlib.Core.Path.{_≡_};
 ghost use mathlib.Core.Bool.{true, false};
 ghost use mathlib.Core.List.{List, [], _∷_};
 ghost use lib.ListN.{length};
 ghost use Rattle.model.specs.Rule.{Snapshot};
 ghost use Rattle.dossier.specs.DossierBody.{snapshotBytes};
-ghost use Rattle.combining.specs.code.AddIndex.{Measured, MeasuredIn, Splits, MovedUp, withSnapshot};
+ghost use Rattle.combining.specs.code.AddIndex.{countIn, measureIn, Measured, MeasuredIn, Splits, MovedUp, withSnapshot};
 use values::versions::EventVersion;
 
-// The versions of a dossier's snapshots, and how many bytes each has: by these they are found in its bytes, and it need not be read again.
-pub struct Measures {
-    pub count: usize,
-    pub versions: [EventVersion; 8],
-    pub sizes: [usize; 8],
+// The measures of a dossier are lent as 17 numbers: how many snapshots it has, and two for each of them, its version and how many bytes it has. By these the
+// snapshots are found in its bytes, and it need not be read again.
+pub struct Measure {
+    pub version: EventVersion,
+    pub size: usize,
 }
 
 // Where the snapshot of a version stands among those of a dossier, or would stand: how many are of lower versions, how many bytes these have, whether one is
@@ -24,35 +24,52 @@ pub struct Place {
     pub size: usize,
 }
 
-// The measures of one snapshot.
-pub fn measures_of(version: EventVersion, size: usize) -> Measures
-    ensures { λ r. ⌜ ((x : Snapshot) → x .version ≡ version .0 → length (snapshotBytes x) ≡ size → Measured (x ∷ []) r) ⌝ }
+fn measure_at(measures: &[usize], k: usize) -> Measure
+    requires { ⌜ (length (now measures) ≡ 17) × (k < 8) ⌝ }
+    ensures { λ r. ⌜ r ≡ measureIn (now (measures .entry)) k ⌝ }
 {
-    let mut r = Measures {
-        count: 1,
-        versions: [EventVersion(0); 8],
-        sizes: [0; 8],
-    };
-    r.versions[0] = version;
-    r.sizes[0] = size;
-    r
+    Measure {
+        version: EventVersion(measures[2 * k + 1] as u64),
+        size: measures[2 * k + 2],
+    }
 }
 
-pub fn place_of(s: &[u8], m: Measures, version: EventVersion) -> Place
-    requires { ⌜ MeasuredIn (now s) m ⌝ }
-    ensures { λ r. ⌜ ((ss : List Snapshot) → Measured ss m → Splits ss (version .0) r) ⌝ }
+fn put_measure(measures: &mut [usize], k: usize, x: Measure)
+    requires { ⌜ (length (now measures) ≡ 17) × (k < 8) ⌝ }
+    ensures here { λ _. ⌜ measureIn (now (measures .exit)) k ≡ x ⌝ }
+    ensures others { λ _. ⌜ ((j : ℕ) → (j ≡ k → ⊥) → measureIn (now (measures .exit)) j ≡ measureIn (now (measures .entry)) j) ⌝ }
+    ensures count { λ _. ⌜ countIn (now (measures .exit)) ≡ countIn (now (measures .entry)) ⌝ }
 {
+    let version = x.version;
+    measures[2 * k + 1] = version.0 as usize;
+    measures[2 * k + 2] = x.size;
+}
+
+// The measures of one snapshot.
+pub fn measure_one(measures: &mut [usize], x: Measure)
+    requires { ⌜ length (now measures) ≡ 17 ⌝ }
+    ensures { λ _. ⌜ ((s : Snapshot) → s .version ≡ x .version .0 → length (snapshotBytes s) ≡ x .size → Measured (s ∷ []) (now (measures .exit))) ⌝ }
+{
+    measures[0] = 1;
+    put_measure(measures, 0, x);
+}
+
+pub fn place_of(s: &[u8], measures: &[usize], version: EventVersion) -> Place
+    requires { ⌜ MeasuredIn (now s) (now measures) × (length (now measures) ≡ 17) ⌝ }
+    ensures { λ r. ⌜ ((ss : List Snapshot) → Measured ss (now (measures .entry)) → Splits ss (version .0) r) ⌝ }
+{
+    let count = measures[0];
     let mut before: usize = 0;
     let mut k: usize = 0;
-    while k < m.count {
-        let here = m.versions[k];
-        let size = m.sizes[k];
+    while k < count {
+        let x = measure_at(measures, k);
+        let here = x.version;
         if version.0 == here.0 {
             return Place {
                 index: k,
                 before,
                 meets: true,
-                size,
+                size: x.size,
             };
         }
         if version.0 < here.0 {
@@ -63,7 +80,7 @@ pub fn place_of(s: &[u8], m: Measures, version: EventVersion) -> Place
                 size: 0,
             };
         }
-        before += size;
+        before += x.size;
         k += 1;
     }
     Place {
@@ -74,32 +91,33 @@ pub fn place_of(s: &[u8], m: Measures, version: EventVersion) -> Place
     }
 }
 
-// The measures with room for one more at a place: those from there on have moved up by one.
-fn moved_up(m: Measures, index: usize) -> Measures
-    requires { ⌜ (index ≤ m .count) × (m .count < 8) ⌝ }
-    ensures { λ r. ⌜ MovedUp m index r ⌝ }
+// Makes room for the measures of one more snapshot: those from `index` on move up by one.
+fn move_up(measures: &mut [usize], index: usize)
+    requires { ⌜ (length (now measures) ≡ 17) × (index ≤ countIn (now measures)) × (countIn (now measures) < 8) ⌝ }
+    ensures { λ _. ⌜ MovedUp (now (measures .entry)) index (now (measures .exit)) ⌝ }
 {
-    let mut r = m;
-    let mut k = m.count;
+    let count = measures[0];
+    let mut k = count;
     while index < k {
-        let version = m.versions[k - 1];
-        r.versions[k] = version;
-        r.sizes[k] = m.sizes[k - 1];
+        let x = measure_at(measures, k - 1);
+        put_measure(measures, k, x);
         k -= 1;
     }
-    r.count = m.count + 1;
-    r
+    measures[0] = count + 1;
 }
 
-// The measures with those of a snapshot at its place, instead of those that stand there if one does.
-pub fn with_snapshot(m: Measures, p: Place, version: EventVersion, size: usize) -> Measures
-    requires { ⌜ (m .count ≤ 8) × (p .index ≤ m .count) × (p .meets ≡ true → p .index < m .count) × (p .meets ≡ false → m .count < 8) ⌝ }
-    ensures { λ r. ⌜ ((ss : List Snapshot) (x : Snapshot) → Measured ss m → x .version ≡ version .0 → length (snapshotBytes x) ≡ size
-        → Measured (withSnapshot ss p x) r) ⌝ }
+// Puts the measures of a snapshot at its place, instead of those that stand there if one has its version.
+pub fn put_snapshot(measures: &mut [usize], p: Place, x: Measure)
+    requires { ⌜ (length (now measures) ≡ 17) × (countIn (now measures) ≤ 8) × (p .index ≤ countIn (now measures)) ⌝ }
+    requires { ⌜ (p .meets ≡ true → p .index < countIn (now measures)) × (p .meets ≡ false → countIn (now measures) < 8) ⌝ }
+    ensures { λ _. ⌜ ((ss : List Snapshot) (s : Snapshot) → Measured ss (now (measures .entry)) → s .version ≡ x .version .0
+        → length (snapshotBytes s) ≡ x .size → Measured (withSnapshot ss p s) (now (measures .exit))) ⌝ }
 {
     let at = p.index;
-    let mut r = if p.meets { m } else { moved_up(m, at) };
-    r.versions[at] = version;
-    r.sizes[at] = size;
-    r
+    if p.meets {
+        put_measure(measures, at, x);
+        return;
+    }
+    move_up(measures, at);
+    put_measure(measures, at, x);
 }

@@ -27,7 +27,6 @@ use Rattle.event.specs.declared.ask.EventAsked.{EventAsked}
 use Rattle.dossier.specs.DossierLayout.{dossierBytes}
 use Rattle.dossier.specs.DossierQuestions.{TypedDossier}
 use Rattle.combining.specs.code.AddIndex.{Measured}
-use Rattle.combining.specs.declared.measures.Measures.{Measures}
 use Rattle.batch.specs.Batch.{AskedAt, refusedAt, accepted, _>>=_, eventsAsked, agreeWith, together}
 use Rattle.batch.specs.declared.asked.EventsAsked.{EventsAsked}
 use Rattle.batch.specs.declared.frame.BatchIndex.{BatchIndex}
@@ -106,7 +105,7 @@ pub record FirstOf (table batch : List ℕ) (x : BatchIndex) (t : TypeIndex) (ps
   pub within : n ≤ length events
 
 -- where the events ss were combined, m are the measures of their dossier
-unfoldable pub MeasuredFirst : Table → List (List ℕ) → reply.Reply → Measures → Type 0
+unfoldable pub MeasuredFirst : Table → List (List ℕ) → reply.Reply → List ℕ → Type 0
 MeasuredFirst ts ss (replied.Done n) m = (d : TypedDossier) → (eventsAsked ts 0 ss >>= together standard) ≡ accepted d → Measured (d .headed .snapshots) m
 MeasuredFirst ts ss (replied.Refused n) m = Unit {0}
 

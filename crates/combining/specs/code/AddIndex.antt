@@ -1,5 +1,5 @@
 -- A dossier to which an event is added, as the code has it: by the versions and the sizes of its snapshots.
-use Prim.Native.Nat.{ℕ, suc, _+_, _≤_, _<_}
+use Prim.Native.Nat.{ℕ, suc, _+_, _*_, _≤_, _<_}
 use mathlib.Core.Path.{_≡_}
 use mathlib.Core.Bool.{true, false, cond}
 use mathlib.Core.List.{List, _∷_, _++_, map, flatten}
@@ -19,27 +19,38 @@ use Rattle.event.specs.declared.head.HeadAt.{HeadAt}
 use Rattle.event.specs.declared.read.EventIndex.{EventIndex}
 use Rattle.dossier.specs.DossierBody.{snapshotBytes}
 use Rattle.dossier.specs.DossierLayout.{dossierBytes}
-use Rattle.dossier.specs.code.DossierIndex.{noSnapshot, noVersion, SnapshotAt, CellsAre}
+use Rattle.dossier.specs.code.DossierIndex.{noSnapshot, SnapshotAt, CellsAre}
 use Rattle.combining.specs.CheckCall.{eventDossier}
 use Rattle.combining.specs.CombineCall.{combined, headedAs}
 use Rattle.combining.specs.code.CheckIndex.{KnownEvent, aloneBytes}
 use Rattle.combining.specs.code.CombineIndex.{Known, Meet}
-use Rattle.combining.specs.declared.measures.Measures.{Measures}
+use Rattle.combining.specs.declared.measures.Measure.{Measure}
 use Rattle.combining.specs.declared.measures.Place.{Place}
 
 -- the bytes of some snapshots, one after the other
 abbrev pub bytesOf : List Snapshot → List ℕ
 bytesOf ss = flatten (map snapshotBytes ss)
 
+-- the measures of a dossier as numbers: how many snapshots it has, and two numbers for each
+
+abbrev pub countIn : List ℕ → ℕ
+countIn m = getD m 0 0
+
+abbrev pub measureIn : List ℕ → ℕ → Measure
+measureIn m k = record { version = record { 0 = getD m (2 * k + 1) 0 }; size = getD m (2 * k + 2) 0 }
+
+-- the measure of a snapshot
+abbrev pub measureOf : Snapshot → Measure
+measureOf s = record { version = record { 0 = s .version }; size = length (snapshotBytes s) }
+
 -- the measures m are of the snapshots ss
-pub record Measured (ss : List Snapshot) (m : Measures) : Type 0 where
-  pub count : m .count ≡ length ss
+pub record Measured (ss : List Snapshot) (m : List ℕ) : Type 0 where
+  pub count : countIn m ≡ length ss
   pub few : length ss ≤ 8
-  pub versions : (j : ℕ) → j < length ss → getD (m .versions) j noVersion .0 ≡ getD ss j noSnapshot .version
-  pub sizes : (j : ℕ) → j < length ss → getD (m .sizes) j 0 ≡ length (snapshotBytes (getD ss j noSnapshot))
+  pub each : (j : ℕ) → j < length ss → measureIn m j ≡ measureOf (getD ss j noSnapshot)
 
 -- they are of snapshots whose bytes are no more than those of s
-pub record MeasuredIn (s : List ℕ) (m : Measures) : Type 0 where
+pub record MeasuredIn (s m : List ℕ) : Type 0 where
   pub snapshots : List Snapshot
   pub measured : Measured snapshots m
   pub within : length (bytesOf snapshots) ≤ length s
@@ -63,15 +74,13 @@ abbrev pub withSnapshot : List Snapshot → Place → Snapshot → List Snapshot
 withSnapshot ss p x = take (p .index) ss ++ (x ∷ drop (lowerOrSame p) ss)
 
 -- the measures r are m with those from `index` on moved up by one; those at `index` are any
-pub record MovedUp (m : Measures) (index : ℕ) (r : Measures) : Type 0 where
-  pub count : r .count ≡ m .count + 1
-  pub lower-versions : (j : ℕ) → j < index → getD (r .versions) j noVersion ≡ getD (m .versions) j noVersion
-  pub lower-sizes : (j : ℕ) → j < index → getD (r .sizes) j 0 ≡ getD (m .sizes) j 0
-  pub higher-versions : (j : ℕ) → index ≤ j → j < m .count → getD (r .versions) (suc j) noVersion ≡ getD (m .versions) j noVersion
-  pub higher-sizes : (j : ℕ) → index ≤ j → j < m .count → getD (r .sizes) (suc j) 0 ≡ getD (m .sizes) j 0
+pub record MovedUp (m : List ℕ) (index : ℕ) (r : List ℕ) : Type 0 where
+  pub count : countIn r ≡ countIn m + 1
+  pub lower : (j : ℕ) → j < index → measureIn r j ≡ measureIn m j
+  pub higher : (j : ℕ) → index ≤ j → j < countIn m → measureIn r (suc j) ≡ measureIn m j
 
 -- an event that is accepted, with its dossier `lone`, and the dossier `sofar`, of which questions 2 to 7 are answered yes; m are the measures of the latter
-pub record Addable (table sofar : List ℕ) (m : Measures) (event : List ℕ) (t : TypeIndex) (ps : List ℕ) : Type 0 where
+pub record Addable (table sofar m event : List ℕ) (t : TypeIndex) (ps : List ℕ) : Type 0 where
   pub new : KnownEvent table event t
   pub lone : List ℕ
   pub both : Known table sofar lone t ps
@@ -81,7 +90,7 @@ pub record Addable (table sofar : List ℕ) (m : Measures) (event : List ℕ) (t
 
 -- and the event is read; the head of the dossier is read, and its snapshots begin at `body`; the event's snapshot has the place p among them
 pub record Adding
-    (table sofar : List ℕ) (m : Measures) (event : List ℕ) (e : EventIndex) (ats : List ℕ) (x : HeadAt) (body : ℕ) (p : Place)
+    (table sofar m event : List ℕ) (e : EventIndex) (ats : List ℕ) (x : HeadAt) (body : ℕ) (p : Place)
     (t : TypeIndex) (ps : List ℕ) : Type 0 where
   pub added : Addable table sofar m event t ps
   pub read : EventIs event (added .new .event .event) e ats
@@ -92,7 +101,7 @@ pub record Adding
 
 -- under some table
 pub record AddingIn
-    (sofar : List ℕ) (m : Measures) (event : List ℕ) (e : EventIndex) (ats : List ℕ) (x : HeadAt) (body : ℕ) (p : Place)
+    (sofar m event : List ℕ) (e : EventIndex) (ats : List ℕ) (x : HeadAt) (body : ℕ) (p : Place)
     (t : TypeIndex) (ps : List ℕ) : Type 0 where
   pub table : List ℕ
   pub is : Adding table sofar m event e ats x body p t ps
@@ -101,7 +110,7 @@ pub record AddingIn
 pub record AddingAt
     (sofar event : List ℕ) (e : EventIndex) (ats : List ℕ) (body : ℕ) (p : Place) (t : TypeIndex) (ps : List ℕ) : Type 0 where
   pub table : List ℕ
-  pub measures : Measures
+  pub measures : List ℕ
   pub head : HeadAt
   pub is : Adding table sofar measures event e ats head body p t ps
 
@@ -139,7 +148,7 @@ pub record MetRoom
 
 -- the snapshot that the dossier has of the event's version, once the event is added
 abbrev pub newSnapshot :
-    {table sofar : List ℕ} {m : Measures} {event : List ℕ} {e : EventIndex} {ats : List ℕ} {x : HeadAt} {body : ℕ} {p : Place}
+    {table sofar m event : List ℕ} {e : EventIndex} {ats : List ℕ} {x : HeadAt} {body : ℕ} {p : Place}
     {t : TypeIndex} {ps : List ℕ} → Adding table sofar m event e ats x body p t ps → Snapshot
 newSnapshot {p = p} h = metWith (h .added .both .left .type) (h .added .both .left .headed .snapshots) p (alone (h .added .new .event))
 
@@ -162,7 +171,7 @@ pub record WithRoom
   pub room : at + length (bytesOf (combined (in-some .is .added .both .left) (in-some .is .added .both .right) .snapshots)) ≤ size
 
 module _
-    {table sofar : List ℕ} {m : Measures} {event : List ℕ} {e : EventIndex} {ats : List ℕ} {x : HeadAt} {body : ℕ} {p : Place}
+    {table sofar m event : List ℕ} {e : EventIndex} {ats : List ℕ} {x : HeadAt} {body : ℕ} {p : Place}
     {t : TypeIndex} {ps : List ℕ} (h : Adding table sofar m event e ats x body p t ps) where
   -- question 8 is answered yes
   abbrev pub Inside : Type 0
@@ -174,7 +183,7 @@ module _
 
 -- question 8 is answered yes, and the output has `size` bytes
 pub record AddedRoom
-    (sofar : List ℕ) (m : Measures) (event : List ℕ) (e : EventIndex) (ats : List ℕ) (x : HeadAt) (body : ℕ) (p : Place) (version : EventVersion)
+    (sofar m event : List ℕ) (e : EventIndex) (ats : List ℕ) (x : HeadAt) (body : ℕ) (p : Place) (version : EventVersion)
     (t : TypeIndex) (ps : List ℕ) (apart size : ℕ) : Type 0 where
   pub in-some : AddingIn sofar m event e ats x body p t ps
   pub number : version .0 ≡ versionOf (in-some .is .added .new .event .type) (in-some .is .added .new .event .event)

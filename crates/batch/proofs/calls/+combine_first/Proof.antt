@@ -3,7 +3,7 @@
 -- the last are refused, so are all (`refused-combined`).
 use Prim.Native.Nat.{ℕ, _-_, _≤_, _<_}
 use native.Mathlib.Omega.{arith}
-use mathlib.Core.Path.{_≡_}
+use mathlib.Core.Path.{_≡_, _∙_}
 use mathlib.Core.List.{List}
 use lib.ListN.{length}
 use denote.Ref.{now}
@@ -13,7 +13,6 @@ use borrow.Fn.PlainCycle.{Measures, is, falls, and}
 use Rattle.replies.specs.Capacities.{dossierCapacity}
 use Rattle.replies.specs.declared.reply.Reply.{Reply}
 use Rattle.replies.specs.declared.reply.Reply.the-variants.{Done}
-use Rattle.combining.specs.declared.measures.Measures as carried
 use Rattle.combining.proofs.add.add_event.Reads as add-event-reads
 use Rattle.combining.proofs.check.check_known.Reads as check-known-reads
 use Rattle.batch.specs.code.BatchIndex.{FirstOf}
@@ -27,14 +26,14 @@ use Rattle.batch.proofs.calls.+combine_first.Lts-combine_first as lts
 use Rattle.batch.proofs.calls.+combine_first.{statement}
 use Rattle.batch.proofs.calls.+combine_first.Tie.{close}
 
-abbrev μ-combine-first : Measures 6 combine-first-kinds.ps ℕ
+abbrev μ-combine-first : Measures 7 combine-first-kinds.ps ℕ
 μ-combine-first κs a = a .1 .1 .1 .1 .1 .0
 
-abbrev exactly : ℕ → In 6 combine-first-kinds.ps
-exactly t = and 6 combine-first-kinds.ps (is 6 combine-first-kinds.ps μ-combine-first t) combine-first.Pre
+abbrev exactly : ℕ → In 7 combine-first-kinds.ps
+exactly t = and 7 combine-first-kinds.ps (is 7 combine-first-kinds.ps μ-combine-first t) combine-first.Pre
 
-abbrev below : ℕ → In 6 combine-first-kinds.ps
-below t = and 6 combine-first-kinds.ps (falls 6 combine-first-kinds.ps _<_ μ-combine-first t) combine-first.Pre
+abbrev below : ℕ → In 7 combine-first-kinds.ps
+below t = and 7 combine-first-kinds.ps (falls 7 combine-first-kinds.ps _<_ μ-combine-first t) combine-first.Pre
 
 -- what each callee asks and gives
 abbrev claims : ℕ → lts.Claims
@@ -73,31 +72,31 @@ module _ (t : ℕ) where
   LastTaken = lts.After-event-part2 (claims t) (exactly t) combine-first.Post
 
   abbrev taken-to-start : Taken → Start
-  taken-to-start c = c .before .before .before .before .before .before .before .before
+  taken-to-start c = c .before .before .before .before .before .before .before .before .before
 
   abbrev more-to-start : More → Start
-  more-to-start c = c .before .before .before .before .before .before .before
+  more-to-start c = c .before .before .before .before .before .before .before .before
 
   abbrev combined-to-more : Combined → More
-  combined-to-more c = c .before .before .before .before
+  combined-to-more c = c .before .before .before .before .before
 
   abbrev to-start : Combined → Start
   to-start c = more-to-start (combined-to-more c)
 
-  abbrev to-reply : LastTaken → lts.After-reply (claims t) (exactly t) combine-first.Post
+  abbrev to-reply : LastTaken → lts.After-others (claims t) (exactly t) combine-first.Post
   to-reply c = c .before .before
 
   abbrev to-combined : LastTaken → Combined
-  to-combined c = to-reply c .before .before .before .before .before .before .before .before
+  to-combined c = to-reply c .before .before .before .before .before .before .before .before .before .before
 
   abbrev added-to-taken : lts.After-add-event (claims t) (exactly t) combine-first.Post → LastTaken
-  added-to-taken c = c .before .before .before .before
+  added-to-taken c = c .before .before .before .before .before
 
-  abbrev to-added : lts.After-slice-known9 (claims t) (exactly t) combine-first.Post → lts.After-add-event (claims t) (exactly t) combine-first.Post
-  to-added c = c .before .before .before .before
+  abbrev to-added : lts.After-slice-known13 (claims t) (exactly t) combine-first.Post → lts.After-add-event (claims t) (exactly t) combine-first.Post
+  to-added c = c .before .before .before .before .before .before
 
   abbrev refused-to-combined : lts.After-enum-told (claims t) (exactly t) combine-first.Post → Combined
-  refused-to-combined c = c .before .before .before .before .before .before .before .before
+  refused-to-combined c = c .before .before .before .before .before .before .before .before .before .before
 
   -- ---- the facts
 
@@ -137,36 +136,39 @@ module _ (t : ℕ) where
 
   module _ (c : Combined) where
     abbrev r : Reply
-    r = c .combine-first .result .reply
+    r = c .combine-first .result
 
-    abbrev m : carried.Measures
-    m = c .combine-first .result .measures
+    -- what the measures and the three buffers have then
+    abbrev m : List ℕ
+    m = c .combine-first .last .1 .1 .1 .1 .1 .1 .0
 
-    -- what the three buffers have then
     abbrev b-after : List ℕ
-    b-after = c .combine-first .last .1 .1 .1 .1 .1 .1 .0
+    b-after = c .combine-first .last .1 .1 .1 .1 .1 .1 .1 .0
 
     abbrev c-after : List ℕ
-    c-after = c .combine-first .last .1 .1 .1 .1 .1 .1 .1 .0
+    c-after = c .combine-first .last .1 .1 .1 .1 .1 .1 .1 .1 .0
 
     abbrev a-after : List ℕ
-    a-after = c .combine-first .last .1 .1 .1 .1 .1 .1 .1 .1 .0
+    a-after = c .combine-first .last .1 .1 .1 .1 .1 .1 .1 .1 .1 .0
 
     others : CombinedFirst (table (to-start c)) (batch (to-start c)) (x (to-start c)) (n (to-start c) - 1) r m b-after (now (to-start c .args .b))
     others = let e = c .combine-first .ensures in record { within = e .0; first = e .1 .0; measured = e .1 .1 }
 
+    measures-long : length m ≡ 17
+    measures-long = c .combine-first .kept .1 .1 .1 .1 .1 .1 .0 ∙ to-start c .pre .1 .0 .3
+
     lone-room : dossierCapacity ≤ length c-after
-    lone-room = omega (arith, c .combine-first .kept .1 .1 .1 .1 .1 .1 .1 .0, to-start c .pre .1 .1 .0 .2)
+    lone-room = omega (arith, c .combine-first .kept .1 .1 .1 .1 .1 .1 .1 .1 .0, to-start c .pre .1 .1 .0 .2)
 
     out-room : dossierCapacity ≤ length a-after
-    out-room = omega (arith, c .combine-first .kept .1 .1 .1 .1 .1 .1 .1 .1 .0, a-room (to-start c))
+    out-room = omega (arith, c .combine-first .kept .1 .1 .1 .1 .1 .1 .1 .1 .1 .0, a-room (to-start c))
 
   module _ (c : LastTaken) where
     abbrev size : ℕ
-    size = to-reply c .reply .given .0 .0
+    size = to-reply c .others .given .0 .0
 
     done : r (to-combined c) ≡ Done size
-    done = to-reply c .reply .given .1
+    done = to-reply c .others .given .1
 
     size-within : size ≤ length (b-after (to-combined c))
     size-within = done-within _ _ _ (others (to-combined c) .within) done
@@ -181,21 +183,24 @@ module _ (t : ℕ) where
 
   check-known-requires : lts.Need-check-known-requires (claims t) (exactly t) combine-first.Post
   check-known-requires c κs =
-      let start = taken-to-start (c .before) in
-      (event-known _ _ _ _ _ _ (first-of start) 1 _ (omega arith) (some start) (is-first (c .before)), a-room start)
+      let taken = c .before .before in
+      let start = taken-to-start taken in
+      (event-known _ _ _ _ _ _ (first-of start) 1 _ (omega arith) (some start) (is-first taken), start .pre .1 .0 .3, a-room start)
 
   same-length : lts.Need-same-length (claims t) (exactly t) combine-first.Post
   same-length c = search needs
 
+  same-length-2 : lts.Need-same-length-2 (claims t) (exactly t) combine-first.Post
+  same-length-2 c = search needs
+
   returns : lts.Need-returns (claims t) (exactly t) combine-first.Post
   returns c =
-      let checked = c .before .before in
-      let taken = checked .before .before in
+      let checked = c .before .before .before .before in
+      let taken = checked .before .before .before in
       let start = taken-to-start taken in
-      let one = checked .check-known .result in
       let e = checked .check-known .ensures in
       let w =
-      one-combined _ _ _ _ _ (n start) (first-of start) _ _ _ (one .reply) (is-one taken) (a-room start) (is-first taken) (e .0) (one .measures) (e .1) in
+      one-combined _ _ _ _ _ (n start) (first-of start) _ _ _ (checked .check-known .result) (is-one taken) (a-room start) (is-first taken) (e .0) _ (e .1) in
       (w .within, (w .first, w .measured))
 
   sub-combine-first : lts.Need-sub-combine-first (claims t) (exactly t) combine-first.Post
@@ -203,23 +208,26 @@ module _ (t : ℕ) where
 
   combine-first-requires : lts.Need-combine-first-requires (claims t) (exactly t) combine-first.Post
   combine-first-requires c κs =
-      let start = more-to-start (c .before .before .before) in
+      let start = more-to-start (c .before .before .before .before) in
       (search needs, (search needs, (search needs, fewer _ _ _ _ _ (n start) (first-of start))))
 
-  enum-known-reply : lts.Need-enum-known-reply (claims t) (exactly t) combine-first.Post
-  enum-known-reply c = search needs
+  enum-known-others : lts.Need-enum-known-others (claims t) (exactly t) combine-first.Post
+  enum-known-others c = search needs
 
   enum-told : lts.Need-enum-told (claims t) (exactly t) combine-first.Post
   enum-told c = search needs
-
-  same-length-2 : lts.Need-same-length-2 (claims t) (exactly t) combine-first.Post
-  same-length-2 c = search needs
 
   same-length-3 : lts.Need-same-length-3 (claims t) (exactly t) combine-first.Post
   same-length-3 c = search needs
 
   same-length-4 : lts.Need-same-length-4 (claims t) (exactly t) combine-first.Post
   same-length-4 c = search needs
+
+  same-length-5 : lts.Need-same-length-5 (claims t) (exactly t) combine-first.Post
+  same-length-5 c = search needs
+
+  same-length-6 : lts.Need-same-length-6 (claims t) (exactly t) combine-first.Post
+  same-length-6 c = search needs
 
   returns-2 : lts.Need-returns-2 (claims t) (exactly t) combine-first.Post
   returns-2 c =
@@ -243,21 +251,24 @@ module _ (t : ℕ) where
 
   add-event-requires : lts.Need-add-event-requires (claims t) (exactly t) combine-first.Post
   add-event-requires c κs =
-      let taken = c .before .before .before in
+      let taken = c .before .before .before .before in
       let combined = to-combined taken in
       let start = to-start combined in
       let addable = last-addable _ _ _ _ _ (n start) (first-of start) (two (combined-to-more combined)) (r combined) (m combined) _ _ (others combined)
       (size taken) (done taken) _ (is-last taken) in
-      ((addable, start .pre .1 .0 .2), (lone-room combined, out-room combined))
-
-  same-length-5 : lts.Need-same-length-5 (claims t) (exactly t) combine-first.Post
-  same-length-5 c = search needs
-
-  same-length-6 : lts.Need-same-length-6 (claims t) (exactly t) combine-first.Post
-  same-length-6 c = search needs
+      ((addable, start .pre .1 .0 .2, measures-long combined), (lone-room combined, out-room combined))
 
   same-length-7 : lts.Need-same-length-7 (claims t) (exactly t) combine-first.Post
   same-length-7 c = search needs
+
+  same-length-8 : lts.Need-same-length-8 (claims t) (exactly t) combine-first.Post
+  same-length-8 c = search needs
+
+  same-length-9 : lts.Need-same-length-9 (claims t) (exactly t) combine-first.Post
+  same-length-9 c = search needs
+
+  same-length-10 : lts.Need-same-length-10 (claims t) (exactly t) combine-first.Post
+  same-length-10 c = search needs
 
   returns-3 : lts.Need-returns-3 (claims t) (exactly t) combine-first.Post
   returns-3 c =
@@ -267,8 +278,8 @@ module _ (t : ℕ) where
       let start = to-start combined in
       let e = added .add-event .ensures in
       let w = last-combined _ _ _ _ _ (n start) (first-of start) (two (combined-to-more combined)) (r combined) (m combined) _ _ (others combined)
-      (size taken) (done taken) _ (is-last taken) (added .add-event .result .reply) _ (a-after combined) (out-room combined) (e .0)
-      (added .add-event .result .measures) (now (start .args .a)) (e .1) in
+      (size taken) (done taken) _ (is-last taken) (added .add-event .result) _ (a-after combined) (out-room combined) (e .0)
+      _ (now (start .args .a)) (e .1) in
       (w .within, (w .first, w .measured))
 
 pub +combine-first-spec : {M : Type 1} → statement M
@@ -278,21 +289,24 @@ pub +combine-first-spec : {M : Type 1} → statement M
     (event-part-requires t)
     (check-known-requires t)
     (same-length t)
+    (same-length-2 t)
     (returns t)
     (sub-combine-first t)
     (combine-first-requires t)
-    (enum-known-reply t)
+    (enum-known-others t)
     (enum-told t)
-    (same-length-2 t)
     (same-length-3 t)
     (same-length-4 t)
+    (same-length-5 t)
+    (same-length-6 t)
     (returns-2 t)
     (sub-event-part t)
     (event-part-requires-2 t)
     (slice-reshare-prefix-add-event t)
     (slice-aggregate-add-event t)
     (add-event-requires t)
-    (same-length-5 t)
-    (same-length-6 t)
     (same-length-7 t)
+    (same-length-8 t)
+    (same-length-9 t)
+    (same-length-10 t)
     (returns-3 t)

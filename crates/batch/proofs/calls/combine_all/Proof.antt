@@ -11,7 +11,6 @@ use borrow.Author.Needs.{needs}
 use Rattle.replies.specs.Capacities.{dossierCapacity}
 use Rattle.replies.specs.declared.reply.Reply.{Reply}
 use Rattle.replies.specs.declared.reply.Reply.the-variants.{Done}
-use Rattle.combining.specs.declared.measures.Measures.{Measures}
 use Rattle.batch.specs.code.BatchIndex.{FirstOf}
 use Rattle.batch.specs.declared.frame.BatchIndex.{BatchIndex}
 use Rattle.batch.proofs.BatchLaws.{IsEvent, CombinedFirst, fewer, event-known, one-checked, all-refused, last-addable, last-added, all-taken}
@@ -30,25 +29,25 @@ abbrev more-to-start : tie.Else1 → tie.Start
 more-to-start c = c .before .before .before .before .before .before .before .before
 
 abbrev to-more : tie.After-combine-first → tie.Else1
-to-more c = c .before .before .before .before
+to-more c = c .before .before .before .before .before
 
 abbrev to-start : tie.After-combine-first → tie.Start
 to-start c = more-to-start (to-more c)
 
-abbrev to-reply : tie.After-event-part2 → tie.After-reply
+abbrev to-reply : tie.After-event-part2 → tie.After-others
 to-reply c = c .before .before
 
 abbrev to-combined : tie.After-event-part2 → tie.After-combine-first
-to-combined c = to-reply c .before .before .before .before .before .before .before .before
+to-combined c = to-reply c .before .before .before .before .before .before .before .before .before
 
 abbrev added-to-taken : tie.After-add-event → tie.After-event-part2
-added-to-taken c = c .before .before .before .before
+added-to-taken c = c .before .before .before .before .before
 
 abbrev to-added : tie.After-slice-known10 → tie.After-add-event
-to-added c = c .before .before .before .before
+to-added c = c .before .before .before .before .before
 
 abbrev refused-to-combined : tie.After-enum-told → tie.After-combine-first
-refused-to-combined c = c .before .before .before .before .before .before .before .before
+refused-to-combined c = c .before .before .before .before .before .before .before .before .before
 
 -- ---- the facts
 
@@ -86,30 +85,33 @@ two c = omega (arith, c .if1 .left)
 
 module _ (c : tie.After-combine-first) where
   abbrev r : Reply
-  r = c .combine-first .result .reply
+  r = c .combine-first .result
 
-  abbrev m : Measures
-  m = c .combine-first .result .measures
+  -- what the measures and two of the buffers have then
+  abbrev m : List ℕ
+  m = c .combine-first .last .1 .1 .1 .1 .1 .1 .0
 
-  -- what two of the buffers have then
   abbrev a-after : List ℕ
-  a-after = c .combine-first .last .1 .1 .1 .1 .1 .1 .0
+  a-after = c .combine-first .last .1 .1 .1 .1 .1 .1 .1 .0
 
   abbrev b-after : List ℕ
-  b-after = c .combine-first .last .1 .1 .1 .1 .1 .1 .1 .0
+  b-after = c .combine-first .last .1 .1 .1 .1 .1 .1 .1 .1 .0
 
   others : CombinedFirst (table (to-start c)) (batch (to-start c)) (x (to-start c)) (n (to-start c) - 1) r m a-after (now (to-start c .args .a))
   others = let e = c .combine-first .ensures in record { within = e .0; first = e .1 .0; measured = e .1 .1 }
 
+  measures-long : length m ≡ 17
+  measures-long = search needs
+
   lone-room : dossierCapacity ≤ length b-after
-  lone-room = omega (arith, c .combine-first .kept .1 .1 .1 .1 .1 .1 .1 .0, to-start c .pre .1 .0 .1)
+  lone-room = omega (arith, c .combine-first .kept .1 .1 .1 .1 .1 .1 .1 .1 .0, to-start c .pre .1 .0 .1)
 
 module _ (c : tie.After-event-part2) where
   abbrev size : ℕ
-  size = to-reply c .reply .given .0 .0
+  size = to-reply c .others .given .0 .0
 
   done : r (to-combined c) ≡ Done size
-  done = to-reply c .reply .given .1
+  done = to-reply c .others .given .1
 
   size-within : size ≤ length (a-after (to-combined c))
   size-within = done-within _ _ _ (others (to-combined c) .within) done
@@ -122,33 +124,40 @@ module _ (c : tie.After-event-part2) where
 event-part-requires : tie.Need-event-part-requires
 event-part-requires c κs = search needs
 
+slice-aggregate-check-known : tie.Need-slice-aggregate-check-known
+slice-aggregate-check-known c = search needs
+
 check-known-requires : tie.Need-check-known-requires
 check-known-requires c κs =
-    let start = taken-to-start (c .before) in
-    (event-known _ _ _ _ _ _ (first-of start) 1 _ (omega arith) (some start) (is-first (c .before)), out-room start)
+    let taken = c .before .before in
+    let start = taken-to-start taken in
+    (event-known _ _ _ _ _ _ (first-of start) 1 _ (omega arith) (some start) (is-first taken), search needs, out-room start)
 
 same-length : tie.Need-same-length
 same-length c = search needs
 
 returns : tie.Need-returns
 returns c =
-    let checked = c .before .before in
-    let taken = checked .before .before in
+    let checked = c .before .before .before in
+    let taken = checked .before .before .before in
     let start = taken-to-start taken in
-    let one = checked .check-known .result .reply in
+    let one = checked .check-known .result in
     all-taken _ _ (x start) one _ _
     (one-checked _ _ _ _ _ (n start) (first-of start) _ _ _ one (is-one taken) (out-room start) (is-first taken) (checked .check-known .ensures .0))
 
 sub-combine-first : tie.Need-sub-combine-first
 sub-combine-first c = search needs
 
+slice-aggregate-combine-first : tie.Need-slice-aggregate-combine-first
+slice-aggregate-combine-first c = search needs
+
 combine-first-requires : tie.Need-combine-first-requires
 combine-first-requires c κs =
-    let start = more-to-start (c .before .before .before) in
+    let start = more-to-start (c .before .before .before .before) in
     (search needs, (search needs, fewer _ _ _ _ _ (n start) (first-of start)))
 
-enum-known-reply : tie.Need-enum-known-reply
-enum-known-reply c = search needs
+enum-known-others : tie.Need-enum-known-others
+enum-known-others c = search needs
 
 enum-told : tie.Need-enum-told
 enum-told c = search needs
@@ -182,14 +191,17 @@ slice-reshare-prefix-add-event c = size-within c
 slice-aggregate-add-event : tie.Need-slice-aggregate-add-event
 slice-aggregate-add-event c = taken-count (size (c .before)) (a-after (to-combined (c .before))) (size-within (c .before))
 
+slice-aggregate-add-event-2 : tie.Need-slice-aggregate-add-event-2
+slice-aggregate-add-event-2 c = search needs
+
 add-event-requires : tie.Need-add-event-requires
 add-event-requires c κs =
-    let taken = c .before .before .before in
+    let taken = c .before .before .before .before in
     let combined = to-combined taken in
     let start = to-start combined in
     let addable = last-addable _ _ _ _ _ (n start) (first-of start) (two (to-more combined)) (r combined) (m combined) _ _ (others combined)
     (size taken) (done taken) _ (is-last taken) in
-    ((addable, start .pre .0 .2), (lone-room combined, out-room start))
+    ((addable, start .pre .0 .2, measures-long combined), (lone-room combined, out-room start))
 
 same-length-5 : tie.Need-same-length-5
 same-length-5 c = search needs
@@ -209,7 +221,7 @@ returns-3 c =
     let taken = added-to-taken added in
     let combined = to-combined taken in
     let start = to-start combined in
-    let all = added .add-event .result .reply in
+    let all = added .add-event .result in
     all-taken _ _ (x start) all _ _
     (last-added _ _ _ _ _ (n start) (first-of start) (two (to-more combined)) (r combined) (m combined) _ _ (others combined)
     (size taken) (done taken) _ (is-last taken) all _ (now (start .args .out)) (out-room start) (added .add-event .ensures .0))
@@ -219,12 +231,14 @@ combine-all-spec =
     tie.close
     (tie.spec
     event-part-requires
+    slice-aggregate-check-known
     check-known-requires
     same-length
     returns
     sub-combine-first
+    slice-aggregate-combine-first
     combine-first-requires
-    enum-known-reply
+    enum-known-others
     enum-told
     same-length-2
     same-length-3
@@ -234,6 +248,7 @@ combine-all-spec =
     event-part-requires-2
     slice-reshare-prefix-add-event
     slice-aggregate-add-event
+    slice-aggregate-add-event-2
     add-event-requires
     same-length-5
     same-length-6

@@ -3,7 +3,7 @@
 use borrow.Author.Needs.{needs}
 use borrow.Author.Tests.{not-true, not-false}
 use native.Mathlib.Omega.{arith}
-use mathlib.Core.Path.{_≡_, sym, _∙_, subst}
+use mathlib.Core.Path.{_≡_, sym, _∙_}
 use mathlib.Core.List.{List}
 use Prim.Native.Nat.{ℕ, _+_, _^_, _<_}
 use lib.ListN.{length}
@@ -15,20 +15,20 @@ use Rattle.event.specs.code.EventIndex.{EventIs}
 use Rattle.dossier.specs.DossierHead.{readDossierHead}
 use Rattle.dossier.specs.code.DossierIndex.{DossierHeadStops}
 use Rattle.dossier.proofs.DossierReadLaws.{head-reads, head-refused}
-use Rattle.combining.specs.code.AddIndex.{Measured, Addable, Adding}
+use Rattle.combining.specs.code.AddIndex.{Addable, Adding}
 use Rattle.combining.proofs.CheckLaws.{known-read, known-checked, checkable}
 use Rattle.combining.proofs.CombineLaws.{combine-full, combine-done}
-use Rattle.combining.proofs.AddLaws.{has-head, measured-in, body-begins, adding, split-at, reply-is}
+use Rattle.combining.proofs.AddLaws.{has-head, measured-in, body-begins, adding, split-at}
 use Rattle.combining.proofs.add.add_event.Statement.{statement}
 use Rattle.combining.proofs.add.add_event.Tie as tie
 
 -- ---- the places
 
 abbrev to-start : tie.After-read-event → tie.Start
-to-start c = c .before .before .before .before .before .before .before .before
+to-start c = c .before .before .before .before .before .before .before .before .before
 
 abbrev sofar-known : tie.After-read-event → tie.After-shared-slice-known2
-sofar-known c = c .before .before .before .before .before .before
+sofar-known c = c .before .before .before .before .before .before .before
 
 abbrev to-read : tie.After-version-of → tie.After-read-event
 to-read c = c .before .before .before
@@ -40,19 +40,19 @@ abbrev x-to-head : tie.After-x → tie.After-read-dossier-head
 x-to-head c = c .before .before
 
 abbrev to-x : tie.After-place-of → tie.After-x
-to-x c = c .before .before
+to-x c = c .before .before .before
 
 abbrev place-to-start : tie.After-place-of → tie.Start
 place-to-start c = to-start (head-to-read (x-to-head (to-x c)))
 
 abbrev to-place : tie.After-added-fits → tie.After-place-of
-to-place c = c .before .before
+to-place c = c .before .before .before
 
 -- ---- the values
 
 module _ (c : tie.Start) where
   abbrev Can : Type 0
-  Can = let a = c .args in Addable (now (a .table)) (now (a .sofar)) (a .m) (now (a .event)) (a .t) (now (a .properties))
+  Can = let a = c .args in Addable (now (a .table)) (now (a .sofar)) (now (a .measures)) (now (a .event)) (a .t) (now (a .properties))
 
   abbrev can : Can
   can = c .pre .0 .0
@@ -90,7 +90,7 @@ module _ (c : tie.After-place-of) where
   IsAdded =
       let a = place-to-start c .args in
       let read = head-to-read (x-to-head (to-x c)) in
-      Adding (now (a .table)) (now (a .sofar)) (a .m) (now (a .event)) (read .read-event .result) (sets read)
+      Adding (now (a .table)) (now (a .sofar)) (now (a .measures)) (now (a .event)) (read .read-event .result) (sets read)
       (to-x c .x .given .0 .0) (to-x c .x .given .0 .1 .0 + 1) (c .place-of .result) (a .t) (now (a .properties))
 
   abbrev is : Can (place-to-start c) → IsAdded
@@ -123,13 +123,10 @@ enum-known-x c = search needs
 enum-told : tie.Need-enum-told
 enum-told c = search needs
 
-answer-requires : tie.Need-answer-requires
-answer-requires c κs = search needs
-
 returns : tie.Need-returns
 returns c =
-    let at = c .before .before .before in
-    let refused = head-refused _ (c .before .enum-told .given .1) (at .read-dossier-head .ensures) in
+    let at = c .before .before in
+    let refused = head-refused _ (c .enum-told .given .1) (at .read-dossier-head .ensures) in
     (λ a. absurd (has-head a refused), λ a n z. absurd (has-head a refused))
 
 add-body : tie.Need-add-body
@@ -138,77 +135,76 @@ add-body c =
     omega (arith, body-begins (can (start (c .before))) (head (c .before)) .0, short)
 
 place-of-requires : tie.Need-place-of-requires
-place-of-requires c κs = measured-in (can (start (c .before)))
+place-of-requires c κs =
+    let at = c .before .before in
+    (measured-in (can (start at)), start at .pre .0 .2)
 
 slice-aggregate-added-fits : tie.Need-slice-aggregate-added-fits
 slice-aggregate-added-fits c = search needs
 
 added-fits-requires : tie.Need-added-fits-requires
 added-fits-requires c κs =
-    let at = c .before in
+    let at = c .before .before in
     let s = place-to-start at in
-    ((sets-long (head-to-read (x-to-head (to-x at))), s .pre .0 .1), record { table = _; is = is at (can s) })
+    ((sets-long (head-to-read (x-to-head (to-x at))), s .pre .0 .1, s .pre .0 .2), record { table = _; is = is at (can s) })
 
-answer-requires-2 : tie.Need-answer-requires-2
-answer-requires-2 c κs = search needs
+same-length : tie.Need-same-length
+same-length c = search needs
 
 returns-2 : tie.Need-returns-2
 returns-2 c =
-    let asked = c .before .before in
+    let asked = c .before in
     let at = to-place asked in
     let room = place-to-start at .pre .1 .1 in
-    let full = not-true _ (c .before .if1 .taken) in
-    let reply = c .answer2 .ensures .0 in (
-      λ a. reply-is reply (combine-full _ _ _ _ room (a .both) (asked .added-fits .ensures _ (is at a)) full),
-      λ a n z. let both = sym reply ∙ z in never (cc),
-    )
+    let full = not-true _ (c .if1 .taken) in
+    (λ a. combine-full _ _ _ _ room (a .both) (asked .added-fits .ensures _ (is at a)) full, λ a n z. never (cc))
 
 slice-aggregate-write-added : tie.Need-slice-aggregate-write-added
 slice-aggregate-write-added c = search needs
 
 write-added-requires : tie.Need-write-added-requires
 write-added-requires c κs =
-    let asked = c .before .before .before .before in
+    let fitted = c .before .before .before .before in
+    let asked = fitted .before in
     let at = to-place asked in
     let s = place-to-start at in
     let read = head-to-read (x-to-head (to-x at)) in (
       sets-long read,
       s .pre .0 .1,
+      s .pre .0 .2,
       record {
         in-some = record { table = _; is = is at (can s) };
         number = version-is (x-to-head (to-x at) .before) (can s);
         scratch = s .pre .1 .0;
         room = s .pre .1 .1;
-        inside = λ table h. sym (asked .added-fits .ensures table h) ∙ not-false _ (c .before .before .before .if1 .left);
+        inside = λ table h. sym (asked .added-fits .ensures table h) ∙ not-false _ (fitted .if1 .left);
       },
     )
-
-answer-requires-3 : tie.Need-answer-requires-3
-answer-requires-3 c κs = search needs
-
-same-length : tie.Need-same-length
-same-length c = search needs
 
 same-length-2 : tie.Need-same-length-2
 same-length-2 c = search needs
 
+same-length-3 : tie.Need-same-length-3
+same-length-3 c = search needs
+
+same-length-4 : tie.Need-same-length-4
+same-length-4 c = search needs
+
 returns-3 : tie.Need-returns-3
 returns-3 c =
-    let wrote = c .before .before .before .before .before in
-    let fitted = wrote .before .before .before .before in
+    let wrote = c .before .before .before .before .before .before in
+    let fitted = wrote .before .before .before .before .before in
     let asked = fitted .before in
     let at = to-place asked in
     let version = x-to-head (to-x at) .before in
     let room = place-to-start at .pre .1 .1 in
-    let inside = not-false _ (fitted .if1 .left) in
-    let reply = c .answer3 .ensures .0 in
-    let measures = c .answer3 .ensures .1 in (
+    let inside = not-false _ (fitted .if1 .left) in (
       λ a.
           let h = is at a in
           let fits = asked .added-fits .ensures _ h in
           let w = wrote .write-added .ensures .0 _ h (version-is version a) (sym fits ∙ inside) in
-          reply-is reply (combine-done _ _ _ _ room (a .both) fits inside _ _ w),
-      λ a n z. subst (Measured _) (sym measures) (wrote .write-added .ensures .1 _ (is at a) (version-is version a)),
+          combine-done _ _ _ _ room (a .both) fits inside _ _ w,
+      λ a n z. wrote .write-added .ensures .1 _ (is at a) (version-is version a),
     )
 
 pub add-event-spec : {M : Type 1} → statement M
@@ -222,17 +218,16 @@ add-event-spec =
     read-dossier-head-requires
     enum-known-x
     enum-told
-    answer-requires
     returns
     add-body
     place-of-requires
     slice-aggregate-added-fits
     added-fits-requires
-    answer-requires-2
+    same-length
     returns-2
     slice-aggregate-write-added
     write-added-requires
-    answer-requires-3
-    same-length
     same-length-2
+    same-length-3
+    same-length-4
     returns-3)

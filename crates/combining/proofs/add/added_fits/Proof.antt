@@ -20,7 +20,7 @@ use Rattle.combining.proofs.add.added_fits.Tie as tie
 -- ---- the places
 
 abbrev to-start : tie.After-parents-fit → tie.Start
-to-start c = c .before .before .before .before .before .before
+to-start c = c .before .before .before .before .before .before .before
 
 abbrev to-parents : tie.Else1 → tie.After-parents-fit
 to-parents c = c .before
@@ -34,7 +34,7 @@ to-met c = c .before .before
 abbrev Added : tie.After-parents-fit → List ℕ → Type 0
 Added c table =
     let a = to-start c .args in
-    Adding table (now (a .sofar)) (a .m) (now (a .event)) (a .e) (now (a .sets)) (a .x) (a .body) (a .p) (a .t) (now (a .properties))
+    Adding table (now (a .sofar)) (now (a .measures)) (now (a .event)) (a .e) (now (a .sets)) (a .x) (a .body) (a .p) (a .t) (now (a .properties))
 
 -- ---- the facts
 
@@ -58,10 +58,14 @@ parents-fit-requires c κs = search needs
 returns : tie.Need-returns
 returns c = λ table h. fits-parents (h .added .both) _ (parents (c .before) h) (not-true _ (c .if1 .taken))
 
+shared-slice-read-result : tie.Need-shared-slice-read-result
+shared-slice-read-result c = search needs
+
 returns-2 : tie.Need-returns-2
 returns-2 c = λ table h.
-    let at = c .before .before .before in
-    fits-unmet h _ (parents (to-parents at) h) (few-parents at) (not-true _ (c .before .if2 .taken))
+    let unmet = c .before in
+    let at = unmet .before .before in
+    fits-unmet h _ (parents (to-parents at) h) (few-parents at) (not-true _ (unmet .if2 .taken))
 
 returns-3 : tie.Need-returns-3
 returns-3 c = λ table h.
@@ -89,4 +93,4 @@ returns-4 c = λ table h.
 pub added-fits-spec : {M : Type 1} → statement M
 added-fits-spec =
     tie.close
-    (tie.spec parents-fit-requires returns returns-2 returns-3 objects-added-requires returns-4)
+    (tie.spec parents-fit-requires returns shared-slice-read-result returns-2 returns-3 objects-added-requires returns-4)

@@ -13,8 +13,8 @@ returns c = search needs
 
 returns-2 : tie.Need-returns-2
 returns-2 c =
-    let m = c .before .before .args .m in
-    sym (ap (λ (b : Bool). cond b (m .count) (m .count + 1)) (c .before .if1 .left))
+    let n = c .before .args .count in
+    sym (ap (λ (b : Bool). cond b n (n + 1)) (c .if1 .left))
 
 pub count-with-spec : {M : Type 1} → statement M
 count-with-spec = tie.close (tie.spec add-result returns returns-2)

@@ -20,13 +20,13 @@ use Rattle.combining.proofs.add.write_added.Tie as tie
 -- ---- the places
 
 abbrev to-start : tie.After-y → tie.Start
-to-start c = c .before .before .before .before .before .before .before
+to-start c = c .before .before .before .before .before .before .before .before
 
 abbrev heads-to-start : tie.After-write-heads → tie.Start
 heads-to-start c = to-start (c .before .before)
 
 abbrev to-heads : tie.After-count-with → tie.After-write-heads
-to-heads c = c .before .before .before .before
+to-heads c = c .before .before .before .before .before
 
 abbrev to-count : tie.After-write-number → tie.After-count-with
 to-count c = c .before
@@ -34,7 +34,7 @@ to-count c = c .before
 abbrev to-number : tie.After-write-with → tie.After-write-number
 to-number c = c .before .before .before .before .before
 
-abbrev to-with : tie.After-slice-known6 → tie.After-write-with
+abbrev to-with : tie.After-slice-known8 → tie.After-write-with
 to-with c = c .before .before .before .before
 
 -- ---- the values
@@ -43,13 +43,13 @@ module _ (c : tie.Start) where
   abbrev IsAdded : List ℕ → Type 0
   IsAdded table =
       let a = c .args in
-      Adding table (now (a .sofar)) (a .m) (now (a .event)) (a .e) (now (a .sets)) (a .x) (a .body) (a .p) (a .t) (now (a .properties))
+      Adding table (now (a .sofar)) (now (a .measures)) (now (a .event)) (a .e) (now (a .sets)) (a .x) (a .body) (a .p) (a .t) (now (a .properties))
 
   abbrev room :
       let a = c .args in
-      AddedRoom (now (a .sofar)) (a .m) (now (a .event)) (a .e) (now (a .sets)) (a .x) (a .body) (a .p) (a .version) (a .t) (now (a .properties))
+      AddedRoom (now (a .sofar)) (now (a .measures)) (now (a .event)) (a .e) (now (a .sets)) (a .x) (a .body) (a .p) (a .version) (a .t) (now (a .properties))
       (length (now (a .lone))) (length (now (a .out)))
-  room = c .pre .2
+  room = c .pre .3
 
   abbrev is : IsAdded (room .in-some .table)
   is = room .in-some .is
@@ -77,8 +77,11 @@ write-heads-requires c κs =
     let s = to-start (c .before) in
     record { left = _; right = _; are = heads s (is s); room = omega (arith, whole-room s, known-length (is s .added .both) _ refl) }
 
+slice-read-count-with : tie.Need-slice-read-count-with
+slice-read-count-with c = search needs
+
 count-with-requires : tie.Need-count-with-requires
-count-with-requires c κs = let s = heads-to-start (c .before .before .before) in has-place (is s) (inside s) .0
+count-with-requires c κs = let s = heads-to-start (c .before .before .before .before) in has-place (is s) (inside s) .0
 
 write-number-requires : tie.Need-write-number-requires
 write-number-requires c κs =
@@ -113,10 +116,11 @@ write-with-requires c κs =
       },
     )
 
-with-snapshot-requires : tie.Need-with-snapshot-requires
-with-snapshot-requires c κs =
-    let s = heads-to-start (to-heads (to-count (to-number (to-with c)))) in
-    has-place (is s) (inside s)
+put-snapshot-requires : tie.Need-put-snapshot-requires
+put-snapshot-requires c κs =
+    let s = heads-to-start (to-heads (to-count (to-number (to-with (c .before))))) in
+    let (few, within, met, unmet) = has-place (is s) (inside s) in
+    ((s .pre .2, few, within), (met, unmet))
 
 same-length : tie.Need-same-length
 same-length c = search needs
@@ -124,15 +128,19 @@ same-length c = search needs
 same-length-2 : tie.Need-same-length-2
 same-length-2 c = search needs
 
+same-length-3 : tie.Need-same-length-3
+same-length-3 c = search needs
+
 returns : tie.Need-returns
 returns c =
-    let wrote = to-with (c .before) in
+    let put = c .before .before in
+    let wrote = to-with (put .before .before) in
     let numbered = to-number wrote in
     let at = to-heads (to-count numbered) in
     let s = heads-to-start at in (
       λ table h n within. known-wrote (h .added .both) _ (many (to-count numbered) h) (at .write-heads .ensures _ _ (heads s h))
           (numbered .write-number .ensures) (wrote .write-with .ensures .0 table _ _ h n),
-      λ table h n. measured-with h n (wrote .write-with .ensures .1 table _ _ h n) (c .with-snapshot .ensures),
+      λ table h n. measured-with h n (wrote .write-with .ensures .1 table _ _ h n) (put .put-snapshot .ensures),
     )
 
 pub write-added-spec : {M : Type 1} → statement M
@@ -140,10 +148,12 @@ write-added-spec =
     tie.close
     (tie.spec
     write-heads-requires
+    slice-read-count-with
     count-with-requires
     write-number-requires
     write-with-requires
-    with-snapshot-requires
+    put-snapshot-requires
     same-length
     same-length-2
+    same-length-3
     returns)

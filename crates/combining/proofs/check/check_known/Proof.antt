@@ -13,7 +13,7 @@ use Rattle.combining.proofs.check.check_known.Tie as tie
 -- ---- the places
 
 abbrev to-start : tie.After-read-event → tie.Start
-to-start c = c .before .before .before .before .before
+to-start c = c .before .before .before .before .before .before
 
 abbrev to-read : tie.After-version-of → tie.After-read-event
 to-read c = c .before .before .before
@@ -63,28 +63,32 @@ write-lone-requires c κs =
     let v = to-version c in
     let read = to-read v in
     let a = event-taken read in
-    (sets-long read, lone-room a _ _ (v .version-of .ensures (checkable a)) (to-start read .pre .1))
+    (sets-long read, lone-room a _ _ (v .version-of .ensures (checkable a)) (to-start read .pre .2))
 
-sub-measures-of : tie.Need-sub-measures-of
-sub-measures-of c =
+sub-size : tie.Need-sub-size
+sub-size c =
     let written = to-written c in
     written .write-lone .ensures .1 _ (event-taken (to-read (to-version (written .before))) .read) .0
 
-measures-of-requires : tie.Need-measures-of-requires
-measures-of-requires c κs = search needs
+measure-one-requires : tie.Need-measure-one-requires
+measure-one-requires c κs = search needs
 
 same-length : tie.Need-same-length
 same-length c = search needs
 
+same-length-2 : tie.Need-same-length-2
+same-length-2 c = search needs
+
 returns : tie.Need-returns
 returns c =
-    let written = to-written (c .before) in
+    let measured = c .before .before in
+    let written = to-written (measured .before .before) in
     let v = to-version (written .before) in
     let a = event-taken (to-read v) in (
-      check-done _ _ _ a _ _ _ (to-start (to-read v) .pre .1) (v .version-of .ensures (checkable a)) (written .write-lone .ensures .0 _ (a .read)),
+      check-done _ _ _ a _ _ _ (to-start (to-read v) .pre .2) (v .version-of .ensures (checkable a)) (written .write-lone .ensures .0 _ (a .read)),
       λ k.
           let a = known-checked k (to-read v .read-event .ensures) in
-          lone-measured a _ (v .version-of .ensures (checkable a)) (written .write-lone .ensures .1 _ (a .read) .1) (c .measures-of .ensures),
+          lone-measured a _ (v .version-of .ensures (checkable a)) (written .write-lone .ensures .1 _ (a .read) .1) (measured .measure-one .ensures),
     )
 
 pub check-known-spec : {M : Type 1} → statement M
@@ -97,7 +101,8 @@ check-known-spec =
     version-of-requires
     slice-aggregate-write-lone
     write-lone-requires
-    sub-measures-of
-    measures-of-requires
+    sub-size
+    measure-one-requires
     same-length
+    same-length-2
     returns)

@@ -1,0 +1,37 @@
+-- The count is put first, and the snapshot's measure then leaves it.
+use borrow.Author.Needs.{needs}
+use native.Mathlib.Omega.{arith}
+use mathlib.Core.Path.{_≡_, _∙_}
+use lib.ListN.{length, set, length-set}
+use denote.Ref.{now}
+use Rattle.combining.proofs.MeasureLaws.{count-here, measured-one}
+use Rattle.combining.proofs.measures.measure_one.Statement.{statement}
+use Rattle.combining.proofs.measures.measure_one.Tie as tie
+
+-- ---- the facts
+
+-- with its count the numbers are as many as before
+counted-long : (c : tie.Start) → length (set (now (c .args .measures)) 0 1) ≡ 17
+counted-long c = length-set (now (c .args .measures)) 0 1 ∙ c .pre
+
+-- ---- the needs
+
+slice-write-measures : tie.Need-slice-write-measures
+slice-write-measures c = search needs
+
+put-measure-requires : tie.Need-put-measure-requires
+put-measure-requires c κs = (counted-long (c .before .before), omega arith)
+
+same-length : tie.Need-same-length
+same-length c =
+    let s = c .before .before .before .before .before in
+    omega (arith, counted-long s, s .pre)
+
+returns : tie.Need-returns
+returns c = λ s v z.
+    let put = c .before .before in
+    let (here, (_, count)) = put .put-measure .ensures in
+    measured-one _ _ s (count ∙ count-here (now (put .before .before .before .args .measures)) 1 (put .before .before .before .pre)) here v z
+
+pub measure-one-spec : {M : Type 1} → statement M
+measure-one-spec = tie.close (tie.spec slice-write-measures put-measure-requires same-length returns)
