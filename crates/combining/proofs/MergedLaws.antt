@@ -202,9 +202,9 @@ step-none v w h = rw (lt-leb v w h)
 
 -- ---- the snapshots of both sides
 
--- the row of one of the 8 snapshots
-pub row-long : (rows : List ℕ) (j : ℕ) → length rows ≡ 768 → j < 8 → length (rowOf rows j) ≡ 96
-row-long rows j e l = part-length rows (96 * j) (96 * j + 96) (omega arith) (omega arith) ∙ omega arith
+-- the row of one of the snapshots
+pub row-long : (rows : List ℕ) (j : ℕ) → 96 * j + 96 ≤ length rows → length (rowOf rows j) ≡ 96
+row-long rows j l = part-length rows (96 * j) (96 * j + 96) (omega arith) l ∙ omega arith
 
 join-keeps : (ty : EventType) (x y : Snapshot) → x .version ≡ y .version → joinSnapshots (typeView ty) x y .version ≡ x .version
 unfolding joinSnapshots

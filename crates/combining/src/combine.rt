@@ -1,4 +1,4 @@
-ghost use Prim.Native.Nat.{_≤_};
+ghost use Prim.Native.Nat.{_*_, _≤_};
 ghost use mathlib.Core.Path.{_≡_};
 ghost use mathlib.Core.Bool.{true};
 ghost use mathlib.Core.Option.{some};
@@ -11,13 +11,14 @@ ghost use Rattle.ontology.specs.TableLayout.{tableOf};
 ghost use Rattle.ontology.specs.code.TypeIndex.{TableSays};
 ghost use Rattle.dossier.specs.DossierLayout.{dossierOf};
 ghost use Rattle.dossier.specs.DossierQuestions.{dossierAsked};
-ghost use Rattle.dossier.specs.code.DossierIndex.{DossierReads};
+ghost use Rattle.dossier.specs.code.DossierIndex.{HasRows, DossierReads};
 ghost use Rattle.combining.specs.CombineCall.{combineCall};
 ghost use Rattle.combining.specs.code.CombineIndex.{NumberIs, Combinable};
 use crate::limits::limits_fit;
 use crate::write::write_combined;
 use dossier::dossiers::DossierIndex;
 use dossier::dossiers::read_dossier;
+use dossier::dossiers::snapshot_count;
 use dossier::questions::ask_dossier;
 use dossier::questions::dossiers_agree;
 use dossier::questions::type_name;
@@ -41,7 +42,8 @@ fn combine_read<'a>(
     properties: &[usize],
     out: &mut [u8],
 ) -> Combined
-    requires { ⌜ (length (now left) ≡ 768) × (length (now right) ≡ 768) × (length (now properties) ≡ 96) × (dossierCapacity ≤ length (now out)) ⌝ }
+    requires { ⌜ (96 * d .count ≤ length (now left)) × (96 * e .count ≤ length (now right)) × (length (now properties) ≡ 96)
+        × (dossierCapacity ≤ length (now out)) ⌝ }
     requires { ⌜ Combinable (now table) (now a) d (now left) (now b) e (now right) t (now properties) ⌝ }
     ensures { λ r. ⌜ combineReplies r (now (out .exit)) ≡ combineCall standard (now (table .entry)) (now (a .entry)) (now (b .entry)) (now (out .entry)) ⌝ }
 {
@@ -61,7 +63,7 @@ fn ask_other(
     read: TableRead,
     properties: &[usize],
 ) -> u8
-    requires { ⌜ (length (now rows) ≡ 768) × (length (now properties) ≡ 96) × DossierReads (dossierOf standard (now s)) (now s) (now rows) d ⌝ }
+    requires { ⌜ (96 * d .count ≤ length (now rows)) × (length (now properties) ≡ 96) × DossierReads (dossierOf standard (now s)) (now s) (now rows) d ⌝ }
     requires { ⌜ (read .ok ≡ true) × TableSays (tableOf (now table)) (now table) (now name) (now properties) read ⌝ }
     ensures { λ r. ⌜ ((ts : Table) → tableOf (now (table .entry)) ≡ some ts → NumberIs (dossierAsked standard ts (now (s .entry))) r) ⌝ }
 {
@@ -74,34 +76,71 @@ fn ask_other(
     ask_dossier(s, d, rows, again, &others)
 }
 
-// Two dossiers together, written at the front of `out`.
-pub fn combine<'a>(table: &[u8], a: &'a [u8], b: &'a [u8], out: &mut [u8]) -> Combined
+// Questions 2 to 8 of two dossiers whose rows are lent, and what they are together, written at the front of `out`.
+fn combine_with<'a>(
+    table: &[u8],
+    a: &'a [u8],
+    left: &mut [usize],
+    b: &'a [u8],
+    right: &mut [usize],
+    out: &mut [u8],
+) -> Combined
+    requires { ⌜ HasRows (now a) (length (now left)) × HasRows (now b) (length (now right)) × (dossierCapacity ≤ length (now out)) ⌝ }
     ensures { λ r. ⌜ combineReplies r (now (out .exit)) ≡ combineCall standard (now (table .entry)) (now (a .entry)) (now (b .entry)) (now (out .entry)) ⌝ }
 {
-    if out.len() < DOSSIER_CAPACITY {
-        return Combined::Refused(1);
-    }
-    let mut left = [0usize; 768];
-    let mut right = [0usize; 768];
-    let d = read_dossier(a, &mut left);
-    let e = read_dossier(b, &mut right);
+    let d = read_dossier(a, left);
+    let e = read_dossier(b, right);
     let name = type_name(a, d);
     let mut properties = [0usize; 96];
     let read = read_table(table, name, &mut properties);
     if !read.ok {
         return Combined::Refused(2);
     }
-    let first = ask_dossier(a, d, &left, read, &properties);
+    let first = ask_dossier(a, d, left, read, &properties);
     if first != 0 {
         return Combined::Refused(first);
     }
-    let second = ask_other(table, name, b, e, &right, read, &properties);
+    let second = ask_other(table, name, b, e, right, read, &properties);
     if second != 0 {
         return Combined::Refused(second);
     }
     let t = read.index;
-    if !dossiers_agree(a, d, &left, b, e, &right, t.count, &properties) {
+    if !dossiers_agree(a, d, left, b, e, right, t.count, &properties) {
         return Combined::Refused(7);
     }
-    combine_read(table, a, d, &left, b, e, &right, t, &properties, out)
+    combine_read(table, a, d, left, b, e, right, t, &properties, out)
+}
+
+// The rows of the right dossier are lent: those of one snapshot, or of as many as there can be, since clearing them all takes longer than reading the count.
+fn combine_left<'a>(
+    table: &[u8],
+    a: &'a [u8],
+    left: &mut [usize],
+    b: &'a [u8],
+    out: &mut [u8],
+) -> Combined
+    requires { ⌜ HasRows (now a) (length (now left)) × (dossierCapacity ≤ length (now out)) ⌝ }
+    ensures { λ r. ⌜ combineReplies r (now (out .exit)) ≡ combineCall standard (now (table .entry)) (now (a .entry)) (now (b .entry)) (now (out .entry)) ⌝ }
+{
+    if snapshot_count(b) <= 1 {
+        let mut one = [0usize; 96];
+        return combine_with(table, a, left, b, &mut one, out);
+    }
+    let mut all = [0usize; 768];
+    combine_with(table, a, left, b, &mut all, out)
+}
+
+// Two dossiers together, written at the front of `out`. The rows of the left one are lent as those of the right one are.
+pub fn combine<'a>(table: &[u8], a: &'a [u8], b: &'a [u8], out: &mut [u8]) -> Combined
+    ensures { λ r. ⌜ combineReplies r (now (out .exit)) ≡ combineCall standard (now (table .entry)) (now (a .entry)) (now (b .entry)) (now (out .entry)) ⌝ }
+{
+    if out.len() < DOSSIER_CAPACITY {
+        return Combined::Refused(1);
+    }
+    if snapshot_count(a) <= 1 {
+        let mut one = [0usize; 96];
+        return combine_left(table, a, &mut one, b, out);
+    }
+    let mut all = [0usize; 768];
+    combine_left(table, a, &mut all, b, out)
 }

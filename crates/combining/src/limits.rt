@@ -148,7 +148,7 @@ pub fn limits_fit(
     properties: &[usize],
 ) -> bool
     requires { ⌜ (d .count ≤ 8) × (e .count ≤ 8) × (t .count ≤ 32) ⌝ }
-    requires { ⌜ (length (now left) ≡ 768) × (length (now right) ≡ 768) × (length (now properties) ≡ 96) ⌝ }
+    requires { ⌜ (96 ≤ length (now left)) × (96 ≤ length (now right)) × (length (now properties) ≡ 96) ⌝ }
     ensures { λ r. ⌜ ((table : List ℕ)
         (h : Combinable table (now (a .entry)) d (now (left .entry)) (now (b .entry)) e (now (right .entry)) t (now (properties .entry)))
         → r ≡ fits standard (typeView (h .known .left .type)) (combined (h .known .left) (h .known .right))) ⌝ }

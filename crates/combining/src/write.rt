@@ -1,4 +1,4 @@
-ghost use Prim.Native.Nat.{ℕ};
+ghost use Prim.Native.Nat.{ℕ, _*_, _≤_};
 ghost use mathlib.Core.Path.{_≡_};
 ghost use mathlib.Core.List.{List, map, flatten};
 ghost use lib.ListN.{length};
@@ -91,7 +91,7 @@ fn write_snapshots<'a>(
     out: &mut [u8],
     at: usize,
 ) -> usize
-    requires { ⌜ (length (now left) ≡ 768) × (length (now right) ≡ 768) × (length (now properties) ≡ 96)
+    requires { ⌜ (96 * d .count ≤ length (now left)) × (96 * e .count ≤ length (now right)) × (length (now properties) ≡ 96)
         × SnapshotsRoom (now a) d (now left) (now b) e (now right) t (now properties) at (length (now out)) ⌝ }
     ensures { λ r. ⌜ ((table : List ℕ)
         (h : Combinable table (now (a .entry)) d (now (left .entry)) (now (b .entry)) e (now (right .entry)) t (now (properties .entry)))
@@ -166,7 +166,7 @@ pub fn write_combined<'a>(
     properties: &[usize],
     out: &mut [u8],
 ) -> usize
-    requires { ⌜ (length (now left) ≡ 768) × (length (now right) ≡ 768) × (length (now properties) ≡ 96)
+    requires { ⌜ (96 * d .count ≤ length (now left)) × (96 * e .count ≤ length (now right)) × (length (now properties) ≡ 96)
         × CombinedRoom (now a) d (now left) (now b) e (now right) t (now properties) (length (now out)) ⌝ }
     ensures { λ r. ⌜ ((table : List ℕ)
         (h : Combinable table (now (a .entry)) d (now (left .entry)) (now (b .entry)) e (now (right .entry)) t (now (properties .entry)))

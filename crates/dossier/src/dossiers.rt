@@ -1,13 +1,14 @@
 ghost use mathlib.Core.Path.{_≡_};
 ghost use mathlib.Core.Bool.{true, false};
-ghost use Prim.Native.Nat.{_≤_};
+ghost use mathlib.Core.Option.{some};
+ghost use Prim.Native.Nat.{_*_, _≤_};
 ghost use lib.ListN.{length, take, drop};
 ghost use Rattle.model.specs.Order.{numbers, rising};
 ghost use Rattle.model.specs.Limits.{standard};
 ghost use Rattle.packed.specs.Parse.{times};
-ghost use Rattle.dossier.specs.DossierLayout.{dossierOf};
+ghost use Rattle.dossier.specs.DossierLayout.{Headed, dossierOf};
 ghost use Rattle.dossier.specs.DossierBody.{readSnapshot};
-ghost use Rattle.dossier.specs.code.DossierIndex.{versionNumbers, SnapshotsSay, DossierReads};
+ghost use Rattle.dossier.specs.code.DossierIndex.{versionNumbers, SnapshotsSay, HasRows, DossierReads};
 use crate::head::DossierHeadRead;
 use crate::head::read_dossier_head;
 use crate::snapshots::SnapshotRead;
@@ -44,7 +45,7 @@ pub struct DossierIndex {
 
 // So many snapshots, from `at` on.
 fn read_snapshots(s: &[u8], at: usize, count: usize, rows: &mut [usize]) -> SnapshotsRead
-    requires { ⌜ (at ≤ length (now s)) × (1 ≤ count) × (count ≤ 8) × (length (now rows) ≡ 768) ⌝ }
+    requires { ⌜ (at ≤ length (now s)) × (1 ≤ count) × (count ≤ 8) × (96 * count ≤ length (now rows)) ⌝ }
     ensures { λ r. ⌜ SnapshotsSay (times readSnapshot count (drop at (now (s .entry)))) (now (s .entry)) (now (rows .exit)) r ⌝ }
 {
     let mut r = SnapshotsRead {
@@ -98,7 +99,7 @@ fn versions_rise(versions: [EventVersion; 8], count: usize) -> bool
 }
 
 fn no_dossier() -> DossierIndex
-    ensures { λ r. ⌜ r .ok ≡ false ⌝ }
+    ensures { λ r. ⌜ (r .ok ≡ false) × (r .count ≡ 0) ⌝ }
 {
     DossierIndex {
         ok: false,
@@ -112,10 +113,24 @@ fn no_dossier() -> DossierIndex
     }
 }
 
+// How many snapshots a dossier has, by its head and its count alone, so that its rows can be lent before it is read; 0 where these cannot be read.
+pub fn snapshot_count(s: &[u8]) -> usize
+    ensures { λ r. ⌜ ((h : Headed) → dossierOf standard (now (s .entry)) ≡ some h → length (h .snapshots) ≡ r) ⌝ }
+{
+    let DossierHeadRead::Head(_, after_head) = read_dossier_head(s) else {
+        return 0;
+    };
+    match read_within(s, after_head, 1, 8) {
+        NumberAt::Number(number, _) => number as usize,
+        NumberAt::NoNumber => 0,
+    }
+}
+
 // The index of a dossier that the bytes are, to their exact end.
 pub fn read_dossier(s: &[u8], rows: &mut [usize]) -> DossierIndex
-    requires { ⌜ length (now rows) ≡ 768 ⌝ }
+    requires { ⌜ HasRows (now s) (length (now rows)) ⌝ }
     ensures { λ r. ⌜ DossierReads (dossierOf standard (now (s .entry))) (now (s .entry)) (now (rows .exit)) r ⌝ }
+    ensures within { λ r. ⌜ 96 * r .count ≤ length (now (rows .entry)) ⌝ }
 {
     let DossierHeadRead::Head(head, after_head) = read_dossier_head(s) else {
         return no_dossier();
@@ -124,6 +139,10 @@ pub fn read_dossier(s: &[u8], rows: &mut [usize]) -> DossierIndex
         return no_dossier();
     };
     let count = number as usize;
+    // the bytes are no dossier then, since a dossier has its rows
+    if rows.len() < 96 * count {
+        return no_dossier();
+    }
     let all = read_snapshots(s, after_count, count, rows);
     if !all.ok {
         return no_dossier();

@@ -1,4 +1,4 @@
-ghost use Prim.Native.Nat.{ℕ, _≤_};
+ghost use Prim.Native.Nat.{ℕ, _*_, _≤_};
 ghost use mathlib.Core.Path.{_≡_};
 ghost use mathlib.Core.Bool.{true, cond, _&&_, _||_};
 ghost use mathlib.Core.Option.{some};
@@ -83,7 +83,7 @@ fn ask_snapshots(
     t: TypeIndex,
     properties: &[usize],
 ) -> u8
-    requires { ⌜ (t .count ≤ 32) × (d .count ≤ 8) × (length (now rows) ≡ 768) × (length (now properties) ≡ 96) ⌝ }
+    requires { ⌜ (t .count ≤ 32) × (d .count ≤ 8) × (96 * d .count ≤ length (now rows)) × (length (now properties) ≡ 96) ⌝ }
     ensures { λ r. ⌜ ((u : List ℕ) (ty : EventType) (h : Headed) → TypeIs u ty t (now (properties .entry)) → KindsAre ty → DossierIs (now (s .entry)) h d
         → RowsAre (now (s .entry)) (h .snapshots) (now (rows .entry))
         → r ≡ shapeNumber (dossierShape standard ty (h .snapshots)) (eachSnapshot (snapshotValues ty) (h .snapshots))) ⌝ }
@@ -138,7 +138,7 @@ pub fn ask_dossier(
     read: TableRead,
     properties: &[usize],
 ) -> u8
-    requires { ⌜ (length (now rows) ≡ 768) × (length (now properties) ≡ 96) ⌝ }
+    requires { ⌜ (96 * d .count ≤ length (now rows)) × (length (now properties) ≡ 96) ⌝ }
     requires { ⌜ DossierReads (dossierOf standard (now s)) (now s) (now rows) d × (read .found ≡ true → read .index .count ≤ 32) ⌝ }
     ensures { λ r. ⌜ ((table : List ℕ) (ts : Table) → tableOf table ≡ some ts
         → ((h : Headed) → DossierIs (now (s .entry)) h d → TypeSays (typeNamed (h .head .type) ts) table (now (properties .entry)) read)
@@ -164,7 +164,7 @@ pub fn dossiers_agree(
     count: usize,
     properties: &[usize],
 ) -> bool
-    requires { ⌜ (count ≤ 32) × (length (now left) ≡ 768) × (length (now right) ≡ 768) × (length (now properties) ≡ 96) ⌝ }
+    requires { ⌜ (count ≤ 32) × (96 ≤ length (now left)) × (96 ≤ length (now right)) × (length (now properties) ≡ 96) ⌝ }
     ensures { λ r. ⌜ ((u : List ℕ) (ty tz : EventType) (h g : Headed) → PropertiesAre u (ty .properties) count (now (properties .entry))
         → DossierIs (now (a .entry)) h d → DossierIs (now (b .entry)) g e
         → RowsAre (now (a .entry)) (h .snapshots) (now (left .entry)) → RowsAre (now (b .entry)) (g .snapshots) (now (right .entry))

@@ -109,12 +109,13 @@ runs-more rows place starts ends j x h e w = record {
 pub cell-run : (s : List ℕ) (vs : List Text) (x : SetAt) → CellStands s vs x → SetRun s (x .start) (x .end) vs
 cell-run s vs x w = record { bytes = w .is .bytes; order = w .is .order; within = w .is .within; rises = w .rises }
 
-pub runs-all : (s : List ℕ) (ss : List Snapshot) (rows : List ℕ) (place : ℕ) (starts ends : List ℕ) (j : ℕ) → place < 32 → CellsStand s ss rows → 8 ≤ j →
+pub runs-all :
+    (s : List ℕ) (ss : List Snapshot) (rows : List ℕ) (place : ℕ) (starts ends : List ℕ) (j : ℕ) → place < 32 → CellsStand s ss rows → length ss ≤ j →
     RunsTo rows place starts ends j → SetRuns s starts ends (length ss) (column ss place)
 runs-all s ss rows place starts ends j p w full r = record {
   long = column-long ss place;
   each = λ i l.
-      let k : i < j = omega (arith, w .few) in
+      let k : i < j = omega (arith, l, full) in
       let vs = held (cellAt (getD ss i noSnapshot) place) in
       rw (column-at ss place i, r .start i k, r .end i k) (cell-run s vs (cellIn rows place i) (w .each place i p l));
 }

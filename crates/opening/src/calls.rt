@@ -1,4 +1,4 @@
-ghost use Prim.Native.Nat.{_≤_};
+ghost use Prim.Native.Nat.{_*_, _≤_};
 ghost use mathlib.Core.Path.{_≡_};
 ghost use lib.ListN.{length};
 ghost use Rattle.model.specs.Limits.{standard};
@@ -9,6 +9,7 @@ ghost use Rattle.replies.specs.Capacities.{dossierCapacity};
 ghost use Rattle.replies.specs.Replies.{openReplies};
 ghost use Rattle.event.specs.Event.{typeView};
 ghost use Rattle.dossier.specs.DossierLayout.{modelOf};
+ghost use Rattle.dossier.specs.code.DossierIndex.{HasRows};
 ghost use Rattle.opening.specs.OpenCall.{openedAnswer, openCall};
 ghost use Rattle.opening.specs.code.OpenIndex.{Openable};
 use crate::conflict::Conflict;
@@ -19,6 +20,7 @@ use crate::merge::plan_sets;
 use crate::write::write_event;
 use dossier::dossiers::DossierIndex;
 use dossier::dossiers::read_dossier;
+use dossier::dossiers::snapshot_count;
 use dossier::questions::ask_dossier;
 use dossier::questions::type_name;
 use ontology::tables::read_table;
@@ -36,7 +38,7 @@ fn open_merged(
     properties: &[usize],
     out: &mut [u8],
 ) -> Opened
-    requires { ⌜ (length (now rows) ≡ 768) × (length (now properties) ≡ 96) × (dossierCapacity ≤ length (now out)) ⌝ }
+    requires { ⌜ (96 * d .count ≤ length (now rows)) × (length (now properties) ≡ 96) × (dossierCapacity ≤ length (now out)) ⌝ }
     requires { ⌜ Openable (now s) d (now rows) t (now properties) ⌝ }
     ensures { λ r. ⌜ ((o : Openable (now (s .entry)) d (now (rows .entry)) t (now (properties .entry)))
         → conflict (upTo 32) (o .headed .snapshots) ≡ noConflict
@@ -59,7 +61,7 @@ fn open_asked(
     properties: &[usize],
     out: &mut [u8],
 ) -> Opened
-    requires { ⌜ (length (now rows) ≡ 768) × (length (now properties) ≡ 96) × (dossierCapacity ≤ length (now out)) ⌝ }
+    requires { ⌜ (96 * d .count ≤ length (now rows)) × (length (now properties) ≡ 96) × (dossierCapacity ≤ length (now out)) ⌝ }
     requires { ⌜ Openable (now s) d (now rows) t (now properties) ⌝ }
     ensures { λ r. ⌜ ((o : Openable (now (s .entry)) d (now (rows .entry)) t (now (properties .entry)))
         → openReplies r (now (out .exit)) ≡ outcome (openedAnswer (o .headed) (opening (typeView (o .type)) (modelOf (o .headed)))) (now (out .entry))) ⌝ }
@@ -70,24 +72,37 @@ fn open_asked(
     }
 }
 
-// The merged event of a dossier, written at the front of `out`.
+// Questions 2 to 6 of a dossier whose rows are lent, and what it opens as.
+fn open_with(table: &[u8], dossier: &[u8], rows: &mut [usize], out: &mut [u8]) -> Opened
+    requires { ⌜ HasRows (now dossier) (length (now rows)) × (dossierCapacity ≤ length (now out)) ⌝ }
+    ensures { λ r. ⌜ openReplies r (now (out .exit)) ≡ openCall standard (now (table .entry)) (now (dossier .entry)) (now (out .entry)) ⌝ }
+{
+    let d = read_dossier(dossier, rows);
+    let mut properties = [0usize; 96];
+    let read = read_table(table, type_name(dossier, d), &mut properties);
+    if !read.ok {
+        return Opened::Refused(2);
+    }
+    let number = ask_dossier(dossier, d, rows, read, &properties);
+    if number != 0 {
+        return Opened::Refused(number);
+    }
+    let t = read.index;
+    open_asked(dossier, d, rows, t, &properties, out)
+}
+
+// The merged event of a dossier, written at the front of `out`. The rows of one snapshot are lent, or of as many as there can be, since clearing them all takes
+// longer than reading the count.
 pub fn open_dossier(table: &[u8], dossier: &[u8], out: &mut [u8]) -> Opened
     ensures { λ r. ⌜ openReplies r (now (out .exit)) ≡ openCall standard (now (table .entry)) (now (dossier .entry)) (now (out .entry)) ⌝ }
 {
     if out.len() < DOSSIER_CAPACITY {
         return Opened::Refused(1);
     }
-    let mut rows = [0usize; 768];
-    let d = read_dossier(dossier, &mut rows);
-    let mut properties = [0usize; 96];
-    let read = read_table(table, type_name(dossier, d), &mut properties);
-    if !read.ok {
-        return Opened::Refused(2);
+    if snapshot_count(dossier) <= 1 {
+        let mut one = [0usize; 96];
+        return open_with(table, dossier, &mut one, out);
     }
-    let number = ask_dossier(dossier, d, &rows, read, &properties);
-    if number != 0 {
-        return Opened::Refused(number);
-    }
-    let t = read.index;
-    open_asked(dossier, d, &rows, t, &properties, out)
+    let mut all = [0usize; 768];
+    open_with(table, dossier, &mut all, out)
 }

@@ -1,4 +1,4 @@
-ghost use Prim.Native.Nat.{ℕ, _+_, _<_};
+ghost use Prim.Native.Nat.{ℕ, _+_, _*_, _<_, _≤_};
 ghost use mathlib.Core.Path.{_≡_};
 ghost use mathlib.Core.List.{List};
 ghost use lib.ListN.{length};
@@ -38,16 +38,16 @@ pub fn put_set(xs: &mut [usize], at: usize, x: SetAt)
 
 // The set of a place in snapshot j: each snapshot has a row of 96 numbers.
 pub fn cell_at(rows: &[usize], place: usize, j: usize) -> SetAt
-    requires { ⌜ (length (now rows) ≡ 768) × (place < 32) × (j < 8) ⌝ }
+    requires { ⌜ (96 * j + 96 ≤ length (now rows)) × (place < 32) ⌝ }
     ensures { λ r. ⌜ r ≡ cellIn (now (rows .entry)) place j ⌝ }
 {
     set_from(rows, 96 * j + 3 * place)
 }
 
-// The runs of a place, one for each snapshot, from its rows.
-pub fn runs_of(rows: &[usize], place: usize) -> Runs
-    requires { ⌜ (length (now rows) ≡ 768) × (place < 32) ⌝ }
-    ensures { λ r. ⌜ ((s : List ℕ) (ss : List Snapshot) → CellsStand s ss (now (rows .entry))
+// The runs of a place, one for each of n snapshots, from their rows.
+pub fn runs_of(rows: &[usize], place: usize, n: usize) -> Runs
+    requires { ⌜ (96 * n ≤ length (now rows)) × (place < 32) × (n ≤ 8) ⌝ }
+    ensures { λ r. ⌜ ((s : List ℕ) (ss : List Snapshot) → CellsStand s ss (now (rows .entry)) → length ss ≡ n
         → SetRuns s (r .starts) (r .ends) (length ss) (column ss place)) ⌝ }
 {
     let mut r = Runs {
@@ -55,7 +55,7 @@ pub fn runs_of(rows: &[usize], place: usize) -> Runs
         ends: [0; 8],
     };
     let mut j: usize = 0;
-    while j < 8 {
+    while j < n {
         let x = cell_at(rows, place, j);
         r.starts[j] = x.start;
         r.ends[j] = x.end;

@@ -1,4 +1,4 @@
-ghost use Prim.Native.Nat.{ℕ, _+_, _<_, _≤_};
+ghost use Prim.Native.Nat.{ℕ, _+_, _*_, _<_, _≤_};
 ghost use mathlib.Core.Path.{_≡_};
 ghost use mathlib.Core.Bool.{true, _&&_};
 ghost use mathlib.Core.List.{List, [], map, flatten};
@@ -52,7 +52,7 @@ fn better(s: &[u8], kind: u8, largest: bool, a: SetAt, b: SetAt) -> SetAt
 
 // The smallest or the largest value of a place in n snapshots.
 fn extreme_of(s: &[u8], rows: &[usize], place: usize, n: usize, kind: u8, largest: bool) -> SetAt
-    requires { ⌜ (length (now rows) ≡ 768) × (place < 32) × (1 ≤ n) × (n ≤ 8) ⌝ }
+    requires { ⌜ (96 * n ≤ length (now rows)) × (place < 32) × (1 ≤ n) × (n ≤ 8) ⌝ }
     ensures { λ r. ⌜ ((ss : List Snapshot) (k : Kind) → CellsStand (now (s .entry)) ss (now (rows .entry)) → length ss ≡ n → Chooses k kind
         → ((j : ℕ) → j < n → Lone k (getD (column ss place) j []))
         → SetIs (now (s .entry)) (smallest (extremeOrder largest k) (flatten (column ss place))) r) ⌝ }
@@ -75,7 +75,7 @@ pub enum PlaceMerged {
 
 // The union of the sets of a place. It stands already where all sets that are not empty are the same.
 fn only_set(s: &[u8], rows: &[usize], place: usize, n: usize) -> PlaceMerged
-    requires { ⌜ (length (now rows) ≡ 768) × (place < 32) × (1 ≤ n) × (n ≤ 8) ⌝ }
+    requires { ⌜ (96 * n ≤ length (now rows)) × (place < 32) × (1 ≤ n) × (n ≤ 8) ⌝ }
     ensures { λ r. ⌜ ((ss : List Snapshot) → CellsStand (now (s .entry)) ss (now (rows .entry)) → length ss ≡ n
         → PlaceIs (now (s .entry)) (canon texts (flatten (column ss place))) (column ss place) r) ⌝ }
 {
@@ -107,7 +107,7 @@ fn merged_at(
     marked: bool,
     rule: PlaceRule,
 ) -> PlaceMerged
-    requires { ⌜ (length (now rows) ≡ 768) × (place < 32) × (1 ≤ n) × (n ≤ 8) ⌝ }
+    requires { ⌜ (96 * n ≤ length (now rows)) × (place < 32) × (1 ≤ n) × (n ≤ 8) ⌝ }
     ensures { λ r. ⌜ ((t : EventType) (d : Dossier) → Mergeable (now (s .entry)) (now (rows .entry)) n t d → RuleIs (getElem? (t .properties) place) rule
         → (marked ≡ true → place + 1 ≡ t .mark) → PlaceIs (now (s .entry)) (mergedAt (typeView t) d place) (column (d .snapshots) place) r) ⌝ }
 {
@@ -148,7 +148,7 @@ pub fn plan_sets(
     properties: &[usize],
     plan: &mut [usize],
 )
-    requires { ⌜ (count ≤ 32) × (1 ≤ n) × (n ≤ 8) × (length (now rows) ≡ 768) × (length (now properties) ≡ 96) × (length (now plan) ≡ 128) ⌝ }
+    requires { ⌜ (count ≤ 32) × (1 ≤ n) × (n ≤ 8) × (96 * n ≤ length (now rows)) × (length (now properties) ≡ 96) × (length (now plan) ≡ 128) ⌝ }
     requires { ⌜ ((i : ℕ) → i < 128 → getD (now plan) i 0 ≡ 0) ⌝ }
     ensures { λ r. ⌜ ((u : List ℕ) (ty : EventType) (d : Dossier) → PropertiesAre u (ty .properties) count (now (properties .entry))
         → mark ≡ ty .mark → Mergeable (now (s .entry)) (now (rows .entry)) n ty d → PlanIs (now (s .entry)) (now (plan .exit)) ty d) ⌝ }

@@ -1,4 +1,4 @@
-ghost use Prim.Native.Nat.{_<_, _≤_};
+ghost use Prim.Native.Nat.{_*_, _<_, _≤_};
 ghost use mathlib.Core.Path.{_≡_};
 ghost use mathlib.Core.List.{flatten};
 ghost use lib.ListN.{length};
@@ -32,11 +32,11 @@ fn write_joined(
     out: &mut [u8],
     at: usize,
 ) -> usize
-    requires { ⌜ (length (now rows) ≡ 768) × (place < 32) × (n ≤ 8) × JoinedRoom (now s) (now rows) place n at (length (now out)) ⌝ }
+    requires { ⌜ (96 * n ≤ length (now rows)) × (place < 32) × (n ≤ 8) × JoinedRoom (now s) (now rows) place n at (length (now out)) ⌝ }
     ensures { λ r. ⌜ ((p : JoinedRoom (now (s .entry)) (now (rows .entry)) place n at (length (now (out .entry))))
         → Wrote (now (out .entry)) at (setBytes (canon texts (flatten (column (p .snapshots) place)))) (now (out .exit)) r) ⌝ }
 {
-    let runs = runs_of(rows, place);
+    let runs = runs_of(rows, place, n);
     let starts = runs.starts;
     let ends = runs.ends;
     let joined = write_merged(s, starts, ends, n, out, at + 1);
@@ -53,7 +53,7 @@ fn write_sets(
     out: &mut [u8],
     at: usize,
 ) -> usize
-    requires { ⌜ (length (now rows) ≡ 768) × (length (now plan) ≡ 128) × (n ≤ 8) × (count ≤ 32) ⌝ }
+    requires { ⌜ (96 * n ≤ length (now rows)) × (length (now plan) ≡ 128) × (n ≤ 8) × (count ≤ 32) ⌝ }
     requires { ⌜ SetsRoom (now s) (now rows) n count (now plan) at (length (now out)) ⌝ }
     ensures { λ r. ⌜ ((p : SetsRoom (now (s .entry)) (now (rows .entry)) n count (now (plan .entry)) at (length (now (out .entry))))
         → Wrote (now (out .entry)) at (setsBytes (mergedSets (typeView (p .type)) (p .dossier))) (now (out .exit)) r) ⌝ }
@@ -80,7 +80,8 @@ pub fn write_event(
     plan: &[usize],
     out: &mut [u8],
 ) -> usize
-    requires { ⌜ (length (now rows) ≡ 768) × (length (now plan) ≡ 128) × (count ≤ 32) × Writable (now s) d (now rows) count (now plan) (length (now out)) ⌝ }
+    requires { ⌜ (96 * d .count ≤ length (now rows)) × (length (now plan) ≡ 128) × (count ≤ 32)
+        × Writable (now s) d (now rows) count (now plan) (length (now out)) ⌝ }
     ensures { λ r. ⌜ ((w : Writable (now (s .entry)) d (now (rows .entry)) count (now (plan .entry)) (length (now (out .entry))))
         → Wrote (now (out .entry)) 0 (eventBytes (mergedEvent (w .headed) (mergedSets (typeView (w .type)) (modelOf (w .headed))))) (now (out .exit)) r) ⌝ }
 {

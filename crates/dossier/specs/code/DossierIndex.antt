@@ -8,6 +8,7 @@ use lib.ListN.{length, take, drop, getD}
 use lib.Bits.{bitAnd, bitOr}
 use lib.Dec.{leb, eqb}
 use Rattle.model.specs.Rule.{Cell, Snapshot, sizes}
+use Rattle.model.specs.Limits.{standard}
 use Rattle.model.specs.Opening.{held, isMark, cellAt}
 use Rattle.packed.specs.Parse.{Parse, fail, got, Layout, _>>=_, foundIf}
 use Rattle.packed.specs.Packed.{part}
@@ -24,7 +25,7 @@ use Rattle.event.specs.declared.head.HeadAt.{HeadAt}
 use Rattle.dossier.specs.declared.head.DossierHeadRead.{DossierHeadRead}
 use Rattle.dossier.specs.declared.head.DossierHeadRead.the-variants as read
 use Rattle.dossier.specs.DossierHead.{dossierHeadBytes}
-use Rattle.dossier.specs.DossierLayout.{Headed}
+use Rattle.dossier.specs.DossierLayout.{Headed, dossierOf}
 use Rattle.dossier.specs.DossierBody.{apart, cellsOf, areSmall, readSnapshot, differBit, snapshotBytes}
 use Rattle.dossier.specs.DossierQuestions.{eachCell, isVacant, isPresent, isLoneIfSingle, isLoneIfExtreme, isUnmarkedMatch, holdsVersion, TypedDossier}
 use Rattle.dossier.specs.declared.shape.ShapeMasks.{ShapeMasks}
@@ -148,6 +149,10 @@ pub record DossierIs (s : List ℕ) (h : Headed) (i : DossierIndex) : Type 0 whe
   pub snapshots : SnapshotsAre s (h .snapshots) (i .starts) (i .ends) (i .versions)
   pub differs : take (length (h .snapshots)) (i .differs) ≡ map (λ (x : Snapshot). bitNumber (map differBit (x .cells))) (h .snapshots)
   pub objects : take (length (h .snapshots)) (i .objects) ≡ map (λ (x : Snapshot). sizes (x .cells)) (h .snapshots)
+
+-- in n numbers there is a row for each snapshot of the dossier that the bytes are, where they are one
+pub record HasRows (s : List ℕ) (n : ℕ) : Type 0 where
+  pub enough : (h : Headed) → dossierOf standard s ≡ some h → 96 * length (h .snapshots) ≤ n
 
 -- what the reader of a dossier answers, and leaves in the rows
 unfoldable pub DossierReads : Option Headed → List ℕ → List ℕ → DossierIndex → Type 0

@@ -2,6 +2,7 @@ use borrow.Author.Needs.{needs}
 use borrow.Author.Tests.{not-true, not-false}
 use mathlib.Core.Path.{sym, _∙_}
 use Prim.Native.Nat.{_≤_}
+use native.Mathlib.Omega.{arith}
 use lib.ListN.{length}
 use denote.Ref.{now}
 use Rattle.replies.specs.Capacities.{dossierCapacity}
@@ -23,6 +24,13 @@ module _ (c : tie.After-slice-known) where
       Combinable (now (a .table)) (now (a .a)) (a .d) (now (a .left)) (now (a .b)) (a .e) (now (a .right)) (a .t) (now (a .properties))
   both = to-start c .pre .1
 
+  -- a dossier has a snapshot, so its first row is there
+  left-first : 96 ≤ length (now (to-start c .args .left))
+  left-first = omega (arith, both .left-read .one, to-start c .pre .0 .0)
+
+  right-first : 96 ≤ length (now (to-start c .args .right))
+  right-first = omega (arith, both .right-read .one, to-start c .pre .0 .1)
+
   room : dossierCapacity ≤ length (now (to-start c .args .out))
   room = to-start c .pre .0 .3
 
@@ -30,8 +38,8 @@ module _ (c : tie.After-slice-known) where
 
 limits-fit-requires : tie.Need-limits-fit-requires
 limits-fit-requires c κs =
-    let long = to-start c .pre .0 in
-    ((both c .left-read .few, both c .right-read .few, both c .known .typed .are .few), (long .0, long .1, long .2))
+    let few = both c .known .typed .are .few in
+    ((both c .left-read .few, both c .right-read .few, few), (left-first c, right-first c, to-start c .pre .0 .2))
 
 returns : tie.Need-returns
 returns c =

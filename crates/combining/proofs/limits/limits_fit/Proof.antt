@@ -1,6 +1,6 @@
 use borrow.Author.Needs.{needs}
 use borrow.Author.Tests.{not-true, not-false}
-use Prim.Native.Nat.{ℕ}
+use Prim.Native.Nat.{ℕ, _≤_}
 use native.Mathlib.Omega.{arith}
 use mathlib.Core.Path.{_≡_, _∙_}
 use mathlib.Core.Bool.{true}
@@ -82,8 +82,8 @@ right-first : (c : tie.Start) {table : List ℕ} (h : Asked c table) →
 right-first c h = snapshot-stands _ (h .known .right .headed) _ (h .right-read) _ (h .right-rows) 0 (omega (arith, h .right-read .one))
 
 -- the first row is a whole one
-row-long : (rows : List ℕ) → length rows ≡ 768 → length (rowOf rows 0) ≡ 96
-row-long rows h = length-take-le 96 rows (omega (arith, h))
+row-long : (rows : List ℕ) → 96 ≤ length rows → length (rowOf rows 0) ≡ 96
+row-long rows h = length-take-le 96 rows h
 
 -- ---- the needs
 

@@ -1,6 +1,6 @@
 use mathlib.Core.Path.{_≡_, refl, _∙_}
 use mathlib.Core.List.{List, map, flatten}
-use Prim.Native.Nat.{ℕ, _+_, _-_, _≤_, _<_}
+use Prim.Native.Nat.{ℕ, _+_, _-_, _*_, _≤_, _<_}
 use lib.ListN.{length, getD}
 use denote.Ref.{now}
 use Rattle.packed.specs.code.Written.{ToGo}
@@ -78,12 +78,19 @@ module _ (c : tie.Else1 Inv-loop μ-loop) where
       let l = at-loop .loop in
       next-room (both at-loop) (l .i) (l .j) (l .inv .3 _ (both at-loop)) (to-start at-loop .pre .3 .room) left-in right-in
 
-  -- a dossier has 8 snapshots at most, so the rows of these two are there
+  -- a dossier has 8 snapshots at most
   left-low : c .before .before .loop .i < 8
   left-low = omega (arith, both (c .before .before) .left-read .few, left-in)
 
   right-low : c .before .before .loop .j < 8
   right-low = omega (arith, both (c .before .before) .right-read .few, right-in)
+
+  -- the rows of these two are there
+  left-inside : 96 * c .before .before .loop .i + 96 ≤ length (now (to-start (c .before .before) .args .left))
+  left-inside = omega (arith, to-start (c .before .before) .pre .0, left-in)
+
+  right-inside : 96 * c .before .before .loop .j + 96 ≤ length (now (to-start (c .before .before) .args .right))
+  right-inside = omega (arith, to-start (c .before .before) .pre .1, right-in)
 
 -- ---- the parts that are lent are the bytes of the two snapshots
 
@@ -229,7 +236,7 @@ part-write-shared-start : tie.Need-part-write-shared-start Inv-loop μ-loop
 part-write-shared-start c = search needs
 
 part-write-shared-end : tie.Need-part-write-shared-end Inv-loop μ-loop
-part-write-shared-end c = omega (arith, left-low (of-one c), to-start (of-one c .before .before) .pre .0)
+part-write-shared-end c = left-inside (of-one c)
 
 mul-write-shared-4 : tie.Need-mul-write-shared-4 Inv-loop μ-loop
 mul-write-shared-4 c = search needs
@@ -256,9 +263,7 @@ part-write-shared-start-2 : tie.Need-part-write-shared-start-2 Inv-loop μ-loop
 part-write-shared-start-2 c = search needs
 
 part-write-shared-end-2 : tie.Need-part-write-shared-end-2 Inv-loop μ-loop
-part-write-shared-end-2 c =
-    let turn = of-one (c .before .before) in
-    omega (arith, right-low turn, to-start (turn .before .before) .pre .1)
+part-write-shared-end-2 c = right-inside (of-one (c .before .before))
 
 mul-write-shared-8 : tie.Need-mul-write-shared-8 Inv-loop μ-loop
 mul-write-shared-8 c = search needs
@@ -302,8 +307,8 @@ write-shared-requires c κs =
     let turn = of-one one in
     let l = turn .before .before .loop in
     let p = to-start (turn .before .before) .pre in (
-      row-long _ _ (p .0) (left-low turn),
-      row-long _ _ (p .1) (right-low turn),
+      row-long _ _ (left-inside turn),
+      row-long _ _ (right-inside turn),
       p .2,
       shared-room (p .3 .both) (l .i) (l .j) (left-in turn) (right-in turn) _ _ (room turn) (one .before .before .before .if2 .left) (one .if3 .left)
           (left-part (c .before) (p .3 .both)) (right-part (c .before) (p .3 .both)),

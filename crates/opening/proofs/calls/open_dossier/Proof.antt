@@ -1,170 +1,73 @@
 use borrow.Author.Needs.{needs}
-use mathlib.Core.Path.{refl, _∙_}
-use mathlib.Core.List.{List}
-use Prim.Native.Nat.{ℕ, _≤_}
-use native.Mathlib.Omega.{arith}
-use denote.Ref.{now}
+use Prim.Native.Nat.{_≤_}
 use lib.ListN.{length}
-use borrow.Author.Tests.{not-true, not-false}
-use Rattle.model.specs.Limits.{standard}
+use denote.Ref.{now}
 use Rattle.replies.specs.Capacities.{dossierCapacity}
-use Rattle.ontology.proofs.TypeIndexLaws.{TableGot, table-refused, table-got}
-use Rattle.dossier.specs.DossierQuestions.{dossierAsked}
-use Rattle.dossier.specs.code.DossierIndex.{DossierAnswers}
-use Rattle.dossier.proofs.AcceptedLaws.{asked-refused}
-use Rattle.opening.proofs.OpenLaws.{found-low, type-says, open-small, open-table, open-refused, open-done, Accepted, asked-open}
+use Rattle.dossier.proofs.RowLaws.{one-row, all-rows}
+use Rattle.opening.proofs.OpenLaws.{open-small}
 use Rattle.opening.proofs.calls.open_dossier.Statement.{statement}
 use Rattle.opening.proofs.calls.open_dossier.Tie as tie
 
 -- ---- the places
 
-abbrev to-start : tie.After-read-dossier → tie.Start
-to-start c = c .before .before .before .before .before .before
+abbrev to-if1 : tie.After-snapshot-count → tie.Else1
+to-if1 c = c .before
 
-abbrev to-read : tie.After-read-table → tie.After-read-dossier
-to-read c = c .before .before .before .before
-
-abbrev to-table : tie.Else2 → tie.After-read-table
-to-table c = c .before .before .before
-
-abbrev to-taken : tie.After-ask-dossier → tie.Else2
-to-taken c = c .before .before .before
-
-abbrev to-asked : tie.After-t → tie.After-ask-dossier
-to-asked c = c .before .before
-
-abbrev to-type : tie.After-open-asked-arg → tie.After-t
-to-type c = c .before .before .before
-
--- ---- the values
-
-module _ (c : tie.After-read-dossier) where
-  abbrev table : List ℕ
-  table = now (to-start c .args .table)
-
-  abbrev dossier : List ℕ
-  dossier = now (to-start c .args .dossier)
-
-  abbrev rows : List ℕ
-  rows = c .read-dossier .last .1 .0
-
-module _ (c : tie.After-read-table) where
-  abbrev name : List ℕ
-  name = now (c .before .before .type-name .result)
-
-  abbrev properties : List ℕ
-  properties = c .read-table .last .1 .1 .0
+abbrev to-start : tie.Else1 → tie.Start
+to-start c = c .before .before .before .before
 
 -- ---- the facts
 
-room : (c : tie.After-read-dossier) → dossierCapacity ≤ length (now (to-start c .args .out))
-room c = omega (arith, c .before .before .if1 .left)
-
--- the table was read
-got :
-    (c : tie.Else2) → let at-table = to-table c in
-    TableGot (table (to-read at-table)) (name at-table) (properties at-table) (at-table .read-table .result)
-got c = table-got _ _ _ _ (to-table c .read-table .ensures) (not-false _ (c .if2 .left))
-
--- what the questions come to
-answered :
-    (c : tie.After-ask-dossier) → let taken = to-taken c in let at-table = to-table taken in let read = to-read at-table in
-    DossierAnswers (dossierAsked standard (got taken .what) (dossier read)) (table read)
-    (at-table .read-table .result .index) (properties at-table) (c .ask-dossier .result)
-answered c =
-    let taken = to-taken c in
-    let named = to-table taken .before .before in
-    c .ask-dossier .ensures _ _ (got taken .is) (λ h w. type-says _ _ _ _ (got taken) (named .type-name .ensures h w))
-
--- the dossier is accepted
-accepted :
-    (c : tie.After-t) → let at-table = to-table (to-taken (to-asked c)) in let read = to-read at-table in
-    Accepted (table read) (dossier read) (read .read-dossier .result) (rows read) (at-table .read-table .result .index) (properties at-table)
-accepted c =
-    let asked = to-asked c in
-    let taken = to-taken asked in
-    asked-open _ _ _ _ _ (to-read (to-table taken) .read-dossier .ensures) _ _ _ (answered asked) (got taken .is) (c .before .if3 .left)
+room : (c : tie.Else1) → dossierCapacity ≤ length (now (to-start c .args .out))
+room c = c .if1 .left
 
 -- ---- the needs
 
 returns : tie.Need-returns
 returns c = open-small _ _ _ (c .if1 .taken)
 
-slice-aggregate-read-dossier : tie.Need-slice-aggregate-read-dossier
-slice-aggregate-read-dossier c = search needs
+snapshot-count-requires : tie.Need-snapshot-count-requires
+snapshot-count-requires c κs = search needs
 
-read-dossier-requires : tie.Need-read-dossier-requires
-read-dossier-requires c κs = refl
+slice-aggregate-open-with : tie.Need-slice-aggregate-open-with
+slice-aggregate-open-with c = search needs
 
-type-name-requires : tie.Need-type-name-requires
-type-name-requires c κs = search needs
-
-slice-aggregate-read-table : tie.Need-slice-aggregate-read-table
-slice-aggregate-read-table c = search needs
-
-read-table-requires : tie.Need-read-table-requires
-read-table-requires c κs = search needs
-
-returns-2 : tie.Need-returns-2
-returns-2 c =
-    let at-table = c .before .before .before in
-    open-table _ _ _ (room (to-read at-table)) (table-refused _ _ _ _ (at-table .read-table .ensures) (not-true _ (c .if2 .taken)))
-
-slice-aggregate-ask-dossier : tie.Need-slice-aggregate-ask-dossier
-slice-aggregate-ask-dossier c = search needs
-
-slice-aggregate-ask-dossier-2 : tie.Need-slice-aggregate-ask-dossier-2
-slice-aggregate-ask-dossier-2 c = search needs
-
-ask-dossier-requires : tie.Need-ask-dossier-requires
-ask-dossier-requires c κs =
-    let taken = c .before .before in
-    ((search needs, search needs), (to-read (to-table taken) .read-dossier .ensures, found-low _ _ _ _ (got taken)))
-
-returns-3 : tie.Need-returns-3
-returns-3 c =
-    let asked = c .before in
-    let taken = to-taken asked in
-    open-refused _ _ _ (room (to-read (to-table taken))) _ _ (got taken .is) (asked-refused _ _ _ _ _ _ (answered asked) (c .if3 .taken))
-
-slice-aggregate-open-asked : tie.Need-slice-aggregate-open-asked
-slice-aggregate-open-asked c = search needs
-
-slice-aggregate-open-asked-2 : tie.Need-slice-aggregate-open-asked-2
-slice-aggregate-open-asked-2 c = search needs
-
-open-asked-requires : tie.Need-open-asked-requires
-open-asked-requires c κs =
-    let at-type = to-type c in
-    ((search needs, search needs, room (to-read (to-table (to-taken (to-asked at-type))))), accepted at-type .openable)
+open-with-requires : tie.Need-open-with-requires
+open-with-requires c κs =
+    let few = c .before .before in
+    (one-row _ _ (few .before .snapshot-count .ensures) (few .if2 .taken), room (to-if1 (few .before)))
 
 same-length : tie.Need-same-length
 same-length c = search needs
 
-returns-4 : tie.Need-returns-4
-returns-4 c =
-    let opened = c .before .before in
-    let at-type = to-type (opened .before) in
-    let a = accepted at-type in
-    opened .open-asked .ensures (a .openable) ∙ open-done _ _ _ (room (to-read (to-table (to-taken (to-asked at-type))))) _ _ _ _ a
+returns-2 : tie.Need-returns-2
+returns-2 c = search needs
+
+slice-aggregate-open-with-2 : tie.Need-slice-aggregate-open-with-2
+slice-aggregate-open-with-2 c = search needs
+
+open-with-requires-2 : tie.Need-open-with-requires-2
+open-with-requires-2 c κs =
+    let several = c .before .before in
+    (all-rows _, room (to-if1 (several .before)))
+
+same-length-2 : tie.Need-same-length-2
+same-length-2 c = search needs
+
+returns-3 : tie.Need-returns-3
+returns-3 c = search needs
 
 pub open-dossier-spec : {M : Type 1} → statement M
 open-dossier-spec =
     tie.close
     (tie.spec
     returns
-    slice-aggregate-read-dossier
-    read-dossier-requires
-    type-name-requires
-    slice-aggregate-read-table
-    read-table-requires
-    returns-2
-    slice-aggregate-ask-dossier
-    slice-aggregate-ask-dossier-2
-    ask-dossier-requires
-    returns-3
-    slice-aggregate-open-asked
-    slice-aggregate-open-asked-2
-    open-asked-requires
+    snapshot-count-requires
+    slice-aggregate-open-with
+    open-with-requires
     same-length
-    returns-4)
+    returns-2
+    slice-aggregate-open-with-2
+    open-with-requires-2
+    same-length-2
+    returns-3)

@@ -1,15 +1,24 @@
 use borrow.Author.Needs.{needs}
 use mathlib.Core.Path.{refl}
-use Prim.Native.Nat.{_-_}
+use Prim.Native.Nat.{_-_, _<_}
+use native.Mathlib.Omega.{arith}
 use Rattle.opening.proofs.StandLaws.{RunsTo, runs-none, runs-more, runs-all}
 use Rattle.opening.proofs.cells.runs_of.Statement.{statement}
 use Rattle.opening.proofs.cells.runs_of.Tie as tie
 
 abbrev Inv-loop : tie.InvT-loop
-Inv-loop rows place r₀ j₀ r j = RunsTo rows place (r .starts) (r .ends) j
+Inv-loop rows place n r₀ j₀ r j = RunsTo rows place (r .starts) (r .ends) j
 
 abbrev μ-loop : tie.MeasureT-loop
-μ-loop rows place r₀ j₀ r j = 8 - j
+μ-loop rows place n r₀ j₀ r j = n - j
+
+-- ---- the facts
+
+-- a snapshot is one of eight
+turn-low : (c : tie.In-loop Inv-loop μ-loop) → c .before .loop .j < 8
+turn-low c = omega (arith, c .loop-test .taken, c .before .before .before .pre .2)
+
+-- ---- the needs
 
 loop-holds : tie.Need-loop-holds Inv-loop μ-loop
 loop-holds c = runs-none _ _ _ _ refl refl
@@ -38,12 +47,12 @@ loop-less c = search needs
 loop-again : tie.Need-loop-again Inv-loop μ-loop
 loop-again c =
     let at-loop = c .before .before in
-    runs-more _ _ _ _ _ _ (c .before .loop-test .taken) (c .cell-at .ensures) (at-loop .loop .inv)
+    runs-more _ _ _ _ _ _ (turn-low (c .before)) (c .cell-at .ensures) (at-loop .loop .inv)
 
 returns : tie.Need-returns Inv-loop μ-loop
 returns c =
     let start = c .before .before .before in
-    λ s ss w. runs-all s ss _ _ _ _ _ (start .pre .1) w (c .loop-test .left) (c .before .loop .inv)
+    λ s ss w e. runs-all s ss _ _ _ _ _ (start .pre .1) w (omega (arith, c .loop-test .left, e)) (c .before .loop .inv)
 
 pub runs-of-spec : {M : Type 1} → statement M
 runs-of-spec =

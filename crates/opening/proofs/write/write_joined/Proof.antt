@@ -41,7 +41,7 @@ module _ (c : tie.After-runs-of) (p : Room (runs-to-start c)) where
   runs :
       let a = runs-to-start c .args in
       SetRuns (now (a .s)) (c .runs-of .result .starts) (c .runs-of .result .ends) (length (p .snapshots)) (column (p .snapshots) (a .place))
-  runs = c .runs-of .ensures _ _ (p .stand)
+  runs = c .runs-of .ensures _ _ (p .stand) (p .count)
 
 -- the values are written, and counted
 module _ (c : tie.After-write-merged) (p : Room (to-start c)) where
