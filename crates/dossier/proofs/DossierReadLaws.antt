@@ -2,7 +2,7 @@
 use mathlib.Core.Path.{_≡_, refl, sym, ap, ap₂, _∙_, subst, subst₂}
 use mathlib.Core.Logic.{⊎-elim}
 use mathlib.Core.Bool.{Bool, true, false}
-use mathlib.Core.Option.{Option, none, some}
+use mathlib.Core.Option.{Option, none}
 use mathlib.Core.List.{List, [], _∷_, _++_, append-nil, map, map-id}
 use Prim.Native.Nat.{ℕ, zero, suc, _+_, _-_, _*_, _≤_, _<_}
 use native.Mathlib.Omega.{arith}
@@ -20,7 +20,7 @@ use Rattle.model.specs.Limits.{standard}
 use Rattle.model.proofs.PartLaws.{map-append}
 use Rattle.packed.specs.Parse.{Parse, fail, got, Layout, andThen, _>>=_, foundIf, suchThat, times, whole, found}
 use Rattle.packed.specs.Packed.{readNumber, isWithin}
-use Rattle.packed.proofs.LayoutLaws.{lt-or-ge, andThen-got, foundIf-got, whole-some, times-was}
+use Rattle.packed.proofs.LayoutLaws.{lt-or-ge, times-was}
 use Rattle.packed.proofs.ReadLaws.{drop-next}
 use Rattle.packed.specs.code.Located.{Got}
 use Rattle.packed.proofs.FieldLaws.{got-bounds}
@@ -436,20 +436,6 @@ module _ (s : List ℕ) (x : HeadAt) (end : ℕ) (w : DossierHeadStops (readDoss
 
     none-there : times readSnapshot n (drop at s) ≡ fail → dossierOf standard s ≡ none
     none-there e = no-dossier s (times-all ∙ rw e)
-
-    -- a dossier has as many snapshots as its count says
-    pub as-counted : (h : Headed) → dossierOf standard s ≡ some h → length (h .snapshots) ≡ n
-    unfolding dossierOf
-    as-counted h e =
-        let all : readDossier standard s ≡ got h [] = whole-some (readDossier standard s) h .0 e in
-        let body = andThen-got (andThen (times readSnapshot n (drop at s)) risen) (under (w .what)) h [] (sym times-all ∙ all) in
-        let snapshots = andThen-got (times readSnapshot n (drop at s)) risen (body .value) (body .left) (body .first) in
-        let up = rising numbers (map (λ (s : Snapshot). s .version) (snapshots .value)) in
-        let kept = foundIf-got up (snapshots .value) (snapshots .left) (body .value) (body .left) (snapshots .second) in
-        let is : (record { head = w .what; snapshots = body .value }) ≡ h = cc (body .second) in
-        ap (λ (h : Headed). length (h .snapshots)) (sym is)
-        ∙ ap length (sym (kept .value))
-        ∙ as-many n (drop at s) (snapshots .value) (snapshots .left) (snapshots .first)
 
     module _ (rows : List ℕ) (r : SnapshotsRead) (v : SnapshotsSay (times readSnapshot n (drop at s)) s rows r) where
       pub no-snapshots : r .ok ≡ false → dossierOf standard s ≡ none

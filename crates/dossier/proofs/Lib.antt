@@ -5,6 +5,7 @@ pub mod DossierLayoutLaws
 pub mod DossierSizeLaws
 pub mod SnapshotLaws
 pub mod DossierReadLaws
+pub mod HeadEndLaws
 pub mod RowLaws
 pub mod CellLaws
 pub mod MaskLaws

@@ -1,24 +1,76 @@
--- The laws of how many rows a dossier has.
-use mathlib.Core.Path.{_≡_, refl, sym, _∙_}
+-- The laws of how many snapshots, and so how many rows, a dossier has.
+use mathlib.Core.Path.{_≡_, refl, sym, ap, _∙_}
 use mathlib.Core.Option.{Option, none, some}
-use mathlib.Core.List.{List}
+use mathlib.Core.List.{List, [], map}
 use Prim.Native.Nat.{ℕ, _*_, _≤_, _<_}
 use native.Mathlib.Omega.{arith}
-use lib.ListN.{length}
+use lib.ListN.{length, drop}
+use Rattle.model.specs.Order.{numbers, rising}
+use Rattle.model.specs.Rule.{Snapshot}
 use Rattle.model.specs.Limits.{standard}
 use Rattle.model.proofs.Cases.{never}
-use Rattle.dossier.specs.DossierLayout.{Headed, dossierOf}
-use Rattle.dossier.specs.code.DossierIndex.{HasRows}
+use Rattle.packed.specs.Parse.{fail, got, suchThat, times}
+use Rattle.packed.specs.Packed.{readNumber, isWithin}
+use Rattle.packed.specs.code.Located.{Got}
+use Rattle.packed.proofs.LayoutLaws.{fail-got, andThen-got, foundIf-got, whole-some, times-was}
+use Rattle.event.specs.Head.{Head}
+use Rattle.dossier.specs.DossierHead.{readDossierHead}
+use Rattle.dossier.specs.DossierBody.{readSnapshot, readBody, snapshotBytes}
+use Rattle.dossier.specs.DossierLayout.{Headed, readDossier, dossierOf}
+use Rattle.dossier.specs.code.DossierIndex.{HeadEnds, HasRows}
+use Rattle.dossier.proofs.DossierBodyLaws.{SnapshotWritten, snapshot-was}
 use Rattle.dossier.proofs.DossierLayoutLaws.{dossier-was}
+
+-- ---- the count of a dossier
+
+-- the number of snapshots follows the head
+record CountStands (s : List ℕ) (n : ℕ) : Type 0 where
+  head : Head
+  after-head : List ℕ
+  headed : readDossierHead standard s ≡ got head after-head
+  after-count : List ℕ
+  counted : suchThat (isWithin 1 8) readNumber after-head ≡ got n after-count
+
+count-stands : (s : List ℕ) (h : Headed) → dossierOf standard s ≡ some h → CountStands s (length (h .snapshots))
+unfolding dossierOf readDossier readBody standard
+count-stands s h e =
+    let all : readDossier standard s ≡ got h [] = whole-some (readDossier standard s) h .0 e in
+    let head = andThen-got (readDossierHead standard s) _ h [] all in
+    let body = andThen-got (readBody standard (head .left)) _ h [] (head .second) in
+    let count = andThen-got (suchThat (isWithin 1 8) readNumber (head .left)) _ (body .value) (body .left) (body .first) in
+    let snapshots = andThen-got (times readSnapshot (count .value) (count .left)) _ (body .value) (body .left) (count .second) in
+    let up = rising numbers (map (λ (s : Snapshot). s .version) (snapshots .value)) in
+    let kept = foundIf-got up (snapshots .value) (snapshots .left) (body .value) (body .left) (snapshots .second) in
+    let was =
+    times-was readSnapshot snapshotBytes SnapshotWritten snapshot-was (count .value) (count .left) (snapshots .value) (snapshots .left) (snapshots .first) in
+    let is : (record { head = head .value; snapshots = body .value }) ≡ h = cc (body .second) in
+    let many : count .value ≡ length (h .snapshots) =
+    sym (was .1) ∙ ap length (kept .value) ∙ ap (λ (h : Headed). length (h .snapshots)) is in
+    record {
+      head = head .value;
+      after-head = head .left;
+      headed = head .first;
+      after-count = count .left;
+      counted = count .first ∙ ap (λ (n : ℕ). got n (count .left)) many;
+    }
 
 module _ (s : List ℕ) where
   -- where the bytes are a dossier, it has n snapshots
   abbrev pub Counted : ℕ → Type 0
   Counted n = (h : Headed) → dossierOf standard s ≡ some h → length (h .snapshots) ≡ n
 
-  -- of what is no dossier any count can be said
-  pub counted-none : (n : ℕ) → dossierOf standard s ≡ none → Counted n
-  counted-none n e h g = let no : none ≡ some h = sym e ∙ g in never (cc no)
+  -- its count is read where its head ends
+  module _ (end : ℕ) (w : HeadEnds s end) where
+    count-there : {n : ℕ} (c : CountStands s n) → suchThat (isWithin 1 8) readNumber (drop end s) ≡ got n (c .after-count)
+    count-there c = ap (suchThat (isWithin 1 8) readNumber) (sym (w .rest (c .head) (c .after-head) (c .headed))) ∙ c .counted
+
+    pub as-counted : (n at : ℕ) → Got (suchThat (isWithin 1 8) readNumber (drop end s)) s end n at → Counted n
+    as-counted n at c h e = let both = sym (count-there (count-stands s h e)) ∙ c .is in cc both
+
+    pub counted-none : (n : ℕ) → suchThat (isWithin 1 8) readNumber (drop end s) ≡ fail → Counted n
+    counted-none n bad h e = fail-got (sym bad ∙ count-there (count-stands s h e))
+
+  -- ---- its rows
 
   -- the rows of one snapshot are enough for a dossier that has no more
   pub one-row : (n : ℕ) → Counted n → n ≤ 1 → HasRows s 96

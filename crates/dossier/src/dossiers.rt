@@ -10,6 +10,7 @@ ghost use Rattle.dossier.specs.DossierLayout.{Headed, dossierOf};
 ghost use Rattle.dossier.specs.DossierBody.{readSnapshot};
 ghost use Rattle.dossier.specs.code.DossierIndex.{versionNumbers, SnapshotsSay, HasRows, DossierReads};
 use crate::head::DossierHeadRead;
+use crate::head::dossier_head_end;
 use crate::head::read_dossier_head;
 use crate::snapshots::SnapshotRead;
 use crate::snapshots::read_snapshot;
@@ -113,14 +114,11 @@ fn no_dossier() -> DossierIndex
     }
 }
 
-// How many snapshots a dossier has, by its head and its count alone, so that its rows can be lent before it is read; 0 where these cannot be read.
+// How many snapshots a dossier has, so that its rows can be lent before it is read; some number where the bytes are no dossier, and 0 where none stands there.
 pub fn snapshot_count(s: &[u8]) -> usize
     ensures { λ r. ⌜ ((h : Headed) → dossierOf standard (now (s .entry)) ≡ some h → length (h .snapshots) ≡ r) ⌝ }
 {
-    let DossierHeadRead::Head(_, after_head) = read_dossier_head(s) else {
-        return 0;
-    };
-    match read_within(s, after_head, 1, 8) {
+    match read_within(s, dossier_head_end(s), 1, 8) {
         NumberAt::Number(number, _) => number as usize,
         NumberAt::NoNumber => 0,
     }
@@ -139,7 +137,7 @@ pub fn read_dossier(s: &[u8], rows: &mut [usize]) -> DossierIndex
         return no_dossier();
     };
     let count = number as usize;
-    // the bytes are no dossier then, since a dossier has its rows
+    // a dossier has its rows, so that the bytes are none here
     if rows.len() < 96 * count {
         return no_dossier();
     }

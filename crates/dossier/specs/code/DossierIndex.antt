@@ -24,7 +24,7 @@ use Rattle.event.specs.Head.{Head}
 use Rattle.event.specs.declared.head.HeadAt.{HeadAt}
 use Rattle.dossier.specs.declared.head.DossierHeadRead.{DossierHeadRead}
 use Rattle.dossier.specs.declared.head.DossierHeadRead.the-variants as read
-use Rattle.dossier.specs.DossierHead.{dossierHeadBytes}
+use Rattle.dossier.specs.DossierHead.{readDossierHead, dossierHeadBytes}
 use Rattle.dossier.specs.DossierLayout.{Headed, dossierOf}
 use Rattle.dossier.specs.DossierBody.{apart, cellsOf, areSmall, readSnapshot, differBit, snapshotBytes}
 use Rattle.dossier.specs.DossierQuestions.{eachCell, isVacant, isPresent, isLoneIfSingle, isLoneIfExtreme, isUnmarkedMatch, holdsVersion, TypedDossier}
@@ -131,6 +131,10 @@ pub record DossierHeadStops (p : Parse Head) (s : List ℕ) (x : HeadAt) (end : 
 abbrev pub DossierHeadReads : Parse Head → List ℕ → DossierHeadRead → Type 0
 DossierHeadReads p s (read.Head x end) = DossierHeadStops p s x end
 DossierHeadReads p s read.NoHead = p ≡ fail
+
+-- where the bytes begin with a head, it ends at `end`
+pub record HeadEnds (s : List ℕ) (end : ℕ) : Type 0 where
+  pub rest : (h : Head) (t : List ℕ) → readDossierHead standard s ≡ got h t → t ≡ drop end s
 
 -- the head of these parts has its room in an output of `size` bytes
 pub record DossierHeadRoom (name source hashes : List ℕ) (size : ℕ) : Type 0 where

@@ -18,8 +18,9 @@ use Rattle.dossier.specs.DossierBody.{readSnapshot}
 use Rattle.dossier.specs.code.DossierIndex.{DossierHeadStops, SnapshotsSay, DossierReads}
 use Rattle.dossier.specs.declared.dossiers.DossierIndex.{DossierIndex}
 use Rattle.dossier.proofs.DossierReadLaws.{head-reads, head-refused, dossier-none, no-head, no-count}
-use Rattle.dossier.proofs.DossierReadLaws.{as-counted, no-snapshots, not-whole, not-rising, dossier-found}
-use Rattle.dossier.proofs.RowLaws.{no-rows}
+use Rattle.dossier.proofs.DossierReadLaws.{no-snapshots, not-whole, not-rising, dossier-found}
+use Rattle.dossier.proofs.HeadEndLaws.{ends-read}
+use Rattle.dossier.proofs.RowLaws.{as-counted, no-rows}
 use Rattle.dossier.proofs.dossiers.read_dossier.Statement.{statement}
 use Rattle.dossier.proofs.dossiers.read_dossier.Tie as tie
 
@@ -132,7 +133,7 @@ no-dossier-requires-3 c κs = search needs
 returns-3 : tie.Need-returns-3
 returns-3 c =
     let at-count = c .before .before in
-    let counted = as-counted _ _ _ (head (to-head at-count)) _ _ (count at-count) in
+    let counted = as-counted _ _ (ends-read _ _ _ (head (to-head at-count))) _ _ (count at-count) in
     refused _ _ _ _ (no-rows _ _ _ (to-start (to-head at-count) .pre) counted (c .before .if1 .taken)) (c .no-dossier3 .ensures)
 
 read-snapshots-requires : tie.Need-read-snapshots-requires
