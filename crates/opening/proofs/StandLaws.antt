@@ -76,48 +76,60 @@ set-kept l l′ at h = rw (h at (omega arith) (omega arith), h (at + 1) (omega a
 
 -- ---- the runs of a place
 
--- the first j runs are those of the cells
-pub record RunsTo (rows : List ℕ) (place : ℕ) (starts ends : List ℕ) (j : ℕ) : Type 0 where
+-- the first j runs are those of the cells of n snapshots
+pub record RunsTo (rows : List ℕ) (place n : ℕ) (starts ends : List ℕ) (j : ℕ) : Type 0 where
   pub starts-long : length starts ≡ 8
   pub ends-long : length ends ≡ 8
-  pub start : (i : ℕ) → i < j → getD starts i 0 ≡ cellIn rows place i .start
-  pub end : (i : ℕ) → i < j → getD ends i 0 ≡ cellIn rows place i .end
+  pub start : (i : ℕ) → i < j → i < n → getD starts i 0 ≡ cellIn rows place i .start
+  pub end : (i : ℕ) → i < j → i < n → getD ends i 0 ≡ cellIn rows place i .end
 
-pub runs-none : (rows : List ℕ) (place : ℕ) (starts ends : List ℕ) → length starts ≡ 8 → length ends ≡ 8 → RunsTo rows place starts ends 0
-runs-none rows place starts ends a b = record { starts-long = a; ends-long = b; start = λ i h. absurd (omega arith); end = λ i h. absurd (omega arith) }
+pub runs-none : (rows : List ℕ) (place n : ℕ) (starts ends : List ℕ) → length starts ≡ 8 → length ends ≡ 8 → RunsTo rows place n starts ends 0
+runs-none rows place n starts ends a b =
+    record { starts-long = a; ends-long = b; start = λ i h k. absurd (omega arith); end = λ i h k. absurd (omega arith) }
 
-put-more : (f : ℕ → ℕ) (l : List ℕ) (j x : ℕ) → j < length l → x ≡ f j → ((i : ℕ) → i < j → getD l i 0 ≡ f i) → (i : ℕ) → i < j + 1 → getD (set l j x) i 0 ≡ f i
-put-more f l j x h e old =
-    below-more (λ (i : ℕ). getD (set l j x) i 0 ≡ f i) j
-    (λ i k. let ne : i ≡ j → ⊥ = λ e. omega arith in getD-set-other l j i x 0 ne ∙ old i k)
-    (getD-set-same l j x 0 h ∙ e)
+put-more :
+    (f : ℕ → ℕ) (l : List ℕ) (j n x : ℕ) → j < length l → x ≡ f j → ((i : ℕ) → i < j → i < n → getD l i 0 ≡ f i) →
+    (i : ℕ) → i < j + 1 → i < n → getD (set l j x) i 0 ≡ f i
+put-more f l j n x h e old =
+    below-more (λ (i : ℕ). i < n → getD (set l j x) i 0 ≡ f i) j
+    (λ i k m. let ne : i ≡ j → ⊥ = λ e. omega arith in getD-set-other l j i x 0 ne ∙ old i k m)
+    (λ m. getD-set-same l j x 0 h ∙ e)
 
-pub runs-more :
-    (rows : List ℕ) (place : ℕ) (starts ends : List ℕ) (j : ℕ) (x : SetAt) → j < 8 → x ≡ cellIn rows place j →
-    RunsTo rows place starts ends j → RunsTo rows place (set starts j (x .start)) (set ends j (x .end)) (j + 1)
-runs-more rows place starts ends j x h e w = record {
-  starts-long = length-set starts j (x .start) ∙ w .starts-long;
-  ends-long = length-set ends j (x .end) ∙ w .ends-long;
-  start =
-      put-more (λ (i : ℕ). cellIn rows place i .start) starts j (x .start) (omega (arith, w .starts-long))
-      (ap (λ (y : SetAt). y .start) e) (w .start);
-  end =
-      put-more (λ (i : ℕ). cellIn rows place i .end) ends j (x .end) (omega (arith, w .ends-long))
-      (ap (λ (y : SetAt). y .end) e) (w .end);
-}
+module _ (rows : List ℕ) (place n : ℕ) (starts ends : List ℕ) (j : ℕ) (w : RunsTo rows place n starts ends j) where
+  pub runs-more : (x : SetAt) → j < 8 → x ≡ cellIn rows place j → RunsTo rows place n (set starts j (x .start)) (set ends j (x .end)) (j + 1)
+  runs-more x h e = record {
+    starts-long = length-set starts j (x .start) ∙ w .starts-long;
+    ends-long = length-set ends j (x .end) ∙ w .ends-long;
+    start =
+        put-more (λ (i : ℕ). cellIn rows place i .start) starts j n (x .start) (omega (arith, w .starts-long))
+        (ap (λ (y : SetAt). y .start) e) (w .start);
+    end =
+        put-more (λ (i : ℕ). cellIn rows place i .end) ends j n (x .end) (omega (arith, w .ends-long))
+        (ap (λ (y : SetAt). y .end) e) (w .end);
+  }
+
+  -- past the last snapshot nothing is put
+  pub runs-past : n ≤ j → RunsTo rows place n starts ends (j + 1)
+  runs-past h = record {
+    starts-long = w .starts-long;
+    ends-long = w .ends-long;
+    start = λ i k l. w .start i (omega arith) l;
+    end = λ i k l. w .end i (omega arith) l;
+  }
 
 pub cell-run : (s : List ℕ) (vs : List Text) (x : SetAt) → CellStands s vs x → SetRun s (x .start) (x .end) vs
 cell-run s vs x w = record { bytes = w .is .bytes; order = w .is .order; within = w .is .within; rises = w .rises }
 
 pub runs-all :
-    (s : List ℕ) (ss : List Snapshot) (rows : List ℕ) (place : ℕ) (starts ends : List ℕ) (j : ℕ) → place < 32 → CellsStand s ss rows → length ss ≤ j →
-    RunsTo rows place starts ends j → SetRuns s starts ends (length ss) (column ss place)
-runs-all s ss rows place starts ends j p w full r = record {
+    (s : List ℕ) (ss : List Snapshot) (rows : List ℕ) (place n : ℕ) (starts ends : List ℕ) (j : ℕ) → place < 32 → CellsStand s ss rows → length ss ≡ n → 8 ≤ j →
+    RunsTo rows place n starts ends j → SetRuns s starts ends (length ss) (column ss place)
+runs-all s ss rows place n starts ends j p w e full r = record {
   long = column-long ss place;
   each = λ i l.
-      let k : i < j = omega (arith, l, full) in
+      let k : i < j = omega (arith, w .few) in
+      let m : i < n = omega (arith, e) in
       let vs = held (cellAt (getD ss i noSnapshot) place) in
-      rw (column-at ss place i, r .start i k, r .end i k) (cell-run s vs (cellIn rows place i) (w .each place i p l));
+      rw (column-at ss place i, r .start i k m, r .end i k m) (cell-run s vs (cellIn rows place i) (w .each place i p l));
 }
 
 -- ---- the cells of all snapshots

@@ -46,7 +46,7 @@ pub fn cell_at(rows: &[usize], place: usize, j: usize) -> SetAt
 
 // The runs of a place, one for each of n snapshots, from their rows.
 pub fn runs_of(rows: &[usize], place: usize, n: usize) -> Runs
-    requires { ⌜ (96 * n ≤ length (now rows)) × (place < 32) × (n ≤ 8) ⌝ }
+    requires { ⌜ (96 * n ≤ length (now rows)) × (place < 32) ⌝ }
     ensures { λ r. ⌜ ((s : List ℕ) (ss : List Snapshot) → CellsStand s ss (now (rows .entry)) → length ss ≡ n
         → SetRuns s (r .starts) (r .ends) (length ss) (column ss place)) ⌝ }
 {
@@ -55,10 +55,13 @@ pub fn runs_of(rows: &[usize], place: usize, n: usize) -> Runs
         ends: [0; 8],
     };
     let mut j: usize = 0;
-    while j < n {
-        let x = cell_at(rows, place, j);
-        r.starts[j] = x.start;
-        r.ends[j] = x.end;
+    // eight turns whatever n is: a loop of so many is unrolled, and one of n turns is slower
+    while j < 8 {
+        if j < n {
+            let x = cell_at(rows, place, j);
+            r.starts[j] = x.start;
+            r.ends[j] = x.end;
+        }
         j += 1;
     }
     r

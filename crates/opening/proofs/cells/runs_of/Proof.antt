@@ -1,27 +1,35 @@
 use borrow.Author.Needs.{needs}
-use mathlib.Core.Path.{refl}
-use Prim.Native.Nat.{_-_, _<_}
-use native.Mathlib.Omega.{arith}
-use Rattle.opening.proofs.StandLaws.{RunsTo, runs-none, runs-more, runs-all}
+use mathlib.Core.Path.{refl, sym, subst}
+use mathlib.Core.Logic.{⊎-elim}
+use Prim.Native.Nat.{_+_, _-_}
+use Rattle.opening.specs.declared.cells.Runs.{Runs}
+use Rattle.opening.proofs.StandLaws.{RunsTo, runs-none, runs-more, runs-past, runs-all}
 use Rattle.opening.proofs.cells.runs_of.Statement.{statement}
 use Rattle.opening.proofs.cells.runs_of.Tie as tie
 
 abbrev Inv-loop : tie.InvT-loop
-Inv-loop rows place n r₀ j₀ r j = RunsTo rows place (r .starts) (r .ends) j
+Inv-loop rows place n r₀ j₀ r j = RunsTo rows place n (r .starts) (r .ends) j
 
 abbrev μ-loop : tie.MeasureT-loop
-μ-loop rows place n r₀ j₀ r j = n - j
+μ-loop rows place n r₀ j₀ r j = 8 - j
+
+-- ---- the places
+
+abbrev to-start : tie.At-loop Inv-loop μ-loop → tie.Start Inv-loop μ-loop
+to-start c = c .before .before
 
 -- ---- the facts
 
--- a snapshot is one of eight
-turn-low : (c : tie.In-loop Inv-loop μ-loop) → c .before .loop .j < 8
-turn-low c = omega (arith, c .loop-test .taken, c .before .before .before .pre .2)
+-- the runs that a turn leaves
+abbrev After : tie.In-loop Inv-loop μ-loop → Runs → Type 0
+After c r =
+    let a = to-start (c .before) .args in
+    RunsTo (a .rows .now) (a .place) (a .n) (r .starts) (r .ends) (c .before .loop .j + 1)
 
 -- ---- the needs
 
 loop-holds : tie.Need-loop-holds Inv-loop μ-loop
-loop-holds c = runs-none _ _ _ _ refl refl
+loop-holds c = runs-none _ _ _ _ _ refl refl
 
 cell-at-requires : tie.Need-cell-at-requires Inv-loop μ-loop
 cell-at-requires c κs = search needs
@@ -46,13 +54,16 @@ loop-less c = search needs
 
 loop-again : tie.Need-loop-again Inv-loop μ-loop
 loop-again c =
-    let at-loop = c .before .before in
-    runs-more _ _ _ _ _ _ (turn-low (c .before)) (c .cell-at .ensures) (at-loop .loop .inv)
+    let turn = c .before in
+    let l = turn .before .loop in
+    ⊎-elim
+    (λ x. subst (After turn) (sym (x .2)) (runs-more _ _ _ _ _ _ (l .inv) _ (turn .loop-test .taken) (x .1 .ensures)))
+    (λ y. subst (After turn) (sym (y .1)) (runs-past _ _ _ _ _ _ (l .inv) (y .0 .left)))
+    (c .if1 .came)
 
 returns : tie.Need-returns Inv-loop μ-loop
 returns c =
-    let start = c .before .before .before in
-    λ s ss w e. runs-all s ss _ _ _ _ _ (start .pre .1) w (omega (arith, c .loop-test .left, e)) (c .before .loop .inv)
+    λ s ss w e. runs-all s ss _ _ _ _ _ _ (to-start (c .before) .pre .1) w e (c .loop-test .left) (c .before .loop .inv)
 
 pub runs-of-spec : {M : Type 1} → statement M
 runs-of-spec =
