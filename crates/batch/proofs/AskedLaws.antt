@@ -9,21 +9,20 @@ use native.Mathlib.Numerals.{add-one}
 use lib.ListN.{length, drop, getD}
 use lib.Seq.{drop-cons}
 use borrow.Author.Tests.{ne-eqb}
-use Rattle.model.specs.Order.{Text, texts, sets, lists, equal}
+use Rattle.model.specs.Order.{texts, sets, lists, equal}
 use Rattle.model.proofs.OrderLaws.{equal-true}
-use Rattle.model.proofs.Cases.{never, and-parts}
+use Rattle.model.proofs.Cases.{and-parts}
 use Rattle.replies.specs.Questions as questions
 use Rattle.replies.specs.Questions.{Asked, ask, ensure}
 use Rattle.ontology.specs.Table.{EventType, Table, typeNamed}
 use Rattle.ontology.specs.TableLayout.{tableOf}
-use Rattle.ontology.specs.code.TypeIndex.{TypeIs, TypeSays, TableSays}
+use Rattle.ontology.specs.code.TypeIndex.{TypeIs}
 use Rattle.ontology.specs.declared.types.TypeIndex.{TypeIndex}
-use Rattle.ontology.specs.declared.tables.TableRead.{TableRead}
 use Rattle.event.specs.Event.{Event}
-use Rattle.event.specs.EventLayout.{narrow, eventOf}
+use Rattle.event.specs.EventLayout.{narrow}
 use Rattle.event.specs.EventQuestions.{Typed, eventAsked}
-use Rattle.event.specs.code.EventIndex.{EventIs, eventQuestions, EventAnswers}
-use Rattle.event.specs.declared.ask.EventAsked.{EventAsked}
+use Rattle.event.specs.code.EventIndex.{EventIs, eventQuestions, asked, EventAnswers}
+use Rattle.event.specs.declared.read.EventIndex.{EventIndex}
 use Rattle.event.proofs.EventQuestionLaws.{event-accepted}
 use Rattle.event.specs.Agreement.{matchSets, agree}
 use Rattle.batch.specs.Batch.{AskedAt, refusedAt, accepted, _>>=_, _>>_, at, eventsAsked, eventsAgree, agreeWith}
@@ -67,27 +66,11 @@ module _ (table : List ℕ) (ts : Table) (isTable : tableOf table ≡ some ts) w
       ∙ (ap (eventQuestions narrow table) (sym e) ∙ h)
 
 pub answers-accepted :
-    (table event ats : List ℕ) (r : EventAsked) (a : Typed) → OneAnswers table event ats r → eventQuestions narrow table event ≡ questions.accepted a →
-    EventIs event (a .event) (r .event) ats
+    (table event ats : List ℕ) (n : ℕ) (x : EventIndex) (a : Typed) → OneAnswers table event ats n x → eventQuestions narrow table event ≡ questions.accepted a →
+    EventIs event (a .event) x ats
 unfolding EventAnswers
-answers-accepted table event ats r a w e = subst (λ (q : Asked Typed). EventAnswers q table event (w .numbers) ats r) e (w .answers) .2
-
--- where the table was read for the name of an accepted event's type, that type was read
-module _ (table : List ℕ) (name : Text) (ps : List ℕ) (read : TableRead) (says : TableSays (tableOf table) table name ps read) (event : List ℕ) where
-  pub read-typed :
-      ((e : Event) → eventOf narrow event ≡ some e → name ≡ e .head .type) →
-      (a : Typed) → eventQuestions narrow table event ≡ questions.accepted a → TypeIs table (a .type) (read .index) ps
-  unfolding TableSays TypeSays
-  read-typed names a e = go (tableOf table) says e
-    where
-      go :
-          (m : Option Table) → TableSays m table name ps read → questions._>>=_ (ask 2 m) (λ ts. eventAsked narrow ts event) ≡ questions.accepted a →
-          TypeIs table (a .type) (read .index) ps
-      go none s e = never (cc)
-      go (some ts) s e =
-          let w = event-accepted narrow ts event (a .type) (a .event) e in
-          let found = ap (λ (n : Text). typeNamed n ts) (names (a .event) (w .read)) ∙ w .typed in
-          subst (λ (o : Option EventType). TypeSays o table ps read) found (s .1) .1
+answers-accepted table event ats n x a w e =
+    subst (λ (q : Asked Typed). EventAnswers q table event (w .numbers) ats (asked n (w .type) x)) e (w .answers) .2
 
 some-same : {A : Type 0} {a b : A} → some a ≡ some b → a ≡ b
 some-same e = cc

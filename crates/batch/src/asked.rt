@@ -7,18 +7,19 @@ ghost use Rattle.ontology.specs.Table.{EventType, Table};
 ghost use Rattle.ontology.specs.TableLayout.{tableOf};
 ghost use Rattle.ontology.specs.code.TypeIndex.{PropertiesAre, TableSays};
 ghost use Rattle.event.specs.Event.{Event};
-ghost use Rattle.event.specs.code.EventIndex.{EventIs};
+ghost use Rattle.event.specs.EventLayout.{narrow, eventOf};
+ghost use Rattle.event.specs.code.EventIndex.{EventIs, EventReads};
 ghost use Rattle.batch.specs.Batch.{eventsAgree};
 ghost use Rattle.batch.specs.code.BatchIndex.{BatchIs, eventsTogether, FirstNamed, OneAnswers, RefusalIs, firstApart};
 use crate::frame::BatchIndex;
 use crate::frame::event_part;
 use event::agree::is_match_same;
-use event::ask::EventAsked;
-use event::ask::EventCounts;
-use event::ask::ask_typed;
+use event::ask::ask_event;
 use event::ask::type_name;
 use event::head::heads_agree;
+use event::read::EventCounts;
 use event::read::EventIndex;
+use event::read::read_event;
 use ontology::tables::TableRead;
 use ontology::tables::read_table;
 use packed::order::same;
@@ -72,25 +73,27 @@ fn first_apart(apart: usize, agrees: bool, position: usize) -> usize
     apart
 }
 
-// The questions of an event. The table was read for a name, and is read again only where the event's type has another one.
+// The questions of an event, whose index is e. The table was read for a name, and is read again only where the event's type has another one.
 fn ask_one(
     table: &[u8],
     name: &[u8],
     read: TableRead,
     properties: &[usize],
     event: &[u8],
-    sets: &mut [usize],
-) -> EventAsked
+    e: EventIndex,
+    sets: &[usize],
+) -> u8
     requires { ⌜ TableSays (tableOf (now table)) (now table) (now name) (now properties) read × (length (now properties) ≡ 96) × (length (now sets) ≡ 96) ⌝ }
-    ensures { λ r. ⌜ OneAnswers (now (table .entry)) (now (event .entry)) (now (sets .exit)) r ⌝ }
+    requires { ⌜ EventReads (eventOf narrow (now event)) (now event) (now sets) e ⌝ }
+    ensures { λ r. ⌜ OneAnswers (now (table .entry)) (now (event .entry)) (now (sets .entry)) r e ⌝ }
 {
     let other = type_name(event);
     if same(name, other) {
-        return ask_typed(event, read, properties, EventCounts::Narrow, sets);
+        return ask_event(event, e, sets, read, properties);
     }
     let mut others = [0usize; 96];
     let again = read_table(table, other, &mut others);
-    ask_typed(event, again, &others, EventCounts::Narrow, sets)
+    ask_event(event, e, sets, again, &others)
 }
 
 // Questions 3 to 6 of each event in turn, then 7 of each against the first. Each event is read once, and the table was read for the name of the first one's type.
@@ -109,21 +112,21 @@ pub fn ask_events(
     let head = event_part(batch, x, 0);
     let mut left = [0usize; 96];
     let mut right = [0usize; 96];
-    let first = ask_one(table, name, read, properties, head, &mut left);
-    if first.number != 0 {
-        return answer(first.number, 0);
+    let d = read_event(head, EventCounts::Narrow, &mut left);
+    let first = ask_one(table, name, read, properties, head, d, &left);
+    if first != 0 {
+        return answer(first, 0);
     }
     let t = read.index;
-    let d = first.event;
     let mut apart: usize = 0;
     let mut i: usize = 1;
     while i < x.count {
         let event = event_part(batch, x, i);
-        let asked = ask_one(table, name, read, properties, event, &mut right);
-        if asked.number != 0 {
-            return answer(asked.number, i);
+        let e = read_event(event, EventCounts::Narrow, &mut right);
+        let asked = ask_one(table, name, read, properties, event, e, &right);
+        if asked != 0 {
+            return answer(asked, i);
         }
-        let e = asked.event;
         apart = first_apart(
             apart,
             events_agree(head, d, &left, event, e, &right, t.count, properties),

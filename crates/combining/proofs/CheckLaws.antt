@@ -30,9 +30,8 @@ use Rattle.ontology.proofs.TableLaws.{TypeKept, table-type, place-in}
 use Rattle.event.specs.Event.{Event, setAt, typeView, eventView, view, versionOf, objectCount}
 use Rattle.event.specs.EventLayout.{narrow, wide, eventOf, presenceBit, bitNumber, setsBytes}
 use Rattle.event.specs.EventQuestions.{Typed, eventAsked}
-use Rattle.event.specs.code.EventIndex.{eventQuestions, EventIs, EventReads, counts}
+use Rattle.event.specs.code.EventIndex.{eventQuestions, EventIs, EventReads, EventAsked}
 use Rattle.event.specs.declared.read.EventIndex.{EventIndex}
-use Rattle.event.specs.declared.ask.EventAsked.{EventAsked}
 use Rattle.event.proofs.EventLayoutLaws.{EventWritten, written-larger, presence-below}
 use Rattle.event.proofs.EventSizeLaws.{sets-size, each-within, event-short}
 use Rattle.event.proofs.EventQuestionLaws.{EventAccepted, event-accepted, EventFits, event-fits, set-rises, least-few, version-set, version-below}
@@ -119,15 +118,15 @@ pub record Checked (table event : List ℕ) (t : TypeIndex) (x : EventIndex) (at
 
 -- so where it was asked
 abbrev pub asked-checked :
-    {table event ps ats : List ℕ} {r : EventAsked} → Accepted narrow table event ps ats r → Checked table event (r .«event_type») (r .event) ats
+    {table event ps ats : List ℕ} {r : EventAsked} → Accepted narrow table event ps ats r → Checked table event (r .type) (r .event) ats
 asked-checked a = record { type = a .type; e = a .e; is = a .is; mark = a .type-is .mark; read = a .event-is }
 
 -- and where it is known to be accepted, once it is read
 module _
     {table event : List ℕ} {t : TypeIndex} (k : KnownEvent table event t)
-    {ats : List ℕ} {x : EventIndex} (w : EventReads (eventOf (counts 8 32) event) event ats x) where
+    {ats : List ℕ} {x : EventIndex} (w : EventReads (eventOf narrow event) event ats x) where
   pub known-read : (x .ok ≡ true) × EventIs event (k .event .event) x ats
-  unfolding EventReads narrow
+  unfolding EventReads
   known-read =
       let a = event-accepted narrow (k .types) event (k .event .type) (k .event .event) (k .asked) in
       subst (λ (o : Option Event). EventReads o event ats x) (a .read) w

@@ -39,6 +39,7 @@ use dossier::head::read_dossier_head;
 use dossier::snapshots::SnapshotRead;
 use dossier::snapshots::read_snapshot;
 use event::head::HeadAt;
+use event::read::EventCounts;
 use event::read::EventIndex;
 use event::read::read_event;
 use ontology::types::TypeIndex;
@@ -346,7 +347,7 @@ pub fn add_event<'a>(
         (n : ℕ) → r ≡ Done n → Measured (combined (h .both .left) (h .both .right) .snapshots) (now (measures .exit))) ⌝ }
 {
     let mut sets = [0usize; 96];
-    let e = read_event(event, 8, 32, &mut sets);
+    let e = read_event(event, EventCounts::Narrow, &mut sets);
     let version = version_of(event, t, &sets);
     let DossierHeadRead::Head(x, after_head) = read_dossier_head(sofar) else {
         return Reply::Refused(3);

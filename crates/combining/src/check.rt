@@ -12,16 +12,18 @@ ghost use Rattle.combining.specs.code.CheckIndex.{Checkable, KnownEvent,
 use crate::measures::Measure;
 use crate::measures::measure_one;
 use dossier::head::write_dossier_head;
-use event::ask::EventCounts;
 use event::ask::ask_event;
+use event::ask::type_name;
 use event::head::hashes_part;
 use event::head::text_part;
+use event::read::EventCounts;
 use event::read::EventIndex;
 use event::read::read_event;
 use event::sets::set_at;
 use event::sets::set_part;
 use event::sets::value_in;
 use event::write::write_sets;
+use ontology::tables::read_table;
 use ontology::types::TypeIndex;
 use packed::write::write_number;
 use replies::capacities::DOSSIER_CAPACITY;
@@ -100,18 +102,14 @@ pub fn check_event(table: &[u8], event: &[u8], out: &mut [u8]) -> Reply
     }
     let mut properties = [0usize; 96];
     let mut sets = [0usize; 96];
-    let asked = ask_event(
-        table,
-        event,
-        EventCounts::Narrow,
-        &mut properties,
-        &mut sets,
-    );
-    if asked.number != 0 {
-        return Reply::Refused(asked.number);
+    let read = read_table(table, type_name(event), &mut properties);
+    let e = read_event(event, EventCounts::Narrow, &mut sets);
+    let number = ask_event(event, e, &sets, read, &properties);
+    if number != 0 {
+        return Reply::Refused(number);
     }
-    let version = version_of(event, asked.event_type, &sets);
-    let lone = write_lone(event, asked.event, &sets, version, out);
+    let version = version_of(event, read.index, &sets);
+    let lone = write_lone(event, e, &sets, version, out);
     Reply::Done(lone.end)
 }
 
@@ -129,9 +127,9 @@ pub fn check_known(
         → Measured (eventDossier (k .event) .snapshots) (now (measures .exit))) ⌝ }
 {
     let mut sets = [0usize; 96];
-    let e = read_event(event, 8, 32, &mut sets);
+    let known = read_event(event, EventCounts::Narrow, &mut sets);
     let version = version_of(event, t, &sets);
-    let lone = write_lone(event, e, &sets, version, out);
+    let lone = write_lone(event, known, &sets, version, out);
     let size = lone.end - lone.start;
     measure_one(measures, Measure { version, size });
     Reply::Done(lone.end)

@@ -1,5 +1,5 @@
 -- The laws of asking questions 2 to 6, and of the value call's answer.
-use mathlib.Core.Path.{_≡_, refl, sym, ap, ap₂, _∙_, subst}
+use mathlib.Core.Path.{_≡_, refl, sym, ap, _∙_, subst}
 use mathlib.Core.Bool.{Bool, true, false}
 use mathlib.Core.Option.{Option, none, some}
 use mathlib.Core.List.{List, [], _++_, append-assoc, map}
@@ -7,6 +7,7 @@ use Prim.Native.Nat.{ℕ, _<_}
 use native.Mathlib.Omega.{arith}
 use lib.ListN.{getElem?}
 use Rattle.model.specs.Order.{Text}
+use Rattle.model.proofs.Cases.{never}
 use Rattle.packed.specs.Parse.{fail, got, _>>=_}
 use Rattle.packed.specs.Packed.{number, text, readText, part}
 use Rattle.packed.proofs.LayoutLaws.{fail-got, text-read}
@@ -23,9 +24,9 @@ use Rattle.event.specs.EventLayout.{Counts, wide, eventOf, setsBytes, pr
 use Rattle.event.specs.Head.{parentsBytes, headBytes}
 use Rattle.event.specs.EventQuestions.{eventShape, valuesFit, Typed, eventAsked}
 use Rattle.event.specs.Value.{Part, partOf, askedPart, valueCall}
-use Rattle.event.specs.code.EventIndex.{EventIs, ValueStands, ValueFound, EventReads, counts, KindsAre, eventQuestions, EventAnswers}
+use Rattle.event.specs.code.EventIndex.{EventIs, ValueStands, ValueFound, EventReads, KindsAre, eventQuestions, EventAsked, EventAnswers}
 use Rattle.event.proofs.EventLayoutLaws.{event-was}
-use Rattle.event.specs.declared.ask.EventAsked.{EventAsked}
+use Rattle.event.proofs.EventQuestionLaws.{EventAccepted, event-accepted}
 use Rattle.event.specs.declared.lookup.ValueAt.{ValueAt}
 use Rattle.event.specs.declared.lookup.ValueAt.the-variants.{Value, NoValue}
 use Rattle.event.specs.declared.read.EventIndex.{EventIndex}
@@ -56,11 +57,6 @@ pub name-part : (counts : Counts) (s : List ℕ) (e : Event) (a z : ℕ) → eve
 name-part counts s e a z h t = let g = sym (t .is) ∙ name-there counts s e h .1 in cc
 
 -- ---- what asking answers
-
-pub with-counts :
-    (k : Counts) (event ats : List ℕ) (x : EventIndex) (parents objects : ℕ) → parents ≡ k .parents → objects ≡ k .objects →
-    EventReads (eventOf (counts parents objects) event) event ats x → EventReads (eventOf k event) event ats x
-with-counts k event ats x parents objects p o w = subst (λ (c : Counts). EventReads (eventOf c event) event ats x) (ap₂ counts p o) w
 
 -- the questions after 3, of a type and an event
 abbrev typed : EventType → Event → Asked Typed
@@ -141,7 +137,7 @@ module _ (table : List ℕ) (ts : Table) (event ps ats : List ℕ) (counts : Cou
 
   pub all-met :
       true ≡ eventShape (m .type) (m .e) → true ≡ valuesFit (m .type) (m .e .sets) → r .number ≡ 0 →
-      TypeIs table (m .type) (r .«event_type») ps → EventIs event (m .e) (r .event) ats →
+      TypeIs table (m .type) (r .type) ps → EventIs event (m .e) (r .event) ats →
       EventAnswers (eventAsked counts ts event) table event ps ats r
   unfolding EventAnswers
   all-met h k n u v = rw (m .is, ← h, ← k) (n, u, v)
@@ -174,7 +170,7 @@ pub record Accepted (counts : Counts) (table event ps ats : List ℕ) (r : Event
   pub type : EventType
   pub e : Event
   pub is : eventQuestions counts table event ≡ accepted (record { type = type; event = e })
-  pub type-is : TypeIs table type (r .«event_type») ps
+  pub type-is : TypeIs table type (r .type) ps
   pub event-is : EventIs event e (r .event) ats
 
 -- no question has the number 0
@@ -225,6 +221,37 @@ refused-is counts table event ps ats r w h = go (eventQuestions counts table eve
         eventQuestions counts table event ≡ refused (r .number)
     go (refused n) e w = e ∙ ap refused (sym w)
     go (accepted a) e w = absurd (h (w .0))
+
+-- an accepted event, and the table, were read without being asked
+module _ (counts : Counts) (table event : List ℕ) (a : Typed) (taken : eventQuestions counts table event ≡ accepted a) where
+  record Tabled : Type 0 where
+    types : Table
+    is : tableOf table ≡ some types
+    asked : eventAsked counts types event ≡ accepted a
+
+  tabled : Tabled
+  tabled = go (tableOf table) refl taken
+    where
+      go : (m : Option Table) → tableOf table ≡ m → questions._>>=_ (ask 2 m) (λ ts. eventAsked counts ts event) ≡ accepted a → Tabled
+      go none e h = never (cc)
+      go (some ts) e h = record { types = ts; is = e; asked = h }
+
+  stood : EventAccepted counts (tabled .types) event (a .type) (a .event)
+  stood = event-accepted counts (tabled .types) event (a .type) (a .event) (tabled .asked)
+
+  -- where the table was read for the name of its type, that type was read
+  pub read-typed :
+      (name : Text) (ps : List ℕ) (t : TableRead) → TableSays (tableOf table) table name ps t →
+      ((e : Event) → eventOf counts event ≡ some e → name ≡ e .head .type) → TypeIs table (a .type) (t .index) ps
+  unfolding TableSays TypeSays
+  read-typed name ps t says names =
+      let found = ap (λ (n : Text). typeNamed n (tabled .types)) (names (a .event) (stood .read)) ∙ stood .typed in
+      let s = subst (λ (o : Option Table). TableSays o table name ps t) (tabled .is) says in
+      subst (λ (o : Option EventType). TypeSays o table ps t) found (s .1) .1
+
+  pub read-accepted : (ats : List ℕ) (x : EventIndex) → EventReads (eventOf counts event) event ats x → EventIs event (a .event) x ats
+  unfolding EventReads
+  read-accepted ats x w = subst (λ (o : Option Event). EventReads o event ats x) (stood .read) w .1
 
 -- ---- the value call
 

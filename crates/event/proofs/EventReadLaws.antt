@@ -1,5 +1,5 @@
 -- The laws of reading a whole event: its head, its presence number and its sets.
-use mathlib.Core.Path.{_≡_, refl, sym, ap, _∙_}
+use mathlib.Core.Path.{_≡_, refl, sym, ap, ap₂, _∙_, subst}
 use mathlib.Core.Bool.{Bool, true, false}
 use mathlib.Core.Option.{Option, none}
 use mathlib.Core.List.{List, [], _∷_, _++_, append-assoc, append-nil}
@@ -16,7 +16,7 @@ use Rattle.packed.proofs.ReadLaws.{drop-next, NumberStops, stretch}
 use Rattle.event.specs.Event.{Event, objectCount}
 use Rattle.event.specs.Head.{Head, readHead, headBytes}
 use Rattle.event.specs.EventLayout.{readBits, readSets, Counts, readEvent, eventOf, setsBytes}
-use Rattle.event.specs.code.EventIndex.{SetsStop, HeadStops, EventReads}
+use Rattle.event.specs.code.EventIndex.{SetsStop, HeadStops, EventReads, counts}
 use Rattle.event.proofs.HeadLayoutLaws.{head-was}
 use Rattle.event.proofs.EventLayoutLaws.{readBody, sets-was}
 use Rattle.event.specs.declared.head.HeadAt.{HeadAt}
@@ -117,3 +117,9 @@ module _ (counts : Counts) (s : List ℕ) (h : HeadAt) (w : HeadStops (readHead 
                   sets = t .stands;
                 },
               )
+
+-- read within so many parents and objects as the counts k have, it is read within k
+pub with-counts :
+    (k : Counts) (event ats : List ℕ) (x : EventIndex) (parents objects : ℕ) → parents ≡ k .parents → objects ≡ k .objects →
+    EventReads (eventOf (counts parents objects) event) event ats x → EventReads (eventOf k event) event ats x
+with-counts k event ats x parents objects p o w = subst (λ (c : Counts). EventReads (eventOf c event) event ats x) (ap₂ counts p o) w

@@ -2,7 +2,7 @@ ghost use mathlib.Core.Path.{_≡_};
 ghost use mathlib.Core.Bool.{false};
 ghost use lib.ListN.{length};
 ghost use Rattle.event.specs.EventLayout.{eventOf};
-ghost use Rattle.event.specs.code.EventIndex.{EventReads, counts};
+ghost use Rattle.event.specs.code.EventIndex.{EventReads, counts, countsOf};
 use crate::head::HeadAt;
 use crate::head::HeadRead;
 use crate::head::no_head;
@@ -33,8 +33,31 @@ pub fn no_event() -> EventIndex
     }
 }
 
-// The index of an event that the bytes are, to their exact end.
-pub fn read_event(
+// The counts that an event is read within: its own, or the wider ones of a merged event.
+pub enum EventCounts {
+    Narrow,
+    Wide,
+}
+
+fn most_parents(counts: EventCounts) -> usize
+    ensures { λ r. ⌜ r ≡ countsOf counts .parents ⌝ }
+{
+    match counts {
+        EventCounts::Narrow => 8,
+        EventCounts::Wide => 32,
+    }
+}
+
+fn most_objects(counts: EventCounts) -> usize
+    ensures { λ r. ⌜ r ≡ countsOf counts .objects ⌝ }
+{
+    match counts {
+        EventCounts::Narrow => 32,
+        EventCounts::Wide => 256,
+    }
+}
+
+fn read_counted(
     s: &[u8],
     most_parents: usize,
     most_objects: usize,
@@ -70,4 +93,12 @@ pub fn read_event(
         after_presence,
         objects,
     }
+}
+
+// The index of an event that the bytes are, to their exact end.
+pub fn read_event(s: &[u8], counts: EventCounts, sets: &mut [usize]) -> EventIndex
+    requires { ⌜ length (now sets) ≡ 96 ⌝ }
+    ensures { λ r. ⌜ EventReads (eventOf (countsOf counts) (now (s .entry))) (now (s .entry)) (now (sets .exit)) r ⌝ }
+{
+    read_counted(s, most_parents(counts), most_objects(counts), sets)
 }

@@ -27,8 +27,7 @@ use Rattle.ontology.proofs.TypeIndexLaws.{name-length, properties-rules}
 use Rattle.event.specs.Event.{Event}
 use Rattle.event.specs.EventLayout.{wide}
 use Rattle.event.specs.EventQuestions.{Typed, matchCount, eventAsked}
-use Rattle.event.specs.code.EventIndex.{eventQuestions}
-use Rattle.event.specs.declared.ask.EventAsked.{EventAsked}
+use Rattle.event.specs.code.EventIndex.{eventQuestions, EventAsked}
 use Rattle.event.proofs.EventLayoutLaws.{event-was}
 use Rattle.event.proofs.EventSizeLaws.{event-match}
 use Rattle.event.proofs.EventQuestionLaws.{event-accepted}
@@ -81,7 +80,7 @@ text-short table event ps ats r a =
 
 abbrev pub hashable :
     (table event ps ats : List ℕ) (r : EventAsked) → Accepted wide table event ps ats r →
-    Hashable table event (r .«event_type») ps (r .event) ats
+    Hashable table event (r .type) ps (r .event) ats
 hashable table event ps ats r a = record {
   type = a .type;
   event = a .e;

@@ -2,8 +2,11 @@ ghost use mathlib.Core.Path.{_≡_};
 ghost use Rattle.replies.specs.Replies.{replies};
 ghost use Rattle.hashing.specs.HashCalls.{hashTextCall, hashCall};
 use crate::text::write_hash_text;
-use event::ask::EventCounts;
 use event::ask::ask_event;
+use event::ask::type_name;
+use event::read::EventCounts;
+use event::read::read_event;
+use ontology::tables::read_table;
 use replies::capacities::HASH_CAPACITY;
 use replies::capacities::HASH_TEXT_CAPACITY;
 use replies::reply::Reply;
@@ -18,13 +21,13 @@ pub fn hash_text(table: &[u8], event: &[u8], out: &mut [u8]) -> Reply
     }
     let mut properties = [0usize; 96];
     let mut sets = [0usize; 96];
-    let asked = ask_event(table, event, EventCounts::Wide, &mut properties, &mut sets);
-    if asked.number != 0 {
-        return Reply::Refused(asked.number);
+    let read = read_table(table, type_name(event), &mut properties);
+    let e = read_event(event, EventCounts::Wide, &mut sets);
+    let number = ask_event(event, e, &sets, read, &properties);
+    if number != 0 {
+        return Reply::Refused(number);
     }
-    let event_type = asked.event_type;
-    let x = asked.event;
-    Reply::Done(write_hash_text(table, event, event_type, &properties, x, &sets, out))
+    Reply::Done(write_hash_text(table, event, read.index, &properties, e, &sets, out))
 }
 
 // The hash of an event, SHA-1 of its hash text, written at the front of `out`.

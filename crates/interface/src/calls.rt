@@ -19,13 +19,16 @@ use crate::pack::pack_reply;
 use batch::calls::batch;
 use combining::check::check_event;
 use combining::combine::combine;
-use event::ask::EventCounts;
 use event::ask::ask_event;
+use event::ask::type_name;
 use event::lookup::ValueAt;
 use event::lookup::find_value;
+use event::read::EventCounts;
+use event::read::read_event;
 use hashing::calls::hash;
 use hashing::calls::hash_text;
 use ontology::tables::check_table;
+use ontology::tables::read_table;
 use opening::calls::open_dossier;
 use replies::reply::Finding;
 use replies::reply::Opened;
@@ -108,12 +111,13 @@ pub extern "C" fn merger_value(table: &[u8], event: &[u8], place: usize, index: 
 {
     let mut properties = [0usize; 96];
     let mut sets = [0usize; 96];
-    let asked = ask_event(table, event, EventCounts::Wide, &mut properties, &mut sets);
-    if asked.number != 0 {
+    let read = read_table(table, type_name(event), &mut properties);
+    let e = read_event(event, EventCounts::Wide, &mut sets);
+    let number = ask_event(event, e, &sets, read, &properties);
+    if number != 0 {
         return 0;
     }
-    let x = asked.event;
-    match find_value(event, x, &sets, place, index) {
+    match find_value(event, e, &sets, place, index) {
         ValueAt::Value(start, end) => (end - start) as u64 % 268435456
             + start as u64 % 268435456 * 268435456,
         ValueAt::NoValue => 0,

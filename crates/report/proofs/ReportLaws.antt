@@ -44,10 +44,11 @@ use Rattle.ontology.specs.code.TypeIndex.{PropertiesAre, TypeIs, TypeSays, Tabl
 use Rattle.ontology.specs.declared.tables.TableRead.{TableRead}
 use Rattle.ontology.proofs.TypeIndexLaws.{type-says}
 use Rattle.event.specs.Event.{Event, typeView, eventView, view}
-use Rattle.event.specs.EventLayout.{wide, eventBytes}
+use Rattle.event.specs.EventLayout.{wide, eventOf, eventBytes}
 use Rattle.event.specs.EventQuestions.{Typed, eventAsked}
-use Rattle.event.specs.code.EventIndex.{EventIs, eventQuestions, EventAnswers}
-use Rattle.event.specs.declared.ask.EventAsked.{EventAsked}
+use Rattle.event.specs.code.EventIndex.{EventReads, eventQuestions}
+use Rattle.event.specs.declared.read.EventIndex.{EventIndex}
+use Rattle.event.proofs.AskLaws.{read-typed, read-accepted}
 use Rattle.event.proofs.EventQuestionLaws.{choice-none}
 use Rattle.dossier.specs.DossierLayout.{Headed, dossierOf, dossierBytes}
 use Rattle.dossier.specs.DossierQuestions.{TypedDossier, dossierAsked}
@@ -81,22 +82,20 @@ module _ {table bytes : List ℕ} {t : EventType} {e : Event} {room : ℕ} (m : 
       hashed : hashCall table bytes old ≡ outcome (gives (sha1Of (eventText t e))) old
       hashed = unfold hashCall hashAnswer hashTextAsked in (rw (le-leb hashCapacity (length old) (omega arith), m .tabled, m .asked))
 
-  -- its questions are answered with the indexes
-  module _ {ps ats : List ℕ} (r : EventAsked) (a : EventAnswers (eventQuestions wide table bytes) table bytes ps ats r) where
-    pub answers-are : TypeIs table t (r .«event_type») ps × EventIs bytes e (r .event) ats
-    unfolding EventAnswers
-    answers-are = let x = subst (λ (q : Asked Typed). EventAnswers q table bytes ps ats r) asked a in (x .1, x .2)
-      where
-        asked : eventQuestions wide table bytes ≡ questions.accepted (record { type = t; event = e })
-        asked = rw (m .tabled) (m .asked)
+  pub taken : eventQuestions wide table bytes ≡ questions.accepted (record { type = t; event = e })
+  taken = rw (m .tabled) (m .asked)
 
+  -- the table was read for the name of its type, and the event was read
+  module _
+      {name ps ats : List ℕ} (r : TableRead) (x : EventIndex) (says : TableSays (tableOf table) table name ps r)
+      (names : (y : Event) → eventOf wide bytes ≡ some y → name ≡ y .head .type) (reads : EventReads (eventOf wide bytes) bytes ats x) where
     -- what the writer of its lines needs
-    abbrev pub lines-ready : {hash : List ℕ} → hash ≡ sha1Of (eventText t e) → LinesRoom table (r .«event_type» .count) ps bytes (r .event) ats hash room
+    abbrev pub lines-ready : {hash : List ℕ} → hash ≡ sha1Of (eventText t e) → LinesRoom table (r .index .count) ps bytes x ats hash room
     lines-ready h = record {
       type = t;
       event = e;
-      are = answers-are .0 .are;
-      read = answers-are .1;
+      are = read-typed wide table bytes _ taken name ps r says names .are;
+      read = read-accepted wide table bytes _ taken ats x reads;
       fits = omega (arith, m .fits, ap length (ap (hashedLines t e) h));
     }
 

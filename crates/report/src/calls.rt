@@ -20,8 +20,8 @@ use crate::lines::write_refused;
 use batch::calls::batch;
 use dossier::dossiers::read_dossier;
 use dossier::questions::type_name;
-use event::ask::EventCounts;
-use event::ask::ask_event;
+use event::read::EventCounts;
+use event::read::read_event;
 use hashing::calls::hash;
 use ontology::tables::read_table;
 use opening::calls::open_dossier;
@@ -53,9 +53,9 @@ fn report_merged(table: &[u8], event: &[u8], out: &mut [u8]) -> usize
     hash(table, event, &mut digest);
     let mut properties = [0usize; 96];
     let mut sets = [0usize; 96];
-    let asked = ask_event(table, event, EventCounts::Wide, &mut properties, &mut sets);
-    let t = asked.event_type;
-    let e = asked.event;
+    let read = read_table(table, event::ask::type_name(event), &mut properties);
+    let e = read_event(event, EventCounts::Wide, &mut sets);
+    let t = read.index;
     write_merged(table, t.count, &properties, event, e, &sets, &digest, out)
 }
 

@@ -22,8 +22,8 @@ use Rattle.ontology.specs.declared.tables.TableRead.{TableRead}
 use Rattle.event.specs.Event.{Event}
 use Rattle.event.specs.EventLayout.{narrow, eventOf}
 use Rattle.event.specs.EventQuestions.{Typed, eventAsked}
-use Rattle.event.specs.code.EventIndex.{eventQuestions, EventAnswers}
-use Rattle.event.specs.declared.ask.EventAsked.{EventAsked}
+use Rattle.event.specs.code.EventIndex.{eventQuestions, asked, EventAnswers}
+use Rattle.event.specs.declared.read.EventIndex.{EventIndex}
 use Rattle.dossier.specs.DossierLayout.{dossierBytes}
 use Rattle.dossier.specs.DossierQuestions.{TypedDossier}
 use Rattle.combining.specs.code.AddIndex.{Measured}
@@ -60,10 +60,11 @@ pub record FirstNamed (table batch : List ℕ) (x : BatchIndex) (name : Text) (r
   pub named : (e : Event) → eventOf narrow (getD events 0 []) ≡ some e → name ≡ e .head .type
   pub says : TableSays (tableOf table) table name ps read
 
--- r is what asking an event answers, and ats are the numbers of its sets; those of its type's properties are not kept
-pub record OneAnswers (table event ats : List ℕ) (r : EventAsked) : Type 0 where
+-- n is what asking an event answers, e its index, and ats are the numbers of its sets; its type and the numbers of that type's properties are not kept
+pub record OneAnswers (table event ats : List ℕ) (n : ℕ) (e : EventIndex) : Type 0 where
   pub numbers : List ℕ
-  pub answers : EventAnswers (eventQuestions narrow table event) table event numbers ats r
+  pub type : TypeIndex
+  pub answers : EventAnswers (eventQuestions narrow table event) table event numbers ats (asked n type e)
 
 -- the first of the events ss is accepted, and has the type t with the numbers ps of its properties
 pub record FirstTyped (table : List ℕ) (ts : Table) (ss : List (List ℕ)) (t : TypeIndex) (ps : List ℕ) : Type 0 where

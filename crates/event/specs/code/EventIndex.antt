@@ -18,6 +18,7 @@ use Rattle.ontology.specs.code.TypeIndex.{TypeIs}
 use Rattle.event.specs.Event.{Event, objectCount, setAt}
 use Rattle.event.specs.EventLayout.{Counts, narrow, wide, setBytes, setsBytes, presenceBit, bitNumber}
 use Rattle.event.specs.Head.{headBytes, Head}
+use Rattle.ontology.specs.declared.types.TypeIndex.{TypeIndex}
 use Rattle.event.specs.declared.sets.SetAt.{SetAt}
 use Rattle.event.specs.declared.sets.SetRead.{SetRead}
 use Rattle.event.specs.declared.sets.SetRead.the-variants.{Found, NoSet}
@@ -32,9 +33,8 @@ use Rattle.event.specs.declared.head.ParentsRead.the-variants.{Parents, 
 use Rattle.event.specs.declared.read.EventIndex.{EventIndex}
 use Rattle.event.specs.EventQuestions.{Typed, eventAsked}
 use Rattle.event.specs.Value.{bytesBefore}
-use Rattle.event.specs.declared.ask.EventAsked.{EventAsked}
-use Rattle.event.specs.declared.ask.EventCounts.{EventCounts}
-use Rattle.event.specs.declared.ask.EventCounts.the-variants as taken
+use Rattle.event.specs.declared.read.EventCounts.{EventCounts}
+use Rattle.event.specs.declared.read.EventCounts.the-variants as taken
 use Rattle.event.specs.declared.lookup.ValueAt.{ValueAt}
 use Rattle.event.specs.declared.lookup.ValueAt.the-variants.{Value, NoValue}
 
@@ -167,6 +167,11 @@ EventReads (some e) s ats x = (x .ok ≡ true) × EventIs s e x ats
 abbrev pub counts : ℕ → ℕ → Counts
 counts parents objects = record { parents = parents; objects = objects }
 
+-- an event's counts, or the wider ones
+abbrev pub countsOf : EventCounts → Counts
+countsOf taken.Narrow = narrow
+countsOf taken.Wide = wide
+
 -- ---- finding a value
 
 -- how many places have objects
@@ -197,16 +202,20 @@ ValueFound s e place index NoValue = getElem? (setAt e place) index ≡ none
 abbrev pub KindsAre : EventType → Type 0
 KindsAre t = (i : ℕ) (q : Property) → getElem? (t .properties) i ≡ some q → isKind (q .kind) ≡ true
 
--- an event's counts, or the wider ones
-abbrev pub countsOf : EventCounts → Counts
-countsOf taken.Narrow = narrow
-countsOf taken.Wide = wide
-
 -- questions 2 to 6 of a table and an event
 abbrev pub eventQuestions : Counts → List ℕ → List ℕ → Asked Typed
 eventQuestions counts table event = questions._>>=_ (ask 2 (tableOf table)) (λ ts. eventAsked counts ts event)
 
+-- an event that was asked, as the code has it: the number of the first question that is answered no, or 0; its type; and the event
+pub record EventAsked : Type 0 where
+  pub number : ℕ
+  pub type : TypeIndex
+  pub event : EventIndex
+
+abbrev pub asked : ℕ → TypeIndex → EventIndex → EventAsked
+asked n t e = record { number = n; type = t; event = e }
+
 -- what asking answers, where the questions come to a; ps are the numbers of the type's properties, ats those of the event's sets
 unfoldable pub EventAnswers : Asked Typed → List ℕ → List ℕ → List ℕ → List ℕ → EventAsked → Type 0
 EventAnswers (refused n) table event ps ats r = r .number ≡ n
-EventAnswers (accepted a) table event ps ats r = (r .number ≡ 0) × TypeIs table (a .type) (r .«event_type») ps × EventIs event (a .event) (r .event) ats
+EventAnswers (accepted a) table event ps ats r = (r .number ≡ 0) × TypeIs table (a .type) (r .type) ps × EventIs event (a .event) (r .event) ats

@@ -11,53 +11,57 @@ use Rattle.ontology.specs.code.TypeIndex.{TypeIs}
 use Rattle.event.specs.EventLayout.{narrow, eventOf}
 use Rattle.event.specs.EventQuestions.{Typed}
 use Rattle.event.specs.code.EventIndex.{eventQuestions}
-use Rattle.event.proofs.AskLaws.{accepted-is, refused-is}
+use Rattle.event.proofs.AskLaws.{accepted-is, refused-is, read-typed}
 use Rattle.batch.specs.code.BatchIndex.{firstApart}
-use Rattle.batch.proofs.AskedLaws.{asked-of, answers-accepted, read-typed, same-type, goingOn, first-accepted, first-refused}
+use Rattle.batch.proofs.AskedLaws.{asked-of, answers-accepted, same-type, goingOn, first-accepted, first-refused}
 use Rattle.batch.proofs.AskedLaws.{next-accepted, next-refused, none-apart, one-apart, GoesOn, refusal-is, no-refusal}
 use Rattle.batch.proofs.asked.ask_events.Statement.{statement}
 use Rattle.batch.proofs.asked.ask_events.Tie as tie
 
 abbrev Inv-loop : tie.InvT-loop
-Inv-loop table batch x name read properties head left right₀ t d apart₀ i₀ right apart i =
+Inv-loop table batch x name read properties head left right₀ d first t apart₀ i₀ right apart i =
     (1 ≤ i) × (length left ≡ 96) × (length right ≡ 96)
     × ((a : Typed) → eventQuestions narrow table head ≡ accepted a → GoesOn table batch x a i apart)
 
 abbrev μ-loop : tie.MeasureT-loop
-μ-loop table batch x name read properties head left right₀ t d apart₀ i₀ right apart i = x .count - i
+μ-loop table batch x name read properties head left right₀ d first t apart₀ i₀ right apart i = x .count - i
 
 -- ---- the places
 
 abbrev to-start : tie.After-event-part Inv-loop μ-loop → tie.Start Inv-loop μ-loop
 to-start c = c .before .before .before .before .before
 
--- the first event was asked
-abbrev to-part : tie.After-ask-one Inv-loop μ-loop → tie.After-event-part Inv-loop μ-loop
-to-part c = c .before .before
+-- the first event was read, asked and accepted
+abbrev read-part : tie.After-read-event Inv-loop μ-loop → tie.After-event-part Inv-loop μ-loop
+read-part c = c .before .before
 
--- and was accepted
+abbrev to-part : tie.After-ask-one Inv-loop μ-loop → tie.After-event-part Inv-loop μ-loop
+to-part c = read-part (c .before .before .before)
+
 abbrev to-asked : tie.Else1 Inv-loop μ-loop → tie.After-ask-one Inv-loop μ-loop
-to-asked c = c .before .before .before
+to-asked c = c .before
 
 abbrev to-first : tie.At-loop Inv-loop μ-loop → tie.Else1 Inv-loop μ-loop
-to-first c = c .before .before .before
+to-first c = c .before .before
 
 abbrev to-begin : tie.At-loop Inv-loop μ-loop → tie.Start Inv-loop μ-loop
 to-begin c = to-start (to-part (to-asked (to-first c)))
 
--- the next one was asked
+-- so was the next one
 abbrev to-turn : tie.After-event-part2 Inv-loop μ-loop → tie.At-loop Inv-loop μ-loop
 to-turn c = c .before .before .before
 
-abbrev to-part2 : tie.After-ask-one2 Inv-loop μ-loop → tie.After-event-part2 Inv-loop μ-loop
-to-part2 c = c .before .before
+abbrev read-part2 : tie.After-read-event2 Inv-loop μ-loop → tie.After-event-part2 Inv-loop μ-loop
+read-part2 c = c .before .before
 
--- and was accepted
+abbrev to-part2 : tie.After-ask-one2 Inv-loop μ-loop → tie.After-event-part2 Inv-loop μ-loop
+to-part2 c = read-part2 (c .before .before .before)
+
 abbrev to-asked2 : tie.Else3 Inv-loop μ-loop → tie.After-ask-one2 Inv-loop μ-loop
-to-asked2 c = c .before .before .before
+to-asked2 c = c .before
 
 abbrev to-next : tie.After-events-agree Inv-loop μ-loop → tie.Else3 Inv-loop μ-loop
-to-next c = c .before .before .before .before
+to-next c = c .before .before .before
 
 -- ---- the facts
 
@@ -79,18 +83,27 @@ module _ (c : tie.Else1 Inv-loop μ-loop) where
       let part = to-part (to-asked c) in
       let n = to-start part .pre .0 in
       let is = part .event-part .ensures (n .events) (n .stands) (omega (arith, n .stands .one, n .stands .count)) in
-      read-typed _ _ _ _ (n .says) _ (λ e k. n .named e (ap (eventOf narrow) (sym is) ∙ k)) a h
+      read-typed narrow _ _ a h _ _ _ (n .says) (λ e k. n .named e (ap (eventOf narrow) (sym is) ∙ k))
 
 -- ---- the needs
 
 event-part-requires : tie.Need-event-part-requires Inv-loop μ-loop
 event-part-requires c κs = search needs
 
+slice-aggregate-read-event : tie.Need-slice-aggregate-read-event Inv-loop μ-loop
+slice-aggregate-read-event c = search needs
+
+read-event-requires : tie.Need-read-event-requires Inv-loop μ-loop
+read-event-requires c κs = search needs
+
 slice-aggregate-ask-one : tie.Need-slice-aggregate-ask-one Inv-loop μ-loop
 slice-aggregate-ask-one c = search needs
 
 ask-one-requires : tie.Need-ask-one-requires Inv-loop μ-loop
-ask-one-requires c κs = let p = to-start (c .before) .pre in (p .0 .says, p .1, search needs)
+ask-one-requires c κs =
+    let read = c .before .before in
+    let p = to-start (read-part read) .pre in
+    ((p .0 .says, p .1, search needs), read .read-event .ensures)
 
 answer-requires : tie.Need-answer-requires Inv-loop μ-loop
 answer-requires c κs = search needs
@@ -99,7 +112,7 @@ returns : tie.Need-returns Inv-loop μ-loop
 returns c =
     λ ts ss t w.
     let refused = c .before in
-    let asked = refused .before .before .before in
+    let asked = refused .before in
     let z : 0 < length ss = omega (arith, w .one, w .count) in
     let number = refused-is narrow _ _ _ _ _ (asked .ask-one .ensures .answers) (refused .if1 .taken) in
     refusal-is _ ts ss _ _ _ _ 0 _ (first-refused ts ss _ z (asked-of _ ts t _ _ _ (to-part asked .event-part .ensures ss w z) number))
@@ -111,7 +124,7 @@ loop-holds c = (
   search needs,
   search needs,
   λ a h ts ss t w.
-      let part = to-part (to-asked (c .before .before)) in
+      let part = to-part (to-asked (c .before)) in
       let z : 0 < length ss = omega (arith, w .one, w .count) in
       first-accepted ts ss a z (asked-of _ ts t _ _ _ (part .event-part .ensures ss w z) h),
 )
@@ -119,11 +132,20 @@ loop-holds c = (
 event-part-requires-2 : tie.Need-event-part-requires-2 Inv-loop μ-loop
 event-part-requires-2 c κs = omega (arith, c .if2 .taken, few (c .before .before))
 
+slice-aggregate-read-event-2 : tie.Need-slice-aggregate-read-event-2 Inv-loop μ-loop
+slice-aggregate-read-event-2 c = search needs
+
+read-event-requires-2 : tie.Need-read-event-requires-2 Inv-loop μ-loop
+read-event-requires-2 c κs = search needs
+
 slice-aggregate-ask-one-2 : tie.Need-slice-aggregate-ask-one-2 Inv-loop μ-loop
 slice-aggregate-ask-one-2 c = search needs
 
 ask-one-requires-2 : tie.Need-ask-one-requires-2 Inv-loop μ-loop
-ask-one-requires-2 c κs = let p = to-begin (to-turn (c .before)) .pre in (p .0 .says, p .1, search needs)
+ask-one-requires-2 c κs =
+    let read = c .before .before in
+    let p = to-begin (to-turn (read-part2 read)) .pre in
+    ((p .0 .says, p .1, search needs), read .read-event2 .ensures)
 
 answer-requires-2 : tie.Need-answer-requires-2 Inv-loop μ-loop
 answer-requires-2 c κs = search needs
@@ -132,7 +154,7 @@ returns-2 : tie.Need-returns-2 Inv-loop μ-loop
 returns-2 c =
     λ ts ss t w.
     let refused = c .before in
-    let asked = refused .before .before .before in
+    let asked = refused .before in
     let part = to-part2 asked in
     let turn = to-turn part in
     let first = to-first turn in
@@ -145,14 +167,14 @@ returns-2 c =
     (c .answer2 .ensures .0) (c .answer2 .ensures .1) (omega (arith, refused .if3 .taken))
 
 slice-aggregate-events-agree : tie.Need-slice-aggregate-events-agree Inv-loop μ-loop
-slice-aggregate-events-agree c = sym (to-turn (to-part2 (to-asked2 (c .before .before))) .loop .inv .1)
+slice-aggregate-events-agree c = sym (to-turn (to-part2 (to-asked2 (c .before))) .loop .inv .1)
 
 slice-aggregate-events-agree-2 : tie.Need-slice-aggregate-events-agree-2 Inv-loop μ-loop
 slice-aggregate-events-agree-2 c = search needs
 
 events-agree-requires : tie.Need-events-agree-requires Inv-loop μ-loop
 events-agree-requires c κs =
-    let turn = to-turn (to-part2 (to-asked2 (c .before .before .before))) in
+    let turn = to-turn (to-part2 (to-asked2 (c .before .before))) in
     let first = to-first turn in
     let a = accepted-is narrow _ _ _ _ _ (to-asked first .ask-one .ensures .answers) (first .if1 .left) in
     (typed first _ (a .is) .are .few, to-begin turn .pre .1, turn .loop .inv .1, search needs)
@@ -188,7 +210,7 @@ loop-again c = (
       let b : Typed = record { type = k .type; event = k .e } in
       let p = asked-of _ ts t _ _ _ (to-part (to-asked first) .event-part .ensures ss w z) h in
       let q = asked-of _ ts t _ _ _ (part .event-part2 .ensures ss w here) (k .is) in
-      let f = answers-accepted _ _ _ _ a (to-asked first .ask-one .ensures) h in
+      let f = answers-accepted _ _ _ _ _ a (to-asked first .ask-one .ensures) h in
       let agree = c .before .events-agree .ensures _ (a .type) (b .type) (a .event) (b .event) in
       let g = agree (typed first a h .are) f (k .event-is) (same-type ts _ _ a b p q) in
       l .inv .3 a h ts ss t w
@@ -232,12 +254,16 @@ ask-events-spec =
     Inv-loop
     μ-loop
     event-part-requires
+    slice-aggregate-read-event
+    read-event-requires
     slice-aggregate-ask-one
     ask-one-requires
     answer-requires
     returns
     loop-holds
     event-part-requires-2
+    slice-aggregate-read-event-2
+    read-event-requires-2
     slice-aggregate-ask-one-2
     ask-one-requires-2
     answer-requires-2

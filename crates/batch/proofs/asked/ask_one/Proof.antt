@@ -12,8 +12,8 @@ to-start c = c .before .before .before .before .before .before
 abbrev to-name : tie.After-read-table → tie.After-type-name
 to-name c = c .before .before .before .before
 
-abbrev to-read : tie.After-ask-typed2 → tie.After-read-table
-to-read c = c .before .before .before .before
+abbrev to-read : tie.After-ask-event2 → tie.After-read-table
+to-read c = c .before .before .before
 
 -- ---- the needs
 
@@ -23,20 +23,17 @@ type-name-requires c κs = search needs
 same-requires : tie.Need-same-requires
 same-requires c κs = search needs
 
-ask-typed-requires : tie.Need-ask-typed-requires
-ask-typed-requires c κs = let p = to-start (c .before .before .before) .pre in (p .1, p .2)
-
-same-length : tie.Need-same-length
-same-length c = search needs
+ask-event-requires : tie.Need-ask-event-requires
+ask-event-requires c κs = search needs
 
 returns : tie.Need-returns
 returns c =
-    let asked = c .before .before in
-    let chosen = asked .before .before in
+    let chosen = c .before in
     let told = chosen .before in
     let named = told .before in
-    let says = says-same _ _ _ _ _ (told .same .ensures) (chosen .if1 .taken) (to-start named .pre .0) in
-    record { numbers = _; answers = asked .ask-typed .ensures _ _ says (λ e h. named .type-name .ensures narrow e h) }
+    let (says, reads) = to-start named .pre in
+    let said = says-same _ _ _ _ _ (told .same .ensures) (chosen .if1 .taken) (says .0) in
+    record { numbers = _; type = _; answers = c .ask-event .ensures _ _ narrow said (λ e h. named .type-name .ensures narrow e h) reads }
 
 slice-aggregate-read-table : tie.Need-slice-aggregate-read-table
 slice-aggregate-read-table c = search needs
@@ -44,21 +41,22 @@ slice-aggregate-read-table c = search needs
 read-table-requires : tie.Need-read-table-requires
 read-table-requires c κs = search needs
 
-slice-aggregate-ask-typed : tie.Need-slice-aggregate-ask-typed
-slice-aggregate-ask-typed c = search needs
+slice-aggregate-ask-event : tie.Need-slice-aggregate-ask-event
+slice-aggregate-ask-event c = search needs
 
-ask-typed-requires-2 : tie.Need-ask-typed-requires-2
-ask-typed-requires-2 c κs = (search needs, to-start (to-name (c .before .before .before)) .pre .2)
-
-same-length-2 : tie.Need-same-length-2
-same-length-2 c = search needs
+ask-event-requires-2 : tie.Need-ask-event-requires-2
+ask-event-requires-2 c κs = search needs
 
 returns-2 : tie.Need-returns-2
 returns-2 c =
-    let asked = c .before .before in
-    let read = to-read asked in
+    let read = to-read c in
     let named = to-name read in
-    record { numbers = _; answers = asked .ask-typed2 .ensures _ _ (read .read-table .ensures) (λ e h. named .type-name .ensures narrow e h) }
+    let reads = to-start named .pre .1 in
+    record {
+      numbers = _;
+      type = _;
+      answers = c .ask-event2 .ensures _ _ narrow (read .read-table .ensures) (λ e h. named .type-name .ensures narrow e h) reads;
+    }
 
 pub ask-one-spec : {M : Type 1} → statement M
 ask-one-spec =
@@ -66,12 +64,10 @@ ask-one-spec =
     (tie.spec
     type-name-requires
     same-requires
-    ask-typed-requires
-    same-length
+    ask-event-requires
     returns
     slice-aggregate-read-table
     read-table-requires
-    slice-aggregate-ask-typed
-    ask-typed-requires-2
-    same-length-2
+    slice-aggregate-ask-event
+    ask-event-requires-2
     returns-2)

@@ -59,7 +59,7 @@ module _ (c : tie.Start) where
 
 -- the numbers of the event's sets
 abbrev sets : tie.After-read-event → List ℕ
-sets c = c .read-event .last .1 .1 .1 .0
+sets c = c .read-event .last .1 .1 .0
 
 -- ---- the facts
 

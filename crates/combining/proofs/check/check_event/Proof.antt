@@ -9,6 +9,7 @@ use lib.ListN.{length}
 use denote.Ref.{now}
 use Rattle.replies.specs.Capacities.{dossierCapacity}
 use Rattle.event.specs.EventLayout.{narrow}
+use Rattle.event.specs.code.EventIndex.{eventQuestions, EventAsked, asked, EventAnswers}
 use Rattle.event.proofs.AskLaws.{accepted-is, refused-is}
 use Rattle.combining.proofs.CheckLaws.{Checked, asked-checked, checkable, lone-room, check-small, check-refused, check-done}
 use Rattle.combining.proofs.check.check_event.Statement.{statement}
@@ -19,11 +20,21 @@ use Rattle.combining.proofs.check.check_event.Tie as tie
 abbrev to-start : tie.Else1 → tie.Start
 to-start c = c .before .before .before .before
 
+-- The table is read at `After-read-table`, the event at `After-read-event`, and the questions are asked at `After-ask-event`.
+abbrev to-name : tie.After-read-table → tie.After-type-name
+to-name c = c .before .before
+
+abbrev to-table : tie.After-read-event → tie.After-read-table
+to-table c = c .before .before .before
+
+abbrev to-event : tie.After-ask-event → tie.After-read-event
+to-event c = c .before .before .before .before
+
 abbrev to-if1 : tie.After-ask-event → tie.Else1
-to-if1 c = c .before .before .before
+to-if1 c = to-name (to-table (to-event c)) .before
 
 abbrev to-asked : tie.Else2 → tie.After-ask-event
-to-asked c = c .before .before .before .before
+to-asked c = c .before
 
 abbrev to-else : tie.After-version-of → tie.Else2
 to-else c = c .before .before
@@ -33,9 +44,24 @@ to-version c = c .before .before
 
 -- ---- the values
 
--- the numbers of the event's sets
-abbrev sets : tie.After-ask-event → List ℕ
-sets c = c .ask-event .last .1 .1 .1 .1 .0
+module _ (c : tie.After-ask-event) where
+  abbrev table : List ℕ
+  table = now (to-start (to-if1 c) .args .table)
+
+  abbrev event : List ℕ
+  event = now (to-start (to-if1 c) .args .event)
+
+  -- the numbers of the type's properties
+  abbrev properties : List ℕ
+  properties = to-table (to-event c) .read-table .last .1 .1 .0
+
+  -- those of the event's sets
+  abbrev sets : List ℕ
+  sets = to-event c .read-event .last .1 .1 .0
+
+  -- the number, the type and the event
+  abbrev answer : EventAsked
+  answer = asked (c .ask-event .result) (to-table (to-event c) .read-table .result .index) (to-event c .read-event .result)
 
 -- ---- the facts
 
@@ -46,17 +72,38 @@ room c = omega (arith, c .if1 .left)
 sets-long : (c : tie.After-ask-event) → length (sets c) ≡ 96
 sets-long c = search needs
 
+answered :
+    (c : tie.After-ask-event) → EventAnswers (eventQuestions narrow (table c) (event c)) (table c) (event c) (properties c) (sets c) (answer c)
+answered c =
+    let read = to-event c in
+    let tabled = to-table read in
+    c .ask-event .ensures _ _ narrow (tabled .read-table .ensures) (λ x h. to-name tabled .type-name .ensures narrow x h) (read .read-event .ensures)
+
 -- the event is accepted
 abbrev event-taken :
-    (c : tie.Else2) → let a = to-start (to-if1 (to-asked c)) .args in
-    let r = to-asked c .ask-event .result in
-    Checked (now (a .table)) (now (a .event)) (r .«event_type») (r .event) (sets (to-asked c))
-event-taken c = asked-checked (accepted-is narrow _ _ _ _ _ (to-asked c .ask-event .ensures) (c .if2 .left))
+    (c : tie.Else2) → let a = to-asked c in
+    Checked (table a) (event a) (answer a .type) (answer a .event) (sets a)
+event-taken c = asked-checked (accepted-is narrow _ _ _ _ _ (answered (to-asked c)) (c .if2 .left))
 
 -- ---- the needs
 
 returns : tie.Need-returns
 returns c = check-small _ _ _ (c .if1 .taken)
+
+type-name-requires : tie.Need-type-name-requires
+type-name-requires c κs = search needs
+
+slice-aggregate-read-table : tie.Need-slice-aggregate-read-table
+slice-aggregate-read-table c = search needs
+
+read-table-requires : tie.Need-read-table-requires
+read-table-requires c κs = search needs
+
+slice-aggregate-read-event : tie.Need-slice-aggregate-read-event
+slice-aggregate-read-event c = search needs
+
+read-event-requires : tie.Need-read-event-requires
+read-event-requires c κs = search needs
 
 slice-aggregate-ask-event : tie.Need-slice-aggregate-ask-event
 slice-aggregate-ask-event c = search needs
@@ -68,9 +115,7 @@ ask-event-requires : tie.Need-ask-event-requires
 ask-event-requires c κs = search needs
 
 returns-2 : tie.Need-returns-2
-returns-2 c =
-    let asked = c .before .before .before .before in
-    check-refused _ _ _ _ (room (to-if1 asked)) (refused-is narrow _ _ _ _ _ (asked .ask-event .ensures) (c .if2 .taken))
+returns-2 c = check-refused _ _ _ _ (room (to-if1 (c .before))) (refused-is narrow _ _ _ _ _ (answered (c .before)) (c .if2 .taken))
 
 slice-aggregate-version-of : tie.Need-slice-aggregate-version-of
 slice-aggregate-version-of c = search needs
@@ -84,9 +129,9 @@ slice-aggregate-write-lone c = search needs
 write-lone-requires : tie.Need-write-lone-requires
 write-lone-requires c κs =
     let v = to-version c in
-    let asked = to-asked (to-else v) in
+    let at = to-asked (to-else v) in
     let a = event-taken (to-else v) in
-    (sets-long asked, lone-room a _ _ (v .version-of .ensures (checkable a)) (room (to-if1 asked)))
+    (sets-long at, lone-room a _ _ (v .version-of .ensures (checkable a)) (room (to-if1 at)))
 
 same-length : tie.Need-same-length
 same-length c = search needs
@@ -104,6 +149,11 @@ check-event-spec =
     tie.close
     (tie.spec
     returns
+    type-name-requires
+    slice-aggregate-read-table
+    read-table-requires
+    slice-aggregate-read-event
+    read-event-requires
     slice-aggregate-ask-event
     slice-aggregate-ask-event-2
     ask-event-requires

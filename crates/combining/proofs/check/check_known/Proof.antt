@@ -28,7 +28,7 @@ to-written c = c .before .before .before
 
 -- the numbers of the event's sets
 abbrev sets : tie.After-read-event → List ℕ
-sets c = c .read-event .last .1 .1 .1 .0
+sets c = c .read-event .last .1 .1 .0
 
 -- ---- the facts
 

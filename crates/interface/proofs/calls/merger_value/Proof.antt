@@ -3,7 +3,7 @@ use Prim.Native.Nat.{ℕ}
 use mathlib.Core.List.{List}
 use denote.Ref.{now}
 use Rattle.event.specs.EventLayout.{wide}
-use Rattle.event.specs.code.EventIndex.{ValueFound, ValueStands}
+use Rattle.event.specs.code.EventIndex.{ValueFound, ValueStands, eventQuestions, EventAsked, asked, EventAnswers}
 use Rattle.event.proofs.AskLaws.{Accepted, accepted-is, refused-is, found-value, found-none, value-refused, value-missing, value-is}
 use Rattle.interface.proofs.PackingLaws.{part-none, part-packed}
 use Rattle.interface.proofs.calls.merger_value.Statement.{statement}
@@ -11,17 +11,27 @@ use Rattle.interface.proofs.calls.merger_value.Tie as tie
 
 -- ---- the places
 
-abbrev to-start : tie.After-ask-event → tie.Start
-to-start c = c .before .before .before .before .before
+-- The table is read at `After-read-table`, the event at `After-read-event`, and the questions are asked at `After-ask-event`.
+abbrev to-start : tie.After-type-name → tie.Start
+to-start c = c .before .before .before
 
-abbrev to-asked : tie.After-struct-known → tie.After-ask-event
-to-asked c = c .before .before .before
+abbrev to-name : tie.After-read-table → tie.After-type-name
+to-name c = c .before .before
+
+abbrev to-table : tie.After-read-event → tie.After-read-table
+to-table c = c .before .before .before
+
+abbrev to-event : tie.After-ask-event → tie.After-read-event
+to-event c = c .before .before .before .before
+
+abbrev asked-start : tie.After-ask-event → tie.Start
+asked-start c = to-start (to-name (to-table (to-event c)))
 
 abbrev to-taken : tie.After-find-value → tie.Else1
-to-taken c = c .before .before .before
+to-taken c = c .before .before
 
 abbrev of-start : tie.After-find-value → tie.Start
-of-start c = to-start (to-asked (to-taken c .before))
+of-start c = asked-start (to-taken c .before)
 
 -- ---- the values
 
@@ -35,18 +45,28 @@ module _ (c : tie.Start) where
 module _ (c : tie.After-ask-event) where
   -- the numbers of the type's properties
   abbrev ps : List ℕ
-  ps = c .ask-event .last .1 .1 .1 .0
+  ps = to-table (to-event c) .read-table .last .1 .1 .0
 
   -- where the event's sets stand
   abbrev ats : List ℕ
-  ats = c .ask-event .last .1 .1 .1 .1 .0
+  ats = to-event c .read-event .last .1 .1 .0
+
+  -- the number, the type and the event
+  abbrev answer : EventAsked
+  answer = asked (c .ask-event .result) (to-table (to-event c) .read-table .result .index) (to-event c .read-event .result)
 
 -- ---- the facts
 
-abbrev accepted : (c : tie.Else1) →
-    let asked = to-asked (c .before) in let s = to-start asked in
-    Accepted wide (table s) (event s) (ps asked) (ats asked) (asked .ask-event .result)
-accepted c = accepted-is wide _ _ _ _ _ (to-asked (c .before) .ask-event .ensures) (c .if1 .left)
+answered : (c : tie.After-ask-event) → let s = asked-start c in
+    EventAnswers (eventQuestions wide (table s) (event s)) (table s) (event s) (ps c) (ats c) (answer c)
+answered c =
+    let read = to-event c in
+    let tabled = to-table read in
+    c .ask-event .ensures _ _ wide (tabled .read-table .ensures) (λ x h. to-name tabled .type-name .ensures wide x h) (read .read-event .ensures)
+
+abbrev accepted : (c : tie.Else1) → let s = asked-start (c .before) in
+    Accepted wide (table s) (event s) (ps (c .before)) (ats (c .before)) (answer (c .before))
+accepted c = accepted-is wide _ _ _ _ _ (answered (c .before)) (c .if1 .left)
 
 found : (c : tie.After-find-value) →
     let a = of-start c .args in
@@ -61,6 +81,21 @@ stands c = found-value (c .start .given .1) (found (c .before .before))
 
 -- ---- the needs
 
+type-name-requires : tie.Need-type-name-requires
+type-name-requires c κs = search needs
+
+slice-aggregate-read-table : tie.Need-slice-aggregate-read-table
+slice-aggregate-read-table c = search needs
+
+read-table-requires : tie.Need-read-table-requires
+read-table-requires c κs = search needs
+
+slice-aggregate-read-event : tie.Need-slice-aggregate-read-event
+slice-aggregate-read-event c = search needs
+
+read-event-requires : tie.Need-read-event-requires
+read-event-requires c κs = search needs
+
 slice-aggregate-ask-event : tie.Need-slice-aggregate-ask-event
 slice-aggregate-ask-event c = search needs
 
@@ -72,9 +107,8 @@ ask-event-requires c κs = search needs
 
 returns : tie.Need-returns
 returns c =
-    let asked = to-asked (c .before) in
-    let a = to-start asked .args in
-    part-none (value-refused _ _ (a .place) (a .index) _ (refused-is wide _ _ _ _ _ (asked .ask-event .ensures) (c .if1 .taken)))
+    let a = asked-start (c .before) .args in
+    part-none (value-refused _ _ (a .place) (a .index) _ (refused-is wide _ _ _ _ _ (answered (c .before)) (c .if1 .taken)))
 
 slice-aggregate-find-value : tie.Need-slice-aggregate-find-value
 slice-aggregate-find-value c = search needs
@@ -116,6 +150,11 @@ pub merger-value-spec : {M : Type 1} → statement M
 merger-value-spec =
     tie.close
     (tie.spec
+    type-name-requires
+    slice-aggregate-read-table
+    read-table-requires
+    slice-aggregate-read-event
+    read-event-requires
     slice-aggregate-ask-event
     slice-aggregate-ask-event-2
     ask-event-requires

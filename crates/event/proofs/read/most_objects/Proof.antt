@@ -2,11 +2,11 @@ use borrow.Author.Needs.{needs}
 use mathlib.Core.Path.{sym, ap}
 use Rattle.event.specs.EventLayout.{narrow, wide}
 use Rattle.event.specs.code.EventIndex.{countsOf}
-use Rattle.event.specs.declared.ask.EventCounts.{EventCounts}
-use Rattle.event.proofs.ask.most_objects.Statement.{statement}
-use Rattle.event.proofs.ask.most_objects.Tie as tie
-use Rattle.event.proofs.ask.most_objects.Reads as reads
-use Rattle.event.proofs.ask.most_objects.Lts as lts
+use Rattle.event.specs.declared.read.EventCounts.{EventCounts}
+use Rattle.event.proofs.read.most_objects.Statement.{statement}
+use Rattle.event.proofs.read.most_objects.Tie as tie
+use Rattle.event.proofs.read.most_objects.Reads as reads
+use Rattle.event.proofs.read.most_objects.Lts as lts
 
 enum-told : tie.Need-enum-told
 enum-told c = search needs
