@@ -1,13 +1,14 @@
 -- The laws of the dossier of one event: its version, and its bytes from the event's own.
-use mathlib.Core.Path.{_≡_, refl, sym, ap, _∙_, subst}
+use mathlib.Core.Path.{_≡_, refl, sym, ap, ap₂, _∙_, subst}
 use mathlib.Core.Bool.{true}
-use mathlib.Core.List.{List, [], _∷_}
+use mathlib.Core.List.{List, [], _∷_, _++_, append-assoc}
 use Prim.Native.Nat.{ℕ, zero, suc, _+_, _-_, _^_, _≤_, _<_}
 use native.Mathlib.Omega.{arith}
-use lib.ListN.{length, getD, length-append}
+use lib.ListN.{length, take, drop, getD, length-append, take-append-drop}
+use lib.Seq.{length-take-le, take-append-seam}
 use borrow.Author.Tests.{lt-ltb, le-ltb}
 use Rattle.model.specs.Order.{Text}
-use Rattle.packed.specs.Packed.{number}
+use Rattle.packed.specs.Packed.{number, part}
 use Rattle.packed.specs.code.Written.{Wrote}
 use Rattle.packed.proofs.WriteLaws.{wrote-then, wrote-as}
 use Rattle.values.specs.Decimal.{areDigits, numeral, inDecimal}
@@ -15,6 +16,7 @@ use Rattle.values.proofs.NumeralLaws.{natural-digits, natural-in-decimal, numer
 use Rattle.ontology.specs.Table.{isVersioned}
 use Rattle.ontology.specs.declared.types.TypeIndex.{TypeIndex}
 use Rattle.event.specs.Event.{Event, setAt, versionOf}
+use Rattle.event.specs.Head.{headBytes}
 use Rattle.event.specs.EventLayout.{setsBytes}
 use Rattle.event.specs.code.EventIndex.{SetIs, setIn, EventIs}
 use Rattle.event.specs.code.SetWriting.{presentBytes}
@@ -65,6 +67,24 @@ module _ {bytes : List ℕ} {t : TypeIndex} {ats : List ℕ} (h : Checkable byte
       subst (λ (w : Text). areDigits w ≡ true) (sym marked-text) (natural-digits _ (natural-in-decimal _ small)),
       omega (arith, version-is, h .below),
     )
+
+-- ---- the head, as it stands in the event
+
+module _ {s : List ℕ} {e : Event} {x : EventIndex} {ats : List ℕ} (w : EventIs s e x ats) where
+  pub head-size : length (headBytes (e .head)) + length (number (x .presence)) ≡ x .«after_presence»
+  head-size =
+      omega (arith, ap length (w .front), length-append (headBytes (e .head)) (number (x .presence)), length-take-le (x .«after_presence») s (w .within))
+
+  pub head-part : part s 0 (x .«after_presence» - length (number (x .presence))) ≡ dossierHeadBytes (e .head)
+  unfolding dossierHeadBytes
+  head-part =
+      let h = headBytes (e .head) in
+      let p = number (x .presence) in
+      let rest = drop (x .«after_presence») s in
+      let all : s ≡ h ++ (p ++ rest) =
+      sym (take-append-drop (x .«after_presence») s) ∙ ap (λ (b : List ℕ). b ++ rest) (w .front) ∙ append-assoc h p rest in
+      let long : x .«after_presence» - length p - 0 ≡ length h = omega (arith, head-size) in
+      ap₂ take long all ∙ take-append-seam h (p ++ rest)
 
 -- ---- the parts of the snapshot
 

@@ -11,11 +11,8 @@ ghost use Rattle.combining.specs.code.AddIndex.{Measured};
 ghost use Rattle.combining.specs.code.CheckIndex.{Checkable, KnownEvent, AloneRoom, LoneRoom, aloneBytes, loneBytes};
 use crate::measures::Measure;
 use crate::measures::measure_one;
-use dossier::head::write_dossier_head;
 use event::ask::ask_event;
 use event::ask::type_name;
-use event::head::hashes_part;
-use event::head::text_part;
 use event::read::EventCounts;
 use event::read::EventIndex;
 use event::read::read_event;
@@ -25,6 +22,8 @@ use event::sets::value_in;
 use event::write::write_sets;
 use ontology::tables::read_table;
 use ontology::types::TypeIndex;
+use packed::write::copy_part;
+use packed::write::number_size;
 use packed::write::write_number;
 use replies::capacities::DOSSIER_CAPACITY;
 use replies::reply::Reply;
@@ -83,11 +82,9 @@ fn write_lone(
     ensures size { λ r. ⌜ ((h : Event) → EventIs (now (event .entry)) h e (now (sets .entry))
         → (r .start ≤ r .end) × (length (aloneBytes h (version .0)) ≡ r .end - r .start)) ⌝ }
 {
-    let head = e.head;
-    let name = text_part(event, head.name);
-    let source = text_part(event, head.source);
-    let hashes = hashes_part(event, head.parents);
-    let after_head = write_dossier_head(name, source, hashes, out);
+    // the heads of an event and of its dossier have the same bytes
+    let size = e.after_presence - number_size(e.presence);
+    let after_head = copy_part(event, 0, size, out, 0);
     let start = write_number(out, after_head, 1);
     let end = write_alone(event, e, sets, version, out, start);
     LoneAt { start, end }

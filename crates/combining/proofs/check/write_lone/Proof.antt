@@ -1,29 +1,32 @@
--- `check::write_lone` meets its contract: the head, the count of one snapshot and the snapshot are written one after the other, and `lone-length` says that
--- each has its room. The snapshot is the last write, so that its start and its end say its size.
+-- `check::write_lone` meets its contract: the head, which is copied as it stands in the event (`head-part`), the count of one snapshot and the snapshot are
+-- written one after the other, and `lone-length` says that each has its room. The snapshot is the last write, so that its start and its end say its size.
 use borrow.Author.Needs.{needs}
 use native.Mathlib.Omega.{arith}
-use mathlib.Core.Path.{refl}
+use mathlib.Core.Path.{_≡_, refl, ap, _∙_, subst}
 use mathlib.Core.List.{List}
-use Prim.Native.Nat.{ℕ, _+_, _≤_}
+use Prim.Native.Nat.{ℕ, _+_, _-_, _≤_}
 use lib.ListN.{length}
 use denote.Ref.{now}
-use Rattle.packed.specs.Packed.{number}
+use Rattle.packed.specs.Packed.{number, part}
+use Rattle.packed.specs.code.Written.{Wrote}
 use Rattle.packed.proofs.WriteLaws.{Reached, reached-start, reached-by}
 use Rattle.event.specs.Event.{Event}
-use Rattle.event.specs.code.EventIndex.{EventIs, HeadParts}
-use Rattle.event.proofs.HeadLaws.{parts-of}
+use Rattle.event.specs.code.EventIndex.{EventIs}
 use Rattle.dossier.specs.DossierHead.{dossierHeadBytes}
 use Rattle.combining.specs.code.CheckIndex.{aloneBytes}
-use Rattle.combining.proofs.LoneLaws.{wrote-size, lone-length, wrote-lone}
+use Rattle.combining.proofs.LoneLaws.{head-size, head-part, wrote-size, lone-length, wrote-lone}
 use Rattle.combining.proofs.check.write_lone.Statement.{statement}
 use Rattle.combining.proofs.check.write_lone.Tie as tie
 
 -- ---- the places: each write from the argument of the next, and the start from each
 
-abbrev start₀ : tie.After-write-dossier-head-arg → tie.Start
-start₀ c = c .before .before .before .before .before .before .before .before
+abbrev start₀ : tie.After-number-size → tie.Start
+start₀ c = c .before .before .before .before
 
-abbrev to-head : tie.After-write-number-arg → tie.After-write-dossier-head
+abbrev to-size : tie.After-copy-part → tie.After-number-size
+to-size c = c .before .before .before
+
+abbrev to-head : tie.After-write-number-arg → tie.After-copy-part
 to-head c = c .before .before .before
 
 abbrev to-count : tie.After-write-alone-arg → tie.After-write-number
@@ -32,8 +35,8 @@ to-count c = c .before .before .before
 abbrev to-alone : tie.After-slice-known4 → tie.After-write-alone
 to-alone c = c .before .before
 
-abbrev start₁ : tie.After-write-dossier-head → tie.Start
-start₁ c = start₀ (c .before)
+abbrev start₁ : tie.After-copy-part → tie.Start
+start₁ c = start₀ (to-size c)
 
 abbrev start₂ : tie.After-write-number → tie.Start
 start₂ c = start₁ (to-head (c .before))
@@ -43,6 +46,12 @@ start₂ c = start₁ (to-head (c .before))
 module _ (c : tie.Start) where
   abbrev out₀ : List ℕ
   out₀ = now (c .args .out)
+
+  abbrev event : List ℕ
+  event = now (c .args .event)
+
+  abbrev Is : Event → Type 0
+  Is e = EventIs event e (c .args .e) (now (c .args .sets))
 
   -- where each part ends
   abbrev head-end : ℕ
@@ -56,43 +65,43 @@ module _ (c : tie.Start) where
 
 -- ---- the head
 
-parts :
-    (c : tie.After-write-dossier-head-arg) (e : Event) → EventIs (now (start₀ c .args .event)) e (start₀ c .args .e) (now (start₀ c .args .sets)) →
-    let hashes = c .before in let source = hashes .before in let name = source .before in
-    HeadParts (now (name .text-part .result)) (now (source .text-part2 .result)) (now (hashes .hashes-part .result)) (e .head)
-parts c e w =
-    let h = w .head in
-    parts-of h
-    (c .before .before .before .text-part .ensures _ (h .name))
-    (c .before .before .text-part2 .ensures _ (h .uri))
-    (c .before .hashes-part .ensures _ (h .hashes))
+module _ (c : tie.After-number-size) where
+  -- how many bytes it has
+  abbrev size : ℕ
+  size = start₀ c .args .e .«after_presence» - c .number-size .result
+
+  front : (e : Event) → Is (start₀ c) e → part (event (start₀ c)) 0 size ≡ dossierHeadBytes (e .head)
+  front e w = ap (λ (n : ℕ). part (event (start₀ c)) 0 (start₀ c .args .e .«after_presence» - n)) (c .number-size .ensures) ∙ head-part w
+
+head-copied :
+    (c : tie.After-copy-part) (e : Event) → Is (start₁ c) e →
+    Wrote (out₀ (start₁ c)) 0 (dossierHeadBytes (e .head)) (c .copy-part .last .1 .1 .1 .0) (c .copy-part .result)
+head-copied c e w =
+    subst (λ (b : List ℕ). Wrote (out₀ (start₁ c)) 0 b (c .copy-part .last .1 .1 .1 .0) (c .copy-part .result)) (front (to-size c) e w) (c .copy-part .ensures)
 
 -- ---- how far each write comes
 
 head-written :
-    (c : tie.After-write-dossier-head) →
-    Reached (out₀ (start₁ c)) (head-end (start₁ c)) (c .write-dossier-head .last .1 .1 .1 .0) (c .write-dossier-head .result)
-head-written c =
-    reached-by reached-start (c .write-dossier-head .ensures _ (parts (c .before) (start₁ c .pre .1 .event) (start₁ c .pre .1 .read))) (omega arith)
+    (c : tie.After-copy-part) → Reached (out₀ (start₁ c)) (head-end (start₁ c)) (c .copy-part .last .1 .1 .1 .0) (c .copy-part .result)
+head-written c = let p = start₁ c .pre .1 in reached-by reached-start (head-copied c (p .event) (p .read)) (omega arith)
 
 count-written : (c : tie.After-write-number) → Reached (out₀ (start₂ c)) (count-end (start₂ c)) (c .write-number .last .0) (c .write-number .result)
 count-written c = reached-by (head-written (to-head (c .before))) (c .write-number .ensures) refl
 
 -- ---- the needs
 
-text-part-requires : tie.Need-text-part-requires
-text-part-requires c κs = search needs
+number-size-requires : tie.Need-number-size-requires
+number-size-requires c κs = search needs
 
-text-part-requires-2 : tie.Need-text-part-requires-2
-text-part-requires-2 c κs = search needs
+sub-size : tie.Need-sub-size
+sub-size c = omega (arith, head-size (start₀ (c .before) .pre .1 .read), c .before .number-size .ensures)
 
-hashes-part-requires : tie.Need-hashes-part-requires
-hashes-part-requires c κs = search needs
-
-write-dossier-head-requires : tie.Need-write-dossier-head-requires
-write-dossier-head-requires c κs =
-    let p = start₀ c .pre .1 in
-    record { head = p .event .head; parts = parts c (p .event) (p .read); room = omega (arith, fits (start₀ c)) }
+copy-part-requires : tie.Need-copy-part-requires
+copy-part-requires c κs =
+    let sized = c .before .before in
+    let begin = start₀ sized in
+    let p = begin .pre .1 in
+    (omega arith, omega (arith, p .read .within), omega (arith, fits begin, ap length (front sized (p .event) (p .read))))
 
 write-number-requires : tie.Need-write-number-requires
 write-number-requires c κs = omega (arith, fits (start₁ (to-head c)), head-written (to-head c))
@@ -111,8 +120,7 @@ returns c =
     let at-alone = to-alone c in
     let at-count = to-count (at-alone .before) in
     let at-head = to-head (at-count .before) in (
-      λ e w. wrote-lone e _
-          (at-head .write-dossier-head .ensures _ (parts (at-head .before) e w)) (at-count .write-number .ensures) (at-alone .write-alone .ensures e w),
+      λ e w. wrote-lone e _ (head-copied at-head e w) (at-count .write-number .ensures) (at-alone .write-alone .ensures e w),
       λ e w. wrote-size (at-alone .write-alone .ensures e w),
     )
 
@@ -120,10 +128,9 @@ pub write-lone-spec : {M : Type 1} → statement M
 write-lone-spec =
     tie.close
     (tie.spec
-    text-part-requires
-    text-part-requires-2
-    hashes-part-requires
-    write-dossier-head-requires
+    number-size-requires
+    sub-size
+    copy-part-requires
     write-number-requires
     write-alone-requires
     same-length
