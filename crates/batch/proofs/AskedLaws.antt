@@ -1,7 +1,7 @@
 -- The laws of questions 3 to 7 of the events of a batch.
 use mathlib.Core.Path.{_≡_, refl, sym, ap, _∙_, subst}
 use mathlib.Core.Bool.{Bool, true, false, _&&_}
-use mathlib.Core.Option.{Option, none, some}
+use mathlib.Core.Option.{Option, some}
 use mathlib.Core.List.{List, [], _∷_}
 use Prim.Native.Nat.{ℕ, zero, suc, _+_, _≤_, _<_}
 use native.Mathlib.Omega.{arith}
@@ -66,8 +66,8 @@ module _ (table : List ℕ) (ts : Table) (isTable : tableOf table ≡ some ts) w
       ∙ (ap (eventQuestions narrow table) (sym e) ∙ h)
 
 pub answers-accepted :
-    (table event ats : List ℕ) (n : ℕ) (x : EventIndex) (a : Typed) → OneAnswers table event ats n x → eventQuestions narrow table event ≡ questions.accepted a →
-    EventIs event (a .event) x ats
+    (table event ats : List ℕ) (n : ℕ) (x : EventIndex) (a : Typed) → OneAnswers table event ats n x →
+    eventQuestions narrow table event ≡ questions.accepted a → EventIs event (a .event) x ats
 unfolding EventAnswers
 answers-accepted table event ats n x a w e =
     subst (λ (q : Asked Typed). EventAnswers q table event (w .numbers) ats (asked n (w .type) x)) e (w .answers) .2

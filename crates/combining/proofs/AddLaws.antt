@@ -27,9 +27,6 @@ use Rattle.packed.proofs.ReadLaws.{drop-on, to-end}
 use Rattle.values.specs.declared.versions.EventVersion.{EventVersion}
 use Rattle.replies.specs.Questions.{ask, _>>=_}
 use Rattle.replies.specs.Capacities.{dossierCapacity}
-use Rattle.replies.specs.Answers.{Outcome}
-use Rattle.replies.specs.Replies.{replies}
-use Rattle.replies.specs.declared.reply.Reply.{Reply}
 use Rattle.ontology.specs.Table.{EventType, Table, isVersioned}
 use Rattle.ontology.specs.code.TypeIndex.{PropertiesAre}
 use Rattle.ontology.specs.declared.types.TypeIndex.{TypeIndex}

@@ -8,7 +8,6 @@ use lib.ListN.{length, drop}
 use Rattle.model.specs.Order.{numbers, rising}
 use Rattle.model.specs.Rule.{Snapshot}
 use Rattle.model.specs.Limits.{standard}
-use Rattle.model.proofs.Cases.{never}
 use Rattle.packed.specs.Parse.{fail, got, suchThat, times}
 use Rattle.packed.specs.Packed.{readNumber, isWithin}
 use Rattle.packed.specs.code.Located.{Got}

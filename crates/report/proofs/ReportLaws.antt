@@ -26,7 +26,6 @@ use Rattle.packed.specs.code.Written.{Wrote}
 use Rattle.packed.proofs.WriteLaws.{wrote-between}
 use Rattle.replies.specs.Questions as questions
 use Rattle.replies.specs.Answers as answers
-use Rattle.replies.specs.Questions.{Asked}
 use Rattle.replies.specs.Answers.{gives, Outcome, outcome}
 use Rattle.replies.specs.Replies.{replies, findingOf, openReplies, batchReplies}
 use Rattle.replies.specs.declared.reply.Reply.{Reply}
@@ -45,7 +44,7 @@ use Rattle.ontology.specs.declared.tables.TableRead.{TableRead}
 use Rattle.ontology.proofs.TypeIndexLaws.{type-says}
 use Rattle.event.specs.Event.{Event, typeView, eventView, view}
 use Rattle.event.specs.EventLayout.{wide, eventOf, eventBytes}
-use Rattle.event.specs.EventQuestions.{Typed, eventAsked}
+use Rattle.event.specs.EventQuestions.{eventAsked}
 use Rattle.event.specs.code.EventIndex.{EventReads, eventQuestions}
 use Rattle.event.specs.declared.read.EventIndex.{EventIndex}
 use Rattle.event.proofs.AskLaws.{read-typed, read-accepted}

@@ -78,7 +78,10 @@ slice-write-measures : tie.Need-slice-write-measures Inv-loop μ-loop
 slice-write-measures c = omega (arith, c .before .loop .inv .3 .long)
 
 same-length : tie.Need-same-length Inv-loop μ-loop
-same-length c = let l = c .before .loop in omega (arith, length-set (l .measures) 0 (countIn (now (to-start (c .before) .args .measures)) + 1), l .inv .3 .long, to-start (c .before) .pre .0)
+same-length c =
+    let l = c .before .loop in
+    let start = to-start (c .before) in
+    omega (arith, length-set (l .measures) 0 (countIn (now (start .args .measures)) + 1), l .inv .3 .long, start .pre .0)
 
 returns : tie.Need-returns Inv-loop μ-loop
 returns c =

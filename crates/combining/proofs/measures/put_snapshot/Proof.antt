@@ -1,9 +1,7 @@
 -- The snapshot's measure is put at its place: instead of the one of its version, or where those behind it have moved up.
 use borrow.Author.Needs.{needs}
 use native.Mathlib.Omega.{arith}
-use mathlib.Core.Path.{_≡_, refl, _∙_}
-use lib.ListN.{length}
-use denote.Ref.{now}
+use mathlib.Core.Path.{refl, _∙_}
 use Rattle.combining.proofs.MeasureLaws.{put-met, put-unmet}
 use Rattle.combining.proofs.measures.put_snapshot.Statement.{statement}
 use Rattle.combining.proofs.measures.put_snapshot.Tie as tie

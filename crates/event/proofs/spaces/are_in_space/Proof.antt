@@ -39,9 +39,10 @@ to-turn c = c .before .before .before .before
 -- ---- the facts
 
 module _ (c : tie.After-known-told Inv-loop μ-loop) where
-  stops :
-      let turn = to-turn c in
-      TextStops (now (turn .before .before .before .before .before .args .v)) (turn .before .loop .at) (c .before .value .given .0 .0) (c .before .value .given .0 .1 .0)
+  abbrev bytes : List ℕ
+  bytes = now (to-turn c .before .before .before .before .before .args .v)
+
+  stops : TextStops bytes (to-turn c .before .loop .at) (c .before .value .given .0 .0) (c .before .value .given .0 .1 .0)
   stops = text-stops _ _ _ _ (sym (c .before .before .before .read-text .ensures) ∙ c .before .value .given .1)
 
 -- ---- the needs
