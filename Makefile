@@ -1,5 +1,5 @@
 # archive  proves and builds the archive libmerger.a; it and its header stand in target/merger/
-# test     every test over the archive
+# test     the style of the sources, and every test over the archive
 # bench    the archive's times beside the independent implementation's
 
 .PHONY: archive test bench
@@ -11,6 +11,7 @@ archive:
 	cp include/merger.h target/merger/
 
 test:
+	tools/check_style
 	tests/run
 
 bench: archive
