@@ -1,4 +1,5 @@
--- Opening names a conflict exactly when two of the events share an event version and differ in a property, at the lowest such version and its first such property.
+-- Opening names a conflict exactly when two of the events share an event version and differ in a property, at the lowest such version and its first such
+-- property.
 use mathlib.Core.Path.{_≡_, refl, sym, _∙_, ap}
 use mathlib.Core.Logic.{inl, inr, ⊎-elim, _↔_}
 use mathlib.Core.Bool.{Bool, true, false}
@@ -9,8 +10,10 @@ use native.Mathlib.Omega.{arith}
 use Rattle.model.specs.Order.{Text, numbers}
 use Rattle.model.specs.Keyed.{Rising}
 use Rattle.model.specs.Sets.{Ups, itself, canon}
-use Rattle.model.specs.Rule.{Cell, holds, differs, Choice, TypeView, View, places, Snapshot, Dossier, agreed, cell, ofVersion, cellOf, snapshot, ruleAt, rule}
-use Rattle.model.specs.Opening.{finds, lowest, cellAt, isMark, Conflict, noConflict, differsAt, marked, orLater, conflict, conflictAt, overfullAt, merged, firstOf, overfull, mergedSets, opening}
+use Rattle.model.specs.Rule.{Cell, holds, differs, Choice, TypeView, View, places, Snapshot, Dossier, agreed, cell, ofVersion, cellOf, snapshot, ruleAt}
+use Rattle.model.specs.Rule.{rule}
+use Rattle.model.specs.Opening.{finds, lowest, cellAt, isMark, Conflict, noConflict, differsAt, marked, orLater, conflict, conflictAt, overfullAt, merged}
+use Rattle.model.specs.Opening.{firstOf, overfull, mergedSets, opening}
 use Rattle.model.specs.Clashes.{Clash, NotBefore, FirstClash, NoClash}
 use Rattle.model.proofs.Cases.{never, truth, found}
 use Rattle.model.proofs.OrderLaws.{less-of}
@@ -21,14 +24,20 @@ use Rattle.model.proofs.RuleLaws.{rising-snapshots}
 use Rattle.model.proofs.ValidLaws.{agreed-differs, differs-agreed, not-unversioned, in-places, ups-places, cell-at-rule}
 
 -- the first number of a rising list that passes a test
-pub lowest-found : (test : ℕ → Bool) (ps : List ℕ) (p : ℕ) → Ups numbers ps → lowest test ps ≡ some p → List·Memᴰ p ps × (test p ≡ true) × ((q : ℕ) → List·Memᴰ q ps → test q ≡ true → p ≤ q)
+pub lowest-found :
+    (test : ℕ → Bool) (ps : List ℕ) (p : ℕ) → Ups numbers ps → lowest test ps ≡ some p → List·Memᴰ p ps × (test p ≡ true)
+    × ((q : ℕ) → List·Memᴰ q ps → test q ≡ true → p ≤ q)
 unfolding lowest
 lowest-found test [] p u h = never (cc)
 lowest-found test (x ∷ ps) p u h =
     truth (test x)
     (λ y.
-    let e : p ≡ x = cc in
-    (List·Memᴰ·head e, cc, λ q m k. rw e (⊎-elim (λ r. omega arith) (λ n. omega (arith, less-of x q (above-member numbers itself x ps q (u .0) n))) (List·Memᴰ·cases-cons m))))
+    let e : p ≡ x = cc in (
+      List·Memᴰ·head e,
+      cc,
+      λ q m k. rw e (⊎-elim (λ r. omega arith) (λ n. omega (arith, less-of x q (above-member numbers itself x ps q (u .0) n)))
+          (List·Memᴰ·cases-cons m)),
+    ))
     (λ y.
     let (m, k, l) = lowest-found test ps p (u .1) (rw y at h) in
     (List·Memᴰ·tail m, k, λ q n j. ⊎-elim (λ r. never (cc)) (λ o. l q o j) (List·Memᴰ·cases-cons n)))
@@ -53,8 +62,10 @@ mark-differs (holds s) = (λ e. never (cc), λ e. never (cc))
 
 -- the conflict of any dossier whose snapshots rise: the first mark, by version and then by place
 module _ (ps : List ℕ) (up : Ups numbers ps) where
-  pub conflict-found : (ss : List Snapshot) (v p : ℕ) → Rising numbers (λ s. s .version) ss → conflict ps ss ≡ differsAt v p →
-      (s : Snapshot) × List·Memᴰ s ss × (s .version ≡ v) × List·Memᴰ p ps × (cellAt s p ≡ differs) × ((r : Snapshot) (q : ℕ) → List·Memᴰ r ss → List·Memᴰ q ps → cellAt r q ≡ differs → NotBefore v p (r .version) q)
+  pub conflict-found :
+      (ss : List Snapshot) (v p : ℕ) → Rising numbers (λ s. s .version) ss → conflict ps ss ≡ differsAt v p →
+      (s : Snapshot) × List·Memᴰ s ss × (s .version ≡ v) × List·Memᴰ p ps × (cellAt s p ≡ differs)
+      × ((r : Snapshot) (q : ℕ) → List·Memᴰ r ss → List·Memᴰ q ps → cellAt r q ≡ differs → NotBefore v p (r .version) q)
   unfolding conflict orLater marked
   conflict-found [] v p u h = never (cc)
   conflict-found (s ∷ ss) v p u h =
@@ -104,7 +115,9 @@ module _ (t : TypeView) (d : Dossier) where
   unfolding opening firstOf
   opening-conflict v p = (λ h. go (conflict (places t) (d .snapshots)) (overfull t d) refl refl h, λ h. rw h)
     where
-      go : (c : Conflict) (m : Option ℕ) → conflict (places t) (d .snapshots) ≡ c → overfull t d ≡ m → opening t d ≡ finds (conflictAt v p) → conflict (places t) (d .snapshots) ≡ differsAt v p
+      go :
+          (c : Conflict) (m : Option ℕ) → conflict (places t) (d .snapshots) ≡ c → overfull t d ≡ m → opening t d ≡ finds (conflictAt v p) →
+          conflict (places t) (d .snapshots) ≡ differsAt v p
       go (differsAt w q) m e f h = let h2 : finds (conflictAt w q) ≡ finds (conflictAt v p) = rw e at h in cc
       go noConflict none e f h = let h2 : merged (mergedSets t d) ≡ finds (conflictAt v p) = rw (e, f) at h in never (cc)
       go noConflict (some x) e f h = let h2 : finds (overfullAt x) ≡ finds (conflictAt v p) = rw (e, f) at h in never (cc)
@@ -139,7 +152,17 @@ module _ {Event : Type 0} (t : View Event) (es : List Event) where
       let (d, md, qd) = Memᴰ·of-map f (ofVersion t v es) mb in
       let (ie, ve) = only-of numbers (t .event .version) v es e me in
       let (id, vd) = only-of numbers (t .event .version) v es d md in
-      record { versioned = u; one = e; other = d; oneIn = ie; otherIn = id; oneVersion = ve; otherVersion = vd; place = m; unequalSets = λ q. n (sym qe ∙ (q ∙ qd)) }
+      record {
+        versioned = u;
+        one = e;
+        other = d;
+        oneIn = ie;
+        otherIn = id;
+        oneVersion = ve;
+        otherVersion = vd;
+        place = m;
+        unequalSets = λ q. n (sym qe ∙ (q ∙ qd));
+      }
 
   of-clash : (v p : ℕ) → Clash t es v p → List·Memᴰ (ruleAt t es v) (rule t es .snapshots) × (cellAt (ruleAt t es v) p ≡ differs)
   unfolding rule ofVersion sets-at
@@ -164,11 +187,16 @@ module _ {Event : Type 0} (t : View Event) (es : List Event) where
   -- the conflict named is a clash, and no clash comes before it
   named : (v p : ℕ) → conflict (places (t .type)) (rule t es .snapshots) ≡ differsAt v p → FirstClash t es v p
   named v p h =
-      let (s, m, a, n, d, l) = conflict-found (places (t .type)) (ups-places (t .type)) (rule t es .snapshots) v p (rising-snapshots t es) h in
-      (rw (← a) (mark-clash s p m n d), λ w q k. let (mw, dw) = of-clash w q k in unfold ruleAt snapshot in (l (ruleAt t es w) q mw (in-places (t .type) q .0 (k .place)) dw))
+      let (s, m, a, n, d, l) = conflict-found (places (t .type)) (ups-places (t .type)) (rule t es .snapshots) v p (rising-snapshots t es) h in (
+        rw (← a) (mark-clash s p m n d),
+        λ w q k. let (mw, dw) = of-clash w q k in unfold ruleAt snapshot in
+            (l (ruleAt t es w) q mw (in-places (t .type) q .0 (k .place)) dw),
+      )
 
   free : conflict (places (t .type)) (rule t es .snapshots) ≡ noConflict → NoClash t es
-  free h w q k = let (mw, dw) = of-clash w q k in conflict-none (places (t .type)) (ups-places (t .type)) (rule t es .snapshots) h (ruleAt t es w) q mw (in-places (t .type) q .0 (k .place)) dw
+  free h w q k =
+      let (mw, dw) = of-clash w q k in
+      conflict-none (places (t .type)) (ups-places (t .type)) (rule t es .snapshots) h (ruleAt t es w) q mw (in-places (t .type) q .0 (k .place)) dw
 
   one-first : (v p w q : ℕ) → NotBefore v p w q → NotBefore w q v p → (v ≡ w) × (p ≡ q)
   one-first v p w q (inl a) (inl b) = absurd (omega arith)
@@ -180,7 +208,9 @@ module _ {Event : Type 0} (t : View Event) (es : List Event) where
   pub conflict-exact : (v p : ℕ) → (conflict (places (t .type)) (rule t es .snapshots) ≡ differsAt v p) ↔ FirstClash t es v p
   conflict-exact v p = (named v p, λ h. go h (conflict (places (t .type)) (rule t es .snapshots)) refl)
     where
-      go : FirstClash t es v p → (c : Conflict) → conflict (places (t .type)) (rule t es .snapshots) ≡ c → conflict (places (t .type)) (rule t es .snapshots) ≡ differsAt v p
+      go :
+          FirstClash t es v p → (c : Conflict) → conflict (places (t .type)) (rule t es .snapshots) ≡ c →
+          conflict (places (t .type)) (rule t es .snapshots) ≡ differsAt v p
       go h noConflict e = absurd (free e v p (h .0))
       go h (differsAt w q) e =
           let (k, l) = named w q e in
@@ -191,17 +221,24 @@ module _ {Event : Type 0} (t : View Event) (es : List Event) where
   pub no-conflict-exact : (conflict (places (t .type)) (rule t es .snapshots) ≡ noConflict) ↔ NoClash t es
   no-conflict-exact = (free, λ h. go h (conflict (places (t .type)) (rule t es .snapshots)) refl)
     where
-      go : NoClash t es → (c : Conflict) → conflict (places (t .type)) (rule t es .snapshots) ≡ c → conflict (places (t .type)) (rule t es .snapshots) ≡ noConflict
+      go :
+          NoClash t es → (c : Conflict) → conflict (places (t .type)) (rule t es .snapshots) ≡ c →
+          conflict (places (t .type)) (rule t es .snapshots) ≡ noConflict
       go h noConflict e = e
       go h (differsAt w q) e = absurd (h w q (named w q e .0))
 
   -- the same, of what opening answers
   pub opening-exact : (v p : ℕ) → (opening (t .type) (rule t es) ≡ finds (conflictAt v p)) ↔ FirstClash t es v p
-  opening-exact v p = (λ h. conflict-exact v p .0 (opening-conflict (t .type) (rule t es) v p .0 h), λ h. opening-conflict (t .type) (rule t es) v p .1 (conflict-exact v p .1 h))
+  opening-exact v p = (
+    λ h. conflict-exact v p .0 (opening-conflict (t .type) (rule t es) v p .0 h),
+    λ h. opening-conflict (t .type) (rule t es) v p .1 (conflict-exact v p .1 h),
+  )
 
   pub opening-no-conflict : ((v p : ℕ) → opening (t .type) (rule t es) ≡ finds (conflictAt v p) → ⊥) ↔ NoClash t es
   opening-no-conflict = (λ h. go h (conflict (places (t .type)) (rule t es .snapshots)) refl, λ h v p e. h v p (opening-exact v p .0 e .0))
     where
-      go : ((v p : ℕ) → opening (t .type) (rule t es) ≡ finds (conflictAt v p) → ⊥) → (c : Conflict) → conflict (places (t .type)) (rule t es .snapshots) ≡ c → NoClash t es
+      go :
+          ((v p : ℕ) → opening (t .type) (rule t es) ≡ finds (conflictAt v p) → ⊥) → (c : Conflict) →
+          conflict (places (t .type)) (rule t es .snapshots) ≡ c → NoClash t es
       go h noConflict e = free e
       go h (differsAt w q) e = absurd (h w q (opening-conflict (t .type) (rule t es) w q .1 e))

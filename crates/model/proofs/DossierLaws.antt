@@ -14,7 +14,8 @@ use Rattle.model.specs.Opening.{cellAt}
 use Rattle.model.proofs.WayClaims.{Each, Has}
 use Rattle.model.proofs.Cases.{never}
 use Rattle.model.proofs.SetLaws.{ups-canon, canon-ups, canon-in, canon-of}
-use Rattle.model.proofs.ValidLaws.{agreed-holds, agreed-all, held-value, held-rises, held-some, held-least, not-unversioned, alike, cell-one, in-places, cell-at-snapshot, sizes-held}
+use Rattle.model.proofs.ValidLaws.{agreed-holds, agreed-all, held-value, held-rises, held-some, held-least, not-unversioned, alike, cell-one, in-places}
+use Rattle.model.proofs.ValidLaws.{cell-at-snapshot, sizes-held}
 
 module _ {Event : Type 0} (t : View Event) (es : List Event) where
   -- the parents rise, and each is a parent of an event
@@ -63,7 +64,9 @@ module _ {Event : Type 0} (t : View Event) (es : List Event) where
 
     module _ (p : ℕ) (lt : p < t .type .width) where
       -- the cell of a place, from the sets that the snapshot's events have there
-      cell-sets : (ss : List (List Text)) × Has ss × Each (λ s. (e : Event) × List·Memᴰ e es × (t .event .version e ≡ z .version) × (t .event .set e p ≡ s)) ss × (cellAt z p ≡ cell (t .type .versioned) (t .type .choice p) ss)
+      cell-sets :
+          (ss : List (List Text)) × Has ss × Each (λ s. (e : Event) × List·Memᴰ e es × (t .event .version e ≡ z .version) × (t .event .set e p ≡ s))
+          ss × (cellAt z p ≡ cell (t .type .versioned) (t .type .choice p) ss)
       unfolding cellOf
       cell-sets =
           let (fs, n, h, q) = snapshot-events in
@@ -75,7 +78,9 @@ module _ {Event : Type 0} (t : View Event) (es : List Event) where
           )
 
       -- a value is one of an event of the snapshot's version
-      pub cell-value : (s : List Text) → cellAt z p ≡ holds s → (a : Text) → List·Memᴰ a s → (e : Event) × List·Memᴰ e es × (t .event .version e ≡ z .version) × List·Memᴰ a (t .event .set e p)
+      pub cell-value :
+          (s : List Text) → cellAt z p ≡ holds s → (a : Text) → List·Memᴰ a s →
+          (e : Event) × List·Memᴰ e es × (t .event .version e ≡ z .version) × List·Memᴰ a (t .event .set e p)
       cell-value s c a i =
           let (ss, n, h, q) = cell-sets in
           let (x, k, j) = flatten-of ss a (held-value (t .type .versioned) (t .type .choice p) ss s (sym q ∙ c) a i) in
@@ -88,7 +93,9 @@ module _ {Event : Type 0} (t : View Event) (es : List Event) where
           held-rises (t .type .versioned) (t .type .choice p) ss s (sym q ∙ c) (λ x k. let (e, me, v, r) = h x k in rw (← r) (u e me))
 
       -- of a versioned type, it is the set of an event of that version
-      pub cell-set : (s : List Text) → t .type .versioned ≡ true → cellAt z p ≡ holds s → (e : Event) × List·Memᴰ e es × (t .event .version e ≡ z .version) × (t .event .set e p ≡ s)
+      pub cell-set :
+          (s : List Text) → t .type .versioned ≡ true → cellAt z p ≡ holds s →
+          (e : Event) × List·Memᴰ e es × (t .event .version e ≡ z .version) × (t .event .set e p ≡ s)
       unfolding cell
       cell-set s u c =
           let (ss, n, h, q) = cell-sets in
@@ -118,21 +125,39 @@ module _ {Event : Type 0} (t : View Event) (es : List Event) where
           let (ss, n, h, q) = cell-sets in
           q ∙ (ap (λ (x : Choice). cell (t .type .versioned) x ss) o ∙ alike (t .type .versioned) ss s u n (λ x k. let (e, me, v, r) = h x k in sym r ∙ g e me))
 
-      -- a versioned place whose set the version decides, as the version property, has it: "its version property unmarked and, byte for byte, its version in decimal"
-      pub version-cell : (f : ℕ → List Text) → t .type .versioned ≡ true → Each (λ e. t .event .set e p ≡ f (t .event .version e)) es → cellAt z p ≡ holds (f (z .version))
+      -- a versioned place whose set the version decides, as the version property, has it: "its version property unmarked and, byte for byte, its
+      -- version in decimal"
+      pub version-cell :
+          (f : ℕ → List Text) → t .type .versioned ≡ true → Each (λ e. t .event .set e p ≡ f (t .event .version e)) es →
+          cellAt z p ≡ holds (f (z .version))
       unfolding cell
       version-cell f u g =
           let (ss, n, h, q) = cell-sets in
-          q ∙ (ap (λ (b : Bool). cell b (t .type .choice p) ss) u ∙ agreed-all ss (f (z .version)) n (λ x k. let (e, me, v, r) = h x k in sym r ∙ (g e me ∙ ap f v)))
+          q ∙ (ap (λ (b : Bool). cell b (t .type .choice p) ss) u
+          ∙ agreed-all ss (f (z .version)) n (λ x k. let (e, me, v, r) = h x k in sym r ∙ (g e me ∙ ap f v)))
 
 -- "Freshly checked, one event gives the rule over itself": its parents, and a snapshot that has its sets
-module _ {Event : Type 0} (t : View Event) (e : Event) (up : (p : ℕ) → p < t .type .width → Ups texts (t .event .set e p)) (few : (p : ℕ) → p < t .type .width → (O : Order Text) → t .type .choice p ≡ least O → length (t .event .set e p) ≤ 1) where
-  pub rule-one : Ups texts (t .event .parents e) → rule t (e ∷ []) ≡ record { parents = t .event .parents e; snapshots = record { version = t .event .version e; cells = map (λ p. holds (t .event .set e p)) (places (t .type)) } ∷ [] }
-  unfolding rule ruleAt snapshot ofVersion only canon put cellOf flatten
-  rule-one u = λ i. record { parents = parents i; snapshots = record { version = t .event .version e; cells = cells i } ∷ [] }
-    where
-      parents : canon texts (t .event .parents e ++ []) ≡ t .event .parents e
-      parents = rw (append-nil (t .event .parents e)) (canon-ups texts (t .event .parents e) u)
+module _
+    {Event : Type 0} (t : View Event) (e : Event) (up : (p : ℕ) → p < t .type .width → Ups texts (t .event .set e p))
+    (few : (p : ℕ) → p < t .type .width → (O : Order Text) → t .type .choice p ≡ least O → length (t .event .set e p) ≤ 1)
+  where
+    pub rule-one :
+        Ups texts (t .event .parents e) →
+        rule t (e ∷ []) ≡ record {
+          parents = t .event .parents e;
+          snapshots = record {
+            version = t .event .version e;
+            cells = map (λ p. holds (t .event .set e p)) (places (t .type));
+          } ∷ [];
+        }
+    unfolding rule ruleAt snapshot ofVersion only canon put cellOf flatten
+    rule-one u = λ i. record { parents = parents i; snapshots = record { version = t .event .version e; cells = cells i } ∷ [] }
+      where
+        parents : canon texts (t .event .parents e ++ []) ≡ t .event .parents e
+        parents = rw (append-nil (t .event .parents e)) (canon-ups texts (t .event .parents e) u)
 
-      cells : map (cellOf t (ofVersion t (t .event .version e) (e ∷ []))) (places (t .type)) ≡ map (λ p. holds (t .event .set e p)) (places (t .type))
-      cells = rw (numbers .self (t .event .version e)) (map-same (cellOf t (e ∷ [])) (λ p. holds (t .event .set e p)) (places (t .type)) (λ p m. cell-one (t .type .versioned) (t .type .choice p) (t .event .set e p) (up p (in-places (t .type) p .1 m)) (few p (in-places (t .type) p .1 m))))
+        cells : map (cellOf t (ofVersion t (t .event .version e) (e ∷ []))) (places (t .type)) ≡ map (λ p. holds (t .event .set e p)) (places (t .type))
+        cells =
+            rw (numbers .self (t .event .version e)) (map-same (cellOf t (e ∷ [])) (λ p. holds (t .event .set e p)) (places (t .type))
+            (λ p m. cell-one (t .type .versioned) (t .type .choice p) (t .event .set e p) (up p (in-places (t .type) p .1 m))
+            (few p (in-places (t .type) p .1 m))))

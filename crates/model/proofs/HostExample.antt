@@ -7,9 +7,11 @@ use lib.ListN.{getD}
 use Rattle.model.specs.Order.{numbers, lists, lex, reversed, equal, Text, texts, sets}
 use Rattle.model.specs.Keyed.{put, merge}
 use Rattle.model.specs.Sets.{Same, canon, union, smallest, only, itself, upFrom, upTo}
-use Rattle.model.specs.Rule.{holds, Choice, every, least, View, places, Dossier, allAre, agreed, cell, joinCell, ofVersion, cellOf, snapshot, ruleAt, rule, joinCells, joinSnapshots, combine, size, sizes, objects}
+use Rattle.model.specs.Rule.{holds, Choice, every, least, View, places, Dossier, allAre, agreed, cell, joinCell, ofVersion, cellOf, snapshot, ruleAt}
+use Rattle.model.specs.Rule.{rule, joinCells, joinSnapshots, combine, size, sizes, objects}
 use Rattle.model.specs.Limits.{Limits, fits, standard}
-use Rattle.model.specs.Opening.{finds, lowest, cellAt, isMark, held, marked, orLater, conflict, column, lastOf, mergedSet, Opened, conflictAt, overfullAt, merged, firstOf, mergedAt, mergedSets, overfull, opening}
+use Rattle.model.specs.Opening.{finds, lowest, cellAt, isMark, held, marked, orLater, conflict, column, lastOf, mergedSet, Opened, conflictAt, overfullAt}
+use Rattle.model.specs.Opening.{merged, firstOf, mergedAt, mergedSets, overfull, opening}
 use Rattle.model.specs.Ways.{Way, leaf, node, Reply, wrote, next, calls, limited}
 use Rattle.model.proofs.RuleLaws.{rule-same}
 
@@ -99,9 +101,15 @@ e3 = record { number = 2; values = (h1 ∷ []) ∷ (two ∷ []) ∷ (early ∷ [
 abbrev e4 : Host
 e4 = record { number = 1; values = (h1 ∷ []) ∷ (one ∷ []) ∷ (late ∷ []) ∷ (down ∷ []) ∷ (a ∷ []) ∷ [] }
 
+-- the dossier of a list of events, with all that computes it
+ruled : {Event : Type 0} → View Event → List Event → Dossier
+unfolding rule ruleAt snapshot places upTo upFrom cellOf cell agreed allAre equal ofVersion only canon put numbers lists lex sets texts flatten smallest
+    reversed
+ruled t es = rule t es
+
 -- what a list of events opens as
 opened : View Host → List Host → Opened
-unfolding opening firstOf conflict orLater marked lowest isMark cellAt column held lastOf mergedAt mergedSet mergedSets overfull rule ruleAt snapshot places upTo upFrom cellOf cell agreed allAre equal ofVersion only canon put numbers lists lex sets texts flatten smallest reversed
+unfolding opening firstOf conflict orLater marked lowest isMark cellAt column held lastOf mergedAt mergedSet mergedSets overfull ruled
 opened t es = opening (t .type) (rule t es)
 
 -- E1, E2: addr h1, rev 2, seen 2024-03-01T10:00:00Z, tags a and b, no state; and with E2 twice
@@ -135,18 +143,21 @@ full = refl
 
 -- a way of calls on values
 answered : View Host → Way Host Bool → Reply Dossier
-unfolding calls next limited fits standard objects sizes size combine union merge joinSnapshots joinCells joinCell rule ruleAt snapshot places upTo upFrom cellOf cell agreed allAre equal ofVersion only canon put numbers lists lex sets texts flatten smallest reversed
+unfolding calls next limited fits standard objects sizes size combine union merge joinSnapshots joinCells joinCell ruled
 answered t = calls (λ b e. wrote (rule t (e ∷ []))) (λ b x y. limited standard (t .type) itself (combine (t .type) x y))
 
 -- two ways over the same events
-two-ways : answered host (node true (node true (leaf true e1) (leaf true e2)) (node true (leaf true e3) (leaf true e4))) ≡ answered host (node true (leaf true e4) (node true (leaf true e3) (node true (leaf true e1) (node true (leaf true e2) (leaf true e3)))))
+two-ways :
+    answered host (node true (node true (leaf true e1) (leaf true e2)) (node true (leaf true e3) (leaf true e4)))
+    ≡ answered host (node true (leaf true e4) (node true (leaf true e3) (node true (leaf true e1) (node true (leaf true e2) (leaf true e3)))))
 unfolding answered
 two-ways = refl
 
 -- an unversioned type has the largest rev, and all values elsewhere
 plain-three : answered plain (node true (leaf true e4) (node true (leaf true e1) (leaf true e2))) ≡ wrote (record {
   parents = [];
-  snapshots = record { version = 0; cells = holds (h1 ∷ []) ∷ holds (two ∷ []) ∷ holds (early ∷ late ∷ []) ∷ holds (down ∷ up ∷ []) ∷ holds (a ∷ b ∷ []) ∷ [] } ∷ [];
+  snapshots =
+      record { version = 0; cells = holds (h1 ∷ []) ∷ holds (two ∷ []) ∷ holds (early ∷ late ∷ []) ∷ holds (down ∷ up ∷ []) ∷ holds (a ∷ b ∷ []) ∷ [] } ∷ [];
 })
 unfolding answered
 plain-three = refl
@@ -169,7 +180,7 @@ counted b = record {
 }
 
 fitting : Limits → Bool → List ℕ → Bool
-unfolding fits objects sizes size rule ruleAt snapshot places upTo upFrom cellOf cell agreed allAre equal ofVersion only canon put numbers lists lex sets texts flatten smallest reversed
+unfolding fits objects sizes size ruled
 fitting l b es = fits l (counted b .type) (rule (counted b) es)
 
 -- eight event versions fit and nine do not

@@ -1,4 +1,5 @@
--- What stands at a key, `look`, decides a rising list (`by-look`), and `merge` joins it key by key (`look-merge`). So an equation of merged lists is one at each key.
+-- What stands at a key, `look`, decides a rising list (`by-look`), and `merge` joins it key by key (`look-merge`). So an equation of merged lists is one
+-- at each key.
 use mathlib.Core.Path.{_≡_, refl, sym, _∙_}
 use mathlib.Core.Logic.{_↔_}
 use mathlib.Core.Option.{Option, none, some}
@@ -78,7 +79,9 @@ module _ {E K : Type 0} (O : Order K) (key : E → K) where
   member-look (x ∷ xs) a h (List·Memᴰ·head e) = rw (e, O .self (key x))
   member-look (x ∷ xs) a h (List·Memᴰ·tail m) = rw (less-turn O (key x) (key a) (above-member (key x) xs a (h .0) m)) (member-look xs a (h .1) m)
 
-  look-tail : (x y : E) (xs ys : List E) → Rising O key (x ∷ xs) → Rising O key (y ∷ ys) → key x ≡ key y → ((k : K) → look O key k (x ∷ xs) ≡ look O key k (y ∷ ys)) → (k : K) → look O key k xs ≡ look O key k ys
+  look-tail :
+      (x y : E) (xs ys : List E) → Rising O key (x ∷ xs) → Rising O key (y ∷ ys) → key x ≡ key y → ((k : K) → look O key k (x ∷ xs) ≡ look O key k (y ∷ ys)) →
+      (k : K) → look O key k xs ≡ look O key k ys
   unfolding look
   look-tail x y xs ys hx hy e h k =
       three (O .cmp k (key x))
@@ -126,7 +129,9 @@ module _ {E K : Type 0} (O : Order K) (key : E → K) where
       rising-merge [] ys h = h
       rising-merge (x ∷ xs) ys h = rising-put x (merge O key join xs ys) (rising-merge xs ys h)
 
-      pub look-put : (k : K) (e : E) (xs : List E) → look O key k (put O key join e xs) ≡ pick (O .cmp k (key e)) (look O key k xs) (some (joined join e (look O key k xs))) (look O key k xs)
+      pub look-put :
+          (k : K) (e : E) (xs : List E) →
+          look O key k (put O key join e xs) ≡ pick (O .cmp k (key e)) (look O key k xs) (some (joined join e (look O key k xs))) (look O key k xs)
       unfolding put look joined
       look-put k e [] = refl
       look-put k e (x ∷ xs) =
@@ -172,7 +177,9 @@ module _ {E K : Type 0} (O : Order K) (key : E → K) where
       unfolding merge
       merge-left x xs ys h g = put-below x (merge O key join xs ys) (above-merge (key x) xs ys h g)
 
-      pub merge-meet : (x : E) (xs : List E) (y : E) (ys : List E) → Above O key (key x) xs → key x ≡ key y → merge O key join (x ∷ xs) (y ∷ ys) ≡ join x y ∷ merge O key join xs ys
+      pub merge-meet :
+          (x : E) (xs : List E) (y : E) (ys : List E) → Above O key (key x) xs → key x ≡ key y →
+          merge O key join (x ∷ xs) (y ∷ ys) ≡ join x y ∷ merge O key join xs ys
       unfolding merge put
       merge-meet x xs y ys h e = rw (merge-right xs y ys (rw (← e) h), e, O .self (key y))
 
@@ -183,7 +190,8 @@ module _ {E K : Type 0} (O : Order K) (key : E → K) where
 
       -- the three cases as one equation
       pub merge-step : (x : E) (xs : List E) (y : E) (ys : List E) → Rising O key (x ∷ xs) → Rising O key (y ∷ ys) →
-          merge O key join (x ∷ xs) (y ∷ ys) ≡ pick (O .cmp (key x) (key y)) (x ∷ merge O key join xs (y ∷ ys)) (join x y ∷ merge O key join xs ys) (y ∷ merge O key join (x ∷ xs) ys)
+          merge O key join (x ∷ xs) (y ∷ ys) ≡ pick (O .cmp (key x) (key y)) (x ∷ merge O key join xs (y ∷ ys)) (join x y ∷ merge O key join xs ys)
+          (y ∷ merge O key join (x ∷ xs) ys)
       merge-step x xs y ys hx hy =
           three (O .cmp (key x) (key y))
           (λ l. rw l (merge-left x xs (y ∷ ys) (hx .0) (l, above-trans (key x) (key y) ys l (hy .0))))

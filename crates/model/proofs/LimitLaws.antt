@@ -1,4 +1,5 @@
--- A set of events that passes a limit passes it with more events too (`fits-within`) and under smaller limits (`fits-larger`); one event passes none (`fits-one`).
+-- A set of events that passes a limit passes it with more events too (`fits-within`) and under smaller limits (`fits-larger`); one event passes none
+-- (`fits-one`).
 use mathlib.Core.Path.{_≡_, refl, ap}
 use mathlib.Core.Bool.{Bool, true, false, _||_}
 use mathlib.Core.List.{List, [], _∷_, map, flatten, append-nil, List·Memᴰ·eq-of-singleton}
@@ -9,7 +10,8 @@ use borrow.Author.Tests.{leb-true, le-leb}
 use native.Mathlib.Omega.{arith}
 use Rattle.model.specs.Order.{Text, numbers, texts}
 use Rattle.model.specs.Sets.{Within, canon, smallest}
-use Rattle.model.specs.Rule.{allAre, agreed, Choice, every, least, TypeView, View, places, Snapshot, Dossier, cell, ofVersion, cellOf, snapshot, ruleAt, rule, size, sizes, objects}
+use Rattle.model.specs.Rule.{allAre, agreed, Choice, every, least, TypeView, View, places, Snapshot, Dossier, cell, ofVersion, cellOf, snapshot, ruleAt}
+use Rattle.model.specs.Rule.{rule, size, sizes, objects}
 use Rattle.model.proofs.PartLaws.{count, map-within, flatten-within, only-within}
 use Rattle.model.specs.Limits.{Limits, fits}
 use Rattle.model.proofs.Cases.{and-parts, or-part}
@@ -18,14 +20,18 @@ use Rattle.model.proofs.ValidLaws.{one-snapshot}
 
 -- the limits as bounds
 module _ (l : Limits) (t : TypeView) (d : Dossier) where
-  pub fits-bounds : fits l t d ≡ true → (length (d .parents) ≤ l .parents) × (length (d .snapshots) ≤ l .versions) × (t .versioned ≡ false → objects (d .snapshots) ≤ l .objects)
+  pub fits-bounds :
+      fits l t d ≡ true → (length (d .parents) ≤ l .parents) × (length (d .snapshots) ≤ l .versions)
+      × (t .versioned ≡ false → objects (d .snapshots) ≤ l .objects)
   unfolding fits
   fits-bounds h =
       let (a, b) = and-parts _ _ h in
       let (c, e) = and-parts _ _ b in
       (leb-true _ _ a, leb-true _ _ c, λ u. leb-true _ _ (or-part _ _ e u))
 
-  pub bounds-fit : length (d .parents) ≤ l .parents → length (d .snapshots) ≤ l .versions → (t .versioned ≡ false → objects (d .snapshots) ≤ l .objects) → fits l t d ≡ true
+  pub bounds-fit :
+      length (d .parents) ≤ l .parents → length (d .snapshots) ≤ l .versions → (t .versioned ≡ false → objects (d .snapshots) ≤ l .objects) →
+      fits l t d ≡ true
   unfolding fits
   bounds-fit a b c = rw (le-leb _ _ a, le-leb _ _ b) (go (t .versioned) refl)
     where
@@ -41,7 +47,8 @@ length-take (x ∷ xs) (y ∷ ys) h = suc-le-suc zero-le
 size-within : (c : Choice) (ss ts : List (List Text)) → Within ss ts → size (cell false c ss) ≤ size (cell false c ts)
 unfolding size cell smallest
 size-within every ss ts h = length-canon-within texts (flatten ts) (flatten ss) (flatten-within ss ts h)
-size-within (least O) ss ts h = length-take (canon O (flatten ss)) (canon O (flatten ts)) (length-canon-within O (flatten ts) (flatten ss) (flatten-within ss ts h))
+size-within (least O) ss ts h =
+    length-take (canon O (flatten ss)) (canon O (flatten ts)) (length-canon-within O (flatten ts) (flatten ss) (flatten-within ss ts h))
 
 objects-map : (f : ℕ → Snapshot) (vs : List ℕ) → objects (map f vs) ≡ total numbers (λ v. sizes (f v .cells)) vs
 unfolding objects total
@@ -53,21 +60,26 @@ module _ {Event : Type 0} (t : View Event) where
   unfolding sizes cellOf
   sizes-within [] es fs u h = zero-le
   sizes-within (p ∷ ps) es fs u h =
-      let a : size (cellOf t es p) ≤ size (cellOf t fs p) = rw u (size-within (t .type .choice p) (map (λ (x : Event). t .event .set x p) es) (map (λ (x : Event). t .event .set x p) fs) (map-within (λ (x : Event). t .event .set x p) es fs h)) in
+      let set : Event → List Text = λ x. t .event .set x p in
+      let a : size (cellOf t es p) ≤ size (cellOf t fs p) = rw u (size-within (t .type .choice p) (map set es) (map set fs) (map-within set es fs h)) in
       let b : sizes (map (cellOf t es) ps) ≤ sizes (map (cellOf t fs) ps) = sizes-within ps es fs u h in
       omega arith
 
   module _ (es fs : List Event) (h : Within es fs) where
     versions-within : Within (canon numbers (map (t .event .version) es)) (canon numbers (map (t .event .version) fs))
-    versions-within a m = canon-in numbers (map (t .event .version) fs) a (map-within (t .event .version) es fs h a (canon-of numbers (map (t .event .version) es) a m))
+    versions-within a m =
+        canon-in numbers (map (t .event .version) fs) a (map-within (t .event .version) es fs h a (canon-of numbers (map (t .event .version) es) a m))
 
     fewer-parents : length (rule t es .parents) ≤ length (rule t fs .parents)
     unfolding rule
-    fewer-parents = length-canon-within texts (flatten (map (t .event .parents) fs)) (flatten (map (t .event .parents) es)) (flatten-within _ _ (map-within (t .event .parents) es fs h))
+    fewer-parents =
+        length-canon-within texts (flatten (map (t .event .parents) fs)) (flatten (map (t .event .parents) es))
+        (flatten-within _ _ (map-within (t .event .parents) es fs h))
 
     fewer-snapshots : length (rule t es .snapshots) ≤ length (rule t fs .snapshots)
     unfolding rule
-    fewer-snapshots = simp length-map (length-canon-within numbers (map (t .event .version) fs) (map (t .event .version) es) (map-within (t .event .version) es fs h))
+    fewer-snapshots =
+        simp length-map (length-canon-within numbers (map (t .event .version) fs) (map (t .event .version) es) (map-within (t .event .version) es fs h))
 
     fewer-objects : t .type .versioned ≡ false → objects (rule t es .snapshots) ≤ objects (rule t fs .snapshots)
     unfolding rule ruleAt snapshot ofVersion
@@ -79,7 +91,10 @@ module _ {Event : Type 0} (t : View Event) where
 
 -- every amount is no larger and every limit no smaller
 module _ (t : TypeView) (l m : Limits) (vs : l .versions ≤ m .versions) (ps : l .parents ≤ m .parents) (os : l .objects ≤ m .objects) where
-  fits-less : (d e : Dossier) → length (e .parents) ≤ length (d .parents) → length (e .snapshots) ≤ length (d .snapshots) → (t .versioned ≡ false → objects (e .snapshots) ≤ objects (d .snapshots)) → fits l t d ≡ true → fits m t e ≡ true
+  fits-less :
+      (d e : Dossier) → length (e .parents) ≤ length (d .parents) → length (e .snapshots) ≤ length (d .snapshots) →
+      (t .versioned ≡ false → objects (e .snapshots) ≤ objects (d .snapshots)) →
+      fits l t d ≡ true → fits m t e ≡ true
   fits-less d e a b c h =
       let (x, y, z) = fits-bounds l t d h in
       bounds-fit m t e (omega arith) (omega arith) (λ u. omega (arith, c u, z u))
@@ -91,7 +106,9 @@ module _ (t : TypeView) (l m : Limits) (vs : l .versions ≤ m .versions) (ps : 
 module _ {Event : Type 0} (l : Limits) (t : View Event) where
   -- with fewer events no limit is passed that was not passed before
   pub fits-within : (es fs : List Event) → Within es fs → fits l (t .type) (rule t fs) ≡ true → fits l (t .type) (rule t es) ≡ true
-  fits-within es fs h = fits-less (t .type) l l (omega arith) (omega arith) (omega arith) (rule t fs) (rule t es) (fewer-parents t es fs h) (fewer-snapshots t es fs h) (fewer-objects t es fs h)
+  fits-within es fs h =
+      fits-less (t .type) l l (omega arith) (omega arith) (omega arith) (rule t fs) (rule t es) (fewer-parents t es fs h) (fewer-snapshots t es fs h)
+      (fewer-objects t es fs h)
 
 -- one event is inside the limits
 module _ {Event : Type 0} (t : View Event) (e : Event) where
@@ -121,5 +138,7 @@ module _ {Event : Type 0} (t : View Event) (e : Event) where
   unfolding rule
   few-parents = rw (flatten-one (t .event .parents e)) (length-canon texts (t .event .parents e))
 
-  pub fits-one : (l : Limits) → 1 ≤ l .versions → length (t .event .parents e) ≤ l .parents → count t e (places (t .type)) ≤ l .objects → fits l (t .type) (rule t (e ∷ [])) ≡ true
+  pub fits-one :
+      (l : Limits) → 1 ≤ l .versions → length (t .event .parents e) ≤ l .parents → count t e (places (t .type)) ≤ l .objects →
+      fits l (t .type) (rule t (e ∷ [])) ≡ true
   fits-one l v a b = bounds-fit l (t .type) (rule t (e ∷ [])) (omega (arith, few-parents)) (rw own-snapshot v) (λ u. omega (arith, few-objects))

@@ -10,7 +10,8 @@ use Rattle.model.proofs.Cases.{three, never}
 use Rattle.model.specs.Keyed.{Rising, merge}
 use Rattle.model.proofs.KeyedLaws.{look, both, joined, joined-keep, rising-merge, look-put, look-merge, by-look}
 use Rattle.model.specs.Sets.{Within, Same, canon, union, smallest, only}
-use Rattle.model.specs.Rule.{Cell, holds, differs, Choice, every, least, TypeView, View, places, Snapshot, allAre, agreed, cell, joinCell, ofVersion, cellOf, snapshot, ruleAt, rule, joinCells, joinSnapshots, combine}
+use Rattle.model.specs.Rule.{Cell, holds, differs, Choice, every, least, TypeView, View, places, Snapshot, allAre, agreed, cell, joinCell, ofVersion}
+use Rattle.model.specs.Rule.{cellOf, snapshot, ruleAt, rule, joinCells, joinSnapshots, combine}
 use Rattle.model.proofs.SetLaws.{ups-canon, canon-same, union-canon, smallest-append, made?, look-map, rising-map}
 use Rattle.model.proofs.PartLaws.{map-append, map-same, map-within, flatten-append, flatten-within, only-append, only-within}
 
@@ -24,13 +25,17 @@ agreed-append : (c : Choice) (s t : List Text) (ss ts : List (List Text)) → ag
 unfolding agreed joinCell allAre equal
 agreed-append c s t ss ts = rw (all-are-append s ss (t ∷ ts)) (go (allAre s ss) (allAre t ts) refl)
   where
-    go : (x y : Bool) → allAre t ts ≡ y → cond (x && allAre s (t ∷ ts)) (holds s) differs ≡ joinCell true c (cond x (holds s) differs) (cond y (holds t) differs)
+    go :
+        (x y : Bool) → allAre t ts ≡ y →
+        cond (x && allAre s (t ∷ ts)) (holds s) differs ≡ joinCell true c (cond x (holds s) differs) (cond y (holds t) differs)
     go false y e = refl
     go true false e = three (sets .cmp s t) (λ l. rw l) (λ q. rw (q, sets .same s t q, e)) (λ g. rw g)
     go true true e = three (sets .cmp s t) (λ l. rw l) (λ q. let r : s ≡ t = sets .same s t q in rw (q, r, e)) (λ g. rw g)
 
 -- the cell of two lists of sets together
-cell-append : (b : Bool) (c : Choice) (s t : List Text) (ss ts : List (List Text)) → cell b c ((s ∷ ss) ++ (t ∷ ts)) ≡ joinCell b c (cell b c (s ∷ ss)) (cell b c (t ∷ ts))
+cell-append :
+    (b : Bool) (c : Choice) (s t : List Text) (ss ts : List (List Text)) →
+    cell b c ((s ∷ ss) ++ (t ∷ ts)) ≡ joinCell b c (cell b c (s ∷ ss)) (cell b c (t ∷ ts))
 unfolding cell joinCell
 cell-append true c s t ss ts = agreed-append c s t ss ts
 cell-append false every s t ss ts = rw (flatten-append (s ∷ ss) (t ∷ ts), union-canon texts (flatten (s ∷ ss)) (flatten (t ∷ ts)))
@@ -88,12 +93,22 @@ module _ {Event : Type 0} (t : View Event) where
   snapshot? v [] = none
   snapshot? v (e ∷ es) = some (snapshot t v (e ∷ es))
 
-  snapshot-append : (v : ℕ) (e f : Event) (es fs : List Event) → joinSnapshots (t .type) (snapshot t v (e ∷ es)) (snapshot t v (f ∷ fs)) ≡ snapshot t v ((e ∷ es) ++ (f ∷ fs))
+  snapshot-append :
+      (v : ℕ) (e f : Event) (es fs : List Event) →
+      joinSnapshots (t .type) (snapshot t v (e ∷ es)) (snapshot t v (f ∷ fs)) ≡ snapshot t v ((e ∷ es) ++ (f ∷ fs))
   unfolding joinSnapshots snapshot cellOf
-  snapshot-append v e f es fs = λ i. record { version = v; cells = (join-cells-map (t .type) (places (t .type)) (cellOf t (e ∷ es)) (cellOf t (f ∷ fs)) ∙ map-same _ (cellOf t ((e ∷ es) ++ (f ∷ fs))) (places (t .type)) (λ p m. at-place p)) i }
+  snapshot-append v e f es fs =
+      λ i. record {
+        version = v;
+        cells = (join-cells-map (t .type) (places (t .type)) (cellOf t (e ∷ es)) (cellOf t (f ∷ fs))
+            ∙ map-same _ (cellOf t ((e ∷ es) ++ (f ∷ fs))) (places (t .type)) (λ p m. at-place p)) i;
+      }
     where
       at-place : (p : ℕ) → joinCell (t .type .versioned) (t .type .choice p) (cellOf t (e ∷ es) p) (cellOf t (f ∷ fs) p) ≡ cellOf t ((e ∷ es) ++ (f ∷ fs)) p
-      at-place p = rw (map-append (λ (x : Event). t .event .set x p) es (f ∷ fs)) (sym (cell-append (t .type .versioned) (t .type .choice p) (t .event .set e p) (t .event .set f p) (map (λ (x : Event). t .event .set x p) es) (map (λ (x : Event). t .event .set x p) fs)))
+      at-place p =
+          rw (map-append (λ (x : Event). t .event .set x p) es (f ∷ fs))
+          (sym (cell-append (t .type .versioned) (t .type .choice p) (t .event .set e p) (t .event .set f p)
+          (map (λ (x : Event). t .event .set x p) es) (map (λ (x : Event). t .event .set x p) fs)))
 
   both-append : (v : ℕ) (es fs : List Event) → both (joinSnapshots (t .type)) (snapshot? v es) (snapshot? v fs) ≡ snapshot? v (es ++ fs)
   unfolding both joined snapshot?
@@ -128,7 +143,9 @@ module _ {Event : Type 0} (t : View Event) where
 
   pub rising-snapshots : (es : List Event) → Rising numbers (λ s. s .version) (rule t es .snapshots)
   unfolding rule ruleAt snapshot
-  rising-snapshots es = rising-map numbers (λ s. s .version) (ruleAt t es) (λ k. refl) (canon numbers (map (t .event .version) es)) (ups-canon numbers (map (t .event .version) es))
+  rising-snapshots es =
+      rising-map numbers (λ s. s .version) (ruleAt t es) (λ k. refl) (canon numbers (map (t .event .version) es))
+      (ups-canon numbers (map (t .event .version) es))
 
   join-keeps : (a b : Snapshot) → a .version ≡ b .version → joinSnapshots (t .type) a b .version ≡ a .version
   unfolding joinSnapshots
@@ -139,14 +156,23 @@ module _ {Event : Type 0} (t : View Event) where
   unfolding combine rule ofVersion
   rule-append es fs = λ i. record { parents = parents-append i; snapshots = snapshots-append i }
     where
-      parents-append : union texts (canon texts (flatten (map (t .event .parents) es))) (canon texts (flatten (map (t .event .parents) fs))) ≡ canon texts (flatten (map (t .event .parents) (es ++ fs)))
+      parents-append :
+          union texts (canon texts (flatten (map (t .event .parents) es))) (canon texts (flatten (map (t .event .parents) fs))) ≡ canon texts
+          (flatten (map (t .event .parents) (es ++ fs)))
       parents-append = rw (union-canon texts, map-append (t .event .parents) es fs, flatten-append)
 
       snapshots-append : merge numbers (λ s. s .version) (joinSnapshots (t .type)) (rule t es .snapshots) (rule t fs .snapshots) ≡ rule t (es ++ fs) .snapshots
       snapshots-append = by-look numbers (λ s. s .version) _ _
           (rising-merge numbers (λ s. s .version) (joinSnapshots (t .type)) join-keeps (rule t es .snapshots) (rule t fs .snapshots) (rising-snapshots fs))
           (rising-snapshots (es ++ fs))
-          (λ v. rw (look-merge numbers (λ s. s .version) (joinSnapshots (t .type)) join-keeps v (rule t es .snapshots) (rule t fs .snapshots) (rising-snapshots es), look-snapshots v es, look-snapshots v fs, look-snapshots v (es ++ fs), only-append numbers (t .event .version) v es fs)
+          (λ v. rw (
+            look-merge numbers (λ s. s .version) (joinSnapshots (t .type)) join-keeps v (rule t es .snapshots) (rule t fs .snapshots)
+                (rising-snapshots es),
+            look-snapshots v es,
+            look-snapshots v fs,
+            look-snapshots v (es ++ fs),
+            only-append numbers (t .event .version) v es fs,
+          )
           (both-append v (ofVersion t v es) (ofVersion t v fs)))
 
   snapshot-same : (v : ℕ) (es fs : List Event) → Same es fs → snapshot t v es ≡ snapshot t v fs
@@ -170,6 +196,8 @@ module _ {Event : Type 0} (t : View Event) where
 
       snapshots-same : map (ruleAt t es) (canon numbers (map (t .event .version) es)) ≡ map (ruleAt t fs) (canon numbers (map (t .event .version) fs))
       snapshots-same =
-          rw (canon-same numbers (map (t .event .version) es) (map (t .event .version) fs) (map-within (t .event .version) es fs (h .0), map-within (t .event .version) fs es (h .1)))
+          rw (canon-same numbers (map (t .event .version) es) (map (t .event .version) fs)
+          (map-within (t .event .version) es fs (h .0), map-within (t .event .version) fs es (h .1)))
           (map-same (ruleAt t es) (ruleAt t fs) (canon numbers (map (t .event .version) fs))
-          (λ v m. snapshot-same v (ofVersion t v es) (ofVersion t v fs) (only-within numbers (t .event .version) v es fs (h .0), only-within numbers (t .event .version) v fs es (h .1))))
+          (λ v m. snapshot-same v (ofVersion t v es) (ofVersion t v fs)
+          (only-within numbers (t .event .version) v es fs (h .0), only-within numbers (t .event .version) v fs es (h .1))))

@@ -3,7 +3,8 @@ use mathlib.Core.Path.{_≡_, refl, sym, _∙_, ap}
 use mathlib.Core.Logic.{_⊎_, inl, inr, ⊎-elim, _↔_}
 use mathlib.Core.Bool.{true}
 use mathlib.Core.Option.{Option, none, some}
-use mathlib.Core.List.{List, [], _∷_, _++_, map, List·Memᴰ, List·Memᴰ·head, List·Memᴰ·tail, List·Memᴰ·cases-cons, List·Memᴰ·not-nil, List·Memᴰ·append-cases, Memᴰ·append-left, Memᴰ·append-right, Memᴰ·cast}
+use mathlib.Core.List.{List, [], _∷_, _++_, map, List·Memᴰ, List·Memᴰ·head, List·Memᴰ·tail, List·Memᴰ·cases-cons, List·Memᴰ·not-nil, List·Memᴰ·append-cases}
+use mathlib.Core.List.{Memᴰ·append-left, Memᴰ·append-right, Memᴰ·cast}
 use Prim.Native.Nat.{ℕ, suc, _+_, Ordering·lt, _≤_, zero-le}
 use lib.ListN.{length, take}
 use native.Mathlib.Omega.{arith}
@@ -123,10 +124,14 @@ module _ {K : Type 0} (O : Order K) where
   canon-ups xs h = by-members (canon O xs) xs (ups-canon xs) h (canon-of xs, canon-in xs)
 
   pub union-canon : (xs ys : List K) → union O (canon O xs) (canon O ys) ≡ canon O (xs ++ ys)
-  union-canon xs ys = by-members (union O (canon O xs) (canon O ys)) (canon O (xs ++ ys)) (ups-union (canon O xs) (canon O ys) (ups-canon ys)) (ups-canon (xs ++ ys)) (
-    λ a m. canon-in (xs ++ ys) a (⊎-elim (λ n. Memᴰ·append-left ys (canon-of xs a n)) (λ n. Memᴰ·append-right xs (canon-of ys a n)) (List·Memᴰ·append-cases (canon O xs) (union-of (canon O xs) (canon O ys) a m))),
-    λ a m. union-in (canon O xs) (canon O ys) a (⊎-elim (λ n. Memᴰ·append-left (canon O ys) (canon-in xs a n)) (λ n. Memᴰ·append-right (canon O xs) (canon-in ys a n)) (List·Memᴰ·append-cases xs (canon-of (xs ++ ys) a m))),
-  )
+  union-canon xs ys =
+      by-members (union O (canon O xs) (canon O ys)) (canon O (xs ++ ys)) (ups-union (canon O xs) (canon O ys) (ups-canon ys)) (ups-canon (xs ++ ys)) (
+        λ a m. canon-in (xs ++ ys) a (⊎-elim (λ n. Memᴰ·append-left ys (canon-of xs a n)) (λ n. Memᴰ·append-right xs (canon-of ys a n))
+            (List·Memᴰ·append-cases (canon O xs) (union-of (canon O xs) (canon O ys) a m))),
+        λ a m. union-in (canon O xs) (canon O ys) a
+            (⊎-elim (λ n. Memᴰ·append-left (canon O ys) (canon-in xs a n)) (λ n. Memᴰ·append-right (canon O xs) (canon-in ys a n))
+            (List·Memᴰ·append-cases xs (canon-of (xs ++ ys) a m))),
+      )
 
   apart : (a b : K) → O .cmp a b ≡ Ordering·lt → b ≡ a → ⊥
   apart a b l q = never (cc (O .self a))
@@ -180,7 +185,9 @@ module _ {K : Type 0} (O : Order K) where
   length-put : (e : K) (xs : List K) → length (put O itself first e xs) ≤ suc (length xs)
   unfolding put
   length-put e [] = omega arith
-  length-put e (x ∷ xs) = three (O .cmp e x) (λ l. rw l (omega arith)) (λ s. rw s (omega arith)) (λ g. rw g (let t : length (put O itself first e xs) ≤ suc (length xs) = length-put e xs in omega arith))
+  length-put e (x ∷ xs) =
+      three (O .cmp e x) (λ l. rw l (omega arith)) (λ s. rw s (omega arith))
+      (λ g. rw g (let t : length (put O itself first e xs) ≤ suc (length xs) = length-put e xs in omega arith))
 
   -- a list has no more members than elements
   pub length-canon : (xs : List K) → length (canon O xs) ≤ length xs
@@ -211,7 +218,12 @@ module _ {K : Type 0} (O : Order K) where
   take-union [] (y ∷ ys) h = refl
   take-union (x ∷ []) ys h = sym (take-put x ys)
   take-union (x ∷ w ∷ xs) ys h =
-      rw (take-put x (union O (w ∷ xs) ys), ← take-union (w ∷ xs) ys (h .1), ← take-put x (put O itself first w (take 1 ys)), take-put-put x w (take 1 ys) (h .0 .0))
+      rw (
+        take-put x (union O (w ∷ xs) ys),
+        ← take-union (w ∷ xs) ys (h .1),
+        ← take-put x (put O itself first w (take 1 ys)),
+        take-put-put x w (take 1 ys) (h .0 .0),
+      )
 
   pub smallest-append : (xs ys : List K) → take 1 (union O (smallest O xs) (smallest O ys)) ≡ smallest O (xs ++ ys)
   unfolding smallest

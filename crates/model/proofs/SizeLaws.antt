@@ -36,7 +36,9 @@ unfolding flatten
 flat-less f g [] h = zero-le
 flat-less f g (p ∷ ps) h = simp length-append (omega (arith, h p, flat-less f g ps h))
 
-flat-add : {A : Type 0} (f g : ℕ → List A) (ps : List ℕ) → length (flatten (map (λ p. f p ++ g p) ps)) ≡ length (flatten (map f ps)) + length (flatten (map g ps))
+flat-add :
+    {A : Type 0} (f g : ℕ → List A) (ps : List ℕ) →
+    length (flatten (map (λ p. f p ++ g p) ps)) ≡ length (flatten (map f ps)) + length (flatten (map g ps))
 unfolding flatten
 flat-add f g [] = refl
 flat-add f g (p ∷ ps) = simp length-append (omega (arith, flat-add f g ps))
@@ -57,12 +59,14 @@ flat-sizes c [] = refl
 flat-sizes c (p ∷ ps) = simp length-append (omega (arith, held-size (c p), flat-sizes c ps))
 
 -- the columns have the objects of the snapshots
-columns-objects : (n : ℕ) (ss : List Snapshot) → Each (λ s. length (s .cells) ≡ n) ss → length (flatten (map (λ p. flatten (column ss p)) (upTo n))) ≡ objects ss
+columns-objects :
+    (n : ℕ) (ss : List Snapshot) → Each (λ s. length (s .cells) ≡ n) ss → length (flatten (map (λ p. flatten (column ss p)) (upTo n))) ≡ objects ss
 unfolding column flatten objects
 columns-objects n [] h = flat-none (upTo n)
 columns-objects n (s ∷ ss) h =
     flat-add (λ p. held (cellAt s p)) (λ p. flatten (column ss p)) (upTo n)
-    ∙ ap₂ (λ (a b : ℕ). a + b) (flat-sizes (cellAt s) (upTo n) ∙ unfold cellAt in (ap sizes (map-getD (s .cells) (holds []) n (h s (List·Memᴰ·head refl))))) (columns-objects n ss (λ z m. h z (List·Memᴰ·tail m)))
+    ∙ ap₂ (λ (a b : ℕ). a + b) (flat-sizes (cellAt s) (upTo n)
+    ∙ unfold cellAt in (ap sizes (map-getD (s .cells) (holds []) n (h s (List·Memᴰ·head refl))))) (columns-objects n ss (λ z m. h z (List·Memᴰ·tail m)))
 
 -- a snapshot has no more objects than its dossier
 pub sizes-in : (ss : List Snapshot) (z : Snapshot) → List·Memᴰ z ss → sizes (z .cells) ≤ objects ss
@@ -79,14 +83,22 @@ module _ (t : TypeView) where
   pub merged-objects : (d : Dossier) → Each (λ s. length (s .cells) ≡ t .width) (d .snapshots) → length (flatten (mergedSets t d)) ≤ objects (d .snapshots)
   unfolding mergedSets mergedAt places
   merged-objects d h =
-      omega (arith, columns-objects (t .width) (d .snapshots) h, flat-less (mergedAt t d) (λ p. flatten (column (d .snapshots) p)) (upTo (t .width)) (λ p. merged-length (t .replaces p) (t .choice p) (column (d .snapshots) p)))
+      omega (
+        arith,
+        columns-objects (t .width) (d .snapshots) h,
+        flat-less (mergedAt t d) (λ p. flatten (column (d .snapshots) p)) (upTo (t .width))
+            (λ p. merged-length (t .replaces p) (t .choice p) (column (d .snapshots) p)),
+      )
 
 module _ {Event : Type 0} (t : View Event) where
   -- "a merged event: packed event form with up to .. 256 objects": 8 versions of at most 32 objects, or 256 objects of an unversioned type
-  pub merged-limit : (l : Limits) (n : ℕ) (es : List Event) → fits l (t .type) (rule t es) ≡ true → l .versions * n ≤ l .objects → Each (λ e. count t e (places (t .type)) ≤ n) es → length (flatten (mergedSets (t .type) (rule t es))) ≤ l .objects
+  pub merged-limit :
+      (l : Limits) (n : ℕ) (es : List Event) → fits l (t .type) (rule t es) ≡ true → l .versions * n ≤ l .objects →
+      Each (λ e. count t e (places (t .type)) ≤ n) es → length (flatten (mergedSets (t .type) (rule t es))) ≤ l .objects
   merged-limit l n es f k h =
       let (a, b, c) = fits-bounds l (t .type) (rule t es) f in
-      let m : length (flatten (mergedSets (t .type) (rule t es))) ≤ objects (rule t es .snapshots) = merged-objects (t .type) (rule t es) (λ z i. cells-length t es z i) in
+      let m : length (flatten (mergedSets (t .type) (rule t es))) ≤ objects (rule t es .snapshots) = merged-objects (t .type) (rule t es)
+      (λ z i. cells-length t es z i) in
       truth (t .type .versioned)
       (λ u. omega (arith, objects-most n (rule t es .snapshots) (λ z i. snapshot-objects t es z i u n h), mul-le-mul-right n b))
       (λ u. omega (arith, c u))

@@ -43,4 +43,6 @@ module _ (t : TypeView) (a b : Snapshot) (la : length (a .cells) ≡ t .width) (
 
   pub join-at : (p : ℕ) → p < t .width → cellAt (joinSnapshots t a b) p ≡ joinCell (t .versioned) (t .choice p) (cellAt a p) (cellAt b p)
   unfolding cellAt places
-  join-at p h = ap (λ (cs : List Cell). getD cs p (holds [])) join-map ∙ getD-upTo (t .width) (λ p. joinCell (t .versioned) (t .choice p) (cellAt a p) (cellAt b p)) (holds []) p h
+  join-at p h =
+      ap (λ (cs : List Cell). getD cs p (holds [])) join-map
+      ∙ getD-upTo (t .width) (λ p. joinCell (t .versioned) (t .choice p) (cellAt a p) (cellAt b p)) (holds []) p h

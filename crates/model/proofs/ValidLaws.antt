@@ -2,7 +2,8 @@
 use mathlib.Core.Path.{_≡_, refl, sym, _∙_, ap}
 use mathlib.Core.Logic.{⊎-elim, _≢_, _↔_}
 use mathlib.Core.Bool.{Bool, true, false, cond}
-use mathlib.Core.List.{List, [], _∷_, map, flatten, List·Memᴰ, List·Memᴰ·head, List·Memᴰ·tail, List·Memᴰ·cases-cons, List·Memᴰ·not-nil, List·Memᴰ·eq-of-singleton, Memᴰ·map, Memᴰ·of-map}
+use mathlib.Core.List.{List, [], _∷_, map, flatten, List·Memᴰ, List·Memᴰ·head, List·Memᴰ·tail, List·Memᴰ·cases-cons, List·Memᴰ·not-nil}
+use mathlib.Core.List.{List·Memᴰ·eq-of-singleton, Memᴰ·map, Memᴰ·of-map}
 use Prim.Native.Nat.{ℕ, _≤_, _<_, zero-le, Ordering·eq}
 use lib.ListN.{length, take, length-take}
 use native.Mathlib.Omega.{arith}
@@ -10,7 +11,8 @@ use Rattle.model.specs.Order.{Order, Text, numbers, texts, sets, equal}
 use Rattle.model.proofs.Cases.{three, never}
 use Rattle.model.specs.Keyed.{put}
 use Rattle.model.specs.Sets.{Within, Ups, canon, smallest, only}
-use Rattle.model.specs.Rule.{Cell, holds, differs, Choice, every, least, TypeView, View, places, allAre, agreed, cell, ofVersion, cellOf, snapshot, ruleAt, rule, size, sizes}
+use Rattle.model.specs.Rule.{Cell, holds, differs, Choice, every, least, TypeView, View, places, allAre, agreed, cell, ofVersion, cellOf, snapshot}
+use Rattle.model.specs.Rule.{ruleAt, rule, size, sizes}
 use Rattle.model.proofs.PartLaws.{count, flatten-in, flatten-of, ups-upTo, in-upTo, getD-upTo}
 use Rattle.model.specs.Opening.{cellAt}
 use Rattle.model.proofs.WayClaims.{Each, Has}
@@ -84,14 +86,17 @@ unfolding cell smallest flatten
 held-value true c [] s h a m = unfold agreed in (rw (← holds-same [] s h) at m)
 held-value true c (r ∷ ss) s h a m = flatten-in (r ∷ ss) r a (List·Memᴰ·head refl) (rw (← agreed-holds (r ∷ ss) s h r (List·Memᴰ·head refl)) at m)
 held-value false every ss s h a m = canon-of texts (flatten ss) a (rw (← holds-same (canon texts (flatten ss)) s h) at m)
-held-value false (least O) ss s h a m = canon-of O (flatten ss) a (take-of (canon O (flatten ss)) a (rw (← holds-same (take 1 (canon O (flatten ss))) s h) at m))
+held-value false (least O) ss s h a m =
+    canon-of O (flatten ss) a (take-of (canon O (flatten ss)) a (rw (← holds-same (take 1 (canon O (flatten ss))) s h) at m))
 
 pub ups-take : (xs : List Text) → Ups texts (take 1 xs)
 ups-take [] = tt
 ups-take (x ∷ xs) = (tt, tt)
 
 -- a set that a cell holds rises
-pub held-rises : (b : Bool) (c : Choice) (ss : List (List Text)) (s : List Text) → cell b c ss ≡ holds s → ((a : List Text) → List·Memᴰ a ss → Ups texts a) → Ups texts s
+pub held-rises :
+    (b : Bool) (c : Choice) (ss : List (List Text)) (s : List Text) → cell b c ss ≡ holds s → ((a : List Text) → List·Memᴰ a ss → Ups texts a) →
+    Ups texts s
 unfolding cell smallest
 held-rises true c [] s h u = unfold agreed in (rw (← holds-same [] s h) tt)
 held-rises true c (r ∷ ss) s h u = rw (agreed-holds (r ∷ ss) s h r (List·Memᴰ·head refl)) at (u r (List·Memᴰ·head refl))
@@ -183,13 +188,16 @@ module _ {Event : Type 0} (t : View Event) where
       let q : numbers .cmp v (t .event .version e) ≡ Ordering·eq = cc (numbers .self v, h e (List·Memᴰ·head refl)) in
       rw (q, all-of v es (λ d m. h d (List·Memᴰ·tail m)))
 
-  pub one-snapshot : (v : ℕ) (e : Event) (es : List Event) → ((d : Event) → List·Memᴰ d (e ∷ es) → t .event .version d ≡ v) → rule t (e ∷ es) .snapshots ≡ snapshot t v (e ∷ es) ∷ []
+  pub one-snapshot :
+      (v : ℕ) (e : Event) (es : List Event) → ((d : Event) → List·Memᴰ d (e ∷ es) → t .event .version d ≡ v) →
+      rule t (e ∷ es) .snapshots ≡ snapshot t v (e ∷ es) ∷ []
   unfolding rule ruleAt
   one-snapshot v e es h = rw versions (ap (λ (l : List Event). snapshot t v l ∷ []) (all-of v (e ∷ es) h))
     where
       versions : canon numbers (map (t .event .version) (e ∷ es)) ≡ v ∷ []
       versions = by-members numbers (canon numbers (map (t .event .version) (e ∷ es))) (v ∷ []) (ups-canon numbers _) (tt, tt) (
-        (λ a m. let (d, n, q) = Memᴰ·of-map (t .event .version) (e ∷ es) (canon-of numbers (map (t .event .version) (e ∷ es)) a m) in List·Memᴰ·head (sym q ∙ h d n)),
+        (λ a m. let (d, n, q) = Memᴰ·of-map (t .event .version) (e ∷ es) (canon-of numbers (map (t .event .version) (e ∷ es)) a m) in List·Memᴰ·head
+            (sym q ∙ h d n)),
         (λ a m. canon-in numbers (map (t .event .version) (e ∷ es)) a (List·Memᴰ·head (List·Memᴰ·eq-of-singleton m ∙ sym (h e (List·Memᴰ·head refl))))),
       )
 
@@ -199,5 +207,6 @@ module _ {Event : Type 0} (t : View Event) where
   sizes-held u e es m [] = zero-le
   sizes-held u e es m (p ∷ ps) =
       let f : Event → List Text = λ x. t .event .set x p in
-      let a : size (cellOf t es p) ≤ length (f e) = rw (ap (λ (b : Bool). cell b (t .type .choice p) (map f es)) u) (size-held (map f es) (f e) (Memᴰ·map f m)) in
+      let a : size (cellOf t es p) ≤ length (f e) = rw (ap (λ (b : Bool). cell b (t .type .choice p) (map f es)) u)
+      (size-held (map f es) (f e) (Memᴰ·map f m)) in
       omega (arith, sizes-held u e es m ps)

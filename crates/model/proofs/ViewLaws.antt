@@ -44,7 +44,8 @@ module _ {A B : Type 0} (f : A → B) (v : View B) where
     snapshots = snapshots i;
   }
     where
-      snapshots : map (ruleAt read xs) (canon numbers (map (read .event .version) xs)) ≡ map (ruleAt v (map f xs)) (canon numbers (map (v .event .version) (map f xs)))
+      snapshots :
+          map (ruleAt read xs) (canon numbers (map (read .event .version) xs)) ≡ map (ruleAt v (map f xs)) (canon numbers (map (v .event .version) (map f xs)))
       snapshots =
           map-same (ruleAt read xs) (ruleAt v (map f xs)) (canon numbers (map (read .event .version) xs)) (λ n m. at-through xs n)
           ∙ ap (λ (ns : List ℕ). map (ruleAt v (map f xs)) (canon numbers ns)) (map-through (v .event .version) xs)

@@ -28,7 +28,8 @@ use Rattle.combining.specs.CombineCall.{combined, combineAsked, combineAnswer, 
 use Rattle.opening.specs.OpenCall.{mergedEvent, openedAnswer, askedOpening, openAnswer, openCall}
 use Rattle.batch.specs.Batch.{AskedAt, refusedAt, accepted, batchGiven, haveRoom, batchAnswer, batchCall}
 use Rattle.batch.specs.Taken.{Reads, TakesIn, Takes}
-use Rattle.batch.proofs.TakenLaws.{Asks, asks-one, asks-whether, accepts, asks-then, asks-more, asks-next, asks-event, AsksAt, asks-all, asks-next-at, asks-batch, takes-given}
+use Rattle.batch.proofs.TakenLaws.{Asks, asks-one, asks-whether, accepts, asks-then, asks-more, asks-next, asks-event, AsksAt, asks-all, asks-next-at}
+use Rattle.batch.proofs.TakenLaws.{asks-batch, takes-given}
 use Rattle.theorems.specs.Demand1.{Demand1}
 
 pub asks-dossier : (ts : Table) (s : List ℕ) → Asks (λ a. Reads (dossierOf standard s)) (dossierAsked standard ts s)

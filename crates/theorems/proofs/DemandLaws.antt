@@ -157,7 +157,8 @@ module _ (table event : List ℕ) (types : Table) (a : Typed) (isTable : tableOf
   alone-parents : rule (byteView kind) (event ∷ []) .parents ≡ it .head .parents
   unfolding typeView eventView
   alone-parents = ap (λ (x : Dossier). x .parents)
-      (alone-rule ∙ rule-one (view kind) it (λ p l. set-rises kind it fitting p) (λ p l. least-few kind it kept fitting p) (rising-ups texts (it .head .parents) .0 (fitting .written .head .parents .rises)))
+      (alone-rule ∙ rule-one (view kind) it (λ p l. set-rises kind it fitting p) (λ p l. least-few kind it kept fitting p)
+      (rising-ups texts (it .head .parents) .0 (fitting .written .head .parents .rises)))
 
   alone-opens : opening (typeView kind) (rule (byteView kind) (event ∷ [])) ≡ merged (it .sets)
   unfolding typeView eventView places
@@ -167,14 +168,20 @@ module _ (table event : List ℕ) (types : Table) (a : Typed) (isTable : tableOf
       ∙ ap merged (map-getD (it .sets) [] 32 (fitting .written .sets .long)))
 
   alone-gives :
-      openedAnswer (headed (kind .name) (it .head .source) (rule (byteView kind) (event ∷ []))) (opening (typeView kind) (rule (byteView kind) (event ∷ []))) ≡ gives event
+      openedAnswer (headed (kind .name) (it .head .source) (rule (byteView kind) (event ∷ [])))
+      (opening (typeView kind) (rule (byteView kind) (event ∷ []))) ≡ gives event
   unfolding openedAnswer mergedEvent
   alone-gives =
       ap (openedAnswer (headed (kind .name) (it .head .source) (rule (byteView kind) (event ∷ [])))) alone-opens
-      ∙ ap gives (ap eventBytes (λ i. record { head = record { type = sym (fitting .named) i; source = it .head .source; parents = alone-parents i }; sets = it .sets })
+      ∙ ap gives (ap eventBytes (λ i. record {
+        head = record { type = sym (fitting .named) i; source = it .head .source; parents = alone-parents i };
+        sets = it .sets;
+      })
       ∙ sym (event-was narrow event it (facts .read) .0))
 
-  opens-alone : (d out old : List ℕ) → HasRoom out → HasRoom old → returned (checkCall table event out) ≡ wrote d → openCall standard table d old ≡ outcome (gives event) old
+  opens-alone :
+      (d out old : List ℕ) → HasRoom out → HasRoom old → returned (checkCall table event out) ≡ wrote d →
+      openCall standard table d old ≡ outcome (gives event) old
   unfolding wayAnswer calls events eventSet canon put alone
   opens-alone d out old r o e = demand3 table (leaf out event) (alone out r) .opened d old e o ∙ ap (λ (x : Answer). outcome x old) alone-gives
 

@@ -35,7 +35,8 @@ use Rattle.combining.specs.CombineCall.{combined, combineAsked, combineAnswer, 
 use Rattle.combining.proofs.MeetLaws.{taken-rises}
 use Rattle.combining.proofs.RoomLaws.{combined-short}
 use Rattle.opening.specs.OpenCall.{openedAnswer, askedOpening, openAnswer, openCall}
-use Rattle.batch.specs.Batch.{AskedAt, refusedAt, accepted, _>>_, at, agreeWith, batchDossier, together, batchAsked, batchGiven, haveRoom, batchAnswer, batchCall}
+use Rattle.batch.specs.Batch.{AskedAt, refusedAt, accepted, _>>_, at, agreeWith, batchDossier, together, batchAsked, batchGiven, haveRoom, batchAnswer}
+use Rattle.batch.specs.Batch.{batchCall}
 use Rattle.batch.specs.Taken.{Bounded}
 use Rattle.batch.proofs.TakenLaws.{Asks, asks-whether, accepts, asks-then, asks-more, asks-next, asks-event, AsksAt, asks-batch}
 use Rattle.batch.proofs.GatheredLaws.{fits-self, Gathers, gathers-asked, typed-gathers, batch-gathers}

@@ -41,5 +41,6 @@ pub merged-short :
     (table s : List ℕ) (types : Table) (a : TypedDossier) → tableOf table ≡ some types → DossierTaken types s a → (ss : List (List Text)) →
     opening (typeView (a .type)) (modelOf (a .headed)) ≡ merged ss → length (eventBytes (mergedEvent (a .headed) ss)) ≤ dossierCapacity
 merged-short table s types a t w ss o =
-    subst (λ (x : List (List Text)). length (eventBytes (mergedEvent (a .headed) x)) ≤ dossierCapacity) (opening-merged (typeView (a .type)) (modelOf (a .headed)) ss o .2)
+    subst (λ (x : List (List Text)). length (eventBytes (mergedEvent (a .headed) x)) ≤ dossierCapacity)
+    (opening-merged (typeView (a .type)) (modelOf (a .headed)) ss o .2)
     (merged-room table s types a t w)

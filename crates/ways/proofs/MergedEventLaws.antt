@@ -26,7 +26,8 @@ use Rattle.event.specs.EventLayout.{wide, eventBytes}
 use Rattle.event.specs.Head.{isSource}
 use Rattle.event.specs.EventQuestions.{isEmpty, setFits, eventShape, areInSpace, valuesFit, eventAsked}
 use Rattle.event.proofs.EventLayoutLaws.{SetWritten, EventWritten, event-read}
-use Rattle.event.proofs.EventQuestionLaws.{all-member, member-all, all-at, at-all, place-each, are-in-space, MatchAlike, match-count, fits-some, set-written, set-rises, choice-none, choice-match, single-at, flat-objects, accepted-event}
+use Rattle.event.proofs.EventQuestionLaws.{all-member, member-all, all-at, at-all, place-each, are-in-space, MatchAlike, match-count, fits-some, set-written}
+use Rattle.event.proofs.EventQuestionLaws.{set-rises, choice-none, choice-match, single-at, flat-objects, accepted-event}
 use Rattle.event.proofs.EventSizeLaws.{each-within}
 use Rattle.dossier.specs.DossierLayout.{headed}
 use Rattle.hashing.specs.HashText.{objectString, objectStrings, hashText, eventText}
@@ -52,98 +53,116 @@ pub hash-same :
 unfolding hashText
 hash-same t e f b l m = rw (b, object-strings (t .properties) (e .sets) (f .sets) l m)
 
-module _ (t : EventType) (uri : Text) (d : Event) (es : List Event) (g : Gathered t uri d es) (ss : List (List Text)) (o : opening (typeView t) (rule (view t) es) ≡ merged ss) where
-  abbrev ruled : Dossier
-  ruled = rule (view t) es
+module _
+    (t : EventType) (uri : Text) (d : Event) (es : List Event) (g : Gathered t uri d es) (ss : List (List Text))
+    (o : opening (typeView t) (rule (view t) es) ≡ merged ss)
+  where
+    abbrev ruled : Dossier
+    ruled = rule (view t) es
 
-  sets-are : mergedSets (typeView t) ruled ≡ ss
-  sets-are = opening-merged (typeView t) ruled ss o .2
+    sets-are : mergedSets (typeView t) ruled ≡ ss
+    sets-are = opening-merged (typeView t) ruled ss o .2
 
-  sets-long : length ss ≡ 32
-  unfolding mergedSets places typeView eventView
-  sets-long = ap (λ (x : List (List Text)). length x) (sym sets-are) ∙ (length-map (places (typeView t)) (mergedAt (typeView t) ruled) ∙ length-upTo 32)
+    sets-long : length ss ≡ 32
+    unfolding mergedSets places typeView eventView
+    sets-long = ap (λ (x : List (List Text)). length x) (sym sets-are) ∙ (length-map (places (typeView t)) (mergedAt (typeView t) ruled) ∙ length-upTo 32)
 
-  set-is : (p : ℕ) → p < 32 → getD ss p [] ≡ mergedAt (typeView t) ruled p
-  unfolding typeView eventView
-  set-is p l = ap (λ (x : List (List Text)). getD x p []) (sym sets-are) ∙ merged-sets-at (typeView t) ruled p l
+    set-is : (p : ℕ) → p < 32 → getD ss p [] ≡ mergedAt (typeView t) ruled p
+    unfolding typeView eventView
+    set-is p l = ap (λ (x : List (List Text)). getD x p []) (sym sets-are) ∙ merged-sets-at (typeView t) ruled p l
 
-  vacant : (p : ℕ) → p < 32 → getElem? (t .properties) p ≡ none → getD ss p [] ≡ []
-  unfolding typeView eventView
-  vacant p l c =
-      ap (λ (x : List (List Text)). getD x p []) (sym sets-are)
-      ∙ merged-match (view t) es p l [] (choice-none t p c .0) (choice-none t p c .1) tt (g .one) (λ e i. g .fit e i .vacant p c)
+    vacant : (p : ℕ) → p < 32 → getElem? (t .properties) p ≡ none → getD ss p [] ≡ []
+    unfolding typeView eventView
+    vacant p l c =
+        ap (λ (x : List (List Text)). getD x p []) (sym sets-are)
+        ∙ merged-match (view t) es p l [] (choice-none t p c .0) (choice-none t p c .1) tt (g .one) (λ e i. g .fit e i .vacant p c)
 
-  alike : MatchAlike (t .properties) ss (d .sets)
-  unfolding typeView eventView
-  alike p q at x =
-      ap (λ (y : List (List Text)). getD y p []) (sym sets-are)
-      ∙ merged-match (view t) es p (place-in t (g .kept) p q at) (setAt d p) (choice-match t p q at x .0) (choice-match t p q at x .1) (set-rises t d (g .model) p) (g .one) (λ e i. g .alike e i p q at x)
+    alike : MatchAlike (t .properties) ss (d .sets)
+    unfolding typeView eventView
+    alike p q at x =
+        ap (λ (y : List (List Text)). getD y p []) (sym sets-are)
+        ∙ merged-match (view t) es p (place-in t (g .kept) p q at) (setAt d p) (choice-match t p q at x .0) (choice-match t p q at x .1)
+        (set-rises t d (g .model) p) (g .one) (λ e i. g .alike e i p q at x)
 
-  same-length : length ss ≡ length (d .sets)
-  same-length = sets-long ∙ sym (g .model .written .sets .long)
+    same-length : length ss ≡ length (d .sets)
+    same-length = sets-long ∙ sym (g .model .written .sets .long)
 
-  fit-at : (p : ℕ) (q : Property) → getElem? (t .properties) p ≡ some q → setFits q (getD ss p []) ≡ true
-  unfolding setFits typeView eventView
-  fit-at p q at =
-      let l = place-in t (g .kept) p q at in
-      let s = getD ss p [] in
-      let (free, full, is) = opening-merged (typeView t) ruled ss o in
-      and-eq-true-iff (q .optional || leb 1 (length s)) (q .multivalued || leb (length s) 1) .1 (
-        truth (q .optional)
-            (λ c. rw c)
-            (λ c. rw c (le-leb 1 (length s) (has-length s (subst Has (sym (set-is p l)) (merged-some (view t) es p l free (g .one) (λ e i. fits-some q (setAt e p) (g .fit e i .fits p q at) c)))))),
-        truth (q .multivalued)
-            (λ c. rw c)
-            (λ c. rw c (le-leb (length s) 1 (subst (λ (x : List Text). length x ≤ 1) (sym (set-is p l)) (merged-single (typeView t) ruled full p l (single-at t p q at ∙ ap not c))))),
-      )
+    fit-at : (p : ℕ) (q : Property) → getElem? (t .properties) p ≡ some q → setFits q (getD ss p []) ≡ true
+    unfolding setFits typeView eventView
+    fit-at p q at =
+        let l = place-in t (g .kept) p q at in
+        let s = getD ss p [] in
+        let (free, full, is) = opening-merged (typeView t) ruled ss o in
+        and-eq-true-iff (q .optional || leb 1 (length s)) (q .multivalued || leb (length s) 1) .1 (
+          truth (q .optional)
+              (λ c. rw c)
+              (λ c. rw c (le-leb 1 (length s) (has-length s
+              (subst Has (sym (set-is p l)) (merged-some (view t) es p l free (g .one) (λ e i. fits-some q (setAt e p) (g .fit e i .fits p q at) c)))))),
+          truth (q .multivalued)
+              (λ c. rw c)
+              (λ c. rw c (le-leb (length s) 1 (subst (λ (x : List Text). length x ≤ 1) (sym (set-is p l))
+              (merged-single (typeView t) ruled full p l (single-at t p q at ∙ ap not c))))),
+        )
 
-  value-of : (p : ℕ) → p < 32 → (v : Text) → List·Memᴰ v (getD ss p []) → (e : Event) × List·Memᴰ e es × List·Memᴰ v (setAt e p)
-  unfolding typeView eventView
-  value-of p l v i = merged-value (view t) es p l v (rw (set-is p l) at i)
+    value-of : (p : ℕ) → p < 32 → (v : Text) → List·Memᴰ v (getD ss p []) → (e : Event) × List·Memᴰ e es × List·Memᴰ v (setAt e p)
+    unfolding typeView eventView
+    value-of p l v i = merged-value (view t) es p l v (rw (set-is p l) at i)
 
-  objects-few : objectCount ss ≤ 256
-  unfolding standard
-  objects-few = omega (arith, flat-objects ss, ap (λ (x : List (List Text)). length (flatten x)) sets-are, merged-limit (view t) standard 32 es (g .inside) (omega arith) (few-objects t es (g .fit)))
+    objects-few : objectCount ss ≤ 256
+    unfolding standard
+    objects-few =
+        omega (
+          arith,
+          flat-objects ss,
+          ap (λ (x : List (List Text)). length (flatten x)) sets-are,
+          merged-limit (view t) standard 32 es (g .inside) (omega arith) (few-objects t es (g .fit)),
+        )
 
-  set-written-at : (p : ℕ) → p < 32 → SetWritten (getD ss p [])
-  unfolding typeView eventView
-  set-written-at p l = record {
-    rises = rising-ups texts (getD ss p []) .1 (rw (set-is p l) (merged-rises (view t) es p l (λ e i. set-rises t e (g .fit e i) p)));
-    few = omega (arith, all-at (λ (x : List Text). length x ≤ 256) [] (omega arith) ss (each-within 256 ss objects-few) p);
-    short = member-all (λ (v : Text). length v < 2 ^ 64) (getD ss p []) (λ v i.
-        let (e, j, r) = value-of p l v i in
-        all-member (λ (w : Text). length w < 2 ^ 64) (setAt e p) (set-written t e (g .fit e j) p .short) v r);
-  }
+    set-written-at : (p : ℕ) → p < 32 → SetWritten (getD ss p [])
+    unfolding typeView eventView
+    set-written-at p l = record {
+      rises = rising-ups texts (getD ss p []) .1 (rw (set-is p l) (merged-rises (view t) es p l (λ e i. set-rises t e (g .fit e i) p)));
+      few = omega (arith, all-at (λ (x : List Text). length x ≤ 256) [] (omega arith) ss (each-within 256 ss objects-few) p);
+      short = member-all (λ (v : Text). length v < 2 ^ 64) (getD ss p []) (λ v i.
+          let (e, j, r) = value-of p l v i in
+          all-member (λ (w : Text). length w < 2 ^ 64) (setAt e p) (set-written t e (g .fit e j) p .short) v r);
+    }
 
-  abbrev opened : Event
-  opened = mergedEvent (headed (t .name) uri ruled) ss
+    abbrev opened : Event
+    opened = mergedEvent (headed (t .name) uri ruled) ss
 
-  merged-written : EventWritten wide opened
-  unfolding wide mergedEvent
-  merged-written = record {
-    head = record {
-      type = omega (arith, g .kept .short);
-      source = subst (λ (u : Text). isSource u ≡ true) (g .from (g .one .0) (g .one .1)) (g .fit (g .one .0) (g .one .1) .written .head .source);
-      parents = parents-written t uri d es g;
-    };
-    sets = record { long = sets-long; each = at-all SetWritten [] ss (λ p l. set-written-at p (omega (arith, sets-long))) };
-    objects = objects-few;
-  }
+    merged-written : EventWritten wide opened
+    unfolding wide mergedEvent
+    merged-written = record {
+      head = record {
+        type = omega (arith, g .kept .short);
+        source = subst (λ (u : Text). isSource u ≡ true) (g .from (g .one .0) (g .one .1)) (g .fit (g .one .0) (g .one .1) .written .head .source);
+        parents = parents-written t uri d es g;
+      };
+      sets = record { long = sets-long; each = at-all SetWritten [] ss (λ p l. set-written-at p (omega (arith, sets-long))) };
+      objects = objects-few;
+    }
 
-  -- questions 3 to 6 of the merged event
-  pub merged-asked : (table : Table) → typeNamed (t .name) table ≡ some t → eventAsked wide table (eventBytes opened) ≡ accepted (record { type = t; event = opened })
-  unfolding mergedEvent eventShape valuesFit
-  merged-asked table y = accepted-event wide table (eventBytes opened) t opened (record {
-    read = event-read wide opened merged-written;
-    typed = y;
-    shape =
-        rw (place-each setFits isEmpty (t .properties) ss fit-at (λ p l c. rw (vacant p (omega (arith, sets-long)) c)), match-count (t .properties) ss (d .sets) same-length alike)
-        (le-leb _ 32 (g .model .matches));
-    values = place-each (λ q s. areInSpace (q .kind) s) (λ s. true) (t .properties) ss
-        (λ p q at. are-in-space (q .kind) (getD ss p []) (λ v i. let (e, j, r) = value-of p (place-in t (g .kept) p q at) v i in g .fit e j .values p q at v r))
-        (λ p l c. refl);
-  })
+    -- questions 3 to 6 of the merged event
+    pub merged-asked :
+        (table : Table) → typeNamed (t .name) table ≡ some t →
+        eventAsked wide table (eventBytes opened) ≡ accepted (record { type = t; event = opened })
+    unfolding mergedEvent eventShape valuesFit
+    merged-asked table y = accepted-event wide table (eventBytes opened) t opened (record {
+      read = event-read wide opened merged-written;
+      typed = y;
+      shape =
+          rw (
+            place-each setFits isEmpty (t .properties) ss fit-at (λ p l c. rw (vacant p (omega (arith, sets-long)) c)),
+            match-count (t .properties) ss (d .sets) same-length alike,
+          )
+          (le-leb _ 32 (g .model .matches));
+      values = place-each (λ q s. areInSpace (q .kind) s) (λ s. true) (t .properties) ss
+          (λ p q at. are-in-space (q .kind) (getD ss p [])
+          (λ v i. let (e, j, r) = value-of p (place-in t (g .kept) p q at) v i in g .fit e j .values p q at v r))
+          (λ p l c. refl);
+    })
 
-  pub merged-text : d .head .source ≡ uri → eventText t opened ≡ eventText t d
-  unfolding mergedEvent
-  merged-text s = hash-same t opened d (sym s) same-length alike
+    pub merged-text : d .head .source ≡ uri → eventText t opened ≡ eventText t d
+    unfolding mergedEvent
+    merged-text s = hash-same t opened d (sym s) same-length alike

@@ -20,7 +20,8 @@ use Rattle.model.proofs.SetLaws.{rising-ups}
 use Rattle.model.proofs.RuleLaws.{rising-snapshots}
 use Rattle.model.proofs.LimitLaws.{fits-bounds}
 use Rattle.model.proofs.ValidLaws.{one-snapshot}
-use Rattle.model.proofs.DossierLaws.{parents-rise, parent-of, snapshot-in, snapshot-events, cells-length, snapshot-objects, cell-value, cell-rises, cell-set, cell-mandatory, cell-unmarked, cell-least, match-cells, version-cell}
+use Rattle.model.proofs.DossierLaws.{parents-rise, parent-of, snapshot-in, snapshot-events, cells-length, snapshot-objects, cell-value, cell-rises, cell-set}
+use Rattle.model.proofs.DossierLaws.{cell-mandatory, cell-unmarked, cell-least, match-cells, version-cell}
 use Rattle.model.proofs.SizeLaws.{sizes-in}
 use Rattle.packed.proofs.LayoutLaws.{All}
 use Rattle.values.specs.Decimal.{inDecimal}
@@ -33,11 +34,15 @@ use Rattle.event.specs.Head.{isSource}
 use Rattle.event.specs.EventQuestions.{areInSpace, valuesFit}
 use Rattle.event.proofs.EventLayoutLaws.{SetWritten}
 use Rattle.event.proofs.HeadLayoutLaws.{ParentsWritten}
-use Rattle.event.proofs.EventQuestionLaws.{all-member, member-all, all-at, at-all, place-each, are-in-space, MatchAlike, match-count, fits-some, fits-single, EventFits, empty-written, set-written, set-rises, choice-none, choice-match, extreme-least, version-set, version-below, version-none, count-objects}
+use Rattle.event.proofs.EventQuestionLaws.{all-member, member-all, all-at, at-all, place-each, are-in-space, MatchAlike, match-count, fits-some, fits-single}
+use Rattle.event.proofs.EventQuestionLaws.{EventFits, empty-written, set-written, set-rises, choice-none, choice-match, extreme-least, version-set}
+use Rattle.event.proofs.EventQuestionLaws.{version-below, version-none, count-objects}
 use Rattle.event.proofs.EventSizeLaws.{each-within}
 use Rattle.event.specs.Agreement.{matchSets}
 use Rattle.dossier.specs.DossierLayout.{Headed, dossierBytes, headed}
-use Rattle.dossier.specs.DossierQuestions.{eachCell, eachSnapshot, isVacant, isPresent, isLone, isLoneIfSingle, isLoneIfExtreme, unversionedSnapshot, unversionedShape, holdsVersion, versionedSnapshot, snapshotMatch, isUnmarkedMatch, matchFits, dossierShape, snapshotValues, dossierAsked, dossierMatch}
+use Rattle.dossier.specs.DossierQuestions.{eachCell, eachSnapshot, isVacant, isPresent, isLone, isLoneIfSingle, isLoneIfExtreme, unversionedSnapshot}
+use Rattle.dossier.specs.DossierQuestions.{unversionedShape, holdsVersion, versionedSnapshot, snapshotMatch, isUnmarkedMatch, matchFits, dossierShape}
+use Rattle.dossier.specs.DossierQuestions.{snapshotValues, dossierAsked, dossierMatch}
 use Rattle.dossier.proofs.DossierBodyLaws.{SnapshotWritten}
 use Rattle.dossier.proofs.DossierLayoutLaws.{DossierWritten, dossier-read}
 use Rattle.dossier.proofs.DossierSizeLaws.{held-objects}
@@ -103,7 +108,8 @@ module _ (t : EventType) (uri : Text) (d : Event) (es : List Event) (g : Gathere
           (λ o. rw o)
           (λ o. cell-is (cellAt z p)
           (λ e. rw (o, e))
-          (λ s e. rw (o, e) (le-leb 1 (length s) (has-length s (cell-mandatory (view t) es z m p below s e (λ x i. fits-some q (setAt x p) (g .fit x i .fits p q at) o))))))
+          (λ s e. rw (o, e) (le-leb 1 (length s) (has-length s
+          (cell-mandatory (view t) es z m p below s e (λ x i. fits-some q (setAt x p) (g .fit x i .fits p q at) o))))))
 
       single : isVersioned t ≡ true → isLoneIfSingle q (cellAt z p) ≡ true
       unfolding isLoneIfSingle isLone held typeView eventView
@@ -149,7 +155,8 @@ module _ (t : EventType) (uri : Text) (d : Event) (es : List Event) (g : Gathere
     unfolding typeView eventView
     has-version u =
         let mark = g .kept .marked u in
-        version-cell (view t) es z m (t .mark - 1) (place-in t (g .kept) (t .mark - 1) (mark .property) (mark .at)) (λ v. inDecimal v ∷ []) u (λ e i. version-set t e (g .kept) (g .fit e i) u)
+        version-cell (view t) es z m (t .mark - 1) (place-in t (g .kept) (t .mark - 1) (mark .property) (mark .at)) (λ v. inDecimal v ∷ []) u
+        (λ e i. version-set t e (g .kept) (g .fit e i) u)
 
     versioned-shape : isVersioned t ≡ true → versionedSnapshot t z ≡ true
     unfolding versionedSnapshot holdsVersion typeView eventView
@@ -180,7 +187,10 @@ module _ (t : EventType) (uri : Text) (d : Event) (es : List Event) (g : Gathere
     match-fits : matchFits t z ≡ true
     unfolding matchFits
     match-fits =
-        rw (cell-each isUnmarkedMatch (λ c. true) (t .properties) z matched (λ p l o. refl), match-count (t .properties) (map held (z .cells)) (d .sets) same-length alike-sets)
+        rw (
+          cell-each isUnmarkedMatch (λ c. true) (t .properties) z matched (λ p l o. refl),
+          match-count (t .properties) (map held (z .cells)) (d .sets) same-length alike-sets,
+        )
         (le-leb _ 32 (g .model .matches))
 
     snapshot-match : snapshotMatch t z ≡ matchSets (t .properties) (d .sets)
@@ -196,7 +206,8 @@ module _ (t : EventType) (uri : Text) (d : Event) (es : List Event) (g : Gathere
     values-fit : snapshotValues t z ≡ true
     unfolding snapshotValues valuesFit
     values-fit = place-each (λ q s. areInSpace (q .kind) s) (λ s. true) (t .properties) (map held (z .cells))
-        (λ p q at. rw (held-at z p) (are-in-space (q .kind) (held (cellAt z p)) (λ v i. let (e, j, r) = held-from p (below p q at) v i in g .fit e j .values p q at v r)))
+        (λ p q at. rw (held-at z p) (are-in-space (q .kind) (held (cellAt z p))
+        (λ v i. let (e, j, r) = held-from p (below p q at) v i in g .fit e j .values p q at v r)))
         (λ p l o. refl)
 
     held-small : All (λ (x : List Text). length x ≤ 256) (map held (z .cells))
@@ -208,7 +219,12 @@ module _ (t : EventType) (uri : Text) (d : Event) (es : List Event) (g : Gathere
       rises = cell-is (cellAt z p)
           (λ e. rw e (empty-written .rises))
           (λ s e. rw e (rising-ups texts s .1 (cell-rises (view t) es z m p l s e (λ x i. set-rises t x (g .fit x i) p))));
-      few = omega (arith, all-at (λ (x : List Text). length x ≤ 256) [] (omega arith) (map held (z .cells)) held-small p, ap (λ (x : List Text). length x) (held-at z p));
+      few =
+          omega (
+            arith,
+            all-at (λ (x : List Text). length x ≤ 256) [] (omega arith) (map held (z .cells)) held-small p,
+            ap (λ (x : List Text). length x) (held-at z p),
+          );
       short = member-all (λ (v : Text). length v < 2 ^ 64) (held (cellAt z p)) (λ v i.
           let (e, j, r) = held-from p l v i in
           all-member (λ (w : Text). length w < 2 ^ 64) (setAt e p) (set-written t e (g .fit e j) p .short) v r);
@@ -230,13 +246,18 @@ module _ (t : EventType) (uri : Text) (d : Event) (es : List Event) (g : Gathere
   rule-shape : dossierShape standard t (ruled .snapshots) ≡ true
   unfolding dossierShape unversionedShape
   rule-shape =
-      rw (snapshot-each (λ z. eachCell isPresent isVacant (t .properties) (z .cells)) (ruled .snapshots) presence, kinds, snapshot-each (matchFits t) (ruled .snapshots) match-fits)
+      rw (
+        snapshot-each (λ z. eachCell isPresent isVacant (t .properties) (z .cells)) (ruled .snapshots) presence,
+        kinds,
+        snapshot-each (matchFits t) (ruled .snapshots) match-fits,
+      )
       (match-alike t (ruled .snapshots) (matchSets (t .properties) (d .sets)) snapshot-match)
     where
       kinds : cond (isVersioned t) (eachSnapshot (versionedSnapshot t) (ruled .snapshots)) (unversionedShape standard t (ruled .snapshots)) ≡ true
       kinds = truth (isVersioned t)
           (λ u. rw u (snapshot-each (versionedSnapshot t) (ruled .snapshots) (λ z m. versioned-shape z m u)))
-          (λ u. rw (u, eq-eqb (length (ruled .snapshots)) 1 (one-alone t es (g .one) u)) (snapshot-each (unversionedSnapshot standard t) (ruled .snapshots) (λ z m. unversioned-snapshot z m u)))
+          (λ u. rw (u, eq-eqb (length (ruled .snapshots)) 1 (one-alone t es (g .one) u))
+          (snapshot-each (unversionedSnapshot standard t) (ruled .snapshots) (λ z m. unversioned-snapshot z m u)))
 
   -- question 6
   rule-values : eachSnapshot (snapshotValues t) (ruled .snapshots) ≡ true
@@ -284,5 +305,8 @@ module _ (t : EventType) (uri : Text) (d : Event) (es : List Event) (g : Gathere
       }
 
   -- questions 3 to 6 of the rule's bytes
-  pub rule-asked : (table : Table) → typeNamed (t .name) table ≡ some t → dossierAsked standard table (dossierBytes ruled-head) ≡ accepted (record { type = t; headed = ruled-head })
-  rule-asked table y = dossier-accepted standard table (dossierBytes ruled-head) t ruled-head (dossier-read standard ruled-head rule-written) y rule-shape rule-values
+  pub rule-asked :
+      (table : Table) → typeNamed (t .name) table ≡ some t →
+      dossierAsked standard table (dossierBytes ruled-head) ≡ accepted (record { type = t; headed = ruled-head })
+  rule-asked table y =
+      dossier-accepted standard table (dossierBytes ruled-head) t ruled-head (dossier-read standard ruled-head rule-written) y rule-shape rule-values
