@@ -8,7 +8,7 @@ use native.Mathlib.Omega.{arith}
 use Rattle.model.specs.Order.{Order, Text, numbers, texts}
 use Rattle.model.specs.Keyed.{put}
 use Rattle.model.specs.Sets.{Ups, canon, only}
-use Rattle.model.specs.Rule.{holds, differs, Choice, every, least, View, places, Snapshot, cell, ofVersion, cellOf, snapshot, ruleAt, rule, sizes}
+use Rattle.model.specs.Rule.{Cell, holds, differs, Choice, every, least, View, places, Snapshot, cell, ofVersion, cellOf, snapshot, ruleAt, rule, sizes}
 use Rattle.model.proofs.PartLaws.{count, map-same, flatten-of, only-in, only-of, length-upTo}
 use Rattle.model.specs.Opening.{cellAt}
 use Rattle.model.proofs.WayClaims.{Each, Has}
@@ -92,6 +92,11 @@ module _ {Event : Type 0} (t : View Event) (es : List Event) where
           let (ss, n, h, q) = cell-sets in
           held-rises (t .type .versioned) (t .type .choice p) ss s (sym q ∙ c) (λ x k. let (e, me, v, r) = h x k in rw (← r) (u e me))
 
+      cell-by :
+          {b : Bool} {k : Cell} (ss : List (List Text)) → t .type .versioned ≡ b → cellAt z p ≡ cell (t .type .versioned) (t .type .choice p) ss →
+          cellAt z p ≡ k → cell b (t .type .choice p) ss ≡ k
+      cell-by ss u q c = ap (λ (b : Bool). cell b (t .type .choice p) ss) (sym u) ∙ (sym q ∙ c)
+
       -- of a versioned type, it is the set of an event of that version
       pub cell-set :
           (s : List Text) → t .type .versioned ≡ true → cellAt z p ≡ holds s →
@@ -100,7 +105,7 @@ module _ {Event : Type 0} (t : View Event) (es : List Event) where
       cell-set s u c =
           let (ss, n, h, q) = cell-sets in
           let (e, me, v, r) = h (n .0) (n .1) in
-          (e, me, v, r ∙ agreed-holds ss s (ap (λ (b : Bool). cell b (t .type .choice p) ss) (sym u) ∙ (sym q ∙ c)) (n .0) (n .1))
+          (e, me, v, r ∙ agreed-holds ss s (cell-by ss u q c) (n .0) (n .1))
 
       -- "is a mandatory one present or marked"
       pub cell-mandatory : (s : List Text) → cellAt z p ≡ holds s → Each (λ e. Has (t .event .set e p)) es → Has s
@@ -112,12 +117,12 @@ module _ {Event : Type 0} (t : View Event) (es : List Event) where
       pub cell-unmarked : t .type .versioned ≡ false → cellAt z p ≡ differs → ⊥
       cell-unmarked u c =
           let (ss, n, h, q) = cell-sets in
-          never (not-unversioned (t .type .choice p) ss (ap (λ (b : Bool). cell b (t .type .choice p) ss) (sym u) ∙ (sym q ∙ c)))
+          never (not-unversioned (t .type .choice p) ss (cell-by ss u q c))
 
       pub cell-least : (O : Order Text) (s : List Text) → t .type .versioned ≡ false → t .type .choice p ≡ least O → cellAt z p ≡ holds s → length s ≤ 1
       cell-least O s u o c =
           let (ss, n, h, q) = cell-sets in
-          held-least O ss s (ap (λ (x : Choice). cell false x ss) (sym o) ∙ (ap (λ (b : Bool). cell b (t .type .choice p) ss) (sym u) ∙ (sym q ∙ c)))
+          held-least O ss s (ap (λ (x : Choice). cell false x ss) (sym o) ∙ (cell-by ss u q c))
 
       -- a place at which all events have one set, as at a match property, has that set: "are match sets unmarked, alike in all snapshots"
       pub match-cells : (s : List Text) → t .type .choice p ≡ every → Ups texts s → Each (λ e. t .event .set e p ≡ s) es → cellAt z p ≡ holds s
