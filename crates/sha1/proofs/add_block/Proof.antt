@@ -16,31 +16,10 @@ mul-start c = omega (arith, padded-most (c .before .args .message .now))
 add-end : tie.Need-add-end
 add-end c = omega (arith, padded-most (c .before .args .message .now))
 
-sub-compress : tie.Need-sub-compress
-sub-compress c = search needs
-
-part-compress-start : tie.Need-part-compress-start
-part-compress-start c = search needs
-
-part-compress-end : tie.Need-part-compress-end
-part-compress-end c = search needs
-
-compress-requires : tie.Need-compress-requires
-compress-requires c κs = search needs
-
 returns : tie.Need-returns
 returns c =
     let a = c .before .before .before .before .args in
     c .compress .ensures ∙ ap (λ (m : List ℕ). compressed m (wordsOf (a .s))) (block-in (a .message .now) (a .i) (omega arith))
-
-padded-block-requires : tie.Need-padded-block-requires
-padded-block-requires c κs = search needs
-
-slice-aggregate-compress : tie.Need-slice-aggregate-compress
-slice-aggregate-compress c = search needs
-
-compress-requires-2 : tie.Need-compress-requires-2
-compress-requires-2 c κs = search needs
 
 returns-2 : tie.Need-returns-2
 returns-2 c =
@@ -53,12 +32,12 @@ add-block-spec =
     (tie.spec
     mul-start
     add-end
-    sub-compress
-    part-compress-start
-    part-compress-end
-    compress-requires
+    (λ c. search needs)
+    (λ c. search needs)
+    (λ c. search needs)
+    (λ c κs. search needs)
     returns
-    padded-block-requires
-    slice-aggregate-compress
-    compress-requires-2
+    (λ c κs. search needs)
+    (λ c. search needs)
+    (λ c κs. search needs)
     returns-2)

@@ -19,54 +19,6 @@ loop-holds : tie.Need-loop-holds Inv-loop μ-loop
 unfolding schedule
 loop-holds c = (omega arith, c .before .pre .1, refl)
 
-mul-word-of : tie.Need-mul-word-of Inv-loop μ-loop
-mul-word-of c = search needs
-
-shared-slice-read-word-of : tie.Need-shared-slice-read-word-of Inv-loop μ-loop
-shared-slice-read-word-of c = search needs
-
-mul-word-of-2 : tie.Need-mul-word-of-2 Inv-loop μ-loop
-mul-word-of-2 c = search needs
-
-add-word-of : tie.Need-add-word-of Inv-loop μ-loop
-add-word-of c = search needs
-
-shared-slice-read-word-of-2 : tie.Need-shared-slice-read-word-of-2 Inv-loop μ-loop
-shared-slice-read-word-of-2 c = search needs
-
-mul-word-of-3 : tie.Need-mul-word-of-3 Inv-loop μ-loop
-mul-word-of-3 c = search needs
-
-add-word-of-2 : tie.Need-add-word-of-2 Inv-loop μ-loop
-add-word-of-2 c = search needs
-
-shared-slice-read-word-of-3 : tie.Need-shared-slice-read-word-of-3 Inv-loop μ-loop
-shared-slice-read-word-of-3 c = search needs
-
-mul-word-of-4 : tie.Need-mul-word-of-4 Inv-loop μ-loop
-mul-word-of-4 c = search needs
-
-add-word-of-3 : tie.Need-add-word-of-3 Inv-loop μ-loop
-add-word-of-3 c = search needs
-
-shared-slice-read-word-of-4 : tie.Need-shared-slice-read-word-of-4 Inv-loop μ-loop
-shared-slice-read-word-of-4 c = search needs
-
-word-of-requires : tie.Need-word-of-requires Inv-loop μ-loop
-word-of-requires c κs = search needs
-
-mul-w : tie.Need-mul-w Inv-loop μ-loop
-mul-w c = search needs
-
-element-write-w : tie.Need-element-write-w Inv-loop μ-loop
-element-write-w c = search needs
-
-add-t : tie.Need-add-t Inv-loop μ-loop
-add-t c = search needs
-
-loop-less : tie.Need-loop-less Inv-loop μ-loop
-loop-less c = search needs
-
 loop-again : tie.Need-loop-again Inv-loop μ-loop
 unfolding wordAt
 loop-again c =
@@ -91,21 +43,21 @@ block-words-spec =
     Inv-loop
     μ-loop
     loop-holds
-    mul-word-of
-    shared-slice-read-word-of
-    mul-word-of-2
-    add-word-of
-    shared-slice-read-word-of-2
-    mul-word-of-3
-    add-word-of-2
-    shared-slice-read-word-of-3
-    mul-word-of-4
-    add-word-of-3
-    shared-slice-read-word-of-4
-    word-of-requires
-    mul-w
-    element-write-w
-    add-t
-    loop-less
+    (λ c. search needs)
+    (λ c. search needs)
+    (λ c. search needs)
+    (λ c. search needs)
+    (λ c. search needs)
+    (λ c. search needs)
+    (λ c. search needs)
+    (λ c. search needs)
+    (λ c. search needs)
+    (λ c. search needs)
+    (λ c. search needs)
+    (λ c κs. search needs)
+    (λ c. search needs)
+    (λ c. search needs)
+    (λ c. search needs)
+    (λ c. search needs)
     loop-again
     returns)

@@ -7,36 +7,6 @@ use borrow.Author.Needs.{needs}
 use Rattle.sha1.proofs.compress.Statement.{statement}
 use Rattle.sha1.proofs.compress.Tie as tie
 
-block-words-requires : tie.Need-block-words-requires
-block-words-requires c κs = search needs
-
-extend-requires : tie.Need-extend-requires
-extend-requires c κs = search needs
-
-twenty-requires : tie.Need-twenty-requires
-twenty-requires c κs = search needs
-
-extend-requires-2 : tie.Need-extend-requires-2
-extend-requires-2 c κs = search needs
-
-twenty-requires-2 : tie.Need-twenty-requires-2
-twenty-requires-2 c κs = search needs
-
-extend-requires-3 : tie.Need-extend-requires-3
-extend-requires-3 c κs = search needs
-
-twenty-requires-3 : tie.Need-twenty-requires-3
-twenty-requires-3 c κs = search needs
-
-extend-requires-4 : tie.Need-extend-requires-4
-extend-requires-4 c κs = search needs
-
-twenty-requires-4 : tie.Need-twenty-requires-4
-twenty-requires-4 c κs = search needs
-
-sum-of-requires : tie.Need-sum-of-requires
-sum-of-requires c κs = search needs
-
 returns : tie.Need-returns
 unfolding compressed rounds
 returns c =
@@ -67,14 +37,14 @@ pub compress-spec : {M : Type 1} → statement M
 compress-spec =
     tie.close
     (tie.spec
-    block-words-requires
-    extend-requires
-    twenty-requires
-    extend-requires-2
-    twenty-requires-2
-    extend-requires-3
-    twenty-requires-3
-    extend-requires-4
-    twenty-requires-4
-    sum-of-requires
+    (λ c κs. search needs)
+    (λ c κs. search needs)
+    (λ c κs. search needs)
+    (λ c κs. search needs)
+    (λ c κs. search needs)
+    (λ c κs. search needs)
+    (λ c κs. search needs)
+    (λ c κs. search needs)
+    (λ c κs. search needs)
+    (λ c κs. search needs)
     returns)

@@ -20,57 +20,6 @@ abbrev μ-loop : tie.MeasureT-loop
 loop-holds : tie.Need-loop-holds Inv-loop μ-loop
 loop-holds c = (omega arith, omega arith, c .pre .3, λ m e. e)
 
-sub-rotl : tie.Need-sub-rotl Inv-loop μ-loop
-sub-rotl c = search needs
-
-mul-rotl : tie.Need-mul-rotl Inv-loop μ-loop
-mul-rotl c = search needs
-
-element-copy-out-rotl : tie.Need-element-copy-out-rotl Inv-loop μ-loop
-element-copy-out-rotl c = search needs
-
-sub-rotl-2 : tie.Need-sub-rotl-2 Inv-loop μ-loop
-sub-rotl-2 c = search needs
-
-mul-rotl-2 : tie.Need-mul-rotl-2 Inv-loop μ-loop
-mul-rotl-2 c = search needs
-
-element-copy-out-rotl-2 : tie.Need-element-copy-out-rotl-2 Inv-loop μ-loop
-element-copy-out-rotl-2 c = search needs
-
-sub-rotl-3 : tie.Need-sub-rotl-3 Inv-loop μ-loop
-sub-rotl-3 c = search needs
-
-mul-rotl-3 : tie.Need-mul-rotl-3 Inv-loop μ-loop
-mul-rotl-3 c = search needs
-
-element-copy-out-rotl-3 : tie.Need-element-copy-out-rotl-3 Inv-loop μ-loop
-element-copy-out-rotl-3 c = search needs
-
-sub-rotl-4 : tie.Need-sub-rotl-4 Inv-loop μ-loop
-sub-rotl-4 c = search needs
-
-mul-rotl-4 : tie.Need-mul-rotl-4 Inv-loop μ-loop
-mul-rotl-4 c = search needs
-
-element-copy-out-rotl-4 : tie.Need-element-copy-out-rotl-4 Inv-loop μ-loop
-element-copy-out-rotl-4 c = search needs
-
-rotl-requires : tie.Need-rotl-requires Inv-loop μ-loop
-rotl-requires c κs = search needs
-
-mul-w : tie.Need-mul-w Inv-loop μ-loop
-mul-w c = search needs
-
-element-write-w : tie.Need-element-write-w Inv-loop μ-loop
-element-write-w c = search needs
-
-add-t : tie.Need-add-t Inv-loop μ-loop
-add-t c = search needs
-
-loop-less : tie.Need-loop-less Inv-loop μ-loop
-loop-less c = search needs
-
 loop-again : tie.Need-loop-again Inv-loop μ-loop
 loop-again c =
     let l = c .before .before .before .before .before .before in
@@ -96,22 +45,22 @@ extend-spec =
     Inv-loop
     μ-loop
     loop-holds
-    sub-rotl
-    mul-rotl
-    element-copy-out-rotl
-    sub-rotl-2
-    mul-rotl-2
-    element-copy-out-rotl-2
-    sub-rotl-3
-    mul-rotl-3
-    element-copy-out-rotl-3
-    sub-rotl-4
-    mul-rotl-4
-    element-copy-out-rotl-4
-    rotl-requires
-    mul-w
-    element-write-w
-    add-t
-    loop-less
+    (λ c. search needs)
+    (λ c. search needs)
+    (λ c. search needs)
+    (λ c. search needs)
+    (λ c. search needs)
+    (λ c. search needs)
+    (λ c. search needs)
+    (λ c. search needs)
+    (λ c. search needs)
+    (λ c. search needs)
+    (λ c. search needs)
+    (λ c. search needs)
+    (λ c κs. search needs)
+    (λ c. search needs)
+    (λ c. search needs)
+    (λ c. search needs)
+    (λ c. search needs)
     loop-again
     returns)

@@ -26,18 +26,6 @@ mul-padded-byte c = omega (arith, padded-most (c .before .before .before .args .
 add-padded-byte : tie.Need-add-padded-byte Inv-loop μ-loop
 add-padded-byte c = omega (arith, padded-most (c .before .before .before .args .message .now))
 
-padded-byte-requires : tie.Need-padded-byte-requires Inv-loop μ-loop
-padded-byte-requires c κs = search needs
-
-array-write-m : tie.Need-array-write-m Inv-loop μ-loop
-array-write-m c = search needs
-
-add-k : tie.Need-add-k Inv-loop μ-loop
-add-k c = search needs
-
-loop-less : tie.Need-loop-less Inv-loop μ-loop
-loop-less c = search needs
-
 loop-again : tie.Need-loop-again Inv-loop μ-loop
 loop-again c =
     let l = c .before .before in
@@ -68,9 +56,9 @@ padded-block-spec =
     loop-holds
     mul-padded-byte
     add-padded-byte
-    padded-byte-requires
-    array-write-m
-    add-k
-    loop-less
+    (λ c κs. search needs)
+    (λ c. search needs)
+    (λ c. search needs)
+    (λ c. search needs)
     loop-again
     returns)

@@ -5,30 +5,6 @@ use borrow.Author.Needs.{needs}
 use Rattle.sha1.proofs.round_of.Statement.{statement}
 use Rattle.sha1.proofs.round_of.Tie as tie
 
-constant-requires : tie.Need-constant-requires
-constant-requires c κs = search needs
-
-wrapping-add-u32-requires : tie.Need-wrapping-add-u32-requires
-wrapping-add-u32-requires c κs = search needs
-
-wrapping-add-u32-requires-2 : tie.Need-wrapping-add-u32-requires-2
-wrapping-add-u32-requires-2 c κs = search needs
-
-mix-requires : tie.Need-mix-requires
-mix-requires c κs = search needs
-
-wrapping-add-u32-requires-3 : tie.Need-wrapping-add-u32-requires-3
-wrapping-add-u32-requires-3 c κs = search needs
-
-rotl-requires : tie.Need-rotl-requires
-rotl-requires c κs = search needs
-
-wrapping-add-u32-requires-4 : tie.Need-wrapping-add-u32-requires-4
-wrapping-add-u32-requires-4 c κs = search needs
-
-rotl-requires-2 : tie.Need-rotl-requires-2
-rotl-requires-2 c κs = search needs
-
 returns : tie.Need-returns
 unfolding round plus
 returns c =
@@ -40,12 +16,12 @@ pub round-of-spec : {M : Type 1} → statement M
 round-of-spec =
     tie.close
     (tie.spec
-    constant-requires
-    wrapping-add-u32-requires
-    wrapping-add-u32-requires-2
-    mix-requires
-    wrapping-add-u32-requires-3
-    rotl-requires
-    wrapping-add-u32-requires-4
-    rotl-requires-2
+    (λ c κs. search needs)
+    (λ c κs. search needs)
+    (λ c κs. search needs)
+    (λ c κs. search needs)
+    (λ c κs. search needs)
+    (λ c κs. search needs)
+    (λ c κs. search needs)
+    (λ c κs. search needs)
     returns)

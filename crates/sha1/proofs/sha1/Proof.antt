@@ -16,9 +16,6 @@ Inv-loop message blocks s₀ i₀ s i = (i ≤ blocks) × (wordsOf s ≡ hash (p
 abbrev μ-loop : tie.MeasureT-loop
 μ-loop message blocks s₀ i₀ s i = blocks - i
 
-padded-length-requires : tie.Need-padded-length-requires Inv-loop μ-loop
-padded-length-requires c κs = search needs
-
 loop-holds : tie.Need-loop-holds Inv-loop μ-loop
 unfolding hash H0
 loop-holds c = (omega arith, refl)
@@ -26,20 +23,11 @@ loop-holds c = (omega arith, refl)
 add-block-requires : tie.Need-add-block-requires Inv-loop μ-loop
 add-block-requires c κs = omega (arith, length-padded (c .before .before .before .before .args .message .now))
 
-add-i : tie.Need-add-i Inv-loop μ-loop
-add-i c = search needs
-
-loop-less : tie.Need-loop-less Inv-loop μ-loop
-loop-less c = search needs
-
 loop-again : tie.Need-loop-again Inv-loop μ-loop
 loop-again c =
     let l = c .before .before in
     let p = padded (l .before .before .before .args .message .now) in
     (omega arith, c .add-block .ensures ∙ ap (compressed (block p (l .loop .i))) (l .loop .inv .1) ∙ hash-more p (l .loop .i))
-
-digest-of-requires : tie.Need-digest-of-requires Inv-loop μ-loop
-digest-of-requires c κs = search needs
 
 returns : tie.Need-returns Inv-loop μ-loop
 unfolding sha1Of
@@ -55,11 +43,11 @@ sha1-spec =
     (tie.spec
     Inv-loop
     μ-loop
-    padded-length-requires
+    (λ c κs. search needs)
     loop-holds
     add-block-requires
-    add-i
-    loop-less
+    (λ c. search needs)
+    (λ c. search needs)
     loop-again
-    digest-of-requires
+    (λ c κs. search needs)
     returns)

@@ -23,24 +23,6 @@ abbrev μ-loop : tie.MeasureT-loop
 loop-holds : tie.Need-loop-holds Inv-loop μ-loop
 loop-holds c = (omega arith, omega arith, λ ws h words e. e)
 
-add-loop : tie.Need-add-loop Inv-loop μ-loop
-add-loop c = search needs
-
-mul-round-of : tie.Need-mul-round-of Inv-loop μ-loop
-mul-round-of c = search needs
-
-element-copy-out-round-of : tie.Need-element-copy-out-round-of Inv-loop μ-loop
-element-copy-out-round-of c = search needs
-
-round-of-requires : tie.Need-round-of-requires Inv-loop μ-loop
-round-of-requires c κs = search needs
-
-add-t : tie.Need-add-t Inv-loop μ-loop
-add-t c = search needs
-
-loop-less : tie.Need-loop-less Inv-loop μ-loop
-loop-less c = search needs
-
 loop-again : tie.Need-loop-again Inv-loop μ-loop
 loop-again c =
     let l = c .before .before .before in
@@ -66,11 +48,11 @@ twenty-spec =
     Inv-loop
     μ-loop
     loop-holds
-    add-loop
-    mul-round-of
-    element-copy-out-round-of
-    round-of-requires
-    add-t
-    loop-less
+    (λ c. search needs)
+    (λ c. search needs)
+    (λ c. search needs)
+    (λ c κs. search needs)
+    (λ c. search needs)
+    (λ c. search needs)
     loop-again
     returns)

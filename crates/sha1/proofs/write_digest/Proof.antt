@@ -17,28 +17,10 @@ Inv-loop message out₀ at d k₀ out k = (k ≤ 20) × (length d ≡ 20) × (le
 abbrev μ-loop : tie.MeasureT-loop
 μ-loop message out₀ at d k₀ out k = 20 - k
 
-sha1-requires : tie.Need-sha1-requires Inv-loop μ-loop
-sha1-requires c κs = search needs
-
 loop-holds : tie.Need-loop-holds Inv-loop μ-loop
 loop-holds c =
     let a = c .before .before .before .args in
     (omega arith, ap length (c .sha1 .ensures) ∙ length-sha1Of (a .message .now), refl, paste-zero (a .out .now) (a .at) (c .sha1 .result))
-
-array-read-out : tie.Need-array-read-out Inv-loop μ-loop
-array-read-out c = search needs
-
-add-out : tie.Need-add-out Inv-loop μ-loop
-add-out c = search needs
-
-slice-write-out : tie.Need-slice-write-out Inv-loop μ-loop
-slice-write-out c = search needs
-
-add-k : tie.Need-add-k Inv-loop μ-loop
-add-k c = search needs
-
-loop-less : tie.Need-loop-less Inv-loop μ-loop
-loop-less c = search needs
 
 loop-again : tie.Need-loop-again Inv-loop μ-loop
 loop-again c =
@@ -52,9 +34,6 @@ loop-again c =
       ap (λ (o : List ℕ). set o (a .at + k) (getD d k 0)) (l .loop .inv .3) ∙ paste-suc (a .out .now) (a .at) d k 0 (omega arith) (omega arith)
           ∙ ap (paste (a .out .now) (a .at) d) (sym (add-one k)),
     )
-
-same-length : tie.Need-same-length Inv-loop μ-loop
-same-length c = search needs
 
 returns : tie.Need-returns Inv-loop μ-loop
 returns c =
@@ -71,13 +50,13 @@ write-digest-spec =
     (tie.spec
     Inv-loop
     μ-loop
-    sha1-requires
+    (λ c κs. search needs)
     loop-holds
-    array-read-out
-    add-out
-    slice-write-out
-    add-k
-    loop-less
+    (λ c. search needs)
+    (λ c. search needs)
+    (λ c. search needs)
+    (λ c. search needs)
+    (λ c. search needs)
     loop-again
-    same-length
+    (λ c. search needs)
     returns)

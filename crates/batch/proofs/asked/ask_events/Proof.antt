@@ -87,26 +87,11 @@ module _ (c : tie.Else1 Inv-loop μ-loop) where
 
 -- ---- the needs
 
-event-part-requires : tie.Need-event-part-requires Inv-loop μ-loop
-event-part-requires c κs = search needs
-
-slice-aggregate-read-event : tie.Need-slice-aggregate-read-event Inv-loop μ-loop
-slice-aggregate-read-event c = search needs
-
-read-event-requires : tie.Need-read-event-requires Inv-loop μ-loop
-read-event-requires c κs = search needs
-
-slice-aggregate-ask-one : tie.Need-slice-aggregate-ask-one Inv-loop μ-loop
-slice-aggregate-ask-one c = search needs
-
 ask-one-requires : tie.Need-ask-one-requires Inv-loop μ-loop
 ask-one-requires c κs =
     let read = c .before .before in
     let p = to-start (read-part read) .pre in
     ((p .0 .says, p .1, search needs), read .read-event .ensures)
-
-answer-requires : tie.Need-answer-requires Inv-loop μ-loop
-answer-requires c κs = search needs
 
 returns : tie.Need-returns Inv-loop μ-loop
 returns c =
@@ -132,23 +117,11 @@ loop-holds c = (
 event-part-requires-2 : tie.Need-event-part-requires-2 Inv-loop μ-loop
 event-part-requires-2 c κs = omega (arith, c .if2 .taken, few (c .before .before))
 
-slice-aggregate-read-event-2 : tie.Need-slice-aggregate-read-event-2 Inv-loop μ-loop
-slice-aggregate-read-event-2 c = search needs
-
-read-event-requires-2 : tie.Need-read-event-requires-2 Inv-loop μ-loop
-read-event-requires-2 c κs = search needs
-
-slice-aggregate-ask-one-2 : tie.Need-slice-aggregate-ask-one-2 Inv-loop μ-loop
-slice-aggregate-ask-one-2 c = search needs
-
 ask-one-requires-2 : tie.Need-ask-one-requires-2 Inv-loop μ-loop
 ask-one-requires-2 c κs =
     let read = c .before .before in
     let p = to-begin (to-turn (read-part2 read)) .pre in
     ((p .0 .says, p .1, search needs), read .read-event2 .ensures)
-
-answer-requires-2 : tie.Need-answer-requires-2 Inv-loop μ-loop
-answer-requires-2 c κs = search needs
 
 returns-2 : tie.Need-returns-2 Inv-loop μ-loop
 returns-2 c =
@@ -169,18 +142,12 @@ returns-2 c =
 slice-aggregate-events-agree : tie.Need-slice-aggregate-events-agree Inv-loop μ-loop
 slice-aggregate-events-agree c = sym (to-turn (to-part2 (to-asked2 (c .before))) .loop .inv .1)
 
-slice-aggregate-events-agree-2 : tie.Need-slice-aggregate-events-agree-2 Inv-loop μ-loop
-slice-aggregate-events-agree-2 c = search needs
-
 events-agree-requires : tie.Need-events-agree-requires Inv-loop μ-loop
 events-agree-requires c κs =
     let turn = to-turn (to-part2 (to-asked2 (c .before .before))) in
     let first = to-first turn in
     let a = accepted-is narrow _ _ _ _ _ (to-asked first .ask-one .ensures .answers) (first .if1 .left) in
     (typed first _ (a .is) .are .few, to-begin turn .pre .1, turn .loop .inv .1, search needs)
-
-first-apart-requires : tie.Need-first-apart-requires Inv-loop μ-loop
-first-apart-requires c κs = search needs
 
 add-i : tie.Need-add-i Inv-loop μ-loop
 add-i c =
@@ -219,9 +186,6 @@ loop-again c = (
       (sym (c .first-apart .ensures ∙ ap (λ (r : Bool). firstApart (l .apart) r (l .i)) g))),
 )
 
-answer-requires-3 : tie.Need-answer-requires-3 Inv-loop μ-loop
-answer-requires-3 c κs = search needs
-
 returns-3 : tie.Need-returns-3 Inv-loop μ-loop
 returns-3 c =
     λ ts ss t w.
@@ -233,9 +197,6 @@ returns-3 c =
     let none = none-apart ts _ (turn .loop .i) ss (omega (arith, past .if2 .left, w .count)) _ (c .before .if4 .taken) in
     no-refusal _ ts ss _ _ _ (record { type = a .type; event = a .e }) _ (turn .loop .inv .3 _ (a .is) ts ss t w ∙ none) (c .answer3 .ensures .0)
     (asked-of _ ts t _ _ _ (to-part (to-asked first) .event-part .ensures ss w z) (a .is)) (typed first _ (a .is))
-
-answer-requires-4 : tie.Need-answer-requires-4 Inv-loop μ-loop
-answer-requires-4 c κs = search needs
 
 returns-4 : tie.Need-returns-4 Inv-loop μ-loop
 returns-4 c =
@@ -253,29 +214,29 @@ ask-events-spec =
     (tie.spec
     Inv-loop
     μ-loop
-    event-part-requires
-    slice-aggregate-read-event
-    read-event-requires
-    slice-aggregate-ask-one
+    (λ c κs. search needs)
+    (λ c. search needs)
+    (λ c κs. search needs)
+    (λ c. search needs)
     ask-one-requires
-    answer-requires
+    (λ c κs. search needs)
     returns
     loop-holds
     event-part-requires-2
-    slice-aggregate-read-event-2
-    read-event-requires-2
-    slice-aggregate-ask-one-2
+    (λ c. search needs)
+    (λ c κs. search needs)
+    (λ c. search needs)
     ask-one-requires-2
-    answer-requires-2
+    (λ c κs. search needs)
     returns-2
     slice-aggregate-events-agree
-    slice-aggregate-events-agree-2
+    (λ c. search needs)
     events-agree-requires
-    first-apart-requires
+    (λ c κs. search needs)
     add-i
     loop-less
     loop-again
-    answer-requires-3
+    (λ c κs. search needs)
     returns-3
-    answer-requires-4
+    (λ c κs. search needs)
     returns-4)

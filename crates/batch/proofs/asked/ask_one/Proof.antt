@@ -17,15 +17,6 @@ to-read c = c .before .before .before
 
 -- ---- the needs
 
-type-name-requires : tie.Need-type-name-requires
-type-name-requires c κs = search needs
-
-same-requires : tie.Need-same-requires
-same-requires c κs = search needs
-
-ask-event-requires : tie.Need-ask-event-requires
-ask-event-requires c κs = search needs
-
 returns : tie.Need-returns
 returns c =
     let chosen = c .before in
@@ -34,18 +25,6 @@ returns c =
     let (says, reads) = to-start named .pre in
     let said = says-same _ _ _ _ _ (told .same .ensures) (chosen .if1 .taken) (says .0) in
     record { numbers = _; type = _; answers = c .ask-event .ensures _ _ narrow said (λ e h. named .type-name .ensures narrow e h) reads }
-
-slice-aggregate-read-table : tie.Need-slice-aggregate-read-table
-slice-aggregate-read-table c = search needs
-
-read-table-requires : tie.Need-read-table-requires
-read-table-requires c κs = search needs
-
-slice-aggregate-ask-event : tie.Need-slice-aggregate-ask-event
-slice-aggregate-ask-event c = search needs
-
-ask-event-requires-2 : tie.Need-ask-event-requires-2
-ask-event-requires-2 c κs = search needs
 
 returns-2 : tie.Need-returns-2
 returns-2 c =
@@ -62,12 +41,12 @@ pub ask-one-spec : {M : Type 1} → statement M
 ask-one-spec =
     tie.close
     (tie.spec
-    type-name-requires
-    same-requires
-    ask-event-requires
+    (λ c κs. search needs)
+    (λ c κs. search needs)
+    (λ c κs. search needs)
     returns
-    slice-aggregate-read-table
-    read-table-requires
-    slice-aggregate-ask-event
-    ask-event-requires-2
+    (λ c. search needs)
+    (λ c κs. search needs)
+    (λ c. search needs)
+    (λ c κs. search needs)
     returns-2)

@@ -4,14 +4,8 @@ use Rattle.batch.proofs.AskedLaws.{agree-heads, agree-match}
 use Rattle.batch.proofs.asked.events_agree.Statement.{statement}
 use Rattle.batch.proofs.asked.events_agree.Tie as tie
 
-heads-agree-requires : tie.Need-heads-agree-requires
-heads-agree-requires c κs = search needs
-
 returns : tie.Need-returns
 returns c = λ u ty tz f g w x y e. agree-heads ty tz f g (c .before .heads-agree .ensures _ _ (x .head) (y .head)) (not-true _ (c .if1 .taken))
-
-is-match-same-requires : tie.Need-is-match-same-requires
-is-match-same-requires c κs = search needs
 
 returns-2 : tie.Need-returns-2
 returns-2 c = λ u ty tz f g w x y e.
@@ -23,7 +17,7 @@ pub events-agree-spec : {M : Type 1} → statement M
 events-agree-spec =
     tie.close
     (tie.spec
-    heads-agree-requires
+    (λ c κs. search needs)
     returns
-    is-match-same-requires
+    (λ c κs. search needs)
     returns-2)

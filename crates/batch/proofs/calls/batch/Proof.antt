@@ -76,26 +76,8 @@ frame c = framed _ _ (to-batch (to-name (to-table c .before)) .read-batch .ensur
 
 -- ---- the needs
 
-have-room-requires : tie.Need-have-room-requires
-have-room-requires c κs = search needs
-
 returns : tie.Need-returns
 returns c = sym (call-is _ _ _ _ (refusesAt 1 0) (no-room _ _ _ (sym (c .before .have-room .ensures) ∙ not-true _ (c .if1 .taken))))
-
-read-batch-requires : tie.Need-read-batch-requires
-read-batch-requires c κs = search needs
-
-event-part-requires : tie.Need-event-part-requires
-event-part-requires c κs = search needs
-
-type-name-requires : tie.Need-type-name-requires
-type-name-requires c κs = search needs
-
-slice-aggregate-read-table : tie.Need-slice-aggregate-read-table
-slice-aggregate-read-table c = search needs
-
-read-table-requires : tie.Need-read-table-requires
-read-table-requires c κs = search needs
 
 returns-2 : tie.Need-returns-2
 returns-2 c =
@@ -108,9 +90,6 @@ returns-3 c =
     let reading = to-batch (to-name (c .before .before .before)) in
     let none = unframed _ _ (reading .read-batch .ensures) (not-true _ (c .if3 .taken)) in
     sym (call-is _ _ _ _ (refusesAt 9 0) (no-frame _ _ _ (room reading) (t .what) (t .is) none))
-
-slice-aggregate-ask-events : tie.Need-slice-aggregate-ask-events
-slice-aggregate-ask-events c = search needs
 
 ask-events-requires : tie.Need-ask-events-requires
 ask-events-requires c κs =
@@ -137,9 +116,6 @@ returns-4 c =
     let r = room (to-batch (to-name (to-table framed .before))) in
     sym (call-is _ _ _ _ _ (all-asked-is _ _ _ r (t .what) (t .is) (f .what) (f .is) ∙ given-refused (t .what) (f .what) _ _ refused))
 
-slice-aggregate-combine-all : tie.Need-slice-aggregate-combine-all
-slice-aggregate-combine-all c = search needs
-
 combine-all-requires : tie.Need-combine-all-requires
 combine-all-requires c κs =
     let agreed = to-agreed c in
@@ -162,21 +138,6 @@ combine-all-requires c κs =
       ),
     )
 
-batch-reply-requires : tie.Need-batch-reply-requires
-batch-reply-requires c κs = search needs
-
-same-length : tie.Need-same-length
-same-length c = search needs
-
-same-length-2 : tie.Need-same-length-2
-same-length-2 c = search needs
-
-same-length-3 : tie.Need-same-length-3
-same-length-3 c = search needs
-
-same-length-4 : tie.Need-same-length-4
-same-length-4 c = search needs
-
 returns-5 : tie.Need-returns-5
 returns-5 c =
     let combined = to-combined c in
@@ -195,23 +156,23 @@ pub batch-spec : {M : Type 1} → statement M
 batch-spec =
     tie.close
     (tie.spec
-    have-room-requires
+    (λ c κs. search needs)
     returns
-    read-batch-requires
-    event-part-requires
-    type-name-requires
-    slice-aggregate-read-table
-    read-table-requires
+    (λ c κs. search needs)
+    (λ c κs. search needs)
+    (λ c κs. search needs)
+    (λ c. search needs)
+    (λ c κs. search needs)
     returns-2
     returns-3
-    slice-aggregate-ask-events
+    (λ c. search needs)
     ask-events-requires
     returns-4
-    slice-aggregate-combine-all
+    (λ c. search needs)
     combine-all-requires
-    batch-reply-requires
-    same-length
-    same-length-2
-    same-length-3
-    same-length-4
+    (λ c κs. search needs)
+    (λ c. search needs)
+    (λ c. search needs)
+    (λ c. search needs)
+    (λ c. search needs)
     returns-5)

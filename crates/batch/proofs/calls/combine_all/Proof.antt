@@ -121,20 +121,11 @@ module _ (c : tie.After-event-part2) where
 
 -- ---- the needs
 
-event-part-requires : tie.Need-event-part-requires
-event-part-requires c κs = search needs
-
-slice-aggregate-check-known : tie.Need-slice-aggregate-check-known
-slice-aggregate-check-known c = search needs
-
 check-known-requires : tie.Need-check-known-requires
 check-known-requires c κs =
     let taken = c .before .before in
     let start = taken-to-start taken in
     (event-known _ _ _ _ _ _ (first-of start) 1 _ (omega arith) (some start) (is-first taken), search needs, out-room start)
-
-same-length : tie.Need-same-length
-same-length c = search needs
 
 returns : tie.Need-returns
 returns c =
@@ -145,31 +136,10 @@ returns c =
     all-taken _ _ (x start) one _ _
     (one-checked _ _ _ _ _ (n start) (first-of start) _ _ _ one (is-one taken) (out-room start) (is-first taken) (checked .check-known .ensures .0))
 
-sub-combine-first : tie.Need-sub-combine-first
-sub-combine-first c = search needs
-
-slice-aggregate-combine-first : tie.Need-slice-aggregate-combine-first
-slice-aggregate-combine-first c = search needs
-
 combine-first-requires : tie.Need-combine-first-requires
 combine-first-requires c κs =
     let start = more-to-start (c .before .before .before .before) in
     (search needs, (search needs, fewer _ _ _ _ _ (n start) (first-of start)))
-
-enum-known-others : tie.Need-enum-known-others
-enum-known-others c = search needs
-
-enum-told : tie.Need-enum-told
-enum-told c = search needs
-
-same-length-2 : tie.Need-same-length-2
-same-length-2 c = search needs
-
-same-length-3 : tie.Need-same-length-3
-same-length-3 c = search needs
-
-same-length-4 : tie.Need-same-length-4
-same-length-4 c = search needs
 
 returns-2 : tie.Need-returns-2
 returns-2 c =
@@ -179,20 +149,11 @@ returns-2 c =
     (all-refused _ _ _ _ _ (n start) (first-of start) (two (to-more combined)) (r combined) (m combined) _ _ (others combined)
     _ (now (start .args .out)) (c .enum-told .given .1))
 
-sub-event-part : tie.Need-sub-event-part
-sub-event-part c = search needs
-
-event-part-requires-2 : tie.Need-event-part-requires-2
-event-part-requires-2 c κs = search needs
-
 slice-reshare-prefix-add-event : tie.Need-slice-reshare-prefix-add-event
 slice-reshare-prefix-add-event c = size-within c
 
 slice-aggregate-add-event : tie.Need-slice-aggregate-add-event
 slice-aggregate-add-event c = taken-count (size (c .before)) (a-after (to-combined (c .before))) (size-within (c .before))
-
-slice-aggregate-add-event-2 : tie.Need-slice-aggregate-add-event-2
-slice-aggregate-add-event-2 c = search needs
 
 add-event-requires : tie.Need-add-event-requires
 add-event-requires c κs =
@@ -202,18 +163,6 @@ add-event-requires c κs =
     let addable = last-addable _ _ _ _ _ (n start) (first-of start) (two (to-more combined)) (r combined) (m combined) _ _ (others combined)
     (size taken) (done taken) _ (is-last taken) in
     ((addable, start .pre .0 .2, measures-long combined), (lone-room combined, out-room start))
-
-same-length-5 : tie.Need-same-length-5
-same-length-5 c = search needs
-
-same-length-6 : tie.Need-same-length-6
-same-length-6 c = search needs
-
-same-length-7 : tie.Need-same-length-7
-same-length-7 c = search needs
-
-same-length-8 : tie.Need-same-length-8
-same-length-8 c = search needs
 
 returns-3 : tie.Need-returns-3
 returns-3 c =
@@ -230,28 +179,28 @@ pub combine-all-spec : {M : Type 1} → statement M
 combine-all-spec =
     tie.close
     (tie.spec
-    event-part-requires
-    slice-aggregate-check-known
+    (λ c κs. search needs)
+    (λ c. search needs)
     check-known-requires
-    same-length
+    (λ c. search needs)
     returns
-    sub-combine-first
-    slice-aggregate-combine-first
+    (λ c. search needs)
+    (λ c. search needs)
     combine-first-requires
-    enum-known-others
-    enum-told
-    same-length-2
-    same-length-3
-    same-length-4
+    (λ c. search needs)
+    (λ c. search needs)
+    (λ c. search needs)
+    (λ c. search needs)
+    (λ c. search needs)
     returns-2
-    sub-event-part
-    event-part-requires-2
+    (λ c. search needs)
+    (λ c κs. search needs)
     slice-reshare-prefix-add-event
     slice-aggregate-add-event
-    slice-aggregate-add-event-2
+    (λ c. search needs)
     add-event-requires
-    same-length-5
-    same-length-6
-    same-length-7
-    same-length-8
+    (λ c. search needs)
+    (λ c. search needs)
+    (λ c. search needs)
+    (λ c. search needs)
     returns-3)

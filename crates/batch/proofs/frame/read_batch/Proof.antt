@@ -7,29 +7,11 @@ use Rattle.batch.proofs.frame.read_batch.Tie as tie
 use Rattle.batch.proofs.frame.read_batch.Reads as reads
 use Rattle.batch.proofs.frame.read_batch.Lts as lts
 
-read-number-requires : tie.Need-read-number-requires
-read-number-requires c κs = search needs
-
-enum-known-count : tie.Need-enum-known-count
-enum-known-count c = search needs
-
-enum-told : tie.Need-enum-told
-enum-told c = search needs
-
-no-batch-requires : tie.Need-no-batch-requires
-no-batch-requires c κs = search needs
-
 returns : tie.Need-returns
 returns c = batch-none _ _ _ (no-count _ (number-none _ 0 (sym (c .before .before .before .read-number .ensures) ∙ c .before .enum-told .given .1))) (c .no-batch .ensures .0)
 
-no-batch-requires-2 : tie.Need-no-batch-requires-2
-no-batch-requires-2 c κs = search needs
-
 returns-2 : tie.Need-returns-2
 returns-2 c = batch-none _ _ _ (count-none _ _ _ (number-stops _ 0 _ _ (sym (c .before .before .before .before .before .read-number .ensures) ∙ c .before .before .before .count .given .1)) (c .before .if1 .taken)) (c .no-batch2 .ensures .0)
-
-no-batch-requires-3 : tie.Need-no-batch-requires-3
-no-batch-requires-3 c κs = search needs
 
 returns-3 : tie.Need-returns-3
 returns-3 c = batch-none _ _ _ (count-large _ _ _ (number-stops _ 0 _ _ (sym (c .before .before .before .before .before .before .read-number .ensures) ∙ c .before .before .before .before .count .given .1)) (c .before .if2 .taken)) (c .no-batch3 .ensures .0)
@@ -44,14 +26,14 @@ pub read-batch-spec : {M : Type 1} → statement M
 read-batch-spec =
     tie.close
     (tie.spec
-    read-number-requires
-    enum-known-count
-    enum-told
-    no-batch-requires
+    (λ c κs. search needs)
+    (λ c. search needs)
+    (λ c. search needs)
+    (λ c κs. search needs)
     returns
-    no-batch-requires-2
+    (λ c κs. search needs)
     returns-2
-    no-batch-requires-3
+    (λ c κs. search needs)
     returns-3
     read-texts-requires
     returns-4)

@@ -20,23 +20,8 @@ Inv-loop batch at count x₀ next₀ i₀ x next i = Passed (times readText coun
 abbrev μ-loop : tie.MeasureT-loop
 μ-loop batch at count x₀ next₀ i₀ x next i = count - i
 
-no-batch-requires : tie.Need-no-batch-requires Inv-loop μ-loop
-no-batch-requires c κs = search needs
-
 loop-holds : tie.Need-loop-holds Inv-loop μ-loop
 loop-holds c = passed-none _ _ _ _ _ (c .before .before .pre .0) (c .no-batch .ensures .1) (c .no-batch .ensures .2)
-
-read-text-requires : tie.Need-read-text-requires Inv-loop μ-loop
-read-text-requires c κs = search needs
-
-enum-known-start : tie.Need-enum-known-start Inv-loop μ-loop
-enum-known-start c = search needs
-
-enum-told : tie.Need-enum-told Inv-loop μ-loop
-enum-told c = search needs
-
-no-batch-requires-2 : tie.Need-no-batch-requires-2 Inv-loop μ-loop
-no-batch-requires-2 c κs = search needs
 
 returns : tie.Need-returns Inv-loop μ-loop
 returns c = batch-none _ _ _ (passed-bad _ _ _ _ _ _ _ (c .before .before .before .before .before .loop .inv) (c .before .before .before .before .loop-test .taken) (text-none _ _ (sym (c .before .before .before .read-text .ensures) ∙ c .before .enum-told .given .1))) (c .no-batch2 .ensures .0)
@@ -71,12 +56,12 @@ read-texts-spec =
     (tie.spec
     Inv-loop
     μ-loop
-    no-batch-requires
+    (λ c κs. search needs)
     loop-holds
-    read-text-requires
-    enum-known-start
-    enum-told
-    no-batch-requires-2
+    (λ c κs. search needs)
+    (λ c. search needs)
+    (λ c. search needs)
+    (λ c κs. search needs)
     returns
     mul-x
     element-write-x

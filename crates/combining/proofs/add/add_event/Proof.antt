@@ -100,28 +100,10 @@ module _ (c : tie.After-place-of) where
 
 -- ---- the needs
 
-slice-aggregate-read-event : tie.Need-slice-aggregate-read-event
-slice-aggregate-read-event c = search needs
-
-read-event-requires : tie.Need-read-event-requires
-read-event-requires c κs = search needs
-
-slice-aggregate-version-of : tie.Need-slice-aggregate-version-of
-slice-aggregate-version-of c = search needs
-
 version-of-requires : tie.Need-version-of-requires
 version-of-requires c κs =
     let at = c .before .before in
     (sets-long at, checkable (known-checked (can (to-start at) .new) (at .read-event .ensures)))
-
-read-dossier-head-requires : tie.Need-read-dossier-head-requires
-read-dossier-head-requires c κs = search needs
-
-enum-known-x : tie.Need-enum-known-x
-enum-known-x c = search needs
-
-enum-told : tie.Need-enum-told
-enum-told c = search needs
 
 returns : tie.Need-returns
 returns c =
@@ -139,17 +121,11 @@ place-of-requires c κs =
     let at = c .before .before in
     (measured-in (can (start at)), start at .pre .0 .2)
 
-slice-aggregate-added-fits : tie.Need-slice-aggregate-added-fits
-slice-aggregate-added-fits c = search needs
-
 added-fits-requires : tie.Need-added-fits-requires
 added-fits-requires c κs =
     let at = c .before .before in
     let s = place-to-start at in
     ((sets-long (head-to-read (x-to-head (to-x at))), s .pre .0 .1, s .pre .0 .2), record { table = _; is = is at (can s) })
-
-same-length : tie.Need-same-length
-same-length c = search needs
 
 returns-2 : tie.Need-returns-2
 returns-2 c =
@@ -158,9 +134,6 @@ returns-2 c =
     let room = place-to-start at .pre .1 .1 in
     let full = not-true _ (c .if1 .taken) in
     (λ a. combine-full _ _ _ _ room (a .both) (asked .added-fits .ensures _ (is at a)) full, λ a n z. never (cc))
-
-slice-aggregate-write-added : tie.Need-slice-aggregate-write-added
-slice-aggregate-write-added c = search needs
 
 write-added-requires : tie.Need-write-added-requires
 write-added-requires c κs =
@@ -180,15 +153,6 @@ write-added-requires c κs =
         inside = λ table h. sym (asked .added-fits .ensures table h) ∙ not-false _ (fitted .if1 .left);
       },
     )
-
-same-length-2 : tie.Need-same-length-2
-same-length-2 c = search needs
-
-same-length-3 : tie.Need-same-length-3
-same-length-3 c = search needs
-
-same-length-4 : tie.Need-same-length-4
-same-length-4 c = search needs
 
 returns-3 : tie.Need-returns-3
 returns-3 c =
@@ -211,23 +175,23 @@ pub add-event-spec : {M : Type 1} → statement M
 add-event-spec =
     tie.close
     (tie.spec
-    slice-aggregate-read-event
-    read-event-requires
-    slice-aggregate-version-of
+    (λ c. search needs)
+    (λ c κs. search needs)
+    (λ c. search needs)
     version-of-requires
-    read-dossier-head-requires
-    enum-known-x
-    enum-told
+    (λ c κs. search needs)
+    (λ c. search needs)
+    (λ c. search needs)
     returns
     add-body
     place-of-requires
-    slice-aggregate-added-fits
+    (λ c. search needs)
     added-fits-requires
-    same-length
+    (λ c. search needs)
     returns-2
-    slice-aggregate-write-added
+    (λ c. search needs)
     write-added-requires
-    same-length-2
-    same-length-3
-    same-length-4
+    (λ c. search needs)
+    (λ c. search needs)
+    (λ c. search needs)
     returns-3)

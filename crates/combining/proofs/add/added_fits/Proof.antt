@@ -52,14 +52,8 @@ few-parents c = not-false _ (c .if1 .left)
 
 -- ---- the needs
 
-parents-fit-requires : tie.Need-parents-fit-requires
-parents-fit-requires c κs = search needs
-
 returns : tie.Need-returns
 returns c = λ table h. fits-parents (h .added .both) _ (parents (c .before) h) (not-true _ (c .if1 .taken))
-
-shared-slice-read-result : tie.Need-shared-slice-read-result
-shared-slice-read-result c = search needs
 
 returns-2 : tie.Need-returns-2
 returns-2 c = λ table h.
@@ -93,4 +87,4 @@ returns-4 c = λ table h.
 pub added-fits-spec : {M : Type 1} → statement M
 added-fits-spec =
     tie.close
-    (tie.spec parents-fit-requires returns shared-slice-read-result returns-2 returns-3 objects-added-requires returns-4)
+    (tie.spec (λ c κs. search needs) returns (λ c. search needs) returns-2 returns-3 objects-added-requires returns-4)

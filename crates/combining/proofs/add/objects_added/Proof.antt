@@ -15,30 +15,15 @@ read-to-start c = to-start (c .before)
 
 -- ---- the needs
 
-slice-aggregate-read-snapshot : tie.Need-slice-aggregate-read-snapshot
-slice-aggregate-read-snapshot c = search needs
-
 read-snapshot-requires : tie.Need-read-snapshot-requires
 read-snapshot-requires c κs =
     let promised = to-start c .pre .1 in
     (promised .0, search needs, λ known. promised .1)
 
-enum-known-x : tie.Need-enum-known-x
-enum-known-x c = search needs
-
-enum-told : tie.Need-enum-told
-enum-told c = search needs
-
 returns : tie.Need-returns
 returns c = λ u ty left right rest typed un meet e objects sets.
     let read = c .before .before .before in
     absurd (read-to-start read .pre .1 .1 (snapshot-refused _ _ _ (c .enum-told .given .1) (read .read-snapshot .ensures)))
-
-slice-aggregate-objects-fit : tie.Need-slice-aggregate-objects-fit
-slice-aggregate-objects-fit c = search needs
-
-objects-fit-requires : tie.Need-objects-fit-requires
-objects-fit-requires c κs = search needs
 
 returns-2 : tie.Need-returns-2
 returns-2 c = λ u ty left right rest typed un meet e objects sets.
@@ -51,11 +36,11 @@ pub objects-added-spec : {M : Type 1} → statement M
 objects-added-spec =
     tie.close
     (tie.spec
-    slice-aggregate-read-snapshot
+    (λ c. search needs)
     read-snapshot-requires
-    enum-known-x
-    enum-told
+    (λ c. search needs)
+    (λ c. search needs)
     returns
-    slice-aggregate-objects-fit
-    objects-fit-requires
+    (λ c. search needs)
+    (λ c κs. search needs)
     returns-2)

@@ -77,9 +77,6 @@ write-heads-requires c κs =
     let s = to-start (c .before) in
     record { left = _; right = _; are = heads s (is s); room = omega (arith, whole-room s, known-length (is s .added .both) _ refl) }
 
-slice-read-count-with : tie.Need-slice-read-count-with
-slice-read-count-with c = search needs
-
 count-with-requires : tie.Need-count-with-requires
 count-with-requires c κs = let s = heads-to-start (c .before .before .before .before) in has-place (is s) (inside s) .0
 
@@ -122,15 +119,6 @@ put-snapshot-requires c κs =
     let (few, within, met, unmet) = has-place (is s) (inside s) in
     ((s .pre .2, few, within), (met, unmet))
 
-same-length : tie.Need-same-length
-same-length c = search needs
-
-same-length-2 : tie.Need-same-length-2
-same-length-2 c = search needs
-
-same-length-3 : tie.Need-same-length-3
-same-length-3 c = search needs
-
 returns : tie.Need-returns
 returns c =
     let put = c .before .before in
@@ -148,12 +136,12 @@ write-added-spec =
     tie.close
     (tie.spec
     write-heads-requires
-    slice-read-count-with
+    (λ c. search needs)
     count-with-requires
     write-number-requires
     write-with-requires
     put-snapshot-requires
-    same-length
-    same-length-2
-    same-length-3
+    (λ c. search needs)
+    (λ c. search needs)
+    (λ c. search needs)
     returns)

@@ -95,9 +95,6 @@ same-both c h =
 
 -- ---- the needs
 
-part-of-requires : tie.Need-part-of-requires
-part-of-requires c κs = search needs
-
 write-alone-requires : tie.Need-write-alone-requires
 write-alone-requires c κs =
     let s = to-start (c .before) in
@@ -112,49 +109,25 @@ slice-reshare-prefix-same c =
 slice-aggregate-same : tie.Need-slice-aggregate-same
 slice-aggregate-same c = sym (length-take-le _ _ (alone-is (to-alone c) (room (same-to-start c) .met) .0))
 
-same-requires : tie.Need-same-requires
-same-requires c κs = search needs
-
 copy-requires : tie.Need-copy-requires
 copy-requires c κs =
     let r = room (same-to-start (c .before .before .before)) in
     omega (arith, r .room, ap length (same-both (c .before) (r .met)))
-
-same-length : tie.Need-same-length
-same-length c = search needs
-
-same-length-2 : tie.Need-same-length-2
-same-length-2 c = search needs
 
 returns : tie.Need-returns
 returns c = λ h.
     let copied = c .before .before in
     wrote-as (same-both (copied .before .before) h) (copied .copy .ensures)
 
-slice-aggregate-read-snapshot : tie.Need-slice-aggregate-read-snapshot
-slice-aggregate-read-snapshot c = search needs
-
 read-snapshot-requires : tie.Need-read-snapshot-requires
 read-snapshot-requires c κs =
     let promised = met-promised (room (same-to-start (to-same c .before)) .met) in
     (promised .0, search needs, λ known. promised .1)
 
-enum-known-x : tie.Need-enum-known-x
-enum-known-x c = search needs
-
-enum-told : tie.Need-enum-told
-enum-told c = search needs
-
-same-length-3 : tie.Need-same-length-3
-same-length-3 c = search needs
-
 returns-2 : tie.Need-returns-2
 returns-2 c = λ h.
     let read = c .before .before .before in
     absurd (met-promised h .1 (snapshot-refused _ _ _ (c .enum-told .given .1) (read .read-snapshot .ensures)))
-
-slice-aggregate-write-agreed : tie.Need-slice-aggregate-write-agreed
-slice-aggregate-write-agreed c = search needs
 
 write-agreed-requires : tie.Need-write-agreed-requires
 write-agreed-requires c κs =
@@ -165,12 +138,6 @@ write-agreed-requires c κs =
     let is = read-is (snapshot-read (at .x .given .1) (read .read-snapshot .ensures)) (r .met .stands .is) in
     (search needs, s .pre .0, agreed-room (met-room (r .met) is (r .room)) (c .before .before .if2 .taken))
 
-same-length-4 : tie.Need-same-length-4
-same-length-4 c = search needs
-
-same-length-5 : tie.Need-same-length-5
-same-length-5 c = search needs
-
 returns-3 : tie.Need-returns-3
 returns-3 c = λ h.
     let wrote = c .before .before in
@@ -180,9 +147,6 @@ returns-3 c = λ h.
     wrote .write-agreed .ensures (h .type) (h .left) (h .right) (is-versioned (h .typed) (marked .if2 .taken)) (h .typed .are .count)
     (met-shared h is)
 
-slice-aggregate-write-joined : tie.Need-slice-aggregate-write-joined
-slice-aggregate-write-joined c = search needs
-
 write-joined-requires : tie.Need-write-joined-requires
 write-joined-requires c κs =
     let at = to-x (c .before .before .before) in
@@ -191,12 +155,6 @@ write-joined-requires c κs =
     let r = room s in
     let is = read-is (snapshot-read (at .x .given .1) (read .read-snapshot .ensures)) (r .met .stands .is) in
     (search needs, s .pre .0, s .pre .1, joined-room (met-room (r .met) is (r .room)) (c .before .before .if2 .left))
-
-same-length-6 : tie.Need-same-length-6
-same-length-6 c = search needs
-
-same-length-7 : tie.Need-same-length-7
-same-length-7 c = search needs
 
 returns-4 : tie.Need-returns-4
 returns-4 c = λ h.
@@ -211,28 +169,28 @@ pub write-met-spec : {M : Type 1} → statement M
 write-met-spec =
     tie.close
     (tie.spec
-    part-of-requires
+    (λ c κs. search needs)
     write-alone-requires
     slice-reshare-prefix-same
     slice-aggregate-same
-    same-requires
+    (λ c κs. search needs)
     copy-requires
-    same-length
-    same-length-2
+    (λ c. search needs)
+    (λ c. search needs)
     returns
-    slice-aggregate-read-snapshot
+    (λ c. search needs)
     read-snapshot-requires
-    enum-known-x
-    enum-told
-    same-length-3
+    (λ c. search needs)
+    (λ c. search needs)
+    (λ c. search needs)
     returns-2
-    slice-aggregate-write-agreed
+    (λ c. search needs)
     write-agreed-requires
-    same-length-4
-    same-length-5
+    (λ c. search needs)
+    (λ c. search needs)
     returns-3
-    slice-aggregate-write-joined
+    (λ c. search needs)
     write-joined-requires
-    same-length-6
-    same-length-7
+    (λ c. search needs)
+    (λ c. search needs)
     returns-4)

@@ -50,9 +50,6 @@ write-alone-requires c κs =
       },
     )
 
-same-length : tie.Need-same-length
-same-length c = search needs
-
 returns : tie.Need-returns
 returns c = λ table m x h n.
     let wrote = c .before .before in
@@ -79,12 +76,6 @@ write-met-requires c κs =
       },
     )
 
-same-length-2 : tie.Need-same-length-2
-same-length-2 c = search needs
-
-same-length-3 : tie.Need-same-length-3
-same-length-3 c = search needs
-
 returns-2 : tie.Need-returns-2
 returns-2 c = λ table m x h n.
     let wrote = c .before .before .before .before in
@@ -96,11 +87,11 @@ write-new-spec =
     tie.close
     (tie.spec
     write-alone-requires
-    same-length
+    (λ c. search needs)
     returns
     add-start
     add-end
     write-met-requires
-    same-length-2
-    same-length-3
+    (λ c. search needs)
+    (λ c. search needs)
     returns-2)

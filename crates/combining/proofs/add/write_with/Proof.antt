@@ -89,12 +89,6 @@ copy-part-requires-2 c κs =
     let v = new .write-new .ensures _ _ _ (is s) (r .number) in
     (higher-there (is s) .0, omega arith, omega (arith, r .room, parts-length (is s), w .after, wrote-length w, v .after, wrote-length v))
 
-same-length : tie.Need-same-length
-same-length c = search needs
-
-same-length-2 : tie.Need-same-length-2
-same-length-2 c = search needs
-
 returns : tie.Need-returns
 returns c =
     let higher = c .before .before in
@@ -114,6 +108,6 @@ write-with-spec =
     write-new-requires
     sub-size
     copy-part-requires-2
-    same-length
-    same-length-2
+    (λ c. search needs)
+    (λ c. search needs)
     returns)

@@ -38,27 +38,6 @@ set-at-requires c κs = (search needs, inside c)
 set-at-requires-2 : tie.Need-set-at-requires-2 Inv-loop μ-loop
 set-at-requires-2 c κs = (search needs, inside (c .before))
 
-add-is-kept : tie.Need-add-is-kept Inv-loop μ-loop
-add-is-kept c = search needs
-
-is-kept-requires : tie.Need-is-kept-requires Inv-loop μ-loop
-is-kept-requires c κs = search needs
-
-has-objects-requires : tie.Need-has-objects-requires Inv-loop μ-loop
-has-objects-requires c κs = search needs
-
-element-write-p : tie.Need-element-write-p Inv-loop μ-loop
-element-write-p c = search needs
-
-element-write-p-2 : tie.Need-element-write-p-2 Inv-loop μ-loop
-element-write-p-2 c = search needs
-
-add-k : tie.Need-add-k Inv-loop μ-loop
-add-k c = search needs
-
-loop-less : tie.Need-loop-less Inv-loop μ-loop
-loop-less c = search needs
-
 loop-again : tie.Need-loop-again Inv-loop μ-loop
 loop-again c =
     let kept = c .before in
@@ -91,12 +70,12 @@ agreed-places-spec =
     loop-holds
     set-at-requires
     set-at-requires-2
-    add-is-kept
-    is-kept-requires
-    has-objects-requires
-    element-write-p
-    element-write-p-2
-    add-k
-    loop-less
+    (λ c. search needs)
+    (λ c κs. search needs)
+    (λ c κs. search needs)
+    (λ c. search needs)
+    (λ c. search needs)
+    (λ c. search needs)
+    (λ c. search needs)
     loop-again
     returns)

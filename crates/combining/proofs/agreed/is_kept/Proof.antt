@@ -21,15 +21,6 @@ returns-3 c = λ x y m u v.
     let none : length (held y) ≡ 0 = omega (arith, v .count, c .before .before .if2 .left, c .if3 .taken) in
     agreed-empty x y _ m (c .before .before .before .before .before .if1 .left) (sym (u .count) ∙ c .if3 .taken) none
 
-set-part-requires : tie.Need-set-part-requires
-set-part-requires c κs = search needs
-
-set-part-requires-2 : tie.Need-set-part-requires-2
-set-part-requires-2 c κs = search needs
-
-same-requires : tie.Need-same-requires
-same-requires c κs = search needs
-
 returns-4 : tie.Need-returns-4
 returns-4 c = λ x y m u v.
     let equal-counts = c .before .before .before .before .before in
@@ -40,4 +31,13 @@ returns-4 c = λ x y m u v.
     ∙ agreed-sets x y _ m (clear .if1 .left)
 
 pub is-kept-spec : {M : Type 1} → statement M
-is-kept-spec = tie.close (tie.spec returns returns-2 returns-3 set-part-requires set-part-requires-2 same-requires returns-4)
+is-kept-spec =
+    tie.close
+    (tie.spec
+    returns
+    returns-2
+    returns-3
+    (λ c κs. search needs)
+    (λ c κs. search needs)
+    (λ c κs. search needs)
+    returns-4)

@@ -106,15 +106,6 @@ differ-written c = reached-by (presence-written (to-presence (c .before))) (c .w
 
 -- ---- the needs
 
-agreed-places-requires : tie.Need-agreed-places-requires
-agreed-places-requires c κs = search needs
-
-number-of-requires : tie.Need-number-of-requires
-number-of-requires c κs = search needs
-
-number-of-requires-2 : tie.Need-number-of-requires-2
-number-of-requires-2 c κs = search needs
-
 write-number-requires : tie.Need-write-number-requires
 write-number-requires c κs = omega (arith, fits (c .before))
 
@@ -135,9 +126,6 @@ write-sets-requires c κs =
       },
     )
 
-same-length : tie.Need-same-length
-same-length c = search needs
-
 returns : tie.Need-returns
 returns c = λ ty left right v n w.
     let at-sets = c .before .before in
@@ -152,12 +140,12 @@ pub write-agreed-spec : {M : Type 1} → statement M
 write-agreed-spec =
     tie.close
     (tie.spec
-    agreed-places-requires
-    number-of-requires
-    number-of-requires-2
+    (λ c κs. search needs)
+    (λ c κs. search needs)
+    (λ c κs. search needs)
     write-number-requires
     write-number-requires-2
     write-number-requires-3
     write-sets-requires
-    same-length
+    (λ c. search needs)
     returns)

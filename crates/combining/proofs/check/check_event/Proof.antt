@@ -90,41 +90,11 @@ event-taken c = asked-checked (accepted-is narrow _ _ _ _ _ (answered (to-asked 
 returns : tie.Need-returns
 returns c = check-small _ _ _ (c .if1 .taken)
 
-type-name-requires : tie.Need-type-name-requires
-type-name-requires c κs = search needs
-
-slice-aggregate-read-table : tie.Need-slice-aggregate-read-table
-slice-aggregate-read-table c = search needs
-
-read-table-requires : tie.Need-read-table-requires
-read-table-requires c κs = search needs
-
-slice-aggregate-read-event : tie.Need-slice-aggregate-read-event
-slice-aggregate-read-event c = search needs
-
-read-event-requires : tie.Need-read-event-requires
-read-event-requires c κs = search needs
-
-slice-aggregate-ask-event : tie.Need-slice-aggregate-ask-event
-slice-aggregate-ask-event c = search needs
-
-slice-aggregate-ask-event-2 : tie.Need-slice-aggregate-ask-event-2
-slice-aggregate-ask-event-2 c = search needs
-
-ask-event-requires : tie.Need-ask-event-requires
-ask-event-requires c κs = search needs
-
 returns-2 : tie.Need-returns-2
 returns-2 c = check-refused _ _ _ _ (room (to-if1 (c .before))) (refused-is narrow _ _ _ _ _ (answered (c .before)) (c .if2 .taken))
 
-slice-aggregate-version-of : tie.Need-slice-aggregate-version-of
-slice-aggregate-version-of c = search needs
-
 version-of-requires : tie.Need-version-of-requires
 version-of-requires c κs = (sets-long (to-asked (c .before)), checkable (event-taken (c .before)))
-
-slice-aggregate-write-lone : tie.Need-slice-aggregate-write-lone
-slice-aggregate-write-lone c = search needs
 
 write-lone-requires : tie.Need-write-lone-requires
 write-lone-requires c κs =
@@ -132,9 +102,6 @@ write-lone-requires c κs =
     let at = to-asked (to-else v) in
     let a = event-taken (to-else v) in
     (sets-long at, lone-room a _ _ (v .version-of .ensures (checkable a)) (room (to-if1 at)))
-
-same-length : tie.Need-same-length
-same-length c = search needs
 
 returns-3 : tie.Need-returns-3
 returns-3 c =
@@ -149,18 +116,18 @@ check-event-spec =
     tie.close
     (tie.spec
     returns
-    type-name-requires
-    slice-aggregate-read-table
-    read-table-requires
-    slice-aggregate-read-event
-    read-event-requires
-    slice-aggregate-ask-event
-    slice-aggregate-ask-event-2
-    ask-event-requires
+    (λ c κs. search needs)
+    (λ c. search needs)
+    (λ c κs. search needs)
+    (λ c. search needs)
+    (λ c κs. search needs)
+    (λ c. search needs)
+    (λ c. search needs)
+    (λ c κs. search needs)
     returns-2
-    slice-aggregate-version-of
+    (λ c. search needs)
     version-of-requires
-    slice-aggregate-write-lone
+    (λ c. search needs)
     write-lone-requires
-    same-length
+    (λ c. search needs)
     returns-3)

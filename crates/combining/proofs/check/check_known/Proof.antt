@@ -43,20 +43,8 @@ event-taken c = known-checked (to-start c .pre .0) (c .read-event .ensures)
 
 -- ---- the needs
 
-slice-aggregate-read-event : tie.Need-slice-aggregate-read-event
-slice-aggregate-read-event c = search needs
-
-read-event-requires : tie.Need-read-event-requires
-read-event-requires c κs = search needs
-
-slice-aggregate-version-of : tie.Need-slice-aggregate-version-of
-slice-aggregate-version-of c = search needs
-
 version-of-requires : tie.Need-version-of-requires
 version-of-requires c κs = let read = c .before .before in (sets-long read, checkable (event-taken read))
-
-slice-aggregate-write-lone : tie.Need-slice-aggregate-write-lone
-slice-aggregate-write-lone c = search needs
 
 write-lone-requires : tie.Need-write-lone-requires
 write-lone-requires c κs =
@@ -69,15 +57,6 @@ sub-size : tie.Need-sub-size
 sub-size c =
     let written = to-written c in
     written .write-lone .ensures .1 _ (event-taken (to-read (to-version (written .before))) .read) .0
-
-measure-one-requires : tie.Need-measure-one-requires
-measure-one-requires c κs = search needs
-
-same-length : tie.Need-same-length
-same-length c = search needs
-
-same-length-2 : tie.Need-same-length-2
-same-length-2 c = search needs
 
 returns : tie.Need-returns
 returns c =
@@ -95,14 +74,14 @@ pub check-known-spec : {M : Type 1} → statement M
 check-known-spec =
     tie.close
     (tie.spec
-    slice-aggregate-read-event
-    read-event-requires
-    slice-aggregate-version-of
+    (λ c. search needs)
+    (λ c κs. search needs)
+    (λ c. search needs)
     version-of-requires
-    slice-aggregate-write-lone
+    (λ c. search needs)
     write-lone-requires
     sub-size
-    measure-one-requires
-    same-length
-    same-length-2
+    (λ c κs. search needs)
+    (λ c. search needs)
+    (λ c. search needs)
     returns)

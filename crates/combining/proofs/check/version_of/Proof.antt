@@ -25,12 +25,6 @@ set-at-requires c κs =
     let low = mark-low (to-start c .pre .1) (c .if1 .left) in
     (search needs, omega (arith, low .0, low .1))
 
-set-part-requires : tie.Need-set-part-requires
-set-part-requires c κs = search needs
-
-value-in-requires : tie.Need-value-in-requires
-value-in-requires c κs = search needs
-
 numeral-of-requires : tie.Need-numeral-of-requires
 numeral-of-requires c κs =
     let marked = to-marked (c .before .before) in
@@ -49,4 +43,13 @@ returns-2 c = λ h.
     (value .before .set-part .ensures _ stands))
 
 pub version-of-spec : {M : Type 1} → statement M
-version-of-spec = tie.close (tie.spec returns sub-set-at set-at-requires set-part-requires value-in-requires numeral-of-requires returns-2)
+version-of-spec =
+    tie.close
+    (tie.spec
+    returns
+    sub-set-at
+    set-at-requires
+    (λ c κs. search needs)
+    (λ c κs. search needs)
+    numeral-of-requires
+    returns-2)

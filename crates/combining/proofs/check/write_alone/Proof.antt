@@ -82,9 +82,6 @@ write-sets-requires c κs =
     let p = begin .pre .1 in
     (begin .pre .0, record { values = p .event .sets; are = p .read .sets; room = omega (arith, fits begin, differ-written (to-differ c)) })
 
-same-length : tie.Need-same-length
-same-length c = search needs
-
 returns : tie.Need-returns
 returns c = λ e w.
     let at-sets = c .before .before in
@@ -102,5 +99,5 @@ write-alone-spec =
     write-number-requires-2
     write-number-requires-3
     write-sets-requires
-    same-length
+    (λ c. search needs)
     returns)

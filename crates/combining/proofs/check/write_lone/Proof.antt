@@ -90,9 +90,6 @@ count-written c = reached-by (head-written (to-head (c .before))) (c .write-numb
 
 -- ---- the needs
 
-number-size-requires : tie.Need-number-size-requires
-number-size-requires c κs = search needs
-
 sub-size : tie.Need-sub-size
 sub-size c = omega (arith, head-size (start₀ (c .before) .pre .1 .read), c .before .number-size .ensures)
 
@@ -112,9 +109,6 @@ write-alone-requires c κs =
     let p = begin .pre .1 in
     (begin .pre .0, record { event = p .event; read = p .read; room = omega (arith, fits begin, count-written (to-count c)) })
 
-same-length : tie.Need-same-length
-same-length c = search needs
-
 returns : tie.Need-returns
 returns c =
     let at-alone = to-alone c in
@@ -128,10 +122,10 @@ pub write-lone-spec : {M : Type 1} → statement M
 write-lone-spec =
     tie.close
     (tie.spec
-    number-size-requires
+    (λ c κs. search needs)
     sub-size
     copy-part-requires
     write-number-requires
     write-alone-requires
-    same-length
+    (λ c. search needs)
     returns)

@@ -60,12 +60,6 @@ read-again c = c .read-table .ensures
 
 -- ---- the needs
 
-type-name-requires : tie.Need-type-name-requires
-type-name-requires c κs = search needs
-
-same-requires : tie.Need-same-requires
-same-requires c κs = search needs
-
 ask-dossier-requires : tie.Need-ask-dossier-requires
 ask-dossier-requires c κs =
     let n = c .before .before in
@@ -75,15 +69,6 @@ ask-dossier-requires c κs =
 returns : tie.Need-returns
 returns c = λ ts e.
     numbered _ _ (record { types = ts; is = e }) _ _ (named (c .before .before .before)) _ _ (read-before (c .before)) _ (c .ask-dossier .ensures)
-
-slice-aggregate-read-table : tie.Need-slice-aggregate-read-table
-slice-aggregate-read-table c = search needs
-
-read-table-requires : tie.Need-read-table-requires
-read-table-requires c κs = search needs
-
-slice-aggregate-ask-dossier : tie.Need-slice-aggregate-ask-dossier
-slice-aggregate-ask-dossier c = search needs
 
 ask-dossier-requires-2 : tie.Need-ask-dossier-requires-2
 ask-dossier-requires-2 c κs =
@@ -100,12 +85,12 @@ pub ask-other-spec : {M : Type 1} → statement M
 ask-other-spec =
     tie.close
     (tie.spec
-    type-name-requires
-    same-requires
+    (λ c κs. search needs)
+    (λ c κs. search needs)
     ask-dossier-requires
     returns
-    slice-aggregate-read-table
-    read-table-requires
-    slice-aggregate-ask-dossier
+    (λ c. search needs)
+    (λ c κs. search needs)
+    (λ c. search needs)
     ask-dossier-requires-2
     returns-2)

@@ -63,9 +63,6 @@ write-combined-requires c κs =
       },
     )
 
-same-length : tie.Need-same-length
-same-length c = search needs
-
 returns-2 : tie.Need-returns-2
 returns-2 c =
     let wrote = c .before .before in
@@ -76,4 +73,11 @@ returns-2 c =
     (wrote .write-combined .ensures _ (both at))
 
 pub combine-read-spec : {M : Type 1} → statement M
-combine-read-spec = tie.close (tie.spec limits-fit-requires returns write-combined-requires same-length returns-2)
+combine-read-spec =
+    tie.close
+    (tie.spec
+    limits-fit-requires
+    returns
+    write-combined-requires
+    (λ c. search needs)
+    returns-2)

@@ -192,21 +192,6 @@ module _ (c : tie.After-dossiers-agree) where
 
 -- ---- the needs
 
-read-dossier-requires : tie.Need-read-dossier-requires
-read-dossier-requires c κs = search needs
-
-read-dossier-requires-2 : tie.Need-read-dossier-requires-2
-read-dossier-requires-2 c κs = search needs
-
-type-name-requires : tie.Need-type-name-requires
-type-name-requires c κs = search needs
-
-slice-aggregate-read-table : tie.Need-slice-aggregate-read-table
-slice-aggregate-read-table c = search needs
-
-read-table-requires : tie.Need-read-table-requires
-read-table-requires c κs = refl
-
 same-length : tie.Need-same-length
 same-length c = left-same (c .before .before .before)
 
@@ -303,9 +288,6 @@ same-length-9 c = left-same (written-to-table (c .before .before))
 same-length-10 : tie.Need-same-length-10
 same-length-10 c = right-same (written-to-table (c .before .before))
 
-same-length-11 : tie.Need-same-length-11
-same-length-11 c = search needs
-
 returns-5 : tie.Need-returns-5
 returns-5 c = c .before .before .combine-read .ensures
 
@@ -313,11 +295,11 @@ pub combine-with-spec : {M : Type 1} → statement M
 combine-with-spec =
     tie.close
     (tie.spec
-    read-dossier-requires
-    read-dossier-requires-2
-    type-name-requires
-    slice-aggregate-read-table
-    read-table-requires
+    (λ c κs. search needs)
+    (λ c κs. search needs)
+    (λ c κs. search needs)
+    (λ c. search needs)
+    (λ c κs. refl)
     same-length
     same-length-2
     returns
@@ -340,5 +322,5 @@ combine-with-spec =
     combine-read-requires
     same-length-9
     same-length-10
-    same-length-11
+    (λ c. search needs)
     returns-5)

@@ -14,30 +14,12 @@ use Rattle.event.proofs.sets.value_in.Reads as value-in-reads
 use Rattle.ontology.proofs.properties.is_max.Reads as is-max-reads
 use Rattle.values.proofs.spaces.choose.Reads as choose-reads
 
-set-part-requires : tie.Need-set-part-requires
-set-part-requires c κs = search needs
-
-value-in-requires : tie.Need-value-in-requires
-value-in-requires c κs = search needs
-
-set-part-requires-2 : tie.Need-set-part-requires-2
-set-part-requires-2 c κs = search needs
-
-value-in-requires-2 : tie.Need-value-in-requires-2
-value-in-requires-2 c κs = search needs
-
 returns : tie.Need-returns
 returns c =
     λ kind xs ys v w e. chosen-right kind _ xs ys e _ _ (sym (v .count) ∙ c .if1 .taken) (c .before .before .value-in2 .ensures ys (c .before .before .before .set-part2 .ensures ys w))
 
 returns-2 : tie.Need-returns-2
 returns-2 c = λ kind xs ys v w e. chosen-left kind _ xs ys e _ _ (sym (w .count) ∙ c .if2 .taken) (c .before .before .before .before .before .before .value-in .ensures xs (c .before .before .before .before .before .before .before .set-part .ensures xs v))
-
-is-max-requires : tie.Need-is-max-requires
-is-max-requires c κs = search needs
-
-choose-requires : tie.Need-choose-requires
-choose-requires c κs = search needs
 
 returns-3 : tie.Need-returns-3
 returns-3 c =
@@ -54,12 +36,12 @@ pub chosen-spec : {M : Type 1} → statement M
 chosen-spec =
     tie.close
     (tie.spec
-    set-part-requires
-    value-in-requires
-    set-part-requires-2
-    value-in-requires-2
+    (λ c κs. search needs)
+    (λ c κs. search needs)
+    (λ c κs. search needs)
+    (λ c κs. search needs)
     returns
     returns-2
-    is-max-requires
-    choose-requires
+    (λ c κs. search needs)
+    (λ c κs. search needs)
     returns-3)

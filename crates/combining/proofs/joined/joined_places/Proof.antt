@@ -32,14 +32,8 @@ set-at-requires c κs = (search needs, inside c)
 set-at-requires-2 : tie.Need-set-at-requires-2 Inv-loop μ-loop
 set-at-requires-2 c κs = (search needs, inside (c .before))
 
-have-objects-requires : tie.Need-have-objects-requires Inv-loop μ-loop
-have-objects-requires c κs = search needs
-
 array-write-present : tie.Need-array-write-present Inv-loop μ-loop
 array-write-present c = omega (arith, inside (to-turn c), to-turn c .before .loop .inv .filled .long)
-
-add-k : tie.Need-add-k Inv-loop μ-loop
-add-k c = search needs
 
 loop-less : tie.Need-loop-less Inv-loop μ-loop
 loop-less c = omega (arith, to-turn c .loop-test .taken)
@@ -61,9 +55,9 @@ joined-places-spec =
     loop-holds
     set-at-requires
     set-at-requires-2
-    have-objects-requires
+    (λ c κs. search needs)
     array-write-present
-    add-k
+    (λ c. search needs)
     loop-less
     loop-again
     returns)

@@ -95,14 +95,8 @@ size c = joined-length (asked (start c)) _ (found c (asked (start c)))
 
 -- ---- the needs
 
-joined-places-requires : tie.Need-joined-places-requires Inv-loop μ-loop
-joined-places-requires c κs = search needs
-
 write-number-requires : tie.Need-write-number-requires Inv-loop μ-loop
 write-number-requires c κs = omega (arith, start (c .before) .pre .3 .room, size (c .before))
-
-number-of-requires : tie.Need-number-of-requires Inv-loop μ-loop
-number-of-requires c κs = search needs
 
 write-number-requires-2 : tie.Need-write-number-requires-2 Inv-loop μ-loop
 write-number-requires-2 c κs =
@@ -132,9 +126,6 @@ write-number-requires-3 c κs =
 loop-holds : tie.Need-loop-holds Inv-loop μ-loop
 loop-holds c = λ u ty x y w v m l r. to-go
 
-array-read-if1 : tie.Need-array-read-if1 Inv-loop μ-loop
-array-read-if1 c = search needs
-
 set-at-requires : tie.Need-set-at-requires Inv-loop μ-loop
 set-at-requires c κs = (search needs, inside (c .before))
 
@@ -155,9 +146,6 @@ write-place-requires c κs =
       place-next n _ (found (places at-loop) n) (at-loop .loop .k) (left .set-at .ensures) (right .set-at2 .ensures)
           (inside (turn .before)) (turn .if1 .taken) (asked-to-go at-loop) room,
     )
-
-add-k : tie.Need-add-k Inv-loop μ-loop
-add-k c = search needs
 
 loop-less : tie.Need-loop-less Inv-loop μ-loop
 loop-less c = omega (arith, c .before .loop-test .taken)
@@ -196,17 +184,17 @@ write-joined-spec =
     (tie.spec
     Inv-loop
     μ-loop
-    joined-places-requires
+    (λ c κs. search needs)
     write-number-requires
-    number-of-requires
+    (λ c κs. search needs)
     write-number-requires-2
     write-number-requires-3
     loop-holds
-    array-read-if1
+    (λ c. search needs)
     set-at-requires
     set-at-requires-2
     write-place-requires
-    add-k
+    (λ c. search needs)
     loop-less
     loop-again
     same-length

@@ -115,9 +115,6 @@ write-number-requires c κs = omega (arith, room (c .before))
 property-at-requires : tie.Need-property-at-requires
 property-at-requires c κs = (search needs, low (c .before .before))
 
-chosen-requires : tie.Need-chosen-requires
-chosen-requires c κs = search needs
-
 write-text-requires : tie.Need-write-text-requires
 write-text-requires c κs =
     let n = to-number (c .before) in
@@ -134,12 +131,6 @@ returns c = λ h.
     let n = to-number (to-chosen o) in
     let i = number-to-if n in
     place-wrote (wanted (s i) .some) h 1 (one i h) (n .write-number .ensures) (wrote-as (value (to-chosen o) h) (o .write-text .ensures))
-
-set-part-requires : tie.Need-set-part-requires
-set-part-requires c κs = search needs
-
-set-part-requires-2 : tie.Need-set-part-requires-2
-set-part-requires-2 c κs = search needs
 
 write-values-requires : tie.Need-write-values-requires
 write-values-requires c κs =
@@ -171,12 +162,12 @@ write-place-spec =
     is-extreme-at-requires
     write-number-requires
     property-at-requires
-    chosen-requires
+    (λ c κs. search needs)
     write-text-requires
     same-length
     returns
-    set-part-requires
-    set-part-requires-2
+    (λ c κs. search needs)
+    (λ c κs. search needs)
     write-values-requires
     same-length-2
     returns-2)

@@ -37,24 +37,6 @@ add-result c = let l = c .before .before in omega (arith, within l, l .before .p
 returns : tie.Need-returns Inv-loop μ-loop
 returns c = let l = c .before .before in let a = l .before .args in counted-left (a .m) (a .n) (a .t1) (a .t3) (long (l .before)) (l .before .pre) (l .loop .i) (l .loop .j) (l .loop .count) (l .loop .inv) (c .if1 .taken)
 
-mul-a : tie.Need-mul-a Inv-loop μ-loop
-mul-a c = search needs
-
-array-copy-out-a : tie.Need-array-copy-out-a Inv-loop μ-loop
-array-copy-out-a c = search needs
-
-mul-b : tie.Need-mul-b Inv-loop μ-loop
-mul-b c = search needs
-
-array-copy-out-b : tie.Need-array-copy-out-b Inv-loop μ-loop
-array-copy-out-b c = search needs
-
-add-i : tie.Need-add-i Inv-loop μ-loop
-add-i c = search needs
-
-add-j : tie.Need-add-j Inv-loop μ-loop
-add-j c = search needs
-
 -- where each side goes on
 module _ (c : tie.Joined3 Inv-loop μ-loop) where
   abbrev l : tie.At-loop Inv-loop μ-loop
@@ -109,12 +91,12 @@ count-versions-spec =
     sub-result
     add-result
     returns
-    mul-a
-    array-copy-out-a
-    mul-b
-    array-copy-out-b
-    add-i
-    add-j
+    (λ c. search needs)
+    (λ c. search needs)
+    (λ c. search needs)
+    (λ c. search needs)
+    (λ c. search needs)
+    (λ c. search needs)
     add-count
     loop-less
     loop-again

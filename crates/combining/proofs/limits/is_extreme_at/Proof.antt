@@ -8,12 +8,6 @@ use Rattle.combining.proofs.limits.is_extreme_at.Tie as tie
 returns : tie.Need-returns
 returns c = λ u ty w. let a = c .before .before .args in extreme-past u ty (a .count) (now (a .properties)) (a .k) w (c .if1 .taken)
 
-property-at-requires : tie.Need-property-at-requires
-property-at-requires c κs = search needs
-
-is-extreme-requires : tie.Need-is-extreme-requires
-is-extreme-requires c κs = search needs
-
 returns-2 : tie.Need-returns-2
 returns-2 c = λ u ty w.
     let read = c .before in
@@ -22,4 +16,4 @@ returns-2 c = λ u ty w.
     c .is-extreme .ensures ∙ sym (extreme-here u ty (a .count) (now (a .properties)) (a .k) w (read .property-at .ensures) (inside .if1 .left))
 
 pub is-extreme-at-spec : {M : Type 1} → statement M
-is-extreme-at-spec = tie.close (tie.spec returns property-at-requires is-extreme-requires returns-2)
+is-extreme-at-spec = tie.close (tie.spec returns (λ c κs. search needs) (λ c κs. search needs) returns-2)

@@ -87,9 +87,6 @@ row-long rows h = length-take-le 96 rows h
 
 -- ---- the needs
 
-parents-fit-requires : tie.Need-parents-fit-requires
-parents-fit-requires c κs = search needs
-
 returns : tie.Need-returns
 returns c = λ table h. fits-parents (h .known) _ (parents (c .before) h) (not-true _ (c .if1 .taken))
 
@@ -110,30 +107,6 @@ returns-3 c = λ table h.
     let v = e .before in
     let p = to-parents v in
     fits-versioned (h .known) _ (parents (p .before) h) (few-parents p) _ (versions v h) (e .if2 .left) (c .if3 .taken)
-
-element-copy-out-m : tie.Need-element-copy-out-m
-element-copy-out-m c = search needs
-
-element-copy-out-n : tie.Need-element-copy-out-n
-element-copy-out-n c = search needs
-
-sub-objects-fit : tie.Need-sub-objects-fit
-sub-objects-fit c = search needs
-
-part-objects-fit-start : tie.Need-part-objects-fit-start
-part-objects-fit-start c = search needs
-
-part-objects-fit-end : tie.Need-part-objects-fit-end
-part-objects-fit-end c = search needs
-
-sub-objects-fit-2 : tie.Need-sub-objects-fit-2
-sub-objects-fit-2 c = search needs
-
-part-objects-fit-start-2 : tie.Need-part-objects-fit-start-2
-part-objects-fit-start-2 c = search needs
-
-part-objects-fit-end-2 : tie.Need-part-objects-fit-end-2
-part-objects-fit-end-2 c = search needs
 
 objects-fit-requires : tie.Need-objects-fit-requires
 objects-fit-requires c κs =
@@ -161,18 +134,18 @@ pub limits-fit-spec : {M : Type 1} → statement M
 limits-fit-spec =
     tie.close
     (tie.spec
-    parents-fit-requires
+    (λ c κs. search needs)
     returns
     count-versions-requires
     returns-2
     returns-3
-    element-copy-out-m
-    element-copy-out-n
-    sub-objects-fit
-    part-objects-fit-start
-    part-objects-fit-end
-    sub-objects-fit-2
-    part-objects-fit-start-2
-    part-objects-fit-end-2
+    (λ c. search needs)
+    (λ c. search needs)
+    (λ c. search needs)
+    (λ c. search needs)
+    (λ c. search needs)
+    (λ c. search needs)
+    (λ c. search needs)
+    (λ c. search needs)
     objects-fit-requires
     returns-4)

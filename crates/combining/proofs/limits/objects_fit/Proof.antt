@@ -106,21 +106,12 @@ set-at-requires c κs = (search needs, inside c)
 set-at-requires-2 : tie.Need-set-at-requires-2 Inv-loop μ-loop
 set-at-requires-2 c κs = (search needs, inside (c .before))
 
-count-place-requires : tie.Need-count-place-requires Inv-loop μ-loop
-count-place-requires c κs = search needs
-
 returns-2 : tie.Need-returns-2 Inv-loop μ-loop
 returns-2 c = λ u ty left right w un m o p v z.
     let turn = to-turn (c .before) in
     let l = turn .before .loop in
     let n = counted (c .before) u ty left right w un m v z in
     sym (l .inv u ty left right w un m v z ∙ objects-large ty left right un m (l .k) (inside turn) _ (l .room) n (c .if3 .taken))
-
-add-k : tie.Need-add-k Inv-loop μ-loop
-add-k c = search needs
-
-loop-less : tie.Need-loop-less Inv-loop μ-loop
-loop-less c = search needs
 
 loop-again : tie.Need-loop-again Inv-loop μ-loop
 loop-again c = λ u ty left right w un m v z.
@@ -144,9 +135,9 @@ objects-fit-spec =
     loop-holds
     set-at-requires
     set-at-requires-2
-    count-place-requires
+    (λ c κs. search needs)
     returns-2
-    add-k
-    loop-less
+    (λ c. search needs)
+    (λ c. search needs)
     loop-again
     returns-3)

@@ -28,15 +28,6 @@ few c =
 returns : tie.Need-returns
 returns c = λ gs hs g h eg eh rg rh. parents-few gs hs _ _ (g .count) (h .count) (few c)
 
-hashes-part-requires : tie.Need-hashes-part-requires
-hashes-part-requires c κs = search needs
-
-hashes-part-requires-2 : tie.Need-hashes-part-requires-2
-hashes-part-requires-2 c κs = search needs
-
-count-hash-union-requires : tie.Need-count-hash-union-requires
-count-hash-union-requires c κs = search needs
-
 returns-2 : tie.Need-returns-2
 returns-2 c = λ gs hs g h eg eh rg rh.
     let x = c .before .before .hashes-part .ensures gs g in
@@ -46,4 +37,4 @@ returns-2 c = λ gs hs g h eg eh rg rh.
 pub parents-fit-spec : {M : Type 1} → statement M
 parents-fit-spec =
     tie.close
-    (tie.spec returns hashes-part-requires hashes-part-requires-2 count-hash-union-requires returns-2)
+    (tie.spec returns (λ c κs. search needs) (λ c κs. search needs) (λ c κs. search needs) returns-2)

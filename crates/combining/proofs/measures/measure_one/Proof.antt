@@ -16,9 +16,6 @@ counted-long c = length-set (now (c .args .measures)) 0 1 ∙ c .pre
 
 -- ---- the needs
 
-slice-write-measures : tie.Need-slice-write-measures
-slice-write-measures c = search needs
-
 put-measure-requires : tie.Need-put-measure-requires
 put-measure-requires c κs = (counted-long (c .before .before), omega arith)
 
@@ -34,4 +31,4 @@ returns c = λ s v z.
     measured-one _ _ s (count ∙ count-here (now (put .before .before .before .args .measures)) 1 (put .before .before .before .pre)) here v z
 
 pub measure-one-spec : {M : Type 1} → statement M
-measure-one-spec = tie.close (tie.spec slice-write-measures put-measure-requires same-length returns)
+measure-one-spec = tie.close (tie.spec (λ c. search needs) put-measure-requires same-length returns)

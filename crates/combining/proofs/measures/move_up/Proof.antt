@@ -35,28 +35,16 @@ low c =
 
 -- ---- the needs
 
-slice-read-count : tie.Need-slice-read-count Inv-loop μ-loop
-slice-read-count c = search needs
-
 loop-holds : tie.Need-loop-holds Inv-loop μ-loop
 loop-holds c =
     let start = c .before .before in
     (refl, start .pre .1, omega arith, none-moved (now (start .args .measures)) (start .pre .0))
-
-sub-measure-at : tie.Need-sub-measure-at Inv-loop μ-loop
-sub-measure-at c = search needs
 
 measure-at-requires : tie.Need-measure-at-requires Inv-loop μ-loop
 measure-at-requires c κs = let turn = c .before in (turn .before .loop .inv .3 .long, omega (arith, low turn))
 
 put-measure-requires : tie.Need-put-measure-requires Inv-loop μ-loop
 put-measure-requires c κs = let turn = to-turn (c .before) in (turn .before .loop .inv .3 .long, low turn .1)
-
-sub-k : tie.Need-sub-k Inv-loop μ-loop
-sub-k c = search needs
-
-loop-less : tie.Need-loop-less Inv-loop μ-loop
-loop-less c = search needs
 
 loop-again : tie.Need-loop-again Inv-loop μ-loop
 loop-again c =
@@ -70,9 +58,6 @@ loop-again c =
       omega (arith, below),
       moved-next _ _ _ _ moved (low turn .0) (put .put-measure .kept .0) (here ∙ read .measure-at .ensures) others,
     )
-
-add-measures : tie.Need-add-measures Inv-loop μ-loop
-add-measures c = search needs
 
 slice-write-measures : tie.Need-slice-write-measures Inv-loop μ-loop
 slice-write-measures c = omega (arith, c .before .loop .inv .3 .long)
@@ -94,15 +79,15 @@ move-up-spec =
     (tie.spec
     Inv-loop
     μ-loop
-    slice-read-count
+    (λ c. search needs)
     loop-holds
-    sub-measure-at
+    (λ c. search needs)
     measure-at-requires
     put-measure-requires
-    sub-k
-    loop-less
+    (λ c. search needs)
+    (λ c. search needs)
     loop-again
-    add-measures
+    (λ c. search needs)
     slice-write-measures
     same-length
     returns)

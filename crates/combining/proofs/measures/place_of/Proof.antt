@@ -53,9 +53,6 @@ module _ (c : tie.After-measure-at Inv-loop μ-loop) where
 
 -- ---- the needs
 
-shared-slice-read-count : tie.Need-shared-slice-read-count Inv-loop μ-loop
-shared-slice-read-count c = search needs
-
 loop-holds : tie.Need-loop-holds Inv-loop μ-loop
 loop-holds c = (refl, none-passed)
 
@@ -98,7 +95,7 @@ place-of-spec =
     (tie.spec
     Inv-loop
     μ-loop
-    shared-slice-read-count
+    (λ c. search needs)
     loop-holds
     measure-at-requires
     returns

@@ -25,9 +25,6 @@ put-measure-requires c κs =
     let ((long, few, _), (has, _)) = met-start met .pre in
     (long, omega (arith, few, has (met .if1 .taken)))
 
-same-length : tie.Need-same-length
-same-length c = search needs
-
 returns : tie.Need-returns
 returns c = λ ss s w v z.
     let put = c .before .before in
@@ -49,9 +46,6 @@ put-measure-requires-2 c κs =
     let ((long, _, within), (_, has)) = unmet-start un .pre in
     (moved .move-up .kept .0 ∙ long, omega (arith, within, has (un .if1 .left)))
 
-same-length-2 : tie.Need-same-length-2
-same-length-2 c = search needs
-
 returns-2 : tie.Need-returns-2
 returns-2 c = λ ss s w v z.
     let put = c .before .before in
@@ -65,4 +59,4 @@ returns-2 c = λ ss s w v z.
 pub put-snapshot-spec : {M : Type 1} → statement M
 put-snapshot-spec =
     tie.close
-    (tie.spec put-measure-requires same-length returns move-up-requires put-measure-requires-2 same-length-2 returns-2)
+    (tie.spec put-measure-requires (λ c. search needs) returns move-up-requires put-measure-requires-2 (λ c. search needs) returns-2)

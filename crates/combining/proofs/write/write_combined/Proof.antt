@@ -82,9 +82,6 @@ write-snapshots-requires c κs =
       },
     )
 
-same-length : tie.Need-same-length
-same-length c = search needs
-
 returns : tie.Need-returns
 returns c = λ table h.
     let snapshots = c .before .before in
@@ -101,5 +98,5 @@ write-combined-spec =
     count-versions-requires
     write-number-requires
     write-snapshots-requires
-    same-length
+    (λ c. search needs)
     returns)

@@ -41,15 +41,6 @@ hashes c g h w =
 
 -- ---- the needs
 
-hashes-part-requires : tie.Need-hashes-part-requires
-hashes-part-requires c κs = search needs
-
-hashes-part-requires-2 : tie.Need-hashes-part-requires-2
-hashes-part-requires-2 c κs = search needs
-
-slice-aggregate-write-hash-union : tie.Need-slice-aggregate-write-hash-union
-slice-aggregate-write-hash-union c = search needs
-
 write-hash-union-requires : tie.Need-write-hash-union-requires
 write-hash-union-requires c κs =
     let p = to-start c .pre in
@@ -66,18 +57,6 @@ write-hash-union-requires c κs =
       room = omega (arith, union-room w, length-replicate {A = ℕ} 640 0);
     }
 
-text-part-requires : tie.Need-text-part-requires
-text-part-requires c κs = search needs
-
-text-part-requires-2 : tie.Need-text-part-requires-2
-text-part-requires-2 c κs = search needs
-
-sub-write-dossier-head : tie.Need-sub-write-dossier-head
-sub-write-dossier-head c = search needs
-
-part-write-dossier-head-start : tie.Need-part-write-dossier-head-start
-part-write-dossier-head-start c = search needs
-
 part-write-dossier-head-end : tie.Need-part-write-dossier-head-end
 part-write-dossier-head-end c =
     let at-union = to-union c in
@@ -90,9 +69,6 @@ write-dossier-head-requires c κs =
     let name = c .before .before .before .before .text-part .ensures _ (p .are .left .name) in
     let source = c .before .before .before .text-part2 .ensures _ (p .are .left .uri) in
     record { head = bothHeads (p .left) (p .right); parts = both-parts (p .are) name source (hashes at-union _ _ (p .are) .1); room = p .room }
-
-same-length : tie.Need-same-length
-same-length c = search needs
 
 returns : tie.Need-returns
 returns c = λ g h w.
@@ -107,15 +83,15 @@ pub write-heads-spec : {M : Type 1} → statement M
 write-heads-spec =
     tie.close
     (tie.spec
-    hashes-part-requires
-    hashes-part-requires-2
-    slice-aggregate-write-hash-union
+    (λ c κs. search needs)
+    (λ c κs. search needs)
+    (λ c. search needs)
     write-hash-union-requires
-    text-part-requires
-    text-part-requires-2
-    sub-write-dossier-head
-    part-write-dossier-head-start
+    (λ c κs. search needs)
+    (λ c κs. search needs)
+    (λ c. search needs)
+    (λ c. search needs)
     part-write-dossier-head-end
     write-dossier-head-requires
-    same-length
+    (λ c. search needs)
     returns)

@@ -25,14 +25,8 @@ alike c = sym (c .before .same .ensures) ∙ c .if1 .taken
 
 -- ---- the needs
 
-same-requires : tie.Need-same-requires
-same-requires c κs = search needs
-
 copy-requires : tie.Need-copy-requires
 copy-requires c κs = same-room (to-start (c .before .before) .pre .3) (alike (c .before))
-
-same-length : tie.Need-same-length
-same-length c = search needs
 
 returns : tie.Need-returns
 returns c = λ u ty x y w s p q.
@@ -44,9 +38,6 @@ write-agreed-requires c κs =
     let p = of-type (c .before .before) .pre in
     (p .0, p .1, agreed-room (p .3) (c .before .if2 .taken))
 
-same-length-2 : tie.Need-same-length-2
-same-length-2 c = search needs
-
 returns-2 : tie.Need-returns-2
 returns-2 c = λ u ty x y w s p q.
     let wrote = c .before .before in
@@ -57,9 +48,6 @@ write-joined-requires c κs =
     let p = of-type (c .before .before) .pre in
     (p .0, p .1, p .2, joined-room (p .3) (c .before .if2 .left))
 
-same-length-3 : tie.Need-same-length-3
-same-length-3 c = search needs
-
 returns-3 : tie.Need-returns-3
 returns-3 c = λ u ty x y w s p q.
     let wrote = c .before .before in
@@ -69,13 +57,13 @@ pub write-shared-spec : {M : Type 1} → statement M
 write-shared-spec =
     tie.close
     (tie.spec
-    same-requires
+    (λ c κs. search needs)
     copy-requires
-    same-length
+    (λ c. search needs)
     returns
     write-agreed-requires
-    same-length-2
+    (λ c. search needs)
     returns-2
     write-joined-requires
-    same-length-3
+    (λ c. search needs)
     returns-3)

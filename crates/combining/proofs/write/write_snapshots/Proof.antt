@@ -121,9 +121,6 @@ write-rest-requires c κs =
     let l = at-loop .loop in
     left-room (both at-loop) (l .i) (l .j) (l .inv .3 _ (both at-loop)) (to-start at-loop .pre .3 .room) (c .before .if1 .taken)
 
-same-length : tie.Need-same-length Inv-loop μ-loop
-same-length c = search needs
-
 returns : tie.Need-returns Inv-loop μ-loop
 returns c = λ table h.
     let rest = c .before .before in
@@ -131,42 +128,12 @@ returns c = λ table h.
     let l = ended .before .before .loop in
     left-wrote h (l .i) (l .j) (l .inv .3 _ h) (ended .if1 .taken) (rest .write-rest .ensures (h .known .left .headed) (h .left-read))
 
-mul-v : tie.Need-mul-v Inv-loop μ-loop
-mul-v c = search needs
-
-element-copy-out-v : tie.Need-element-copy-out-v Inv-loop μ-loop
-element-copy-out-v c = search needs
-
-mul-w : tie.Need-mul-w Inv-loop μ-loop
-mul-w c = search needs
-
-element-copy-out-w : tie.Need-element-copy-out-w Inv-loop μ-loop
-element-copy-out-w c = search needs
-
-mul-copy-part : tie.Need-mul-copy-part Inv-loop μ-loop
-mul-copy-part c = search needs
-
-element-copy-out-copy-part : tie.Need-element-copy-out-copy-part Inv-loop μ-loop
-element-copy-out-copy-part c = search needs
-
-mul-copy-part-2 : tie.Need-mul-copy-part-2 Inv-loop μ-loop
-mul-copy-part-2 c = search needs
-
-element-copy-out-copy-part-2 : tie.Need-element-copy-out-copy-part-2 Inv-loop μ-loop
-element-copy-out-copy-part-2 c = search needs
-
 copy-part-requires : tie.Need-copy-part-requires Inv-loop μ-loop
 copy-part-requires c κs =
     let lower = c .before .before .before in
     let turn = left-lower lower in
     let l = turn .before .before .loop in
     left-there (both (turn .before .before)) (l .i) (l .j) (left-in turn) (right-in turn) _ _ (room turn) (lower .if2 .taken)
-
-add-i : tie.Need-add-i Inv-loop μ-loop
-add-i c = search needs
-
-loop-less : tie.Need-loop-less Inv-loop μ-loop
-loop-less c = search needs
 
 loop-again : tie.Need-loop-again Inv-loop μ-loop
 loop-again c =
@@ -180,30 +147,12 @@ loop-again c =
       λ table h. left-turn h (l .i) (l .j) (l .inv .3 _ h) (left-in turn) (right-in turn) (lower .if2 .taken) (copied .copy-part .ensures),
     )
 
-mul-copy-part-3 : tie.Need-mul-copy-part-3 Inv-loop μ-loop
-mul-copy-part-3 c = search needs
-
-element-copy-out-copy-part-3 : tie.Need-element-copy-out-copy-part-3 Inv-loop μ-loop
-element-copy-out-copy-part-3 c = search needs
-
-mul-copy-part-4 : tie.Need-mul-copy-part-4 Inv-loop μ-loop
-mul-copy-part-4 c = search needs
-
-element-copy-out-copy-part-4 : tie.Need-element-copy-out-copy-part-4 Inv-loop μ-loop
-element-copy-out-copy-part-4 c = search needs
-
 copy-part-requires-2 : tie.Need-copy-part-requires-2 Inv-loop μ-loop
 copy-part-requires-2 c κs =
     let lower = c .before .before .before in
     let turn = right-lower lower in
     let l = turn .before .before .loop in
     right-there (both (turn .before .before)) (l .i) (l .j) (left-in turn) (right-in turn) _ _ (room turn) (lower .if3 .taken)
-
-add-j : tie.Need-add-j Inv-loop μ-loop
-add-j c = search needs
-
-loop-less-2 : tie.Need-loop-less-2 Inv-loop μ-loop
-loop-less-2 c = search needs
 
 loop-again-2 : tie.Need-loop-again-2 Inv-loop μ-loop
 loop-again-2 c =
@@ -226,23 +175,8 @@ mul-write-shared-2 c = omega (arith, left-low (of-one c))
 add-write-shared : tie.Need-add-write-shared Inv-loop μ-loop
 add-write-shared c = omega (arith, left-low (of-one c))
 
-mul-write-shared-3 : tie.Need-mul-write-shared-3 Inv-loop μ-loop
-mul-write-shared-3 c = search needs
-
-sub-write-shared : tie.Need-sub-write-shared Inv-loop μ-loop
-sub-write-shared c = search needs
-
-part-write-shared-start : tie.Need-part-write-shared-start Inv-loop μ-loop
-part-write-shared-start c = search needs
-
 part-write-shared-end : tie.Need-part-write-shared-end Inv-loop μ-loop
 part-write-shared-end c = left-inside (of-one c)
-
-mul-write-shared-4 : tie.Need-mul-write-shared-4 Inv-loop μ-loop
-mul-write-shared-4 c = search needs
-
-element-copy-out-write-shared : tie.Need-element-copy-out-write-shared Inv-loop μ-loop
-element-copy-out-write-shared c = search needs
 
 mul-write-shared-5 : tie.Need-mul-write-shared-5 Inv-loop μ-loop
 mul-write-shared-5 c = omega (arith, right-low (of-one (c .before .before)))
@@ -253,53 +187,8 @@ mul-write-shared-6 c = omega (arith, right-low (of-one (c .before .before)))
 add-write-shared-2 : tie.Need-add-write-shared-2 Inv-loop μ-loop
 add-write-shared-2 c = omega (arith, right-low (of-one (c .before .before)))
 
-mul-write-shared-7 : tie.Need-mul-write-shared-7 Inv-loop μ-loop
-mul-write-shared-7 c = search needs
-
-sub-write-shared-2 : tie.Need-sub-write-shared-2 Inv-loop μ-loop
-sub-write-shared-2 c = search needs
-
-part-write-shared-start-2 : tie.Need-part-write-shared-start-2 Inv-loop μ-loop
-part-write-shared-start-2 c = search needs
-
 part-write-shared-end-2 : tie.Need-part-write-shared-end-2 Inv-loop μ-loop
 part-write-shared-end-2 c = right-inside (of-one (c .before .before))
-
-mul-write-shared-8 : tie.Need-mul-write-shared-8 Inv-loop μ-loop
-mul-write-shared-8 c = search needs
-
-element-copy-out-write-shared-2 : tie.Need-element-copy-out-write-shared-2 Inv-loop μ-loop
-element-copy-out-write-shared-2 c = search needs
-
-mul-part-of : tie.Need-mul-part-of Inv-loop μ-loop
-mul-part-of c = search needs
-
-element-copy-out-part-of : tie.Need-element-copy-out-part-of Inv-loop μ-loop
-element-copy-out-part-of c = search needs
-
-mul-part-of-2 : tie.Need-mul-part-of-2 Inv-loop μ-loop
-mul-part-of-2 c = search needs
-
-element-copy-out-part-of-2 : tie.Need-element-copy-out-part-of-2 Inv-loop μ-loop
-element-copy-out-part-of-2 c = search needs
-
-part-of-requires : tie.Need-part-of-requires Inv-loop μ-loop
-part-of-requires c κs = search needs
-
-mul-part-of-3 : tie.Need-mul-part-of-3 Inv-loop μ-loop
-mul-part-of-3 c = search needs
-
-element-copy-out-part-of-3 : tie.Need-element-copy-out-part-of-3 Inv-loop μ-loop
-element-copy-out-part-of-3 c = search needs
-
-mul-part-of-4 : tie.Need-mul-part-of-4 Inv-loop μ-loop
-mul-part-of-4 c = search needs
-
-element-copy-out-part-of-4 : tie.Need-element-copy-out-part-of-4 Inv-loop μ-loop
-element-copy-out-part-of-4 c = search needs
-
-part-of-requires-2 : tie.Need-part-of-requires-2 Inv-loop μ-loop
-part-of-requires-2 c κs = search needs
 
 write-shared-requires : tie.Need-write-shared-requires Inv-loop μ-loop
 write-shared-requires c κs =
@@ -319,9 +208,6 @@ add-i-2 c = omega (arith, left-low (of-one (shared-to-one (c .before .before .be
 
 add-j-2 : tie.Need-add-j-2 Inv-loop μ-loop
 add-j-2 c = omega (arith, right-low (of-one (shared-to-one (c .before .before .before))))
-
-loop-less-3 : tie.Need-loop-less-3 Inv-loop μ-loop
-loop-less-3 c = search needs
 
 loop-again-3 : tie.Need-loop-again-3 Inv-loop μ-loop
 loop-again-3 c =
@@ -352,9 +238,6 @@ write-rest-requires-2 c κs =
     let l = at-loop .loop in
     right-room (both at-loop) (l .i) (l .j) (l .inv .3 _ (both at-loop)) (to-start at-loop .pre .3 .room) (c .before .loop-test .left)
 
-same-length-2 : tie.Need-same-length-2 Inv-loop μ-loop
-same-length-2 c = search needs
-
 returns-2 : tie.Need-returns-2 Inv-loop μ-loop
 returns-2 c = λ table h.
     let rest = c .before .before in
@@ -370,61 +253,61 @@ write-snapshots-spec =
     μ-loop
     loop-holds
     write-rest-requires
-    same-length
+    (λ c. search needs)
     returns
-    mul-v
-    element-copy-out-v
-    mul-w
-    element-copy-out-w
-    mul-copy-part
-    element-copy-out-copy-part
-    mul-copy-part-2
-    element-copy-out-copy-part-2
+    (λ c. search needs)
+    (λ c. search needs)
+    (λ c. search needs)
+    (λ c. search needs)
+    (λ c. search needs)
+    (λ c. search needs)
+    (λ c. search needs)
+    (λ c. search needs)
     copy-part-requires
-    add-i
-    loop-less
+    (λ c. search needs)
+    (λ c. search needs)
     loop-again
-    mul-copy-part-3
-    element-copy-out-copy-part-3
-    mul-copy-part-4
-    element-copy-out-copy-part-4
+    (λ c. search needs)
+    (λ c. search needs)
+    (λ c. search needs)
+    (λ c. search needs)
     copy-part-requires-2
-    add-j
-    loop-less-2
+    (λ c. search needs)
+    (λ c. search needs)
     loop-again-2
     mul-write-shared
     mul-write-shared-2
     add-write-shared
-    mul-write-shared-3
-    sub-write-shared
-    part-write-shared-start
+    (λ c. search needs)
+    (λ c. search needs)
+    (λ c. search needs)
     part-write-shared-end
-    mul-write-shared-4
-    element-copy-out-write-shared
+    (λ c. search needs)
+    (λ c. search needs)
     mul-write-shared-5
     mul-write-shared-6
     add-write-shared-2
-    mul-write-shared-7
-    sub-write-shared-2
-    part-write-shared-start-2
+    (λ c. search needs)
+    (λ c. search needs)
+    (λ c. search needs)
     part-write-shared-end-2
-    mul-write-shared-8
-    element-copy-out-write-shared-2
-    mul-part-of
-    element-copy-out-part-of
-    mul-part-of-2
-    element-copy-out-part-of-2
-    part-of-requires
-    mul-part-of-3
-    element-copy-out-part-of-3
-    mul-part-of-4
-    element-copy-out-part-of-4
-    part-of-requires-2
+    (λ c. search needs)
+    (λ c. search needs)
+    (λ c. search needs)
+    (λ c. search needs)
+    (λ c. search needs)
+    (λ c. search needs)
+    (λ c κs. search needs)
+    (λ c. search needs)
+    (λ c. search needs)
+    (λ c. search needs)
+    (λ c. search needs)
+    (λ c κs. search needs)
     write-shared-requires
     add-i-2
     add-j-2
-    loop-less-3
+    (λ c. search needs)
     loop-again-3
     write-rest-requires-2
-    same-length-2
+    (λ c. search needs)
     returns-2)

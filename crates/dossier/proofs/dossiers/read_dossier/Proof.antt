@@ -89,34 +89,10 @@ right c = not-false _ (c .if2 .left)
 
 -- ---- the needs
 
-read-dossier-head-requires : tie.Need-read-dossier-head-requires
-read-dossier-head-requires c κs = search needs
-
-enum-known-head : tie.Need-enum-known-head
-enum-known-head c = search needs
-
-enum-told : tie.Need-enum-told
-enum-told c = search needs
-
-no-dossier-requires : tie.Need-no-dossier-requires
-no-dossier-requires c κs = search needs
-
 returns : tie.Need-returns
 returns c =
     let bad = head-refused _ (c .before .enum-told .given .1) (c .before .before .before .read-dossier-head .ensures) in
     refused _ _ _ _ (no-head _ bad) (c .no-dossier .ensures)
-
-read-within-requires : tie.Need-read-within-requires
-read-within-requires c κs = search needs
-
-enum-known-number : tie.Need-enum-known-number
-enum-known-number c = search needs
-
-enum-told-2 : tie.Need-enum-told-2
-enum-told-2 c = search needs
-
-no-dossier-requires-2 : tie.Need-no-dossier-requires-2
-no-dossier-requires-2 c κs = search needs
 
 returns-2 : tie.Need-returns-2
 returns-2 c =
@@ -126,9 +102,6 @@ returns-2 c =
 
 mul-if1 : tie.Need-mul-if1
 mul-if1 c = omega (arith, got-bounds 1 8 (count c) .1)
-
-no-dossier-requires-3 : tie.Need-no-dossier-requires-3
-no-dossier-requires-3 c κs = search needs
 
 returns-3 : tie.Need-returns-3
 returns-3 c =
@@ -142,24 +115,12 @@ read-snapshots-requires c κs =
     let bounds = got-bounds 1 8 (count at-count) in
     (count at-count .within, bounds .0, bounds .1, enough (c .before))
 
-no-dossier-requires-4 : tie.Need-no-dossier-requires-4
-no-dossier-requires-4 c κs = search needs
-
-same-length : tie.Need-same-length
-same-length c = search needs
-
 returns-4 : tie.Need-returns-4
 returns-4 c =
     let all = c .before .before in
     let at-count = here all in
     let bad = no-snapshots _ _ _ (head (to-head at-count)) _ _ (count at-count) _ _ (snapshots all) (not-true _ (c .before .if2 .taken)) in
     refused _ _ _ _ bad (c .no-dossier4 .ensures)
-
-no-dossier-requires-5 : tie.Need-no-dossier-requires-5
-no-dossier-requires-5 c κs = search needs
-
-same-length-2 : tie.Need-same-length-2
-same-length-2 c = search needs
 
 returns-5 : tie.Need-returns-5
 returns-5 c =
@@ -174,12 +135,6 @@ versions-rise-requires c κs =
     let all = to-read (c .before .before .before .before .before) .before in
     got-bounds 1 8 (count (here all)) .1
 
-no-dossier-requires-6 : tie.Need-no-dossier-requires-6
-no-dossier-requires-6 c κs = search needs
-
-same-length-3 : tie.Need-same-length-3
-same-length-3 c = search needs
-
 returns-6 : tie.Need-returns-6
 returns-6 c =
     let asked = c .before .before in
@@ -188,9 +143,6 @@ returns-6 c =
     let at-count = here all in
     let mixed = sym (not-true _ (c .before .if4 .taken)) ∙ asked .versions-rise .ensures in
     refused _ _ _ _ (not-rising _ _ _ (head (to-head at-count)) _ _ (count at-count) _ _ (snapshots all) (right read) mixed) (c .no-dossier6 .ensures)
-
-same-length-4 : tie.Need-same-length-4
-same-length-4 c = search needs
 
 returns-7 : tie.Need-returns-7
 returns-7 c =
@@ -208,29 +160,29 @@ pub read-dossier-spec : {M : Type 1} → statement M
 read-dossier-spec =
     tie.close
     (tie.spec
-    read-dossier-head-requires
-    enum-known-head
-    enum-told
-    no-dossier-requires
+    (λ c κs. search needs)
+    (λ c. search needs)
+    (λ c. search needs)
+    (λ c κs. search needs)
     returns
-    read-within-requires
-    enum-known-number
-    enum-told-2
-    no-dossier-requires-2
+    (λ c κs. search needs)
+    (λ c. search needs)
+    (λ c. search needs)
+    (λ c κs. search needs)
     returns-2
     mul-if1
-    no-dossier-requires-3
+    (λ c κs. search needs)
     returns-3
     read-snapshots-requires
-    no-dossier-requires-4
-    same-length
+    (λ c κs. search needs)
+    (λ c. search needs)
     returns-4
-    no-dossier-requires-5
-    same-length-2
+    (λ c κs. search needs)
+    (λ c. search needs)
     returns-5
     versions-rise-requires
-    no-dossier-requires-6
-    same-length-3
+    (λ c κs. search needs)
+    (λ c. search needs)
     returns-6
-    same-length-4
+    (λ c. search needs)
     returns-7)

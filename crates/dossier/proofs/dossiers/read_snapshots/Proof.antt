@@ -33,39 +33,9 @@ row-inside c = omega (arith, c .loop-test .taken, c .before .loop .inv .0 .rows-
 loop-holds : tie.Need-loop-holds Inv-loop μ-loop
 loop-holds c = let start = c .before .before in (sofar-none _ _ _ _ (start .pre .0) (start .pre .3), refl)
 
-mul-read-snapshot : tie.Need-mul-read-snapshot Inv-loop μ-loop
-mul-read-snapshot c = search needs
-
-mul-read-snapshot-2 : tie.Need-mul-read-snapshot-2 Inv-loop μ-loop
-mul-read-snapshot-2 c = search needs
-
-add-read-snapshot : tie.Need-add-read-snapshot Inv-loop μ-loop
-add-read-snapshot c = search needs
-
-mul-read-snapshot-3 : tie.Need-mul-read-snapshot-3 Inv-loop μ-loop
-mul-read-snapshot-3 c = search needs
-
-sub-read-snapshot : tie.Need-sub-read-snapshot Inv-loop μ-loop
-sub-read-snapshot c = search needs
-
-part-read-snapshot-start : tie.Need-part-read-snapshot-start Inv-loop μ-loop
-part-read-snapshot-start c = search needs
-
-part-read-snapshot-end : tie.Need-part-read-snapshot-end Inv-loop μ-loop
-part-read-snapshot-end c = search needs
-
 read-snapshot-requires : tie.Need-read-snapshot-requires Inv-loop μ-loop
 read-snapshot-requires c κs =
     (c .before .before .loop .inv .0 .within, search needs, λ known. never (cc known))
-
-enum-known-x : tie.Need-enum-known-x Inv-loop μ-loop
-enum-known-x c = search needs
-
-enum-told : tie.Need-enum-told Inv-loop μ-loop
-enum-told c = search needs
-
-same-length : tie.Need-same-length Inv-loop μ-loop
-same-length c = search needs
 
 returns : tie.Need-returns Inv-loop μ-loop
 returns c =
@@ -74,42 +44,6 @@ returns c =
     let w = turn .before .loop .inv .0 in
     let bad = snapshot-refused _ _ _ (c .enum-told .given .1) (at-read .read-snapshot .ensures) in
     snapshots-none _ _ _ _ (sofar-bad _ _ _ _ _ _ _ w (turn .loop-test .taken) bad) (w .refused)
-
-mul-r : tie.Need-mul-r Inv-loop μ-loop
-mul-r c = search needs
-
-element-write-r : tie.Need-element-write-r Inv-loop μ-loop
-element-write-r c = search needs
-
-mul-r-2 : tie.Need-mul-r-2 Inv-loop μ-loop
-mul-r-2 c = search needs
-
-element-write-r-2 : tie.Need-element-write-r-2 Inv-loop μ-loop
-element-write-r-2 c = search needs
-
-mul-version : tie.Need-mul-version Inv-loop μ-loop
-mul-version c = search needs
-
-element-set-from-version : tie.Need-element-set-from-version Inv-loop μ-loop
-element-set-from-version c = search needs
-
-mul-r-3 : tie.Need-mul-r-3 Inv-loop μ-loop
-mul-r-3 c = search needs
-
-element-write-r-3 : tie.Need-element-write-r-3 Inv-loop μ-loop
-element-write-r-3 c = search needs
-
-mul-r-4 : tie.Need-mul-r-4 Inv-loop μ-loop
-mul-r-4 c = search needs
-
-element-write-r-4 : tie.Need-element-write-r-4 Inv-loop μ-loop
-element-write-r-4 c = search needs
-
-add-j : tie.Need-add-j Inv-loop μ-loop
-add-j c = search needs
-
-loop-less : tie.Need-loop-less Inv-loop μ-loop
-loop-less c = search needs
 
 loop-again : tie.Need-loop-again Inv-loop μ-loop
 loop-again c =
@@ -126,9 +60,6 @@ loop-again c =
       row-length rows ats j (row-inside turn) long ∙ turn .before .loop .inv .1,
     )
 
-same-length-2 : tie.Need-same-length-2 Inv-loop μ-loop
-same-length-2 c = search needs
-
 returns-2 : tie.Need-returns-2 Inv-loop μ-loop
 returns-2 c = sofar-all _ _ _ _ _ _ _ (c .before .loop .inv .0) (c .loop-test .left)
 
@@ -139,30 +70,30 @@ read-snapshots-spec =
     Inv-loop
     μ-loop
     loop-holds
-    mul-read-snapshot
-    mul-read-snapshot-2
-    add-read-snapshot
-    mul-read-snapshot-3
-    sub-read-snapshot
-    part-read-snapshot-start
-    part-read-snapshot-end
+    (λ c. search needs)
+    (λ c. search needs)
+    (λ c. search needs)
+    (λ c. search needs)
+    (λ c. search needs)
+    (λ c. search needs)
+    (λ c. search needs)
     read-snapshot-requires
-    enum-known-x
-    enum-told
-    same-length
+    (λ c. search needs)
+    (λ c. search needs)
+    (λ c. search needs)
     returns
-    mul-r
-    element-write-r
-    mul-r-2
-    element-write-r-2
-    mul-version
-    element-set-from-version
-    mul-r-3
-    element-write-r-3
-    mul-r-4
-    element-write-r-4
-    add-j
-    loop-less
+    (λ c. search needs)
+    (λ c. search needs)
+    (λ c. search needs)
+    (λ c. search needs)
+    (λ c. search needs)
+    (λ c. search needs)
+    (λ c. search needs)
+    (λ c. search needs)
+    (λ c. search needs)
+    (λ c. search needs)
+    (λ c. search needs)
+    (λ c. search needs)
     loop-again
-    same-length-2
+    (λ c. search needs)
     returns-2)

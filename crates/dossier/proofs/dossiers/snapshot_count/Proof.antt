@@ -4,18 +4,6 @@ use Rattle.dossier.proofs.RowLaws.{as-counted, counted-none}
 use Rattle.dossier.proofs.dossiers.snapshot_count.Statement.{statement}
 use Rattle.dossier.proofs.dossiers.snapshot_count.Tie as tie
 
-dossier-head-end-requires : tie.Need-dossier-head-end-requires
-dossier-head-end-requires c κs = search needs
-
-read-within-requires : tie.Need-read-within-requires
-read-within-requires c κs = search needs
-
-enum-known-number : tie.Need-enum-known-number
-enum-known-number c = search needs
-
-enum-told : tie.Need-enum-told
-enum-told c = search needs
-
 returns : tie.Need-returns
 returns c =
     let at-number = c .before .before .before in
@@ -30,9 +18,9 @@ pub snapshot-count-spec : {M : Type 1} → statement M
 snapshot-count-spec =
     tie.close
     (tie.spec
-    dossier-head-end-requires
-    read-within-requires
-    enum-known-number
-    enum-told
+    (λ c κs. search needs)
+    (λ c κs. search needs)
+    (λ c. search needs)
+    (λ c. search needs)
     returns
     returns-2)

@@ -26,29 +26,14 @@ long c = let l : length (c .args .t1) ≡ 8 = search needs in omega (arith, c .p
 loop-holds : tie.Need-loop-holds Inv-loop μ-loop
 loop-holds c = (omega arith, refl)
 
-mul-here : tie.Need-mul-here Inv-loop μ-loop
-mul-here c = search needs
-
-array-copy-out-here : tie.Need-array-copy-out-here Inv-loop μ-loop
-array-copy-out-here c = search needs
-
 sub-before : tie.Need-sub-before Inv-loop μ-loop
 sub-before c = c .before .before .loop .inv .0
-
-mul-before : tie.Need-mul-before Inv-loop μ-loop
-mul-before c = search needs
-
-array-copy-out-before : tie.Need-array-copy-out-before Inv-loop μ-loop
-array-copy-out-before c = search needs
 
 returns : tie.Need-returns Inv-loop μ-loop
 returns c =
     let t = c .before .before .before .before .before in
     let l = t .before .loop in
     sym (l .inv .1 ∙ rise-bad _ _ (long (t .before .before)) _ (l .inv .0) (t .loop-test .taken) (c .if1 .taken))
-
-add-k : tie.Need-add-k Inv-loop μ-loop
-add-k c = search needs
 
 loop-less : tie.Need-loop-less Inv-loop μ-loop
 loop-less c = omega (arith, c .before .before .before .before .before .loop-test .taken)
@@ -69,13 +54,13 @@ versions-rise-spec =
     Inv-loop
     μ-loop
     loop-holds
-    mul-here
-    array-copy-out-here
+    (λ c. search needs)
+    (λ c. search needs)
     sub-before
-    mul-before
-    array-copy-out-before
+    (λ c. search needs)
+    (λ c. search needs)
     returns
-    add-k
+    (λ c. search needs)
     loop-less
     loop-again
     returns-2)

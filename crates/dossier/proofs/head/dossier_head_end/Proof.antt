@@ -57,41 +57,14 @@ module _ (c : tie.After-known-told3) where
 
 -- ---- the needs
 
-read-text-requires : tie.Need-read-text-requires
-read-text-requires c κs = search needs
-
-enum-known-name-end : tie.Need-enum-known-name-end
-enum-known-name-end c = search needs
-
-enum-told : tie.Need-enum-told
-enum-told c = search needs
-
 returns : tie.Need-returns
 returns c = ends-unnamed _ _ (text-none _ 0 (sym (c .before .before .read-text .ensures) ∙ c .enum-told .given .1))
-
-read-text-requires-2 : tie.Need-read-text-requires-2
-read-text-requires-2 c κs = search needs
-
-enum-known-source-end : tie.Need-enum-known-source-end
-enum-known-source-end c = search needs
-
-enum-told-2 : tie.Need-enum-told-2
-enum-told-2 c = search needs
 
 returns-2 : tie.Need-returns-2
 returns-2 c =
     let at-source = c .before .before in
     let bad = text-none _ _ (sym (at-source .read-text2 .ensures) ∙ c .enum-told2 .given .1) in
     ends-unsourced _ _ _ (name (at-source .before)) _ bad
-
-read-within-requires : tie.Need-read-within-requires
-read-within-requires c κs = search needs
-
-enum-known-number : tie.Need-enum-known-number
-enum-known-number c = search needs
-
-enum-told-3 : tie.Need-enum-told-3
-enum-told-3 c = search needs
 
 returns-3 : tie.Need-returns-3
 returns-3 c =
@@ -112,9 +85,6 @@ returns-4 c =
     let at-source = here at-count in
     ends-short _ _ _ (name (to-name at-source)) _ _ (source at-source) _ _ (count at-count) _ (c .if1 .taken)
 
-add-result : tie.Need-add-result
-add-result c = search needs
-
 returns-5 : tie.Need-returns-5
 returns-5 c =
     let at-count = c .before in
@@ -125,20 +95,20 @@ pub dossier-head-end-spec : {M : Type 1} → statement M
 dossier-head-end-spec =
     tie.close
     (tie.spec
-    read-text-requires
-    enum-known-name-end
-    enum-told
+    (λ c κs. search needs)
+    (λ c. search needs)
+    (λ c. search needs)
     returns
-    read-text-requires-2
-    enum-known-source-end
-    enum-told-2
+    (λ c κs. search needs)
+    (λ c. search needs)
+    (λ c. search needs)
     returns-2
-    read-within-requires
-    enum-known-number
-    enum-told-3
+    (λ c κs. search needs)
+    (λ c. search needs)
+    (λ c. search needs)
     returns-3
     mul-size
     sub-if1
     returns-4
-    add-result
+    (λ c. search needs)
     returns-5)

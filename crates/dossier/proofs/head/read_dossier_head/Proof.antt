@@ -5,15 +5,6 @@ use Rattle.dossier.specs.DossierHead.{readDossierHead}
 use Rattle.dossier.proofs.head.read_dossier_head.Statement.{statement}
 use Rattle.dossier.proofs.head.read_dossier_head.Tie as tie
 
-read-head-requires : tie.Need-read-head-requires
-read-head-requires c κs = search needs
-
-enum-known-head : tie.Need-enum-known-head
-enum-known-head c = search needs
-
-enum-told : tie.Need-enum-told
-enum-told c = search needs
-
 returns : tie.Need-returns
 unfolding readDossierHead standard
 returns c = head-refused _ (c .enum-told .given .1) (c .before .before .read-head .ensures)
@@ -26,4 +17,4 @@ returns-2 c =
 
 pub read-dossier-head-spec : {M : Type 1} → statement M
 read-dossier-head-spec =
-    tie.close (tie.spec read-head-requires enum-known-head enum-told returns returns-2)
+    tie.close (tie.spec (λ c κs. search needs) (λ c. search needs) (λ c. search needs) returns returns-2)

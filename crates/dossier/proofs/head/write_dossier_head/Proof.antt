@@ -10,12 +10,9 @@ write-head-requires c κs =
     let p = c .before .before .before .before .before .pre in
     record { head = p .head; parts = p .parts; room = omega (arith, p .room) }
 
-same-length : tie.Need-same-length
-same-length c = search needs
-
 returns : tie.Need-returns
 unfolding dossierHeadBytes
 returns c = λ h w. c .before .before .write-head .ensures h w
 
 pub write-dossier-head-spec : {M : Type 1} → statement M
-write-dossier-head-spec = tie.close (tie.spec write-head-requires same-length returns)
+write-dossier-head-spec = tie.close (tie.spec write-head-requires (λ c. search needs) returns)

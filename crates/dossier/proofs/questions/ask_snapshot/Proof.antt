@@ -61,4 +61,13 @@ returns-4 c = λ u ty xs y m w b g x i.
     (spaced .sets-in-space .ensures u ty _ w g (i .sets)) (c .if3 .left)
 
 pub ask-snapshot-spec : {M : Type 1} → statement M
-ask-snapshot-spec = tie.close (tie.spec snapshot-fits-requires returns is-match-same-requires returns-2 sets-in-space-requires returns-3 returns-4)
+ask-snapshot-spec =
+    tie.close
+    (tie.spec
+    snapshot-fits-requires
+    returns
+    is-match-same-requires
+    returns-2
+    sets-in-space-requires
+    returns-3
+    returns-4)

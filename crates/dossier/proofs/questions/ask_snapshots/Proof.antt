@@ -74,14 +74,8 @@ module _ (c : tie.After-ask-snapshot Inv-loop μ-loop) where
 
 -- ---- the needs
 
-is-lone-requires : tie.Need-is-lone-requires Inv-loop μ-loop
-is-lone-requires c κs = search needs
-
 returns : tie.Need-returns Inv-loop μ-loop
 returns c = λ u ty h w g x r. not-lone _ h _ x u ty _ _ w (c .before .is-lone .ensures) (not-true _ (c .if1 .taken))
-
-masks-of-requires : tie.Need-masks-of-requires Inv-loop μ-loop
-masks-of-requires c κs = search needs
 
 loop-holds : tie.Need-loop-holds Inv-loop μ-loop
 loop-holds c =
@@ -106,54 +100,12 @@ mul-ask-snapshot c = omega (arith, turn-low (c .before .before))
 element-copy-out-ask-snapshot : tie.Need-element-copy-out-ask-snapshot Inv-loop μ-loop
 element-copy-out-ask-snapshot c = omega (arith, turn-low (c .before .before))
 
-sub-ask-snapshot : tie.Need-sub-ask-snapshot Inv-loop μ-loop
-sub-ask-snapshot c = search needs
-
-part-ask-snapshot-start : tie.Need-part-ask-snapshot-start Inv-loop μ-loop
-part-ask-snapshot-start c = search needs
-
-part-ask-snapshot-end : tie.Need-part-ask-snapshot-end Inv-loop μ-loop
-part-ask-snapshot-end c = search needs
-
-mul-ask-snapshot-2 : tie.Need-mul-ask-snapshot-2 Inv-loop μ-loop
-mul-ask-snapshot-2 c = search needs
-
-mul-ask-snapshot-3 : tie.Need-mul-ask-snapshot-3 Inv-loop μ-loop
-mul-ask-snapshot-3 c = search needs
-
-add-ask-snapshot : tie.Need-add-ask-snapshot Inv-loop μ-loop
-add-ask-snapshot c = search needs
-
-mul-ask-snapshot-4 : tie.Need-mul-ask-snapshot-4 Inv-loop μ-loop
-mul-ask-snapshot-4 c = search needs
-
-sub-ask-snapshot-2 : tie.Need-sub-ask-snapshot-2 Inv-loop μ-loop
-sub-ask-snapshot-2 c = search needs
-
-part-ask-snapshot-start-2 : tie.Need-part-ask-snapshot-start-2 Inv-loop μ-loop
-part-ask-snapshot-start-2 c = search needs
-
-part-ask-snapshot-end-2 : tie.Need-part-ask-snapshot-end-2 Inv-loop μ-loop
-part-ask-snapshot-end-2 c = search needs
-
-ask-snapshot-requires : tie.Need-ask-snapshot-requires Inv-loop μ-loop
-ask-snapshot-requires c κs = search needs
-
 returns-2 : tie.Need-returns-2 Inv-loop μ-loop
 returns-2 c = λ u ty h w g x r.
     let asked = c .before in
     let l = turn asked .before .loop in
     let five = number-five ty (h .snapshots) (l .number) (l .j) (inside asked u ty h w g x r) _ (number asked u ty h w g x r) (c .if2 .taken) in
     five ∙ sym (l .inv .0 u ty h w g x r)
-
-first-number-requires : tie.Need-first-number-requires Inv-loop μ-loop
-first-number-requires c κs = search needs
-
-add-j : tie.Need-add-j Inv-loop μ-loop
-add-j c = search needs
-
-loop-less : tie.Need-loop-less Inv-loop μ-loop
-loop-less c = search needs
 
 loop-again : tie.Need-loop-again Inv-loop μ-loop
 loop-again c =
@@ -175,9 +127,9 @@ ask-snapshots-spec =
     (tie.spec
     Inv-loop
     μ-loop
-    is-lone-requires
+    (λ c κs. search needs)
     returns
-    masks-of-requires
+    (λ c κs. search needs)
     loop-holds
     mul-version
     element-copy-out-version
@@ -185,20 +137,20 @@ ask-snapshots-spec =
     element-copy-out-t23
     mul-ask-snapshot
     element-copy-out-ask-snapshot
-    sub-ask-snapshot
-    part-ask-snapshot-start
-    part-ask-snapshot-end
-    mul-ask-snapshot-2
-    mul-ask-snapshot-3
-    add-ask-snapshot
-    mul-ask-snapshot-4
-    sub-ask-snapshot-2
-    part-ask-snapshot-start-2
-    part-ask-snapshot-end-2
-    ask-snapshot-requires
+    (λ c. search needs)
+    (λ c. search needs)
+    (λ c. search needs)
+    (λ c. search needs)
+    (λ c. search needs)
+    (λ c. search needs)
+    (λ c. search needs)
+    (λ c. search needs)
+    (λ c. search needs)
+    (λ c. search needs)
+    (λ c κs. search needs)
     returns-2
-    first-number-requires
-    add-j
-    loop-less
+    (λ c κs. search needs)
+    (λ c. search needs)
+    (λ c. search needs)
     loop-again
     returns-3)

@@ -5,11 +5,8 @@ use Rattle.dossier.proofs.questions.type_name.Reads as reads
 use Rattle.dossier.proofs.questions.type_name.Lts as lts
 use Rattle.event.proofs.head.text_part.Reads as text-part-reads
 
-text-part-requires : tie.Need-text-part-requires
-text-part-requires c κs = search needs
-
 returns : tie.Need-returns
 returns c = λ h w. c .text-part .ensures (h .head .type) (w .head .name)
 
 pub type-name-spec : {M : Type 1} → statement M
-type-name-spec = tie.close (tie.spec text-part-requires returns)
+type-name-spec = tie.close (tie.spec (λ c κs. search needs) returns)

@@ -45,9 +45,6 @@ module _ (c : tie.In-loop Inv-loop μ-loop) where
 loop-holds : tie.Need-loop-holds Inv-loop μ-loop
 loop-holds c = (omega arith, pow-pos _, pow-pos _, λ u cs y o. counts-none cs _ _ o)
 
-sub-k : tie.Need-sub-k Inv-loop μ-loop
-sub-k c = search needs
-
 mul-n : tie.Need-mul-n Inv-loop μ-loop
 mul-n c = omega (arith, few c)
 
@@ -69,17 +66,11 @@ returns c = λ u qs cs versioned n x y o.
 mul-present : tie.Need-mul-present Inv-loop μ-loop
 mul-present c = omega (arith, present-room (to-turn c))
 
-bit-requires : tie.Need-bit-requires Inv-loop μ-loop
-bit-requires c κs = search needs
-
 add-present : tie.Need-add-present Inv-loop μ-loop
 add-present c = omega (arith, present-room (to-turn (c .before)), bit-low _ (c .bit .ensures))
 
 mul-several : tie.Need-mul-several Inv-loop μ-loop
 mul-several c = omega (arith, several-room (to-turn (c .before)))
-
-bit-requires-2 : tie.Need-bit-requires-2 Inv-loop μ-loop
-bit-requires-2 c κs = search needs
 
 add-several : tie.Need-add-several Inv-loop μ-loop
 add-several c = omega (arith, several-room (to-turn (c .before .before)), bit-low _ (c .bit2 .ensures))
@@ -104,9 +95,6 @@ returns-2 c = λ u qs cs versioned n x y o.
     let l = c .before .before in
     counts-over n (to-start l .pre .0) x y (l .loop .inv .3 u cs y o) (omega (arith, c .before .loop-test .left)) (c .if2 .taken)
 
-masks-fit-requires : tie.Need-masks-fit-requires Inv-loop μ-loop
-masks-fit-requires c κs = search needs
-
 returns-3 : tie.Need-returns-3 Inv-loop μ-loop
 returns-3 c = λ u qs cs versioned n x y o.
     let counted = c .before in
@@ -121,20 +109,20 @@ cells-fit-spec =
     Inv-loop
     μ-loop
     loop-holds
-    sub-k
+    (λ c. search needs)
     mul-n
     add-n
     mul-n-2
     shared-slice-read-n
     returns
     mul-present
-    bit-requires
+    (λ c κs. search needs)
     add-present
     mul-several
-    bit-requires-2
+    (λ c κs. search needs)
     add-several
     loop-less
     loop-again
     returns-2
-    masks-fit-requires
+    (λ c κs. search needs)
     returns-3)

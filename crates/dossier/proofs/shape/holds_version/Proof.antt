@@ -17,9 +17,6 @@ sub-set-at c = to-start c .pre .0
 set-at-requires : tie.Need-set-at-requires
 set-at-requires c κs = (to-start c .pre .1, omega (arith, to-start c .pre .0, c .if1 .left))
 
-is-version-requires : tie.Need-is-version-requires
-is-version-requires c κs = search needs
-
 returns-2 : tie.Need-returns-2
 returns-2 c = λ y v w.
     let found = c .before in
@@ -28,4 +25,4 @@ returns-2 c = λ y v w.
     holds-here y _ _ v (c .is-version .ensures _ set)
 
 pub holds-version-spec : {M : Type 1} → statement M
-holds-version-spec = tie.close (tie.spec returns sub-set-at set-at-requires is-version-requires returns-2)
+holds-version-spec = tie.close (tie.spec returns sub-set-at set-at-requires (λ c κs. search needs) returns-2)

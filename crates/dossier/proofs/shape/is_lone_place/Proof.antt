@@ -3,17 +3,8 @@ use borrow.Author.Needs.{needs}
 use Rattle.dossier.proofs.shape.is_lone_place.Statement.{statement}
 use Rattle.dossier.proofs.shape.is_lone_place.Tie as tie
 
-returns : tie.Need-returns
-returns c = search needs
-
-is-extreme-requires : tie.Need-is-extreme-requires
-is-extreme-requires c κs = search needs
-
 returns-2 : tie.Need-returns-2
 returns-2 c = rw (c .before .before .if1 .left, sym (c .before .is-extreme .ensures) ∙ c .if2 .taken)
-
-is-match-requires : tie.Need-is-match-requires
-is-match-requires c κs = search needs
 
 returns-3 : tie.Need-returns-3
 returns-3 c =
@@ -28,4 +19,12 @@ returns-4 c =
     rw (plain .before .before .if1 .left, sym (plain .before .is-extreme .ensures) ∙ plain .if2 .left, other)
 
 pub is-lone-place-spec : {M : Type 1} → statement M
-is-lone-place-spec = tie.close (tie.spec returns is-extreme-requires returns-2 is-match-requires returns-3 returns-4)
+is-lone-place-spec =
+    tie.close
+    (tie.spec
+    (λ c. search needs)
+    (λ c κs. search needs)
+    returns-2
+    (λ c κs. search needs)
+    returns-3
+    returns-4)

@@ -63,20 +63,11 @@ property-at-requires c κs =
     let start = to-start (c .before .before) in
     (start .pre .1, omega (arith, start .pre .0))
 
-matches-at-requires : tie.Need-matches-at-requires Inv-loop μ-loop
-matches-at-requires c κs = search needs
-
 returns : tie.Need-returns Inv-loop μ-loop
 returns c = λ s u qs xs w v.
     let counted = c .before in
     let l = to-loop counted .loop in
     sym (l .inv s u qs xs w v ∙ match-large s u qs _ _ xs _ w v (l .k) _ (inside counted) _ (matches counted) (c .if1 .taken))
-
-add-k : tie.Need-add-k Inv-loop μ-loop
-add-k c = search needs
-
-loop-less : tie.Need-loop-less Inv-loop μ-loop
-loop-less c = search needs
 
 loop-again : tie.Need-loop-again Inv-loop μ-loop
 loop-again c = λ s u qs xs w v.
@@ -99,9 +90,9 @@ is-match-small-spec =
     loop-holds
     set-at-requires
     property-at-requires
-    matches-at-requires
+    (λ c κs. search needs)
     returns
-    add-k
-    loop-less
+    (λ c. search needs)
+    (λ c. search needs)
     loop-again
     returns-2)

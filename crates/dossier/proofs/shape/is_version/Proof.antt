@@ -14,15 +14,6 @@ use Rattle.event.proofs.sets.value_in.Reads as value-in-reads
 returns : tie.Need-returns
 returns c = λ vs w. version-many vs _ _ (w .count) (c .if1 .taken)
 
-set-part-requires : tie.Need-set-part-requires
-set-part-requires c κs = search needs
-
-value-in-requires : tie.Need-value-in-requires
-value-in-requires c κs = search needs
-
-is-in-decimal-requires : tie.Need-is-in-decimal-requires
-is-in-decimal-requires c κs = search needs
-
 returns-2 : tie.Need-returns-2
 returns-2 c =
     λ vs w.
@@ -34,4 +25,4 @@ returns-2 c =
 pub is-version-spec : {M : Type 1} → statement M
 is-version-spec =
     tie.close
-    (tie.spec returns set-part-requires value-in-requires is-in-decimal-requires returns-2)
+    (tie.spec returns (λ c κs. search needs) (λ c κs. search needs) (λ c κs. search needs) returns-2)

@@ -103,9 +103,6 @@ module _ (c : tie.After-bit3 Inv-loop μ-loop) where
 loop-holds : tie.Need-loop-holds Inv-loop μ-loop
 loop-holds c = (omega arith, low-none _, λ s qs w. masks-none w _)
 
-sub-k : tie.Need-sub-k Inv-loop μ-loop
-sub-k c = search needs
-
 property-at-requires : tie.Need-property-at-requires Inv-loop μ-loop
 property-at-requires c κs = (to-start c .pre .1, omega (arith, c .loop-test .taken, few c))
 
@@ -118,32 +115,17 @@ add-m c = omega (arith, all-room (to-turn c))
 mul-m-2 : tie.Need-mul-m-2 Inv-loop μ-loop
 mul-m-2 c = omega (arith, mandatory-room (to-turn (c .before)))
 
-bit-requires : tie.Need-bit-requires Inv-loop μ-loop
-bit-requires c κs = search needs
-
 add-m-2 : tie.Need-add-m-2 Inv-loop μ-loop
 add-m-2 c = omega (arith, mandatory-room (from-bit c), bit-low _ (c .bit .ensures))
 
 mul-m-3 : tie.Need-mul-m-3 Inv-loop μ-loop
 mul-m-3 c = omega (arith, lone-room (from-bit (c .before)))
 
-is-lone-place-requires : tie.Need-is-lone-place-requires Inv-loop μ-loop
-is-lone-place-requires c κs = search needs
-
-bit-requires-2 : tie.Need-bit-requires-2 Inv-loop μ-loop
-bit-requires-2 c κs = search needs
-
 add-m-3 : tie.Need-add-m-3 Inv-loop μ-loop
 add-m-3 c = omega (arith, lone-room (from-bit (from-bit2 c)), bit-low _ (c .bit2 .ensures))
 
 mul-m-4 : tie.Need-mul-m-4 Inv-loop μ-loop
 mul-m-4 c = omega (arith, unmarked-room (from-bit (from-bit2 (c .before))))
-
-is-unmarked-place-requires : tie.Need-is-unmarked-place-requires Inv-loop μ-loop
-is-unmarked-place-requires c κs = search needs
-
-bit-requires-3 : tie.Need-bit-requires-3 Inv-loop μ-loop
-bit-requires-3 c κs = search needs
 
 add-m-4 : tie.Need-add-m-4 Inv-loop μ-loop
 add-m-4 c = omega (arith, unmarked-room (turn c), bit-low _ (c .bit3 .ensures))
@@ -172,20 +154,20 @@ masks-of-spec =
     Inv-loop
     μ-loop
     loop-holds
-    sub-k
+    (λ c. search needs)
     property-at-requires
     mul-m
     add-m
     mul-m-2
-    bit-requires
+    (λ c κs. search needs)
     add-m-2
     mul-m-3
-    is-lone-place-requires
-    bit-requires-2
+    (λ c κs. search needs)
+    (λ c κs. search needs)
     add-m-3
     mul-m-4
-    is-unmarked-place-requires
-    bit-requires-3
+    (λ c κs. search needs)
+    (λ c κs. search needs)
     add-m-4
     loop-less
     loop-again

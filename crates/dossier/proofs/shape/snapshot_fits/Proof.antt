@@ -64,13 +64,18 @@ is-match-small-requires c κs = let start = to-start (c .before .before .before)
 returns-2 : tie.Need-returns-2
 returns-2 c = λ u ty y m w b v. fits-match ty y (c .before .is-match-small .ensures u _ (ty .properties) _ w (v .sets)) (not-true _ (c .if3 .taken))
 
-fits-by-version-requires : tie.Need-fits-by-version-requires
-fits-by-version-requires c κs = search needs
-
 returns-3 : tie.Need-returns-3
 returns-3 c = λ u ty y m w b v.
     let fitted = c .before .before .before in
     fits-all ty y (cells (fitted .before) ty w b v) (not-false _ (fitted .if1 .left)) (matches (c .before) ty w v) (c .fits-by-version .ensures y ty m v)
 
 pub snapshot-fits-spec : {M : Type 1} → statement M
-snapshot-fits-spec = tie.close (tie.spec cells-fit-requires returns is-match-small-requires returns-2 fits-by-version-requires returns-3)
+snapshot-fits-spec =
+    tie.close
+    (tie.spec
+    cells-fit-requires
+    returns
+    is-match-small-requires
+    returns-2
+    (λ c κs. search needs)
+    returns-3)

@@ -16,17 +16,8 @@ Inv-loop presence differ m₀ n₀ left₀ m n left = apart 32 presence differ �
 abbrev μ-loop : tie.MeasureT-loop
 μ-loop presence differ m₀ n₀ left₀ m n left = left
 
-loop-holds : tie.Need-loop-holds Inv-loop μ-loop
-loop-holds c = refl
-
-add-if2 : tie.Need-add-if2 Inv-loop μ-loop
-add-if2 c = search needs
-
 returns : tie.Need-returns Inv-loop μ-loop
 returns c = sym (c .before .before .before .loop .inv ∙ apart-bad _ _ _ (c .before .before .loop-test .taken) (c .if2 .taken))
-
-sub-left : tie.Need-sub-left Inv-loop μ-loop
-sub-left c = search needs
 
 loop-less : tie.Need-loop-less Inv-loop μ-loop
 loop-less c = omega (arith, c .before .before .loop-test .taken)
@@ -43,4 +34,4 @@ returns-3 c = sym (c .before .loop .inv ∙ apart-end _ _ _ (inl (c .loop-test .
 pub are-apart-spec : {M : Type 1} → statement M
 are-apart-spec =
     tie.close
-    (tie.spec Inv-loop μ-loop loop-holds add-if2 returns sub-left loop-less loop-again returns-2 returns-3)
+    (tie.spec Inv-loop μ-loop (λ c. refl) (λ c. search needs) returns (λ c. search needs) loop-less loop-again returns-2 returns-3)

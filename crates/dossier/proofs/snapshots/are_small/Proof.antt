@@ -38,9 +38,6 @@ returns-2 c = λ s xs w e.
     let l = found .before .before .loop in
     sym (l .inv s xs w ∙ small-bad s xs _ w (l .k) (found .before .loop-test .taken) (omega (arith, objects found, c .if2 .taken)))
 
-add-k : tie.Need-add-k Inv-loop μ-loop
-add-k c = search needs
-
 loop-less : tie.Need-loop-less Inv-loop μ-loop
 loop-less c = omega (arith, c .before .before .before .loop-test .taken)
 
@@ -54,4 +51,16 @@ returns-3 : tie.Need-returns-3 Inv-loop μ-loop
 returns-3 c = λ s xs w e. sym (c .before .loop .inv s xs w ∙ small-end s xs _ w _ (c .loop-test .left))
 
 pub are-small-spec : {M : Type 1} → statement M
-are-small-spec = tie.close (tie.spec Inv-loop μ-loop returns loop-holds set-at-requires returns-2 add-k loop-less loop-again returns-3)
+are-small-spec =
+    tie.close
+    (tie.spec
+    Inv-loop
+    μ-loop
+    returns
+    loop-holds
+    set-at-requires
+    returns-2
+    (λ c. search needs)
+    loop-less
+    loop-again
+    returns-3)

@@ -51,15 +51,6 @@ sets c = sets-read (c .before .next .given .1) (to-read c .before .before .read-
 
 -- ---- the needs
 
-read-numbers-requires : tie.Need-read-numbers-requires
-read-numbers-requires c κs = search needs
-
-enum-known-version : tie.Need-enum-known-version
-enum-known-version c = search needs
-
-enum-told : tie.Need-enum-told
-enum-told c = search needs
-
 returns : tie.Need-returns
 returns c = numbers-refused _ _ (c .enum-told .given .1) (c .before .before .read-numbers .ensures)
 
@@ -69,26 +60,11 @@ read-sets-requires c κs =
     let start = to-start here in
     (numbers here .within, start .pre .1, sets-promised _ _ (start .pre .0) _ _ _ _ (numbers here) (start .pre .2))
 
-enum-known-next : tie.Need-enum-known-next
-enum-known-next c = search needs
-
-enum-told-2 : tie.Need-enum-told-2
-enum-told-2 c = search needs
-
-same-length : tie.Need-same-length
-same-length c = search needs
-
 returns-2 : tie.Need-returns-2
 returns-2 c =
     let at-sets = c .before .before in
     let here = to-numbers at-sets in
     no-sets _ _ (to-start here .pre .0) _ _ _ _ (numbers here) (sets-refused _ _ (c .enum-told2 .given .1) (at-sets .before .before .read-sets .ensures))
-
-are-small-requires : tie.Need-are-small-requires
-are-small-requires c κs = search needs
-
-same-length-2 : tie.Need-same-length-2
-same-length-2 c = search needs
 
 returns-3 : tie.Need-returns-3
 returns-3 c =
@@ -96,9 +72,6 @@ returns-3 c =
     let found = to-sets asked in
     let here = to-numbers (to-read found) in
     snapshot-some _ _ (to-start here .pre .0) _ _ _ _ (numbers here) _ _ _ (sets found) (λ t xs w e. sym (c .if1 .taken) ∙ asked .are-small .ensures t xs w e)
-
-same-length-3 : tie.Need-same-length-3
-same-length-3 c = search needs
 
 returns-4 : tie.Need-returns-4
 returns-4 c =
@@ -111,17 +84,17 @@ pub read-snapshot-spec : {M : Type 1} → statement M
 read-snapshot-spec =
     tie.close
     (tie.spec
-    read-numbers-requires
-    enum-known-version
-    enum-told
+    (λ c κs. search needs)
+    (λ c. search needs)
+    (λ c. search needs)
     returns
     read-sets-requires
-    enum-known-next
-    enum-told-2
-    same-length
+    (λ c. search needs)
+    (λ c. search needs)
+    (λ c. search needs)
     returns-2
-    are-small-requires
-    same-length-2
+    (λ c κs. search needs)
+    (λ c. search needs)
     returns-3
-    same-length-3
+    (λ c. search needs)
     returns-4)

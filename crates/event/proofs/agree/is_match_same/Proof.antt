@@ -52,9 +52,6 @@ set-at-requires-2 c κs =
     let start = to-start (c .before .before .before) in
     (start .pre .3, omega (arith, start .pre .0))
 
-place-same-requires : tie.Need-place-same-requires Inv-loop μ-loop
-place-same-requires c κs = search needs
-
 returns : tie.Need-returns Inv-loop μ-loop
 returns c = λ s ty xs ys w u v.
     let asked = c .before in
@@ -67,12 +64,6 @@ returns c = λ s ty xs ys w u v.
     let right = set-read (asked .before .set-at2 .ensures) (v .each (l .k) place) in
     let is-same = asked .place-same .ensures s _ _ _ property left right in
     sym (l .inv s ty xs ys w u v ∙ same-bad s ty _ _ w (l .k) inside _ _ xs ys _ _ u v is-same (not-true _ (c .if1 .taken)))
-
-add-k : tie.Need-add-k Inv-loop μ-loop
-add-k c = search needs
-
-loop-less : tie.Need-loop-less Inv-loop μ-loop
-loop-less c = search needs
 
 loop-again : tie.Need-loop-again Inv-loop μ-loop
 loop-again c = λ s ty xs ys w u v.
@@ -101,9 +92,9 @@ is-match-same-spec =
     property-at-requires
     set-at-requires
     set-at-requires-2
-    place-same-requires
+    (λ c κs. search needs)
     returns
-    add-k
-    loop-less
+    (λ c. search needs)
+    (λ c. search needs)
     loop-again
     returns-2)

@@ -10,20 +10,8 @@ use Rattle.event.proofs.agree.place_same.Lts as lts
 use Rattle.event.proofs.sets.set_part.Reads as set-part-reads
 use Rattle.packed.proofs.order.same.Reads as same-reads
 
-is-match-requires : tie.Need-is-match-requires
-is-match-requires c κs = search needs
-
 returns : tie.Need-returns
 returns c = λ s q vs ws w x y. place-free s q _ w _ (sym (c .before .is-match .ensures) ∙ not-true _ (c .if1 .taken))
-
-set-part-requires : tie.Need-set-part-requires
-set-part-requires c κs = search needs
-
-set-part-requires-2 : tie.Need-set-part-requires-2
-set-part-requires-2 c κs = search needs
-
-same-requires : tie.Need-same-requires
-same-requires c κs = search needs
 
 returns-2 : tie.Need-returns-2
 returns-2 c =
@@ -35,4 +23,4 @@ returns-2 c =
 
 pub place-same-spec : {M : Type 1} → statement M
 place-same-spec =
-    tie.close (tie.spec is-match-requires returns set-part-requires set-part-requires-2 same-requires returns-2)
+    tie.close (tie.spec (λ c κs. search needs) returns (λ c κs. search needs) (λ c κs. search needs) (λ c κs. search needs) returns-2)

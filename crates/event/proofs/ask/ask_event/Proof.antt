@@ -105,9 +105,6 @@ returns-3 c = λ table name counts says names reads.
     with-table _ _ _ counts _ (table-right t g .is) _ _
     (no-type table _ _ _ _ counts _ reads (not-false _ (right .if2 .left)) _ (type-said t g) _ (not-true _ (c .if3 .taken)) refl)
 
-shape-ok-requires : tie.Need-shape-ok-requires
-shape-ok-requires c κs = search needs
-
 returns-4 : tie.Need-returns-4
 returns-4 c = λ table name counts says names reads.
     let asked = c .before in
@@ -117,9 +114,6 @@ returns-4 c = λ table name counts says names reads.
     with-table _ _ _ counts _ (table-right (to-table (to-right typed)) g .is) _ _
     (no-shape table _ _ _ _ _ _ _ m _
     (sym (not-true _ (c .if4 .taken)) ∙ asked .shape-ok .ensures _ _ (m .type) (m .e) (m .type-is .are) (m .event-is .sets) (m .event-is .objects)) refl)
-
-sets-in-space-requires : tie.Need-sets-in-space-requires
-sets-in-space-requires c κs = search needs
 
 returns-5 : tie.Need-returns-5
 returns-5 c = λ table name counts says names reads.
@@ -147,4 +141,4 @@ returns-6 c = λ table name counts says names reads.
 pub ask-event-spec : {M : Type 1} → statement M
 ask-event-spec =
     tie.close
-    (tie.spec returns returns-2 returns-3 shape-ok-requires returns-4 sets-in-space-requires returns-5 returns-6)
+    (tie.spec returns returns-2 returns-3 (λ c κs. search needs) returns-4 (λ c κs. search needs) returns-5 returns-6)

@@ -5,24 +5,6 @@ use Rattle.event.proofs.AskLaws.{no-name-there, name-part}
 use Rattle.event.proofs.ask.type_name.Statement.{statement}
 use Rattle.event.proofs.ask.type_name.Tie as tie
 
-read-text-requires : tie.Need-read-text-requires
-read-text-requires c κs = search needs
-
-enum-known-start : tie.Need-enum-known-start
-enum-known-start c = search needs
-
-enum-told : tie.Need-enum-told
-enum-told c = search needs
-
-sub-result : tie.Need-sub-result
-sub-result c = search needs
-
-part-result-start : tie.Need-part-result-start
-part-result-start c = search needs
-
-part-result-end : tie.Need-part-result-end
-part-result-end c = search needs
-
 returns : tie.Need-returns
 returns c = λ counts e h. absurd (no-name-there counts _ e h (text-none _ 0 (sym (c .before .before .before .read-text .ensures) ∙ c .before .enum-told .given .1)))
 
@@ -42,12 +24,12 @@ pub type-name-spec : {M : Type 1} → statement M
 type-name-spec =
     tie.close
     (tie.spec
-    read-text-requires
-    enum-known-start
-    enum-told
-    sub-result
-    part-result-start
-    part-result-end
+    (λ c κs. search needs)
+    (λ c. search needs)
+    (λ c. search needs)
+    (λ c. search needs)
+    (λ c. search needs)
+    (λ c. search needs)
     returns
     sub-result-2
     part-result-start-2

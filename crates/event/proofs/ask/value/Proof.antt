@@ -89,53 +89,11 @@ stands c = found-value (c .start .given .1) (found (c .before .before))
 
 -- ---- the needs
 
-type-name-requires : tie.Need-type-name-requires
-type-name-requires c κs = search needs
-
-slice-aggregate-read-table : tie.Need-slice-aggregate-read-table
-slice-aggregate-read-table c = search needs
-
-read-table-requires : tie.Need-read-table-requires
-read-table-requires c κs = search needs
-
-slice-aggregate-read-event : tie.Need-slice-aggregate-read-event
-slice-aggregate-read-event c = search needs
-
-read-event-requires : tie.Need-read-event-requires
-read-event-requires c κs = search needs
-
-slice-aggregate-ask-event : tie.Need-slice-aggregate-ask-event
-slice-aggregate-ask-event c = search needs
-
-slice-aggregate-ask-event-2 : tie.Need-slice-aggregate-ask-event-2
-slice-aggregate-ask-event-2 c = search needs
-
-ask-event-requires : tie.Need-ask-event-requires
-ask-event-requires c κs = search needs
-
-sub-result : tie.Need-sub-result
-sub-result c = search needs
-
-part-result-start : tie.Need-part-result-start
-part-result-start c = search needs
-
-part-result-end : tie.Need-part-result-end
-part-result-end c = search needs
-
 returns : tie.Need-returns
 returns c =
     let refused = c .before in
     let a = asked-start (refused .before) .args in
     lent-is (a .event .ptr) (value-refused _ _ (a .place) (a .index) _ (refused-is wide _ _ _ _ _ (answered (refused .before)) (refused .if1 .taken)))
-
-slice-aggregate-find-value : tie.Need-slice-aggregate-find-value
-slice-aggregate-find-value c = search needs
-
-find-value-requires : tie.Need-find-value-requires
-find-value-requires c κs = search needs
-
-enum-known-start : tie.Need-enum-known-start
-enum-known-start c = search needs
 
 sub-result-2 : tie.Need-sub-result-2
 sub-result-2 c = stands (c .before) .order
@@ -145,18 +103,6 @@ part-result-start-2 c = stands (c .before) .order
 
 part-result-end-2 : tie.Need-part-result-end-2
 part-result-end-2 c = stands (c .before) .within
-
-enum-told : tie.Need-enum-told
-enum-told c = search needs
-
-sub-result-3 : tie.Need-sub-result-3
-sub-result-3 c = search needs
-
-part-result-start-3 : tie.Need-part-result-start-3
-part-result-start-3 c = search needs
-
-part-result-end-3 : tie.Need-part-result-end-3
-part-result-end-3 c = search needs
 
 returns-2 : tie.Need-returns-2
 returns-2 c =
@@ -178,27 +124,27 @@ pub value-spec : {M : Type 1} → statement M
 value-spec =
     tie.close
     (tie.spec
-    type-name-requires
-    slice-aggregate-read-table
-    read-table-requires
-    slice-aggregate-read-event
-    read-event-requires
-    slice-aggregate-ask-event
-    slice-aggregate-ask-event-2
-    ask-event-requires
-    sub-result
-    part-result-start
-    part-result-end
+    (λ c κs. search needs)
+    (λ c. search needs)
+    (λ c κs. search needs)
+    (λ c. search needs)
+    (λ c κs. search needs)
+    (λ c. search needs)
+    (λ c. search needs)
+    (λ c κs. search needs)
+    (λ c. search needs)
+    (λ c. search needs)
+    (λ c. search needs)
     returns
-    slice-aggregate-find-value
-    find-value-requires
-    enum-known-start
+    (λ c. search needs)
+    (λ c κs. search needs)
+    (λ c. search needs)
     sub-result-2
     part-result-start-2
     part-result-end-2
-    enum-told
-    sub-result-3
-    part-result-start-3
-    part-result-end-3
+    (λ c. search needs)
+    (λ c. search needs)
+    (λ c. search needs)
+    (λ c. search needs)
     returns-2
     returns-3)

@@ -19,9 +19,6 @@ long c = search needs
 loop-holds : tie.Need-loop-holds Inv-loop μ-loop
 loop-holds c = bits-none (c .args .t1) (long c)
 
-sub-k : tie.Need-sub-k Inv-loop μ-loop
-sub-k c = search needs
-
 mul-n : tie.Need-mul-n Inv-loop μ-loop
 mul-n c = let l = c .before in omega (arith, bits-room (l .before .args .t1) (long (l .before)) (l .loop .n) (l .loop .k) (l .loop .inv) (c .loop-test .taken))
 
@@ -31,14 +28,8 @@ array-read-if1 c = omega (arith, c .loop-test .taken, c .before .loop .inv .with
 add-n : tie.Need-add-n Inv-loop μ-loop
 add-n c = let l = c .before .before in omega (arith, bits-room (l .before .args .t1) (long (l .before)) (l .loop .n) (l .loop .k) (l .loop .inv) (c .before .loop-test .taken))
 
-loop-less : tie.Need-loop-less Inv-loop μ-loop
-loop-less c = search needs
-
 loop-again : tie.Need-loop-again Inv-loop μ-loop
 loop-again c = let l = c .before .before in bits-set (l .before .args .t1) (long (l .before)) (l .loop .n) (l .loop .k) (l .loop .inv) (c .before .loop-test .taken) (c .if1 .taken)
-
-loop-less-2 : tie.Need-loop-less-2 Inv-loop μ-loop
-loop-less-2 c = search needs
 
 loop-again-2 : tie.Need-loop-again-2 Inv-loop μ-loop
 loop-again-2 c = let l = c .before .before in bits-clear (l .before .args .t1) (long (l .before)) (l .loop .n) (l .loop .k) (l .loop .inv) (c .before .loop-test .taken) (c .if1 .left)
@@ -53,12 +44,12 @@ number-of-spec =
     Inv-loop
     μ-loop
     loop-holds
-    sub-k
+    (λ c. search needs)
     mul-n
     array-read-if1
     add-n
-    loop-less
+    (λ c. search needs)
     loop-again
-    loop-less-2
+    (λ c. search needs)
     loop-again-2
     returns)

@@ -5,11 +5,8 @@ use Rattle.packed.proofs.read.part_of.Reads as part-of-reads
 use Rattle.event.proofs.head.hashes_part.Statement.{statement}
 use Rattle.event.proofs.head.hashes_part.Tie as tie
 
-part-of-requires : tie.Need-part-of-requires
-part-of-requires c κs = search needs
-
 returns : tie.Need-returns
 returns c = λ v w. c .part-of .ensures (omega (arith, w .size)) (w .within) ∙ w .bytes
 
 pub hashes-part-spec : {M : Type 1} → statement M
-hashes-part-spec = tie.close (tie.spec part-of-requires returns)
+hashes-part-spec = tie.close (tie.spec (λ c κs. search needs) returns)

@@ -6,30 +6,12 @@ use Rattle.model.specs.Order.{texts, equal}
 use Rattle.event.proofs.head.heads_agree.Statement.{statement}
 use Rattle.event.proofs.head.heads_agree.Tie as tie
 
-text-part-requires : tie.Need-text-part-requires
-text-part-requires c κs = search needs
-
-text-part-requires-2 : tie.Need-text-part-requires-2
-text-part-requires-2 c κs = search needs
-
-same-requires : tie.Need-same-requires
-same-requires c κs = search needs
-
 -- the answers on the names and the sources, from the heads
 returns : tie.Need-returns
 returns c = λ g h x y.
     let at-names = c .before .before .before in
     let e = c .before .same .ensures ∙ ap₂ (equal texts) (at-names .text-part .ensures (g .type) (x .name)) (c .before .before .text-part2 .ensures (h .type) (y .name)) in
     sym (ap (λ (b : Bool). b && equal texts (g .source) (h .source)) (sym e ∙ not-true _ (c .if1 .taken)))
-
-text-part-requires-3 : tie.Need-text-part-requires-3
-text-part-requires-3 c κs = search needs
-
-text-part-requires-4 : tie.Need-text-part-requires-4
-text-part-requires-4 c κs = search needs
-
-same-requires-2 : tie.Need-same-requires-2
-same-requires-2 c κs = search needs
 
 returns-2 : tie.Need-returns-2
 returns-2 c = λ g h x y.
@@ -43,11 +25,11 @@ pub heads-agree-spec : {M : Type 1} → statement M
 heads-agree-spec =
     tie.close
     (tie.spec
-    text-part-requires
-    text-part-requires-2
-    same-requires
+    (λ c κs. search needs)
+    (λ c κs. search needs)
+    (λ c κs. search needs)
     returns
-    text-part-requires-3
-    text-part-requires-4
-    same-requires-2
+    (λ c κs. search needs)
+    (λ c κs. search needs)
+    (λ c κs. search needs)
     returns-2)

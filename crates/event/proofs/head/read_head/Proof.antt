@@ -6,26 +6,8 @@ use Rattle.event.proofs.HeadLaws.{no-name, no-source, source-not, paren
 use Rattle.event.proofs.head.read_head.Statement.{statement}
 use Rattle.event.proofs.head.read_head.Tie as tie
 
-read-text-requires : tie.Need-read-text-requires
-read-text-requires c κs = search needs
-
-enum-known-name : tie.Need-enum-known-name
-enum-known-name c = search needs
-
-enum-told : tie.Need-enum-told
-enum-told c = search needs
-
 returns : tie.Need-returns
 returns c = no-name _ _ (text-none _ 0 (sym (c .before .before .read-text .ensures) ∙ c .enum-told .given .1))
-
-read-text-requires-2 : tie.Need-read-text-requires-2
-read-text-requires-2 c κs = search needs
-
-enum-known-source : tie.Need-enum-known-source
-enum-known-source c = search needs
-
-enum-told-2 : tie.Need-enum-told-2
-enum-told-2 c = search needs
 
 returns-2 : tie.Need-returns-2
 returns-2 c =
@@ -41,23 +23,11 @@ part-is-source-start c = text-stops _ _ _ _ (sym (c .before .before .before .rea
 part-is-source-end : tie.Need-part-is-source-end
 part-is-source-end c = text-stops _ _ _ _ (sym (c .before .before .before .read-text2 .ensures) ∙ c .before .source .given .1) .within
 
-is-source-requires : tie.Need-is-source-requires
-is-source-requires c κs = search needs
-
 returns-3 : tie.Need-returns-3
 returns-3 c =
     let n = text-stops _ _ _ _ (sym (c .before .before .before .before .before .before .before .before .before .before .read-text .ensures) ∙ c .before .before .before .before .before .before .before .before .name .given .1) in
     let u = text-stops _ _ _ _ (sym (c .before .before .before .before .before .before .read-text2 .ensures) ∙ c .before .before .before .before .source .given .1) in
     source-not _ _ _ _ n _ _ u (sym (c .before .is-source .ensures) ∙ not-true _ (c .if1 .taken))
-
-read-parents-requires : tie.Need-read-parents-requires
-read-parents-requires c κs = search needs
-
-enum-known-parents : tie.Need-enum-known-parents
-enum-known-parents c = search needs
-
-enum-told-3 : tie.Need-enum-told-3
-enum-told-3 c = search needs
 
 returns-4 : tie.Need-returns-4
 returns-4 c =
@@ -75,21 +45,21 @@ pub read-head-spec : {M : Type 1} → statement M
 read-head-spec =
     tie.close
     (tie.spec
-    read-text-requires
-    enum-known-name
-    enum-told
+    (λ c κs. search needs)
+    (λ c. search needs)
+    (λ c. search needs)
     returns
-    read-text-requires-2
-    enum-known-source
-    enum-told-2
+    (λ c κs. search needs)
+    (λ c. search needs)
+    (λ c. search needs)
     returns-2
     sub-is-source
     part-is-source-start
     part-is-source-end
-    is-source-requires
+    (λ c κs. search needs)
     returns-3
-    read-parents-requires
-    enum-known-parents
-    enum-told-3
+    (λ c κs. search needs)
+    (λ c. search needs)
+    (λ c. search needs)
     returns-4
     returns-5)

@@ -19,15 +19,6 @@ Inv-loop s at most number after-count count from₀ to₀ left₀ from to left =
 abbrev μ-loop : tie.MeasureT-loop
 μ-loop s at most number after-count count from₀ to₀ left₀ from to left = left
 
-read-number-requires : tie.Need-read-number-requires Inv-loop μ-loop
-read-number-requires c κs = search needs
-
-enum-known-number : tie.Need-enum-known-number Inv-loop μ-loop
-enum-known-number c = search needs
-
-enum-told : tie.Need-enum-told Inv-loop μ-loop
-enum-told c = search needs
-
 returns : tie.Need-returns Inv-loop μ-loop
 returns c = parents-none _ _ (number-none _ _ (sym (c .before .before .read-number .ensures) ∙ c .enum-told .given .1))
 
@@ -50,12 +41,6 @@ returns-4 c =
     parents-some _ _ _ _ (n .is) (c .before .before .if1 .left)
     ∙ risen-bad _ _ _ (omega (arith, c .before .if2 .left)) (bytes-short s after-count 20 (c .if3 .taken))
 
-add-to : tie.Need-add-to Inv-loop μ-loop
-add-to c = search needs
-
-sub-left : tie.Need-sub-left Inv-loop μ-loop
-sub-left c = search needs
-
 loop-holds : tie.Need-loop-holds Inv-loop μ-loop
 loop-holds c =
     let s = c .before .before .before .before .before .before .before .before .args .s .now in
@@ -68,14 +53,8 @@ loop-holds c =
           (bytes-at s after-count 20 (omega (arith, n .within, k))),
     )
 
-sub-if4 : tie.Need-sub-if4 Inv-loop μ-loop
-sub-if4 c = search needs
-
 returns-5 : tie.Need-returns-5 Inv-loop μ-loop
 returns-5 c = onward-bad _ _ _ _ _ (c .before .before .loop .inv .2) (c .before .loop-test .taken) (bytes-short (c .before .before .before .before .before .before .before .before .before .before .before .args .s .now) (c .before .before .loop .to) 20 (c .if4 .taken))
-
-add-is-before : tie.Need-add-is-before Inv-loop μ-loop
-add-is-before c = search needs
 
 is-before-requires : tie.Need-is-before-requires Inv-loop μ-loop
 is-before-requires c κs =
@@ -84,15 +63,6 @@ is-before-requires c κs =
 
 returns-6 : tie.Need-returns-6 Inv-loop μ-loop
 returns-6 c = onward-not _ _ _ _ _ (c .before .before .before .before .loop .inv .2) _ _ (c .before .before .before .loop-test .taken) (bytes-at (c .before .before .before .before .before .before .before .before .before .before .before .before .before .args .s .now) (c .before .before .before .before .loop .to) 20 (omega arith)) (sym (c .before .is-before .ensures) ∙ not-true _ (c .if5 .taken))
-
-add-to-2 : tie.Need-add-to-2 Inv-loop μ-loop
-add-to-2 c = search needs
-
-sub-left-2 : tie.Need-sub-left-2 Inv-loop μ-loop
-sub-left-2 c = search needs
-
-loop-less : tie.Need-loop-less Inv-loop μ-loop
-loop-less c = search needs
 
 loop-again : tie.Need-loop-again Inv-loop μ-loop
 loop-again c = (omega arith, omega arith, onward-more _ _ _ _ _ (c .before .before .before .before .loop .inv .2) _ _ (c .before .before .before .loop-test .taken) (bytes-at (c .before .before .before .before .before .before .before .before .before .before .before .before .before .args .s .now) (c .before .before .before .before .loop .to) 20 (omega arith)) (sym (c .before .is-before .ensures) ∙ not-false _ (c .if5 .left)))
@@ -109,24 +79,24 @@ read-parents-spec =
     (tie.spec
     Inv-loop
     μ-loop
-    read-number-requires
-    enum-known-number
-    enum-told
+    (λ c κs. search needs)
+    (λ c. search needs)
+    (λ c. search needs)
     returns
     returns-2
     returns-3
     sub-if3
     returns-4
-    add-to
-    sub-left
+    (λ c. search needs)
+    (λ c. search needs)
     loop-holds
-    sub-if4
+    (λ c. search needs)
     returns-5
-    add-is-before
+    (λ c. search needs)
     is-before-requires
     returns-6
-    add-to-2
-    sub-left-2
-    loop-less
+    (λ c. search needs)
+    (λ c. search needs)
+    (λ c. search needs)
     loop-again
     returns-7)

@@ -4,11 +4,8 @@ use Rattle.packed.proofs.read.part_of.Reads as part-of-reads
 use Rattle.event.proofs.head.text_part.Statement.{statement}
 use Rattle.event.proofs.head.text_part.Tie as tie
 
-part-of-requires : tie.Need-part-of-requires
-part-of-requires c κs = search needs
-
 returns : tie.Need-returns
 returns c = λ v w. c .part-of .ensures (w .order) (w .within) ∙ w .bytes
 
 pub text-part-spec : {M : Type 1} → statement M
-text-part-spec = tie.close (tie.spec part-of-requires returns)
+text-part-spec = tie.close (tie.spec (λ c κs. search needs) returns)

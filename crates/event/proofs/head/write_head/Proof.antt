@@ -67,9 +67,6 @@ copy-requires c κs =
       wrote-length count,
     )
 
-same-length : tie.Need-same-length
-same-length c = search needs
-
 returns : tie.Need-returns
 returns c = λ h w.
     let at-copy = c .before .before in
@@ -87,5 +84,5 @@ write-head-spec =
     write-text-requires-2
     write-number-requires
     copy-requires
-    same-length
+    (λ c. search needs)
     returns)

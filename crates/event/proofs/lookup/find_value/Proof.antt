@@ -55,29 +55,11 @@ returns c = λ e w.
     let a = c .before .before .before .args in
     no-place (e .sets) (a .place) (a .index) (omega (arith, w .sets .long, c .if1 .taken))
 
-set-at-requires : tie.Need-set-at-requires
-set-at-requires c κs = search needs
-
 returns-2 : tie.Need-returns-2
 returns-2 c = λ e w.
     let found = c .before .before in
     let a = to-start found .args in
     no-element (setAt e (a .place)) (a .index) (omega (arith, objects found w, c .if2 .taken))
-
-sets-below-requires : tie.Need-sets-below-requires
-sets-below-requires c κs = search needs
-
-skip-sets-requires : tie.Need-skip-sets-requires
-skip-sets-requires c κs = search needs
-
-read-number-requires : tie.Need-read-number-requires
-read-number-requires c κs = search needs
-
-enum-known-after-count : tie.Need-enum-known-after-count
-enum-known-after-count c = search needs
-
-enum-told : tie.Need-enum-told
-enum-told c = search needs
 
 returns-3 : tie.Need-returns-3
 returns-3 c = λ e w.
@@ -88,18 +70,6 @@ returns-3 c = λ e w.
     absurd
     (value-no-count _ (short (to-set there)) e _ _ w (a .place) (a .index) (inside (to-set there)) (index-inside there w) _ _
     (read .before .before .sets-below .ensures) (read .before .skip-sets .ensures) unread)
-
-skip-texts-requires : tie.Need-skip-texts-requires
-skip-texts-requires c κs = search needs
-
-read-text-requires : tie.Need-read-text-requires
-read-text-requires c κs = search needs
-
-enum-known-value : tie.Need-enum-known-value
-enum-known-value c = search needs
-
-enum-told-2 : tie.Need-enum-told-2
-enum-told-2 c = search needs
 
 returns-4 : tie.Need-returns-4
 returns-4 c = λ e w.
@@ -131,17 +101,17 @@ find-value-spec =
     tie.close
     (tie.spec
     returns
-    set-at-requires
+    (λ c κs. search needs)
     returns-2
-    sets-below-requires
-    skip-sets-requires
-    read-number-requires
-    enum-known-after-count
-    enum-told
+    (λ c κs. search needs)
+    (λ c κs. search needs)
+    (λ c κs. search needs)
+    (λ c. search needs)
+    (λ c. search needs)
     returns-3
-    skip-texts-requires
-    read-text-requires
-    enum-known-value
-    enum-told-2
+    (λ c κs. search needs)
+    (λ c κs. search needs)
+    (λ c. search needs)
+    (λ c. search needs)
     returns-4
     returns-5)

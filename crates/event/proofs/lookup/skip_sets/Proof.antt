@@ -22,26 +22,8 @@ abbrev μ-loop : tie.MeasureT-loop
 loop-holds : tie.Need-loop-holds Inv-loop μ-loop
 loop-holds c = λ xs r h k l. sets-skipping-first _ _ _ xs r h k l
 
-read-number-requires : tie.Need-read-number-requires Inv-loop μ-loop
-read-number-requires c κs = search needs
-
-enum-known-values : tie.Need-enum-known-values Inv-loop μ-loop
-enum-known-values c = search needs
-
-enum-told : tie.Need-enum-told Inv-loop μ-loop
-enum-told c = search needs
-
 returns : tie.Need-returns Inv-loop μ-loop
 returns c = λ xs r h k l. absurd (sets-skipping-bad _ _ _ _ _ (omega arith) (c .before .before .before .before .loop .inv xs r h k l) (c .before .before .before .loop-test .taken) (number-none _ _ (sym (c .before .before .read-number .ensures) ∙ c .enum-told .given .1)))
-
-skip-texts-requires : tie.Need-skip-texts-requires Inv-loop μ-loop
-skip-texts-requires c κs = search needs
-
-sub-left : tie.Need-sub-left Inv-loop μ-loop
-sub-left c = search needs
-
-loop-less : tie.Need-loop-less Inv-loop μ-loop
-loop-less c = search needs
 
 loop-again : tie.Need-loop-again Inv-loop μ-loop
 loop-again c = λ xs r h k l. sets-skipping-more _ _ _ _ _ (omega arith) (c .before .before .before .before .before .before .loop .inv xs r h k l) (c .before .before .before .before .before .loop-test .taken) _ _ _ (number-stops _ _ _ _ (sym (c .before .before .before .before .read-number .ensures) ∙ c .before .before .values .given .1)) (c .skip-texts .ensures)
@@ -56,12 +38,12 @@ skip-sets-spec =
     Inv-loop
     μ-loop
     loop-holds
-    read-number-requires
-    enum-known-values
-    enum-told
+    (λ c κs. search needs)
+    (λ c. search needs)
+    (λ c. search needs)
     returns
-    skip-texts-requires
-    sub-left
-    loop-less
+    (λ c κs. search needs)
+    (λ c. search needs)
+    (λ c. search needs)
     loop-again
     returns-2)

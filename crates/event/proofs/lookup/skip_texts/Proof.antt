@@ -21,23 +21,8 @@ abbrev μ-loop : tie.MeasureT-loop
 loop-holds : tie.Need-loop-holds Inv-loop μ-loop
 loop-holds c = λ vs r h k l. skipping-first _ _ _ vs r h k l
 
-read-text-requires : tie.Need-read-text-requires Inv-loop μ-loop
-read-text-requires c κs = search needs
-
-enum-known-end : tie.Need-enum-known-end Inv-loop μ-loop
-enum-known-end c = search needs
-
-enum-told : tie.Need-enum-told Inv-loop μ-loop
-enum-told c = search needs
-
 returns : tie.Need-returns Inv-loop μ-loop
 returns c = λ vs r h k l. absurd (skipping-bad _ _ _ _ _ (omega arith) (c .before .before .before .before .loop .inv vs r h k l) (c .before .before .before .loop-test .taken) (text-none _ _ (sym (c .before .before .read-text .ensures) ∙ c .enum-told .given .1)))
-
-sub-left : tie.Need-sub-left Inv-loop μ-loop
-sub-left c = search needs
-
-loop-less : tie.Need-loop-less Inv-loop μ-loop
-loop-less c = search needs
 
 loop-again : tie.Need-loop-again Inv-loop μ-loop
 loop-again c = λ vs r h k l. skipping-more _ _ _ _ _ (omega arith) (c .before .before .before .before .before .loop .inv vs r h k l) (c .before .before .before .before .loop-test .taken) _ _ (text-stops _ _ _ _ (sym (c .before .before .before .read-text .ensures) ∙ c .before .end .given .1))
@@ -52,11 +37,11 @@ skip-texts-spec =
     Inv-loop
     μ-loop
     loop-holds
-    read-text-requires
-    enum-known-end
-    enum-told
+    (λ c κs. search needs)
+    (λ c. search needs)
+    (λ c. search needs)
     returns
-    sub-left
-    loop-less
+    (λ c. search needs)
+    (λ c. search needs)
     loop-again
     returns-2)

@@ -8,12 +8,6 @@ use Rattle.event.proofs.read.most_parents.Tie as tie
 use Rattle.event.proofs.read.most_parents.Reads as reads
 use Rattle.event.proofs.read.most_parents.Lts as lts
 
-enum-told : tie.Need-enum-told
-enum-told c = search needs
-
-enum-told-2 : tie.Need-enum-told-2
-enum-told-2 c = search needs
-
 returns : tie.Need-returns
 unfolding narrow wide
 returns c = sym (ap (λ (x : EventCounts). countsOf x .parents) (c .enum-told .given .1))
@@ -23,4 +17,4 @@ unfolding narrow wide
 returns-2 c = sym (ap (λ (x : EventCounts). countsOf x .parents) (c .enum-told2 .given .1))
 
 pub most-parents-spec : {M : Type 1} → statement M
-most-parents-spec = tie.close (tie.spec enum-told enum-told-2 returns returns-2)
+most-parents-spec = tie.close (tie.spec (λ c. search needs) (λ c. search needs) returns returns-2)

@@ -50,43 +50,16 @@ sets c = sets-read (c .before .next .given .1) (to-sets c .read-sets .ensures)
 
 -- ---- the needs
 
-read-head-requires : tie.Need-read-head-requires
-read-head-requires c κs = search needs
-
-enum-known-head : tie.Need-enum-known-head
-enum-known-head c = search needs
-
-enum-told : tie.Need-enum-told
-enum-told c = search needs
-
-no-event-requires : tie.Need-no-event-requires
-no-event-requires c κs = search needs
-
 returns : tie.Need-returns
 returns c =
     let at-head = c .before .before .before in
     event-none _ _ _ _ (no-head _ _ (head-refused _ (c .before .enum-told .given .1) (at-head .read-head .ensures))) (c .no-event .ensures)
-
-read-number-requires : tie.Need-read-number-requires
-read-number-requires c κs = search needs
-
-enum-known-presence : tie.Need-enum-known-presence
-enum-known-presence c = search needs
-
-enum-told-2 : tie.Need-enum-told-2
-enum-told-2 c = search needs
-
-no-event-requires-2 : tie.Need-no-event-requires-2
-no-event-requires-2 c κs = search needs
 
 returns-2 : tie.Need-returns-2
 returns-2 c =
     let at-number = c .before .before .before in
     let none-there = number-none _ _ (sym (at-number .read-number .ensures) ∙ c .before .enum-told2 .given .1) in
     event-none _ _ _ _ (no-presence _ _ _ (head (at-number .before .before)) none-there) (c .no-event2 .ensures)
-
-no-event-requires-3 : tie.Need-no-event-requires-3
-no-event-requires-3 c κs = search needs
 
 returns-3 : tie.Need-returns-3
 returns-3 c =
@@ -96,18 +69,6 @@ returns-3 c =
 read-sets-requires : tie.Need-read-sets-requires
 read-sets-requires c κs = let at-presence = c .before .before in (presence at-presence .within, to-start (to-head at-presence) .pre, not-promised _)
 
-enum-known-next : tie.Need-enum-known-next
-enum-known-next c = search needs
-
-enum-told-3 : tie.Need-enum-told-3
-enum-told-3 c = search needs
-
-no-event-requires-4 : tie.Need-no-event-requires-4
-no-event-requires-4 c κs = search needs
-
-same-length : tie.Need-same-length
-same-length c = search needs
-
 returns-4 : tie.Need-returns-4
 returns-4 c =
     let at-sets = to-read (c .before .before .before) in
@@ -115,24 +76,12 @@ returns-4 c =
     let none-there = sets-refused _ _ (c .before .enum-told3 .given .1) (at-sets .read-sets .ensures) in
     event-none _ _ _ _ (no-sets _ _ _ (head (to-head (here .before))) _ _ (presence (here .before)) (here .if1 .left) none-there) (c .no-event4 .ensures)
 
-no-event-requires-5 : tie.Need-no-event-requires-5
-no-event-requires-5 c κs = search needs
-
-same-length-2 : tie.Need-same-length-2
-same-length-2 c = search needs
-
 returns-5 : tie.Need-returns-5
 returns-5 c =
     let at-sets = c .before .before in
     let here = to-presence (to-sets at-sets) in
     let passed = early _ _ _ (head (to-head (here .before))) _ _ (presence (here .before)) (here .if1 .left) _ _ _ (sets at-sets) (c .before .if2 .taken) in
     event-none _ _ _ _ passed (c .no-event5 .ensures)
-
-no-event-requires-6 : tie.Need-no-event-requires-6
-no-event-requires-6 c κs = search needs
-
-same-length-3 : tie.Need-same-length-3
-same-length-3 c = search needs
 
 returns-6 : tie.Need-returns-6
 returns-6 c =
@@ -142,9 +91,6 @@ returns-6 c =
     many _ _ _ (head (to-head (here .before))) _ _ (presence (here .before)) (here .if1 .left) _ _ _ (sets (at-end .before)) (at-end .if2 .left)
     (c .before .if3 .taken) in
     event-none _ _ _ _ large (c .no-event6 .ensures)
-
-same-length-4 : tie.Need-same-length-4
-same-length-4 c = search needs
 
 returns-7 : tie.Need-returns-7
 returns-7 c =
@@ -157,29 +103,29 @@ pub read-counted-spec : {M : Type 1} → statement M
 read-counted-spec =
     tie.close
     (tie.spec
-    read-head-requires
-    enum-known-head
-    enum-told
-    no-event-requires
+    (λ c κs. search needs)
+    (λ c. search needs)
+    (λ c. search needs)
+    (λ c κs. search needs)
     returns
-    read-number-requires
-    enum-known-presence
-    enum-told-2
-    no-event-requires-2
+    (λ c κs. search needs)
+    (λ c. search needs)
+    (λ c. search needs)
+    (λ c κs. search needs)
     returns-2
-    no-event-requires-3
+    (λ c κs. search needs)
     returns-3
     read-sets-requires
-    enum-known-next
-    enum-told-3
-    no-event-requires-4
-    same-length
+    (λ c. search needs)
+    (λ c. search needs)
+    (λ c κs. search needs)
+    (λ c. search needs)
     returns-4
-    no-event-requires-5
-    same-length-2
+    (λ c κs. search needs)
+    (λ c. search needs)
     returns-5
-    no-event-requires-6
-    same-length-3
+    (λ c κs. search needs)
+    (λ c. search needs)
     returns-6
-    same-length-4
+    (λ c. search needs)
     returns-7)

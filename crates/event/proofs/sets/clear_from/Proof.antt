@@ -17,47 +17,14 @@ abbrev μ-loop : tie.MeasureT-loop
 loop-holds : tie.Need-loop-holds Inv-loop μ-loop
 loop-holds c = (c .pre, cleared-none _ _)
 
-mul-sets : tie.Need-mul-sets Inv-loop μ-loop
-mul-sets c = search needs
-
-mul-sets-2 : tie.Need-mul-sets-2 Inv-loop μ-loop
-mul-sets-2 c = search needs
-
-slice-write-sets : tie.Need-slice-write-sets Inv-loop μ-loop
-slice-write-sets c = search needs
-
-mul-sets-3 : tie.Need-mul-sets-3 Inv-loop μ-loop
-mul-sets-3 c = search needs
-
-add-sets : tie.Need-add-sets Inv-loop μ-loop
-add-sets c = search needs
-
-mul-sets-4 : tie.Need-mul-sets-4 Inv-loop μ-loop
-mul-sets-4 c = search needs
-
 slice-write-sets-2 : tie.Need-slice-write-sets-2 Inv-loop μ-loop
 slice-write-sets-2 c = let l = c .before .loop in omega (arith, length-set (l .sets) (3 * l .k) 0, l .inv .0)
-
-mul-sets-5 : tie.Need-mul-sets-5 Inv-loop μ-loop
-mul-sets-5 c = search needs
-
-add-sets-2 : tie.Need-add-sets-2 Inv-loop μ-loop
-add-sets-2 c = search needs
-
-mul-sets-6 : tie.Need-mul-sets-6 Inv-loop μ-loop
-mul-sets-6 c = search needs
 
 slice-write-sets-3 : tie.Need-slice-write-sets-3 Inv-loop μ-loop
 slice-write-sets-3 c =
     let l = c .before .loop in
     let first = set (l .sets) (3 * l .k) 0 in
     omega (arith, length-set (l .sets) (3 * l .k) 0, length-set first (3 * l .k + 1) 0, l .inv .0)
-
-add-k : tie.Need-add-k Inv-loop μ-loop
-add-k c = search needs
-
-loop-less : tie.Need-loop-less Inv-loop μ-loop
-loop-less c = search needs
 
 loop-again : tie.Need-loop-again Inv-loop μ-loop
 loop-again c =
@@ -80,19 +47,19 @@ clear-from-spec =
     Inv-loop
     μ-loop
     loop-holds
-    mul-sets
-    mul-sets-2
-    slice-write-sets
-    mul-sets-3
-    add-sets
-    mul-sets-4
+    (λ c. search needs)
+    (λ c. search needs)
+    (λ c. search needs)
+    (λ c. search needs)
+    (λ c. search needs)
+    (λ c. search needs)
     slice-write-sets-2
-    mul-sets-5
-    add-sets-2
-    mul-sets-6
+    (λ c. search needs)
+    (λ c. search needs)
+    (λ c. search needs)
     slice-write-sets-3
-    add-k
-    loop-less
+    (λ c. search needs)
+    (λ c. search needs)
     loop-again
     same-length
     returns)

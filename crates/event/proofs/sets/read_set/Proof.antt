@@ -18,52 +18,22 @@ Inv-loop s at known count after-count first first-end from₀ to₀ left₀ from
 abbrev μ-loop : tie.MeasureT-loop
 μ-loop s at known count after-count first first-end from₀ to₀ left₀ from to left = left
 
-read-number-requires : tie.Need-read-number-requires Inv-loop μ-loop
-read-number-requires c κs = search needs
-
-enum-known-count : tie.Need-enum-known-count Inv-loop μ-loop
-enum-known-count c = search needs
-
-enum-told : tie.Need-enum-told Inv-loop μ-loop
-enum-told c = search needs
-
 returns : tie.Need-returns Inv-loop μ-loop
 returns c = set-none _ (number-none _ _ (sym (c .before .before .read-number .ensures) ∙ c .enum-told .given .1))
 
 returns-2 : tie.Need-returns-2 Inv-loop μ-loop
 returns-2 c = set-zero _ _ _ (number-stops _ _ _ _ (sym (c .before .before .before .before .read-number .ensures) ∙ c .before .before .count .given .1) .is) (c .if1 .taken)
 
-read-text-requires : tie.Need-read-text-requires Inv-loop μ-loop
-read-text-requires c κs = search needs
-
-enum-known-first : tie.Need-enum-known-first Inv-loop μ-loop
-enum-known-first c = search needs
-
-enum-told-2 : tie.Need-enum-told-2 Inv-loop μ-loop
-enum-told-2 c = search needs
-
 returns-3 : tie.Need-returns-3 Inv-loop μ-loop
 returns-3 c =
     let n = number-stops _ _ _ _ (sym (c .before .before .before .before .before .before .before .read-number .ensures) ∙ c .before .before .before .before .before .count .given .1) in
     set-some _ _ _ (n .is) (omega (arith, c .before .before .before .if1 .left)) ∙ risen-bad _ _ _ (omega (arith, c .before .before .before .if1 .left)) (text-none _ _ (sym (c .before .before .read-text .ensures) ∙ c .enum-told2 .given .1))
-
-sub-left : tie.Need-sub-left Inv-loop μ-loop
-sub-left c = search needs
 
 loop-holds : tie.Need-loop-holds Inv-loop μ-loop
 loop-holds c =
     let n = number-stops _ _ _ _ (sym (c .before .before .before .before .before .before .before .before .read-number .ensures) ∙ c .before .before .before .before .before .before .count .given .1) in
     let t = text-stops _ _ _ _ (sym (c .before .before .before .read-text .ensures) ∙ c .before .first .given .1) in
     (t .order, t .within, onward-first _ _ _ _ _ _ (set-some _ _ _ (n .is) (omega (arith, c .before .before .before .before .if1 .left))) (omega (arith, c .before .before .before .before .if1 .left)) (t .is))
-
-read-text-requires-2 : tie.Need-read-text-requires-2 Inv-loop μ-loop
-read-text-requires-2 c κs = search needs
-
-enum-known-value : tie.Need-enum-known-value Inv-loop μ-loop
-enum-known-value c = search needs
-
-enum-told-3 : tie.Need-enum-told-3 Inv-loop μ-loop
-enum-told-3 c = search needs
 
 returns-4 : tie.Need-returns-4 Inv-loop μ-loop
 returns-4 c = onward-bad _ _ _ _ _ (c .before .before .before .before .loop .inv .2) (c .before .before .before .loop-test .taken) (text-none _ _ (sym (c .before .before .read-text2 .ensures) ∙ c .enum-told3 .given .1))
@@ -80,12 +50,6 @@ returns-5 : tie.Need-returns-5 Inv-loop μ-loop
 returns-5 c =
     let t = text-stops _ _ _ _ (sym (c .before .before .before .before .before .read-text2 .ensures) ∙ c .before .before .before .value .given .1) in
     onward-not _ _ _ _ _ (c .before .before .before .before .before .before .before .loop .inv .2) _ _ (c .before .before .before .before .before .before .loop-test .taken) (t .is) (sym (c .before .comes-after .ensures) ∙ not-true _ (c .if2 .taken))
-
-sub-left-2 : tie.Need-sub-left-2 Inv-loop μ-loop
-sub-left-2 c = search needs
-
-loop-less : tie.Need-loop-less Inv-loop μ-loop
-loop-less c = search needs
 
 loop-again : tie.Need-loop-again Inv-loop μ-loop
 loop-again c =
@@ -104,24 +68,24 @@ read-set-spec =
     (tie.spec
     Inv-loop
     μ-loop
-    read-number-requires
-    enum-known-count
-    enum-told
+    (λ c κs. search needs)
+    (λ c. search needs)
+    (λ c. search needs)
     returns
     returns-2
-    read-text-requires
-    enum-known-first
-    enum-told-2
+    (λ c κs. search needs)
+    (λ c. search needs)
+    (λ c. search needs)
     returns-3
-    sub-left
+    (λ c. search needs)
     loop-holds
-    read-text-requires-2
-    enum-known-value
-    enum-told-3
+    (λ c κs. search needs)
+    (λ c. search needs)
+    (λ c. search needs)
     returns-4
     comes-after-requires
     returns-5
-    sub-left-2
-    loop-less
+    (λ c. search needs)
+    (λ c. search needs)
     loop-again
     returns-6)

@@ -24,51 +24,15 @@ read-place-requires c κs =
     let promised = c .before .before .before .before .before .pre .2 in
     (w .within, sofar-promised _ _ _ _ _ _ _ w (c .before .loop-test .taken) promised)
 
-enum-known-x : tie.Need-enum-known-x Inv-loop μ-loop
-enum-known-x c = search needs
-
-enum-told : tie.Need-enum-told Inv-loop μ-loop
-enum-told c = search needs
-
-same-length : tie.Need-same-length Inv-loop μ-loop
-same-length c = search needs
-
 returns : tie.Need-returns Inv-loop μ-loop
 returns c =
     let w = c .before .before .before .before .before .loop .inv in
     sofar-bad _ _ _ _ _ _ _ w (c .before .before .before .before .loop-test .taken) (set-refused _ (c .enum-told .given .1) (c .before .before .read-place .ensures))
 
-mul-sets : tie.Need-mul-sets Inv-loop μ-loop
-mul-sets c = search needs
-
-mul-sets-2 : tie.Need-mul-sets-2 Inv-loop μ-loop
-mul-sets-2 c = search needs
-
-slice-write-sets : tie.Need-slice-write-sets Inv-loop μ-loop
-slice-write-sets c = search needs
-
-mul-sets-3 : tie.Need-mul-sets-3 Inv-loop μ-loop
-mul-sets-3 c = search needs
-
-add-sets : tie.Need-add-sets Inv-loop μ-loop
-add-sets c = search needs
-
-mul-sets-4 : tie.Need-mul-sets-4 Inv-loop μ-loop
-mul-sets-4 c = search needs
-
 slice-write-sets-2 : tie.Need-slice-write-sets-2 Inv-loop μ-loop
 slice-write-sets-2 c =
     let l = c .before .before .before .before .before .before .loop in
     omega (arith, length-set (l .sets) (3 * l .k) (c .before .x .given .0 .0 .start), l .inv .ats-long)
-
-mul-sets-5 : tie.Need-mul-sets-5 Inv-loop μ-loop
-mul-sets-5 c = search needs
-
-add-sets-2 : tie.Need-add-sets-2 Inv-loop μ-loop
-add-sets-2 c = search needs
-
-mul-sets-6 : tie.Need-mul-sets-6 Inv-loop μ-loop
-mul-sets-6 c = search needs
 
 slice-write-sets-3 : tie.Need-slice-write-sets-3 Inv-loop μ-loop
 slice-write-sets-3 c =
@@ -84,23 +48,11 @@ add-objects c =
     let f = few-more _ _ _ _ _ _ _ w _ (c .before .before .before .before .before .before .loop-test .taken) read in
     omega (arith, w .small, f .0, f .1)
 
-add-k : tie.Need-add-k Inv-loop μ-loop
-add-k c = search needs
-
-loop-less : tie.Need-loop-less Inv-loop μ-loop
-loop-less c = search needs
-
 loop-again : tie.Need-loop-again Inv-loop μ-loop
 loop-again c =
     let w = c .before .before .before .before .before .before .before .loop .inv in
     let read = set-reads (c .before .before .x .given .1) (c .before .before .before .before .read-place .ensures) in
     sofar-more _ _ _ _ _ _ _ w _ (c .before .before .before .before .before .before .loop-test .taken) read
-
-clear-from-requires : tie.Need-clear-from-requires Inv-loop μ-loop
-clear-from-requires c κs = search needs
-
-same-length-2 : tie.Need-same-length-2 Inv-loop μ-loop
-same-length-2 c = search needs
 
 returns-2 : tie.Need-returns-2 Inv-loop μ-loop
 returns-2 c =
@@ -117,25 +69,25 @@ read-sets-spec =
     μ-loop
     loop-holds
     read-place-requires
-    enum-known-x
-    enum-told
-    same-length
+    (λ c. search needs)
+    (λ c. search needs)
+    (λ c. search needs)
     returns
-    mul-sets
-    mul-sets-2
-    slice-write-sets
-    mul-sets-3
-    add-sets
-    mul-sets-4
+    (λ c. search needs)
+    (λ c. search needs)
+    (λ c. search needs)
+    (λ c. search needs)
+    (λ c. search needs)
+    (λ c. search needs)
     slice-write-sets-2
-    mul-sets-5
-    add-sets-2
-    mul-sets-6
+    (λ c. search needs)
+    (λ c. search needs)
+    (λ c. search needs)
     slice-write-sets-3
     add-objects
-    add-k
-    loop-less
+    (λ c. search needs)
+    (λ c. search needs)
     loop-again
-    clear-from-requires
-    same-length-2
+    (λ c κs. search needs)
+    (λ c. search needs)
     returns-2)

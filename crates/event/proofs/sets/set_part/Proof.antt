@@ -4,11 +4,8 @@ use Rattle.packed.proofs.read.part_of.Reads as part-of-reads
 use Rattle.event.proofs.sets.set_part.Statement.{statement}
 use Rattle.event.proofs.sets.set_part.Tie as tie
 
-part-of-requires : tie.Need-part-of-requires
-part-of-requires c κs = search needs
-
 returns : tie.Need-returns
 returns c = λ v w. c .part-of .ensures (w .order) (w .within) ∙ w .bytes
 
 pub set-part-spec : {M : Type 1} → statement M
-set-part-spec = tie.close (tie.spec part-of-requires returns)
+set-part-spec = tie.close (tie.spec (λ c κs. search needs) returns)

@@ -5,9 +5,6 @@ use Rattle.event.proofs.shape.matches_at.Reads as reads
 use Rattle.event.proofs.shape.matches_at.Lts as lts
 use Rattle.ontology.proofs.properties.is_match.Reads as is-match-reads
 
-is-match-requires : tie.Need-is-match-requires
-is-match-requires c κs = search needs
-
 returns : tie.Need-returns
 returns c = rw (← c .before .is-match .ensures, c .if1 .taken)
 
@@ -15,4 +12,4 @@ returns-2 : tie.Need-returns-2
 returns-2 c = rw (← c .before .is-match .ensures, c .if1 .left)
 
 pub matches-at-spec : {M : Type 1} → statement M
-matches-at-spec = tie.close (tie.spec is-match-requires returns returns-2)
+matches-at-spec = tie.close (tie.spec (λ c κs. search needs) returns returns-2)

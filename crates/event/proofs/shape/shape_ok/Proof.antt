@@ -85,18 +85,12 @@ property-at-requires c κs = (to-start (c .before .before) .pre .0, omega arith)
 set-at-requires : tie.Need-set-at-requires Inv-loop μ-loop
 set-at-requires c κs = (to-start (c .before .before .before) .pre .1, omega arith)
 
-set-fits-requires : tie.Need-set-fits-requires Inv-loop μ-loop
-set-fits-requires c κs = search needs
-
 returns : tie.Need-returns Inv-loop μ-loop
 returns c = λ table event y x u v n.
     let asked = c .before in
     let l = to-loop asked .loop in
     let shape = l .inv .2 table event y x u v n in
     shape-not y x _ _ (l .k) shape (place-inside asked v) (fits asked y u v (not-true _ (c .if2 .taken)))
-
-matches-at-requires : tie.Need-matches-at-requires Inv-loop μ-loop
-matches-at-requires c κs = search needs
 
 sub-if3 : tie.Need-sub-if3 Inv-loop μ-loop
 sub-if3 c = to-loop (c .before .before) .loop .inv .1
@@ -115,15 +109,6 @@ returns-3 c = λ table event y x u v n.
     let l = to-loop asked .loop in
     let shape = l .inv .2 table event y x u v n in
     absurd (shape-few y x _ _ (l .k) shape (place-inside asked v) _ (count asked v) (c .if4 .taken))
-
-add-matches : tie.Need-add-matches Inv-loop μ-loop
-add-matches c = search needs
-
-add-k : tie.Need-add-k Inv-loop μ-loop
-add-k c = search needs
-
-loop-less : tie.Need-loop-less Inv-loop μ-loop
-loop-less c = search needs
 
 loop-again : tie.Need-loop-again Inv-loop μ-loop
 loop-again c =
@@ -154,14 +139,14 @@ shape-ok-spec =
     loop-holds
     property-at-requires
     set-at-requires
-    set-fits-requires
+    (λ c κs. search needs)
     returns
-    matches-at-requires
+    (λ c κs. search needs)
     sub-if3
     returns-2
     returns-3
-    add-matches
-    add-k
-    loop-less
+    (λ c. search needs)
+    (λ c. search needs)
+    (λ c. search needs)
     loop-again
     returns-4)

@@ -47,12 +47,6 @@ module _ (c : tie.After-known-told Inv-loop μ-loop) where
 
 -- ---- the needs
 
-is-plain-requires : tie.Need-is-plain-requires Inv-loop μ-loop
-is-plain-requires c κs = search needs
-
-are-short-requires : tie.Need-are-short-requires Inv-loop μ-loop
-are-short-requires c κs = search needs
-
 returns : tie.Need-returns Inv-loop μ-loop
 returns c = λ k vs h i e.
     let told = c .before .before .is-plain .ensures (c .before .if1 .taken) in
@@ -60,15 +54,6 @@ returns c = λ k vs h i e.
 
 loop-holds : tie.Need-loop-holds Inv-loop μ-loop
 loop-holds c = (omega arith, λ k vs h i e. space-first k _ vs e)
-
-read-text-requires : tie.Need-read-text-requires Inv-loop μ-loop
-read-text-requires c κs = search needs
-
-enum-known-value : tie.Need-enum-known-value Inv-loop μ-loop
-enum-known-value c = search needs
-
-enum-told : tie.Need-enum-told Inv-loop μ-loop
-enum-told c = search needs
 
 returns-2 : tie.Need-returns-2 Inv-loop μ-loop
 returns-2 c = λ k vs h i e.
@@ -84,9 +69,6 @@ part-in-space-start c = stops c .order
 
 part-in-space-end : tie.Need-part-in-space-end Inv-loop μ-loop
 part-in-space-end c = stops c .within
-
-in-space-requires : tie.Need-in-space-requires Inv-loop μ-loop
-in-space-requires c κs = search needs
 
 returns-3 : tie.Need-returns-3 Inv-loop μ-loop
 returns-3 c = λ k vs h i e.
@@ -119,18 +101,18 @@ are-in-space-spec =
     (tie.spec
     Inv-loop
     μ-loop
-    is-plain-requires
-    are-short-requires
+    (λ c κs. search needs)
+    (λ c κs. search needs)
     returns
     loop-holds
-    read-text-requires
-    enum-known-value
-    enum-told
+    (λ c κs. search needs)
+    (λ c. search needs)
+    (λ c. search needs)
     returns-2
     sub-in-space
     part-in-space-start
     part-in-space-end
-    in-space-requires
+    (λ c κs. search needs)
     returns-3
     loop-less
     loop-again

@@ -73,15 +73,6 @@ fits c low =
 loop-holds : tie.Need-loop-holds Inv-loop μ-loop
 loop-holds c = (omega arith, λ vs low e. space-first _ _ vs e)
 
-read-text-requires : tie.Need-read-text-requires Inv-loop μ-loop
-read-text-requires c κs = search needs
-
-enum-known-value : tie.Need-enum-known-value Inv-loop μ-loop
-enum-known-value c = search needs
-
-enum-told : tie.Need-enum-told Inv-loop μ-loop
-enum-told c = search needs
-
 returns : tie.Need-returns Inv-loop μ-loop
 returns c = λ vs low e.
     let read = c .before .before in
@@ -90,9 +81,6 @@ returns c = λ vs low e.
 
 sub-is-short : tie.Need-sub-is-short Inv-loop μ-loop
 sub-is-short c = stops c .order
-
-is-short-requires : tie.Need-is-short-requires Inv-loop μ-loop
-is-short-requires c κs = search needs
 
 returns-2 : tie.Need-returns-2 Inv-loop μ-loop
 returns-2 c = λ vs low e.
@@ -124,12 +112,12 @@ are-short-spec =
     Inv-loop
     μ-loop
     loop-holds
-    read-text-requires
-    enum-known-value
-    enum-told
+    (λ c κs. search needs)
+    (λ c. search needs)
+    (λ c. search needs)
     returns
     sub-is-short
-    is-short-requires
+    (λ c κs. search needs)
     returns-2
     loop-less
     loop-again

@@ -59,24 +59,12 @@ property-at-requires c κs = (to-start (c .before .before) .pre .1, omega arith)
 set-at-requires : tie.Need-set-at-requires Inv-loop μ-loop
 set-at-requires c κs = (to-start (c .before .before .before) .pre .0, omega arith)
 
-set-part-requires : tie.Need-set-part-requires Inv-loop μ-loop
-set-part-requires c κs = search needs
-
-are-in-space-requires : tie.Need-are-in-space-requires Inv-loop μ-loop
-are-in-space-requires c κs = search needs
-
 returns : tie.Need-returns Inv-loop μ-loop
 returns c = λ u ty xs w n v.
     let asked = c .before in
     let l = to-loop asked .loop in
     let inside = to-turn asked .before .loop-test .taken in
     fit-not ty xs (l .k) (l .inv .1 u ty xs w n v) (omega (arith, inside, v .long)) (space asked u ty xs w n v (not-true _ (c .if2 .taken)))
-
-add-k : tie.Need-add-k Inv-loop μ-loop
-add-k c = search needs
-
-loop-less : tie.Need-loop-less Inv-loop μ-loop
-loop-less c = search needs
 
 loop-again : tie.Need-loop-again Inv-loop μ-loop
 loop-again c =
@@ -108,11 +96,11 @@ sets-in-space-spec =
     loop-holds
     property-at-requires
     set-at-requires
-    set-part-requires
-    are-in-space-requires
+    (λ c κs. search needs)
+    (λ c κs. search needs)
     returns
-    add-k
-    loop-less
+    (λ c. search needs)
+    (λ c. search needs)
     loop-again
     returns-2
     returns-3)

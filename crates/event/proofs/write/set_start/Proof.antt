@@ -17,9 +17,6 @@ to-else c = c .before
 returns : tie.Need-returns
 returns c = omega (arith, no-count _ (c .if1 .taken))
 
-number-size-requires : tie.Need-number-size-requires
-number-size-requires c κs = search needs
-
 sub-result : tie.Need-sub-result
 sub-result c =
     let some = to-else (c .before) in
@@ -31,4 +28,4 @@ returns-2 c =
     omega (arith, some-count _ (some .if1 .left), c .before .number-size .ensures)
 
 pub set-start-spec : {M : Type 1} → statement M
-set-start-spec = tie.close (tie.spec returns number-size-requires sub-result returns-2)
+set-start-spec = tie.close (tie.spec returns (λ c κs. search needs) sub-result returns-2)

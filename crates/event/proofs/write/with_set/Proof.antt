@@ -30,9 +30,6 @@ returns c =
 copy-part-requires : tie.Need-copy-part-requires
 copy-part-requires c κs = let p = to-start (to-begin (c .before)) .pre in (p .run .order, p .run .within, p .room)
 
-same-length : tie.Need-same-length
-same-length c = search needs
-
 returns-2 : tie.Need-returns-2
 returns-2 c =
     let copied = c .before .before in
@@ -44,4 +41,4 @@ returns-2 c =
 
 pub with-set-spec : {M : Type 1} → statement M
 with-set-spec =
-    tie.close (tie.spec set-start-requires returns copy-part-requires same-length returns-2)
+    tie.close (tie.spec set-start-requires returns copy-part-requires (λ c. search needs) returns-2)

@@ -40,13 +40,10 @@ copy-part-requires c κs =
       omega (arith, p .room, ap length (whole at-start (p .values) (p .is))),
     )
 
-same-length : tie.Need-same-length
-same-length c = search needs
-
 returns : tie.Need-returns
 returns c = λ vs is.
     let copied = c .before .before in
     wrote-as (whole (copied .before .before) vs is) (copied .copy-part .ensures)
 
 pub write-set-spec : {M : Type 1} → statement M
-write-set-spec = tie.close (tie.spec set-start-requires copy-part-requires same-length returns)
+write-set-spec = tie.close (tie.spec set-start-requires copy-part-requires (λ c. search needs) returns)

@@ -49,12 +49,6 @@ with-set-requires c κs =
       room = run-room w (p .room);
     }
 
-add-k : tie.Need-add-k Inv-loop μ-loop
-add-k c = search needs
-
-loop-less : tie.Need-loop-less Inv-loop μ-loop
-loop-less c = search needs
-
 loop-again : tie.Need-loop-again Inv-loop μ-loop
 loop-again c = λ xs are.
     let turn = to-turn (c .before) in
@@ -105,8 +99,8 @@ write-sets-spec =
     loop-holds
     set-at-requires
     with-set-requires
-    add-k
-    loop-less
+    (λ c. search needs)
+    (λ c. search needs)
     loop-again
     copy-part-requires
     same-length

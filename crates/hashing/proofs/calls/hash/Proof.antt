@@ -7,21 +7,6 @@ use Rattle.hashing.proofs.calls.hash.Tie as tie
 returns : tie.Need-returns
 returns c = hash-small _ _ _ (c .if1 .taken)
 
-slice-aggregate-hash-text : tie.Need-slice-aggregate-hash-text
-slice-aggregate-hash-text c = search needs
-
-hash-text-requires : tie.Need-hash-text-requires
-hash-text-requires c κs = search needs
-
-enum-known-n : tie.Need-enum-known-n
-enum-known-n c = search needs
-
-sub-write-digest : tie.Need-sub-write-digest
-sub-write-digest c = search needs
-
-part-write-digest-start : tie.Need-part-write-digest-start
-part-write-digest-start c = search needs
-
 part-write-digest-end : tie.Need-part-write-digest-end
 part-write-digest-end c = let t = c .before .before .before .before .before .hash-text in omega (arith, text-within _ _ _ _ (t .result) (t .ensures) (c .before .before .n .given .1))
 
@@ -31,12 +16,6 @@ write-digest-requires c κs =
     let e = c .before .before .before .before .n .given .1 in
     let t = l .hash-text in
     (omega (arith, text-within _ _ _ _ (t .result) (t .ensures) e, text-length _ _ _ _ (t .result) (t .ensures) e), omega (arith, l .before .before .if1 .left))
-
-enum-known-number : tie.Need-enum-known-number
-enum-known-number c = search needs
-
-same-length : tie.Need-same-length
-same-length c = search needs
 
 returns-2 : tie.Need-returns-2
 returns-2 c =
@@ -53,14 +32,14 @@ hash-spec =
     tie.close
     (tie.spec
     returns
-    slice-aggregate-hash-text
-    hash-text-requires
-    enum-known-n
-    sub-write-digest
-    part-write-digest-start
+    (λ c. search needs)
+    (λ c κs. search needs)
+    (λ c. search needs)
+    (λ c. search needs)
+    (λ c. search needs)
     part-write-digest-end
     write-digest-requires
-    enum-known-number
-    same-length
+    (λ c. search needs)
+    (λ c. search needs)
     returns-2
     returns-3)

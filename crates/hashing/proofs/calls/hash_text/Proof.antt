@@ -74,46 +74,13 @@ accepted c = accepted-is wide _ _ _ _ _ (answered (c .before)) (c .if2 .left)
 returns : tie.Need-returns
 returns c = text-small _ _ _ (c .if1 .taken)
 
-type-name-requires : tie.Need-type-name-requires
-type-name-requires c κs = search needs
-
-slice-aggregate-read-table : tie.Need-slice-aggregate-read-table
-slice-aggregate-read-table c = search needs
-
-read-table-requires : tie.Need-read-table-requires
-read-table-requires c κs = search needs
-
-slice-aggregate-read-event : tie.Need-slice-aggregate-read-event
-slice-aggregate-read-event c = search needs
-
-read-event-requires : tie.Need-read-event-requires
-read-event-requires c κs = search needs
-
-slice-aggregate-ask-event : tie.Need-slice-aggregate-ask-event
-slice-aggregate-ask-event c = search needs
-
-slice-aggregate-ask-event-2 : tie.Need-slice-aggregate-ask-event-2
-slice-aggregate-ask-event-2 c = search needs
-
-ask-event-requires : tie.Need-ask-event-requires
-ask-event-requires c κs = search needs
-
 returns-2 : tie.Need-returns-2
 returns-2 c = text-refused _ _ _ _ (room (to-room (c .before))) (refused-is wide _ _ _ _ _ (answered (c .before)) (c .if2 .taken))
-
-slice-aggregate-write-hash-text : tie.Need-slice-aggregate-write-hash-text
-slice-aggregate-write-hash-text c = search needs
-
-slice-aggregate-write-hash-text-2 : tie.Need-slice-aggregate-write-hash-text-2
-slice-aggregate-write-hash-text-2 c = search needs
 
 write-hash-text-requires : tie.Need-write-hash-text-requires
 write-hash-text-requires c κs =
     let taken = to-accepted c in
     (hashable _ _ _ _ _ (accepted taken), room (to-room (taken .before)), search needs, search needs)
-
-same-length : tie.Need-same-length
-same-length c = search needs
 
 returns-3 : tie.Need-returns-3
 returns-3 c =
@@ -127,17 +94,17 @@ hash-text-spec =
     tie.close
     (tie.spec
     returns
-    type-name-requires
-    slice-aggregate-read-table
-    read-table-requires
-    slice-aggregate-read-event
-    read-event-requires
-    slice-aggregate-ask-event
-    slice-aggregate-ask-event-2
-    ask-event-requires
+    (λ c κs. search needs)
+    (λ c. search needs)
+    (λ c κs. search needs)
+    (λ c. search needs)
+    (λ c κs. search needs)
+    (λ c. search needs)
+    (λ c. search needs)
+    (λ c κs. search needs)
     returns-2
-    slice-aggregate-write-hash-text
-    slice-aggregate-write-hash-text-2
+    (λ c. search needs)
+    (λ c. search needs)
     write-hash-text-requires
-    same-length
+    (λ c. search needs)
     returns-3)

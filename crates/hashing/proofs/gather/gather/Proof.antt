@@ -29,9 +29,6 @@ loop-holds c =
 property-at-requires : tie.Need-property-at-requires Inv-loop μ-loop
 property-at-requires c κs = (search needs, omega (arith, to-start (c .before) .pre .0 .are .few))
 
-is-match-requires : tie.Need-is-match-requires Inv-loop μ-loop
-is-match-requires c κs = search needs
-
 set-at-requires : tie.Need-set-at-requires Inv-loop μ-loop
 set-at-requires c κs =
     let turn = c .before .before .before in
@@ -57,9 +54,6 @@ add-place : tie.Need-add-place Inv-loop μ-loop
 add-place c =
     let turn = c .before .before .before in
     omega (arith, turn .loop-test .taken, to-start (turn .before) .pre .0 .are .few)
-
-loop-less : tie.Need-loop-less Inv-loop μ-loop
-loop-less c = search needs
 
 loop-again : tie.Need-loop-again Inv-loop μ-loop
 loop-again c =
@@ -103,11 +97,11 @@ gather-spec =
     μ-loop
     loop-holds
     property-at-requires
-    is-match-requires
+    (λ c κs. search needs)
     set-at-requires
     gather-set-requires
     add-place
-    loop-less
+    (λ c. search needs)
     loop-again
     same-length
     returns)

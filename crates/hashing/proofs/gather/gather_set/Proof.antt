@@ -47,15 +47,6 @@ stops c = text-stops _ _ _ _ (sym (c .before .before .read-text .ensures) ∙ c 
 loop-holds : tie.Need-loop-holds Inv-loop μ-loop
 loop-holds c = let p = c .before .before .before .pre in (p .4, p .0, p .3, λ vs end w. gathering-none _ _ _ _ _ _ vs _ w)
 
-read-text-requires : tie.Need-read-text-requires Inv-loop μ-loop
-read-text-requires c κs = search needs
-
-enum-known-value : tie.Need-enum-known-value Inv-loop μ-loop
-enum-known-value c = search needs
-
-enum-told : tie.Need-enum-told Inv-loop μ-loop
-enum-told c = search needs
-
 same-length : tie.Need-same-length Inv-loop μ-loop
 same-length c =
     let l = c .before .before .before .before in
@@ -84,15 +75,6 @@ insert-string-requires c κs =
       omega (arith, l .loop .inv .2, turn .loop-test .taken),
       l .loop .inv .0,
     )
-
-add-n : tie.Need-add-n Inv-loop μ-loop
-add-n c = search needs
-
-sub-left : tie.Need-sub-left Inv-loop μ-loop
-sub-left c = search needs
-
-loop-less : tie.Need-loop-less Inv-loop μ-loop
-loop-less c = search needs
 
 loop-again : tie.Need-loop-again Inv-loop μ-loop
 loop-again c =
@@ -123,15 +105,15 @@ gather-set-spec =
     Inv-loop
     μ-loop
     loop-holds
-    read-text-requires
-    enum-known-value
-    enum-told
+    (λ c κs. search needs)
+    (λ c. search needs)
+    (λ c. search needs)
     same-length
     returns
     insert-string-requires
-    add-n
-    sub-left
-    loop-less
+    (λ c. search needs)
+    (λ c. search needs)
+    (λ c. search needs)
     loop-again
     same-length-2
     returns-2)

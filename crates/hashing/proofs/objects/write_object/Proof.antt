@@ -10,9 +10,6 @@ copy-part-requires c κs =
     let p = c .before .before .before .before in
     (p .pre .0 .first, p .pre .0 .inA, room-name _ _ _ (p .pre .0) _ _ (p .pre .1))
 
-slice-aggregate-copy : tie.Need-slice-aggregate-copy
-slice-aggregate-copy c = search needs
-
 copy-requires : tie.Need-copy-requires
 copy-requires c κs =
     let w = c .before .before .before .before .copy-part in
@@ -28,9 +25,6 @@ copy-part-requires-2 c κs =
     let h = room-value (p .args .table .now) (p .args .event .now) (p .args .x) (p .pre .0) _ _ _ _ (w .ensures .after) (v .ensures .after) (p .pre .1) in
     (p .pre .0 .second, p .pre .0 .inB, omega (arith, h, wrote-length (w .ensures), wrote-length (v .ensures)))
 
-same-length : tie.Need-same-length
-same-length c = search needs
-
 returns : tie.Need-returns
 returns c = wrote-string _ _ _ (c .before .before .before .before .before .before .before .before .before .before .before .copy-part .ensures) (c .before .before .before .before .before .before .copy .ensures) (c .before .before .copy-part2 .ensures)
 
@@ -39,8 +33,8 @@ write-object-spec =
     tie.close
     (tie.spec
     copy-part-requires
-    slice-aggregate-copy
+    (λ c. search needs)
     copy-requires
     copy-part-requires-2
-    same-length
+    (λ c. search needs)
     returns)

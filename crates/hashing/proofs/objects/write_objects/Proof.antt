@@ -136,12 +136,6 @@ string-at-requires-2 c κs =
 write-next-requires : tie.Need-write-next-requires Inv-loop μ-loop
 write-next-requires c κs = next-ready (c .before)
 
-add-i : tie.Need-add-i Inv-loop μ-loop
-add-i c = search needs
-
-loop-less : tie.Need-loop-less Inv-loop μ-loop
-loop-less c = search needs
-
 loop-again : tie.Need-loop-again Inv-loop μ-loop
 loop-again c =
     let written = c .before .before in
@@ -174,8 +168,8 @@ write-objects-spec =
     loop-holds
     string-at-requires-2
     write-next-requires
-    add-i
-    loop-less
+    (λ c. search needs)
+    (λ c. search needs)
     loop-again
     same-length
     returns-2)

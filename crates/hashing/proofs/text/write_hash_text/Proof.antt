@@ -49,9 +49,6 @@ module _ (c : tie.After-gather) where
 
 -- ---- the needs
 
-slice-aggregate-gather : tie.Need-slice-aggregate-gather
-slice-aggregate-gather c = search needs
-
 gather-requires : tie.Need-gather-requires
 gather-requires c κs = let p = c .before .before .before .before .before .before .pre in (gatherable (p .0), p .2, p .3, search needs)
 
@@ -70,9 +67,6 @@ write-line-requires-2 c κs =
     let w = source .write-line .ensures in
     (p .0 .typed .order, p .0 .typed .within, omega (arith, room gathered, p .1, w .after, wrote-length w))
 
-slice-aggregate-write-objects : tie.Need-slice-aggregate-write-objects
-slice-aggregate-write-objects c = search needs
-
 write-objects-requires : tie.Need-write-objects-requires
 write-objects-requires c κs =
     let name = c .before .before .before .before in
@@ -83,9 +77,6 @@ write-objects-requires c κs =
       omega (arith, room gathered, to-start gathered .pre .1, w .after, wrote-length w, v .after, wrote-length v),
       search needs,
     )
-
-same-length : tie.Need-same-length
-same-length c = search needs
 
 returns : tie.Need-returns
 returns c = λ h.
@@ -99,11 +90,11 @@ pub write-hash-text-spec : {M : Type 1} → statement M
 write-hash-text-spec =
     tie.close
     (tie.spec
-    slice-aggregate-gather
+    (λ c. search needs)
     gather-requires
     write-line-requires
     write-line-requires-2
-    slice-aggregate-write-objects
+    (λ c. search needs)
     write-objects-requires
-    same-length
+    (λ c. search needs)
     returns)

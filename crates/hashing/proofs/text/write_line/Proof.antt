@@ -12,21 +12,15 @@ copy-part-requires c κs =
     let p = c .before .before .before in
     (p .pre .0, p .pre .1, omega (arith, p .pre .2, length-append (part (p .args .s .now) (p .args .from) (p .args .to)) (10 ∷ [])))
 
-slice-aggregate-copy : tie.Need-slice-aggregate-copy
-slice-aggregate-copy c = search needs
-
 copy-requires : tie.Need-copy-requires
 copy-requires c κs =
     let w = c .before .before .before .before .copy-part .ensures in
     let p = c .before .before .before .before .before .before .before .before in
     omega (arith, w .after, wrote-length w, p .pre .2, length-append (part (p .args .s .now) (p .args .from) (p .args .to)) (10 ∷ []))
 
-same-length : tie.Need-same-length
-same-length c = search needs
-
 returns : tie.Need-returns
 returns c = wrote-then (c .before .before .before .before .before .before .before .copy-part .ensures) (c .before .before .copy .ensures)
 
 pub write-line-spec : {M : Type 1} → statement M
 write-line-spec =
-    tie.close (tie.spec copy-part-requires slice-aggregate-copy copy-requires same-length returns)
+    tie.close (tie.spec copy-part-requires (λ c. search needs) copy-requires (λ c. search needs) returns)

@@ -3,18 +3,6 @@ use Rattle.interface.proofs.PackingLaws.{version-merged, version-found,
 use Rattle.interface.proofs.calls.conflict_version.Statement.{statement}
 use Rattle.interface.proofs.calls.conflict_version.Tie as tie
 
-enum-told : tie.Need-enum-told
-enum-told c = search needs
-
-enum-known-r : tie.Need-enum-known-r
-enum-known-r c = search needs
-
-finding-version-requires : tie.Need-finding-version-requires
-finding-version-requires c κs = search needs
-
-enum-told-2 : tie.Need-enum-told-2
-enum-told-2 c = search needs
-
 returns : tie.Need-returns
 returns c = version-merged _ (c .enum-told .given .1)
 
@@ -27,4 +15,4 @@ returns-3 c = version-refused _ (c .enum-told2 .given .1)
 pub conflict-version-spec : {M : Type 1} → statement M
 conflict-version-spec =
     tie.close
-    (tie.spec enum-told enum-known-r finding-version-requires enum-told-2 returns returns-2 returns-3)
+    (tie.spec (λ c. search needs) (λ c. search needs) (λ c κs. search needs) (λ c. search needs) returns returns-2 returns-3)

@@ -81,55 +81,13 @@ stands c = found-value (c .start .given .1) (found (c .before .before))
 
 -- ---- the needs
 
-type-name-requires : tie.Need-type-name-requires
-type-name-requires c κs = search needs
-
-slice-aggregate-read-table : tie.Need-slice-aggregate-read-table
-slice-aggregate-read-table c = search needs
-
-read-table-requires : tie.Need-read-table-requires
-read-table-requires c κs = search needs
-
-slice-aggregate-read-event : tie.Need-slice-aggregate-read-event
-slice-aggregate-read-event c = search needs
-
-read-event-requires : tie.Need-read-event-requires
-read-event-requires c κs = search needs
-
-slice-aggregate-ask-event : tie.Need-slice-aggregate-ask-event
-slice-aggregate-ask-event c = search needs
-
-slice-aggregate-ask-event-2 : tie.Need-slice-aggregate-ask-event-2
-slice-aggregate-ask-event-2 c = search needs
-
-ask-event-requires : tie.Need-ask-event-requires
-ask-event-requires c κs = search needs
-
 returns : tie.Need-returns
 returns c =
     let a = asked-start (c .before) .args in
     part-none (value-refused _ _ (a .place) (a .index) _ (refused-is wide _ _ _ _ _ (answered (c .before)) (c .if1 .taken)))
 
-slice-aggregate-find-value : tie.Need-slice-aggregate-find-value
-slice-aggregate-find-value c = search needs
-
-find-value-requires : tie.Need-find-value-requires
-find-value-requires c κs = search needs
-
-enum-known-start : tie.Need-enum-known-start
-enum-known-start c = search needs
-
 sub-result : tie.Need-sub-result
 sub-result c = stands (c .before) .order
-
-mul-result : tie.Need-mul-result
-mul-result c = search needs
-
-add-result : tie.Need-add-result
-add-result c = search needs
-
-enum-told : tie.Need-enum-told
-enum-told c = search needs
 
 returns-2 : tie.Need-returns-2
 returns-2 c =
@@ -150,21 +108,21 @@ pub merger-value-spec : {M : Type 1} → statement M
 merger-value-spec =
     tie.close
     (tie.spec
-    type-name-requires
-    slice-aggregate-read-table
-    read-table-requires
-    slice-aggregate-read-event
-    read-event-requires
-    slice-aggregate-ask-event
-    slice-aggregate-ask-event-2
-    ask-event-requires
+    (λ c κs. search needs)
+    (λ c. search needs)
+    (λ c κs. search needs)
+    (λ c. search needs)
+    (λ c κs. search needs)
+    (λ c. search needs)
+    (λ c. search needs)
+    (λ c κs. search needs)
     returns
-    slice-aggregate-find-value
-    find-value-requires
-    enum-known-start
+    (λ c. search needs)
+    (λ c κs. search needs)
+    (λ c. search needs)
     sub-result
-    mul-result
-    add-result
-    enum-told
+    (λ c. search needs)
+    (λ c. search needs)
+    (λ c. search needs)
     returns-2
     returns-3)

@@ -3,18 +3,6 @@ use Rattle.interface.proofs.PackingLaws.{combined-done, combined-refuse
 use Rattle.interface.proofs.pack.pack_combined.Statement.{statement}
 use Rattle.interface.proofs.pack.pack_combined.Tie as tie
 
-enum-known-r : tie.Need-enum-known-r
-enum-known-r c = search needs
-
-low-bits-requires : tie.Need-low-bits-requires
-low-bits-requires c κs = search needs
-
-enum-known-r-2 : tie.Need-enum-known-r-2
-enum-known-r-2 c = search needs
-
-pack-refusal-requires : tie.Need-pack-refusal-requires
-pack-refusal-requires c κs = search needs
-
 returns : tie.Need-returns
 returns c = combined-done (c .before .before .r .given .1) (c .low-bits .ensures)
 
@@ -25,9 +13,9 @@ pub pack-combined-spec : {M : Type 1} → statement M
 pack-combined-spec =
     tie.close
     (tie.spec
-    enum-known-r
-    low-bits-requires
-    enum-known-r-2
-    pack-refusal-requires
+    (λ c. search needs)
+    (λ c κs. search needs)
+    (λ c. search needs)
+    (λ c κs. search needs)
     returns
     returns-2)

@@ -3,27 +3,6 @@ use Rattle.interface.proofs.PackingLaws.{opened-merged, opened-found, o
 use Rattle.interface.proofs.pack.pack_opened.Statement.{statement}
 use Rattle.interface.proofs.pack.pack_opened.Tie as tie
 
-enum-known-r : tie.Need-enum-known-r
-enum-known-r c = search needs
-
-low-bits-requires : tie.Need-low-bits-requires
-low-bits-requires c κs = search needs
-
-add-result : tie.Need-add-result
-add-result c = search needs
-
-enum-known-r-2 : tie.Need-enum-known-r-2
-enum-known-r-2 c = search needs
-
-pack-finding-requires : tie.Need-pack-finding-requires
-pack-finding-requires c κs = search needs
-
-enum-known-r-3 : tie.Need-enum-known-r-3
-enum-known-r-3 c = search needs
-
-pack-refusal-requires : tie.Need-pack-refusal-requires
-pack-refusal-requires c κs = search needs
-
 returns : tie.Need-returns
 returns c = opened-merged (c .before .before .r .given .1) (c .low-bits .ensures)
 
@@ -37,13 +16,13 @@ pub pack-opened-spec : {M : Type 1} → statement M
 pack-opened-spec =
     tie.close
     (tie.spec
-    enum-known-r
-    low-bits-requires
-    add-result
-    enum-known-r-2
-    pack-finding-requires
-    enum-known-r-3
-    pack-refusal-requires
+    (λ c. search needs)
+    (λ c κs. search needs)
+    (λ c. search needs)
+    (λ c. search needs)
+    (λ c κs. search needs)
+    (λ c. search needs)
+    (λ c κs. search needs)
     returns
     returns-2
     returns-3)

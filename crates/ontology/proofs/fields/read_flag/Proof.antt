@@ -7,15 +7,6 @@ use Rattle.ontology.proofs.fields.read_flag.Reads as reads
 use Rattle.ontology.proofs.fields.read_flag.Lts as lts
 use Rattle.packed.proofs.read.read_within.Reads as read-within-reads
 
-read-within-requires : tie.Need-read-within-requires
-read-within-requires c κs = search needs
-
-enum-known-n : tie.Need-enum-known-n
-enum-known-n c = search needs
-
-enum-told : tie.Need-enum-told
-enum-told c = search needs
-
 returns : tie.Need-returns
 returns c =
     let a = c .before .before .before .before .args in
@@ -27,4 +18,11 @@ returns-2 c =
     flag-is (a .s .now) (a .at) (number-got (c .before .n .given .1) (c .before .before .before .read-within .ensures))
 
 pub read-flag-spec : {M : Type 1} → statement M
-read-flag-spec = tie.close (tie.spec read-within-requires enum-known-n enum-told returns returns-2)
+read-flag-spec =
+    tie.close
+    (tie.spec
+    (λ c κs. search needs)
+    (λ c. search needs)
+    (λ c. search needs)
+    returns
+    returns-2)

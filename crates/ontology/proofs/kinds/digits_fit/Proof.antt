@@ -18,16 +18,10 @@ returns-2 c =
     let a = c .before .before .args in
     sym (digits-many (a .total) (a .after) (omega arith) (omega arith))
 
-sub-is-size : tie.Need-sub-is-size
-sub-is-size c = search needs
-
-is-size-requires : tie.Need-is-size-requires
-is-size-requires c κs = search needs
-
 returns-3 : tie.Need-returns-3
 returns-3 c =
     let a = c .before .before .before .args in
     c .is-size .ensures ∙ sym (digits-are (a .total) (a .after) (omega arith) (omega arith))
 
 pub digits-fit-spec : {M : Type 1} → statement M
-digits-fit-spec = tie.close (tie.spec returns returns-2 sub-is-size is-size-requires returns-3)
+digits-fit-spec = tie.close (tie.spec returns returns-2 (λ c. search needs) (λ c κs. search needs) returns-3)

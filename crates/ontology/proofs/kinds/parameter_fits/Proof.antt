@@ -9,17 +9,8 @@ use Rattle.ontology.proofs.kinds.parameter_fits.Lts as lts
 use Rattle.ontology.proofs.kinds.is_size.Reads as is-size-reads
 use Rattle.ontology.proofs.kinds.is_width.Reads as is-width-reads
 
-is-width-requires : tie.Need-is-width-requires
-is-width-requires c κs = search needs
-
 returns : tie.Need-returns
 returns c = c .is-width .ensures ∙ sym (fits-width _ _ (omega arith))
-
-is-size-requires : tie.Need-is-size-requires
-is-size-requires c κs = search needs
-
-is-size-requires-2 : tie.Need-is-size-requires-2
-is-size-requires-2 c κs = search needs
 
 returns-2 : tie.Need-returns-2
 returns-2 c = c .is-size .ensures ∙ sym (fits-string _ _ (omega arith) (omega arith))
@@ -30,4 +21,4 @@ returns-3 c = c .is-size2 .ensures ∙ sym (fits-hex _ _ (omega arith) (λ e. om
 pub parameter-fits-spec : {M : Type 1} → statement M
 parameter-fits-spec =
     tie.close
-    (tie.spec is-width-requires returns is-size-requires is-size-requires-2 returns-2 returns-3)
+    (tie.spec (λ c κs. search needs) returns (λ c κs. search needs) (λ c κs. search needs) returns-2 returns-3)

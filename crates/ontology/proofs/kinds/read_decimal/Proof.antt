@@ -17,43 +17,16 @@ use Rattle.packed.proofs.read.read_number.Reads as read-number-reads
 digits : (c : tie.Then1) → (c .before .before .before .before .before .before .before .before .before .before .before .total .given .0 .0 ≤ 38) × (c .before .before .before .before .before .before .before .after .given .0 .0 ≤ 38)
 digits c = digits-small (c .before .before .before .before .before .before .before .before .before .before .before .total .given .0 .0) (c .before .before .before .before .before .before .before .after .given .0 .0) (sym (c .before .digits-fit .ensures) ∙ c .if1 .taken)
 
-read-number-requires : tie.Need-read-number-requires
-read-number-requires c κs = search needs
-
-enum-known-total : tie.Need-enum-known-total
-enum-known-total c = search needs
-
-enum-told : tie.Need-enum-told
-enum-told c = search needs
-
 returns : tie.Need-returns
 returns c =
     let a = c .before .before .before .before .args in
     decimal-none (a .s .now) (a .at) (number-none (a .s .now) (a .at) (sym (c .before .before .read-number .ensures) ∙ c .enum-told .given .1))
-
-read-number-requires-2 : tie.Need-read-number-requires-2
-read-number-requires-2 c κs = search needs
-
-enum-known-after : tie.Need-enum-known-after
-enum-known-after c = search needs
-
-enum-told-2 : tie.Need-enum-told-2
-enum-told-2 c = search needs
 
 returns-2 : tie.Need-returns-2
 returns-2 c =
     let a = c .before .before .before .before .before .before .before .before .args in
     let g = number-here (a .s .now) (a .at) _ _ (sym (c .before .before .before .before .before .before .read-number .ensures) ∙ c .before .before .before .before .total .given .1) in
     decimal-no-after (a .s .now) (a .at) g (number-none (a .s .now) _ (sym (c .before .before .read-number2 .ensures) ∙ c .enum-told2 .given .1))
-
-read-flag-requires : tie.Need-read-flag-requires
-read-flag-requires c κs = search needs
-
-enum-known-sign : tie.Need-enum-known-sign
-enum-known-sign c = search needs
-
-enum-told-3 : tie.Need-enum-told-3
-enum-told-3 c = search needs
 
 returns-3 : tie.Need-returns-3
 returns-3 c =
@@ -62,17 +35,11 @@ returns-3 c =
     let h = number-here (a .s .now) _ _ _ (sym (c .before .before .before .before .before .before .read-number2 .ensures) ∙ c .before .before .before .before .after .given .1) in
     decimal-no-sign (a .s .now) (a .at) g h (flag-fail (a .s .now) _ (c .enum-told3 .given .1) (c .before .before .read-flag .ensures))
 
-digits-fit-requires : tie.Need-digits-fit-requires
-digits-fit-requires c κs = search needs
-
 cast-t14 : tie.Need-cast-t14
 cast-t14 c = omega (arith, digits c .0)
 
 cast-t15 : tie.Need-cast-t15
 cast-t15 c = omega (arith, digits c .1)
-
-cast-t16 : tie.Need-cast-t16
-cast-t16 c = search needs
 
 returns-4 : tie.Need-returns-4
 returns-4 c =
@@ -94,21 +61,21 @@ pub read-decimal-spec : {M : Type 1} → statement M
 read-decimal-spec =
     tie.close
     (tie.spec
-    read-number-requires
-    enum-known-total
-    enum-told
+    (λ c κs. search needs)
+    (λ c. search needs)
+    (λ c. search needs)
     returns
-    read-number-requires-2
-    enum-known-after
-    enum-told-2
+    (λ c κs. search needs)
+    (λ c. search needs)
+    (λ c. search needs)
     returns-2
-    read-flag-requires
-    enum-known-sign
-    enum-told-3
+    (λ c κs. search needs)
+    (λ c. search needs)
+    (λ c. search needs)
     returns-3
-    digits-fit-requires
+    (λ c κs. search needs)
     cast-t14
     cast-t15
-    cast-t16
+    (λ c. search needs)
     returns-4
     returns-5)

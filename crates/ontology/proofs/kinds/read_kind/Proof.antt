@@ -26,37 +26,19 @@ numbered c =
     let a = c .before .before .before .before .before .args in
     number-here (a .s .now) (a .at) _ _ (sym (c .before .before .before .read-number .ensures) ∙ c .before .n .given .1)
 
-read-number-requires : tie.Need-read-number-requires
-read-number-requires c κs = search needs
-
-enum-known-n : tie.Need-enum-known-n
-enum-known-n c = search needs
-
-enum-told : tie.Need-enum-told
-enum-told c = search needs
-
 returns : tie.Need-returns
 returns c =
     let a = c .before .before .before .before .args in
     kind-none (a .s .now) (a .at) (number-none (a .s .now) (a .at) (sym (c .before .before .read-number .ensures) ∙ c .enum-told .given .1))
 
-cast-if1 : tie.Need-cast-if1
-cast-if1 c = search needs
-
 returns-2 : tie.Need-returns-2
 returns-2 c = kind-other _ _ (numbered (c .before)) (inr (omega arith))
-
-cast-kind : tie.Need-cast-kind
-cast-kind c = search needs
 
 read-parameter-requires : tie.Need-read-parameter-requires
 read-parameter-requires c κs = inl refl
 
 read-parameter-requires-2 : tie.Need-read-parameter-requires-2
 read-parameter-requires-2 c κs = inr (inl refl)
-
-read-decimal-requires : tie.Need-read-decimal-requires
-read-decimal-requires c κs = search needs
 
 read-parameter-requires-3 : tie.Need-read-parameter-requires-3
 read-parameter-requires-3 c κs = inr (inr (inl refl))
@@ -97,16 +79,16 @@ pub read-kind-spec : {M : Type 1} → statement M
 read-kind-spec =
     tie.close
     (tie.spec
-    read-number-requires
-    enum-known-n
-    enum-told
+    (λ c κs. search needs)
+    (λ c. search needs)
+    (λ c. search needs)
     returns
-    cast-if1
+    (λ c. search needs)
     returns-2
-    cast-kind
+    (λ c. search needs)
     read-parameter-requires
     read-parameter-requires-2
-    read-decimal-requires
+    (λ c κs. search needs)
     read-parameter-requires-3
     read-parameter-requires-4
     returns-3

@@ -11,22 +11,10 @@ use Rattle.ontology.proofs.kinds.read_parameter.Lts as lts
 use Rattle.ontology.proofs.kinds.parameter_fits.Reads as parameter-fits-reads
 use Rattle.packed.proofs.read.read_number.Reads as read-number-reads
 
-read-number-requires : tie.Need-read-number-requires
-read-number-requires c κs = search needs
-
-enum-known-n : tie.Need-enum-known-n
-enum-known-n c = search needs
-
-enum-told : tie.Need-enum-told
-enum-told c = search needs
-
 returns : tie.Need-returns
 returns c =
     let a = c .before .before .before .before .args in
     one-none (a .s .now) (a .at) _ (c .before .before .before .before .pre) (number-none (a .s .now) (a .at) (sym (c .before .before .read-number .ensures) ∙ c .enum-told .given .1))
-
-parameter-fits-requires : tie.Need-parameter-fits-requires
-parameter-fits-requires c κs = search needs
 
 cast-t9 : tie.Need-cast-t9
 cast-t9 c = omega (arith, fits-small _ _ (sym (c .before .parameter-fits .ensures) ∙ c .if1 .taken))
@@ -45,11 +33,11 @@ pub read-parameter-spec : {M : Type 1} → statement M
 read-parameter-spec =
     tie.close
     (tie.spec
-    read-number-requires
-    enum-known-n
-    enum-told
+    (λ c κs. search needs)
+    (λ c. search needs)
+    (λ c. search needs)
     returns
-    parameter-fits-requires
+    (λ c κs. search needs)
     cast-t9
     returns-2
     returns-3)

@@ -25,34 +25,16 @@ returns c = sym (name-none _ _ (omega arith))
 returns-2 : tie.Need-returns-2 Inv-loop μ-loop
 returns-2 c = sym (name-long _ _ (omega arith))
 
-shared-slice-read-is-letter : tie.Need-shared-slice-read-is-letter Inv-loop μ-loop
-shared-slice-read-is-letter c = search needs
-
-is-letter-requires : tie.Need-is-letter-requires Inv-loop μ-loop
-is-letter-requires c κs = search needs
-
 returns-3 : tie.Need-returns-3 Inv-loop μ-loop
 returns-3 c = sym (name-unlettered _ _ (omega arith) (sym (c .before .is-letter .ensures) ∙ not-true _ (c .if3 .taken)))
 
 loop-holds : tie.Need-loop-holds Inv-loop μ-loop
 loop-holds c = (omega arith, name-lettered _ _ (omega arith) (omega arith) (sym (c .before .is-letter .ensures) ∙ not-false _ (c .if3 .left)))
 
-shared-slice-read-is-name-byte : tie.Need-shared-slice-read-is-name-byte Inv-loop μ-loop
-shared-slice-read-is-name-byte c = search needs
-
-is-name-byte-requires : tie.Need-is-name-byte-requires Inv-loop μ-loop
-is-name-byte-requires c κs = search needs
-
 returns-4 : tie.Need-returns-4 Inv-loop μ-loop
 returns-4 c =
     let l = c .before .before .before .before in
     sym (l .loop .inv .1 ∙ bytes-not (c .before .before .before .before .before .before .before .before .before .before .before .args .v .now) (l .loop .i) (omega arith) (sym (c .before .is-name-byte .ensures) ∙ not-true _ (c .if4 .taken)))
-
-add-i : tie.Need-add-i Inv-loop μ-loop
-add-i c = search needs
-
-loop-less : tie.Need-loop-less Inv-loop μ-loop
-loop-less c = search needs
 
 loop-again : tie.Need-loop-again Inv-loop μ-loop
 loop-again c =
@@ -70,14 +52,14 @@ is-name-spec =
     μ-loop
     returns
     returns-2
-    shared-slice-read-is-letter
-    is-letter-requires
+    (λ c. search needs)
+    (λ c κs. search needs)
     returns-3
     loop-holds
-    shared-slice-read-is-name-byte
-    is-name-byte-requires
+    (λ c. search needs)
+    (λ c κs. search needs)
     returns-4
-    add-i
-    loop-less
+    (λ c. search needs)
+    (λ c. search needs)
     loop-again
     returns-5)

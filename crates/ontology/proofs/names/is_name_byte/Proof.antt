@@ -14,9 +14,6 @@ no-letter c = sym (c .before .is-letter .ensures) ∙ c .if1 .left
 
 -- ---- the needs
 
-is-letter-requires : tie.Need-is-letter-requires
-is-letter-requires c κs = search needs
-
 returns : tie.Need-returns
 returns c = sym (byte-letter _ (sym (c .before .is-letter .ensures) ∙ c .if1 .taken))
 
@@ -37,4 +34,4 @@ returns-6 c = sym (byte-high _ (omega arith) (no-letter (c .before .before .befo
 
 pub is-name-byte-spec : {M : Type 1} → statement M
 is-name-byte-spec =
-    tie.close (tie.spec is-letter-requires returns returns-2 returns-3 returns-4 returns-5 returns-6)
+    tie.close (tie.spec (λ c κs. search needs) returns returns-2 returns-3 returns-4 returns-5 returns-6)

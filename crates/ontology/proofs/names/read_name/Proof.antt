@@ -11,15 +11,6 @@ use Rattle.ontology.proofs.names.read_name.Lts as lts
 use Rattle.ontology.proofs.names.is_name.Reads as is-name-reads
 use Rattle.packed.proofs.read.read_text.Reads as read-text-reads
 
-read-text-requires : tie.Need-read-text-requires
-read-text-requires c κs = search needs
-
-enum-known-start : tie.Need-enum-known-start
-enum-known-start c = search needs
-
-enum-told : tie.Need-enum-told
-enum-told c = search needs
-
 returns : tie.Need-returns
 returns c =
     let a = c .before .before .before .before .args in
@@ -33,9 +24,6 @@ part-is-name-start c = text-stops _ _ _ _ (sym (c .before .before .before .read-
 
 part-is-name-end : tie.Need-part-is-name-end
 part-is-name-end c = text-stops _ _ _ _ (sym (c .before .before .before .read-text .ensures) ∙ c .before .start .given .1) .within
-
-is-name-requires : tie.Need-is-name-requires
-is-name-requires c κs = search needs
 
 returns-2 : tie.Need-returns-2
 returns-2 c =
@@ -54,13 +42,13 @@ pub read-name-spec : {M : Type 1} → statement M
 read-name-spec =
     tie.close
     (tie.spec
-    read-text-requires
-    enum-known-start
-    enum-told
+    (λ c κs. search needs)
+    (λ c. search needs)
+    (λ c. search needs)
     returns
     sub-is-name
     part-is-name-start
     part-is-name-end
-    is-name-requires
+    (λ c κs. search needs)
     returns-2
     returns-3)

@@ -9,49 +9,16 @@ use Rattle.ontology.proofs.properties.put_property.Reads as reads
 use Rattle.ontology.proofs.properties.put_property.Lts as lts
 use Rattle.ontology.proofs.properties.code_of.Reads as code-of-reads
 
-mul-properties : tie.Need-mul-properties
-mul-properties c = search needs
-
-mul-properties-2 : tie.Need-mul-properties-2
-mul-properties-2 c = search needs
-
-slice-write-properties : tie.Need-slice-write-properties
-slice-write-properties c = search needs
-
-mul-properties-3 : tie.Need-mul-properties-3
-mul-properties-3 c = search needs
-
-add-properties : tie.Need-add-properties
-add-properties c = search needs
-
-mul-properties-4 : tie.Need-mul-properties-4
-mul-properties-4 c = search needs
-
 slice-write-properties-2 : tie.Need-slice-write-properties-2
 slice-write-properties-2 c =
     let a = c .before .args in
     omega (arith, length-set (a .properties .now) (3 * a .k) (a .p .start), c .before .pre .0)
-
-code-of-requires : tie.Need-code-of-requires
-code-of-requires c κs = search needs
-
-mul-properties-5 : tie.Need-mul-properties-5
-mul-properties-5 c = search needs
-
-add-properties-2 : tie.Need-add-properties-2
-add-properties-2 c = search needs
-
-mul-properties-6 : tie.Need-mul-properties-6
-mul-properties-6 c = search needs
 
 slice-write-properties-3 : tie.Need-slice-write-properties-3
 slice-write-properties-3 c =
     let a = c .before .before .args in
     let first = set (a .properties .now) (3 * a .k) (a .p .start) in
     omega (arith, length-set (a .properties .now) (3 * a .k) (a .p .start), length-set first (3 * a .k + 1) (a .p .end), c .before .before .pre .0)
-
-same-length : tie.Need-same-length
-same-length c = search needs
 
 returns : tie.Need-returns
 returns c =
@@ -71,17 +38,17 @@ pub put-property-spec : {M : Type 1} → statement M
 put-property-spec =
     tie.close
     (tie.spec
-    mul-properties
-    mul-properties-2
-    slice-write-properties
-    mul-properties-3
-    add-properties
-    mul-properties-4
+    (λ c. search needs)
+    (λ c. search needs)
+    (λ c. search needs)
+    (λ c. search needs)
+    (λ c. search needs)
+    (λ c. search needs)
     slice-write-properties-2
-    code-of-requires
-    mul-properties-5
-    add-properties-2
-    mul-properties-6
+    (λ c κs. search needs)
+    (λ c. search needs)
+    (λ c. search needs)
+    (λ c. search needs)
     slice-write-properties-3
-    same-length
+    (λ c. search needs)
     returns)

@@ -14,43 +14,16 @@ small :
     (strategyNumber min ≤ n) × (n ≤ strategyNumber any)
 small c = got-bounds (strategyNumber min) (strategyNumber any) (number-got (c .before .strategy .given .1) (c .before .before .before .read-strategy .ensures))
 
-read-name-requires : tie.Need-read-name-requires
-read-name-requires c κs = search needs
-
-enum-known-start : tie.Need-enum-known-start
-enum-known-start c = search needs
-
-enum-told : tie.Need-enum-told
-enum-told c = search needs
-
 returns : tie.Need-returns
 returns c =
     let a = c .before .before .before .before .args in
     property-no-name (a .table .now) (a .at) (name-fail (a .table .now) (a .at) (c .enum-told .given .1) (c .before .before .read-name .ensures))
-
-read-kind-requires : tie.Need-read-kind-requires
-read-kind-requires c κs = search needs
-
-enum-known-kind : tie.Need-enum-known-kind
-enum-known-kind c = search needs
-
-enum-told-2 : tie.Need-enum-told-2
-enum-told-2 c = search needs
 
 returns-2 : tie.Need-returns-2
 returns-2 c =
     let a = c .before .before .before .before .before .before .before .before .args in
     let g = name-got (c .before .before .before .before .start .given .1) (c .before .before .before .before .before .before .read-name .ensures) in
     property-no-kind (a .table .now) (a .at) (g .stops) (kind-fail (a .table .now) _ (c .enum-told2 .given .1) (c .before .before .read-kind .ensures))
-
-read-flag-requires : tie.Need-read-flag-requires
-read-flag-requires c κs = search needs
-
-enum-known-optional : tie.Need-enum-known-optional
-enum-known-optional c = search needs
-
-enum-told-3 : tie.Need-enum-told-3
-enum-told-3 c = search needs
 
 returns-3 : tie.Need-returns-3
 returns-3 c =
@@ -59,15 +32,6 @@ returns-3 c =
     let h = kind-got (c .before .before .before .before .kind .given .1) (c .before .before .before .before .before .before .read-kind .ensures) in
     property-no-optional (a .table .now) (a .at) (g .stops) (h .stops) (flag-fail (a .table .now) _ (c .enum-told3 .given .1) (c .before .before .read-flag .ensures))
 
-read-flag-requires-2 : tie.Need-read-flag-requires-2
-read-flag-requires-2 c κs = search needs
-
-enum-known-multivalued : tie.Need-enum-known-multivalued
-enum-known-multivalued c = search needs
-
-enum-told-4 : tie.Need-enum-told-4
-enum-told-4 c = search needs
-
 returns-4 : tie.Need-returns-4
 returns-4 c =
     let a = c .before .before .before .before .before .before .before .before .before .before .before .before .before .before .before .before .args in
@@ -75,15 +39,6 @@ returns-4 c =
     let h = kind-got (c .before .before .before .before .before .before .before .before .kind .given .1) (c .before .before .before .before .before .before .before .before .before .before .read-kind .ensures) in
     let i = flag-got (c .before .before .before .before .optional .given .1) (c .before .before .before .before .before .before .read-flag .ensures) in
     property-no-multivalued (a .table .now) (a .at) (g .stops) (h .stops) i (flag-fail (a .table .now) _ (c .enum-told4 .given .1) (c .before .before .read-flag2 .ensures))
-
-read-strategy-requires : tie.Need-read-strategy-requires
-read-strategy-requires c κs = search needs
-
-enum-known-strategy : tie.Need-enum-known-strategy
-enum-known-strategy c = search needs
-
-enum-told-5 : tie.Need-enum-told-5
-enum-told-5 c = search needs
 
 returns-5 : tie.Need-returns-5
 returns-5 c =
@@ -111,25 +66,25 @@ pub read-property-spec : {M : Type 1} → statement M
 read-property-spec =
     tie.close
     (tie.spec
-    read-name-requires
-    enum-known-start
-    enum-told
+    (λ c κs. search needs)
+    (λ c. search needs)
+    (λ c. search needs)
     returns
-    read-kind-requires
-    enum-known-kind
-    enum-told-2
+    (λ c κs. search needs)
+    (λ c. search needs)
+    (λ c. search needs)
     returns-2
-    read-flag-requires
-    enum-known-optional
-    enum-told-3
+    (λ c κs. search needs)
+    (λ c. search needs)
+    (λ c. search needs)
     returns-3
-    read-flag-requires-2
-    enum-known-multivalued
-    enum-told-4
+    (λ c κs. search needs)
+    (λ c. search needs)
+    (λ c. search needs)
     returns-4
-    read-strategy-requires
-    enum-known-strategy
-    enum-told-5
+    (λ c κs. search needs)
+    (λ c. search needs)
+    (λ c. search needs)
     returns-5
     cast-t22
     returns-6)

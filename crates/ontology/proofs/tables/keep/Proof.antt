@@ -40,9 +40,6 @@ part-same-start c = c .before .before .before .pre .0
 part-same-end : tie.Need-part-same-end
 part-same-end c = c .before .before .before .pre .1
 
-same-requires : tie.Need-same-requires
-same-requires c κs = search needs
-
 returns-2 : tie.Need-returns-2
 returns-2 c =
     let left = to-if1 (c .before) .if1 .left in
@@ -56,4 +53,4 @@ returns-3 c =
 pub keep-spec : {M : Type 1} → statement M
 keep-spec =
     tie.close
-    (tie.spec returns sub-same part-same-start part-same-end same-requires returns-2 returns-3)
+    (tie.spec returns sub-same part-same-start part-same-end (λ c κs. search needs) returns-2 returns-3)

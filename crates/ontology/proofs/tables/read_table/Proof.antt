@@ -84,18 +84,6 @@ rises c e = sym (c .is-before .ensures) ∙ e
 
 -- ---- the needs
 
-no-type-requires : tie.Need-no-type-requires Inv-loop μ-loop
-no-type-requires c κs = search needs
-
-read-within-requires : tie.Need-read-within-requires Inv-loop μ-loop
-read-within-requires c κs = search needs
-
-enum-known-count : tie.Need-enum-known-count Inv-loop μ-loop
-enum-known-count c = search needs
-
-enum-told : tie.Need-enum-told Inv-loop μ-loop
-enum-told c = search needs
-
 returns : tie.Need-returns Inv-loop μ-loop
 returns c =
     let read = c .before .before in
@@ -107,9 +95,6 @@ loop-holds c =
     let read = c .before .before .before in
     let counted = number-got (c .before .count .given .1) (read .read-within .ensures) in
     (listed-none _ _ _ _ counted refl refl, counted-to-start read .pre)
-
-read-type-requires : tie.Need-read-type-requires Inv-loop μ-loop
-read-type-requires c κs = search needs
 
 same-length : tie.Need-same-length Inv-loop μ-loop
 same-length c = same (c .before)
@@ -143,12 +128,6 @@ keep-requires c κs =
     let g = got (c .before .before .before) .stops in
     (g .order, g .ends)
 
-sub-left : tie.Need-sub-left Inv-loop μ-loop
-sub-left c = search needs
-
-loop-less : tie.Need-loop-less Inv-loop μ-loop
-loop-less c = search needs
-
 loop-again : tie.Need-loop-again Inv-loop μ-loop
 loop-again c =
     let compared = c .before .before in
@@ -179,21 +158,21 @@ read-table-spec =
     (tie.spec
     Inv-loop
     μ-loop
-    no-type-requires
-    read-within-requires
-    enum-known-count
-    enum-told
+    (λ c κs. search needs)
+    (λ c κs. search needs)
+    (λ c. search needs)
+    (λ c. search needs)
     returns
     loop-holds
-    read-type-requires
+    (λ c κs. search needs)
     same-length
     returns-2
     is-before-requires
     same-length-2
     returns-3
     keep-requires
-    sub-left
-    loop-less
+    (λ c. search needs)
+    (λ c. search needs)
     loop-again
     same-length-3
     returns-4

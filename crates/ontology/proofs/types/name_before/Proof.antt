@@ -18,9 +18,6 @@ some-second c = ltb-true _ _ (c .if2 .taken)
 
 -- ---- the needs
 
-shared-slice-read-x : tie.Need-shared-slice-read-x
-shared-slice-read-x c = search needs
-
 shared-slice-read-y : tie.Need-shared-slice-read-y
 shared-slice-read-y c = let both = c .before .before in omega (arith, some-second both, to-start both .pre .3)
 
@@ -30,12 +27,9 @@ returns c =
     let p = to-start both .pre in
     first-decides _ _ _ _ _ (both .before .if1 .taken) (p .1) (some-second both) (p .3) (c .if3 .taken)
 
-is-before-requires : tie.Need-is-before-requires
-is-before-requires c κs = search needs
-
 returns-2 : tie.Need-returns-2
 returns-2 c = c .is-before .ensures
 
 pub name-before-spec : {M : Type 1} → statement M
 name-before-spec =
-    tie.close (tie.spec shared-slice-read-x shared-slice-read-y returns is-before-requires returns-2)
+    tie.close (tie.spec (λ c. search needs) shared-slice-read-y returns (λ c κs. search needs) returns-2)

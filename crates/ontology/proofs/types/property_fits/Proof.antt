@@ -51,20 +51,11 @@ marked c q w = fits-by _ _ _ q (after (c .before) q w) (sym (c .before .strategy
 
 -- ---- the needs
 
-name-before-requires : tie.Need-name-before-requires
-name-before-requires c κs = search needs
-
 returns : tie.Need-returns
 returns c = λ q w. sym (fits-by _ _ _ q (ordered (c .before) (not-true _ (c .if1 .taken)) q w) refl)
 
-strategy-fits-requires : tie.Need-strategy-fits-requires
-strategy-fits-requires c κs = search needs
-
 returns-2 : tie.Need-returns-2
 returns-2 c = λ q w. sym (fits-by _ _ _ q (after (c .before) q w) (sym (c .before .strategy-fits .ensures _ q w) ∙ not-true _ (c .if2 .taken)))
-
-can-be-marked-requires : tie.Need-can-be-marked-requires
-can-be-marked-requires c κs = search needs
 
 returns-3 : tie.Need-returns-3
 returns-3 c = λ q w.
@@ -77,4 +68,4 @@ returns-4 c = λ q w. sym (marked (c .before) q w ∙ ap (λ (m : Bool). not m |
 pub property-fits-spec : {M : Type 1} → statement M
 property-fits-spec =
     tie.close
-    (tie.spec name-before-requires returns strategy-fits-requires returns-2 can-be-marked-requires returns-3 returns-4)
+    (tie.spec (λ c κs. search needs) returns (λ c κs. search needs) returns-2 (λ c κs. search needs) returns-3 returns-4)

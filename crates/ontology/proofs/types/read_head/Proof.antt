@@ -13,28 +13,10 @@ use Rattle.packed.proofs.read.read_within.Reads as read-within-reads
 use Rattle.ontology.proofs.names.read_name.Reads as read-name-reads
 use Rattle.packed.proofs.read.read_number.Reads as read-number-reads
 
-read-name-requires : tie.Need-read-name-requires
-read-name-requires c κs = search needs
-
-enum-known-start : tie.Need-enum-known-start
-enum-known-start c = search needs
-
-enum-told : tie.Need-enum-told
-enum-told c = search needs
-
 returns : tie.Need-returns
 returns c =
     let a = c .before .before .before .before .args in
     head-no-name (a .table .now) (a .at) (name-fail (a .table .now) (a .at) (c .enum-told .given .1) (c .before .before .read-name .ensures))
-
-read-number-requires : tie.Need-read-number-requires
-read-number-requires c κs = search needs
-
-enum-known-definition : tie.Need-enum-known-definition
-enum-known-definition c = search needs
-
-enum-told-2 : tie.Need-enum-told-2
-enum-told-2 c = search needs
 
 returns-2 : tie.Need-returns-2
 returns-2 c =
@@ -51,15 +33,6 @@ returns-3 c =
     let d = number-here (a .table .now) _ _ _ (sym (c .before .before .before .before .read-number .ensures) ∙ c .before .before .definition .given .1) in
     head-undefined (a .table .now) (a .at) (t .0) d (c .if1 .taken)
 
-read-number-requires-2 : tie.Need-read-number-requires-2
-read-number-requires-2 c κs = search needs
-
-enum-known-mark : tie.Need-enum-known-mark
-enum-known-mark c = search needs
-
-enum-told-3 : tie.Need-enum-told-3
-enum-told-3 c = search needs
-
 returns-4 : tie.Need-returns-4
 returns-4 c =
     let a = c .before .before .before .before .before .before .before .before .before .before .before .before .before .args in
@@ -67,15 +40,6 @@ returns-4 c =
     let t = such-was (isNameWithin 64) readText (a .table .now) (a .at) (g .stops) in
     let d = number-here (a .table .now) _ _ _ (sym (c .before .before .before .before .before .before .before .read-number .ensures) ∙ c .before .before .before .before .before .definition .given .1) in
     head-no-mark (a .table .now) (a .at) (t .0) d (number-none (a .table .now) _ (sym (c .before .before .read-number2 .ensures) ∙ c .enum-told3 .given .1))
-
-read-within-requires : tie.Need-read-within-requires
-read-within-requires c κs = search needs
-
-enum-known-count : tie.Need-enum-known-count
-enum-known-count c = search needs
-
-enum-told-4 : tie.Need-enum-told-4
-enum-told-4 c = search needs
 
 returns-5 : tie.Need-returns-5
 returns-5 c =
@@ -100,21 +64,21 @@ pub read-head-spec : {M : Type 1} → statement M
 read-head-spec =
     tie.close
     (tie.spec
-    read-name-requires
-    enum-known-start
-    enum-told
+    (λ c κs. search needs)
+    (λ c. search needs)
+    (λ c. search needs)
     returns
-    read-number-requires
-    enum-known-definition
-    enum-told-2
+    (λ c κs. search needs)
+    (λ c. search needs)
+    (λ c. search needs)
     returns-2
     returns-3
-    read-number-requires-2
-    enum-known-mark
-    enum-told-3
+    (λ c κs. search needs)
+    (λ c. search needs)
+    (λ c. search needs)
     returns-4
-    read-within-requires
-    enum-known-count
-    enum-told-4
+    (λ c κs. search needs)
+    (λ c. search needs)
+    (λ c. search needs)
     returns-5
     returns-6)

@@ -83,15 +83,6 @@ put c =
 loop-holds : tie.Need-loop-holds Inv-loop μ-loop
 loop-holds c = filled-none _ _ _ _ _ _ (c .before .before .pre .0) (c .before .before .pre .2)
 
-read-property-requires : tie.Need-read-property-requires Inv-loop μ-loop
-read-property-requires c κs = search needs
-
-enum-known-p : tie.Need-enum-known-p Inv-loop μ-loop
-enum-known-p c = search needs
-
-enum-told : tie.Need-enum-told Inv-loop μ-loop
-enum-told c = search needs
-
 same-length : tie.Need-same-length Inv-loop μ-loop
 same-length c = let turn = c .before .before .before in same (turn .before)
 
@@ -101,9 +92,6 @@ returns c =
     let l = turn .before in
     let fails = property-fail (table l) (l .loop .next) (c .enum-told .given .1) (c .before .before .read-property .ensures) in
     (filled-bad (l .loop .inv) (turn .loop-test .taken) fails, l .loop .inv .stay)
-
-add-property-fits : tie.Need-add-property-fits Inv-loop μ-loop
-add-property-fits c = search needs
 
 property-fits-requires : tie.Need-property-fits-requires Inv-loop μ-loop
 property-fits-requires c κs =
@@ -124,12 +112,6 @@ put-property-requires : tie.Need-put-property-requires Inv-loop μ-loop
 put-property-requires c κs =
     let l = loop (to-read (c .before .before .before)) in
     (l .loop .inv .size, omega (arith, to-start l .pre .1))
-
-add-k : tie.Need-add-k Inv-loop μ-loop
-add-k c = search needs
-
-loop-less : tie.Need-loop-less Inv-loop μ-loop
-loop-less c = search needs
 
 loop-again : tie.Need-loop-again Inv-loop μ-loop
 loop-again c =
@@ -152,18 +134,18 @@ read-properties-spec =
     Inv-loop
     μ-loop
     loop-holds
-    read-property-requires
-    enum-known-p
-    enum-told
+    (λ c κs. search needs)
+    (λ c. search needs)
+    (λ c. search needs)
     same-length
     returns
-    add-property-fits
+    (λ c. search needs)
     property-fits-requires
     same-length-2
     returns-2
     put-property-requires
-    add-k
-    loop-less
+    (λ c. search needs)
+    (λ c. search needs)
     loop-again
     same-length-3
     returns-3)

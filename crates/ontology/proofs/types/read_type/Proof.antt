@@ -65,18 +65,6 @@ properties c = properties-got (c .answer .given .1) (to-read (to-filled c) .read
 
 -- ---- the needs
 
-no-type-requires : tie.Need-no-type-requires
-no-type-requires c κs = search needs
-
-read-head-requires : tie.Need-read-head-requires
-read-head-requires c κs = search needs
-
-enum-known-start : tie.Need-enum-known-start
-enum-known-start c = search needs
-
-enum-told : tie.Need-enum-told
-enum-told c = search needs
-
 returns : tie.Need-returns
 returns c =
     let read = c .before .before in
@@ -87,24 +75,12 @@ read-properties-requires c κs =
     let told = c .before .before in
     (head told .within, head told .few, search needs)
 
-enum-known-answer : tie.Need-enum-known-answer
-enum-known-answer c = search needs
-
-enum-told-2 : tie.Need-enum-told-2
-enum-told-2 c = search needs
-
-same-length : tie.Need-same-length
-same-length c = search needs
-
 returns-2 : tie.Need-returns-2
 returns-2 c =
     let read = to-read (c .before .before) in
     let told = to-told read .before in
     let fails = properties-fail _ (table (to-head told)) _ _ _ _ (c .enum-told2 .given .1) (read .read-properties .ensures .0) in
     (type-none _ _ _ _ _ _ (type-short (head told) fails) refl, read .read-properties .ensures .1)
-
-same-length-2 : tie.Need-same-length-2
-same-length-2 c = search needs
 
 returns-3 : tie.Need-returns-3
 returns-3 c =
@@ -115,15 +91,15 @@ pub read-type-spec : {M : Type 1} → statement M
 read-type-spec =
     tie.close
     (tie.spec
-    no-type-requires
-    read-head-requires
-    enum-known-start
-    enum-told
+    (λ c κs. search needs)
+    (λ c κs. search needs)
+    (λ c. search needs)
+    (λ c. search needs)
     returns
     read-properties-requires
-    enum-known-answer
-    enum-told-2
-    same-length
+    (λ c. search needs)
+    (λ c. search needs)
+    (λ c. search needs)
     returns-2
-    same-length-2
+    (λ c. search needs)
     returns-3)

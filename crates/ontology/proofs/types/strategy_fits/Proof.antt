@@ -4,15 +4,6 @@ use Rattle.ontology.proofs.RuleLaws.{replace-many, replace-optional, re
 use Rattle.ontology.proofs.types.strategy_fits.Statement.{statement}
 use Rattle.ontology.proofs.types.strategy_fits.Tie as tie
 
-is-extreme-requires : tie.Need-is-extreme-requires
-is-extreme-requires c κs = search needs
-
-is-mandatory-single-requires : tie.Need-is-mandatory-single-requires
-is-mandatory-single-requires c κs = search needs
-
-is-ordered-requires : tie.Need-is-ordered-requires
-is-ordered-requires c κs = search needs
-
 returns : tie.Need-returns
 returns c = λ s q w.
     let is-extreme = sym (c .before .before .before .before .is-extreme .ensures) ∙ c .before .before .before .if1 .taken in
@@ -24,9 +15,6 @@ returns-2 c = λ s q w.
     let is-extreme = sym (c .before .before .before .is-extreme .ensures) ∙ c .before .before .if1 .taken in
     let not-single = sym (c .before .is-mandatory-single .ensures) ∙ c .if2 .left in
     sym (ordered-not s q _ _ w is-extreme not-single)
-
-is-replace-requires : tie.Need-is-replace-requires
-is-replace-requires c κs = search needs
 
 returns-3 : tie.Need-returns-3
 returns-3 c = λ s q w.
@@ -53,12 +41,12 @@ pub strategy-fits-spec : {M : Type 1} → statement M
 strategy-fits-spec =
     tie.close
     (tie.spec
-    is-extreme-requires
-    is-mandatory-single-requires
-    is-ordered-requires
+    (λ c κs. search needs)
+    (λ c κs. search needs)
+    (λ c κs. search needs)
     returns
     returns-2
-    is-replace-requires
+    (λ c κs. search needs)
     returns-3
     returns-4
     returns-5

@@ -32,12 +32,6 @@ found c o = c .find-conflict .ensures _ _ (o .is)
 find-conflict-requires : tie.Need-find-conflict-requires
 find-conflict-requires c κs = to-start c .pre .1 .is .few
 
-enum-known-version : tie.Need-enum-known-version
-enum-known-version c = search needs
-
-enum-told : tie.Need-enum-told
-enum-told c = search needs
-
 open-merged-requires : tie.Need-open-merged-requires
 open-merged-requires c κs = to-start (to-find c .before) .pre
 
@@ -45,9 +39,6 @@ returns : tie.Need-returns
 returns c =
     let at-find = c .before .before .before in
     λ o. replies-conflict _ _ _ _ _ o _ _ (c .before .version .given .1) (found at-find o) _
-
-same-length : tie.Need-same-length
-same-length c = search needs
 
 returns-2 : tie.Need-returns-2
 returns-2 c =
@@ -60,9 +51,9 @@ open-asked-spec =
     tie.close
     (tie.spec
     find-conflict-requires
-    enum-known-version
-    enum-told
+    (λ c. search needs)
+    (λ c. search needs)
     open-merged-requires
     returns
-    same-length
+    (λ c. search needs)
     returns-2)

@@ -26,48 +26,27 @@ room c = c .if1 .left
 returns : tie.Need-returns
 returns c = open-small _ _ _ (c .if1 .taken)
 
-snapshot-count-requires : tie.Need-snapshot-count-requires
-snapshot-count-requires c κs = search needs
-
-slice-aggregate-open-with : tie.Need-slice-aggregate-open-with
-slice-aggregate-open-with c = search needs
-
 open-with-requires : tie.Need-open-with-requires
 open-with-requires c κs =
     let few = c .before .before in
     (one-row _ _ (few .before .snapshot-count .ensures) (few .if2 .taken), room (to-if1 (few .before)))
-
-same-length : tie.Need-same-length
-same-length c = search needs
-
-returns-2 : tie.Need-returns-2
-returns-2 c = search needs
-
-slice-aggregate-open-with-2 : tie.Need-slice-aggregate-open-with-2
-slice-aggregate-open-with-2 c = search needs
 
 open-with-requires-2 : tie.Need-open-with-requires-2
 open-with-requires-2 c κs =
     let several = c .before .before in
     (all-rows _, room (to-if1 (several .before)))
 
-same-length-2 : tie.Need-same-length-2
-same-length-2 c = search needs
-
-returns-3 : tie.Need-returns-3
-returns-3 c = search needs
-
 pub open-dossier-spec : {M : Type 1} → statement M
 open-dossier-spec =
     tie.close
     (tie.spec
     returns
-    snapshot-count-requires
-    slice-aggregate-open-with
+    (λ c κs. search needs)
+    (λ c. search needs)
     open-with-requires
-    same-length
-    returns-2
-    slice-aggregate-open-with-2
+    (λ c. search needs)
+    (λ c. search needs)
+    (λ c. search needs)
     open-with-requires-2
-    same-length-2
-    returns-3)
+    (λ c. search needs)
+    (λ c. search needs))

@@ -39,30 +39,15 @@ planned c o = c .plan-sets .ensures _ _ _ (o .typed .are) (o .typed .mark) (merg
 
 -- ---- the needs
 
-slice-aggregate-plan-sets : tie.Need-slice-aggregate-plan-sets
-slice-aggregate-plan-sets c = search needs
-
 plan-sets-requires : tie.Need-plan-sets-requires
 plan-sets-requires c κs =
     let m = to-start c .pre in
     ((m .1 .typed .are .few, m .1 .is .one, m .1 .is .few, m .0 .0, m .0 .1, refl), λ i h. getD-replicate 128 i 0 0 h)
 
-slice-aggregate-find-overfull : tie.Need-slice-aggregate-find-overfull
-slice-aggregate-find-overfull c = search needs
-
 find-overfull-requires : tie.Need-find-overfull-requires
 find-overfull-requires c κs =
     let m = to-start (c .before .before .before) .pre in
     (m .1 .typed .are .few, m .0 .1, search needs)
-
-enum-known-place : tie.Need-enum-known-place
-enum-known-place c = search needs
-
-enum-told : tie.Need-enum-told
-enum-told c = search needs
-
-slice-aggregate-write-event : tie.Need-slice-aggregate-write-event
-slice-aggregate-write-event c = search needs
 
 write-event-requires : tie.Need-write-event-requires
 write-event-requires c κs =
@@ -75,9 +60,6 @@ returns c =
     let found = c .before .before .before in
     λ o free.
     replies-overfull _ _ _ _ _ o free _ (c .before .place .given .1) (found .find-overfull .ensures _ _ _ _ (o .typed .are) (planned (to-plan found) o)) _
-
-same-length : tie.Need-same-length
-same-length c = search needs
 
 returns-2 : tie.Need-returns-2
 returns-2 c =
@@ -95,14 +77,14 @@ pub open-merged-spec : {M : Type 1} → statement M
 open-merged-spec =
     tie.close
     (tie.spec
-    slice-aggregate-plan-sets
+    (λ c. search needs)
     plan-sets-requires
-    slice-aggregate-find-overfull
+    (λ c. search needs)
     find-overfull-requires
-    enum-known-place
-    enum-told
-    slice-aggregate-write-event
+    (λ c. search needs)
+    (λ c. search needs)
+    (λ c. search needs)
     write-event-requires
     returns
-    same-length
+    (λ c. search needs)
     returns-2)

@@ -94,28 +94,10 @@ accepted c =
 
 -- ---- the needs
 
-read-dossier-requires : tie.Need-read-dossier-requires
-read-dossier-requires c κs = search needs
-
-type-name-requires : tie.Need-type-name-requires
-type-name-requires c κs = search needs
-
-slice-aggregate-read-table : tie.Need-slice-aggregate-read-table
-slice-aggregate-read-table c = search needs
-
-read-table-requires : tie.Need-read-table-requires
-read-table-requires c κs = search needs
-
-same-length : tie.Need-same-length
-same-length c = search needs
-
 returns : tie.Need-returns
 returns c =
     let at-table = c .before .before .before in
     open-table _ _ _ (room (to-read at-table)) (table-refused _ _ _ _ (at-table .read-table .ensures) (not-true _ (c .if1 .taken)))
-
-slice-aggregate-ask-dossier : tie.Need-slice-aggregate-ask-dossier
-slice-aggregate-ask-dossier c = search needs
 
 ask-dossier-requires : tie.Need-ask-dossier-requires
 ask-dossier-requires c κs =
@@ -123,29 +105,17 @@ ask-dossier-requires c κs =
     let read = to-read (to-table taken) in
     ((inside read, search needs), (read .read-dossier .ensures .0, found-low _ _ _ _ (got taken)))
 
-same-length-2 : tie.Need-same-length-2
-same-length-2 c = search needs
-
 returns-2 : tie.Need-returns-2
 returns-2 c =
     let asked = c .before in
     let taken = to-taken asked in
     open-refused _ _ _ (room (to-read (to-table taken))) _ _ (got taken .is) (asked-refused _ _ _ _ _ _ (answered asked) (c .if2 .taken))
 
-slice-aggregate-open-asked : tie.Need-slice-aggregate-open-asked
-slice-aggregate-open-asked c = search needs
-
 open-asked-requires : tie.Need-open-asked-requires
 open-asked-requires c κs =
     let at-type = to-type c in
     let read = to-read (to-table (to-taken (to-asked at-type))) in
     ((inside read, search needs, room read), accepted at-type .openable)
-
-same-length-3 : tie.Need-same-length-3
-same-length-3 c = search needs
-
-same-length-4 : tie.Need-same-length-4
-same-length-4 c = search needs
 
 returns-3 : tie.Need-returns-3
 returns-3 c =
@@ -158,18 +128,18 @@ pub open-with-spec : {M : Type 1} → statement M
 open-with-spec =
     tie.close
     (tie.spec
-    read-dossier-requires
-    type-name-requires
-    slice-aggregate-read-table
-    read-table-requires
-    same-length
+    (λ c κs. search needs)
+    (λ c κs. search needs)
+    (λ c. search needs)
+    (λ c κs. search needs)
+    (λ c. search needs)
     returns
-    slice-aggregate-ask-dossier
+    (λ c. search needs)
     ask-dossier-requires
-    same-length-2
+    (λ c. search needs)
     returns-2
-    slice-aggregate-open-asked
+    (λ c. search needs)
     open-asked-requires
-    same-length-3
-    same-length-4
+    (λ c. search needs)
+    (λ c. search needs)
     returns-3)

@@ -31,27 +31,6 @@ After c r =
 loop-holds : tie.Need-loop-holds Inv-loop μ-loop
 loop-holds c = runs-none _ _ _ _ _ refl refl
 
-cell-at-requires : tie.Need-cell-at-requires Inv-loop μ-loop
-cell-at-requires c κs = search needs
-
-mul-r : tie.Need-mul-r Inv-loop μ-loop
-mul-r c = search needs
-
-element-write-r : tie.Need-element-write-r Inv-loop μ-loop
-element-write-r c = search needs
-
-mul-r-2 : tie.Need-mul-r-2 Inv-loop μ-loop
-mul-r-2 c = search needs
-
-element-write-r-2 : tie.Need-element-write-r-2 Inv-loop μ-loop
-element-write-r-2 c = search needs
-
-add-j : tie.Need-add-j Inv-loop μ-loop
-add-j c = search needs
-
-loop-less : tie.Need-loop-less Inv-loop μ-loop
-loop-less c = search needs
-
 loop-again : tie.Need-loop-again Inv-loop μ-loop
 loop-again c =
     let turn = c .before in
@@ -72,12 +51,12 @@ runs-of-spec =
     Inv-loop
     μ-loop
     loop-holds
-    cell-at-requires
-    mul-r
-    element-write-r
-    mul-r-2
-    element-write-r-2
-    add-j
-    loop-less
+    (λ c κs. search needs)
+    (λ c. search needs)
+    (λ c. search needs)
+    (λ c. search needs)
+    (λ c. search needs)
+    (λ c. search needs)
+    (λ c. search needs)
     loop-again
     returns)

@@ -35,15 +35,6 @@ mul-snapshot-conflict c = omega (arith, c .before .loop-test .taken, c .before .
 element-copy-out-snapshot-conflict : tie.Need-element-copy-out-snapshot-conflict Inv-loop μ-loop
 element-copy-out-snapshot-conflict c = omega (arith, c .before .loop-test .taken, c .before .before .before .pre)
 
-snapshot-conflict-requires : tie.Need-snapshot-conflict-requires Inv-loop μ-loop
-snapshot-conflict-requires c κs = search needs
-
-enum-told : tie.Need-enum-told Inv-loop μ-loop
-enum-told c = search needs
-
-enum-told-2 : tie.Need-enum-told-2 Inv-loop μ-loop
-enum-told-2 c = search needs
-
 returns : tie.Need-returns Inv-loop μ-loop
 returns c =
     λ s h w.
@@ -78,9 +69,9 @@ find-conflict-spec =
     element-copy-out-version
     mul-snapshot-conflict
     element-copy-out-snapshot-conflict
-    snapshot-conflict-requires
-    enum-told
-    enum-told-2
+    (λ c κs. search needs)
+    (λ c. search needs)
+    (λ c. search needs)
     returns
     add-j
     loop-less

@@ -35,9 +35,6 @@ returns c =
     let i = turn .before .loop .inv cs v in
     sym (i .1 ∙ lowest-here (λ p. isMark (getD cs p (holds []))) _ (turn .loop-test .taken) (bit-set cs _ _ (i .0) (c .if2 .taken)))
 
-add-k : tie.Need-add-k Inv-loop μ-loop
-add-k c = search needs
-
 loop-less : tie.Need-loop-less Inv-loop μ-loop
 loop-less c = omega (arith, c .before .before .loop-test .taken)
 
@@ -66,4 +63,4 @@ returns-3 c =
 pub lowest-mark-spec : {M : Type 1} → statement M
 lowest-mark-spec =
     tie.close
-    (tie.spec Inv-loop μ-loop loop-holds returns add-k loop-less loop-again returns-2 returns-3)
+    (tie.spec Inv-loop μ-loop loop-holds returns (λ c. search needs) loop-less loop-again returns-2 returns-3)

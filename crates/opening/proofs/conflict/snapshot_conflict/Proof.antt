@@ -5,15 +5,6 @@ use Rattle.opening.proofs.ConflictLaws.{snapshot-differs, snapshot-clea
 use Rattle.opening.proofs.conflict.snapshot_conflict.Statement.{statement}
 use Rattle.opening.proofs.conflict.snapshot_conflict.Tie as tie
 
-lowest-mark-requires : tie.Need-lowest-mark-requires
-lowest-mark-requires c κs = search needs
-
-enum-known-place : tie.Need-enum-known-place
-enum-known-place c = search needs
-
-enum-told : tie.Need-enum-told
-enum-told c = search needs
-
 returns : tie.Need-returns
 returns c = λ x v e. snapshot-differs x _ v _ (sym (ap lowestOf (c .before .place .given .1)) ∙ c .before .before .before .lowest-mark .ensures (x .cells) e)
 
@@ -24,8 +15,8 @@ pub snapshot-conflict-spec : {M : Type 1} → statement M
 snapshot-conflict-spec =
     tie.close
     (tie.spec
-    lowest-mark-requires
-    enum-known-place
-    enum-told
+    (λ c κs. search needs)
+    (λ c. search needs)
+    (λ c. search needs)
     returns
     returns-2)

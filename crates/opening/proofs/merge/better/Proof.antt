@@ -20,24 +20,6 @@ returns c = λ k vs ws ch p q v w. better-none (c .before .before .before .args 
 returns-2 : tie.Need-returns-2
 returns-2 c = λ k vs ws ch p q v w. better-only (c .before .before .before .before .before .args .s .now) k (c .before .before .before .before .before .args .largest) vs ws _ _ p q v w (c .if2 .taken)
 
-set-part-requires : tie.Need-set-part-requires
-set-part-requires c κs = search needs
-
-value-in-requires : tie.Need-value-in-requires
-value-in-requires c κs = search needs
-
-set-part-requires-2 : tie.Need-set-part-requires-2
-set-part-requires-2 c κs = search needs
-
-value-in-requires-2 : tie.Need-value-in-requires-2
-value-in-requires-2 c κs = search needs
-
-compare-values-requires : tie.Need-compare-values-requires
-compare-values-requires c κs = search needs
-
-takes-first-requires : tie.Need-takes-first-requires
-takes-first-requires c κs = search needs
-
 -- the first set is the answer where the comparison of the values takes the first, and the second where it does not
 module _ (c : tie.After-compare-values) (k : Kind) (vs ws : List Text) where
   compared :
@@ -87,11 +69,11 @@ better-spec =
     (tie.spec
     returns
     returns-2
-    set-part-requires
-    value-in-requires
-    set-part-requires-2
-    value-in-requires-2
-    compare-values-requires
-    takes-first-requires
+    (λ c κs. search needs)
+    (λ c κs. search needs)
+    (λ c κs. search needs)
+    (λ c κs. search needs)
+    (λ c κs. search needs)
+    (λ c κs. search needs)
     returns-3
     returns-4)

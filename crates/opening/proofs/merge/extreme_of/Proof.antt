@@ -45,9 +45,6 @@ here c ss w e =
 
 -- ---- the needs
 
-cell-at-requires : tie.Need-cell-at-requires Inv-loop μ-loop
-cell-at-requires c κs = search needs
-
 loop-holds : tie.Need-loop-holds Inv-loop μ-loop
 loop-holds c =
     let start = to-start c in
@@ -57,18 +54,6 @@ loop-holds c =
           let first = column-stands _ ss _ _ 0 (start .pre .1) w (omega (arith, one, e)) (c .cell-at .ensures) in
           chosen-first _ k _ (column ss _) _ (omega (arith, one, e, column-long ss (start .args .place))) (l 0 one) first,
     )
-
-cell-at-requires-2 : tie.Need-cell-at-requires-2 Inv-loop μ-loop
-cell-at-requires-2 c κs = search needs
-
-better-requires : tie.Need-better-requires Inv-loop μ-loop
-better-requires c κs = search needs
-
-add-j : tie.Need-add-j Inv-loop μ-loop
-add-j c = search needs
-
-loop-less : tie.Need-loop-less Inv-loop μ-loop
-loop-less c = search needs
 
 loop-again : tie.Need-loop-again Inv-loop μ-loop
 loop-again c =
@@ -95,11 +80,11 @@ extreme-of-spec =
     (tie.spec
     Inv-loop
     μ-loop
-    cell-at-requires
+    (λ c κs. search needs)
     loop-holds
-    cell-at-requires-2
-    better-requires
-    add-j
-    loop-less
+    (λ c κs. search needs)
+    (λ c κs. search needs)
+    (λ c. search needs)
+    (λ c. search needs)
     loop-again
     returns)

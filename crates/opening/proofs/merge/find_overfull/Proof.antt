@@ -55,21 +55,6 @@ loop-holds c = λ u s ty d w v. overfull-start ty d
 property-at-requires : tie.Need-property-at-requires Inv-loop μ-loop
 property-at-requires c κs = (search needs, in-all c)
 
-mul-is-overfull : tie.Need-mul-is-overfull Inv-loop μ-loop
-mul-is-overfull c = search needs
-
-add-is-overfull : tie.Need-add-is-overfull Inv-loop μ-loop
-add-is-overfull c = search needs
-
-mul-is-overfull-2 : tie.Need-mul-is-overfull-2 Inv-loop μ-loop
-mul-is-overfull-2 c = search needs
-
-shared-slice-read-is-overfull : tie.Need-shared-slice-read-is-overfull Inv-loop μ-loop
-shared-slice-read-is-overfull c = search needs
-
-is-overfull-requires : tie.Need-is-overfull-requires Inv-loop μ-loop
-is-overfull-requires c κs = search needs
-
 returns : tie.Need-returns Inv-loop μ-loop
 returns c =
     let turn = to-turn (c .before) in
@@ -103,11 +88,11 @@ find-overfull-spec =
     μ-loop
     loop-holds
     property-at-requires
-    mul-is-overfull
-    add-is-overfull
-    mul-is-overfull-2
-    shared-slice-read-is-overfull
-    is-overfull-requires
+    (λ c. search needs)
+    (λ c. search needs)
+    (λ c. search needs)
+    (λ c. search needs)
+    (λ c κs. search needs)
     returns
     add-p
     loop-less

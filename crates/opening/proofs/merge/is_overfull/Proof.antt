@@ -6,8 +6,5 @@ use Rattle.opening.proofs.merge.is_overfull.Tie as tie
 returns : tie.Need-returns
 returns c = let a = c .before .args in single-overfull (a .single) (a .count) (c .if1 .taken)
 
-returns-2 : tie.Need-returns-2
-returns-2 c = search needs
-
 pub is-overfull-spec : {M : Type 1} → statement M
-is-overfull-spec = tie.close (tie.spec returns returns-2)
+is-overfull-spec = tie.close (tie.spec returns (λ c. search needs))

@@ -17,12 +17,6 @@ made-to-start c = to-start (c .before .before .before)
 
 -- ---- the needs
 
-sub-cell-at : tie.Need-sub-cell-at
-sub-cell-at c = search needs
-
-cell-at-requires : tie.Need-cell-at-requires
-cell-at-requires c κs = search needs
-
 returns : tie.Need-returns
 returns c =
     let start = to-start (c .before .before) in
@@ -36,16 +30,10 @@ returns c =
     (λ last. stands-last _ _ _ t d _ within m _ w (start .pre .2) (last .2 .taken)))
     (c .before .if1 .came))
 
-extreme-of-requires : tie.Need-extreme-of-requires
-extreme-of-requires c κs = search needs
-
 returns-2 : tie.Need-returns-2
 returns-2 c =
     let made = c .before .before in
     λ t d m w k. stands-chosen _ _ _ t d _ (made-to-start made .pre .1) m _ w _ (made .if3 .left) (c .before .if4 .taken) (c .extreme-of .ensures)
-
-only-set-requires : tie.Need-only-set-requires
-only-set-requires c κs = search needs
 
 returns-3 : tie.Need-returns-3
 returns-3 c =
@@ -57,10 +45,10 @@ pub merged-at-spec : {M : Type 1} → statement M
 merged-at-spec =
     tie.close
     (tie.spec
-    sub-cell-at
-    cell-at-requires
+    (λ c. search needs)
+    (λ c κs. search needs)
     returns
-    extreme-of-requires
+    (λ c κs. search needs)
     returns-2
-    only-set-requires
+    (λ c κs. search needs)
     returns-3)

@@ -66,9 +66,6 @@ standing-as {s} {vs} e w = subst (SetIs s vs) (sym e) w
 
 -- ---- the needs
 
-cell-at-requires : tie.Need-cell-at-requires Inv-loop μ-loop
-cell-at-requires c κs = search needs
-
 loop-holds : tie.Need-loop-holds Inv-loop μ-loop
 loop-holds c =
     let start = to-start c in
@@ -81,18 +78,6 @@ loop-holds c =
           only-first _ (column ss _) _ l (column-rises _ ss _ _ 0 (start .pre .1) w k) first,
     )
 
-cell-at-requires-2 : tie.Need-cell-at-requires-2 Inv-loop μ-loop
-cell-at-requires-2 c κs = search needs
-
-set-part-requires : tie.Need-set-part-requires Inv-loop μ-loop
-set-part-requires c κs = search needs
-
-set-part-requires-2 : tie.Need-set-part-requires-2 Inv-loop μ-loop
-set-part-requires-2 c κs = search needs
-
-same-requires : tie.Need-same-requires Inv-loop μ-loop
-same-requires c κs = search needs
-
 returns : tie.Need-returns Inv-loop μ-loop
 returns c =
     let compared = c .before in
@@ -104,12 +89,6 @@ returns c =
     let bytes = parts .before .set-part .ensures _ (g .before) in
     only-differs g (small (turn-to-bytes (this .before))) bytes (parts .set-part2 .ensures _ (g .here)) (compared .same .ensures)
     (full .if2 .left) (full .before .before .if1 .taken) (not-true _ (c .if3 .taken))
-
-add-j : tie.Need-add-j Inv-loop μ-loop
-add-j c = search needs
-
-loop-less : tie.Need-loop-less Inv-loop μ-loop
-loop-less c = search needs
 
 loop-again : tie.Need-loop-again Inv-loop μ-loop
 loop-again c =
@@ -139,14 +118,14 @@ only-set-spec =
     (tie.spec
     Inv-loop
     μ-loop
-    cell-at-requires
+    (λ c κs. search needs)
     loop-holds
-    cell-at-requires-2
-    set-part-requires
-    set-part-requires-2
-    same-requires
+    (λ c κs. search needs)
+    (λ c κs. search needs)
+    (λ c κs. search needs)
+    (λ c κs. search needs)
     returns
-    add-j
-    loop-less
+    (λ c. search needs)
+    (λ c. search needs)
     loop-again
     returns-2)

@@ -45,26 +45,8 @@ loop-holds c =
     let start = c .before .before .before .before in
     (start .pre .0 .5, λ u ty d w k m. planned-none _ _ ty d (start .pre .1))
 
-property-at-requires : tie.Need-property-at-requires Inv-loop μ-loop
-property-at-requires c κs = search needs
-
-rule-of-requires : tie.Need-rule-of-requires Inv-loop μ-loop
-rule-of-requires c κs = search needs
-
-add-merged-at : tie.Need-add-merged-at Inv-loop μ-loop
-add-merged-at c = search needs
-
-merged-at-requires : tie.Need-merged-at-requires Inv-loop μ-loop
-merged-at-requires c κs = search needs
-
 put-place-requires : tie.Need-put-place-requires Inv-loop μ-loop
 put-place-requires c κs = let turn = to-turn c in (turn .before .loop .inv .0, inside turn)
-
-add-p : tie.Need-add-p Inv-loop μ-loop
-add-p c = search needs
-
-loop-less : tie.Need-loop-less Inv-loop μ-loop
-loop-less c = search needs
 
 loop-again : tie.Need-loop-again Inv-loop μ-loop
 loop-again c =
@@ -95,13 +77,13 @@ plan-sets-spec =
     Inv-loop
     μ-loop
     loop-holds
-    property-at-requires
-    rule-of-requires
-    add-merged-at
-    merged-at-requires
+    (λ c κs. search needs)
+    (λ c κs. search needs)
+    (λ c. search needs)
+    (λ c κs. search needs)
     put-place-requires
-    add-p
-    loop-less
+    (λ c. search needs)
+    (λ c. search needs)
     loop-again
     same-length
     returns)

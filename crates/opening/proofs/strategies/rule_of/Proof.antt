@@ -3,17 +3,14 @@ use Rattle.opening.proofs.StrategyLaws.{rule-from}
 use Rattle.opening.proofs.strategies.rule_of.Statement.{statement}
 use Rattle.opening.proofs.strategies.rule_of.Tie as tie
 
-is-replace-requires : tie.Need-is-replace-requires
-is-replace-requires c κs = search needs
-
-is-extreme-requires : tie.Need-is-extreme-requires
-is-extreme-requires c κs = search needs
-
-is-max-requires : tie.Need-is-max-requires
-is-max-requires c κs = search needs
-
 returns : tie.Need-returns
 returns c = λ s q w. rule-from _ (c .before .before .is-replace .ensures) (c .before .is-extreme .ensures) (c .is-max .ensures) s q w
 
 pub rule-of-spec : {M : Type 1} → statement M
-rule-of-spec = tie.close (tie.spec is-replace-requires is-extreme-requires is-max-requires returns)
+rule-of-spec =
+    tie.close
+    (tie.spec
+    (λ c κs. search needs)
+    (λ c κs. search needs)
+    (λ c κs. search needs)
+    returns)

@@ -34,22 +34,10 @@ parts c h w =
 
 -- ---- the needs
 
-text-part-requires : tie.Need-text-part-requires
-text-part-requires c κs = search needs
-
-text-part-requires-2 : tie.Need-text-part-requires-2
-text-part-requires-2 c κs = search needs
-
-hashes-part-requires : tie.Need-hashes-part-requires
-hashes-part-requires c κs = search needs
-
 write-head-requires : tie.Need-write-head-requires
 write-head-requires c κs =
     let w = to-start c .pre .3 in
     record { head = w .headed .head; parts = parts c _ (w .is .head); room = omega (arith, event-length w) }
-
-presence-of-requires : tie.Need-presence-of-requires
-presence-of-requires c κs = search needs
 
 write-number-requires : tie.Need-write-number-requires
 write-number-requires c κs =
@@ -67,9 +55,6 @@ write-sets-requires c κs =
     let presence = at-presence .presence-of .ensures _ _ _ (w .planned) in
     ((m .0, m .1, w .is .few, m .2), sets-room w refl head _ presence (c .before .before .before .write-number .ensures))
 
-same-length : tie.Need-same-length
-same-length c = search needs
-
 returns : tie.Need-returns
 returns c = λ w.
     let at-sets = c .before .before in
@@ -84,12 +69,12 @@ pub write-event-spec : {M : Type 1} → statement M
 write-event-spec =
     tie.close
     (tie.spec
-    text-part-requires
-    text-part-requires-2
-    hashes-part-requires
+    (λ c κs. search needs)
+    (λ c κs. search needs)
+    (λ c κs. search needs)
     write-head-requires
-    presence-of-requires
+    (λ c κs. search needs)
     write-number-requires
     write-sets-requires
-    same-length
+    (λ c. search needs)
     returns)

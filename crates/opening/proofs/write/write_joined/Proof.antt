@@ -57,9 +57,6 @@ module _ (c : tie.After-write-merged) (p : Room (to-start c)) where
 
 -- ---- the needs
 
-runs-of-requires : tie.Need-runs-of-requires
-runs-of-requires c κs = search needs
-
 add-write-merged : tie.Need-add-write-merged
 add-write-merged c =
     let start = runs-to-start (to-runs c) in
@@ -77,9 +74,6 @@ write-before-requires c κs =
     let p = to-start values .pre .3 in
     count-room p (written values p) _ (counted values p) refl
 
-same-length : tie.Need-same-length
-same-length c = search needs
-
 returns : tie.Need-returns
 returns c =
     let before = c .before .before in
@@ -90,9 +84,9 @@ pub write-joined-spec : {M : Type 1} → statement M
 write-joined-spec =
     tie.close
     (tie.spec
-    runs-of-requires
+    (λ c κs. search needs)
     add-write-merged
     write-merged-requires
     write-before-requires
-    same-length
+    (λ c. search needs)
     returns)

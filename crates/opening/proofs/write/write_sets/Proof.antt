@@ -43,18 +43,6 @@ inside c = omega (arith, c .loop-test .taken, to-start (c .before) .pre .0 .3)
 loop-holds : tie.Need-loop-holds Inv-loop μ-loop
 loop-holds c = λ q. sets-start (q .type) (q .dossier) _ _
 
-mul-if1 : tie.Need-mul-if1 Inv-loop μ-loop
-mul-if1 c = search needs
-
-add-if1 : tie.Need-add-if1 Inv-loop μ-loop
-add-if1 c = search needs
-
-mul-if1-2 : tie.Need-mul-if1-2 Inv-loop μ-loop
-mul-if1-2 c = search needs
-
-shared-slice-read-if1 : tie.Need-shared-slice-read-if1 Inv-loop μ-loop
-shared-slice-read-if1 c = search needs
-
 write-joined-requires : tie.Need-write-joined-requires Inv-loop μ-loop
 write-joined-requires c κs =
     let turn = to-turn c in
@@ -63,12 +51,6 @@ write-joined-requires c κs =
     let h = inside turn in
     (m .0 .0, h, m .0 .2, joined-room (m .1) (l .p) h (l .inv (m .1)) (c .before .if1 .taken))
 
-mul-set-from : tie.Need-mul-set-from Inv-loop μ-loop
-mul-set-from c = search needs
-
-set-from-requires : tie.Need-set-from-requires Inv-loop μ-loop
-set-from-requires c κs = search needs
-
 write-set-requires : tie.Need-write-set-requires Inv-loop μ-loop
 write-set-requires c κs =
     let found = c .before in
@@ -76,12 +58,6 @@ write-set-requires c κs =
     let l = turn .before .loop in
     let q = to-start (turn .before) .pre .1 in
     standing-room q (l .p) (inside turn) (l .inv q) (found .set-from .ensures) (found .before .if1 .left)
-
-add-p : tie.Need-add-p Inv-loop μ-loop
-add-p c = search needs
-
-loop-less : tie.Need-loop-less Inv-loop μ-loop
-loop-less c = search needs
 
 loop-again : tie.Need-loop-again Inv-loop μ-loop
 loop-again c =
@@ -112,16 +88,16 @@ write-sets-spec =
     Inv-loop
     μ-loop
     loop-holds
-    mul-if1
-    add-if1
-    mul-if1-2
-    shared-slice-read-if1
+    (λ c. search needs)
+    (λ c. search needs)
+    (λ c. search needs)
+    (λ c. search needs)
     write-joined-requires
-    mul-set-from
-    set-from-requires
+    (λ c. search needs)
+    (λ c κs. search needs)
     write-set-requires
-    add-p
-    loop-less
+    (λ c. search needs)
+    (λ c. search needs)
     loop-again
     same-length
     returns)

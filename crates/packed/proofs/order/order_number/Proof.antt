@@ -111,23 +111,11 @@ last-words c =
 
 -- ---- the needs
 
-smaller-requires : tie.Need-smaller-requires Inv-loop μ-loop
-smaller-requires c κs = search needs
-
-compare-short-requires : tie.Need-compare-short-requires Inv-loop μ-loop
-compare-short-requires c κs = search needs
-
 returns : tie.Need-returns Inv-loop μ-loop
 returns c = c .compare-short .ensures
 
 loop-holds : tie.Need-loop-holds Inv-loop μ-loop
 loop-holds c = (omega arith, refl)
-
-word-requires : tie.Need-word-requires Inv-loop μ-loop
-word-requires c κs = search needs
-
-word-requires-2 : tie.Need-word-requires-2 Inv-loop μ-loop
-word-requires-2 c κs = search needs
 
 returns-2 : tie.Need-returns-2 Inv-loop μ-loop
 returns-2 c = sym (ap orderNumber (word-less (turn-words (c .before .before)) (c .if3 .taken)))
@@ -136,20 +124,8 @@ returns-3 : tie.Need-returns-3 Inv-loop μ-loop
 returns-3 c =
     sym (ap orderNumber (word-more (turn-words (c .before .before)) (omega (arith, c .before .if2 .taken, c .if3 .left))))
 
-add-i : tie.Need-add-i Inv-loop μ-loop
-add-i c = search needs
-
-loop-less : tie.Need-loop-less Inv-loop μ-loop
-loop-less c = search needs
-
 loop-again : tie.Need-loop-again Inv-loop μ-loop
 loop-again c = (omega arith, alike-word (turn-words (c .before)) (c .if2 .left))
-
-word-requires-3 : tie.Need-word-requires-3 Inv-loop μ-loop
-word-requires-3 c κs = search needs
-
-word-requires-4 : tie.Need-word-requires-4 Inv-loop μ-loop
-word-requires-4 c κs = search needs
 
 returns-4 : tie.Need-returns-4 Inv-loop μ-loop
 returns-4 c = sym (ap orderNumber (word-less (last-words (c .before .before)) (c .if5 .taken)))
@@ -157,9 +133,6 @@ returns-4 c = sym (ap orderNumber (word-less (last-words (c .before .before)) (c
 returns-5 : tie.Need-returns-5 Inv-loop μ-loop
 returns-5 c =
     sym (ap orderNumber (word-more (last-words (c .before .before)) (omega (arith, c .before .if4 .taken, c .if5 .left))))
-
-compare-lengths-requires : tie.Need-compare-lengths-requires Inv-loop μ-loop
-compare-lengths-requires c κs = search needs
 
 returns-6 : tie.Need-returns-6 Inv-loop μ-loop
 returns-6 c =
@@ -175,20 +148,20 @@ order-number-spec =
     (tie.spec
     Inv-loop
     μ-loop
-    smaller-requires
-    compare-short-requires
+    (λ c κs. search needs)
+    (λ c κs. search needs)
     returns
     loop-holds
-    word-requires
-    word-requires-2
+    (λ c κs. search needs)
+    (λ c κs. search needs)
     returns-2
     returns-3
-    add-i
-    loop-less
+    (λ c. search needs)
+    (λ c. search needs)
     loop-again
-    word-requires-3
-    word-requires-4
+    (λ c κs. search needs)
+    (λ c κs. search needs)
     returns-4
     returns-5
-    compare-lengths-requires
+    (λ c κs. search needs)
     returns-6)

@@ -9,15 +9,6 @@ use Rattle.packed.proofs.read.read_within.Reads as reads
 use Rattle.packed.proofs.read.read_within.Lts as lts
 use Rattle.packed.proofs.read.read_number.Reads as read-number-reads
 
-read-number-requires : tie.Need-read-number-requires
-read-number-requires c κs = search needs
-
-enum-known-n : tie.Need-enum-known-n
-enum-known-n c = search needs
-
-enum-told : tie.Need-enum-told
-enum-told c = search needs
-
 returns : tie.Need-returns
 returns c =
     let a = c .before .before .before .before .args in
@@ -44,4 +35,4 @@ returns-4 c =
 pub read-within-spec : {M : Type 1} → statement M
 read-within-spec =
     tie.close
-    (tie.spec read-number-requires enum-known-n enum-told returns returns-2 returns-3 returns-4)
+    (tie.spec (λ c κs. search needs) (λ c. search needs) (λ c. search needs) returns returns-2 returns-3 returns-4)

@@ -43,12 +43,6 @@ returns-3 c =
     byte-more (c .before .before .before .before .before .before .loop .inv) (omega arith) (omega arith)
     (c .before .before .before .string-byte .ensures) (c .before .before .string-byte2 .ensures) (omega arith)
 
-add-i : tie.Need-add-i Inv-loop μ-loop
-add-i c = search needs
-
-loop-less : tie.Need-loop-less Inv-loop μ-loop
-loop-less c = search needs
-
 loop-again : tie.Need-loop-again Inv-loop μ-loop
 loop-again c =
     byte-same (c .before .before .before .before .before .before .loop .inv) (omega arith) (omega arith)
@@ -74,8 +68,8 @@ compare-strings-spec =
     string-byte-requires-2
     returns-2
     returns-3
-    add-i
-    loop-less
+    (λ c. search needs)
+    (λ c. search needs)
     loop-again
     returns-4
     returns-5)

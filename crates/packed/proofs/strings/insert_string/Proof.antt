@@ -93,9 +93,6 @@ loop-holds c =
     let p = c .before .before .before .pre in
     (p .3, moved-none _ _ (p .2) (p .0 .long), before-none _ _ _ _ _ (p .0) (p .1) (p .2))
 
-sub-string-at : tie.Need-sub-string-at Inv-loop μ-loop
-sub-string-at c = search needs
-
 string-at-requires : tie.Need-string-at-requires Inv-loop μ-loop
 string-at-requires c κs = let l = c .before .before in (l .loop .inv .0, omega (arith, below l))
 
@@ -104,9 +101,6 @@ is-after-requires c κs = (to-start (at-loop c) .pre .1, fits c)
 
 put-string-requires : tie.Need-put-string-requires Inv-loop μ-loop
 put-string-requires c κs = let l = at-loop (c .before .before .before) in (l .loop .inv .0, below l)
-
-same-length : tie.Need-same-length Inv-loop μ-loop
-same-length c = search needs
 
 returns : tie.Need-returns Inv-loop μ-loop
 returns c =
@@ -121,12 +115,6 @@ returns c =
 
 put-string-requires-2 : tie.Need-put-string-requires-2 Inv-loop μ-loop
 put-string-requires-2 c κs = let l = at-loop (c .before .before .before) in (l .loop .inv .0, below l)
-
-sub-k : tie.Need-sub-k Inv-loop μ-loop
-sub-k c = search needs
-
-loop-less : tie.Need-loop-less Inv-loop μ-loop
-loop-less c = search needs
 
 loop-again : tie.Need-loop-again Inv-loop μ-loop
 loop-again c =
@@ -145,9 +133,6 @@ loop-again c =
 put-string-requires-3 : tie.Need-put-string-requires-3 Inv-loop μ-loop
 put-string-requires-3 c κs = let l = c .before .before in (l .loop .inv .0, below l)
 
-same-length-2 : tie.Need-same-length-2 Inv-loop μ-loop
-same-length-2 c = search needs
-
 returns-2 : tie.Need-returns-2 Inv-loop μ-loop
 returns-2 c =
     let put = c .before .before in
@@ -164,16 +149,16 @@ insert-string-spec =
     Inv-loop
     μ-loop
     loop-holds
-    sub-string-at
+    (λ c. search needs)
     string-at-requires
     is-after-requires
     put-string-requires
-    same-length
+    (λ c. search needs)
     returns
     put-string-requires-2
-    sub-k
-    loop-less
+    (λ c. search needs)
+    (λ c. search needs)
     loop-again
     put-string-requires-3
-    same-length-2
+    (λ c. search needs)
     returns-2)

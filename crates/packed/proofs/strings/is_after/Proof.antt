@@ -7,18 +7,6 @@ use borrow.Author.Needs.{needs}
 use Rattle.packed.proofs.strings.is_after.Statement.{statement}
 use Rattle.packed.proofs.strings.is_after.Tie as tie
 
-compare-strings-requires : tie.Need-compare-strings-requires
-compare-strings-requires c κs = search needs
-
-enum-told : tie.Need-enum-told
-enum-told c = search needs
-
-enum-told-2 : tie.Need-enum-told-2
-enum-told-2 c = search needs
-
-enum-told-3 : tie.Need-enum-told-3
-enum-told-3 c = search needs
-
 returns : tie.Need-returns
 returns c = ap (λ (o : Ordering). pick o false false true) (sym (ap ordering (c .enum-told .given .1)) ∙ c .before .before .compare-strings .ensures)
 
@@ -32,10 +20,10 @@ pub is-after-spec : {M : Type 1} → statement M
 is-after-spec =
     tie.close
     (tie.spec
-    compare-strings-requires
-    enum-told
-    enum-told-2
-    enum-told-3
+    (λ c κs. search needs)
+    (λ c. search needs)
+    (λ c. search needs)
+    (λ c. search needs)
     returns
     returns-2
     returns-3)

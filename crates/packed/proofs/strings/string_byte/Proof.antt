@@ -5,23 +5,11 @@ use borrow.Author.Needs.{needs}
 use Rattle.packed.proofs.strings.string_byte.Statement.{statement}
 use Rattle.packed.proofs.strings.string_byte.Tie as tie
 
-sub-n : tie.Need-sub-n
-sub-n c = search needs
-
-add-j : tie.Need-add-j
-add-j c = search needs
-
-shared-slice-read-result : tie.Need-shared-slice-read-result
-shared-slice-read-result c = search needs
-
 returns : tie.Need-returns
 returns c = sym (string-first _ _ _ (c .before .before .before .before .pre .0) _ (c .before .before .if1 .taken))
 
 returns-2 : tie.Need-returns-2
 returns-2 c = sym (string-colon _ _ _ (c .before .before .before .pre .0) _ (c .if2 .taken))
-
-sub-j : tie.Need-sub-j
-sub-j c = search needs
 
 add-j-2 : tie.Need-add-j-2
 add-j-2 c =
@@ -42,12 +30,12 @@ pub string-byte-spec : {M : Type 1} → statement M
 string-byte-spec =
     tie.close
     (tie.spec
-    sub-n
-    add-j
-    shared-slice-read-result
+    (λ c. search needs)
+    (λ c. search needs)
+    (λ c. search needs)
     returns
     returns-2
-    sub-j
+    (λ c. search needs)
     add-j-2
     shared-slice-read-result-2
     returns-3)

@@ -76,40 +76,13 @@ last-copied c =
 
 -- ---- the needs
 
-sub-last : tie.Need-sub-last Inv-loop μ-loop
-sub-last c = search needs
-
 loop-holds : tie.Need-loop-holds Inv-loop μ-loop
 loop-holds c = (omega arith, refl, copied-none)
-
-add-copy-eight : tie.Need-add-copy-eight Inv-loop μ-loop
-add-copy-eight c = search needs
-
-copy-eight-requires : tie.Need-copy-eight-requires Inv-loop μ-loop
-copy-eight-requires c κs = search needs
-
-add-i : tie.Need-add-i Inv-loop μ-loop
-add-i c = search needs
-
-loop-less : tie.Need-loop-less Inv-loop μ-loop
-loop-less c = search needs
 
 loop-again : tie.Need-loop-again Inv-loop μ-loop
 loop-again c =
     let more = turn-copied (c .before .before) in
     (omega arith, copied-length more, more)
-
-add-copy-eight-2 : tie.Need-add-copy-eight-2 Inv-loop μ-loop
-add-copy-eight-2 c = search needs
-
-copy-eight-requires-2 : tie.Need-copy-eight-requires-2 Inv-loop μ-loop
-copy-eight-requires-2 c κs = search needs
-
-add-result : tie.Need-add-result Inv-loop μ-loop
-add-result c = search needs
-
-same-length : tie.Need-same-length Inv-loop μ-loop
-same-length c = search needs
 
 returns : tie.Need-returns Inv-loop μ-loop
 returns c = copied-all (last-copied (c .before .before)) (omega arith)
@@ -120,15 +93,15 @@ copy-short-spec =
     (tie.spec
     Inv-loop
     μ-loop
-    sub-last
+    (λ c. search needs)
     loop-holds
-    add-copy-eight
-    copy-eight-requires
-    add-i
-    loop-less
+    (λ c. search needs)
+    (λ c κs. search needs)
+    (λ c. search needs)
+    (λ c. search needs)
     loop-again
-    add-copy-eight-2
-    copy-eight-requires-2
-    add-result
-    same-length
+    (λ c. search needs)
+    (λ c κs. search needs)
+    (λ c. search needs)
+    (λ c. search needs)
     returns)

@@ -14,35 +14,8 @@ abbrev μ-loop : tie.MeasureT-loop
 loop-holds : tie.Need-loop-holds Inv-loop μ-loop
 loop-holds c = tt
 
-sub-at-most-512 : tie.Need-sub-at-most-512 Inv-loop μ-loop
-sub-at-most-512 c = search needs
-
-at-most-512-requires : tie.Need-at-most-512-requires Inv-loop μ-loop
-at-most-512-requires c κs = search needs
-
-add-end : tie.Need-add-end Inv-loop μ-loop
-add-end c = search needs
-
-sub-write-some : tie.Need-sub-write-some Inv-loop μ-loop
-sub-write-some c = search needs
-
-part-write-some-start : tie.Need-part-write-some-start Inv-loop μ-loop
-part-write-some-start c = search needs
-
-part-write-some-end : tie.Need-part-write-some-end Inv-loop μ-loop
-part-write-some-end c = search needs
-
-write-some-requires : tie.Need-write-some-requires Inv-loop μ-loop
-write-some-requires c κs = search needs
-
-loop-less : tie.Need-loop-less Inv-loop μ-loop
-loop-less c = omega arith
-
 loop-again : tie.Need-loop-again Inv-loop μ-loop
 loop-again c = tt
-
-returns : tie.Need-returns Inv-loop μ-loop
-returns c = search needs
 
 pub write-hex-spec : {M : Type 1} → statement M
 write-hex-spec =
@@ -51,13 +24,13 @@ write-hex-spec =
     Inv-loop
     μ-loop
     loop-holds
-    sub-at-most-512
-    at-most-512-requires
-    add-end
-    sub-write-some
-    part-write-some-start
-    part-write-some-end
-    write-some-requires
-    loop-less
+    (λ c. search needs)
+    (λ c κs. search needs)
+    (λ c. search needs)
+    (λ c. search needs)
+    (λ c. search needs)
+    (λ c. search needs)
+    (λ c κs. search needs)
+    (λ c. omega arith)
     loop-again
-    returns)
+    (λ c. search needs))

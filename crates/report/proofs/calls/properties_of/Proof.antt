@@ -4,20 +4,8 @@ use Rattle.report.proofs.ReportLaws.{properties-read}
 use Rattle.report.proofs.calls.properties_of.Statement.{statement}
 use Rattle.report.proofs.calls.properties_of.Tie as tie
 
-slice-aggregate-read-dossier : tie.Need-slice-aggregate-read-dossier
-slice-aggregate-read-dossier c = search needs
-
 read-dossier-requires : tie.Need-read-dossier-requires
 read-dossier-requires c κs = all-rows _
-
-type-name-requires : tie.Need-type-name-requires
-type-name-requires c κs = search needs
-
-read-table-requires : tie.Need-read-table-requires
-read-table-requires c κs = search needs
-
-same-length : tie.Need-same-length
-same-length c = search needs
 
 returns : tie.Need-returns
 returns c =
@@ -29,9 +17,9 @@ pub properties-of-spec : {M : Type 1} → statement M
 properties-of-spec =
     tie.close
     (tie.spec
-    slice-aggregate-read-dossier
+    (λ c. search needs)
     read-dossier-requires
-    type-name-requires
-    read-table-requires
-    same-length
+    (λ c κs. search needs)
+    (λ c κs. search needs)
+    (λ c. search needs)
     returns)

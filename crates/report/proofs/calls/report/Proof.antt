@@ -13,26 +13,11 @@ returns c = report-small _ _ (c .if1 .taken)
 write-refused-requires : tie.Need-write-refused-requires
 write-refused-requires c κs = omega (arith, c .before .before .if1 .left, refused-short 9 0)
 
-same-length : tie.Need-same-length
-same-length c = search needs
-
 returns-2 : tie.Need-returns-2
 returns-2 c = report-long _ _ (omega (arith, c .before .before .before .before .before .if1 .left)) (c .before .before .before .before .if2 .taken) (c .before .before .write-refused .ensures)
 
-read-text-requires : tie.Need-read-text-requires
-read-text-requires c κs = search needs
-
-enum-known-start : tie.Need-enum-known-start
-enum-known-start c = search needs
-
-enum-told : tie.Need-enum-told
-enum-told c = search needs
-
 write-refused-requires-2 : tie.Need-write-refused-requires-2
 write-refused-requires-2 c κs = omega (arith, c .before .before .before .before .before .if1 .left, refused-short 9 0)
-
-same-length-2 : tie.Need-same-length-2
-same-length-2 c = search needs
 
 returns-3 : tie.Need-returns-3
 returns-3 c = report-unread _ _ (omega (arith, c .before .before .before .before .before .before .before .before .if1 .left)) (omega (arith, c .before .before .before .before .before .before .before .if2 .left)) (text-none _ _ (sym (c .before .before .before .before .before .before .read-text .ensures) ∙ c .before .before .before .before .enum-told .given .1)) (c .before .before .write-refused2 .ensures)
@@ -52,14 +37,8 @@ sub-report-batch-2 c = text-stops _ _ _ _ (sym (c .before .before .before .befor
 part-report-batch-start-2 : tie.Need-part-report-batch-start-2
 part-report-batch-start-2 c = text-stops _ _ _ _ (sym (c .before .before .before .before .read-text .ensures) ∙ c .before .before .start .given .1) .within
 
-part-report-batch-end-2 : tie.Need-part-report-batch-end-2
-part-report-batch-end-2 c = search needs
-
 report-batch-requires : tie.Need-report-batch-requires
 report-batch-requires c κs = omega (arith, c .before .before .before .before .before .before .before .before .if1 .left)
-
-same-length-3 : tie.Need-same-length-3
-same-length-3 c = search needs
 
 returns-4 : tie.Need-returns-4
 returns-4 c = report-parts _ _ (omega (arith, c .before .before .before .before .before .before .before .before .before .before .before .if1 .left)) (omega (arith, c .before .before .before .before .before .before .before .before .before .before .if2 .left)) (c .before .before .before .before .before .before .before .start .given .0 .0) (c .before .before .before .before .before .before .before .start .given .0 .1 .0) (text-stops _ _ _ _ (sym (c .before .before .before .before .before .before .before .before .before .read-text .ensures) ∙ c .before .before .before .before .before .before .before .start .given .1) .is) (c .before .before .report-batch .ensures)
@@ -70,20 +49,20 @@ report-spec =
     (tie.spec
     returns
     write-refused-requires
-    same-length
+    (λ c. search needs)
     returns-2
-    read-text-requires
-    enum-known-start
-    enum-told
+    (λ c κs. search needs)
+    (λ c. search needs)
+    (λ c. search needs)
     write-refused-requires-2
-    same-length-2
+    (λ c. search needs)
     returns-3
     sub-report-batch
     part-report-batch-start
     part-report-batch-end
     sub-report-batch-2
     part-report-batch-start-2
-    part-report-batch-end-2
+    (λ c. search needs)
     report-batch-requires
-    same-length-3
+    (λ c. search needs)
     returns-4)

@@ -79,43 +79,10 @@ ready c m =
 
 -- ---- the needs
 
-slice-aggregate-hash : tie.Need-slice-aggregate-hash
-slice-aggregate-hash c = search needs
-
-hash-requires : tie.Need-hash-requires
-hash-requires c κs = search needs
-
-type-name-requires : tie.Need-type-name-requires
-type-name-requires c κs = search needs
-
-slice-aggregate-read-table : tie.Need-slice-aggregate-read-table
-slice-aggregate-read-table c = search needs
-
-read-table-requires : tie.Need-read-table-requires
-read-table-requires c κs = search needs
-
-slice-aggregate-read-event : tie.Need-slice-aggregate-read-event
-slice-aggregate-read-event c = search needs
-
-read-event-requires : tie.Need-read-event-requires
-read-event-requires c κs = search needs
-
-slice-aggregate-write-merged : tie.Need-slice-aggregate-write-merged
-slice-aggregate-write-merged c = search needs
-
-slice-aggregate-write-merged-2 : tie.Need-slice-aggregate-write-merged-2
-slice-aggregate-write-merged-2 c = search needs
-
-slice-aggregate-write-merged-3 : tie.Need-slice-aggregate-write-merged-3
-slice-aggregate-write-merged-3 c = search needs
-
 write-merged-requires : tie.Need-write-merged-requires
 write-merged-requires c κs =
     let read = to-read c in
     (search needs, search needs, ready read (of-start read .pre .2))
-
-same-length : tie.Need-same-length
-same-length c = search needs
 
 returns : tie.Need-returns
 returns c = λ t e m.
@@ -127,16 +94,16 @@ pub report-merged-spec : {M : Type 1} → statement M
 report-merged-spec =
     tie.close
     (tie.spec
-    slice-aggregate-hash
-    hash-requires
-    type-name-requires
-    slice-aggregate-read-table
-    read-table-requires
-    slice-aggregate-read-event
-    read-event-requires
-    slice-aggregate-write-merged
-    slice-aggregate-write-merged-2
-    slice-aggregate-write-merged-3
+    (λ c. search needs)
+    (λ c κs. search needs)
+    (λ c κs. search needs)
+    (λ c. search needs)
+    (λ c κs. search needs)
+    (λ c. search needs)
+    (λ c κs. search needs)
+    (λ c. search needs)
+    (λ c. search needs)
+    (λ c. search needs)
     write-merged-requires
-    same-length
+    (λ c. search needs)
     returns)

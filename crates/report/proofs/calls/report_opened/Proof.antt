@@ -79,12 +79,6 @@ named c w = finding-place w (finding (to-found c) w) (c .properties-of .ensures 
 
 -- ---- the needs
 
-open-dossier-requires : tie.Need-open-dossier-requires
-open-dossier-requires c κs = search needs
-
-enum-known-n : tie.Need-enum-known-n
-enum-known-n c = search needs
-
 slice-reshare-prefix-report-merged : tie.Need-slice-reshare-prefix-report-merged
 slice-reshare-prefix-report-merged c =
     let arm = c .before in
@@ -101,18 +95,6 @@ report-merged-requires c κs =
     let w = to-start (of-merged arm) .pre .1 in
     (_, _, merged-ready w (merges arm w))
 
-enum-known-f : tie.Need-enum-known-f
-enum-known-f c = search needs
-
-slice-aggregate-properties-of : tie.Need-slice-aggregate-properties-of
-slice-aggregate-properties-of c = search needs
-
-properties-of-requires : tie.Need-properties-of-requires
-properties-of-requires c κs = search needs
-
-slice-aggregate-write-finding : tie.Need-slice-aggregate-write-finding
-slice-aggregate-write-finding c = search needs
-
 write-finding-requires : tie.Need-write-finding-requires
 write-finding-requires c κs =
     let at-properties = c .before .before .before in
@@ -120,19 +102,10 @@ write-finding-requires c κs =
     let w = to-start (of-found arm) .pre .1 in
     (search needs, named at-properties w, finding-room w (finding arm w))
 
-enum-known-n-2 : tie.Need-enum-known-n-2
-enum-known-n-2 c = search needs
-
 write-refused-requires : tie.Need-write-refused-requires
 write-refused-requires c κs =
     let arm = c .before .before in
     absurd (never-refused arm (to-start (of-refused arm) .pre .1))
-
-same-length : tie.Need-same-length
-same-length c = search needs
-
-same-length-2 : tie.Need-same-length-2
-same-length-2 c = search needs
 
 returns : tie.Need-returns
 returns c = λ d w.
@@ -140,23 +113,11 @@ returns c = λ d w.
     let m = merges (to-merged written) w in
     merged-lines w m (written .report-merged .ensures _ _ (merged-ready w m))
 
-same-length-3 : tie.Need-same-length-3
-same-length-3 c = search needs
-
-same-length-4 : tie.Need-same-length-4
-same-length-4 c = search needs
-
 returns-2 : tie.Need-returns-2
 returns-2 c = λ d w.
     let written = c .before .before in
     let at-properties = to-properties written in
     finding-lines w (finding (to-found at-properties) w) (written .write-finding .ensures (named at-properties w))
-
-same-length-5 : tie.Need-same-length-5
-same-length-5 c = search needs
-
-same-length-6 : tie.Need-same-length-6
-same-length-6 c = search needs
 
 returns-3 : tie.Need-returns-3
 returns-3 c = λ d w.
@@ -167,24 +128,24 @@ pub report-opened-spec : {M : Type 1} → statement M
 report-opened-spec =
     tie.close
     (tie.spec
-    open-dossier-requires
-    enum-known-n
+    (λ c κs. search needs)
+    (λ c. search needs)
     slice-reshare-prefix-report-merged
     slice-aggregate-report-merged
     report-merged-requires
-    enum-known-f
-    slice-aggregate-properties-of
-    properties-of-requires
-    slice-aggregate-write-finding
+    (λ c. search needs)
+    (λ c. search needs)
+    (λ c κs. search needs)
+    (λ c. search needs)
     write-finding-requires
-    enum-known-n-2
+    (λ c. search needs)
     write-refused-requires
-    same-length
-    same-length-2
+    (λ c. search needs)
+    (λ c. search needs)
     returns
-    same-length-3
-    same-length-4
+    (λ c. search needs)
+    (λ c. search needs)
     returns-2
-    same-length-5
-    same-length-6
+    (λ c. search needs)
+    (λ c. search needs)
     returns-3)

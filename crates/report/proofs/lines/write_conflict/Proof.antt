@@ -79,9 +79,6 @@ fourth c = reached-by (third (to-copy2 c)) (c .write-named .ensures (start₄ c 
 
 -- ---- the needs
 
-slice-aggregate-copy : tie.Need-slice-aggregate-copy
-slice-aggregate-copy c = search needs
-
 copy-requires : tie.Need-copy-requires
 copy-requires c κs = omega (arith, fits (start₀ c))
 
@@ -89,9 +86,6 @@ write-decimal-requires : tie.Need-write-decimal-requires
 write-decimal-requires c κs =
     let at-copy = c .before .before .before in
     omega (arith, fits (start₁ at-copy), first at-copy)
-
-slice-aggregate-copy-2 : tie.Need-slice-aggregate-copy-2
-slice-aggregate-copy-2 c = search needs
 
 copy-requires-2 : tie.Need-copy-requires-2
 copy-requires-2 c κs =
@@ -109,9 +103,6 @@ write-end-requires c κs =
     let at-name = c .before .before .before in
     omega (arith, fits (start₄ at-name), fourth at-name)
 
-same-length : tie.Need-same-length
-same-length c = search needs
-
 returns : tie.Need-returns
 returns c =
     let at-end = c .before .before in
@@ -125,12 +116,12 @@ pub write-conflict-spec : {M : Type 1} → statement M
 write-conflict-spec =
     tie.close
     (tie.spec
-    slice-aggregate-copy
+    (λ c. search needs)
     copy-requires
     write-decimal-requires
-    slice-aggregate-copy-2
+    (λ c. search needs)
     copy-requires-2
     write-named-requires
     write-end-requires
-    same-length
+    (λ c. search needs)
     returns)

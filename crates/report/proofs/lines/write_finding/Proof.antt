@@ -13,18 +13,12 @@ overfull-start c = c .before .before .before .before .before
 
 -- ---- the needs
 
-enum-known-f : tie.Need-enum-known-f
-enum-known-f c = search needs
-
 write-conflict-requires : tie.Need-write-conflict-requires
 write-conflict-requires c κs =
     let told = c .before .before in
     let (long, named, fits) = conflict-start told .pre in
     let e = told .f .given .1 in
     (long, conflict-named _ named e, conflict-fits _ named e fits)
-
-enum-known-f-2 : tie.Need-enum-known-f-2
-enum-known-f-2 c = search needs
 
 write-overfull-requires : tie.Need-write-overfull-requires
 write-overfull-requires c κs =
@@ -33,17 +27,11 @@ write-overfull-requires c κs =
     let e = told .f2 .given .1 in
     (long, overfull-named _ named e, overfull-fits _ named e fits)
 
-same-length : tie.Need-same-length
-same-length c = search needs
-
 returns : tie.Need-returns
 returns c = λ p.
     let written = c .before .before in
     let e = written .before .before .before .f .given .1 in
     found-conflict _ p e (written .write-conflict .ensures (conflict-named _ p e))
-
-same-length-2 : tie.Need-same-length-2
-same-length-2 c = search needs
 
 returns-2 : tie.Need-returns-2
 returns-2 c = λ p.
@@ -54,4 +42,4 @@ returns-2 c = λ p.
 pub write-finding-spec : {M : Type 1} → statement M
 write-finding-spec =
     tie.close
-    (tie.spec enum-known-f write-conflict-requires enum-known-f-2 write-overfull-requires same-length returns same-length-2 returns-2)
+    (tie.spec (λ c. search needs) write-conflict-requires (λ c. search needs) write-overfull-requires (λ c. search needs) returns (λ c. search needs) returns-2)

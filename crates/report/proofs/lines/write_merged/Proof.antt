@@ -138,9 +138,6 @@ sixth c = reached-by (fifth (to-copy2 c)) (c .write-hex .ensures) (omega (arith,
 
 -- ---- the needs
 
-slice-aggregate-copy : tie.Need-slice-aggregate-copy
-slice-aggregate-copy c = search needs
-
 copy-requires : tie.Need-copy-requires
 copy-requires c κs = omega (arith, fits (start₀ c))
 
@@ -160,9 +157,6 @@ write-objects-requires c κs =
     let given = start₃ at-end .pre in
     (given .0, given .1, objects-there at-end (given .2))
 
-slice-aggregate-copy-2 : tie.Need-slice-aggregate-copy-2
-slice-aggregate-copy-2 c = search needs
-
 copy-requires-2 : tie.Need-copy-requires-2
 copy-requires-2 c κs =
     let at-objects = arg-to-write-objects c in
@@ -177,9 +171,6 @@ write-end-requires-2 : tie.Need-write-end-requires-2
 write-end-requires-2 c κs =
     let at-hex = c .before .before .before in
     omega (arith, fits (start₆ at-hex), sixth at-hex)
-
-same-length : tie.Need-same-length
-same-length c = search needs
 
 returns : tie.Need-returns
 returns c =
@@ -197,14 +188,14 @@ pub write-merged-spec : {M : Type 1} → statement M
 write-merged-spec =
     tie.close
     (tie.spec
-    slice-aggregate-copy
+    (λ c. search needs)
     copy-requires
     write-decimal-requires
     write-end-requires
     write-objects-requires
-    slice-aggregate-copy-2
+    (λ c. search needs)
     copy-requires-2
     write-hex-requires
     write-end-requires-2
-    same-length
+    (λ c. search needs)
     returns)

@@ -25,13 +25,10 @@ write-name-requires c κs =
     let property = place-is named same in
     (property .order, property .within, omega (arith, ap length (place-name named same), fits))
 
-same-length : tie.Need-same-length
-same-length c = search needs
-
 returns : tie.Need-returns
 returns c = λ p.
     let written = c .before .before in
     wrote-as (place-name p (written .before .before .property-at .ensures)) (written .write-name .ensures)
 
 pub write-named-spec : {M : Type 1} → statement M
-write-named-spec = tie.close (tie.spec property-at-requires write-name-requires same-length returns)
+write-named-spec = tie.close (tie.spec property-at-requires write-name-requires (λ c. search needs) returns)

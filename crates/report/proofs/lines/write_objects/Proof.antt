@@ -56,9 +56,6 @@ add-k c =
     let turn = set .before .before in
     omega (arith, turn .loop-test .taken, room (turn .before) .are .few)
 
-loop-less : tie.Need-loop-less Inv-loop μ-loop
-loop-less c = search needs
-
 loop-again : tie.Need-loop-again Inv-loop μ-loop
 loop-again c = λ o.
     let written = c .before .before in
@@ -92,7 +89,7 @@ write-objects-spec =
     set-at-requires
     write-values-requires
     add-k
-    loop-less
+    (λ c. search needs)
     loop-again
     same-length
     returns)

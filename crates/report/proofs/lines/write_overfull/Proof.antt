@@ -54,9 +54,6 @@ second c = reached-by (first (to-copy c)) (c .write-named .ensures (start₂ c .
 
 -- ---- the needs
 
-slice-aggregate-copy : tie.Need-slice-aggregate-copy
-slice-aggregate-copy c = search needs
-
 copy-requires : tie.Need-copy-requires
 copy-requires c κs = omega (arith, fits (start₀ c))
 
@@ -71,9 +68,6 @@ write-end-requires c κs =
     let at-name = c .before .before .before in
     omega (arith, fits (start₂ at-name), second at-name)
 
-same-length : tie.Need-same-length
-same-length c = search needs
-
 returns : tie.Need-returns
 returns c =
     let at-end = c .before .before in
@@ -81,4 +75,12 @@ returns c =
     λ p. wrote-overfull p (to-copy at-name .copy .ensures) (at-name .write-named .ensures p) (at-end .write-end .ensures)
 
 pub write-overfull-spec : {M : Type 1} → statement M
-write-overfull-spec = tie.close (tie.spec slice-aggregate-copy copy-requires write-named-requires write-end-requires same-length returns)
+write-overfull-spec =
+    tie.close
+    (tie.spec
+    (λ c. search needs)
+    copy-requires
+    write-named-requires
+    write-end-requires
+    (λ c. search needs)
+    returns)

@@ -5,17 +5,11 @@ use Rattle.report.proofs.LineLaws.{refused-length, wrote-refused}
 use Rattle.report.proofs.lines.write_refused.Statement.{statement}
 use Rattle.report.proofs.lines.write_refused.Tie as tie
 
-slice-aggregate-copy : tie.Need-slice-aggregate-copy
-slice-aggregate-copy c = search needs
-
 copy-requires : tie.Need-copy-requires
 copy-requires c κs = omega (arith, c .before .before .before .pre, refused-length (c .before .before .before .args .number) (c .before .before .before .args .position))
 
 write-decimal-requires : tie.Need-write-decimal-requires
 write-decimal-requires c κs = omega (arith, c .before .before .before .before .before .before .before .pre, refused-length (c .before .before .before .before .before .before .before .args .number) (c .before .before .before .before .before .before .before .args .position), c .before .before .before .copy .ensures .after, wrote-length (c .before .before .before .copy .ensures))
-
-slice-aggregate-copy-2 : tie.Need-slice-aggregate-copy-2
-slice-aggregate-copy-2 c = search needs
 
 copy-requires-2 : tie.Need-copy-requires-2
 copy-requires-2 c κs = omega (arith, c .before .before .before .before .before .before .before .before .before .before .before .before .pre, refused-length (c .before .before .before .before .before .before .before .before .before .before .before .before .args .number) (c .before .before .before .before .before .before .before .before .before .before .before .before .args .position), c .before .before .before .before .before .before .before .before .copy .ensures .after, wrote-length (c .before .before .before .before .before .before .before .before .copy .ensures), c .before .before .before .before .write-decimal .ensures .after, wrote-length (c .before .before .before .before .write-decimal .ensures))
@@ -26,9 +20,6 @@ write-decimal-requires-2 c κs = omega (arith, c .before .before .before .before
 write-end-requires : tie.Need-write-end-requires
 write-end-requires c κs = omega (arith, c .before .before .before .before .before .before .before .before .before .before .before .before .before .before .before .before .before .before .before .before .pre, refused-length (c .before .before .before .before .before .before .before .before .before .before .before .before .before .before .before .before .before .before .before .before .args .number) (c .before .before .before .before .before .before .before .before .before .before .before .before .before .before .before .before .before .before .before .before .args .position), c .before .before .before .before .before .before .before .before .before .before .before .before .before .before .before .before .copy .ensures .after, wrote-length (c .before .before .before .before .before .before .before .before .before .before .before .before .before .before .before .before .copy .ensures), c .before .before .before .before .before .before .before .before .before .before .before .before .write-decimal .ensures .after, wrote-length (c .before .before .before .before .before .before .before .before .before .before .before .before .write-decimal .ensures), c .before .before .before .before .before .before .before .copy2 .ensures .after, wrote-length (c .before .before .before .before .before .before .before .copy2 .ensures), c .before .before .before .write-decimal2 .ensures .after, wrote-length (c .before .before .before .write-decimal2 .ensures))
 
-same-length : tie.Need-same-length
-same-length c = search needs
-
 returns : tie.Need-returns
 returns c = wrote-refused (c .before .before .before .before .before .before .before .before .before .before .before .before .before .before .before .before .before .before .before .before .before .before .before .args .number) (c .before .before .before .before .before .before .before .before .before .before .before .before .before .before .before .before .before .before .before .before .before .before .before .args .position) (c .before .before .before .before .before .before .before .before .before .before .before .before .before .before .before .before .before .before .before .copy .ensures) (c .before .before .before .before .before .before .before .before .before .before .before .before .before .before .before .write-decimal .ensures) (c .before .before .before .before .before .before .before .before .before .before .copy2 .ensures) (c .before .before .before .before .before .before .write-decimal2 .ensures) (c .before .before .write-end .ensures)
 
@@ -36,12 +27,12 @@ pub write-refused-spec : {M : Type 1} → statement M
 write-refused-spec =
     tie.close
     (tie.spec
-    slice-aggregate-copy
+    (λ c. search needs)
     copy-requires
     write-decimal-requires
-    slice-aggregate-copy-2
+    (λ c. search needs)
     copy-requires-2
     write-decimal-requires-2
     write-end-requires
-    same-length
+    (λ c. search needs)
     returns)

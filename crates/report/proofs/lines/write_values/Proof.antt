@@ -18,15 +18,6 @@ abbrev μ-loop : tie.MeasureT-loop
 loop-holds : tie.Need-loop-holds Inv-loop μ-loop
 loop-holds c = λ end v. lines-start _ _ _ _ _ _ (v .is)
 
-read-text-requires : tie.Need-read-text-requires Inv-loop μ-loop
-read-text-requires c κs = search needs
-
-enum-known-start : tie.Need-enum-known-start Inv-loop μ-loop
-enum-known-start c = search needs
-
-enum-told : tie.Need-enum-told Inv-loop μ-loop
-enum-told c = search needs
-
 same-length : tie.Need-same-length Inv-loop μ-loop
 same-length c = c .before .before .before .before .loop .inv (c .before .before .before .before .before .before .before .before .args .x .end) (c .before .before .before .before .before .before .before .before .pre) .go .long
 
@@ -35,12 +26,6 @@ returns c = λ v. absurd (lines-bad _ _ _ _ _ (omega arith) (c .before .before .
 
 write-value-requires : tie.Need-write-value-requires Inv-loop μ-loop
 write-value-requires c κs = let v = c .before .before .before .before .before .before .before .before .before .before .pre in let t = text-stops _ _ _ _ (sym (c .before .before .before .before .read-text .ensures) ∙ c .before .before .start .given .1) in (v .named .order, v .named .within, t .order, t .within, lines-room _ _ _ _ _ (omega arith) (c .before .before .before .before .before .before .loop .inv (c .before .before .before .before .before .before .before .before .before .before .args .x .end) v) (c .before .before .before .before .before .loop-test .taken) t (v .named .name) (v .fits))
-
-sub-left : tie.Need-sub-left Inv-loop μ-loop
-sub-left c = search needs
-
-loop-less : tie.Need-loop-less Inv-loop μ-loop
-loop-less c = search needs
 
 loop-again : tie.Need-loop-again Inv-loop μ-loop
 loop-again c = λ end v. lines-more _ _ _ _ _ (omega arith) (c .before .before .before .before .before .before .before .before .before .loop .inv end v) (c .before .before .before .before .before .before .before .before .loop-test .taken) (text-stops _ _ _ _ (sym (c .before .before .before .before .before .before .before .read-text .ensures) ∙ c .before .before .before .before .before .start .given .1)) (v .named .name) (c .before .before .write-value .ensures)
@@ -58,14 +43,14 @@ write-values-spec =
     Inv-loop
     μ-loop
     loop-holds
-    read-text-requires
-    enum-known-start
-    enum-told
+    (λ c κs. search needs)
+    (λ c. search needs)
+    (λ c. search needs)
     same-length
     returns
     write-value-requires
-    sub-left
-    loop-less
+    (λ c. search needs)
+    (λ c. search needs)
     loop-again
     same-length-2
     returns-2)

@@ -55,25 +55,13 @@ moved c = ⊎-elim
 
 -- ---- the needs
 
-number-size-requires : tie.Need-number-size-requires
-number-size-requires c κs = search needs
-
 sub-more : tie.Need-sub-more
 sub-more c = omega (arith, c .number-size .ensures, number-bounds (n c))
-
-add-move-up : tie.Need-add-move-up
-add-move-up c = search needs
-
-move-up-requires : tie.Need-move-up-requires
-move-up-requires c κs = search needs
 
 write-number-requires : tie.Need-write-number-requires
 write-number-requires c κs =
     let sized = c .before .before in
     omega (arith, size sized, within sized, moved-length (moved (c .before)))
-
-add-result : tie.Need-add-result
-add-result c = search needs
 
 same-length : tie.Need-same-length
 same-length c = wrote-length (c .before .before .write-number .ensures) ∙ moved-length (moved (joined c))
@@ -87,11 +75,11 @@ pub write-before-spec : {M : Type 1} → statement M
 write-before-spec =
     tie.close
     (tie.spec
-    number-size-requires
+    (λ c κs. search needs)
     sub-more
-    add-move-up
-    move-up-requires
+    (λ c. search needs)
+    (λ c κs. search needs)
     write-number-requires
-    add-result
+    (λ c. search needs)
     same-length
     returns)

@@ -4,26 +4,11 @@ use Rattle.unions.proofs.RunLaws.{text-head, hash-head, no-hash}
 use Rattle.unions.proofs.heads.head_at.Statement.{statement}
 use Rattle.unions.proofs.heads.head_at.Tie as tie
 
-enum-told : tie.Need-enum-told
-enum-told c = search needs
-
-read-text-requires : tie.Need-read-text-requires
-read-text-requires c κs = search needs
-
-enum-told-2 : tie.Need-enum-told-2
-enum-told-2 c = search needs
-
 returns : tie.Need-returns
 returns c = let a = c .before .before .before .before .args in rw (c .before .enum-told2 .given .1) (no-hash (a .s .now) (a .at) (omega arith))
 
-sub-if2 : tie.Need-sub-if2
-sub-if2 c = search needs
-
 returns-2 : tie.Need-returns-2
 returns-2 c = let a = c .before .before .before .before .before .args in rw (c .before .before .enum-told2 .given .1) (no-hash (a .s .now) (a .at) (omega arith))
-
-add-t5 : tie.Need-add-t5
-add-t5 c = search needs
 
 returns-3 : tie.Need-returns-3
 returns-3 c = rw (c .before .enum-told .given .1) (text-head _ _ _ (c .read-text .ensures))
@@ -35,12 +20,12 @@ pub head-at-spec : {M : Type 1} → statement M
 head-at-spec =
     tie.close
     (tie.spec
-    enum-told
-    read-text-requires
-    enum-told-2
+    (λ c. search needs)
+    (λ c κs. search needs)
+    (λ c. search needs)
     returns
-    sub-if2
+    (λ c. search needs)
     returns-2
-    add-t5
+    (λ c. search needs)
     returns-3
     returns-4)

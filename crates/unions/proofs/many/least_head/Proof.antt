@@ -23,19 +23,10 @@ abbrev μ-loop : tie.MeasureT-loop
 abbrev to-start : tie.At-loop Inv-loop μ-loop → tie.Start Inv-loop μ-loop
 to-start c = c .before .before .before .before .before .before .before .before .before
 
-copy-eight-requires : tie.Need-copy-eight-requires Inv-loop μ-loop
-copy-eight-requires c κs = search needs
-
 loop-holds : tie.Need-loop-holds Inv-loop μ-loop
 loop-holds c =
     let copied = c .before .before .copy-eight .ensures in
     (omega arith, search needs, λ f. never (cc f), λ f. copied, λ xss w. least-none _ _ _ xss _ refl)
-
-mul-lesser : tie.Need-mul-lesser Inv-loop μ-loop
-mul-lesser c = search needs
-
-shared-slice-read-lesser : tie.Need-shared-slice-read-lesser Inv-loop μ-loop
-shared-slice-read-lesser c = search needs
 
 lesser-requires : tie.Need-lesser-requires Inv-loop μ-loop
 lesser-requires c κs =
@@ -44,12 +35,6 @@ lesser-requires c κs =
     let start = to-start (turn .before) in
     ((omega (arith, turn .loop-test .taken, start .pre .0), start .pre .1, inv .1), (inv .2, inv .3))
 
-add-j : tie.Need-add-j Inv-loop μ-loop
-add-j c = search needs
-
-loop-less : tie.Need-loop-less Inv-loop μ-loop
-loop-less c = search needs
-
 loop-again : tie.Need-loop-again Inv-loop μ-loop
 loop-again c =
     let lesser = c .before .before in
@@ -57,9 +42,6 @@ loop-again c =
     let low = turn .loop-test .taken in
     let r = lesser .lesser .ensures in
     (omega (arith, low), search needs, r .0 .right, r .1, λ xss w. r .0 .more _ _ xss w low refl (turn .before .loop .inv .4 xss w))
-
-same-length : tie.Need-same-length Inv-loop μ-loop
-same-length c = search needs
 
 returns : tie.Need-returns Inv-loop μ-loop
 returns c =
@@ -72,13 +54,13 @@ least-head-spec =
     (tie.spec
     Inv-loop
     μ-loop
-    copy-eight-requires
+    (λ c κs. search needs)
     loop-holds
-    mul-lesser
-    shared-slice-read-lesser
+    (λ c. search needs)
+    (λ c. search needs)
     lesser-requires
-    add-j
-    loop-less
+    (λ c. search needs)
+    (λ c. search needs)
     loop-again
-    same-length
+    (λ c. search needs)
     returns)

@@ -91,25 +91,10 @@ taken c l e w =
 
 -- ---- the needs
 
-mul-start : tie.Need-mul-start
-mul-start c = search needs
-
-shared-slice-read-start : tie.Need-shared-slice-read-start
-shared-slice-read-start c = search needs
-
 returns : tie.Need-returns
 returns c =
     let start = to-start (c .before) in
     (lesser-none _ _ _ _ _ (start .pre .1 .0) (λ xs r. set-end _ _ _ xs (c .if1 .taken) r), start .pre .1 .1)
-
-head-at-requires : tie.Need-head-at-requires
-head-at-requires c κs = search needs
-
-enum-known-p : tie.Need-enum-known-p
-enum-known-p c = search needs
-
-enum-told : tie.Need-enum-told
-enum-told c = search needs
 
 returns-2 : tie.Need-returns-2
 returns-2 c =
@@ -119,14 +104,8 @@ returns-2 c =
     let known = at-head .before .before .before .before .before in
     (lesser-none _ _ _ _ _ (start .pre .1 .0) (set-no-head _ _ _ (small known) none), start .pre .1 .1)
 
-mul-after : tie.Need-mul-after
-mul-after c = search needs
-
 slice-write-after : tie.Need-slice-write-after
 slice-write-after c = in-after (of-head (c .before))
-
-same-length : tie.Need-same-length
-same-length c = search needs
 
 returns-3 : tie.Need-returns-3
 returns-3 c =
@@ -143,24 +122,6 @@ order-parts-requires c κs =
     let least = of-head x .pre .1 .0 (found c) in
     (head x .order, head x .within, least .order, least .within)
 
-copy-eight-requires : tie.Need-copy-eight-requires
-copy-eight-requires c κs = search needs
-
-mul-after-2 : tie.Need-mul-after-2
-mul-after-2 c = search needs
-
-slice-write-after-2 : tie.Need-slice-write-after-2
-slice-write-after-2 c = search needs
-
-mul-after-3 : tie.Need-mul-after-3
-mul-after-3 c = search needs
-
-slice-write-after-3 : tie.Need-slice-write-after-3
-slice-write-after-3 c = search needs
-
-same-length-2 : tie.Need-same-length-2
-same-length-2 c = search needs
-
 returns-4 : tie.Need-returns-4
 returns-4 c =
     let copied = c .before .before in
@@ -172,9 +133,6 @@ returns-4 c =
     let known = some .before .before .before .before in
     let first = lesser-less _ _ _ _ _ (small known) (some .if1 .left) _ _ (head x) (found turn) (in-runs (of-head x)) less in
     (taken x _ (copied .copy-eight .ensures) first, λ e. never (cc e))
-
-same-length-3 : tie.Need-same-length-3
-same-length-3 c = search needs
 
 returns-5 : tie.Need-returns-5
 returns-5 c =
@@ -203,25 +161,25 @@ pub lesser-spec : {M : Type 1} → statement M
 lesser-spec =
     tie.close
     (tie.spec
-    mul-start
-    shared-slice-read-start
+    (λ c. search needs)
+    (λ c. search needs)
     returns
-    head-at-requires
-    enum-known-p
-    enum-told
+    (λ c κs. search needs)
+    (λ c. search needs)
+    (λ c. search needs)
     returns-2
-    mul-after
+    (λ c. search needs)
     slice-write-after
-    same-length
+    (λ c. search needs)
     returns-3
     order-parts-requires
-    copy-eight-requires
-    mul-after-2
-    slice-write-after-2
-    mul-after-3
-    slice-write-after-3
-    same-length-2
+    (λ c κs. search needs)
+    (λ c. search needs)
+    (λ c. search needs)
+    (λ c. search needs)
+    (λ c. search needs)
+    (λ c. search needs)
     returns-4
-    same-length-3
+    (λ c. search needs)
     returns-5
     returns-6)

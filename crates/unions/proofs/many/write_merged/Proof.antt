@@ -80,15 +80,6 @@ some c = omega (arith, head c .after, part-length (bytes c) (least c .start) (le
 loop-holds : tie.Need-loop-holds Inv-loop μ-loop
 loop-holds c = (refl, omega arith, search needs, refl, λ xss w. record { xss = xss; runs = w; so = written-none _ _ _ })
 
-slice-aggregate-least-head : tie.Need-slice-aggregate-least-head Inv-loop μ-loop
-slice-aggregate-least-head c = search needs
-
-slice-aggregate-least-head-2 : tie.Need-slice-aggregate-least-head-2 Inv-loop μ-loop
-slice-aggregate-least-head-2 c = search needs
-
-slice-aggregate-least-head-3 : tie.Need-slice-aggregate-least-head-3 Inv-loop μ-loop
-slice-aggregate-least-head-3 c = search needs
-
 least-head-requires : tie.Need-least-head-requires Inv-loop μ-loop
 least-head-requires c κs =
     let at-loop = c .before .before .before in
@@ -138,9 +129,9 @@ write-merged-spec =
     Inv-loop
     μ-loop
     loop-holds
-    slice-aggregate-least-head
-    slice-aggregate-least-head-2
-    slice-aggregate-least-head-3
+    (λ c. search needs)
+    (λ c. search needs)
+    (λ c. search needs)
     least-head-requires
     same-length
     returns

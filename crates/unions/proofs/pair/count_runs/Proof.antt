@@ -63,15 +63,6 @@ alone c = steps-alone (c .enum-told .given .1) (c .before .before .next-of .ensu
 loop-holds : tie.Need-loop-holds Inv-loop μ-loop
 loop-holds c = (omega arith, omega arith, omega arith, λ xs ys rx ry. record { xs = xs; ys = ys; left = rx; right = ry; so = omega arith })
 
-next-of-requires : tie.Need-next-of-requires Inv-loop μ-loop
-next-of-requires c κs = search needs
-
-enum-known-x : tie.Need-enum-known-x Inv-loop μ-loop
-enum-known-x c = search needs
-
-enum-told : tie.Need-enum-told Inv-loop μ-loop
-enum-told c = search needs
-
 count-rest-requires : tie.Need-count-rest-requires Inv-loop μ-loop
 count-rest-requires c κs = alone-to-loop c .loop .inv .0
 
@@ -111,9 +102,9 @@ count-runs-spec =
     Inv-loop
     μ-loop
     loop-holds
-    next-of-requires
-    enum-known-x
-    enum-told
+    (λ c κs. search needs)
+    (λ c. search needs)
+    (λ c. search needs)
     count-rest-requires
     add-result
     count-rest-requires-2

@@ -15,13 +15,10 @@ to-start c = c .before .before .before .before
 write-runs-requires : tie.Need-write-runs-requires
 write-runs-requires c κs = hashes-room (to-start c .pre)
 
-same-length : tie.Need-same-length
-same-length c = search needs
-
 returns : tie.Need-returns
 returns c =
     let runs = c .before .before .write-runs in
     λ xs ys rx ry ex ey kx ky. hashes-wrote (union texts xs ys) (runs .ensures xs ys (hash-run _ xs rx ex kx) (hash-run _ ys ry ey ky) .wrote)
 
 pub write-hash-union-spec : {M : Type 1} → statement M
-write-hash-union-spec = tie.close (tie.spec write-runs-requires same-length returns)
+write-hash-union-spec = tie.close (tie.spec write-runs-requires (λ c. search needs) returns)

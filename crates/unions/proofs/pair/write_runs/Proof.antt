@@ -196,22 +196,10 @@ loop-holds c = (
   λ xs ys rx ry. record { xs = xs; ys = ys; left = rx; right = ry; so = record { writes = to-go; counts = omega arith } },
 )
 
-head-at-requires : tie.Need-head-at-requires Inv-loop μ-loop
-head-at-requires c κs = search needs
-
-enum-known-p : tie.Need-enum-known-p Inv-loop μ-loop
-enum-known-p c = search needs
-
-enum-told : tie.Need-enum-told Inv-loop μ-loop
-enum-told c = search needs
-
 copy-part-requires : tie.Need-copy-part-requires Inv-loop μ-loop
 copy-part-requires c κs =
     let l = none-to-loop (c .before) in
     (l .loop .inv .1, omega arith, right-room l (no-left (c .before)))
-
-same-length : tie.Need-same-length Inv-loop μ-loop
-same-length c = search needs
 
 returns : tie.Need-returns Inv-loop μ-loop
 returns c =
@@ -219,22 +207,10 @@ returns c =
     let none = copied .before .before in
     λ xs ys rx ry. wrote-right (none-to-loop none) xs ys rx ry (no-left none) (copied .copy-part .ensures)
 
-head-at-requires-2 : tie.Need-head-at-requires-2 Inv-loop μ-loop
-head-at-requires-2 c κs = search needs
-
-enum-known-q : tie.Need-enum-known-q Inv-loop μ-loop
-enum-known-q c = search needs
-
-enum-told-2 : tie.Need-enum-told-2 Inv-loop μ-loop
-enum-told-2 c = search needs
-
 copy-part-requires-2 : tie.Need-copy-part-requires-2 Inv-loop μ-loop
 copy-part-requires-2 c κs =
     let l = p-to-loop (none-to-p (c .before)) in
     (l .loop .inv .0, omega arith, left-room l (no-right (c .before)))
-
-same-length-2 : tie.Need-same-length-2 Inv-loop μ-loop
-same-length-2 c = search needs
 
 returns-2 : tie.Need-returns-2 Inv-loop μ-loop
 returns-2 c =
@@ -334,17 +310,17 @@ write-runs-spec =
     Inv-loop
     μ-loop
     loop-holds
-    head-at-requires
-    enum-known-p
-    enum-told
+    (λ c κs. search needs)
+    (λ c. search needs)
+    (λ c. search needs)
     copy-part-requires
-    same-length
+    (λ c. search needs)
     returns
-    head-at-requires-2
-    enum-known-q
-    enum-told-2
+    (λ c κs. search needs)
+    (λ c. search needs)
+    (λ c. search needs)
     copy-part-requires-2
-    same-length-2
+    (λ c. search needs)
     returns-2
     order-parts-requires
     copy-part-requires-3

@@ -14,13 +14,10 @@ to-start c = c .before .before .before .before
 write-runs-requires : tie.Need-write-runs-requires
 write-runs-requires c κs = texts-room (omega arith) (omega arith) (to-start c .pre)
 
-same-length : tie.Need-same-length
-same-length c = search needs
-
 returns : tie.Need-returns
 returns c =
     let runs = c .before .before .write-runs in
     λ xs ys rx ry kx ky. texts-wrote (runs .ensures xs ys (text-run _ xs (omega arith) rx kx) (text-run _ ys (omega arith) ry ky))
 
 pub write-union-spec : {M : Type 1} → statement M
-write-union-spec = tie.close (tie.spec write-runs-requires same-length returns)
+write-union-spec = tie.close (tie.spec write-runs-requires (λ c. search needs) returns)

@@ -13,12 +13,6 @@ returns c = λ p q. absurd (⊎-elim (λ n. omega arith) (λ n. omega arith) (da
 returns-2 : tie.Need-returns-2
 returns-2 c = λ p q. absurd (⊎-elim (λ n. omega arith) (λ n. omega arith) (datetime-length (c .before .before .before .before .args .b .now) q))
 
-stamp-requires : tie.Need-stamp-requires
-stamp-requires c κs = search needs
-
-stamp-requires-2 : tie.Need-stamp-requires-2
-stamp-requires-2 c κs = search needs
-
 returns-3 : tie.Need-returns-3
 returns-3 c =
     let g = c .before .before .before .before .before .before .before .args in
@@ -28,15 +22,6 @@ returns-4 : tie.Need-returns-4
 returns-4 c =
     let g = c .before .before .before .before .before .before .before .before .args in
     λ p q. sym (datetime-more (g .a .now) (g .b .now) (later-stamp (g .b .now) (g .a .now) q p (rw (c .before .before .before .stamp .ensures, c .before .before .stamp2 .ensures) at (c .if4 .taken))))
-
-fraction-requires : tie.Need-fraction-requires
-fraction-requires c κs = search needs
-
-fraction-requires-2 : tie.Need-fraction-requires-2
-fraction-requires-2 c κs = search needs
-
-compare-fractions-requires : tie.Need-compare-fractions-requires
-compare-fractions-requires c κs = search needs
 
 returns-5 : tie.Need-returns-5
 returns-5 c =
@@ -55,11 +40,11 @@ compare-moments-spec =
     (tie.spec
     returns
     returns-2
-    stamp-requires
-    stamp-requires-2
+    (λ c κs. search needs)
+    (λ c κs. search needs)
     returns-3
     returns-4
-    fraction-requires
-    fraction-requires-2
-    compare-fractions-requires
+    (λ c κs. search needs)
+    (λ c κs. search needs)
+    (λ c κs. search needs)
     returns-5)

@@ -5,9 +5,6 @@ use Rattle.values.specs.Calendar.{daysIn}
 use Rattle.values.proofs.calendar.days_in.Statement.{statement}
 use Rattle.values.proofs.calendar.days_in.Tie as tie
 
-is-leap-requires : tie.Need-is-leap-requires
-is-leap-requires c κs = search needs
-
 returns : tie.Need-returns
 unfolding daysIn
 returns c = rw (c .before .before .match .keys1, ← c .before .is-leap .ensures, c .if1 .taken)
@@ -25,4 +22,4 @@ unfolding daysIn
 returns-4 c = let m = c .before .args .m in rw (ne-eqb m 2 (c .match .rest .0 .1), ne-eqb m 4 (λ e. c .match .rest .1 (inl e)), ne-eqb m 6 (λ e. c .match .rest .1 (inr (inl e))), ne-eqb m 9 (λ e. c .match .rest .1 (inr (inr (inl e)))), ne-eqb m 11 (λ e. c .match .rest .1 (inr (inr (inr e)))))
 
 pub days-in-spec : {M : Type 1} → statement M
-days-in-spec = tie.close (tie.spec is-leap-requires returns returns-2 returns-3 returns-4)
+days-in-spec = tie.close (tie.spec (λ c κs. search needs) returns returns-2 returns-3 returns-4)

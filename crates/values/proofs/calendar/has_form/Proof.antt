@@ -22,15 +22,6 @@ returns c = sym (form-other (c .before .before .before .args .form .now) (c .bef
 loop-holds : tie.Need-loop-holds Inv-loop μ-loop
 loop-holds c = (omega arith, refl)
 
-shared-slice-read-matches : tie.Need-shared-slice-read-matches Inv-loop μ-loop
-shared-slice-read-matches c = search needs
-
-shared-slice-read-matches-2 : tie.Need-shared-slice-read-matches-2 Inv-loop μ-loop
-shared-slice-read-matches-2 c = search needs
-
-matches-requires : tie.Need-matches-requires Inv-loop μ-loop
-matches-requires c κs = search needs
-
 returns-2 : tie.Need-returns-2 Inv-loop μ-loop
 returns-2 c =
     let l = c .before .before .before .before .before in
@@ -38,12 +29,6 @@ returns-2 c =
     sym
     (l .loop .inv .1 ∙ form-step (a .form .now) (a .v .now) (l .loop .i) (omega arith) (omega arith)
     ∙ ap (λ (t : Bool). t && hasForm (drop (l .loop .i + 1) (a .form .now)) (drop (l .loop .i + 1) (a .v .now))) (sym (c .before .matches .ensures) ∙ not-true (c .before .matches .result) (c .if2 .taken)))
-
-add-i : tie.Need-add-i Inv-loop μ-loop
-add-i c = search needs
-
-loop-less : tie.Need-loop-less Inv-loop μ-loop
-loop-less c = search needs
 
 loop-again : tie.Need-loop-again Inv-loop μ-loop
 loop-again c =
@@ -68,11 +53,11 @@ has-form-spec =
     μ-loop
     returns
     loop-holds
-    shared-slice-read-matches
-    shared-slice-read-matches-2
-    matches-requires
+    (λ c. search needs)
+    (λ c. search needs)
+    (λ c κs. search needs)
     returns-2
-    add-i
-    loop-less
+    (λ c. search needs)
+    (λ c. search needs)
     loop-again
     returns-3)

@@ -14,15 +14,6 @@ use Rattle.values.proofs.calendar.is_datetime.Tie as tie
 fraction-length : (c : tie.After-has-form2) → not (c .has-form2 .result) ≡ false → 27 ≡ length (c .before .before .before .before .args .v .now)
 fraction-length c e = form-length _ _ (sym (c .has-form2 .ensures) ∙ not-false (c .has-form2 .result) e)
 
-slice-aggregate-has-form : tie.Need-slice-aggregate-has-form
-slice-aggregate-has-form c = search needs
-
-has-form-requires : tie.Need-has-form-requires
-has-form-requires c κs = search needs
-
-is-moment-requires : tie.Need-is-moment-requires
-is-moment-requires c κs = omega arith
-
 returns : tie.Need-returns
 unfolding isDatetime wholeSecond ascii
 returns c = rw (← c .before .before .has-form .ensures, c .before .if2 .taken) (c .is-moment .ensures)
@@ -33,20 +24,11 @@ returns-2 c =
     let v = c .before .before .before .before .before .args .v .now in
     rw (← c .before .has-form .ensures, c .if2 .left, form-other (ascii "0000-00-00T00:00:00.000000Z") v (λ e. omega arith))
 
-slice-aggregate-has-form-2 : tie.Need-slice-aggregate-has-form-2
-slice-aggregate-has-form-2 c = search needs
-
-has-form-requires-2 : tie.Need-has-form-requires-2
-has-form-requires-2 c κs = search needs
-
 returns-3 : tie.Need-returns-3
 unfolding isDatetime wholeSecond withFraction ascii
 returns-3 c =
     let v = c .before .before .before .before .before .args .v .now in
     rw (form-other (ascii "0000-00-00T00:00:00Z") v (λ e. omega arith), ← c .before .has-form2 .ensures, not-true (c .before .has-form2 .result) (c .if3 .taken))
-
-fraction-requires : tie.Need-fraction-requires
-fraction-requires c κs = search needs
 
 is-moment-requires-2 : tie.Need-is-moment-requires-2
 is-moment-requires-2 c κs = omega (arith, fraction-length (c .before .before .before) (c .before .before .if3 .left))
@@ -86,15 +68,15 @@ pub is-datetime-spec : {M : Type 1} → statement M
 is-datetime-spec =
     tie.close
     (tie.spec
-    slice-aggregate-has-form
-    has-form-requires
-    is-moment-requires
+    (λ c. search needs)
+    (λ c κs. search needs)
+    (λ c κs. omega arith)
     returns
     returns-2
-    slice-aggregate-has-form-2
-    has-form-requires-2
+    (λ c. search needs)
+    (λ c κs. search needs)
     returns-3
-    fraction-requires
+    (λ c κs. search needs)
     is-moment-requires-2
     returns-4
     returns-5)

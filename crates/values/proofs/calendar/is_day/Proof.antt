@@ -3,9 +3,6 @@ use borrow.Author.Needs.{needs}
 use Rattle.values.proofs.calendar.is_day.Statement.{statement}
 use Rattle.values.proofs.calendar.is_day.Tie as tie
 
-days-in-requires : tie.Need-days-in-requires
-days-in-requires c κs = search needs
-
 returns : tie.Need-returns
 returns c =
     let a = c .before .before .before .before .before .args in
@@ -32,4 +29,4 @@ returns-5 c =
     rw (lt-leb 1 (a .y) (c .if1 .left))
 
 pub is-day-spec : {M : Type 1} → statement M
-is-day-spec = tie.close (tie.spec days-in-requires returns returns-2 returns-3 returns-4 returns-5)
+is-day-spec = tie.close (tie.spec (λ c κs. search needs) returns returns-2 returns-3 returns-4 returns-5)

@@ -7,18 +7,6 @@ use Rattle.values.specs.Calendar.{year, month, day, daysIn, isMoment}
 use Rattle.values.proofs.calendar.is_moment.Statement.{statement}
 use Rattle.values.proofs.calendar.is_moment.Tie as tie
 
-four-requires : tie.Need-four-requires
-four-requires c κs = search needs
-
-two-requires : tie.Need-two-requires
-two-requires c κs = search needs
-
-two-requires-2 : tie.Need-two-requires-2
-two-requires-2 c κs = search needs
-
-is-day-requires : tie.Need-is-day-requires
-is-day-requires c κs = search needs
-
 day-told : (c : tie.After-is-day) →
     let v = c .before .before .before .before .before .args .v .now in
     (leb 1 (year v) && leb 1 (month v) && leb (month v) 12 && leb 1 (day v) && leb (day v) (daysIn (year v) (month v))) ≡ c .is-day .result
@@ -28,15 +16,6 @@ day-told c =
 returns : tie.Need-returns
 unfolding isMoment
 returns c = rw (day-told (c .before), not-true (c .before .is-day .result) (c .if1 .taken))
-
-two-requires-3 : tie.Need-two-requires-3
-two-requires-3 c κs = search needs
-
-two-requires-4 : tie.Need-two-requires-4
-two-requires-4 c κs = search needs
-
-two-requires-5 : tie.Need-two-requires-5
-two-requires-5 c κs = search needs
 
 returns-2 : tie.Need-returns-2
 unfolding isMoment
@@ -80,14 +59,14 @@ pub is-moment-spec : {M : Type 1} → statement M
 is-moment-spec =
     tie.close
     (tie.spec
-    four-requires
-    two-requires
-    two-requires-2
-    is-day-requires
+    (λ c κs. search needs)
+    (λ c κs. search needs)
+    (λ c κs. search needs)
+    (λ c κs. search needs)
     returns
-    two-requires-3
-    two-requires-4
-    two-requires-5
+    (λ c κs. search needs)
+    (λ c κs. search needs)
+    (λ c κs. search needs)
     returns-2
     returns-3
     returns-4)

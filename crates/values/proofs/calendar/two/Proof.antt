@@ -5,23 +5,8 @@ use Rattle.values.proofs.CalendarLaws.{field-two}
 use Rattle.values.proofs.calendar.two.Statement.{statement}
 use Rattle.values.proofs.calendar.two.Tie as tie
 
-shared-slice-read-digit : tie.Need-shared-slice-read-digit
-shared-slice-read-digit c = search needs
-
-digit-requires : tie.Need-digit-requires
-digit-requires c κs = search needs
-
 mul-result : tie.Need-mul-result
 mul-result c = omega (arith, c .before .shared-slice-known2 .given (c .before .before .before .args .at))
-
-add-digit : tie.Need-add-digit
-add-digit c = search needs
-
-shared-slice-read-digit-2 : tie.Need-shared-slice-read-digit-2
-shared-slice-read-digit-2 c = search needs
-
-digit-requires-2 : tie.Need-digit-requires-2
-digit-requires-2 c κs = search needs
 
 add-result : tie.Need-add-result
 add-result c = let a = c .before .before .before .before .before .args in omega (arith, c .before .shared-slice-known3 .given (a .at + 1), c .before .before .before .shared-slice-known2 .given (a .at))
@@ -33,11 +18,11 @@ pub two-spec : {M : Type 1} → statement M
 two-spec =
     tie.close
     (tie.spec
-    shared-slice-read-digit
-    digit-requires
+    (λ c. search needs)
+    (λ c κs. search needs)
     mul-result
-    add-digit
-    shared-slice-read-digit-2
-    digit-requires-2
+    (λ c. search needs)
+    (λ c. search needs)
+    (λ c κs. search needs)
     add-result
     returns)

@@ -6,18 +6,6 @@ use Rattle.values.proofs.NumeralLaws.{natural-order}
 use Rattle.values.proofs.numbers.at_most.Statement.{statement}
 use Rattle.values.proofs.numbers.at_most.Tie as tie
 
-by-size-requires : tie.Need-by-size-requires
-by-size-requires c κs = search needs
-
-enum-told : tie.Need-enum-told
-enum-told c = search needs
-
-enum-told-2 : tie.Need-enum-told-2
-enum-told-2 c = search needs
-
-enum-told-3 : tie.Need-enum-told-3
-enum-told-3 c = search needs
-
 returns : tie.Need-returns
 returns c = λ p q. sym (ap isLe (natural-order (c .before .before .before .before .before .args .v .now) (c .before .before .before .before .before .args .most .now) p q ∙ sym (c .before .before .by-size .ensures) ∙ ap ordering (c .enum-told .given .1)))
 
@@ -30,4 +18,4 @@ returns-3 c = λ p q. sym (ap isLe (natural-order (c .before .before .before .be
 pub at-most-spec : {M : Type 1} → statement M
 at-most-spec =
     tie.close
-    (tie.spec by-size-requires enum-told enum-told-2 enum-told-3 returns returns-2 returns-3)
+    (tie.spec (λ c κs. search needs) (λ c. search needs) (λ c. search needs) (λ c. search needs) returns returns-2 returns-3)

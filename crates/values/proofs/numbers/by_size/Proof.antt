@@ -11,11 +11,8 @@ returns c = let a = c .before .before .before .args in sym (size-less (a .a .now
 returns-2 : tie.Need-returns-2
 returns-2 c = let a = c .before .before .before .before .args in sym (size-more (a .a .now) (a .b .now) (omega arith))
 
-compare-requires : tie.Need-compare-requires
-compare-requires c κs = search needs
-
 returns-3 : tie.Need-returns-3
 returns-3 c = let a = c .before .before .before .before .before .args in c .compare .ensures ∙ sym (size-alike (a .a .now) (a .b .now) (omega arith))
 
 pub by-size-spec : {M : Type 1} → statement M
-by-size-spec = tie.close (tie.spec returns returns-2 compare-requires returns-3)
+by-size-spec = tie.close (tie.spec returns returns-2 (λ c κs. search needs) returns-3)

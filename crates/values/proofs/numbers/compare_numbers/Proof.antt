@@ -4,15 +4,6 @@ use Rattle.values.proofs.NumberOrderLaws.{value-order-signed}
 use Rattle.values.proofs.numbers.compare_numbers.Statement.{statement}
 use Rattle.values.proofs.numbers.compare_numbers.Tie as tie
 
-is-negative-requires : tie.Need-is-negative-requires
-is-negative-requires c κs = search needs
-
-is-negative-requires-2 : tie.Need-is-negative-requires-2
-is-negative-requires-2 c κs = search needs
-
-by-size-requires : tie.Need-by-size-requires
-by-size-requires c κs = search needs
-
 returns : tie.Need-returns
 returns c =
     let a = c .before .before .before .before .before .before .before .args in
@@ -27,18 +18,12 @@ returns-2 c =
     let q = sym (c .before .is-negative2 .ensures) ∙ c .if2 .left in
     λ k n s t. sym (value-order-signed k (a .a .now) (a .b .now) n s t ∙ rw (p, q))
 
-is-negative-requires-3 : tie.Need-is-negative-requires-3
-is-negative-requires-3 c κs = search needs
-
 returns-3 : tie.Need-returns-3
 returns-3 c =
     let a = c .before .before .before .before .before .before .args in
     let p = sym (c .before .before .before .is-negative .ensures) ∙ c .before .before .if1 .left in
     let q = sym (c .before .is-negative3 .ensures) ∙ c .if3 .taken in
     λ k n s t. sym (value-order-signed k (a .a .now) (a .b .now) n s t ∙ rw (p, q))
-
-by-size-requires-2 : tie.Need-by-size-requires-2
-by-size-requires-2 c κs = search needs
 
 returns-4 : tie.Need-returns-4
 returns-4 c =
@@ -51,12 +36,12 @@ pub compare-numbers-spec : {M : Type 1} → statement M
 compare-numbers-spec =
     tie.close
     (tie.spec
-    is-negative-requires
-    is-negative-requires-2
-    by-size-requires
+    (λ c κs. search needs)
+    (λ c κs. search needs)
+    (λ c κs. search needs)
     returns
     returns-2
-    is-negative-requires-3
+    (λ c κs. search needs)
     returns-3
-    by-size-requires-2
+    (λ c κs. search needs)
     returns-4)

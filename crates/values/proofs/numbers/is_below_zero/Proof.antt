@@ -6,9 +6,6 @@ use Rattle.values.proofs.NumberStepLaws.{natural-zero, natural-nonzero}
 use Rattle.values.proofs.numbers.is_below_zero.Statement.{statement}
 use Rattle.values.proofs.numbers.is_below_zero.Tie as tie
 
-is-natural-requires : tie.Need-is-natural-requires
-is-natural-requires c κs = search needs
-
 shared-slice-read-if2 : tie.Need-shared-slice-read-if2
 shared-slice-read-if2 c = omega (arith, natural-nonempty (c .before .before .before .before .args .m .now) (sym (c .before .before .is-natural .ensures) ∙ c .before .if1 .taken))
 
@@ -17,9 +14,6 @@ returns c =
     let a = c .before .before .before .before .before .args in
     let n = sym (c .before .before .before .is-natural .ensures) ∙ c .before .before .if1 .taken in
     λ w. rw (n, natural-zero (a .m .now) n (omega arith))
-
-negative-fits-requires : tie.Need-negative-fits-requires
-negative-fits-requires c κs = search needs
 
 returns-2 : tie.Need-returns-2
 returns-2 c =
@@ -34,9 +28,9 @@ pub is-below-zero-spec : {M : Type 1} → statement M
 is-below-zero-spec =
     tie.close
     (tie.spec
-    is-natural-requires
+    (λ c κs. search needs)
     shared-slice-read-if2
     returns
-    negative-fits-requires
+    (λ c κs. search needs)
     returns-2
     returns-3)

@@ -6,23 +6,11 @@ use Rattle.values.proofs.NumberStepLaws.{negative-long, decimal-negativ
 use Rattle.values.proofs.numbers.is_decimal.Statement.{statement}
 use Rattle.values.proofs.numbers.is_decimal.Tie as tie
 
-is-negative-requires : tie.Need-is-negative-requires
-is-negative-requires c κs = search needs
-
-has-nonzero-requires : tie.Need-has-nonzero-requires
-has-nonzero-requires c κs = search needs
-
 sub-is-magnitude : tie.Need-sub-is-magnitude
 sub-is-magnitude c = omega (arith, negative-long (c .before .before .before .before .before .before .args .v .now) (sym (c .before .before .before .before .is-negative .ensures) ∙ c .before .before .before .if1 .taken))
 
 part-is-magnitude-start : tie.Need-part-is-magnitude-start
 part-is-magnitude-start c = omega (arith, negative-long (c .before .before .before .before .before .before .args .v .now) (sym (c .before .before .before .before .is-negative .ensures) ∙ c .before .before .before .if1 .taken))
-
-part-is-magnitude-end : tie.Need-part-is-magnitude-end
-part-is-magnitude-end c = search needs
-
-is-magnitude-requires : tie.Need-is-magnitude-requires
-is-magnitude-requires c κs = search needs
 
 returns : tie.Need-returns
 returns c =
@@ -44,9 +32,6 @@ returns-3 c =
     let p = sym (c .before .before .is-negative .ensures) ∙ c .before .if1 .taken in
     sym (decimal-negative (a .total) (a .after) (a .sign) (a .v .now) p ∙ simp (c .if2 .left, and-false))
 
-is-magnitude-requires-2 : tie.Need-is-magnitude-requires-2
-is-magnitude-requires-2 c κs = search needs
-
 returns-4 : tie.Need-returns-4
 returns-4 c =
     let a = c .before .before .before .before .args in
@@ -57,14 +42,14 @@ pub is-decimal-spec : {M : Type 1} → statement M
 is-decimal-spec =
     tie.close
     (tie.spec
-    is-negative-requires
-    has-nonzero-requires
+    (λ c κs. search needs)
+    (λ c κs. search needs)
     sub-is-magnitude
     part-is-magnitude-start
-    part-is-magnitude-end
-    is-magnitude-requires
+    (λ c. search needs)
+    (λ c κs. search needs)
     returns
     returns-2
     returns-3
-    is-magnitude-requires-2
+    (λ c κs. search needs)
     returns-4)

@@ -9,30 +9,15 @@ use Rattle.values.proofs.NumberStepLaws.{magnitude-short, magnitude-lon
 use Rattle.values.proofs.numbers.is_magnitude.Statement.{statement}
 use Rattle.values.proofs.numbers.is_magnitude.Tie as tie
 
-add-tail : tie.Need-add-tail
-add-tail c = search needs
-
 returns : tie.Need-returns
 returns c =
     let a = c .before .before .args in
     sym (magnitude-short (a .total) (a .after) (a .m .now) (omega arith))
 
-sub-point : tie.Need-sub-point
-sub-point c = search needs
-
-add-if2 : tie.Need-add-if2
-add-if2 c = search needs
-
-add-if2-2 : tie.Need-add-if2-2
-add-if2-2 c = search needs
-
 returns-2 : tie.Need-returns-2
 returns-2 c =
     let a = c .before .before .before .args in
     sym (magnitude-long (a .total) (a .after) (a .m .now) (omega arith) (omega arith))
-
-shared-slice-read-if3 : tie.Need-shared-slice-read-if3
-shared-slice-read-if3 c = search needs
 
 returns-3 : tie.Need-returns-3
 returns-3 c =
@@ -41,24 +26,6 @@ returns-3 c =
 
 slice-aggregate-is-natural : tie.Need-slice-aggregate-is-natural
 slice-aggregate-is-natural c = simp length-take (omega arith)
-
-is-natural-requires : tie.Need-is-natural-requires
-is-natural-requires c κs = search needs
-
-add-are-digits : tie.Need-add-are-digits
-add-are-digits c = search needs
-
-sub-are-digits : tie.Need-sub-are-digits
-sub-are-digits c = search needs
-
-part-are-digits-start : tie.Need-part-are-digits-start
-part-are-digits-start c = search needs
-
-part-are-digits-end : tie.Need-part-are-digits-end
-part-are-digits-end c = search needs
-
-are-digits-requires : tie.Need-are-digits-requires
-are-digits-requires c κs = search needs
 
 returns-4 : tie.Need-returns-4
 returns-4 c =
@@ -76,20 +43,20 @@ pub is-magnitude-spec : {M : Type 1} → statement M
 is-magnitude-spec =
     tie.close
     (tie.spec
-    add-tail
+    (λ c. search needs)
     returns
-    sub-point
-    add-if2
-    add-if2-2
+    (λ c. search needs)
+    (λ c. search needs)
+    (λ c. search needs)
     returns-2
-    shared-slice-read-if3
+    (λ c. search needs)
     returns-3
     slice-aggregate-is-natural
-    is-natural-requires
-    add-are-digits
-    sub-are-digits
-    part-are-digits-start
-    part-are-digits-end
-    are-digits-requires
+    (λ c κs. search needs)
+    (λ c. search needs)
+    (λ c. search needs)
+    (λ c. search needs)
+    (λ c. search needs)
+    (λ c κs. search needs)
     returns-4
     returns-5)

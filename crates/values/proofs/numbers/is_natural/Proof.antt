@@ -8,20 +8,11 @@ use Rattle.values.proofs.numbers.is_natural.Tie as tie
 returns : tie.Need-returns
 returns c = sym (natural-none (c .before .before .args .v .now) (omega arith))
 
-are-digits-requires : tie.Need-are-digits-requires
-are-digits-requires c κs = search needs
-
 returns-2 : tie.Need-returns-2
 returns-2 c = c .are-digits .ensures ∙ sym (natural-one (c .before .before .before .before .args .v .now) (omega arith))
 
-shared-slice-read-if3 : tie.Need-shared-slice-read-if3
-shared-slice-read-if3 c = search needs
-
 returns-3 : tie.Need-returns-3
 returns-3 c = sym (natural-leading-zero (c .before .before .before .before .before .args .v .now) (omega arith) (omega arith))
-
-are-digits-requires-2 : tie.Need-are-digits-requires-2
-are-digits-requires-2 c κs = search needs
 
 returns-4 : tie.Need-returns-4
 returns-4 c = c .are-digits2 .ensures ∙ sym (natural-several (c .before .before .before .before .before .before .args .v .now) (omega arith) (λ e. omega arith))
@@ -31,9 +22,9 @@ is-natural-spec =
     tie.close
     (tie.spec
     returns
-    are-digits-requires
+    (λ c κs. search needs)
     returns-2
-    shared-slice-read-if3
+    (λ c. search needs)
     returns-3
-    are-digits-requires-2
+    (λ c κs. search needs)
     returns-4)

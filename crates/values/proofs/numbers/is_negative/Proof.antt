@@ -8,11 +8,8 @@ use Rattle.values.proofs.numbers.is_negative.Tie as tie
 returns : tie.Need-returns
 returns c = sym (negative-none (c .before .args .v .now) (omega arith))
 
-shared-slice-read-result : tie.Need-shared-slice-read-result
-shared-slice-read-result c = search needs
-
 returns-2 : tie.Need-returns-2
 returns-2 c = sym (negative-first (c .before .before .args .v .now) (omega arith))
 
 pub is-negative-spec : {M : Type 1} → statement M
-is-negative-spec = tie.close (tie.spec returns shared-slice-read-result returns-2)
+is-negative-spec = tie.close (tie.spec returns (λ c. search needs) returns-2)

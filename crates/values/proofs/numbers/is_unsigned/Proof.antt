@@ -4,12 +4,6 @@ use Rattle.values.specs.Spaces.{isUnsigned}
 use Rattle.values.proofs.numbers.is_unsigned.Statement.{statement}
 use Rattle.values.proofs.numbers.is_unsigned.Tie as tie
 
-is-natural-requires : tie.Need-is-natural-requires
-is-natural-requires c κs = search needs
-
-unsigned-fits-requires : tie.Need-unsigned-fits-requires
-unsigned-fits-requires c κs = search needs
-
 returns : tie.Need-returns
 unfolding isUnsigned
 returns c =
@@ -24,4 +18,4 @@ returns-2 c =
 
 pub is-unsigned-spec : {M : Type 1} → statement M
 is-unsigned-spec =
-    tie.close (tie.spec is-natural-requires unsigned-fits-requires returns returns-2)
+    tie.close (tie.spec (λ c κs. search needs) (λ c κs. search needs) returns returns-2)

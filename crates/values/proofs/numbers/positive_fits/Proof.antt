@@ -6,36 +6,6 @@ use Rattle.values.proofs.NumberStepLaws.{leb-ltb, width-eight}
 use Rattle.values.proofs.numbers.positive_fits.Statement.{statement}
 use Rattle.values.proofs.numbers.positive_fits.Tie as tie
 
-slice-aggregate-at-most : tie.Need-slice-aggregate-at-most
-slice-aggregate-at-most c = search needs
-
-at-most-requires : tie.Need-at-most-requires
-at-most-requires c κs = search needs
-
-slice-aggregate-at-most-2 : tie.Need-slice-aggregate-at-most-2
-slice-aggregate-at-most-2 c = search needs
-
-at-most-requires-2 : tie.Need-at-most-requires-2
-at-most-requires-2 c κs = search needs
-
-slice-aggregate-at-most-3 : tie.Need-slice-aggregate-at-most-3
-slice-aggregate-at-most-3 c = search needs
-
-at-most-requires-3 : tie.Need-at-most-requires-3
-at-most-requires-3 c κs = search needs
-
-slice-aggregate-at-most-4 : tie.Need-slice-aggregate-at-most-4
-slice-aggregate-at-most-4 c = search needs
-
-at-most-requires-4 : tie.Need-at-most-requires-4
-at-most-requires-4 c κs = search needs
-
-slice-aggregate-at-most-5 : tie.Need-slice-aggregate-at-most-5
-slice-aggregate-at-most-5 c = search needs
-
-at-most-requires-5 : tie.Need-at-most-requires-5
-at-most-requires-5 c κs = search needs
-
 returns : tie.Need-returns
 unfolding isNatural areDigits isDigit numeral numeralAfter
 returns c = λ w n. rw (c .before .before .match .keys1) (c .at-most .ensures n refl ∙ leb-ltb (numeral (c .before .before .before .before .args .v .now)) 127)
@@ -63,16 +33,16 @@ pub positive-fits-spec : {M : Type 1} → statement M
 positive-fits-spec =
     tie.close
     (tie.spec
-    slice-aggregate-at-most
-    at-most-requires
-    slice-aggregate-at-most-2
-    at-most-requires-2
-    slice-aggregate-at-most-3
-    at-most-requires-3
-    slice-aggregate-at-most-4
-    at-most-requires-4
-    slice-aggregate-at-most-5
-    at-most-requires-5
+    (λ c. search needs)
+    (λ c κs. search needs)
+    (λ c. search needs)
+    (λ c κs. search needs)
+    (λ c. search needs)
+    (λ c κs. search needs)
+    (λ c. search needs)
+    (λ c κs. search needs)
+    (λ c. search needs)
+    (λ c κs. search needs)
     returns
     returns-2
     returns-3

@@ -29,9 +29,6 @@ shared-slice-read-if2 c = omega (arith, c .before .if1 .left, c .before .before 
 cast-if2 : tie.Need-cast-if2 Inv-loop μ-loop
 cast-if2 c = omega (arith, c .shared-slice-known .given (c .before .before .before .loop .k - 1))
 
-add-if2 : tie.Need-add-if2 Inv-loop μ-loop
-add-if2 c = search needs
-
 returns-2 : tie.Need-returns-2 Inv-loop μ-loop
 returns-2 c =
     let l = c .before .before .before in
@@ -57,9 +54,6 @@ shared-slice-read-result c = omega (arith, c .before .if3 .left, c .before .befo
 cast-result : tie.Need-cast-result Inv-loop μ-loop
 cast-result c = omega (arith, c .shared-slice-known2 .given 0)
 
-add-result : tie.Need-add-result Inv-loop μ-loop
-add-result c = search needs
-
 returns-4 : tie.Need-returns-4 Inv-loop μ-loop
 returns-4 c = digit-one _ _ _ _ (c .before .before .before .loop .inv) (c .before .before .loop-test .left) (c .before .if3 .left)
 
@@ -74,7 +68,7 @@ is-in-decimal-spec =
     sub-if2
     shared-slice-read-if2
     cast-if2
-    add-if2
+    (λ c. search needs)
     returns-2
     sub-k
     loop-less
@@ -82,5 +76,5 @@ is-in-decimal-spec =
     returns-3
     shared-slice-read-result
     cast-result
-    add-result
+    (λ c. search needs)
     returns-4)

@@ -17,9 +17,6 @@ abbrev μ-loop : tie.MeasureT-loop
 loop-holds : tie.Need-loop-holds Inv-loop μ-loop
 loop-holds c = counted-none _
 
-shared-slice-read-b : tie.Need-shared-slice-read-b Inv-loop μ-loop
-shared-slice-read-b c = search needs
-
 mul-n : tie.Need-mul-n Inv-loop μ-loop
 mul-n c =
     let l = c .before .before in
@@ -40,12 +37,6 @@ add-n c =
     let small = counted-small (l .before .args .v .now) (l .loop .n) (l .loop .i) (l .loop .inv) (c .before .loop-test .taken) (l .before .pre .1) in
     omega (arith, small)
 
-add-i : tie.Need-add-i Inv-loop μ-loop
-add-i c = search needs
-
-loop-less : tie.Need-loop-less Inv-loop μ-loop
-loop-less c = search needs
-
 loop-again : tie.Need-loop-again Inv-loop μ-loop
 loop-again c = let l = c .before .before in counted-more (l .before .args .v .now) (l .loop .n) (l .loop .i) (l .loop .inv) (c .before .loop-test .taken)
 
@@ -59,12 +50,12 @@ numeral-of-spec =
     Inv-loop
     μ-loop
     loop-holds
-    shared-slice-read-b
+    (λ c. search needs)
     mul-n
     cast-n
     sub-n
     add-n
-    add-i
-    loop-less
+    (λ c. search needs)
+    (λ c. search needs)
     loop-again
     returns)

@@ -12,48 +12,6 @@ use Rattle.values.proofs.SpaceLaws.{chosen}
 use Rattle.values.proofs.spaces.choose.Statement.{statement}
 use Rattle.values.proofs.spaces.choose.Tie as tie
 
-sub-compare-values : tie.Need-sub-compare-values
-sub-compare-values c = search needs
-
-part-compare-values-start : tie.Need-part-compare-values-start
-part-compare-values-start c = search needs
-
-part-compare-values-end : tie.Need-part-compare-values-end
-part-compare-values-end c = search needs
-
-sub-compare-values-2 : tie.Need-sub-compare-values-2
-sub-compare-values-2 c = search needs
-
-part-compare-values-start-2 : tie.Need-part-compare-values-start-2
-part-compare-values-start-2 c = search needs
-
-part-compare-values-end-2 : tie.Need-part-compare-values-end-2
-part-compare-values-end-2 c = search needs
-
-compare-values-requires : tie.Need-compare-values-requires
-compare-values-requires c κs = search needs
-
-takes-first-requires : tie.Need-takes-first-requires
-takes-first-requires c κs = search needs
-
-sub-result : tie.Need-sub-result
-sub-result c = search needs
-
-part-result-start : tie.Need-part-result-start
-part-result-start c = search needs
-
-part-result-end : tie.Need-part-result-end
-part-result-end c = search needs
-
-sub-result-2 : tie.Need-sub-result-2
-sub-result-2 c = search needs
-
-part-result-start-2 : tie.Need-part-result-start-2
-part-result-start-2 c = search needs
-
-part-result-end-2 : tie.Need-part-result-end-2
-part-result-end-2 c = search needs
-
 -- the part that the answer of the test stands for is the chosen one
 chosen-part : (c : tie.After-takes-first) {t : Bool} → c .takes-first .result ≡ t →
     let g = c .before .before .before .before .before .before .args in
@@ -78,19 +36,19 @@ pub choose-spec : {M : Type 1} → statement M
 choose-spec =
     tie.close
     (tie.spec
-    sub-compare-values
-    part-compare-values-start
-    part-compare-values-end
-    sub-compare-values-2
-    part-compare-values-start-2
-    part-compare-values-end-2
-    compare-values-requires
-    takes-first-requires
-    sub-result
-    part-result-start
-    part-result-end
-    sub-result-2
-    part-result-start-2
-    part-result-end-2
+    (λ c. search needs)
+    (λ c. search needs)
+    (λ c. search needs)
+    (λ c. search needs)
+    (λ c. search needs)
+    (λ c. search needs)
+    (λ c κs. search needs)
+    (λ c κs. search needs)
+    (λ c. search needs)
+    (λ c. search needs)
+    (λ c. search needs)
+    (λ c. search needs)
+    (λ c. search needs)
+    (λ c. search needs)
     returns
     returns-2)

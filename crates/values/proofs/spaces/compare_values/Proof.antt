@@ -10,12 +10,6 @@ use Rattle.values.proofs.SpaceLaws.{of-kind, is-datetime-kind, kind-lea
 use Rattle.values.proofs.spaces.compare_values.Statement.{statement}
 use Rattle.values.proofs.spaces.compare_values.Tie as tie
 
-compare-moments-requires : tie.Need-compare-moments-requires
-compare-moments-requires c κs = search needs
-
-compare-numbers-requires : tie.Need-compare-numbers-requires
-compare-numbers-requires c κs = search needs
-
 returns : tie.Need-returns
 unfolding isOfKind
 returns c =
@@ -41,8 +35,8 @@ pub compare-values-spec : {M : Type 1} → statement M
 compare-values-spec =
     tie.close
     (tie.spec
-    compare-moments-requires
-    compare-numbers-requires
+    (λ c κs. search needs)
+    (λ c κs. search needs)
     returns
     returns-2
     returns-3

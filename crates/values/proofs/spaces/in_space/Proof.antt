@@ -11,11 +11,8 @@ returns c = λ k e w. sym (too-short k (c .before .before .args .v .now) (c .if1
 returns-2 : tie.Need-returns-2
 returns-2 c = λ k e w. sym (too-long k (c .before .before .before .args .v .now) (c .if2 .taken))
 
-is-of-kind-requires : tie.Need-is-of-kind-requires
-is-of-kind-requires c κs = search needs
-
 returns-3 : tie.Need-returns-3
 returns-3 c = λ k e w. c .is-of-kind .ensures k e w ∙ sym (in-bounds k (c .before .before .before .before .args .v .now) (omega arith) (omega arith))
 
 pub in-space-spec : {M : Type 1} → statement M
-in-space-spec = tie.close (tie.spec returns returns-2 is-of-kind-requires returns-3)
+in-space-spec = tie.close (tie.spec returns returns-2 (λ c κs. search needs) returns-3)

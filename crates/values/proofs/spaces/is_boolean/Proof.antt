@@ -5,18 +5,6 @@ use Rattle.values.proofs.CalendarLaws.{form-text}
 use Rattle.values.proofs.spaces.is_boolean.Statement.{statement}
 use Rattle.values.proofs.spaces.is_boolean.Tie as tie
 
-slice-aggregate-has-form : tie.Need-slice-aggregate-has-form
-slice-aggregate-has-form c = search needs
-
-has-form-requires : tie.Need-has-form-requires
-has-form-requires c κs = search needs
-
-slice-aggregate-has-form-2 : tie.Need-slice-aggregate-has-form-2
-slice-aggregate-has-form-2 c = search needs
-
-has-form-requires-2 : tie.Need-has-form-requires-2
-has-form-requires-2 c κs = search needs
-
 returns : tie.Need-returns
 unfolding ascii
 returns c =
@@ -35,9 +23,9 @@ pub is-boolean-spec : {M : Type 1} → statement M
 is-boolean-spec =
     tie.close
     (tie.spec
-    slice-aggregate-has-form
-    has-form-requires
-    slice-aggregate-has-form-2
-    has-form-requires-2
+    (λ c. search needs)
+    (λ c κs. search needs)
+    (λ c. search needs)
+    (λ c κs. search needs)
     returns
     returns-2)

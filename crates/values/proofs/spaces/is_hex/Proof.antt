@@ -15,20 +15,11 @@ Inv-loop bytes v i₀ i = (i ≤ length v) × (areHexDigits v ≡ areHexDigits (
 abbrev μ-loop : tie.MeasureT-loop
 μ-loop bytes v i₀ i = length v - i
 
-mul-if1 : tie.Need-mul-if1 Inv-loop μ-loop
-mul-if1 c = search needs
-
 returns : tie.Need-returns Inv-loop μ-loop
 returns c = rw (ne-eqb (length (c .before .before .args .v .now)) (2 * c .before .before .args .bytes) (c .if1 .taken))
 
 loop-holds : tie.Need-loop-holds Inv-loop μ-loop
 loop-holds c = (omega arith, refl)
-
-shared-slice-read-is-hex-digit : tie.Need-shared-slice-read-is-hex-digit Inv-loop μ-loop
-shared-slice-read-is-hex-digit c = search needs
-
-is-hex-digit-requires : tie.Need-is-hex-digit-requires Inv-loop μ-loop
-is-hex-digit-requires c κs = search needs
 
 returns-2 : tie.Need-returns-2 Inv-loop μ-loop
 returns-2 c =
@@ -38,12 +29,6 @@ returns-2 c =
     (sym
     (l .loop .inv .1 ∙ hex-step (a .v .now) (l .loop .i) (omega arith)
     ∙ rw (← c .before .is-hex-digit .ensures, not-true (c .before .is-hex-digit .result) (c .if2 .taken))))
-
-add-i : tie.Need-add-i Inv-loop μ-loop
-add-i c = search needs
-
-loop-less : tie.Need-loop-less Inv-loop μ-loop
-loop-less c = omega arith
 
 loop-again : tie.Need-loop-again Inv-loop μ-loop
 loop-again c =
@@ -66,13 +51,13 @@ is-hex-spec =
     (tie.spec
     Inv-loop
     μ-loop
-    mul-if1
+    (λ c. search needs)
     returns
     loop-holds
-    shared-slice-read-is-hex-digit
-    is-hex-digit-requires
+    (λ c. search needs)
+    (λ c κs. search needs)
     returns-2
-    add-i
-    loop-less
+    (λ c. search needs)
+    (λ c. omega arith)
     loop-again
     returns-3)

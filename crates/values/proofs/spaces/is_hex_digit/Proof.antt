@@ -4,9 +4,6 @@ use Rattle.values.specs.Spaces.{isHexDigit}
 use Rattle.values.proofs.spaces.is_hex_digit.Statement.{statement}
 use Rattle.values.proofs.spaces.is_hex_digit.Tie as tie
 
-is-digit-requires : tie.Need-is-digit-requires
-is-digit-requires c κs = search needs
-
 returns : tie.Need-returns
 unfolding isHexDigit
 returns c = rw (← c .before .is-digit .ensures, c .if1 .taken)
@@ -20,4 +17,4 @@ unfolding isHexDigit
 returns-3 c = rw (← c .before .before .is-digit .ensures, c .before .if1 .left, lt-leb 97 (c .before .before .before .args .b) (c .if2 .left))
 
 pub is-hex-digit-spec : {M : Type 1} → statement M
-is-hex-digit-spec = tie.close (tie.spec is-digit-requires returns returns-2 returns-3)
+is-hex-digit-spec = tie.close (tie.spec (λ c κs. search needs) returns returns-2 returns-3)

@@ -10,33 +10,6 @@ use Rattle.values.proofs.SpaceLaws.{answered, kind-none}
 use Rattle.values.proofs.spaces.is_of_kind.Statement.{statement}
 use Rattle.values.proofs.spaces.is_of_kind.Tie as tie
 
-is-unsigned-requires : tie.Need-is-unsigned-requires
-is-unsigned-requires c κs = search needs
-
-is-signed-requires : tie.Need-is-signed-requires
-is-signed-requires c κs = search needs
-
-is-decimal-requires : tie.Need-is-decimal-requires
-is-decimal-requires c κs = search needs
-
-is-decimal-requires-2 : tie.Need-is-decimal-requires-2
-is-decimal-requires-2 c κs = search needs
-
-is-unsigned-requires-2 : tie.Need-is-unsigned-requires-2
-is-unsigned-requires-2 c κs = search needs
-
-is-datetime-requires : tie.Need-is-datetime-requires
-is-datetime-requires c κs = search needs
-
-is-boolean-requires : tie.Need-is-boolean-requires
-is-boolean-requires c κs = search needs
-
-is-string-requires : tie.Need-is-string-requires
-is-string-requires c κs = search needs
-
-is-hex-requires : tie.Need-is-hex-requires
-is-hex-requires c κs = search needs
-
 returns : tie.Need-returns
 unfolding kindOf isOfKind isKind
 returns c =
@@ -106,15 +79,15 @@ pub is-of-kind-spec : {M : Type 1} → statement M
 is-of-kind-spec =
     tie.close
     (tie.spec
-    is-unsigned-requires
-    is-signed-requires
-    is-decimal-requires
-    is-decimal-requires-2
-    is-unsigned-requires-2
-    is-datetime-requires
-    is-boolean-requires
-    is-string-requires
-    is-hex-requires
+    (λ c κs. search needs)
+    (λ c κs. search needs)
+    (λ c κs. search needs)
+    (λ c κs. search needs)
+    (λ c κs. search needs)
+    (λ c κs. search needs)
+    (λ c κs. search needs)
+    (λ c κs. search needs)
+    (λ c κs. search needs)
     returns
     returns-2
     returns-3

@@ -8,11 +8,8 @@ use Rattle.values.proofs.spaces.is_plain.Tie as tie
 returns : tie.Need-returns
 returns c = λ e. let never : _≡_ {A = ℕ} 0 1 = cc in absurd (omega arith)
 
-is-ascii-requires : tie.Need-is-ascii-requires
-is-ascii-requires c κs = search needs
-
 returns-2 : tie.Need-returns-2
 returns-2 c = λ e. (c .before .if1 .left, c .is-ascii .ensures e)
 
 pub is-plain-spec : {M : Type 1} → statement M
-is-plain-spec = tie.close (tie.spec returns is-ascii-requires returns-2)
+is-plain-spec = tie.close (tie.spec returns (λ c κs. search needs) returns-2)

@@ -6,20 +6,14 @@ use borrow.Author.Needs.{needs}
 use Rattle.values.proofs.unicode.is_ascii.Statement.{statement}
 use Rattle.values.proofs.unicode.is_ascii.Tie as tie
 
-ascii-end-requires : tie.Need-ascii-end-requires
-ascii-end-requires c κs = search needs
-
 returns : tie.Need-returns
 returns c = λ e.
     let v = c .before .before .before .args .v .now in
     let all : c .ascii-end .result ≡ length v = eqb-true _ _ e in
     subst (Low v 0) all (c .ascii-end .ensures .1 .0)
 
-all-bits-requires : tie.Need-all-bits-requires
-all-bits-requires c κs = search needs
-
 returns-2 : tie.Need-returns-2
 returns-2 c = λ e. c .all-bits .ensures (ltb-true _ _ e)
 
 pub is-ascii-spec : {M : Type 1} → statement M
-is-ascii-spec = tie.close (tie.spec ascii-end-requires returns all-bits-requires returns-2)
+is-ascii-spec = tie.close (tie.spec (λ c κs. search needs) returns (λ c κs. search needs) returns-2)

@@ -5,20 +5,8 @@ use Rattle.values.proofs.UnicodeLaws.{scalar-one, scalar-two, scalar-th
 use Rattle.values.proofs.unicode.scalar.Statement.{statement}
 use Rattle.values.proofs.unicode.scalar.Tie as tie
 
-shared-slice-read-a : tie.Need-shared-slice-read-a
-shared-slice-read-a c = search needs
-
 cast-a : tie.Need-cast-a
 cast-a c = omega (arith, c .shared-slice-known2 .given (c .before .before .args .at))
-
-sequence-requires : tie.Need-sequence-requires
-sequence-requires c κs = search needs
-
-sequence-requires-2 : tie.Need-sequence-requires-2
-sequence-requires-2 c κs = search needs
-
-sequence-requires-3 : tie.Need-sequence-requires-3
-sequence-requires-3 c κs = search needs
 
 returns : tie.Need-returns
 returns c =
@@ -54,11 +42,11 @@ pub scalar-spec : {M : Type 1} → statement M
 scalar-spec =
     tie.close
     (tie.spec
-    shared-slice-read-a
+    (λ c. search needs)
     cast-a
-    sequence-requires
-    sequence-requires-2
-    sequence-requires-3
+    (λ c κs. search needs)
+    (λ c κs. search needs)
+    (λ c κs. search needs)
     returns
     returns-2
     returns-3

@@ -17,9 +17,6 @@ Inv-loop v at k least bits n₀ left₀ i₀ n left i = (at < i) × (i ≤ lengt
 abbrev μ-loop : tie.MeasureT-loop
 μ-loop v at k least bits n₀ left₀ i₀ n left i = left
 
-add-i : tie.Need-add-i Inv-loop μ-loop
-add-i c = omega arith
-
 loop-holds : tie.Need-loop-holds Inv-loop μ-loop
 loop-holds c = (omega arith, omega arith, omega arith, cap-first (c .before .args .k) (c .before .args .bits) (omega arith), refl)
 
@@ -28,9 +25,6 @@ returns c =
     let l = c .before .before in
     let a = l .before .before .args in
     (omega arith, λ rest. sequence-fail rest (a .k) (a .least) (a .bits) (drop (a .at + 1) (a .v .now)) (l .loop .inv .4 ∙ continued-short (a .v .now) (l .loop .i) (l .loop .left) (l .loop .n) (omega arith) (omega arith)))
-
-shared-slice-read-b : tie.Need-shared-slice-read-b Inv-loop μ-loop
-shared-slice-read-b c = search needs
 
 returns-2 : tie.Need-returns-2 Inv-loop μ-loop
 returns-2 c =
@@ -47,26 +41,11 @@ returns-2 c =
 mul-n : tie.Need-mul-n Inv-loop μ-loop
 mul-n c = omega (arith, cap-most (c .before .before .before .before .before .loop .left) (c .before .before .before .before .before .loop .n) (omega arith) (omega arith))
 
-cast-n : tie.Need-cast-n Inv-loop μ-loop
-cast-n c = search needs
-
-sub-n : tie.Need-sub-n Inv-loop μ-loop
-sub-n c = search needs
-
 add-n : tie.Need-add-n Inv-loop μ-loop
 add-n c =
     let l = c .before .before .before .before .before in
     let b = getD (l .before .before .args .v .now) (l .loop .i) 0 in
     omega (arith, cap-most (l .loop .left) (l .loop .n) (omega arith) (omega arith), leb-false 0xc0 b (c .if3 .left))
-
-sub-left : tie.Need-sub-left Inv-loop μ-loop
-sub-left c = search needs
-
-add-i-2 : tie.Need-add-i-2 Inv-loop μ-loop
-add-i-2 c = search needs
-
-loop-less : tie.Need-loop-less Inv-loop μ-loop
-loop-less c = omega arith
 
 loop-again : tie.Need-loop-again Inv-loop μ-loop
 loop-again c =
@@ -80,12 +59,6 @@ loop-again c =
       cap-next (l .loop .left) (l .loop .n) b (omega arith) (omega arith) (l .loop .inv .3) h,
       l .loop .inv .4 ∙ continued-more (a .v .now) (l .loop .i) (l .loop .left) (l .loop .n) (omega arith) (omega arith) (omega arith) h,
     )
-
-is-scalar-requires : tie.Need-is-scalar-requires Inv-loop μ-loop
-is-scalar-requires c κs = search needs
-
-sub-result : tie.Need-sub-result Inv-loop μ-loop
-sub-result c = omega arith
 
 returns-3 : tie.Need-returns-3 Inv-loop μ-loop
 returns-3 c =
@@ -117,20 +90,20 @@ sequence-spec =
     (tie.spec
     Inv-loop
     μ-loop
-    add-i
+    (λ c. omega arith)
     loop-holds
     returns
-    shared-slice-read-b
+    (λ c. search needs)
     returns-2
     mul-n
-    cast-n
-    sub-n
+    (λ c. search needs)
+    (λ c. search needs)
     add-n
-    sub-left
-    add-i-2
-    loop-less
+    (λ c. search needs)
+    (λ c. search needs)
+    (λ c. omega arith)
     loop-again
-    is-scalar-requires
-    sub-result
+    (λ c κs. search needs)
+    (λ c. omega arith)
     returns-3
     returns-4)
