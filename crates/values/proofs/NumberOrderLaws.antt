@@ -283,3 +283,11 @@ pub value-order-signed :
     (k : Kind) (a b : Text) → isNumber k ≡ true → isOfKind k a ≡ true → isOfKind k b ≡ true → valueOrder k .cmp a b ≡ signedOrder a b
 unfolding valueOrder ranked
 value-order-signed k a b n p q = rank-decides (valueNumber k) integers texts a b (equal-number-equal-bytes k a b n p q) ∙ number-order k a b n p q
+
+-- the same where the signs are told
+pub value-order-told :
+    (k : Kind) (a b : Text) {m n s t : Bool} {o : Ordering} →
+    m ≡ isNegative a → m ≡ s → n ≡ isNegative b → n ≡ t →
+    o ≡ cond s (cond t (sizeOrder b a) Ordering·lt) (cond t Ordering·gt (sizeOrder a b)) →
+    isNumber k ≡ true → isOfKind k a ≡ true → isOfKind k b ≡ true → o ≡ valueOrder k .cmp a b
+value-order-told k a b p e q f is n x y = is ∙ sym (value-order-signed k a b n x y ∙ rw (sym p ∙ e, sym q ∙ f))

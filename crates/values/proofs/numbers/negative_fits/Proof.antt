@@ -1,35 +1,13 @@
+-- Each arm compares with the numeral of the largest number that fits, and a width that is none of the four is 8.
 use borrow.Author.Needs.{needs}
-use native.Mathlib.Omega.{arith}
 use mathlib.Core.Path.{refl}
 use Rattle.values.specs.Decimal.{isDigit, areDigits, numeralAfter, numeral, isNatural}
 use Rattle.values.proofs.NumberStepLaws.{width-eight}
 use Rattle.values.proofs.numbers.negative_fits.Statement.{statement}
 use Rattle.values.proofs.numbers.negative_fits.Tie as tie
 
-returns : tie.Need-returns
-unfolding isNatural areDigits isDigit numeral numeralAfter
-returns c = λ w n. rw (c .before .before .match .keys1) (c .at-most .ensures n refl)
-
-returns-2 : tie.Need-returns-2
-unfolding isNatural areDigits isDigit numeral numeralAfter
-returns-2 c = λ w n. rw (c .before .before .match .keys2) (c .at-most2 .ensures n refl)
-
-returns-3 : tie.Need-returns-3
-unfolding isNatural areDigits isDigit numeral numeralAfter
-returns-3 c = λ w n. rw (c .before .before .match .keys3) (c .at-most3 .ensures n refl)
-
-returns-4 : tie.Need-returns-4
-unfolding isNatural areDigits isDigit numeral numeralAfter
-returns-4 c = λ w n. rw (c .before .before .match .keys4) (c .at-most4 .ensures n refl)
-
-returns-5 : tie.Need-returns-5
-unfolding isNatural areDigits isDigit numeral numeralAfter
-returns-5 c =
-    λ w n.
-    rw (width-eight (c .before .before .before .before .args .width) w (λ e. omega arith) (λ e. omega arith) (λ e. omega arith) (λ e. omega arith))
-    (c .at-most5 .ensures n refl)
-
 pub negative-fits-spec : {M : Type 1} → statement M
+unfolding isNatural areDigits isDigit numeral numeralAfter
 negative-fits-spec =
     tie.close
     (tie.spec
@@ -43,8 +21,8 @@ negative-fits-spec =
     (λ c κs. search needs)
     (λ c. search needs)
     (λ c κs. search needs)
-    returns
-    returns-2
-    returns-3
-    returns-4
-    returns-5)
+    (λ c w n. rw (c .before .before .match .keys1) (c .at-most .ensures n refl))
+    (λ c w n. rw (c .before .before .match .keys2) (c .at-most2 .ensures n refl))
+    (λ c w n. rw (c .before .before .match .keys3) (c .at-most3 .ensures n refl))
+    (λ c w n. rw (c .before .before .match .keys4) (c .at-most4 .ensures n refl))
+    (λ c w n. rw (width-eight (c .before .before .match .rest) w) (c .at-most5 .ensures n refl)))

@@ -1,35 +1,14 @@
+-- Each arm compares with the numeral of the largest number that fits, and a width that is none of the four is 8.
 use borrow.Author.Needs.{needs}
-use native.Mathlib.Omega.{arith}
-use mathlib.Core.Path.{refl, _∙_}
+use mathlib.Core.Path.{refl}
+use lib.Dec.{leb·suc-suc}
 use Rattle.values.specs.Decimal.{isDigit, areDigits, numeralAfter, numeral, isNatural}
-use Rattle.values.proofs.NumberStepLaws.{leb-ltb, width-eight}
+use Rattle.values.proofs.NumberStepLaws.{width-eight}
 use Rattle.values.proofs.numbers.unsigned_fits.Statement.{statement}
 use Rattle.values.proofs.numbers.unsigned_fits.Tie as tie
 
-returns : tie.Need-returns
-unfolding isNatural areDigits isDigit numeral numeralAfter
-returns c = λ w n. rw (c .before .before .match .keys1) (c .at-most .ensures n refl ∙ leb-ltb (numeral (c .before .before .before .before .args .v .now)) 255)
-
-returns-2 : tie.Need-returns-2
-unfolding isNatural areDigits isDigit numeral numeralAfter
-returns-2 c = λ w n. rw (c .before .before .match .keys2) (c .at-most2 .ensures n refl ∙ leb-ltb (numeral (c .before .before .before .before .args .v .now)) 65535)
-
-returns-3 : tie.Need-returns-3
-unfolding isNatural areDigits isDigit numeral numeralAfter
-returns-3 c = λ w n. rw (c .before .before .match .keys3) (c .at-most3 .ensures n refl ∙ leb-ltb (numeral (c .before .before .before .before .args .v .now)) 16777215)
-
-returns-4 : tie.Need-returns-4
-unfolding isNatural areDigits isDigit numeral numeralAfter
-returns-4 c = λ w n. rw (c .before .before .match .keys4) (c .at-most4 .ensures n refl ∙ leb-ltb (numeral (c .before .before .before .before .args .v .now)) 4294967295)
-
-returns-5 : tie.Need-returns-5
-unfolding isNatural areDigits isDigit numeral numeralAfter
-returns-5 c =
-    λ w n.
-    rw (width-eight (c .before .before .before .before .args .width) w (λ e. omega arith) (λ e. omega arith) (λ e. omega arith) (λ e. omega arith))
-    (c .at-most5 .ensures n refl ∙ leb-ltb (numeral (c .before .before .before .before .args .v .now)) 18446744073709551615)
-
 pub unsigned-fits-spec : {M : Type 1} → statement M
+unfolding isNatural areDigits isDigit numeral numeralAfter
 unsigned-fits-spec =
     tie.close
     (tie.spec
@@ -43,8 +22,8 @@ unsigned-fits-spec =
     (λ c κs. search needs)
     (λ c. search needs)
     (λ c κs. search needs)
-    returns
-    returns-2
-    returns-3
-    returns-4
-    returns-5)
+    (λ c w n. rw (c .before .before .match .keys1, leb·suc-suc _ 255) (c .at-most .ensures n refl))
+    (λ c w n. rw (c .before .before .match .keys2, leb·suc-suc _ 65535) (c .at-most2 .ensures n refl))
+    (λ c w n. rw (c .before .before .match .keys3, leb·suc-suc _ 16777215) (c .at-most3 .ensures n refl))
+    (λ c w n. rw (c .before .before .match .keys4, leb·suc-suc _ 4294967295) (c .at-most4 .ensures n refl))
+    (λ c w n. rw (width-eight (c .before .before .match .rest) w, leb·suc-suc _ 18446744073709551615) (c .at-most5 .ensures n refl)))
