@@ -1,14 +1,15 @@
 -- Reading the fields of a moment, and the laws of its form.
 -- Assumes nothing.
 use mathlib.Core.Path.{_≡_, refl, sym, ap, ap₂, _∙_}
-use mathlib.Core.Bool.{Bool, true, false, cond, _&&_, and-false, true≢false, false≢true}
+use mathlib.Core.Logic.{_⊎_, ⊎-elim}
+use mathlib.Core.Bool.{Bool, true, false, cond, not, _&&_, and-false, true≢false, false≢true}
 use mathlib.Core.List.{List, [], _∷_, _++_}
 use Prim.Native.Nat.{ℕ, zero, suc, _+_, _-_, _*_, _≤_, _<_, compare}
 use native.Mathlib.Omega.{arith}
 use lib.Dec.{eqb}
 use lib.ListN.{length, getD, take, drop, drop-of-length-le, take-append-drop}
 use lib.Seq.{take-add, drop-drop}
-use borrow.Author.Tests.{eqb-true, eqb-false}
+use borrow.Author.Tests.{eqb-true, eqb-false, not-true, not-false}
 use Rattle.model.specs.Order.{texts, lists, numbers, lex, equal, nat-turn}
 use Rattle.model.proofs.Cases.{three}
 use Rattle.model.proofs.OrderLaws.{eq-compare}
@@ -19,9 +20,10 @@ use Rattle.values.proofs.NumeralLaws.{and-left, and-right, digits-order
 
 -- ---- fields
 
-pub field-two : (v : List ℕ) (at : ℕ) → at + 2 ≤ length v → field v at 2 ≡ 10 * (getD v at 0 - 48) + (getD v (at + 1) 0 - 48)
+pub field-two :
+    (v : List ℕ) (at : ℕ) {a b : ℕ} → at + 2 ≤ length v → a ≡ getD v at 0 - 48 → b ≡ getD v (at + 1) 0 - 48 → 10 * a + b ≡ field v at 2
 unfolding field numeral numeralAfter
-field-two v at h = rw (drop-next v at (omega arith), drop-next v (at + 1) (omega arith)) (omega arith)
+field-two v at h p q = rw (drop-next v at (omega arith), drop-next v (at + 1) (omega arith)) (omega arith)
 
 numeral-append : (n : ℕ) (x y : List ℕ) → numeralAfter n (x ++ y) ≡ numeralAfter (numeralAfter n x) y
 unfolding numeralAfter
@@ -33,17 +35,23 @@ unfolding field numeral numeralAfter
 after-two n v at h = rw (drop-next v at (omega arith), drop-next v (at + 1) (omega arith)) (omega arith)
 
 -- two digits more
-pub field-more : (v : List ℕ) (at n : ℕ) → at + n + 2 ≤ length v → field v at (n + 2) ≡ 100 * field v at n + field v (at + n) 2
+pub field-more :
+    (v : List ℕ) (at n : ℕ) {a b : ℕ} → at + n + 2 ≤ length v → a ≡ field v at n → b ≡ field v (at + n) 2 → 100 * a + b ≡ field v at (n + 2)
 unfolding field numeral
-field-more v at n h =
-    ap (numeralAfter 0) (take-add n 2 (drop at v)) ∙ numeral-append 0 (take n (drop at v)) (take 2 (drop n (drop at v)))
+field-more v at n h p q =
+    rw (p, q)
+    (sym
+    (ap (numeralAfter 0) (take-add n 2 (drop at v)) ∙ numeral-append 0 (take n (drop at v)) (take 2 (drop n (drop at v)))
     ∙ ap (λ (x : List ℕ). numeralAfter (numeralAfter 0 (take n (drop at v))) (take 2 x)) (drop-drop n at v)
-    ∙ after-two (numeralAfter 0 (take n (drop at v))) v (at + n) h
+    ∙ after-two (numeralAfter 0 (take n (drop at v))) v (at + n) h))
 
 -- a text of a whole second has no fraction
 pub field-none : (v : List ℕ) → length v ≤ 20 → field v 20 6 ≡ 0
 unfolding field numeral numeralAfter
 field-none v h = rw (drop-of-length-le v h)
+
+pub fraction-none : (v : List ℕ) → length v < 26 → (length v ≡ 20) ⊎ (26 ≤ length v) → 0 ≡ field v 20 6
+fraction-none v h k = sym (field-none v (⊎-elim (λ e. omega arith) (λ e. omega arith) k))
 
 -- ---- forms
 
@@ -64,15 +72,30 @@ form-length form v e = go (eqb (length form) (length v)) refl
     go true p = eqb-true (length form) (length v) p
     go false p = let z : true ≡ false = sym e ∙ form-other form v (eqb-false (length form) (length v) p) in absurd (true≢false z)
 
-pub form-step :
-    (form v : List ℕ) (i : ℕ) → i < length form → i < length v →
-    hasForm (drop i form) (drop i v) ≡ (fitsForm (getD form i 0) (getD v i 0) && hasForm (drop (i + 1) form) (drop (i + 1) v))
-unfolding hasForm
-form-step form v i h k = rw (drop-next form i h, drop-next v i k)
+-- as many bytes as the form has: the answer for all of them is the answer for the rest of both, from i on
+pub record Formed (form v : List ℕ) (i : ℕ) : Type 0 where
+  pub long : length form ≡ length v
+  pub within : i ≤ length v
+  pub same : hasForm form v ≡ hasForm (drop i form) (drop i v)
 
-pub form-end : (form v : List ℕ) (i : ℕ) → length form ≤ i → length v ≤ i → hasForm (drop i form) (drop i v) ≡ true
-unfolding hasForm
-form-end form v i h k = rw (drop-of-length-le form h, drop-of-length-le v k)
+pub formed-all : (form v : List ℕ) → length form ≡ length v → Formed form v 0
+formed-all form v e = record { long = e; within = omega arith; same = refl }
+
+module _ {form v : List ℕ} {i : ℕ} (r : Formed form v i) where
+  module _ (h : i < length v) {t : Bool} (told : t ≡ fitsForm (getD form i 0) (getD v i 0)) where
+    step : hasForm form v ≡ (t && hasForm (drop (i + 1) form) (drop (i + 1) v))
+    unfolding hasForm
+    step = r .same ∙ rw (drop-next form i (omega (arith, r .long)), drop-next v i h, told)
+
+    pub formed-not : not t ≡ true → false ≡ hasForm form v
+    formed-not e = sym (step ∙ rw (not-true t e))
+
+    pub formed-next : not t ≡ false → Formed form v (i + 1)
+    formed-next e = record { long = r .long; within = omega arith; same = step ∙ rw (not-false t e) }
+
+  pub formed-end : length v ≤ i → true ≡ hasForm form v
+  unfolding hasForm
+  formed-end h = sym (r .same ∙ rw (drop-of-length-le form {i = i} (omega (arith, r .long)), drop-of-length-le v h))
 
 -- no 0 among the bytes
 abbrev pub plain : List ℕ → Bool
@@ -94,6 +117,9 @@ form-text (f ∷ form) (b ∷ v) h = go (eqb f 48) refl h (form-text form v)
         (λ l. rw (e, nat-turn b f, l))
         (λ s. rw (e, nat-turn b f, s) (ih q))
         (λ g. rw (e, nat-turn b f, g))
+
+pub form-told : (form v : List ℕ) {t : Bool} → plain form ≡ true → t ≡ hasForm form v → t ≡ equal texts v form
+form-told form v h told = told ∙ form-text form v h
 
 -- ---- parts of a text that has a form
 

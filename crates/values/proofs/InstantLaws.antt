@@ -1,14 +1,14 @@
 -- The instants of datetimes: their order is that of the digits of date and time, and then of the fraction, so equal instants have equal bytes.
 -- Assumes nothing.
-use mathlib.Core.Path.{_≡_, refl, sym, _∙_}
+use mathlib.Core.Path.{_≡_, refl, sym, ap₂, _∙_}
 use mathlib.Core.Logic.{_⊎_, inl, inr, ⊎-elim}
-use mathlib.Core.Bool.{Bool, true, false, _&&_, _||_, false≢true}
+use mathlib.Core.Bool.{Bool, true, false, not, _&&_, _||_, false≢true}
 use mathlib.Core.List.{List, _++_}
-use Prim.Native.Nat.{ℕ, _+_, _*_, _≤_, _<_, compare, Ordering·lt, Ordering·eq, Ordering·gt}
+use Prim.Native.Nat.{ℕ, _+_, _*_, _≤_, _<_, compare, Ordering, Ordering·lt, Ordering·eq, Ordering·gt}
 use native.Mathlib.Omega.{arith}
 use lib.Dec.{ltb, leb}
 use lib.ListN.{length, take, drop, drop-of-length-le}
-use borrow.Author.Tests.{ltb-true, leb-true}
+use borrow.Author.Tests.{ltb-true, leb-true, le-leb, lt-leb, lt-ltb, le-ltb, not-true, not-false}
 use Rattle.model.specs.Order.{Text, integers, integerCmp, ranked, rankCmp}
 use Rattle.model.proofs.OrderLaws.{lt-compare, gt-compare, eq-compare}
 use Rattle.packed.specs.Ascii.{ascii}
@@ -16,7 +16,7 @@ use Rattle.values.specs.Calendar.{hasForm, wholeSecond, withFraction, fi
 use Rattle.values.specs.Spaces.{datetime}
 use Rattle.values.specs.ValueOrder.{valueNumber, valueOrder}
 use Rattle.values.proofs.NumeralLaws.{and-left, and-right, numeral-below}
-use Rattle.values.proofs.CalendarLaws.{form-length, form-part, field-none, zeros-digits, same-mark, same-field}
+use Rattle.values.proofs.CalendarLaws.{form-other, form-length, form-part, field-none, zeros-digits, same-mark, same-field}
 use Rattle.values.proofs.MomentLaws.{Day, dateOf, Along, days-along, along-more, ordered, days-in-most}
 
 -- ---- what a datetime is
@@ -84,6 +84,9 @@ fraction-length v e = sym (form-length (ascii "0000-00-00T00:00:00.000000Z") v e
 pub datetime-length : (v : Text) → isDatetime v ≡ true → (length v ≡ 20) ⊎ (26 ≤ length v)
 datetime-length v e = ⊎-elim (λ w. inl (whole-length v w)) (λ w. let n = fraction-length v (w .0) in inr (omega arith)) (formed v e)
 
+pub datetime-short : (v : Text) → length v < 20 → isDatetime v ≡ true → ⊥
+datetime-short v h e = ⊎-elim (λ n. omega arith) (λ n. omega arith) (datetime-length v e)
+
 whole-microsecond : (v : Text) → wholeSecond v ≡ true → microsecond v ≡ 0
 whole-microsecond v e = let n = whole-length v e in field-none v (omega arith)
 
@@ -95,6 +98,69 @@ fraction-below v e =
 
 microsecond-below : (v : Text) → isDatetime v ≡ true → microsecond v < 1000000
 microsecond-below v e = ⊎-elim (λ w. let n = whole-microsecond v w in omega arith) (λ w. fraction-below v (w .0)) (formed v e)
+
+-- ---- a moment and a datetime by the questions of the code
+
+-- the day is told, then the hour, the minute and the second
+module _
+    (v : Text) {y m d : ℕ} {t : Bool} (year-is : y ≡ year v) (month-is : m ≡ month v) (day-is : d ≡ day v)
+    (told : t ≡ (leb 1 y && leb 1 m && leb m 12 && leb 1 d && leb d (daysIn y m))) where
+  day-told : (leb 1 (year v) && leb 1 (month v) && leb (month v) 12 && leb 1 (day v) && leb (day v) (daysIn (year v) (month v))) ≡ t
+  day-told = rw (← year-is, ← month-is, ← day-is) (sym told)
+
+  pub moment-no-day : not t ≡ true → false ≡ isMoment v
+  unfolding isMoment
+  moment-no-day e = rw (day-told, not-true t e)
+
+  module _ (e : not t ≡ false) {h : ℕ} (hour-is : h ≡ hour v) where
+    pub moment-no-hour : 23 < h → leb h 23 ≡ isMoment v
+    unfolding isMoment
+    moment-no-hour l = rw (day-told, not-false t e, ← hour-is, lt-leb h 23 l)
+
+    module _ (l : h ≤ 23) {n : ℕ} (minute-is : n ≡ minute v) where
+      pub moment-no-minute : 59 < n → leb n 59 ≡ isMoment v
+      unfolding isMoment
+      moment-no-minute k = rw (day-told, not-false t e, ← hour-is, le-leb h 23 l, ← minute-is, lt-leb n 59 k)
+
+      pub moment-second : n ≤ 59 → {s : ℕ} → s ≡ second v → leb s 59 ≡ isMoment v
+      unfolding isMoment
+      moment-second k second-is = rw (day-told, not-false t e, ← hour-is, le-leb h 23 l, ← minute-is, le-leb n 59 k, ← second-is)
+
+module _ (v : Text) where
+  -- twenty bytes are of a whole second or of no datetime
+  module _ (n : length v ≡ 20) {t : Bool} (told : t ≡ wholeSecond v) where
+    pub whole-not : t ≡ false → t ≡ isDatetime v
+    unfolding isDatetime withFraction ascii
+    whole-not e = e ∙ rw (sym told ∙ e, form-other (ascii "0000-00-00T00:00:00.000000Z") v (λ k. omega arith))
+
+    pub whole-is : t ≡ true → {r : Bool} → r ≡ isMoment v → r ≡ isDatetime v
+    unfolding isDatetime
+    whole-is e is = rw (sym told ∙ e) is
+
+  module _ {t : Bool} (told : t ≡ withFraction v) where
+    pub fraction-long : not t ≡ false → 20 ≤ length v
+    fraction-long e = omega (arith, fraction-length v (sym told ∙ not-false t e))
+
+    module _ (n : length v ≡ 20 → ⊥) where
+      not-whole : wholeSecond v ≡ false
+      unfolding wholeSecond ascii
+      not-whole = form-other (ascii "0000-00-00T00:00:00Z") v (λ k. n (sym k))
+
+      pub fraction-not : not t ≡ true → false ≡ isDatetime v
+      unfolding isDatetime
+      fraction-not e = rw (not-whole, sym told ∙ not-true t e)
+
+      module _ (e : not t ≡ false) {f : ℕ} (is : (length v ≡ 20) ⊎ (26 ≤ length v) → f ≡ microsecond v) where
+        number : microsecond v ≡ f
+        number = let l = fraction-length v (sym told ∙ not-false t e) in sym (is (inr (omega arith)))
+
+        pub fraction-zero : f ≤ 0 → ltb 0 f ≡ isDatetime v
+        unfolding isDatetime
+        fraction-zero l = rw (not-whole, sym told ∙ not-false t e, number, le-ltb 0 f l)
+
+        pub fraction-is : 0 < f → {r : Bool} → r ≡ isMoment v → r ≡ isDatetime v
+        unfolding isDatetime
+        fraction-is l moment = rw (not-whole, sym told ∙ not-false t e, number, lt-ltb 0 f l) moment
 
 -- ---- the order of instants
 
@@ -232,3 +298,19 @@ second-order a b p q s =
     (λ l. datetime-less a b (later-fraction a b p q s l) ∙ sym (lt-compare (microsecond a) (microsecond b) l))
     (λ e. datetime-same a b (same-bytes a b p q s e) ∙ sym (eq-compare (microsecond a) (microsecond b) e))
     (λ g. datetime-more a b (later-fraction b a q p (sym s) g) ∙ sym (gt-compare (microsecond a) (microsecond b) g))
+
+-- by the numbers of the digits, and in one second by the fractions
+module _ (a b : Text) {x y : ℕ} (left : x ≡ stampOf a) (right : y ≡ stampOf b) where
+  pub stamp-less : x < y → isDatetime a ≡ true → isDatetime b ≡ true → Ordering·lt ≡ valueOrder datetime .cmp a b
+  stamp-less l p q = sym (datetime-less a b (later-stamp a b p q (rw (left, right) at l)))
+
+  pub stamp-more : y < x → isDatetime a ≡ true → isDatetime b ≡ true → Ordering·gt ≡ valueOrder datetime .cmp a b
+  stamp-more l p q = sym (datetime-more a b (later-stamp b a q p (rw (right, left) at l)))
+
+  pub stamp-same :
+      y ≤ x → x ≤ y → {f g : ℕ} {o : Ordering} →
+      ((length a ≡ 20) ⊎ (26 ≤ length a) → f ≡ microsecond a) → ((length b ≡ 20) ⊎ (26 ≤ length b) → g ≡ microsecond b) →
+      o ≡ compare f g → isDatetime a ≡ true → isDatetime b ≡ true → o ≡ valueOrder datetime .cmp a b
+  stamp-same h k m n is p q =
+      let s : x ≡ y = omega arith in
+      is ∙ ap₂ compare (m (datetime-length a p)) (n (datetime-length b q)) ∙ sym (second-order a b p q (sym left ∙ s ∙ right))

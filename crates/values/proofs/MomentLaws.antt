@@ -1,14 +1,14 @@
 -- The days and seconds of the calendar rise with the digits that write them, from the year down.
 -- Assumes nothing.
 use mathlib.Core.Path.{_≡_, refl, subst}
-use mathlib.Core.Logic.{⊎-elim}
+use mathlib.Core.Logic.{_⊎_, inl, inr, ⊎-elim}
 use mathlib.Core.Bool.{Bool, true, false, cond, not, _&&_, _||_, false≢true}
 use Prim.Native.Nat.{ℕ, zero, suc, _+_, _-_, _*_, _/_, _%_, _≤_, _<_}
 use native.Mathlib.Omega.{arith}
 use native.Mathlib.Nat.{add-zero, add-suc, suc-mul, mul-le-mul-right}
 use native.Mathlib.Numerals.{sub-one}
 use lib.Dec.{ltb, eqb}
-use borrow.Author.Tests.{ltb-true, eqb-true, eqb-false, ltb-false}
+use borrow.Author.Tests.{ltb-true, eqb-true, eqb-false, ltb-false, ne-eqb}
 use Rattle.packed.proofs.LayoutLaws.{lt-or-ge}
 use Rattle.values.specs.Calendar.{isLeap, daysIn, daysOfYears, daysOfMonths}
 
@@ -130,6 +130,22 @@ days-in-most y m = go (eqb m 2) (isLeap y) (eqb m 4 || eqb m 6 || eqb m 9 || eqb
     go true false r = omega arith
     go false q true = omega arith
     go false q false = omega arith
+
+module _ (y m : ℕ) where
+  pub days-thirty : (m ≡ 4) ⊎ ((m ≡ 6) ⊎ ((m ≡ 9) ⊎ (m ≡ 11))) → 30 ≡ daysIn y m
+  unfolding daysIn
+  days-thirty k = ⊎-elim (λ e. rw e) (⊎-elim (λ e. rw e) (⊎-elim (λ e. rw e) (λ e. rw e))) k
+
+  pub days-most : (m ≡ 2 → ⊥) → ((m ≡ 4) ⊎ ((m ≡ 6) ⊎ ((m ≡ 9) ⊎ (m ≡ 11))) → ⊥) → 31 ≡ daysIn y m
+  unfolding daysIn
+  days-most h k =
+      rw (
+        ne-eqb m 2 h,
+        ne-eqb m 4 (λ e. k (inl e)),
+        ne-eqb m 6 (λ e. k (inr (inl e))),
+        ne-eqb m 9 (λ e. k (inr (inr (inl e)))),
+        ne-eqb m 11 (λ e. k (inr (inr (inr e)))),
+      )
 
 -- two numbers in one of their three orders
 pub ordered : {C : Type 0} (a b : ℕ) → (a < b → C) → (a ≡ b → C) → (b < a → C) → C

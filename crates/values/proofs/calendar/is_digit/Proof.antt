@@ -3,13 +3,10 @@ use Rattle.values.specs.Decimal.{isDigit}
 use Rattle.values.proofs.calendar.is_digit.Statement.{statement}
 use Rattle.values.proofs.calendar.is_digit.Tie as tie
 
-returns : tie.Need-returns
-unfolding isDigit
-returns c = rw (le-leb 48 (c .before .args .b) (c .if1 .taken))
-
-returns-2 : tie.Need-returns-2
-unfolding isDigit
-returns-2 c = rw (lt-leb 48 (c .before .args .b) (c .if1 .left))
-
 pub is-digit-spec : {M : Type 1} → statement M
-is-digit-spec = tie.close (tie.spec returns returns-2)
+unfolding isDigit
+is-digit-spec =
+    tie.close
+    (tie.spec
+    (λ c. search le-leb)
+    (λ c. search lt-leb))
