@@ -16,8 +16,8 @@ module _ (a t : Bool) {n : Bool} (told : n ≡ a) where
   pub and-yes : n ≡ true → {r : Bool} → (a ≡ true → r ≡ t) → r ≡ a && t
   and-yes e rest = rw (sym told ∙ e) (rest (sym told ∙ e))
 
-  pub or-yes : n ≡ true → true ≡ a || t
-  or-yes e = rw (sym told ∙ e)
+  pub or-yes : n ≡ true → n ≡ a || t
+  or-yes e = e ∙ rw (sym told ∙ e)
 
   pub or-no : n ≡ false → {r : Bool} → r ≡ t → r ≡ a || t
   or-no e rest = rw (sym told ∙ e) rest
