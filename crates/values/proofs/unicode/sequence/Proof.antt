@@ -1,88 +1,45 @@
-use mathlib.Core.Logic.{inl, inr, ⊎-elim}
-use mathlib.Core.Bool.{true, false}
-use mathlib.Core.Path.{_≡_, refl, sym, _∙_}
-use Prim.Native.Nat.{_≤_, _<_, _+_}
-use native.Mathlib.Omega.{arith}
-use lib.ListN.{length, getD, drop}
-use borrow.Author.Tests.{leb-true, leb-false, le-leb, lt-leb}
+-- What is to be read after the lead byte is what is left to be read at the loop's place (`Continued`): each byte goes one on, or the sequence fails.
 use borrow.Author.Needs.{needs}
-use Rattle.values.specs.Unicode.{readContinued}
-use Rattle.values.proofs.UnicodeLaws.{cap, cap-first, cap-next, cap-most, continued-end, continued-short, continued-other, continued-more, sequence-fail, sequence-is, sized}
+use native.Mathlib.Omega.{arith}
+use mathlib.Core.Logic.{⊎-elim}
+use borrow.Author.Tests.{leb-false}
+use Prim.Native.Nat.{_<_}
+use Rattle.values.proofs.UnicodeLaws.{Continued, continued-first, continued-small, continued-short, continued-low, continued-high, continued-more}
+use Rattle.values.proofs.UnicodeLaws.{sequence-below, sequence-not, sequence-is}
 use Rattle.values.proofs.unicode.sequence.Statement.{statement}
 use Rattle.values.proofs.unicode.sequence.Tie as tie
 
 abbrev Inv-loop : tie.InvT-loop
-Inv-loop v at k least bits n₀ left₀ i₀ n left i = (at < i) × (i ≤ length v) × (left ≤ 3) × (n < cap left) × (readContinued k bits (drop (at + 1) v) ≡ readContinued left n (drop i v))
+Inv-loop v at k least bits n₀ left₀ i₀ n left i = Continued v at k bits n left i
 
 abbrev μ-loop : tie.MeasureT-loop
 μ-loop v at k least bits n₀ left₀ i₀ n left i = left
 
-loop-holds : tie.Need-loop-holds Inv-loop μ-loop
-loop-holds c = (omega arith, omega arith, omega arith, cap-first (c .before .args .k) (c .before .args .bits) (omega arith), refl)
+-- ---- the places
 
-returns : tie.Need-returns Inv-loop μ-loop
-returns c =
-    let l = c .before .before in
-    let a = l .before .before .args in
-    (omega arith, λ rest. sequence-fail rest (a .k) (a .least) (a .bits) (drop (a .at + 1) (a .v .now)) (l .loop .inv .4 ∙ continued-short (a .v .now) (l .loop .i) (l .loop .left) (l .loop .n) (omega arith) (omega arith)))
+abbrev to-loop : tie.Else3 Inv-loop μ-loop → tie.At-loop Inv-loop μ-loop
+to-loop c = c .before .before .before .before .before
+
+-- ---- the needs
 
 returns-2 : tie.Need-returns-2 Inv-loop μ-loop
-returns-2 c =
-    let l = c .before .before .before .before in
-    let a = l .before .before .args in
-    let b = getD (a .v .now) (l .loop .i) 0 in (
-      omega arith,
-      λ rest. sequence-fail rest (a .k) (a .least) (a .bits) (drop (a .at + 1) (a .v .now))
-          (l .loop .inv .4
-          ∙ continued-other (a .v .now) (l .loop .i) (l .loop .left) (l .loop .n) (omega arith) (omega arith)
-          (⊎-elim (λ w. inl (w .taken)) (λ w. inr (leb-true 0xc0 b (w .1 .taken))) (c .if2 .came))),
-    )
+returns-2 c = (search needs, ⊎-elim (λ w. search continued-low) (λ w. search continued-high) (c .if2 .came))
 
-mul-n : tie.Need-mul-n Inv-loop μ-loop
-mul-n c = omega (arith, cap-most (c .before .before .before .before .before .loop .left) (c .before .before .before .before .before .loop .n) (omega arith) (omega arith))
+small : (c : tie.Else3 Inv-loop μ-loop) → to-loop c .loop .n < 131072
+small c = search continued-small
 
 add-n : tie.Need-add-n Inv-loop μ-loop
-add-n c =
-    let l = c .before .before .before .before .before in
-    let b = getD (l .before .before .args .v .now) (l .loop .i) 0 in
-    omega (arith, cap-most (l .loop .left) (l .loop .n) (omega arith) (omega arith), leb-false 0xc0 b (c .if3 .left))
-
-loop-again : tie.Need-loop-again Inv-loop μ-loop
-loop-again c =
-    let l = c .before .before .before .before .before in
-    let a = l .before .before .args in
-    let b = getD (a .v .now) (l .loop .i) 0 in
-    let h = leb-false 0xc0 b (c .if3 .left) in (
-      omega arith,
-      omega arith,
-      omega arith,
-      cap-next (l .loop .left) (l .loop .n) b (omega arith) (omega arith) (l .loop .inv .3) h,
-      l .loop .inv .4 ∙ continued-more (a .v .now) (l .loop .i) (l .loop .left) (l .loop .n) (omega arith) (omega arith) (omega arith) h,
-    )
+add-n c = omega (arith, small c, leb-false)
 
 returns-3 : tie.Need-returns-3 Inv-loop μ-loop
 returns-3 c =
-    let l = c .before .before .before .before in
-    let a = l .before .before .args in (
+    let ended = c .before .before .before in (
       omega arith,
-      λ rest. sequence-is rest (a .k) (a .least) (a .bits) (drop (a .at + 1) (a .v .now)) (l .loop .n) (drop (l .loop .i) (a .v .now)) true
-          (l .loop .inv .4 ∙ continued-end (a .v .now) (l .loop .i) (l .loop .left) (l .loop .n) (omega arith))
-          (rw (le-leb (a .least) (l .loop .n) (c .before .before .if4 .taken)) (sym (c .before .is-scalar .ensures) ∙ c .if5 .taken))
-          ∙ sym (sized rest (a .v .now) (a .at) (l .loop .i) (omega arith)),
+      sequence-is (ended .before .loop .inv) _ (ended .loop-test .left) (c .before .before .if4 .taken) (c .before .is-scalar .ensures) (c .if5 .taken),
     )
 
 returns-4 : tie.Need-returns-4 Inv-loop μ-loop
-returns-4 c =
-    let l = c .before .before in
-    let a = l .before .before .args in (
-      omega arith,
-      λ rest. sequence-is rest (a .k) (a .least) (a .bits) (drop (a .at + 1) (a .v .now)) (l .loop .n) (drop (l .loop .i) (a .v .now)) false
-          (l .loop .inv .4 ∙ continued-end (a .v .now) (l .loop .i) (l .loop .left) (l .loop .n) (omega arith))
-          (⊎-elim
-          (λ w. rw (le-leb (a .least) (l .loop .n) (w .0 .taken)) (sym (w .1 .ensures) ∙ w .2 .left))
-          (λ w. rw (lt-leb (a .least) (l .loop .n) (w .left)))
-          (c .if4 .came)),
-    )
+returns-4 c = (search needs, ⊎-elim (λ w. search sequence-not) (λ w. search sequence-below) (c .if4 .came))
 
 pub sequence-spec : {M : Type 1} → statement M
 sequence-spec =
@@ -91,18 +48,18 @@ sequence-spec =
     Inv-loop
     μ-loop
     (λ c. omega arith)
-    loop-holds
-    returns
+    (λ c. search continued-first)
+    (λ c. (search needs, search continued-short))
     (λ c. search needs)
     returns-2
-    mul-n
+    (λ c. omega (arith, small c))
     (λ c. search needs)
     (λ c. search needs)
     add-n
     (λ c. search needs)
     (λ c. search needs)
     (λ c. omega arith)
-    loop-again
+    (λ c. search continued-more)
     (λ c κs. search needs)
     (λ c. omega arith)
     returns-3
