@@ -15,7 +15,7 @@ use Rattle.model.proofs.OrderLaws.{equal-true, equal-false}
 use Rattle.packed.specs.code.Written.{Wrote}
 use Rattle.packed.proofs.LayoutLaws.{lt-or-ge}
 use Rattle.packed.proofs.ReadLaws.{drop-next}
-use Rattle.packed.proofs.WriteLaws.{stored, wrote-then}
+use Rattle.packed.proofs.WriteLaws.{stored, wrote-then, wrote-length}
 use Rattle.values.specs.Decimal.{areDigits, numeralAfter, numeral, digitsBefore, inDecimal}
 use Rattle.values.proofs.NumeralLaws.{digit-least, digits-head, digits-tail, digits-last, digits-more}
 
@@ -40,7 +40,7 @@ pub counted-none : (v : Text) → Counted v 0 0
 unfolding numeral
 counted-none v = record { is = refl; within = omega arith }
 
-module _ (v : Text) (n i : ℕ) (c : Counted v n i) where
+module _ {v : Text} {n i : ℕ} (c : Counted v n i) where
   pub counted-digit : areDigits v ≡ true → i < length v → 48 ≤ getD v i 0
   counted-digit h l = digit-at v i h l
 
@@ -91,18 +91,18 @@ pub decimal-length : (n : ℕ) → length (inDecimal n) ≤ 20
 unfolding inDecimal
 decimal-length n = digits-length 20 n []
 
-pub decimal-last : (n : ℕ) → n < 10 → inDecimal n ≡ (48 + n) ∷ []
+decimal-last : (n : ℕ) → n < 10 → inDecimal n ≡ (48 + n) ∷ []
 unfolding inDecimal
 decimal-last n h = digits-last 19 n [] h
 
-pub decimal-more : (n : ℕ) → 10 ≤ n → n < 10 ^ 20 → inDecimal n ≡ inDecimal (n / 10) ++ ((48 + n % 10) ∷ [])
+decimal-more : (n : ℕ) → 10 ≤ n → n < 10 ^ 20 → inDecimal n ≡ inDecimal (n / 10) ++ ((48 + n % 10) ∷ [])
 unfolding inDecimal
 decimal-more n g h =
     digits-more 19 n [] g
     ∙ (digits-before 19 (n / 10) [] ((48 + n % 10) ∷ [])
     ∙ ap (λ (v : Text). v ++ ((48 + n % 10) ∷ [])) (sym (digits-enough 18 (n / 10) [] (div-lt-iff-lt-mul (omega arith) .1 h))))
 
-pub below-twenty : (n : ℕ) → n < 2 ^ 64 → n < 10 ^ 20
+below-twenty : (n : ℕ) → n < 2 ^ 64 → n < 10 ^ 20
 below-twenty n h = omega arith
 
 -- ---- a text that is compared with a number in decimal, from the last digit back
@@ -148,7 +148,7 @@ left-all v n h =
       within = l;
     }
 
-module _ (v : Text) (n m k : ℕ) (w : Left v n m k) where
+module _ {v : Text} {n m k : ℕ} (w : Left v n m k) where
   not-equal : (d : Text) → (v ≡ d → ⊥) → equal texts v d ≡ false
   not-equal d h = equal-false texts v d .1 h
 
@@ -165,11 +165,12 @@ module _ (v : Text) (n m k : ℕ) (w : Left v n m k) where
     step = w .is ∙ ap (equal texts v) (digits-more (w .most) m (drop k v) (omega arith))
 
     -- were the two equal, so would be what stands at the place before k
-    pub digit-none : k ≡ 0 → equal texts v (inDecimal n) ≡ false
+    pub digit-none : k ≡ 0 → false ≡ equal texts v (inDecimal n)
     digit-none z =
         let b = before (w .most) (m / 10) last in
-        step ∙ not-equal (digitsBefore (w .most) (m / 10) last) (λ e.
-        omega (arith, ap length (e ∙ b .is), length-append (b .front) last, length-drop k v))
+        sym
+        (step ∙ not-equal (digitsBefore (w .most) (m / 10) last) (λ e.
+        omega (arith, ap length (e ∙ b .is), length-append (b .front) last, length-drop k v)))
 
     module _ (o : k ≡ 0 → ⊥) where
       at-place : (front : Text) → v ≡ front ++ last → getD v (k - 1) 0 ≡ 48 + m % 10
@@ -177,10 +178,10 @@ module _ (v : Text) (n m k : ℕ) (w : Left v n m k) where
           let l : length front ≡ k - 1 = omega (arith, ap length e, length-append front last, length-drop k v, w .within, o) in
           ap (λ (t : Text). getD t (k - 1) 0) e ∙ getD-at front (48 + m % 10) (drop k v) 0 (k - 1) l
 
-      pub digit-other : (getD v (k - 1) 0 ≡ 48 + m % 10 → ⊥) → equal texts v (inDecimal n) ≡ false
+      pub digit-other : (getD v (k - 1) 0 ≡ 48 + m % 10 → ⊥) → false ≡ equal texts v (inDecimal n)
       digit-other ne =
           let b = before (w .most) (m / 10) last in
-          step ∙ not-equal (digitsBefore (w .most) (m / 10) last) (λ e. ne (at-place (b .front) (e ∙ b .is)))
+          sym (step ∙ not-equal (digitsBefore (w .most) (m / 10) last) (λ e. ne (at-place (b .front) (e ∙ b .is))))
 
       pub digit-same : getD v (k - 1) 0 ≡ 48 + m % 10 → Left v n (m / 10) (k - 1)
       digit-same e =
@@ -203,8 +204,8 @@ module _ (v : Text) (n m k : ℕ) (w : Left v n m k) where
     final : equal texts v (inDecimal n) ≡ equal texts v ((48 + m) ∷ drop k v)
     final = w .is ∙ ap (equal texts v) (digits-last (w .most) m (drop k v) (omega arith))
 
-    pub digit-far : (k ≡ 1 → ⊥) → equal texts v (inDecimal n) ≡ false
-    digit-far ne = final ∙ not-equal ((48 + m) ∷ drop k v) (λ e. ne (omega (arith, ap length e, length-drop k v, w .within)))
+    pub digit-far : (k ≡ 1 → ⊥) → false ≡ equal texts v (inDecimal n)
+    digit-far ne = sym (final ∙ not-equal ((48 + m) ∷ drop k v) (λ e. ne (omega (arith, ap length e, length-drop k v, w .within))))
 
     pub digit-one : k ≡ 1 → eqb (getD v 0 0) (48 + m) ≡ equal texts v (inDecimal n)
     digit-one z = sym (final ∙ ap (λ (i : ℕ). equal texts v ((48 + m) ∷ drop i v)) z ∙ go v (omega (arith, w .within)))
@@ -218,14 +219,23 @@ module _ (v : Text) (n m k : ℕ) (w : Left v n m k) where
 
 -- ---- a number that is written in decimal
 
+pub last-fits : (l : List ℕ) (at n : ℕ) → n < 10 → at + length (inDecimal n) ≤ length l → at < length l
+last-fits l at n h room = omega (arith, ap length (decimal-last n h))
+
 pub wrote-last : (l : List ℕ) (at n : ℕ) → n < 10 → Wrote l at (inDecimal n) (set l at (48 + n)) (at + 1)
 wrote-last l at n h = rw (decimal-last n h) (stored l at (48 + n))
 
-pub wrote-more :
-    {l m : List ℕ} {at next : ℕ} (n : ℕ) → 10 ≤ n → n < 10 ^ 20 → Wrote l at (inDecimal (n / 10)) m next →
-    Wrote l at (inDecimal n) (set m next (48 + n % 10)) (next + 1)
-wrote-more {l} {m} {at} {next} n g h w = rw (decimal-more n g h) (wrote-then w (stored m next (48 + n % 10)))
+module _ (n : ℕ) (g : 10 ≤ n) (h : n < 2 ^ 64) where
+  -- a tenth has a digit less
+  tenth-length : length (inDecimal n) ≡ length (inDecimal (n / 10)) + 1
+  tenth-length = ap length (decimal-more n g (below-twenty n h)) ∙ length-append (inDecimal (n / 10)) ((48 + n % 10) ∷ [])
 
--- a tenth has a digit less
-pub tenth-length : (n : ℕ) → 10 ≤ n → n < 10 ^ 20 → length (inDecimal n) ≡ length (inDecimal (n / 10)) + 1
-tenth-length n g h = ap length (decimal-more n g h) ∙ length-append (inDecimal (n / 10)) ((48 + n % 10) ∷ [])
+  pub tenth-fits : (l : List ℕ) (at : ℕ) → at + length (inDecimal n) ≤ length l → at + length (inDecimal (n / 10)) ≤ length l
+  tenth-fits l at room = omega (arith, tenth-length)
+
+  module _ {l m : List ℕ} {at next : ℕ} (w : Wrote l at (inDecimal (n / 10)) m next) where
+    pub digit-fits : at + length (inDecimal n) ≤ length l → next < length m
+    digit-fits room = omega (arith, tenth-length, w .after, wrote-length w)
+
+    pub wrote-more : Wrote l at (inDecimal n) (set m next (48 + n % 10)) (next + 1)
+    wrote-more = rw (decimal-more n g (below-twenty n h)) (wrote-then w (stored m next (48 + n % 10)))
