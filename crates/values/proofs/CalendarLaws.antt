@@ -6,6 +6,8 @@ use mathlib.Core.Bool.{Bool, true, false, cond, not, _&&_, and-false, true≢fal
 use mathlib.Core.List.{List, [], _∷_, _++_}
 use Prim.Native.Nat.{ℕ, zero, suc, _+_, _-_, _*_, _≤_, _<_, compare}
 use native.Mathlib.Omega.{arith}
+use mir.Syntax.{w8}
+use mir.Val.{Fits}
 use lib.Dec.{eqb}
 use lib.ListN.{length, getD, take, drop, drop-of-length-le, take-append-drop}
 use lib.Seq.{take-add, drop-drop}
@@ -19,6 +21,10 @@ use Rattle.values.specs.Calendar.{hasForm, field}
 use Rattle.values.proofs.NumeralLaws.{and-left, and-right, digits-order}
 
 -- ---- fields
+
+-- a digit that is read from a byte
+pub digit-small : (b : ℕ) {r : ℕ} → r ≡ b - 48 → Fits w8 b → r < 208
+digit-small b e h = omega (arith, h .fits)
 
 pub field-two :
     (v : List ℕ) (at : ℕ) {a b : ℕ} → at + 2 ≤ length v → a ≡ getD v at 0 - 48 → b ≡ getD v (at + 1) 0 - 48 → 10 * a + b ≡ field v at 2
@@ -110,7 +116,9 @@ form-text [] (b ∷ v) h = refl
 form-text (f ∷ form) [] h = refl
 form-text (f ∷ form) (b ∷ v) h = go (eqb f 48) refl h (form-text form v)
   where
-    go : (t : Bool) → eqb f 48 ≡ t → cond t false (plain form) ≡ true → (plain form ≡ true → hasForm form v ≡ equal texts v form) → hasForm (f ∷ form) (b ∷ v) ≡ equal texts (b ∷ v) (f ∷ form)
+    go :
+        (t : Bool) → eqb f 48 ≡ t → cond t false (plain form) ≡ true → (plain form ≡ true → hasForm form v ≡ equal texts v form) →
+        hasForm (f ∷ form) (b ∷ v) ≡ equal texts (b ∷ v) (f ∷ form)
     go true e q ih = cc
     go false e q ih =
         three (compare b f)

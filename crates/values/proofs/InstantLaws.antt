@@ -12,7 +12,8 @@ use borrow.Author.Tests.{ltb-true, leb-true, le-leb, lt-leb, lt-ltb, le-ltb, not
 use Rattle.model.specs.Order.{Text, integers, integerCmp, ranked, rankCmp}
 use Rattle.model.proofs.OrderLaws.{lt-compare, gt-compare, eq-compare}
 use Rattle.packed.specs.Ascii.{ascii}
-use Rattle.values.specs.Calendar.{hasForm, wholeSecond, withFraction, field, year, month, day, hour, minute, second, microsecond, daysIn, isMoment, isDatetime, dayNumber, instant}
+use Rattle.values.specs.Calendar.{hasForm, wholeSecond, withFraction, field, year, month, day, hour, minute, second, microsecond, daysIn, isMoment}
+use Rattle.values.specs.Calendar.{isDatetime, dayNumber, instant}
 use Rattle.values.specs.Spaces.{datetime}
 use Rattle.values.specs.ValueOrder.{valueNumber, valueOrder}
 use Rattle.values.proofs.NumeralLaws.{and-left, and-right, numeral-below}
@@ -63,7 +64,9 @@ moment v e = moment-of v (and-right (wholeSecond v || (withFraction v && ltb 0 (
 -- of a whole second, or with a fraction
 pub formed : (v : Text) → isDatetime v ≡ true → (wholeSecond v ≡ true) ⊎ ((withFraction v ≡ true) × (0 < microsecond v))
 unfolding isDatetime
-formed v e = go (wholeSecond v) (withFraction v) (ltb 0 (microsecond v)) refl refl refl (and-left (wholeSecond v || (withFraction v && ltb 0 (microsecond v))) (isMoment v) e)
+formed v e =
+    go (wholeSecond v) (withFraction v) (ltb 0 (microsecond v)) refl refl refl
+    (and-left (wholeSecond v || (withFraction v && ltb 0 (microsecond v))) (isMoment v) e)
   where
     go :
         (p q r : Bool) → wholeSecond v ≡ p → withFraction v ≡ q → ltb 0 (microsecond v) ≡ r → (p || (q && r)) ≡ true →
@@ -94,7 +97,8 @@ fraction-below : (v : Text) → withFraction v ≡ true → microsecond v < 1000
 unfolding withFraction ascii field
 fraction-below v e =
     let p = form-part 20 6 (ascii "0000-00-00T00:00:00.000000Z") v e in
-    rw (sym (form-length (ascii "000000") (take 6 (drop 20 v)) p)) at (numeral-below (take 6 (drop 20 v)) (zeros-digits (ascii "000000") (take 6 (drop 20 v)) refl p))
+    rw (sym (form-length (ascii "000000") (take 6 (drop 20 v)) p)) at
+    (numeral-below (take 6 (drop 20 v)) (zeros-digits (ascii "000000") (take 6 (drop 20 v)) refl p))
 
 microsecond-below : (v : Text) → isDatetime v ≡ true → microsecond v < 1000000
 microsecond-below v e = ⊎-elim (λ w. let n = whole-microsecond v w in omega arith) (λ w. fraction-below v (w .0)) (formed v e)

@@ -14,10 +14,12 @@ use Rattle.model.proofs.Cases.{three}
 use Rattle.model.proofs.OrderLaws.{lt-compare, gt-compare, eq-compare, compare-lt, compare-gt, rank-decides}
 use Rattle.packed.proofs.LayoutLaws.{lt-or-ge}
 use Rattle.values.specs.Decimal.{areDigits, numeralAfter, numeral, isNatural, inDecimal, isNegative, magnitude}
-use Rattle.values.specs.Spaces.{Kind, unsigned, signed, decimal, currency, sequence, datetime, boolean, string, hex, isUnsigned, isSigned, wholePart, pointPart, isFraction, unscaled, isMagnitude, isDecimal, isOfKind}
+use Rattle.values.specs.Spaces.{Kind, unsigned, signed, decimal, currency, sequence, datetime, boolean, string, hex, isUnsigned, isSigned, wholePart}
+use Rattle.values.specs.Spaces.{pointPart, isFraction, unscaled, isMagnitude, isDecimal, isOfKind}
 use Rattle.values.specs.ValueOrder.{minus, withSign, valueNumber, valueOrder}
 use Rattle.values.specs.code.NumberAnswer.{isNumber, sizeOrder, hasNonzero}
-use Rattle.values.proofs.NumeralLaws.{and-left, and-right, digit-least, digits-head, digits-append, natural-digits, natural-nonempty, natural-first, digits-order, longer-larger, natural-order, size-same, in-decimal-numeral}
+use Rattle.values.proofs.NumeralLaws.{and-left, and-right, digit-least, digits-head, digits-append, natural-digits, natural-nonempty, natural-first}
+use Rattle.values.proofs.NumeralLaws.{digits-order, longer-larger, natural-order, size-same, in-decimal-numeral}
 
 -- ---- by length, and then by bytes
 
@@ -82,7 +84,9 @@ signed-order :
 unfolding withSign integerCmp
 signed-order a b m n h k o p = go (isNegative a) (isNegative b) refl refl
   where
-    go : (s t : Bool) → isNegative a ≡ s → isNegative b ≡ t → integerCmp (cond (isNegative a) (minus m) (from m)) (cond (isNegative b) (minus n) (from n)) ≡ signedOrder a b
+    go :
+        (s t : Bool) → isNegative a ≡ s → isNegative b ≡ t →
+        integerCmp (cond (isNegative a) (minus m) (from m)) (cond (isNegative b) (minus n) (from n)) ≡ signedOrder a b
     go true true e f = rw (e, f)
         (minus-minus m n (h e) (k f) ∙ p ∙ sym (size-minus (magnitude b) (magnitude a)) ∙ ap₂ sizeOrder (sym (negative-cons b f)) (sym (negative-cons a e)))
     go true false e f = rw (e, f) (minus-from m n (h e))
@@ -160,7 +164,8 @@ point-size-order w f u g n p d s e =
     (λ l. let h = compare-lt (length w) (length u) l in
     lt-compare (numeral (w ++ f)) (numeral (u ++ g)) (whole-longer w f u g n p d s e h) ∙ sym (size-less (w ++ 46 ∷ f) (u ++ 46 ∷ g) (omega arith)))
     (λ q. let h = nat-same (length w) (length u) q in
-    digits-order (w ++ f) (u ++ g) (digits-append w f (natural-digits w n) d) (digits-append u g (natural-digits u p) s) (omega (arith, length-append w f, length-append u g))
+    digits-order (w ++ f) (u ++ g) (digits-append w f (natural-digits w n) d) (digits-append u g (natural-digits u p) s)
+    (omega (arith, length-append w f, length-append u g))
     ∙ point-order w f u g h ∙ sym (size-alike (w ++ 46 ∷ f) (u ++ 46 ∷ g) (omega arith)))
     (λ l. let h = compare-gt (length w) (length u) l in
     gt-compare (numeral (w ++ f)) (numeral (u ++ g)) (whole-longer u g w f p n s d (sym e) h) ∙ sym (size-more (w ++ 46 ∷ f) (u ++ 46 ∷ g) (omega arith)))

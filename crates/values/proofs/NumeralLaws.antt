@@ -72,7 +72,11 @@ natural-first b [] e h = absurd (omega arith)
 natural-first b (c ∷ v) e h =
     let d = digit-least b (digits-head b (c ∷ v) (natural-digits (b ∷ c ∷ v) e)) in
     ⊎-elim (λ (k : 48 < b). k)
-    (λ (k : b ≤ 48). let q : eqb b 48 ≡ true = eq-eqb b 48 (omega arith) in let n : not (eqb b 48) ≡ true = and-left _ _ e in let z : _≡_ {A = ℕ} 0 1 = cc in absurd (omega arith))
+    (λ (k : b ≤ 48).
+    let q : eqb b 48 ≡ true = eq-eqb b 48 (omega arith) in
+    let n : not (eqb b 48) ≡ true = and-left _ _ e in
+    let z : _≡_ {A = ℕ} 0 1 = cc in
+    absurd (omega arith))
     (lt-or-ge 48 b)
 
 pub natural-cons : (b : ℕ) (v : Text) → 48 < b → areDigits (b ∷ v) ≡ true → isNatural (b ∷ v) ≡ true

@@ -4,7 +4,7 @@ use mathlib.Core.Path.{_≡_, refl, sym, ap, subst, _∙_}
 use mathlib.Core.Logic.{⊎-elim}
 use mathlib.Core.Bool.{Bool, true, false, cond, not, _&&_, _||_}
 use mathlib.Core.Option.{none, some}
-use mathlib.Core.List.{List, [], _∷_}
+use mathlib.Core.List.{[], _∷_}
 use Prim.Native.Nat.{ℕ, _+_, _*_, _<_, _≤_, Ordering, Ordering·lt, Ordering·eq, Ordering·gt}
 use native.Mathlib.Omega.{arith}
 use lib.Dec.{leb, eqb}
@@ -236,12 +236,15 @@ chosen false k x y Ordering·eq e = rw e
 chosen false k x y Ordering·gt e = rw e
 
 -- the answer of the test takes the first, or the second
-module _ (largest : Bool) (k : Kind) (x y : Text) {o : Ordering} {t : Bool} (order : o ≡ valueOrder k .cmp x y) (told : t ≡ pick o (not largest) true largest) where
-  taken : cond t x y ∷ [] ≡ take 1 (union (extremeOrder largest k) (x ∷ []) (y ∷ []))
-  taken = ap (λ (s : Bool). cond s x y ∷ []) told ∙ chosen largest k x y o (sym order)
+module _
+    (largest : Bool) (k : Kind) (x y : Text) {o : Ordering} {t : Bool} (order : o ≡ valueOrder k .cmp x y)
+    (told : t ≡ pick o (not largest) true largest)
+  where
+    taken : cond t x y ∷ [] ≡ take 1 (union (extremeOrder largest k) (x ∷ []) (y ∷ []))
+    taken = ap (λ (s : Bool). cond s x y ∷ []) told ∙ chosen largest k x y o (sym order)
 
-  pub chosen-first : t ≡ true → x ∷ [] ≡ take 1 (union (extremeOrder largest k) (x ∷ []) (y ∷ []))
-  chosen-first e = rw e at taken
+    pub chosen-first : t ≡ true → x ∷ [] ≡ take 1 (union (extremeOrder largest k) (x ∷ []) (y ∷ []))
+    chosen-first e = rw e at taken
 
-  pub chosen-second : t ≡ false → y ∷ [] ≡ take 1 (union (extremeOrder largest k) (x ∷ []) (y ∷ []))
-  chosen-second e = rw e at taken
+    pub chosen-second : t ≡ false → y ∷ [] ≡ take 1 (union (extremeOrder largest k) (x ∷ []) (y ∷ []))
+    chosen-second e = rw e at taken

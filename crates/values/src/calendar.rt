@@ -123,7 +123,8 @@ pub fn is_datetime(v: &[u8]) -> bool
 // The digits of date and time as one number.
 fn stamp(v: &[u8]) -> u64
     requires { ⌜ 20 ≤ length (now v) ⌝ }
-    ensures { λ r. ⌜ r ≡ ((((year (now (v .entry)) * 100 + month (now (v .entry))) * 100 + day (now (v .entry))) * 100 + hour (now (v .entry))) * 100 + minute (now (v .entry))) * 100 + second (now (v .entry)) ⌝ }
+    ensures { λ r. ⌜ r ≡ ((((year (now (v .entry)) * 100 + month (now (v .entry))) * 100 + day (now (v .entry))) * 100
+        + hour (now (v .entry))) * 100 + minute (now (v .entry))) * 100 + second (now (v .entry)) ⌝ }
 {
     let month = four(v, 0) as u64 * 100 + two(v, 5) as u64;
     let hour = (month * 100 + two(v, 8) as u64) * 100 + two(v, 11) as u64;
@@ -144,7 +145,8 @@ fn compare_fractions(f: u32, g: u32) -> Ordering
 
 // Two datetimes by their instants. No days are counted: moments come by the digits of date and time, and within a second by the fraction.
 pub fn compare_moments(a: &[u8], b: &[u8]) -> Ordering
-    ensures { λ r. ⌜ (isDatetime (now (a .entry)) ≡ true → isDatetime (now (b .entry)) ≡ true → ordering r ≡ valueOrder datetime .cmp (now (a .entry)) (now (b .entry))) ⌝ }
+    ensures { λ r. ⌜ (isDatetime (now (a .entry)) ≡ true → isDatetime (now (b .entry)) ≡ true →
+        ordering r ≡ valueOrder datetime .cmp (now (a .entry)) (now (b .entry))) ⌝ }
 {
     if a.len() < 20 {
         return Ordering::Equal;

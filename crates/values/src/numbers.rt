@@ -68,7 +68,8 @@ fn by_size(a: &[u8], b: &[u8]) -> Ordering
 
 // Of two natural numerals, the first is at most the second.
 fn at_most(v: &[u8], most: &[u8]) -> bool
-    ensures { λ r. ⌜ (isNatural (now (v .entry)) ≡ true → isNatural (now (most .entry)) ≡ true → r ≡ leb (numeral (now (v .entry))) (numeral (now (most .entry)))) ⌝ }
+    ensures { λ r. ⌜ (isNatural (now (v .entry)) ≡ true → isNatural (now (most .entry)) ≡ true →
+        r ≡ leb (numeral (now (v .entry))) (numeral (now (most .entry)))) ⌝ }
 {
     match by_size(v, most) {
         Ordering::Less => true,
@@ -124,7 +125,8 @@ pub fn is_unsigned(width: u8, v: &[u8]) -> bool
 
 // What follows the minus sign of a negative integer.
 fn is_below_zero(width: u8, m: &[u8]) -> bool
-    ensures { λ r. ⌜ (isWidth width ≡ true → r ≡ isNatural (now (m .entry)) && (ltb 0 (numeral (now (m .entry))) && leb (numeral (now (m .entry))) (2 ^ (8 * width - 1)))) ⌝ }
+    ensures { λ r. ⌜ (isWidth width ≡ true →
+        r ≡ isNatural (now (m .entry)) && (ltb 0 (numeral (now (m .entry))) && leb (numeral (now (m .entry))) (2 ^ (8 * width - 1)))) ⌝ }
 {
     if is_natural(m) {
         if m[0] == b'0' {
@@ -197,7 +199,8 @@ pub fn is_decimal(total: u8, after: u8, sign: bool, v: &[u8]) -> bool
 
 // Two numbers of one kind: by sign, then by length, then by bytes.
 pub fn compare_numbers(a: &[u8], b: &[u8]) -> Ordering
-    ensures { λ r. ⌜ ((k : Kind) → isNumber k ≡ true → isOfKind k (now (a .entry)) ≡ true → isOfKind k (now (b .entry)) ≡ true → ordering r ≡ valueOrder k .cmp (now (a .entry)) (now (b .entry))) ⌝ }
+    ensures { λ r. ⌜ ((k : Kind) → isNumber k ≡ true → isOfKind k (now (a .entry)) ≡ true → isOfKind k (now (b .entry)) ≡ true →
+        ordering r ≡ valueOrder k .cmp (now (a .entry)) (now (b .entry))) ⌝ }
 {
     if is_negative(a) {
         if is_negative(b) {

@@ -136,7 +136,9 @@ pub fn is_ordered(kind: u8) -> bool
 
 // Two values of an ordered kind by number or instant; of no other kind is anything said.
 pub fn compare_values(kind: u8, a: &[u8], b: &[u8]) -> Ordering
-    ensures { λ r. ⌜ ((k : Kind) → kindNumber k ≡ kind → isOrdered k ≡ true → inSpace k (now (a .entry)) ≡ true → inSpace k (now (b .entry)) ≡ true → ordering r ≡ valueOrder k .cmp (now (a .entry)) (now (b .entry))) ⌝ }
+    ensures { λ r. ⌜ ((k : Kind) → kindNumber k ≡ kind → isOrdered k ≡ true →
+        inSpace k (now (a .entry)) ≡ true → inSpace k (now (b .entry)) ≡ true →
+        ordering r ≡ valueOrder k .cmp (now (a .entry)) (now (b .entry))) ⌝ }
 {
     match kind {
         UNSIGNED..=SEQUENCE => compare_numbers(a, b),
@@ -169,7 +171,10 @@ pub fn choose<'a>(
 ) -> &'a [u8]
     requires { ⌜ (a ≤ e) × (e ≤ length (now left)) ⌝ }
     requires { ⌜ (b ≤ f) × (f ≤ length (now right)) ⌝ }
-    ensures { λ r. ⌜ ((k : Kind) → kindNumber k ≡ kind → isOrdered k ≡ true → inSpace k (take (e - a) (drop a (now (left .entry)))) ≡ true → inSpace k (take (f - b) (drop b (now (right .entry)))) ≡ true → now r ∷ [] ≡ take 1 (union (extremeOrder largest k) (take (e - a) (drop a (now (left .entry))) ∷ []) (take (f - b) (drop b (now (right .entry))) ∷ []))) ⌝ }
+    ensures { λ r. ⌜ ((k : Kind) → kindNumber k ≡ kind → isOrdered k ≡ true →
+        inSpace k (take (e - a) (drop a (now (left .entry)))) ≡ true → inSpace k (take (f - b) (drop b (now (right .entry)))) ≡ true →
+        now r ∷ [] ≡ take 1 (union (extremeOrder largest k)
+        (take (e - a) (drop a (now (left .entry))) ∷ []) (take (f - b) (drop b (now (right .entry))) ∷ []))) ⌝ }
 {
     let order = compare_values(kind, &left[a..e], &right[b..f]);
     if takes_first(order, largest) {

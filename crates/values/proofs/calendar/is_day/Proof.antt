@@ -3,8 +3,15 @@ use borrow.Author.Needs.{needs}
 use Rattle.values.proofs.calendar.is_day.Statement.{statement}
 use Rattle.values.proofs.calendar.is_day.Tie as tie
 
+-- ---- the places
+
+abbrev to-last : tie.Then4 → tie.After-days-in
+to-last c = c .before .before .before .before
+
+-- ---- the needs
+
 returns : tie.Need-returns
-returns c = search (le-leb, c .before .before .before .before .days-in .ensures)
+returns c = search (le-leb, to-last c .days-in .ensures)
 
 pub is-day-spec : {M : Type 1} → statement M
 is-day-spec =

@@ -1,16 +1,15 @@
 use borrow.Author.Needs.{needs}
 use native.Mathlib.Omega.{arith}
-use Prim.Native.Nat.{_<_, _+_}
-use Rattle.values.proofs.CalendarLaws.{field-two}
+use Prim.Native.Nat.{_<_}
+use Rattle.values.proofs.CalendarLaws.{digit-small, field-two}
 use Rattle.values.proofs.calendar.two.Statement.{statement}
 use Rattle.values.proofs.calendar.two.Tie as tie
 
--- a digit is read from a byte
 first-small : (c : tie.After-digit) → c .digit .result < 208
-first-small c = omega (arith, c .before .shared-slice-known2 .given (c .before .before .before .args .at))
+first-small c = search (digit-small, c .before .shared-slice-known2 .given)
 
 second-small : (c : tie.After-digit2) → c .digit2 .result < 208
-second-small c = omega (arith, c .before .shared-slice-known3 .given (c .before .before .before .before .before .args .at + 1))
+second-small c = search (digit-small, c .before .shared-slice-known3 .given)
 
 returns : tie.Need-returns
 returns c = (search field-two, omega (arith, first-small (c .before .before), second-small c))

@@ -12,7 +12,7 @@ pub by-size-spec : {M : Type 1} → statement M
 by-size-spec =
     tie.close
     (tie.spec
-    (λ c. search size-less)
+    (λ c. sym (size-less _ _ (omega arith)))
     (λ c. search size-more)
     (λ c κs. search needs)
     returns-3)
