@@ -3,7 +3,8 @@ use mathlib.Core.Path.{_≡_, refl}
 use mathlib.Core.List.{[], _∷_}
 use Prim.Native.Nat.{ℕ, _+_, _%_, _<_}
 use native.Mathlib.Omega.{arith}
-use Rattle.sha1.specs.Fips.{plus, complement, ROTL, Ch, Parity, Maj, f, K, zeros, bigEndian, padded, block, wordAt, H0, W, schedule, round, rounds, sum, compressed, hash, digest, sha1Of}
+use Rattle.sha1.specs.Fips.{plus, complement, ROTL, Ch, Parity, Maj, f, K, zeros, bigEndian, padded, block, wordAt, H0, W, schedule, round, rounds, sum}
+use Rattle.sha1.specs.Fips.{compressed, hash, digest, sha1Of}
 
 pub zeros-fill : (n : ℕ) → ((n + 1 + zeros n + 8) % 64 ≡ 0) × (zeros n < 64)
 unfolding zeros
