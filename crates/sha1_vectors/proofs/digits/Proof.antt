@@ -13,23 +13,17 @@ Inv-loop s₀ i₀ s i = (i ≤ 8192) × (8192 ≡ length s)
 abbrev μ-loop : tie.MeasureT-loop
 μ-loop s₀ i₀ s i = 8192 - i
 
-loop-holds : tie.Need-loop-holds Inv-loop μ-loop
-loop-holds c = (omega arith, sym (length-replicate {A = ℕ} 8192 48))
-
-loop-again : tie.Need-loop-again Inv-loop μ-loop
-loop-again c = (omega arith, simp length-set (omega arith))
-
 pub digits-spec : {M : Type 1} → statement M
 digits-spec =
     tie.close
     (tie.spec
     Inv-loop
     μ-loop
-    loop-holds
+    (λ c. (omega arith, sym (length-replicate {A = ℕ} 8192 48)))
     (λ c. search needs)
     (λ c. search needs)
     (λ c. search needs)
     (λ c. search needs)
     (λ c. search needs)
-    loop-again
+    (λ c. (omega arith, simp length-set (omega arith)))
     (λ c. search needs))

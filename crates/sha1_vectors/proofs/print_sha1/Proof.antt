@@ -1,5 +1,5 @@
 -- `sha1_vectors::print_sha1` meets its contract. The invariant keeps the length of the line, which lending it as a slice asks. Assumes nothing.
-use mathlib.Core.Path.{_≡_, refl}
+use mathlib.Core.Path.{_≡_}
 use Prim.Native.Nat.{_-_, _≤_}
 use native.Mathlib.Omega.{arith}
 use lib.ListN.{length, length-set}
@@ -13,12 +13,6 @@ Inv-loop message d line₀ i₀ line i = (i ≤ 20) × (41 ≡ length line)
 abbrev μ-loop : tie.MeasureT-loop
 μ-loop message d line₀ i₀ line i = 20 - i
 
-loop-holds : tie.Need-loop-holds Inv-loop μ-loop
-loop-holds c = (omega arith, refl)
-
-loop-again : tie.Need-loop-again Inv-loop μ-loop
-loop-again c = (omega arith, simp length-set (omega arith))
-
 pub print-sha1-spec : {M : Type 1} → statement M
 print-sha1-spec =
     tie.close
@@ -27,19 +21,19 @@ print-sha1-spec =
     μ-loop
     (λ c. search needs)
     (λ c κs. search needs)
-    loop-holds
-    (λ c. search needs)
-    (λ c κs. search needs)
-    (λ c. search needs)
     (λ c. search needs)
     (λ c. search needs)
     (λ c κs. search needs)
     (λ c. search needs)
     (λ c. search needs)
     (λ c. search needs)
+    (λ c κs. search needs)
     (λ c. search needs)
     (λ c. search needs)
-    loop-again
+    (λ c. search needs)
+    (λ c. search needs)
+    (λ c. search needs)
+    (λ c. (omega arith, simp length-set (omega arith)))
     (λ c. search needs)
     (λ c κs. search needs)
     (λ c. search needs))
