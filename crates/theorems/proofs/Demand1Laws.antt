@@ -40,12 +40,18 @@ asks-dossier ts s =
     asks-next (asks-whether 5 (omega arith, omega arith) (dossierShape standard t (h .snapshots))) λ u shape.
     asks-next (asks-whether 6 (omega arith, omega arith) (eachSnapshot (snapshotValues t) (h .snapshots))) λ u values. accepts (h, read)
 
--- questions 1 and 2, and then others under the table
+-- question 2, and then others under the table
+asks-tabled :
+    {A : Type 0} {P : A → Type 0} (table : List ℕ) {k : Table → Asked A} → ((ts : Table) → tableOf table ≡ some ts → Asks P (k ts)) →
+    Asks P (questions._>>=_ (ask 2 (tableOf table)) k)
+asks-tabled table f = asks-then (asks-one 2 (omega arith, omega arith) (tableOf table)) f
+
+-- after question 1
 pub asks-table :
     {A : Type 0} {P : A → Type 0} (least room : ℕ) (table : List ℕ) {k : Table → Asked A} → ((ts : Table) → tableOf table ≡ some ts → Asks P (k ts)) →
     Asks P (questions._>>_ (hasRoom least room) (questions._>>=_ (ask 2 (tableOf table)) k))
 asks-table least room table f =
-    asks-next (asks-whether 1 (omega arith, omega arith) (leb least room)) λ u room. asks-then (asks-one 2 (omega arith, omega arith) (tableOf table)) f
+    asks-next (asks-whether 1 (omega arith, omega arith) (leb least room)) λ u room. asks-tabled table f
 
 asks-hash : (least room : ℕ) (table event : List ℕ) → Asks (λ m. Reads (tableOf table) × Reads (eventOf wide event)) (hashTextAsked least room table event)
 unfolding hashTextAsked
@@ -102,7 +108,7 @@ demand1 = record {
   hashText = λ table event old. takes-answer old (asks-hash hashTextCapacity (length old) table event);
   hash = λ table event old. takes-answer old (asks-then (asks-hash hashCapacity (length old) table event) λ m reads. accepts reads);
   value = λ table event place index.
-      takes-part place index (asks-then (asks-one 2 (omega arith, omega arith) (tableOf table)) λ ts isTable.
+      takes-part place index (asks-tabled table λ ts isTable.
       asks-more (λ a read. ((ts, isTable), read)) (asks-event wide ts event));
   batch = λ rooms table batch old.
       takes-batch old (asks-next-at (asks-all (asks-whether 1 (omega arith, omega arith) (haveRoom rooms))) (asks-batch table batch));

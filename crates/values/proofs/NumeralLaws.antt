@@ -99,16 +99,18 @@ order-after m n (a ∷ x) (b ∷ y) p q e =
     let ma = digit-most a (digits-head a x p) in
     let lb = digit-least b (digits-head b y q) in
     let mb = digit-most b (digits-head b y q) in
-    order-after (10 * m + (a - 48)) (10 * n + (b - 48)) x y (digits-tail a x p) (digits-tail b y q) (omega arith)
+    let i : ℕ = 10 * m + (a - 48) in
+    let j : ℕ = 10 * n + (b - 48) in
+    order-after i j x y (digits-tail a x p) (digits-tail b y q) (omega arith)
     ∙ three (compare m n)
-    (λ l. let h = compare-lt m n l in rw (l, lt-compare (10 * m + (a - 48)) (10 * n + (b - 48)) (omega arith)))
+    (λ l. let h = compare-lt m n l in rw (l, lt-compare i j (omega arith)))
     (λ s. let h = nat-same m n s in
     rw s
     (three (compare a b)
-    (λ l. let k = compare-lt a b l in rw (l, lt-compare (10 * m + (a - 48)) (10 * n + (b - 48)) (omega arith)))
-    (λ t. let k = nat-same a b t in rw (t, eq-compare (10 * m + (a - 48)) (10 * n + (b - 48)) (omega arith)))
-    (λ g. let k = compare-gt a b g in rw (g, gt-compare (10 * m + (a - 48)) (10 * n + (b - 48)) (omega arith)))))
-    (λ g. let h = compare-gt m n g in rw (g, gt-compare (10 * m + (a - 48)) (10 * n + (b - 48)) (omega arith)))
+    (λ l. let k = compare-lt a b l in rw (l, lt-compare i j (omega arith)))
+    (λ t. let k = nat-same a b t in rw (t, eq-compare i j (omega arith)))
+    (λ g. let k = compare-gt a b g in rw (g, gt-compare i j (omega arith)))))
+    (λ g. let h = compare-gt m n g in rw (g, gt-compare i j (omega arith)))
 
 -- for digit texts of equal length numeral order is byte order
 pub digits-order : (x y : Text) → areDigits x ≡ true → areDigits y ≡ true → length x ≡ length y → compare (numeral x) (numeral y) ≡ texts .cmp x y
@@ -180,13 +182,16 @@ numeral-below (b ∷ v) p =
 
 -- ---- a number in decimal
 
+tenth-below : (f n : ℕ) → n < 10 ^ suc f → n / 10 < 10 ^ f
+tenth-below f n h = div-lt-iff-lt-mul {k = 10} {x = n} {y = 10 ^ f} (omega arith) .1 (rw pow-suc at h)
+
 pub numeral-before : (f n : ℕ) (v : Text) → n < 10 ^ f → numeral (digitsBefore f n v) ≡ numeralAfter n v
 unfolding numeral numeralAfter digitsBefore
 numeral-before zero n v h = ap (λ (k : ℕ). numeralAfter k v) (let z = pow-zero 10 in omega arith)
 numeral-before (suc f) n v h =
     ⊎-elim (λ (l : n < 10). rw (lt-ltb n 10 l) (ap (λ (k : ℕ). numeralAfter k v) (omega arith)))
     (λ (g : 10 ≤ n). rw (le-ltb n 10 g)
-    (numeral-before f (n / 10) ((48 + n % 10) ∷ v) (div-lt-iff-lt-mul (omega arith) .1 (rw pow-suc at h))
+    (numeral-before f (n / 10) ((48 + n % 10) ∷ v) (tenth-below f n h)
     ∙ ap (λ (k : ℕ). numeralAfter k v) (omega arith)))
     (lt-or-ge n 10)
 
@@ -207,7 +212,7 @@ natural-before zero n v h p k = natural-last zero n v h p k
 natural-before (suc f) n v h p k =
     ⊎-elim (λ (l : n < 10). natural-last (suc f) n v l p k)
     (λ (g : 10 ≤ n). rw (digits-more (suc f) n v g)
-    (natural-before f (n / 10) ((48 + n % 10) ∷ v) (div-lt-iff-lt-mul (omega arith) .1 (rw pow-suc at h))
+    (natural-before f (n / 10) ((48 + n % 10) ∷ v) (tenth-below (suc f) n h)
     (digits-cons (48 + n % 10) v (is-digit (48 + n % 10) (omega arith) (omega arith)) p) (omega arith)))
     (lt-or-ge n 10)
 
