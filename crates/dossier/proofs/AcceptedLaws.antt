@@ -46,14 +46,18 @@ dossier-taken types s a h =
     (record { read = ask-some 3 (dossierOf standard s) d r; typed = ask-some 4 (typeNamed (d .head .type) types) t y; shape = b; values = c })
 
 -- two dossiers whose types have one name have one type
-pub one-type : {types : Table} {r s : List ℕ} {a b : TypedDossier} → DossierTaken types r a → DossierTaken types s b → a .headed .head .type ≡ b .headed .head .type → a .type ≡ b .type
+pub one-type :
+    {types : Table} {r s : List ℕ} {a b : TypedDossier} → DossierTaken types r a → DossierTaken types s b →
+    a .headed .head .type ≡ b .headed .head .type → a .type ≡ b .type
 one-type {types} {r} {s} {a} {b} x y e = let q : some (a .type) ≡ some (b .type) = sym (x .typed) ∙ ap (λ (n : Text). typeNamed n types) e ∙ y .typed in cc
 
 -- ---- what the caller of `ask_dossier` has
 
 -- questions 5 and 6
 abbrev later : Headed → EventType → Asked TypedDossier
-later h t = ensure 5 (dossierShape standard t (h .snapshots)) >> (ensure 6 (eachSnapshot (snapshotValues t) (h .snapshots)) >> accepted (record { type = t; headed = h }))
+later h t =
+    ensure 5 (dossierShape standard t (h .snapshots)) >>
+    (ensure 6 (eachSnapshot (snapshotValues t) (h .snapshots)) >> accepted (record { type = t; headed = h }))
 
 -- no question has the number 0
 asked-number : (types : Table) (s : List ℕ) → dossierAsked standard types s ≡ refused 0 → ⊥
@@ -67,7 +71,8 @@ asked-number types s e = at-layout (dossierOf standard s) e
 
     at-type : (h : Headed) (o : Option EventType) → (ask 4 o >>= later h) ≡ refused 0 → ⊥
     at-type h none e = never (cc)
-    at-type h (some t) e = at-shape (record { type = t; headed = h }) (dossierShape standard t (h .snapshots)) (eachSnapshot (snapshotValues t) (h .snapshots)) e
+    at-type h (some t) e =
+        at-shape (record { type = t; headed = h }) (dossierShape standard t (h .snapshots)) (eachSnapshot (snapshotValues t) (h .snapshots)) e
 
     at-layout : (o : Option Headed) → (ask 3 o >>= λ h. (ask 4 (typeNamed (h .head .type) types) >>= later h)) ≡ refused 0 → ⊥
     at-layout none e = never (cc)
@@ -121,8 +126,11 @@ module _ {types : Table} {s : List ℕ} {a : TypedDossier} (w : DossierTaken typ
   taken-name table e = subst (λ (v : Text). length v ≤ 64) (named-at (a .headed .head .type) types (a .type) (w .typed) .2) (taken-kept table e .short)
 
   -- question 5, of how many there are and of each
-  shape-whole : ((isVersioned (a .type) || eqb (length snapshots) 1) ≡ true) × (eachSnapshot (fitsWith (a .type) (getD snapshots 0 noSnapshot)) snapshots ≡ true)
-  shape-whole = and-parts (isVersioned (a .type) || eqb (length snapshots) 1) (eachSnapshot (fitsWith (a .type) (getD snapshots 0 noSnapshot)) snapshots) (sym (shape-is (a .type) snapshots) ∙ w .shape)
+  shape-whole :
+      ((isVersioned (a .type) || eqb (length snapshots) 1) ≡ true) × (eachSnapshot (fitsWith (a .type) (getD snapshots 0 noSnapshot)) snapshots ≡ true)
+  shape-whole =
+      and-parts (isVersioned (a .type) || eqb (length snapshots) 1) (eachSnapshot (fitsWith (a .type) (getD snapshots 0 noSnapshot)) snapshots)
+      (sym (shape-is (a .type) snapshots) ∙ w .shape)
 
   pub taken-lone : (isVersioned (a .type) || eqb (length snapshots) 1) ≡ true
   taken-lone = shape-whole .0
@@ -132,7 +140,9 @@ module _ {types : Table} {s : List ℕ} {a : TypedDossier} (w : DossierTaken typ
     one = getD snapshots i noSnapshot
 
     pub taken-fits : snapshotFits (a .type) one ≡ true
-    taken-fits = and-parts (snapshotFits (a .type) one) (alikeTo (a .type) (getD snapshots 0 noSnapshot) one) (each-at (fitsWith (a .type) (getD snapshots 0 noSnapshot)) snapshots (shape-whole .1) i l) .0
+    taken-fits =
+        and-parts (snapshotFits (a .type) one) (alikeTo (a .type) (getD snapshots 0 noSnapshot) one)
+        (each-at (fitsWith (a .type) (getD snapshots 0 noSnapshot)) snapshots (shape-whole .1) i l) .0
 
     pub taken-values : snapshotValues (a .type) one ≡ true
     taken-values = each-at (snapshotValues (a .type)) snapshots (w .values) i l

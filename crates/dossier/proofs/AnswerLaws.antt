@@ -113,10 +113,13 @@ module _ (ty tz : EventType) (h g : Headed) where
   agree-heads e f = sym (ap (λ (b : Bool). b && equal (lists sets) (dossierMatch ty (h .snapshots)) (dossierMatch tz (g .snapshots))) (sym e ∙ f))
 
   module _ {a : Bool} (d : a ≡ heads) (e : a ≡ true) (one : 1 ≤ length (h .snapshots)) (two : 1 ≤ length (g .snapshots)) where
-    pub agree-match : (h .head .type ≡ g .head .type → ty ≡ tz) → {r : Bool} → r ≡ equal (lists sets) (snapshotMatch ty (getD (h .snapshots) 0 noSnapshot)) (snapshotMatch ty (getD (g .snapshots) 0 noSnapshot)) → r ≡ both
+    pub agree-match :
+        (h .head .type ≡ g .head .type → ty ≡ tz) → {r : Bool} →
+        r ≡ equal (lists sets) (snapshotMatch ty (getD (h .snapshots) 0 noSnapshot)) (snapshotMatch ty (getD (g .snapshots) 0 noSnapshot)) → r ≡ both
     unfolding dossiersAgree agree
     agree-match l n =
-        let q : ty ≡ tz = l (equal-true texts (h .head .type) (g .head .type) .0 (and-parts (equal texts (h .head .type) (g .head .type)) (equal texts (h .head .source) (g .head .source)) (sym d ∙ e) .0)) in
+        let q : ty ≡ tz = l (equal-true texts (h .head .type) (g .head .type) .0
+        (and-parts (equal texts (h .head .type) (g .head .type)) (equal texts (h .head .source) (g .head .source)) (sym d ∙ e) .0)) in
         n
         ∙ sym (ap (λ (b : Bool). b && equal (lists sets) (dossierMatch ty (h .snapshots)) (dossierMatch tz (g .snapshots))) (sym d ∙ e)
         ∙ ap (λ (t : EventType). equal (lists sets) (dossierMatch ty (h .snapshots)) (dossierMatch t (g .snapshots))) (sym q)

@@ -24,8 +24,11 @@ use Rattle.event.specs.EventLayout.{bitNumber}
 use Rattle.event.specs.code.EventIndex.{SetsAre}
 use Rattle.dossier.specs.DossierLayout.{Headed}
 use Rattle.dossier.specs.DossierBody.{differBit}
-use Rattle.dossier.specs.DossierQuestions.{eachCell, eachSnapshot, isVacant, isPresent, isLoneIfSingle, isLoneIfExtreme, isUnmarkedMatch, unversionedSnapshot, unversionedShape, holdsVersion, versionedSnapshot, snapshotMatch, matchFits, matchAlike, dossierShape, snapshotValues}
-use Rattle.dossier.specs.code.DossierIndex.{SnapshotIs, noSnapshot, noVersion, rowOf, RowsAre, DossierIs, cellFits, versionFits, snapshotFits, shapeNumber}
+use Rattle.dossier.specs.DossierQuestions.{eachCell, eachSnapshot, isVacant, isPresent, isLoneIfSingle, isLoneIfExtreme, isUnmarkedMatch}
+use Rattle.dossier.specs.DossierQuestions.{unversionedSnapshot, unversionedShape, holdsVersion, versionedSnapshot, snapshotMatch, matchFits, matchAlike}
+use Rattle.dossier.specs.DossierQuestions.{dossierShape, snapshotValues}
+use Rattle.dossier.specs.code.DossierIndex.{SnapshotIs, noSnapshot, noVersion, rowOf, RowsAre, DossierIs, cellFits, versionFits, snapshotFits}
+use Rattle.dossier.specs.code.DossierIndex.{shapeNumber}
 use Rattle.dossier.specs.declared.snapshots.SnapshotNumbers.{SnapshotNumbers}
 use Rattle.dossier.specs.declared.dossiers.DossierIndex.{DossierIndex}
 
@@ -58,18 +61,27 @@ mix true true c m true h = and-comm h (c && m)
 
 -- ---- two tests of each place are one
 
-each-place : (f h : Property → Cell → Bool) (g : Cell → Bool) (ps : List Property) (cs : List Cell) → (eachCell f g ps cs && eachCell h (λ (c : Cell). true) ps cs) ≡ eachCell (λ (p : Property) (c : Cell). f p c && h p c) g ps cs
+each-place :
+    (f h : Property → Cell → Bool) (g : Cell → Bool) (ps : List Property) (cs : List Cell) →
+    (eachCell f g ps cs && eachCell h (λ (c : Cell). true) ps cs) ≡ eachCell (λ (p : Property) (c : Cell). f p c && h p c) g ps cs
 unfolding eachCell
 each-place f h g [] [] = refl
-each-place f h g [] (c ∷ cs) = and-assoc (g c) (eachCell f g [] cs) (eachCell h (λ (c : Cell). true) [] cs) ∙ ap (λ (b : Bool). g c && b) (each-place f h g [] cs)
-each-place f h g (p ∷ ps) [] = and-swap (f p (holds [])) (eachCell f g ps []) (h p (holds [])) (eachCell h (λ (c : Cell). true) ps []) ∙ ap (λ (b : Bool). (f p (holds []) && h p (holds [])) && b) (each-place f h g ps [])
-each-place f h g (p ∷ ps) (c ∷ cs) = and-swap (f p c) (eachCell f g ps cs) (h p c) (eachCell h (λ (c : Cell). true) ps cs) ∙ ap (λ (b : Bool). (f p c && h p c) && b) (each-place f h g ps cs)
+each-place f h g [] (c ∷ cs) =
+    and-assoc (g c) (eachCell f g [] cs) (eachCell h (λ (c : Cell). true) [] cs) ∙ ap (λ (b : Bool). g c && b) (each-place f h g [] cs)
+each-place f h g (p ∷ ps) [] =
+    and-swap (f p (holds [])) (eachCell f g ps []) (h p (holds [])) (eachCell h (λ (c : Cell). true) ps [])
+    ∙ ap (λ (b : Bool). (f p (holds []) && h p (holds [])) && b) (each-place f h g ps [])
+each-place f h g (p ∷ ps) (c ∷ cs) =
+    and-swap (f p c) (eachCell f g ps cs) (h p c) (eachCell h (λ (c : Cell). true) ps cs) ∙ ap (λ (b : Bool). (f p c && h p c) && b) (each-place f h g ps cs)
 
 -- what is asked of a cell by whether the type is versioned
 abbrev ofVersion : Bool → Property → Cell → Bool
 ofVersion v p c = cond v (isLoneIfSingle p c) (not (isMark c) && isLoneIfExtreme p c)
 
-three-tests : (v : Bool) (ps : List Property) (cs : List Cell) → ((eachCell isPresent isVacant ps cs && eachCell (ofVersion v) (λ (c : Cell). true) ps cs) && eachCell isUnmarkedMatch (λ (c : Cell). true) ps cs) ≡ eachCell (cellFits v) isVacant ps cs
+three-tests :
+    (v : Bool) (ps : List Property) (cs : List Cell) →
+    ((eachCell isPresent isVacant ps cs && eachCell (ofVersion v) (λ (c : Cell). true) ps cs) && eachCell isUnmarkedMatch (λ (c : Cell). true) ps cs)
+    ≡ eachCell (cellFits v) isVacant ps cs
 unfolding cellFits
 three-tests v ps cs =
     ap (λ (b : Bool). b && eachCell isUnmarkedMatch (λ (c : Cell). true) ps cs) (each-place isPresent (ofVersion v) isVacant ps cs)
@@ -84,16 +96,24 @@ module _ (t : EventType) (s : Snapshot) where
   fits-versioned : isVersioned t ≡ true → ((cellsPresent && versionedSnapshot t s) && matchFits t s) ≡ snapshotFits t s
   unfolding versionedSnapshot matchFits snapshotFits versionFits
   fits-versioned e =
-      mix cellsPresent (eachCell isLoneIfSingle (λ (c : Cell). true) (t .properties) (s .cells)) (eachCell isUnmarkedMatch (λ (c : Cell). true) (t .properties) (s .cells)) (leb (matchCount (t .properties) (map held (s .cells))) 32) (leb (sizes (s .cells)) 32) (holdsVersion (s .version) (cellAt s (t .mark - 1)))
-      ∙ ap (λ (b : Bool). b && leb (matchCount (t .properties) (map held (s .cells))) 32 && (leb (sizes (s .cells)) 32 && holdsVersion (s .version) (cellAt s (t .mark - 1)))) (three-tests true (t .properties) (s .cells))
-      ∙ ap (λ (v : Bool). eachCell (cellFits v) isVacant (t .properties) (s .cells) && leb (matchCount (t .properties) (map held (s .cells))) 32 && cond v (leb (sizes (s .cells)) 32 && holdsVersion (s .version) (cellAt s (t .mark - 1))) (eqb (s .version) 0 && leb (sizes (s .cells)) 256)) (sym e)
+      mix cellsPresent (eachCell isLoneIfSingle (λ (c : Cell). true) (t .properties) (s .cells))
+      (eachCell isUnmarkedMatch (λ (c : Cell). true) (t .properties) (s .cells)) (leb (matchCount (t .properties) (map held (s .cells))) 32)
+      (leb (sizes (s .cells)) 32) (holdsVersion (s .version) (cellAt s (t .mark - 1)))
+      ∙ ap (λ (b : Bool). b && leb (matchCount (t .properties) (map held (s .cells))) 32 &&
+      (leb (sizes (s .cells)) 32 && holdsVersion (s .version) (cellAt s (t .mark - 1)))) (three-tests true (t .properties) (s .cells))
+      ∙ ap (λ (v : Bool). eachCell (cellFits v) isVacant (t .properties) (s .cells) && leb (matchCount (t .properties) (map held (s .cells))) 32 &&
+      cond v (leb (sizes (s .cells)) 32 && holdsVersion (s .version) (cellAt s (t .mark - 1))) (eqb (s .version) 0 && leb (sizes (s .cells)) 256)) (sym e)
 
   fits-plain : isVersioned t ≡ false → ((cellsPresent && unversionedSnapshot standard t s) && matchFits t s) ≡ snapshotFits t s
   unfolding unversionedSnapshot matchFits snapshotFits versionFits standard
   fits-plain e =
-      mix cellsPresent (eachCell (ofVersion false) (λ (c : Cell). true) (t .properties) (s .cells)) (eachCell isUnmarkedMatch (λ (c : Cell). true) (t .properties) (s .cells)) (leb (matchCount (t .properties) (map held (s .cells))) 32) (eqb (s .version) 0) (leb (sizes (s .cells)) 256)
-      ∙ ap (λ (b : Bool). b && leb (matchCount (t .properties) (map held (s .cells))) 32 && (eqb (s .version) 0 && leb (sizes (s .cells)) 256)) (three-tests false (t .properties) (s .cells))
-      ∙ ap (λ (v : Bool). eachCell (cellFits v) isVacant (t .properties) (s .cells) && leb (matchCount (t .properties) (map held (s .cells))) 32 && cond v (leb (sizes (s .cells)) 32 && holdsVersion (s .version) (cellAt s (t .mark - 1))) (eqb (s .version) 0 && leb (sizes (s .cells)) 256)) (sym e)
+      mix cellsPresent (eachCell (ofVersion false) (λ (c : Cell). true) (t .properties) (s .cells))
+      (eachCell isUnmarkedMatch (λ (c : Cell). true) (t .properties) (s .cells)) (leb (matchCount (t .properties) (map held (s .cells))) 32)
+      (eqb (s .version) 0) (leb (sizes (s .cells)) 256)
+      ∙ ap (λ (b : Bool). b && leb (matchCount (t .properties) (map held (s .cells))) 32 && (eqb (s .version) 0 && leb (sizes (s .cells)) 256))
+      (three-tests false (t .properties) (s .cells))
+      ∙ ap (λ (v : Bool). eachCell (cellFits v) isVacant (t .properties) (s .cells) && leb (matchCount (t .properties) (map held (s .cells))) 32 &&
+      cond v (leb (sizes (s .cells)) 32 && holdsVersion (s .version) (cellAt s (t .mark - 1))) (eqb (s .version) 0 && leb (sizes (s .cells)) 256)) (sym e)
 
 -- ---- all snapshots
 
@@ -124,14 +144,22 @@ module _ (t : EventType) (ss : List Snapshot) where
   abbrev allPresent : Bool
   allPresent = eachSnapshot (λ (s : Snapshot). eachCell isPresent isVacant (t .properties) (s .cells)) ss
 
-  together : (f : Snapshot → Bool) → ((s : Snapshot) → ((eachCell isPresent isVacant (t .properties) (s .cells) && f s) && matchFits t s) ≡ snapshotFits t s) → (((allPresent && eachSnapshot f ss) && eachSnapshot (matchFits t) ss) && matchAlike t ss) ≡ eachSnapshot (fitsWith t (getD ss 0 noSnapshot)) ss
+  together :
+      (f : Snapshot → Bool) → ((s : Snapshot) → ((eachCell isPresent isVacant (t .properties) (s .cells) && f s) && matchFits t s) ≡ snapshotFits t s) →
+      (((allPresent && eachSnapshot f ss) && eachSnapshot (matchFits t) ss) && matchAlike t ss) ≡ eachSnapshot (fitsWith t (getD ss 0 noSnapshot)) ss
   together f h =
-      ap (λ (b : Bool). (b && eachSnapshot (matchFits t) ss) && matchAlike t ss) (each-both (λ (s : Snapshot). eachCell isPresent isVacant (t .properties) (s .cells)) f ss)
-      ∙ ap (λ (b : Bool). b && matchAlike t ss) (each-both (λ (s : Snapshot). eachCell isPresent isVacant (t .properties) (s .cells) && f s) (matchFits t) ss ∙ each-same (λ (s : Snapshot). (eachCell isPresent isVacant (t .properties) (s .cells) && f s) && matchFits t s) (snapshotFits t) ss h)
+      ap (λ (b : Bool). (b && eachSnapshot (matchFits t) ss) && matchAlike t ss)
+      (each-both (λ (s : Snapshot). eachCell isPresent isVacant (t .properties) (s .cells)) f ss)
+      ∙ ap (λ (b : Bool). b && matchAlike t ss)
+      (each-both (λ (s : Snapshot). eachCell isPresent isVacant (t .properties) (s .cells) && f s) (matchFits t) ss
+      ∙ each-same (λ (s : Snapshot). (eachCell isPresent isVacant (t .properties) (s .cells) && f s) && matchFits t s) (snapshotFits t) ss h)
       ∙ ap (λ (b : Bool). eachSnapshot (snapshotFits t) ss && b) (alike t ss)
       ∙ each-both (snapshotFits t) (alikeTo t (getD ss 0 noSnapshot)) ss
 
-  by-version : (v : Bool) → isVersioned t ≡ v → (((allPresent && cond v (eachSnapshot (versionedSnapshot t) ss) (unversionedShape standard t ss)) && eachSnapshot (matchFits t) ss) && matchAlike t ss) ≡ ((v || eqb (length ss) 1) && eachSnapshot (fitsWith t (getD ss 0 noSnapshot)) ss)
+  by-version :
+      (v : Bool) → isVersioned t ≡ v →
+      (((allPresent && cond v (eachSnapshot (versionedSnapshot t) ss) (unversionedShape standard t ss)) && eachSnapshot (matchFits t) ss) &&
+      matchAlike t ss) ≡ ((v || eqb (length ss) 1) && eachSnapshot (fitsWith t (getD ss 0 noSnapshot)) ss)
   unfolding unversionedShape
   by-version true e = together (versionedSnapshot t) (λ s. fits-versioned t s e)
   by-version false e =
@@ -172,7 +200,8 @@ five true true e = absurd (omega arith)
 
 -- what the numbers so far and the snapshots from j on come to
 abbrev pub numberFrom : EventType → List Snapshot → ℕ → ℕ → ℕ
-numberFrom t ss number j = shapeNumber (eachSnapshot (fitsWith t (getD ss 0 noSnapshot)) (drop j ss)) (eqb number 0 && eachSnapshot (snapshotValues t) (drop j ss))
+numberFrom t ss number j =
+    shapeNumber (eachSnapshot (fitsWith t (getD ss 0 noSnapshot)) (drop j ss)) (eqb number 0 && eachSnapshot (snapshotValues t) (drop j ss))
 
 module _ (t : EventType) (ss : List Snapshot) (number j : ℕ) (l : j < length ss) where
   abbrev one : Snapshot
@@ -187,7 +216,8 @@ module _ (t : EventType) (ss : List Snapshot) (number j : ℕ) (l : j < length s
     unfolding shapeNumber
     number-five h =
         let b : fitsWith t (getD ss 0 noSnapshot) one ≡ false = five (fitsWith t (getD ss 0 noSnapshot) one) (snapshotValues t one) (sym e ∙ h) in
-        sym (ap (λ (a : Bool). shapeNumber a (eqb number 0 && eachSnapshot (snapshotValues t) (drop j ss))) (step (fitsWith t (getD ss 0 noSnapshot)) ∙ ap (λ (a : Bool). a && eachSnapshot (fitsWith t (getD ss 0 noSnapshot)) (drop (j + 1) ss)) b))
+        sym (ap (λ (a : Bool). shapeNumber a (eqb number 0 && eachSnapshot (snapshotValues t) (drop j ss)))
+        (step (fitsWith t (getD ss 0 noSnapshot)) ∙ ap (λ (a : Bool). a && eachSnapshot (fitsWith t (getD ss 0 noSnapshot)) (drop (j + 1) ss)) b))
 
     module _ (ne : n ≡ 5 → ⊥) where
       fits : (a b : Bool) → n ≡ shapeNumber a b → (a ≡ true) × (cond (eqb n 6) 6 number ≡ cond b number 6)
@@ -205,8 +235,12 @@ module _ (t : EventType) (ss : List Snapshot) (number j : ℕ) (l : j < length s
           let a = fitsWith t (getD ss 0 noSnapshot) one in
           let b = snapshotValues t one in
           let g = fits a b e in
-          ap₂ (λ (x y : Bool). shapeNumber x (eqb number 0 && y)) (step (fitsWith t (getD ss 0 noSnapshot)) ∙ ap (λ (x : Bool). x && eachSnapshot (fitsWith t (getD ss 0 noSnapshot)) (drop (j + 1) ss)) (g .0)) (step (snapshotValues t))
-          ∙ ap (shapeNumber (eachSnapshot (fitsWith t (getD ss 0 noSnapshot)) (drop (j + 1) ss))) (none b (eachSnapshot (snapshotValues t) (drop (j + 1) ss)) ∙ ap (λ (m : ℕ). eqb m 0 && eachSnapshot (snapshotValues t) (drop (j + 1) ss)) (sym (h ∙ g .1)))
+          ap₂ (λ (x y : Bool). shapeNumber x (eqb number 0 && y))
+          (step (fitsWith t (getD ss 0 noSnapshot))
+          ∙ ap (λ (x : Bool). x && eachSnapshot (fitsWith t (getD ss 0 noSnapshot)) (drop (j + 1) ss)) (g .0)) (step (snapshotValues t))
+          ∙ ap (shapeNumber (eachSnapshot (fitsWith t (getD ss 0 noSnapshot)) (drop (j + 1) ss)))
+          (none b (eachSnapshot (snapshotValues t) (drop (j + 1) ss))
+          ∙ ap (λ (m : ℕ). eqb m 0 && eachSnapshot (snapshotValues t) (drop (j + 1) ss)) (sym (h ∙ g .1)))
 
 pub number-kept : (n number : ℕ) {r : ℕ} → r ≡ cond (eqb n 6) 6 number → (number ≡ 0) ⊎ (number ≡ 6) → (r ≡ 0) ⊎ (r ≡ 6)
 number-kept n number {r} h o = go (eqb n 6) h
@@ -269,9 +303,19 @@ module _ (s : List ℕ) (h : Headed) (d : DossierIndex) (w : DossierIs s h d) wh
     lone-of : {r : Bool} → r ≡ (ltb 0 (t .mark) || eqb (d .count) 1) → r ≡ (isVersioned ty || eqb (length (h .snapshots)) 1)
     lone-of e = e ∙ ap₂ (λ (m n : ℕ). ltb 0 m || eqb n 1) (v .mark) (w .count)
 
-    pub not-lone : {r : Bool} → r ≡ (ltb 0 (t .mark) || eqb (d .count) 1) → r ≡ false → 5 ≡ shapeNumber (dossierShape standard ty (h .snapshots)) (eachSnapshot (snapshotValues ty) (h .snapshots))
+    pub not-lone :
+        {r : Bool} → r ≡ (ltb 0 (t .mark) || eqb (d .count) 1) → r ≡ false →
+        5 ≡ shapeNumber (dossierShape standard ty (h .snapshots)) (eachSnapshot (snapshotValues ty) (h .snapshots))
     unfolding shapeNumber
-    not-lone e f = sym (ap (λ (b : Bool). shapeNumber b (eachSnapshot (snapshotValues ty) (h .snapshots))) (shape-is ty (h .snapshots) ∙ ap (λ (b : Bool). b && eachSnapshot (fitsWith ty (getD (h .snapshots) 0 noSnapshot)) (h .snapshots)) (sym (lone-of e) ∙ f)))
+    not-lone e f =
+        sym (ap (λ (b : Bool). shapeNumber b (eachSnapshot (snapshotValues ty) (h .snapshots)))
+        (shape-is ty (h .snapshots) ∙ ap (λ (b : Bool). b && eachSnapshot (fitsWith ty (getD (h .snapshots) 0 noSnapshot)) (h .snapshots))
+        (sym (lone-of e) ∙ f)))
 
-    pub is-lone : {r : Bool} → r ≡ (ltb 0 (t .mark) || eqb (d .count) 1) → r ≡ true → shapeNumber (dossierShape standard ty (h .snapshots)) (eachSnapshot (snapshotValues ty) (h .snapshots)) ≡ numberFrom ty (h .snapshots) 0 0
-    is-lone e f = ap (λ (b : Bool). shapeNumber b (eachSnapshot (snapshotValues ty) (h .snapshots))) (shape-is ty (h .snapshots) ∙ ap (λ (b : Bool). b && eachSnapshot (fitsWith ty (getD (h .snapshots) 0 noSnapshot)) (h .snapshots)) (sym (lone-of e) ∙ f))
+    pub is-lone :
+        {r : Bool} → r ≡ (ltb 0 (t .mark) || eqb (d .count) 1) → r ≡ true →
+        shapeNumber (dossierShape standard ty (h .snapshots)) (eachSnapshot (snapshotValues ty) (h .snapshots)) ≡ numberFrom ty (h .snapshots) 0 0
+    is-lone e f =
+        ap (λ (b : Bool). shapeNumber b (eachSnapshot (snapshotValues ty) (h .snapshots)))
+        (shape-is ty (h .snapshots) ∙ ap (λ (b : Bool). b && eachSnapshot (fitsWith ty (getD (h .snapshots) 0 noSnapshot)) (h .snapshots))
+        (sym (lone-of e) ∙ f))

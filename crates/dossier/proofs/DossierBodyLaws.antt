@@ -16,7 +16,8 @@ use Rattle.packed.specs.Parse.{got, suchThat, times}
 use Rattle.packed.specs.Packed.{number, readNumber, isWithin}
 use Rattle.packed.proofs.LayoutLaws.{All, andThen-got, foundIf-got, suchThat-got, number-read, number-was, times-read, times-was}
 use Rattle.event.specs.EventLayout.{readBits, readSets, presenceBit, bitNumber, setsBytes}
-use Rattle.event.proofs.EventLayoutLaws.{SetsWritten, presence-small, bits-small, low-bit, high-bits, half-small, SetsWas, sets-was, bits-read, bits-was, presence-below, all-sets-read}
+use Rattle.event.proofs.EventLayoutLaws.{SetsWritten, presence-small, bits-small, low-bit, high-bits, half-small, SetsWas, sets-was, bits-read, bits-was}
+use Rattle.event.proofs.EventLayoutLaws.{presence-below, all-sets-read}
 use Rattle.dossier.specs.DossierBody.{apart, cellsOf, areSmall, readSnapshot, differBit, snapshotBytes, readBody, bodyBytes}
 
 -- ---- what can be written
@@ -51,7 +52,13 @@ cells-apart (c ∷ cs) =
     let d = differ-small c in
     let m = bitNumber (map presenceBit (map held cs)) in
     let n = bitNumber (map differBit cs) in
-    rw (low-bit (presenceBit (held c)) m p, low-bit (differBit c) n d, high-bits (presenceBit (held c)) m p, high-bits (differBit c) n d, cell-apart c) (cells-apart cs)
+    rw (
+      low-bit (presenceBit (held c)) m p,
+      low-bit (differBit c) n d,
+      high-bits (presenceBit (held c)) m p,
+      high-bits (differBit c) n d,
+      cell-apart c,
+    ) (cells-apart cs)
 
 cell-of : (c : Cell) → cond (eqb (differBit c) 1) differs (holds (held c)) ≡ c
 unfolding differBit held
@@ -71,24 +78,33 @@ pub record CellsWas (differ : ℕ) (xs : List (List Text)) : Type 0 where
   pub sets : map held (cellsOf differ xs) ≡ xs
   pub bits : bitNumber (map differBit (cellsOf differ xs)) ≡ differ
 
-cell-was : (b : ℕ) (x : List Text) → b < 2 → not (eqb (presenceBit x) 1 && eqb b 1) ≡ true → (held (cond (eqb b 1) differs (holds x)) ≡ x) × (differBit (cond (eqb b 1) differs (holds x)) ≡ b)
+cell-was :
+    (b : ℕ) (x : List Text) → b < 2 → not (eqb (presenceBit x) 1 && eqb b 1) ≡ true →
+    (held (cond (eqb b 1) differs (holds x)) ≡ x) × (differBit (cond (eqb b 1) differs (holds x)) ≡ b)
 unfolding presenceBit held differBit
 cell-was b x l h = go x (eqb b 1) refl h
   where
-    go : (x : List Text) (t : Bool) → eqb b 1 ≡ t → not (eqb (presenceBit x) 1 && t) ≡ true → (held (cond t differs (holds x)) ≡ x) × (differBit (cond t differs (holds x)) ≡ b)
+    go :
+        (x : List Text) (t : Bool) → eqb b 1 ≡ t → not (eqb (presenceBit x) 1 && t) ≡ true →
+        (held (cond t differs (holds x)) ≡ x) × (differBit (cond t differs (holds x)) ≡ b)
     go [] true e h = (refl, sym (eqb-true b 1 e))
     go (v ∷ vs) true e h = let z : _≡_ {A = ℕ} 0 1 = cc in absurd (omega arith)
     go [] false e h = let ne : b ≡ 1 → ⊥ = eqb-false b 1 e in (refl, omega (arith, ne))
     go (v ∷ vs) false e h = let ne : b ≡ 1 → ⊥ = eqb-false b 1 e in (refl, omega (arith, ne))
 
-cells-more : (differ : ℕ) (x : List Text) (xs : List (List Text)) → (held (cond (eqb (differ % 2) 1) differs (holds x)) ≡ x) × (differBit (cond (eqb (differ % 2) 1) differs (holds x)) ≡ differ % 2) → CellsWas (differ / 2) xs → CellsWas differ (x ∷ xs)
+cells-more :
+    (differ : ℕ) (x : List Text) (xs : List (List Text)) →
+    (held (cond (eqb (differ % 2) 1) differs (holds x)) ≡ x) × (differBit (cond (eqb (differ % 2) 1) differs (holds x)) ≡ differ % 2) →
+    CellsWas (differ / 2) xs → CellsWas differ (x ∷ xs)
 unfolding cellsOf bitNumber
 cells-more differ x xs a b = record {
   sets = ap₂ {C = List (List Text)} (λ y ys. y ∷ ys) (a .0) (b .sets);
   bits = omega arith;
 }
 
-pub cells-was : (differ : ℕ) (xs : List (List Text)) → differ < 2 ^ length xs → apart (length xs) (bitNumber (map presenceBit xs)) differ ≡ true → CellsWas differ xs
+pub cells-was :
+    (differ : ℕ) (xs : List (List Text)) → differ < 2 ^ length xs → apart (length xs) (bitNumber (map presenceBit xs)) differ ≡ true →
+    CellsWas differ xs
 unfolding cellsOf bitNumber apart
 cells-was differ [] l h = record { sets = refl; bits = omega arith }
 cells-was differ (x ∷ xs) l h =
@@ -119,7 +135,9 @@ differOf s = bitNumber (map differBit (s .cells))
 pub differ-below : (s : Snapshot) → SnapshotWritten s → bitNumber (map differBit (s .cells)) < 2 ^ 32
 differ-below s w = subst (λ (n : ℕ). differOf s < 2 ^ n) (snapshot-cells s w) (bits-small differBit (s .cells) differ-small)
 
-pub snapshot-parts : (s : Snapshot) (r : List ℕ) → snapshotBytes s ++ r ≡ number (s .version) ++ (number (presenceOf s) ++ (number (differOf s) ++ (setsBytes (map held (s .cells)) ++ r)))
+pub snapshot-parts :
+    (s : Snapshot) (r : List ℕ) →
+    snapshotBytes s ++ r ≡ number (s .version) ++ (number (presenceOf s) ++ (number (differOf s) ++ (setsBytes (map held (s .cells)) ++ r)))
 unfolding snapshotBytes
 snapshot-parts s r = simp append-assoc
 
@@ -127,7 +145,8 @@ pub snapshot-read : (s : Snapshot) (r : List ℕ) → SnapshotWritten s → read
 unfolding readSnapshot
 snapshot-read s r w =
     let sets = map held (s .cells) in
-    let a : apart 32 (presenceOf s) (differOf s) ≡ true = subst (λ (n : ℕ). apart n (presenceOf s) (differOf s) ≡ true) (snapshot-cells s w) (cells-apart (s .cells)) in
+    let a : apart 32 (presenceOf s) (differOf s) ≡ true = subst (λ (n : ℕ). apart n (presenceOf s) (differOf s) ≡ true) (snapshot-cells s w)
+    (cells-apart (s .cells)) in
     ap readSnapshot (snapshot-parts s r)
     ∙ rw (
       number-read (s .version) (number (presenceOf s) ++ (number (differOf s) ++ (setsBytes sets ++ r))) (w .version),
@@ -139,7 +158,11 @@ snapshot-read s r w =
       cells-of (s .cells),
     )
 
-snapshot-is : (version presence differ : ℕ) (s t u v q r : List ℕ) (sets : List (List Text)) (x : Snapshot) → (s ≡ number version ++ t) × (version < 2 ^ 64) → t ≡ number presence ++ u → u ≡ number differ ++ v → SetsWas 32 presence v sets q → CellsWas differ sets → All (λ (x : List Text). length x ≤ 256) sets → record { version = version; cells = cellsOf differ sets } ≡ x → q ≡ r → (s ≡ snapshotBytes x ++ r) × SnapshotWritten x
+snapshot-is :
+    (version presence differ : ℕ) (s t u v q r : List ℕ) (sets : List (List Text)) (x : Snapshot) → (s ≡ number version ++ t) × (version < 2 ^ 64) →
+    t ≡ number presence ++ u → u ≡ number differ ++ v → SetsWas 32 presence v sets q → CellsWas differ sets →
+    All (λ (x : List Text). length x ≤ 256) sets → record { version = version; cells = cellsOf differ sets } ≡ x → q ≡ r →
+    (s ≡ snapshotBytes x ++ r) × SnapshotWritten x
 snapshot-is version presence differ s t u v q r sets x a b c d e small p f =
     rw (← p, ← f) (
       a .0 ∙ rw (b, c, d .bytes) (sym (snapshot-parts (record { version = version; cells = cellsOf differ sets }) q ∙ rw (e .sets, e .bits, d .present))),
@@ -164,7 +187,9 @@ snapshot-was s x r e =
     (cells-are (b .value) (c .value) (d .value) (w .long) (w .present) (z .1) (n .test))
     (small-all (d .value) (f .test)) (f .value) (f .rest)
   where
-    cells-are : (presence differ : ℕ) (sets : List (List Text)) → length sets ≡ 32 → bitNumber (map presenceBit sets) ≡ presence → differ < 2 ^ 32 → apart 32 presence differ ≡ true → CellsWas differ sets
+    cells-are :
+        (presence differ : ℕ) (sets : List (List Text)) → length sets ≡ 32 → bitNumber (map presenceBit sets) ≡ presence → differ < 2 ^ 32 →
+        apart 32 presence differ ≡ true → CellsWas differ sets
     cells-are presence differ sets l p d h = cells-was differ sets (rw l d) (rw (l, p) h)
 
 -- ---- the body

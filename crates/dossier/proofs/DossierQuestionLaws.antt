@@ -95,12 +95,15 @@ agree-exact type source ms type′ source′ ms′ = (
 )
 
 -- the match sets of a dossier of which all snapshots have the same
-pub dossier-match : (t : EventType) (zs : List Snapshot) (ms : List (List Text)) → 1 ≤ length zs → ((z : Snapshot) → List·Memᴰ z zs → snapshotMatch t z ≡ ms) → dossierMatch t zs ≡ ms
+pub dossier-match :
+    (t : EventType) (zs : List Snapshot) (ms : List (List Text)) → 1 ≤ length zs → ((z : Snapshot) → List·Memᴰ z zs → snapshotMatch t z ≡ ms) →
+    dossierMatch t zs ≡ ms
 unfolding dossierMatch
 dossier-match t [] ms l h = absurd (omega arith)
 dossier-match t (z ∷ zs) ms l h = h z (List·Memᴰ·head refl)
 
-pub match-alike : (t : EventType) (zs : List Snapshot) (ms : List (List Text)) → ((z : Snapshot) → List·Memᴰ z zs → snapshotMatch t z ≡ ms) → matchAlike t zs ≡ true
+pub match-alike :
+    (t : EventType) (zs : List Snapshot) (ms : List (List Text)) → ((z : Snapshot) → List·Memᴰ z zs → snapshotMatch t z ≡ ms) → matchAlike t zs ≡ true
 unfolding matchAlike
 match-alike t [] ms h = refl
 match-alike t (z ∷ zs) ms h = snapshot-each _ zs

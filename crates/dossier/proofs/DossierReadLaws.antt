@@ -8,7 +8,8 @@ use Prim.Native.Nat.{ℕ, zero, suc, _+_, _-_, _*_, _≤_, _<_}
 use native.Mathlib.Omega.{arith}
 use native.Mathlib.Numerals.{add-one, sub-one}
 use lib.ListN.{length, take, drop, getD, set, replicate, length-append, length-drop, take-append-drop, length-map, length-set, List·getD-append, List·getD-map}
-use lib.Seq.{drop-cons, drop-length, getD-at, getD-set-same, getD-set-other, getD-take, length-take-le, take-suc-set, take-at, drop-at, take-append-le, drop-append-le}
+use lib.Seq.{drop-cons, drop-length, getD-at, getD-set-same, getD-set-other, getD-take, length-take-le, take-suc-set, take-at, drop-at, take-append-le}
+use lib.Seq.{drop-append-le}
 use borrow.Author.Count.{below-more}
 use borrow.Rule.Slice.PartMut.{midOf, postOf, putMid, same-len-mid, mid-len}
 use Rattle.model.specs.Order.{numbers, rising}
@@ -22,8 +23,10 @@ use Rattle.packed.specs.Parse.{Parse, fail, got, Layout, andThen, _>>=_, foundI
 use Rattle.packed.specs.Packed.{readNumber, isWithin}
 use Rattle.packed.proofs.LayoutLaws.{lt-or-ge, times-was}
 use Rattle.packed.proofs.ReadLaws.{drop-next}
-use Rattle.packed.specs.code.Located.{Got}
-use Rattle.packed.proofs.FieldLaws.{got-bounds}
+use Rattle.packed.specs.code.Located.{Got, NumberReads}
+use Rattle.packed.specs.declared.read.NumberAt.{NumberAt}
+use Rattle.packed.specs.declared.read.NumberAt.the-variants.{Number, NoNumber}
+use Rattle.packed.proofs.FieldLaws.{number-got, number-fail, got-bounds}
 use Rattle.values.specs.declared.versions.EventVersion.{EventVersion}
 use Rattle.ontology.proofs.RunLaws.{prepend, prepend-nil, prepend-one}
 use Rattle.event.specs.Head.{Head}
@@ -35,7 +38,8 @@ use Rattle.dossier.specs.declared.head.DossierHeadRead.the-variants as r
 use Rattle.dossier.specs.DossierHead.{readDossierHead}
 use Rattle.dossier.specs.DossierLayout.{Headed, readDossier, dossierOf}
 use Rattle.dossier.specs.DossierBody.{readSnapshot, differBit, snapshotBytes, readBody}
-use Rattle.dossier.specs.code.DossierIndex.{SnapshotAt, SnapshotStops, SnapshotReads, noSnapshot, versionNumbers, noVersion, rowOf, SnapshotsStop, SnapshotsSay}
+use Rattle.dossier.specs.code.DossierIndex.{SnapshotAt, SnapshotStops, SnapshotReads, noSnapshot, versionNumbers, noVersion, rowOf, SnapshotsStop}
+use Rattle.dossier.specs.code.DossierIndex.{SnapshotsSay}
 use Rattle.dossier.specs.code.DossierIndex.{DossierIs, DossierReads, DossierHeadStops, DossierHeadReads}
 use Rattle.dossier.specs.declared.snapshots.SnapshotNumbers.{SnapshotNumbers}
 use Rattle.dossier.specs.declared.snapshots.SnapshotRead.{SnapshotRead}
@@ -98,7 +102,9 @@ module _ (vs : List EventVersion) (count : ℕ) (few : count ≤ length vs) wher
 
 -- ---- snapshots, one after the other
 
-times-step : (n : ℕ) (t : List ℕ) (x : Snapshot) (r : List ℕ) → readSnapshot t ≡ got x r → times readSnapshot (suc n) t ≡ andThen (times readSnapshot n r) (λ xs u. got (x ∷ xs) u)
+times-step :
+    (n : ℕ) (t : List ℕ) (x : Snapshot) (r : List ℕ) → readSnapshot t ≡ got x r →
+    times readSnapshot (suc n) t ≡ andThen (times readSnapshot n r) (λ xs u. got (x ∷ xs) u)
 unfolding times
 times-step n t x r e = ap (λ (p : Parse Snapshot). andThen p (λ y o. andThen (times readSnapshot n o) (λ xs u. got (y ∷ xs) u))) e
 
@@ -274,7 +280,8 @@ module _ (p : Parse (List Snapshot)) (s rows : List ℕ) (r : SnapshotsRead) (n 
           rw (getD-set-same (r .starts) j next 0 a, getD-set-same (r .ends) j end 0 b, is-last) (k .stands)
 
       stand-old : (m : ℕ) → m < j → SetsAre s (map held (getD all m noSnapshot .cells)) (rowOf after m)
-      stand-old m l = subst₂ (λ (y : Snapshot) (l : List ℕ). SetsAre s (map held (y .cells)) l) (sym (was m l)) (sym (row-other rows ats j inside long m l)) (w .stand m l)
+      stand-old m l =
+          subst₂ (λ (y : Snapshot) (l : List ℕ). SetsAre s (map held (y .cells)) l) (sym (was m l)) (sym (row-other rows ats j inside long m l)) (w .stand m l)
 
       stand-last : SetsAre s (map held (getD all j noSnapshot .cells)) (rowOf after j)
       stand-last = subst₂ (λ (y : Snapshot) (l : List ℕ). SetsAre s (map held (y .cells)) l) (sym is-last) (sym (row-here rows ats j inside long)) (k .is .sets)
@@ -377,10 +384,10 @@ unfolding SnapshotsSay
 snapshots-refused fail s rows r w h = refl
 snapshots-refused (got xs t) s rows r w h = let z : _≡_ {A = ℕ} 0 1 = cc (w .right) in absurd (omega arith)
 
-record AllFound (p : Parse (List Snapshot)) (s rows : List ℕ) (r : SnapshotsRead) : Type 0 where
-  what : List Snapshot
-  is : p ≡ got what (drop (r .next) s)
-  stop : SnapshotsStop s what (drop (r .next) s) rows r
+pub record AllFound (p : Parse (List Snapshot)) (s rows : List ℕ) (r : SnapshotsRead) : Type 0 where
+  pub what : List Snapshot
+  pub is : p ≡ got what (drop (r .next) s)
+  pub stop : SnapshotsStop s what (drop (r .next) s) rows r
 
 snapshots-found : (p : Parse (List Snapshot)) (s rows : List ℕ) (r : SnapshotsRead) → SnapshotsSay p s rows r → r .ok ≡ true → AllFound p s rows r
 unfolding SnapshotsSay
@@ -398,109 +405,162 @@ risen ss = foundIf (rising numbers (map (λ (s : Snapshot). s .version) ss)) ss
 abbrev counted : ℕ → Layout (List Snapshot)
 counted count = times readSnapshot count >>= risen
 
-abbrev numbered : Layout ℕ
+abbrev pub numbered : Layout ℕ
 numbered = suchThat (isWithin 1 8) readNumber
 
 head-first : (s : List ℕ) → readDossier standard s ≡ andThen (readDossierHead standard s) (λ h. (numbered >>= counted) >>= under h)
 unfolding readDossier readBody standard
 head-first s = refl
 
-pub dossier-none : (o : Option Headed) (s rows : List ℕ) (i : DossierIndex) → o ≡ none → i .ok ≡ false → DossierReads o s rows i
+-- what is answered where the bytes are no dossier
+pub refused :
+    (s rows : List ℕ) (size : ℕ) (i : DossierIndex) → dossierOf standard s ≡ none → (i .ok ≡ false) × (i .count ≡ 0) →
+    DossierReads (dossierOf standard s) s rows i × (96 * i .count ≤ size)
 unfolding DossierReads
-dossier-none o s rows i e h = rw e h
+refused s rows size i e h = (rw e (h .0), omega (arith, h .1))
 
 no-dossier : (s : List ℕ) → readDossier standard s ≡ fail → dossierOf standard s ≡ none
 unfolding dossierOf
 no-dossier s e = rw e
 
 -- what is known of the head's answer in the arm of a `match`
-pub head-reads : {p : Parse Head} {s : List ℕ} {r : DossierHeadRead} {x : HeadAt} {end : ℕ} → r ≡ read.Head x end → DossierHeadReads p s r → DossierHeadStops p s x end
+pub head-reads :
+    {p : Parse Head} {s : List ℕ} {r : DossierHeadRead} {x : HeadAt} {end : ℕ} → r ≡ read.Head x end → DossierHeadReads p s r →
+    DossierHeadStops p s x end
 head-reads {p} {s} h w = subst (DossierHeadReads p s) h w
 
 pub head-refused : {p : Parse Head} (s : List ℕ) {r : DossierHeadRead} → r ≡ read.NoHead → DossierHeadReads p s r → p ≡ fail
 head-refused {p} s h w = subst (DossierHeadReads p s) h w
 
-pub no-head : (s : List ℕ) → readDossierHead standard s ≡ fail → dossierOf standard s ≡ none
-no-head s e = no-dossier s (head-first s ∙ rw e)
+-- By what the readers answer, one after the other, more of the dossier is read, or the bytes are none: the head,
 
-module _ (s : List ℕ) (x : HeadAt) (end : ℕ) (w : DossierHeadStops (readDossierHead standard s) s x end) where
+pub record HeadBy (s : List ℕ) (r : DossierHeadRead) : Type 0 where
+  pub on : (x : HeadAt) (end : ℕ) → r ≡ read.Head x end → DossierHeadStops (readDossierHead standard s) s x end
+  pub fails : r ≡ read.NoHead → dossierOf standard s ≡ none
+
+pub head-by : (s : List ℕ) {r : DossierHeadRead} → DossierHeadReads (readDossierHead standard s) s r → HeadBy s r
+head-by s w = record {
+  on = λ x end e. head-reads e w;
+  fails = λ e. let bad = head-refused s e w in no-dossier s (head-first s ∙ rw bad);
+}
+
+-- the number n of its snapshots, which stand from `at` on,
+
+pub record HeadCount (s : List ℕ) (x : HeadAt) (n at : ℕ) : Type 0 where
+  pub end : ℕ
+  pub head : DossierHeadStops (readDossierHead standard s) s x end
+  pub count : Got (numbered (drop end s)) s end n at
+  pub one : 1 ≤ n
+  pub few : n ≤ 8
+
+pub record CountBy (s : List ℕ) (x : HeadAt) (r : NumberAt) : Type 0 where
+  pub on : (n at : ℕ) → r ≡ Number n at → HeadCount s x n at
+  pub fails : r ≡ NoNumber → dossierOf standard s ≡ none
+
+module _ {s : List ℕ} {x : HeadAt} {end : ℕ} (w : DossierHeadStops (readDossierHead standard s) s x end) where
   head-step : readDossier standard s ≡ andThen (andThen (numbered (drop end s)) counted) (under (w .what))
   head-step = head-first s ∙ rw (w .is)
 
-  pub no-count : numbered (drop end s) ≡ fail → dossierOf standard s ≡ none
-  no-count e = no-dossier s (head-step ∙ ap (λ (p : Parse ℕ). andThen (andThen p counted) (under (w .what))) e)
+  with-count : (n at : ℕ) → Got (numbered (drop end s)) s end n at → HeadCount s x n at
+  with-count n at c =
+      let bounds = got-bounds 1 8 c in
+      record { end = end; head = w; count = c; one = bounds .0; few = bounds .1 }
 
-  module _ (n at : ℕ) (c : Got (numbered (drop end s)) s end n at) where
-    times-all : readDossier standard s ≡ andThen (andThen (times readSnapshot n (drop at s)) risen) (under (w .what))
-    times-all = head-step ∙ ap (λ (p : Parse ℕ). andThen (andThen p counted) (under (w .what))) (c .is)
+  pub count-by : {r : NumberAt} → NumberReads (numbered (drop end s)) s end r → CountBy s x r
+  count-by h = record {
+    on = λ n at e. with-count n at (number-got e h);
+    fails = λ e. no-dossier s (head-step ∙ ap (λ (p : Parse ℕ). andThen (andThen p counted) (under (w .what))) (number-fail s end e h));
+  }
 
-    none-there : times readSnapshot n (drop at s) ≡ fail → dossierOf standard s ≡ none
-    none-there e = no-dossier s (times-all ∙ rw e)
+-- and the snapshots.
 
-    module _ (rows : List ℕ) (r : SnapshotsRead) (v : SnapshotsSay (times readSnapshot n (drop at s)) s rows r) where
-      pub no-snapshots : r .ok ≡ false → dossierOf standard s ≡ none
-      no-snapshots h = none-there (snapshots-refused (times readSnapshot n (drop at s)) s rows r v h)
+pub record SnapshotsFound (s : List ℕ) (x : HeadAt) (n : ℕ) (rows : List ℕ) (r : SnapshotsRead) : Type 0 where
+  pub at : ℕ
+  pub counted : HeadCount s x n at
+  pub all : AllFound (times readSnapshot n (drop at s)) s rows r
 
-      module _ (ok : r .ok ≡ true) where
-        these : AllFound (times readSnapshot n (drop at s)) s rows r
-        these = snapshots-found (times readSnapshot n (drop at s)) s rows r v ok
+pub record SnapshotsBy (s : List ℕ) (x : HeadAt) (n : ℕ) (rows : List ℕ) (r : SnapshotsRead) : Type 0 where
+  pub on : r .ok ≡ true → SnapshotsFound s x n rows r
+  pub fails : r .ok ≡ false → dossierOf standard s ≡ none
 
-        abbrev read-there : Headed
-        read-there = record { head = w .what; snapshots = these .what }
+module _ {s : List ℕ} {x : HeadAt} {n at : ℕ} (w : HeadCount s x n at) where
+  count-step : readDossier standard s ≡ andThen (andThen (times readSnapshot n (drop at s)) risen) (under (w .head .what))
+  count-step = head-step (w .head) ∙ ap (λ (p : Parse ℕ). andThen (andThen p counted) (under (w .head .what))) (w .count .is)
 
-        last-step : readDossier standard s ≡ andThen (risen (these .what) (drop (r .next) s)) (under (w .what))
-        last-step = times-all ∙ rw (these .is)
+  pub snapshots-by : (rows : List ℕ) {r : SnapshotsRead} → SnapshotsSay (times readSnapshot n (drop at s)) s rows r → SnapshotsBy s x n rows r
+  snapshots-by rows {r} v = record {
+    on = λ ok. record { at = at; counted = w; all = snapshots-found (times readSnapshot n (drop at s)) s rows r v ok };
+    fails = λ bad.
+        let e = snapshots-refused (times readSnapshot n (drop at s)) s rows r v bad in
+        no-dossier s (count-step ∙ ap (λ (p : Parse (List Snapshot)). andThen (andThen p risen) (under (w .head .what))) e);
+  }
 
-        pub not-whole : (r .next ≡ length s → ⊥) → dossierOf standard s ≡ none
-        unfolding dossierOf
-        not-whole ne =
-            let l : r .next < length s = omega (arith, these .stop .within, ne) in
-            ap whole last-step ∙ go (rising numbers (map (λ (s : Snapshot). s .version) (these .what))) (drop-next s (r .next) l)
-          where
-            go : (b : Bool) {y : ℕ} {t u : List ℕ} → t ≡ y ∷ u → whole (andThen (foundIf b (these .what) t) (under (w .what))) ≡ none
-            go true e = rw e
-            go false e = refl
+-- the index that is then answered
+abbrev pub indexOf : HeadAt → ℕ → SnapshotsRead → DossierIndex
+indexOf x n r = record {
+  ok = true;
+  head = x;
+  count = n;
+  starts = r .starts;
+  ends = r .ends;
+  versions = r .versions;
+  differs = r .differs;
+  objects = r .objects;
+}
 
-        many : length (these .what) ≡ n
-        many = as-many n (drop at s) (these .what) (drop (r .next) s) (these .is)
+-- It is left to ask whether they end with the bytes, and whether their versions rise.
+module _ {s : List ℕ} {x : HeadAt} {n : ℕ} {rows : List ℕ} {r : SnapshotsRead} (w : SnapshotsFound s x n rows r) where
+  abbrev top : Head
+  top = w .counted .head .what
 
-        rises :
-            (b : Bool) → b ≡ rising numbers (versionNumbers (take n (r .versions))) →
-            rising numbers (map (λ (s : Snapshot). s .version) (these .what)) ≡ b
-        rises b e = ap (rising numbers) (sym (these .stop .are .numbers) ∙ ap (λ (k : ℕ). versionNumbers (take k (r .versions))) many) ∙ sym e
+  abbrev these : List Snapshot
+  these = w .all .what
 
-        pub not-rising : false ≡ rising numbers (versionNumbers (take n (r .versions))) → dossierOf standard s ≡ none
-        not-rising e = no-dossier s (last-step ∙ rw (rises false e))
+  abbrev read-there : Headed
+  read-there = record { head = top; snapshots = these }
 
-        abbrev pub index : DossierIndex
-        index = record {
-          ok = true;
-          head = x;
-          count = n;
-          starts = r .starts;
-          ends = r .ends;
-          versions = r .versions;
-          differs = r .differs;
-          objects = r .objects;
-        }
+  last-step : readDossier standard s ≡ andThen (risen these (drop (r .next) s)) (under top)
+  last-step = count-step (w .counted) ∙ rw (w .all .is)
 
-        stands : DossierIs s read-there index
-        stands = record {
-          head = w .stands;
-          count = sym many;
-          one = got-bounds 1 8 c .0;
-          few = got-bounds 1 8 c .1;
-          snapshots = these .stop .are;
-          differs = these .stop .differs;
-          objects = these .stop .objects;
-        }
+  pub not-whole : (r .next ≡ length s → ⊥) → dossierOf standard s ≡ none
+  unfolding dossierOf
+  not-whole ne =
+      let l : r .next < length s = omega (arith, w .all .stop .within, ne) in
+      ap whole last-step ∙ go (rising numbers (map (λ (s : Snapshot). s .version) these)) (drop-next s (r .next) l)
+    where
+      go : (b : Bool) {y : ℕ} {t u : List ℕ} → t ≡ y ∷ u → whole (andThen (foundIf b these t) (under top)) ≡ none
+      go true e = rw e
+      go false e = refl
 
-        pub dossier-found :
-            true ≡ rising numbers (versionNumbers (take n (r .versions))) → r .next ≡ length s → DossierReads (dossierOf standard s) s rows index
-        unfolding DossierReads dossierOf
-        dossier-found e z =
-            let g : readDossier standard s ≡ got read-there [] =
-            last-step
-            ∙ ap (λ (b : Bool). andThen (foundIf b (these .what) (drop (r .next) s)) (under (w .what))) (rises true e)
-            ∙ ap (got read-there) (ap (λ (k : ℕ). drop k s) z ∙ drop-length s) in
-            rw g (refl, stands, these .stop .stand)
+  many : length these ≡ n
+  many = as-many n (drop (w .at) s) these (drop (r .next) s) (w .all .is)
+
+  -- by the answer to whether they rise
+  module _ {b : Bool} (a : b ≡ rising numbers (versionNumbers (take n (r .versions)))) where
+    rises : {d : Bool} → b ≡ d → rising numbers (map (λ (s : Snapshot). s .version) these) ≡ d
+    rises e = ap (rising numbers) (sym (w .all .stop .are .numbers) ∙ ap (λ (k : ℕ). versionNumbers (take k (r .versions))) many) ∙ sym a ∙ e
+
+    pub not-rising : b ≡ false → dossierOf standard s ≡ none
+    not-rising e = no-dossier s (last-step ∙ rw (rises e))
+
+    stands : DossierIs s read-there (indexOf x n r)
+    stands = record {
+      head = w .counted .head .stands;
+      count = sym many;
+      one = w .counted .one;
+      few = w .counted .few;
+      snapshots = w .all .stop .are;
+      differs = w .all .stop .differs;
+      objects = w .all .stop .objects;
+    }
+
+    pub dossier-found :
+        b ≡ true → r .next ≡ length s →
+        DossierReads (dossierOf standard s) s rows (indexOf x n r)
+    unfolding DossierReads dossierOf
+    dossier-found e z =
+        let g : readDossier standard s ≡ got read-there [] =
+        last-step
+        ∙ ap (λ (b : Bool). andThen (foundIf b these (drop (r .next) s)) (under top)) (rises e)
+        ∙ ap (got read-there) (ap (λ (k : ℕ). drop k s) z ∙ drop-length s) in
+        rw g (refl, stands, w .all .stop .stand)

@@ -22,7 +22,8 @@ use Rattle.event.proofs.EventSizeLaws.{ValuesShort, Beyond, fit-short, sets-siz
 use Rattle.dossier.proofs.DossierHeadLaws.{dossier-head-size}
 use Rattle.dossier.specs.DossierLayout.{Headed, dossierBytes}
 use Rattle.dossier.specs.DossierBody.{differBit, snapshotBytes, bodyBytes}
-use Rattle.dossier.specs.DossierQuestions.{eachCell, eachSnapshot, isVacant, isPresent, isLoneIfExtreme, unversionedSnapshot, unversionedShape, versionedSnapshot, matchFits, matchAlike, dossierShape, snapshotValues}
+use Rattle.dossier.specs.DossierQuestions.{eachCell, eachSnapshot, isVacant, isPresent, isLoneIfExtreme, unversionedSnapshot, unversionedShape}
+use Rattle.dossier.specs.DossierQuestions.{versionedSnapshot, matchFits, matchAlike, dossierShape, snapshotValues}
 use Rattle.dossier.proofs.DossierBodyLaws.{SnapshotWritten, differ-below}
 use Rattle.dossier.proofs.DossierLayoutLaws.{DossierWritten}
 
@@ -48,13 +49,17 @@ snapshot-size s w v =
       held-objects (s .cells),
     ))
 
-pub snapshots-size : (ss : List Snapshot) → All SnapshotWritten ss → All (λ (s : Snapshot). ValuesShort (map held (s .cells))) ss → length (flatten (map snapshotBytes ss)) ≤ 84 * length ss + 121 * objects ss
+pub snapshots-size :
+    (ss : List Snapshot) → All SnapshotWritten ss → All (λ (s : Snapshot). ValuesShort (map held (s .cells))) ss →
+    length (flatten (map snapshotBytes ss)) ≤ 84 * length ss + 121 * objects ss
 unfolding flatten objects
 snapshots-size [] w v = omega arith
 snapshots-size (s ∷ ss) w v = simp length-append (omega (arith, snapshot-size s (w .0) (v .0), snapshots-size ss (w .1) (v .1)))
 
 -- 827 + 1 + 8 * 84 + 256 * 121 = 32,476
-pub dossier-size : (h : Headed) → DossierWritten standard h → All (λ (s : Snapshot). ValuesShort (map held (s .cells))) (h .snapshots) → length (h .head .type) ≤ 64 → objects (h .snapshots) ≤ 256 → length (dossierBytes h) ≤ dossierCapacity
+pub dossier-size :
+    (h : Headed) → DossierWritten standard h → All (λ (s : Snapshot). ValuesShort (map held (s .cells))) (h .snapshots) →
+    length (h .head .type) ≤ 64 → objects (h .snapshots) ≤ 256 → length (dossierBytes h) ≤ dossierCapacity
 unfolding standard dossierBytes bodyBytes
 dossier-size h w v t o =
     let n : length (h .snapshots) ≤ 8 = w .body .within in
@@ -86,7 +91,9 @@ cells-beyond f [] (c ∷ cs) h =
 cells-beyond f (p ∷ ps) [] h = tt
 cells-beyond f (p ∷ ps) (c ∷ cs) h = cells-beyond f ps cs (and-parts (f p c) (eachCell f isVacant ps cs) h .1)
 
-pub snapshots-short : (t : EventType) (ss : List Snapshot) → eachSnapshot (λ (s : Snapshot). eachCell isPresent isVacant (t .properties) (s .cells)) ss ≡ true → eachSnapshot (snapshotValues t) ss ≡ true → All (λ (s : Snapshot). ValuesShort (map held (s .cells))) ss
+pub snapshots-short :
+    (t : EventType) (ss : List Snapshot) → eachSnapshot (λ (s : Snapshot). eachCell isPresent isVacant (t .properties) (s .cells)) ss ≡ true →
+    eachSnapshot (snapshotValues t) ss ≡ true → All (λ (s : Snapshot). ValuesShort (map held (s .cells))) ss
 unfolding eachSnapshot snapshotValues
 snapshots-short t [] h v = tt
 snapshots-short t (s ∷ ss) h v =
@@ -107,14 +114,18 @@ unfolding unversionedShape unversionedSnapshot eachSnapshot standard objects
 unversioned-objects t [] h = omega arith
 unversioned-objects t (s ∷ []) h =
     let a = and-parts (unversionedSnapshot standard t s) true h in
-    let b = and-parts (eqb (s .version) 0 && eachCell (λ p c. not (isMark c) && isLoneIfExtreme p c) (λ c. true) (t .properties) (s .cells)) (leb (sizes (s .cells)) 256) (a .0) in
+    let b = and-parts (eqb (s .version) 0 && eachCell (λ p c. not (isMark c) && isLoneIfExtreme p c) (λ c. true) (t .properties) (s .cells))
+    (leb (sizes (s .cells)) 256) (a .0) in
     omega (arith, leb-true (sizes (s .cells)) 256 (b .1))
 unversioned-objects t (s ∷ r ∷ ss) h =
     let a = and-parts (eqb (length (s ∷ r ∷ ss)) 1) _ h in
     absurd (omega (arith, eqb-true (length (s ∷ r ∷ ss)) 1 (a .0)))
 
 -- the parts of question 5
-pub shape-parts : (t : EventType) (ss : List Snapshot) → dossierShape standard t ss ≡ true → (eachSnapshot (λ (s : Snapshot). eachCell isPresent isVacant (t .properties) (s .cells)) ss ≡ true) × (cond (isVersioned t) (eachSnapshot (versionedSnapshot t) ss) (unversionedShape standard t ss) ≡ true)
+pub shape-parts :
+    (t : EventType) (ss : List Snapshot) → dossierShape standard t ss ≡ true →
+    (eachSnapshot (λ (s : Snapshot). eachCell isPresent isVacant (t .properties) (s .cells)) ss ≡ true)
+    × (cond (isVersioned t) (eachSnapshot (versionedSnapshot t) ss) (unversionedShape standard t ss) ≡ true)
 unfolding dossierShape
 shape-parts t ss h = and-parts _ _ (and-parts _ (eachSnapshot (matchFits t) ss) (and-parts _ (matchAlike t ss) h .0) .0)
 
@@ -126,7 +137,9 @@ shape-objects t ss h n = go (isVersioned t) (shape-parts t ss h .1)
     go false h = unversioned-objects t ss h
 
 -- a dossier of which questions 3, 5 and 6 are answered yes
-pub dossier-fits : (t : EventType) (h : Headed) → DossierWritten standard h → dossierShape standard t (h .snapshots) ≡ true → eachSnapshot (snapshotValues t) (h .snapshots) ≡ true → length (h .head .type) ≤ 64 → length (dossierBytes h) ≤ dossierCapacity
+pub dossier-fits :
+    (t : EventType) (h : Headed) → DossierWritten standard h → dossierShape standard t (h .snapshots) ≡ true →
+    eachSnapshot (snapshotValues t) (h .snapshots) ≡ true → length (h .head .type) ≤ 64 → length (dossierBytes h) ≤ dossierCapacity
 unfolding standard
 dossier-fits t h w q v n =
     let ss = h .snapshots in

@@ -10,12 +10,16 @@ use borrow.Author.Tests.{leb-true}
 use Rattle.model.specs.Order.{Text, texts, rising}
 use Rattle.model.specs.Limits.{standard}
 use Rattle.model.proofs.Cases.{never}
-use Rattle.packed.specs.Parse.{fail, got, suchThat, times}
+use Rattle.packed.specs.Parse.{Parse, fail, got, suchThat, times}
 use Rattle.packed.specs.Packed.{readNumber, readText, readBytes, isWithin}
-use Rattle.packed.specs.code.Located.{Got}
-use Rattle.packed.proofs.LayoutLaws.{fail-got, andThen-got, suchThat-got, foundIf-got, bytes-was, times-was, flat}
-use Rattle.packed.proofs.ReadLaws.{TextStops}
-use Rattle.packed.proofs.FieldLaws.{such-never, such-was, is-within}
+use Rattle.packed.specs.code.Located.{textAt, Got, NumberReads}
+use Rattle.packed.specs.declared.read.NumberAt.{NumberAt}
+use Rattle.packed.specs.declared.read.NumberAt.the-variants.{Number, NoNumber}
+use Rattle.packed.specs.declared.read.TextAt.{TextAt}
+use Rattle.packed.specs.declared.read.TextAt.the-variants as text
+use Rattle.packed.proofs.LayoutLaws.{andThen-got, suchThat-got, foundIf-got, bytes-was, times-was, flat}
+use Rattle.packed.proofs.ReadLaws.{text-stops, text-none}
+use Rattle.packed.proofs.FieldLaws.{number-got, number-fail, such-never, such-was, is-within, got-bounds}
 use Rattle.event.specs.Head.{Head, isSource, readParents, readHead}
 use Rattle.event.specs.declared.head.HeadAt.{HeadAt}
 use Rattle.event.proofs.HeadLayoutLaws.{hashes-size}
@@ -25,9 +29,9 @@ use Rattle.dossier.specs.code.DossierIndex.{DossierHeadStops, HeadEnds}
 -- ---- the parts of a head that was read
 
 -- as many hashes of 20 bytes as were asked for, and what follows them
-record HashesPassed (n : ℕ) (t r : List ℕ) : Type 0 where
-  within : 20 * n ≤ length t
-  rest : r ≡ drop (20 * n) t
+pub record HashesPassed (n : ℕ) (t r : List ℕ) : Type 0 where
+  pub within : 20 * n ≤ length t
+  pub rest : r ≡ drop (20 * n) t
 
 hashes-passed : (n : ℕ) (t : List ℕ) (hs : List Text) (r : List ℕ) → times (readBytes 20) n t ≡ got hs r → HashesPassed n t r
 hashes-passed n t hs r e =
@@ -40,18 +44,18 @@ hashes-passed n t hs r e =
     }
 
 -- name, source and hashes of a head before t
-record Passed (s t : List ℕ) : Type 0 where
-  name : Text
-  after-name : List ℕ
-  named : readText s ≡ got name after-name
-  source : Text
-  after-source : List ℕ
-  sourced : readText after-name ≡ got source after-source
-  count : ℕ
-  after-count : List ℕ
-  counted : readNumber after-source ≡ got count after-count
-  few : count ≤ 32
-  hashes : HashesPassed count after-count t
+pub record Passed (s t : List ℕ) : Type 0 where
+  pub name : Text
+  pub after-name : List ℕ
+  pub named : readText s ≡ got name after-name
+  pub source : Text
+  pub after-source : List ℕ
+  pub sourced : readText after-name ≡ got source after-source
+  pub count : ℕ
+  pub after-count : List ℕ
+  pub counted : readNumber after-source ≡ got count after-count
+  pub few : count ≤ 32
+  pub hashes : HashesPassed count after-count t
 
 passed : (s : List ℕ) (h : Head) (t : List ℕ) → readDossierHead standard s ≡ got h t → Passed s t
 unfolding readDossierHead readHead readParents standard
@@ -82,6 +86,18 @@ passed s h t e =
 
 -- ---- where it ends
 
+-- where a head is read, its name ends at `at`, its source does, and n hashes follow there
+pub record NameEnds (s : List ℕ) (at : ℕ) : Type 0 where
+  pub there : (t : List ℕ) (w : Passed s t) → w .after-name ≡ drop at s
+
+pub record SourceEnds (s : List ℕ) (at : ℕ) : Type 0 where
+  pub there : (t : List ℕ) (w : Passed s t) → w .after-source ≡ drop at s
+
+pub record HashesFollow (s : List ℕ) (n at : ℕ) : Type 0 where
+  pub few : n ≤ 32
+  pub within : at ≤ length s
+  pub there : (t : List ℕ) → Passed s t → HashesPassed n (drop at s) t
+
 -- two ways to say what is left
 left-same : {A : Type 0} {a b : A} {t u : List ℕ} → got a t ≡ got b u → t ≡ u
 left-same e = cc e
@@ -90,51 +106,69 @@ left-same e = cc e
 pub ends-read : (s : List ℕ) (x : HeadAt) (end : ℕ) → DossierHeadStops (readDossierHead standard s) s x end → HeadEnds s end
 ends-read s x end w = record { rest = λ h t e. left-same (sym e ∙ w .is) }
 
-pub ends-unnamed : (s : List ℕ) (end : ℕ) → readText s ≡ fail → HeadEnds s end
-ends-unnamed s end bad = record { rest = λ h t e. fail-got (sym bad ∙ passed s h t e .named) }
+-- By what a reader answers, name and source of a head that is read end here, or no head is read, so that any position will do.
+pub record NameBy (s : List ℕ) (r : TextAt) : Type 0 where
+  pub on : (a e : ℕ) → r ≡ text.Text a e → NameEnds s e
+  pub fails : r ≡ text.NoText → (end : ℕ) → HeadEnds s end
 
-module _ (s : List ℕ) (a after-name : ℕ) (n : TextStops s 0 a after-name) where
-  name-end : {t : List ℕ} (w : Passed s t) → w .after-name ≡ drop after-name s
-  name-end w = left-same (sym (w .named) ∙ n .is)
+pub record SourceBy (s : List ℕ) (r : TextAt) : Type 0 where
+  pub on : (a e : ℕ) → r ≡ text.Text a e → SourceEnds s e
+  pub fails : r ≡ text.NoText → (end : ℕ) → HeadEnds s end
 
-  pub ends-unsourced : (end : ℕ) → readText (drop after-name s) ≡ fail → HeadEnds s end
-  ends-unsourced end bad = record {
-    rest = λ h t e. let w = passed s h t e in fail-got (sym bad ∙ ap readText (sym (name-end w)) ∙ w .sourced);
+-- the same of the number of parents, whose hashes follow it
+pub record CountBy (s : List ℕ) (r : NumberAt) : Type 0 where
+  pub on : (n e : ℕ) → r ≡ Number n e → HashesFollow s n e
+  pub fails : r ≡ NoNumber → (end : ℕ) → HeadEnds s end
+
+-- whatever refutes a head that is read
+no-head : (s : List ℕ) → ((t : List ℕ) → Passed s t → _≡_ {A = ℕ} 0 1) → (end : ℕ) → HeadEnds s end
+no-head s bad end = record { rest = λ h t e. never (bad t (passed s h t e)) }
+
+never-both : {A : Type 0} {p : Parse A} {a : A} {t : List ℕ} → p ≡ fail → p ≡ got a t → _≡_ {A = ℕ} 0 1
+never-both e f = cc
+
+pub name-by : (s : List ℕ) {r : TextAt} → r ≡ textAt s 0 → NameBy s r
+name-by s h = record {
+  on = λ a e q. record { there = λ t w. left-same (sym (w .named) ∙ text-stops s 0 a e (sym h ∙ q) .is) };
+  fails = λ q. no-head s (λ t w. never-both (text-none s 0 (sym h ∙ q)) (w .named));
+}
+
+pub source-by : {s : List ℕ} {at : ℕ} → NameEnds s at → {r : TextAt} → r ≡ textAt s at → SourceBy s r
+source-by {s} {at} name h = record {
+  on = λ a e q. record { there = λ t w. left-same (sym (w .sourced) ∙ ap readText (name .there t w) ∙ text-stops s at a e (sym h ∙ q) .is) };
+  fails = λ q. no-head s (λ t w. never-both (text-none s at (sym h ∙ q)) (ap readText (sym (name .there t w)) ∙ w .sourced));
+}
+
+abbrev parents : List ℕ → ℕ → Parse ℕ
+parents s at = suchThat (isWithin 0 32) readNumber (drop at s)
+
+module _ {s : List ℕ} {at : ℕ} (source : SourceEnds s at) where
+  number-there : (t : List ℕ) (w : Passed s t) → readNumber (drop at s) ≡ got (w .count) (w .after-count)
+  number-there t w = ap readNumber (sym (source .there t w)) ∙ w .counted
+
+  module _ {n e : ℕ} (c : Got (parents s at) s at n e) where
+    same : (t : List ℕ) (w : Passed s t) → got (w .count) (w .after-count) ≡ got n (drop e s)
+    same t w = sym (number-there t w) ∙ such-was (isWithin 0 32) readNumber s at c .0 .is
+
+    hashes-there : (t : List ℕ) → Passed s t → HashesPassed n (drop e s) t
+    hashes-there t w =
+        let number : w .count ≡ n = cc (same t w) in
+        subst (λ (k : ℕ). HashesPassed k (drop e s) t) number
+        (subst (λ (l : List ℕ). HashesPassed (w .count) l t) (left-same (same t w)) (w .hashes))
+
+    follow : HashesFollow s n e
+    follow = record { few = got-bounds 0 32 c .1; within = c .within; there = hashes-there }
+
+  pub count-by : {r : NumberAt} → NumberReads (parents s at) s at r → CountBy s r
+  count-by h = record {
+    on = λ n e q. follow (number-got q h);
+    fails = λ q. no-head s (λ t w.
+        such-never (isWithin 0 32) readNumber s at (number-fail s at q h) (number-there t w) (is-within 0 32 (w .count) (omega arith) (w .few)));
   }
 
-  module _ (b after-source : ℕ) (u : TextStops s after-name b after-source) where
-    source-end : {t : List ℕ} (w : Passed s t) → w .after-source ≡ drop after-source s
-    source-end w = left-same (sym (w .sourced) ∙ ap readText (name-end w) ∙ u .is)
+module _ {s : List ℕ} {n e : ℕ} (hashes : HashesFollow s n e) where
+  pub ends-short : (end : ℕ) → length s - e < 20 * n → HeadEnds s end
+  ends-short end less = record { rest = λ h t q. absurd (omega (arith, hashes .there t (passed s h t q) .within, length-drop e s)) }
 
-    number-there : {t : List ℕ} (w : Passed s t) → readNumber (drop after-source s) ≡ got (w .count) (w .after-count)
-    number-there w = ap readNumber (sym (source-end w)) ∙ w .counted
-
-    pub ends-uncounted : (end : ℕ) → suchThat (isWithin 0 32) readNumber (drop after-source s) ≡ fail → HeadEnds s end
-    ends-uncounted end bad = record {
-      rest = λ h t e.
-          let w = passed s h t e in
-          let inside = is-within 0 32 (w .count) (omega arith) (w .few) in
-          never (such-never (isWithin 0 32) readNumber s after-source bad (number-there w) inside);
-    }
-
-    module _
-        (count after-count : ℕ)
-        (c : Got (suchThat (isWithin 0 32) readNumber (drop after-source s)) s after-source count after-count) where
-      counted-same : {t : List ℕ} (w : Passed s t) → got (w .count) (w .after-count) ≡ got count (drop after-count s)
-      counted-same w = sym (number-there w) ∙ such-was (isWithin 0 32) readNumber s after-source c .0 .is
-
-      hashes-there : {t : List ℕ} → Passed s t → HashesPassed count (drop after-count s) t
-      hashes-there {t} w =
-          let number : w .count ≡ count = cc (counted-same w) in
-          subst (λ (k : ℕ). HashesPassed k (drop after-count s) t) number
-          (subst (λ (l : List ℕ). HashesPassed (w .count) l t) (left-same (counted-same w)) (w .hashes))
-
-      pub ends-short : (end : ℕ) → length s - after-count < 20 * count → HeadEnds s end
-      ends-short end less = record {
-        rest = λ h t e.
-            let there = hashes-there (passed s h t e) in
-            absurd (omega (arith, there .within, length-drop after-count s));
-      }
-
-      pub ends-here : HeadEnds s (after-count + 20 * count)
-      ends-here = record { rest = λ h t e. hashes-there (passed s h t e) .rest ∙ drop-drop (20 * count) after-count s }
+  pub ends-here : HeadEnds s (e + 20 * n)
+  ends-here = record { rest = λ h t q. hashes .there t (passed s h t q) .rest ∙ drop-drop (20 * n) e s }

@@ -13,12 +13,15 @@ use Rattle.packed.specs.Packed.{readNumber, isWithin}
 use Rattle.packed.specs.code.Located.{Got}
 use Rattle.packed.proofs.LayoutLaws.{fail-got, andThen-got, foundIf-got, whole-some, times-was}
 use Rattle.event.specs.Head.{Head}
+use Rattle.event.specs.declared.head.HeadAt.{HeadAt}
 use Rattle.dossier.specs.DossierHead.{readDossierHead}
 use Rattle.dossier.specs.DossierBody.{readSnapshot, readBody, snapshotBytes}
 use Rattle.dossier.specs.DossierLayout.{Headed, readDossier, dossierOf}
 use Rattle.dossier.specs.code.DossierIndex.{HeadEnds, HasRows}
 use Rattle.dossier.proofs.DossierBodyLaws.{SnapshotWritten, snapshot-was}
 use Rattle.dossier.proofs.DossierLayoutLaws.{dossier-was}
+use Rattle.dossier.proofs.DossierReadLaws.{HeadCount}
+use Rattle.dossier.proofs.HeadEndLaws.{ends-read}
 
 -- ---- the count of a dossier
 
@@ -85,7 +88,7 @@ module _ (s : List ℕ) where
   }
 
   -- where there are fewer rows than the count says, the bytes are no dossier
-  pub no-rows : (n size : ℕ) → HasRows s size → Counted n → size < 96 * n → dossierOf standard s ≡ none
+  no-rows : (n size : ℕ) → HasRows s size → Counted n → size < 96 * n → dossierOf standard s ≡ none
   no-rows n size has counted less = go (dossierOf standard s) refl
     where
       go : (o : Option Headed) → dossierOf standard s ≡ o → dossierOf standard s ≡ none
@@ -93,3 +96,8 @@ module _ (s : List ℕ) where
       go (some h) e =
           let enough = has .enough h e in
           absurd (omega (arith, counted h e, enough))
+
+-- the same by the count that was read
+pub rows-short : {s : List ℕ} {x : HeadAt} {n at size : ℕ} → HeadCount s x n at → HasRows s size → size < 96 * n → dossierOf standard s ≡ none
+rows-short {s} {x} {n} {at} {size} w has less =
+    no-rows s n size has (as-counted s (w .end) (ends-read s x (w .end) (w .head)) n at (w .count)) less

@@ -14,7 +14,10 @@ use Rattle.model.specs.Order.{Text}
 use Rattle.model.specs.Rule.{Snapshot}
 use Rattle.packed.specs.Parse.{Parse, fail, got, Layout, andThen, _>>=_, foundIf, suchThat}
 use Rattle.packed.specs.Packed.{readNumber}
-use Rattle.packed.proofs.ReadLaws.{NumberStops, stretch}
+use Rattle.packed.specs.code.Located.{numberAt}
+use Rattle.packed.specs.declared.read.NumberAt.{NumberAt}
+use Rattle.packed.specs.declared.read.NumberAt.the-variants.{Number, NoNumber}
+use Rattle.packed.proofs.ReadLaws.{number-stops, number-none, stretch}
 use Rattle.values.specs.declared.versions.EventVersion.{EventVersion}
 use Rattle.event.specs.Event.{objectCount}
 use Rattle.event.specs.EventLayout.{readBits, readSets, presenceBit, bitNumber}
@@ -90,47 +93,74 @@ bits-got : (t : List ℕ) (n : ℕ) (r : List ℕ) → readNumber t ≡ got n r 
 unfolding readBits
 bits-got t n r e h = rw (e, lt-ltb n (2 ^ 32) h)
 
-pub no-version : (t : List ℕ) → readNumber t ≡ fail → readSnapshot t ≡ fail
-unfolding readSnapshot
-no-version t e = rw e
+-- what follows the presence number, and the differ number
+unfoldable pub afterPresence : ℕ → ℕ → Layout Snapshot
+afterPresence version presence = suchThat (apart 32 presence) readBits >>= afterNumbers version presence
 
--- what follows the version, and the presence number
-abbrev afterPresence : ℕ → ℕ → Layout Snapshot
-afterPresence version presence = suchThat (apart 32 presence) readBits >>= λ differ. afterNumbers version presence differ
+unfoldable pub afterDiffer : ℕ → ℕ → ℕ → Layout Snapshot
+afterDiffer version presence differ t = andThen (foundIf (apart 32 presence differ) differ t) (afterNumbers version presence)
 
-abbrev afterVersion : ℕ → Layout Snapshot
-afterVersion version = readBits >>= λ presence. afterPresence version presence
+-- by what a reader answers, the snapshot at `at` goes on after its version, or is none
+pub record VersionBy (s : List ℕ) (at : ℕ) (r : NumberAt) : Type 0 where
+  pub on : (n next : ℕ) → r ≡ Number n next → readSnapshot (drop at s) ≡ andThen (readBits (drop next s)) (afterPresence n)
+  pub fails : r ≡ NoNumber → readSnapshot (drop at s) ≡ fail
 
-module _ (s : List ℕ) (at version a : ℕ) (x : NumberStops s at version a) where
-  first-step : readSnapshot (drop at s) ≡ afterVersion version (drop a s)
-  unfolding readSnapshot
-  first-step = ap (λ (p : Parse ℕ). andThen p afterVersion) (x .is)
+-- the same of a number that has to be below 2^32, with k after it
+pub record BitsBy (s : List ℕ) (at : ℕ) (k : ℕ → Layout Snapshot) (r : NumberAt) : Type 0 where
+  pub small : (n next : ℕ) → r ≡ Number n next → n < 4294967296 → (readSnapshot (drop at s) ≡ k n (drop next s)) × (next ≤ length s)
+  pub large : (n next : ℕ) → r ≡ Number n next → 4294967296 ≤ n → readSnapshot (drop at s) ≡ fail
+  pub fails : r ≡ NoNumber → readSnapshot (drop at s) ≡ fail
 
-  pub no-presence : readNumber (drop a s) ≡ fail → readSnapshot (drop at s) ≡ fail
-  no-presence e = first-step ∙ rw (bits-none (drop a s) e)
+-- and by whether presence and differ are apart
+pub record ApartBy (s : List ℕ) (at version presence differ next : ℕ) (r : Bool) : Type 0 where
+  pub so : r ≡ true → NumbersStop s at version presence differ next
+  pub fails : r ≡ false → readSnapshot (drop at s) ≡ fail
 
-  module _ (presence b : ℕ) (y : NumberStops s a presence b) where
-    pub presence-large : 4294967296 ≤ presence → readSnapshot (drop at s) ≡ fail
-    presence-large h = first-step ∙ rw (bits-large (drop a s) presence (drop b s) (y .is) h)
+module _ (s : List ℕ) (at : ℕ) where
+  abbrev whole : Parse Snapshot
+  whole = readSnapshot (drop at s)
 
-    second-step : presence < 4294967296 → readSnapshot (drop at s) ≡ afterPresence version presence (drop b s)
-    second-step h = first-step ∙ ap (λ (p : Parse ℕ). andThen p (afterPresence version)) (bits-got (drop a s) presence (drop b s) (y .is) h)
+  pub version-by : {r : NumberAt} → r ≡ numberAt s at → VersionBy s at r
+  unfolding readSnapshot afterPresence
+  version-by h =
+      let on : Parse ℕ → Parse Snapshot = λ p. andThen p (λ version. readBits >>= afterPresence version) in
+      record { on = λ n next q. ap on (number-stops s at n next (sym h ∙ q) .is); fails = λ q. ap on (number-none s at (sym h ∙ q)) }
 
-    pub no-differ : presence < 4294967296 → readNumber (drop b s) ≡ fail → readSnapshot (drop at s) ≡ fail
-    no-differ h e = second-step h ∙ rw (bits-none (drop b s) e)
+  -- a number below 2^32 stands at a
+  module _ (a : ℕ) {r : NumberAt} (h : r ≡ numberAt s a) where
+    bits-by : (on : Parse ℕ → Parse Snapshot) → on fail ≡ fail → whole ≡ on (readBits (drop a s)) → BitsBy s at (λ n t. on (got n t)) r
+    bits-by on z e = record {
+      small = λ n next q l.
+          let w = number-stops s a n next (sym h ∙ q) in
+          (e ∙ ap on (bits-got (drop a s) n (drop next s) (w .is) l), w .within);
+      large = λ n next q l.
+          let w = number-stops s a n next (sym h ∙ q) in
+          e ∙ ap on (bits-large (drop a s) n (drop next s) (w .is) l) ∙ z;
+      fails = λ q. e ∙ ap on (bits-none (drop a s) (number-none s a (sym h ∙ q))) ∙ z;
+    }
 
-    module _ (h : presence < 4294967296) (differ c : ℕ) (z : NumberStops s b differ c) where
-      pub differ-large : 4294967296 ≤ differ → readSnapshot (drop at s) ≡ fail
-      differ-large k = second-step h ∙ rw (bits-large (drop b s) differ (drop c s) (z .is) k)
+    pub presence-by : (version : ℕ) → whole ≡ andThen (readBits (drop a s)) (afterPresence version) → BitsBy s at (afterPresence version) r
+    presence-by version e = bits-by (λ p. andThen p (afterPresence version)) refl e
 
-      third-step : differ < 4294967296 → readSnapshot (drop at s) ≡ andThen (foundIf (apart 32 presence differ) differ (drop c s)) (afterNumbers version presence)
-      third-step k = second-step h ∙ ap (λ (p : Parse ℕ). andThen (andThen p (λ d. foundIf (apart 32 presence d) d)) (afterNumbers version presence)) (bits-got (drop b s) differ (drop c s) (z .is) k)
+    pub differ-by :
+        (version presence : ℕ) → (whole ≡ afterPresence version presence (drop a s)) × (a ≤ length s) → BitsBy s at (afterDiffer version presence) r
+    unfolding afterPresence afterDiffer
+    differ-by version presence e =
+        bits-by (λ p. andThen (andThen p (λ d. foundIf (apart 32 presence d) d)) (afterNumbers version presence)) refl (e .0)
 
-      pub not-apart : differ < 4294967296 → apart 32 presence differ ≡ false → readSnapshot (drop at s) ≡ fail
-      not-apart k e = third-step k ∙ rw e
-
-      pub numbers-stop : differ < 4294967296 → apart 32 presence differ ≡ true → NumbersStop s at version presence differ c
-      numbers-stop k e = record { is = third-step k ∙ rw e; within = z .within; presence-low = h; differ-low = k; clear = e }
+  pub apart-by :
+      (version presence differ next : ℕ) → presence < 4294967296 → differ < 4294967296 →
+      (whole ≡ afterDiffer version presence differ (drop next s)) × (next ≤ length s) →
+      {r : Bool} → r ≡ apart 32 presence differ → ApartBy s at version presence differ next r
+  unfolding afterDiffer
+  apart-by version presence differ next l m w h =
+      let answered : Bool → Parse Snapshot = λ b. andThen (foundIf b differ (drop next s)) (afterNumbers version presence) in
+      record {
+        so = λ e.
+            let clear = sym h ∙ e in
+            record { is = w .0 ∙ ap answered clear; within = w .1; presence-low = l; differ-low = m; clear = clear };
+        fails = λ e. w .0 ∙ ap answered (sym h ∙ e);
+      }
 
 -- ---- the snapshot
 
@@ -143,9 +173,7 @@ numbers-read {s} {at} h w = subst (NumbersRead s at) h w
 pub numbers-refused : (s : List ℕ) (at : ℕ) {r : NumbersAt} → r ≡ NoNumbers → NumbersRead s at r → readSnapshot (drop at s) ≡ fail
 numbers-refused s at h w = subst (NumbersRead s at) h w
 
-module _
-    (s : List ℕ) (at : ℕ) (within : at ≤ length s) (version : EventVersion) (presence differ after-differ : ℕ)
-    (n : NumbersStop s at (version .0) presence differ after-differ) where
+module _ {s : List ℕ} {at version presence differ after-differ : ℕ} (n : NumbersStop s at version presence differ after-differ) where
   pub no-sets : readSets 32 presence (drop after-differ s) ≡ fail → readSnapshot (drop at s) ≡ fail
   no-sets e = n .is ∙ rw e
 
@@ -153,18 +181,19 @@ module _
   pub sets-promised : {known : Bool} → Promised known (readSnapshot (drop at s)) → Promised known (readSets 32 presence (drop after-differ s))
   sets-promised q k e = q k (no-sets e)
 
-  -- the snapshot of some sets
-  module _ (ats : List ℕ) (next objects : ℕ) (found : SetsStop (readSets 32 presence (drop after-differ s)) s ats next objects) where
+  -- the sets that follow the numbers
+  module _ {ats : List ℕ} {next objects : ℕ} (found : SetsStop (readSets 32 presence (drop after-differ s)) s ats next objects) where
+    -- the answer to whether they are small
     abbrev Small : Bool → Type 0
     Small b = (t : List ℕ) (xs : List (List Text)) → SetsAre t xs ats → objects ≡ objectCount xs → b ≡ areSmall xs
 
-    pub sets-large : Small false → readSnapshot (drop at s) ≡ fail
-    sets-large b = let e = sym (b s (found .what) (found .stands) (found .summed)) in n .is ∙ rw (found .is, e)
+    small-is : {b c : Bool} → Small b → b ≡ c → areSmall (found .what) ≡ c
+    small-is a e = sym (a s (found .what) (found .stands) (found .summed)) ∙ e
 
-    module _ (b : Small true) where
-      small : areSmall (found .what) ≡ true
-      small = sym (b s (found .what) (found .stands) (found .summed))
+    pub sets-large : {b : Bool} → Small b → b ≡ false → readSnapshot (drop at s) ≡ fail
+    sets-large a e = n .is ∙ rw (found .is, small-is a e)
 
+    module _ (within : at ≤ length s) {b : Bool} (a : Small b) (e : b ≡ true) where
       was : SetsWas 32 presence (drop after-differ s) (found .what) (drop next s)
       was = sets-was 32 presence (drop after-differ s) (found .what) (drop next s) (n .presence-low) (found .is)
 
@@ -175,17 +204,17 @@ module _
       cells = cells-are (found .what) (was .long) (was .present)
 
       abbrev it : Snapshot
-      it = record { version = version .0; cells = cellsOf differ (found .what) }
+      it = record { version = version; cells = cellsOf differ (found .what) }
 
       reads : readSnapshot (drop at s) ≡ got it (drop next s)
-      reads = n .is ∙ rw (found .is, small)
+      reads = n .is ∙ rw (found .is, small-is a e)
 
       stands : SnapshotAt s it at next
       stands =
           let z = stretch s (snapshotBytes it) at next within (found .within) (snapshot-was (drop at s) it (drop next s) reads .0) in
           record { is = reads; bytes = z .0; order = z .1; within = found .within }
 
-      pub snapshot-some : SnapshotStops s at (record { version = version; differ = differ; objects = objects }) next ats
+      pub snapshot-some : SnapshotStops s at (record { version = record { 0 = version }; differ = differ; objects = objects }) next ats
       snapshot-some = record {
         what = it;
         stands = stands;

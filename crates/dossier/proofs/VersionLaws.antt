@@ -66,13 +66,17 @@ module _ (s : List ℕ) (y : Snapshot) (x : SnapshotNumbers) (ats : List ℕ) (w
   module _ (ty : EventType) (m : mark ≡ ty .mark) where
     plain : mark ≡ 0 → versionFits ty y ≡ (eqb (y .version) 0 && leb (sizes (y .cells)) 256)
     unfolding versionFits
-    plain h = ap (λ (n : ℕ). cond (ltb 0 n) (leb (sizes (y .cells)) 32 && holdsVersion (y .version) (cellAt y (ty .mark - 1))) (eqb (y .version) 0 && leb (sizes (y .cells)) 256)) (sym m ∙ h)
+    plain h =
+        ap (λ (n : ℕ). cond (ltb 0 n) (leb (sizes (y .cells)) 32 && holdsVersion (y .version) (cellAt y (ty .mark - 1)))
+        (eqb (y .version) 0 && leb (sizes (y .cells)) 256)) (sym m ∙ h)
 
     dated : (mark ≡ 0 → ⊥) → versionFits ty y ≡ (leb (sizes (y .cells)) 32 && holdsVersion (y .version) (cellAt y (mark - 1)))
     unfolding versionFits
     dated h =
-        ap (λ (n : ℕ). cond (ltb 0 n) (leb (sizes (y .cells)) 32 && holdsVersion (y .version) (cellAt y (n - 1))) (eqb (y .version) 0 && leb (sizes (y .cells)) 256)) (sym m)
-        ∙ ap (λ (b : Bool). cond b (leb (sizes (y .cells)) 32 && holdsVersion (y .version) (cellAt y (mark - 1))) (eqb (y .version) 0 && leb (sizes (y .cells)) 256)) (lt-ltb 0 mark (omega (arith, h)))
+        ap (λ (n : ℕ). cond (ltb 0 n) (leb (sizes (y .cells)) 32 && holdsVersion (y .version) (cellAt y (n - 1)))
+        (eqb (y .version) 0 && leb (sizes (y .cells)) 256)) (sym m)
+        ∙ ap (λ (b : Bool). cond b (leb (sizes (y .cells)) 32 && holdsVersion (y .version) (cellAt y (mark - 1)))
+        (eqb (y .version) 0 && leb (sizes (y .cells)) 256)) (lt-ltb 0 mark (omega (arith, h)))
 
     pub plain-not : mark ≡ 0 → (x .version .0 ≡ 0 → ⊥) → false ≡ versionFits ty y
     plain-not h ne = sym (plain h ∙ ap (λ (b : Bool). b && leb (sizes (y .cells)) 256) (ne-eqb (y .version) 0 (λ e. ne (w .version ∙ e))))
@@ -81,10 +85,12 @@ module _ (s : List ℕ) (y : Snapshot) (x : SnapshotNumbers) (ats : List ℕ) (w
     plain-so h e = sym (plain h ∙ ap₂ (λ (b : Bool) (n : ℕ). b && leb n 256) (eq-eqb (y .version) 0 (sym (w .version) ∙ e)) (sym (w .objects)))
 
     pub dated-large : (mark ≡ 0 → ⊥) → 32 < x .objects → false ≡ versionFits ty y
-    dated-large h k = sym (dated h ∙ ap (λ (b : Bool). b && holdsVersion (y .version) (cellAt y (mark - 1))) (lt-leb (sizes (y .cells)) 32 (omega (arith, w .objects))))
+    dated-large h k =
+        sym (dated h ∙ ap (λ (b : Bool). b && holdsVersion (y .version) (cellAt y (mark - 1))) (lt-leb (sizes (y .cells)) 32 (omega (arith, w .objects))))
 
     pub dated-so : (mark ≡ 0 → ⊥) → x .objects ≤ 32 → {r : Bool} → r ≡ holdsVersion (y .version) (cellAt y (mark - 1)) → r ≡ versionFits ty y
-    dated-so h k e = e ∙ sym (dated h ∙ ap (λ (b : Bool). b && holdsVersion (y .version) (cellAt y (mark - 1))) (le-leb (sizes (y .cells)) 32 (omega (arith, w .objects))))
+    dated-so h k e =
+        e ∙ sym (dated h ∙ ap (λ (b : Bool). b && holdsVersion (y .version) (cellAt y (mark - 1))) (le-leb (sizes (y .cells)) 32 (omega (arith, w .objects))))
 
 -- ---- one snapshot
 

@@ -1,159 +1,117 @@
+-- By what each reader answers, more of the dossier is read, or the bytes are none, and the latter is returned. Where there are fewer rows than the count asks
+-- for, the bytes are none too, since a dossier has its rows (`HasRows`).
 use borrow.Author.Needs.{needs}
 use borrow.Author.Tests.{not-true, not-false}
-use mathlib.Core.Path.{_≡_, sym, _∙_}
-use mathlib.Core.Bool.{true, false}
-use mathlib.Core.Option.{none}
 use mathlib.Core.List.{List}
-use Prim.Native.Nat.{ℕ, _*_, _≤_}
+use Prim.Native.Nat.{ℕ}
 use native.Mathlib.Omega.{arith}
-use lib.ListN.{length, drop}
-use Rattle.model.specs.Limits.{standard}
-use Rattle.packed.specs.Parse.{suchThat, times}
-use Rattle.packed.specs.Packed.{readNumber, isWithin}
-use Rattle.packed.specs.code.Located.{Got}
-use Rattle.packed.proofs.FieldLaws.{number-got, number-fail, got-bounds}
-use Rattle.dossier.specs.DossierHead.{readDossierHead}
-use Rattle.dossier.specs.DossierLayout.{dossierOf}
-use Rattle.dossier.specs.DossierBody.{readSnapshot}
-use Rattle.dossier.specs.code.DossierIndex.{DossierHeadStops, SnapshotsSay, DossierReads}
-use Rattle.dossier.specs.declared.dossiers.DossierIndex.{DossierIndex}
-use Rattle.dossier.proofs.DossierReadLaws.{head-reads, head-refused, dossier-none, no-head, no-count}
-use Rattle.dossier.proofs.DossierReadLaws.{no-snapshots, not-whole, not-rising, dossier-found}
-use Rattle.dossier.proofs.HeadEndLaws.{ends-read}
-use Rattle.dossier.proofs.RowLaws.{as-counted, no-rows}
+use Rattle.event.specs.declared.head.HeadAt.{HeadAt}
+use Rattle.dossier.specs.declared.dossiers.SnapshotsRead.{SnapshotsRead}
+use Rattle.dossier.proofs.DossierReadLaws.{HeadBy, HeadCount, CountBy, SnapshotsBy, SnapshotsFound, head-by, count-by, snapshots-by}
+use Rattle.dossier.proofs.DossierReadLaws.{refused, not-whole, not-rising, dossier-found}
+use Rattle.dossier.proofs.RowLaws.{rows-short}
 use Rattle.dossier.proofs.dossiers.read_dossier.Statement.{statement}
 use Rattle.dossier.proofs.dossiers.read_dossier.Tie as tie
 
 -- ---- the places
 
-abbrev to-start : tie.After-known-told → tie.Start
-to-start c = c .before .before .before .before .before .before
-
-abbrev to-head : tie.After-known-told2 → tie.After-known-told
+abbrev to-head : tie.After-read-within → tie.After-read-dossier-head
 to-head c = c .before .before .before .before
 
-abbrev to-room : tie.After-struct-known → tie.Else1
-to-room c = c .before .before .before .before .before
+abbrev to-snapshots : tie.Else2 → tie.After-read-snapshots
+to-snapshots c = c .before .before .before .before
 
-abbrev to-count : tie.Else1 → tie.After-known-told2
-to-count c = c .before
-
-abbrev to-read : tie.Else3 → tie.Else2
-to-read c = c .before .before
-
-abbrev to-whole : tie.After-versions-rise → tie.Else3
-to-whole c = c .before .before .before .before .before .before
+abbrev to-whole : tie.After-objects → tie.Else3
+to-whole c = c .before .before .before .before .before
 
 -- ---- the facts
 
--- what is answered where the bytes are no dossier
-refused : (s rows : List ℕ) (size : ℕ) (r : DossierIndex) → dossierOf standard s ≡ none → (r .ok ≡ false) × (r .count ≡ 0) →
-    DossierReads (dossierOf standard s) s rows r × (96 * r .count ≤ size)
-refused s rows size r e answer = (dossier-none _ _ _ _ e (answer .0), omega (arith, answer .1))
+module _ (c : tie.After-read-dossier-head) where
+  abbrev start : tie.Start
+  start = c .before .before .before
 
-module _ (c : tie.After-known-told) where
   abbrev bytes : List ℕ
-  bytes = to-start c .args .s .now
+  bytes = start .args .s .now
 
-  abbrev size : ℕ
-  size = length (to-start c .args .rows .now)
+  by-head : HeadBy bytes (c .read-dossier-head .result)
+  by-head = head-by _ (c .read-dossier-head .ensures)
 
-  -- the head that was read
-  head : DossierHeadStops (readDossierHead standard bytes) bytes (c .before .head .given .0 .0) (c .before .head .given .0 .1 .0)
-  head = head-reads (c .before .head .given .1) (c .before .before .before .read-dossier-head .ensures)
+module _ (c : tie.After-read-within) where
+  abbrev head : HeadAt
+  head = c .before .before .head .given .0 .0
+
+  count : CountBy (bytes (to-head c)) head (c .read-within .result)
+  count = count-by (by-head (to-head c) .on _ _ (c .before .before .head .given .1)) (c .read-within .ensures)
 
 module _ (c : tie.After-known-told2) where
-  abbrev after-head : ℕ
-  after-head = to-head c .before .head .given .0 .1 .0
+  abbrev asked : tie.After-read-within
+  asked = c .before .before .before
 
-  -- the number of snapshots, which follows
-  count : Got (suchThat (isWithin 1 8) readNumber (drop after-head (bytes (to-head c)))) (bytes (to-head c)) after-head
-      (c .before .number .given .0 .0) (c .before .number .given .0 .1 .0)
-  count = number-got (c .before .number .given .1) (c .before .before .before .read-within .ensures)
+  abbrev number : ℕ
+  number = c .before .number .given .0 .0
 
--- they have their rows
-enough : (c : tie.Else1) → 96 * to-count c .before .number .given .0 .0 ≤ size (to-head (to-count c))
-enough c = c .if1 .left
+  counted : HeadCount (bytes (to-head asked)) (head asked) number (c .before .number .given .0 .1 .0)
+  counted = count asked .on _ _ (c .before .number .given .1)
 
--- and they are read
-module _ (c : tie.After-struct-known) where
-  abbrev here : tie.After-known-told2
-  here = to-count (to-room c)
+module _ (c : tie.After-read-snapshots) where
+  abbrev told : tie.After-known-told2
+  told = c .before .before .before
 
-  snapshots : SnapshotsSay (times readSnapshot (here .before .number .given .0 .0) (drop (here .before .number .given .0 .1 .0) (bytes (to-head here))))
-      (bytes (to-head here)) (c .before .before .before .read-snapshots .last .1 .1 .1 .0) (c .before .before .before .read-snapshots .result)
-  snapshots = c .before .before .before .read-snapshots .ensures
+  abbrev rows : List ℕ
+  rows = c .read-snapshots .last .1 .1 .1 .0
 
-right : (c : tie.Else2) → c .before .before .before .before .read-snapshots .result .ok ≡ true
-right c = not-false _ (c .if2 .left)
+  abbrev result : SnapshotsRead
+  result = c .read-snapshots .result
+
+  by-snapshots : SnapshotsBy (bytes (to-head (asked told))) (head (asked told)) (number told) rows result
+  by-snapshots = snapshots-by (counted told) _ (c .read-snapshots .ensures)
+
+all :
+    (c : tie.Else2) → let read = to-snapshots c in let n = told read in
+    SnapshotsFound (bytes (to-head (asked n))) (head (asked n)) (number n) (rows read) (result read)
+all c = by-snapshots (to-snapshots c) .on (not-false _ (c .if2 .left))
 
 -- ---- the needs
 
 returns : tie.Need-returns
-returns c =
-    let bad = head-refused _ (c .before .enum-told .given .1) (c .before .before .before .read-dossier-head .ensures) in
-    refused _ _ _ _ (no-head _ bad) (c .no-dossier .ensures)
+returns c = refused _ _ _ _ (by-head (c .before .before .before) .fails (c .before .enum-told .given .1)) (c .no-dossier .ensures)
 
 returns-2 : tie.Need-returns-2
-returns-2 c =
-    let at-number = c .before .before .before in
-    let bad = number-fail _ _ (c .before .enum-told2 .given .1) (at-number .read-within .ensures) in
-    refused _ _ _ _ (no-count _ _ _ (head (at-number .before)) bad) (c .no-dossier2 .ensures)
-
-mul-if1 : tie.Need-mul-if1
-mul-if1 c = omega (arith, got-bounds 1 8 (count c) .1)
+returns-2 c = refused _ _ _ _ (count (c .before .before .before) .fails (c .before .enum-told2 .given .1)) (c .no-dossier2 .ensures)
 
 returns-3 : tie.Need-returns-3
 returns-3 c =
-    let at-count = c .before .before in
-    let counted = as-counted _ _ (ends-read _ _ _ (head (to-head at-count))) _ _ (count at-count) in
-    refused _ _ _ _ (no-rows _ _ _ (to-start (to-head at-count) .pre) counted (c .before .if1 .taken)) (c .no-dossier3 .ensures)
+    let n = c .before .before in
+    refused _ _ _ _ (rows-short (counted n) (start (to-head (asked n)) .pre) (c .before .if1 .taken)) (c .no-dossier3 .ensures)
 
 read-snapshots-requires : tie.Need-read-snapshots-requires
 read-snapshots-requires c κs =
-    let at-count = to-count (c .before) in
-    let bounds = got-bounds 1 8 (count at-count) in
-    (count at-count .within, bounds .0, bounds .1, enough (c .before))
+    let n = counted (c .before .before) in
+    (n .count .within, n .one, n .few, c .before .if1 .left)
 
 returns-4 : tie.Need-returns-4
 returns-4 c =
-    let all = c .before .before in
-    let at-count = here all in
-    let bad = no-snapshots _ _ _ (head (to-head at-count)) _ _ (count at-count) _ _ (snapshots all) (not-true _ (c .before .if2 .taken)) in
-    refused _ _ _ _ bad (c .no-dossier4 .ensures)
+    let read = c .before .before in
+    refused _ _ _ _ (by-snapshots (read .before .before .before) .fails (not-true _ (c .before .if2 .taken))) (c .no-dossier4 .ensures)
 
 returns-5 : tie.Need-returns-5
-returns-5 c =
-    let read = c .before .before .before in
-    let all = read .before in
-    let at-count = here all in
-    let longer = not-whole _ _ _ (head (to-head at-count)) _ _ (count at-count) _ _ (snapshots all) (right read) (c .before .if3 .taken) in
-    refused _ _ _ _ longer (c .no-dossier5 .ensures)
+returns-5 c = refused _ _ _ _ (not-whole (all (c .before .before .before)) (c .before .if3 .taken)) (c .no-dossier5 .ensures)
 
 versions-rise-requires : tie.Need-versions-rise-requires
-versions-rise-requires c κs =
-    let all = to-read (c .before .before .before .before .before) .before in
-    got-bounds 1 8 (count (here all)) .1
+versions-rise-requires c κs = counted (told (to-snapshots (to-whole c .before .before))) .few
 
 returns-6 : tie.Need-returns-6
 returns-6 c =
-    let asked = c .before .before in
-    let read = to-read (to-whole asked) in
-    let all = read .before in
-    let at-count = here all in
-    let mixed = sym (not-true _ (c .before .if4 .taken)) ∙ asked .versions-rise .ensures in
-    refused _ _ _ _ (not-rising _ _ _ (head (to-head at-count)) _ _ (count at-count) _ _ (snapshots all) (right read) mixed) (c .no-dossier6 .ensures)
+    let risen = c .before .before in
+    refused _ _ _ _ (not-rising (all (to-whole (risen .before) .before .before)) (risen .versions-rise .ensures) (not-true _ (c .before .if4 .taken)))
+    (c .no-dossier6 .ensures)
 
 returns-7 : tie.Need-returns-7
 returns-7 c =
-    let asked = c .before in
-    let whole = to-whole asked in
-    let read = to-read whole in
-    let all = read .before in
-    let at-count = here all in
-    let rising = sym (not-false _ (c .if4 .left)) ∙ asked .versions-rise .ensures in (
-      dossier-found _ _ _ (head (to-head at-count)) _ _ (count at-count) _ _ (snapshots all) (right read) rising (whole .if3 .left),
-      enough (to-room all),
+    let whole = to-whole (c .before .before) in
+    let read = whole .before .before in (
+      dossier-found (all read) (c .before .versions-rise .ensures) (not-false _ (c .if4 .left)) (whole .if3 .left),
+      to-snapshots read .before .before .if1 .left,
     )
 
 pub read-dossier-spec : {M : Type 1} → statement M
@@ -170,7 +128,7 @@ read-dossier-spec =
     (λ c. search needs)
     (λ c κs. search needs)
     returns-2
-    mul-if1
+    (λ c. omega (arith, counted c .few))
     (λ c κs. search needs)
     returns-3
     read-snapshots-requires

@@ -1,95 +1,43 @@
+-- By what each reader answers, the next part of a head starts where the last one ends, or the bytes have no head, so that any position will do. The parents'
+-- hashes are passed over unread.
 use borrow.Author.Needs.{needs}
-use mathlib.Core.Path.{sym, _∙_}
 use mathlib.Core.List.{List}
 use Prim.Native.Nat.{ℕ}
 use native.Mathlib.Omega.{arith}
-use lib.ListN.{drop}
-use Rattle.packed.specs.Parse.{suchThat}
-use Rattle.packed.specs.Packed.{readNumber, isWithin}
-use Rattle.packed.specs.code.Located.{Got}
-use Rattle.packed.proofs.ReadLaws.{TextStops, text-stops, text-none}
-use Rattle.packed.proofs.FieldLaws.{number-got, number-fail, got-bounds}
-use Rattle.dossier.proofs.HeadEndLaws.{ends-unnamed, ends-unsourced, ends-uncounted, ends-short, ends-here}
+use Rattle.dossier.proofs.HeadEndLaws.{NameBy, SourceBy, CountBy, HashesFollow, name-by, source-by, count-by, ends-short, ends-here}
 use Rattle.dossier.proofs.head.dossier_head_end.Statement.{statement}
 use Rattle.dossier.proofs.head.dossier_head_end.Tie as tie
 
 -- ---- the places
 
-abbrev to-start : tie.After-known-told → tie.Start
-to-start c = c .before .before .before .before .before
-
-abbrev to-name : tie.After-known-told2 → tie.After-known-told
+abbrev to-name : tie.After-read-text2 → tie.After-read-text
 to-name c = c .before .before .before .before
 
-abbrev to-source : tie.After-known-told3 → tie.After-known-told2
+abbrev to-source : tie.After-read-within → tie.After-read-text2
 to-source c = c .before .before .before .before
+
+abbrev to-count : tie.After-known-told3 → tie.After-read-within
+to-count c = c .before .before .before
 
 -- ---- the facts
 
--- where the name ends
-module _ (c : tie.After-known-told) where
+module _ (c : tie.After-read-text) where
   abbrev bytes : List ℕ
-  bytes = to-start c .args .s .now
+  bytes = c .before .before .args .s .now
 
-  abbrev after-name : ℕ
-  after-name = c .before .name-end .given .0 .1 .0
+  by-name : NameBy bytes (c .read-text .result)
+  by-name = name-by _ (c .read-text .ensures)
 
-  name : TextStops bytes 0 (c .before .name-end .given .0 .0) after-name
-  name = text-stops _ _ _ _ (sym (c .before .before .before .read-text .ensures) ∙ c .before .name-end .given .1)
+by-source : (c : tie.After-read-text2) → SourceBy (bytes (to-name c)) (c .read-text2 .result)
+by-source c = source-by (by-name (to-name c) .on _ _ (c .before .before .name-end .given .1)) (c .read-text2 .ensures)
 
--- where the source ends
-module _ (c : tie.After-known-told2) where
-  abbrev after-source : ℕ
-  after-source = c .before .source-end .given .0 .1 .0
+by-count : (c : tie.After-read-within) → CountBy (bytes (to-name (to-source c))) (c .read-within .result)
+by-count c = count-by (by-source (to-source c) .on _ _ (c .before .before .source-end .given .1)) (c .read-within .ensures)
 
-  source : TextStops (bytes (to-name c)) (after-name (to-name c)) (c .before .source-end .given .0 .0) after-source
-  source = text-stops _ _ _ _ (sym (c .before .before .before .read-text2 .ensures) ∙ c .before .source-end .given .1)
-
--- how many parents there are, and where their hashes start
-module _ (c : tie.After-known-told3) where
-  abbrev here : tie.After-known-told2
-  here = to-source c
-
-  count :
-      Got (suchThat (isWithin 0 32) readNumber (drop (after-source here) (bytes (to-name here)))) (bytes (to-name here)) (after-source here)
-      (c .before .number .given .0 .0) (c .before .number .given .0 .1 .0)
-  count = number-got (c .before .number .given .1) (c .before .before .before .read-within .ensures)
-
--- ---- the needs
-
-returns : tie.Need-returns
-returns c = ends-unnamed _ _ (text-none _ 0 (sym (c .before .before .read-text .ensures) ∙ c .enum-told .given .1))
-
-returns-2 : tie.Need-returns-2
-returns-2 c =
-    let at-source = c .before .before in
-    let bad = text-none _ _ (sym (at-source .read-text2 .ensures) ∙ c .enum-told2 .given .1) in
-    ends-unsourced _ _ _ (name (at-source .before)) _ bad
-
-returns-3 : tie.Need-returns-3
-returns-3 c =
-    let at-number = c .before .before in
-    let at-source = at-number .before in
-    let bad = number-fail _ _ (c .enum-told3 .given .1) (at-number .read-within .ensures) in
-    ends-uncounted _ _ _ (name (to-name at-source)) _ _ (source at-source) _ bad
-
-mul-size : tie.Need-mul-size
-mul-size c = omega (arith, got-bounds 0 32 (count c) .1)
-
-sub-if1 : tie.Need-sub-if1
-sub-if1 c = count c .within
-
-returns-4 : tie.Need-returns-4
-returns-4 c =
-    let at-count = c .before in
-    let at-source = here at-count in
-    ends-short _ _ _ (name (to-name at-source)) _ _ (source at-source) _ _ (count at-count) _ (c .if1 .taken)
-
-returns-5 : tie.Need-returns-5
-returns-5 c =
-    let at-count = c .before in
-    let at-source = here at-count in
-    ends-here _ _ _ (name (to-name at-source)) _ _ (source at-source) _ _ (count at-count)
+hashes :
+    (c : tie.After-known-told3) → let n = c .before .number .given .0 in
+    HashesFollow (bytes (to-name (to-source (to-count c)))) (n .0) (n .1 .0)
+hashes c = by-count (to-count c) .on _ _ (c .before .number .given .1)
 
 pub dossier-head-end-spec : {M : Type 1} → statement M
 dossier-head-end-spec =
@@ -98,17 +46,17 @@ dossier-head-end-spec =
     (λ c κs. search needs)
     (λ c. search needs)
     (λ c. search needs)
-    returns
+    (λ c. by-name (c .before .before) .fails (c .enum-told .given .1) _)
     (λ c κs. search needs)
     (λ c. search needs)
     (λ c. search needs)
-    returns-2
+    (λ c. by-source (c .before .before) .fails (c .enum-told2 .given .1) _)
     (λ c κs. search needs)
     (λ c. search needs)
     (λ c. search needs)
-    returns-3
-    mul-size
-    sub-if1
-    returns-4
+    (λ c. by-count (c .before .before) .fails (c .enum-told3 .given .1) _)
+    (λ c. omega (arith, hashes c .few))
+    (λ c. hashes c .within)
+    (λ c. ends-short (hashes (c .before)) _ (c .if1 .taken))
     (λ c. search needs)
-    returns-5)
+    (λ c. ends-here (hashes (c .before))))

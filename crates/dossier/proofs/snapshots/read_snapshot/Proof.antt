@@ -1,6 +1,6 @@
+-- The numbers that are read leave the sets, and the sets leave the question whether they are small: where one of them fails, so does the snapshot, and where
+-- none does, it is the one that they make.
 use borrow.Author.Needs.{needs}
-use mathlib.Core.Path.{sym, _∙_}
-use Prim.Native.Nat.{ℕ}
 use lib.ListN.{drop}
 use Rattle.event.specs.EventLayout.{readSets}
 use Rattle.event.specs.code.EventIndex.{SetsStop}
@@ -21,32 +21,22 @@ to-numbers c = c .before .before .before .before
 abbrev to-read : tie.After-known-told2 → tie.After-slice-known2
 to-read c = c .before .before .before
 
-abbrev to-sets : tie.After-are-small → tie.After-known-told2
-to-sets c = c .before .before
-
 -- ---- the facts
 
-module _ (c : tie.After-known-told) where
-  abbrev presence : ℕ
-  presence = c .before .version .given .0 .1 .0
-
-  abbrev differ : ℕ
-  differ = c .before .version .given .0 .1 .1 .0
-
-  abbrev after-differ : ℕ
-  after-differ = c .before .version .given .0 .1 .1 .1 .0
-
 -- the numbers that the snapshot begins with
-numbers : (c : tie.After-known-told) → let a = to-start c .args in
-    NumbersStop (a .s .now) (a .at) (c .before .version .given .0 .0 .0) (presence c) (differ c) (after-differ c)
+numbers :
+    (c : tie.After-known-told) → let a = to-start c .args in let n = c .before .version .given .0 in
+    NumbersStop (a .s .now) (a .at) (n .0 .0) (n .1 .0) (n .1 .1 .0) (n .1 .1 .1 .0)
 numbers c = numbers-read (c .before .version .given .1) (c .before .before .before .read-numbers .ensures)
 
 -- and its sets
-sets : (c : tie.After-known-told2) →
-    let n = to-numbers (to-read c) in
-    let s = to-start n .args .s .now in
-    SetsStop (readSets 32 (presence n) (drop (after-differ n) s)) s (to-read c .before .before .read-sets .last .1 .1 .1 .1 .0)
-    (c .before .next .given .0 .0) (c .before .next .given .0 .1 .0)
+sets :
+    (c : tie.After-known-told2) →
+    let told = to-numbers (to-read c) in
+    let s = to-start told .args .s .now in
+    let n = told .before .version .given .0 in
+    let x = c .before .next .given .0 in
+    SetsStop (readSets 32 (n .1 .0) (drop (n .1 .1 .1 .0) s)) s (to-read c .before .before .read-sets .last .1 .1 .1 .1 .0) (x .0) (x .1 .0)
 sets c = sets-read (c .before .next .given .1) (to-read c .before .before .read-sets .ensures)
 
 -- ---- the needs
@@ -57,28 +47,24 @@ returns c = numbers-refused _ _ (c .enum-told .given .1) (c .before .before .rea
 read-sets-requires : tie.Need-read-sets-requires
 read-sets-requires c κs =
     let here = c .before in
-    let start = to-start here in
-    (numbers here .within, start .pre .1, sets-promised _ _ (start .pre .0) _ _ _ _ (numbers here) (start .pre .2))
+    let pre = to-start here .pre in
+    (numbers here .within, pre .1, sets-promised (numbers here) (pre .2))
 
 returns-2 : tie.Need-returns-2
 returns-2 c =
-    let at-sets = c .before .before in
-    let here = to-numbers at-sets in
-    no-sets _ _ (to-start here .pre .0) _ _ _ _ (numbers here) (sets-refused _ _ (c .enum-told2 .given .1) (at-sets .before .before .read-sets .ensures))
+    let read = c .before .before in
+    no-sets (numbers (to-numbers read)) (sets-refused _ _ (c .enum-told2 .given .1) (read .before .before .read-sets .ensures))
 
 returns-3 : tie.Need-returns-3
 returns-3 c =
-    let asked = c .before in
-    let found = to-sets asked in
+    let found = c .before .before .before in
     let here = to-numbers (to-read found) in
-    snapshot-some _ _ (to-start here .pre .0) _ _ _ _ (numbers here) _ _ _ (sets found) (λ t xs w e. sym (c .if1 .taken) ∙ asked .are-small .ensures t xs w e)
+    snapshot-some (numbers here) (sets found) (to-start here .pre .0) (c .before .are-small .ensures) (c .if1 .taken)
 
 returns-4 : tie.Need-returns-4
 returns-4 c =
-    let asked = c .before in
-    let found = to-sets asked in
-    let here = to-numbers (to-read found) in
-    sets-large _ _ (to-start here .pre .0) _ _ _ _ (numbers here) _ _ _ (sets found) (λ t xs w e. sym (c .if1 .left) ∙ asked .are-small .ensures t xs w e)
+    let found = c .before .before .before in
+    sets-large (numbers (to-numbers (to-read found))) (sets found) (c .before .are-small .ensures) (c .if1 .left)
 
 pub read-snapshot-spec : {M : Type 1} → statement M
 read-snapshot-spec =
