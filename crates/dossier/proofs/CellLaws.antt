@@ -17,10 +17,12 @@ use Rattle.model.proofs.SizeLaws.{held-size}
 use Rattle.packed.proofs.LayoutLaws.{lt-or-ge}
 use Rattle.ontology.specs.Table.{Property, isMatch}
 use Rattle.ontology.specs.code.TypeIndex.{propertyIn, PropertiesAre, hasMatch}
+use Rattle.ontology.specs.declared.properties.PropertyAt.{PropertyAt}
 use Rattle.ontology.proofs.TypeIndexLaws.{match-of}
 use Rattle.event.specs.EventLayout.{bitNumber}
 use Rattle.event.specs.EventQuestions.{matchCount}
 use Rattle.event.specs.code.EventIndex.{setIn, SetsAre}
+use Rattle.event.specs.declared.sets.SetAt.{SetAt}
 use Rattle.event.proofs.EventLayoutLaws.{low-bit, high-bits}
 use Rattle.event.proofs.MatchLaws.{Elem, elem}
 use Rattle.dossier.specs.DossierBody.{differBit}
@@ -84,7 +86,7 @@ module _
     this : Elem qs k
     this = elem qs k (omega (arith, w .count))
 
-    pub few-here : k < 32
+    few-here : k < 32
     few-here = omega (arith, w .few)
 
     step : matchCount (drop k qs) (drop k xs) ≡ cond (isMatch (this .what)) (length (getD xs k [])) 0 + matchCount (drop (k + 1) qs) (drop (k + 1) xs)
@@ -95,10 +97,10 @@ module _
       same-n : cond (isMatch (this .what)) (length (getD xs k [])) 0 ≡ n
       same-n = sym (e ∙ ap₂ (λ (b : Bool) (m : ℕ). cond b m 0) (match-of (w .each k (this .what) (this .is))) (v .each k few-here .count))
 
-      pub match-large : left < n → leb (matchCount (drop k qs) (drop k xs)) left ≡ false
+      match-large : left < n → leb (matchCount (drop k qs) (drop k xs)) left ≡ false
       match-large g = lt-leb (matchCount (drop k qs) (drop k xs)) left (omega (arith, step, same-n))
 
-      pub match-more : n ≤ left → leb (matchCount (drop k qs) (drop k xs)) left ≡ leb (matchCount (drop (k + 1) qs) (drop (k + 1) xs)) (left - n)
+      match-more : n ≤ left → leb (matchCount (drop k qs) (drop k xs)) left ≡ leb (matchCount (drop (k + 1) qs) (drop (k + 1) xs)) (left - n)
       match-more g =
           ap (λ (m : ℕ). leb m left) (step ∙ ap (λ (m : ℕ). m + matchCount (drop (k + 1) qs) (drop (k + 1) xs)) same-n)
           ∙ leb-sub n (matchCount (drop (k + 1) qs) (drop (k + 1) xs)) left g
@@ -114,6 +116,40 @@ match-few (q ∷ qs) (c ∷ cs) = omega (arith, at-most (isMatch q) (length (hel
     at-most true n = omega arith
     at-most false n = omega arith
 
-pub match-end : (qs : List Property) (xs : List (List Text)) (k left : ℕ) → length qs ≤ k → leb (matchCount (drop k qs) (drop k xs)) left ≡ true
+match-end : (qs : List Property) (xs : List (List Text)) (k left : ℕ) → length qs ≤ k → leb (matchCount (drop k qs) (drop k xs)) left ≡ true
 unfolding matchCount
 match-end qs xs k left l = rw (drop-of-length-le qs l) (le-leb 0 left (omega arith))
+
+-- r is whether there are at most 32 of them
+abbrev pub MatchesFew : ℕ → List ℕ → List ℕ → Bool → Type 0
+MatchesFew count ps ats r =
+    (s u : List ℕ) (qs : List Property) (xs : List (List Text)) → PropertiesAre s qs count ps → SetsAre u xs ats → r ≡ leb (matchCount qs xs) 32
+
+-- so many may be at the places from k on
+pub record MatchesLeft (count : ℕ) (ps ats : List ℕ) (left k : ℕ) : Type 0 where
+  pub is :
+      (s u : List ℕ) (qs : List Property) (xs : List (List Text)) → PropertiesAre s qs count ps → SetsAre u xs ats →
+      leb (matchCount qs xs) 32 ≡ leb (matchCount (drop k qs) (drop k xs)) left
+
+pub matches-none : (count : ℕ) (ps ats : List ℕ) → MatchesLeft count ps ats 32 0
+matches-none count ps ats = record { is = λ s u qs xs w v. refl }
+
+-- by the n match objects of place k
+pub record MatchesBy (count : ℕ) (ps ats : List ℕ) (left k n : ℕ) : Type 0 where
+  pub large : left < n → MatchesFew count ps ats false
+  pub small : n ≤ left → MatchesLeft count ps ats (left - n) (k + 1)
+
+module _ {count : ℕ} {ps ats : List ℕ} {left k : ℕ} (l : MatchesLeft count ps ats left k) where
+  pub matches-all : count ≤ k → MatchesFew count ps ats true
+  matches-all h s u qs xs w v = sym (l .is s u qs xs w v ∙ match-end qs xs k left (omega (arith, w .count)))
+
+  pub matches-by :
+      k < count → {x : SetAt} → x ≡ setIn ats k → {p : PropertyAt} → p ≡ propertyIn ps k → {n : ℕ} → n ≡ cond (hasMatch p) (x .count) 0 →
+      MatchesBy count ps ats left k n
+  matches-by h a b {n} e =
+      let here : n ≡ cond (hasMatch (propertyIn ps k)) (setIn ats k .count) 0 =
+      e ∙ ap₂ (λ (p : PropertyAt) (x : SetAt). cond (hasMatch p) (x .count) 0) b a in
+      record {
+        large = λ m s u qs xs w v. sym (l .is s u qs xs w v ∙ match-large s u qs count ps xs ats w v k left h n here m);
+        small = λ m. record { is = λ s u qs xs w v. l .is s u qs xs w v ∙ match-more s u qs count ps xs ats w v k left h n here m };
+      }

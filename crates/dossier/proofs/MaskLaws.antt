@@ -342,60 +342,95 @@ joined m a b c = record { all = 2 * m .all + 1; mandatory = 2 * m .mandatory + a
 abbrev pub noMasks : ShapeMasks
 noMasks = record { all = 0; mandatory = 0; lone = 0; unmarked = 0 }
 
-pub low-none : (k : ℕ) → MasksLow noMasks k
+low-none : (k : ℕ) → MasksLow noMasks k
 low-none k = let p = pow-pos (32 - k) in record { all = p; mandatory = p; lone = p; unmarked = p }
 
-pub low-more : (m : ShapeMasks) (k a b c : ℕ) → 0 < k → k ≤ 32 → MasksLow m k → a < 2 → b < 2 → c < 2 → MasksLow (joined m a b c) (k - 1)
-low-more m k a b c h l w d e f = record {
+low-more :
+    {m : ShapeMasks} {k a b c : ℕ} (d e f : Bool) → 0 < k → k ≤ 32 → MasksLow m k → a ≡ bitOf d → b ≡ bitOf e → c ≡ bitOf f →
+    MasksLow (joined m a b c) (k - 1)
+low-more {m} {k} {a} {b} {c} d e f h l w x y z = record {
   all = bits-more (m .all) k 1 h l (w .all) (omega arith);
-  mandatory = bits-more (m .mandatory) k a h l (w .mandatory) d;
-  lone = bits-more (m .lone) k b h l (w .lone) e;
-  unmarked = bits-more (m .unmarked) k c h l (w .unmarked) f;
+  mandatory = bits-more (m .mandatory) k a h l (w .mandatory) (bit-low d x);
+  lone = bits-more (m .lone) k b h l (w .lone) (bit-low e y);
+  unmarked = bits-more (m .unmarked) k c h l (w .unmarked) (bit-low f z);
+}
+
+-- each mask has room for one bit more
+pub record MasksRoom (m : ShapeMasks) : Type 0 where
+  pub all : 2 * m .all + 1 < 4294967296
+  pub mandatory : 2 * m .mandatory + 1 < 4294967296
+  pub lone : 2 * m .lone + 1 < 4294967296
+  pub unmarked : 2 * m .unmarked + 1 < 4294967296
+
+pub masks-room : {m : ShapeMasks} {k : ℕ} → MasksLow m k → 0 < k → MasksRoom m
+masks-room {m} {k} w h = record {
+  all = bits-room (m .all) k h (w .all);
+  mandatory = bits-room (m .mandatory) k h (w .mandatory);
+  lone = bits-room (m .lone) k h (w .lone);
+  unmarked = bits-room (m .unmarked) k h (w .unmarked);
 }
 
 module _ {s : List ℕ} {q : Property} {x : PropertyAt} (v : Bool) (w : PropertyIs s q x) where
-  pub lone-of : cond v (not (x .multivalued)) (hasExtreme x || (hasMatch x && not (x .multivalued))) ≡ mustBeLone v q
+  lone-of : cond v (not (x .multivalued)) (hasExtreme x || (hasMatch x && not (x .multivalued))) ≡ mustBeLone v q
   unfolding mustBeLone
   lone-of =
       ap₂ (λ (a b : Bool). cond v (not a) (b || (hasMatch x && not a))) (w .multivalued) (extreme-of w)
       ∙ ap (λ (b : Bool). cond v (not (q .multivalued)) (isMin q || isMax q || (b && not (q .multivalued)))) (match-of w)
 
-  pub unmarked-of : (not v || hasMatch x) ≡ mustBeUnmarked v q
+  unmarked-of : (not v || hasMatch x) ≡ mustBeUnmarked v q
   unfolding mustBeUnmarked
   unmarked-of = ap (λ (b : Bool). not v || b) (match-of w)
 
-module _ {s : List ℕ} {qs : List Property} {count : ℕ} {ps : List ℕ} (w : PropertiesAre s qs count ps) where
-  pub masks-none : (v : Bool) → MasksAre v (drop count qs) noMasks
-  unfolding bitNumber
-  masks-none v =
-      rw (drop-of-length-le qs {i = count} (omega (arith, w .count))) (record { all = refl; mandatory = refl; lone = refl; unmarked = refl })
+-- the masks of the properties from place k on
+pub record MasksDown (versioned : Bool) (count : ℕ) (ps : List ℕ) (m : ShapeMasks) (k : ℕ) : Type 0 where
+  pub inside : k ≤ count
+  pub low : MasksLow m k
+  pub are : (s : List ℕ) (qs : List Property) → PropertiesAre s qs count ps → MasksAre versioned (drop k qs) m
 
-  pub masks-all : (v : Bool) (k : ℕ) (m : ShapeMasks) → k ≤ 0 → MasksAre v (drop k qs) m → MasksAre v qs m
-  masks-all v k m h x = let e : k ≡ 0 = omega arith in subst (λ (n : ℕ). MasksAre v (drop n qs) m) e x
+pub masks-none : (v : Bool) (count : ℕ) (ps : List ℕ) → MasksDown v count ps noMasks count
+unfolding bitNumber
+masks-none v count ps = record {
+  inside = omega arith;
+  low = low-none count;
+  are = λ s qs w.
+      rw (drop-of-length-le qs {i = count} (omega (arith, w .count))) (record { all = refl; mandatory = refl; lone = refl; unmarked = refl });
+}
 
-  module _ (k : ℕ) (h : 0 < k) (l : k ≤ count) where
-    -- the property of the place below k
-    pub below : Elem qs (k - 1)
-    below = elem qs (k - 1) (omega (arith, w .count))
+module _ {v : Bool} {count : ℕ} {ps : List ℕ} {m : ShapeMasks} {k : ℕ} (w : MasksDown v count ps m k) where
+  pub masks-all : k ≤ 0 → (s : List ℕ) (qs : List Property) → PropertiesAre s qs count ps → MasksAre v qs m
+  masks-all h s qs x = let e : k ≡ 0 = omega arith in subst (λ (n : ℕ). MasksAre v (drop n qs) m) e (w .are s qs x)
 
-    pub below-is : PropertyIs s (below .what) (propertyIn ps (k - 1))
-    below-is = w .each (k - 1) (below .what) (below .is)
+  -- the place below k, by its property p and the bits that are put in
+  module _
+      (h : 0 < k) (few : count ≤ 32) {p : PropertyAt} (at : p ≡ propertyIn ps (k - 1)) {lone unmarked : Bool} {a b c : ℕ}
+      (d : a ≡ bitOf (not (p .optional)))
+      (l : lone ≡ cond v (not (p .multivalued)) (hasExtreme p || (hasMatch p && not (p .multivalued)))) (e : b ≡ bitOf lone)
+      (u : unmarked ≡ (not v || hasMatch p)) (f : c ≡ bitOf unmarked)
+    where
+      more-are : (s : List ℕ) (qs : List Property) → PropertiesAre s qs count ps → MasksAre v (drop (k - 1) qs) (joined m a b c)
+      unfolding bitOf
+      more-are s qs x =
+          let it : Elem qs (k - 1) = elem qs (k - 1) (omega (arith, w .inside, x .count)) in
+          let q = it .what in
+          let is : PropertyIs s q p = subst (PropertyIs s q) (sym at) (x .each (k - 1) q (it .is)) in
+          let next : k - 1 + 1 ≡ k = omega arith in
+          let split : drop (k - 1) qs ≡ q ∷ drop k qs = it .split ∙ ap (λ (n : ℕ). q ∷ drop n qs) next in
+          let old = w .are s qs x in
+          record {
+            all = mask-more (λ (p : Property). true) qs q k (m .all) 1 split (old .all) refl;
+            mandatory =
+                mask-more (λ (p : Property). not (p .optional)) qs q k (m .mandatory) a split (old .mandatory)
+                (d ∙ ap (λ (o : Bool). bitOf (not o)) (is .optional));
+            lone = mask-more (mustBeLone v) qs q k (m .lone) b split (old .lone) (e ∙ ap bitOf (l ∙ lone-of v is));
+            unmarked = mask-more (mustBeUnmarked v) qs q k (m .unmarked) c split (old .unmarked) (f ∙ ap bitOf (u ∙ unmarked-of v is));
+          }
 
-    pub masks-more :
-        (v : Bool) (m : ShapeMasks) → MasksAre v (drop k qs) m → (a b c : ℕ) →
-        a ≡ bitOf (not (below .what .optional)) → b ≡ bitOf (mustBeLone v (below .what)) → c ≡ bitOf (mustBeUnmarked v (below .what)) →
-        MasksAre v (drop (k - 1) qs) (joined m a b c)
-    unfolding bitOf
-    masks-more v m x a b c d e f =
-        let q = below .what in
-        let next : k - 1 + 1 ≡ k = omega arith in
-        let split : drop (k - 1) qs ≡ q ∷ drop k qs = below .split ∙ ap (λ (n : ℕ). q ∷ drop n qs) next in
-        record {
-          all = mask-more (λ (p : Property). true) qs q k (m .all) 1 split (x .all) refl;
-          mandatory = mask-more (λ (p : Property). not (p .optional)) qs q k (m .mandatory) a split (x .mandatory) d;
-          lone = mask-more (mustBeLone v) qs q k (m .lone) b split (x .lone) e;
-          unmarked = mask-more (mustBeUnmarked v) qs q k (m .unmarked) c split (x .unmarked) f;
-        }
+      pub masks-more : MasksDown v count ps (joined m a b c) (k - 1)
+      masks-more = record {
+        inside = omega (arith, w .inside);
+        low = low-more (not (p .optional)) lone unmarked h (omega (arith, w .inside)) (w .low) d e f;
+        are = more-are;
+      }
 
 -- ---- the masks of a snapshot
 
@@ -410,9 +445,9 @@ pub record CountsFrom (cs : List Cell) (count k present several left : ℕ) : Ty
   pub many : several ≡ maskOf isSeveral (drop k (take count cs))
   pub rest : left ≡ sizes (take k cs) + sizes (drop count cs)
 
-pub counts-none : (cs : List Cell) (count left : ℕ) → left ≡ sizes cs → CountsFrom cs count count 0 0 left
+none-counted : (cs : List Cell) (count left : ℕ) → left ≡ sizes cs → CountsFrom cs count count 0 0 left
 unfolding bitNumber
-counts-none cs count left o =
+none-counted cs count left o =
     let e = drop-of-length-le (take count cs) {i = count} (omega (arith, length-take count cs)) in
     let parts = ap sizes (sym (take-append-drop count cs)) ∙ sizes-append (take count cs) (drop count cs) in
     record { there = rw e; many = rw e; rest = o ∙ parts }
@@ -437,8 +472,8 @@ module _
       ap (λ (n : ℕ). sizes (take n cs)) (sym next) ∙ omega (arith, e, counted, held-size here)
 
   -- the objects of a place are among those that are left
-  pub counts-few : left < setIn ats (k - 1) .count → ⊥
-  counts-few g = omega (arith, x .rest, sizes-before)
+  few-left : left < setIn ats (k - 1) .count → ⊥
+  few-left g = omega (arith, x .rest, sizes-before)
 
   split-here : drop (k - 1) (take count cs) ≡ here ∷ drop k (take count cs)
   split-here =
@@ -447,10 +482,10 @@ module _
       drop-cons xs (k - 1) (holds []) (omega (arith, length-take count cs, long))
       ∙ ap₂ (λ (c : Cell) (n : ℕ). c ∷ drop n xs) (getD-take count cs (k - 1) (holds []) (omega arith)) next
 
-  pub counts-more :
+  one-more :
       (a b : ℕ) → a ≡ bitOf (ltb 0 (setIn ats (k - 1) .count)) → b ≡ bitOf (ltb 1 (setIn ats (k - 1) .count)) →
       CountsFrom cs count (k - 1) (2 * present + a) (2 * several + b) (left - setIn ats (k - 1) .count)
-  counts-more a b e f = record {
+  one-more a b e f = record {
     there = mask-more isThere (take count cs) here k present a split-here (x .there) (e ∙ ap (λ (n : ℕ). bitOf (ltb 0 n)) counted);
     many = mask-more isSeveral (take count cs) here k several b split-here (x .many) (f ∙ ap (λ (n : ℕ). bitOf (ltb 1 n)) counted);
     rest = omega (arith, x .rest, sizes-before);
@@ -480,10 +515,59 @@ module _
       ∙ ap₂ (λ (i j : ℕ). masksFit of i j differ && eqb (sizes (drop (length qs) cs)) 0) (z .there ∙ places isThere) (z .many ∙ places isSeveral)
       ∙ ap (λ (i : ℕ). masksFit of (maskOf isThere (take (length qs) cs)) many i && eqb (sizes (drop (length qs) cs)) 0) (y .bits))
 
-  pub counts-over : (left ≡ 0 → ⊥) → false ≡ eachCell (cellFits v) isVacant qs cs
-  counts-over e =
+  over : (left ≡ 0 → ⊥) → false ≡ eachCell (cellFits v) isVacant qs cs
+  over e =
       sym (counts-all ∙ ap (λ (b : Bool). masksFit m present several differ && b) (ne-eqb left 0 e) ∙ and-false (masksFit m present several differ))
 
-  pub counts-fit : left ≡ 0 → masksFit m present several differ ≡ eachCell (cellFits v) isVacant qs cs
-  counts-fit e =
+  fit : left ≡ 0 → masksFit m present several differ ≡ eachCell (cellFits v) isVacant qs cs
+  fit e =
       sym (counts-all ∙ ap (λ (b : Bool). masksFit m present several differ && b) (eq-eqb left 0 e) ∙ and-true (masksFit m present several differ))
+
+-- ---- and of any cells that stand as the numbers say
+
+-- the counts from place k on
+pub record CountsDown (count differ objects : ℕ) (ats : List ℕ) (present several left k : ℕ) : Type 0 where
+  pub inside : k ≤ count
+  pub present-low : present < 2 ^ (32 - k)
+  pub several-low : several < 2 ^ (32 - k)
+  pub from : (u : List ℕ) (cs : List Cell) → CellsAre u cs differ ats → objects ≡ sizes cs → CountsFrom cs count k present several left
+
+-- r is what the cells are answered
+abbrev pub CellsFit : ShapeMasks → ℕ → ℕ → ℕ → List ℕ → Bool → Type 0
+CellsFit m count differ objects ats r =
+    (u : List ℕ) (qs : List Property) (cs : List Cell) (versioned : Bool) → count ≡ length qs → MasksAre versioned qs m →
+    CellsAre u cs differ ats → objects ≡ sizes cs → r ≡ eachCell (cellFits versioned) isVacant qs cs
+
+pub counts-none : (count differ objects : ℕ) (ats : List ℕ) → CountsDown count differ objects ats 0 0 objects count
+counts-none count differ objects ats = record {
+  inside = omega arith;
+  present-low = pow-pos (32 - count);
+  several-low = pow-pos (32 - count);
+  from = λ u cs y o. none-counted cs count objects o;
+}
+
+module _
+    {count differ objects : ℕ} {ats : List ℕ} {present several left k : ℕ} (w : CountsDown count differ objects ats present several left k)
+    (few : count ≤ 32)
+  where
+    module _ (h : 0 < k) where
+      -- the objects of a place are among those that are left
+      pub counts-few : (m : ShapeMasks) → left < setIn ats (k - 1) .count → CellsFit m count differ objects ats false
+      counts-few m l u qs cs versioned n x y o = absurd (few-left y count k present several left h (w .inside) few (w .from u cs y o) l)
+
+      pub counts-more :
+          {a b : ℕ} → a ≡ bitOf (ltb 0 (setIn ats (k - 1) .count)) → b ≡ bitOf (ltb 1 (setIn ats (k - 1) .count)) →
+          CountsDown count differ objects ats (2 * present + a) (2 * several + b) (left - setIn ats (k - 1) .count) (k - 1)
+      counts-more {a} {b} x y = record {
+        inside = omega (arith, w .inside);
+        present-low = bits-more present k a h (omega (arith, w .inside)) (w .present-low) (bit-low (ltb 0 (setIn ats (k - 1) .count)) x);
+        several-low = bits-more several k b h (omega (arith, w .inside)) (w .several-low) (bit-low (ltb 1 (setIn ats (k - 1) .count)) y);
+        from = λ u cs z o. one-more z count k present several left h (w .inside) few (w .from u cs z o) a b x y;
+      }
+
+    module _ (h : k ≤ 0) where
+      pub counts-over : (m : ShapeMasks) → (left ≡ 0 → ⊥) → CellsFit m count differ objects ats false
+      counts-over m e u qs cs versioned n x y o = over n few x y (w .from u cs y o) h e
+
+      pub counts-fit : (m : ShapeMasks) → left ≡ 0 → {r : Bool} → r ≡ masksFit m present several differ → CellsFit m count differ objects ats r
+      counts-fit m e a u qs cs versioned n x y o = a ∙ fit n few x y (w .from u cs y o) h e

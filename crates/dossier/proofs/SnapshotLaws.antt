@@ -6,7 +6,7 @@ use mathlib.Core.List.{List, [], map}
 use Prim.Native.Nat.{ℕ, zero, suc, _+_, _-_, _/_, _%_, _^_, _≤_, _<_}
 use native.Mathlib.Omega.{arith}
 use native.Mathlib.Numerals.{add-one, sub-one}
-use lib.Dec.{eqb}
+use lib.Dec.{leb, eqb}
 use lib.ListN.{length, drop, getD, drop-of-length-le}
 use lib.Seq.{drop-cons}
 use borrow.Author.Tests.{lt-ltb, le-ltb, le-leb, lt-leb, eq-eqb, ne-eqb, eqb-true}
@@ -22,6 +22,7 @@ use Rattle.values.specs.declared.versions.EventVersion.{EventVersion}
 use Rattle.event.specs.Event.{objectCount}
 use Rattle.event.specs.EventLayout.{readBits, readSets, presenceBit, bitNumber}
 use Rattle.event.specs.code.EventIndex.{SetsAre, Promised, SetsStop, setIn}
+use Rattle.event.specs.declared.sets.SetAt.{SetAt}
 use Rattle.event.proofs.EventLayoutLaws.{SetsWas, sets-was}
 use Rattle.event.proofs.EventSizeLaws.{each-within}
 use Rattle.dossier.specs.DossierBody.{apart, cellsOf, areSmall, readSnapshot, snapshotBytes}
@@ -59,25 +60,44 @@ apart-end left m n (inr h) = let z : n ≡ 0 = omega arith in rw z (apart-none l
 
 -- ---- small sets
 
-pub few-small : (xs : List (List Text)) (objects : ℕ) → objects ≤ 256 → objects ≡ objectCount xs → true ≡ areSmall xs
-few-small xs objects h e = sym (all-small xs (each-within 256 xs (omega arith)))
+-- r is whether the sets of all places are small
+abbrev pub SmallSets : List ℕ → ℕ → Bool → Type 0
+SmallSets ats objects r = (s : List ℕ) (xs : List (List Text)) → SetsAre s xs ats → objects ≡ objectCount xs → r ≡ areSmall xs
 
-module _ (s : List ℕ) (xs : List (List Text)) (ats : List ℕ) (w : SetsAre s xs ats) (k : ℕ) where
-  pub small-bad : k < 32 → 256 < setIn ats k .count → areSmall (drop k xs) ≡ false
-  unfolding areSmall
-  small-bad h b =
-      let l : k < length xs = omega (arith, w .long) in
-      rw (drop-cons xs k [] l, lt-leb (length (getD xs k [])) 256 (omega (arith, w .each k h .count)))
+-- those of the places up to k are
+pub record SmallTo (ats : List ℕ) (k : ℕ) : Type 0 where
+  pub is : (s : List ℕ) (xs : List (List Text)) → SetsAre s xs ats → areSmall xs ≡ areSmall (drop k xs)
 
-  pub small-step : k < 32 → setIn ats k .count ≤ 256 → areSmall (drop k xs) ≡ areSmall (drop (k + 1) xs)
-  unfolding areSmall
-  small-step h b =
-      let l : k < length xs = omega (arith, w .long) in
-      rw (drop-cons xs k [] l, le-leb (length (getD xs k [])) 256 (omega (arith, w .each k h .count)), add-one)
+pub small-none : (ats : List ℕ) → SmallTo ats 0
+small-none ats = record { is = λ s xs w. refl }
 
-  pub small-end : 32 ≤ k → areSmall (drop k xs) ≡ true
+pub small-few : (ats : List ℕ) {objects : ℕ} → objects ≤ 256 → SmallSets ats objects true
+small-few ats h s xs w e = sym (all-small xs (each-within 256 xs (omega arith)))
+
+-- by the number n of values at place k
+pub record SmallBy (ats : List ℕ) (objects k n : ℕ) : Type 0 where
+  pub large : 256 < n → SmallSets ats objects false
+  pub small : n ≤ 256 → SmallTo ats (k + 1)
+
+module _ {ats : List ℕ} {k : ℕ} (l : SmallTo ats k) (objects : ℕ) where
+  pub small-all : 32 ≤ k → SmallSets ats objects true
   unfolding areSmall
-  small-end h = let l : length xs ≤ k = omega (arith, w .long) in rw (drop-of-length-le xs l)
+  small-all h s xs w o = let past : length xs ≤ k = omega (arith, w .long) in sym (l .is s xs w ∙ rw (drop-of-length-le xs past))
+
+  module _ (h : k < 32) {x : SetAt} (a : x ≡ setIn ats k) where
+    -- the set of place k is the first of those that are left
+    first : (s : List ℕ) (xs : List (List Text)) → SetsAre s xs ats → areSmall xs ≡ (leb (x .count) 256 && areSmall (drop (k + 1) xs))
+    unfolding areSmall
+    first s xs w =
+        let inside : k < length xs = omega (arith, w .long) in
+        let count : x .count ≡ length (getD xs k []) = ap (λ (y : SetAt). y .count) a ∙ w .each k h .count in
+        l .is s xs w ∙ rw (drop-cons xs k [] inside, add-one, count)
+
+    pub small-by : SmallBy ats objects k (x .count)
+    small-by = record {
+      large = λ n s xs w o. sym (first s xs w ∙ rw (lt-leb (x .count) 256 n));
+      small = λ n. record { is = λ s xs w. first s xs w ∙ rw (le-leb (x .count) 256 n) };
+    }
 
 -- ---- the numbers
 
@@ -183,17 +203,13 @@ module _ {s : List ℕ} {at version presence differ after-differ : ℕ} (n : Num
 
   -- the sets that follow the numbers
   module _ {ats : List ℕ} {next objects : ℕ} (found : SetsStop (readSets 32 presence (drop after-differ s)) s ats next objects) where
-    -- the answer to whether they are small
-    abbrev Small : Bool → Type 0
-    Small b = (t : List ℕ) (xs : List (List Text)) → SetsAre t xs ats → objects ≡ objectCount xs → b ≡ areSmall xs
-
-    small-is : {b c : Bool} → Small b → b ≡ c → areSmall (found .what) ≡ c
+    small-is : {b c : Bool} → SmallSets ats objects b → b ≡ c → areSmall (found .what) ≡ c
     small-is a e = sym (a s (found .what) (found .stands) (found .summed)) ∙ e
 
-    pub sets-large : {b : Bool} → Small b → b ≡ false → readSnapshot (drop at s) ≡ fail
+    pub sets-large : {b : Bool} → SmallSets ats objects b → b ≡ false → readSnapshot (drop at s) ≡ fail
     sets-large a e = n .is ∙ rw (found .is, small-is a e)
 
-    module _ (within : at ≤ length s) {b : Bool} (a : Small b) (e : b ≡ true) where
+    module _ (within : at ≤ length s) {b : Bool} (a : SmallSets ats objects b) (e : b ≡ true) where
       was : SetsWas 32 presence (drop after-differ s) (found .what) (drop next s)
       was = sets-was 32 presence (drop after-differ s) (found .what) (drop next s) (n .presence-low) (found .is)
 

@@ -1,85 +1,46 @@
-use mathlib.Core.Path.{_≡_, refl, sym, ap₂, _∙_}
-use mathlib.Core.Bool.{cond}
-use mathlib.Core.List.{List}
-use Prim.Native.Nat.{ℕ, _-_, _≤_, _<_}
-use lib.Dec.{leb}
-use lib.ListN.{length, drop}
-use Rattle.model.specs.Order.{Text}
-use Rattle.ontology.specs.Table.{Property}
-use Rattle.ontology.specs.code.TypeIndex.{propertyIn, PropertiesAre, hasMatch}
-use Rattle.ontology.specs.declared.properties.PropertyAt.{PropertyAt}
-use Rattle.event.specs.EventQuestions.{matchCount}
-use Rattle.event.specs.code.EventIndex.{setIn, SetsAre}
-use Rattle.event.specs.declared.sets.SetAt.{SetAt}
-use Rattle.dossier.proofs.CellLaws.{match-large, match-more, match-end}
-use native.Mathlib.Omega.{arith}
+-- What is left of 32 after the places passed is what the places from here on may have. A place with more than that answers no.
 use borrow.Author.Needs.{needs}
+use Prim.Native.Nat.{_-_}
+use native.Mathlib.Omega.{arith}
+use Rattle.dossier.proofs.CellLaws.{MatchesLeft, MatchesBy, matches-none, matches-by, matches-all}
 use Rattle.dossier.proofs.shape.is_match_small.Statement.{statement}
 use Rattle.dossier.proofs.shape.is_match_small.Tie as tie
 
 abbrev Inv-loop : tie.InvT-loop
-Inv-loop count properties sets left₀ k₀ left k =
-    (s u : List ℕ) (qs : List Property) (xs : List (List Text)) → PropertiesAre s qs count properties → SetsAre u xs sets →
-    leb (matchCount qs xs) 32 ≡ leb (matchCount (drop k qs) (drop k xs)) left
+Inv-loop count properties sets left₀ k₀ left k = MatchesLeft count properties sets left k
 
 abbrev μ-loop : tie.MeasureT-loop
 μ-loop count properties sets left₀ k₀ left k = count - k
 
 -- ---- the places
 
-abbrev to-start : tie.At-loop Inv-loop μ-loop → tie.Start Inv-loop μ-loop
-to-start c = c .before .before .before
+abbrev to-start : tie.In-loop Inv-loop μ-loop → tie.Start Inv-loop μ-loop
+to-start c = c .before .before .before .before
 
-abbrev to-loop : tie.After-matches-at Inv-loop μ-loop → tie.At-loop Inv-loop μ-loop
-to-loop c = c .before .before .before .before
+-- ---- the facts
 
--- ---- what is known of the place
-
-module _ (c : tie.After-matches-at Inv-loop μ-loop) where
-  abbrev start : tie.Start Inv-loop μ-loop
-  start = to-start (to-loop c)
-
-  inside : to-loop c .loop .k < start .args .count
-  inside = c .before .before .before .loop-test .taken
-
-  matches : c .matches-at .result ≡ cond (hasMatch (propertyIn (start .args .properties .now) (to-loop c .loop .k)))
-      (setIn (start .args .sets .now) (to-loop c .loop .k) .count) 0
-  matches =
-      c .matches-at .ensures
-      ∙ ap₂ (λ (p : PropertyAt) (x : SetAt). cond (hasMatch p) (x .count) 0) (c .before .property-at .ensures) (c .before .before .set-at .ensures)
+by-matches :
+    (c : tie.After-matches-at Inv-loop μ-loop) →
+    let turn = c .before .before .before in
+    let a = to-start turn .args in
+    let l = turn .before .loop in
+    MatchesBy (a .count) (a .properties .now) (a .sets .now) (l .left) (l .k) (c .matches-at .result)
+by-matches c =
+    let set = c .before .before in
+    let turn = set .before in
+    matches-by (turn .before .loop .inv) (turn .loop-test .taken) (set .set-at .ensures) (c .before .property-at .ensures) (c .matches-at .ensures)
 
 -- ---- the needs
 
-loop-holds : tie.Need-loop-holds Inv-loop μ-loop
-loop-holds c = λ s u qs xs w v. refl
-
 set-at-requires : tie.Need-set-at-requires Inv-loop μ-loop
 set-at-requires c κs =
-    let start = to-start (c .before) in
-    (start .pre .2, omega (arith, start .pre .0))
+    let pre = to-start c .pre in
+    (pre .2, omega (arith, pre .0))
 
 property-at-requires : tie.Need-property-at-requires Inv-loop μ-loop
 property-at-requires c κs =
-    let start = to-start (c .before .before) in
-    (start .pre .1, omega (arith, start .pre .0))
-
-returns : tie.Need-returns Inv-loop μ-loop
-returns c = λ s u qs xs w v.
-    let counted = c .before in
-    let l = to-loop counted .loop in
-    sym (l .inv s u qs xs w v ∙ match-large s u qs _ _ xs _ w v (l .k) _ (inside counted) _ (matches counted) (c .if1 .taken))
-
-loop-again : tie.Need-loop-again Inv-loop μ-loop
-loop-again c = λ s u qs xs w v.
-    let counted = c .before in
-    let l = to-loop counted .loop in
-    l .inv s u qs xs w v ∙ match-more s u qs _ _ xs _ w v (l .k) _ (inside counted) _ (matches counted) (c .if1 .left)
-
-returns-2 : tie.Need-returns-2 Inv-loop μ-loop
-returns-2 c = λ s u qs xs w v.
-    let l = c .before .loop in
-    let past : length qs ≤ l .k = omega (arith, w .count, c .loop-test .left) in
-    sym (l .inv s u qs xs w v ∙ match-end qs xs (l .k) _ past)
+    let pre = to-start (c .before) .pre in
+    (pre .1, omega (arith, pre .0))
 
 pub is-match-small-spec : {M : Type 1} → statement M
 is-match-small-spec =
@@ -87,12 +48,12 @@ is-match-small-spec =
     (tie.spec
     Inv-loop
     μ-loop
-    loop-holds
+    (λ c. matches-none _ _ _)
     set-at-requires
     property-at-requires
     (λ c κs. search needs)
-    returns
+    (λ c. by-matches (c .before) .large (c .if1 .taken))
     (λ c. search needs)
     (λ c. search needs)
-    loop-again
-    returns-2)
+    (λ c. by-matches (c .before) .small (c .if1 .left))
+    (λ c. matches-all (c .before .loop .inv) (c .loop-test .left)))

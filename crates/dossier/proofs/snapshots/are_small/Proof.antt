@@ -1,54 +1,28 @@
-use mathlib.Core.Path.{_≡_, refl, sym, ap, _∙_}
-use mathlib.Core.List.{List}
-use Prim.Native.Nat.{ℕ, _-_}
-use lib.ListN.{drop}
-use Rattle.model.specs.Order.{Text}
-use Rattle.event.specs.code.EventIndex.{setIn, SetsAre}
-use Rattle.event.specs.declared.sets.SetAt.{SetAt}
-use Rattle.dossier.specs.DossierBody.{areSmall}
-use Rattle.dossier.proofs.SnapshotLaws.{few-small, small-bad, small-step, small-end}
-use native.Mathlib.Omega.{arith}
+-- No set has more values than there are objects. Where those are more, the sets are passed place by place: the whole answer is that of the places left.
 use borrow.Author.Needs.{needs}
+use Prim.Native.Nat.{_-_}
+use native.Mathlib.Omega.{arith}
+use Rattle.dossier.proofs.SnapshotLaws.{SmallTo, SmallBy, small-none, small-few, small-by, small-all}
 use Rattle.dossier.proofs.snapshots.are_small.Statement.{statement}
 use Rattle.dossier.proofs.snapshots.are_small.Tie as tie
 
 abbrev Inv-loop : tie.InvT-loop
-Inv-loop sets objects k₀ k = (s : List ℕ) (xs : List (List Text)) → SetsAre s xs sets → areSmall xs ≡ areSmall (drop k xs)
+Inv-loop sets objects k₀ k = SmallTo sets k
 
 abbrev μ-loop : tie.MeasureT-loop
 μ-loop sets objects k₀ k = 32 - k
 
-objects :
-    (c : tie.After-set-at Inv-loop μ-loop) → let l = c .before .before in
-    c .set-at .result .count ≡ setIn (l .before .before .before .args .sets .now) (l .loop .k) .count
-objects c = ap (λ (x : SetAt). x .count) (c .set-at .ensures)
+-- ---- the places
 
-returns : tie.Need-returns Inv-loop μ-loop
-returns c = λ s xs w e. few-small xs _ (c .if1 .taken) e
+abbrev to-start : tie.In-loop Inv-loop μ-loop → tie.Start Inv-loop μ-loop
+to-start c = c .before .before .before .before
 
-loop-holds : tie.Need-loop-holds Inv-loop μ-loop
-loop-holds c = λ s xs w. refl
+-- ---- the facts
 
-set-at-requires : tie.Need-set-at-requires Inv-loop μ-loop
-set-at-requires c κs = (c .before .before .before .before .pre, c .loop-test .taken)
-
-returns-2 : tie.Need-returns-2 Inv-loop μ-loop
-returns-2 c = λ s xs w e.
-    let found = c .before .before in
-    let l = found .before .before .loop in
-    sym (l .inv s xs w ∙ small-bad s xs _ w (l .k) (found .before .loop-test .taken) (omega (arith, objects found, c .if2 .taken)))
-
-loop-less : tie.Need-loop-less Inv-loop μ-loop
-loop-less c = omega (arith, c .before .before .before .loop-test .taken)
-
-loop-again : tie.Need-loop-again Inv-loop μ-loop
-loop-again c = λ s xs w.
-    let found = c .before .before in
-    let l = found .before .before .loop in
-    l .inv s xs w ∙ small-step s xs _ w (l .k) (found .before .loop-test .taken) (omega (arith, objects found, c .if2 .left))
-
-returns-3 : tie.Need-returns-3 Inv-loop μ-loop
-returns-3 c = λ s xs w e. sym (c .before .loop .inv s xs w ∙ small-end s xs _ w _ (c .loop-test .left))
+by-count :
+    (c : tie.After-set-at Inv-loop μ-loop) → let a = to-start (c .before) .args in
+    SmallBy (a .sets .now) (a .objects) (c .before .before .loop .k) (c .set-at .result .count)
+by-count c = small-by (c .before .before .loop .inv) _ (c .before .loop-test .taken) (c .set-at .ensures)
 
 pub are-small-spec : {M : Type 1} → statement M
 are-small-spec =
@@ -56,11 +30,11 @@ are-small-spec =
     (tie.spec
     Inv-loop
     μ-loop
-    returns
-    loop-holds
-    set-at-requires
-    returns-2
+    (λ c. small-few _ (c .if1 .taken))
+    (λ c. small-none _)
+    (λ c κs. (to-start c .pre, c .loop-test .taken))
+    (λ c. by-count (c .before .before) .large (c .if2 .taken))
     (λ c. search needs)
-    loop-less
-    loop-again
-    returns-3)
+    (λ c. omega (arith, c .before .before .before .loop-test .taken))
+    (λ c. by-count (c .before .before) .small (c .if2 .left))
+    (λ c. small-all (c .before .loop .inv) _ (c .loop-test .left)))
