@@ -14,17 +14,17 @@ use Rattle.model.proofs.Cases.{and-parts}
 use Rattle.replies.specs.Questions.{accepted, _>>_, ensure}
 use Rattle.ontology.specs.Table.{EventType, Table, typeNamed}
 use Rattle.ontology.specs.TableLayout.{tableOf}
-use Rattle.ontology.specs.code.TypeIndex.{TypeIs, TypeSays}
+use Rattle.ontology.specs.code.TypeIndex.{TypeSays}
 use Rattle.ontology.specs.declared.types.TypeIndex.{TypeIndex}
 use Rattle.ontology.specs.declared.tables.TableRead.{TableRead}
 use Rattle.ontology.proofs.TypeIndexLaws.{type-absent, TypeFound, type-found}
-use Rattle.event.specs.code.EventIndex.{KindsAre}
 use Rattle.event.proofs.AskLaws.{table-kinds}
 use Rattle.event.specs.Agreement.{agree}
 use Rattle.dossier.specs.DossierLayout.{Headed, dossierOf}
 use Rattle.dossier.specs.DossierQuestions.{eachSnapshot, snapshotMatch, dossierShape, snapshotValues, dossierAsked, dossierMatch, dossiersAgree}
 use Rattle.dossier.specs.code.DossierIndex.{noSnapshot, RowsAre, DossierIs, DossierReads, DossierAnswers, shapeNumber}
 use Rattle.dossier.specs.declared.dossiers.DossierIndex.{DossierIndex}
+use Rattle.dossier.proofs.AskLaws.{Each, dossierNumber}
 
 -- ---- questions 3 to 6
 
@@ -77,9 +77,7 @@ module _ (table : List ℕ) (ts : Table) (s rows : List ℕ) (d : DossierIndex) 
         type = type-found (typeNamed (it .what .head .type) ts) table ps read (says (it .what) (it .stands)) f
 
         pub answer-rest :
-            (n : ℕ) →
-            ((u : List ℕ) (ty : EventType) (h : Headed) → TypeIs u ty (read .index) ps → KindsAre ty → DossierIs s h d → RowsAre s (h .snapshots) rows →
-            n ≡ shapeNumber (dossierShape standard ty (h .snapshots)) (eachSnapshot (snapshotValues ty) (h .snapshots))) →
+            (n : ℕ) → Each s d rows (read .index) ps (λ ty ss. n ≡ dossierNumber ty ss) →
             DossierAnswers (dossierAsked standard ts s) table (read .index) ps n
         unfolding dossierAsked DossierAnswers shapeNumber
         answer-rest n a =

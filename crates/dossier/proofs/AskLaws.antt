@@ -1,5 +1,5 @@
 -- The laws of questions 5 and 6 of all snapshots.
-use mathlib.Core.Path.{_≡_, refl, sym, ap, ap₂, _∙_}
+use mathlib.Core.Path.{_≡_, refl, sym, ap, ap₂, _∙_, subst}
 use mathlib.Core.Logic.{_⊎_, inl, inr, ⊎-elim}
 use mathlib.Core.Bool.{Bool, true, false, cond, not, _&&_, _||_}
 use mathlib.Core.List.{List, [], _∷_, map}
@@ -9,7 +9,7 @@ use native.Mathlib.Numerals.{add-one}
 use lib.Dec.{ltb, leb, eqb}
 use lib.ListN.{length, take, drop, getD, drop-of-length-le, List·getD-map}
 use lib.Seq.{drop-cons, getD-take}
-use Rattle.model.specs.Order.{sets, lists, equal}
+use Rattle.model.specs.Order.{Text, sets, lists, equal}
 use Rattle.model.proofs.OrderLaws.{equal-true}
 use Rattle.model.specs.Rule.{Cell, holds, Snapshot, sizes}
 use Rattle.model.specs.Limits.{standard}
@@ -17,18 +17,20 @@ use Rattle.model.specs.Opening.{held, isMark, cellAt}
 use Rattle.model.proofs.Cases.{and-false, and-true}
 use Rattle.values.specs.declared.versions.EventVersion.{EventVersion}
 use Rattle.ontology.specs.Table.{Property, EventType, isVersioned}
-use Rattle.ontology.specs.code.TypeIndex.{TypeIs}
+use Rattle.ontology.specs.code.TypeIndex.{PropertiesAre, TypeIs}
 use Rattle.ontology.specs.declared.types.TypeIndex.{TypeIndex}
 use Rattle.event.specs.EventQuestions.{matchCount}
 use Rattle.event.specs.EventLayout.{bitNumber}
-use Rattle.event.specs.code.EventIndex.{SetsAre}
+use Rattle.event.specs.Agreement.{matchSets}
+use Rattle.event.specs.code.EventIndex.{SetsAre, KindsAre}
 use Rattle.dossier.specs.DossierLayout.{Headed}
 use Rattle.dossier.specs.DossierBody.{differBit}
 use Rattle.dossier.specs.DossierQuestions.{eachCell, eachSnapshot, isVacant, isPresent, isLoneIfSingle, isLoneIfExtreme, isUnmarkedMatch}
 use Rattle.dossier.specs.DossierQuestions.{unversionedSnapshot, unversionedShape, holdsVersion, versionedSnapshot, snapshotMatch, matchFits, matchAlike}
 use Rattle.dossier.specs.DossierQuestions.{dossierShape, snapshotValues}
 use Rattle.dossier.specs.code.DossierIndex.{SnapshotIs, noSnapshot, noVersion, rowOf, RowsAre, DossierIs, cellFits, versionFits, snapshotFits}
-use Rattle.dossier.specs.code.DossierIndex.{shapeNumber}
+use Rattle.dossier.specs.code.DossierIndex.{shapeNumber, MasksAre}
+use Rattle.dossier.specs.declared.shape.ShapeMasks.{ShapeMasks}
 use Rattle.dossier.specs.declared.snapshots.SnapshotNumbers.{SnapshotNumbers}
 use Rattle.dossier.specs.declared.dossiers.DossierIndex.{DossierIndex}
 
@@ -61,18 +63,22 @@ mix true true c m true h = and-comm h (c && m)
 
 -- ---- two tests of each place are one
 
+-- of the places that have a property
+abbrev eachOf : (Property → Cell → Bool) → List Property → List Cell → Bool
+eachOf f ps cs = eachCell f (λ (c : Cell). true) ps cs
+
 each-place :
     (f h : Property → Cell → Bool) (g : Cell → Bool) (ps : List Property) (cs : List Cell) →
-    (eachCell f g ps cs && eachCell h (λ (c : Cell). true) ps cs) ≡ eachCell (λ (p : Property) (c : Cell). f p c && h p c) g ps cs
+    (eachCell f g ps cs && eachOf h ps cs) ≡ eachCell (λ (p : Property) (c : Cell). f p c && h p c) g ps cs
 unfolding eachCell
 each-place f h g [] [] = refl
-each-place f h g [] (c ∷ cs) =
-    and-assoc (g c) (eachCell f g [] cs) (eachCell h (λ (c : Cell). true) [] cs) ∙ ap (λ (b : Bool). g c && b) (each-place f h g [] cs)
+each-place f h g [] (c ∷ cs) = and-assoc (g c) (eachCell f g [] cs) (eachOf h [] cs) ∙ ap (λ (b : Bool). g c && b) (each-place f h g [] cs)
 each-place f h g (p ∷ ps) [] =
-    and-swap (f p (holds [])) (eachCell f g ps []) (h p (holds [])) (eachCell h (λ (c : Cell). true) ps [])
-    ∙ ap (λ (b : Bool). (f p (holds []) && h p (holds [])) && b) (each-place f h g ps [])
+    let none : Cell = holds [] in
+    and-swap (f p none) (eachCell f g ps []) (h p none) (eachOf h ps [])
+    ∙ ap (λ (b : Bool). (f p none && h p none) && b) (each-place f h g ps [])
 each-place f h g (p ∷ ps) (c ∷ cs) =
-    and-swap (f p c) (eachCell f g ps cs) (h p c) (eachCell h (λ (c : Cell). true) ps cs) ∙ ap (λ (b : Bool). (f p c && h p c) && b) (each-place f h g ps cs)
+    and-swap (f p c) (eachCell f g ps cs) (h p c) (eachOf h ps cs) ∙ ap (λ (b : Bool). (f p c && h p c) && b) (each-place f h g ps cs)
 
 -- what is asked of a cell by whether the type is versioned
 abbrev ofVersion : Bool → Property → Cell → Bool
@@ -80,40 +86,47 @@ ofVersion v p c = cond v (isLoneIfSingle p c) (not (isMark c) && isLoneIfExtreme
 
 three-tests :
     (v : Bool) (ps : List Property) (cs : List Cell) →
-    ((eachCell isPresent isVacant ps cs && eachCell (ofVersion v) (λ (c : Cell). true) ps cs) && eachCell isUnmarkedMatch (λ (c : Cell). true) ps cs)
-    ≡ eachCell (cellFits v) isVacant ps cs
+    ((eachCell isPresent isVacant ps cs && eachOf (ofVersion v) ps cs) && eachOf isUnmarkedMatch ps cs) ≡ eachCell (cellFits v) isVacant ps cs
 unfolding cellFits
 three-tests v ps cs =
-    ap (λ (b : Bool). b && eachCell isUnmarkedMatch (λ (c : Cell). true) ps cs) (each-place isPresent (ofVersion v) isVacant ps cs)
+    ap (λ (b : Bool). b && eachOf isUnmarkedMatch ps cs) (each-place isPresent (ofVersion v) isVacant ps cs)
     ∙ each-place (λ (p : Property) (c : Cell). isPresent p c && ofVersion v p c) isUnmarkedMatch isVacant ps cs
 
 -- ---- one snapshot
 
+-- every cell of a mandatory property is there, and none without a property
+abbrev cellsPresent : EventType → Snapshot → Bool
+cellsPresent t s = eachCell isPresent isVacant (t .properties) (s .cells)
+
 module _ (t : EventType) (s : Snapshot) where
-  abbrev cellsPresent : Bool
-  cellsPresent = eachCell isPresent isVacant (t .properties) (s .cells)
+  abbrev asked : (Property → Cell → Bool) → Bool
+  asked f = eachOf f (t .properties) (s .cells)
 
-  fits-versioned : isVersioned t ≡ true → ((cellsPresent && versionedSnapshot t s) && matchFits t s) ≡ snapshotFits t s
-  unfolding versionedSnapshot matchFits snapshotFits versionFits
-  fits-versioned e =
-      mix cellsPresent (eachCell isLoneIfSingle (λ (c : Cell). true) (t .properties) (s .cells))
-      (eachCell isUnmarkedMatch (λ (c : Cell). true) (t .properties) (s .cells)) (leb (matchCount (t .properties) (map held (s .cells))) 32)
-      (leb (sizes (s .cells)) 32) (holdsVersion (s .version) (cellAt s (t .mark - 1)))
-      ∙ ap (λ (b : Bool). b && leb (matchCount (t .properties) (map held (s .cells))) 32 &&
-      (leb (sizes (s .cells)) 32 && holdsVersion (s .version) (cellAt s (t .mark - 1)))) (three-tests true (t .properties) (s .cells))
-      ∙ ap (λ (v : Bool). eachCell (cellFits v) isVacant (t .properties) (s .cells) && leb (matchCount (t .properties) (map held (s .cells))) 32 &&
-      cond v (leb (sizes (s .cells)) 32 && holdsVersion (s .version) (cellAt s (t .mark - 1))) (eqb (s .version) 0 && leb (sizes (s .cells)) 256)) (sym e)
+  abbrev matchesFew : Bool
+  matchesFew = leb (matchCount (t .properties) (map held (s .cells))) 32
 
-  fits-plain : isVersioned t ≡ false → ((cellsPresent && unversionedSnapshot standard t s) && matchFits t s) ≡ snapshotFits t s
-  unfolding unversionedSnapshot matchFits snapshotFits versionFits standard
-  fits-plain e =
-      mix cellsPresent (eachCell (ofVersion false) (λ (c : Cell). true) (t .properties) (s .cells))
-      (eachCell isUnmarkedMatch (λ (c : Cell). true) (t .properties) (s .cells)) (leb (matchCount (t .properties) (map held (s .cells))) 32)
-      (eqb (s .version) 0) (leb (sizes (s .cells)) 256)
-      ∙ ap (λ (b : Bool). b && leb (matchCount (t .properties) (map held (s .cells))) 32 && (eqb (s .version) 0 && leb (sizes (s .cells)) 256))
-      (three-tests false (t .properties) (s .cells))
-      ∙ ap (λ (v : Bool). eachCell (cellFits v) isVacant (t .properties) (s .cells) && leb (matchCount (t .properties) (map held (s .cells))) 32 &&
-      cond v (leb (sizes (s .cells)) 32 && holdsVersion (s .version) (cellAt s (t .mark - 1))) (eqb (s .version) 0 && leb (sizes (s .cells)) 256)) (sym e)
+  -- what is asked of the version and of all objects
+  abbrev dated : Bool
+  dated = leb (sizes (s .cells)) 32 && holdsVersion (s .version) (cellAt s (t .mark - 1))
+
+  abbrev undated : Bool
+  undated = eqb (s .version) 0 && leb (sizes (s .cells)) 256
+
+  by-place : (v : Bool) → isVersioned t ≡ v → (a b : Bool) → (a && b) ≡ cond v dated undated →
+      ((cellsPresent t s && ((a && asked (ofVersion v)) && b)) && (asked isUnmarkedMatch && matchesFew)) ≡ snapshotFits t s
+  unfolding snapshotFits versionFits
+  by-place v e a b w =
+      mix (cellsPresent t s) (asked (ofVersion v)) (asked isUnmarkedMatch) matchesFew a b
+      ∙ ap₂ (λ (x y : Bool). x && matchesFew && y) (three-tests v (t .properties) (s .cells)) w
+      ∙ ap (λ (v : Bool). eachCell (cellFits v) isVacant (t .properties) (s .cells) && matchesFew && cond v dated undated) (sym e)
+
+  fits-versioned : isVersioned t ≡ true → ((cellsPresent t s && versionedSnapshot t s) && matchFits t s) ≡ snapshotFits t s
+  unfolding versionedSnapshot matchFits
+  fits-versioned e = by-place true e (leb (sizes (s .cells)) 32) (holdsVersion (s .version) (cellAt s (t .mark - 1))) refl
+
+  fits-plain : isVersioned t ≡ false → ((cellsPresent t s && unversionedSnapshot standard t s) && matchFits t s) ≡ snapshotFits t s
+  unfolding unversionedSnapshot matchFits standard
+  fits-plain e = by-place false e (eqb (s .version) 0) (leb (sizes (s .cells)) 256) refl
 
 -- ---- all snapshots
 
@@ -142,24 +155,28 @@ fitsWith t a s = snapshotFits t s && alikeTo t a s
 
 module _ (t : EventType) (ss : List Snapshot) where
   abbrev allPresent : Bool
-  allPresent = eachSnapshot (λ (s : Snapshot). eachCell isPresent isVacant (t .properties) (s .cells)) ss
+  allPresent = eachSnapshot (cellsPresent t) ss
+
+  -- each snapshot fits by itself, and has the match sets of the first
+  abbrev pub allFit : List Snapshot → Bool
+  allFit xs = eachSnapshot (fitsWith t (getD ss 0 noSnapshot)) xs
 
   together :
-      (f : Snapshot → Bool) → ((s : Snapshot) → ((eachCell isPresent isVacant (t .properties) (s .cells) && f s) && matchFits t s) ≡ snapshotFits t s) →
-      (((allPresent && eachSnapshot f ss) && eachSnapshot (matchFits t) ss) && matchAlike t ss) ≡ eachSnapshot (fitsWith t (getD ss 0 noSnapshot)) ss
+      (f : Snapshot → Bool) → ((s : Snapshot) → ((cellsPresent t s && f s) && matchFits t s) ≡ snapshotFits t s) →
+      (((allPresent && eachSnapshot f ss) && eachSnapshot (matchFits t) ss) && matchAlike t ss) ≡ allFit ss
   together f h =
-      ap (λ (b : Bool). (b && eachSnapshot (matchFits t) ss) && matchAlike t ss)
-      (each-both (λ (s : Snapshot). eachCell isPresent isVacant (t .properties) (s .cells)) f ss)
+      let both : Snapshot → Bool = λ s. cellsPresent t s && f s in
+      ap (λ (b : Bool). (b && eachSnapshot (matchFits t) ss) && matchAlike t ss) (each-both (cellsPresent t) f ss)
       ∙ ap (λ (b : Bool). b && matchAlike t ss)
-      (each-both (λ (s : Snapshot). eachCell isPresent isVacant (t .properties) (s .cells) && f s) (matchFits t) ss
-      ∙ each-same (λ (s : Snapshot). (eachCell isPresent isVacant (t .properties) (s .cells) && f s) && matchFits t s) (snapshotFits t) ss h)
+      (each-both both (matchFits t) ss ∙ each-same (λ (s : Snapshot). both s && matchFits t s) (snapshotFits t) ss h)
       ∙ ap (λ (b : Bool). eachSnapshot (snapshotFits t) ss && b) (alike t ss)
       ∙ each-both (snapshotFits t) (alikeTo t (getD ss 0 noSnapshot)) ss
 
   by-version :
       (v : Bool) → isVersioned t ≡ v →
-      (((allPresent && cond v (eachSnapshot (versionedSnapshot t) ss) (unversionedShape standard t ss)) && eachSnapshot (matchFits t) ss) &&
-      matchAlike t ss) ≡ ((v || eqb (length ss) 1) && eachSnapshot (fitsWith t (getD ss 0 noSnapshot)) ss)
+      (((allPresent && cond v (eachSnapshot (versionedSnapshot t) ss) (unversionedShape standard t ss)) && eachSnapshot (matchFits t) ss)
+      && matchAlike t ss)
+      ≡ ((v || eqb (length ss) 1) && allFit ss)
   unfolding unversionedShape
   by-version true e = together (versionedSnapshot t) (λ s. fits-versioned t s e)
   by-version false e =
@@ -172,23 +189,49 @@ module _ (t : EventType) (ss : List Snapshot) where
 
 -- ---- the number of a snapshot's answer
 
-module _ (f m v : Bool) where
-  pub number-shape : {r : Bool} → r ≡ f → r ≡ false → 5 ≡ shapeNumber (f && m) v
+-- the number of a snapshot y, where the first one has the sets xs
+abbrev matchLike : EventType → List (List Text) → Snapshot → Bool
+matchLike ty xs y = equal (lists sets) (matchSets (ty .properties) xs) (snapshotMatch ty y)
+
+abbrev pub snapshotNumber : EventType → List (List Text) → Snapshot → ℕ
+snapshotNumber ty xs y = shapeNumber (snapshotFits ty y && matchLike ty xs y) (snapshotValues ty y)
+
+-- and where its shape is right
+abbrev pub valuesNumber : Bool → ℕ
+valuesNumber right = shapeNumber true right
+
+-- what holds of any snapshot y that stands as the numbers say, beside the sets xs of the first one
+abbrev pub Shaped :
+    List ℕ → List ℕ → List ℕ → SnapshotNumbers → ShapeMasks → ℕ → ℕ → List ℕ → (EventType → List (List Text) → Snapshot → Type 0) → Type 0
+Shaped s first row x m mark count ps P =
+    (u : List ℕ) (ty : EventType) (xs : List (List Text)) (y : Snapshot) → mark ≡ ty .mark → PropertiesAre u (ty .properties) count ps →
+    MasksAre (isVersioned ty) (ty .properties) m → KindsAre ty → SetsAre s xs first → SnapshotIs s y x row → P ty xs y
+
+module _ (ty : EventType) (xs : List (List Text)) (y : Snapshot) where
+  pub number-shape : {r : Bool} → r ≡ snapshotFits ty y → r ≡ false → 5 ≡ snapshotNumber ty xs y
   unfolding shapeNumber
-  number-shape e h = sym (ap (λ (b : Bool). shapeNumber (b && m) v) (sym e ∙ h))
+  number-shape e h = sym (ap (λ (b : Bool). shapeNumber (b && matchLike ty xs y) (snapshotValues ty y)) (sym e ∙ h))
 
-  pub number-match : {r : Bool} → r ≡ m → r ≡ false → 5 ≡ shapeNumber (f && m) v
+  pub number-match : {r : Bool} → r ≡ matchLike ty xs y → r ≡ false → 5 ≡ snapshotNumber ty xs y
   unfolding shapeNumber
-  number-match e h = sym (ap (λ (b : Bool). shapeNumber (f && b) v) (sym e ∙ h) ∙ ap (λ (b : Bool). shapeNumber b v) (and-false f))
+  number-match e h =
+      sym (ap (λ (b : Bool). shapeNumber (snapshotFits ty y && b) (snapshotValues ty y)) (sym e ∙ h)
+      ∙ ap (λ (b : Bool). shapeNumber b (snapshotValues ty y)) (and-false (snapshotFits ty y)))
 
-  module _ {a b : Bool} (e : a ≡ f) (h : a ≡ true) (g : b ≡ m) (k : b ≡ true) {r : Bool} (n : r ≡ v) where
-    pub number-all : r ≡ true → 0 ≡ shapeNumber (f && m) v
-    unfolding shapeNumber
-    number-all l = sym (ap₂ (λ (x y : Bool). shapeNumber (x && y) v) (sym e ∙ h) (sym g ∙ k) ∙ ap (shapeNumber true) (sym n ∙ l))
+  -- where neither refuses, the values decide
+  pub number-values :
+      {a b r : Bool} → a ≡ snapshotFits ty y → a ≡ true → b ≡ matchLike ty xs y → b ≡ true → r ≡ snapshotValues ty y →
+      valuesNumber r ≡ snapshotNumber ty xs y
+  number-values e h g k n =
+      sym (ap₂ (λ (a b : Bool). shapeNumber (a && b) (snapshotValues ty y)) (sym e ∙ h) (sym g ∙ k) ∙ ap valuesNumber (sym n))
 
-    pub number-values : r ≡ false → 6 ≡ shapeNumber (f && m) v
-    unfolding shapeNumber
-    number-values l = sym (ap₂ (λ (x y : Bool). shapeNumber (x && y) v) (sym e ∙ h) (sym g ∙ k) ∙ ap (shapeNumber true) (sym n ∙ l))
+pub values-right : {r : Bool} → r ≡ true → 0 ≡ valuesNumber r
+unfolding shapeNumber
+values-right e = rw e
+
+pub values-wrong : {r : Bool} → r ≡ false → 6 ≡ valuesNumber r
+unfolding shapeNumber
+values-wrong e = rw e
 
 -- ---- the numbers of all snapshots
 
@@ -198,26 +241,37 @@ five false b e = refl
 five true false e = absurd (omega arith)
 five true true e = absurd (omega arith)
 
+-- the number of snapshot j, and of all of them
+abbrev pub numberOf : EventType → List Snapshot → ℕ → ℕ
+numberOf t ss j = shapeNumber (fitsWith t (getD ss 0 noSnapshot) (getD ss j noSnapshot)) (snapshotValues t (getD ss j noSnapshot))
+
+abbrev pub dossierNumber : EventType → List Snapshot → ℕ
+dossierNumber t ss = shapeNumber (dossierShape standard t ss) (eachSnapshot (snapshotValues t) ss)
+
 -- what the numbers so far and the snapshots from j on come to
-abbrev pub numberFrom : EventType → List Snapshot → ℕ → ℕ → ℕ
-numberFrom t ss number j =
-    shapeNumber (eachSnapshot (fitsWith t (getD ss 0 noSnapshot)) (drop j ss)) (eqb number 0 && eachSnapshot (snapshotValues t) (drop j ss))
+abbrev numberFrom : EventType → List Snapshot → ℕ → ℕ → ℕ
+numberFrom t ss number j = shapeNumber (allFit t ss (drop j ss)) (eqb number 0 && eachSnapshot (snapshotValues t) (drop j ss))
 
 module _ (t : EventType) (ss : List Snapshot) (number j : ℕ) (l : j < length ss) where
   abbrev one : Snapshot
   one = getD ss j noSnapshot
 
+  abbrev fitting : Snapshot → Bool
+  fitting = fitsWith t (getD ss 0 noSnapshot)
+
   step : (f : Snapshot → Bool) → eachSnapshot f (drop j ss) ≡ (f one && eachSnapshot f (drop (j + 1) ss))
   unfolding eachSnapshot
   step f = rw (drop-cons ss j noSnapshot l, add-one)
 
-  module _ (n : ℕ) (e : n ≡ shapeNumber (fitsWith t (getD ss 0 noSnapshot) one) (snapshotValues t one)) where
-    pub number-five : n ≡ 5 → 5 ≡ numberFrom t ss number j
+  fit-step : {b : Bool} → fitting one ≡ b → allFit t ss (drop j ss) ≡ (b && allFit t ss (drop (j + 1) ss))
+  fit-step e = step fitting ∙ ap (λ (x : Bool). x && allFit t ss (drop (j + 1) ss)) e
+
+  module _ (n : ℕ) (e : n ≡ numberOf t ss j) where
+    from-five : n ≡ 5 → 5 ≡ numberFrom t ss number j
     unfolding shapeNumber
-    number-five h =
-        let b : fitsWith t (getD ss 0 noSnapshot) one ≡ false = five (fitsWith t (getD ss 0 noSnapshot) one) (snapshotValues t one) (sym e ∙ h) in
+    from-five h =
         sym (ap (λ (a : Bool). shapeNumber a (eqb number 0 && eachSnapshot (snapshotValues t) (drop j ss)))
-        (step (fitsWith t (getD ss 0 noSnapshot)) ∙ ap (λ (a : Bool). a && eachSnapshot (fitsWith t (getD ss 0 noSnapshot)) (drop (j + 1) ss)) b))
+        (fit-step (five (fitting one) (snapshotValues t one) (sym e ∙ h))))
 
     module _ (ne : n ≡ 5 → ⊥) where
       fits : (a b : Bool) → n ≡ shapeNumber a b → (a ≡ true) × (cond (eqb n 6) 6 number ≡ cond b number 6)
@@ -230,28 +284,24 @@ module _ (t : EventType) (ss : List Snapshot) (number j : ℕ) (l : j < length s
       none true x = refl
       none false x = and-false (eqb number 0)
 
-      pub number-more : {r : ℕ} → r ≡ cond (eqb n 6) 6 number → numberFrom t ss number j ≡ numberFrom t ss r (j + 1)
-      number-more {r} h =
-          let a = fitsWith t (getD ss 0 noSnapshot) one in
-          let b = snapshotValues t one in
-          let g = fits a b e in
-          ap₂ (λ (x y : Bool). shapeNumber x (eqb number 0 && y))
-          (step (fitsWith t (getD ss 0 noSnapshot))
-          ∙ ap (λ (x : Bool). x && eachSnapshot (fitsWith t (getD ss 0 noSnapshot)) (drop (j + 1) ss)) (g .0)) (step (snapshotValues t))
-          ∙ ap (shapeNumber (eachSnapshot (fitsWith t (getD ss 0 noSnapshot)) (drop (j + 1) ss)))
-          (none b (eachSnapshot (snapshotValues t) (drop (j + 1) ss))
-          ∙ ap (λ (m : ℕ). eqb m 0 && eachSnapshot (snapshotValues t) (drop (j + 1) ss)) (sym (h ∙ g .1)))
+      from-more : {r : ℕ} → r ≡ cond (eqb n 6) 6 number → numberFrom t ss number j ≡ numberFrom t ss r (j + 1)
+      from-more {r} h =
+          let g = fits (fitting one) (snapshotValues t one) e in
+          let rest = eachSnapshot (snapshotValues t) (drop (j + 1) ss) in
+          ap₂ (λ (x y : Bool). shapeNumber x (eqb number 0 && y)) (fit-step (g .0)) (step (snapshotValues t))
+          ∙ ap (shapeNumber (allFit t ss (drop (j + 1) ss)))
+          (none (snapshotValues t one) rest ∙ ap (λ (m : ℕ). eqb m 0 && rest) (sym (h ∙ g .1)))
 
-pub number-kept : (n number : ℕ) {r : ℕ} → r ≡ cond (eqb n 6) 6 number → (number ≡ 0) ⊎ (number ≡ 6) → (r ≡ 0) ⊎ (r ≡ 6)
-number-kept n number {r} h o = go (eqb n 6) h
+kept : (n number : ℕ) {r : ℕ} → r ≡ cond (eqb n 6) 6 number → (number ≡ 0) ⊎ (number ≡ 6) → (r ≡ 0) ⊎ (r ≡ 6)
+kept n number {r} h o = go (eqb n 6) h
   where
     go : (b : Bool) → r ≡ cond b 6 number → (r ≡ 0) ⊎ (r ≡ 6)
     go true e = inr e
     go false e = ⊎-elim (λ (z : number ≡ 0). inl (e ∙ z)) (λ (z : number ≡ 6). inr (e ∙ z)) o
 
-pub number-end : (t : EventType) (ss : List Snapshot) (number j : ℕ) → length ss ≤ j → (number ≡ 0) ⊎ (number ≡ 6) → number ≡ numberFrom t ss number j
+from-end : (t : EventType) (ss : List Snapshot) (number j : ℕ) → length ss ≤ j → (number ≡ 0) ⊎ (number ≡ 6) → number ≡ numberFrom t ss number j
 unfolding eachSnapshot shapeNumber
-number-end t ss number j l o =
+from-end t ss number j l o =
     let d = drop-of-length-le ss l in
     ⊎-elim (λ (z : number ≡ 0). rw (z, d)) (λ (z : number ≡ 6). rw (z, d)) o
 
@@ -299,23 +349,61 @@ module _ (s : List ℕ) (h : Headed) (d : DossierIndex) (w : DossierIs s h d) wh
   pub first-sets : (rows : List ℕ) → RowsAre s (h .snapshots) rows → SetsAre s (map held (getD (h .snapshots) 0 noSnapshot .cells)) (rowOf rows 0)
   first-sets rows r = r .each 0 (omega (arith, w .one, w .count))
 
-  module _ (u : List ℕ) (ty : EventType) (t : TypeIndex) (ps : List ℕ) (v : TypeIs u ty t ps) where
-    lone-of : {r : Bool} → r ≡ (ltb 0 (t .mark) || eqb (d .count) 1) → r ≡ (isVersioned ty || eqb (length (h .snapshots)) 1)
-    lone-of e = e ∙ ap₂ (λ (m n : ℕ). ltb 0 m || eqb n 1) (v .mark) (w .count)
+  lone-of :
+      (u : List ℕ) (ty : EventType) (t : TypeIndex) (ps : List ℕ) → TypeIs u ty t ps → {r : Bool} → r ≡ (ltb 0 (t .mark) || eqb (d .count) 1) →
+      dossierNumber ty (h .snapshots) ≡ shapeNumber (r && allFit ty (h .snapshots) (h .snapshots)) (eachSnapshot (snapshotValues ty) (h .snapshots))
+  lone-of u ty t ps v e =
+      ap (λ (b : Bool). shapeNumber b (eachSnapshot (snapshotValues ty) (h .snapshots)))
+      (shape-is ty (h .snapshots)
+      ∙ ap (λ (b : Bool). b && allFit ty (h .snapshots) (h .snapshots)) (sym (e ∙ ap₂ (λ (m n : ℕ). ltb 0 m || eqb n 1) (v .mark) (w .count))))
 
-    pub not-lone :
-        {r : Bool} → r ≡ (ltb 0 (t .mark) || eqb (d .count) 1) → r ≡ false →
-        5 ≡ shapeNumber (dossierShape standard ty (h .snapshots)) (eachSnapshot (snapshotValues ty) (h .snapshots))
-    unfolding shapeNumber
-    not-lone e f =
-        sym (ap (λ (b : Bool). shapeNumber b (eachSnapshot (snapshotValues ty) (h .snapshots)))
-        (shape-is ty (h .snapshots) ∙ ap (λ (b : Bool). b && eachSnapshot (fitsWith ty (getD (h .snapshots) 0 noSnapshot)) (h .snapshots))
-        (sym (lone-of e) ∙ f)))
+-- ---- questions 5 and 6 of a dossier
 
-    pub is-lone :
-        {r : Bool} → r ≡ (ltb 0 (t .mark) || eqb (d .count) 1) → r ≡ true →
-        shapeNumber (dossierShape standard ty (h .snapshots)) (eachSnapshot (snapshotValues ty) (h .snapshots)) ≡ numberFrom ty (h .snapshots) 0 0
-    is-lone e f =
-        ap (λ (b : Bool). shapeNumber b (eachSnapshot (snapshotValues ty) (h .snapshots)))
-        (shape-is ty (h .snapshots) ∙ ap (λ (b : Bool). b && eachSnapshot (fitsWith ty (getD (h .snapshots) 0 noSnapshot)) (h .snapshots))
-        (sym (lone-of e) ∙ f))
+-- what holds of the type and of the snapshots of any dossier that stands as the numbers say
+abbrev pub Each : List ℕ → DossierIndex → List ℕ → TypeIndex → List ℕ → (EventType → List Snapshot → Type 0) → Type 0
+Each s d rows t ps P =
+    (u : List ℕ) (ty : EventType) (h : Headed) → TypeIs u ty t ps → KindsAre ty → DossierIs s h d → RowsAre s (h .snapshots) rows → P ty (h .snapshots)
+
+-- the number of all snapshots, by the number of those before j
+pub record NumberFrom (s : List ℕ) (d : DossierIndex) (rows : List ℕ) (t : TypeIndex) (ps : List ℕ) (number j : ℕ) : Type 0 where
+  pub is : Each s d rows t ps (λ ty ss. dossierNumber ty ss ≡ numberFrom ty ss number j)
+  pub either : (number ≡ 0) ⊎ (number ≡ 6)
+
+module _ (s : List ℕ) (d : DossierIndex) (rows : List ℕ) (t : TypeIndex) (ps : List ℕ) {r : Bool} (e : r ≡ (ltb 0 (t .mark) || eqb (d .count) 1)) where
+  pub not-lone : r ≡ false → Each s d rows t ps (λ ty ss. 5 ≡ dossierNumber ty ss)
+  unfolding shapeNumber
+  not-lone f u ty h w g x y =
+      sym (lone-of s h d x u ty t ps w e
+      ∙ ap (λ (b : Bool). shapeNumber (b && allFit ty (h .snapshots) (h .snapshots)) (eachSnapshot (snapshotValues ty) (h .snapshots))) f)
+
+  pub is-lone : r ≡ true → NumberFrom s d rows t ps 0 0
+  is-lone f = record {
+    is = λ u ty h w g x y.
+        lone-of s h d x u ty t ps w e
+        ∙ ap (λ (b : Bool). shapeNumber (b && allFit ty (h .snapshots) (h .snapshots)) (eachSnapshot (snapshotValues ty) (h .snapshots))) f;
+    either = inl refl;
+  }
+
+module _ {s : List ℕ} {d : DossierIndex} {rows : List ℕ} {t : TypeIndex} {ps : List ℕ} {number j : ℕ} (l : NumberFrom s d rows t ps number j) where
+  pub number-end : d .count ≤ j → Each s d rows t ps (λ ty ss. number ≡ dossierNumber ty ss)
+  number-end past u ty h w g x y =
+      from-end ty (h .snapshots) number j (past-count s h d x j past) (l .either) ∙ sym (l .is u ty h w g x y)
+
+  -- by the number n of snapshot j
+  module _ (k : j < d .count) {n : ℕ} (here : Each s d rows t ps (λ ty ss. n ≡ numberOf ty ss j)) where
+    pub number-five : n ≡ 5 → Each s d rows t ps (λ ty ss. 5 ≡ dossierNumber ty ss)
+    number-five f u ty h w g x y =
+        from-five ty (h .snapshots) number j (in-count s h d x j k) n (here u ty h w g x y) f ∙ sym (l .is u ty h w g x y)
+
+    pub number-more : (n ≡ 5 → ⊥) → {r : ℕ} → r ≡ cond (eqb n 6) 6 number → NumberFrom s d rows t ps r (j + 1)
+    number-more ne e = record {
+      is = λ u ty h w g x y.
+          l .is u ty h w g x y ∙ from-more ty (h .snapshots) number j (in-count s h d x j k) n (here u ty h w g x y) ne e;
+      either = kept n number e (l .either);
+    }
+
+-- the masks that are made by the index's mark are those of the type
+pub masks-typed :
+    {u : List ℕ} {ty : EventType} {t : TypeIndex} {ps : List ℕ} {m : ShapeMasks} → TypeIs u ty t ps → MasksAre (ltb 0 (t .mark)) (ty .properties) m →
+    MasksAre (isVersioned ty) (ty .properties) m
+masks-typed {u} {ty} {t} {ps} {m} w x = subst (λ (n : ℕ). MasksAre (ltb 0 n) (ty .properties) m) (w .mark) x

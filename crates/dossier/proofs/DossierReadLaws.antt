@@ -2,7 +2,7 @@
 use mathlib.Core.Path.{_≡_, refl, sym, ap, ap₂, _∙_, subst, subst₂}
 use mathlib.Core.Logic.{⊎-elim}
 use mathlib.Core.Bool.{Bool, true, false}
-use mathlib.Core.Option.{Option, none}
+use mathlib.Core.Option.{none}
 use mathlib.Core.List.{List, [], _∷_, _++_, append-nil, map, map-id}
 use Prim.Native.Nat.{ℕ, zero, suc, _+_, _-_, _*_, _≤_, _<_}
 use native.Mathlib.Omega.{arith}
@@ -50,9 +50,9 @@ use Rattle.dossier.proofs.DossierBodyLaws.{SnapshotWritten, snapshot-wa
 
 -- ---- versions that rise
 
-rise-not : (a b : ℕ) (l : List ℕ) → b ≤ a → rising numbers (a ∷ b ∷ l) ≡ false
+rise-first-not : (a b : ℕ) (l : List ℕ) → b ≤ a → rising numbers (a ∷ b ∷ l) ≡ false
 unfolding rising
-rise-not a b l h = three (numbers .cmp a b) (λ e. let k : a < b = less-of a b e in absurd (omega arith)) (λ e. rw e) (λ e. rw e)
+rise-first-not a b l h = three (numbers .cmp a b) (λ e. let k : a < b = less-of a b e in absurd (omega arith)) (λ e. rw e) (λ e. rw e)
 
 rise-on : (a b : ℕ) (l : List ℕ) → a < b → rising numbers (a ∷ b ∷ l) ≡ rising numbers (b ∷ l)
 unfolding rising
@@ -84,21 +84,40 @@ module _ (vs : List EventVersion) (count : ℕ) (few : count ≤ length vs) wher
   two : (j : ℕ) → suc j < count → drop j ns ≡ numberAt j ∷ numberAt (suc j) ∷ drop (suc (suc j)) ns
   two j h = split j (omega arith) ∙ ap (λ (l : List ℕ). numberAt j ∷ l) (split (suc j) h)
 
-  pub rise-bad : (k : ℕ) → 1 ≤ k → k < count → numberAt k ≤ numberAt (k - 1) → rising numbers (drop (k - 1) ns) ≡ false
+  rise-bad : (k : ℕ) → 1 ≤ k → k < count → numberAt k ≤ numberAt (k - 1) → rising numbers (drop (k - 1) ns) ≡ false
   rise-bad zero o h b = absurd (omega arith)
   rise-bad (suc j) o h b =
       let g : numberAt (suc j) ≤ numberAt j = rw sub-one at b in
-      rw (sub-one, two j h) (rise-not (numberAt j) (numberAt (suc j)) _ g)
+      rw (sub-one, two j h) (rise-first-not (numberAt j) (numberAt (suc j)) _ g)
 
-  pub rise-step : (k : ℕ) → 1 ≤ k → k < count → numberAt (k - 1) < numberAt k → rising numbers (drop (k - 1) ns) ≡ rising numbers (drop (k + 1 - 1) ns)
+  rise-step : (k : ℕ) → 1 ≤ k → k < count → numberAt (k - 1) < numberAt k → rising numbers (drop (k - 1) ns) ≡ rising numbers (drop (k + 1 - 1) ns)
   rise-step zero o h b = absurd (omega arith)
   rise-step (suc j) o h b =
       let g : numberAt j < numberAt (suc j) = rw sub-one at b in
       let e : suc j + 1 - 1 ≡ suc j = omega arith in
       rw (sub-one, e) (ap (rising numbers) (two j h) ∙ rise-on (numberAt j) (numberAt (suc j)) _ g ∙ ap (rising numbers) (sym (split (suc j) h)))
 
-  pub rise-end : (k : ℕ) → count ≤ k → rising numbers (drop (k - 1) ns) ≡ true
+  rise-end : (k : ℕ) → count ≤ k → rising numbers (drop (k - 1) ns) ≡ true
   rise-end k h = rise-few (drop (k - 1) ns) (simp (length-drop, long) (omega arith))
+
+-- all rise if those from the one before k on do
+pub record RiseFrom (vs : List EventVersion) (count k : ℕ) : Type 0 where
+  pub past : 1 ≤ k
+  pub is : rising numbers (versionNumbers (take count vs)) ≡ rising numbers (drop (k - 1) (versionNumbers (take count vs)))
+
+pub rise-one : (vs : List EventVersion) (count : ℕ) → RiseFrom vs count 1
+rise-one vs count = record { past = omega arith; is = refl }
+
+module _ {vs : List EventVersion} {count k : ℕ} (w : RiseFrom vs count k) (few : count ≤ length vs) where
+  pub rise-all : count ≤ k → true ≡ rising numbers (versionNumbers (take count vs))
+  rise-all h = sym (w .is ∙ rise-end vs count few k h)
+
+  module _ (h : k < count) where
+    pub rise-not : getD vs k noVersion .0 ≤ getD vs (k - 1) noVersion .0 → false ≡ rising numbers (versionNumbers (take count vs))
+    rise-not b = sym (w .is ∙ rise-bad vs count few k (w .past) h b)
+
+    pub rise-more : getD vs (k - 1) noVersion .0 < getD vs k noVersion .0 → RiseFrom vs count (k + 1)
+    rise-more b = record { past = omega arith; is = w .is ∙ rise-step vs count few k (w .past) h b }
 
 -- ---- snapshots, one after the other
 
@@ -126,16 +145,11 @@ objectsOf x = sizes (x .cells)
 abbrev pub withRow : List ℕ → List ℕ → ℕ → List ℕ
 withRow rows ats j = putMid (96 * j) (96 * j + 96 - 96 * j) rows ats
 
--- what was lent has a row's length
-pub row-lent :
-    (rows ats : List ℕ) (j : ℕ) → 96 * j + 96 ≤ length rows → length ats ≡ length (midOf (96 * j) (96 * j + 96 - 96 * j) rows) → length ats ≡ 96
-row-lent rows ats j inside e = e ∙ mid-len (96 * j) (96 * j + 96) rows inside ∙ omega arith
-
 module _ (rows ats : List ℕ) (j : ℕ) (inside : 96 * j + 96 ≤ length rows) (long : length ats ≡ 96) where
   front-long : length (take (96 * j) rows) ≡ 96 * j
   front-long = length-take-le (96 * j) rows (omega arith)
 
-  pub row-here : rowOf (withRow rows ats j) j ≡ ats
+  row-here : rowOf (withRow rows ats j) j ≡ ats
   row-here =
       let after = postOf (96 * j) (96 * j + 96 - 96 * j) rows in
       ap (take (96 * j + 96 - 96 * j)) (drop-at (take (96 * j) rows) (ats ++ after) (96 * j) front-long)
@@ -148,13 +162,13 @@ module _ (rows ats : List ℕ) (j : ℕ) (inside : 96 * j + 96 ≤ length rows) 
       ∙ take-append-le (96 * i + 96 - 96 * i) (drop (96 * i) (take (96 * j) rows)) rest
       (omega (arith, length-drop (96 * i) (take (96 * j) rows), front-long))
 
-  pub row-other : (i : ℕ) → i < j → rowOf (withRow rows ats j) i ≡ rowOf rows i
+  row-other : (i : ℕ) → i < j → rowOf (withRow rows ats j) i ≡ rowOf rows i
   row-other i l =
       row-front (ats ++ postOf (96 * j) (96 * j + 96 - 96 * j) rows) i l
       ∙ sym (row-front (drop (96 * j) rows) i l)
       ∙ ap (λ (xs : List ℕ). rowOf xs i) (take-append-drop (96 * j) rows)
 
-  pub row-length : length (withRow rows ats j) ≡ length rows
+  row-length : length (withRow rows ats j) ≡ length rows
   row-length =
       same-len-mid (96 * j) (96 * j + 96 - 96 * j) rows ats
       (sym (mid-len (96 * j) (96 * j + 96) rows inside ∙ omega (arith, long)))
@@ -224,22 +238,32 @@ sofar-none s rows n at h l =
       rows-long = l;
     }
 
-module _ (p : Parse (List Snapshot)) (s rows : List ℕ) (r : SnapshotsRead) (n next j : ℕ) (w : Sofar p s rows r n next j) where
+module _ {p : Parse (List Snapshot)} {s rows : List ℕ} {r : SnapshotsRead} {n next j : ℕ} (w : Sofar p s rows r n next j) where
   one-more : j < n → suc (n - (j + 1)) ≡ n - j
   one-more h = omega arith
 
   module _ (h : j < n) where
-    pub sofar-bad : readSnapshot (drop next s) ≡ fail → p ≡ fail
-    sofar-bad e =
+    stopped : readSnapshot (drop next s) ≡ fail → p ≡ fail
+    stopped e =
         w .rest
         ∙ ap (λ (m : ℕ). prepend (w .xs) (times readSnapshot m (drop next s))) (sym (one-more h))
         ∙ ap (prepend (w .xs)) (times-stop (n - (j + 1)) (drop next s) e)
 
+    -- the next snapshot is none, and so are all
+    pub sofar-bad : (rows′ : List ℕ) → readSnapshot (drop next s) ≡ fail → SnapshotsSay p s rows′ r
+    unfolding SnapshotsSay
+    sofar-bad rows′ e = rw (stopped e) (w .refused)
+
+    -- the row of a snapshot is among those that are lent
+    inside : 96 * j + 96 ≤ length rows
+    inside = omega (arith, w .rows-long)
+
     -- the next snapshot is read, and its row is put among the others
     module _
-        (few : n ≤ 8) (x : SnapshotNumbers) (end : ℕ) (ats : List ℕ) (k : SnapshotStops s next x end ats) (long : length ats ≡ 96) where
-      inside : 96 * j + 96 ≤ length rows
-      inside = omega (arith, w .rows-long)
+        (few : n ≤ 8) {x : SnapshotNumbers} {end : ℕ} {ats : List ℕ} (k : SnapshotStops s next x end ats)
+        (lent : length ats ≡ length (midOf (96 * j) (96 * j + 96 - 96 * j) rows)) where
+      row-long : length ats ≡ 96
+      row-long = lent ∙ mid-len (96 * j) (96 * j + 96) rows inside ∙ omega arith
 
       abbrev after : List ℕ
       after = withRow rows ats j
@@ -279,12 +303,16 @@ module _ (p : Parse (List Snapshot)) (s rows : List ℕ) (r : SnapshotsRead) (n 
           let b : j < length (r .ends) = omega (arith, w .ends-long) in
           rw (getD-set-same (r .starts) j next 0 a, getD-set-same (r .ends) j end 0 b, is-last) (k .stands)
 
-      stand-old : (m : ℕ) → m < j → SetsAre s (map held (getD all m noSnapshot .cells)) (rowOf after m)
-      stand-old m l =
-          subst₂ (λ (y : Snapshot) (l : List ℕ). SetsAre s (map held (y .cells)) l) (sym (was m l)) (sym (row-other rows ats j inside long m l)) (w .stand m l)
+      -- the sets of a snapshot stand where a row says
+      abbrev StandIn : Snapshot → List ℕ → Type 0
+      StandIn y row = SetsAre s (map held (y .cells)) row
 
-      stand-last : SetsAre s (map held (getD all j noSnapshot .cells)) (rowOf after j)
-      stand-last = subst₂ (λ (y : Snapshot) (l : List ℕ). SetsAre s (map held (y .cells)) l) (sym is-last) (sym (row-here rows ats j inside long)) (k .is .sets)
+      stand-old : (m : ℕ) → m < j → StandIn (getD all m noSnapshot) (rowOf after m)
+      stand-old m l =
+          subst₂ StandIn (sym (was m l)) (sym (row-other rows ats j inside row-long m l)) (w .stand m l)
+
+      stand-last : StandIn (getD all j noSnapshot) (rowOf after j)
+      stand-last = subst₂ StandIn (sym is-last) (sym (row-here rows ats j inside row-long)) (k .is .sets)
 
       follows-on : (m : ℕ) → suc m < j + 1 → getD (with-one .starts) (suc m) 0 ≡ getD (with-one .ends) m 0
       follows-on m l =
@@ -305,6 +333,9 @@ module _ (p : Parse (List Snapshot)) (s rows : List ℕ) (r : SnapshotsRead) (n 
           let a : j < length (r .ends) = omega (arith, w .ends-long) in
           ap (λ (i : ℕ). getD (with-one .ends) i 0) e ∙ getD-set-same (r .ends) j end 0 a
 
+      pub same-rows : length after ≡ length rows
+      same-rows = row-length rows ats j inside row-long
+
       pub sofar-more : Sofar p s after with-one n end (j + 1)
       sofar-more = record {
         xs = all;
@@ -324,14 +355,14 @@ module _ (p : Parse (List Snapshot)) (s rows : List ℕ) (r : SnapshotsRead) (n 
             (omega (arith, w .versions-long)) (w .numbers) (k .is .version);
         marks = noted-more differNumber (λ (i : ℕ). i) (r .differs) (w .xs) it (x .differ) j (omega (arith, w .differs-long)) (w .marks) (k .is .differ);
         counts = noted-more objectsOf (λ (i : ℕ). i) (r .objects) (w .xs) it (x .objects) j (omega (arith, w .objects-long)) (w .counts) (k .is .objects);
-        stand = below-more (λ (m : ℕ). SetsAre s (map held (getD all m noSnapshot .cells)) (rowOf after m)) j stand-old stand-last;
+        stand = below-more (λ (m : ℕ). StandIn (getD all m noSnapshot) (rowOf after m)) j stand-old stand-last;
         refused = w .refused;
         starts-long = length-set (r .starts) j next ∙ w .starts-long;
         ends-long = length-set (r .ends) j end ∙ w .ends-long;
         versions-long = length-set (r .versions) j (x .version) ∙ w .versions-long;
         differs-long = length-set (r .differs) j (x .differ) ∙ w .differs-long;
         objects-long = length-set (r .objects) j (x .objects) ∙ w .objects-long;
-        rows-long = omega (arith, row-length rows ats j inside long, w .rows-long);
+        rows-long = omega (arith, same-rows, w .rows-long);
       }
 
   module _ (full : n ≤ j) where
@@ -363,10 +394,6 @@ module _ (p : Parse (List Snapshot)) (s rows : List ℕ) (r : SnapshotsRead) (n 
           objects = noted (r .objects) objectsOf (w .counts);
           stand = record { each = λ i l. w .stand i (omega (arith, w .long)) };
         })
-
-pub snapshots-none : (p : Parse (List Snapshot)) (s rows : List ℕ) (r : SnapshotsRead) → p ≡ fail → r .ok ≡ false → SnapshotsSay p s rows r
-unfolding SnapshotsSay
-snapshots-none p s rows r e h = rw e h
 
 -- what is known of a call's answer in the arm of a `match`
 pub snapshot-read :

@@ -14,10 +14,12 @@ use Rattle.model.specs.Rule.{Cell, holds, differs, Snapshot, sizes}
 use Rattle.model.specs.Opening.{held, cellAt}
 use Rattle.values.specs.Decimal.{inDecimal}
 use Rattle.ontology.specs.Table.{EventType, isVersioned}
+use Rattle.ontology.specs.code.TypeIndex.{PropertiesAre}
 use Rattle.event.specs.EventQuestions.{matchCount}
 use Rattle.event.specs.code.EventIndex.{SetIs, setIn, SetsAre}
 use Rattle.dossier.specs.DossierQuestions.{eachCell, isVacant, holdsVersion}
-use Rattle.dossier.specs.code.DossierIndex.{SnapshotIs, CellsAre, cellFits, versionFits, snapshotFits}
+use Rattle.dossier.specs.code.DossierIndex.{SnapshotIs, CellsAre, MasksAre, cellFits, versionFits, snapshotFits}
+use Rattle.dossier.specs.declared.shape.ShapeMasks.{ShapeMasks}
 use Rattle.dossier.specs.declared.snapshots.SnapshotNumbers.{SnapshotNumbers}
 use Rattle.dossier.proofs.CellLaws.{held-at, match-few}
 
@@ -26,11 +28,17 @@ use Rattle.dossier.proofs.CellLaws.{held-at, match-few}
 pub version-many : (vs : List Text) (n : ℕ) (d : Text) → n ≡ length vs → (n ≡ 1 → ⊥) → false ≡ equal sets vs (d ∷ [])
 version-many vs n d e ne = sym (equal-false sets vs (d ∷ []) .1 (λ q. ne (e ∙ ap length q)))
 
-pub version-one : (vs : List Text) (n : ℕ) (d : Text) → n ≡ length vs → n ≡ 1 → equal texts (getD vs 0 []) d ≡ equal sets vs (d ∷ [])
+one-value : (vs : List Text) (n : ℕ) (d : Text) → n ≡ length vs → n ≡ 1 → equal texts (getD vs 0 []) d ≡ equal sets vs (d ∷ [])
 unfolding sets equal lists lex
-version-one [] n d e o = absurd (omega arith)
-version-one (v ∷ []) n d e o = three (texts .cmp v d) (λ e. rw e) (λ e. rw e) (λ e. rw e)
-version-one (v ∷ w ∷ vs) n d e o = absurd (omega arith)
+one-value [] n d e o = absurd (omega arith)
+one-value (v ∷ []) n d e o = three (texts .cmp v d) (λ e. rw e) (λ e. rw e) (λ e. rw e)
+one-value (v ∷ w ∷ vs) n d e o = absurd (omega arith)
+
+-- by its first value v
+pub version-one :
+    (vs : List Text) (n k : ℕ) → n ≡ length vs → n ≡ 1 → {v : Text} → v ≡ getD vs 0 [] → {r : Bool} → r ≡ equal texts v (inDecimal k) →
+    r ≡ equal sets vs (inDecimal k ∷ [])
+version-one vs n k e o f g = g ∙ ap (λ (w : Text). equal texts w (inDecimal k)) f ∙ one-value vs n (inDecimal k) e o
 
 -- ---- the version property
 
@@ -61,59 +69,71 @@ module _ (s : List ℕ) (y : Snapshot) (ats : List ℕ) (w : SetsAre s (map held
   unfolding cellAt
   holds-set o h = subst (λ (vs : List Text). SetIs s vs (setIn ats (mark - 1))) (held-at (y .cells) (mark - 1)) (w .each (mark - 1) (omega arith))
 
--- by the type's mark
-module _ (s : List ℕ) (y : Snapshot) (x : SnapshotNumbers) (ats : List ℕ) (w : SnapshotIs s y x ats) (mark : ℕ) where
-  module _ (ty : EventType) (m : mark ≡ ty .mark) where
-    plain : mark ≡ 0 → versionFits ty y ≡ (eqb (y .version) 0 && leb (sizes (y .cells)) 256)
-    unfolding versionFits
-    plain h =
-        ap (λ (n : ℕ). cond (ltb 0 n) (leb (sizes (y .cells)) 32 && holdsVersion (y .version) (cellAt y (ty .mark - 1)))
-        (eqb (y .version) 0 && leb (sizes (y .cells)) 256)) (sym m ∙ h)
+-- what is asked of a snapshot by the type's mark: with none, and with one
+abbrev plainFits : Snapshot → Bool
+plainFits y = eqb (y .version) 0 && leb (sizes (y .cells)) 256
 
-    dated : (mark ≡ 0 → ⊥) → versionFits ty y ≡ (leb (sizes (y .cells)) 32 && holdsVersion (y .version) (cellAt y (mark - 1)))
-    unfolding versionFits
-    dated h =
-        ap (λ (n : ℕ). cond (ltb 0 n) (leb (sizes (y .cells)) 32 && holdsVersion (y .version) (cellAt y (n - 1)))
-        (eqb (y .version) 0 && leb (sizes (y .cells)) 256)) (sym m)
-        ∙ ap (λ (b : Bool). cond b (leb (sizes (y .cells)) 32 && holdsVersion (y .version) (cellAt y (mark - 1)))
-        (eqb (y .version) 0 && leb (sizes (y .cells)) 256)) (lt-ltb 0 mark (omega (arith, h)))
+abbrev datedFits : Snapshot → ℕ → Bool
+datedFits y mark = leb (sizes (y .cells)) 32 && holdsVersion (y .version) (cellAt y (mark - 1))
 
-    pub plain-not : mark ≡ 0 → (x .version .0 ≡ 0 → ⊥) → false ≡ versionFits ty y
-    plain-not h ne = sym (plain h ∙ ap (λ (b : Bool). b && leb (sizes (y .cells)) 256) (ne-eqb (y .version) 0 (λ e. ne (w .version ∙ e))))
+module _ {s : List ℕ} {y : Snapshot} {x : SnapshotNumbers} {ats : List ℕ} (w : SnapshotIs s y x ats) {mark : ℕ} (ty : EventType) (m : mark ≡ ty .mark) where
+  plain : mark ≡ 0 → versionFits ty y ≡ plainFits y
+  unfolding versionFits
+  plain h = ap (λ (n : ℕ). cond (ltb 0 n) (datedFits y (ty .mark)) (plainFits y)) (sym m ∙ h)
 
-    pub plain-so : mark ≡ 0 → x .version .0 ≡ 0 → leb (x .objects) 256 ≡ versionFits ty y
-    plain-so h e = sym (plain h ∙ ap₂ (λ (b : Bool) (n : ℕ). b && leb n 256) (eq-eqb (y .version) 0 (sym (w .version) ∙ e)) (sym (w .objects)))
+  dated : (mark ≡ 0 → ⊥) → versionFits ty y ≡ datedFits y mark
+  unfolding versionFits
+  dated h =
+      ap (λ (n : ℕ). cond (ltb 0 n) (datedFits y n) (plainFits y)) (sym m)
+      ∙ ap (λ (b : Bool). cond b (datedFits y mark) (plainFits y)) (lt-ltb 0 mark (omega (arith, h)))
 
-    pub dated-large : (mark ≡ 0 → ⊥) → 32 < x .objects → false ≡ versionFits ty y
-    dated-large h k =
-        sym (dated h ∙ ap (λ (b : Bool). b && holdsVersion (y .version) (cellAt y (mark - 1))) (lt-leb (sizes (y .cells)) 32 (omega (arith, w .objects))))
+  pub plain-not : mark ≡ 0 → (x .version .0 ≡ 0 → ⊥) → false ≡ versionFits ty y
+  plain-not h ne = sym (plain h ∙ ap (λ (b : Bool). b && leb (sizes (y .cells)) 256) (ne-eqb (y .version) 0 (λ e. ne (w .version ∙ e))))
 
-    pub dated-so : (mark ≡ 0 → ⊥) → x .objects ≤ 32 → {r : Bool} → r ≡ holdsVersion (y .version) (cellAt y (mark - 1)) → r ≡ versionFits ty y
-    dated-so h k e =
-        e ∙ sym (dated h ∙ ap (λ (b : Bool). b && holdsVersion (y .version) (cellAt y (mark - 1))) (le-leb (sizes (y .cells)) 32 (omega (arith, w .objects))))
+  pub plain-so : mark ≡ 0 → x .version .0 ≡ 0 → leb (x .objects) 256 ≡ versionFits ty y
+  plain-so h e = sym (plain h ∙ ap₂ (λ (b : Bool) (n : ℕ). b && leb n 256) (eq-eqb (y .version) 0 (sym (w .version) ∙ e)) (sym (w .objects)))
+
+  module _ (h : mark ≡ 0 → ⊥) where
+    by-objects : {b : Bool} → leb (sizes (y .cells)) 32 ≡ b → versionFits ty y ≡ (b && holdsVersion (y .version) (cellAt y (mark - 1)))
+    by-objects e = dated h ∙ ap (λ (b : Bool). b && holdsVersion (y .version) (cellAt y (mark - 1))) e
+
+    pub dated-large : 32 < x .objects → false ≡ versionFits ty y
+    dated-large k = sym (by-objects (lt-leb (sizes (y .cells)) 32 (omega (arith, w .objects))))
+
+    pub dated-so : x .objects ≤ 32 → {r : Bool} → r ≡ holdsVersion (y .version) (cellAt y (mark - 1)) → r ≡ versionFits ty y
+    dated-so k e = e ∙ sym (by-objects (le-leb (sizes (y .cells)) 32 (omega (arith, w .objects))))
 
 -- ---- one snapshot
 
 pub cells-are : (s : List ℕ) (y : Snapshot) (x : SnapshotNumbers) (ats : List ℕ) → SnapshotIs s y x ats → CellsAre s (y .cells) (x .differ) ats
 cells-are s y x ats w = record { bits = w .differ; sets = w .sets }
 
-module _ (ty : EventType) (y : Snapshot) where
-  pub fits-cells : {a : Bool} → a ≡ eachCell (cellFits (isVersioned ty)) isVacant (ty .properties) (y .cells) → a ≡ false → false ≡ snapshotFits ty y
-  unfolding snapshotFits
-  fits-cells e f = sym (ap (λ (b : Bool). b && leb (matchCount (ty .properties) (map held (y .cells))) 32 && versionFits ty y) (sym e ∙ f))
+-- what holds of any snapshot that stands as the numbers say
+abbrev pub Fitting : List ℕ → List ℕ → SnapshotNumbers → ShapeMasks → ℕ → ℕ → List ℕ → (EventType → Snapshot → Type 0) → Type 0
+Fitting s ats x m mark count ps P =
+    (u : List ℕ) (ty : EventType) (y : Snapshot) → mark ≡ ty .mark → PropertiesAre u (ty .properties) count ps →
+    MasksAre (isVersioned ty) (ty .properties) m → SnapshotIs s y x ats → P ty y
 
-  pub fits-match : {a : Bool} → a ≡ leb (matchCount (ty .properties) (map held (y .cells))) 32 → a ≡ false → false ≡ snapshotFits ty y
+abbrev pub cellsFit : EventType → Snapshot → Bool
+cellsFit ty y = eachCell (cellFits (isVersioned ty)) isVacant (ty .properties) (y .cells)
+
+abbrev pub matchesFew : EventType → Snapshot → Bool
+matchesFew ty y = leb (matchCount (ty .properties) (map held (y .cells))) 32
+
+module _ (ty : EventType) (y : Snapshot) where
+  pub fits-cells : {a : Bool} → a ≡ cellsFit ty y → a ≡ false → false ≡ snapshotFits ty y
+  unfolding snapshotFits
+  fits-cells e f = sym (ap (λ (b : Bool). b && matchesFew ty y && versionFits ty y) (sym e ∙ f))
+
+  pub fits-match : {a : Bool} → a ≡ matchesFew ty y → a ≡ false → false ≡ snapshotFits ty y
   unfolding snapshotFits
   fits-match e f =
-      sym (ap (λ (b : Bool). eachCell (cellFits (isVersioned ty)) isVacant (ty .properties) (y .cells) && b && versionFits ty y) (sym e ∙ f)
-      ∙ ap (λ (b : Bool). b && versionFits ty y) (and-false (eachCell (cellFits (isVersioned ty)) isVacant (ty .properties) (y .cells))))
+      sym (ap (λ (b : Bool). cellsFit ty y && b && versionFits ty y) (sym e ∙ f) ∙ ap (λ (b : Bool). b && versionFits ty y) (and-false (cellsFit ty y)))
 
-  pub fits-all :
-      {a r : Bool} → a ≡ eachCell (cellFits (isVersioned ty)) isVacant (ty .properties) (y .cells) → a ≡ true →
-      leb (matchCount (ty .properties) (map held (y .cells))) 32 ≡ true → r ≡ versionFits ty y → r ≡ snapshotFits ty y
+  pub fits-all : {a r : Bool} → a ≡ cellsFit ty y → a ≡ true → matchesFew ty y ≡ true → r ≡ versionFits ty y → r ≡ snapshotFits ty y
   unfolding snapshotFits
   fits-all e f g k = k ∙ sym (ap₂ (λ (a b : Bool). a && b && versionFits ty y) (sym e ∙ f) g)
 
   -- where there are few objects, there are few match objects
-  pub match-within : {objects : ℕ} → objects ≡ sizes (y .cells) → objects ≤ 32 → leb (matchCount (ty .properties) (map held (y .cells))) 32 ≡ true
+  pub match-within : {objects : ℕ} → objects ≡ sizes (y .cells) → objects ≤ 32 → matchesFew ty y ≡ true
   match-within e h = le-leb (matchCount (ty .properties) (map held (y .cells))) 32 (omega (arith, e, match-few (ty .properties) (y .cells)))

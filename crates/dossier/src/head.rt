@@ -54,7 +54,8 @@ pub fn dossier_head_end(s: &[u8]) -> usize
 // Writes a dossier's head at the front of `out`: the type name, the source, and the hashes of the parents, which stand one after the other.
 pub fn write_dossier_head(name: &[u8], source: &[u8], hashes: &[u8], out: &mut [u8]) -> usize
     requires { ⌜ DossierHeadRoom (now name) (now source) (now hashes) (length (now out)) ⌝ }
-    ensures { λ r. ⌜ ((h : Head) → HeadParts (now (name .entry)) (now (source .entry)) (now (hashes .entry)) h → Wrote (now (out .entry)) 0 (dossierHeadBytes h) (now (out .exit)) r) ⌝ }
+    ensures { λ r. ⌜ ((h : Head) → HeadParts (now (name .entry)) (now (source .entry)) (now (hashes .entry)) h
+        → Wrote (now (out .entry)) 0 (dossierHeadBytes h) (now (out .exit)) r) ⌝ }
 {
     write_head(name, source, hashes, out, 0)
 }

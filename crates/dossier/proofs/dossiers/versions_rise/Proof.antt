@@ -1,51 +1,41 @@
+-- The whole answer is that of the versions from the one before the loop's on (`RiseFrom`): two that do not rise answer no, and a last one alone rises.
 use borrow.Author.Needs.{needs}
-use mathlib.Core.Path.{_≡_, refl, sym, _∙_}
+use mathlib.Core.Path.{_≡_}
 use Prim.Native.Nat.{_-_, _≤_}
 use native.Mathlib.Omega.{arith}
-use lib.ListN.{length, take, drop}
-use Rattle.model.specs.Order.{numbers, rising}
-use Rattle.dossier.specs.code.DossierIndex.{versionNumbers}
-use Rattle.dossier.proofs.DossierReadLaws.{rise-bad, rise-step, rise-end}
+use lib.ListN.{length}
+use Rattle.dossier.proofs.DossierReadLaws.{RiseFrom, rise-one, rise-not, rise-more, rise-all}
 use Rattle.dossier.proofs.dossiers.versions_rise.Statement.{statement}
 use Rattle.dossier.proofs.dossiers.versions_rise.Tie as tie
-use Rattle.dossier.proofs.dossiers.versions_rise.Reads as reads
-use Rattle.dossier.proofs.dossiers.versions_rise.Lts as lts
 
 abbrev Inv-loop : tie.InvT-loop
-Inv-loop count versions k₀ k =
-    (1 ≤ k)
-    × (rising numbers (versionNumbers (take count versions)) ≡ rising numbers (drop (k - 1) (versionNumbers (take count versions))))
+Inv-loop count versions k₀ k = RiseFrom versions count k
 
 abbrev μ-loop : tie.MeasureT-loop
 μ-loop count versions k₀ k = count - k
 
+-- ---- the places
+
+abbrev to-turn : tie.After-struct-known2 Inv-loop μ-loop → tie.In-loop Inv-loop μ-loop
+to-turn c = c .before .before .before .before
+
+-- ---- the facts
+
 -- the versions are eight
-long : (c : tie.Start Inv-loop μ-loop) → (c .args .count ≤ length (c .args .t1))
+long : (c : tie.Start Inv-loop μ-loop) → c .args .count ≤ length (c .args .t1)
 long c = let l : length (c .args .t1) ≡ 8 = search needs in omega (arith, c .pre, l)
 
-loop-holds : tie.Need-loop-holds Inv-loop μ-loop
-loop-holds c = (omega arith, refl)
-
-sub-before : tie.Need-sub-before Inv-loop μ-loop
-sub-before c = c .before .before .loop .inv .0
+-- ---- the needs
 
 returns : tie.Need-returns Inv-loop μ-loop
 returns c =
-    let t = c .before .before .before .before .before in
-    let l = t .before .loop in
-    sym (l .inv .1 ∙ rise-bad _ _ (long (t .before .before)) _ (l .inv .0) (t .loop-test .taken) (c .if1 .taken))
-
-loop-less : tie.Need-loop-less Inv-loop μ-loop
-loop-less c = omega (arith, c .before .before .before .before .before .loop-test .taken)
+    let turn = to-turn (c .before) in
+    rise-not (turn .before .loop .inv) (long (turn .before .before)) (turn .loop-test .taken) (c .if1 .taken)
 
 loop-again : tie.Need-loop-again Inv-loop μ-loop
 loop-again c =
-    let t = c .before .before .before .before .before in
-    let l = t .before .loop in
-    (omega arith, l .inv .1 ∙ rise-step _ _ (long (t .before .before)) _ (l .inv .0) (t .loop-test .taken) (c .if1 .left))
-
-returns-2 : tie.Need-returns-2 Inv-loop μ-loop
-returns-2 c = sym (c .before .loop .inv .1 ∙ rise-end _ _ (long (c .before .before)) _ (c .loop-test .left))
+    let turn = to-turn (c .before) in
+    rise-more (turn .before .loop .inv) (long (turn .before .before)) (turn .loop-test .taken) (c .if1 .left)
 
 pub versions-rise-spec : {M : Type 1} → statement M
 versions-rise-spec =
@@ -53,14 +43,14 @@ versions-rise-spec =
     (tie.spec
     Inv-loop
     μ-loop
-    loop-holds
+    (λ c. rise-one _ _)
     (λ c. search needs)
     (λ c. search needs)
-    sub-before
+    (λ c. c .before .before .loop .inv .past)
     (λ c. search needs)
     (λ c. search needs)
     returns
     (λ c. search needs)
-    loop-less
+    (λ c. omega (arith, to-turn (c .before) .loop-test .taken))
     loop-again
-    returns-2)
+    (λ c. rise-all (c .before .loop .inv) (long (c .before .before)) (c .loop-test .left)))

@@ -12,7 +12,8 @@ returns c = head-refused _ (c .enum-told .given .1) (c .before .before .read-hea
 returns-2 : tie.Need-returns-2
 unfolding readDossierHead standard
 returns-2 c =
-    let w = head-reads (c .before .before .head .given .1) (c .before .before .before .before .read-head .ensures) in
+    let told = c .before .before in
+    let w = head-reads (told .head .given .1) (told .before .before .read-head .ensures) in
     record { what = w .what; is = w .is; stands = w .stands }
 
 pub read-dossier-head-spec : {M : Type 1} → statement M

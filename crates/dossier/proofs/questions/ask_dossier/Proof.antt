@@ -3,14 +3,18 @@ use Rattle.dossier.proofs.AnswerLaws.{reads-few, answer-layout, answer-
 use Rattle.dossier.proofs.questions.ask_dossier.Statement.{statement}
 use Rattle.dossier.proofs.questions.ask_dossier.Tie as tie
 
+-- ---- the places
+
 abbrev to-start : tie.After-struct-known → tie.Start
 to-start c = c .before .before .before .before
 
+-- ---- the needs
+
 returns : tie.Need-returns
-returns c = λ table ts e f. answer-layout table ts _ _ _ (to-start (c .before) .pre .1 .0) (not-true _ (c .if1 .taken)) _ _
+returns c table ts e f = answer-layout table ts _ _ _ (to-start (c .before) .pre .1 .0) (not-true _ (c .if1 .taken)) _ _
 
 returns-2 : tie.Need-returns-2
-returns-2 c = λ table ts e f.
+returns-2 c table ts e f =
     let read = c .before .before in
     answer-type table ts _ _ _ (to-start (read .before) .pre .1 .0) (not-false _ (read .if1 .left)) _ _ f (not-true _ (c .if2 .taken)) _
 
@@ -21,7 +25,7 @@ ask-snapshots-requires c κs =
     (start .pre .1 .1 (not-false _ (c .if2 .left)), reads-few _ _ _ _ (start .pre .1 .0) (not-false _ (read .if1 .left)), start .pre .0 .0, start .pre .0 .1)
 
 returns-3 : tie.Need-returns-3
-returns-3 c = λ table ts e f.
+returns-3 c table ts e f =
     let found = c .before in
     let read = found .before .before in
     answer-rest table ts _ _ _ (to-start (read .before) .pre .1 .0) (not-false _ (read .if1 .left)) _ _ f e (not-false _ (found .if2 .left)) _

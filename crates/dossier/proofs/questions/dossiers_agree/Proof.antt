@@ -6,10 +6,10 @@ use Rattle.dossier.proofs.questions.dossiers_agree.Statement.{statement
 use Rattle.dossier.proofs.questions.dossiers_agree.Tie as tie
 
 returns : tie.Need-returns
-returns c = λ u ty tz h g w x y l r e. agree-heads ty tz h g (c .before .heads-agree .ensures _ _ (x .head) (y .head)) (not-true _ (c .if1 .taken))
+returns c u ty tz h g w x y l r e = agree-heads ty tz h g (c .before .heads-agree .ensures _ _ (x .head) (y .head)) (not-true _ (c .if1 .taken))
 
 returns-2 : tie.Need-returns-2
-returns-2 c = λ u ty tz h g w x y l r e.
+returns-2 c u ty tz h g w x y l r e =
     let agreed = c .before .before .before in
     let heads = agreed .before .heads-agree .ensures _ _ (x .head) (y .head) in
     let matches = c .is-match-same .ensures u ty _ _ w (first-sets _ h _ x _ l) (first-sets _ g _ y _ r) in

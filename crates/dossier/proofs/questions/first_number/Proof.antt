@@ -1,9 +1,6 @@
-use borrow.Author.Needs.{needs}
 use borrow.Author.Tests.{eq-eqb, ne-eqb}
 use Rattle.dossier.proofs.questions.first_number.Statement.{statement}
 use Rattle.dossier.proofs.questions.first_number.Tie as tie
-use Rattle.dossier.proofs.questions.first_number.Reads as reads
-use Rattle.dossier.proofs.questions.first_number.Lts as lts
 
 returns : tie.Need-returns
 returns c = rw (eq-eqb _ 6 (c .if1 .taken))

@@ -1,9 +1,6 @@
-use borrow.Author.Needs.{needs}
 use borrow.Author.Tests.{lt-ltb, le-ltb}
 use Rattle.dossier.proofs.questions.is_lone.Statement.{statement}
 use Rattle.dossier.proofs.questions.is_lone.Tie as tie
-use Rattle.dossier.proofs.questions.is_lone.Reads as reads
-use Rattle.dossier.proofs.questions.is_lone.Lts as lts
 
 returns : tie.Need-returns
 returns c = rw (lt-ltb 0 _ (c .if1 .taken))

@@ -1,3 +1,4 @@
+-- The whole answer is that of the bits left. Two bits that are both set answer no, and where no bit is left, or no differ bit, the answer is yes.
 use borrow.Author.Needs.{needs}
 use mathlib.Core.Path.{_≡_, refl, sym, _∙_}
 use mathlib.Core.Logic.{inl, inr}
@@ -7,8 +8,6 @@ use Rattle.dossier.specs.DossierBody.{apart}
 use Rattle.dossier.proofs.SnapshotLaws.{apart-bad, apart-step, apart-end}
 use Rattle.dossier.proofs.snapshots.are_apart.Statement.{statement}
 use Rattle.dossier.proofs.snapshots.are_apart.Tie as tie
-use Rattle.dossier.proofs.snapshots.are_apart.Reads as reads
-use Rattle.dossier.proofs.snapshots.are_apart.Lts as lts
 
 abbrev Inv-loop : tie.InvT-loop
 Inv-loop presence differ m₀ n₀ left₀ m n left = apart 32 presence differ ≡ apart left m n
@@ -18,9 +17,6 @@ abbrev μ-loop : tie.MeasureT-loop
 
 returns : tie.Need-returns Inv-loop μ-loop
 returns c = sym (c .before .before .before .loop .inv ∙ apart-bad _ _ _ (c .before .before .loop-test .taken) (c .if2 .taken))
-
-loop-less : tie.Need-loop-less Inv-loop μ-loop
-loop-less c = omega (arith, c .before .before .loop-test .taken)
 
 loop-again : tie.Need-loop-again Inv-loop μ-loop
 loop-again c = c .before .before .before .loop .inv ∙ apart-step _ _ _ (c .before .before .loop-test .taken) (c .if2 .left)
@@ -34,4 +30,14 @@ returns-3 c = sym (c .before .loop .inv ∙ apart-end _ _ _ (inl (c .loop-test .
 pub are-apart-spec : {M : Type 1} → statement M
 are-apart-spec =
     tie.close
-    (tie.spec Inv-loop μ-loop (λ c. refl) (λ c. search needs) returns (λ c. search needs) loop-less loop-again returns-2 returns-3)
+    (tie.spec
+    Inv-loop
+    μ-loop
+    (λ c. refl)
+    (λ c. search needs)
+    returns
+    (λ c. search needs)
+    (λ c. omega (arith, c .before .before .loop-test .taken))
+    loop-again
+    returns-2
+    returns-3)
