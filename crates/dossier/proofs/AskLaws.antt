@@ -63,7 +63,7 @@ mix true true c m true h = and-comm h (c && m)
 
 -- ---- two tests of each place are one
 
--- of the places that have a property
+-- what is asked of the places that have a property, and of no other
 abbrev eachOf : (Property → Cell → Bool) → List Property → List Cell → Bool
 eachOf f ps cs = eachCell f (λ (c : Cell). true) ps cs
 

@@ -333,10 +333,10 @@ module _ {p : Parse (List Snapshot)} {s rows : List ℕ} {r : SnapshotsRead} {n 
           let a : j < length (r .ends) = omega (arith, w .ends-long) in
           ap (λ (i : ℕ). getD (with-one .ends) i 0) e ∙ getD-set-same (r .ends) j end 0 a
 
-      pub same-rows : length after ≡ length rows
+      same-rows : length after ≡ length rows
       same-rows = row-length rows ats j inside row-long
 
-      pub sofar-more : Sofar p s after with-one n end (j + 1)
+      sofar-more : Sofar p s after with-one n end (j + 1)
       sofar-more = record {
         xs = all;
         long = length-append (w .xs) (it ∷ []) ∙ ap (λ (m : ℕ). m + 1) (w .long);
@@ -394,6 +394,14 @@ module _ {p : Parse (List Snapshot)} {s rows : List ℕ} {r : SnapshotsRead} {n 
           objects = noted (r .objects) objectsOf (w .counts);
           stand = record { each = λ i l. w .stand i (omega (arith, w .long)) };
         })
+
+-- the same, with the length of the rows
+pub sofar-next :
+    {p : Parse (List Snapshot)} {s rows : List ℕ} {r : SnapshotsRead} {n next j size : ℕ} (w : Sofar p s rows r n next j × (length rows ≡ size))
+    (h : j < n) (few : n ≤ 8) {x : SnapshotNumbers} {end : ℕ} {ats : List ℕ} (k : SnapshotStops s next x end ats)
+    (lent : length ats ≡ length (midOf (96 * j) (96 * j + 96 - 96 * j) rows)) →
+    Sofar p s (withRow rows ats j) (with-one (w .0) h few k lent) n end (j + 1) × (length (withRow rows ats j) ≡ size)
+sofar-next w h few k lent = (sofar-more (w .0) h few k lent, same-rows (w .0) h few k lent ∙ w .1)
 
 -- what is known of a call's answer in the arm of a `match`
 pub snapshot-read :
@@ -459,8 +467,7 @@ head-reads {p} {s} h w = subst (DossierHeadReads p s) h w
 pub head-refused : {p : Parse Head} (s : List ℕ) {r : DossierHeadRead} → r ≡ read.NoHead → DossierHeadReads p s r → p ≡ fail
 head-refused {p} s h w = subst (DossierHeadReads p s) h w
 
--- By what the readers answer, one after the other, more of the dossier is read, or the bytes are none: the head,
-
+-- by what its reader answers, the head is read, or the bytes are no dossier
 pub record HeadBy (s : List ℕ) (r : DossierHeadRead) : Type 0 where
   pub on : (x : HeadAt) (end : ℕ) → r ≡ read.Head x end → DossierHeadStops (readDossierHead standard s) s x end
   pub fails : r ≡ read.NoHead → dossierOf standard s ≡ none
@@ -471,8 +478,7 @@ head-by s w = record {
   fails = λ e. let bad = head-refused s e w in no-dossier s (head-first s ∙ rw bad);
 }
 
--- the number n of its snapshots, which stand from `at` on,
-
+-- the head x and the number n of snapshots are read, which stand from `at` on
 pub record HeadCount (s : List ℕ) (x : HeadAt) (n at : ℕ) : Type 0 where
   pub end : ℕ
   pub head : DossierHeadStops (readDossierHead standard s) s x end
@@ -480,6 +486,7 @@ pub record HeadCount (s : List ℕ) (x : HeadAt) (n at : ℕ) : Type 0 where
   pub one : 1 ≤ n
   pub few : n ≤ 8
 
+-- by what its reader answers, the number is read, or the bytes are no dossier
 pub record CountBy (s : List ℕ) (x : HeadAt) (r : NumberAt) : Type 0 where
   pub on : (n at : ℕ) → r ≡ Number n at → HeadCount s x n at
   pub fails : r ≡ NoNumber → dossierOf standard s ≡ none
@@ -499,13 +506,13 @@ module _ {s : List ℕ} {x : HeadAt} {end : ℕ} (w : DossierHeadStops (readDoss
     fails = λ e. no-dossier s (head-step ∙ ap (λ (p : Parse ℕ). andThen (andThen p counted) (under (w .what))) (number-fail s end e h));
   }
 
--- and the snapshots.
-
+-- the snapshots are read too, as r says
 pub record SnapshotsFound (s : List ℕ) (x : HeadAt) (n : ℕ) (rows : List ℕ) (r : SnapshotsRead) : Type 0 where
   pub at : ℕ
   pub counted : HeadCount s x n at
   pub all : AllFound (times readSnapshot n (drop at s)) s rows r
 
+-- by what their reader answers, they are read, or the bytes are no dossier
 pub record SnapshotsBy (s : List ℕ) (x : HeadAt) (n : ℕ) (rows : List ℕ) (r : SnapshotsRead) : Type 0 where
   pub on : r .ok ≡ true → SnapshotsFound s x n rows r
   pub fails : r .ok ≡ false → dossierOf standard s ≡ none
@@ -522,7 +529,7 @@ module _ {s : List ℕ} {x : HeadAt} {n at : ℕ} (w : HeadCount s x n at) where
         no-dossier s (count-step ∙ ap (λ (p : Parse (List Snapshot)). andThen (andThen p risen) (under (w .head .what))) e);
   }
 
--- the index that is then answered
+-- the index of a dossier
 abbrev pub indexOf : HeadAt → ℕ → SnapshotsRead → DossierIndex
 indexOf x n r = record {
   ok = true;
@@ -535,7 +542,7 @@ indexOf x n r = record {
   objects = r .objects;
 }
 
--- It is left to ask whether they end with the bytes, and whether their versions rise.
+-- what is left to ask: whether they end with the bytes, and whether their versions rise
 module _ {s : List ℕ} {x : HeadAt} {n : ℕ} {rows : List ℕ} {r : SnapshotsRead} (w : SnapshotsFound s x n rows r) where
   abbrev top : Head
   top = w .counted .head .what

@@ -313,7 +313,7 @@ module _ (m : ShapeMasks) (present several differ : ℕ) where
 pub bits-room : (n k : ℕ) → 0 < k → n < 2 ^ (32 - k) → 2 * n + 1 < 4294967296
 bits-room n k h l = omega (arith, pow-mono {i = 32 - k} {j = 31} (omega arith))
 
-pub bits-more : (n k b : ℕ) → 0 < k → k ≤ 32 → n < 2 ^ (32 - k) → b < 2 → 2 * n + b < 2 ^ (32 - (k - 1))
+bits-more : (n k b : ℕ) → 0 < k → k ≤ 32 → n < 2 ^ (32 - k) → b < 2 → 2 * n + b < 2 ^ (32 - (k - 1))
 bits-more n k b h m l e = let next : 32 - (k - 1) ≡ suc (32 - k) = omega arith in rw (next, pow-succ' 2 (32 - k)) (omega arith)
 
 -- what a function that answers a bit says of it

@@ -163,10 +163,10 @@ module _ (s : List ℕ) (at : ℕ) where
     presence-by version e = bits-by (λ p. andThen p (afterPresence version)) refl e
 
     pub differ-by :
-        (version presence : ℕ) → (whole ≡ afterPresence version presence (drop a s)) × (a ≤ length s) → BitsBy s at (afterDiffer version presence) r
+        (version presence : ℕ) → whole ≡ afterPresence version presence (drop a s) → BitsBy s at (afterDiffer version presence) r
     unfolding afterPresence afterDiffer
     differ-by version presence e =
-        bits-by (λ p. andThen (andThen p (λ d. foundIf (apart 32 presence d) d)) (afterNumbers version presence)) refl (e .0)
+        bits-by (λ p. andThen (andThen p (λ d. foundIf (apart 32 presence d) d)) (afterNumbers version presence)) refl e
 
   pub apart-by :
       (version presence differ next : ℕ) → presence < 4294967296 → differ < 4294967296 →

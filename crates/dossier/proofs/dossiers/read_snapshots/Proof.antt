@@ -1,12 +1,12 @@
 -- The snapshots read so far stand in the arrays and the rows, and the whole answer is theirs before that of the others (`Sofar`). Where one is none, all are.
 use borrow.Author.Needs.{needs}
-use mathlib.Core.Path.{_≡_, refl, _∙_}
+use mathlib.Core.Path.{_≡_, refl}
 use Prim.Native.Nat.{_-_}
 use lib.ListN.{length, drop}
 use Rattle.model.proofs.Cases.{never}
 use Rattle.packed.specs.Parse.{times}
 use Rattle.dossier.specs.DossierBody.{readSnapshot}
-use Rattle.dossier.proofs.DossierReadLaws.{Sofar, sofar-none, sofar-bad, sofar-more, same-rows, sofar-all, snapshot-read, snapshot-refused}
+use Rattle.dossier.proofs.DossierReadLaws.{Sofar, sofar-none, sofar-bad, sofar-next, sofar-all, snapshot-read, snapshot-refused}
 use Rattle.dossier.proofs.dossiers.read_snapshots.Statement.{statement}
 use Rattle.dossier.proofs.dossiers.read_snapshots.Tie as tie
 
@@ -44,12 +44,8 @@ loop-again c =
     let x = c .before .before in
     let read = to-read x in
     let turn = read .before .before in
-    let sofar = turn .before .loop .inv in
-    let inside = turn .loop-test .taken in
-    let few = to-start turn .pre .2 in
-    let found = snapshot-read (x .x .given .1) (read .read-snapshot .ensures) in
-    let lent = x .before .before .before .rows .given .0 in
-    (sofar-more (sofar .0) inside few found lent, same-rows (sofar .0) inside few found lent ∙ sofar .1)
+    sofar-next (turn .before .loop .inv) (turn .loop-test .taken) (to-start turn .pre .2) (snapshot-read (x .x .given .1) (read .read-snapshot .ensures))
+    (x .before .before .before .rows .given .0)
 
 pub read-snapshots-spec : {M : Type 1} → statement M
 read-snapshots-spec =

@@ -50,7 +50,7 @@ module _ (c : tie.After-read-number3) where
   by-differ : BitsBy (bytes (first second)) (at (first second)) (afterDiffer (version second) presence) (c .read-number3 .result)
   by-differ =
       let told = c .before .before .before .presence .given .1 in
-      differ-by _ _ _ (c .read-number3 .ensures) _ _ (by-presence second .small _ _ told (c .before .if1 .left))
+      differ-by _ _ _ (c .read-number3 .ensures) _ _ (by-presence second .small _ _ told (c .before .if1 .left) .0)
 
 module _ (c : tie.After-are-apart) where
   abbrev third : tie.After-read-number3
