@@ -33,6 +33,7 @@ use Rattle.dossier.specs.code.DossierIndex.{shapeNumber, MasksAre}
 use Rattle.dossier.specs.declared.shape.ShapeMasks.{ShapeMasks}
 use Rattle.dossier.specs.declared.snapshots.SnapshotNumbers.{SnapshotNumbers}
 use Rattle.dossier.specs.declared.dossiers.DossierIndex.{DossierIndex}
+use Rattle.dossier.proofs.VersionLaws.{plainFits, datedFits, matchesFew}
 
 -- ---- tests
 
@@ -102,23 +103,15 @@ module _ (t : EventType) (s : Snapshot) where
   abbrev asked : (Property → Cell → Bool) → Bool
   asked f = eachOf f (t .properties) (s .cells)
 
-  abbrev matchesFew : Bool
-  matchesFew = leb (matchCount (t .properties) (map held (s .cells))) 32
-
-  -- what is asked of the version and of all objects
-  abbrev dated : Bool
-  dated = leb (sizes (s .cells)) 32 && holdsVersion (s .version) (cellAt s (t .mark - 1))
-
-  abbrev undated : Bool
-  undated = eqb (s .version) 0 && leb (sizes (s .cells)) 256
-
-  by-place : (v : Bool) → isVersioned t ≡ v → (a b : Bool) → (a && b) ≡ cond v dated undated →
-      ((cellsPresent t s && ((a && asked (ofVersion v)) && b)) && (asked isUnmarkedMatch && matchesFew)) ≡ snapshotFits t s
+  -- a and b are what is asked of the version and of all objects
+  by-place :
+      (v : Bool) → isVersioned t ≡ v → (a b : Bool) → (a && b) ≡ cond v (datedFits s (t .mark)) (plainFits s) →
+      ((cellsPresent t s && ((a && asked (ofVersion v)) && b)) && (asked isUnmarkedMatch && matchesFew t s)) ≡ snapshotFits t s
   unfolding snapshotFits versionFits
   by-place v e a b w =
-      mix (cellsPresent t s) (asked (ofVersion v)) (asked isUnmarkedMatch) matchesFew a b
-      ∙ ap₂ (λ (x y : Bool). x && matchesFew && y) (three-tests v (t .properties) (s .cells)) w
-      ∙ ap (λ (v : Bool). eachCell (cellFits v) isVacant (t .properties) (s .cells) && matchesFew && cond v dated undated) (sym e)
+      mix (cellsPresent t s) (asked (ofVersion v)) (asked isUnmarkedMatch) (matchesFew t s) a b
+      ∙ ap₂ (λ (x y : Bool). x && matchesFew t s && y) (three-tests v (t .properties) (s .cells)) w
+      ∙ ap (λ (v : Bool). eachCell (cellFits v) isVacant (t .properties) (s .cells) && matchesFew t s && cond v (datedFits s (t .mark)) (plainFits s)) (sym e)
 
   fits-versioned : isVersioned t ≡ true → ((cellsPresent t s && versionedSnapshot t s) && matchFits t s) ≡ snapshotFits t s
   unfolding versionedSnapshot matchFits
@@ -349,13 +342,13 @@ module _ (s : List ℕ) (h : Headed) (d : DossierIndex) (w : DossierIs s h d) wh
   pub first-sets : (rows : List ℕ) → RowsAre s (h .snapshots) rows → SetsAre s (map held (getD (h .snapshots) 0 noSnapshot .cells)) (rowOf rows 0)
   first-sets rows r = r .each 0 (omega (arith, w .one, w .count))
 
-  lone-of :
-      (u : List ℕ) (ty : EventType) (t : TypeIndex) (ps : List ℕ) → TypeIs u ty t ps → {r : Bool} → r ≡ (ltb 0 (t .mark) || eqb (d .count) 1) →
-      dossierNumber ty (h .snapshots) ≡ shapeNumber (r && allFit ty (h .snapshots) (h .snapshots)) (eachSnapshot (snapshotValues ty) (h .snapshots))
-  lone-of u ty t ps v e =
+  by-lone :
+      (u : List ℕ) (ty : EventType) (t : TypeIndex) (ps : List ℕ) → TypeIs u ty t ps → {r b : Bool} → r ≡ (ltb 0 (t .mark) || eqb (d .count) 1) → r ≡ b →
+      dossierNumber ty (h .snapshots) ≡ shapeNumber (b && allFit ty (h .snapshots) (h .snapshots)) (eachSnapshot (snapshotValues ty) (h .snapshots))
+  by-lone u ty t ps v e f =
+      let lone = e ∙ ap₂ (λ (m n : ℕ). ltb 0 m || eqb n 1) (v .mark) (w .count) in
       ap (λ (b : Bool). shapeNumber b (eachSnapshot (snapshotValues ty) (h .snapshots)))
-      (shape-is ty (h .snapshots)
-      ∙ ap (λ (b : Bool). b && allFit ty (h .snapshots) (h .snapshots)) (sym (e ∙ ap₂ (λ (m n : ℕ). ltb 0 m || eqb n 1) (v .mark) (w .count))))
+      (shape-is ty (h .snapshots) ∙ ap (λ (b : Bool). b && allFit ty (h .snapshots) (h .snapshots)) (sym lone ∙ f))
 
 -- ---- questions 5 and 6 of a dossier
 
@@ -372,17 +365,10 @@ pub record NumberFrom (s : List ℕ) (d : DossierIndex) (rows : List ℕ) (t : T
 module _ (s : List ℕ) (d : DossierIndex) (rows : List ℕ) (t : TypeIndex) (ps : List ℕ) {r : Bool} (e : r ≡ (ltb 0 (t .mark) || eqb (d .count) 1)) where
   pub not-lone : r ≡ false → Each s d rows t ps (λ ty ss. 5 ≡ dossierNumber ty ss)
   unfolding shapeNumber
-  not-lone f u ty h w g x y =
-      sym (lone-of s h d x u ty t ps w e
-      ∙ ap (λ (b : Bool). shapeNumber (b && allFit ty (h .snapshots) (h .snapshots)) (eachSnapshot (snapshotValues ty) (h .snapshots))) f)
+  not-lone f u ty h w g x y = sym (by-lone s h d x u ty t ps w e f)
 
   pub is-lone : r ≡ true → NumberFrom s d rows t ps 0 0
-  is-lone f = record {
-    is = λ u ty h w g x y.
-        lone-of s h d x u ty t ps w e
-        ∙ ap (λ (b : Bool). shapeNumber (b && allFit ty (h .snapshots) (h .snapshots)) (eachSnapshot (snapshotValues ty) (h .snapshots))) f;
-    either = inl refl;
-  }
+  is-lone f = record { is = λ u ty h w g x y. by-lone s h d x u ty t ps w e f; either = inl refl }
 
 module _ {s : List ℕ} {d : DossierIndex} {rows : List ℕ} {t : TypeIndex} {ps : List ℕ} {number j : ℕ} (l : NumberFrom s d rows t ps number j) where
   pub number-end : d .count ≤ j → Each s d rows t ps (λ ty ss. number ≡ dossierNumber ty ss)

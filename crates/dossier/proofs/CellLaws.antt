@@ -79,32 +79,6 @@ leb-sub n m l h =
     (λ (a : m ≤ l - n). le-leb (n + m) l (omega arith) ∙ sym (le-leb m (l - n) a))
     (lt-or-ge (l - n) m)
 
-module _
-    (s u : List ℕ) (qs : List Property) (many : ℕ) (ps : List ℕ) (xs : List (List Text)) (ats : List ℕ)
-    (w : PropertiesAre s qs many ps) (v : SetsAre u xs ats) (k left : ℕ) (h : k < many)
-  where
-    this : Elem qs k
-    this = elem qs k (omega (arith, w .count))
-
-    few-here : k < 32
-    few-here = omega (arith, w .few)
-
-    step : matchCount (drop k qs) (drop k xs) ≡ cond (isMatch (this .what)) (length (getD xs k [])) 0 + matchCount (drop (k + 1) qs) (drop (k + 1) xs)
-    unfolding matchCount
-    step = let l : k < length xs = omega (arith, v .long, few-here) in rw (this .split, drop-cons xs k [] l, add-one)
-
-    module _ (n : ℕ) (e : n ≡ cond (hasMatch (propertyIn ps k)) (setIn ats k .count) 0) where
-      same-n : cond (isMatch (this .what)) (length (getD xs k [])) 0 ≡ n
-      same-n = sym (e ∙ ap₂ (λ (b : Bool) (m : ℕ). cond b m 0) (match-of (w .each k (this .what) (this .is))) (v .each k few-here .count))
-
-      match-large : left < n → leb (matchCount (drop k qs) (drop k xs)) left ≡ false
-      match-large g = lt-leb (matchCount (drop k qs) (drop k xs)) left (omega (arith, step, same-n))
-
-      match-more : n ≤ left → leb (matchCount (drop k qs) (drop k xs)) left ≡ leb (matchCount (drop (k + 1) qs) (drop (k + 1) xs)) (left - n)
-      match-more g =
-          ap (λ (m : ℕ). leb m left) (step ∙ ap (λ (m : ℕ). m + matchCount (drop (k + 1) qs) (drop (k + 1) xs)) same-n)
-          ∙ leb-sub n (matchCount (drop (k + 1) qs) (drop (k + 1) xs)) left g
-
 -- there are no more of them than objects
 pub match-few : (qs : List Property) (cs : List Cell) → matchCount qs (map held cs) ≤ sizes cs
 unfolding matchCount sizes
@@ -116,20 +90,18 @@ match-few (q ∷ qs) (c ∷ cs) = omega (arith, at-most (isMatch q) (length (hel
     at-most true n = omega arith
     at-most false n = omega arith
 
-match-end : (qs : List Property) (xs : List (List Text)) (k left : ℕ) → length qs ≤ k → leb (matchCount (drop k qs) (drop k xs)) left ≡ true
-unfolding matchCount
-match-end qs xs k left l = rw (drop-of-length-le qs l) (le-leb 0 left (omega arith))
+-- what holds of any properties and sets that stand as the numbers say
+abbrev Matching : ℕ → List ℕ → List ℕ → (List Property → List (List Text) → Type 0) → Type 0
+Matching count ps ats P =
+    (s u : List ℕ) (qs : List Property) (xs : List (List Text)) → PropertiesAre s qs count ps → SetsAre u xs ats → P qs xs
 
--- r is whether there are at most 32 of them
+-- r is whether there are at most 32 match objects
 abbrev pub MatchesFew : ℕ → List ℕ → List ℕ → Bool → Type 0
-MatchesFew count ps ats r =
-    (s u : List ℕ) (qs : List Property) (xs : List (List Text)) → PropertiesAre s qs count ps → SetsAre u xs ats → r ≡ leb (matchCount qs xs) 32
+MatchesFew count ps ats r = Matching count ps ats (λ qs xs. r ≡ leb (matchCount qs xs) 32)
 
 -- so many may be at the places from k on
 pub record MatchesLeft (count : ℕ) (ps ats : List ℕ) (left k : ℕ) : Type 0 where
-  pub is :
-      (s u : List ℕ) (qs : List Property) (xs : List (List Text)) → PropertiesAre s qs count ps → SetsAre u xs ats →
-      leb (matchCount qs xs) 32 ≡ leb (matchCount (drop k qs) (drop k xs)) left
+  pub is : Matching count ps ats (λ qs xs. leb (matchCount qs xs) 32 ≡ leb (matchCount (drop k qs) (drop k xs)) left)
 
 pub matches-none : (count : ℕ) (ps ats : List ℕ) → MatchesLeft count ps ats 32 0
 matches-none count ps ats = record { is = λ s u qs xs w v. refl }
@@ -141,15 +113,34 @@ pub record MatchesBy (count : ℕ) (ps ats : List ℕ) (left k n : ℕ) : Type 0
 
 module _ {count : ℕ} {ps ats : List ℕ} {left k : ℕ} (l : MatchesLeft count ps ats left k) where
   pub matches-all : count ≤ k → MatchesFew count ps ats true
-  matches-all h s u qs xs w v = sym (l .is s u qs xs w v ∙ match-end qs xs k left (omega (arith, w .count)))
+  unfolding matchCount
+  matches-all h s u qs xs w v =
+      let past : length qs ≤ k = omega (arith, w .count) in
+      sym (l .is s u qs xs w v ∙ rw (drop-of-length-le qs past) (le-leb 0 left (omega arith)))
 
-  pub matches-by :
-      k < count → {x : SetAt} → x ≡ setIn ats k → {p : PropertyAt} → p ≡ propertyIn ps k → {n : ℕ} → n ≡ cond (hasMatch p) (x .count) 0 →
-      MatchesBy count ps ats left k n
-  matches-by h a b {n} e =
-      let here : n ≡ cond (hasMatch (propertyIn ps k)) (setIn ats k .count) 0 =
-      e ∙ ap₂ (λ (p : PropertyAt) (x : SetAt). cond (hasMatch p) (x .count) 0) b a in
-      record {
-        large = λ m s u qs xs w v. sym (l .is s u qs xs w v ∙ match-large s u qs count ps xs ats w v k left h n here m);
-        small = λ m. record { is = λ s u qs xs w v. l .is s u qs xs w v ∙ match-more s u qs count ps xs ats w v k left h n here m };
+  module _
+      (h : k < count) {x : SetAt} (a : x ≡ setIn ats k) {p : PropertyAt} (b : p ≡ propertyIn ps k) {n : ℕ} (e : n ≡ cond (hasMatch p) (x .count) 0)
+    where
+      split : Matching count ps ats (λ qs xs. matchCount (drop k qs) (drop k xs) ≡ n + matchCount (drop (k + 1) qs) (drop (k + 1) xs))
+      unfolding matchCount
+      split s u qs xs w v =
+          let few : k < 32 = omega (arith, w .few) in
+          let inside : k < length xs = omega (arith, v .long) in
+          let this : Elem qs k = elem qs k (omega (arith, w .count)) in
+          let here : n ≡ cond (isMatch (this .what)) (length (getD xs k [])) 0 =
+          e
+          ∙ ap₂ (λ (p : PropertyAt) (x : SetAt). cond (hasMatch p) (x .count) 0) b a
+          ∙ ap₂ (λ (b : Bool) (m : ℕ). cond b m 0) (match-of (w .each k (this .what) (this .is))) (v .each k few .count) in
+          rw (this .split, drop-cons xs k [] inside, add-one, here)
+
+      pub matches-by : MatchesBy count ps ats left k n
+      matches-by = record {
+        large = λ m s u qs xs w v.
+            sym (l .is s u qs xs w v ∙ lt-leb (matchCount (drop k qs) (drop k xs)) left (omega (arith, split s u qs xs w v)));
+        small = λ m. record {
+          is = λ s u qs xs w v.
+              l .is s u qs xs w v
+              ∙ ap (λ (i : ℕ). leb i left) (split s u qs xs w v)
+              ∙ leb-sub n (matchCount (drop (k + 1) qs) (drop (k + 1) xs)) left m;
+        };
       }

@@ -50,13 +50,13 @@ use Rattle.dossier.proofs.DossierBodyLaws.{SnapshotWritten, snapshot-wa
 
 -- ---- versions that rise
 
-rise-first-not : (a b : ℕ) (l : List ℕ) → b ≤ a → rising numbers (a ∷ b ∷ l) ≡ false
+first-not : (a b : ℕ) (l : List ℕ) → b ≤ a → rising numbers (a ∷ b ∷ l) ≡ false
 unfolding rising
-rise-first-not a b l h = three (numbers .cmp a b) (λ e. let k : a < b = less-of a b e in absurd (omega arith)) (λ e. rw e) (λ e. rw e)
+first-not a b l h = three (numbers .cmp a b) (λ e. let k : a < b = less-of a b e in absurd (omega arith)) (λ e. rw e) (λ e. rw e)
 
-rise-on : (a b : ℕ) (l : List ℕ) → a < b → rising numbers (a ∷ b ∷ l) ≡ rising numbers (b ∷ l)
+first-on : (a b : ℕ) (l : List ℕ) → a < b → rising numbers (a ∷ b ∷ l) ≡ rising numbers (b ∷ l)
 unfolding rising
-rise-on a b l h = rw (less-cmp a b h)
+first-on a b l h = rw (less-cmp a b h)
 
 rise-few : (l : List ℕ) → length l ≤ 1 → rising numbers l ≡ true
 unfolding rising
@@ -64,60 +64,56 @@ rise-few [] h = refl
 rise-few (a ∷ []) h = refl
 rise-few (a ∷ b ∷ l) h = absurd (omega arith)
 
--- of the first `count` versions, those from the one before k on
+-- the numbers of the first `count` versions
+abbrev firsts : List EventVersion → ℕ → List ℕ
+firsts vs count = versionNumbers (take count vs)
+
+abbrev numberAt : List EventVersion → ℕ → ℕ
+numberAt vs j = getD vs j noVersion .0
+
 module _ (vs : List EventVersion) (count : ℕ) (few : count ≤ length vs) where
-  abbrev ns : List ℕ
-  ns = versionNumbers (take count vs)
-
-  abbrev numberAt : ℕ → ℕ
-  numberAt j = getD vs j noVersion .0
-
-  long : length ns ≡ count
+  long : length (firsts vs count) ≡ count
   long = length-map (take count vs) (λ (v : EventVersion). v .0) ∙ length-take-le count vs few
 
-  split : (j : ℕ) → j < count → drop j ns ≡ numberAt j ∷ drop (suc j) ns
+  split : (j : ℕ) → j < count → drop j (firsts vs count) ≡ numberAt vs j ∷ drop (suc j) (firsts vs count)
   split j h =
-      drop-cons ns j 0 (omega (arith, long))
-      ∙ ap (λ (a : ℕ). a ∷ drop (suc j) ns)
+      drop-cons (firsts vs count) j 0 (omega (arith, long))
+      ∙ ap (λ (a : ℕ). a ∷ drop (suc j) (firsts vs count))
       (List·getD-map (λ (v : EventVersion). v .0) (take count vs) j noVersion ∙ ap (λ (v : EventVersion). v .0) (getD-take count vs j noVersion h))
-
-  two : (j : ℕ) → suc j < count → drop j ns ≡ numberAt j ∷ numberAt (suc j) ∷ drop (suc (suc j)) ns
-  two j h = split j (omega arith) ∙ ap (λ (l : List ℕ). numberAt j ∷ l) (split (suc j) h)
-
-  rise-bad : (k : ℕ) → 1 ≤ k → k < count → numberAt k ≤ numberAt (k - 1) → rising numbers (drop (k - 1) ns) ≡ false
-  rise-bad zero o h b = absurd (omega arith)
-  rise-bad (suc j) o h b =
-      let g : numberAt (suc j) ≤ numberAt j = rw sub-one at b in
-      rw (sub-one, two j h) (rise-first-not (numberAt j) (numberAt (suc j)) _ g)
-
-  rise-step : (k : ℕ) → 1 ≤ k → k < count → numberAt (k - 1) < numberAt k → rising numbers (drop (k - 1) ns) ≡ rising numbers (drop (k + 1 - 1) ns)
-  rise-step zero o h b = absurd (omega arith)
-  rise-step (suc j) o h b =
-      let g : numberAt j < numberAt (suc j) = rw sub-one at b in
-      let e : suc j + 1 - 1 ≡ suc j = omega arith in
-      rw (sub-one, e) (ap (rising numbers) (two j h) ∙ rise-on (numberAt j) (numberAt (suc j)) _ g ∙ ap (rising numbers) (sym (split (suc j) h)))
-
-  rise-end : (k : ℕ) → count ≤ k → rising numbers (drop (k - 1) ns) ≡ true
-  rise-end k h = rise-few (drop (k - 1) ns) (simp (length-drop, long) (omega arith))
 
 -- all rise if those from the one before k on do
 pub record RiseFrom (vs : List EventVersion) (count k : ℕ) : Type 0 where
   pub past : 1 ≤ k
-  pub is : rising numbers (versionNumbers (take count vs)) ≡ rising numbers (drop (k - 1) (versionNumbers (take count vs)))
+  pub is : rising numbers (firsts vs count) ≡ rising numbers (drop (k - 1) (firsts vs count))
 
 pub rise-one : (vs : List EventVersion) (count : ℕ) → RiseFrom vs count 1
 rise-one vs count = record { past = omega arith; is = refl }
 
 module _ {vs : List EventVersion} {count k : ℕ} (w : RiseFrom vs count k) (few : count ≤ length vs) where
-  pub rise-all : count ≤ k → true ≡ rising numbers (versionNumbers (take count vs))
-  rise-all h = sym (w .is ∙ rise-end vs count few k h)
+  pub rise-all : count ≤ k → true ≡ rising numbers (firsts vs count)
+  rise-all h = sym (w .is ∙ rise-few (drop (k - 1) (firsts vs count)) (simp (length-drop, long vs count few) (omega arith)))
 
   module _ (h : k < count) where
-    pub rise-not : getD vs k noVersion .0 ≤ getD vs (k - 1) noVersion .0 → false ≡ rising numbers (versionNumbers (take count vs))
-    rise-not b = sym (w .is ∙ rise-bad vs count few k (w .past) h b)
+    two : drop (k - 1) (firsts vs count) ≡ numberAt vs (k - 1) ∷ numberAt vs k ∷ drop (suc k) (firsts vs count)
+    two =
+        let next : suc (k - 1) ≡ k = omega (arith, w .past) in
+        split vs count few (k - 1) (omega arith)
+        ∙ ap (λ (l : List ℕ). numberAt vs (k - 1) ∷ l) (ap (λ (i : ℕ). drop i (firsts vs count)) next ∙ split vs count few k h)
 
-    pub rise-more : getD vs (k - 1) noVersion .0 < getD vs k noVersion .0 → RiseFrom vs count (k + 1)
-    rise-more b = record { past = omega arith; is = w .is ∙ rise-step vs count few k (w .past) h b }
+    pub rise-not : numberAt vs k ≤ numberAt vs (k - 1) → false ≡ rising numbers (firsts vs count)
+    rise-not b = sym (w .is ∙ ap (rising numbers) two ∙ first-not (numberAt vs (k - 1)) (numberAt vs k) _ b)
+
+    pub rise-more : numberAt vs (k - 1) < numberAt vs k → RiseFrom vs count (k + 1)
+    rise-more b =
+        let here : k ≡ k + 1 - 1 = omega arith in
+        record {
+          past = omega arith;
+          is =
+              w .is
+              ∙ ap (rising numbers) two
+              ∙ first-on (numberAt vs (k - 1)) (numberAt vs k) _ b
+              ∙ ap (rising numbers) (sym (split vs count few k h) ∙ ap (λ (i : ℕ). drop i (firsts vs count)) here);
+        }
 
 -- ---- snapshots, one after the other
 
@@ -184,8 +180,8 @@ noted-more f g ns xs x n j l e h =
     ∙ ap₂ (λ (l : List ℕ) (k : ℕ). l ++ (k ∷ [])) e h
     ∙ sym (map-append f xs (x ∷ []))
 
--- The first j of n snapshots are read: they are xs, and the others stand from `next` on
-pub record Sofar (p : Parse (List Snapshot)) (s rows : List ℕ) (r : SnapshotsRead) (n next j : ℕ) : Type 0 where
+-- The first j of n snapshots are read: they are xs, and the others stand from `next` on. The rows are as long as they were.
+pub record Sofar (p : Parse (List Snapshot)) (s rows : List ℕ) (r : SnapshotsRead) (n next j size : ℕ) : Type 0 where
   pub xs : List Snapshot
   pub long : length xs ≡ j
   pub below : j ≤ n
@@ -204,7 +200,8 @@ pub record Sofar (p : Parse (List Snapshot)) (s rows : List ℕ) (r : SnapshotsR
   pub versions-long : length (r .versions) ≡ 8
   pub differs-long : length (r .differs) ≡ 8
   pub objects-long : length (r .objects) ≡ 8
-  pub rows-long : 96 * n ≤ length rows
+  pub rows-long : 96 * n ≤ size
+  pub same : length rows ≡ size
 
 -- where nothing is read yet
 abbrev pub noneRead : SnapshotsRead
@@ -213,7 +210,7 @@ noneRead =
     record { ok = false; next = 0; starts = none; ends = none; versions = replicate 8 noVersion; differs = none; objects = none }
 
 pub sofar-none :
-    (s rows : List ℕ) (n at : ℕ) → at ≤ length s → 96 * n ≤ length rows → Sofar (times readSnapshot n (drop at s)) s rows noneRead n at 0
+    (s rows : List ℕ) (n at : ℕ) → at ≤ length s → 96 * n ≤ length rows → Sofar (times readSnapshot n (drop at s)) s rows noneRead n at 0 (length rows)
 sofar-none s rows n at h l =
     let z : n - 0 ≡ n = omega arith in
     record {
@@ -236,9 +233,10 @@ sofar-none s rows n at h l =
       differs-long = refl;
       objects-long = refl;
       rows-long = l;
+      same = refl;
     }
 
-module _ {p : Parse (List Snapshot)} {s rows : List ℕ} {r : SnapshotsRead} {n next j : ℕ} (w : Sofar p s rows r n next j) where
+module _ {p : Parse (List Snapshot)} {s rows : List ℕ} {r : SnapshotsRead} {n next j size : ℕ} (w : Sofar p s rows r n next j size) where
   one-more : j < n → suc (n - (j + 1)) ≡ n - j
   one-more h = omega arith
 
@@ -256,7 +254,7 @@ module _ {p : Parse (List Snapshot)} {s rows : List ℕ} {r : SnapshotsRead} {n 
 
     -- the row of a snapshot is among those that are lent
     inside : 96 * j + 96 ≤ length rows
-    inside = omega (arith, w .rows-long)
+    inside = omega (arith, w .same, w .rows-long)
 
     -- the next snapshot is read, and its row is put among the others
     module _
@@ -333,10 +331,7 @@ module _ {p : Parse (List Snapshot)} {s rows : List ℕ} {r : SnapshotsRead} {n 
           let a : j < length (r .ends) = omega (arith, w .ends-long) in
           ap (λ (i : ℕ). getD (with-one .ends) i 0) e ∙ getD-set-same (r .ends) j end 0 a
 
-      same-rows : length after ≡ length rows
-      same-rows = row-length rows ats j inside row-long
-
-      sofar-more : Sofar p s after with-one n end (j + 1)
+      pub sofar-more : Sofar p s after with-one n end (j + 1) size
       sofar-more = record {
         xs = all;
         long = length-append (w .xs) (it ∷ []) ∙ ap (λ (m : ℕ). m + 1) (w .long);
@@ -362,7 +357,8 @@ module _ {p : Parse (List Snapshot)} {s rows : List ℕ} {r : SnapshotsRead} {n 
         versions-long = length-set (r .versions) j (x .version) ∙ w .versions-long;
         differs-long = length-set (r .differs) j (x .differ) ∙ w .differs-long;
         objects-long = length-set (r .objects) j (x .objects) ∙ w .objects-long;
-        rows-long = omega (arith, same-rows, w .rows-long);
+        rows-long = w .rows-long;
+        same = row-length rows ats j inside row-long ∙ w .same;
       }
 
   module _ (full : n ≤ j) where
@@ -394,14 +390,6 @@ module _ {p : Parse (List Snapshot)} {s rows : List ℕ} {r : SnapshotsRead} {n 
           objects = noted (r .objects) objectsOf (w .counts);
           stand = record { each = λ i l. w .stand i (omega (arith, w .long)) };
         })
-
--- the same, with the length of the rows
-pub sofar-next :
-    {p : Parse (List Snapshot)} {s rows : List ℕ} {r : SnapshotsRead} {n next j size : ℕ} (w : Sofar p s rows r n next j × (length rows ≡ size))
-    (h : j < n) (few : n ≤ 8) {x : SnapshotNumbers} {end : ℕ} {ats : List ℕ} (k : SnapshotStops s next x end ats)
-    (lent : length ats ≡ length (midOf (96 * j) (96 * j + 96 - 96 * j) rows)) →
-    Sofar p s (withRow rows ats j) (with-one (w .0) h few k lent) n end (j + 1) × (length (withRow rows ats j) ≡ size)
-sofar-next w h few k lent = (sofar-more (w .0) h few k lent, same-rows (w .0) h few k lent ∙ w .1)
 
 -- what is known of a call's answer in the arm of a `match`
 pub snapshot-read :

@@ -86,7 +86,7 @@ passed s h t e =
 
 -- ---- where it ends
 
--- where a head is read, its name ends at `at`, its source does, and n hashes follow there
+-- where a head is read, its name ends at `at`, its source does, or n hashes follow there
 pub record NameEnds (s : List ℕ) (at : ℕ) : Type 0 where
   pub there : (t : List ℕ) (w : Passed s t) → w .after-name ≡ drop at s
 
@@ -106,13 +106,9 @@ left-same e = cc e
 pub ends-read : (s : List ℕ) (x : HeadAt) (end : ℕ) → DossierHeadStops (readDossierHead standard s) s x end → HeadEnds s end
 ends-read s x end w = record { rest = λ h t e. left-same (sym e ∙ w .is) }
 
--- By what a reader answers, name and source of a head that is read end here, or no head is read, so that any position will do.
-pub record NameBy (s : List ℕ) (r : TextAt) : Type 0 where
-  pub on : (a e : ℕ) → r ≡ text.Text a e → NameEnds s e
-  pub fails : r ≡ text.NoText → (end : ℕ) → HeadEnds s end
-
-pub record SourceBy (s : List ℕ) (r : TextAt) : Type 0 where
-  pub on : (a e : ℕ) → r ≡ text.Text a e → SourceEnds s e
+-- by what its reader answers, the name or the source ends here, or no head is read, so that any position will do
+pub record TextBy (s : List ℕ) (Ends : ℕ → Type 0) (r : TextAt) : Type 0 where
+  pub on : (a e : ℕ) → r ≡ text.Text a e → Ends e
   pub fails : r ≡ text.NoText → (end : ℕ) → HeadEnds s end
 
 -- the same of the number of parents, whose hashes follow it
@@ -127,13 +123,13 @@ no-head s bad end = record { rest = λ h t e. never (bad t (passed s h t e)) }
 never-both : {A : Type 0} {p : Parse A} {a : A} {t : List ℕ} → p ≡ fail → p ≡ got a t → _≡_ {A = ℕ} 0 1
 never-both e f = cc
 
-pub name-by : (s : List ℕ) {r : TextAt} → r ≡ textAt s 0 → NameBy s r
+pub name-by : (s : List ℕ) {r : TextAt} → r ≡ textAt s 0 → TextBy s (NameEnds s) r
 name-by s h = record {
   on = λ a e q. record { there = λ t w. left-same (sym (w .named) ∙ text-stops s 0 a e (sym h ∙ q) .is) };
   fails = λ q. no-head s (λ t w. never-both (text-none s 0 (sym h ∙ q)) (w .named));
 }
 
-pub source-by : {s : List ℕ} {at : ℕ} → NameEnds s at → {r : TextAt} → r ≡ textAt s at → SourceBy s r
+pub source-by : {s : List ℕ} {at : ℕ} → NameEnds s at → {r : TextAt} → r ≡ textAt s at → TextBy s (SourceEnds s) r
 source-by {s} {at} name h = record {
   on = λ a e q. record { there = λ t w. left-same (sym (w .sourced) ∙ ap readText (name .there t w) ∙ text-stops s at a e (sym h ∙ q) .is) };
   fails = λ q. no-head s (λ t w. never-both (text-none s at (sym h ∙ q)) (ap readText (sym (name .there t w)) ∙ w .sourced));

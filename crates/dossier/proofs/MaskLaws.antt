@@ -342,19 +342,6 @@ joined m a b c = record { all = 2 * m .all + 1; mandatory = 2 * m .mandatory + a
 abbrev pub noMasks : ShapeMasks
 noMasks = record { all = 0; mandatory = 0; lone = 0; unmarked = 0 }
 
-low-none : (k : ℕ) → MasksLow noMasks k
-low-none k = let p = pow-pos (32 - k) in record { all = p; mandatory = p; lone = p; unmarked = p }
-
-low-more :
-    {m : ShapeMasks} {k a b c : ℕ} (d e f : Bool) → 0 < k → k ≤ 32 → MasksLow m k → a ≡ bitOf d → b ≡ bitOf e → c ≡ bitOf f →
-    MasksLow (joined m a b c) (k - 1)
-low-more {m} {k} {a} {b} {c} d e f h l w x y z = record {
-  all = bits-more (m .all) k 1 h l (w .all) (omega arith);
-  mandatory = bits-more (m .mandatory) k a h l (w .mandatory) (bit-low d x);
-  lone = bits-more (m .lone) k b h l (w .lone) (bit-low e y);
-  unmarked = bits-more (m .unmarked) k c h l (w .unmarked) (bit-low f z);
-}
-
 -- each mask has room for one bit more
 pub record MasksRoom (m : ShapeMasks) : Type 0 where
   pub all : 2 * m .all + 1 < 4294967296
@@ -391,7 +378,7 @@ pub masks-none : (v : Bool) (count : ℕ) (ps : List ℕ) → MasksDown v count 
 unfolding bitNumber
 masks-none v count ps = record {
   inside = omega arith;
-  low = low-none count;
+  low = let p = pow-pos (32 - count) in record { all = p; mandatory = p; lone = p; unmarked = p };
   are = λ s qs w.
       rw (drop-of-length-le qs {i = count} (omega (arith, w .count))) (record { all = refl; mandatory = refl; lone = refl; unmarked = refl });
 }
@@ -426,11 +413,18 @@ module _ {v : Bool} {count : ℕ} {ps : List ℕ} {m : ShapeMasks} {k : ℕ} (w 
           }
 
       pub masks-more : MasksDown v count ps (joined m a b c) (k - 1)
-      masks-more = record {
-        inside = omega (arith, w .inside);
-        low = low-more (not (p .optional)) lone unmarked h (omega (arith, w .inside)) (w .low) d e f;
-        are = more-are;
-      }
+      masks-more =
+          let below : k ≤ 32 = omega (arith, w .inside) in
+          record {
+            inside = omega (arith, w .inside);
+            low = record {
+              all = bits-more (m .all) k 1 h below (w .low .all) (omega arith);
+              mandatory = bits-more (m .mandatory) k a h below (w .low .mandatory) (bit-low (not (p .optional)) d);
+              lone = bits-more (m .lone) k b h below (w .low .lone) (bit-low lone e);
+              unmarked = bits-more (m .unmarked) k c h below (w .low .unmarked) (bit-low unmarked f);
+            };
+            are = more-are;
+          }
 
 -- ---- the masks of a snapshot
 
@@ -445,129 +439,112 @@ pub record CountsFrom (cs : List Cell) (count k present several left : ℕ) : Ty
   pub many : several ≡ maskOf isSeveral (drop k (take count cs))
   pub rest : left ≡ sizes (take k cs) + sizes (drop count cs)
 
-none-counted : (cs : List Cell) (count left : ℕ) → left ≡ sizes cs → CountsFrom cs count count 0 0 left
-unfolding bitNumber
-none-counted cs count left o =
-    let e = drop-of-length-le (take count cs) {i = count} (omega (arith, length-take count cs)) in
-    let parts = ap sizes (sym (take-append-drop count cs)) ∙ sizes-append (take count cs) (drop count cs) in
-    record { there = rw e; many = rw e; rest = o ∙ parts }
-
-module _
-    {u : List ℕ} {cs : List Cell} {differ : ℕ} {ats : List ℕ} (w : CellsAre u cs differ ats)
-    (count k present several left : ℕ) (h : 0 < k) (l : k ≤ count) (m : count ≤ 32) (x : CountsFrom cs count k present several left) where
-  abbrev here : Cell
-  here = getD cs (k - 1) (holds [])
-
-  long : length cs ≡ 32
-  long = sym (length-map cs held) ∙ w .sets .long
-
-  counted : setIn ats (k - 1) .count ≡ length (held here)
-  counted = w .sets .each (k - 1) (omega arith) .count ∙ ap length (held-at cs (k - 1))
-
-  sizes-before : sizes (take k cs) ≡ sizes (take (k - 1) cs) + setIn ats (k - 1) .count
-  unfolding sizes
-  sizes-before =
-      let next : suc (k - 1) ≡ k = omega arith in
-      let e = ap sizes (take-suc cs (k - 1) (holds []) (omega (arith, long))) ∙ sizes-append (take (k - 1) cs) (here ∷ []) in
-      ap (λ (n : ℕ). sizes (take n cs)) (sym next) ∙ omega (arith, e, counted, held-size here)
-
-  -- the objects of a place are among those that are left
-  few-left : left < setIn ats (k - 1) .count → ⊥
-  few-left g = omega (arith, x .rest, sizes-before)
-
-  split-here : drop (k - 1) (take count cs) ≡ here ∷ drop k (take count cs)
-  split-here =
-      let xs = take count cs in
-      let next : suc (k - 1) ≡ k = omega arith in
-      drop-cons xs (k - 1) (holds []) (omega (arith, length-take count cs, long))
-      ∙ ap₂ (λ (c : Cell) (n : ℕ). c ∷ drop n xs) (getD-take count cs (k - 1) (holds []) (omega arith)) next
-
-  one-more :
-      (a b : ℕ) → a ≡ bitOf (ltb 0 (setIn ats (k - 1) .count)) → b ≡ bitOf (ltb 1 (setIn ats (k - 1) .count)) →
-      CountsFrom cs count (k - 1) (2 * present + a) (2 * several + b) (left - setIn ats (k - 1) .count)
-  one-more a b e f = record {
-    there = mask-more isThere (take count cs) here k present a split-here (x .there) (e ∙ ap (λ (n : ℕ). bitOf (ltb 0 n)) counted);
-    many = mask-more isSeveral (take count cs) here k several b split-here (x .many) (f ∙ ap (λ (n : ℕ). bitOf (ltb 1 n)) counted);
-    rest = omega (arith, x .rest, sizes-before);
-  }
-
--- the answer, once all places are counted
-module _
-    {u : List ℕ} {qs : List Property} {cs : List Cell} {v : Bool} {m : ShapeMasks} {count k present several differ left : ℕ} {ats : List ℕ}
-    (n : count ≡ length qs) (few : count ≤ 32) (x : MasksAre v qs m) (y : CellsAre u cs differ ats)
-    (z : CountsFrom cs count k present several left) (h : k ≤ 0) where
-  front : k ≡ 0
-  front = omega arith
-
-  places : (test : Cell → Bool) → maskOf test (drop k (take count cs)) ≡ maskOf test (take (length qs) cs)
-  places test = ap₂ (λ (i j : ℕ). maskOf test (drop i (take j cs))) front n
-
-  beyond : left ≡ sizes (drop (length qs) cs)
-  unfolding sizes
-  beyond = omega (arith, z .rest, ap₂ (λ (i j : ℕ). sizes (take i cs) + sizes (drop j cs)) front n)
-
-  counts-all : eachCell (cellFits v) isVacant qs cs ≡ (masksFit m present several differ && eqb left 0)
-  counts-all =
-      let of = masksOf v qs in
-      let many = maskOf isSeveral (take (length qs) cs) in
-      cells-masks v qs cs (omega (arith, n, length-map cs held, y .sets .long))
-      ∙ sym (ap₂ (λ (a : Bool) (i : ℕ). a && eqb i 0) (masks-same x present several differ) beyond
-      ∙ ap₂ (λ (i j : ℕ). masksFit of i j differ && eqb (sizes (drop (length qs) cs)) 0) (z .there ∙ places isThere) (z .many ∙ places isSeveral)
-      ∙ ap (λ (i : ℕ). masksFit of (maskOf isThere (take (length qs) cs)) many i && eqb (sizes (drop (length qs) cs)) 0) (y .bits))
-
-  over : (left ≡ 0 → ⊥) → false ≡ eachCell (cellFits v) isVacant qs cs
-  over e =
-      sym (counts-all ∙ ap (λ (b : Bool). masksFit m present several differ && b) (ne-eqb left 0 e) ∙ and-false (masksFit m present several differ))
-
-  fit : left ≡ 0 → masksFit m present several differ ≡ eachCell (cellFits v) isVacant qs cs
-  fit e =
-      sym (counts-all ∙ ap (λ (b : Bool). masksFit m present several differ && b) (eq-eqb left 0 e) ∙ and-true (masksFit m present several differ))
-
--- ---- and of any cells that stand as the numbers say
-
--- the counts from place k on
+-- the same of any cells that stand as the numbers say, with no bits but for the places from k on
 pub record CountsDown (count differ objects : ℕ) (ats : List ℕ) (present several left k : ℕ) : Type 0 where
   pub inside : k ≤ count
   pub present-low : present < 2 ^ (32 - k)
   pub several-low : several < 2 ^ (32 - k)
   pub from : (u : List ℕ) (cs : List Cell) → CellsAre u cs differ ats → objects ≡ sizes cs → CountsFrom cs count k present several left
 
--- r is what the cells are answered
+-- r is what such cells are answered
 abbrev pub CellsFit : ShapeMasks → ℕ → ℕ → ℕ → List ℕ → Bool → Type 0
 CellsFit m count differ objects ats r =
     (u : List ℕ) (qs : List Property) (cs : List Cell) (versioned : Bool) → count ≡ length qs → MasksAre versioned qs m →
     CellsAre u cs differ ats → objects ≡ sizes cs → r ≡ eachCell (cellFits versioned) isVacant qs cs
 
 pub counts-none : (count differ objects : ℕ) (ats : List ℕ) → CountsDown count differ objects ats 0 0 objects count
+unfolding bitNumber
 counts-none count differ objects ats = record {
   inside = omega arith;
   present-low = pow-pos (32 - count);
   several-low = pow-pos (32 - count);
-  from = λ u cs y o. none-counted cs count objects o;
+  from = λ u cs y o.
+      let e = drop-of-length-le (take count cs) {i = count} (omega (arith, length-take count cs)) in
+      let parts = ap sizes (sym (take-append-drop count cs)) ∙ sizes-append (take count cs) (drop count cs) in
+      record { there = rw e; many = rw e; rest = o ∙ parts };
 }
 
 module _
     {count differ objects : ℕ} {ats : List ℕ} {present several left k : ℕ} (w : CountsDown count differ objects ats present several left k)
-    (few : count ≤ 32)
-  where
-    module _ (h : 0 < k) where
-      -- the objects of a place are among those that are left
-      pub counts-few : (m : ShapeMasks) → left < setIn ats (k - 1) .count → CellsFit m count differ objects ats false
-      counts-few m l u qs cs versioned n x y o = absurd (few-left y count k present several left h (w .inside) few (w .from u cs y o) l)
+    (few : count ≤ 32) where
+  -- the place below k
+  module _ (h : 0 < k) where
+    abbrev here : List Cell → Cell
+    here cs = getD cs (k - 1) (holds [])
 
-      pub counts-more :
-          {a b : ℕ} → a ≡ bitOf (ltb 0 (setIn ats (k - 1) .count)) → b ≡ bitOf (ltb 1 (setIn ats (k - 1) .count)) →
-          CountsDown count differ objects ats (2 * present + a) (2 * several + b) (left - setIn ats (k - 1) .count) (k - 1)
-      counts-more {a} {b} x y = record {
-        inside = omega (arith, w .inside);
-        present-low = bits-more present k a h (omega (arith, w .inside)) (w .present-low) (bit-low (ltb 0 (setIn ats (k - 1) .count)) x);
-        several-low = bits-more several k b h (omega (arith, w .inside)) (w .several-low) (bit-low (ltb 1 (setIn ats (k - 1) .count)) y);
-        from = λ u cs z o. one-more z count k present several left h (w .inside) few (w .from u cs z o) a b x y;
-      }
+    abbrev objectsHere : ℕ
+    objectsHere = setIn ats (k - 1) .count
 
-    module _ (h : k ≤ 0) where
-      pub counts-over : (m : ShapeMasks) → (left ≡ 0 → ⊥) → CellsFit m count differ objects ats false
-      counts-over m e u qs cs versioned n x y o = over n few x y (w .from u cs y o) h e
+    next : suc (k - 1) ≡ k
+    next = omega arith
 
-      pub counts-fit : (m : ShapeMasks) → left ≡ 0 → {r : Bool} → r ≡ masksFit m present several differ → CellsFit m count differ objects ats r
-      counts-fit m e a u qs cs versioned n x y o = a ∙ fit n few x y (w .from u cs y o) h e
+    module _ {u : List ℕ} {cs : List Cell} (y : CellsAre u cs differ ats) where
+      long : length cs ≡ 32
+      long = sym (length-map cs held) ∙ y .sets .long
+
+      counted : objectsHere ≡ length (held (here cs))
+      counted = y .sets .each (k - 1) (omega (arith, w .inside)) .count ∙ ap length (held-at cs (k - 1))
+
+      sizes-before : sizes (take k cs) ≡ sizes (take (k - 1) cs) + objectsHere
+      unfolding sizes
+      sizes-before =
+          let e = ap sizes (take-suc cs (k - 1) (holds []) (omega (arith, long, w .inside))) ∙ sizes-append (take (k - 1) cs) (here cs ∷ []) in
+          ap (λ (n : ℕ). sizes (take n cs)) (sym next) ∙ omega (arith, e, counted, held-size (here cs))
+
+      split-here : drop (k - 1) (take count cs) ≡ here cs ∷ drop k (take count cs)
+      split-here =
+          drop-cons (take count cs) (k - 1) (holds []) (omega (arith, length-take count cs, long, w .inside))
+          ∙ ap₂ (λ (c : Cell) (n : ℕ). c ∷ drop n (take count cs)) (getD-take count cs (k - 1) (holds []) (omega (arith, w .inside))) next
+
+    -- its objects are among those that are left
+    pub counts-few : (m : ShapeMasks) → left < objectsHere → CellsFit m count differ objects ats false
+    counts-few m l u qs cs versioned n x y o = absurd (omega (arith, w .from u cs y o .rest, sizes-before y))
+
+    pub counts-more :
+        {a b : ℕ} → a ≡ bitOf (ltb 0 objectsHere) → b ≡ bitOf (ltb 1 objectsHere) →
+        CountsDown count differ objects ats (2 * present + a) (2 * several + b) (left - objectsHere) (k - 1)
+    counts-more {a} {b} e f =
+        let below : k ≤ 32 = omega (arith, w .inside) in
+        record {
+          inside = omega (arith, w .inside);
+          present-low = bits-more present k a h below (w .present-low) (bit-low (ltb 0 objectsHere) e);
+          several-low = bits-more several k b h below (w .several-low) (bit-low (ltb 1 objectsHere) f);
+          from = λ u cs y o.
+              let x = w .from u cs y o in
+              let xs = take count cs in
+              let split = split-here y in
+              record {
+                there = mask-more isThere xs (here cs) k present a split (x .there) (e ∙ ap (λ (n : ℕ). bitOf (ltb 0 n)) (counted y));
+                many = mask-more isSeveral xs (here cs) k several b split (x .many) (f ∙ ap (λ (n : ℕ). bitOf (ltb 1 n)) (counted y));
+                rest = omega (arith, x .rest, sizes-before y);
+              };
+        }
+
+  -- the answer, once all places are counted
+  module _ (h : k ≤ 0) (m : ShapeMasks) where
+    counts-all : CellsFit m count differ objects ats (masksFit m present several differ && eqb left 0)
+    unfolding sizes
+    counts-all u qs cs v n x y o =
+        let z = w .from u cs y o in
+        let front : k ≡ 0 = omega arith in
+        let of = masksOf v qs in
+        let many = maskOf isSeveral (take (length qs) cs) in
+        let places : (test : Cell → Bool) → maskOf test (drop k (take count cs)) ≡ maskOf test (take (length qs) cs) =
+        λ test. ap₂ (λ (i j : ℕ). maskOf test (drop i (take j cs))) front n in
+        let beyond : left ≡ sizes (drop (length qs) cs) =
+        omega (arith, z .rest, ap₂ (λ (i j : ℕ). sizes (take i cs) + sizes (drop j cs)) front n) in
+        ap₂ (λ (a : Bool) (i : ℕ). a && eqb i 0) (masks-same x present several differ) beyond
+        ∙ ap₂ (λ (i j : ℕ). masksFit of i j differ && eqb (sizes (drop (length qs) cs)) 0) (z .there ∙ places isThere) (z .many ∙ places isSeveral)
+        ∙ ap (λ (i : ℕ). masksFit of (maskOf isThere (take (length qs) cs)) many i && eqb (sizes (drop (length qs) cs)) 0) (y .bits)
+        ∙ sym (cells-masks v qs cs (omega (arith, n, length-map cs held, y .sets .long)))
+
+    pub counts-over : (left ≡ 0 → ⊥) → CellsFit m count differ objects ats false
+    counts-over e u qs cs v n x y o =
+        sym (ap (λ (b : Bool). masksFit m present several differ && b) (ne-eqb left 0 e) ∙ and-false (masksFit m present several differ))
+        ∙ counts-all u qs cs v n x y o
+
+    pub counts-fit : left ≡ 0 → {r : Bool} → r ≡ masksFit m present several differ → CellsFit m count differ objects ats r
+    counts-fit e a u qs cs v n x y o =
+        a
+        ∙ sym (ap (λ (b : Bool). masksFit m present several differ && b) (eq-eqb left 0 e) ∙ and-true (masksFit m present several differ))
+        ∙ counts-all u qs cs v n x y o

@@ -87,17 +87,13 @@ module _ (s : List ℕ) where
         omega (arith, few);
   }
 
-  -- where there are fewer rows than the count says, the bytes are no dossier
-  no-rows : (n size : ℕ) → HasRows s size → Counted n → size < 96 * n → dossierOf standard s ≡ none
-  no-rows n size has counted less = go (dossierOf standard s) refl
-    where
-      go : (o : Option Headed) → dossierOf standard s ≡ o → dossierOf standard s ≡ none
-      go none e = e
-      go (some h) e =
-          let enough = has .enough h e in
-          absurd (omega (arith, counted h e, enough))
-
--- the same by the count that was read
+-- where there are fewer rows than the count says, the bytes are no dossier
 pub rows-short : {s : List ℕ} {x : HeadAt} {n at size : ℕ} → HeadCount s x n at → HasRows s size → size < 96 * n → dossierOf standard s ≡ none
-rows-short {s} {x} {n} {at} {size} w has less =
-    no-rows s n size has (as-counted s (w .end) (ends-read s x (w .end) (w .head)) n at (w .count)) less
+rows-short {s} {x} {n} {at} {size} w has less = go (dossierOf standard s) refl
+  where
+    go : (o : Option Headed) → dossierOf standard s ≡ o → dossierOf standard s ≡ none
+    go none e = e
+    go (some h) e =
+        let counted = as-counted s (w .end) (ends-read s x (w .end) (w .head)) n at (w .count) h e in
+        let enough = has .enough h e in
+        absurd (omega (arith, counted, enough))

@@ -70,10 +70,10 @@ module _ (s : List ℕ) (y : Snapshot) (ats : List ℕ) (w : SetsAre s (map held
   holds-set o h = subst (λ (vs : List Text). SetIs s vs (setIn ats (mark - 1))) (held-at (y .cells) (mark - 1)) (w .each (mark - 1) (omega arith))
 
 -- what is asked of a snapshot by the type's mark: with none, and with one
-abbrev plainFits : Snapshot → Bool
+abbrev pub plainFits : Snapshot → Bool
 plainFits y = eqb (y .version) 0 && leb (sizes (y .cells)) 256
 
-abbrev datedFits : Snapshot → ℕ → Bool
+abbrev pub datedFits : Snapshot → ℕ → Bool
 datedFits y mark = leb (sizes (y .cells)) 32 && holdsVersion (y .version) (cellAt y (mark - 1))
 
 module _ {s : List ℕ} {y : Snapshot} {x : SnapshotNumbers} {ats : List ℕ} (w : SnapshotIs s y x ats) {mark : ℕ} (ty : EventType) (m : mark ≡ ty .mark) where

@@ -4,7 +4,7 @@ use borrow.Author.Needs.{needs}
 use mathlib.Core.List.{List}
 use Prim.Native.Nat.{ℕ}
 use native.Mathlib.Omega.{arith}
-use Rattle.dossier.proofs.HeadEndLaws.{NameBy, SourceBy, CountBy, HashesFollow, name-by, source-by, count-by, ends-short, ends-here}
+use Rattle.dossier.proofs.HeadEndLaws.{TextBy, NameEnds, SourceEnds, CountBy, HashesFollow, name-by, source-by, count-by, ends-short, ends-here}
 use Rattle.dossier.proofs.head.dossier_head_end.Statement.{statement}
 use Rattle.dossier.proofs.head.dossier_head_end.Tie as tie
 
@@ -25,10 +25,10 @@ module _ (c : tie.After-read-text) where
   abbrev bytes : List ℕ
   bytes = c .before .before .args .s .now
 
-  by-name : NameBy bytes (c .read-text .result)
+  by-name : TextBy bytes (NameEnds bytes) (c .read-text .result)
   by-name = name-by _ (c .read-text .ensures)
 
-by-source : (c : tie.After-read-text2) → SourceBy (bytes (to-name c)) (c .read-text2 .result)
+by-source : (c : tie.After-read-text2) → let s = bytes (to-name c) in TextBy s (SourceEnds s) (c .read-text2 .result)
 by-source c = source-by (by-name (to-name c) .on _ _ (c .before .before .name-end .given .1)) (c .read-text2 .ensures)
 
 by-count : (c : tie.After-read-within) → CountBy (bytes (to-name (to-source c))) (c .read-within .result)
