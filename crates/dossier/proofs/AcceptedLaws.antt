@@ -27,7 +27,7 @@ use Rattle.dossier.specs.code.DossierIndex.{noSnapshot, snapshotFits, Do
 use Rattle.ontology.specs.declared.types.TypeIndex.{TypeIndex}
 use Rattle.dossier.proofs.DossierLayoutLaws.{DossierWritten, dossier-was}
 use Rattle.dossier.proofs.DossierSizeLaws.{snapshots-short, versioned-sizes, shape-parts, shape-objects}
-use Rattle.dossier.proofs.AskLaws.{alikeTo, fitsWith, shape-is}
+use Rattle.dossier.proofs.AskLaws.{allFit, alikeTo, fitsWith, shape-is}
 
 pub record DossierTaken (types : Table) (s : List ℕ) (a : TypedDossier) : Type 0 where
   pub read : dossierOf standard s ≡ some (a .headed)
@@ -56,8 +56,8 @@ one-type {types} {r} {s} {a} {b} x y e = let q : some (a .type) ≡ some (b .typ
 -- questions 5 and 6
 abbrev later : Headed → EventType → Asked TypedDossier
 later h t =
-    ensure 5 (dossierShape standard t (h .snapshots)) >>
-    (ensure 6 (eachSnapshot (snapshotValues t) (h .snapshots)) >> accepted (record { type = t; headed = h }))
+    ensure 5 (dossierShape standard t (h .snapshots))
+    >> (ensure 6 (eachSnapshot (snapshotValues t) (h .snapshots)) >> accepted (record { type = t; headed = h }))
 
 -- no question has the number 0
 asked-number : (types : Table) (s : List ℕ) → dossierAsked standard types s ≡ refused 0 → ⊥
@@ -126,10 +126,9 @@ module _ {types : Table} {s : List ℕ} {a : TypedDossier} (w : DossierTaken typ
   taken-name table e = subst (λ (v : Text). length v ≤ 64) (named-at (a .headed .head .type) types (a .type) (w .typed) .2) (taken-kept table e .short)
 
   -- question 5, of how many there are and of each
-  shape-whole :
-      ((isVersioned (a .type) || eqb (length snapshots) 1) ≡ true) × (eachSnapshot (fitsWith (a .type) (getD snapshots 0 noSnapshot)) snapshots ≡ true)
+  shape-whole : ((isVersioned (a .type) || eqb (length snapshots) 1) ≡ true) × (allFit (a .type) snapshots snapshots ≡ true)
   shape-whole =
-      and-parts (isVersioned (a .type) || eqb (length snapshots) 1) (eachSnapshot (fitsWith (a .type) (getD snapshots 0 noSnapshot)) snapshots)
+      and-parts (isVersioned (a .type) || eqb (length snapshots) 1) (allFit (a .type) snapshots snapshots)
       (sym (shape-is (a .type) snapshots) ∙ w .shape)
 
   pub taken-lone : (isVersioned (a .type) || eqb (length snapshots) 1) ≡ true

@@ -116,8 +116,9 @@ module _ (ty tz : EventType) (h g : Headed) where
         r ≡ equal (lists sets) (snapshotMatch ty (getD (h .snapshots) 0 noSnapshot)) (snapshotMatch ty (getD (g .snapshots) 0 noSnapshot)) → r ≡ both
     unfolding dossiersAgree agree
     agree-match l n =
-        let q : ty ≡ tz = l (equal-true texts (h .head .type) (g .head .type) .0
-        (and-parts (equal texts (h .head .type) (g .head .type)) (equal texts (h .head .source) (g .head .source)) (sym d ∙ e) .0)) in
+        let types = equal texts (h .head .type) (g .head .type) in
+        let sources = equal texts (h .head .source) (g .head .source) in
+        let q : ty ≡ tz = l (equal-true texts (h .head .type) (g .head .type) .0 (and-parts types sources (sym d ∙ e) .0)) in
         n
         ∙ sym (ap (λ (b : Bool). b && equal (lists sets) (dossierMatch ty (h .snapshots)) (dossierMatch tz (g .snapshots))) (sym d ∙ e)
         ∙ ap (λ (t : EventType). equal (lists sets) (dossierMatch ty (h .snapshots)) (dossierMatch t (g .snapshots))) (sym q)

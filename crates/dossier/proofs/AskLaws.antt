@@ -33,6 +33,7 @@ use Rattle.dossier.specs.code.DossierIndex.{shapeNumber, MasksAre}
 use Rattle.dossier.specs.declared.shape.ShapeMasks.{ShapeMasks}
 use Rattle.dossier.specs.declared.snapshots.SnapshotNumbers.{SnapshotNumbers}
 use Rattle.dossier.specs.declared.dossiers.DossierIndex.{DossierIndex}
+use Rattle.dossier.proofs.DossierSizeLaws.{cellsPresent}
 use Rattle.dossier.proofs.VersionLaws.{plainFits, datedFits, matchesFew}
 
 -- ---- tests
@@ -94,10 +95,6 @@ three-tests v ps cs =
     ∙ each-place (λ (p : Property) (c : Cell). isPresent p c && ofVersion v p c) isUnmarkedMatch isVacant ps cs
 
 -- ---- one snapshot
-
--- every cell of a mandatory property is there, and none without a property
-abbrev cellsPresent : EventType → Snapshot → Bool
-cellsPresent t s = eachCell isPresent isVacant (t .properties) (s .cells)
 
 module _ (t : EventType) (s : Snapshot) where
   abbrev asked : (Property → Cell → Bool) → Bool

@@ -78,24 +78,23 @@ pub record CellsWas (differ : ℕ) (xs : List (List Text)) : Type 0 where
   pub sets : map held (cellsOf differ xs) ≡ xs
   pub bits : bitNumber (map differBit (cellsOf differ xs)) ≡ differ
 
-cell-was :
-    (b : ℕ) (x : List Text) → b < 2 → not (eqb (presenceBit x) 1 && eqb b 1) ≡ true →
-    (held (cond (eqb b 1) differs (holds x)) ≡ x) × (differBit (cond (eqb b 1) differs (holds x)) ≡ b)
+-- the cell that is marked or has the set x
+abbrev CellWas : Bool → ℕ → List Text → Type 0
+CellWas marked b x = (held (cond marked differs (holds x)) ≡ x) × (differBit (cond marked differs (holds x)) ≡ b)
+
+cell-was : (b : ℕ) (x : List Text) → b < 2 → not (eqb (presenceBit x) 1 && eqb b 1) ≡ true → CellWas (eqb b 1) b x
 unfolding presenceBit held differBit
 cell-was b x l h = go x (eqb b 1) refl h
   where
-    go :
-        (x : List Text) (t : Bool) → eqb b 1 ≡ t → not (eqb (presenceBit x) 1 && t) ≡ true →
-        (held (cond t differs (holds x)) ≡ x) × (differBit (cond t differs (holds x)) ≡ b)
+    go : (x : List Text) (t : Bool) → eqb b 1 ≡ t → not (eqb (presenceBit x) 1 && t) ≡ true → CellWas t b x
     go [] true e h = (refl, sym (eqb-true b 1 e))
     go (v ∷ vs) true e h = let z : _≡_ {A = ℕ} 0 1 = cc in absurd (omega arith)
     go [] false e h = let ne : b ≡ 1 → ⊥ = eqb-false b 1 e in (refl, omega (arith, ne))
     go (v ∷ vs) false e h = let ne : b ≡ 1 → ⊥ = eqb-false b 1 e in (refl, omega (arith, ne))
 
 cells-more :
-    (differ : ℕ) (x : List Text) (xs : List (List Text)) →
-    (held (cond (eqb (differ % 2) 1) differs (holds x)) ≡ x) × (differBit (cond (eqb (differ % 2) 1) differs (holds x)) ≡ differ % 2) →
-    CellsWas (differ / 2) xs → CellsWas differ (x ∷ xs)
+    (differ : ℕ) (x : List Text) (xs : List (List Text)) → CellWas (eqb (differ % 2) 1) (differ % 2) x → CellsWas (differ / 2) xs →
+    CellsWas differ (x ∷ xs)
 unfolding cellsOf bitNumber
 cells-more differ x xs a b = record {
   sets = ap₂ {C = List (List Text)} (λ y ys. y ∷ ys) (a .0) (b .sets);
@@ -145,8 +144,8 @@ pub snapshot-read : (s : Snapshot) (r : List ℕ) → SnapshotWritten s → read
 unfolding readSnapshot
 snapshot-read s r w =
     let sets = map held (s .cells) in
-    let a : apart 32 (presenceOf s) (differOf s) ≡ true = subst (λ (n : ℕ). apart n (presenceOf s) (differOf s) ≡ true) (snapshot-cells s w)
-    (cells-apart (s .cells)) in
+    let a : apart 32 (presenceOf s) (differOf s) ≡ true =
+    subst (λ (n : ℕ). apart n (presenceOf s) (differOf s) ≡ true) (snapshot-cells s w) (cells-apart (s .cells)) in
     ap readSnapshot (snapshot-parts s r)
     ∙ rw (
       number-read (s .version) (number (presenceOf s) ++ (number (differOf s) ++ (setsBytes sets ++ r))) (w .version),

@@ -35,7 +35,15 @@ held-objects (holds s ∷ cs) = ap (λ (n : ℕ). length s + n) (held-objects cs
 held-objects (differs ∷ cs) = ap (λ (n : ℕ). 0 + n) (held-objects cs)
 
 -- 10 + 5 + 5 bytes for the numbers, 2 for the count of each of 32 sets, and 121 for an object
-pub snapshot-size : (s : Snapshot) → SnapshotWritten s → ValuesShort (map held (s .cells)) → length (snapshotBytes s) ≤ 84 + 121 * sizes (s .cells)
+-- all values of a snapshot are short
+abbrev ShortValues : Snapshot → Type 0
+ShortValues s = ValuesShort (map held (s .cells))
+
+-- every cell of a mandatory property is there, and none without a property
+abbrev pub cellsPresent : EventType → Snapshot → Bool
+cellsPresent t s = eachCell isPresent isVacant (t .properties) (s .cells)
+
+pub snapshot-size : (s : Snapshot) → SnapshotWritten s → ShortValues s → length (snapshotBytes s) ≤ 84 + 121 * sizes (s .cells)
 unfolding snapshotBytes
 snapshot-size s w v =
     let n : length (map held (s .cells)) ≡ 32 = w .sets .long in
@@ -50,7 +58,7 @@ snapshot-size s w v =
     ))
 
 pub snapshots-size :
-    (ss : List Snapshot) → All SnapshotWritten ss → All (λ (s : Snapshot). ValuesShort (map held (s .cells))) ss →
+    (ss : List Snapshot) → All SnapshotWritten ss → All ShortValues ss →
     length (flatten (map snapshotBytes ss)) ≤ 84 * length ss + 121 * objects ss
 unfolding flatten objects
 snapshots-size [] w v = omega arith
@@ -58,7 +66,7 @@ snapshots-size (s ∷ ss) w v = simp length-append (omega (arith, snapshot-size 
 
 -- 827 + 1 + 8 * 84 + 256 * 121 = 32,476
 pub dossier-size :
-    (h : Headed) → DossierWritten standard h → All (λ (s : Snapshot). ValuesShort (map held (s .cells))) (h .snapshots) →
+    (h : Headed) → DossierWritten standard h → All ShortValues (h .snapshots) →
     length (h .head .type) ≤ 64 → objects (h .snapshots) ≤ 256 → length (dossierBytes h) ≤ dossierCapacity
 unfolding standard dossierBytes bodyBytes
 dossier-size h w v t o =
@@ -92,12 +100,12 @@ cells-beyond f (p ∷ ps) [] h = tt
 cells-beyond f (p ∷ ps) (c ∷ cs) h = cells-beyond f ps cs (and-parts (f p c) (eachCell f isVacant ps cs) h .1)
 
 pub snapshots-short :
-    (t : EventType) (ss : List Snapshot) → eachSnapshot (λ (s : Snapshot). eachCell isPresent isVacant (t .properties) (s .cells)) ss ≡ true →
-    eachSnapshot (snapshotValues t) ss ≡ true → All (λ (s : Snapshot). ValuesShort (map held (s .cells))) ss
+    (t : EventType) (ss : List Snapshot) → eachSnapshot (cellsPresent t) ss ≡ true →
+    eachSnapshot (snapshotValues t) ss ≡ true → All ShortValues ss
 unfolding eachSnapshot snapshotValues
 snapshots-short t [] h v = tt
 snapshots-short t (s ∷ ss) h v =
-    let a = and-parts (eachCell isPresent isVacant (t .properties) (s .cells)) _ h in
+    let a = and-parts (cellsPresent t s) _ h in
     let b = and-parts (snapshotValues t s) (eachSnapshot (snapshotValues t) ss) v in
     (fit-short t (map held (s .cells)) (cells-beyond isPresent (t .properties) (s .cells) (a .0)) (b .0), snapshots-short t ss (a .1) (b .1))
 
@@ -114,8 +122,8 @@ unfolding unversionedShape unversionedSnapshot eachSnapshot standard objects
 unversioned-objects t [] h = omega arith
 unversioned-objects t (s ∷ []) h =
     let a = and-parts (unversionedSnapshot standard t s) true h in
-    let b = and-parts (eqb (s .version) 0 && eachCell (λ p c. not (isMark c) && isLoneIfExtreme p c) (λ c. true) (t .properties) (s .cells))
-    (leb (sizes (s .cells)) 256) (a .0) in
+    let cells = eachCell (λ p c. not (isMark c) && isLoneIfExtreme p c) (λ c. true) (t .properties) (s .cells) in
+    let b = and-parts (eqb (s .version) 0 && cells) (leb (sizes (s .cells)) 256) (a .0) in
     omega (arith, leb-true (sizes (s .cells)) 256 (b .1))
 unversioned-objects t (s ∷ r ∷ ss) h =
     let a = and-parts (eqb (length (s ∷ r ∷ ss)) 1) _ h in
@@ -124,7 +132,7 @@ unversioned-objects t (s ∷ r ∷ ss) h =
 -- the parts of question 5
 pub shape-parts :
     (t : EventType) (ss : List Snapshot) → dossierShape standard t ss ≡ true →
-    (eachSnapshot (λ (s : Snapshot). eachCell isPresent isVacant (t .properties) (s .cells)) ss ≡ true)
+    (eachSnapshot (cellsPresent t) ss ≡ true)
     × (cond (isVersioned t) (eachSnapshot (versionedSnapshot t) ss) (unversionedShape standard t ss) ≡ true)
 unfolding dossierShape
 shape-parts t ss h = and-parts _ _ (and-parts _ (eachSnapshot (matchFits t) ss) (and-parts _ (matchAlike t ss) h .0) .0)

@@ -50,8 +50,8 @@ isLoneIfExtreme p c = not (isMin p || isMax p) || isLone c
 -- "has an unversioned one a single snapshot, version 0, no mark, at most 256 objects, min and max single"
 unfoldable pub unversionedSnapshot : Limits → EventType → Snapshot → Bool
 unversionedSnapshot limits t s =
-    eqb (s .version) 0 && eachCell (λ p c. not (isMark c) && isLoneIfExtreme p c) (λ c. true) (t .properties) (s .cells) && leb (sizes (s .cells))
-    (limits .objects)
+    eqb (s .version) 0 && eachCell (λ p c. not (isMark c) && isLoneIfExtreme p c) (λ c. true) (t .properties) (s .cells)
+    && leb (sizes (s .cells)) (limits .objects)
 
 unfoldable pub unversionedShape : Limits → EventType → List Snapshot → Bool
 unversionedShape limits t ss = eqb (length ss) 1 && eachSnapshot (unversionedSnapshot limits t) ss

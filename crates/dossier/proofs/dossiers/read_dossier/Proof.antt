@@ -1,5 +1,5 @@
--- By what each reader answers, more of the dossier is read, or the bytes are none, and the latter is returned. Where there are fewer rows than the count asks
--- for, the bytes are none too, since a dossier has its rows (`HasRows`).
+-- After each reading either one more part of the dossier is read, or the bytes are no dossier, which is what the refusing returns say. Fewer rows than the
+-- count asks for show it too, since a dossier has its rows (`HasRows`).
 use borrow.Author.Needs.{needs}
 use borrow.Author.Tests.{not-true, not-false}
 use mathlib.Core.List.{List}

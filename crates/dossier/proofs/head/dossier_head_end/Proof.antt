@@ -1,5 +1,5 @@
--- By what each reader answers, the next part of a head starts where the last one ends, or the bytes have no head, so that any position will do. The parents'
--- hashes are passed over unread.
+-- After each reading either the next part of the head starts where this one ends, or the bytes have no head, so that any position will do. The parents'
+-- hashes are passed over by their number.
 use borrow.Author.Needs.{needs}
 use mathlib.Core.List.{List}
 use Prim.Native.Nat.{ℕ}
