@@ -15,7 +15,7 @@ use Rattle.packed.specs.Ascii.{ascii}
 use Rattle.packed.specs.Parse.{fail}
 use Rattle.packed.specs.Packed.{text, readText, part}
 use Rattle.packed.specs.code.Written.{Wrote, ToGo}
-use Rattle.packed.proofs.WriteLaws.{to-go, gone, all-gone, wrote-then, stored}
+use Rattle.packed.proofs.WriteLaws.{to-go, gone, all-gone, wrote-as, wrote-then, stored}
 use Rattle.packed.proofs.ReadLaws.{TextStops, drop-next}
 use Rattle.values.specs.Decimal.{inDecimal}
 use Rattle.values.specs.declared.versions.EventVersion.{EventVersion}
@@ -79,7 +79,9 @@ hex-gone {l₀} {whole} {l} {at} s i a b h x y g =
 -- ---- what follows a part that is written
 
 -- a part of what is to be written has room where the whole has
-pub part-room : {l₀ whole l xs : List ℕ} {at p : ℕ} (ys zs : List ℕ) → ToGo l₀ at whole l p xs → at + length whole ≤ length l₀ → xs ≡ ys ++ zs → p + length ys ≤ length l
+pub part-room :
+    {l₀ whole l xs : List ℕ} {at p : ℕ} (ys zs : List ℕ) → ToGo l₀ at whole l p xs → at + length whole ≤ length l₀ → xs ≡ ys ++ zs →
+    p + length ys ≤ length l
 part-room ys zs g h e = omega (arith, g .after, g .long, h, ap length e, length-append ys zs)
 
 -- ---- a refusal
@@ -93,7 +95,8 @@ module _ (n i : ℕ) where
   refused-length = ap length refused-is ∙ simp length-append (omega arith)
 
   pub wrote-refused :
-      {l a b c d e : List ℕ} {p q r s z : ℕ} → Wrote l 0 (114 ∷ 101 ∷ 102 ∷ 117 ∷ 115 ∷ 101 ∷ 100 ∷ 32 ∷ []) a p → Wrote a p (inDecimal n) b q → Wrote b q (32 ∷ []) c r → Wrote c r (inDecimal i) d s → Wrote d s (10 ∷ []) e z →
+      {l a b c d e : List ℕ} {p q r s z : ℕ} → Wrote l 0 (114 ∷ 101 ∷ 102 ∷ 117 ∷ 115 ∷ 101 ∷ 100 ∷ 32 ∷ []) a p → Wrote a p (inDecimal n) b q →
+      Wrote b q (32 ∷ []) c r → Wrote c r (inDecimal i) d s → Wrote d s (10 ∷ []) e z →
       Wrote l 0 (refusedLine n i) e z
   wrote-refused v w x y u = rw refused-is (wrote-then v (wrote-then w (wrote-then x (wrote-then y u))))
 
@@ -117,7 +120,9 @@ module _ {table ps : List ℕ} {place : ℕ} (p : PlaceNamed table ps place) whe
 
   -- `conflict 1 state`
   module _ (v : ℕ) where
-    conflict-is : conflictLine (p .type) v place ≡ (99 ∷ 111 ∷ 110 ∷ 102 ∷ 108 ∷ 105 ∷ 99 ∷ 116 ∷ 32 ∷ []) ++ (inDecimal v ++ ((32 ∷ []) ++ (nameAt (p .type) place ++ (10 ∷ []))))
+    conflict-is :
+        conflictLine (p .type) v place ≡ (99 ∷ 111 ∷ 110 ∷ 102 ∷ 108 ∷ 105 ∷ 99 ∷ 116 ∷ 32 ∷ []) ++
+        (inDecimal v ++ ((32 ∷ []) ++ (nameAt (p .type) place ++ (10 ∷ []))))
     unfolding conflictLine ascii
     conflict-is = simp append-assoc
 
@@ -141,7 +146,8 @@ module _ {table ps : List ℕ} {place : ℕ} (p : PlaceNamed table ps place) whe
     place-name = place-is .name ∙ sym name-is
 
   pub wrote-conflict :
-      {l a b c e f : List ℕ} {q r s x z : ℕ} (v : ℕ) → Wrote l 0 (99 ∷ 111 ∷ 110 ∷ 102 ∷ 108 ∷ 105 ∷ 99 ∷ 116 ∷ 32 ∷ []) a q → Wrote a q (inDecimal v) b r → Wrote b r (32 ∷ []) c s →
+      {l a b c e f : List ℕ} {q r s x z : ℕ} (v : ℕ) → Wrote l 0 (99 ∷ 111 ∷ 110 ∷ 102 ∷ 108 ∷ 105 ∷ 99 ∷ 116 ∷ 32 ∷ []) a q →
+      Wrote a q (inDecimal v) b r → Wrote b r (32 ∷ []) c s →
       Wrote c s (nameAt (p .type) place) e x → Wrote e x (10 ∷ []) f z → Wrote l 0 (conflictLine (p .type) v place) f z
   wrote-conflict v g w x y u = rw (conflict-is v) (wrote-then g (wrote-then w (wrote-then x (wrote-then y u))))
 
@@ -172,8 +178,10 @@ module _ {table ps : List ℕ} (f : Finding) (p : FindingNamed table ps f) where
     pub conflict-fits : {room : ℕ} → length (findingLine (p .type) (findingOf f)) ≤ room → length (conflictLine (p .type) (v .0) place) ≤ room
     conflict-fits {room} h = subst (λ (l : List ℕ). length l ≤ room) conflict-line h
 
-    pub found-conflict : {l m : List ℕ} {n : ℕ} → Wrote l 0 (conflictLine (p .type) (v .0) place) m n → Wrote l 0 (findingLine (p .type) (findingOf f)) m n
-    found-conflict {l} {m} {n} w = subst (λ (x : List ℕ). Wrote l 0 x m n) (sym conflict-line) w
+    pub found-conflict :
+        {l m : List ℕ} {n : ℕ} → ((q : PlaceNamed table ps place) → Wrote l 0 (conflictLine (q .type) (v .0) place) m n) →
+        Wrote l 0 (findingLine (p .type) (findingOf f)) m n
+    found-conflict w = wrote-as (sym conflict-line) (w conflict-named)
 
   -- an overfull place
   module _ {place : ℕ} (e : f ≡ Overfull place) where
@@ -191,8 +199,10 @@ module _ {table ps : List ℕ} (f : Finding) (p : FindingNamed table ps f) where
     pub overfull-fits : {room : ℕ} → length (findingLine (p .type) (findingOf f)) ≤ room → length (overfullLine (p .type) place) ≤ room
     overfull-fits {room} h = subst (λ (l : List ℕ). length l ≤ room) overfull-line h
 
-    pub found-overfull : {l m : List ℕ} {n : ℕ} → Wrote l 0 (overfullLine (p .type) place) m n → Wrote l 0 (findingLine (p .type) (findingOf f)) m n
-    found-overfull {l} {m} {n} w = subst (λ (x : List ℕ). Wrote l 0 x m n) (sym overfull-line) w
+    pub found-overfull :
+        {l m : List ℕ} {n : ℕ} → ((q : PlaceNamed table ps place) → Wrote l 0 (overfullLine (q .type) place) m n) →
+        Wrote l 0 (findingLine (p .type) (findingOf f)) m n
+    found-overfull w = wrote-as (sym overfull-line) (w overfull-named)
 
 -- ---- the line of a value
 
@@ -214,13 +224,14 @@ pub record Lines (name : Text) (vs : List Text) (event out₀ : List ℕ) (at : 
   pub long : left ≡ length rest
   pub go : ToGo out₀ at (valueLines name vs) out next (valueLines name rest)
 
-module _ (name : Text) (vs : List Text) (event out₀ : List ℕ) (at : ℕ) where
+module _ {name : Text} {vs : List Text} {event out₀ : List ℕ} {at : ℕ} where
   pub lines-start : (x : SetAt) → SetIs event vs x → Lines name vs event out₀ at out₀ at (x .start) (x .count) (drop (x .end) event)
   lines-start x w = record {
     rest = vs;
     bytes =
         sym (take-append-drop (x .end - x .start) (drop (x .start) event))
-        ∙ ap₂ (λ (a b : List ℕ). a ++ b) (w .bytes) (drop-drop (x .end - x .start) (x .start) event ∙ ap (λ (n : ℕ). drop n event) (sums (x .start) (x .end) (w .order)));
+        ∙ ap₂ (λ (a b : List ℕ). a ++ b) (w .bytes)
+        (drop-drop (x .end - x .start) (x .start) event ∙ ap (λ (n : ℕ). drop n event) (sums (x .start) (x .end) (w .order)));
     within = omega (arith, w .order, w .within);
     long = w .count;
     go = to-go;
@@ -241,7 +252,9 @@ module _ (name : Text) (vs : List Text) (event out₀ : List ℕ) (at : ℕ) whe
     unfolding flatten valueLines
     first h = go (w .rest) (w .bytes) (w .long) (w .go)
       where
-        go : (rest : List Text) → drop i event ≡ flatten (map text rest) ++ tail → left ≡ length rest → ToGo out₀ at (valueLines name vs) out next (valueLines name rest) → First
+        go :
+            (rest : List Text) → drop i event ≡ flatten (map text rest) ++ tail → left ≡ length rest →
+            ToGo out₀ at (valueLines name vs) out next (valueLines name rest) → First
         go [] b l g = absurd (omega arith)
         go (v ∷ us) b l g = record { v = v; us = us; bytes = b ∙ append-assoc (text v) (flatten (map text us)) tail; long = l; go = g }
 
@@ -255,7 +268,9 @@ module _ (name : Text) (vs : List Text) (event out₀ : List ℕ) (at : ℕ) whe
       pub lines-room : at + length (valueLines name vs) ≤ length out₀ → next + length (valueLine n (part event a z)) ≤ length out
       lines-room r = let f = first h in rw value-is (part-room (valueLine name (f .v)) (valueLines name (f .us)) (f .go) r refl)
 
-      pub lines-more : {out₁ : List ℕ} {next₁ : ℕ} → Wrote out next (valueLine n (part event a z)) out₁ next₁ → Lines name vs event out₀ at out₁ next₁ z (left - 1) tail
+      pub lines-more :
+          {out₁ : List ℕ} {next₁ : ℕ} → Wrote out next (valueLine n (part event a z)) out₁ next₁ →
+          Lines name vs event out₀ at out₁ next₁ z (left - 1) tail
       lines-more u =
           let f = first h in
           let s = text-next event small i (w .within) (f .v) (flatten (map text (f .us)) ++ tail) (f .bytes) a z t .2 in record {
@@ -270,7 +285,9 @@ module _ (name : Text) (vs : List Text) (event out₀ : List ℕ) (at : ℕ) whe
     unfolding flatten valueLines
     lines-all h = go (w .rest) (w .long) (w .go)
       where
-        go : (rest : List Text) → left ≡ length rest → ToGo out₀ at (valueLines name vs) out next (valueLines name rest) → Wrote out₀ at (valueLines name vs) out next
+        go :
+            (rest : List Text) → left ≡ length rest → ToGo out₀ at (valueLines name vs) out next (valueLines name rest) →
+            Wrote out₀ at (valueLines name vs) out next
         go [] l g = all-gone g refl
         go (v ∷ us) l g = absurd (omega arith)
 
@@ -286,11 +303,13 @@ at-place [] i h = absurd (omega arith)
 at-place (x ∷ xs) zero h = record { what = x; is = refl; rest = refl }
 at-place (x ∷ xs) (suc i) h = let w = at-place xs i (omega arith) in record { what = w .what; is = w .is; rest = w .rest }
 
-objects-step : (ps : List Property) (ss : List (List Text)) (k : ℕ) (w : At ps k) → k < length ss → objectLines (drop k ps) (drop k ss) ≡ valueLines (w .what .name) (getD ss k []) ++ objectLines (drop (k + 1) ps) (drop (k + 1) ss)
+objects-step :
+    (ps : List Property) (ss : List (List Text)) (k : ℕ) (w : At ps k) → k < length ss →
+    objectLines (drop k ps) (drop k ss) ≡ valueLines (w .what .name) (getD ss k []) ++ objectLines (drop (k + 1) ps) (drop (k + 1) ss)
 unfolding objectLines
 objects-step ps ss k w h = rw (w .rest, drop-cons ss k [] h, add-one)
 
-pub objects-end : (ps : List Property) (ss : List (List Text)) (k : ℕ) → length ps ≤ k → objectLines (drop k ps) (drop k ss) ≡ []
+objects-end : (ps : List Property) (ss : List (List Text)) (k : ℕ) → length ps ≤ k → objectLines (drop k ps) (drop k ss) ≡ []
 unfolding objectLines
 objects-end ps ss k h = ap (λ (l : List Property). objectLines l (drop k ss)) (drop-of-length-le ps h)
 
@@ -298,9 +317,12 @@ objects-end ps ss k h = ap (λ (l : List Property). objectLines l (drop k ss)) (
 abbrev pub ObjectsGo : List Property → List (List Text) → List ℕ → ℕ → List ℕ → ℕ → ℕ → Type 0
 ObjectsGo ps ss out₀ at out next k = ToGo out₀ at (objectLines ps ss) out next (objectLines (drop k ps) (drop k ss))
 
-module _ {table ps event ats : List ℕ} {count at room : ℕ} (o : ObjectsRoom table count ps event ats at room) where
-  module _ {out₀ out : List ℕ} {next : ℕ} (k : ℕ) (below : k < count) (long : room ≡ length out₀)
-      (g : ObjectsGo (o .properties) (o .sets) out₀ at out next k) where
+module _ {table ps event ats out₀ out : List ℕ} {count at next : ℕ} (o : ObjectsRoom table count ps event ats at (length out₀)) (k : ℕ)
+    (g : ObjectsGo (o .properties) (o .sets) out₀ at out next k) where
+  pub objects-all : count ≤ k → Wrote out₀ at (objectLines (o .properties) (o .sets)) out next
+  objects-all h = all-gone g (objects-end (o .properties) (o .sets) k (omega (arith, o .are .count)))
+
+  module _ (below : k < count) where
     property : At (o .properties) k
     property = at-place (o .properties) k (omega (arith, o .are .count))
 
@@ -322,14 +344,15 @@ module _ {table ps event ats : List ℕ} {count at room : ℕ} (o : ObjectsRoom 
         values = getD (o .sets) k [];
         named = subst (PropertyIs table (property .what)) (sym same-property) (o .are .each k (property .what) (property .is));
         is = set-read same-set (o .stand .each k (omega (arith, o .are .few)));
-        fits = part-room here later g (omega (arith, o .fits, long)) step;
+        fits = part-room here later g (o .fits) step;
       }
 
       pub objects-more :
-          {out₁ : List ℕ} {next₁ : ℕ} → Wrote out next (valueLines (values-room .property .name) (values-room .values)) out₁ next₁ →
+          {out₁ : List ℕ} {next₁ : ℕ} →
+          ((v : ValuesRoom table q event x next (length out)) → Wrote out next (valueLines (v .property .name) (v .values)) out₁ next₁) →
           ObjectsGo (o .properties) (o .sets) out₀ at out₁ next₁ (k + 1)
       unfolding values-room
-      objects-more w = gone here later g step w
+      objects-more w = gone here later g step (w values-room)
 
 -- ---- the lines of a merged event
 
@@ -337,18 +360,22 @@ module _ (t : EventType) (e : Event) (hash : List ℕ) where
   abbrev objectsOf : List ℕ
   objectsOf = objectLines (t .properties) (e .sets)
 
-  hashed-is : hashedLines t e hash ≡ (109 ∷ 101 ∷ 114 ∷ 103 ∷ 101 ∷ 100 ∷ 32 ∷ []) ++ (inDecimal (objectCount (e .sets)) ++ ((10 ∷ []) ++ (objectsOf ++ ((104 ∷ 97 ∷ 115 ∷ 104 ∷ 32 ∷ []) ++ (hexOf hash ++ (10 ∷ []))))))
+  hashed-is :
+      hashedLines t e hash ≡ (109 ∷ 101 ∷ 114 ∷ 103 ∷ 101 ∷ 100 ∷ 32 ∷ []) ++
+      (inDecimal (objectCount (e .sets)) ++ ((10 ∷ []) ++ (objectsOf ++ ((104 ∷ 97 ∷ 115 ∷ 104 ∷ 32 ∷ []) ++ (hexOf hash ++ (10 ∷ []))))))
   unfolding hashedLines ascii
   hashed-is =
       let digits = inDecimal (objectCount (e .sets)) in
       let last = (104 ∷ 97 ∷ 115 ∷ 104 ∷ 32 ∷ []) ++ (hexOf hash ++ (10 ∷ [])) in
-      ap (λ (x : List ℕ). (109 ∷ 101 ∷ 114 ∷ 103 ∷ 101 ∷ 100 ∷ 32 ∷ []) ++ x) (append-assoc (digits ++ (10 ∷ [])) objectsOf last ∙ append-assoc digits (10 ∷ []) (objectsOf ++ last))
+      ap (λ (x : List ℕ). (109 ∷ 101 ∷ 114 ∷ 103 ∷ 101 ∷ 100 ∷ 32 ∷ []) ++ x)
+      (append-assoc (digits ++ (10 ∷ [])) objectsOf last ∙ append-assoc digits (10 ∷ []) (objectsOf ++ last))
 
   pub hashed-length : length (hashedLines t e hash) ≡ 14 + length (inDecimal (objectCount (e .sets))) + length objectsOf + 2 * length hash
   hashed-length = ap length hashed-is ∙ simp length-append (omega (arith, hex-length hash))
 
   pub wrote-hashed :
-      {l a b c d f g h : List ℕ} {p q r s u v z n : ℕ} → n ≡ objectCount (e .sets) → Wrote l 0 (109 ∷ 101 ∷ 114 ∷ 103 ∷ 101 ∷ 100 ∷ 32 ∷ []) a p → Wrote a p (inDecimal n) b q → Wrote b q (10 ∷ []) c r → Wrote c r objectsOf d s →
+      {l a b c d f g h : List ℕ} {p q r s u v z n : ℕ} → n ≡ objectCount (e .sets) → Wrote l 0 (109 ∷ 101 ∷ 114 ∷ 103 ∷ 101 ∷ 100 ∷ 32 ∷ []) a p →
+      Wrote a p (inDecimal n) b q → Wrote b q (10 ∷ []) c r → Wrote c r objectsOf d s →
       Wrote d s (104 ∷ 97 ∷ 115 ∷ 104 ∷ 32 ∷ []) f u → Wrote f u (hexOf hash) g v → Wrote g v (10 ∷ []) h z →
       Wrote l 0 (hashedLines t e hash) h z
   wrote-hashed k w₁ w₂ w₃ w₄ w₅ w₆ w₇ = rw (hashed-is, ← k) (wrote-then w₁ (wrote-then w₂ (wrote-then w₃ (wrote-then w₄ (wrote-then w₅ (wrote-then w₆ w₇))))))

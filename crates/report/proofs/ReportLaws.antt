@@ -24,6 +24,7 @@ use Rattle.packed.specs.Parse.{Parse, fail, got}
 use Rattle.packed.specs.Packed.{readText, part}
 use Rattle.packed.specs.code.Written.{Wrote}
 use Rattle.packed.proofs.WriteLaws.{wrote-between}
+use Rattle.packed.proofs.ReadLaws.{TextStops}
 use Rattle.replies.specs.Questions as questions
 use Rattle.replies.specs.Answers as answers
 use Rattle.replies.specs.Answers.{gives, Outcome, outcome}
@@ -63,7 +64,8 @@ use Rattle.ways.proofs.RuleQuestionLaws.{Gathered, rule-asked}
 use Rattle.ways.proofs.MergedEventLaws.{merged-asked}
 use Rattle.batch.specs.Batch.{AskedAt, refusedAt, accepted, at, batchAsked, batchGiven, Rooms, haveRoom, batchAnswer, batchCall}
 use Rattle.batch.proofs.GatheredLaws.{ruledHead, batch-gathers}
-use Rattle.report.specs.Report.{hashedLines, mergedLines, findingLine, openedLines, refusedLine, askedLines, framedLines, mostInput, report, reportAnswer, reportCall}
+use Rattle.report.specs.Report.{hashedLines, mergedLines, findingLine, openedLines, refusedLine, askedLines, framedLines, mostInput, report, reportAnswer}
+use Rattle.report.specs.Report.{reportCall}
 use Rattle.report.specs.code.ReportIndex.{NumbersOf, PlaceNamed, LinesRoom, MergedAsked, opens, HasProperty, DossierOpens}
 use Rattle.report.proofs.LineLaws.{refused-short}
 use Rattle.report.proofs.ReportSizeLaws.{merged-short, finding-short}
@@ -277,10 +279,19 @@ pub record BatchDone (table events new : List ℕ) (n : ℕ) : Type 0 where
   pub bytes : take n new ≡ dossierBytes (what .headed)
   pub within : n ≤ length new
 
+-- every array of a batch has its room
+abbrev pub Roomy : Rooms → Type 0
+Roomy r = (dossierCapacity ≤ r .output) × (dossierCapacity ≤ r .first) × (dossierCapacity ≤ r .second) × (dossierCapacity ≤ r .third)
+
+rooms-have : (r : Rooms) → Roomy r → haveRoom r ≡ true
+unfolding haveRoom
+rooms-have r (h, i, j, k) =
+    rw (le-leb dossierCapacity (r .output) h, le-leb dossierCapacity (r .first) i, le-leb dossierCapacity (r .second) j, le-leb dossierCapacity (r .third) k)
+
 module _ (table events old new : List ℕ) (rooms : Rooms) (r : BatchReply) (e : batchReplies r new ≡ batchCall standard rooms table events old)
-    (have : haveRoom rooms ≡ true) where
+    (have : Roomy rooms) where
   batch-told : batchReplies r new ≡ outcome (batchGiven (batchAsked standard table events)) old
-  batch-told = e ∙ unfold batchCall batchAnswer in (rw have)
+  batch-told = e ∙ unfold batchCall batchAnswer in (rw (rooms-have rooms have))
 
   pub batch-done : {n : ℕ} → r ≡ batch.Done n → BatchDone table events new n
   unfolding batchGiven
@@ -306,11 +317,6 @@ pub done-opens : {table events new : List ℕ} {n : ℕ} (b : BatchDone table ev
     DossierOpens table (take n new) (b .what) room
 done-opens {table} {events} b room h =
     subst (λ (s : List ℕ). DossierOpens table s (b .what) room) (sym (b .bytes)) (batch-opens table events (b .what) (b .is) room h)
-
-pub rooms-have : {a b c d : ℕ} → dossierCapacity ≤ a → dossierCapacity ≤ b → dossierCapacity ≤ c → dossierCapacity ≤ d →
-    haveRoom (record { output = a; first = b; second = c; third = d }) ≡ true
-unfolding haveRoom
-rooms-have {a} {b} {c} {d} h i j k = rw (le-leb dossierCapacity a h, le-leb dossierCapacity b i, le-leb dossierCapacity c j, le-leb dossierCapacity d k)
 
 module _ (table events : List ℕ) {out new : List ℕ} {n : ℕ} where
   pub done-lines : (d : TypedDossier) → batchAsked standard table events ≡ accepted d → Wrote out 0 (openedLines (d .type) (d .headed) (opens d)) new n →
@@ -364,19 +370,13 @@ module _ (input out : List ℕ) {new : List ℕ} {n : ℕ} (room : reportCapacit
     pub report-unread : readText input ≡ fail → Wrote out 0 (refusedLine 9 0) new n → replies (reply.Done n) new ≡ reportCall input out
     report-unread e w = written input out (refusedLine 9 0) room (unfold report framedLines in (rw (le-leb (length input) mostInput few, e))) w
 
-    report-read :
-        (table events : List ℕ) → readText input ≡ got table events → Wrote out 0 (askedLines (batchAsked standard table events)) new n →
-        replies (reply.Done n) new ≡ reportCall input out
-    report-read table events e w =
-        written input out (askedLines (batchAsked standard table events)) room (unfold report framedLines in (rw (le-leb (length input) mostInput few, e))) w
-
     -- the table's part of the input, and what follows it
     pub report-parts :
-        (a e : ℕ) → readText input ≡ got (part input a e) (drop e input) →
-        Wrote out 0 (askedLines (batchAsked standard (part input a e) (part input e (length input)))) new n →
+        {a e : ℕ} → TextStops input 0 a e → Wrote out 0 (askedLines (batchAsked standard (part input a e) (part input e (length input)))) new n →
         replies (reply.Done n) new ≡ reportCall input out
-    report-parts a e h w =
-        report-read (part input a e) (drop e input) h
+    report-parts {a} {e} t w =
+        written input out (askedLines (batchAsked standard (part input a e) (drop e input))) room
+        (unfold report framedLines in (rw (le-leb (length input) mostInput few, t .is)))
         (subst (λ (events : List ℕ). Wrote out 0 (askedLines (batchAsked standard (part input a e) events)) new n) rest w)
       where
         rest : part input e (length input) ≡ drop e input

@@ -32,7 +32,9 @@ abbrev Named : List Property → Type 0
 Named ps = (i : ℕ) (q : Property) → getElem? ps i ≡ some q → length (q .name) ≤ 32
 
 -- a property of an accepted table has a name of at most 32 bytes
-pub names-short : (table : List ℕ) (types : Table) (t : EventType) (name : Text) → tableOf table ≡ some types → typeNamed name types ≡ some t → Named (t .properties)
+pub names-short :
+    (table : List ℕ) (types : Table) (t : EventType) (name : Text) → tableOf table ≡ some types → typeNamed name types ≡ some t →
+    Named (t .properties)
 names-short table types t name e h i q k = name-length 32 (q .name) (properties-rules table name types t e h i q k .name) .1
 
 values-size : (name : Text) (vs : List Text) → length name ≤ 32 → All (λ (v : Text). length v ≤ 120) vs → length (valueLines name vs) ≤ 154 * length vs

@@ -47,7 +47,8 @@ fn room() -> [u8; DOSSIER_CAPACITY]
 // The lines of a merged event with its hash.
 fn report_merged(table: &[u8], event: &[u8], out: &mut [u8]) -> usize
     requires { ⌜ ((t : EventType) × (e : Event) × MergedAsked (now table) (now event) t e (length (now out))) ⌝ }
-    ensures { λ r. ⌜ ((t : EventType) (e : Event) → MergedAsked (now (table .entry)) (now (event .entry)) t e (length (now (out .entry))) → Wrote (now (out .entry)) 0 (mergedLines t e) (now (out .exit)) r) ⌝ }
+    ensures { λ r. ⌜ ((t : EventType) (e : Event) → MergedAsked (now (table .entry)) (now (event .entry)) t e (length (now (out .entry)))
+        → Wrote (now (out .entry)) 0 (mergedLines t e) (now (out .exit)) r) ⌝ }
 {
     let mut digest = [0u8; HASH_CAPACITY];
     hash(table, event, &mut digest);
@@ -74,7 +75,8 @@ fn properties_of(table: &[u8], dossier: &[u8], properties: &mut [usize])
 // What a dossier opens as.
 fn report_opened(table: &[u8], dossier: &[u8], opened: &mut [u8], out: &mut [u8]) -> usize
     requires { ⌜ ((d : TypedDossier) × DossierOpens (now table) (now dossier) d (length (now out)) × (dossierCapacity ≤ length (now opened))) ⌝ }
-    ensures { λ r. ⌜ ((d : TypedDossier) → DossierOpens (now (table .entry)) (now (dossier .entry)) d (length (now (out .entry))) → Wrote (now (out .entry)) 0 (openedLines (d .type) (d .headed) (opens d)) (now (out .exit)) r) ⌝ }
+    ensures { λ r. ⌜ ((d : TypedDossier) → DossierOpens (now (table .entry)) (now (dossier .entry)) d (length (now (out .entry)))
+        → Wrote (now (out .entry)) 0 (openedLines (d .type) (d .headed) (opens d)) (now (out .exit)) r) ⌝ }
 {
     match open_dossier(table, dossier, opened) {
         Opened::Merged(n) => report_merged(table, &opened[..n], out),

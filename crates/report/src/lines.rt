@@ -7,7 +7,8 @@ ghost use Rattle.packed.specs.Packed.{part};
 ghost use Rattle.packed.specs.code.Written.{Wrote};
 ghost use Rattle.replies.specs.Replies.{findingOf};
 ghost use Rattle.ontology.specs.Table.{nameAt};
-ghost use Rattle.report.specs.Report.{hexDigit, hexOf, valueLine, valueLines, objectLines, hashedLines, conflictLine, overfullLine, findingLine, refusedLine};
+ghost use Rattle.report.specs.Report.{hexDigit, hexOf, valueLine, valueLines, objectLines, hashedLines};
+ghost use Rattle.report.specs.Report.{conflictLine, overfullLine, findingLine, refusedLine};
 ghost use Rattle.report.specs.code.ReportIndex.{PlaceNamed, FindingNamed, ValuesRoom, ObjectsRoom, LinesRoom};
 use event::read::EventIndex;
 use event::sets::SetAt;
@@ -139,8 +140,10 @@ fn write_value(
     out: &mut [u8],
     at: usize,
 ) -> usize
-    requires { ⌜ (p .start ≤ p .end) × (p .end ≤ length (now table)) × (start ≤ end) × (end ≤ length (now event)) × (at + length (valueLine (part (now table) (p .start) (p .end)) (part (now event) start end)) ≤ length (now out)) ⌝ }
-    ensures { λ r. ⌜ Wrote (now (out .entry)) at (valueLine (part (now (table .entry)) (p .start) (p .end)) (part (now (event .entry)) start end)) (now (out .exit)) r ⌝ }
+    requires { ⌜ (p .start ≤ p .end) × (p .end ≤ length (now table)) × (start ≤ end) × (end ≤ length (now event))
+        × (at + length (valueLine (part (now table) (p .start) (p .end)) (part (now event) start end)) ≤ length (now out)) ⌝ }
+    ensures { λ r. ⌜ Wrote (now (out .entry)) at
+        (valueLine (part (now (table .entry)) (p .start) (p .end)) (part (now (event .entry)) start end)) (now (out .exit)) r ⌝ }
 {
     let after_name = write_name(table, p, out, at);
     let after_colon = copy(b":", out, after_name);
@@ -158,7 +161,8 @@ fn write_values(
     at: usize,
 ) -> usize
     requires { ⌜ ValuesRoom (now table) p (now event) x at (length (now out)) ⌝ }
-    ensures { λ r. ⌜ ((v : ValuesRoom (now (table .entry)) p (now (event .entry)) x at (length (now (out .entry)))) → Wrote (now (out .entry)) at (valueLines (v .property .name) (v .values)) (now (out .exit)) r) ⌝ }
+    ensures { λ r. ⌜ ((v : ValuesRoom (now (table .entry)) p (now (event .entry)) x at (length (now (out .entry))))
+        → Wrote (now (out .entry)) at (valueLines (v .property .name) (v .values)) (now (out .exit)) r) ⌝ }
 {
     let mut next = at;
     let mut i = x.start;

@@ -1,7 +1,9 @@
+-- `write_hex` meets its contract: at each turn the digits of the bytes from `i` on are still to be written, from `at + 2 * i` on (`hex-gone`).
 use borrow.Author.Needs.{needs}
 use native.Mathlib.Omega.{arith}
-use Prim.Native.Nat.{_+_, _*_, _-_, _≤_}
-use lib.ListN.{length, drop, length-set}
+use Prim.Native.Nat.{_+_, _*_, _-_, _≤_, _<_}
+use lib.ListN.{length, drop, getD, length-set}
+use denote.Ref.{now}
 use Rattle.report.specs.Report.{hexOf}
 use Rattle.packed.specs.code.Written.{ToGo}
 use Rattle.packed.proofs.WriteLaws.{all-gone}
@@ -15,29 +17,29 @@ Inv-loop s out₀ at i₀ out i = (i ≤ length s) × ToGo out₀ at (hexOf s) o
 abbrev μ-loop : tie.MeasureT-loop
 μ-loop s out₀ at i₀ out i = length s - i
 
+-- ---- the facts
+
+byte :
+    (c : tie.After-shared-slice-known2 Inv-loop μ-loop) →
+    let s : tie.Start Inv-loop μ-loop = search in
+    getD (now (s .args .s)) (c .before .before .loop .i) 0 < 256
+byte c = omega (arith, c .shared-slice-known2 .given (c .before .before .loop .i))
+
+-- ---- the needs
+
 loop-holds : tie.Need-loop-holds Inv-loop μ-loop
 loop-holds c = (omega arith, hex-start _ _ _)
 
-hex-digit-requires : tie.Need-hex-digit-requires Inv-loop μ-loop
-hex-digit-requires c κs = omega (arith, c .shared-slice-known2 .given (c .before .before .loop .i))
-
-slice-write-out : tie.Need-slice-write-out Inv-loop μ-loop
-slice-write-out c = omega (arith, c .before .before .before .loop .inv .1 .long, c .before .before .before .before .before .before .pre, c .before .before .loop-test .taken)
-
-hex-digit-requires-2 : tie.Need-hex-digit-requires-2 Inv-loop μ-loop
-hex-digit-requires-2 c κs = omega (arith, c .before .shared-slice-known2 .given (c .before .before .before .loop .i))
-
-slice-write-out-2 : tie.Need-slice-write-out-2 Inv-loop μ-loop
-slice-write-out-2 c = simp length-set (omega (arith, c .before .before .before .before .loop .inv .1 .long, c .before .before .before .before .before .before .before .pre, c .before .before .before .loop-test .taken))
-
 loop-again : tie.Need-loop-again Inv-loop μ-loop
-loop-again c = (omega (arith, c .before .before .before .loop-test .taken), hex-gone _ _ _ _ (c .before .before .before .loop-test .taken) (c .before .hex-digit .ensures) (c .hex-digit2 .ensures) (c .before .before .before .before .loop .inv .1))
-
-same-length : tie.Need-same-length Inv-loop μ-loop
-same-length c = c .before .loop .inv .1 .long
+loop-again c =
+    let turn = c .before .before .before in
+    (omega arith, hex-gone _ _ _ _ (turn .loop-test .taken) (c .before .hex-digit .ensures) (c .hex-digit2 .ensures) (turn .before .loop .inv .1))
 
 returns : tie.Need-returns Inv-loop μ-loop
-returns c = all-gone (c .before .loop .inv .1) (hex-end (c .before .before .before .before .args .s .now) (c .before .loop .i) (omega (arith, c .loop-test .left)))
+returns c =
+    let s : tie.Start Inv-loop μ-loop = search in
+    let l = c .before .loop in
+    all-gone (l .inv .1) (hex-end (now (s .args .s)) (l .i) (omega arith))
 
 pub write-hex-spec : {M : Type 1} → statement M
 write-hex-spec =
@@ -47,19 +49,19 @@ write-hex-spec =
     μ-loop
     loop-holds
     (λ c. search needs)
-    hex-digit-requires
-    (λ c. search needs)
-    (λ c. search needs)
-    slice-write-out
-    hex-digit-requires-2
+    (λ c κs. omega (arith, byte (search)))
     (λ c. search needs)
     (λ c. search needs)
     (λ c. search needs)
-    slice-write-out-2
+    (λ c κs. omega (arith, byte (search)))
+    (λ c. search needs)
+    (λ c. search needs)
+    (λ c. search needs)
+    (λ c. simp length-set (omega arith))
     (λ c. search needs)
     (λ c. search needs)
     loop-again
     (λ c. search needs)
     (λ c. search needs)
-    same-length
+    (λ c. search needs)
     returns)

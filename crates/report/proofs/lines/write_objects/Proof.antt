@@ -1,12 +1,11 @@
-use mathlib.Core.Path.{refl}
+-- `write_objects` meets its contract: at each turn the lines of the places from `k` on are still to be written (`ObjectsGo`).
+use borrow.Author.Needs.{needs}
+use native.Mathlib.Omega.{arith}
 use Prim.Native.Nat.{_-_, _≤_}
 use lib.ListN.{length}
-use denote.Ref.{now}
-use Rattle.packed.proofs.WriteLaws.{to-go, all-gone}
+use Rattle.packed.proofs.WriteLaws.{to-go}
 use Rattle.report.specs.code.ReportIndex.{ObjectsRoom}
-use Rattle.report.proofs.LineLaws.{ObjectsGo, values-room, objects-more, objects-end}
-use native.Mathlib.Omega.{arith}
-use borrow.Author.Needs.{needs}
+use Rattle.report.proofs.LineLaws.{ObjectsGo, values-room, objects-more, objects-all}
 use Rattle.report.proofs.lines.write_objects.Statement.{statement}
 use Rattle.report.proofs.lines.write_objects.Tie as tie
 
@@ -17,66 +16,37 @@ Inv-loop table count properties event sets out₀ at next₀ k₀ out next k =
 abbrev μ-loop : tie.MeasureT-loop
 μ-loop table count properties event sets out₀ at next₀ k₀ out next k = count - k
 
--- ---- the places
+-- ---- the facts
 
-abbrev to-start : tie.At-loop Inv-loop μ-loop → tie.Start Inv-loop μ-loop
-to-start c = c .before .before .before .before .before .before
-
--- ---- the values
-
-module _ (c : tie.At-loop Inv-loop μ-loop) where
-  abbrev room : ObjectsRoom
-      (now (to-start c .args .table)) (to-start c .args .count) (now (to-start c .args .properties)) (now (to-start c .args .event))
-      (now (to-start c .args .sets)) (to-start c .args .at) (length (now (to-start c .args .out)))
-  room = to-start c .pre .2
+few : (c : tie.Start Inv-loop μ-loop) → c .args .count ≤ 32
+few c = c .pre .2 .are .few
 
 -- ---- the needs
 
 loop-holds : tie.Need-loop-holds Inv-loop μ-loop
 loop-holds c = λ o. to-go
 
-property-at-requires : tie.Need-property-at-requires Inv-loop μ-loop
-property-at-requires c κs = (search needs, omega (arith, room (c .before) .are .few))
-
-set-at-requires : tie.Need-set-at-requires Inv-loop μ-loop
-set-at-requires c κs = (search needs, omega (arith, room (c .before .before) .are .few))
-
 write-values-requires : tie.Need-write-values-requires Inv-loop μ-loop
 write-values-requires c κs =
-    let set = c .before in
-    let taken = set .before in
-    let turn = taken .before in
+    let s : tie.Start Inv-loop μ-loop = search in
+    let turn : tie.In-loop Inv-loop μ-loop = search in
     let l = turn .before .loop in
-    let given = room (turn .before) in
-    values-room given (l .k) (turn .loop-test .taken) refl (l .inv given) (taken .property-at .ensures) (set .set-at .ensures)
-
-add-k : tie.Need-add-k Inv-loop μ-loop
-add-k c =
-    let set = c .before .before .before .before in
-    let turn = set .before .before in
-    omega (arith, turn .loop-test .taken, room (turn .before) .are .few)
+    values-room (s .pre .2) (l .k) (l .inv (s .pre .2)) (turn .loop-test .taken) (c .before .before .property-at .ensures) (c .before .set-at .ensures)
 
 loop-again : tie.Need-loop-again Inv-loop μ-loop
 loop-again c = λ o.
-    let written = c .before .before in
-    let set = written .before .before in
-    let taken = set .before in
-    let turn = taken .before in
+    let property : tie.After-property-at Inv-loop μ-loop = search in
+    let set : tie.After-set-at Inv-loop μ-loop = search in
+    let turn = property .before in
     let l = turn .before .loop in
-    let inside = turn .loop-test .taken in
-    let g = l .inv o in
-    let property = taken .property-at .ensures in
-    let values = set .set-at .ensures in
-    objects-more o (l .k) inside refl g property values (written .write-values .ensures (values-room o (l .k) inside refl g property values))
+    objects-more o (l .k) (l .inv o) (turn .loop-test .taken) (property .property-at .ensures) (set .set-at .ensures)
+    (c .before .before .write-values .ensures)
 
 same-length : tie.Need-same-length Inv-loop μ-loop
-same-length c = c .before .loop .inv (room (c .before)) .long
+same-length c = let s : tie.Start Inv-loop μ-loop = search in c .before .loop .inv (s .pre .2) .long
 
 returns : tie.Need-returns Inv-loop μ-loop
-returns c = λ o.
-    let l = c .before .loop in
-    let past : length (o .properties) ≤ l .k = omega (arith, o .are .count, c .loop-test .left) in
-    all-gone (l .inv o) (objects-end (o .properties) (o .sets) (l .k) past)
+returns c = λ o. let l = c .before .loop in objects-all o (l .k) (l .inv o) (omega arith)
 
 pub write-objects-spec : {M : Type 1} → statement M
 write-objects-spec =
@@ -85,10 +55,10 @@ write-objects-spec =
     Inv-loop
     μ-loop
     loop-holds
-    property-at-requires
-    set-at-requires
+    (λ c κs. omega (arith, few (search)))
+    (λ c κs. omega (arith, few (search)))
     write-values-requires
-    add-k
+    (λ c. omega (arith, few (search)))
     (λ c. search needs)
     loop-again
     same-length

@@ -1,34 +1,41 @@
+-- `write_value` meets its contract: its four writes are the parts of the line in their order (`wrote-value`), and the whole line has room (`fits`).
 use borrow.Author.Needs.{needs}
 use native.Mathlib.Omega.{arith}
-use Rattle.packed.proofs.WriteLaws.{wrote-length}
+use mathlib.Core.List.{List}
+use Prim.Native.Nat.{ℕ, _+_, _≤_}
+use lib.ListN.{length}
+use denote.Ref.{now}
 use Rattle.packed.specs.Packed.{part}
 use Rattle.report.proofs.LineLaws.{value-length, wrote-value}
 use Rattle.report.proofs.lines.write_value.Statement.{statement}
 use Rattle.report.proofs.lines.write_value.Tie as tie
 
-write-name-requires : tie.Need-write-name-requires
-write-name-requires c κs = let p = c .before .before .before .before .pre in (p .0, p .1, omega (arith, value-length (part (c .before .before .before .before .args .table .now) (c .before .before .before .before .args .p .start) (c .before .before .before .before .args .p .end)) (part (c .before .before .before .before .args .event .now) (c .before .before .before .before .args .start) (c .before .before .before .before .args .end)), c .before .before .before .before .pre .4))
+module _ (c : tie.Start) where
+  abbrev name : List ℕ
+  name = part (now (c .args .table)) (c .args .p .start) (c .args .p .end)
 
-copy-requires : tie.Need-copy-requires
-copy-requires c κs = omega (arith, value-length (part (c .before .before .before .before .before .before .before .before .before .args .table .now) (c .before .before .before .before .before .before .before .before .before .args .p .start) (c .before .before .before .before .before .before .before .before .before .args .p .end)) (part (c .before .before .before .before .before .before .before .before .before .args .event .now) (c .before .before .before .before .before .before .before .before .before .args .start) (c .before .before .before .before .before .before .before .before .before .args .end)), c .before .before .before .before .before .before .before .before .before .pre .4, c .before .before .before .before .write-name .ensures .after, wrote-length (c .before .before .before .before .write-name .ensures))
+  abbrev value : List ℕ
+  value = part (now (c .args .event)) (c .args .start) (c .args .end)
 
-copy-part-requires : tie.Need-copy-part-requires
-copy-part-requires c κs = let p = c .before .before .before .before .before .before .before .before .before .before .before .before .before .pre in (p .2, p .3, omega (arith, value-length (part (c .before .before .before .before .before .before .before .before .before .before .before .before .before .args .table .now) (c .before .before .before .before .before .before .before .before .before .before .before .before .before .args .p .start) (c .before .before .before .before .before .before .before .before .before .before .before .before .before .args .p .end)) (part (c .before .before .before .before .before .before .before .before .before .before .before .before .before .args .event .now) (c .before .before .before .before .before .before .before .before .before .before .before .before .before .args .start) (c .before .before .before .before .before .before .before .before .before .before .before .before .before .args .end)), c .before .before .before .before .before .before .before .before .before .before .before .before .before .pre .4, c .before .before .before .before .before .before .before .before .write-name .ensures .after, wrote-length (c .before .before .before .before .before .before .before .before .write-name .ensures), c .before .before .before .copy .ensures .after, wrote-length (c .before .before .before .copy .ensures)))
-
-write-end-requires : tie.Need-write-end-requires
-write-end-requires c κs = omega (arith, value-length (part (c .before .before .before .before .before .before .before .before .before .before .before .before .before .before .before .before .before .args .table .now) (c .before .before .before .before .before .before .before .before .before .before .before .before .before .before .before .before .before .args .p .start) (c .before .before .before .before .before .before .before .before .before .before .before .before .before .before .before .before .before .args .p .end)) (part (c .before .before .before .before .before .before .before .before .before .before .before .before .before .before .before .before .before .args .event .now) (c .before .before .before .before .before .before .before .before .before .before .before .before .before .before .before .before .before .args .start) (c .before .before .before .before .before .before .before .before .before .before .before .before .before .before .before .before .before .args .end)), c .before .before .before .before .before .before .before .before .before .before .before .before .before .before .before .before .before .pre .4, c .before .before .before .before .before .before .before .before .before .before .before .before .write-name .ensures .after, wrote-length (c .before .before .before .before .before .before .before .before .before .before .before .before .write-name .ensures), c .before .before .before .before .before .before .before .copy .ensures .after, wrote-length (c .before .before .before .before .before .before .before .copy .ensures), c .before .before .before .copy-part .ensures .after, wrote-length (c .before .before .before .copy-part .ensures))
+  fits : c .args .at + length name + 2 + length value ≤ length (now (c .args .out))
+  fits = omega (arith, value-length name value)
 
 returns : tie.Need-returns
-returns c = wrote-value _ _ (c .before .before .before .before .before .before .before .before .before .before .before .before .before .before .before .write-name .ensures) (c .before .before .before .before .before .before .before .before .before .before .copy .ensures) (c .before .before .before .before .before .before .copy-part .ensures) (c .before .before .write-end .ensures)
+returns c =
+    let name : tie.After-write-name = search in
+    let colon : tie.After-copy = search in
+    let value : tie.After-copy-part = search in
+    let end : tie.After-write-end = search in
+    wrote-value _ _ (name .write-name .ensures) (colon .copy .ensures) (value .copy-part .ensures) (end .write-end .ensures)
 
 pub write-value-spec : {M : Type 1} → statement M
 write-value-spec =
     tie.close
     (tie.spec
-    write-name-requires
+    (λ c κs. omega (arith, fits (search)))
     (λ c. search needs)
-    copy-requires
-    copy-part-requires
-    write-end-requires
+    (λ c κs. omega (arith, fits (search)))
+    (λ c κs. omega (arith, fits (search)))
+    (λ c κs. omega (arith, fits (search)))
     (λ c. search needs)
     returns)
