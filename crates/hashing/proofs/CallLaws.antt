@@ -71,23 +71,21 @@ hash-short table event ts a t h =
     hash-fits (a .type) (a .event) (event-was wide event (a .event) (w .read) .1) (w .shape) (w .values) n p
 
 pub text-short :
-    (table event ps ats : List ℕ) (r : EventAsked) (a : Accepted wide table event ps ats r) →
+    {table event ps ats : List ℕ} {r : EventAsked} (a : Accepted wide table event ps ats r) →
     (matchCount (a .type .properties) (a .e .sets) ≤ 32) × (length (eventText (a .type) (a .e)) ≤ hashTextCapacity)
-text-short table event ps ats r a =
+text-short {table} {event} a =
     let o = of-table table event (record { type = a .type; event = a .e }) (a .is) in
     let w = event-accepted wide (o .what) event (a .type) (a .e) (o .asked) in
     (event-match (a .type) (a .e) (w .shape), hash-short table event (o .what) (record { type = a .type; event = a .e }) (o .is) (o .asked))
 
-abbrev pub hashable :
-    (table event ps ats : List ℕ) (r : EventAsked) → Accepted wide table event ps ats r →
-    Hashable table event (r .type) ps (r .event) ats
-hashable table event ps ats r a = record {
+abbrev pub hashable : {table event ps ats : List ℕ} {r : EventAsked} → Accepted wide table event ps ats r → Hashable table event (r .type) ps (r .event) ats
+hashable a = record {
   type = a .type;
   event = a .e;
   typed = a .type-is;
   read = a .event-is;
-  few = text-short table event ps ats r a .0;
-  short = text-short table event ps ats r a .1;
+  few = text-short a .0;
+  short = text-short a .1;
 }
 
 -- ---- the questions
@@ -101,14 +99,19 @@ module _ (table event : List ℕ) (least room : ℕ) where
   unfolding hashTextAsked
   asked-is h = rw (has-room least room h) (go (tableOf table))
     where
-      go : (m : Option Table) → (ask 2 m >>= λ ts. (eventAsked wide ts event >>= λ a. accepted (eventText (a .type) (a .event)))) ≡ ((ask 2 m >>= λ ts. eventAsked wide ts event) >>= λ a. accepted (eventText (a .type) (a .event)))
+      go :
+          (m : Option Table) →
+          (ask 2 m >>= λ ts. (eventAsked wide ts event >>= λ a. accepted (eventText (a .type) (a .event))))
+          ≡ ((ask 2 m >>= λ ts. eventAsked wide ts event) >>= λ a. accepted (eventText (a .type) (a .event)))
       go none = refl
       go (some ts) = refl
 
   asked-refused : (n : ℕ) → least ≤ room → eventQuestions wide table event ≡ refused n → hashTextAsked least room table event ≡ refused n
   asked-refused n h e = asked-is h ∙ ap (λ (q : Asked Typed). q >>= λ a. accepted (eventText (a .type) (a .event))) e
 
-  asked-accepted : (t : EventType) (e : Event) → least ≤ room → eventQuestions wide table event ≡ accepted (record { type = t; event = e }) → hashTextAsked least room table event ≡ accepted (eventText t e)
+  asked-accepted :
+      (t : EventType) (e : Event) → least ≤ room → eventQuestions wide table event ≡ accepted (record { type = t; event = e }) →
+      hashTextAsked least room table event ≡ accepted (eventText t e)
   asked-accepted t e h q = asked-is h ∙ ap (λ (q : Asked Typed). q >>= λ a. accepted (eventText (a .type) (a .event))) q
 
 -- ---- the replies
@@ -118,25 +121,30 @@ module _ (table event out : List ℕ) where
   unfolding hashTextCall hashTextAnswer
   text-small h = rw (asked-small table event hashTextCapacity (length out) h)
 
-  pub text-refused : (n : ℕ) → hashTextCapacity ≤ length out → eventQuestions wide table event ≡ refused n → replies (Refused n) out ≡ hashTextCall table event out
+  pub text-refused :
+      (n : ℕ) → hashTextCapacity ≤ length out → eventQuestions wide table event ≡ refused n → replies (Refused n) out ≡ hashTextCall table event out
   unfolding hashTextCall hashTextAnswer
   text-refused n h e = rw (asked-refused table event hashTextCapacity (length out) n h e)
 
-  module _ (ps ats : List ℕ) (r : EventAsked) (a : Accepted wide table event ps ats r) (new : List ℕ) where
-    pub text-done : (n : ℕ) → hashTextCapacity ≤ length out → Wrote out 0 (eventText (a .type) (a .e)) new n → replies (Done n) new ≡ hashTextCall table event out
-    unfolding hashTextCall hashTextAnswer
-    text-done n h w =
-        let x = eventText (a .type) (a .e) in
-        let s : 0 + length x ≤ length out = omega (arith, text-short table event ps ats r a .1) in
-        let m : n ≡ length x = omega (arith, w .after) in
-        rw (asked-accepted table event hashTextCapacity (length out) (a .type) (a .e) h (a .is))
-        (ap₂ (λ (k : ℕ) (l : List ℕ). replies (Done k) l) m (wrote-between s w ∙ ap (λ (k : ℕ). x ++ drop k out) m))
+pub text-done :
+    {table event ps ats : List ℕ} {r : EventAsked} (out : List ℕ) (a : Accepted wide table event ps ats r) {new : List ℕ} {n : ℕ} →
+    hashTextCapacity ≤ length out → Wrote out 0 (eventText (a .type) (a .e)) new n → replies (Done n) new ≡ hashTextCall table event out
+unfolding hashTextCall hashTextAnswer
+text-done {table} {event} out a {n} h w =
+    let x = eventText (a .type) (a .e) in
+    let s : 0 + length x ≤ length out = omega (arith, text-short a .1) in
+    let m : n ≡ length x = omega (arith, w .after) in
+    rw (asked-accepted table event hashTextCapacity (length out) (a .type) (a .e) h (a .is))
+    (ap₂ (λ (k : ℕ) (l : List ℕ). replies (Done k) l) m (wrote-between s w ∙ ap (λ (k : ℕ). x ++ drop k out) m))
 
 -- ---- the replies of hash, which hashes what hash text wrote in an output of its own
 
 pub hash-small : (table event out : List ℕ) → length out < hashCapacity → replies (Refused 1) out ≡ hashCall table event out
 unfolding hashCall hashAnswer
 hash-small table event out h = rw (asked-small table event hashCapacity (length out) h)
+
+pub text-length : (written : List ℕ) (n : ℕ) → n ≤ length written → length (part written 0 n) ≡ n
+text-length written n h = omega (arith, part-length written 0 n (omega arith) h)
 
 module _ (table event text written : List ℕ) (r : Reply) (told : replies r written ≡ hashTextCall table event text) where
   pub text-within : {n : ℕ} → r ≡ Done n → n ≤ length written
@@ -149,9 +157,6 @@ module _ (table event text written : List ℕ) (r : Reply) (told : replies r wri
           let z : answers.Reply.done n ≡ answers.Reply.done (length m) = ap (λ (x : Outcome). x .reply) h in
           let k : n ≡ length m = cc in
           omega (arith, ap (λ (x : Outcome). length (x .bytes)) h, length-append m (drop (length m) text))
-
-  pub text-length : {n : ℕ} → r ≡ Done n → length (part written 0 n) ≡ n
-  text-length {n} e = omega (arith, part-length written 0 n (omega arith) (text-within e))
 
   module _ (out : List ℕ) (room : hashCapacity ≤ length out) (text-room : hashTextCapacity ≤ length text) where
     abbrev asked : Asked (List ℕ)
@@ -183,7 +188,9 @@ module _ (table event text written : List ℕ) (r : Reply) (told : replies r wri
             let k : n ≡ length m = cc in
             ap accepted (sym (ap (λ (x : Outcome). take (n - 0) (x .bytes)) h ∙ take-at m (drop (length m) text) (n - 0) (omega arith)))
 
-    pub hash-done : {n : ℕ} {new : List ℕ} → r ≡ Done n → new ≡ sets out 0 (sha1Of (part written 0 n)) → replies (Done hashCapacity) new ≡ hashCall table event out
+    pub hash-done :
+        {n : ℕ} {new : List ℕ} → r ≡ Done n → new ≡ sets out 0 (sha1Of (part written 0 n)) →
+        replies (Done hashCapacity) new ≡ hashCall table event out
     unfolding hashCall hashAnswer
     hash-done {n} e w =
         let x = sha1Of (part written 0 n) in

@@ -36,14 +36,14 @@ object-string name value = refl
 
 -- ---- the objects of one property
 
-module _ (table event : List ℕ) (xs : List StringAt) (n : ℕ) where
-  pub gathered-none : Gathered table event xs n xs n []
+module _ {table event : List ℕ} {xs : List StringAt} {n : ℕ} where
+  gathered-none : Gathered table event xs n xs n []
   gathered-none = record { more = omega arith; is = λ ws e. e ∙ ap (sorted texts) (sym (append-nil ws)) }
 
   gathered-more :
-      (ys zs : List StringAt) (m : ℕ) (x : StringAt) (added : List Text) → Gathered table event xs n ys m added → Inserted table event ys m x zs →
+      {ys zs : List StringAt} {m : ℕ} {x : StringAt} {added : List Text} → Gathered table event xs n ys m added → Inserted table event ys m x zs →
       Gathered table event xs n zs (m + 1) (added ++ (stringOf table event x ∷ []))
-  gathered-more ys zs m x added g w = record {
+  gathered-more {x} {added} g w = record {
     more = omega (arith, g .more, length-append added (stringOf table event x ∷ []));
     is =
         λ ws e.
@@ -53,6 +53,17 @@ module _ (table event : List ℕ) (xs : List StringAt) (n : ℕ) where
         ∙ sym (sorted-snoc texts (ws ++ added) (stringOf table event x))
         ∙ ap (sorted texts) (append-assoc ws added (stringOf table event x ∷ []));
   }
+
+-- a set's values, and what follows them
+pub set-then : {event : List ℕ} {vs : List Text} {x : SetAt} → SetIs event vs x → drop (x .start) event ≡ flatten (map text vs) ++ drop (x .end) event
+set-then {event} {x} w =
+    let past : x .start + (x .end - x .start) ≡ x .end = omega (arith, w .order) in
+    sym (take-append-drop (x .end - x .start) (drop (x .start) event))
+    ∙ ap₂ (λ (a b : List ℕ). a ++ b) (w .bytes) (drop-drop (x .end - x .start) (x .start) event ∙ ap (λ (i : ℕ). drop i event) past)
+
+-- the strings of values whose property's name stands from `name` up to `colon`
+abbrev named : List ℕ → ℕ → ℕ → List Text → List Text
+named table name colon us = map (objectString (part table name colon)) us
 
 -- The values vs of a set are gathered but for `left`, which stand at `at`
 pub record Gathering
@@ -66,30 +77,20 @@ pub record Gathering
   pub long : left ≡ length rest
   pub have : Gathered table event xs n ys m (map (objectString (part table name colon)) done)
 
-module _ (table event : List ℕ) (name colon : ℕ) (xs : List StringAt) (n : ℕ) (vs : List Text) where
-  -- the strings of values
-  abbrev named : List Text → List Text
-  named us = map (objectString (part table name colon)) us
-
-  pub gathering-none : (x : SetAt) → SetIs event vs x → Gathering table event name colon xs n xs n vs (x .start) (x .count) (drop (x .end) event)
-  gathering-none x w = record {
+module _ {table event : List ℕ} {name colon : ℕ} {xs : List StringAt} {n : ℕ} {vs : List Text} where
+  gathering-none : {x : SetAt} → SetIs event vs x → Gathering table event name colon xs n xs n vs (x .start) (x .count) (drop (x .end) event)
+  gathering-none w = record {
     done = [];
     rest = vs;
     all = refl;
-    bytes =
-        sym (take-append-drop (x .end - x .start) (drop (x .start) event))
-        ∙ ap₂ (λ (a b : List ℕ). a ++ b) (w .bytes)
-        (drop-drop (x .end - x .start) (x .start) event ∙ ap (λ (i : ℕ). drop i event) (sums (x .start) (x .end) (w .order)));
+    bytes = set-then w;
     within = omega (arith, w .order, w .within);
     long = w .count;
-    have = gathered-none table event xs n;
+    have = gathered-none;
   }
-    where
-      sums : (a e : ℕ) → a ≤ e → a + (e - a) ≡ e
-      sums a e h = omega arith
 
   module _
-      (ys : List StringAt) (m at left : ℕ) (tail : List ℕ) (small : length event < 2 ^ 64)
+      {ys : List StringAt} {m at left : ℕ} {tail : List ℕ} (small : length event < 2 ^ 64)
       (w : Gathering table event name colon xs n ys m vs at left tail)
     where
       -- the first value of those that are left, and the others
@@ -111,18 +112,16 @@ module _ (table event : List ℕ) (name colon : ℕ) (xs : List StringAt) (n : �
       pub gathering-bad : 0 < left → readText (drop at event) ≡ fail → ⊥
       gathering-bad h e = let f = first h in text-there event small at (w .within) (f .v) (flatten (map text (f .us)) ++ tail) (f .bytes) e
 
-      pub gathering-more :
-          0 < left → (a z : ℕ) → TextStops event at a z → (zs : List StringAt) →
+      gathering-more :
+          0 < left → {a z : ℕ} → TextStops event at a z → {zs : List StringAt} →
           Inserted table event ys m (record { first = name; colon = colon; second = a; end = z }) zs →
           Gathering table event name colon xs n zs (m + 1) vs z (left - 1) tail
       unfolding stringOf
-      gathering-more h a z t zs i =
+      gathering-more h {a} {z} t {zs} i =
           let f = first h in
           let next = text-next event small at (w .within) (f .v) (flatten (map text (f .us)) ++ tail) (f .bytes) a z t in
-          let x : StringAt = record { first = name; colon = colon; second = a; end = z } in
-          let g = gathered-more table event xs n ys zs m x (named (w .done)) (w .have) i in
-          let e : named (w .done) ++ named (part event a z ∷ []) ≡ named (w .done ++ (f .v ∷ [])) =
-          ap (λ (u : Text). named (w .done) ++ named (u ∷ [])) (next .0)
+          let e : named table name colon (w .done) ++ named table name colon (part event a z ∷ []) ≡ named table name colon (w .done ++ (f .v ∷ [])) =
+          ap (λ (u : Text). named table name colon (w .done) ++ named table name colon (u ∷ [])) (next .0)
           ∙ sym (map-append (objectString (part table name colon)) (w .done) (f .v ∷ [])) in
           record {
             done = w .done ++ (f .v ∷ []);
@@ -131,27 +130,62 @@ module _ (table event : List ℕ) (name colon : ℕ) (xs : List StringAt) (n : �
             bytes = next .2 .rest;
             within = next .2 .within;
             long = omega (arith, f .long);
-            have = subst (Gathered table event xs n zs (m + 1)) e g;
+            have = subst (Gathered table event xs n zs (m + 1)) e (gathered-more (w .have) i);
           }
 
-      pub gathering-all : left ≤ 0 → Gathered table event xs n ys m (named vs)
+      gathering-all : left ≤ 0 → Gathered table event xs n ys m (named table name colon vs)
       gathering-all h = go (w .rest) (w .all) (w .long)
         where
-          go : (rest : List Text) → vs ≡ w .done ++ rest → left ≡ length rest → Gathered table event xs n ys m (named vs)
-          go [] a l = subst (λ (us : List Text). Gathered table event xs n ys m (named us)) (sym (a ∙ append-nil (w .done))) (w .have)
+          go : (rest : List Text) → vs ≡ w .done ++ rest → left ≡ length rest → Gathered table event xs n ys m (named table name colon vs)
+          go [] a l = subst (λ (us : List Text). Gathered table event xs n ys m (named table name colon us)) (sym (a ∙ append-nil (w .done))) (w .have)
           go (v ∷ us) a l = absurd (omega arith)
+
+-- The first n of `objects` are the first `count` of `objects₀` with the values of a set but for `left` of them, which stand at `at`
+pub record GatheringTo (table event : List ℕ) (name colon : ℕ) (objects₀ : List ℕ) (count at₀ left₀ : ℕ) (objects : List ℕ) (n at left : ℕ) : Type 0 where
+  pub size : length objects ≡ 128
+  pub fit : StringsFit table event (stringsIn objects) n
+  pub few : n + left ≤ 32
+  pub so-far : (vs : List Text) (end : ℕ) → SetIs event vs (record { start = at₀; end = end; count = left₀ }) →
+      Gathering table event name colon (stringsIn objects₀) count (stringsIn objects) n vs at left (drop end event)
+
+pub set-start :
+    {table event objects : List ℕ} {name colon count at left : ℕ} → length objects ≡ 128 → StringsFit table event (stringsIn objects) count →
+    count + left ≤ 32 → GatheringTo table event name colon objects count at left objects count at left
+set-start l f h = record { size = l; fit = f; few = h; so-far = λ vs end w. gathering-none w }
+
+module _
+    {table event objects₀ objects : List ℕ} {name colon count at₀ left₀ n at left : ℕ} (small : length event < 2 ^ 64)
+    (w : GatheringTo table event name colon objects₀ count at₀ left₀ objects n at left)
+  where
+    pub set-more :
+        {objects₁ : List ℕ} {a z : ℕ} → 0 < left → TextStops event at a z → length objects₁ ≡ length objects →
+        Inserted table event (stringsIn objects) n (record { first = name; colon = colon; second = a; end = z }) (stringsIn objects₁) →
+        GatheringTo table event name colon objects₀ count at₀ left₀ objects₁ (n + 1) z (left - 1)
+    set-more h t l i = record {
+      size = l ∙ w .size;
+      fit = i .fit;
+      few = omega (arith, w .few);
+      so-far = λ vs end is. gathering-more small (w .so-far vs end is) h t i;
+    }
+
+    pub set-all :
+        {end : ℕ} → left ≤ 0 →
+        StringsFit table event (stringsIn objects) n
+        × ((vs : List Text) → SetIs event vs (record { start = at₀; end = end; count = left₀ }) →
+        Gathered table event (stringsIn objects₀) count (stringsIn objects) n (map (objectString (part table name colon)) vs))
+    set-all {end} h = (w .fit, λ vs is. gathering-all small (w .so-far vs end is) h)
 
 -- ---- all places
 
-record At {A : Type 0} (xs : List A) (i : ℕ) : Type 0 where
-  what : A
-  is : getElem? xs i ≡ some what
-  rest : drop i xs ≡ what ∷ drop (suc i) xs
+pub record At {A : Type 0} (xs : List A) (i : ℕ) : Type 0 where
+  pub what : A
+  pub is : getElem? xs i ≡ some what
+  pub rest : drop i xs ≡ what ∷ drop (suc i) xs
 
-at : {A : Type 0} (xs : List A) (i : ℕ) → i < length xs → At xs i
-at [] i h = absurd (omega arith)
-at (x ∷ xs) zero h = record { what = x; is = refl; rest = refl }
-at (x ∷ xs) (suc i) h = let w = at xs i (omega arith) in record { what = w .what; is = w .is; rest = w .rest }
+pub at-place : {A : Type 0} (xs : List A) (i : ℕ) → i < length xs → At xs i
+at-place [] i h = absurd (omega arith)
+at-place (x ∷ xs) zero h = record { what = x; is = refl; rest = refl }
+at-place (x ∷ xs) (suc i) h = let w = at-place xs i (omega arith) in record { what = w .what; is = w .is; rest = w .rest }
 
 -- the strings of a property and its set
 abbrev strings : Property → List Text → List Text
@@ -181,20 +215,21 @@ pub gathered-same :
     ys ≡ xs → m ≡ n → GatheredTo table event count ps ats xs n place → GatheredTo table event count ps ats ys m place
 gathered-same e f g = rw (e, f) g
 
-module _ (table event : List ℕ) where
-  pub fit-none : (objects : List ℕ) → StringsFit table event (stringsIn objects) 0
-  fit-none objects = record { few = omega arith; long = strings-long objects; each = λ i h. absurd (omega arith) }
+pub gathered-start : {table event ps ats objects : List ℕ} {count : ℕ} → length objects ≡ 128 → GatheredTo table event count ps ats objects 0 0
+unfolding stringsOf sorted
+gathered-start {objects} l = record {
+  size = l;
+  fit = record { few = omega arith; long = strings-long objects; each = λ i h. absurd (omega arith) };
+  so-far = λ h. record { done = []; all = refl; count = refl; is = refl };
+}
 
-  pub so-far-none : (ps : List Property) (ss : List (List Text)) (xs : List StringAt) → SoFar table event ps ss xs 0 0
-  unfolding stringsOf sorted
-  so-far-none ps ss xs = record { done = []; all = refl; count = refl; is = refl }
-
+module _ {table event : List ℕ} where
   module _
-      (count : ℕ) (ps ats : List ℕ) (h : Gatherable table event count ps ats) (xs : List StringAt) (n place : ℕ) (below : place < count)
+      {count : ℕ} {ps ats : List ℕ} (h : Gatherable table event count ps ats) {xs : List StringAt} {n place : ℕ} (below : place < count)
       (w : SoFar table event (h .properties) (h .sets) xs n place)
     where
       property : At (h .properties) place
-      property = at (h .properties) place (omega (arith, h .are .count))
+      property = at-place (h .properties) place (omega (arith, h .are .count))
 
       set-there : place < length (h .sets)
       set-there = omega (arith, h .stand .long, h .are .few)
@@ -210,9 +245,9 @@ module _ (table event : List ℕ) where
           (objectStrings (drop (place + 1) (h .properties)) (drop (place + 1) (h .sets))))
 
       so-far-next :
-          (ys : List StringAt) (m : ℕ) → Gathered table event xs n ys m (strings (property .what) (getD (h .sets) place [])) →
+          {ys : List StringAt} {m : ℕ} → Gathered table event xs n ys m (strings (property .what) (getD (h .sets) place [])) →
           SoFar table event (h .properties) (h .sets) ys m (place + 1)
-      so-far-next ys m g = record {
+      so-far-next g = record {
         done = w .done ++ strings (property .what) (getD (h .sets) place []);
         all = step;
         count = omega (arith, g .more, w .count, length-append (w .done) (strings (property .what) (getD (h .sets) place [])));
@@ -231,8 +266,8 @@ module _ (table event : List ℕ) where
             ap (λ (b : Bool). cond b (map (objectString (property .what .name)) (getD (h .sets) place [])) []) (sym (match-of property-is) ∙ m)
 
         -- a property that is no match property adds nothing
-        pub so-far-other : hasMatch p ≡ false → SoFar table event (h .properties) (h .sets) xs n (place + 1)
-        so-far-other m = so-far-next xs n (subst (Gathered table event xs n xs n) (sym (strings-are m)) (gathered-none table event xs n))
+        so-far-other : hasMatch p ≡ false → SoFar table event (h .properties) (h .sets) xs n (place + 1)
+        so-far-other m = so-far-next (subst (Gathered table event xs n xs n) (sym (strings-are m)) gathered-none)
 
         -- a match property adds the objects of its set, which was taken from the numbers too
         module _ (m : hasMatch p ≡ true) {x : SetAt} (same-set : x ≡ setIn ats place) where
@@ -260,20 +295,40 @@ module _ (table event : List ℕ) where
           pub set-ready : (p .start ≤ p .end) × (p .end ≤ length table) × (n + x .count ≤ 32)
           set-ready = (property-is .order, property-is .within, room)
 
-          pub so-far-match :
-              (ys : List StringAt) (k : ℕ) →
+          so-far-match :
+              {ys : List StringAt} {k : ℕ} →
               ((vs : List Text) → SetIs event vs x → Gathered table event xs n ys k (map (objectString (part table (p .start) (p .end))) vs)) →
               SoFar table event (h .properties) (h .sets) ys k (place + 1)
-          so-far-match ys k f =
+          so-far-match {ys} {k} f =
               let vs = getD (h .sets) place [] in
               let named = subst (λ (l : Text). Gathered table event xs n ys k (map (objectString l) vs)) (property-is .name) (f vs set-is) in
-              so-far-next ys k (subst (Gathered table event xs n ys k) (sym (strings-are m)) named)
+              so-far-next (subst (Gathered table event xs n ys k) (sym (strings-are m)) named)
 
-  pub so-far-all :
-      (ps : List Property) (ss : List (List Text)) (xs : List StringAt) (n place : ℕ) → length ps ≤ place → SoFar table event ps ss xs n place →
-      stringsOf table event xs n ≡ sorted texts (objectStrings ps ss)
-  unfolding objectStrings
-  so-far-all ps ss xs n place h w =
-      w .is
-      ∙ ap (sorted texts)
-      (sym (w .all ∙ ap (λ (l : List Property). w .done ++ objectStrings l (drop place ss)) (drop-of-length-le ps h) ∙ append-nil (w .done)))
+  module _ {count : ℕ} {ps ats objects : List ℕ} {n place : ℕ} (g : GatheredTo table event count ps ats objects n place) where
+    pub gathered-all :
+        count ≤ place →
+        StringsFit table event (stringsIn objects) n
+        × ((h : Gatherable table event count ps ats) → stringsOf table event (stringsIn objects) n ≡ sorted texts (objectStrings (h .properties) (h .sets)))
+    unfolding objectStrings
+    gathered-all past = (
+      g .fit,
+      λ h.
+          let w = g .so-far h in
+          let none : length (h .properties) ≤ place = omega (arith, h .are .count) in
+          let all = ap (λ (l : List Property). w .done ++ objectStrings l (drop place (h .sets))) (drop-of-length-le (h .properties) none) in
+          w .is ∙ ap (sorted texts) (sym (w .all ∙ all ∙ append-nil (w .done))),
+    )
+
+    -- the property of this place, as it was taken from the numbers
+    module _ (below : place < count) {p : PropertyAt} (same-property : p ≡ propertyIn ps place) where
+      pub gathered-other : hasMatch p ≡ false → GatheredTo table event count ps ats objects n (place + 1)
+      gathered-other m = record { size = g .size; fit = g .fit; so-far = λ h. so-far-other h below (g .so-far h) same-property m }
+
+      pub gathered-match :
+          {x : SetAt} {objects₁ : List ℕ} {k : ℕ} → hasMatch p ≡ true → x ≡ setIn ats place → length objects₁ ≡ length objects →
+          StringsFit table event (stringsIn objects₁) k
+          × ((vs : List Text) → SetIs event vs x →
+          Gathered table event (stringsIn objects) n (stringsIn objects₁) k (map (objectString (part table (p .start) (p .end))) vs)) →
+          GatheredTo table event count ps ats objects₁ k (place + 1)
+      gathered-match m same-set l (fit, more) =
+          record { size = l ∙ g .size; fit = fit; so-far = λ h. so-far-match h below (g .so-far h) same-property m same-set more }

@@ -58,7 +58,9 @@ strings-length [] xs = refl
 strings-length (p ∷ ps) [] = refl
 strings-length (p ∷ ps) (x ∷ xs) = go (isMatch p) (strings-length ps xs)
   where
-    go : (t : Bool) → length (objectStrings ps xs) ≡ matchCount ps xs → length (cond t (map (objectString (p .name)) x) [] ++ objectStrings ps xs) ≡ cond t (length x) 0 + matchCount ps xs
+    go :
+        (t : Bool) → length (objectStrings ps xs) ≡ matchCount ps xs →
+        length (cond t (map (objectString (p .name)) x) [] ++ objectStrings ps xs) ≡ cond t (length x) 0 + matchCount ps xs
     go true h = simp (length-append, length-map) (omega arith)
     go false h = omega arith
 
@@ -68,23 +70,32 @@ flatten-append [] ys = omega arith
 flatten-append (x ∷ xs) ys = simp length-append (omega (arith, flatten-append xs ys))
 
 -- name, colon and value: 32 + 1 + 120 bytes
-named-size : (name : Text) (x : List Text) → length name ≤ 32 → All (λ (v : Text). length v ≤ 120) x → length (flatten (map (objectString name) x)) ≤ 153 * length x
+named-size :
+    (name : Text) (x : List Text) → length name ≤ 32 → All (λ (v : Text). length v ≤ 120) x →
+    length (flatten (map (objectString name) x)) ≤ 153 * length x
 unfolding flatten
 named-size name [] n h = omega arith
 named-size name (v ∷ x) n h = simp length-append (omega (arith, h .0, named-size name x n (h .1)))
 
-pub strings-size : (ps : List Property) (xs : List (List Text)) → All (λ (p : Property). length (p .name) ≤ 32) ps → ValuesShort xs → length (flatten (objectStrings ps xs)) ≤ 153 * matchCount ps xs
+pub strings-size :
+    (ps : List Property) (xs : List (List Text)) → All (λ (p : Property). length (p .name) ≤ 32) ps → ValuesShort xs →
+    length (flatten (objectStrings ps xs)) ≤ 153 * matchCount ps xs
 unfolding objectStrings matchCount flatten
 strings-size [] xs n v = omega arith
 strings-size (p ∷ ps) [] n v = omega arith
 strings-size (p ∷ ps) (x ∷ xs) n v = go (isMatch p) (strings-size ps xs (n .1) (v .1))
   where
-    go : (t : Bool) → length (flatten (objectStrings ps xs)) ≤ 153 * matchCount ps xs → length (flatten (cond t (map (objectString (p .name)) x) [] ++ objectStrings ps xs)) ≤ 153 * (cond t (length x) 0 + matchCount ps xs)
+    go :
+        (t : Bool) → length (flatten (objectStrings ps xs)) ≤ 153 * matchCount ps xs →
+        length (flatten (cond t (map (objectString (p .name)) x) [] ++ objectStrings ps xs)) ≤ 153 * (cond t (length x) 0 + matchCount ps xs)
     go true h = simp flatten-append (omega (arith, named-size (p .name) x (n .0) (v .0)))
     go false h = omega arith
 
 -- 120 + 1 + 64 + 1 + 32 * (153 + 4) = 5,210
-pub hash-size : (t : EventType) (e : Event) → length (t .name) ≤ 64 → length (e .head .source) ≤ 120 → All (λ (p : Property). length (p .name) ≤ 32) (t .properties) → matchCount (t .properties) (e .sets) ≤ 32 → ValuesShort (e .sets) → length (eventText t e) ≤ hashTextCapacity
+pub hash-size :
+    (t : EventType) (e : Event) → length (t .name) ≤ 64 → length (e .head .source) ≤ 120 →
+    All (λ (p : Property). length (p .name) ≤ 32) (t .properties) → matchCount (t .properties) (e .sets) ≤ 32 → ValuesShort (e .sets) →
+    length (eventText t e) ≤ hashTextCapacity
 unfolding hashText
 hash-size t e n s p m v =
     let xs = objectStrings (t .properties) (e .sets) in
@@ -99,5 +110,7 @@ hash-size t e n s p m v =
     ))
 
 -- an event of which questions 3, 5 and 6 are answered yes
-pub hash-fits : (t : EventType) (e : Event) → EventWritten wide e → eventShape t e ≡ true → valuesFit t (e .sets) ≡ true → length (t .name) ≤ 64 → All (λ (p : Property). length (p .name) ≤ 32) (t .properties) → length (eventText t e) ≤ hashTextCapacity
+pub hash-fits :
+    (t : EventType) (e : Event) → EventWritten wide e → eventShape t e ≡ true → valuesFit t (e .sets) ≡ true → length (t .name) ≤ 64 →
+    All (λ (p : Property). length (p .name) ≤ 32) (t .properties) → length (eventText t e) ≤ hashTextCapacity
 hash-fits t e w h v n p = hash-size t e n (source-length (e .head .source) (w .head .source) .1) p (event-match t e h) (event-short t e h v)

@@ -1,35 +1,26 @@
 -- The laws of writing the strings of objects.
-use mathlib.Core.Path.{_≡_, refl, sym, ap, _∙_}
+use mathlib.Core.Path.{_≡_, refl, sym, ap, _∙_, subst}
 use mathlib.Core.List.{List, [], _∷_, _++_, append-assoc, append-nil}
 use Prim.Native.Nat.{ℕ, _+_, _≤_, _<_}
 use native.Mathlib.Omega.{arith}
 use lib.ListN.{length, drop, getD, length-append, drop-of-length-le}
 use Rattle.model.specs.Order.{Text}
 use Rattle.packed.specs.Packed.{part}
-use Rattle.packed.specs.code.Strings.{stringOf, stringsOf, StringFits, noString, StringsFit}
+use Rattle.packed.specs.code.Strings.{stringOf, stringsOf, StringFits, noString, stringIn, stringsIn, StringsFit}
 use Rattle.packed.specs.code.Written.{Wrote, ToGo}
 use Rattle.packed.specs.declared.strings.StringAt.{StringAt}
-use Rattle.packed.proofs.ReadLaws.{part-length}
-use Rattle.packed.proofs.StringLaws.{drop-next, first-length, string-length, strings-length, string-at}
-use Rattle.packed.proofs.WriteLaws.{wrote-length, wrote-then, all-gone}
+use Rattle.packed.proofs.StringLaws.{drop-next, strings-length, string-at}
+use Rattle.packed.proofs.StringPlaceLaws.{string-taken}
+use Rattle.packed.proofs.WriteLaws.{wrote-length, wrote-then, to-go, gone, all-gone}
 use Rattle.hashing.specs.HashText.{separator, separated}
 
 -- ---- one string
 
-module _ (table event : List ℕ) (x : StringAt) (w : StringFits table event x) where
-  -- room for a string has room for its parts, one after the other
-  pub room-name : (at n : ℕ) → at + length (stringOf table event x) ≤ n → at + length (part table (x .first) (x .colon)) ≤ n
-  room-name at n h = omega (arith, string-length table event x w, first-length table event x w)
-
-  pub room-colon : (at b n : ℕ) → b ≡ at + length (part table (x .first) (x .colon)) → at + length (stringOf table event x) ≤ n → b + 1 ≤ n
-  room-colon at b n e h = omega (arith, string-length table event x w, first-length table event x w)
-
-  pub room-value :
-      (at b c n : ℕ) → b ≡ at + length (part table (x .first) (x .colon)) → c ≡ b + 1 → at + length (stringOf table event x) ≤ n →
-      c + length (part event (x .second) (x .end)) ≤ n
-  room-value at b c n e f h =
-      let l = part-length event (x .second) (x .end) (w .second) (w .inB) in
-      omega (arith, string-length table event x w, first-length table event x w, l)
+pub string-parts :
+    (table event : List ℕ) (x : StringAt) →
+    length (stringOf table event x) ≡ length (part table (x .first) (x .colon)) + 1 + length (part event (x .second) (x .end))
+unfolding stringOf
+string-parts table event x = simp length-append (omega arith)
 
 pub wrote-string :
     (table event : List ℕ) (x : StringAt) {l l₁ l₂ l₃ : List ℕ} {at b c d : ℕ} → Wrote l at (part table (x .first) (x .colon)) l₁ b →
@@ -52,67 +43,85 @@ following-first s (r ∷ ss) =
     ∙ append-assoc s separator (r ++ following ss)
     ∙ ap (λ (l : List ℕ). s ++ l) (sym (append-assoc separator r (following ss)))
 
-module _ (table event : List ℕ) (objects : List StringAt) (count : ℕ) where
-  abbrev ss : List Text
-  ss = stringsOf table event objects count
+-- a part of what is to be written has room where the whole has
+pub part-room :
+    {l₀ whole l xs : List ℕ} {at p : ℕ} (ys zs : List ℕ) → ToGo l₀ at whole l p xs → at + length whole ≤ length l₀ → xs ≡ ys ++ zs →
+    p + length ys ≤ length l
+part-room ys zs g h e = omega (arith, g .after, g .long, ap length e, length-append ys zs)
 
-  abbrev string : ℕ → Text
-  string i = stringOf table event (getD objects i noString)
+module _ (table event numbers : List ℕ) (count : ℕ) where
+  -- the first `count` of the strings that the numbers lend
+  abbrev pub lent : List Text
+  lent = stringsOf table event (stringsIn numbers) count
 
-  strings-none : count ≡ 0 → separated ss ≡ []
-  unfolding separated stringsOf
-  strings-none e = rw e
+  pub wrote-none : (l : List ℕ) (at : ℕ) → count ≡ 0 → Wrote l at (separated lent) l at
+  wrote-none l at e = rw none (record { bytes = refl; after = omega arith })
+    where
+      none : separated lent ≡ []
+      none = unfold separated stringsOf in (rw e)
 
-  pub wrote-none : (l : List ℕ) (at : ℕ) → count ≡ 0 → Wrote l at (separated ss) l at
-  wrote-none l at e = rw (strings-none e) (record { bytes = refl; after = omega arith })
+  -- The first string is written, up to `next₀` of out₀, and those from place i on are still to be written
+  pub record Following (out₀ : List ℕ) (next₀ : ℕ) (out : List ℕ) (next i : ℕ) : Type 0 where
+    pub room : next₀ + length (following (drop 1 lent)) ≤ length out₀
+    pub go : ToGo out₀ next₀ (following (drop 1 lent)) out next (following (drop i lent))
 
-  module _ (fits : StringsFit table event objects count) where
-    in-array : count ≤ length objects
-    in-array = omega (arith, fits .few, fits .long)
+module _ {table event : List ℕ} (numbers : List ℕ) {count : ℕ} (fits : StringsFit table event (stringsIn numbers) count) where
+  abbrev strings : List Text
+  strings = lent table event numbers count
 
-    strings-drop : (i : ℕ) → i < count → drop i ss ≡ string i ∷ drop (i + 1) ss
-    strings-drop i h =
-        drop-next ss i (stringOf table event noString) (omega (arith, strings-length table event objects count in-array))
-        ∙ ap (λ (s : Text). s ∷ drop (i + 1) ss) (string-at table event objects count i h)
+  strings-long : length strings ≡ count
+  strings-long = strings-length table event (stringsIn numbers) count (omega (arith, fits .few, fits .long))
 
-    strings-first : 0 < count → separated ss ≡ string 0 ++ following (drop 1 ss)
-    strings-first h = ap separated (strings-drop 0 h) ∙ following-first (string 0) (drop 1 ss)
+  strings-last : (i : ℕ) → count ≤ i → following (drop i strings) ≡ []
+  unfolding following
+  strings-last i h =
+      let past : length strings ≤ i = omega (arith, strings-long) in
+      ap following (drop-of-length-le strings past)
 
-    pub strings-next : (i : ℕ) → i < count → following (drop i ss) ≡ (separator ++ string i) ++ following (drop (i + 1) ss)
+  -- the string of place i, as it was taken from the numbers
+  module _ {x : StringAt} (i : ℕ) (same : x ≡ stringIn numbers i) (below : i < count) where
+    is : x ≡ getD (stringsIn numbers) i noString
+    is = same ∙ string-taken numbers i (omega (arith, fits .few))
+
+    string-fits : StringFits table event x
+    string-fits = subst (StringFits table event) (sym is) (fits .each i below)
+
+    strings-drop : drop i strings ≡ stringOf table event x ∷ drop (i + 1) strings
+    strings-drop =
+        drop-next strings i (stringOf table event noString) (omega (arith, strings-long))
+        ∙ ap (λ (s : Text). s ∷ drop (i + 1) strings)
+        (string-at table event (stringsIn numbers) count i below ∙ ap (stringOf table event) (sym is))
+
+    strings-next : following (drop i strings) ≡ (separator ++ stringOf table event x) ++ following (drop (i + 1) strings)
     unfolding following
-    strings-next i h = ap following (strings-drop i h)
+    strings-next = ap following strings-drop
 
-    strings-last : (i : ℕ) → count ≤ i → following (drop i ss) ≡ []
-    unfolding following
-    strings-last i h =
-        let l : length ss ≤ i = omega (arith, strings-length table event objects count in-array) in
-        ap following (drop-of-length-le ss l)
+    -- the next string, behind its separator
+    module _ {out₀ out : List ℕ} {next₀ next : ℕ} (w : Following table event numbers count out₀ next₀ out next i) where
+      pub next-ready : StringFits table event x × (next + length (separator ++ stringOf table event x) ≤ length out)
+      next-ready =
+          (string-fits, part-room (separator ++ stringOf table event x) (following (drop (i + 1) strings)) (w .go) (w .room) strings-next)
 
-    module _ (some : 0 < count) where
-      pub room-first : (at n : ℕ) → at + length (separated ss) ≤ n → at + length (string 0) ≤ n
-      room-first at n h =
-          let l = length-append (string 0) (following (drop 1 ss)) in
-          omega (arith, ap length (strings-first some), l)
+      pub next-gone :
+          {out₁ : List ℕ} {next₁ : ℕ} → Wrote out next (separator ++ stringOf table event x) out₁ next₁ →
+          Following table event numbers count out₀ next₀ out₁ next₁ (i + 1)
+      next-gone u = record { room = w .room; go = gone (separator ++ stringOf table event x) (following (drop (i + 1) strings)) (w .go) strings-next u }
 
-      pub room-next :
-          (l₀ l₁ l : List ℕ) (at b p i : ℕ) → at + length (separated ss) ≤ length l₀ → Wrote l₀ at (string 0) l₁ b →
-          ToGo l₁ b (following (drop 1 ss)) l p (following (drop i ss)) → i < count →
-          p + length (separator ++ string i) ≤ length l
-      room-next l₀ l₁ l at b p i h w g k =
-          omega (
-            arith,
-            ap length (strings-first some),
-            length-append (string 0) (following (drop 1 ss)),
-            ap length (strings-next i k),
-            length-append (separator ++ string i) (following (drop (i + 1) ss)),
-            w .after,
-            wrote-length w,
-            g .after,
-            g .long,
-          )
+  -- the first string
+  module _ {x : StringAt} (same : x ≡ stringIn numbers 0) (some : 0 < count) where
+    strings-first : separated strings ≡ stringOf table event x ++ following (drop 1 strings)
+    strings-first = ap separated (strings-drop 0 same some) ∙ following-first (stringOf table event x) (drop 1 strings)
+
+    first-length : length (separated strings) ≡ length (stringOf table event x) + length (following (drop 1 strings))
+    first-length = ap length strings-first ∙ length-append (stringOf table event x) (following (drop 1 strings))
+
+    pub first-ready : (at n : ℕ) → at + length (separated strings) ≤ n → StringFits table event x × (at + length (stringOf table event x) ≤ n)
+    first-ready at n h = (string-fits 0 same some, omega (arith, first-length))
+
+    module _ {l l₁ : List ℕ} {at b : ℕ} (w : Wrote l at (stringOf table event x) l₁ b) where
+      pub following-start : at + length (separated strings) ≤ length l → Following table event numbers count l₁ b l₁ b 1
+      following-start h = record { room = omega (arith, first-length, w .after, wrote-length w); go = to-go }
 
       pub wrote-all :
-          (l₀ l₁ l : List ℕ) (at b p i : ℕ) → Wrote l₀ at (string 0) l₁ b →
-          ToGo l₁ b (following (drop 1 ss)) l p (following (drop i ss)) → count ≤ i →
-          Wrote l₀ at (separated ss) l p
-      wrote-all l₀ l₁ l at b p i w g k = rw (strings-first some) (wrote-then w (all-gone g (strings-last i k)))
+          {out : List ℕ} {next : ℕ} (i : ℕ) → Following table event numbers count l₁ b out next i → count ≤ i → Wrote l at (separated strings) out next
+      wrote-all i g h = rw strings-first (wrote-then w (all-gone (g .go) (strings-last i h)))

@@ -10,7 +10,8 @@ use Rattle.model.specs.Order.{Text, texts}
 use Rattle.model.proofs.Cases.{never, and-parts}
 use Rattle.model.proofs.SortLaws.{Apart, rising-apart, sorted-rises}
 use Rattle.packed.proofs.LayoutLaws.{All}
-use Rattle.ontology.specs.Table.{Property, EventType, Table, isVersioned, isMatch, allFit, markFits, namesRise, typeRules, typeNamed, isLetter, isNameByte, areNameBytes, isName, isNameWithin}
+use Rattle.ontology.specs.Table.{Property, EventType, Table, isVersioned, isMatch, allFit, markFits, namesRise, typeRules, typeNamed, isLetter, isNameByte}
+use Rattle.ontology.specs.Table.{areNameBytes, isName, isNameWithin}
 use Rattle.ontology.specs.TableLayout.{tableOf}
 use Rattle.ontology.proofs.TypeIndexLaws.{type-rules, properties-rules}
 use Rattle.event.proofs.EventLayoutLaws.{SetWritten, event-was}

@@ -37,7 +37,7 @@ gatherable h = record {
 }
 
 module _
-    (table event : List ℕ) (t : TypeIndex) (ps : List ℕ) (e : EventIndex) (ats : List ℕ) (h : Hashable table event t ps e ats)
+    {table event : List ℕ} {t : TypeIndex} {ps : List ℕ} {e : EventIndex} {ats : List ℕ} (h : Hashable table event t ps e ats)
     (objects : List StringAt) (count : ℕ)
     (g : stringsOf table event objects count ≡ sorted texts (objectStrings (h .type .properties) (h .event .sets)))
   where

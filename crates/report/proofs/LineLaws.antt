@@ -5,8 +5,8 @@ use mathlib.Core.List.{List, [], _∷_, _++_, append-assoc, map, flatten}
 use Prim.Native.Nat.{ℕ, zero, suc, _+_, _-_, _*_, _/_, _%_, _^_, _≤_, _<_}
 use native.Mathlib.Numerals.{add-one}
 use native.Mathlib.Omega.{arith}
-use lib.ListN.{length, drop, getD, set, getElem?, length-append, take-append-drop, drop-of-length-le}
-use lib.Seq.{drop-drop, drop-cons}
+use lib.ListN.{length, drop, getD, set, getElem?, length-append, drop-of-length-le}
+use lib.Seq.{drop-cons}
 use borrow.Author.Tests.{lt-ltb, le-ltb}
 use Rattle.model.specs.Order.{Text}
 use Rattle.model.specs.Opening.{placeOf}
@@ -32,6 +32,8 @@ use Rattle.event.specs.declared.sets.SetAt.{SetAt}
 use Rattle.event.specs.declared.read.EventIndex.{EventIndex}
 use Rattle.event.proofs.SetLaws.{set-read}
 use Rattle.event.proofs.LookupLaws.{text-there, text-next}
+use Rattle.hashing.proofs.ObjectLaws.{part-room}
+use Rattle.hashing.proofs.GatherLaws.{At, at-place, set-then}
 use Rattle.report.specs.Report.{hexDigit, hexOf, valueLine, valueLines, objectLines, hashedLines, conflictLine, overfullLine, findingLine, refusedLine}
 use Rattle.report.specs.code.ReportIndex.{PlaceNamed, FindingNamed, ValuesRoom, ObjectsRoom, LinesRoom}
 
@@ -75,14 +77,6 @@ hex-gone {l₀} {whole} {l} {at} s i a b h x y g =
     gone (hexDigit (getD s i 0 / 16) ∷ hexDigit (getD s i 0 % 16) ∷ []) (hexOf (drop (i + 1) s)) g (hex-step s i h)
     (subst (Wrote l (at + 2 * i) (hexDigit (getD s i 0 / 16) ∷ hexDigit (getD s i 0 % 16) ∷ []) (set (set l (at + 2 * i) a) (at + 2 * i + 1) b)) (hex-next at i)
     (rw (← x, ← y) (wrote-then (stored l (at + 2 * i) a) (stored (set l (at + 2 * i) a) (at + 2 * i + 1) b))))
-
--- ---- what follows a part that is written
-
--- a part of what is to be written has room where the whole has
-pub part-room :
-    {l₀ whole l xs : List ℕ} {at p : ℕ} (ys zs : List ℕ) → ToGo l₀ at whole l p xs → at + length whole ≤ length l₀ → xs ≡ ys ++ zs →
-    p + length ys ≤ length l
-part-room ys zs g h e = omega (arith, g .after, g .long, h, ap length e, length-append ys zs)
 
 -- ---- a refusal
 
@@ -226,19 +220,7 @@ pub record Lines (name : Text) (vs : List Text) (event out₀ : List ℕ) (at : 
 
 module _ {name : Text} {vs : List Text} {event out₀ : List ℕ} {at : ℕ} where
   pub lines-start : (x : SetAt) → SetIs event vs x → Lines name vs event out₀ at out₀ at (x .start) (x .count) (drop (x .end) event)
-  lines-start x w = record {
-    rest = vs;
-    bytes =
-        sym (take-append-drop (x .end - x .start) (drop (x .start) event))
-        ∙ ap₂ (λ (a b : List ℕ). a ++ b) (w .bytes)
-        (drop-drop (x .end - x .start) (x .start) event ∙ ap (λ (n : ℕ). drop n event) (sums (x .start) (x .end) (w .order)));
-    within = omega (arith, w .order, w .within);
-    long = w .count;
-    go = to-go;
-  }
-    where
-      sums : (a e : ℕ) → a ≤ e → a + (e - a) ≡ e
-      sums a e h = omega arith
+  lines-start x w = record { rest = vs; bytes = set-then w; within = omega (arith, w .order, w .within); long = w .count; go = to-go }
 
   module _ {out tail : List ℕ} {next i left : ℕ} (small : length event < 2 ^ 64) (w : Lines name vs event out₀ at out next i left tail) where
     record First : Type 0 where
@@ -292,16 +274,6 @@ module _ {name : Text} {vs : List Text} {event out₀ : List ℕ} {at : ℕ} whe
         go (v ∷ us) l g = absurd (omega arith)
 
 -- ---- the lines of all objects
-
-record At {A : Type 0} (xs : List A) (i : ℕ) : Type 0 where
-  what : A
-  is : getElem? xs i ≡ some what
-  rest : drop i xs ≡ what ∷ drop (suc i) xs
-
-at-place : {A : Type 0} (xs : List A) (i : ℕ) → i < length xs → At xs i
-at-place [] i h = absurd (omega arith)
-at-place (x ∷ xs) zero h = record { what = x; is = refl; rest = refl }
-at-place (x ∷ xs) (suc i) h = let w = at-place xs i (omega arith) in record { what = w .what; is = w .is; rest = w .rest }
 
 objects-step :
     (ps : List Property) (ss : List (List Text)) (k : ℕ) (w : At ps k) → k < length ss →

@@ -1,31 +1,43 @@
-use native.Mathlib.Omega.{arith}
-use Rattle.hashing.proofs.CallLaws.{hash-small, hash-refused, text-within, text-length, hash-done}
+-- `hash` meets its contract: it hashes what `hash_text` wrote, and after question 1, for which each has its own room, both ask the same questions.
 use borrow.Author.Needs.{needs}
+use native.Mathlib.Omega.{arith}
+use Prim.Native.Nat.{_≤_}
+use lib.ListN.{length}
+use Rattle.hashing.proofs.CallLaws.{hash-small, hash-refused, text-within, text-length, hash-done}
 use Rattle.hashing.proofs.calls.hash.Statement.{statement}
 use Rattle.hashing.proofs.calls.hash.Tie as tie
+
+-- ---- the places
+
+abbrev to-text : tie.After-n → tie.After-hash-text
+to-text c = search
+
+-- ---- the facts
+
+within : (c : tie.After-n) → c .n .given .0 .0 ≤ length (to-text c .hash-text .last .1 .1 .0)
+within c = let t = to-text c .hash-text in text-within _ _ _ _ (t .result) (t .ensures) (c .n .given .1)
+
+-- ---- the needs
 
 returns : tie.Need-returns
 returns c = hash-small _ _ _ (c .if1 .taken)
 
-part-write-digest-end : tie.Need-part-write-digest-end
-part-write-digest-end c = let t = c .before .before .before .before .before .hash-text in omega (arith, text-within _ _ _ _ (t .result) (t .ensures) (c .before .before .n .given .1))
-
 write-digest-requires : tie.Need-write-digest-requires
 write-digest-requires c κs =
-    let l = c .before .before .before .before .before .before .before in
-    let e = c .before .before .before .before .n .given .1 in
-    let t = l .hash-text in
-    (omega (arith, text-within _ _ _ _ (t .result) (t .ensures) e, text-length _ _ _ _ (t .result) (t .ensures) e), omega (arith, l .before .before .if1 .left))
+    let told : tie.After-n = search in
+    omega (arith, within told, text-length (to-text told .hash-text .last .1 .1 .0) (told .n .given .0 .0) (within told))
 
 returns-2 : tie.Need-returns-2
 returns-2 c =
-    let l = c .before .before .before .before .before .before .before .before .before .before in
-    hash-done _ _ _ _ (l .hash-text .result) (l .hash-text .ensures) _ (omega (arith, l .before .before .if1 .left)) (omega arith) (c .before .before .before .before .before .before .before .n .given .1) (c .before .before .write-digest .ensures)
+    let told : tie.After-n = search in
+    let t = to-text told .hash-text in
+    hash-done _ _ _ _ (t .result) (t .ensures) _ (omega arith) (omega arith) (told .n .given .1) (c .before .before .write-digest .ensures)
 
 returns-3 : tie.Need-returns-3
 returns-3 c =
-    let l = c .before .before .before .before in
-    hash-refused _ _ _ _ (l .hash-text .result) (l .hash-text .ensures) _ (omega (arith, l .before .before .if1 .left)) (omega arith) (c .before .number .given .1)
+    let call : tie.After-hash-text = search in
+    let t = call .hash-text in
+    hash-refused _ _ _ _ (t .result) (t .ensures) _ (omega arith) (omega arith) (c .before .number .given .1)
 
 pub hash-spec : {M : Type 1} → statement M
 hash-spec =
@@ -37,7 +49,7 @@ hash-spec =
     (λ c. search needs)
     (λ c. search needs)
     (λ c. search needs)
-    part-write-digest-end
+    (λ c. omega (arith, within (search)))
     write-digest-requires
     (λ c. search needs)
     (λ c. search needs)

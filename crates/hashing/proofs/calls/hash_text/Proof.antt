@@ -1,10 +1,10 @@
+-- `hash_text` meets its contract: the number that `ask_event` answers says whether the questions refuse the event or accept it, and an accepted event's hash
+-- text is written.
 use borrow.Author.Needs.{needs}
 use native.Mathlib.Omega.{arith}
-use Prim.Native.Nat.{ℕ, _≤_}
 use mathlib.Core.List.{List}
-use lib.ListN.{length}
+use Prim.Native.Nat.{ℕ}
 use denote.Ref.{now}
-use Rattle.replies.specs.Capacities.{hashTextCapacity}
 use Rattle.event.specs.EventLayout.{wide}
 use Rattle.event.specs.code.EventIndex.{eventQuestions, EventAsked, asked, EventAnswers}
 use Rattle.event.proofs.AskLaws.{Accepted, accepted-is, refused-is}
@@ -14,37 +14,27 @@ use Rattle.hashing.proofs.calls.hash_text.Tie as tie
 
 -- ---- the places
 
--- The table is read at `After-read-table`, the event at `After-read-event`, and the questions are asked at `After-ask-event`.
-abbrev to-start : tie.Else1 → tie.Start
-to-start c = c .before .before .before .before
+abbrev start : tie.After-ask-event → tie.Start
+start c = search
 
-abbrev to-name : tie.After-read-table → tie.After-type-name
-to-name c = c .before .before
-
-abbrev to-table : tie.After-read-event → tie.After-read-table
-to-table c = c .before .before .before
+abbrev to-table : tie.After-ask-event → tie.After-read-table
+to-table c = search
 
 abbrev to-event : tie.After-ask-event → tie.After-read-event
-to-event c = c .before .before .before .before
-
-abbrev to-room : tie.After-ask-event → tie.Else1
-to-room c = to-name (to-table (to-event c)) .before
-
-abbrev to-accepted : tie.After-write-hash-text-arg → tie.Else2
-to-accepted c = c .before .before .before
+to-event c = search
 
 -- ---- the values
 
 module _ (c : tie.After-ask-event) where
   abbrev table : List ℕ
-  table = now (to-start (to-room c) .args .table)
+  table = now (start c .args .table)
 
   abbrev event : List ℕ
-  event = now (to-start (to-room c) .args .event)
+  event = now (start c .args .event)
 
   -- the numbers of the type's properties
   abbrev ps : List ℕ
-  ps = to-table (to-event c) .read-table .last .1 .1 .0
+  ps = to-table c .read-table .last .1 .1 .0
 
   -- where the event's sets stand
   abbrev ats : List ℕ
@@ -52,19 +42,14 @@ module _ (c : tie.After-ask-event) where
 
   -- the number, the type and the event
   abbrev answer : EventAsked
-  answer = asked (c .ask-event .result) (to-table (to-event c) .read-table .result .index) (to-event c .read-event .result)
+  answer = asked (c .ask-event .result) (to-table c .read-table .result .index) (to-event c .read-event .result)
 
   -- ---- the facts
 
   answered : EventAnswers (eventQuestions wide table event) table event ps ats answer
   answered =
-      let read = to-event c in
-      let tabled = to-table read in
-      c .ask-event .ensures _ _ wide (tabled .read-table .ensures) (λ x h. to-name tabled .type-name .ensures wide x h) (read .read-event .ensures)
-
--- the output is large enough
-room : (c : tie.Else1) → hashTextCapacity ≤ length (now (to-start c .args .out))
-room c = omega (arith, c .if1 .left)
+      let name : tie.After-type-name = search in
+      c .ask-event .ensures _ _ wide (to-table c .read-table .ensures) (name .type-name .ensures wide) (to-event c .read-event .ensures)
 
 abbrev accepted : (c : tie.Else2) → let a = c .before in Accepted wide (table a) (event a) (ps a) (ats a) (answer a)
 accepted c = accepted-is wide _ _ _ _ _ (answered (c .before)) (c .if2 .left)
@@ -75,19 +60,15 @@ returns : tie.Need-returns
 returns c = text-small _ _ _ (c .if1 .taken)
 
 returns-2 : tie.Need-returns-2
-returns-2 c = text-refused _ _ _ _ (room (to-room (c .before))) (refused-is wide _ _ _ _ _ (answered (c .before)) (c .if2 .taken))
+returns-2 c = text-refused _ _ _ _ (omega arith) (refused-is wide _ _ _ _ _ (answered (c .before)) (c .if2 .taken))
 
 write-hash-text-requires : tie.Need-write-hash-text-requires
-write-hash-text-requires c κs =
-    let taken = to-accepted c in
-    (hashable _ _ _ _ _ (accepted taken), room (to-room (taken .before)), search needs, search needs)
+write-hash-text-requires c κs = (hashable (accepted (search)), omega arith, search needs, search needs)
 
 returns-3 : tie.Need-returns-3
 returns-3 c =
-    let written = c .before .before in
-    let taken = to-accepted (written .before) in
-    let a = accepted taken in
-    text-done _ _ _ _ _ _ a _ _ (room (to-room (taken .before))) (written .write-hash-text .ensures (hashable _ _ _ _ _ a))
+    let a = accepted (search) in
+    text-done _ a (omega arith) (c .before .before .write-hash-text .ensures (hashable a))
 
 pub hash-text-spec : {M : Type 1} → statement M
 hash-text-spec =

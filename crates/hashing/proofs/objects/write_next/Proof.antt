@@ -1,10 +1,10 @@
-use Rattle.packed.proofs.WriteLaws.{wrote-then}
 use borrow.Author.Needs.{needs}
+use Rattle.packed.proofs.WriteLaws.{wrote-then}
 use Rattle.hashing.proofs.objects.write_next.Statement.{statement}
 use Rattle.hashing.proofs.objects.write_next.Tie as tie
 
 returns : tie.Need-returns
-returns c = wrote-then (c .before .before .before .before .before .before .copy .ensures) (c .before .before .write-object .ensures)
+returns c = let separated : tie.After-copy = search in wrote-then (separated .copy .ensures) (c .before .before .write-object .ensures)
 
 pub write-next-spec : {M : Type 1} → statement M
 write-next-spec =

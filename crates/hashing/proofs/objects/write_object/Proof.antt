@@ -1,40 +1,32 @@
-use Rattle.packed.proofs.WriteLaws.{wrote-length}
-use Rattle.hashing.proofs.ObjectLaws.{room-name, room-colon, room-value, wrote-string}
-use native.Mathlib.Omega.{arith}
 use borrow.Author.Needs.{needs}
+use native.Mathlib.Omega.{arith}
+use Prim.Native.Nat.{_+_, _≤_}
+use lib.ListN.{length}
+use denote.Ref.{now}
+use Rattle.packed.specs.Packed.{part}
+use Rattle.hashing.proofs.ObjectLaws.{string-parts, wrote-string}
 use Rattle.hashing.proofs.objects.write_object.Statement.{statement}
 use Rattle.hashing.proofs.objects.write_object.Tie as tie
 
-copy-part-requires : tie.Need-copy-part-requires
-copy-part-requires c κs =
-    let p = c .before .before .before .before in
-    (p .pre .0 .first, p .pre .0 .inA, room-name _ _ _ (p .pre .0) _ _ (p .pre .1))
-
-copy-requires : tie.Need-copy-requires
-copy-requires c κs =
-    let w = c .before .before .before .before .copy-part in
-    let p = c .before .before .before .before .before .before .before .before .before in
-    let h = room-colon (p .args .table .now) (p .args .event .now) (p .args .x) (p .pre .0) _ _ _ (w .ensures .after) (p .pre .1) in
-    omega (arith, h, wrote-length (w .ensures))
-
-copy-part-requires-2 : tie.Need-copy-part-requires-2
-copy-part-requires-2 c κs =
-    let v = c .before .before .before .copy in
-    let w = c .before .before .before .before .before .before .before .before .copy-part in
-    let p = c .before .before .before .before .before .before .before .before .before .before .before .before .before in
-    let h = room-value (p .args .table .now) (p .args .event .now) (p .args .x) (p .pre .0) _ _ _ _ (w .ensures .after) (v .ensures .after) (p .pre .1) in
-    (p .pre .0 .second, p .pre .0 .inB, omega (arith, h, wrote-length (w .ensures), wrote-length (v .ensures)))
+fits :
+    (c : tie.Start) →
+    let a = c .args in
+    a .at + length (part (now (a .table)) (a .x .first) (a .x .colon)) + 1 + length (part (now (a .event)) (a .x .second) (a .x .end)) ≤ length (now (a .out))
+fits c = omega (arith, string-parts (now (c .args .table)) (now (c .args .event)) (c .args .x))
 
 returns : tie.Need-returns
-returns c = wrote-string _ _ _ (c .before .before .before .before .before .before .before .before .before .before .before .copy-part .ensures) (c .before .before .before .before .before .before .copy .ensures) (c .before .before .copy-part2 .ensures)
+returns c =
+    let name : tie.After-copy-part = search in
+    let colon : tie.After-copy = search in
+    wrote-string _ _ _ (name .copy-part .ensures) (colon .copy .ensures) (c .before .before .copy-part2 .ensures)
 
 pub write-object-spec : {M : Type 1} → statement M
 write-object-spec =
     tie.close
     (tie.spec
-    copy-part-requires
+    (λ c κs. omega (arith, fits (search)))
     (λ c. search needs)
-    copy-requires
-    copy-part-requires-2
+    (λ c κs. omega (arith, fits (search)))
+    (λ c κs. omega (arith, fits (search)))
     (λ c. search needs)
     returns)
