@@ -34,6 +34,64 @@ use Rattle.hashing.proofs.HashSizeLaws.{strings-length}
 object-string : (name value : Text) → joined name value ≡ objectString name value
 object-string name value = refl
 
+-- ---- the values of a set, read one after the other
+
+-- the values `rest`, so many as `left`, stand at `at`, and `tail` follows them
+pub record Standing (event : List ℕ) (rest : List Text) (at left : ℕ) (tail : List ℕ) : Type 0 where
+  pub bytes : drop at event ≡ flatten (map text rest) ++ tail
+  pub within : at ≤ length event
+  pub long : left ≡ length rest
+
+pub standing-all : {event : List ℕ} {vs : List Text} {x : SetAt} → SetIs event vs x → Standing event vs (x .start) (x .count) (drop (x .end) event)
+standing-all {event} {x} w =
+    let size = x .end - x .start in
+    let past : x .start + size ≡ x .end = omega (arith, w .order) in record {
+      bytes =
+          sym (take-append-drop size (drop (x .start) event))
+          ∙ ap₂ (λ (a b : List ℕ). a ++ b) (w .bytes) (drop-drop size (x .start) event ∙ ap (λ (i : ℕ). drop i event) past);
+      within = omega (arith, w .order, w .within);
+      long = w .count;
+    }
+
+-- the first of them stands from a up to z, and the others follow
+pub record First (event : List ℕ) (rest : List Text) (a z left : ℕ) (tail : List ℕ) : Type 0 where
+  pub others : List Text
+  pub is : rest ≡ part event a z ∷ others
+  pub standing : Standing event others z (left - 1) tail
+
+module _ {event : List ℕ} {rest : List Text} {at left : ℕ} {tail : List ℕ} (w : Standing event rest at left tail) where
+  pub standing-none : left ≤ 0 → rest ≡ []
+  standing-none h = go rest (w .long)
+    where
+      go : (rest : List Text) → left ≡ length rest → rest ≡ []
+      go [] l = refl
+      go (v ∷ us) l = absurd (omega arith)
+
+  module _ (small : length event < 2 ^ 64) (some : 0 < left) where
+    pub standing-bad : readText (drop at event) ≡ fail → ⊥
+    unfolding flatten
+    standing-bad e = go rest (w .bytes) (w .long)
+      where
+        go : (rest : List Text) → drop at event ≡ flatten (map text rest) ++ tail → left ≡ length rest → ⊥
+        go [] b l = omega arith
+        go (v ∷ us) b l =
+            let later = flatten (map text us) ++ tail in
+            text-there event small at (w .within) v later (b ∙ append-assoc (text v) (flatten (map text us)) tail) e
+
+    pub standing-next : {a z : ℕ} → TextStops event at a z → First event rest a z left tail
+    unfolding flatten
+    standing-next {a} {z} t = go rest (w .bytes) (w .long)
+      where
+        go : (rest : List Text) → drop at event ≡ flatten (map text rest) ++ tail → left ≡ length rest → First event rest a z left tail
+        go [] b l = absurd (omega arith)
+        go (v ∷ us) b l =
+            let later = flatten (map text us) ++ tail in
+            let (is, far, read) = text-next event small at (w .within) v later (b ∙ append-assoc (text v) (flatten (map text us)) tail) a z t in record {
+              others = us;
+              is = ap (λ (u : Text). u ∷ us) (sym is);
+              standing = record { bytes = read .rest; within = read .within; long = omega arith };
+            }
+
 -- ---- the objects of one property
 
 module _ {table event : List ℕ} {xs : List StringAt} {n : ℕ} where
@@ -54,15 +112,8 @@ module _ {table event : List ℕ} {xs : List StringAt} {n : ℕ} where
         ∙ ap (sorted texts) (append-assoc ws added (stringOf table event x ∷ []));
   }
 
--- a set's values, and what follows them
-pub set-then : {event : List ℕ} {vs : List Text} {x : SetAt} → SetIs event vs x → drop (x .start) event ≡ flatten (map text vs) ++ drop (x .end) event
-set-then {event} {x} w =
-    let past : x .start + (x .end - x .start) ≡ x .end = omega (arith, w .order) in
-    sym (take-append-drop (x .end - x .start) (drop (x .start) event))
-    ∙ ap₂ (λ (a b : List ℕ). a ++ b) (w .bytes) (drop-drop (x .end - x .start) (x .start) event ∙ ap (λ (i : ℕ). drop i event) past)
-
 -- the strings of values whose property's name stands from `name` up to `colon`
-abbrev named : List ℕ → ℕ → ℕ → List Text → List Text
+abbrev pub named : List ℕ → ℕ → ℕ → List Text → List Text
 named table name colon us = map (objectString (part table name colon)) us
 
 -- The values vs of a set are gathered but for `left`, which stand at `at`
@@ -72,73 +123,32 @@ pub record Gathering
   pub done : List Text
   pub rest : List Text
   pub all : vs ≡ done ++ rest
-  pub bytes : drop at event ≡ flatten (map text rest) ++ tail
-  pub within : at ≤ length event
-  pub long : left ≡ length rest
-  pub have : Gathered table event xs n ys m (map (objectString (part table name colon)) done)
+  pub stand : Standing event rest at left tail
+  pub have : Gathered table event xs n ys m (named table name colon done)
 
-module _ {table event : List ℕ} {name colon : ℕ} {xs : List StringAt} {n : ℕ} {vs : List Text} where
-  gathering-none : {x : SetAt} → SetIs event vs x → Gathering table event name colon xs n xs n vs (x .start) (x .count) (drop (x .end) event)
-  gathering-none w = record {
-    done = [];
-    rest = vs;
-    all = refl;
-    bytes = set-then w;
-    within = omega (arith, w .order, w .within);
-    long = w .count;
-    have = gathered-none;
-  }
+module _
+    {table event : List ℕ} {name colon : ℕ} {xs ys : List StringAt} {n m at left : ℕ} {vs : List Text} {tail : List ℕ}
+    (w : Gathering table event name colon xs n ys m vs at left tail)
+  where
+    gathering-more :
+        {a z : ℕ} {zs : List StringAt} → First event (w .rest) a z left tail →
+        Inserted table event ys m (record { first = name; colon = colon; second = a; end = z }) zs →
+        Gathering table event name colon xs n zs (m + 1) vs z (left - 1) tail
+    unfolding stringOf
+    gathering-more {a} {z} {zs} f i =
+        let one = part event a z ∷ [] in record {
+          done = w .done ++ one;
+          rest = f .others;
+          all = w .all ∙ ap (λ (us : List Text). w .done ++ us) (f .is) ∙ sym (append-assoc (w .done) one (f .others));
+          stand = f .standing;
+          have =
+              subst (Gathered table event xs n zs (m + 1)) (sym (map-append (objectString (part table name colon)) (w .done) one)) (gathered-more (w .have) i);
+        }
 
-  module _
-      {ys : List StringAt} {m at left : ℕ} {tail : List ℕ} (small : length event < 2 ^ 64)
-      (w : Gathering table event name colon xs n ys m vs at left tail)
-    where
-      -- the first value of those that are left, and the others
-      record First : Type 0 where
-        v : Text
-        us : List Text
-        all : vs ≡ w .done ++ (v ∷ us)
-        bytes : drop at event ≡ text v ++ (flatten (map text us) ++ tail)
-        long : left ≡ suc (length us)
-
-      first : 0 < left → First
-      unfolding flatten
-      first h = go (w .rest) (w .all) (w .bytes) (w .long)
-        where
-          go : (rest : List Text) → vs ≡ w .done ++ rest → drop at event ≡ flatten (map text rest) ++ tail → left ≡ length rest → First
-          go [] a b l = absurd (omega arith)
-          go (v ∷ us) a b l = record { v = v; us = us; all = a; bytes = b ∙ append-assoc (text v) (flatten (map text us)) tail; long = l }
-
-      pub gathering-bad : 0 < left → readText (drop at event) ≡ fail → ⊥
-      gathering-bad h e = let f = first h in text-there event small at (w .within) (f .v) (flatten (map text (f .us)) ++ tail) (f .bytes) e
-
-      gathering-more :
-          0 < left → {a z : ℕ} → TextStops event at a z → {zs : List StringAt} →
-          Inserted table event ys m (record { first = name; colon = colon; second = a; end = z }) zs →
-          Gathering table event name colon xs n zs (m + 1) vs z (left - 1) tail
-      unfolding stringOf
-      gathering-more h {a} {z} t {zs} i =
-          let f = first h in
-          let next = text-next event small at (w .within) (f .v) (flatten (map text (f .us)) ++ tail) (f .bytes) a z t in
-          let e : named table name colon (w .done) ++ named table name colon (part event a z ∷ []) ≡ named table name colon (w .done ++ (f .v ∷ [])) =
-          ap (λ (u : Text). named table name colon (w .done) ++ named table name colon (u ∷ [])) (next .0)
-          ∙ sym (map-append (objectString (part table name colon)) (w .done) (f .v ∷ [])) in
-          record {
-            done = w .done ++ (f .v ∷ []);
-            rest = f .us;
-            all = f .all ∙ sym (append-assoc (w .done) (f .v ∷ []) (f .us));
-            bytes = next .2 .rest;
-            within = next .2 .within;
-            long = omega (arith, f .long);
-            have = subst (Gathered table event xs n zs (m + 1)) e (gathered-more (w .have) i);
-          }
-
-      gathering-all : left ≤ 0 → Gathered table event xs n ys m (named table name colon vs)
-      gathering-all h = go (w .rest) (w .all) (w .long)
-        where
-          go : (rest : List Text) → vs ≡ w .done ++ rest → left ≡ length rest → Gathered table event xs n ys m (named table name colon vs)
-          go [] a l = subst (λ (us : List Text). Gathered table event xs n ys m (named table name colon us)) (sym (a ∙ append-nil (w .done))) (w .have)
-          go (v ∷ us) a l = absurd (omega arith)
+    gathering-all : left ≤ 0 → Gathered table event xs n ys m (named table name colon vs)
+    gathering-all h =
+        let all : vs ≡ w .done = w .all ∙ ap (λ (us : List Text). w .done ++ us) (standing-none (w .stand) h) ∙ append-nil (w .done) in
+        subst (λ (us : List Text). Gathered table event xs n ys m (named table name colon us)) (sym all) (w .have)
 
 -- The first n of `objects` are the first `count` of `objects₀` with the values of a set but for `left` of them, which stand at `at`
 pub record GatheringTo (table event : List ℕ) (name colon : ℕ) (objects₀ : List ℕ) (count at₀ left₀ : ℕ) (objects : List ℕ) (n at left : ℕ) : Type 0 where
@@ -151,29 +161,34 @@ pub record GatheringTo (table event : List ℕ) (name colon : ℕ) (objects₀ :
 pub set-start :
     {table event objects : List ℕ} {name colon count at left : ℕ} → length objects ≡ 128 → StringsFit table event (stringsIn objects) count →
     count + left ≤ 32 → GatheringTo table event name colon objects count at left objects count at left
-set-start l f h = record { size = l; fit = f; few = h; so-far = λ vs end w. gathering-none w }
+set-start l f h = record {
+  size = l;
+  fit = f;
+  few = h;
+  so-far = λ vs end w. record { done = []; rest = vs; all = refl; stand = standing-all w; have = gathered-none };
+}
 
 module _
-    {table event objects₀ objects : List ℕ} {name colon count at₀ left₀ n at left : ℕ} (small : length event < 2 ^ 64)
+    {table event objects₀ objects : List ℕ} {name colon count at₀ left₀ n at left : ℕ}
     (w : GatheringTo table event name colon objects₀ count at₀ left₀ objects n at left)
   where
     pub set-more :
-        {objects₁ : List ℕ} {a z : ℕ} → 0 < left → TextStops event at a z → length objects₁ ≡ length objects →
+        {objects₁ : List ℕ} {a z : ℕ} → length event < 2 ^ 64 → 0 < left → TextStops event at a z → length objects₁ ≡ length objects →
         Inserted table event (stringsIn objects) n (record { first = name; colon = colon; second = a; end = z }) (stringsIn objects₁) →
         GatheringTo table event name colon objects₀ count at₀ left₀ objects₁ (n + 1) z (left - 1)
-    set-more h t l i = record {
+    set-more small h t l i = record {
       size = l ∙ w .size;
       fit = i .fit;
       few = omega (arith, w .few);
-      so-far = λ vs end is. gathering-more small (w .so-far vs end is) h t i;
+      so-far = λ vs end is. let g = w .so-far vs end is in gathering-more g (standing-next (g .stand) small h t) i;
     }
 
     pub set-all :
         {end : ℕ} → left ≤ 0 →
         StringsFit table event (stringsIn objects) n
         × ((vs : List Text) → SetIs event vs (record { start = at₀; end = end; count = left₀ }) →
-        Gathered table event (stringsIn objects₀) count (stringsIn objects) n (map (objectString (part table name colon)) vs))
-    set-all {end} h = (w .fit, λ vs is. gathering-all small (w .so-far vs end is) h)
+        Gathered table event (stringsIn objects₀) count (stringsIn objects) n (named table name colon vs))
+    set-all {end} h = (w .fit, λ vs is. gathering-all (w .so-far vs end is) h)
 
 -- ---- all places
 

@@ -1,7 +1,7 @@
 -- The laws of the report's lines.
-use mathlib.Core.Path.{_≡_, refl, sym, ap, ap₂, _∙_, subst}
+use mathlib.Core.Path.{_≡_, refl, sym, ap, _∙_, subst}
 use mathlib.Core.Option.{some}
-use mathlib.Core.List.{List, [], _∷_, _++_, append-assoc, map, flatten}
+use mathlib.Core.List.{List, [], _∷_, _++_, append-assoc, flatten}
 use Prim.Native.Nat.{ℕ, zero, suc, _+_, _-_, _*_, _/_, _%_, _^_, _≤_, _<_}
 use native.Mathlib.Numerals.{add-one}
 use native.Mathlib.Omega.{arith}
@@ -12,8 +12,7 @@ use Rattle.model.specs.Order.{Text}
 use Rattle.model.specs.Opening.{placeOf}
 use Rattle.model.proofs.Cases.{never}
 use Rattle.packed.specs.Ascii.{ascii}
-use Rattle.packed.specs.Parse.{fail}
-use Rattle.packed.specs.Packed.{text, readText, part}
+use Rattle.packed.specs.Packed.{part}
 use Rattle.packed.specs.code.Written.{Wrote, ToGo}
 use Rattle.packed.proofs.WriteLaws.{to-go, gone, all-gone, wrote-as, wrote-then, stored}
 use Rattle.packed.proofs.ReadLaws.{TextStops, drop-next}
@@ -31,9 +30,8 @@ use Rattle.event.specs.code.EventIndex.{SetIs, setIn}
 use Rattle.event.specs.declared.sets.SetAt.{SetAt}
 use Rattle.event.specs.declared.read.EventIndex.{EventIndex}
 use Rattle.event.proofs.SetLaws.{set-read}
-use Rattle.event.proofs.LookupLaws.{text-there, text-next}
 use Rattle.hashing.proofs.ObjectLaws.{part-room}
-use Rattle.hashing.proofs.GatherLaws.{At, at-place, set-then}
+use Rattle.hashing.proofs.GatherLaws.{Standing, First, standing-all, standing-none, standing-next, At, at-place}
 use Rattle.report.specs.Report.{hexDigit, hexOf, valueLine, valueLines, objectLines, hashedLines, conflictLine, overfullLine, findingLine, refusedLine}
 use Rattle.report.specs.code.ReportIndex.{PlaceNamed, FindingNamed, ValuesRoom, ObjectsRoom, LinesRoom}
 
@@ -213,65 +211,37 @@ wrote-value name v w x y z = rw (append-assoc name (58 ∷ v) (10 ∷ [])) (wrot
 -- The values vs have their lines but for `left` of them, which stand at `i`
 pub record Lines (name : Text) (vs : List Text) (event out₀ : List ℕ) (at : ℕ) (out : List ℕ) (next i left : ℕ) (tail : List ℕ) : Type 0 where
   pub rest : List Text
-  pub bytes : drop i event ≡ flatten (map text rest) ++ tail
-  pub within : i ≤ length event
-  pub long : left ≡ length rest
+  pub stand : Standing event rest i left tail
   pub go : ToGo out₀ at (valueLines name vs) out next (valueLines name rest)
 
 module _ {name : Text} {vs : List Text} {event out₀ : List ℕ} {at : ℕ} where
-  pub lines-start : (x : SetAt) → SetIs event vs x → Lines name vs event out₀ at out₀ at (x .start) (x .count) (drop (x .end) event)
-  lines-start x w = record { rest = vs; bytes = set-then w; within = omega (arith, w .order, w .within); long = w .count; go = to-go }
+  pub lines-start : {x : SetAt} → SetIs event vs x → Lines name vs event out₀ at out₀ at (x .start) (x .count) (drop (x .end) event)
+  lines-start w = record { rest = vs; stand = standing-all w; go = to-go }
 
-  module _ {out tail : List ℕ} {next i left : ℕ} (small : length event < 2 ^ 64) (w : Lines name vs event out₀ at out next i left tail) where
-    record First : Type 0 where
-      v : Text
-      us : List Text
-      bytes : drop i event ≡ text v ++ (flatten (map text us) ++ tail)
-      long : left ≡ suc (length us)
-      go : ToGo out₀ at (valueLines name vs) out next (valueLine name v ++ valueLines name us)
+  module _ {out tail : List ℕ} {next i left : ℕ} (w : Lines name vs event out₀ at out next i left tail) where
+    module _ (small : length event < 2 ^ 64) (h : 0 < left) {a z : ℕ} (t : TextStops event i a z) {n : Text} (named : n ≡ name) where
+      value : First event (w .rest) a z left tail
+      value = standing-next (w .stand) small h t
 
-    first : 0 < left → First
-    unfolding flatten valueLines
-    first h = go (w .rest) (w .bytes) (w .long) (w .go)
-      where
-        go :
-            (rest : List Text) → drop i event ≡ flatten (map text rest) ++ tail → left ≡ length rest →
-            ToGo out₀ at (valueLines name vs) out next (valueLines name rest) → First
-        go [] b l g = absurd (omega arith)
-        go (v ∷ us) b l g = record { v = v; us = us; bytes = b ∙ append-assoc (text v) (flatten (map text us)) tail; long = l; go = g }
-
-    pub lines-bad : 0 < left → readText (drop i event) ≡ fail → ⊥
-    lines-bad h e = let f = first h in text-there event small i (w .within) (f .v) (flatten (map text (f .us)) ++ tail) (f .bytes) e
-
-    module _ (h : 0 < left) {a z : ℕ} (t : TextStops event i a z) {n : Text} (named : n ≡ name) where
-      value-is : valueLine n (part event a z) ≡ valueLine name (first h .v)
-      value-is = let f = first h in ap₂ valueLine named (text-next event small i (w .within) (f .v) (flatten (map text (f .us)) ++ tail) (f .bytes) a z t .0)
+      value-step : valueLines name (w .rest) ≡ valueLine n (part event a z) ++ valueLines name (value .others)
+      unfolding valueLines flatten
+      value-step = ap (valueLines name) (value .is) ∙ ap (λ (m : Text). valueLine m (part event a z) ++ valueLines name (value .others)) (sym named)
 
       pub lines-room : at + length (valueLines name vs) ≤ length out₀ → next + length (valueLine n (part event a z)) ≤ length out
-      lines-room r = let f = first h in rw value-is (part-room (valueLine name (f .v)) (valueLines name (f .us)) (f .go) r refl)
+      lines-room r = part-room (valueLine n (part event a z)) (valueLines name (value .others)) (w .go) r value-step
 
       pub lines-more :
           {out₁ : List ℕ} {next₁ : ℕ} → Wrote out next (valueLine n (part event a z)) out₁ next₁ →
           Lines name vs event out₀ at out₁ next₁ z (left - 1) tail
-      lines-more u =
-          let f = first h in
-          let s = text-next event small i (w .within) (f .v) (flatten (map text (f .us)) ++ tail) (f .bytes) a z t .2 in record {
-            rest = f .us;
-            bytes = s .rest;
-            within = s .within;
-            long = omega (arith, f .long);
-            go = gone (valueLine n (part event a z)) (valueLines name (f .us)) (f .go) (ap (λ (l : List ℕ). l ++ valueLines name (f .us)) (sym value-is)) u;
-          }
+      lines-more u = record {
+        rest = value .others;
+        stand = value .standing;
+        go = gone (valueLine n (part event a z)) (valueLines name (value .others)) (w .go) value-step u;
+      }
 
     pub lines-all : left ≤ 0 → Wrote out₀ at (valueLines name vs) out next
-    unfolding flatten valueLines
-    lines-all h = go (w .rest) (w .long) (w .go)
-      where
-        go :
-            (rest : List Text) → left ≡ length rest → ToGo out₀ at (valueLines name vs) out next (valueLines name rest) →
-            Wrote out₀ at (valueLines name vs) out next
-        go [] l g = all-gone g refl
-        go (v ∷ us) l g = absurd (omega arith)
+    unfolding valueLines flatten
+    lines-all h = all-gone (w .go) (ap (valueLines name) (standing-none (w .stand) h))
 
 -- ---- the lines of all objects
 

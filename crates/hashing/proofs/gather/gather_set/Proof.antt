@@ -6,7 +6,7 @@ use mathlib.Core.Path.{sym, _∙_}
 use lib.ListN.{length}
 use denote.Ref.{now}
 use Rattle.packed.proofs.ReadLaws.{TextStops, text-stops, text-none}
-use Rattle.hashing.proofs.GatherLaws.{GatheringTo, set-start, gathering-bad, set-more, set-all}
+use Rattle.hashing.proofs.GatherLaws.{standing-bad, GatheringTo, set-start, set-more, set-all}
 use Rattle.hashing.proofs.gather.gather_set.Statement.{statement}
 use Rattle.hashing.proofs.gather.gather_set.Tie as tie
 
@@ -46,7 +46,7 @@ returns c =
     let turn : tie.In-loop Inv-loop μ-loop = search in
     let l = turn .before in
     let none = text-none _ _ (sym (c .before .before .read-text .ensures) ∙ c .enum-told .given .1) in
-    (l .loop .inv .fit, λ vs w. absurd (gathering-bad (small l) (l .loop .inv .so-far vs _ w) (turn .loop-test .taken) none))
+    (l .loop .inv .fit, λ vs w. absurd (standing-bad (l .loop .inv .so-far vs _ w .stand) (small l) (turn .loop-test .taken) none))
 
 insert-string-requires : tie.Need-insert-string-requires Inv-loop μ-loop
 insert-string-requires c κs =
@@ -57,10 +57,10 @@ loop-again : tie.Need-loop-again Inv-loop μ-loop
 loop-again c =
     let turn : tie.In-loop Inv-loop μ-loop = search in
     let l = turn .before in
-    set-more (small l) (l .loop .inv) (turn .loop-test .taken) (stops (search)) (c .before .objects .given) (c .before .before .insert-string .ensures)
+    set-more (l .loop .inv) (small l) (turn .loop-test .taken) (stops (search)) (c .before .objects .given) (c .before .before .insert-string .ensures)
 
 returns-2 : tie.Need-returns-2 Inv-loop μ-loop
-returns-2 c = set-all (small (c .before)) (c .before .loop .inv) (omega arith)
+returns-2 c = set-all (c .before .loop .inv) (omega arith)
 
 pub gather-set-spec : {M : Type 1} → statement M
 gather-set-spec =

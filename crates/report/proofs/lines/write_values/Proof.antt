@@ -6,8 +6,9 @@ use mathlib.Core.Path.{_≡_, sym, _∙_}
 use lib.ListN.{length, drop}
 use denote.Ref.{now}
 use Rattle.packed.proofs.ReadLaws.{TextStops, text-stops, text-none}
+use Rattle.hashing.proofs.GatherLaws.{standing-bad}
 use Rattle.report.specs.code.ReportIndex.{ValuesRoom}
-use Rattle.report.proofs.LineLaws.{Lines, lines-start, lines-bad, lines-room, lines-more, lines-all}
+use Rattle.report.proofs.LineLaws.{Lines, lines-start, lines-room, lines-more, lines-all}
 use Rattle.report.proofs.lines.write_values.Statement.{statement}
 use Rattle.report.proofs.lines.write_values.Tie as tie
 
@@ -43,14 +44,14 @@ stops c = text-stops _ _ _ _ (sym (c .before .before .read-text .ensures) ∙ c 
 -- ---- the needs
 
 loop-holds : tie.Need-loop-holds Inv-loop μ-loop
-loop-holds c = λ end v. lines-start _ (v .is)
+loop-holds c = λ end v. lines-start (v .is)
 
 returns : tie.Need-returns Inv-loop μ-loop
 returns c = λ v.
     let turn : tie.In-loop Inv-loop μ-loop = search in
     let l = turn .before in
-    absurd
-    (lines-bad (small l) (l .loop .inv _ v) (turn .loop-test .taken) (text-none _ _ (sym (c .before .before .read-text .ensures) ∙ c .enum-told .given .1)))
+    let none = text-none _ _ (sym (c .before .before .read-text .ensures) ∙ c .enum-told .given .1) in
+    absurd (standing-bad (l .loop .inv _ v .stand) (small l) (turn .loop-test .taken) none)
 
 write-value-requires : tie.Need-write-value-requires Inv-loop μ-loop
 write-value-requires c κs =
@@ -58,16 +59,16 @@ write-value-requires c κs =
     let l = turn .before in
     let v = start l .pre in
     let t = stops (search) in
-    (v .named .order, v .named .within, t .order, t .within, lines-room (small l) (l .loop .inv _ v) (turn .loop-test .taken) t (v .named .name) (v .fits))
+    (v .named .order, v .named .within, t .order, t .within, lines-room (l .loop .inv _ v) (small l) (turn .loop-test .taken) t (v .named .name) (v .fits))
 
 loop-again : tie.Need-loop-again Inv-loop μ-loop
 loop-again c = λ end v.
     let turn : tie.In-loop Inv-loop μ-loop = search in
     let l = turn .before in
-    lines-more (small l) (l .loop .inv end v) (turn .loop-test .taken) (stops (search)) (v .named .name) (c .before .before .write-value .ensures)
+    lines-more (l .loop .inv end v) (small l) (turn .loop-test .taken) (stops (search)) (v .named .name) (c .before .before .write-value .ensures)
 
 returns-2 : tie.Need-returns-2 Inv-loop μ-loop
-returns-2 c = λ v. lines-all (small (c .before)) (c .before .loop .inv _ v) (omega arith)
+returns-2 c = λ v. lines-all (c .before .loop .inv _ v) (omega arith)
 
 pub write-values-spec : {M : Type 1} → statement M
 write-values-spec =
