@@ -12,11 +12,13 @@ use borrow.Author.Tests.{lt-ltb, le-leb, ltb-true, leb-true, eqb-true, eqb-false
 use Rattle.model.specs.Order.{Text, texts, rising}
 use Rattle.packed.specs.Parse.{Parse, got, Layout, andThen, found, foundIf, suchThat, times, _>>=_}
 use Rattle.packed.specs.Packed.{number, readNumber, text, readText}
-use Rattle.packed.proofs.LayoutLaws.{All, andThen-got, foundIf-got, suchThat-got, whole-some, number-read, number-was, text-read, text-was, times-read, times-was}
+use Rattle.packed.proofs.LayoutLaws.{All, andThen-got, foundIf-got, suchThat-got, whole-some, number-read, number-was, text-read, text-was, times-read}
+use Rattle.packed.proofs.LayoutLaws.{times-was}
 use Rattle.event.proofs.HeadLayoutLaws.{HeadWritten, such-that, head-read, head-was}
 use Rattle.event.specs.Event.{Event, objectCount}
 use Rattle.event.specs.Head.{Head, readHead, headBytes}
-use Rattle.event.specs.EventLayout.{readSet, readPlace, readSets, readBits, Counts, narrow, wide, readEvent, eventOf, setBytes, setsBytes, presenceBit, bitNumber, eventBytes}
+use Rattle.event.specs.EventLayout.{readSet, readPlace, readSets, readBits, Counts, narrow, wide, readEvent, eventOf, setBytes, setsBytes, presenceBit}
+use Rattle.event.specs.EventLayout.{bitNumber, eventBytes}
 
 -- ---- what can be written
 
@@ -59,7 +61,9 @@ pub record SetWas (bit : ℕ) (s : List ℕ) (x : List Text) (r : List ℕ) : Ty
   pub present : presenceBit x ≡ bit
   pub written : SetWritten x
 
-set-is : (n : ℕ) (s t r : List ℕ) (x : List Text) → 1 ≤ n → (s ≡ number n ++ t) × (n < 2 ^ 64) → (t ≡ flatten (map text x) ++ r) × (length x ≡ n) × All (λ (v : Text). length v < 2 ^ 64) x → rising texts x ≡ true → SetWas 1 s x r
+set-is :
+    (n : ℕ) (s t r : List ℕ) (x : List Text) → 1 ≤ n → (s ≡ number n ++ t) × (n < 2 ^ 64) →
+    (t ≡ flatten (map text x) ++ r) × (length x ≡ n) × All (λ (v : Text). length v < 2 ^ 64) x → rising texts x ≡ true → SetWas 1 s x r
 unfolding setBytes presenceBit
 set-is n s t r [] l a b up = absurd (omega arith)
 set-is n s t r (v ∷ vs) l a b up = record {
@@ -140,7 +144,9 @@ pub record SetsWas (places presence : ℕ) (s : List ℕ) (xs : List (List Text)
   pub present : bitNumber (map presenceBit xs) ≡ presence
   pub each : All SetWritten xs
 
-sets-more : (places presence : ℕ) (s t u r : List ℕ) (x : List Text) (ys xs : List (List Text)) → SetWas (presence % 2) s x t → SetsWas places (presence / 2) t ys u → x ∷ ys ≡ xs → u ≡ r → SetsWas (suc places) presence s xs r
+sets-more :
+    (places presence : ℕ) (s t u r : List ℕ) (x : List Text) (ys xs : List (List Text)) → SetWas (presence % 2) s x t →
+    SetsWas places (presence / 2) t ys u → x ∷ ys ≡ xs → u ≡ r → SetsWas (suc places) presence s xs r
 unfolding setsBytes flatten bitNumber
 sets-more places presence s t u r x ys xs a b e f =
     rw (← e, ← f) (record {
@@ -150,7 +156,9 @@ sets-more places presence s t u r x ys xs a b e f =
       each = (a .written, b .each);
     })
 
-pub sets-was : (places presence : ℕ) (s : List ℕ) (xs : List (List Text)) (r : List ℕ) → presence < 2 ^ places → readSets places presence s ≡ got xs r → SetsWas places presence s xs r
+pub sets-was :
+    (places presence : ℕ) (s : List ℕ) (xs : List (List Text)) (r : List ℕ) → presence < 2 ^ places → readSets places presence s ≡ got xs r →
+    SetsWas places presence s xs r
 unfolding readSets setsBytes flatten bitNumber
 sets-was zero presence s xs r l e =
     let a : [] ≡ xs = cc in
@@ -214,7 +222,8 @@ event-read counts e w =
     ))
 
 event-is : (counts : Counts) (presence : ℕ) (s t u v : List ℕ) (g : Head) (sets : List (List Text)) (e : Event) →
-    s ≡ headBytes g ++ t → HeadWritten (counts .parents) g → t ≡ number presence ++ u → SetsWas 32 presence u sets v → objectCount sets ≤ counts .objects → record { head = g; sets = sets } ≡ e → v ≡ [] → (s ≡ eventBytes e) × EventWritten counts e
+    s ≡ headBytes g ++ t → HeadWritten (counts .parents) g → t ≡ number presence ++ u → SetsWas 32 presence u sets v →
+    objectCount sets ≤ counts .objects → record { head = g; sets = sets } ≡ e → v ≡ [] → (s ≡ eventBytes e) × EventWritten counts e
 event-is counts presence s t u v g sets e a h b x o p q =
     rw (← p) (
       a ∙ rw (b, x .bytes, ← x .present, q) (sym (event-parts (record { head = g; sets = sets }))),
@@ -245,7 +254,8 @@ pub written-larger : (a b : Counts) (e : Event) → a .parents ≤ b .parents �
 written-larger a b e p o w =
     let h = w .head .parents in
     record {
-      head = record { type = w .head .type; source = w .head .source; parents = record { within = omega arith; few = h .few; each = h .each; rises = h .rises } };
+      head =
+          record { type = w .head .type; source = w .head .source; parents = record { within = omega arith; few = h .few; each = h .each; rises = h .rises } };
       sets = w .sets;
       objects = omega (arith, w .objects);
     }

@@ -23,7 +23,8 @@ use Rattle.values.specs.ValueOrder.{extremeOrder}
 use Rattle.values.proofs.NumberOrderLaws.{unsigned-below, in-decimal-sequence}
 use Rattle.replies.specs.Questions.{accepted, ask}
 use Rattle.replies.proofs.QuestionLaws.{asked-then, ask-some, ensured, accepted-same}
-use Rattle.ontology.specs.Table.{Strategy, min, max, add, replace, match, set, any, strategyNumber, Property, EventType, Table, isMin, isMax, isMatch, isVersioned, typeNamed, atPlace}
+use Rattle.ontology.specs.Table.{Strategy, min, max, add, replace, match, set, any, strategyNumber, Property, EventType, Table, isMin, isMax, isMatch}
+use Rattle.ontology.specs.Table.{isVersioned, typeNamed, atPlace}
 use Rattle.ontology.proofs.TableLaws.{TypeKept, extreme-single}
 use Rattle.ontology.proofs.TypeIndexLaws.{named-at}
 use Rattle.event.specs.Event.{Event, objectCount, setAt, versionOf, choiceOf, typeView, eventView, view}
@@ -59,7 +60,9 @@ module _ {A : Type 0} (ok : A → Type 0) where
 -- ---- what is asked of each place
 
 module _ (f : Property → List Text → Bool) (g : List Text → Bool) where
-  pub each-place-at : (ps : List Property) (ss : List (List Text)) → eachPlace f g ps ss ≡ true → (p : ℕ) (q : Property) → getElem? ps p ≡ some q → f q (getD ss p []) ≡ true
+  pub each-place-at :
+      (ps : List Property) (ss : List (List Text)) → eachPlace f g ps ss ≡ true → (p : ℕ) (q : Property) → getElem? ps p ≡ some q →
+      f q (getD ss p []) ≡ true
   unfolding eachPlace
   each-place-at [] ss h p q e = never (cc)
   each-place-at (x ∷ ps) [] h zero q e = let k : x ≡ q = cc in rw (← k) (and-eq-true-iff (f x []) _ .0 h .0)
@@ -67,7 +70,9 @@ module _ (f : Property → List Text → Bool) (g : List Text → Bool) where
   each-place-at (x ∷ ps) (s ∷ ss) h zero q e = let k : x ≡ q = cc in rw (← k) (and-eq-true-iff (f x s) _ .0 h .0)
   each-place-at (x ∷ ps) (s ∷ ss) h (suc p) q e = each-place-at ps ss (and-eq-true-iff (f x s) _ .0 h .1) p q e
 
-  pub each-place-past : (ps : List Property) (ss : List (List Text)) → eachPlace f g ps ss ≡ true → (p : ℕ) → p < length ss → getElem? ps p ≡ none → g (getD ss p []) ≡ true
+  pub each-place-past :
+      (ps : List Property) (ss : List (List Text)) → eachPlace f g ps ss ≡ true → (p : ℕ) → p < length ss → getElem? ps p ≡ none →
+      g (getD ss p []) ≡ true
   unfolding eachPlace
   each-place-past ps [] h p l e = absurd (omega arith)
   each-place-past [] (s ∷ ss) h zero l e = and-eq-true-iff (g s) _ .0 h .0
@@ -273,7 +278,9 @@ sequence-value k v e h = rw e at (and-eq-true-iff (leb 1 (length v) && leb (leng
 
 module _ (t : EventType) (e : Event) (k : TypeKept t) (a : EventFits t e) where
   -- the marked property has one value, a sequence number
-  marked-value : isVersioned t ≡ true → (setAt e (t .mark - 1) ≡ getD (setAt e (t .mark - 1)) 0 [] ∷ []) × (isUnsigned 8 (getD (setAt e (t .mark - 1)) 0 []) ≡ true)
+  marked-value :
+      isVersioned t ≡ true →
+      (setAt e (t .mark - 1) ≡ getD (setAt e (t .mark - 1)) 0 [] ∷ []) × (isUnsigned 8 (getD (setAt e (t .mark - 1)) 0 []) ≡ true)
   marked-value u =
       let m = k .marked u in
       let p = t .mark - 1 in
@@ -290,7 +297,8 @@ module _ (t : EventType) (e : Event) (k : TypeKept t) (a : EventFits t e) where
   unfolding versionOf
   version-set u =
       let (q, s) = marked-value u in
-      q ∙ ap (λ (v : Text). v ∷ []) (sym (in-decimal-sequence _ s) ∙ ap inDecimal (sym (ap (λ (b : Bool). cond b (numeral (getD (setAt e (t .mark - 1)) 0 [])) 0) u)))
+      q ∙ ap (λ (v : Text). v ∷ []) (sym (in-decimal-sequence _ s)
+      ∙ ap inDecimal (sym (ap (λ (b : Bool). cond b (numeral (getD (setAt e (t .mark - 1)) 0 [])) 0) u)))
 
   pub version-below : versionOf t e < 2 ^ 64
   unfolding versionOf

@@ -56,7 +56,9 @@ module _ (counts : Counts) (s : List ℕ) (h : HeadAt) (w : HeadStops (readHead 
     presence-large k = rw (after-head, m .is, le-ltb n (2 ^ 32) k)
 
     module _ (small : n < 2 ^ 32) where
-      after-presence : readEvent counts s ≡ andThen (readSets 32 n (drop next s)) (λ xs. foundIf (leb (objectCount xs) (counts .objects)) (record { head = w .what; sets = xs }))
+      after-presence :
+          readEvent counts s ≡ andThen (readSets 32 n (drop next s))
+          (λ xs. foundIf (leb (objectCount xs) (counts .objects)) (record { head = w .what; sets = xs }))
       unfolding readBits
       after-presence = rw (after-head, m .is, lt-ltb n (2 ^ 32) small)
 

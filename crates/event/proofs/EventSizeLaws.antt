@@ -58,7 +58,9 @@ unfolding setBytes
 set-size [] h n = omega arith
 set-size (v ∷ vs) h n = simp length-append (omega (arith, number-length-2 (length (v ∷ vs)) (omega arith), values-size (v ∷ vs) h))
 
-pub sets-size : (xs : List (List Text)) → ValuesShort xs → All (λ (s : List Text). length s ≤ 256) xs → length (setsBytes xs) ≤ 2 * length xs + 121 * objectCount xs
+pub sets-size :
+    (xs : List (List Text)) → ValuesShort xs → All (λ (s : List Text). length s ≤ 256) xs →
+    length (setsBytes xs) ≤ 2 * length xs + 121 * objectCount xs
 unfolding setsBytes flatten objectCount
 sets-size [] v h = omega arith
 sets-size (x ∷ xs) v h = simp length-append (omega (arith, set-size x (v .0) (h .0), sets-size xs (v .1) (h .1)))

@@ -8,10 +8,10 @@ use lib.ListN.{length, take, drop, getD, length-drop, drop-of-length-le}
 use lib.Seq.{take-at, drop-drop, drop-append-seam}
 use borrow.Author.Tests.{le-leb, lt-leb}
 use Rattle.model.specs.Order.{Text, rising}
-use Rattle.packed.specs.Parse.{Parse, fail, got, andThen, _>>=_, found, foundIf, suchThat, times, All}
+use Rattle.packed.specs.Parse.{Parse, fail, got, Layout, andThen, _>>=_, found, foundIf, suchThat, times, All}
 use Rattle.packed.specs.Packed.{readNumber, readText, readBytes, part}
 use Rattle.packed.proofs.LayoutLaws.{All, times-was, bytes-was, flat}
-use Rattle.packed.proofs.ReadLaws.{drop-next, TextStops, stretch, part-length}
+use Rattle.packed.proofs.ReadLaws.{drop-next, NumberStops, TextStops, stretch, part-length}
 use Rattle.event.specs.Head.{areSourceBytes, isSource, readParents, Head, readHead}
 use Rattle.event.specs.code.EventIndex.{ParentsStop, ParentsReads, HeadStops, HeadReads, HashesAre, HeadIs, HeadParts}
 use Rattle.event.proofs.SetLaws.{risen, risen-was}
@@ -74,26 +74,33 @@ pub parents-none : (most : ℕ) (t : List ℕ) → readNumber t ≡ fail → rea
 unfolding readParents
 parents-none most t e = rw e
 
-pub parents-many : (most : ℕ) (t r : List ℕ) (n : ℕ) → readNumber t ≡ got n r → most < n → readParents most t ≡ fail
-unfolding readParents
-parents-many most t r n e h = rw (e, lt-leb n most h)
+module _ (most : ℕ) {s : List ℕ} {at n next : ℕ} (w : NumberStops s at n next) where
+  pub parents-many : most < n → readParents most (drop at s) ≡ fail
+  unfolding readParents
+  parents-many h = rw (w .is, lt-leb n most h)
 
-pub parents-some : (most : ℕ) (t r : List ℕ) (n : ℕ) → readNumber t ≡ got n r → n ≤ most → readParents most t ≡ risen (readBytes 20) n r
-unfolding readParents risen
-parents-some most t r n e h = rw (e, le-leb n most h)
+  pub parents-some : n ≤ most → readParents most (drop at s) ≡ risen (readBytes 20) n (drop next s)
+  unfolding readParents risen
+  parents-some h = rw (w .is, le-leb n most h)
 
-hash-at : (hs : List Text) (t r : List ℕ) (i : ℕ) → All (λ (h : Text). length h ≡ 20) hs → t ≡ flatten hs ++ r → i < length hs → take 20 (drop (20 * i) t) ≡ getD hs i []
+hash-at :
+    (hs : List Text) (t r : List ℕ) (i : ℕ) → All (λ (h : Text). length h ≡ 20) hs → t ≡ flatten hs ++ r → i < length hs →
+    take 20 (drop (20 * i) t) ≡ getD hs i []
 unfolding flatten
 hash-at [] t r i a e l = absurd (omega arith)
 hash-at (h ∷ hs) t r zero a e l = ap (take 20) (e ∙ append-assoc h (flatten hs) r) ∙ take-at h (flatten hs ++ r) 20 (a .0)
 hash-at (h ∷ hs) t r (suc i) a e l =
-    let d : drop 20 t ≡ flatten hs ++ r = ap (drop 20) (e ∙ append-assoc h (flatten hs) r) ∙ ap (λ (n : ℕ). drop n (h ++ (flatten hs ++ r))) (sym (a .0)) ∙ drop-append-seam h (flatten hs ++ r) in
+    let d : drop 20 t ≡ flatten hs ++ r = ap (drop 20) (e ∙ append-assoc h (flatten hs) r)
+    ∙ ap (λ (n : ℕ). drop n (h ++ (flatten hs ++ r))) (sym (a .0)) ∙ drop-append-seam h (flatten hs ++ r) in
     let n : 20 * suc i ≡ 20 + 20 * i = omega arith in
     ap (λ (k : ℕ). take 20 (drop k t)) n ∙ ap (take 20) (sym (drop-drop (20 * i) 20 t)) ∙ hash-at hs (drop 20 t) r i (a .1) d (omega arith)
 
-pub parents-found : (s : List ℕ) (q : Parse (List Text)) (start to count : ℕ) (hs : List Text) → start ≤ length s → to ≤ length s → q ≡ risen (readBytes 20) count (drop start s) → q ≡ got hs (drop to s) → ParentsStop q s (record { start = start; end = to; count = count })
-parents-found s q start to count hs a b e f =
-    let w = times-was (readBytes 20) (λ (h : Text). h) (λ (h : Text). length h ≡ 20) (bytes-was 20) count (drop start s) hs (drop to s) (risen-was (readBytes 20) count (drop start s) hs (drop to s) (sym e ∙ f)) in
+pub parents-found :
+    {s : List ℕ} {q : Parse (List Text)} {start to count : ℕ} {hs : List Text} → start ≤ length s → to ≤ length s →
+    q ≡ risen (readBytes 20) count (drop start s) → q ≡ got hs (drop to s) → ParentsStop q s (record { start = start; end = to; count = count })
+parents-found {s} {start} {to} {count} {hs} a b e f =
+    let w = times-was (readBytes 20) (λ (h : Text). h) (λ (h : Text). length h ≡ 20) (bytes-was 20) count (drop start s) hs (drop to s)
+    (risen-was (readBytes 20) count (drop start s) hs (drop to s) (sym e ∙ f)) in
     let g : drop start s ≡ flatten hs ++ drop to s = w .0 ∙ ap (λ (l : List ℕ). l ++ drop to s) (flat hs) in
     let p = stretch s (flatten hs) start to a b g in
     record {
@@ -108,14 +115,18 @@ parents-found s q start to count hs a b e f =
       };
     }
   where
-    parent-at : (s : List ℕ) (start i : ℕ) (hs : List Text) → take 20 (drop (20 * i) (drop start s)) ≡ getD hs i [] → part s (start + 20 * i) (start + 20 * i + 20) ≡ getD hs i []
+    parent-at :
+        (s : List ℕ) (start i : ℕ) (hs : List Text) → take 20 (drop (20 * i) (drop start s)) ≡ getD hs i [] →
+        part s (start + 20 * i) (start + 20 * i + 20) ≡ getD hs i []
     parent-at s start i hs e =
         let n : start + 20 * i + 20 - (start + 20 * i) ≡ 20 = omega arith in
         rw n (ap (take 20) (sym (drop-drop (20 * i) start s)) ∙ e)
 
-pub parents-zero : (s : List ℕ) (q : Parse (List Text)) (start count : ℕ) → start ≤ length s → count ≡ 0 → q ≡ risen (readBytes 20) count (drop start s) → ParentsStop q s (record { start = start; end = start; count = count })
+pub parents-zero :
+    {s : List ℕ} {q : Parse (List Text)} {start count : ℕ} → start ≤ length s → count ≡ 0 → q ≡ risen (readBytes 20) count (drop start s) →
+    ParentsStop q s (record { start = start; end = start; count = count })
 unfolding times rising risen
-parents-zero s q start count a z e = parents-found s q start start count [] a a e (e ∙ rw z)
+parents-zero a z e = parents-found {hs = []} a a e (e ∙ rw z)
 
 pub parents-reads : {p : Parse (List Text)} {s : List ℕ} {r : ParentsRead} {x : SetAt} → r ≡ Parents x → ParentsReads p s r → ParentsStop p s x
 parents-reads {p} {s} h w = subst (ParentsReads p s) h w
@@ -135,16 +146,24 @@ pub no-name : (most : ℕ) (s : List ℕ) → readText s ≡ fail → readHead m
 unfolding readHead
 no-name most s e = rw e
 
-module _ (most : ℕ) (s : List ℕ) (a e : ℕ) (n : TextStops s 0 a e) where
-  pub no-source : readText (drop e s) ≡ fail → readHead most s ≡ fail
-  unfolding readHead
-  no-source f = ap (λ (p : Parse Text). andThen p (λ t. suchThat isSource readText >>= λ u. readParents most >>= λ hs. found (record { type = t; source = u; parents = hs }))) (n .is) ∙ rw f
+-- what follows a source u, and a type name t
+abbrev afterSource : ℕ → Text → Text → Layout Head
+afterSource most t u = readParents most >>= λ hs. found (record { type = t; source = u; parents = hs })
 
-  module _ (b f : ℕ) (u : TextStops s e b f) where
-    step : readHead most s ≡ andThen (foundIf (isSource (part s b f)) (part s b f) (drop f s)) (λ v. readParents most >>= λ hs. found (record { type = part s a e; source = v; parents = hs }))
-    unfolding readHead
-    step = ap (λ (p : Parse Text). andThen p (λ t. suchThat isSource readText >>= λ u. readParents most >>= λ hs. found (record { type = t; source = u; parents = hs }))) (n .is)
-        ∙ ap (λ (p : Parse Text). andThen (andThen p (λ v. foundIf (isSource v) v)) (λ u. readParents most >>= λ hs. found (record { type = part s a e; source = u; parents = hs }))) (u .is)
+abbrev afterName : ℕ → Text → Layout Head
+afterName most t = suchThat isSource readText >>= λ u. afterSource most t u
+
+module _ (most : ℕ) {s : List ℕ} {a e : ℕ} (n : TextStops s 0 a e) where
+  named : readHead most s ≡ afterName most (part s a e) (drop e s)
+  unfolding readHead
+  named = ap (λ (p : Parse Text). andThen p (λ t. afterName most t)) (n .is)
+
+  pub no-source : readText (drop e s) ≡ fail → readHead most s ≡ fail
+  no-source f = named ∙ rw f
+
+  module _ {b f : ℕ} (u : TextStops s e b f) where
+    step : readHead most s ≡ andThen (foundIf (isSource (part s b f)) (part s b f) (drop f s)) (λ v. afterSource most (part s a e) v)
+    step = named ∙ ap (λ (p : Parse Text). andThen (andThen p (λ v. foundIf (isSource v) v)) (λ v. afterSource most (part s a e) v)) (u .is)
 
     pub source-not : isSource (part s b f) ≡ false → readHead most s ≡ fail
     source-not h = step ∙ rw h
@@ -152,8 +171,10 @@ module _ (most : ℕ) (s : List ℕ) (a e : ℕ) (n : TextStops s 0 a e) where
     pub parents-not : isSource (part s b f) ≡ true → readParents most (drop f s) ≡ fail → readHead most s ≡ fail
     parents-not h g = step ∙ rw (h, g)
 
-    pub head-found : isSource (part s b f) ≡ true → (x : SetAt) → ParentsStop (readParents most (drop f s)) s x → HeadStops (readHead most s) s (record { name = record { start = a; end = e }; source = record { start = b; end = f }; parents = x })
-    head-found h x w = record {
+    pub head-found :
+        {x : SetAt} → isSource (part s b f) ≡ true → ParentsStop (readParents most (drop f s)) s x →
+        HeadStops (readHead most s) s (record { name = record { start = a; end = e }; source = record { start = b; end = f }; parents = x })
+    head-found h w = record {
       what = record { type = part s a e; source = part s b f; parents = w .what };
       is = step ∙ rw (h, w .is);
       stands = record {

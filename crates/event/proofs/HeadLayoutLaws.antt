@@ -11,7 +11,8 @@ use Rattle.model.specs.Order.{Text, texts, rising}
 use Rattle.model.proofs.Cases.{and-parts}
 use Rattle.packed.specs.Parse.{got, Layout, suchThat, times}
 use Rattle.packed.specs.Packed.{number, readNumber, text, readText, readBytes}
-use Rattle.packed.proofs.LayoutLaws.{All, andThen-got, foundIf-got, suchThat-got, number-read, number-was, text-read, text-was, bytes-read, bytes-was, times-read, times-was}
+use Rattle.packed.proofs.LayoutLaws.{All, andThen-got, foundIf-got, suchThat-got, number-read, number-was, text-read, text-was, bytes-read, bytes-was}
+use Rattle.packed.proofs.LayoutLaws.{times-read, times-was}
 use Rattle.packed.specs.code.Written.{Wrote}
 use Rattle.packed.proofs.WriteLaws.{wrote-then, wrote-as}
 use Rattle.event.specs.code.EventIndex.{HeadParts}
@@ -63,7 +64,10 @@ parents-read most hs r w =
       w .rises,
     )
 
-parents-are : (most n : ℕ) (s t u r : List ℕ) (ys hs : List Text) → (s ≡ number n ++ t) × (n < 2 ^ 64) → n ≤ most → (t ≡ flatten (map (λ (h : Text). h) ys) ++ u) × (length ys ≡ n) × All (λ (h : Text). length h ≡ 20) ys → rising texts ys ≡ true → ys ≡ hs → u ≡ r → (s ≡ parentsBytes hs ++ r) × ParentsWritten most hs
+parents-are :
+    (most n : ℕ) (s t u r : List ℕ) (ys hs : List Text) → (s ≡ number n ++ t) × (n < 2 ^ 64) → n ≤ most →
+    (t ≡ flatten (map (λ (h : Text). h) ys) ++ u) × (length ys ≡ n) × All (λ (h : Text). length h ≡ 20) ys → rising texts ys ≡ true → ys ≡ hs →
+    u ≡ r → (s ≡ parentsBytes hs ++ r) × ParentsWritten most hs
 unfolding parentsBytes
 parents-are most n s t u r ys hs a l b up e f =
     rw (← e, ← f) (

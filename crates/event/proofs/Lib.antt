@@ -3,6 +3,7 @@ pub mod HeadLayoutLaws
 pub mod EventLayoutLaws
 pub mod BitLaws
 pub mod EventSizeLaws
+pub mod AnswerLaws
 pub mod SetLaws
 pub mod HeadLaws
 pub mod EventReadLaws

@@ -71,10 +71,12 @@ pub record Skipping (end : ℕ) (r s : List ℕ) (pos left : ℕ) : Type 0 where
   pub far : pos + length (flatten (map text more)) ≡ end
   pub within : pos ≤ length s
 
-pub skipping-first : (s : List ℕ) (at count : ℕ) (vs : List Text) (r : List ℕ) → drop at s ≡ flatten (map text vs) ++ r → at ≤ length s → count ≡ length vs → Skipping (at + length (flatten (map text vs))) r s at count
-skipping-first s at count vs r h k l = record { more = vs; bytes = h; long = l; far = refl; within = k }
+pub skipping-first :
+    (vs : List Text) {r s : List ℕ} {at count : ℕ} → drop at s ≡ flatten (map text vs) ++ r → at ≤ length s → count ≡ length vs →
+    Skipping (at + length (flatten (map text vs))) r s at count
+skipping-first vs h k l = record { more = vs; bytes = h; long = l; far = refl; within = k }
 
-module _ (end : ℕ) (r s : List ℕ) (pos left : ℕ) (small : length s < 2 ^ 64) where
+module _ {end : ℕ} {r s : List ℕ} {pos left : ℕ} (w : Skipping end r s pos left) (small : length s < 2 ^ 64) (h : 0 < left) where
   -- the first text, and the others
   record First : Type 0 where
     v : Text
@@ -83,11 +85,12 @@ module _ (end : ℕ) (r s : List ℕ) (pos left : ℕ) (small : length s < 2 ^ 6
     long : left ≡ suc (length vs)
     far : pos + (length (text v) + length (flatten (map text vs))) ≡ end
 
-  first : Skipping end r s pos left → 0 < left → First
+  first : First
   unfolding flatten
-  first w h = go (w .more) (w .bytes) (w .long) (w .far)
+  first = go (w .more) (w .bytes) (w .long) (w .far)
     where
-      go : (more : List Text) → drop pos s ≡ flatten (map text more) ++ r → left ≡ length more → pos + length (flatten (map text more)) ≡ end → First
+      go :
+          (more : List Text) → drop pos s ≡ flatten (map text more) ++ r → left ≡ length more → pos + length (flatten (map text more)) ≡ end → First
       go [] b l f = absurd (omega arith)
       go (v ∷ vs) b l f = record {
         v = v;
@@ -97,20 +100,21 @@ module _ (end : ℕ) (r s : List ℕ) (pos left : ℕ) (small : length s < 2 ^ 6
         far = ap (λ (n : ℕ). pos + n) (sym (length-append (text v) (flatten (map text vs)))) ∙ f;
       }
 
-  pub skipping-bad : Skipping end r s pos left → 0 < left → readText (drop pos s) ≡ fail → ⊥
-  skipping-bad w h e = let f = first w h in text-there s small pos (w .within) (f .v) (flatten (map text (f .vs)) ++ r) (f .bytes) e
+  pub skipping-bad : readText (drop pos s) ≡ fail → ⊥
+  skipping-bad e = text-there s small pos (w .within) (first .v) (flatten (map text (first .vs)) ++ r) (first .bytes) e
 
-  pub skipping-more : Skipping end r s pos left → 0 < left → (a z : ℕ) → TextStops s pos a z → Skipping end r s z (left - 1)
-  skipping-more w h a z t =
-      let f = first w h in
-      let n = text-next s small pos (w .within) (f .v) (flatten (map text (f .vs)) ++ r) (f .bytes) a z t .2 in
-      record { more = f .vs; bytes = n .rest; long = omega (arith, f .long); far = omega (arith, f .far, n .far); within = n .within }
+  pub skipping-more : {a z : ℕ} → TextStops s pos a z → Skipping end r s z (left - 1)
+  skipping-more {a} {z} t =
+      let n = text-next s small pos (w .within) (first .v) (flatten (map text (first .vs)) ++ r) (first .bytes) a z t .2 in
+      record { more = first .vs; bytes = n .rest; long = omega (arith, first .long); far = omega (arith, first .far, n .far); within = n .within }
 
-pub skipping-all : (at : ℕ) (x r s : List ℕ) (pos left : ℕ) → Skipping (at + length x) r s pos left → left ≤ 0 → Skipped s at x r pos
+pub skipping-all : {at : ℕ} {x r s : List ℕ} {pos left : ℕ} → Skipping (at + length x) r s pos left → left ≤ 0 → Skipped s at x r pos
 unfolding flatten
-skipping-all at x r s pos left w h = go (w .more) (w .bytes) (w .long) (w .far)
+skipping-all {at} {x} {r} {s} {pos} {left} w h = go (w .more) (w .bytes) (w .long) (w .far)
   where
-    go : (more : List Text) → drop pos s ≡ flatten (map text more) ++ r → left ≡ length more → pos + length (flatten (map text more)) ≡ at + length x → Skipped s at x r pos
+    go :
+        (more : List Text) → drop pos s ≡ flatten (map text more) ++ r → left ≡ length more → pos + length (flatten (map text more)) ≡ at + length x →
+        Skipped s at x r pos
     go [] b l f = record { rest = b; far = omega arith; within = w .within }
     go (v ∷ vs) b l f = absurd (omega arith)
 
@@ -124,8 +128,10 @@ pub record SetsSkipping (end : ℕ) (r s : List ℕ) (pos left : ℕ) : Type 0 w
   pub far : pos + length (setsBytes more) ≡ end
   pub within : pos ≤ length s
 
-pub sets-skipping-first : (s : List ℕ) (at count : ℕ) (xs : List (List Text)) (r : List ℕ) → drop at s ≡ setsBytes xs ++ r → at ≤ length s → count ≡ present xs → SetsSkipping (at + length (setsBytes xs)) r s at count
-sets-skipping-first s at count xs r h k l = record { more = xs; bytes = h; long = l; far = refl; within = k }
+pub sets-skipping-first :
+    (xs : List (List Text)) {r s : List ℕ} {at count : ℕ} → drop at s ≡ setsBytes xs ++ r → at ≤ length s → count ≡ present xs →
+    SetsSkipping (at + length (setsBytes xs)) r s at count
+sets-skipping-first xs h k l = record { more = xs; bytes = h; long = l; far = refl; within = k }
 
 -- the first place with objects, and those after it
 record FirstSet (xs : List (List Text)) : Type 0 where
@@ -151,7 +157,7 @@ none-present [] h = refl
 none-present ([] ∷ xs) h = none-present xs (omega arith)
 none-present ((v ∷ vs) ∷ xs) h = absurd (omega arith)
 
-module _ (end : ℕ) (r s : List ℕ) (pos left : ℕ) (small : length s < 2 ^ 64) (w : SetsSkipping end r s pos left) (h : 0 < left) where
+module _ {end : ℕ} {r s : List ℕ} {pos left : ℕ} (w : SetsSkipping end r s pos left) (small : length s < 2 ^ 64) (h : 0 < left) where
   next-set : FirstSet (w .more)
   next-set = first-set (w .more) (omega (arith, w .long))
 
@@ -178,10 +184,12 @@ module _ (end : ℕ) (r s : List ℕ) (pos left : ℕ) (small : length s < 2 ^ 6
   sets-skipping-bad e = number-there s small pos (w .within) (length (next-set .vs)) _ next-few next-bytes e
 
   pub sets-skipping-more :
-      (n start to : ℕ) → NumberStops s pos n start →
-      ((vs : List Text) (q : List ℕ) → drop start s ≡ flatten (map text vs) ++ q → start ≤ length s → n ≡ length vs → Skipped s start (flatten (map text vs)) q to) →
+      {n start to : ℕ} → NumberStops s pos n start →
+      ((vs :
+      List Text) (q : List ℕ) → drop start s ≡ flatten (map text vs) ++ q → start ≤ length s → n ≡ length vs →
+      Skipped s start (flatten (map text vs)) q to) →
       SetsSkipping end r s to (left - 1)
-  sets-skipping-more n start to m skip =
+  sets-skipping-more {n} {start} {to} m skip =
       let f = next-set in
       let a = number-next s small pos (w .within) (length (f .vs)) (flatten (map text (f .vs)) ++ (setsBytes (f .more) ++ r)) next-few next-bytes n start m in
       let b = skip (f .vs) (setsBytes (f .more) ++ r) (a .1 .rest) (a .1 .within) (a .0) in
@@ -201,8 +209,8 @@ module _ (end : ℕ) (r s : List ℕ) (pos left : ℕ) (small : length s < 2 ^ 6
         within = b .within;
       }
 
-pub sets-skipping-all : (at : ℕ) (x r s : List ℕ) (pos left : ℕ) → SetsSkipping (at + length x) r s pos left → left ≤ 0 → Skipped s at x r pos
-sets-skipping-all at x r s pos left w h =
+pub sets-skipping-all : {at : ℕ} {x r s : List ℕ} {pos left : ℕ} → SetsSkipping (at + length x) r s pos left → left ≤ 0 → Skipped s at x r pos
+sets-skipping-all {at} {x} {r} {s} {pos} {left} w h =
     let z : present (w .more) ≡ 0 = omega (arith, w .long) in
     let e = none-present (w .more) z in
     record { rest = w .bytes ∙ ap (λ (l : List ℕ). l ++ r) e; far = omega (arith, w .far, ap length e); within = w .within }
@@ -258,7 +266,8 @@ pub flat-split : {A : Type 0} (w : A → List ℕ) (k : ℕ) (xs : List A) → f
 unfolding flatten
 flat-split w zero xs = refl
 flat-split w (suc k) [] = refl
-flat-split w (suc k) (x ∷ xs) = ap (λ (l : List ℕ). w x ++ l) (flat-split w k xs) ∙ sym (append-assoc (w x) (flatten (map w (take k xs))) (flatten (map w (drop k xs))))
+flat-split w (suc k) (x ∷ xs) =
+    ap (λ (l : List ℕ). w x ++ l) (flat-split w k xs) ∙ sym (append-assoc (w x) (flatten (map w (take k xs))) (flatten (map w (drop k xs))))
 
 pub set-bytes : (vs : List Text) → 0 < length vs → setBytes vs ≡ number (length vs) ++ flatten (map text vs)
 unfolding setBytes
@@ -275,74 +284,87 @@ no-place [] place index h = refl
 no-place (x ∷ xs) zero index h = absurd (omega arith)
 no-place (x ∷ xs) (suc place) index h = no-place xs place index (omega arith)
 
-module _ (s : List ℕ) (small : length s < 2 ^ 64) (e : Event) (x : EventIndex) (ats : List ℕ) (w : EventIs s e x ats)
-    (place index : ℕ) (p : place < 32) (i : index < length (setAt e place)) where
+-- The value at a place and an index of an event: so many sets stand before the place's own, and skipping them ends at `at`
+pub record Wanted (s : List ℕ) (e : Event) (x : EventIndex) (ats : List ℕ) (place index below at : ℕ) : Type 0 where
+  pub small : length s < 2 ^ 64
+  pub is : EventIs s e x ats
+  pub place-inside : place < 32
+  pub inside : index < length (setAt e place)
+  pub ones-are : below ≡ ones (x .presence % 2 ^ place)
+  pub skip : (xs : List (List Text)) (r : List ℕ) → drop (x .«after_presence») s ≡ setsBytes xs ++ r → x .«after_presence» ≤ length s →
+      below ≡ present xs → Skipped s (x .«after_presence») (setsBytes xs) r at
+
+module _ {s : List ℕ} {e : Event} {x : EventIndex} {ats : List ℕ} {place index below at : ℕ} (v : Wanted s e x ats place index below at) where
   long : place < length (e .sets)
-  long = omega (arith, w .sets .long)
+  long = omega (arith, v .is .sets .long, v .place-inside)
 
-  module _ (below at : ℕ) (ones-are : below ≡ ones (x .presence % 2 ^ place))
-      (skip : (xs : List (List Text)) (r : List ℕ) → drop (x .«after_presence») s ≡ setsBytes xs ++ r → x .«after_presence» ≤ length s →
-      below ≡ present xs → Skipped s (x .«after_presence») (setsBytes xs) r at) where
-    skipped : Skipped s (x .«after_presence») (setsBytes (take place (e .sets))) (setsBytes (drop place (e .sets))) at
-    unfolding setsBytes
-    skipped =
-        skip (take place (e .sets)) (setsBytes (drop place (e .sets))) (w .rest ∙ flat-split setBytes place (e .sets)) (w .within)
-        (ones-are ∙ ap (λ (n : ℕ). ones (n % 2 ^ place)) (w .presence) ∙ ones-below place (e .sets))
+  skipped : Skipped s (x .«after_presence») (setsBytes (take place (e .sets))) (setsBytes (drop place (e .sets))) at
+  unfolding setsBytes
+  skipped =
+      v .skip (take place (e .sets)) (setsBytes (drop place (e .sets))) (v .is .rest ∙ flat-split setBytes place (e .sets)) (v .is .within)
+      (v .ones-are ∙ ap (λ (n : ℕ). ones (n % 2 ^ place)) (v .is .presence) ∙ ones-below place (e .sets))
 
-    set-here : drop at s ≡ number (length (setAt e place)) ++ (flatten (map text (setAt e place)) ++ setsBytes (drop (suc place) (e .sets)))
-    unfolding setsBytes flatten
-    set-here =
-        skipped .rest
-        ∙ ap (λ (l : List (List Text)). setsBytes l) (drop-cons (e .sets) place [] long)
-        ∙ ap (λ (l : List ℕ). l ++ setsBytes (drop (suc place) (e .sets))) (set-bytes (setAt e place) (omega arith))
-        ∙ append-assoc (number (length (setAt e place))) (flatten (map text (setAt e place))) (setsBytes (drop (suc place) (e .sets)))
+  set-here : drop at s ≡ number (length (setAt e place)) ++ (flatten (map text (setAt e place)) ++ setsBytes (drop (suc place) (e .sets)))
+  unfolding setsBytes flatten
+  set-here =
+      skipped .rest
+      ∙ ap (λ (l : List (List Text)). setsBytes l) (drop-cons (e .sets) place [] long)
+      ∙ ap (λ (l : List ℕ). l ++ setsBytes (drop (suc place) (e .sets))) (set-bytes (setAt e place) (omega (arith, v .inside)))
+      ∙ append-assoc (number (length (setAt e place))) (flatten (map text (setAt e place))) (setsBytes (drop (suc place) (e .sets)))
 
-    few : length (setAt e place) < 2 ^ 64
-    few = omega (
-      arith,
-      texts-long (setAt e place),
-      length-drop at s,
-      ap length set-here,
-      length-append (number (length (setAt e place))) (flatten (map text (setAt e place)) ++ setsBytes (drop (suc place) (e .sets))),
-      length-append (flatten (map text (setAt e place))) (setsBytes (drop (suc place) (e .sets))),
-    )
+  few : length (setAt e place) < 2 ^ 64
+  few = omega (
+    arith,
+    v .small,
+    texts-long (setAt e place),
+    length-drop at s,
+    ap length set-here,
+    length-append (number (length (setAt e place))) (flatten (map text (setAt e place)) ++ setsBytes (drop (suc place) (e .sets))),
+    length-append (flatten (map text (setAt e place))) (setsBytes (drop (suc place) (e .sets))),
+  )
 
-    pub value-no-count : readNumber (drop at s) ≡ fail → ⊥
-    value-no-count f = number-there s small at (skipped .within) (length (setAt e place)) _ few set-here f
+  pub value-no-count : readNumber (drop at s) ≡ fail → ⊥
+  value-no-count f = number-there s (v .small) at (skipped .within) (length (setAt e place)) _ few set-here f
 
-    module _ (n start to : ℕ) (m : NumberStops s at n start)
-        (skip-texts : (vs : List Text) (r : List ℕ) → drop start s ≡ flatten (map text vs) ++ r → start ≤ length s → index ≡ length vs → Skipped s start (flatten (map text vs)) r to) where
-      counted : Skipped s at (number (length (setAt e place))) (flatten (map text (setAt e place)) ++ setsBytes (drop (suc place) (e .sets))) start
-      counted = number-next s small at (skipped .within) (length (setAt e place)) _ few set-here n start m .1
+  module _ {n start to : ℕ} (m : NumberStops s at n start)
+      (skip-texts :
+      (vs : List Text) (r : List ℕ) → drop start s ≡ flatten (map text vs) ++ r → start ≤ length s → index ≡ length vs →
+      Skipped s start (flatten (map text vs)) r to) where
+    counted : Skipped s at (number (length (setAt e place))) (flatten (map text (setAt e place)) ++ setsBytes (drop (suc place) (e .sets))) start
+    counted = number-next s (v .small) at (skipped .within) (length (setAt e place)) _ few set-here n start m .1
 
-      passed : Skipped s start (flatten (map text (take index (setAt e place)))) (flatten (map text (drop index (setAt e place))) ++ setsBytes (drop (suc place) (e .sets))) to
-      passed =
-          skip-texts (take index (setAt e place)) (flatten (map text (drop index (setAt e place))) ++ setsBytes (drop (suc place) (e .sets)))
-          (counted .rest ∙ ap (λ (l : List ℕ). l ++ setsBytes (drop (suc place) (e .sets))) (flat-split text index (setAt e place))
-          ∙ append-assoc (flatten (map text (take index (setAt e place)))) (flatten (map text (drop index (setAt e place)))) (setsBytes (drop (suc place) (e .sets))))
-          (counted .within) (sym (length-take-le index (setAt e place) (omega arith)))
+    passed :
+        Skipped s start (flatten (map text (take index (setAt e place))))
+        (flatten (map text (drop index (setAt e place))) ++ setsBytes (drop (suc place) (e .sets))) to
+    passed =
+        skip-texts (take index (setAt e place)) (flatten (map text (drop index (setAt e place))) ++ setsBytes (drop (suc place) (e .sets)))
+        (counted .rest ∙ ap (λ (l : List ℕ). l ++ setsBytes (drop (suc place) (e .sets))) (flat-split text index (setAt e place))
+        ∙ append-assoc (flatten (map text (take index (setAt e place)))) (flatten (map text (drop index (setAt e place))))
+        (setsBytes (drop (suc place) (e .sets))))
+        (counted .within) (sym (length-take-le index (setAt e place) (omega (arith, v .inside))))
 
-      value-here : drop to s ≡ text (getD (setAt e place) index []) ++ (flatten (map text (drop (suc index) (setAt e place))) ++ setsBytes (drop (suc place) (e .sets)))
-      unfolding flatten
-      value-here =
-          passed .rest
-          ∙ ap (λ (l : List Text). flatten (map text l) ++ setsBytes (drop (suc place) (e .sets))) (drop-cons (setAt e place) index [] i)
-          ∙ append-assoc (text (getD (setAt e place) index [])) (flatten (map text (drop (suc index) (setAt e place)))) (setsBytes (drop (suc place) (e .sets)))
+    value-here :
+        drop to s ≡ text (getD (setAt e place) index []) ++ (flatten (map text (drop (suc index) (setAt e place))) ++ setsBytes (drop (suc place) (e .sets)))
+    unfolding flatten
+    value-here =
+        passed .rest
+        ∙ ap (λ (l : List Text). flatten (map text l) ++ setsBytes (drop (suc place) (e .sets))) (drop-cons (setAt e place) index [] (v .inside))
+        ∙ append-assoc (text (getD (setAt e place) index [])) (flatten (map text (drop (suc index) (setAt e place)))) (setsBytes (drop (suc place) (e .sets)))
 
-      pub value-no-text : readText (drop to s) ≡ fail → ⊥
-      value-no-text f = text-there s small to (passed .within) (getD (setAt e place) index []) _ value-here f
+    pub value-no-text : readText (drop to s) ≡ fail → ⊥
+    value-no-text f = text-there s (v .small) to (passed .within) (getD (setAt e place) index []) _ value-here f
 
-      pub value-stands : (a z : ℕ) → TextStops s to a z → ValueStands s e place index a z
-      unfolding bytesBefore
-      value-stands a z t =
-          let b = text-next s small to (passed .within) (getD (setAt e place) index []) _ value-here a z t in
-          let f : x .«after_presence» ≡ length (headBytes (e .head)) + length (number (x .presence)) =
-          sym (length-take-le (x .«after_presence») s (w .within)) ∙ ap length (w .front)
-          ∙ length-append (headBytes (e .head)) (number (x .presence)) in
-          let g : length (number (x .presence)) ≡ length (number (bitNumber (map presenceBit (e .sets)))) = ap (λ (n : ℕ). length (number n)) (w .presence) in
-          record {
-            some = element (setAt e place) index [] i ∙ ap some (sym (b .0));
-            start = simp length-append (omega (arith, b .1, passed .far, counted .far, skipped .far, f, g));
-            order = t .order;
-            within = t .within;
-          }
+    pub value-stands : {a z : ℕ} → TextStops s to a z → ValueStands s e place index a z
+    unfolding bytesBefore
+    value-stands {a} {z} t =
+        let b = text-next s (v .small) to (passed .within) (getD (setAt e place) index []) _ value-here a z t in
+        let f : x .«after_presence» ≡ length (headBytes (e .head)) + length (number (x .presence)) =
+        sym (length-take-le (x .«after_presence») s (v .is .within)) ∙ ap length (v .is .front)
+        ∙ length-append (headBytes (e .head)) (number (x .presence)) in
+        let g : length (number (x .presence)) ≡ length (number (bitNumber (map presenceBit (e .sets)))) = ap (λ (n : ℕ). length (number n)) (v .is .presence) in
+        record {
+          some = element (setAt e place) index [] (v .inside) ∙ ap some (sym (b .0));
+          start = simp length-append (omega (arith, b .1, passed .far, counted .far, skipped .far, f, g));
+          order = t .order;
+          within = t .within;
+        }

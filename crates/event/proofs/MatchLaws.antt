@@ -34,7 +34,9 @@ flat-more : (v : Text) (vs : List Text) → length (flatten (map text (v ∷ vs)
 unfolding flatten
 flat-more v vs = length-append (text v) (flatten (map text vs))
 
-flat-first : (v : Text) (vs : List Text) → length (flatten (map text (v ∷ vs))) < 2 ^ 64 → readText (flatten (map text (v ∷ vs))) ≡ got v (flatten (map text vs))
+flat-first :
+    (v : Text) (vs : List Text) → length (flatten (map text (v ∷ vs))) < 2 ^ 64 →
+    readText (flatten (map text (v ∷ vs))) ≡ got v (flatten (map text vs))
 unfolding flatten
 flat-first v vs h = text-read v (flatten (map text vs)) (omega (arith, flat-more v vs, text-length v))
 
@@ -44,7 +46,8 @@ flat-same [] [] h e = refl
 flat-same [] (w ∷ ws) h e = absurd (omega (arith, ap length e, flat-more w ws, text-length w, number-bounds (length w)))
 flat-same (v ∷ vs) [] h e = absurd (omega (arith, ap length e, flat-more v vs, text-length v, number-bounds (length v)))
 flat-same (v ∷ vs) (w ∷ ws) h e =
-    let g : got v (flatten (map text vs)) ≡ got w (flatten (map text ws)) = sym (flat-first v vs h) ∙ ap readText e ∙ flat-first w ws (omega (arith, ap length e)) in
+    let g : got v (flatten (map text vs)) ≡ got w (flatten (map text ws)) = sym (flat-first v vs h) ∙ ap readText e
+    ∙ flat-first w ws (omega (arith, ap length e)) in
     let a : v ≡ w = cc in
     let b : flatten (map text vs) ≡ flatten (map text ws) = cc in
     ap₂ {C = List Text} (λ x xs. x ∷ xs) a (flat-same vs ws (omega (arith, flat-more v vs)) b)
@@ -66,7 +69,14 @@ pub record Elem {A : Type 0} (l : List A) (k : ℕ) : Type 0 where
   pub split : drop k l ≡ what ∷ drop (k + 1) l
 
 elem-more : {A : Type 0} (a : A) (l : List A) (k : ℕ) → Elem l k → Elem (a ∷ l) (suc k)
-elem-more a l k e = record { what = e .what; is = e .is; split = e .split ∙ ap (λ (n : ℕ). e .what ∷ drop n l) (add-one k) ∙ sym (ap (λ (n : ℕ). e .what ∷ drop n (a ∷ l)) (add-one (suc k))) }
+elem-more a l k e =
+    record {
+      what =
+          e .what;
+      is =
+          e .is;
+      split = e .split ∙ ap (λ (n : ℕ). e .what ∷ drop n l) (add-one k) ∙ sym (ap (λ (n : ℕ). e .what ∷ drop n (a ∷ l)) (add-one (suc k)));
+    }
 
 pub elem : {A : Type 0} (l : List A) (k : ℕ) → k < length l → Elem l k
 elem [] k h = absurd (omega arith)
@@ -99,22 +109,46 @@ module _ (s : List ℕ) (ty : EventType) (n : ℕ) (ps : List ℕ) (w : Properti
   this-is = w .each k (this .what) (this .is)
 
   module _ (u v : List ℕ) (xs ys : List (List Text)) (ats bts : List ℕ) (a : SetsAre u xs ats) (b : SetsAre v ys bts) where
-    here : (zs : List (List Text)) → length zs ≡ 32 → matchSets (drop k (ty .properties)) (drop k zs) ≡ cond (isMatch (this .what)) (getD zs k [] ∷ matchSets (drop (k + 1) (ty .properties)) (drop (k + 1) zs)) (matchSets (drop (k + 1) (ty .properties)) (drop (k + 1) zs))
+    here :
+        (zs : List (List Text)) → length zs ≡ 32 →
+        matchSets (drop k (ty .properties)) (drop k zs) ≡ cond (isMatch (this .what))
+        (getD zs k [] ∷ matchSets (drop (k + 1) (ty .properties)) (drop (k + 1) zs)) (matchSets (drop (k + 1) (ty .properties)) (drop (k + 1) zs))
     unfolding matchSets
     here zs l = let m : k < length zs = omega (arith, l, w .few) in rw (this .split, drop-cons zs k [] m, add-one)
 
-    step : equal (lists sets) (matchSets (drop k (ty .properties)) (drop k xs)) (matchSets (drop k (ty .properties)) (drop k ys)) ≡ ((not (isMatch (this .what)) || equal sets (getD xs k []) (getD ys k [])) && equal (lists sets) (matchSets (drop (k + 1) (ty .properties)) (drop (k + 1) xs)) (matchSets (drop (k + 1) (ty .properties)) (drop (k + 1) ys)))
+    step :
+        equal (lists sets) (matchSets (drop k (ty .properties)) (drop k xs)) (matchSets (drop k (ty .properties)) (drop k ys))
+        ≡ ((not (isMatch (this .what)) || equal sets (getD xs k []) (getD ys k [])) && equal (lists sets)
+        (matchSets (drop (k + 1) (ty .properties)) (drop (k + 1) xs)) (matchSets (drop (k + 1) (ty .properties)) (drop (k + 1) ys)))
     step = ap₂ (equal (lists sets)) (here xs (a .long)) (here ys (b .long)) ∙ go (isMatch (this .what))
       where
-        go : (m : Bool) → equal (lists sets) (cond m (getD xs k [] ∷ matchSets (drop (k + 1) (ty .properties)) (drop (k + 1) xs)) (matchSets (drop (k + 1) (ty .properties)) (drop (k + 1) xs))) (cond m (getD ys k [] ∷ matchSets (drop (k + 1) (ty .properties)) (drop (k + 1) ys)) (matchSets (drop (k + 1) (ty .properties)) (drop (k + 1) ys))) ≡ ((not m || equal sets (getD xs k []) (getD ys k [])) && equal (lists sets) (matchSets (drop (k + 1) (ty .properties)) (drop (k + 1) xs)) (matchSets (drop (k + 1) (ty .properties)) (drop (k + 1) ys)))
-        go true = equal-more (getD xs k []) (getD ys k []) (matchSets (drop (k + 1) (ty .properties)) (drop (k + 1) xs)) (matchSets (drop (k + 1) (ty .properties)) (drop (k + 1) ys))
+        go :
+            (m : Bool) →
+            equal (lists sets) (cond m (getD xs k [] ∷ matchSets (drop (k + 1) (ty .properties)) (drop (k + 1) xs))
+            (matchSets (drop (k + 1) (ty .properties)) (drop (k + 1) xs)))
+            (cond m (getD ys k [] ∷ matchSets (drop (k + 1) (ty .properties)) (drop (k + 1) ys))
+            (matchSets (drop (k + 1) (ty .properties)) (drop (k + 1) ys)))
+            ≡ ((not m || equal sets (getD xs k []) (getD ys k [])) && equal (lists sets)
+            (matchSets (drop (k + 1) (ty .properties)) (drop (k + 1) xs)) (matchSets (drop (k + 1) (ty .properties)) (drop (k + 1) ys)))
+        go true =
+            equal-more (getD xs k []) (getD ys k []) (matchSets (drop (k + 1) (ty .properties)) (drop (k + 1) xs))
+            (matchSets (drop (k + 1) (ty .properties)) (drop (k + 1) ys))
         go false = refl
 
-    pub same-bad : {r : Bool} → r ≡ (not (isMatch (this .what)) || equal sets (getD xs k []) (getD ys k [])) → r ≡ false → equal (lists sets) (matchSets (drop k (ty .properties)) (drop k xs)) (matchSets (drop k (ty .properties)) (drop k ys)) ≡ false
-    same-bad e f = step ∙ ap (λ (x : Bool). x && equal (lists sets) (matchSets (drop (k + 1) (ty .properties)) (drop (k + 1) xs)) (matchSets (drop (k + 1) (ty .properties)) (drop (k + 1) ys))) (sym e ∙ f)
+    pub same-bad :
+        {r : Bool} → r ≡ (not (isMatch (this .what)) || equal sets (getD xs k []) (getD ys k [])) → r ≡ false →
+        equal (lists sets) (matchSets (drop k (ty .properties)) (drop k xs)) (matchSets (drop k (ty .properties)) (drop k ys)) ≡ false
+    same-bad e f =
+        step ∙ ap (λ (x : Bool). x && equal (lists sets) (matchSets (drop (k + 1) (ty .properties)) (drop (k + 1) xs))
+        (matchSets (drop (k + 1) (ty .properties)) (drop (k + 1) ys))) (sym e ∙ f)
 
-    pub same-more : {r : Bool} → r ≡ (not (isMatch (this .what)) || equal sets (getD xs k []) (getD ys k [])) → r ≡ true → equal (lists sets) (matchSets (drop k (ty .properties)) (drop k xs)) (matchSets (drop k (ty .properties)) (drop k ys)) ≡ equal (lists sets) (matchSets (drop (k + 1) (ty .properties)) (drop (k + 1) xs)) (matchSets (drop (k + 1) (ty .properties)) (drop (k + 1) ys))
-    same-more e f = step ∙ ap (λ (x : Bool). x && equal (lists sets) (matchSets (drop (k + 1) (ty .properties)) (drop (k + 1) xs)) (matchSets (drop (k + 1) (ty .properties)) (drop (k + 1) ys))) (sym e ∙ f)
+    pub same-more :
+        {r : Bool} → r ≡ (not (isMatch (this .what)) || equal sets (getD xs k []) (getD ys k [])) → r ≡ true →
+        equal (lists sets) (matchSets (drop k (ty .properties)) (drop k xs)) (matchSets (drop k (ty .properties)) (drop k ys)) ≡ equal (lists sets)
+        (matchSets (drop (k + 1) (ty .properties)) (drop (k + 1) xs)) (matchSets (drop (k + 1) (ty .properties)) (drop (k + 1) ys))
+    same-more e f =
+        step ∙ ap (λ (x : Bool). x && equal (lists sets) (matchSets (drop (k + 1) (ty .properties)) (drop (k + 1) xs))
+        (matchSets (drop (k + 1) (ty .properties)) (drop (k + 1) ys))) (sym e ∙ f)
 
 pub same-end : (ty : EventType) (xs ys : List (List Text)) (k : ℕ) → length (ty .properties) ≤ k →
     equal (lists sets) (matchSets (drop k (ty .properties)) (drop k xs)) (matchSets (drop k (ty .properties)) (drop k ys)) ≡ true

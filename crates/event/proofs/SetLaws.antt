@@ -15,7 +15,7 @@ use Rattle.model.proofs.Cases.{never}
 use Rattle.packed.specs.Parse.{Parse, fail, got, Layout, andThen, _>>=_, foundIf, times, All}
 use Rattle.packed.specs.Packed.{number, readNumber, text, readText, part}
 use Rattle.packed.proofs.LayoutLaws.{lt-or-ge, andThen-got, foundIf-got, times-was, text-read, text-was, text-length, number-was, number-bounds}
-use Rattle.packed.proofs.ReadLaws.{TextStops, stretch}
+use Rattle.packed.proofs.ReadLaws.{NumberStops, TextStops, stretch}
 pub use Rattle.ontology.proofs.RunLaws.{prepend}
 use Rattle.ontology.proofs.RunLaws.{prepend-nil, prepend-one}
 use Rattle.ontology.proofs.TripleLaws.{putThree, three-long, three-first, three-second, three-third, three-zero, three-other}
@@ -73,26 +73,38 @@ module _ (p : Layout Text) where
   unfolding risen
   risen-bad count t h e = times-bad (λ ws. foundIf (rising texts ws) ws) count t h e
 
-  pub onward-first :
-      (q : Parse (List Text)) (count : ℕ) (t r : List ℕ) (v : Text) → q ≡ risen p count t → 0 < count → p t ≡ got v r → Onward p q v (count - 1) r
+  -- what they were
+  pub risen-was : (count : ℕ) (t : List ℕ) (vs : List Text) (r : List ℕ) → risen p count t ≡ got vs r → times p count t ≡ got vs r
   unfolding risen
-  onward-first q count t r v f h e = record { sofar = v ∷ []; is = f ∙ times-next (λ ws. foundIf (rising texts ws) ws) count t r v h e }
+  risen-was count t vs r e =
+      let c = andThen-got (times p count t) _ vs r e in
+      let f = foundIf-got (rising texts (c .value)) (c .value) (c .left) vs r (c .second) in
+      c .first ∙ ap₂ got (f .value) (f .rest)
 
-  module _ (q : Parse (List Text)) (v : Text) (left : ℕ) (t : List ℕ) (w : Onward p q v left t) where
-    pub onward-bad : 0 < left → p t ≡ fail → q ≡ fail
-    onward-bad h e = w .is ∙ times-bad (λ ws r. foundIf (rising texts (v ∷ ws)) (w .sofar ++ ws) r) left t h e
+-- the first of them is read
+pub onward-first :
+    {p : Layout Text} {q : Parse (List Text)} (count : ℕ) (t : List ℕ) {r : List ℕ} {v : Text} →
+    q ≡ risen p count t → 0 < count → p t ≡ got v r → Onward p q v (count - 1) r
+unfolding risen
+onward-first {p} count t {r} {v} f h e = record { sofar = v ∷ []; is = f ∙ times-next p (λ ws. foundIf (rising texts ws) ws) count t r v h e }
 
-    pub onward-all : left ≤ 0 → q ≡ got (w .sofar) t
-    unfolding times rising
-    onward-all h =
-        let z : left ≡ 0 = omega arith in
-        w .is
-        ∙ ap (λ (n : ℕ). andThen (times p n t) (λ ws r. foundIf (rising texts (v ∷ ws)) (w .sofar ++ ws) r)) z
-        ∙ ap (λ (l : List Text). got l t) (append-nil (w .sofar))
+module _ {p : Layout Text} {q : Parse (List Text)} {v : Text} {left : ℕ} {t : List ℕ} (w : Onward p q v left t) where
+  pub onward-all : left ≤ 0 → q ≡ got (w .sofar) t
+  unfolding times rising
+  onward-all h =
+      let z : left ≡ 0 = omega arith in
+      w .is
+      ∙ ap (λ (n : ℕ). andThen (times p n t) (λ ws r. foundIf (rising texts (v ∷ ws)) (w .sofar ++ ws) r)) z
+      ∙ ap (λ (l : List Text). got l t) (append-nil (w .sofar))
 
-    module _ (u : Text) (r : List ℕ) (h : 0 < left) (e : p t ≡ got u r) where
+  module _ (h : 0 < left) where
+    pub onward-bad : p t ≡ fail → q ≡ fail
+    onward-bad e = w .is ∙ times-bad p (λ ws r. foundIf (rising texts (v ∷ ws)) (w .sofar ++ ws) r) left t h e
+
+    -- the next one, u
+    module _ {u : Text} {r : List ℕ} (e : p t ≡ got u r) where
       step : q ≡ andThen (times p (left - 1) r) (λ ws o. foundIf (rising texts (v ∷ u ∷ ws)) (w .sofar ++ (u ∷ ws)) o)
-      step = w .is ∙ times-next (λ ws o. foundIf (rising texts (v ∷ ws)) (w .sofar ++ ws) o) left t r u h e
+      step = w .is ∙ times-next p (λ ws o. foundIf (rising texts (v ∷ ws)) (w .sofar ++ ws) o) left t r u h e
 
       pub onward-not : pick (texts .cmp v u) true false false ≡ false → q ≡ fail
       unfolding rising
@@ -126,27 +138,20 @@ module _ (p : Layout Text) where
           go Ordering·eq b m = cc
           go Ordering·gt b m = cc
 
-  -- what they were
-  pub risen-was : (count : ℕ) (t : List ℕ) (vs : List Text) (r : List ℕ) → risen p count t ≡ got vs r → times p count t ≡ got vs r
-  unfolding risen
-  risen-was count t vs r e =
-      let c = andThen-got (times p count t) _ vs r e in
-      let f = foundIf-got (rising texts (c .value)) (c .value) (c .left) vs r (c .second) in
-      c .first ∙ ap₂ got (f .value) (f .rest)
-
 -- ---- a set
 
 pub set-none : (t : List ℕ) → readNumber t ≡ fail → readSet t ≡ fail
 unfolding readSet
 set-none t e = rw e
 
-pub set-zero : (t r : List ℕ) (n : ℕ) → readNumber t ≡ got n r → n ≡ 0 → readSet t ≡ fail
-unfolding readSet
-set-zero t r n e h = rw (e, h)
+module _ {s : List ℕ} {at n next : ℕ} (w : NumberStops s at n next) where
+  pub set-zero : n ≡ 0 → readSet (drop at s) ≡ fail
+  unfolding readSet
+  set-zero h = rw (w .is, h)
 
-pub set-some : (t r : List ℕ) (n : ℕ) → readNumber t ≡ got n r → 0 < n → readSet t ≡ risen readText n r
-unfolding readSet risen
-set-some t r n e h = rw (e, le-leb 1 n h)
+  pub set-some : 0 < n → readSet (drop at s) ≡ risen readText n (drop next s)
+  unfolding readSet risen
+  set-some h = rw (w .is, le-leb 1 n h)
 
 -- what a set has before its values
 pub no-count : (n : ℕ) → n ≡ 0 → countSize n ≡ 0
@@ -160,42 +165,39 @@ some-count zero h = absurd (h refl)
 some-count (suc n) h = refl
 
 -- its count stands at `at`, and its values from `start` up to `to`
-module _ (s : List ℕ) (at start to count : ℕ) (vs : List Text) (a : start ≤ length s) (b : to ≤ length s) where
-  module _ (n : readNumber (drop at s) ≡ got count (drop start s)) where
-    there : at ≤ length s
-    there =
-        let long = ap length (number-was (drop at s) count (drop start s) n .0) in
-        omega (arith, long, length-drop at s, length-append (number count) (drop start s), number-bounds count)
+module _ {s : List ℕ} {at count start : ℕ} (n : NumberStops s at count start) where
+  there : at ≤ length s
+  there = omega (arith, n .after, n .within)
 
-    before-values : (at ≤ start) × (length (number count) ≡ start - at)
-    before-values = let p = stretch s (number count) at start there a (number-was (drop at s) count (drop start s) n .0) in (p .1, p .2)
+  before-values : length (number count) ≡ start - at
+  before-values = stretch s (number count) at start there (n .within) (number-was (drop at s) count (drop start s) (n .is) .0) .2
 
-    module _ (some : 0 < count) (f : readSet (drop at s) ≡ got vs (drop to s)) where
-      values : (drop start s ≡ flatten (map text vs) ++ drop to s) × (length vs ≡ count) × All (λ (v : Text). length v < 2 ^ 64) vs
-      values =
-          times-was readText text (λ (v : Text). length v < 2 ^ 64) text-was count (drop start s) vs (drop to s)
-          (risen-was readText count (drop start s) vs (drop to s) (sym (set-some (drop at s) (drop start s) count n some) ∙ f))
+  module _ (some : 0 < count) {to : ℕ} {vs : List Text} (b : to ≤ length s) (f : readSet (drop at s) ≡ got vs (drop to s)) where
+    values : (drop start s ≡ flatten (map text vs) ++ drop to s) × (length vs ≡ count) × All (λ (v : Text). length v < 2 ^ 64) vs
+    values =
+        times-was readText text (λ (v : Text). length v < 2 ^ 64) text-was count (drop start s) vs (drop to s)
+        (risen-was readText count (drop start s) vs (drop to s) (sym (set-some n some) ∙ f))
 
-      size : countSize count ≡ start - at
-      size = some-count count (λ (e : count ≡ 0). omega arith) ∙ before-values .1
+    size : countSize count ≡ start - at
+    size = some-count count (λ (e : count ≡ 0). omega arith) ∙ before-values
 
-      pub set-found : SetStops (readSet (drop at s)) s (record { start = start; end = to; count = count })
-      set-found =
-          let p = stretch s (flatten (map text vs)) start to a b (values .0) in
-          let whole = stretch s (setBytes vs) at to there b (nonempty-was (drop at s) vs (drop to s) f .bytes) in
-          let begin : start - countSize count ≡ at = omega (arith, size, before-values .0) in
-          record {
-            what = vs;
-            is = f;
-            stands = record {
-              bytes = p .0;
-              count = sym (values .1);
-              order = p .1;
-              within = b;
-              counted = omega (arith, size);
-              whole = ap (λ (i : ℕ). part s i to) begin ∙ whole .0;
-            };
-          }
+    pub set-found : SetStops (readSet (drop at s)) s (record { start = start; end = to; count = count })
+    set-found =
+        let p = stretch s (flatten (map text vs)) start to (n .within) b (values .0) in
+        let whole = stretch s (setBytes vs) at to there b (nonempty-was (drop at s) vs (drop to s) f .bytes) in
+        let begin : start - countSize count ≡ at = omega (arith, size, n .after) in
+        record {
+          what = vs;
+          is = f;
+          stands = record {
+            bytes = p .0;
+            count = sym (values .1);
+            order = p .1;
+            within = b;
+            counted = omega (arith, size);
+            whole = ap (λ (i : ℕ). part s i to) begin ∙ whole .0;
+          };
+        }
 
 -- what is known of a call's answer in the arm of a `match`
 pub set-reads : {p : Parse (List Text)} {s : List ℕ} {r : SetRead} {x : SetAt} → r ≡ Found x → SetReads p s r → SetStops p s x
@@ -325,9 +327,9 @@ no-values : (s : List ℕ) → SetIs s [] noSet
 unfolding flatten countSize setBytes
 no-values s = record { bytes = refl; count = refl; order = omega arith; within = omega arith; counted = omega arith; whole = refl }
 
-pub sofar-none : (s ats : List ℕ) (bits at : ℕ) → at ≤ length s → length ats ≡ 96 → Sofar (readSets 32 bits (drop at s)) s ats bits at 0 0
+pub sofar-none : {s ats : List ℕ} {bits at : ℕ} → at ≤ length s → length ats ≡ 96 → Sofar (readSets 32 bits (drop at s)) s ats bits at 0 0
 unfolding objectCount
-sofar-none s ats bits at h l = record {
+sofar-none {s} {bits} {at} h l = record {
   xs = [];
   long = refl;
   few = omega arith;
@@ -339,7 +341,7 @@ sofar-none s ats bits at h l = record {
   ats-long = l;
 }
 
-module _ (p : Parse (List (List Text))) (s ats : List ℕ) (bits next objects k : ℕ) (w : Sofar p s ats bits next objects k) where
+module _ {p : Parse (List (List Text))} {s ats : List ℕ} {bits next objects k : ℕ} (w : Sofar p s ats bits next objects k) where
   one-more : k < 32 → suc (32 - (k + 1)) ≡ 32 - k
   one-more h = omega arith
 
@@ -349,7 +351,7 @@ module _ (p : Parse (List (List Text))) (s ats : List ℕ) (bits next objects k 
       ∙ ap (λ (n : ℕ). prepend (w .xs) (readSets n bits (drop next s))) (sym (one-more h))
       ∙ ap (prepend (w .xs)) (sets-stop (32 - (k + 1)) bits (drop next s) e)
 
-  module _ (x : SetAt) (h : k < 32) (t : SetStops (readPlace (bits % 2) (drop next s)) s x) where
+  module _ {x : SetAt} (h : k < 32) (t : SetStops (readPlace (bits % 2) (drop next s)) s x) where
     -- the numbers with the set x at place k
     abbrev after : List ℕ
     after = putThree ats k (x .start) (x .end) (x .count)
@@ -475,8 +477,8 @@ pub record Walked (x : Text) (s : List ℕ) (at left : ℕ) : Type 0 where
   pub bytes : drop at s ≡ flatten (map text more)
   pub is : x ≡ getD more left []
 
-pub walked-none : (vs : List Text) (s : List ℕ) (index : ℕ) → s ≡ flatten (map text vs) → Walked (getD vs index []) s 0 index
-walked-none vs s index h = record { more = vs; bytes = h; is = refl }
+pub walked-none : (vs : List Text) {s : List ℕ} {index : ℕ} → s ≡ flatten (map text vs) → Walked (getD vs index []) s 0 index
+walked-none vs h = record { more = vs; bytes = h; is = refl }
 
 -- a text that stands among others is the first of them
 record Next (vs : List Text) (v : Text) (r : List ℕ) : Type 0 where
@@ -503,7 +505,7 @@ no-next t (u ∷ us) l h e =
     let z : _≡_ {A = ℕ} 0 1 = cc in
     absurd (omega arith)
 
-module _ (x : Text) (s : List ℕ) (at left : ℕ) (small : length s < 2 ^ 64) (w : Walked x s at left) where
+module _ {x : Text} {s : List ℕ} {at left : ℕ} (w : Walked x s at left) (small : length s < 2 ^ 64) where
   rest-small : length (drop at s) < 2 ^ 64
   rest-small = omega (arith, length-drop at s)
 
@@ -512,7 +514,7 @@ module _ (x : Text) (s : List ℕ) (at left : ℕ) (small : length s < 2 ^ 64) (
       let z : w .more ≡ [] = no-next (drop at s) (w .more) rest-small e (w .bytes) in
       sym (w .is ∙ ap (λ (l : List Text). getD l left []) z)
 
-  module _ (a e : ℕ) (t : TextStops s at a e) where
+  module _ {a e : ℕ} (t : TextStops s at a e) where
     pub walked-more : 0 < left → Walked x s e (left - 1)
     walked-more h =
         let n = next (drop at s) (part s a e) (drop e s) (w .more) rest-small (t .is) (w .bytes) in

@@ -107,7 +107,9 @@ module _ (f : Property → List Text → Bool) (g : List Text → Bool) where
 abbrev pub matchesAt : Option Property → List Text → ℕ
 matchesAt o s = atPlace 0 (λ q. cond (isMatch q) (length s) 0) o
 
-count-step : (k : ℕ) (ps : List Property) (ss : List (List Text)) → k < length ss → matchCount (drop k ps) (drop k ss) ≡ matchesAt (getElem? ps k) (getD ss k []) + matchCount (drop (suc k) ps) (drop (suc k) ss)
+count-step :
+    (k : ℕ) (ps : List Property) (ss : List (List Text)) → k < length ss →
+    matchCount (drop k ps) (drop k ss) ≡ matchesAt (getElem? ps k) (getD ss k []) + matchCount (drop (suc k) ps) (drop (suc k) ss)
 unfolding matchCount atPlace
 count-step k ps [] h = absurd (omega arith)
 count-step zero [] (s ∷ ss) h = refl
@@ -115,7 +117,9 @@ count-step zero (p ∷ ps) (s ∷ ss) h = refl
 count-step (suc k) [] (s ∷ ss) h = refl
 count-step (suc k) (p ∷ ps) (s ∷ ss) h = count-step k ps ss (omega arith)
 
-match-step : (k : ℕ) (ps : List Property) (ss : List (List Text)) → k < length ss → matchCount (drop k ps) (drop k ss) ≡ matchesAt (getElem? ps k) (getD ss k []) + matchCount (drop (k + 1) ps) (drop (k + 1) ss)
+match-step :
+    (k : ℕ) (ps : List Property) (ss : List (List Text)) → k < length ss →
+    matchCount (drop k ps) (drop k ss) ≡ matchesAt (getElem? ps k) (getD ss k []) + matchCount (drop (k + 1) ps) (drop (k + 1) ss)
 match-step k ps ss h = rw (add-one k) (count-step k ps ss h)
 
 match-end : (k : ℕ) (ps : List Property) (ss : List (List Text)) → length ps ≤ k → matchCount (drop k ps) (drop k ss) ≡ 0
@@ -144,7 +148,10 @@ shape-first ps ss left h = record { each = refl; count = omega arith; objects = 
 
 module _ (t : EventType) (x : Event) (left matches k : ℕ) (w : Shape (t .properties) (x .sets) left matches k) where
   module _ (h : k < length (x .sets)) where
-    each-next : eachPlace setFits isEmpty (t .properties) (x .sets) ≡ (atPlace (isEmpty (getD (x .sets) k [])) (λ q. setFits q (getD (x .sets) k [])) (getElem? (t .properties) k) && eachPlace setFits isEmpty (drop (k + 1) (t .properties)) (drop (k + 1) (x .sets)))
+    each-next :
+        eachPlace setFits isEmpty (t .properties) (x .sets)
+        ≡ (atPlace (isEmpty (getD (x .sets) k [])) (λ q. setFits q (getD (x .sets) k [])) (getElem? (t .properties) k) && eachPlace setFits isEmpty
+        (drop (k + 1) (t .properties)) (drop (k + 1) (x .sets)))
     each-next = w .each ∙ each-step setFits isEmpty k (t .properties) (x .sets) h
 
     pub shape-not : false ≡ atPlace (isEmpty (getD (x .sets) k [])) (λ q. setFits q (getD (x .sets) k [])) (getElem? (t .properties) k) → false ≡ eventShape t x
@@ -155,18 +162,24 @@ module _ (t : EventType) (x : Event) (left matches k : ℕ) (w : Shape (t .prope
     unfolding eventShape
     shape-many n e l m =
         let c : matchCount (t .properties) (x .sets) ≡ matches + (n + matchCount (drop (k + 1) (t .properties)) (drop (k + 1) (x .sets))) =
-        w .count ∙ ap (λ (i : ℕ). matches + i) (match-step k (t .properties) (x .sets) h ∙ ap (λ (i : ℕ). i + matchCount (drop (k + 1) (t .properties)) (drop (k + 1) (x .sets))) (sym e)) in
+        w .count ∙ ap (λ (i : ℕ). matches + i) (match-step k (t .properties) (x .sets) h
+        ∙ ap (λ (i : ℕ). i + matchCount (drop (k + 1) (t .properties)) (drop (k + 1) (x .sets))) (sym e)) in
         let y : 32 < matchCount (t .properties) (x .sets) = omega (arith, c) in
-        sym (ap (λ (b : Bool). eachPlace setFits isEmpty (t .properties) (x .sets) && b) (lt-leb _ _ y) ∙ and-false (eachPlace setFits isEmpty (t .properties) (x .sets)))
+        sym (ap (λ (b : Bool). eachPlace setFits isEmpty (t .properties) (x .sets) && b) (lt-leb _ _ y)
+        ∙ and-false (eachPlace setFits isEmpty (t .properties) (x .sets)))
 
     pub shape-few : (count : ℕ) → count ≡ length (getD (x .sets) k []) → left < count → ⊥
     shape-few count e l = omega (arith, w .objects, objects-step k (x .sets) h)
 
-    pub shape-more : (count n : ℕ) → count ≡ length (getD (x .sets) k []) → true ≡ atPlace (isEmpty (getD (x .sets) k [])) (λ q. setFits q (getD (x .sets) k [])) (getElem? (t .properties) k) → n ≡ matchesAt (getElem? (t .properties) k) (getD (x .sets) k []) → Shape (t .properties) (x .sets) (left - count) (matches + n) (k + 1)
+    pub shape-more :
+        (count n : ℕ) → count ≡ length (getD (x .sets) k []) →
+        true ≡ atPlace (isEmpty (getD (x .sets) k [])) (λ q. setFits q (getD (x .sets) k [])) (getElem? (t .properties) k) →
+        n ≡ matchesAt (getElem? (t .properties) k) (getD (x .sets) k []) → Shape (t .properties) (x .sets) (left - count) (matches + n) (k + 1)
     shape-more count n o e f = record {
       each = each-next ∙ rw (← e);
       count =
-          w .count ∙ ap (λ (i : ℕ). matches + i) (match-step k (t .properties) (x .sets) h ∙ ap (λ (i : ℕ). i + matchCount (drop (k + 1) (t .properties)) (drop (k + 1) (x .sets))) (sym f))
+          w .count ∙ ap (λ (i : ℕ). matches + i) (match-step k (t .properties) (x .sets) h
+          ∙ ap (λ (i : ℕ). i + matchCount (drop (k + 1) (t .properties)) (drop (k + 1) (x .sets))) (sym f))
           ∙ sym (add-assoc matches n (matchCount (drop (k + 1) (t .properties)) (drop (k + 1) (x .sets))));
       objects = omega (arith, w .objects, objects-step k (x .sets) h);
     }

@@ -35,17 +35,18 @@ pub record InSpace (k : Kind) (b : Bool) (s : List ℕ) (at : ℕ) : Type 0 wher
   pub bytes : drop at s ≡ flatten (map text more)
   pub is : b ≡ areInSpace k more
 
-pub space-first : (k : Kind) (s : List ℕ) (vs : List Text) → s ≡ flatten (map text vs) → InSpace k (areInSpace k vs) s 0
-space-first k s vs h = record { more = vs; bytes = h; is = refl }
+pub space-first : {k : Kind} {s : List ℕ} (vs : List Text) → s ≡ flatten (map text vs) → InSpace k (areInSpace k vs) s 0
+space-first vs h = record { more = vs; bytes = h; is = refl }
 
-module _ (k : Kind) (b : Bool) (s : List ℕ) (at : ℕ) (w : InSpace k b s at) where
+module _ {k : Kind} {b : Bool} {s : List ℕ} {at : ℕ} (w : InSpace k b s at) where
   pub space-end : length s ≤ at → true ≡ b
   unfolding areInSpace flatten
   space-end h = go (w .more) (w .bytes) (w .is)
     where
       go : (more : List Text) → drop at s ≡ flatten (map text more) → b ≡ areInSpace k more → true ≡ b
       go [] d e = sym e
-      go (v ∷ vs) d e = absurd (omega (arith, length-drop at s, ap length d, length-append (text v) (flatten (map text vs)), text-length v, number-bounds (length v) .0))
+      go (v ∷ vs) d e =
+          absurd (omega (arith, length-drop at s, ap length d, length-append (text v) (flatten (map text vs)), text-length v, number-bounds (length v) .0))
 
   module _ (small : length s < 2 ^ 64) (l : at < length s) where
     -- the first text, and the others
@@ -66,18 +67,18 @@ module _ (k : Kind) (b : Bool) (s : List ℕ) (at : ℕ) (w : InSpace k b s at) 
     pub space-bad : readText (drop at s) ≡ fail → ⊥
     space-bad e = text-there s small at (omega arith) (first .v) (flatten (map text (first .vs))) (first .bytes) e
 
-    module _ (a z : ℕ) (t : TextStops s at a z) where
+    module _ {a z : ℕ} (t : TextStops s at a z) where
       there : (part s a z ≡ first .v) × (drop z s ≡ flatten (map text (first .vs)))
       there = let n = text-next s small at (omega arith) (first .v) (flatten (map text (first .vs))) (first .bytes) a z t in (n .0, n .2 .rest)
 
-      pub space-not : false ≡ inSpace k (part s a z) → false ≡ b
-      space-not e = sym (first .is ∙ ap (λ (c : Bool). c && areInSpace k (first .vs)) (sym (e ∙ ap (inSpace k) (there .0))))
+      pub space-not : inSpace k (part s a z) ≡ false → false ≡ b
+      space-not e = sym (first .is ∙ ap (λ (c : Bool). c && areInSpace k (first .vs)) (sym (ap (inSpace k) (there .0)) ∙ e))
 
-      pub space-more : true ≡ inSpace k (part s a z) → InSpace k b s z
+      pub space-more : inSpace k (part s a z) ≡ true → InSpace k b s z
       space-more e = record {
         more = first .vs;
         bytes = there .1;
-        is = first .is ∙ ap (λ (c : Bool). c && areInSpace k (first .vs)) (sym (e ∙ ap (inSpace k) (there .0)));
+        is = first .is ∙ ap (λ (c : Bool). c && areInSpace k (first .vs)) (sym (ap (inSpace k) (there .0)) ∙ e);
       }
 
 -- ---- places
@@ -90,7 +91,9 @@ pub place-space :
     (table : List ℕ) (y : EventType) (n : ℕ) (ps : List ℕ) (k : ℕ) (vs : List Text) (r : Bool) →
     PropertiesAre table (y .properties) n ps → KindsAre y → ltb k n ≡ true →
     let p = propertyIn ps k in
-    ((a : Kind) → kindOf (p .kind) (p .size) (p .after) (p .sign) ≡ some a → isKind a ≡ true → r ≡ areInSpace a vs) → r ≡ placeSpace (getElem? (y .properties) k) vs
+    ((a :
+    Kind) → kindOf (p .kind) (p .size) (p .after) (p .sign) ≡ some a → isKind a ≡ true → r ≡ areInSpace a vs) →
+    r ≡ placeSpace (getElem? (y .properties) k) vs
 place-space table y n ps k vs r w kinds h f =
     place-said table y n ps k true (λ q. areInSpace (q .kind) vs) r w h (λ q e z. f (q .kind) (kind-of (q .kind) _ _ _ _ (z .kind)) (kinds k q e))
 
@@ -114,14 +117,22 @@ unfolding valuesFit
 fit-first t ss = record { each = refl }
 
 module _ (t : EventType) (ss : List (List Text)) (k : ℕ) (w : Fit t ss k) where
-  next : k < length ss → valuesFit t ss ≡ (placeSpace (getElem? (t .properties) k) (getD ss k []) && eachPlace (λ p s. areInSpace (p .kind) s) (λ s. true) (drop (k + 1) (t .properties)) (drop (k + 1) ss))
+  next :
+      k < length ss →
+      valuesFit t ss ≡ (placeSpace (getElem? (t .properties) k) (getD ss k []) && eachPlace (λ p s. areInSpace (p .kind) s) (λ s. true)
+      (drop (k + 1) (t .properties)) (drop (k + 1) ss))
   next h = w .each ∙ each-step (λ p s. areInSpace (p .kind) s) (λ s. true) k (t .properties) ss h
 
   pub fit-not : k < length ss → false ≡ placeSpace (getElem? (t .properties) k) (getD ss k []) → false ≡ valuesFit t ss
-  fit-not h e = sym (next h ∙ ap (λ (c : Bool). c && eachPlace (λ p s. areInSpace (p .kind) s) (λ s. true) (drop (k + 1) (t .properties)) (drop (k + 1) ss)) (sym e))
+  fit-not h e =
+      sym (next h ∙ ap (λ (c : Bool). c && eachPlace (λ p s. areInSpace (p .kind) s) (λ s. true) (drop (k + 1) (t .properties)) (drop (k + 1) ss)) (sym e))
 
   pub fit-more : k < length ss → true ≡ placeSpace (getElem? (t .properties) k) (getD ss k []) → Fit t ss (k + 1)
-  fit-more h e = record { each = next h ∙ ap (λ (c : Bool). c && eachPlace (λ p s. areInSpace (p .kind) s) (λ s. true) (drop (k + 1) (t .properties)) (drop (k + 1) ss)) (sym e) }
+  fit-more h e =
+      record {
+        each =
+            next h ∙ ap (λ (c : Bool). c && eachPlace (λ p s. areInSpace (p .kind) s) (λ s. true) (drop (k + 1) (t .properties)) (drop (k + 1) ss)) (sym e);
+      }
 
   pub fit-end : length (t .properties) ≤ k → true ≡ valuesFit t ss
   fit-end l = sym (w .each ∙ rw (drop-of-length-le (t .properties) l) (free (λ p s. areInSpace (p .kind) s) (drop k ss)))

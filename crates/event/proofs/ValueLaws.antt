@@ -115,7 +115,8 @@ value-stands-in table event place index =
 
 -- an accepted event has at most 32,768 bytes
 accepted-size :
-    (table event : List ℕ) (ts : Table) (a : Typed) → tableOf table ≡ some ts → eventAsked wide ts event ≡ accepted a → length (eventBytes (a .event)) ≤ dossierCapacity
+    (table event : List ℕ) (ts : Table) (a : Typed) → tableOf table ≡ some ts → eventAsked wide ts event ≡ accepted a →
+    length (eventBytes (a .event)) ≤ dossierCapacity
 accepted-size table event ts a t h =
     let w = event-accepted wide ts event (a .type) (a .event) h in
     let n : length (a .event .head .type) ≤ 64 =
@@ -124,7 +125,9 @@ accepted-size table event ts a t h =
     event-size (a .event) (event-was wide event (a .event) (w .read) .1) (event-short (a .type) (a .event) (w .shape) (w .values)) n
 
 -- It ends within the first 32,768 bytes of the event.
-pub value-ends : (table event : List ℕ) (place index : ℕ) → valueCall table event place index .start + length (valueCall table event place index .bytes) ≤ dossierCapacity
+pub value-ends :
+    (table event : List ℕ) (place index : ℕ) →
+    valueCall table event place index .start + length (valueCall table event place index .bytes) ≤ dossierCapacity
 value-ends table event place index =
     value-each (λ x. x .start + length (x .bytes) ≤ dossierCapacity) table event place index (omega arith)
     (λ ts a v t q h. omega (arith, accepted-size table event ts a t q, value-there (a .event) place index v h .within))

@@ -1,45 +1,70 @@
+-- `head::read_head` meets its contract: name, source and parents are read in the order of the layout, and each return is a law of the first reading that fails,
+-- or of all three.
 use borrow.Author.Needs.{needs}
-use mathlib.Core.Path.{sym, _∙_}
-use borrow.Author.Tests.{not-true, not-false}
-use Rattle.packed.proofs.ReadLaws.{text-stops, text-none}
+use mathlib.Core.List.{List}
+use Prim.Native.Nat.{ℕ}
+use Rattle.packed.proofs.ReadLaws.{TextStops}
+use Rattle.event.proofs.AnswerLaws.{text-got, text-not, told-no, told-yes}
 use Rattle.event.proofs.HeadLaws.{no-name, no-source, source-not, parents-not, head-found, parents-reads, parents-refused}
 use Rattle.event.proofs.head.read_head.Statement.{statement}
 use Rattle.event.proofs.head.read_head.Tie as tie
 
+-- ---- the places
+
+abbrev to-start : tie.After-known-told → tie.Start
+to-start c = c .before .before .before .before .before
+
+abbrev to-name : tie.After-known-told2 → tie.After-known-told
+to-name c = c .before .before .before .before
+
+abbrev to-source : tie.After-is-source → tie.After-known-told2
+to-source c = c .before .before
+
+-- ---- what is read
+
+module _ (c : tie.After-known-told) where
+  abbrev s : List ℕ
+  s = to-start c .args .s .now
+
+  abbrev name-end : ℕ
+  name-end = c .before .name .given .0 .1 .0
+
+  name : TextStops s 0 (c .before .name .given .0 .0) name-end
+  name = text-got (c .before .before .before .read-text .ensures) (c .before .name .given .1)
+
+source : (c : tie.After-known-told2) → let x = c .before .source .given .0 in TextStops (s (to-name c)) (name-end (to-name c)) (x .0) (x .1 .0)
+source c = text-got (c .before .before .before .read-text2 .ensures) (c .before .source .given .1)
+
+-- ---- the needs
+
 returns : tie.Need-returns
-returns c = no-name _ _ (text-none _ 0 (sym (c .before .before .read-text .ensures) ∙ c .enum-told .given .1))
+returns c = no-name _ _ (text-not _ 0 (c .before .before .read-text .ensures) (c .enum-told .given .1))
 
 returns-2 : tie.Need-returns-2
 returns-2 c =
-    let n = text-stops _ _ _ _ (sym (c .before .before .before .before .before .before .read-text .ensures) ∙ c .before .before .before .before .name .given .1) in
-    no-source _ _ _ _ n (text-none _ _ (sym (c .before .before .read-text2 .ensures) ∙ c .enum-told2 .given .1))
-
-sub-is-source : tie.Need-sub-is-source
-sub-is-source c = text-stops _ _ _ _ (sym (c .before .before .before .read-text2 .ensures) ∙ c .before .source .given .1) .order
-
-part-is-source-start : tie.Need-part-is-source-start
-part-is-source-start c = text-stops _ _ _ _ (sym (c .before .before .before .read-text2 .ensures) ∙ c .before .source .given .1) .order
-
-part-is-source-end : tie.Need-part-is-source-end
-part-is-source-end c = text-stops _ _ _ _ (sym (c .before .before .before .read-text2 .ensures) ∙ c .before .source .given .1) .within
+    let read = c .before .before in
+    no-source _ (name (read .before)) (text-not _ _ (read .read-text2 .ensures) (c .enum-told2 .given .1))
 
 returns-3 : tie.Need-returns-3
 returns-3 c =
-    let n = text-stops _ _ _ _ (sym (c .before .before .before .before .before .before .before .before .before .before .read-text .ensures) ∙ c .before .before .before .before .before .before .before .before .name .given .1) in
-    let u = text-stops _ _ _ _ (sym (c .before .before .before .before .before .before .read-text2 .ensures) ∙ c .before .before .before .before .source .given .1) in
-    source-not _ _ _ _ n _ _ u (sym (c .before .is-source .ensures) ∙ not-true _ (c .if1 .taken))
+    let here = to-source (c .before) in
+    source-not _ (name (to-name here)) (source here) (told-no (c .before .is-source .ensures) (c .if1 .taken))
 
 returns-4 : tie.Need-returns-4
 returns-4 c =
-    let n = text-stops _ _ _ _ (sym (c .before .before .before .before .before .before .before .before .before .before .before .before .before .read-text .ensures) ∙ c .before .before .before .before .before .before .before .before .before .before .before .name .given .1) in
-    let u = text-stops _ _ _ _ (sym (c .before .before .before .before .before .before .before .before .before .read-text2 .ensures) ∙ c .before .before .before .before .before .before .before .source .given .1) in
-    parents-not _ _ _ _ n _ _ u (sym (c .before .before .before .before .is-source .ensures) ∙ not-false _ (c .before .before .before .if1 .left)) (parents-refused _ (c .enum-told3 .given .1) (c .before .before .read-parents .ensures))
+    let read = c .before .before in
+    let asked = read .before in
+    let here = to-source (asked .before) in
+    parents-not _ (name (to-name here)) (source here) (told-yes (asked .before .is-source .ensures) (asked .if1 .left))
+    (parents-refused _ (c .enum-told3 .given .1) (read .read-parents .ensures))
 
 returns-5 : tie.Need-returns-5
 returns-5 c =
-    let n = text-stops _ _ _ _ (sym (c .before .before .before .before .before .before .before .before .before .before .before .before .before .before .read-text .ensures) ∙ c .before .before .before .before .before .before .before .before .before .before .before .before .name .given .1) in
-    let u = text-stops _ _ _ _ (sym (c .before .before .before .before .before .before .before .before .before .before .read-text2 .ensures) ∙ c .before .before .before .before .before .before .before .before .source .given .1) in
-    head-found _ _ _ _ n _ _ u (sym (c .before .before .before .before .before .is-source .ensures) ∙ not-false _ (c .before .before .before .before .if1 .left)) _ (parents-reads (c .before .parents .given .1) (c .before .before .before .read-parents .ensures))
+    let read = c .before .before .before in
+    let asked = read .before in
+    let here = to-source (asked .before) in
+    head-found _ (name (to-name here)) (source here) (told-yes (asked .before .is-source .ensures) (asked .if1 .left))
+    (parents-reads (c .before .parents .given .1) (read .read-parents .ensures))
 
 pub read-head-spec : {M : Type 1} → statement M
 read-head-spec =
@@ -53,9 +78,9 @@ read-head-spec =
     (λ c. search needs)
     (λ c. search needs)
     returns-2
-    sub-is-source
-    part-is-source-start
-    part-is-source-end
+    (λ c. source c .order)
+    (λ c. source c .order)
+    (λ c. source c .within)
     (λ c κs. search needs)
     returns-3
     (λ c κs. search needs)

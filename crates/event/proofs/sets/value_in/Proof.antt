@@ -1,11 +1,13 @@
+-- `sets::value_in` meets its contract: the invariant `Walked` says that the value is the one at index `left` among the texts from `at` on.
 use borrow.Author.Needs.{needs}
 use native.Mathlib.Omega.{arith}
-use mathlib.Core.Path.{_≡_, sym, _∙_}
+use mathlib.Core.Path.{_≡_}
 use mathlib.Core.List.{List, [], map, flatten}
 use lib.ListN.{getD}
 use Rattle.model.specs.Order.{Text}
 use Rattle.packed.specs.Packed.{text}
-use Rattle.packed.proofs.ReadLaws.{text-stops, text-none}
+use Rattle.packed.proofs.ReadLaws.{TextStops}
+use Rattle.event.proofs.AnswerLaws.{text-got, text-not}
 use Rattle.event.proofs.SetLaws.{Walked, walked-none, walked-bad, walked-more, walked-found}
 use Rattle.event.proofs.sets.value_in.Statement.{statement}
 use Rattle.event.proofs.sets.value_in.Tie as tie
@@ -16,29 +18,43 @@ Inv-loop s index at₀ left₀ at left = (vs : List Text) → s ≡ flatten (map
 abbrev μ-loop : tie.MeasureT-loop
 μ-loop s index at₀ left₀ at left = left
 
+-- ---- the places
+
+abbrev to-end : tie.After-known-told2 Inv-loop μ-loop → tie.After-loop Inv-loop μ-loop
+to-end c = c .before .before .before .before
+
+-- ---- the facts
+
+-- the value
+stops : (c : tie.After-known-told2 Inv-loop μ-loop) → let l = to-end c .before in let x = c .before .start .given .0 in
+    TextStops (l .before .before .args .s .now) (l .loop .at) (x .0) (x .1 .0)
+stops c = text-got (c .before .before .before .read-text2 .ensures) (c .before .start .given .1)
+
+-- ---- the needs
+
 loop-holds : tie.Need-loop-holds Inv-loop μ-loop
-loop-holds c = λ vs h. walked-none vs _ _ h
+loop-holds c vs h = walked-none vs h
 
 returns : tie.Need-returns Inv-loop μ-loop
-returns c = λ vs h. walked-bad _ _ _ _ (omega arith) (c .before .before .before .before .before .loop .inv vs h) (text-none _ _ (sym (c .before .before .before .read-text .ensures) ∙ c .before .enum-told .given .1))
+returns c vs h =
+    let read = c .before .before .before in
+    walked-bad (read .before .before .loop .inv vs h) (omega arith) (text-not _ _ (read .read-text .ensures) (c .before .enum-told .given .1))
 
 loop-again : tie.Need-loop-again Inv-loop μ-loop
-loop-again c = λ vs h. walked-more _ _ _ _ (omega arith) (c .before .before .before .before .before .loop .inv vs h) _ _ (text-stops _ _ _ _ (sym (c .before .before .before .read-text .ensures) ∙ c .before .end .given .1)) (c .before .before .before .before .loop-test .taken)
+loop-again c vs h =
+    let read = c .before .before .before in
+    let passed = text-got (read .read-text .ensures) (c .before .end .given .1) in
+    walked-more (read .before .before .loop .inv vs h) (omega arith) passed (read .before .loop-test .taken)
 
 returns-2 : tie.Need-returns-2 Inv-loop μ-loop
-returns-2 c = λ vs h. walked-bad _ _ _ _ (omega arith) (c .before .before .before .before .before .loop .inv vs h) (text-none _ _ (sym (c .before .before .before .read-text2 .ensures) ∙ c .before .enum-told2 .given .1))
-
-sub-result-3 : tie.Need-sub-result-3 Inv-loop μ-loop
-sub-result-3 c = text-stops _ _ _ _ (sym (c .before .before .before .read-text2 .ensures) ∙ c .before .start .given .1) .order
-
-part-result-start-3 : tie.Need-part-result-start-3 Inv-loop μ-loop
-part-result-start-3 c = text-stops _ _ _ _ (sym (c .before .before .before .read-text2 .ensures) ∙ c .before .start .given .1) .order
-
-part-result-end-3 : tie.Need-part-result-end-3 Inv-loop μ-loop
-part-result-end-3 c = text-stops _ _ _ _ (sym (c .before .before .before .read-text2 .ensures) ∙ c .before .start .given .1) .within
+returns-2 c vs h =
+    let read = c .before .before .before in
+    walked-bad (read .before .before .loop .inv vs h) (omega arith) (text-not _ _ (read .read-text2 .ensures) (c .before .enum-told2 .given .1))
 
 returns-3 : tie.Need-returns-3 Inv-loop μ-loop
-returns-3 c = λ vs h. walked-found _ _ _ _ (omega arith) (c .before .before .before .before .before .before .loop .inv vs h) _ _ (text-stops _ _ _ _ (sym (c .before .before .before .before .read-text2 .ensures) ∙ c .before .before .start .given .1)) (c .before .before .before .before .before .loop-test .left)
+returns-3 c vs h =
+    let end = to-end (c .before) in
+    walked-found (end .before .loop .inv vs h) (omega arith) (stops (c .before)) (end .loop-test .left)
 
 pub value-in-spec : {M : Type 1} → statement M
 value-in-spec =
@@ -64,7 +80,7 @@ value-in-spec =
     (λ c. search needs)
     (λ c. search needs)
     returns-2
-    sub-result-3
-    part-result-start-3
-    part-result-end-3
+    (λ c. stops c .order)
+    (λ c. stops c .order)
+    (λ c. stops c .within)
     returns-3)

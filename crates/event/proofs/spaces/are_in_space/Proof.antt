@@ -1,9 +1,8 @@
 -- Strings without a byte above 7F are told by their lengths. Of others the loop's invariant says that the texts before `at` are in the space.
 use borrow.Author.Needs.{needs}
-use borrow.Author.Tests.{not-true, not-false}
 use native.Mathlib.Omega.{arith}
 use Prim.Native.Nat.{ℕ, _-_, _≤_}
-use mathlib.Core.Path.{_≡_, sym, ap, _∙_}
+use mathlib.Core.Path.{_≡_, ap, _∙_}
 use mathlib.Core.Bool.{true}
 use mathlib.Core.Option.{some}
 use mathlib.Core.List.{List, map, flatten}
@@ -11,11 +10,12 @@ use lib.ListN.{length}
 use denote.Ref.{now}
 use Rattle.model.specs.Order.{Text}
 use Rattle.packed.specs.Packed.{text}
-use Rattle.packed.proofs.ReadLaws.{TextStops, text-stops, text-none}
+use Rattle.packed.proofs.ReadLaws.{TextStops}
 use Rattle.values.specs.Spaces.{Kind, isKind}
 use Rattle.values.specs.code.KindNumbers.{kindOf}
 use Rattle.values.proofs.SpaceLaws.{is-string-kind}
 use Rattle.event.specs.EventQuestions.{areInSpace}
+use Rattle.event.proofs.AnswerLaws.{text-got, text-not, told-no, told-yes}
 use Rattle.event.proofs.SpaceLaws.{InSpace, space-first, space-end, space-bad, space-not, space-more}
 use Rattle.event.proofs.spaces.are_in_space.Statement.{statement}
 use Rattle.event.proofs.spaces.are_in_space.Tie as tie
@@ -30,70 +30,55 @@ abbrev μ-loop : tie.MeasureT-loop
 
 -- ---- the places
 
-abbrev to-text : tie.After-in-space Inv-loop μ-loop → tie.After-known-told Inv-loop μ-loop
-to-text c = c .before .before
-
 abbrev to-turn : tie.After-known-told Inv-loop μ-loop → tie.In-loop Inv-loop μ-loop
 to-turn c = c .before .before .before .before
 
+abbrev to-start : tie.In-loop Inv-loop μ-loop → tie.Start Inv-loop μ-loop
+to-start c = c .before .before .before .before .before
+
 -- ---- the facts
 
-module _ (c : tie.After-known-told Inv-loop μ-loop) where
-  abbrev bytes : List ℕ
-  bytes = now (to-turn c .before .before .before .before .before .args .v)
-
-  stops : TextStops bytes (to-turn c .before .loop .at) (c .before .value .given .0 .0) (c .before .value .given .0 .1 .0)
-  stops = text-stops _ _ _ _ (sym (c .before .before .before .read-text .ensures) ∙ c .before .value .given .1)
+stops : (c : tie.After-known-told Inv-loop μ-loop) → let turn = to-turn c in let x = c .before .value .given .0 in
+    TextStops (now (to-start turn .args .v)) (turn .before .loop .at) (x .0) (x .1 .0)
+stops c = text-got (c .before .before .before .read-text .ensures) (c .before .value .given .1)
 
 -- ---- the needs
 
 returns : tie.Need-returns Inv-loop μ-loop
-returns c = λ k vs h i e.
+returns c k vs h i e =
     let told = c .before .before .is-plain .ensures (c .before .if1 .taken) in
     c .are-short .ensures vs (told .1) e ∙ ap (λ (x : Kind). areInSpace x vs) (is-string-kind _ _ _ _ k (told .0) h)
 
 loop-holds : tie.Need-loop-holds Inv-loop μ-loop
-loop-holds c = (omega arith, λ k vs h i e. space-first k _ vs e)
+loop-holds c = (omega arith, λ k vs h i e. space-first vs e)
 
 returns-2 : tie.Need-returns-2 Inv-loop μ-loop
-returns-2 c = λ k vs h i e.
+returns-2 c k vs h i e =
     let read = c .before .before in
-    let l = read .before .before .loop in
-    absurd (space-bad k _ _ _ (l .inv .1 k vs h i e) (omega arith) (omega arith) (text-none _ _ (sym (read .read-text .ensures) ∙ c .enum-told .given .1)))
-
-sub-in-space : tie.Need-sub-in-space Inv-loop μ-loop
-sub-in-space c = stops c .order
-
-part-in-space-start : tie.Need-part-in-space-start Inv-loop μ-loop
-part-in-space-start c = stops c .order
-
-part-in-space-end : tie.Need-part-in-space-end Inv-loop μ-loop
-part-in-space-end c = stops c .within
+    let inv = read .before .before .loop .inv .1 k vs h i e in
+    absurd (space-bad inv (omega arith) (omega arith) (text-not _ _ (read .read-text .ensures) (c .enum-told .given .1)))
 
 returns-3 : tie.Need-returns-3 Inv-loop μ-loop
-returns-3 c = λ k vs h i e.
-    let t = to-text (c .before) in
-    let l = to-turn t .before .loop in
-    let out = sym (not-true _ (c .if2 .taken)) ∙ c .before .in-space .ensures k h i in
-    space-not k _ _ _ (l .inv .1 k vs h i e) (omega arith) (omega arith) _ _ (stops t) out
+returns-3 c k vs h i e =
+    let t = c .before .before .before in
+    let inv = to-turn t .before .loop .inv .1 k vs h i e in
+    space-not inv (omega arith) (omega arith) (stops t) (told-no (c .before .in-space .ensures k h i) (c .if2 .taken))
 
 loop-less : tie.Need-loop-less Inv-loop μ-loop
 loop-less c =
-    let t = to-text (c .before) in
+    let t = c .before .before .before in
     omega (arith, stops t .after, stops t .order, stops t .within, to-turn t .loop-test .taken)
 
 loop-again : tie.Need-loop-again Inv-loop μ-loop
 loop-again c =
-    let t = to-text (c .before) in
-    let l = to-turn t .before .loop in (
+    let t = c .before .before .before in
+    let inv = to-turn t .before .loop .inv .1 in (
       stops t .within,
-      λ k vs h i e.
-          let fits = sym (not-false _ (c .if2 .left)) ∙ c .before .in-space .ensures k h i in
-          space-more k _ _ _ (l .inv .1 k vs h i e) (omega arith) (omega arith) _ _ (stops t) fits,
+      λ k vs h i e. space-more (inv k vs h i e) (omega arith) (omega arith) (stops t) (told-yes (c .before .in-space .ensures k h i) (c .if2 .left)),
     )
 
 returns-4 : tie.Need-returns-4 Inv-loop μ-loop
-returns-4 c = λ k vs h i e. space-end k _ _ _ (c .before .loop .inv .1 k vs h i e) (c .loop-test .left)
+returns-4 c k vs h i e = space-end (c .before .loop .inv .1 k vs h i e) (c .loop-test .left)
 
 pub are-in-space-spec : {M : Type 1} → statement M
 are-in-space-spec =
@@ -109,9 +94,9 @@ are-in-space-spec =
     (λ c. search needs)
     (λ c. search needs)
     returns-2
-    sub-in-space
-    part-in-space-start
-    part-in-space-end
+    (λ c. stops c .order)
+    (λ c. stops c .order)
+    (λ c. stops c .within)
     (λ c κs. search needs)
     returns-3
     loop-less

@@ -1,0 +1,37 @@
+-- What is known of a reader's answer in the arm of a `match`, and of a question's answer after `if !`.
+use mathlib.Core.Path.{_≡_, sym, _∙_}
+use mathlib.Core.Bool.{Bool, true, false, not}
+use mathlib.Core.List.{List}
+use Prim.Native.Nat.{ℕ}
+use lib.ListN.{drop}
+use borrow.Author.Tests.{not-true, not-false}
+use Rattle.packed.specs.Parse.{fail}
+use Rattle.packed.specs.Packed.{readNumber, readText}
+use Rattle.packed.specs.code.Located.{numberAt, textAt}
+use Rattle.packed.specs.declared.read.NumberAt.{NumberAt}
+use Rattle.packed.specs.declared.read.NumberAt.the-variants.{Number, NoNumber}
+use Rattle.packed.specs.declared.read.TextAt.{TextAt}
+use Rattle.packed.specs.declared.read.TextAt.the-variants.{Text, NoText}
+use Rattle.packed.proofs.ReadLaws.{NumberStops, number-stops, number-none, TextStops, text-stops, text-none}
+
+-- ---- readers
+
+pub number-got : {s : List ℕ} {at n next : ℕ} {r : NumberAt} → r ≡ numberAt s at → r ≡ Number n next → NumberStops s at n next
+number-got {s} {at} {n} {next} h e = number-stops s at n next (sym h ∙ e)
+
+pub number-not : (s : List ℕ) (at : ℕ) {r : NumberAt} → r ≡ numberAt s at → r ≡ NoNumber → readNumber (drop at s) ≡ fail
+number-not s at h e = number-none s at (sym h ∙ e)
+
+pub text-got : {s : List ℕ} {at a e : ℕ} {r : TextAt} → r ≡ textAt s at → r ≡ Text a e → TextStops s at a e
+text-got {s} {at} {a} {e} h k = text-stops s at a e (sym h ∙ k)
+
+pub text-not : (s : List ℕ) (at : ℕ) {r : TextAt} → r ≡ textAt s at → r ≡ NoText → readText (drop at s) ≡ fail
+text-not s at h e = text-none s at (sym h ∙ e)
+
+-- ---- questions
+
+pub told-no : {b x : Bool} → b ≡ x → not b ≡ true → x ≡ false
+told-no {b} h e = sym h ∙ not-true b e
+
+pub told-yes : {b x : Bool} → b ≡ x → not b ≡ false → x ≡ true
+told-yes {b} h e = sym h ∙ not-false b e
