@@ -19,7 +19,7 @@ use Rattle.event.specs.Event.{Event, setAt}
 use Rattle.event.specs.EventLayout.{setBytes, setsBytes, presenceBit, bitNumber}
 use Rattle.event.specs.Head.{headBytes}
 use Rattle.event.specs.Value.{bytesBefore}
-use Rattle.event.specs.code.EventIndex.{EventIs, present, Skipped, ValueStands}
+use Rattle.event.specs.code.EventIndex.{EventIs, present, Skipped, TextsSkipped, SetsSkipped, ValueStands}
 use Rattle.event.proofs.EventLayoutLaws.{presence-small}
 use Rattle.event.proofs.SetLaws.{texts-long}
 use Rattle.event.specs.declared.read.EventIndex.{EventIndex}
@@ -71,11 +71,6 @@ pub record Skipping (end : ℕ) (r s : List ℕ) (pos left : ℕ) : Type 0 where
   pub far : pos + length (flatten (map text more)) ≡ end
   pub within : pos ≤ length s
 
-pub skipping-first :
-    (vs : List Text) {r s : List ℕ} {at count : ℕ} → drop at s ≡ flatten (map text vs) ++ r → at ≤ length s → count ≡ length vs →
-    Skipping (at + length (flatten (map text vs))) r s at count
-skipping-first vs h k l = record { more = vs; bytes = h; long = l; far = refl; within = k }
-
 module _ {end : ℕ} {r s : List ℕ} {pos left : ℕ} (w : Skipping end r s pos left) (small : length s < 2 ^ 64) (h : 0 < left) where
   -- the first text, and the others
   record First : Type 0 where
@@ -100,15 +95,15 @@ module _ {end : ℕ} {r s : List ℕ} {pos left : ℕ} (w : Skipping end r s pos
         far = ap (λ (n : ℕ). pos + n) (sym (length-append (text v) (flatten (map text vs)))) ∙ f;
       }
 
-  pub skipping-bad : readText (drop pos s) ≡ fail → ⊥
+  skipping-bad : readText (drop pos s) ≡ fail → ⊥
   skipping-bad e = text-there s small pos (w .within) (first .v) (flatten (map text (first .vs)) ++ r) (first .bytes) e
 
-  pub skipping-more : {a z : ℕ} → TextStops s pos a z → Skipping end r s z (left - 1)
+  skipping-more : {a z : ℕ} → TextStops s pos a z → Skipping end r s z (left - 1)
   skipping-more {a} {z} t =
       let n = text-next s small pos (w .within) (first .v) (flatten (map text (first .vs)) ++ r) (first .bytes) a z t .2 in
       record { more = first .vs; bytes = n .rest; long = omega (arith, first .long); far = omega (arith, first .far, n .far); within = n .within }
 
-pub skipping-all : {at : ℕ} {x r s : List ℕ} {pos left : ℕ} → Skipping (at + length x) r s pos left → left ≤ 0 → Skipped s at x r pos
+skipping-all : {at : ℕ} {x r s : List ℕ} {pos left : ℕ} → Skipping (at + length x) r s pos left → left ≤ 0 → Skipped s at x r pos
 unfolding flatten
 skipping-all {at} {x} {r} {s} {pos} {left} w h = go (w .more) (w .bytes) (w .long) (w .far)
   where
@@ -117,6 +112,26 @@ skipping-all {at} {x} {r} {s} {pos} {left} w h = go (w .more) (w .bytes) (w .lon
         Skipped s at x r pos
     go [] b l f = record { rest = b; far = omega arith; within = w .within }
     go (v ∷ vs) b l f = absurd (omega arith)
+
+-- of `count` texts at `at`, those before pos are skipped
+pub record TextsTo (s : List ℕ) (at count pos left : ℕ) : Type 0 where
+  pub skipping :
+      (vs : List Text) (r : List ℕ) → drop at s ≡ flatten (map text vs) ++ r → at ≤ length s → count ≡ length vs →
+      Skipping (at + length (flatten (map text vs))) r s pos left
+
+pub texts-none : {s : List ℕ} {at count : ℕ} → TextsTo s at count at count
+texts-none = record { skipping = λ vs r b k l. record { more = vs; bytes = b; long = l; far = refl; within = k } }
+
+module _ {s : List ℕ} {at count pos left : ℕ} (w : TextsTo s at count pos left) where
+  pub texts-all : left ≤ 0 → TextsSkipped s at count pos
+  texts-all h vs r b k l = skipping-all (w .skipping vs r b k l) h
+
+  module _ (small : length s < 2 ^ 64) (h : 0 < left) where
+    pub texts-bad : readText (drop pos s) ≡ fail → TextsSkipped s at count pos
+    texts-bad e vs r b k l = absurd (skipping-bad (w .skipping vs r b k l) small h e)
+
+    pub texts-more : {a z : ℕ} → TextStops s pos a z → TextsTo s at count z (left - 1)
+    texts-more t = record { skipping = λ vs r b k l. skipping-more (w .skipping vs r b k l) small h t }
 
 -- ---- sets
 
@@ -127,11 +142,6 @@ pub record SetsSkipping (end : ℕ) (r s : List ℕ) (pos left : ℕ) : Type 0 w
   pub long : left ≡ present more
   pub far : pos + length (setsBytes more) ≡ end
   pub within : pos ≤ length s
-
-pub sets-skipping-first :
-    (xs : List (List Text)) {r s : List ℕ} {at count : ℕ} → drop at s ≡ setsBytes xs ++ r → at ≤ length s → count ≡ present xs →
-    SetsSkipping (at + length (setsBytes xs)) r s at count
-sets-skipping-first xs h k l = record { more = xs; bytes = h; long = l; far = refl; within = k }
 
 -- the first place with objects, and those after it
 record FirstSet (xs : List (List Text)) : Type 0 where
@@ -180,15 +190,10 @@ module _ {end : ℕ} {r s : List ℕ} {pos left : ℕ} (w : SetsSkipping end r s
         length-append (flatten (map text (f .vs))) (setsBytes (f .more) ++ r),
       )
 
-  pub sets-skipping-bad : readNumber (drop pos s) ≡ fail → ⊥
+  sets-skipping-bad : readNumber (drop pos s) ≡ fail → ⊥
   sets-skipping-bad e = number-there s small pos (w .within) (length (next-set .vs)) _ next-few next-bytes e
 
-  pub sets-skipping-more :
-      {n start to : ℕ} → NumberStops s pos n start →
-      ((vs :
-      List Text) (q : List ℕ) → drop start s ≡ flatten (map text vs) ++ q → start ≤ length s → n ≡ length vs →
-      Skipped s start (flatten (map text vs)) q to) →
-      SetsSkipping end r s to (left - 1)
+  sets-skipping-more : {n start to : ℕ} → NumberStops s pos n start → TextsSkipped s start n to → SetsSkipping end r s to (left - 1)
   sets-skipping-more {n} {start} {to} m skip =
       let f = next-set in
       let a = number-next s small pos (w .within) (length (f .vs)) (flatten (map text (f .vs)) ++ (setsBytes (f .more) ++ r)) next-few next-bytes n start m in
@@ -209,11 +214,31 @@ module _ {end : ℕ} {r s : List ℕ} {pos left : ℕ} (w : SetsSkipping end r s
         within = b .within;
       }
 
-pub sets-skipping-all : {at : ℕ} {x r s : List ℕ} {pos left : ℕ} → SetsSkipping (at + length x) r s pos left → left ≤ 0 → Skipped s at x r pos
+sets-skipping-all : {at : ℕ} {x r s : List ℕ} {pos left : ℕ} → SetsSkipping (at + length x) r s pos left → left ≤ 0 → Skipped s at x r pos
 sets-skipping-all {at} {x} {r} {s} {pos} {left} w h =
     let z : present (w .more) ≡ 0 = omega (arith, w .long) in
     let e = none-present (w .more) z in
     record { rest = w .bytes ∙ ap (λ (l : List ℕ). l ++ r) e; far = omega (arith, w .far, ap length e); within = w .within }
+
+-- of the sets of `count` places at `at`, those before pos are skipped
+pub record SetsTo (s : List ℕ) (at count pos left : ℕ) : Type 0 where
+  pub skipping :
+      (xs : List (List Text)) (r : List ℕ) → drop at s ≡ setsBytes xs ++ r → at ≤ length s → count ≡ present xs →
+      SetsSkipping (at + length (setsBytes xs)) r s pos left
+
+pub sets-none : {s : List ℕ} {at count : ℕ} → SetsTo s at count at count
+sets-none = record { skipping = λ xs r b k l. record { more = xs; bytes = b; long = l; far = refl; within = k } }
+
+module _ {s : List ℕ} {at count pos left : ℕ} (w : SetsTo s at count pos left) where
+  pub sets-all : left ≤ 0 → SetsSkipped s at count pos
+  sets-all h xs r b k l = sets-skipping-all (w .skipping xs r b k l) h
+
+  module _ (small : length s < 2 ^ 64) (h : 0 < left) where
+    pub sets-bad : readNumber (drop pos s) ≡ fail → SetsSkipped s at count pos
+    sets-bad e xs r b k l = absurd (sets-skipping-bad (w .skipping xs r b k l) small h e)
+
+    pub sets-more : {n start to : ℕ} → NumberStops s pos n start → TextsSkipped s start n to → SetsTo s at count to (left - 1)
+    sets-more m t = record { skipping = λ xs r b k l. sets-skipping-more (w .skipping xs r b k l) small h m t }
 
 -- ---- the ones below a place
 
@@ -291,8 +316,7 @@ pub record Wanted (s : List ℕ) (e : Event) (x : EventIndex) (ats : List ℕ) (
   pub place-inside : place < 32
   pub inside : index < length (setAt e place)
   pub ones-are : below ≡ ones (x .presence % 2 ^ place)
-  pub skip : (xs : List (List Text)) (r : List ℕ) → drop (x .«after_presence») s ≡ setsBytes xs ++ r → x .«after_presence» ≤ length s →
-      below ≡ present xs → Skipped s (x .«after_presence») (setsBytes xs) r at
+  pub skip : SetsSkipped s (x .«after_presence») below at
 
 module _ {s : List ℕ} {e : Event} {x : EventIndex} {ats : List ℕ} {place index below at : ℕ} (v : Wanted s e x ats place index below at) where
   long : place < length (e .sets)
@@ -326,10 +350,7 @@ module _ {s : List ℕ} {e : Event} {x : EventIndex} {ats : List ℕ} {place ind
   pub value-no-count : readNumber (drop at s) ≡ fail → ⊥
   value-no-count f = number-there s (v .small) at (skipped .within) (length (setAt e place)) _ few set-here f
 
-  module _ {n start to : ℕ} (m : NumberStops s at n start)
-      (skip-texts :
-      (vs : List Text) (r : List ℕ) → drop start s ≡ flatten (map text vs) ++ r → start ≤ length s → index ≡ length vs →
-      Skipped s start (flatten (map text vs)) r to) where
+  module _ {n start to : ℕ} (m : NumberStops s at n start) (skip-texts : TextsSkipped s start index to) where
     counted : Skipped s at (number (length (setAt e place))) (flatten (map text (setAt e place)) ++ setsBytes (drop (suc place) (e .sets))) start
     counted = number-next s (v .small) at (skipped .within) (length (setAt e place)) _ few set-here n start m .1
 

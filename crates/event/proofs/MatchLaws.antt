@@ -1,5 +1,5 @@
 -- The laws of comparing match sets by their bytes.
-use mathlib.Core.Path.{_≡_, refl, sym, ap, ap₂, _∙_}
+use mathlib.Core.Path.{_≡_, refl, sym, ap, ap₂, _∙_, subst}
 use mathlib.Core.Bool.{Bool, true, false, cond, not, _&&_, _||_}
 use mathlib.Core.Option.{some}
 use mathlib.Core.List.{List, [], _∷_, map, flatten}
@@ -19,7 +19,8 @@ use Rattle.ontology.specs.Table.{Property, EventType, isMatch}
 use Rattle.ontology.specs.code.TypeIndex.{PropertyIs, propertyIn, PropertiesAre, hasMatch}
 use Rattle.ontology.specs.declared.properties.PropertyAt.{PropertyAt}
 use Rattle.ontology.proofs.TypeIndexLaws.{match-of}
-use Rattle.event.specs.code.EventIndex.{SetIs, SetsAre}
+use Rattle.event.specs.code.EventIndex.{SetIs, setIn, SetsAre}
+use Rattle.event.proofs.SetLaws.{set-read}
 use Rattle.event.specs.declared.sets.SetAt.{SetAt}
 use Rattle.event.specs.Agreement.{matchSets}
 
@@ -69,14 +70,11 @@ pub record Elem {A : Type 0} (l : List A) (k : ℕ) : Type 0 where
   pub split : drop k l ≡ what ∷ drop (k + 1) l
 
 elem-more : {A : Type 0} (a : A) (l : List A) (k : ℕ) → Elem l k → Elem (a ∷ l) (suc k)
-elem-more a l k e =
-    record {
-      what =
-          e .what;
-      is =
-          e .is;
-      split = e .split ∙ ap (λ (n : ℕ). e .what ∷ drop n l) (add-one k) ∙ sym (ap (λ (n : ℕ). e .what ∷ drop n (a ∷ l)) (add-one (suc k)));
-    }
+elem-more a l k e = record {
+  what = e .what;
+  is = e .is;
+  split = e .split ∙ ap (λ (n : ℕ). e .what ∷ drop n l) (add-one k) ∙ sym (ap (λ (n : ℕ). e .what ∷ drop n (a ∷ l)) (add-one (suc k)));
+}
 
 pub elem : {A : Type 0} (l : List A) (k : ℕ) → k < length l → Elem l k
 elem [] k h = absurd (omega arith)
@@ -98,59 +96,79 @@ equal-more : (a b : List Text) (l m : List (List Text)) → equal (lists sets) (
 unfolding equal lists lex
 equal-more a b l m = three (sets .cmp a b) (λ e. rw e) (λ e. rw e) (λ e. rw e)
 
+-- the match sets from place k on, and whether two have the same
+abbrev setsFrom : EventType → ℕ → List (List Text) → List (List Text)
+setsFrom ty k xs = matchSets (drop k (ty .properties)) (drop k xs)
+
+abbrev sameFrom : EventType → ℕ → List (List Text) → List (List Text) → Bool
+sameFrom ty k xs ys = equal (lists sets) (setsFrom ty k xs) (setsFrom ty k ys)
+
 module _ (s : List ℕ) (ty : EventType) (n : ℕ) (ps : List ℕ) (w : PropertiesAre s (ty .properties) n ps) (k : ℕ) (h : k < n) where
   pub this : Elem (ty .properties) k
   this = elem (ty .properties) k (omega (arith, w .count))
 
-  pub in-all : k < 32
-  in-all = omega (arith, w .few)
-
   pub this-is : PropertyIs s (this .what) (propertyIn ps k)
   this-is = w .each k (this .what) (this .is)
 
-  module _ (u v : List ℕ) (xs ys : List (List Text)) (ats bts : List ℕ) (a : SetsAre u xs ats) (b : SetsAre v ys bts) where
+  module _ (xs ys : List (List Text)) (a : length xs ≡ 32) (b : length ys ≡ 32) where
     here :
         (zs : List (List Text)) → length zs ≡ 32 →
-        matchSets (drop k (ty .properties)) (drop k zs) ≡ cond (isMatch (this .what))
-        (getD zs k [] ∷ matchSets (drop (k + 1) (ty .properties)) (drop (k + 1) zs)) (matchSets (drop (k + 1) (ty .properties)) (drop (k + 1) zs))
+        setsFrom ty k zs ≡ cond (isMatch (this .what)) (getD zs k [] ∷ setsFrom ty (k + 1) zs) (setsFrom ty (k + 1) zs)
     unfolding matchSets
     here zs l = let m : k < length zs = omega (arith, l, w .few) in rw (this .split, drop-cons zs k [] m, add-one)
 
-    step :
-        equal (lists sets) (matchSets (drop k (ty .properties)) (drop k xs)) (matchSets (drop k (ty .properties)) (drop k ys))
-        ≡ ((not (isMatch (this .what)) || equal sets (getD xs k []) (getD ys k [])) && equal (lists sets)
-        (matchSets (drop (k + 1) (ty .properties)) (drop (k + 1) xs)) (matchSets (drop (k + 1) (ty .properties)) (drop (k + 1) ys)))
-    step = ap₂ (equal (lists sets)) (here xs (a .long)) (here ys (b .long)) ∙ go (isMatch (this .what))
+    step : sameFrom ty k xs ys ≡ ((not (isMatch (this .what)) || equal sets (getD xs k []) (getD ys k [])) && sameFrom ty (k + 1) xs ys)
+    step = ap₂ (equal (lists sets)) (here xs a) (here ys b) ∙ go (isMatch (this .what))
       where
         go :
-            (m : Bool) →
-            equal (lists sets) (cond m (getD xs k [] ∷ matchSets (drop (k + 1) (ty .properties)) (drop (k + 1) xs))
-            (matchSets (drop (k + 1) (ty .properties)) (drop (k + 1) xs)))
-            (cond m (getD ys k [] ∷ matchSets (drop (k + 1) (ty .properties)) (drop (k + 1) ys))
-            (matchSets (drop (k + 1) (ty .properties)) (drop (k + 1) ys)))
-            ≡ ((not m || equal sets (getD xs k []) (getD ys k [])) && equal (lists sets)
-            (matchSets (drop (k + 1) (ty .properties)) (drop (k + 1) xs)) (matchSets (drop (k + 1) (ty .properties)) (drop (k + 1) ys)))
-        go true =
-            equal-more (getD xs k []) (getD ys k []) (matchSets (drop (k + 1) (ty .properties)) (drop (k + 1) xs))
-            (matchSets (drop (k + 1) (ty .properties)) (drop (k + 1) ys))
+            (m : Bool) → let l = setsFrom ty (k + 1) xs in let r = setsFrom ty (k + 1) ys in
+            equal (lists sets) (cond m (getD xs k [] ∷ l) l) (cond m (getD ys k [] ∷ r) r)
+            ≡ ((not m || equal sets (getD xs k []) (getD ys k [])) && equal (lists sets) l r)
+        go true = equal-more (getD xs k []) (getD ys k []) (setsFrom ty (k + 1) xs) (setsFrom ty (k + 1) ys)
         go false = refl
 
-    pub same-bad :
-        {r : Bool} → r ≡ (not (isMatch (this .what)) || equal sets (getD xs k []) (getD ys k [])) → r ≡ false →
-        equal (lists sets) (matchSets (drop k (ty .properties)) (drop k xs)) (matchSets (drop k (ty .properties)) (drop k ys)) ≡ false
-    same-bad e f =
-        step ∙ ap (λ (x : Bool). x && equal (lists sets) (matchSets (drop (k + 1) (ty .properties)) (drop (k + 1) xs))
-        (matchSets (drop (k + 1) (ty .properties)) (drop (k + 1) ys))) (sym e ∙ f)
+-- ---- the same, of the numbers of a type and of two events
 
-    pub same-more :
-        {r : Bool} → r ≡ (not (isMatch (this .what)) || equal sets (getD xs k []) (getD ys k [])) → r ≡ true →
-        equal (lists sets) (matchSets (drop k (ty .properties)) (drop k xs)) (matchSets (drop k (ty .properties)) (drop k ys)) ≡ equal (lists sets)
-        (matchSets (drop (k + 1) (ty .properties)) (drop (k + 1) xs)) (matchSets (drop (k + 1) (ty .properties)) (drop (k + 1) ys))
-    same-more e f =
-        step ∙ ap (λ (x : Bool). x && equal (lists sets) (matchSets (drop (k + 1) (ty .properties)) (drop (k + 1) xs))
-        (matchSets (drop (k + 1) (ty .properties)) (drop (k + 1) ys))) (sym e ∙ f)
+-- so much is known of them
+abbrev Matched : ℕ → List ℕ → List ℕ → List ℕ → List ℕ → List ℕ → (EventType → List (List Text) → List (List Text) → Type 0) → Type 0
+Matched count ps a ats b bts f =
+    (s : List ℕ) (ty : EventType) (xs ys : List (List Text)) → PropertiesAre s (ty .properties) count ps → SetsAre a xs ats → SetsAre b ys bts → f ty xs ys
 
-pub same-end : (ty : EventType) (xs ys : List (List Text)) (k : ℕ) → length (ty .properties) ≤ k →
-    equal (lists sets) (matchSets (drop k (ty .properties)) (drop k xs)) (matchSets (drop k (ty .properties)) (drop k ys)) ≡ true
-unfolding matchSets
-same-end ty xs ys k l = rw (drop-of-length-le (ty .properties) l) (equal-true (lists sets) [] [] .1 refl)
+-- the match sets are the same if those from place k on are
+pub record SameTo (count : ℕ) (ps a ats b bts : List ℕ) (k : ℕ) : Type 0 where
+  same : Matched count ps a ats b bts (λ ty xs ys. sameFrom ty 0 xs ys ≡ sameFrom ty k xs ys)
+
+-- if r is true and those after place k are
+pub record SameAt (count : ℕ) (ps a ats b bts : List ℕ) (k : ℕ) (r : Bool) : Type 0 where
+  same : Matched count ps a ats b bts (λ ty xs ys. sameFrom ty 0 xs ys ≡ (r && sameFrom ty (k + 1) xs ys))
+
+module _ {count : ℕ} {ps a ats b bts : List ℕ} where
+  pub same-none : SameTo count ps a ats b bts 0
+  same-none = record { same = λ s ty xs ys w u v. refl }
+
+  module _ {k : ℕ} where
+    pub same-end : SameTo count ps a ats b bts k → count ≤ k → Matched count ps a ats b bts (λ ty xs ys. true ≡ sameFrom ty 0 xs ys)
+    unfolding matchSets
+    same-end w h s ty xs ys are u v =
+        let l : length (ty .properties) ≤ k = omega (arith, are .count) in
+        sym (w .same s ty xs ys are u v ∙ rw (drop-of-length-le (ty .properties) l) (equal-true (lists sets) [] [] .1 refl))
+
+    pub same-at :
+        {p : PropertyAt} {x y : SetAt} {r : Bool} → SameTo count ps a ats b bts k → k < count → p ≡ propertyIn ps k → x ≡ setIn ats k → y ≡ setIn bts k →
+        ((s : List ℕ) (q : Property) (vs ws : List Text) → PropertyIs s q p → SetIs a vs x → SetIs b ws y → r ≡ (not (isMatch q) || equal sets vs ws)) →
+        SameAt count ps a ats b bts k r
+    same-at w h property left right asked = record {
+      same = λ s ty xs ys are u v.
+          let i : k < 32 = omega (arith, are .few) in
+          let told = asked s _ _ _ (subst (PropertyIs s _) (sym property) (this-is s ty count ps are k h)) (set-read left (u .each k i)) (set-read right (v .each k i)) in
+          w .same s ty xs ys are u v
+          ∙ step s ty count ps are k h xs ys (u .long) (v .long)
+          ∙ ap (λ (c : Bool). c && sameFrom ty (k + 1) xs ys) (sym told);
+    }
+
+    module _ {r : Bool} (w : SameAt count ps a ats b bts k r) where
+      pub same-bad : r ≡ false → Matched count ps a ats b bts (λ ty xs ys. false ≡ sameFrom ty 0 xs ys)
+      same-bad e s ty xs ys are u v = sym (w .same s ty xs ys are u v ∙ ap (λ (c : Bool). c && sameFrom ty (k + 1) xs ys) e)
+
+      pub same-more : r ≡ true → SameTo count ps a ats b bts (k + 1)
+      same-more e = record { same = λ s ty xs ys are u v. w .same s ty xs ys are u v ∙ ap (λ (c : Bool). c && sameFrom ty (k + 1) xs ys) e }

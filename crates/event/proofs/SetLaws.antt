@@ -472,13 +472,10 @@ module _ (old ats : List ℕ) (place k : ℕ) (w : Cleared old ats place k) (h :
 -- ---- the text at an index
 
 -- what is looked for, x, is the text at `left` among those from `at` on
-pub record Walked (x : Text) (s : List ℕ) (at left : ℕ) : Type 0 where
-  pub more : List Text
-  pub bytes : drop at s ≡ flatten (map text more)
-  pub is : x ≡ getD more left []
-
-pub walked-none : (vs : List Text) {s : List ℕ} {index : ℕ} → s ≡ flatten (map text vs) → Walked (getD vs index []) s 0 index
-walked-none vs h = record { more = vs; bytes = h; is = refl }
+record Walked (x : Text) (s : List ℕ) (at left : ℕ) : Type 0 where
+  more : List Text
+  bytes : drop at s ≡ flatten (map text more)
+  is : x ≡ getD more left []
 
 -- a text that stands among others is the first of them
 record Next (vs : List Text) (v : Text) (r : List ℕ) : Type 0 where
@@ -509,13 +506,13 @@ module _ {x : Text} {s : List ℕ} {at left : ℕ} (w : Walked x s at left) (sma
   rest-small : length (drop at s) < 2 ^ 64
   rest-small = omega (arith, length-drop at s)
 
-  pub walked-bad : readText (drop at s) ≡ fail → [] ≡ x
+  walked-bad : readText (drop at s) ≡ fail → [] ≡ x
   walked-bad e =
       let z : w .more ≡ [] = no-next (drop at s) (w .more) rest-small e (w .bytes) in
       sym (w .is ∙ ap (λ (l : List Text). getD l left []) z)
 
   module _ {a e : ℕ} (t : TextStops s at a e) where
-    pub walked-more : 0 < left → Walked x s e (left - 1)
+    walked-more : 0 < left → Walked x s e (left - 1)
     walked-more h =
         let n = next (drop at s) (part s a e) (drop e s) (w .more) rest-small (t .is) (w .bytes) in
         record {
@@ -524,8 +521,30 @@ module _ {x : Text} {s : List ℕ} {at left : ℕ} (w : Walked x s at left) (sma
           is = w .is ∙ ap₂ (λ (l : List Text) (i : ℕ). getD l i []) (n .all) (sym (suc-of left h));
         }
 
-    pub walked-found : left ≤ 0 → part s a e ≡ x
+    walked-found : left ≤ 0 → part s a e ≡ x
     walked-found h =
         let z : left ≡ 0 = omega arith in
         let n = next (drop at s) (part s a e) (drop e s) (w .more) rest-small (t .is) (w .bytes) in
         sym (w .is ∙ ap₂ (λ (l : List Text) (i : ℕ). getD l i []) (n .all) z)
+
+-- of the texts that s is made of, those before `at` are walked past to the one at `index`
+pub record WalkedTo (s : List ℕ) (index at left : ℕ) : Type 0 where
+  walked : (vs : List Text) → s ≡ flatten (map text vs) → Walked (getD vs index []) s at left
+
+-- x is the text at `index`, or nothing where there is none
+abbrev pub ValueIn : List ℕ → ℕ → Text → Type 0
+ValueIn s index x = (vs : List Text) → s ≡ flatten (map text vs) → x ≡ getD vs index []
+
+pub walks-none : {s : List ℕ} {index : ℕ} → WalkedTo s index 0 index
+walks-none = record { walked = λ vs h. record { more = vs; bytes = h; is = refl } }
+
+module _ {s : List ℕ} {index at left : ℕ} (w : WalkedTo s index at left) (small : length s < 2 ^ 64) where
+  pub walks-bad : readText (drop at s) ≡ fail → ValueIn s index []
+  walks-bad e vs h = walked-bad (w .walked vs h) small e
+
+  module _ {a e : ℕ} (t : TextStops s at a e) where
+    pub walks-more : 0 < left → WalkedTo s index e (left - 1)
+    walks-more h = record { walked = λ vs k. walked-more (w .walked vs k) small t h }
+
+    pub walks-found : left ≤ 0 → ValueIn s index (part s a e)
+    walks-found h vs k = walked-found (w .walked vs k) small t h

@@ -1,7 +1,8 @@
 -- The laws of question 5, place by place.
-use mathlib.Core.Path.{_≡_, refl, sym, ap, ap₂, _∙_}
+use mathlib.Core.Path.{_≡_, refl, sym, ap, ap₂, _∙_, subst}
 use mathlib.Core.Bool.{Bool, true, false, cond, _&&_, _||_}
 use mathlib.Core.Option.{Option, none, some}
+use mathlib.Core.Logic.{_⊎_, ⊎-elim}
 use mathlib.Core.List.{List, [], _∷_}
 use Prim.Native.Nat.{ℕ, zero, suc, _+_, _-_, _≤_, _<_}
 use native.Mathlib.Omega.{arith}
@@ -19,6 +20,8 @@ use Rattle.ontology.specs.declared.properties.PropertyAt.{PropertyAt}
 use Rattle.ontology.proofs.TypeIndexLaws.{match-of}
 use Rattle.event.specs.Event.{Event, objectCount}
 use Rattle.event.specs.EventQuestions.{eachPlace, isEmpty, setFits, matchCount, eventShape}
+use Rattle.event.specs.code.EventIndex.{setIn, SetsAre}
+use Rattle.event.specs.declared.sets.SetAt.{SetAt}
 
 -- ---- a set
 
@@ -53,7 +56,7 @@ module _ (q : Property) (vs : List Text) where
       go false false = refl
 
 -- the match objects of a property, by its index
-pub matches-are :
+matches-are :
     {s : List ℕ} {n : ℕ} {x : PropertyAt} (q : Property) (vs : List Text) → PropertyIs s q x → n ≡ length vs →
     cond (hasMatch x) n 0 ≡ cond (isMatch q) (length vs) 0
 matches-are q vs w f = ap₂ (λ (b : Bool) (n : ℕ). cond b n 0) (match-of w) f
@@ -104,7 +107,7 @@ module _ (f : Property → List Text → Bool) (g : List Text → Bool) where
   each-step k ps ss h = rw (add-one k) (place-step k ps ss h)
 
 -- the match objects of a place
-abbrev pub matchesAt : Option Property → List Text → ℕ
+abbrev matchesAt : Option Property → List Text → ℕ
 matchesAt o s = atPlace 0 (λ q. cond (isMatch q) (length s) 0) o
 
 count-step :
@@ -138,54 +141,128 @@ all-empty f ([] ∷ ss) = rw zero-add (all-empty f ss)
 all-empty f ((v ∷ vs) ∷ ss) = rw (ne-eqb (length (v ∷ vs)) 0 (λ e. omega arith), ne-eqb (length (v ∷ vs) + objectCount ss) 0 (λ e. omega arith))
 
 -- The places below k fit, and have so many match objects; the others have `left` objects
-pub record Shape (ps : List Property) (ss : List (List Text)) (left matches k : ℕ) : Type 0 where
-  pub each : eachPlace setFits isEmpty ps ss ≡ eachPlace setFits isEmpty (drop k ps) (drop k ss)
-  pub count : matchCount ps ss ≡ matches + matchCount (drop k ps) (drop k ss)
-  pub objects : left ≡ objectCount (drop k ss)
+record Shape (ps : List Property) (ss : List (List Text)) (left matches k : ℕ) : Type 0 where
+  each : eachPlace setFits isEmpty ps ss ≡ eachPlace setFits isEmpty (drop k ps) (drop k ss)
+  count : matchCount ps ss ≡ matches + matchCount (drop k ps) (drop k ss)
+  objects : left ≡ objectCount (drop k ss)
 
-pub shape-first : (ps : List Property) (ss : List (List Text)) (left : ℕ) → left ≡ objectCount ss → Shape ps ss left 0 0
-shape-first ps ss left h = record { each = refl; count = omega arith; objects = h }
+-- whether the set of place k fits
+abbrev fitsAt : EventType → Event → ℕ → Bool
+fitsAt t x k = let vs = getD (x .sets) k [] in atPlace (isEmpty vs) (λ q. setFits q vs) (getElem? (t .properties) k)
 
 module _ (t : EventType) (x : Event) (left matches k : ℕ) (w : Shape (t .properties) (x .sets) left matches k) where
   module _ (h : k < length (x .sets)) where
     each-next :
         eachPlace setFits isEmpty (t .properties) (x .sets)
-        ≡ (atPlace (isEmpty (getD (x .sets) k [])) (λ q. setFits q (getD (x .sets) k [])) (getElem? (t .properties) k) && eachPlace setFits isEmpty
-        (drop (k + 1) (t .properties)) (drop (k + 1) (x .sets)))
+        ≡ (fitsAt t x k && eachPlace setFits isEmpty (drop (k + 1) (t .properties)) (drop (k + 1) (x .sets)))
     each-next = w .each ∙ each-step setFits isEmpty k (t .properties) (x .sets) h
 
-    pub shape-not : false ≡ atPlace (isEmpty (getD (x .sets) k [])) (λ q. setFits q (getD (x .sets) k [])) (getElem? (t .properties) k) → false ≡ eventShape t x
+    fits-not : fitsAt t x k ≡ false → false ≡ eventShape t x
     unfolding eventShape
-    shape-not e = sym (rw (each-next, ← e))
+    fits-not e = sym (rw (each-next, e))
 
-    pub shape-many : (n : ℕ) → n ≡ matchesAt (getElem? (t .properties) k) (getD (x .sets) k []) → 32 - matches < n → matches ≤ 32 → false ≡ eventShape t x
-    unfolding eventShape
-    shape-many n e l m =
-        let c : matchCount (t .properties) (x .sets) ≡ matches + (n + matchCount (drop (k + 1) (t .properties)) (drop (k + 1) (x .sets))) =
-        w .count ∙ ap (λ (i : ℕ). matches + i) (match-step k (t .properties) (x .sets) h
-        ∙ ap (λ (i : ℕ). i + matchCount (drop (k + 1) (t .properties)) (drop (k + 1) (x .sets))) (sym e)) in
-        let y : 32 < matchCount (t .properties) (x .sets) = omega (arith, c) in
-        sym (ap (λ (b : Bool). eachPlace setFits isEmpty (t .properties) (x .sets) && b) (lt-leb _ _ y)
-        ∙ and-false (eachPlace setFits isEmpty (t .properties) (x .sets)))
+    module _ (n : ℕ) (e : n ≡ matchesAt (getElem? (t .properties) k) (getD (x .sets) k [])) where
+      count-next : matchCount (t .properties) (x .sets) ≡ matches + (n + matchCount (drop (k + 1) (t .properties)) (drop (k + 1) (x .sets)))
+      count-next =
+          w .count
+          ∙ ap (λ (i : ℕ). matches + i) (match-step k (t .properties) (x .sets) h
+          ∙ ap (λ (i : ℕ). i + matchCount (drop (k + 1) (t .properties)) (drop (k + 1) (x .sets))) (sym e))
 
-    pub shape-few : (count : ℕ) → count ≡ length (getD (x .sets) k []) → left < count → ⊥
-    shape-few count e l = omega (arith, w .objects, objects-step k (x .sets) h)
+      matches-many : 32 - matches < n → matches ≤ 32 → false ≡ eventShape t x
+      unfolding eventShape
+      matches-many l m =
+          let many : 32 < matchCount (t .properties) (x .sets) = omega (arith, count-next) in
+          sym (ap (λ (b : Bool). eachPlace setFits isEmpty (t .properties) (x .sets) && b) (lt-leb _ _ many)
+          ∙ and-false (eachPlace setFits isEmpty (t .properties) (x .sets)))
 
-    pub shape-more :
-        (count n : ℕ) → count ≡ length (getD (x .sets) k []) →
-        true ≡ atPlace (isEmpty (getD (x .sets) k [])) (λ q. setFits q (getD (x .sets) k [])) (getElem? (t .properties) k) →
-        n ≡ matchesAt (getElem? (t .properties) k) (getD (x .sets) k []) → Shape (t .properties) (x .sets) (left - count) (matches + n) (k + 1)
-    shape-more count n o e f = record {
-      each = each-next ∙ rw (← e);
-      count =
-          w .count ∙ ap (λ (i : ℕ). matches + i) (match-step k (t .properties) (x .sets) h
-          ∙ ap (λ (i : ℕ). i + matchCount (drop (k + 1) (t .properties)) (drop (k + 1) (x .sets))) (sym f))
-          ∙ sym (add-assoc matches n (matchCount (drop (k + 1) (t .properties)) (drop (k + 1) (x .sets))));
-      objects = omega (arith, w .objects, objects-step k (x .sets) h);
-    }
+      shape-next : (count : ℕ) → count ≡ length (getD (x .sets) k []) → fitsAt t x k ≡ true → Shape (t .properties) (x .sets) (left - count) (matches + n) (k + 1)
+      shape-next count o f = record {
+        each = each-next ∙ rw f;
+        count = count-next ∙ sym (add-assoc matches n (matchCount (drop (k + 1) (t .properties)) (drop (k + 1) (x .sets))));
+        objects = omega (arith, w .objects, objects-step k (x .sets) h);
+      }
 
-  pub shape-end : length (t .properties) ≤ k → matches ≤ 32 → eqb left 0 ≡ eventShape t x
+    objects-left : (count : ℕ) → count ≡ length (getD (x .sets) k []) → left < count → ⊥
+    objects-left count e l = omega (arith, w .objects, objects-step k (x .sets) h)
+
+  shape-past : length (t .properties) ≤ k → matches ≤ 32 → eqb left 0 ≡ eventShape t x
   unfolding eventShape
-  shape-end l m =
+  shape-past l m =
       let c : matchCount (t .properties) (x .sets) ≤ 32 = omega (arith, w .count, match-end k (t .properties) (x .sets) l) in
       sym (rw (w .each, drop-of-length-le (t .properties) l, all-empty setFits (drop k (x .sets)), ← w .objects, le-leb _ _ c) (and-true (eqb left 0)))
+
+-- ---- the same, of the numbers of a type and of an event
+
+-- so much is known of them
+abbrev Shaped : ℕ → List ℕ → ℕ → List ℕ → (EventType → Event → Type 0) → Type 0
+Shaped count ps objects ats f =
+    (table event : List ℕ) (t : EventType) (x : Event) → PropertiesAre table (t .properties) count ps → SetsAre event (x .sets) ats →
+    objects ≡ objectCount (x .sets) → f t x
+
+pub record ShapeTo (count : ℕ) (ps : List ℕ) (objects : ℕ) (ats : List ℕ) (left matches k : ℕ) : Type 0 where
+  pub few : matches ≤ 32
+  shape : Shaped count ps objects ats (λ t x. Shape (t .properties) (x .sets) left matches k)
+
+-- place k has a property; its property p and its set v are taken from the numbers
+pub record PlaceIs (count : ℕ) (ps ats : List ℕ) (k : ℕ) (p : PropertyAt) (v : SetAt) : Type 0 where
+  pub inside : k < 32
+  pub there : ltb k count ≡ true
+  pub property : p ≡ propertyIn ps k
+  pub set : v ≡ setIn ats k
+
+pub shape-none : {count : ℕ} {ps : List ℕ} {objects : ℕ} {ats : List ℕ} → ShapeTo count ps objects ats objects 0 0
+shape-none = record { few = omega arith; shape = λ table event t x u v n. record { each = refl; count = omega arith; objects = n } }
+
+module _ {count : ℕ} {ps : List ℕ} {objects : ℕ} {ats : List ℕ} {left matches k : ℕ} (w : ShapeTo count ps objects ats left matches k) where
+  module _ {p : PropertyAt} {v : SetAt} (here : PlaceIs count ps ats k p v) where
+    set-count : {event : List ℕ} {xs : List (List Text)} → SetsAre event xs ats → v .count ≡ length (getD xs k [])
+    set-count is = ap (λ (y : SetAt). y .count) (here .set) ∙ is .each k (here .inside) .count
+
+    place-inside : {event : List ℕ} {xs : List (List Text)} → SetsAre event xs ats → k < length xs
+    place-inside is = omega (arith, here .inside, is .long)
+
+    property-read : {s : List ℕ} {q : Property} → PropertyIs s q (propertyIn ps k) → PropertyIs s q p
+    property-read {s} {q} is = subst (PropertyIs s q) (sym (here .property)) is
+
+    pub shape-few : left < v .count → Shaped count ps objects ats (λ t x. false ≡ eventShape t x)
+    shape-few l table event t x are is n =
+        absurd (objects-left t x _ _ k (w .shape table event t x are is n) (place-inside is) (v .count) (set-count is) l)
+
+    -- the set fits as is answered
+    module _ {fits : Bool} (asked : (s : List ℕ) (q : Property) (vs : List Text) → PropertyIs s q p → v .count ≡ length vs → fits ≡ setFits q vs) where
+      fits-told : Shaped count ps objects ats (λ t x. fits ≡ fitsAt t x k)
+      fits-told table event t x are is n =
+          let vs = getD (x .sets) k [] in
+          place-said table t count ps k (isEmpty vs) (λ q. setFits q vs) fits are (here .there)
+          (λ q i z. asked table q vs (property-read z) (set-count is))
+
+      pub shape-not : fits ≡ false → Shaped count ps objects ats (λ t x. false ≡ eventShape t x)
+      shape-not e table event t x are is n =
+          fits-not t x _ _ k (w .shape table event t x are is n) (place-inside is) (sym (fits-told table event t x are is n) ∙ e)
+
+    -- and has so many match objects
+    module _ {n : ℕ} (matched : n ≡ cond (hasMatch p) (v .count) 0) where
+      matches-told : Shaped count ps objects ats (λ t x. n ≡ matchesAt (getElem? (t .properties) k) (getD (x .sets) k []))
+      matches-told table event t x are is o =
+          let vs = getD (x .sets) k [] in
+          place-said table t count ps k 0 (λ q. cond (isMatch q) (length vs) 0) n are (here .there)
+          (λ q i z. matched ∙ matches-are q vs (property-read z) (set-count is))
+
+      pub shape-many : 32 - matches < n → Shaped count ps objects ats (λ t x. false ≡ eventShape t x)
+      shape-many l table event t x are is o =
+          matches-many t x _ _ k (w .shape table event t x are is o) (place-inside is) n (matches-told table event t x are is o) l (w .few)
+
+      pub shape-more :
+          {fits : Bool} → ((s : List ℕ) (q : Property) (vs : List Text) → PropertyIs s q p → v .count ≡ length vs → fits ≡ setFits q vs) →
+          fits ≡ true → n ≤ 32 - matches → ShapeTo count ps objects ats (left - v .count) (matches + n) (k + 1)
+      shape-more asked e l = record {
+        few = omega (arith, w .few);
+        shape = λ table event t x are is o.
+            shape-next t x _ _ k (w .shape table event t x are is o) (place-inside is) n (matches-told table event t x are is o) (v .count) (set-count is)
+            (sym (fits-told asked table event t x are is o) ∙ e);
+      }
+
+  pub shape-end : (count ≤ k) ⊎ (32 ≤ k) → Shaped count ps objects ats (λ t x. eqb left 0 ≡ eventShape t x)
+  shape-end past table event t x are is n =
+      let l : length (t .properties) ≤ k = ⊎-elim (λ h. omega (arith, are .count)) (λ h. omega (arith, are .count, are .few)) past in
+      shape-past t x _ _ k (w .shape table event t x are is n) l (w .few)

@@ -2,24 +2,29 @@
 use mathlib.Core.Path.{_≡_, refl, sym, ap, _∙_}
 use mathlib.Core.Bool.{Bool, true, false, _&&_}
 use mathlib.Core.Option.{Option, some}
+use mathlib.Core.Logic.{_⊎_, ⊎-elim}
 use mathlib.Core.List.{List, [], _∷_, _++_, map, flatten}
-use Prim.Native.Nat.{ℕ, _+_, _^_, _≤_, _<_}
+use Prim.Native.Nat.{ℕ, _+_, _-_, _^_, _≤_, _<_}
 use native.Mathlib.Omega.{arith}
-use lib.Dec.{ltb}
+use lib.Dec.{ltb, leb}
 use lib.ListN.{length, drop, getD, getElem?, length-append, length-drop, drop-of-length-le}
 use Rattle.model.specs.Order.{Text}
 use Rattle.packed.specs.Parse.{fail}
 use Rattle.packed.specs.Packed.{text, readText, part}
-use Rattle.packed.proofs.ReadLaws.{TextStops}
+use Rattle.packed.proofs.ReadLaws.{TextStops, part-length}
 use Rattle.packed.proofs.LayoutLaws.{text-length, number-bounds}
-use Rattle.values.specs.Spaces.{Kind, isKind, inSpace}
+use Rattle.values.specs.Spaces.{Kind, string, isKind, inSpace}
 use Rattle.values.specs.code.KindNumbers.{kindOf}
-use Rattle.values.proofs.SpaceLaws.{kind-numbered}
+use Rattle.values.specs.code.LowBytes.{AllLow}
+use Rattle.values.proofs.SpaceLaws.{kind-numbered, short-string}
+use Rattle.values.proofs.UnicodeLaws.{low-part}
 use Rattle.ontology.specs.Table.{Property, EventType, atPlace}
 use Rattle.ontology.specs.declared.properties.PropertyAt.{PropertyAt}
 use Rattle.ontology.specs.code.TypeIndex.{KindIs, propertyIn, PropertiesAre}
 use Rattle.event.specs.EventQuestions.{eachPlace, areInSpace, valuesFit}
-use Rattle.event.specs.code.EventIndex.{KindsAre}
+use Rattle.event.specs.code.EventIndex.{SetIs, setIn, SetsAre, KindsAre}
+use Rattle.event.specs.declared.sets.SetAt.{SetAt}
+use Rattle.event.proofs.SetLaws.{set-read}
 use Rattle.event.proofs.LookupLaws.{text-there, text-next}
 use Rattle.event.proofs.ShapeLaws.{place-said, each-step}
 
@@ -30,18 +35,15 @@ kind-of k kind size after sign w = rw (w .number, w .size-is, w .after-is, w .si
 -- ---- texts
 
 -- the texts before `at` are in the space
-pub record InSpace (k : Kind) (b : Bool) (s : List ℕ) (at : ℕ) : Type 0 where
-  pub more : List Text
-  pub bytes : drop at s ≡ flatten (map text more)
-  pub is : b ≡ areInSpace k more
-
-pub space-first : {k : Kind} {s : List ℕ} (vs : List Text) → s ≡ flatten (map text vs) → InSpace k (areInSpace k vs) s 0
-space-first vs h = record { more = vs; bytes = h; is = refl }
+record InSpace (k : Kind) (b : Bool) (s : List ℕ) (at : ℕ) : Type 0 where
+  more : List Text
+  bytes : drop at s ≡ flatten (map text more)
+  is : b ≡ areInSpace k more
 
 module _ {k : Kind} {b : Bool} {s : List ℕ} {at : ℕ} (w : InSpace k b s at) where
-  pub space-end : length s ≤ at → true ≡ b
+  ended : length s ≤ at → true ≡ b
   unfolding areInSpace flatten
-  space-end h = go (w .more) (w .bytes) (w .is)
+  ended h = go (w .more) (w .bytes) (w .is)
     where
       go : (more : List Text) → drop at s ≡ flatten (map text more) → b ≡ areInSpace k more → true ≡ b
       go [] d e = sym e
@@ -64,41 +66,78 @@ module _ {k : Kind} {b : Bool} {s : List ℕ} {at : ℕ} (w : InSpace k b s at) 
         go [] d e = absurd (omega (arith, length-drop at s, ap length d))
         go (v ∷ vs) d e = record { v = v; vs = vs; bytes = d; is = e }
 
-    pub space-bad : readText (drop at s) ≡ fail → ⊥
-    space-bad e = text-there s small at (omega arith) (first .v) (flatten (map text (first .vs))) (first .bytes) e
+    unread : readText (drop at s) ≡ fail → ⊥
+    unread e = text-there s small at (omega arith) (first .v) (flatten (map text (first .vs))) (first .bytes) e
 
     module _ {a z : ℕ} (t : TextStops s at a z) where
       there : (part s a z ≡ first .v) × (drop z s ≡ flatten (map text (first .vs)))
       there = let n = text-next s small at (omega arith) (first .v) (flatten (map text (first .vs))) (first .bytes) a z t in (n .0, n .2 .rest)
 
-      pub space-not : inSpace k (part s a z) ≡ false → false ≡ b
-      space-not e = sym (first .is ∙ ap (λ (c : Bool). c && areInSpace k (first .vs)) (sym (ap (inSpace k) (there .0)) ∙ e))
+      outside : inSpace k (part s a z) ≡ false → false ≡ b
+      outside e = sym (first .is ∙ ap (λ (c : Bool). c && areInSpace k (first .vs)) (sym (ap (inSpace k) (there .0)) ∙ e))
 
-      pub space-more : inSpace k (part s a z) ≡ true → InSpace k b s z
-      space-more e = record {
+      onward : inSpace k (part s a z) ≡ true → InSpace k b s z
+      onward e = record {
         more = first .vs;
         bytes = there .1;
         is = first .is ∙ ap (λ (c : Bool). c && areInSpace k (first .vs)) (sym (ap (inSpace k) (there .0)) ∙ e);
       }
 
+-- the texts of v before `at` are in the space of each kind that is spoken of
+pub record SpaceTo {I : Type 0} (kind : I → Kind) (v : List ℕ) (at : ℕ) : Type 0 where
+  texts : (i : I) (vs : List Text) → v ≡ flatten (map text vs) → InSpace (kind i) (areInSpace (kind i) vs) v at
+
+-- what is answered on all of them
+abbrev pub SpaceTold : {I : Type 0} → (I → Kind) → List ℕ → Bool → Type 0
+SpaceTold {I} kind v b = (i : I) (vs : List Text) → v ≡ flatten (map text vs) → b ≡ areInSpace (kind i) vs
+
+pub space-none : {I : Type 0} {kind : I → Kind} {v : List ℕ} → SpaceTo kind v 0
+space-none = record { texts = λ i vs e. record { more = vs; bytes = e; is = refl } }
+
+module _ {I : Type 0} {kind : I → Kind} {v : List ℕ} {at : ℕ} (w : SpaceTo kind v at) where
+  pub space-end : length v ≤ at → SpaceTold kind v true
+  space-end h i vs e = ended (w .texts i vs e) h
+
+  module _ (small : length v < 2 ^ 64) (l : at < length v) where
+    pub space-bad : readText (drop at v) ≡ fail → SpaceTold kind v false
+    space-bad f i vs e = absurd (unread (w .texts i vs e) small l f)
+
+    module _ {a z : ℕ} (t : TextStops v at a z) where
+      pub space-not : ((i : I) → inSpace (kind i) (part v a z) ≡ false) → SpaceTold kind v false
+      space-not f i vs e = outside (w .texts i vs e) small l t (f i)
+
+      pub space-more : ((i : I) → inSpace (kind i) (part v a z) ≡ true) → SpaceTo kind v z
+      space-more f = record { texts = λ i vs e. onward (w .texts i vs e) small l t (f i) }
+
+-- a kind that has these numbers
+abbrev pub KindHere : ℕ → ℕ → ℕ → ℕ → Type 0
+KindHere kind size after sign = (k : Kind) × (kindOf kind size after sign ≡ some k) × (isKind k ≡ true)
+
+-- a text without a byte above 7F is told by its length
+pub short-fits :
+    {v : List ℕ} {at a z : ℕ} (most : ℕ) {b : Bool} → TextStops v at a z → AllLow v →
+    b ≡ (leb 1 (z - a) && leb (z - a) 120 && leb (z - a) most) → b ≡ inSpace (string most) (part v a z)
+short-fits {v} {a} {z} most t low e =
+    e ∙ ap (λ (n : ℕ). leb 1 n && leb n 120 && leb n most) (sym (part-length v a z (t .order) (t .within)))
+    ∙ short-string most _ (low-part v _ _ (t .order) (t .within) low)
+
 -- ---- places
 
-abbrev pub placeSpace : Option Property → List Text → Bool
+abbrev placeSpace : Option Property → List Text → Bool
 placeSpace o s = atPlace true (λ q. areInSpace (q .kind) s) o
 
 -- what is asked of a place that has a property
-pub place-space :
+place-space :
     (table : List ℕ) (y : EventType) (n : ℕ) (ps : List ℕ) (k : ℕ) (vs : List Text) (r : Bool) →
     PropertiesAre table (y .properties) n ps → KindsAre y → ltb k n ≡ true →
     let p = propertyIn ps k in
-    ((a :
-    Kind) → kindOf (p .kind) (p .size) (p .after) (p .sign) ≡ some a → isKind a ≡ true → r ≡ areInSpace a vs) →
+    ((a : Kind) → kindOf (p .kind) (p .size) (p .after) (p .sign) ≡ some a → isKind a ≡ true → r ≡ areInSpace a vs) →
     r ≡ placeSpace (getElem? (y .properties) k) vs
 place-space table y n ps k vs r w kinds h f =
     place-said table y n ps k true (λ q. areInSpace (q .kind) vs) r w h (λ q e z. f (q .kind) (kind-of (q .kind) _ _ _ _ (z .kind)) (kinds k q e))
 
 -- the kind of a property that was taken from the numbers
-pub kind-read :
+kind-read :
     {p q : PropertyAt} {a : Kind} → p ≡ q → kindOf (q .kind) (q .size) (q .after) (q .sign) ≡ some a → kindOf (p .kind) (p .size) (p .after) (p .sign) ≡ some a
 kind-read {p} {q} e is = ap (λ (x : PropertyAt). kindOf (x .kind) (x .size) (x .after) (x .sign)) e ∙ is
 
@@ -108,31 +147,55 @@ unfolding eachPlace
 free f [] = refl
 free f (s ∷ ss) = free f ss
 
+-- the answer on the places from k on
+abbrev fitFrom : EventType → List (List Text) → ℕ → Bool
+fitFrom t ss k = eachPlace (λ p s. areInSpace (p .kind) s) (λ s. true) (drop k (t .properties)) (drop k ss)
+
+-- so much is known of a type and of the sets of an event
+abbrev Spoken : List ℕ → List ℕ → ℕ → List ℕ → (EventType → List (List Text) → Type 0) → Type 0
+Spoken s ats count ps f = (u : List ℕ) (ty : EventType) (xs : List (List Text)) → PropertiesAre u (ty .properties) count ps → KindsAre ty → SetsAre s xs ats → f ty xs
+
 -- the places below k are in their spaces
-pub record Fit (t : EventType) (ss : List (List Text)) (k : ℕ) : Type 0 where
-  pub each : valuesFit t ss ≡ eachPlace (λ p s. areInSpace (p .kind) s) (λ s. true) (drop k (t .properties)) (drop k ss)
+pub record FitTo (s ats : List ℕ) (count : ℕ) (ps : List ℕ) (k : ℕ) : Type 0 where
+  each : Spoken s ats count ps (λ ty xs. valuesFit ty xs ≡ fitFrom ty xs k)
 
-pub fit-first : (t : EventType) (ss : List (List Text)) → Fit t ss 0
+-- b is the answer on place k
+pub record FitAt (s ats : List ℕ) (count : ℕ) (ps : List ℕ) (k : ℕ) (b : Bool) : Type 0 where
+  inside : k < 32
+  told : Spoken s ats count ps (λ ty xs. b ≡ placeSpace (getElem? (ty .properties) k) (getD xs k []))
+
+pub fit-none : {s ats : List ℕ} {count : ℕ} {ps : List ℕ} → FitTo s ats count ps 0
 unfolding valuesFit
-fit-first t ss = record { each = refl }
+fit-none = record { each = λ u ty xs w n v. refl }
 
-module _ (t : EventType) (ss : List (List Text)) (k : ℕ) (w : Fit t ss k) where
-  next :
-      k < length ss →
-      valuesFit t ss ≡ (placeSpace (getElem? (t .properties) k) (getD ss k []) && eachPlace (λ p s. areInSpace (p .kind) s) (λ s. true)
-      (drop (k + 1) (t .properties)) (drop (k + 1) ss))
-  next h = w .each ∙ each-step (λ p s. areInSpace (p .kind) s) (λ s. true) k (t .properties) ss h
+pub fit-at :
+    {s ats : List ℕ} {count : ℕ} {ps : List ℕ} {k : ℕ} {b : Bool} {p : PropertyAt} {x : SetAt} {v : List ℕ} →
+    k < 32 → ltb k count ≡ true → p ≡ propertyIn ps k → x ≡ setIn ats k → ((vs : List Text) → SetIs s vs x → v ≡ flatten (map text vs)) →
+    ((a : Kind) (vs : List Text) → kindOf (p .kind) (p .size) (p .after) (p .sign) ≡ some a → isKind a ≡ true → v ≡ flatten (map text vs) →
+    b ≡ areInSpace a vs) →
+    FitAt s ats count ps k b
+fit-at {count} {ps} {k} {b} inside there property set values asked = record {
+  inside = inside;
+  told = λ u ty xs w kinds is.
+      place-space u ty count ps k (getD xs k []) b w kinds there
+      (λ a h i. asked a (getD xs k []) (kind-read property h) i (values (getD xs k []) (set-read set (is .each k inside))));
+}
 
-  pub fit-not : k < length ss → false ≡ placeSpace (getElem? (t .properties) k) (getD ss k []) → false ≡ valuesFit t ss
-  fit-not h e =
-      sym (next h ∙ ap (λ (c : Bool). c && eachPlace (λ p s. areInSpace (p .kind) s) (λ s. true) (drop (k + 1) (t .properties)) (drop (k + 1) ss)) (sym e))
+module _ {s ats : List ℕ} {count : ℕ} {ps : List ℕ} {k : ℕ} (w : FitTo s ats count ps k) where
+  module _ {b : Bool} (a : FitAt s ats count ps k b) where
+    next : Spoken s ats count ps (λ ty xs. valuesFit ty xs ≡ (b && fitFrom ty xs (k + 1)))
+    next u ty xs are kinds is =
+        w .each u ty xs are kinds is
+        ∙ each-step (λ p s. areInSpace (p .kind) s) (λ s. true) k (ty .properties) xs (omega (arith, a .inside, is .long))
+        ∙ ap (λ (c : Bool). c && fitFrom ty xs (k + 1)) (sym (a .told u ty xs are kinds is))
 
-  pub fit-more : k < length ss → true ≡ placeSpace (getElem? (t .properties) k) (getD ss k []) → Fit t ss (k + 1)
-  fit-more h e =
-      record {
-        each =
-            next h ∙ ap (λ (c : Bool). c && eachPlace (λ p s. areInSpace (p .kind) s) (λ s. true) (drop (k + 1) (t .properties)) (drop (k + 1) ss)) (sym e);
-      }
+    pub fit-not : b ≡ false → Spoken s ats count ps (λ ty xs. false ≡ valuesFit ty xs)
+    fit-not e u ty xs are kinds is = sym (next u ty xs are kinds is ∙ ap (λ (c : Bool). c && fitFrom ty xs (k + 1)) e)
 
-  pub fit-end : length (t .properties) ≤ k → true ≡ valuesFit t ss
-  fit-end l = sym (w .each ∙ rw (drop-of-length-le (t .properties) l) (free (λ p s. areInSpace (p .kind) s) (drop k ss)))
+    pub fit-more : b ≡ true → FitTo s ats count ps (k + 1)
+    fit-more e = record { each = λ u ty xs are kinds is. next u ty xs are kinds is ∙ ap (λ (c : Bool). c && fitFrom ty xs (k + 1)) e }
+
+  pub fit-end : (count ≤ k) ⊎ (32 ≤ k) → Spoken s ats count ps (λ ty xs. true ≡ valuesFit ty xs)
+  fit-end past u ty xs are kinds is =
+      let l : length (ty .properties) ≤ k = ⊎-elim (λ h. omega (arith, are .count)) (λ h. omega (arith, are .count, are .few)) past in
+      sym (w .each u ty xs are kinds is ∙ rw (drop-of-length-le (ty .properties) l) (free (λ p s. areInSpace (p .kind) s) (drop k xs)))

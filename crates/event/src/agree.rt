@@ -18,7 +18,8 @@ use packed::order::same;
 
 // Equal bytes are equal sets.
 fn place_same(p: PropertyAt, a: &[u8], x: SetAt, b: &[u8], y: SetAt) -> bool
-    ensures { λ r. ⌜ ((s : List ℕ) (q : Property) (vs ws : List Text) → PropertyIs s q p → SetIs (now (a .entry)) vs x → SetIs (now (b .entry)) ws y → r ≡ (not (isMatch q) || equal sets vs ws)) ⌝ }
+    ensures { λ r. ⌜ ((s : List ℕ) (q : Property) (vs ws : List Text) → PropertyIs s q p → SetIs (now (a .entry)) vs x → SetIs (now (b .entry)) ws y
+        → r ≡ (not (isMatch q) || equal sets vs ws)) ⌝ }
 {
     if !is_match(p) {
         return true;

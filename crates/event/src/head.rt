@@ -160,7 +160,8 @@ pub fn text_part(s: &[u8], x: PartAt) -> &[u8]
 
 // Whether two heads have the same type name and the same source.
 pub fn heads_agree(a: &[u8], x: HeadAt, b: &[u8], y: HeadAt) -> bool
-    ensures { λ r. ⌜ ((g h : Head) → HeadIs (now (a .entry)) g x → HeadIs (now (b .entry)) h y → r ≡ (equal texts (g .type) (h .type) && equal texts (g .source) (h .source))) ⌝ }
+    ensures { λ r. ⌜ ((g h : Head) → HeadIs (now (a .entry)) g x → HeadIs (now (b .entry)) h y
+        → r ≡ (equal texts (g .type) (h .type) && equal texts (g .source) (h .source))) ⌝ }
 {
     if !same(text_part(a, x.name), text_part(b, y.name)) {
         return false;
@@ -178,7 +179,8 @@ pub fn hashes_part(s: &[u8], x: SetAt) -> &[u8]
 // Writes a head from position `at` on: the type name, the source, and the hashes of the parents, which stand one after the other.
 pub fn write_head(name: &[u8], source: &[u8], hashes: &[u8], out: &mut [u8], at: usize) -> usize
     requires { ⌜ HeadRoom (now name) (now source) (now hashes) at (length (now out)) ⌝ }
-    ensures { λ r. ⌜ ((h : Head) → HeadParts (now (name .entry)) (now (source .entry)) (now (hashes .entry)) h → Wrote (now (out .entry)) at (headBytes h) (now (out .exit)) r) ⌝ }
+    ensures { λ r. ⌜ ((h : Head) → HeadParts (now (name .entry)) (now (source .entry)) (now (hashes .entry)) h
+        → Wrote (now (out .entry)) at (headBytes h) (now (out .exit)) r) ⌝ }
 {
     let after_name = write_text(name, out, at);
     let after_source = write_text(source, out, after_name);

@@ -1,13 +1,9 @@
-ghost use Prim.Native.Nat.{ℕ, _%_, _^_, _≤_, _<_};
+ghost use Prim.Native.Nat.{_%_, _^_, _<_};
 ghost use mathlib.Core.Path.{_≡_};
-ghost use mathlib.Core.List.{List, _++_, map, flatten};
-ghost use lib.ListN.{length, drop};
+ghost use lib.ListN.{length};
 ghost use lib.Count.{ones};
-ghost use Rattle.model.specs.Order.{Text};
-ghost use Rattle.packed.specs.Packed.{text};
 ghost use Rattle.event.specs.Event.{Event};
-ghost use Rattle.event.specs.EventLayout.{setsBytes};
-ghost use Rattle.event.specs.code.EventIndex.{EventIs, present, Skipped, ValueFound};
+ghost use Rattle.event.specs.code.EventIndex.{EventIs, TextsSkipped, SetsSkipped, ValueFound};
 use crate::read::EventIndex;
 use crate::sets::set_at;
 use packed::read::NumberAt;
@@ -23,7 +19,7 @@ pub enum ValueAt {
 
 // The position after `count` texts.
 fn skip_texts(s: &[u8], at: usize, count: usize) -> usize
-    ensures { λ to. ⌜ ((vs : List Text) (r : List ℕ) → drop at (now (s .entry)) ≡ flatten (map text vs) ++ r → at ≤ length (now (s .entry)) → count ≡ length vs → Skipped (now (s .entry)) at (flatten (map text vs)) r to) ⌝ }
+    ensures { λ to. ⌜ TextsSkipped (now (s .entry)) at count to ⌝ }
 {
     let mut pos = at;
     let mut left = count;
@@ -39,7 +35,7 @@ fn skip_texts(s: &[u8], at: usize, count: usize) -> usize
 
 // The position after the sets of `count` places with objects.
 pub fn skip_sets(s: &[u8], at: usize, count: u32) -> usize
-    ensures { λ to. ⌜ ((xs : List (List Text)) (r : List ℕ) → drop at (now (s .entry)) ≡ setsBytes xs ++ r → at ≤ length (now (s .entry)) → count ≡ present xs → Skipped (now (s .entry)) at (setsBytes xs) r to) ⌝ }
+    ensures { λ to. ⌜ SetsSkipped (now (s .entry)) at count to ⌝ }
 {
     let mut pos = at;
     let mut left = count;

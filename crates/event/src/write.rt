@@ -42,7 +42,8 @@ pub fn write_set(s: &[u8], x: SetAt, out: &mut [u8], at: usize) -> usize
 fn with_set(s: &[u8], run: Run, x: SetAt, out: &mut [u8]) -> Run
     requires { ⌜ RunRoom (now s) run x (length (now out)) ⌝ }
     ensures { λ r. ⌜ RunIs (now (s .entry)) r × ((vs : List Text) → SetIs (now (s .entry)) vs x
-        → ToGo (now (out .entry)) (run .to) (runBytes (now (s .entry)) run ++ setBytes vs) (now (out .exit)) (r .to) (runBytes (now (s .entry)) r)) ⌝ }
+        → ToGo (now (out .entry)) (run .to) (runBytes (now (s .entry)) run ++ setBytes vs)
+        (now (out .exit)) (r .to) (runBytes (now (s .entry)) r)) ⌝ }
 {
     let start = set_start(x);
     if start == run.end {

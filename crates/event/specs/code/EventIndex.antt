@@ -185,6 +185,16 @@ pub record Skipped (s : List ℕ) (at : ℕ) (x r : List ℕ) (to : ℕ) : Type 
   pub far : to ≡ at + length x
   pub within : to ≤ length s
 
+-- what is answered for `count` texts at `at`: where they stand and r follows them, `to` is where r starts
+abbrev pub TextsSkipped : List ℕ → ℕ → ℕ → ℕ → Type 0
+TextsSkipped s at count to =
+    (vs : List Text) (r : List ℕ) → drop at s ≡ flatten (map text vs) ++ r → at ≤ length s → count ≡ length vs → Skipped s at (flatten (map text vs)) r to
+
+-- the same for the sets of `count` places with objects
+abbrev pub SetsSkipped : List ℕ → ℕ → ℕ → ℕ → Type 0
+SetsSkipped s at count to =
+    (xs : List (List Text)) (r : List ℕ) → drop at s ≡ setsBytes xs ++ r → at ≤ length s → count ≡ present xs → Skipped s at (setsBytes xs) r to
+
 -- the value at a place and an index stands from a up to z
 pub record ValueStands (s : List ℕ) (e : Event) (place index a z : ℕ) : Type 0 where
   pub some : getElem? (setAt e place) index ≡ some (part s a z)

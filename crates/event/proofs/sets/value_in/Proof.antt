@@ -1,19 +1,14 @@
--- `sets::value_in` meets its contract: the invariant `Walked` says that the value is the one at index `left` among the texts from `at` on.
+-- `sets::value_in` meets its contract: the invariant says that the value is the one at index `left` among the texts from `at` on.
 use borrow.Author.Needs.{needs}
 use native.Mathlib.Omega.{arith}
-use mathlib.Core.Path.{_≡_}
-use mathlib.Core.List.{List, [], map, flatten}
-use lib.ListN.{getD}
-use Rattle.model.specs.Order.{Text}
-use Rattle.packed.specs.Packed.{text}
 use Rattle.packed.proofs.ReadLaws.{TextStops}
 use Rattle.event.proofs.AnswerLaws.{text-got, text-not}
-use Rattle.event.proofs.SetLaws.{Walked, walked-none, walked-bad, walked-more, walked-found}
+use Rattle.event.proofs.SetLaws.{WalkedTo, walks-none, walks-bad, walks-more, walks-found}
 use Rattle.event.proofs.sets.value_in.Statement.{statement}
 use Rattle.event.proofs.sets.value_in.Tie as tie
 
 abbrev Inv-loop : tie.InvT-loop
-Inv-loop s index at₀ left₀ at left = (vs : List Text) → s ≡ flatten (map text vs) → Walked (getD vs index []) s at left
+Inv-loop s index at₀ left₀ at left = WalkedTo s index at left
 
 abbrev μ-loop : tie.MeasureT-loop
 μ-loop s index at₀ left₀ at left = left
@@ -32,29 +27,26 @@ stops c = text-got (c .before .before .before .read-text2 .ensures) (c .before .
 
 -- ---- the needs
 
-loop-holds : tie.Need-loop-holds Inv-loop μ-loop
-loop-holds c vs h = walked-none vs h
-
 returns : tie.Need-returns Inv-loop μ-loop
-returns c vs h =
+returns c =
     let read = c .before .before .before in
-    walked-bad (read .before .before .loop .inv vs h) (omega arith) (text-not _ _ (read .read-text .ensures) (c .before .enum-told .given .1))
+    walks-bad (read .before .before .loop .inv) (omega arith) (text-not _ _ (read .read-text .ensures) (c .before .enum-told .given .1))
 
 loop-again : tie.Need-loop-again Inv-loop μ-loop
-loop-again c vs h =
+loop-again c =
     let read = c .before .before .before in
     let passed = text-got (read .read-text .ensures) (c .before .end .given .1) in
-    walked-more (read .before .before .loop .inv vs h) (omega arith) passed (read .before .loop-test .taken)
+    walks-more (read .before .before .loop .inv) (omega arith) passed (read .before .loop-test .taken)
 
 returns-2 : tie.Need-returns-2 Inv-loop μ-loop
-returns-2 c vs h =
+returns-2 c =
     let read = c .before .before .before in
-    walked-bad (read .before .before .loop .inv vs h) (omega arith) (text-not _ _ (read .read-text2 .ensures) (c .before .enum-told2 .given .1))
+    walks-bad (read .before .before .loop .inv) (omega arith) (text-not _ _ (read .read-text2 .ensures) (c .before .enum-told2 .given .1))
 
 returns-3 : tie.Need-returns-3 Inv-loop μ-loop
-returns-3 c vs h =
+returns-3 c =
     let end = to-end (c .before) in
-    walked-found (end .before .loop .inv vs h) (omega arith) (stops (c .before)) (end .loop-test .left)
+    walks-found (end .before .loop .inv) (omega arith) (stops (c .before)) (end .loop-test .left)
 
 pub value-in-spec : {M : Type 1} → statement M
 value-in-spec =
@@ -62,7 +54,7 @@ value-in-spec =
     (tie.spec
     Inv-loop
     μ-loop
-    loop-holds
+    (λ c. walks-none)
     (λ c κs. search needs)
     (λ c. search needs)
     (λ c. search needs)

@@ -1,29 +1,21 @@
--- Strings without a byte above 7F are told by their lengths. Of others the loop's invariant says that the texts before `at` are in the space.
+-- `spaces::are_in_space` meets its contract: strings without a byte above 7F are told by `are_short`, and of others the invariant says that the texts before `at`
+-- are in the space.
 use borrow.Author.Needs.{needs}
 use native.Mathlib.Omega.{arith}
-use Prim.Native.Nat.{ℕ, _-_, _≤_}
-use mathlib.Core.Path.{_≡_, ap, _∙_}
-use mathlib.Core.Bool.{true}
-use mathlib.Core.Option.{some}
-use mathlib.Core.List.{List, map, flatten}
+use Prim.Native.Nat.{_-_}
+use mathlib.Core.Path.{ap, _∙_}
 use lib.ListN.{length}
-use denote.Ref.{now}
-use Rattle.model.specs.Order.{Text}
-use Rattle.packed.specs.Packed.{text}
 use Rattle.packed.proofs.ReadLaws.{TextStops}
-use Rattle.values.specs.Spaces.{Kind, isKind}
-use Rattle.values.specs.code.KindNumbers.{kindOf}
+use Rattle.values.specs.Spaces.{Kind}
 use Rattle.values.proofs.SpaceLaws.{is-string-kind}
 use Rattle.event.specs.EventQuestions.{areInSpace}
 use Rattle.event.proofs.AnswerLaws.{text-got, text-not, told-no, told-yes}
-use Rattle.event.proofs.SpaceLaws.{InSpace, space-first, space-end, space-bad, space-not, space-more}
+use Rattle.event.proofs.SpaceLaws.{SpaceTo, KindHere, space-none, space-end, space-bad, space-not, space-more}
 use Rattle.event.proofs.spaces.are_in_space.Statement.{statement}
 use Rattle.event.proofs.spaces.are_in_space.Tie as tie
 
 abbrev Inv-loop : tie.InvT-loop
-Inv-loop v kind size after sign at₀ at =
-    (at ≤ length v)
-    × ((k : Kind) (vs : List Text) → kindOf kind size after sign ≡ some k → isKind k ≡ true → v ≡ flatten (map text vs) → InSpace k (areInSpace k vs) v at)
+Inv-loop v kind size after sign at₀ at = SpaceTo (λ (x : KindHere kind size after sign). x .0) v at
 
 abbrev μ-loop : tie.MeasureT-loop
 μ-loop v kind size after sign at₀ at = length v - at
@@ -33,13 +25,13 @@ abbrev μ-loop : tie.MeasureT-loop
 abbrev to-turn : tie.After-known-told Inv-loop μ-loop → tie.In-loop Inv-loop μ-loop
 to-turn c = c .before .before .before .before
 
-abbrev to-start : tie.In-loop Inv-loop μ-loop → tie.Start Inv-loop μ-loop
-to-start c = c .before .before .before .before .before
+abbrev to-start : tie.At-loop Inv-loop μ-loop → tie.Start Inv-loop μ-loop
+to-start c = c .before .before .before .before
 
 -- ---- the facts
 
-stops : (c : tie.After-known-told Inv-loop μ-loop) → let turn = to-turn c in let x = c .before .value .given .0 in
-    TextStops (now (to-start turn .args .v)) (turn .before .loop .at) (x .0) (x .1 .0)
+stops : (c : tie.After-known-told Inv-loop μ-loop) → let l = to-turn c .before in let x = c .before .value .given .0 in
+    TextStops (to-start l .args .v .now) (l .loop .at) (x .0) (x .1 .0)
 stops c = text-got (c .before .before .before .read-text .ensures) (c .before .value .given .1)
 
 -- ---- the needs
@@ -49,20 +41,17 @@ returns c k vs h i e =
     let told = c .before .before .is-plain .ensures (c .before .if1 .taken) in
     c .are-short .ensures vs (told .1) e ∙ ap (λ (x : Kind). areInSpace x vs) (is-string-kind _ _ _ _ k (told .0) h)
 
-loop-holds : tie.Need-loop-holds Inv-loop μ-loop
-loop-holds c = (omega arith, λ k vs h i e. space-first vs e)
-
 returns-2 : tie.Need-returns-2 Inv-loop μ-loop
 returns-2 c k vs h i e =
     let read = c .before .before in
-    let inv = read .before .before .loop .inv .1 k vs h i e in
-    absurd (space-bad inv (omega arith) (omega arith) (text-not _ _ (read .read-text .ensures) (c .enum-told .given .1)))
+    let turn = read .before in
+    space-bad (turn .before .loop .inv) (omega arith) (turn .loop-test .taken) (text-not _ _ (read .read-text .ensures) (c .enum-told .given .1)) (k, h, i) vs e
 
 returns-3 : tie.Need-returns-3 Inv-loop μ-loop
 returns-3 c k vs h i e =
     let t = c .before .before .before in
-    let inv = to-turn t .before .loop .inv .1 k vs h i e in
-    space-not inv (omega arith) (omega arith) (stops t) (told-no (c .before .in-space .ensures k h i) (c .if2 .taken))
+    space-not (to-turn t .before .loop .inv) (omega arith) (to-turn t .loop-test .taken) (stops t)
+    (λ x. told-no (c .before .in-space .ensures (x .0) (x .1) (x .2)) (c .if2 .taken)) (k, h, i) vs e
 
 loop-less : tie.Need-loop-less Inv-loop μ-loop
 loop-less c =
@@ -72,13 +61,11 @@ loop-less c =
 loop-again : tie.Need-loop-again Inv-loop μ-loop
 loop-again c =
     let t = c .before .before .before in
-    let inv = to-turn t .before .loop .inv .1 in (
-      stops t .within,
-      λ k vs h i e. space-more (inv k vs h i e) (omega arith) (omega arith) (stops t) (told-yes (c .before .in-space .ensures k h i) (c .if2 .left)),
-    )
+    space-more (to-turn t .before .loop .inv) (omega arith) (to-turn t .loop-test .taken) (stops t)
+    (λ x. told-yes (c .before .in-space .ensures (x .0) (x .1) (x .2)) (c .if2 .left))
 
 returns-4 : tie.Need-returns-4 Inv-loop μ-loop
-returns-4 c k vs h i e = space-end (c .before .loop .inv .1 k vs h i e) (c .loop-test .left)
+returns-4 c k vs h i e = space-end (c .before .loop .inv) (c .loop-test .left) (k, h, i) vs e
 
 pub are-in-space-spec : {M : Type 1} → statement M
 are-in-space-spec =
@@ -89,7 +76,7 @@ are-in-space-spec =
     (λ c κs. search needs)
     (λ c κs. search needs)
     returns
-    loop-holds
+    (λ c. space-none)
     (λ c κs. search needs)
     (λ c. search needs)
     (λ c. search needs)

@@ -1,14 +1,7 @@
-use mathlib.Core.Bool.{Bool}
-use mathlib.Core.Path.{_≡_, sym, _∙_}
-use mathlib.Core.List.{List, []}
-use Prim.Native.Nat.{ℕ, _-_, _≤_}
-use lib.ListN.{getD, getElem?}
-use Rattle.model.specs.Order.{Text}
-use Rattle.ontology.specs.Table.{EventType}
-use Rattle.ontology.specs.code.TypeIndex.{PropertiesAre}
-use Rattle.event.specs.code.EventIndex.{SetsAre, KindsAre}
-use Rattle.event.proofs.SetLaws.{set-read}
-use Rattle.event.proofs.SpaceLaws.{placeSpace, place-space, kind-read, Fit, fit-first, fit-not, fit-more, fit-end}
+-- `spaces::sets_in_space` meets its contract: the invariant says that the answer is that of the places from k on, and `answered` is the answer on place k.
+use mathlib.Core.Logic.{inl, inr}
+use Prim.Native.Nat.{_-_}
+use Rattle.event.proofs.SpaceLaws.{FitTo, FitAt, fit-none, fit-at, fit-not, fit-more, fit-end}
 use borrow.Author.Tests.{not-true, not-false, ltb-false}
 use native.Mathlib.Omega.{arith}
 use borrow.Author.Needs.{needs}
@@ -16,10 +9,7 @@ use Rattle.event.proofs.spaces.sets_in_space.Statement.{statement}
 use Rattle.event.proofs.spaces.sets_in_space.Tie as tie
 
 abbrev Inv-loop : tie.InvT-loop
-Inv-loop s sets count properties k₀ k =
-    (k ≤ 32)
-    × ((u : List ℕ) (ty : EventType) (xs : List (List Text)) → PropertiesAre u (ty .properties) count properties → KindsAre ty → SetsAre s xs sets →
-    Fit ty xs k)
+Inv-loop s sets count properties k₀ k = FitTo s sets count properties k
 
 abbrev μ-loop : tie.MeasureT-loop
 μ-loop s sets count properties k₀ k = 32 - k
@@ -35,23 +25,16 @@ to-turn c = c .before .before .before .before
 abbrev to-loop : tie.After-are-in-space Inv-loop μ-loop → tie.At-loop Inv-loop μ-loop
 to-loop c = to-turn c .before .before
 
--- ---- what is known of the place
+-- ---- the facts
 
-space :
-    (c : tie.After-are-in-space Inv-loop μ-loop) (u : List ℕ) (ty : EventType) (xs : List (List Text)) {b : Bool} →
-    PropertiesAre u (ty .properties) (to-start (to-loop c) .args .count) (to-start (to-loop c) .args .properties .now) → KindsAre ty →
-    SetsAre (to-start (to-loop c) .args .s .now) xs (to-start (to-loop c) .args .sets .now) → c .are-in-space .result ≡ b →
-    b ≡ placeSpace (getElem? (ty .properties) (to-loop c .loop .k)) (getD xs (to-loop c .loop .k) [])
-space c u ty xs w kinds v e =
-    let k = to-loop c .loop .k in
-    let stands = c .before .set-part .ensures _ (set-read (c .before .before .set-at .ensures) (v .each k (to-turn c .before .loop-test .taken))) in
-    place-space u ty _ _ k (getD xs k []) _ w kinds (to-turn c .if1 .taken)
-    (λ a is i. sym e ∙ c .are-in-space .ensures a _ (kind-read (c .before .before .before .property-at .ensures) is) i stands)
+answered : (c : tie.After-are-in-space Inv-loop μ-loop) → let l = to-loop c in let a = to-start l .args in
+    FitAt (a .s .now) (a .sets .now) (a .count) (a .properties .now) (l .loop .k) (c .are-in-space .result)
+answered c =
+    let property = c .before .before .before in
+    fit-at (to-turn c .before .loop-test .taken) (to-turn c .if1 .taken) (property .property-at .ensures) (c .before .before .set-at .ensures)
+    (c .before .set-part .ensures) (c .are-in-space .ensures)
 
 -- ---- the needs
-
-loop-holds : tie.Need-loop-holds Inv-loop μ-loop
-loop-holds c = (omega arith, λ u ty xs w n v. fit-first ty xs)
 
 property-at-requires : tie.Need-property-at-requires Inv-loop μ-loop
 property-at-requires c κs = (to-start (c .before .before) .pre .1, omega arith)
@@ -60,32 +43,16 @@ set-at-requires : tie.Need-set-at-requires Inv-loop μ-loop
 set-at-requires c κs = (to-start (c .before .before .before) .pre .0, omega arith)
 
 returns : tie.Need-returns Inv-loop μ-loop
-returns c = λ u ty xs w n v.
-    let asked = c .before in
-    let l = to-loop asked .loop in
-    let inside = to-turn asked .before .loop-test .taken in
-    fit-not ty xs (l .k) (l .inv .1 u ty xs w n v) (omega (arith, inside, v .long)) (space asked u ty xs w n v (not-true _ (c .if2 .taken)))
+returns c = fit-not (to-loop (c .before) .loop .inv) (answered (c .before)) (not-true _ (c .if2 .taken))
 
 loop-again : tie.Need-loop-again Inv-loop μ-loop
-loop-again c =
-    let asked = c .before in
-    let l = to-loop asked .loop in
-    let inside = to-turn asked .before .loop-test .taken in (
-      omega arith,
-      λ u ty xs w n v.
-          fit-more ty xs (l .k) (l .inv .1 u ty xs w n v) (omega (arith, inside, v .long)) (space asked u ty xs w n v (not-false _ (c .if2 .left))),
-    )
+loop-again c = fit-more (to-loop (c .before) .loop .inv) (answered (c .before)) (not-false _ (c .if2 .left))
 
 returns-2 : tie.Need-returns-2 Inv-loop μ-loop
-returns-2 c = λ u ty xs w n v.
-    let l = c .before .before .loop in
-    let past : to-start (c .before .before) .args .count ≤ l .k = ltb-false _ _ (c .if1 .left) in
-    fit-end ty xs (l .k) (l .inv .1 u ty xs w n v) (omega (arith, w .count, past))
+returns-2 c = fit-end (c .before .before .loop .inv) (inl (ltb-false _ _ (c .if1 .left)))
 
 returns-3 : tie.Need-returns-3 Inv-loop μ-loop
-returns-3 c = λ u ty xs w n v.
-    let l = c .before .loop in
-    fit-end ty xs (l .k) (l .inv .1 u ty xs w n v) (omega (arith, c .loop-test .left, w .few, w .count))
+returns-3 c = fit-end (c .before .loop .inv) (inr (c .loop-test .left))
 
 pub sets-in-space-spec : {M : Type 1} → statement M
 sets-in-space-spec =
@@ -93,7 +60,7 @@ sets-in-space-spec =
     (tie.spec
     Inv-loop
     μ-loop
-    loop-holds
+    (λ c. fit-none)
     property-at-requires
     set-at-requires
     (λ c κs. search needs)
