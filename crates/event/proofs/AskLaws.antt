@@ -3,7 +3,8 @@ use mathlib.Core.Path.{_≡_, refl, sym, ap, _∙_, subst}
 use mathlib.Core.Bool.{Bool, true, false}
 use mathlib.Core.Option.{Option, none, some}
 use mathlib.Core.List.{List, [], _++_, append-assoc, map}
-use Prim.Native.Nat.{ℕ, _<_}
+use Prim.Native.Nat.{ℕ, _+_, _<_}
+use native.Mathlib.Nat.{add-comm}
 use native.Mathlib.Omega.{arith}
 use lib.ListN.{getElem?}
 use Rattle.model.specs.Order.{Text}
@@ -18,13 +19,15 @@ use Rattle.ontology.specs.Table.{EventType, Table, typeNamed}
 use Rattle.ontology.specs.TableLayout.{tableOf}
 use Rattle.ontology.specs.code.TypeIndex.{TypeIs, TypeSays, TableSays}
 use Rattle.ontology.specs.declared.tables.TableRead.{TableRead}
-use Rattle.ontology.proofs.TypeIndexLaws.{table-refused, type-absent, type-found, properties-rules}
+use Rattle.ontology.proofs.TypeIndexLaws.{table-got, table-refused, type-absent, type-found, properties-rules}
 use Rattle.event.specs.Event.{Event, setAt}
 use Rattle.event.specs.EventLayout.{Counts, wide, eventOf, setsBytes, presenceBit, bitNumber, eventBytes}
 use Rattle.event.specs.Head.{parentsBytes, headBytes}
 use Rattle.event.specs.EventQuestions.{eventShape, valuesFit, Typed, eventAsked}
-use Rattle.event.specs.Value.{Part, partOf, askedPart, valueCall}
-use Rattle.event.specs.code.EventIndex.{EventIs, ValueStands, ValueFound, EventReads, KindsAre, eventQuestions, EventAsked, EventAnswers}
+use Rattle.event.specs.Value.{Part, Lent, lentFrom, partOf, askedPart, valueCall}
+use Rattle.event.specs.code.EventIndex.{EventIs, ValueStands, ValueFound, EventReads, KindsAre, eventQuestions, EventAsked, asked, EventAnswers}
+use Rattle.event.proofs.ShapeLaws.{Shaped}
+use Rattle.event.proofs.SpaceLaws.{Spoken}
 use Rattle.event.proofs.EventLayoutLaws.{event-was}
 use Rattle.event.proofs.EventQuestionLaws.{EventAccepted, event-accepted}
 use Rattle.event.specs.declared.lookup.ValueAt.{ValueAt}
@@ -66,17 +69,17 @@ abbrev later : EventType → Event → Asked Typed
 later t e = questions._>>_ (ensure 5 (eventShape t e)) (questions._>>_ (ensure 6 (valuesFit t (e .sets))) (typed t e))
 
 -- an event was read, and the table has its type; ps are the numbers of the type's properties, ats those of the event's sets
-pub record Met (table : List ℕ) (ts : Table) (event ps ats : List ℕ) (counts : Counts) (t : TableRead) (x : EventIndex) : Type 0 where
-  pub type : EventType
-  pub e : Event
-  pub is : eventAsked counts ts event ≡ later type e
-  pub type-is : TypeIs table type (t .index) ps
-  pub event-is : EventIs event e x ats
-  pub kinds : KindsAre type
+record Met (table : List ℕ) (ts : Table) (event ps ats : List ℕ) (counts : Counts) (t : TableRead) (x : EventIndex) : Type 0 where
+  type : EventType
+  e : Event
+  is : eventAsked counts ts event ≡ later type e
+  type-is : TypeIs table type (t .index) ps
+  event-is : EventIs event e x ats
+  kinds : KindsAre type
 
 module _ (table : List ℕ) (ts : Table) (event ps ats : List ℕ) (counts : Counts) (x : EventIndex)
     (reads : EventReads (eventOf counts event) event ats x) where
-  pub no-event : (r : EventAsked) → x .ok ≡ false → r .number ≡ 3 → EventAnswers (eventAsked counts ts event) table event ps ats r
+  no-event : (r : EventAsked) → x .ok ≡ false → r .number ≡ 3 → EventAnswers (eventAsked counts ts event) table event ps ats r
   unfolding EventReads EventAnswers eventAsked
   no-event r h n = go (eventOf counts event) reads
     where
@@ -105,13 +108,13 @@ module _ (table : List ℕ) (ts : Table) (event ps ats : List ℕ) (counts : Cou
       type-there : TypeSays (typeNamed (event-there .0 .head .type) ts) table ps t
       type-there = says (event-there .0) (event-there .1)
 
-      pub no-type : (r : EventAsked) → t .found ≡ false → r .number ≡ 4 → EventAnswers (eventAsked counts ts event) table event ps ats r
+      no-type : (r : EventAsked) → t .found ≡ false → r .number ≡ 4 → EventAnswers (eventAsked counts ts event) table event ps ats r
       unfolding EventAnswers
       no-type r f n =
           let none-named = type-absent (typeNamed (event-there .0 .head .type) ts) table ps t type-there f in
           subst (λ (q : Asked Typed). EventAnswers q table event ps ats r) (sym (so-far none none-named)) n
 
-      pub met : tableOf table ≡ some ts → t .found ≡ true → Met table ts event ps ats counts t x
+      met : tableOf table ≡ some ts → t .found ≡ true → Met table ts event ps ats counts t x
       met h f =
           let y = type-found (typeNamed (event-there .0 .head .type) ts) table ps t type-there f in
           record {
@@ -125,17 +128,17 @@ module _ (table : List ℕ) (ts : Table) (event ps ats : List ℕ) (counts : Cou
 
 module _ (table : List ℕ) (ts : Table) (event ps ats : List ℕ) (counts : Counts) (t : TableRead) (x : EventIndex)
     (m : Met table ts event ps ats counts t x) (r : EventAsked) where
-  pub no-shape : false ≡ eventShape (m .type) (m .e) → r .number ≡ 5 → EventAnswers (eventAsked counts ts event) table event ps ats r
+  no-shape : false ≡ eventShape (m .type) (m .e) → r .number ≡ 5 → EventAnswers (eventAsked counts ts event) table event ps ats r
   unfolding EventAnswers
   no-shape h n = rw (m .is, ← h) n
 
-  pub no-values :
+  no-values :
       true ≡ eventShape (m .type) (m .e) → false ≡ valuesFit (m .type) (m .e .sets) → r .number ≡ 6 →
       EventAnswers (eventAsked counts ts event) table event ps ats r
   unfolding EventAnswers
   no-values h k n = rw (m .is, ← h, ← k) n
 
-  pub all-met :
+  all-met :
       true ≡ eventShape (m .type) (m .e) → true ≡ valuesFit (m .type) (m .e .sets) → r .number ≡ 0 →
       TypeIs table (m .type) (r .type) ps → EventIs event (m .e) (r .event) ats →
       EventAnswers (eventAsked counts ts event) table event ps ats r
@@ -146,22 +149,93 @@ module _ (table : List ℕ) (ts : Table) (event ps ats : List ℕ) (counts : Cou
 
 module _ (table event ps ats : List ℕ) (counts : Counts) (name : Text) (t : TableRead)
     (says : TableSays (tableOf table) table name ps t) (r : EventAsked) where
-  pub no-table : t .ok ≡ false → r .number ≡ 2 → EventAnswers (eventQuestions counts table event) table event ps ats r
+  no-table : t .ok ≡ false → r .number ≡ 2 → EventAnswers (eventQuestions counts table event) table event ps ats r
   unfolding EventAnswers
   no-table h n = rw (table-refused table name ps t says h) n
 
 -- where the table is read, the questions are those that follow, and it says what it has of the event's type
 module _ (table event ps : List ℕ) (counts : Counts) (ts : Table) (h : tableOf table ≡ some ts) where
-  pub with-table :
+  with-table :
       (ats : List ℕ) (r : EventAsked) → EventAnswers (eventAsked counts ts event) table event ps ats r →
       EventAnswers (eventQuestions counts table event) table event ps ats r
   with-table ats r w =
       subst (λ (o : Option Table). EventAnswers (questions._>>=_ (ask 2 o) (λ us. eventAsked counts us event)) table event ps ats r) (sym h) w
 
-  pub type-of-event :
+  type-of-event :
       (name : Text) (t : TableRead) → TypeSays (typeNamed name ts) table ps t → ((e : Event) → eventOf counts event ≡ some e → name ≡ e .head .type) →
       (e : Event) → eventOf counts event ≡ some e → TypeSays (typeNamed (e .head .type) ts) table ps t
   type-of-event name t says names e k = subst (λ (n : Text). TypeSays (typeNamed n ts) table ps t) (names e k) says
+
+-- ---- each question, by what the code was answered
+
+-- n is the number that the questions come to, of every table and counts of which the code's answers are right
+abbrev pub Questioned : List ℕ → List ℕ → List ℕ → TableRead → EventIndex → ℕ → Type 0
+Questioned event ats ps t x n =
+    (table : List ℕ) (name : Text) (counts : Counts) → TableSays (tableOf table) table name ps t →
+    ((e : Event) → eventOf counts event ≡ some e → name ≡ e .head .type) → EventReads (eventOf counts event) event ats x →
+    EventAnswers (eventQuestions counts table event) table event ps ats (asked n (t .index) x)
+
+-- questions 2 to 4 are answered yes
+pub record Right (t : TableRead) (x : EventIndex) : Type 0 where
+  pub table : t .ok ≡ true
+  pub event : x .ok ≡ true
+  pub type : t .found ≡ true
+
+module _ (event ats ps : List ℕ) (t : TableRead) (x : EventIndex) where
+  pub ask-table : t .ok ≡ false → Questioned event ats ps t x 2
+  ask-table h table name counts says names reads = no-table table event ps ats counts name t says _ h refl
+
+  -- the table is read
+  in-table :
+      (n : ℕ) (table : List ℕ) (name : Text) (counts : Counts) → t .ok ≡ true → TableSays (tableOf table) table name ps t →
+      ((e : Event) → eventOf counts event ≡ some e → name ≡ e .head .type) →
+      ((ts : Table) → tableOf table ≡ some ts →
+      ((e : Event) → eventOf counts event ≡ some e → TypeSays (typeNamed (e .head .type) ts) table ps t) →
+      EventAnswers (eventAsked counts ts event) table event ps ats (asked n (t .index) x)) →
+      EventAnswers (eventQuestions counts table event) table event ps ats (asked n (t .index) x)
+  in-table n table name counts h says names f =
+      let g = table-got table name ps t says h in
+      let of-event = type-of-event table event ps counts (g .what) (g .is) name t (g .says) names in
+      with-table table event ps counts (g .what) (g .is) ats _ (f (g .what) (g .is) of-event)
+
+  pub ask-read : t .ok ≡ true → x .ok ≡ false → Questioned event ats ps t x 3
+  ask-read h k table name counts says names reads =
+      in-table 3 table name counts h says names (λ ts e typed. no-event table ts event ps ats counts x reads _ k refl)
+
+  pub ask-type : t .ok ≡ true → x .ok ≡ true → t .found ≡ false → Questioned event ats ps t x 4
+  ask-type h k l table name counts says names reads =
+      in-table 4 table name counts h says names (λ ts e typed. no-type table ts event ps ats counts x reads k t typed _ l refl)
+
+  module _ (r : Right t x) {shape : Bool} (shaped : Shaped (t .index .count) ps (x .objects) ats (λ y u. shape ≡ eventShape y u)) where
+    -- the event and its type
+    in-type :
+        (n : ℕ) (table : List ℕ) (name : Text) (counts : Counts) → TableSays (tableOf table) table name ps t →
+        ((e : Event) → eventOf counts event ≡ some e → name ≡ e .head .type) → EventReads (eventOf counts event) event ats x →
+        ((ts : Table) (m : Met table ts event ps ats counts t x) → shape ≡ eventShape (m .type) (m .e) →
+        EventAnswers (eventAsked counts ts event) table event ps ats (asked n (t .index) x)) →
+        EventAnswers (eventQuestions counts table event) table event ps ats (asked n (t .index) x)
+    in-type n table name counts says names reads f =
+        in-table n table name counts (r .table) says names (λ ts e typed.
+        let m = met table ts event ps ats counts x reads (r .event) t typed e (r .type) in
+        f ts m (shaped table event (m .type) (m .e) (m .type-is .are) (m .event-is .sets) (m .event-is .objects)))
+
+    pub ask-shape : shape ≡ false → Questioned event ats ps t x 5
+    ask-shape h table name counts says names reads =
+        in-type 5 table name counts says names reads (λ ts m s. no-shape table ts event ps ats counts t x m _ (sym h ∙ s) refl)
+
+    module _ (fits : shape ≡ true) {values : Bool} (valued : Spoken event ats (t .index .count) ps (λ y xs. values ≡ valuesFit y xs)) where
+      values-are : {table : List ℕ} {ts : Table} {counts : Counts} (m : Met table ts event ps ats counts t x) → values ≡ valuesFit (m .type) (m .e .sets)
+      values-are {table} m = valued table (m .type) (m .e .sets) (m .type-is .are) (m .kinds) (m .event-is .sets)
+
+      pub ask-values : values ≡ false → Questioned event ats ps t x 6
+      ask-values h table name counts says names reads =
+          in-type 6 table name counts says names reads
+          (λ ts m s. no-values table ts event ps ats counts t x m _ (sym fits ∙ s) (sym h ∙ values-are m) refl)
+
+      pub ask-all : values ≡ true → Questioned event ats ps t x 0
+      ask-all h table name counts says names reads =
+          in-type 0 table name counts says names reads
+          (λ ts m s. all-met table ts event ps ats counts t x m _ (sym fits ∙ s) (sym h ∙ values-are m) refl (m .type-is) (m .event-is))
 
 -- ---- what is known after asking
 
@@ -280,3 +354,30 @@ module _ (table event : List ℕ) (place index : ℕ) where
     value-is s z v =
         ap (askedPart place index) (a .is) ∙ ap (partOf (a .e) place index) (v .some)
         ∙ ap (λ (n : ℕ). record { bytes = part event s z; start = n }) (sym (v .start))
+
+-- ---- the part that is lent
+
+-- a part of the event from `start` on is lent as the call's part
+lent-is :
+    {x : Part} {bytes : List ℕ} {start : ℕ} (at : ℕ × ℕ) → x ≡ record { bytes = bytes; start = start } →
+    _≡_ {A = Lent} (bytes, (at .0, start + at .1)) (lentFrom at x)
+lent-is {bytes} {start} at e = ap (λ (n : ℕ). (bytes, (at .0, n))) (add-comm start (at .1)) ∙ ap (lentFrom at) (sym e)
+
+module _ (at : ℕ × ℕ) where
+  pub lent-refused :
+      (table event : List ℕ) (place index : ℕ) (ps ats : List ℕ) (r : EventAsked) →
+      EventAnswers (eventQuestions wide table event) table event ps ats r → (r .number ≡ 0 → ⊥) →
+      _≡_ {A = Lent} ([], (at .0, 0 + at .1)) (lentFrom at (valueCall table event place index))
+  lent-refused table event place index ps ats r w h =
+      lent-is at (value-refused table event place index (r .number) (refused-is wide table event ps ats r w h))
+
+  module _ {table event ps ats : List ℕ} {r : EventAsked} (a : Accepted wide table event ps ats r) (place index : ℕ) where
+    pub lent-missing :
+        {v : ValueAt} → ValueFound event (a .e) place index v → v ≡ NoValue →
+        _≡_ {A = Lent} ([], (at .0, 0 + at .1)) (lentFrom at (valueCall table event place index))
+    lent-missing w e = lent-is at (value-missing table event place index ps ats r a (found-none event (a .e) place index e w))
+
+    pub lent-found :
+        {s z : ℕ} → ValueStands event (a .e) place index s z →
+        _≡_ {A = Lent} (part event s z, (at .0, s + at .1)) (lentFrom at (valueCall table event place index))
+    lent-found {s} {z} w = lent-is at (value-is table event place index ps ats r a s z w)

@@ -42,7 +42,7 @@ pub no-head : (counts : Counts) (s : List ℕ) → readHead (counts .parents) s 
 unfolding eventOf
 no-head counts s e = rw (event-then counts s, e)
 
-module _ (counts : Counts) (s : List ℕ) (h : HeadAt) (w : HeadStops (readHead (counts .parents) s) s h) where
+module _ (counts : Counts) {s : List ℕ} {h : HeadAt} (w : HeadStops (readHead (counts .parents) s) s h) where
   after-head : readEvent counts s ≡ readBody counts (w .what) (drop (h .parents .end) s)
   after-head = event-then counts s ∙ ap (λ (p : Parse Head). andThen p (readBody counts)) (w .is)
 
@@ -50,75 +50,79 @@ module _ (counts : Counts) (s : List ℕ) (h : HeadAt) (w : HeadStops (readHead 
   unfolding eventOf readBits
   no-presence e = rw (after-head, e)
 
-  module _ (n next : ℕ) (m : NumberStops s (h .parents .end) n next) where
-    pub presence-large : 2 ^ 32 ≤ n → eventOf counts s ≡ none
-    unfolding eventOf readBits
-    presence-large k = rw (after-head, m .is, le-ltb n (2 ^ 32) k)
+  pub presence-large : {n next : ℕ} → NumberStops s (h .parents .end) n next → 2 ^ 32 ≤ n → eventOf counts s ≡ none
+  unfolding eventOf readBits
+  presence-large {n} m k = rw (after-head, m .is, le-ltb n (2 ^ 32) k)
 
-    module _ (small : n < 2 ^ 32) where
-      after-presence :
-          readEvent counts s ≡ andThen (readSets 32 n (drop next s))
-          (λ xs. foundIf (leb (objectCount xs) (counts .objects)) (record { head = w .what; sets = xs }))
-      unfolding readBits
-      after-presence = rw (after-head, m .is, lt-ltb n (2 ^ 32) small)
+-- the head and its presence number are read
+pub record BodyAt (counts : Counts) (s : List ℕ) (h : HeadAt) (n next : ℕ) : Type 0 where
+  pub head : HeadStops (readHead (counts .parents) s) s h
+  pub number : NumberStops s (h .parents .end) n next
+  pub small : n < 2 ^ 32
 
-      pub no-sets : readSets 32 n (drop next s) ≡ fail → eventOf counts s ≡ none
+module _ {counts : Counts} {s : List ℕ} {h : HeadAt} {n next : ℕ} (b : BodyAt counts s h n next) where
+  -- the event of these sets, where they are not too many
+  abbrev event-of : List (List Text) → List ℕ → Parse Event
+  event-of xs = foundIf (leb (objectCount xs) (counts .objects)) (record { head = b .head .what; sets = xs })
+
+  after-presence : readEvent counts s ≡ andThen (readSets 32 n (drop next s)) event-of
+  unfolding readBits
+  after-presence = rw (after-head counts (b .head), b .number .is, lt-ltb n (2 ^ 32) (b .small))
+
+  pub no-sets : readSets 32 n (drop next s) ≡ fail → eventOf counts s ≡ none
+  unfolding eventOf
+  no-sets e = rw (after-presence, e)
+
+  module _ {ats : List ℕ} {end objects : ℕ} (t : SetsStop (readSets 32 n (drop next s)) s ats end objects) where
+    after-sets : (l : List ℕ) → drop end s ≡ l → readEvent counts s ≡ event-of (t .what) l
+    after-sets l e = after-presence ∙ ap (λ (p : Parse (List (List Text))). andThen p event-of) (t .is ∙ ap (got (t .what)) e)
+
+    pub early : (end ≡ length s → ⊥) → eventOf counts s ≡ none
+    unfolding eventOf
+    early ne =
+        let k : end < length s = omega (arith, t .within, ne) in
+        ap whole (after-sets _ (drop-next s end k)) ∙ go (leb (objectCount (t .what)) (counts .objects)) _ _ _
+      where
+        go : (b : Bool) (e : Event) (y : ℕ) (l : List ℕ) → whole (foundIf b e (y ∷ l)) ≡ none
+        go true e y l = refl
+        go false e y l = refl
+
+    module _ (whole-read : end ≡ length s) where
+      at-end : drop end s ≡ []
+      at-end = let l : length s ≤ end = omega arith in drop-of-length-le s l
+
+      pub many : counts .objects < objects → eventOf counts s ≡ none
       unfolding eventOf
-      no-sets e = rw (after-presence, e)
+      many k =
+          let l : counts .objects < objectCount (t .what) = omega (arith, t .summed) in
+          rw (after-sets [] at-end, lt-leb _ _ l)
 
-      module _ (ats : List ℕ) (end objects : ℕ) (t : SetsStop (readSets 32 n (drop next s)) s ats end objects) where
-        after-sets :
-            (l : List ℕ) → drop end s ≡ l →
-            readEvent counts s ≡ foundIf (leb (objectCount (t .what)) (counts .objects)) (record { head = w .what; sets = t .what }) l
-        after-sets l e =
-            after-presence
-            ∙ ap (λ (p : Parse (List (List Text))). andThen p (λ xs. foundIf (leb (objectCount xs) (counts .objects)) (record { head = w .what; sets = xs })))
-            (t .is ∙ ap (got (t .what)) e)
-
-        pub early : (end ≡ length s → ⊥) → eventOf counts s ≡ none
-        unfolding eventOf
-        early ne =
-            let k : end < length s = omega (arith, t .within, ne) in
-            ap whole (after-sets _ (drop-next s end k)) ∙ go (leb (objectCount (t .what)) (counts .objects)) _ _ _
-          where
-            go : (b : Bool) (e : Event) (y : ℕ) (l : List ℕ) → whole (foundIf b e (y ∷ l)) ≡ none
-            go true e y l = refl
-            go false e y l = refl
-
-        module _ (whole-read : end ≡ length s) where
-          at-end : drop end s ≡ []
-          at-end = let l : length s ≤ end = omega arith in drop-of-length-le s l
-
-          pub many : counts .objects < objects → eventOf counts s ≡ none
-          unfolding eventOf
-          many k =
-              let l : counts .objects < objectCount (t .what) = omega (arith, t .summed) in
-              rw (after-sets [] at-end, lt-leb _ _ l)
-
-          pub event-found :
-              objects ≤ counts .objects → EventReads (eventOf counts s) s ats
-              (record { ok = true; head = h; presence = n; «after_presence» = next; objects = objects })
-          unfolding eventOf EventReads
-          event-found k =
-              let l : objectCount (t .what) ≤ counts .objects = omega (arith, t .summed) in
-              let x = sets-was 32 n (drop next s) (t .what) (drop end s) small (t .is) in
-              let front : drop 0 s ≡ (headBytes (w .what) ++ number n) ++ drop next s =
-              head-bytes (counts .parents) s h w
-              ∙ ap (λ (l : List ℕ). headBytes (w .what) ++ l) (number-was (drop (h .parents .end) s) n (drop next s) (m .is) .0)
-              ∙ sym (append-assoc (headBytes (w .what)) (number n) (drop next s)) in
-              let zero : next ≡ next - 0 = omega arith in
-              rw (after-sets [] at-end, le-leb _ _ l) (
-                refl,
-                record {
-                  head = w .stands;
-                  presence = sym (x .present);
-                  front = ap (λ (i : ℕ). take i s) zero ∙ stretch s (headBytes (w .what) ++ number n) 0 next (omega arith) (m .within) front .0;
-                  rest = x .bytes ∙ ap (λ (l : List ℕ). setsBytes (t .what) ++ l) at-end ∙ append-nil (setsBytes (t .what));
-                  within = m .within;
-                  objects = t .summed;
-                  sets = t .stands;
-                },
-              )
+      pub event-found :
+          objects ≤ counts .objects → EventReads (eventOf counts s) s ats
+          (record { ok = true; head = h; presence = n; «after_presence» = next; objects = objects })
+      unfolding eventOf EventReads
+      event-found k =
+          let w = b .head in
+          let m = b .number in
+          let l : objectCount (t .what) ≤ counts .objects = omega (arith, t .summed) in
+          let x = sets-was 32 n (drop next s) (t .what) (drop end s) (b .small) (t .is) in
+          let front : drop 0 s ≡ (headBytes (w .what) ++ number n) ++ drop next s =
+          head-bytes (counts .parents) s h w
+          ∙ ap (λ (l : List ℕ). headBytes (w .what) ++ l) (number-was (drop (h .parents .end) s) n (drop next s) (m .is) .0)
+          ∙ sym (append-assoc (headBytes (w .what)) (number n) (drop next s)) in
+          let zero : next ≡ next - 0 = omega arith in
+          rw (after-sets [] at-end, le-leb _ _ l) (
+            refl,
+            record {
+              head = w .stands;
+              presence = sym (x .present);
+              front = ap (λ (i : ℕ). take i s) zero ∙ stretch s (headBytes (w .what) ++ number n) 0 next (omega arith) (m .within) front .0;
+              rest = x .bytes ∙ ap (λ (l : List ℕ). setsBytes (t .what) ++ l) at-end ∙ append-nil (setsBytes (t .what));
+              within = m .within;
+              objects = t .summed;
+              sets = t .stands;
+            },
+          )
 
 -- read within so many parents and objects as the counts k have, it is read within k
 pub with-counts :

@@ -194,7 +194,7 @@ module _ (t : EventType) (x : Event) (left matches k : ℕ) (w : Shape (t .prope
 -- ---- the same, of the numbers of a type and of an event
 
 -- so much is known of them
-abbrev Shaped : ℕ → List ℕ → ℕ → List ℕ → (EventType → Event → Type 0) → Type 0
+abbrev pub Shaped : ℕ → List ℕ → ℕ → List ℕ → (EventType → Event → Type 0) → Type 0
 Shaped count ps objects ats f =
     (table event : List ℕ) (t : EventType) (x : Event) → PropertiesAre table (t .properties) count ps → SetsAre event (x .sets) ats →
     objects ≡ objectCount (x .sets) → f t x

@@ -1,30 +1,16 @@
+-- `ask::value` meets its contract: the questions are answered as `ask_event` says. Of an accepted event the value is lent from where `find_value` says, and
+-- otherwise nothing is.
 use borrow.Author.Needs.{needs}
-use Prim.Native.Nat.{ℕ, _+_}
-use native.Mathlib.Nat.{add-comm}
-use mathlib.Core.Path.{_≡_, sym, ap, _∙_}
 use mathlib.Core.List.{List}
+use Prim.Native.Nat.{ℕ}
 use denote.Ref.{now}
 use Rattle.event.specs.EventLayout.{wide}
-use Rattle.event.specs.Value.{Part, Lent, lentFrom}
 use Rattle.event.specs.code.EventIndex.{ValueFound, ValueStands, eventQuestions, EventAsked, asked, EventAnswers}
-use Rattle.event.proofs.AskLaws.{Accepted, accepted-is, refused-is, found-value, found-none, value-refused, value-missing, value-is}
+use Rattle.event.proofs.AskLaws.{Accepted, accepted-is, found-value, lent-refused, lent-missing, lent-found}
 use Rattle.event.proofs.ask.value.Statement.{statement}
 use Rattle.event.proofs.ask.value.Tie as tie
 
--- a part of the event from `start` on is lent as the call's part
-lent-is :
-    {x : Part} {bytes : List ℕ} {start : ℕ} (at : ℕ × ℕ) → x ≡ record { bytes = bytes; start = start } →
-    _≡_ {A = Lent} (bytes, (at .0, start + at .1)) (lentFrom at x)
-lent-is {bytes} {start} at e = ap (λ (n : ℕ). (bytes, (at .0, n))) (add-comm start (at .1)) ∙ ap (lentFrom at) (sym e)
-
 -- ---- the places
-
--- The table is read at `After-read-table`, the event at `After-read-event`, and the questions are asked at `After-ask-event`.
-abbrev to-start : tie.After-type-name → tie.Start
-to-start c = c .before .before .before
-
-abbrev to-name : tie.After-read-table → tie.After-type-name
-to-name c = c .before .before
 
 abbrev to-table : tie.After-read-event → tie.After-read-table
 to-table c = c .before .before .before
@@ -32,25 +18,21 @@ to-table c = c .before .before .before
 abbrev to-event : tie.After-ask-event → tie.After-read-event
 to-event c = c .before .before .before .before
 
-abbrev asked-start : tie.After-ask-event → tie.Start
-asked-start c = to-start (to-name (to-table (to-event c)))
+abbrev to-start : tie.After-ask-event → tie.Start
+to-start c = to-table (to-event c) .before .before .before .before .before
 
-abbrev to-taken : tie.After-find-value → tie.Else1
-to-taken c = c .before .before
-
-abbrev of-start : tie.After-find-value → tie.Start
-of-start c = asked-start (to-taken c .before)
+abbrev to-asked : tie.After-find-value → tie.After-ask-event
+to-asked c = c .before .before .before
 
 -- ---- the values
 
-module _ (c : tie.Start) where
+module _ (c : tie.After-ask-event) where
   abbrev table : List ℕ
-  table = now (c .args .table)
+  table = now (to-start c .args .table)
 
   abbrev event : List ℕ
-  event = now (c .args .event)
+  event = now (to-start c .args .event)
 
-module _ (c : tie.After-ask-event) where
   -- the numbers of the type's properties
   abbrev ps : List ℕ
   ps = to-table (to-event c) .read-table .last .1 .1 .0
@@ -65,60 +47,44 @@ module _ (c : tie.After-ask-event) where
 
 -- ---- the facts
 
-answered : (c : tie.After-ask-event) → let s = asked-start c in
-    EventAnswers (eventQuestions wide (table s) (event s)) (table s) (event s) (ps c) (ats c) (answer c)
+answered : (c : tie.After-ask-event) → EventAnswers (eventQuestions wide (table c) (event c)) (table c) (event c) (ps c) (ats c) (answer c)
 answered c =
-    let read = to-event c in
-    let tabled = to-table read in
-    c .ask-event .ensures _ _ wide (tabled .read-table .ensures) (λ x h. to-name tabled .type-name .ensures wide x h) (read .read-event .ensures)
+    let read = to-table (to-event c) in
+    c .ask-event .ensures _ _ wide (read .read-table .ensures) (read .before .before .type-name .ensures wide) (to-event c .read-event .ensures)
 
-abbrev accepted : (c : tie.Else1) → let s = asked-start (c .before) in
-    Accepted wide (table s) (event s) (ps (c .before)) (ats (c .before)) (answer (c .before))
+abbrev accepted : (c : tie.Else1) → let a = c .before in Accepted wide (table a) (event a) (ps a) (ats a) (answer a)
 accepted c = accepted-is wide _ _ _ _ _ (answered (c .before)) (c .if1 .left)
 
-found : (c : tie.After-find-value) →
-    let a = of-start c .args in
-    ValueFound (event (of-start c)) (accepted (to-taken c) .e) (a .place) (a .index) (c .find-value .result)
-found c = c .find-value .ensures (accepted (to-taken c) .e) (accepted (to-taken c) .event-is)
+found : (c : tie.After-find-value) → let a = to-start (to-asked c) .args in
+    ValueFound (event (to-asked c)) (accepted (c .before .before) .e) (a .place) (a .index) (c .find-value .result)
+found c = c .find-value .ensures (accepted (c .before .before) .e) (accepted (c .before .before) .event-is)
 
 -- where the value stands
-stands : (c : tie.After-start) →
-    let at-find = c .before .before in let a = of-start at-find .args in
-    ValueStands (event (of-start at-find)) (accepted (to-taken at-find) .e) (a .place) (a .index) (c .start .given .0 .0) (c .start .given .0 .1 .0)
+stands : (c : tie.After-start) → let at-find = c .before .before in let a = to-start (to-asked at-find) .args in let x = c .start .given .0 in
+    ValueStands (event (to-asked at-find)) (accepted (at-find .before .before) .e) (a .place) (a .index) (x .0) (x .1 .0)
 stands c = found-value (c .start .given .1) (found (c .before .before))
 
 -- ---- the needs
 
 returns : tie.Need-returns
 returns c =
-    let refused = c .before in
-    let a = asked-start (refused .before) .args in
-    lent-is (a .event .ptr) (value-refused _ _ (a .place) (a .index) _ (refused-is wide _ _ _ _ _ (answered (refused .before)) (refused .if1 .taken)))
-
-sub-result-2 : tie.Need-sub-result-2
-sub-result-2 c = stands (c .before) .order
-
-part-result-start-2 : tie.Need-part-result-start-2
-part-result-start-2 c = stands (c .before) .order
-
-part-result-end-2 : tie.Need-part-result-end-2
-part-result-end-2 c = stands (c .before) .within
+    let asked = c .before .before in
+    let a = to-start asked .args in
+    lent-refused (a .event .ptr) _ _ (a .place) (a .index) _ _ _ (answered asked) (c .before .if1 .taken)
 
 returns-2 : tie.Need-returns-2
 returns-2 c =
     let here = c .before .before in
     let at-find = here .before .before in
-    let a = of-start at-find .args in
-    lent-is (a .event .ptr) (value-is _ _ (a .place) (a .index) _ _ _ (accepted (to-taken at-find)) _ _ (stands here))
+    let a = to-start (to-asked at-find) .args in
+    lent-found (a .event .ptr) (accepted (at-find .before .before)) (a .place) (a .index) (stands here)
 
 returns-3 : tie.Need-returns-3
 returns-3 c =
-    let none-told = c .before in
-    let at-find = none-told .before .before in
-    let a = of-start at-find .args in
-    let known = accepted (to-taken at-find) in
-    let none-there = found-none (event (of-start at-find)) (known .e) (a .place) (a .index) (none-told .enum-told .given .1) (found at-find) in
-    lent-is (a .event .ptr) (value-missing _ _ (a .place) (a .index) _ _ _ known none-there)
+    let told = c .before in
+    let at-find = told .before .before in
+    let a = to-start (to-asked at-find) .args in
+    lent-missing (a .event .ptr) (accepted (at-find .before .before)) (a .place) (a .index) (found at-find) (told .enum-told .given .1)
 
 pub value-spec : {M : Type 1} → statement M
 value-spec =
@@ -139,9 +105,9 @@ value-spec =
     (λ c. search needs)
     (λ c κs. search needs)
     (λ c. search needs)
-    sub-result-2
-    part-result-start-2
-    part-result-end-2
+    (λ c. stands (c .before) .order)
+    (λ c. stands (c .before) .order)
+    (λ c. stands (c .before) .within)
     (λ c. search needs)
     (λ c. search needs)
     (λ c. search needs)
