@@ -9,12 +9,13 @@ use lib.Seq.{take-at, drop-drop, drop-append-seam}
 use borrow.Author.Tests.{le-leb, lt-leb}
 use Rattle.model.specs.Order.{Text, rising}
 use Rattle.packed.specs.Parse.{Parse, fail, got, Layout, andThen, _>>=_, found, foundIf, suchThat, times, All}
+use Rattle.packed.specs.code.Comparison.{precedes}
 use Rattle.packed.specs.Packed.{readNumber, readText, readBytes, part}
 use Rattle.packed.proofs.LayoutLaws.{All, times-was, bytes-was, flat}
 use Rattle.packed.proofs.ReadLaws.{drop-next, NumberStops, TextStops, stretch, part-length}
 use Rattle.event.specs.Head.{areSourceBytes, isSource, readParents, Head, readHead}
 use Rattle.event.specs.code.EventIndex.{ParentsStop, ParentsReads, HeadStops, HeadReads, HashesAre, HeadIs, HeadParts}
-use Rattle.event.proofs.SetLaws.{risen, risen-was}
+use Rattle.event.proofs.SetLaws.{risen, risen-was, risen-bad, Stands, RisingTo, rising-first, rising-bad, rising-not, rising-more, rising-all}
 use Rattle.event.specs.declared.sets.SetAt.{SetAt}
 use Rattle.event.specs.declared.head.HeadAt.{HeadAt}
 use Rattle.event.specs.declared.head.HeadRead.{HeadRead}
@@ -57,31 +58,33 @@ source-end v i h = rw (drop-of-length-le v h)
 -- ---- the parents
 
 -- so many bytes
-pub bytes-at : (s : List ℕ) (at n : ℕ) → at + n ≤ length s → readBytes n (drop at s) ≡ got (part s at (at + n)) (drop (at + n) s)
+bytes-at : (s : List ℕ) (at n : ℕ) → at + n ≤ length s → readBytes n (drop at s) ≡ got (part s at (at + n)) (drop (at + n) s)
 unfolding readBytes
 bytes-at s at n h =
     let k : n ≤ length (drop at s) = simp length-drop (omega arith) in
     let e : at + n - at ≡ n = omega arith in
     rw (le-leb _ _ k, e) (ap (got (take n (drop at s))) (drop-drop n at s))
 
-pub bytes-short : (s : List ℕ) (at n : ℕ) → length s - at < n → readBytes n (drop at s) ≡ fail
+bytes-short : (s : List ℕ) (at n : ℕ) → length s - at < n → readBytes n (drop at s) ≡ fail
 unfolding readBytes
 bytes-short s at n h =
     let k : length (drop at s) < n = simp length-drop (omega arith) in
     rw (lt-leb _ _ k)
 
-pub parents-none : (most : ℕ) (t : List ℕ) → readNumber t ≡ fail → readParents most t ≡ fail
-unfolding readParents
-parents-none most t e = rw e
+-- the hash at `at`
+hash-stands : {s : List ℕ} {at : ℕ} → at + 20 ≤ length s → Stands (readBytes 20) s at at (at + 20)
+hash-stands {s} {at} h = record { is = bytes-at s at 20 h; order = omega arith; within = h }
 
-module _ (most : ℕ) {s : List ℕ} {at n next : ℕ} (w : NumberStops s at n next) where
-  pub parents-many : most < n → readParents most (drop at s) ≡ fail
-  unfolding readParents
-  parents-many h = rw (w .is, lt-leb n most h)
+module _ {q : Parse (List Text)} {s : List ℕ} {from to left : ℕ} (w : RisingTo (readBytes 20) q s from to left) (h : 0 < left) where
+  pub hash-bad : length s - to < 20 → q ≡ fail
+  hash-bad k = rising-bad w h (bytes-short s to 20 k)
 
-  pub parents-some : n ≤ most → readParents most (drop at s) ≡ risen (readBytes 20) n (drop next s)
-  unfolding readParents risen
-  parents-some h = rw (w .is, le-leb n most h)
+  module _ (room : to + 20 ≤ length s) where
+    pub hash-not : precedes (part s from to) (part s to (to + 20)) ≡ false → q ≡ fail
+    hash-not b = rising-not w h (hash-stands room) b
+
+    pub hash-more : precedes (part s from to) (part s to (to + 20)) ≡ true → RisingTo (readBytes 20) q s to (to + 20) (left - 1)
+    hash-more b = rising-more w h (hash-stands room) b
 
 hash-at :
     (hs : List Text) (t r : List ℕ) (i : ℕ) → All (λ (h : Text). length h ≡ 20) hs → t ≡ flatten hs ++ r → i < length hs →
@@ -95,10 +98,10 @@ hash-at (h ∷ hs) t r (suc i) a e l =
     let n : 20 * suc i ≡ 20 + 20 * i = omega arith in
     ap (λ (k : ℕ). take 20 (drop k t)) n ∙ ap (take 20) (sym (drop-drop (20 * i) 20 t)) ∙ hash-at hs (drop 20 t) r i (a .1) d (omega arith)
 
-pub parents-found :
+hashes-found :
     {s : List ℕ} {q : Parse (List Text)} {start to count : ℕ} {hs : List Text} → start ≤ length s → to ≤ length s →
     q ≡ risen (readBytes 20) count (drop start s) → q ≡ got hs (drop to s) → ParentsStop q s (record { start = start; end = to; count = count })
-parents-found {s} {start} {to} {count} {hs} a b e f =
+hashes-found {s} {start} {to} {count} {hs} a b e f =
     let w = times-was (readBytes 20) (λ (h : Text). h) (λ (h : Text). length h ≡ 20) (bytes-was 20) count (drop start s) hs (drop to s)
     (risen-was (readBytes 20) count (drop start s) hs (drop to s) (sym e ∙ f)) in
     let g : drop start s ≡ flatten hs ++ drop to s = w .0 ∙ ap (λ (l : List ℕ). l ++ drop to s) (flat hs) in
@@ -122,11 +125,34 @@ parents-found {s} {start} {to} {count} {hs} a b e f =
         let n : start + 20 * i + 20 - (start + 20 * i) ≡ 20 = omega arith in
         rw n (ap (take 20) (sym (drop-drop (20 * i) start s)) ∙ e)
 
-pub parents-zero :
-    {s : List ℕ} {q : Parse (List Text)} {start count : ℕ} → start ≤ length s → count ≡ 0 → q ≡ risen (readBytes 20) count (drop start s) →
-    ParentsStop q s (record { start = start; end = start; count = count })
-unfolding times rising risen
-parents-zero a z e = parents-found {hs = []} a a e (e ∙ rw z)
+pub parents-none : (most : ℕ) (t : List ℕ) → readNumber t ≡ fail → readParents most t ≡ fail
+unfolding readParents
+parents-none most t e = rw e
+
+module _ (most : ℕ) {s : List ℕ} {at n start : ℕ} (w : NumberStops s at n start) where
+  pub parents-many : most < n → readParents most (drop at s) ≡ fail
+  unfolding readParents
+  parents-many h = rw (w .is, lt-leb n most h)
+
+  module _ (few : n ≤ most) where
+    parents-some : readParents most (drop at s) ≡ risen (readBytes 20) n (drop start s)
+    unfolding readParents risen
+    parents-some = rw (w .is, le-leb n most few)
+
+    pub parents-zero : n ≡ 0 → ParentsStop (readParents most (drop at s)) s (record { start = start; end = start; count = n })
+    unfolding times rising risen
+    parents-zero z = hashes-found {hs = []} (w .within) (w .within) parents-some (parents-some ∙ rw z)
+
+    pub parents-bad : 0 < n → length s - start < 20 → readParents most (drop at s) ≡ fail
+    parents-bad h k = parents-some ∙ risen-bad (readBytes 20) n (drop start s) h (bytes-short s start 20 k)
+
+    pub parents-first : 0 < n → start + 20 ≤ length s → RisingTo (readBytes 20) (readParents most (drop at s)) s start (start + 20) (n - 1)
+    parents-first h room = rising-first n start parents-some h (hash-stands room)
+
+    pub parents-found :
+        {from to left : ℕ} → RisingTo (readBytes 20) (readParents most (drop at s)) s from to left → left ≤ 0 →
+        ParentsStop (readParents most (drop at s)) s (record { start = start; end = to; count = n })
+    parents-found r h = hashes-found (w .within) (r .within) parents-some (rising-all r h)
 
 pub parents-reads : {p : Parse (List Text)} {s : List ℕ} {r : ParentsRead} {x : SetAt} → r ≡ Parents x → ParentsReads p s r → ParentsStop p s x
 parents-reads {p} {s} h w = subst (ParentsReads p s) h w

@@ -13,6 +13,7 @@ use borrow.Author.Tests.{le-leb, eq-eqb, ne-eqb, eqb-true, eqb-false}
 use Rattle.model.specs.Order.{Text, texts, rising, pick}
 use Rattle.model.proofs.Cases.{never}
 use Rattle.packed.specs.Parse.{Parse, fail, got, Layout, andThen, _>>=_, foundIf, times, All}
+use Rattle.packed.specs.code.Comparison.{precedes}
 use Rattle.packed.specs.Packed.{number, readNumber, text, readText, part}
 use Rattle.packed.proofs.LayoutLaws.{lt-or-ge, andThen-got, foundIf-got, times-was, text-read, text-was, text-length, number-was, number-bounds}
 use Rattle.packed.proofs.ReadLaws.{NumberStops, TextStops, stretch}
@@ -38,9 +39,9 @@ risen p count = do
   foundIf (rising texts values) values
 
 -- The last that was read is v, and `left` more stand at t; q is what is found of them all
-pub record Onward (p : Layout Text) (q : Parse (List Text)) (v : Text) (left : ℕ) (t : List ℕ) : Type 0 where
-  pub sofar : List Text
-  pub is : q ≡ andThen (times p left t) (λ ws r. foundIf (rising texts (v ∷ ws)) (sofar ++ ws) r)
+record Onward (p : Layout Text) (q : Parse (List Text)) (v : Text) (left : ℕ) (t : List ℕ) : Type 0 where
+  sofar : List Text
+  is : q ≡ andThen (times p left t) (λ ws r. foundIf (rising texts (v ∷ ws)) (sofar ++ ws) r)
 
 suc-of : (n : ℕ) → 0 < n → suc (n - 1) ≡ n
 suc-of n h = omega arith
@@ -82,14 +83,14 @@ module _ (p : Layout Text) where
       c .first ∙ ap₂ got (f .value) (f .rest)
 
 -- the first of them is read
-pub onward-first :
+onward-first :
     {p : Layout Text} {q : Parse (List Text)} (count : ℕ) (t : List ℕ) {r : List ℕ} {v : Text} →
     q ≡ risen p count t → 0 < count → p t ≡ got v r → Onward p q v (count - 1) r
 unfolding risen
 onward-first {p} count t {r} {v} f h e = record { sofar = v ∷ []; is = f ∙ times-next p (λ ws. foundIf (rising texts ws) ws) count t r v h e }
 
 module _ {p : Layout Text} {q : Parse (List Text)} {v : Text} {left : ℕ} {t : List ℕ} (w : Onward p q v left t) where
-  pub onward-all : left ≤ 0 → q ≡ got (w .sofar) t
+  onward-all : left ≤ 0 → q ≡ got (w .sofar) t
   unfolding times rising
   onward-all h =
       let z : left ≡ 0 = omega arith in
@@ -98,7 +99,7 @@ module _ {p : Layout Text} {q : Parse (List Text)} {v : Text} {left : ℕ} {t : 
       ∙ ap (λ (l : List Text). got l t) (append-nil (w .sofar))
 
   module _ (h : 0 < left) where
-    pub onward-bad : p t ≡ fail → q ≡ fail
+    onward-bad : p t ≡ fail → q ≡ fail
     onward-bad e = w .is ∙ times-bad p (λ ws r. foundIf (rising texts (v ∷ ws)) (w .sofar ++ ws) r) left t h e
 
     -- the next one, u
@@ -106,7 +107,7 @@ module _ {p : Layout Text} {q : Parse (List Text)} {v : Text} {left : ℕ} {t : 
       step : q ≡ andThen (times p (left - 1) r) (λ ws o. foundIf (rising texts (v ∷ u ∷ ws)) (w .sofar ++ (u ∷ ws)) o)
       step = w .is ∙ times-next p (λ ws o. foundIf (rising texts (v ∷ ws)) (w .sofar ++ ws) o) left t r u h e
 
-      pub onward-not : pick (texts .cmp v u) true false false ≡ false → q ≡ fail
+      onward-not : pick (texts .cmp v u) true false false ≡ false → q ≡ fail
       unfolding rising
       onward-not b = step ∙ go (texts .cmp v u) b (times p (left - 1) r)
         where
@@ -119,14 +120,14 @@ module _ {p : Layout Text} {q : Parse (List Text)} {v : Text} {left : ℕ} {t : 
           go Ordering·gt b (got ws o′) = refl
 
       -- where they are promised, the next one comes after
-      pub onward-promised : {known : Bool} → Promised known q → known ≡ true → pick (texts .cmp v u) true false false ≡ true
+      onward-promised : {known : Bool} → Promised known q → known ≡ true → pick (texts .cmp v u) true false false ≡ true
       onward-promised m e = go (pick (texts .cmp v u) true false false) refl
         where
           go : (b : Bool) → pick (texts .cmp v u) true false false ≡ b → b ≡ true
           go true k = refl
           go false k = absurd (m e (onward-not k))
 
-      pub onward-more : pick (texts .cmp v u) true false false ≡ true → Onward p q u (left - 1) r
+      onward-more : pick (texts .cmp v u) true false false ≡ true → Onward p q u (left - 1) r
       unfolding rising
       onward-more b = record { sofar = w .sofar ++ (u ∷ []); is = step ∙ go (texts .cmp v u) b (times p (left - 1) r) }
         where
@@ -138,20 +139,71 @@ module _ {p : Layout Text} {q : Parse (List Text)} {v : Text} {left : ℕ} {t : 
           go Ordering·eq b m = cc
           go Ordering·gt b m = cc
 
+-- a text stands at `at`, from a up to e
+pub record Stands (p : Layout Text) (s : List ℕ) (at a e : ℕ) : Type 0 where
+  pub is : p (drop at s) ≡ got (part s a e) (drop e s)
+  pub order : a ≤ e
+  pub within : e ≤ length s
+
+pub text-stands : {s : List ℕ} {at a e : ℕ} → TextStops s at a e → Stands readText s at a e
+text-stands t = record { is = t .is; order = t .order; within = t .within }
+
+-- The last that was read stands from `from` up to `to`, and `left` more follow
+pub record RisingTo (p : Layout Text) (q : Parse (List Text)) (s : List ℕ) (from to left : ℕ) : Type 0 where
+  pub order : from ≤ to
+  pub within : to ≤ length s
+  onward : Onward p q (part s from to) left (drop to s)
+
+pub rising-first :
+    {p : Layout Text} {q : Parse (List Text)} {s : List ℕ} (count start : ℕ) {a e : ℕ} →
+    q ≡ risen p count (drop start s) → 0 < count → Stands p s start a e → RisingTo p q s a e (count - 1)
+rising-first {s} count start f h t = record { order = t .order; within = t .within; onward = onward-first count (drop start s) f h (t .is) }
+
+module _ {p : Layout Text} {q : Parse (List Text)} {s : List ℕ} {from to left : ℕ} (w : RisingTo p q s from to left) where
+  -- all of them
+  pub risen-all : List Text
+  risen-all = w .onward .sofar
+
+  pub rising-all : left ≤ 0 → q ≡ got risen-all (drop to s)
+  unfolding risen-all
+  rising-all h = onward-all (w .onward) h
+
+  module _ (h : 0 < left) where
+    pub rising-bad : p (drop to s) ≡ fail → q ≡ fail
+    rising-bad e = onward-bad (w .onward) h e
+
+    module _ {a e : ℕ} (t : Stands p s to a e) where
+      pub rising-not : precedes (part s from to) (part s a e) ≡ false → q ≡ fail
+      rising-not b = onward-not (w .onward) h (t .is) b
+
+      -- where they are promised, the next one comes after
+      pub rising-promised : {known : Bool} → Promised known q → known ≡ true → precedes (part s from to) (part s a e) ≡ true
+      rising-promised m k = onward-promised (w .onward) h (t .is) m k
+
+      pub rising-more : precedes (part s from to) (part s a e) ≡ true → RisingTo p q s a e (left - 1)
+      rising-more b = record { order = t .order; within = t .within; onward = onward-more (w .onward) h (t .is) b }
+
 -- ---- a set
 
 pub set-none : (t : List ℕ) → readNumber t ≡ fail → readSet t ≡ fail
 unfolding readSet
 set-none t e = rw e
 
-module _ {s : List ℕ} {at n next : ℕ} (w : NumberStops s at n next) where
+module _ {s : List ℕ} {at n start : ℕ} (w : NumberStops s at n start) where
   pub set-zero : n ≡ 0 → readSet (drop at s) ≡ fail
   unfolding readSet
   set-zero h = rw (w .is, h)
 
-  pub set-some : 0 < n → readSet (drop at s) ≡ risen readText n (drop next s)
-  unfolding readSet risen
-  set-some h = rw (w .is, le-leb 1 n h)
+  module _ (h : 0 < n) where
+    set-some : readSet (drop at s) ≡ risen readText n (drop start s)
+    unfolding readSet risen
+    set-some = rw (w .is, le-leb 1 n h)
+
+    pub set-bad : readText (drop start s) ≡ fail → readSet (drop at s) ≡ fail
+    set-bad e = set-some ∙ risen-bad readText n (drop start s) h e
+
+    pub set-first : {a e : ℕ} → TextStops s start a e → RisingTo readText (readSet (drop at s)) s a e (n - 1)
+    set-first t = rising-first n start set-some h (text-stands t)
 
 -- what a set has before its values
 pub no-count : (n : ℕ) → n ≡ 0 → countSize n ≡ 0
@@ -172,28 +224,31 @@ module _ {s : List ℕ} {at count start : ℕ} (n : NumberStops s at count start
   before-values : length (number count) ≡ start - at
   before-values = stretch s (number count) at start there (n .within) (number-was (drop at s) count (drop start s) (n .is) .0) .2
 
-  module _ (some : 0 < count) {to : ℕ} {vs : List Text} (b : to ≤ length s) (f : readSet (drop at s) ≡ got vs (drop to s)) where
+  module _ (some : 0 < count) {from to left : ℕ} (w : RisingTo readText (readSet (drop at s)) s from to left) (h : left ≤ 0) where
+    abbrev vs : List Text
+    vs = risen-all w
+
     values : (drop start s ≡ flatten (map text vs) ++ drop to s) × (length vs ≡ count) × All (λ (v : Text). length v < 2 ^ 64) vs
     values =
         times-was readText text (λ (v : Text). length v < 2 ^ 64) text-was count (drop start s) vs (drop to s)
-        (risen-was readText count (drop start s) vs (drop to s) (sym (set-some n some) ∙ f))
+        (risen-was readText count (drop start s) vs (drop to s) (sym (set-some n some) ∙ rising-all w h))
 
     size : countSize count ≡ start - at
     size = some-count count (λ (e : count ≡ 0). omega arith) ∙ before-values
 
     pub set-found : SetStops (readSet (drop at s)) s (record { start = start; end = to; count = count })
     set-found =
-        let p = stretch s (flatten (map text vs)) start to (n .within) b (values .0) in
-        let whole = stretch s (setBytes vs) at to there b (nonempty-was (drop at s) vs (drop to s) f .bytes) in
+        let p = stretch s (flatten (map text vs)) start to (n .within) (w .within) (values .0) in
+        let whole = stretch s (setBytes vs) at to there (w .within) (nonempty-was (drop at s) vs (drop to s) (rising-all w h) .bytes) in
         let begin : start - countSize count ≡ at = omega (arith, size, n .after) in
         record {
           what = vs;
-          is = f;
+          is = rising-all w h;
           stands = record {
             bytes = p .0;
             count = sym (values .1);
             order = p .1;
-            within = b;
+            within = w .within;
             counted = omega (arith, size);
             whole = ap (λ (i : ℕ). part s i to) begin ∙ whole .0;
           };

@@ -21,8 +21,11 @@ to-start c = c .before .before .before .before .before .before
 abbrev to-head : tie.After-known-told2 → tie.After-known-told
 to-head c = c .before .before .before .before .before
 
+abbrev to-sets : tie.After-slice-known2 → tie.After-read-sets
+to-sets c = c .before .before
+
 abbrev to-read : tie.After-known-told3 → tie.After-read-sets
-to-read c = c .before .before .before .before .before
+to-read c = to-sets (c .before .before .before)
 
 -- ---- the facts
 
@@ -66,7 +69,7 @@ read-sets-requires c κs = let here = c .before .before in (presence here .withi
 returns-4 : tie.Need-returns-4
 returns-4 c =
     let told = c .before in
-    let read = told .before .before .before .before in
+    let read = to-sets (told .before .before) in
     let none-there = sets-refused _ _ (told .enum-told3 .given .1) (read .read-sets .ensures) in
     event-none _ _ _ _ (no-sets (body (read .before .before)) none-there) (c .no-event4 .ensures)
 
