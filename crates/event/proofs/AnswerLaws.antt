@@ -1,6 +1,6 @@
 -- What is known of a reader's answer in the arm of a `match`, and of a question's answer after `if !`.
-use mathlib.Core.Path.{_≡_, sym, _∙_}
-use mathlib.Core.Bool.{Bool, true, false, not}
+use mathlib.Core.Path.{_≡_, sym, ap, _∙_}
+use mathlib.Core.Bool.{Bool, true, false, not, _&&_}
 use mathlib.Core.List.{List}
 use Prim.Native.Nat.{ℕ}
 use lib.ListN.{drop}
@@ -29,6 +29,13 @@ pub text-not : (s : List ℕ) (at : ℕ) {r : TextAt} → r ≡ textAt s at → 
 text-not s at h e = text-none s at (sym h ∙ e)
 
 -- ---- questions
+
+-- two questions, of which the second is asked where the first is answered yes
+pub both-no : {a : Bool} (b : Bool) → a ≡ false → false ≡ (a && b)
+both-no b e = sym (ap (λ (x : Bool). x && b) e)
+
+pub both-yes : {a b c : Bool} → a ≡ true → c ≡ b → c ≡ (a && b)
+both-yes {b} e f = f ∙ sym (ap (λ (x : Bool). x && b) e)
 
 pub told-no : {b x : Bool} → b ≡ x → not b ≡ true → x ≡ false
 told-no {b} h e = sym h ∙ not-true b e

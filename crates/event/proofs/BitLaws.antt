@@ -34,39 +34,37 @@ bits-below bits h = omega (arith, bits-small bitOf bits bit-small, ap (λ (n : �
 
 -- n is the number of the bits from k on
 pub record BitsFrom (bits : List Bool) (n k : ℕ) : Type 0 where
+  pub long : length bits ≡ 32
   pub is : n ≡ bitNumber (map bitOf (drop k bits))
   pub within : k ≤ 32
 
-module _ (bits : List Bool) (long : length bits ≡ 32) where
-  pub bits-none : BitsFrom bits 0 32
-  unfolding bitNumber
-  bits-none = record { is = sym (ap (λ (l : List Bool). bitNumber (map bitOf l)) (drop-of-length-le bits {i = 32} (omega arith))); within = omega arith }
+pub bits-none : {bits : List Bool} → length bits ≡ 32 → BitsFrom bits 0 32
+unfolding bitNumber
+bits-none {bits} long = record { long = long; is = sym (ap (λ (l : List Bool). bitNumber (map bitOf l)) (drop-of-length-le bits {i = 32} (omega arith))); within = omega arith }
 
-  module _ (n k : ℕ) (w : BitsFrom bits n k) (l : 0 < k) where
+module _ {bits : List Bool} {n k : ℕ} (w : BitsFrom bits n k) where
+  pub bits-all : k ≤ 0 → n ≡ bitNumber (map bitOf bits)
+  bits-all h = let z : k ≡ 0 = omega arith in w .is ∙ ap (λ (m : ℕ). bitNumber (map bitOf (drop m bits))) z
+
+  module _ (l : 0 < k) where
     bits-step : bitOf (getD bits (k - 1) false) + 2 * n ≡ bitNumber (map bitOf (drop (k - 1) bits))
     unfolding bitNumber
     bits-step =
         let e : suc (k - 1) ≡ k = omega arith in
-        sym (ap (λ (l : List Bool). bitNumber (map bitOf l)) (drop-cons bits (k - 1) false (omega (arith, w .within)))
+        sym (ap (λ (l : List Bool). bitNumber (map bitOf l)) (drop-cons bits (k - 1) false (omega (arith, w .within, w .long)))
         ∙ ap (λ (m : ℕ). bitOf (getD bits (k - 1) false) + 2 * bitNumber (map bitOf (drop m bits))) e
         ∙ ap (λ (m : ℕ). bitOf (getD bits (k - 1) false) + 2 * m) (sym (w .is)))
 
     pub bits-room : 2 * n + 1 < 8589934592
-    bits-room = omega (arith, w .is, bits-least bits k, bits-below bits long)
+    bits-room = omega (arith, w .is, bits-least bits k, bits-below bits (w .long))
 
     pub bits-set : getD bits (k - 1) false ≡ true → BitsFrom bits (2 * n + 1) (k - 1)
     unfolding bitOf
-    bits-set h = record { is = let e = ap bitOf h in omega (arith, e) ∙ bits-step; within = omega (arith, w .within) }
+    bits-set h = record { long = w .long; is = let e = ap bitOf h in omega (arith, e) ∙ bits-step; within = omega (arith, w .within) }
 
     pub bits-clear : getD bits (k - 1) false ≡ false → BitsFrom bits (2 * n) (k - 1)
     unfolding bitOf
-    bits-clear h = record { is = let e = ap bitOf h in omega (arith, e) ∙ bits-step; within = omega (arith, w .within) }
-
-pub bits-all : (bits : List Bool) (n k : ℕ) → BitsFrom bits n k → k ≤ 0 → n ≡ bitNumber (map bitOf bits)
-bits-all bits n k w h = w .is ∙ ap (λ (m : ℕ). bitNumber (map bitOf (drop m bits))) (the-front k h)
-  where
-    the-front : (k : ℕ) → k ≤ 0 → k ≡ 0
-    the-front k h = omega arith
+    bits-clear h = record { long = w .long; is = let e = ap bitOf h in omega (arith, e) ∙ bits-step; within = omega (arith, w .within) }
 
 -- ---- an array of bits, filled place by place
 

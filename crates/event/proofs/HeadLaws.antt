@@ -26,34 +26,39 @@ use Rattle.event.proofs.HeadLayoutLaws.{hashes-size}
 
 -- ---- the source
 
-pub source-none : (v : Text) → length v ≡ 0 → isSource v ≡ false
+pub source-none : (v : Text) → length v ≡ 0 → false ≡ isSource v
 unfolding isSource
 source-none v h = rw h
 
-pub source-many : (v : Text) → 120 < length v → isSource v ≡ false
+pub source-many : (v : Text) → 120 < length v → false ≡ isSource v
 unfolding isSource
 source-many v h = rw (le-leb 1 (length v) (omega arith), lt-leb (length v) 120 h)
 
-pub source-is : (v : Text) → (length v ≡ 0 → ⊥) → length v ≤ 120 → isSource v ≡ areSourceBytes v
+-- the bytes before i are a source's
+pub record SourceTo (v : Text) (i : ℕ) : Type 0 where
+  is : isSource v ≡ areSourceBytes (drop i v)
+
+pub source-first : {v : Text} → (length v ≡ 0 → ⊥) → length v ≤ 120 → SourceTo v 0
 unfolding isSource
-source-is v h k = rw (le-leb 1 (length v) (omega (arith, h)), le-leb (length v) 120 k)
+source-first {v} h k = record { is = rw (le-leb 1 (length v) (omega (arith, h)), le-leb (length v) 120 k) }
 
-module _ (v : Text) (i : ℕ) (h : i < length v) where
-  pub source-low : getD v i 0 < 0x21 → areSourceBytes (drop i v) ≡ false
+module _ {v : Text} {i : ℕ} (w : SourceTo v i) where
+  pub source-end : length v ≤ i → true ≡ isSource v
   unfolding areSourceBytes
-  source-low k = rw (drop-next v i h, lt-leb 0x21 (getD v i 0) k)
+  source-end h = sym (w .is ∙ rw (drop-of-length-le v h))
 
-  pub source-high : 0x7e < getD v i 0 → areSourceBytes (drop i v) ≡ false
-  unfolding areSourceBytes
-  source-high k = rw (drop-next v i h, le-leb 0x21 (getD v i 0) (omega arith), lt-leb (getD v i 0) 0x7e k)
+  module _ (h : i < length v) where
+    pub source-low : getD v i 0 < 0x21 → false ≡ isSource v
+    unfolding areSourceBytes
+    source-low k = sym (w .is ∙ rw (drop-next v i h, lt-leb 0x21 (getD v i 0) k))
 
-  pub source-step : 0x21 ≤ getD v i 0 → getD v i 0 ≤ 0x7e → areSourceBytes (drop i v) ≡ areSourceBytes (drop (i + 1) v)
-  unfolding areSourceBytes
-  source-step k l = rw (drop-next v i h, le-leb 0x21 (getD v i 0) k, le-leb (getD v i 0) 0x7e l)
+    pub source-high : 0x7e < getD v i 0 → false ≡ isSource v
+    unfolding areSourceBytes
+    source-high k = sym (w .is ∙ rw (drop-next v i h, le-leb 0x21 (getD v i 0) (omega arith), lt-leb (getD v i 0) 0x7e k))
 
-pub source-end : (v : Text) (i : ℕ) → length v ≤ i → areSourceBytes (drop i v) ≡ true
-unfolding areSourceBytes
-source-end v i h = rw (drop-of-length-le v h)
+    pub source-more : 0x21 ≤ getD v i 0 → getD v i 0 ≤ 0x7e → SourceTo v (i + 1)
+    unfolding areSourceBytes
+    source-more k l = record { is = w .is ∙ rw (drop-next v i h, le-leb 0x21 (getD v i 0) k, le-leb (getD v i 0) 0x7e l) }
 
 -- ---- the parents
 
@@ -194,21 +199,28 @@ module _ (most : ℕ) {s : List ℕ} {a e : ℕ} (n : TextStops s 0 a e) where
     pub source-not : isSource (part s b f) ≡ false → readHead most s ≡ fail
     source-not h = step ∙ rw h
 
-    pub parents-not : isSource (part s b f) ≡ true → readParents most (drop f s) ≡ fail → readHead most s ≡ fail
-    parents-not h g = step ∙ rw (h, g)
+-- name and source are read
+pub record Sourced (s : List ℕ) (a e b f : ℕ) : Type 0 where
+  pub name : TextStops s 0 a e
+  pub source : TextStops s e b f
+  pub right : isSource (part s b f) ≡ true
 
-    pub head-found :
-        {x : SetAt} → isSource (part s b f) ≡ true → ParentsStop (readParents most (drop f s)) s x →
-        HeadStops (readHead most s) s (record { name = record { start = a; end = e }; source = record { start = b; end = f }; parents = x })
-    head-found h w = record {
-      what = record { type = part s a e; source = part s b f; parents = w .what };
-      is = step ∙ rw (h, w .is);
-      stands = record {
-        name = record { bytes = refl; order = n .order; within = n .within };
-        uri = record { bytes = refl; order = u .order; within = u .within };
-        hashes = w .stands;
-      };
-    }
+module _ (most : ℕ) {s : List ℕ} {a e b f : ℕ} (w : Sourced s a e b f) where
+  pub parents-not : readParents most (drop f s) ≡ fail → readHead most s ≡ fail
+  parents-not g = step most (w .name) (w .source) ∙ rw (w .right, g)
+
+  pub head-found :
+      {x : SetAt} → ParentsStop (readParents most (drop f s)) s x →
+      HeadStops (readHead most s) s (record { name = record { start = a; end = e }; source = record { start = b; end = f }; parents = x })
+  head-found p = record {
+    what = record { type = part s a e; source = part s b f; parents = p .what };
+    is = step most (w .name) (w .source) ∙ rw (w .right, p .is);
+    stands = record {
+      name = record { bytes = refl; order = w .name .order; within = w .name .within };
+      uri = record { bytes = refl; order = w .source .order; within = w .source .within };
+      hashes = p .stands;
+    };
+  }
 
 -- ---- the parts of a head, where they stand
 

@@ -1,7 +1,6 @@
+-- `bits::number_of` meets its contract: the loop's invariant says that n is the number of the bits from k on.
 use borrow.Author.Needs.{needs}
-use mathlib.Core.Path.{_≡_}
 use native.Mathlib.Omega.{arith}
-use lib.ListN.{length}
 use Rattle.event.proofs.BitLaws.{BitsFrom, bits-none, bits-room, bits-set, bits-clear, bits-all}
 use Rattle.event.proofs.bits.number_of.Statement.{statement}
 use Rattle.event.proofs.bits.number_of.Tie as tie
@@ -12,30 +11,26 @@ Inv-loop bits n₀ k₀ n k = BitsFrom bits n k
 abbrev μ-loop : tie.MeasureT-loop
 μ-loop bits n₀ k₀ n k = k
 
--- the bits are 32
-long : (c : tie.Start Inv-loop μ-loop) → length (c .args .t1) ≡ 32
-long c = search needs
-
 loop-holds : tie.Need-loop-holds Inv-loop μ-loop
-loop-holds c = bits-none (c .args .t1) (long c)
+loop-holds c = bits-none (search needs)
 
 mul-n : tie.Need-mul-n Inv-loop μ-loop
-mul-n c = let l = c .before in omega (arith, bits-room (l .before .args .t1) (long (l .before)) (l .loop .n) (l .loop .k) (l .loop .inv) (c .loop-test .taken))
+mul-n c = omega (arith, bits-room (c .before .loop .inv) (c .loop-test .taken))
 
 array-read-if1 : tie.Need-array-read-if1 Inv-loop μ-loop
 array-read-if1 c = omega (arith, c .loop-test .taken, c .before .loop .inv .within)
 
 add-n : tie.Need-add-n Inv-loop μ-loop
-add-n c = let l = c .before .before in omega (arith, bits-room (l .before .args .t1) (long (l .before)) (l .loop .n) (l .loop .k) (l .loop .inv) (c .before .loop-test .taken))
+add-n c = omega (arith, bits-room (c .before .before .loop .inv) (c .before .loop-test .taken))
 
 loop-again : tie.Need-loop-again Inv-loop μ-loop
-loop-again c = let l = c .before .before in bits-set (l .before .args .t1) (long (l .before)) (l .loop .n) (l .loop .k) (l .loop .inv) (c .before .loop-test .taken) (c .if1 .taken)
+loop-again c = bits-set (c .before .before .loop .inv) (c .before .loop-test .taken) (c .if1 .taken)
 
 loop-again-2 : tie.Need-loop-again-2 Inv-loop μ-loop
-loop-again-2 c = let l = c .before .before in bits-clear (l .before .args .t1) (long (l .before)) (l .loop .n) (l .loop .k) (l .loop .inv) (c .before .loop-test .taken) (c .if1 .left)
+loop-again-2 c = bits-clear (c .before .before .loop .inv) (c .before .loop-test .taken) (c .if1 .left)
 
 returns : tie.Need-returns Inv-loop μ-loop
-returns c = bits-all (c .before .before .args .t1) (c .before .loop .n) (c .before .loop .k) (c .before .loop .inv) (omega (arith, c .loop-test .left))
+returns c = bits-all (c .before .loop .inv) (c .loop-test .left)
 
 pub number-of-spec : {M : Type 1} → statement M
 number-of-spec =

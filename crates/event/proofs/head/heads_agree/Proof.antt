@@ -1,25 +1,34 @@
+-- `head::heads_agree` meets its contract: `names` and the last answer are those on the parts of the heads.
 use borrow.Author.Needs.{needs}
-use mathlib.Core.Path.{sym, ap, ap₂, _∙_}
-use mathlib.Core.Bool.{Bool, _&&_}
-use borrow.Author.Tests.{not-true, not-false}
+use mathlib.Core.Path.{_≡_, ap₂, _∙_}
 use Rattle.model.specs.Order.{texts, equal}
+use Rattle.event.specs.Head.{Head}
+use Rattle.event.specs.code.EventIndex.{HeadIs}
+use Rattle.event.proofs.AnswerLaws.{both-no, both-yes, told-no, told-yes}
 use Rattle.event.proofs.head.heads_agree.Statement.{statement}
 use Rattle.event.proofs.head.heads_agree.Tie as tie
 
--- the answers on the names and the sources, from the heads
+-- ---- the places
+
+abbrev to-start : tie.After-same → tie.Start
+to-start c = c .before .before .before .before .before
+
+-- ---- the facts
+
+names : (c : tie.After-same) {g h : Head} → let a = to-start c .args in
+    HeadIs (a .a .now) g (a .x) → HeadIs (a .b .now) h (a .y) → c .same .result ≡ equal texts (g .type) (h .type)
+names c x y = c .same .ensures ∙ ap₂ (equal texts) (c .before .before .text-part .ensures _ (x .name)) (c .before .text-part2 .ensures _ (y .name))
+
+-- ---- the needs
+
 returns : tie.Need-returns
-returns c = λ g h x y.
-    let at-names = c .before .before .before in
-    let e = c .before .same .ensures ∙ ap₂ (equal texts) (at-names .text-part .ensures (g .type) (x .name)) (c .before .before .text-part2 .ensures (h .type) (y .name)) in
-    sym (ap (λ (b : Bool). b && equal texts (g .source) (h .source)) (sym e ∙ not-true _ (c .if1 .taken)))
+returns c g h x y = both-no _ (told-no (names (c .before) x y) (c .if1 .taken))
 
 returns-2 : tie.Need-returns-2
-returns-2 c = λ g h x y.
-    let at-same = c .before .before .before .before in
-    let names = ap₂ (equal texts) (at-same .before .before .text-part .ensures (g .type) (x .name)) (at-same .before .text-part2 .ensures (h .type) (y .name)) in
-    let e = at-same .same .ensures ∙ names in
-    let f = c .same2 .ensures ∙ ap₂ (equal texts) (c .before .before .text-part3 .ensures (g .source) (x .uri)) (c .before .text-part4 .ensures (h .source) (y .uri)) in
-    f ∙ sym (ap (λ (b : Bool). b && equal texts (g .source) (h .source)) (sym e ∙ not-false _ (c .before .before .before .if1 .left)))
+returns-2 c g h x y =
+    let asked = c .before .before .before in
+    both-yes (told-yes (names (asked .before) x y) (asked .if1 .left))
+    (c .same2 .ensures ∙ ap₂ (equal texts) (c .before .before .text-part3 .ensures _ (x .uri)) (c .before .text-part4 .ensures _ (y .uri)))
 
 pub heads-agree-spec : {M : Type 1} → statement M
 heads-agree-spec =

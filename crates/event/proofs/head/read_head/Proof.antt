@@ -5,7 +5,7 @@ use mathlib.Core.List.{List}
 use Prim.Native.Nat.{ℕ}
 use Rattle.packed.proofs.ReadLaws.{TextStops}
 use Rattle.event.proofs.AnswerLaws.{text-got, text-not, told-no, told-yes}
-use Rattle.event.proofs.HeadLaws.{no-name, no-source, source-not, parents-not, head-found, parents-reads, parents-refused}
+use Rattle.event.proofs.HeadLaws.{Sourced, no-name, no-source, source-not, parents-not, head-found, parents-reads, parents-refused}
 use Rattle.event.proofs.head.read_head.Statement.{statement}
 use Rattle.event.proofs.head.read_head.Tie as tie
 
@@ -35,6 +35,12 @@ module _ (c : tie.After-known-told) where
 source : (c : tie.After-known-told2) → let x = c .before .source .given .0 in TextStops (s (to-name c)) (name-end (to-name c)) (x .0) (x .1 .0)
 source c = text-got (c .before .before .before .read-text2 .ensures) (c .before .source .given .1)
 
+sourced : (c : tie.Else1) → let here = to-source (c .before) in let n = to-name here in let x = here .before .source .given .0 in
+    Sourced (s n) (n .before .name .given .0 .0) (name-end n) (x .0) (x .1 .0)
+sourced c =
+    let here = to-source (c .before) in
+    record { name = name (to-name here); source = source here; right = told-yes (c .before .is-source .ensures) (c .if1 .left) }
+
 -- ---- the needs
 
 returns : tie.Need-returns
@@ -53,18 +59,12 @@ returns-3 c =
 returns-4 : tie.Need-returns-4
 returns-4 c =
     let read = c .before .before in
-    let asked = read .before in
-    let here = to-source (asked .before) in
-    parents-not _ (name (to-name here)) (source here) (told-yes (asked .before .is-source .ensures) (asked .if1 .left))
-    (parents-refused _ (c .enum-told3 .given .1) (read .read-parents .ensures))
+    parents-not _ (sourced (read .before)) (parents-refused _ (c .enum-told3 .given .1) (read .read-parents .ensures))
 
 returns-5 : tie.Need-returns-5
 returns-5 c =
     let read = c .before .before .before in
-    let asked = read .before in
-    let here = to-source (asked .before) in
-    head-found _ (name (to-name here)) (source here) (told-yes (asked .before .is-source .ensures) (asked .if1 .left))
-    (parents-reads (c .before .parents .given .1) (read .read-parents .ensures))
+    head-found _ (sourced (read .before)) (parents-reads (c .before .parents .given .1) (read .read-parents .ensures))
 
 pub read-head-spec : {M : Type 1} → statement M
 read-head-spec =
