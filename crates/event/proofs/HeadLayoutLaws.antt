@@ -14,8 +14,8 @@ use Rattle.packed.specs.Packed.{number, readNumber, text, readText, readBytes}
 use Rattle.packed.proofs.LayoutLaws.{All, andThen-got, foundIf-got, suchThat-got, number-read, number-was, text-read, text-was, bytes-read, bytes-was}
 use Rattle.packed.proofs.LayoutLaws.{times-read, times-was}
 use Rattle.packed.specs.code.Written.{Wrote}
-use Rattle.packed.proofs.WriteLaws.{wrote-then, wrote-as}
-use Rattle.event.specs.code.EventIndex.{HeadParts}
+use Rattle.packed.proofs.WriteLaws.{wrote-then, wrote-as, wrote-length}
+use Rattle.event.specs.code.EventIndex.{HeadParts, HeadRoom}
 use Rattle.event.specs.Head.{areSourceBytes, isSource, readParents, Head, readHead, parentsBytes, headBytes}
 
 -- ---- what can be written
@@ -152,7 +152,7 @@ module _ {name source hashes : List ℕ} (h : Head) (w : HeadParts name source h
   head-count = omega (arith, ap length (w .parents), hashes-size (h .parents) (w .each))
 
   -- how long the parts are together
-  pub parts-length : (n : ℕ) → n ≡ length hashes / 20 → length (headBytes h) ≡ length (text name) + length (text source) + length (number n) + length hashes
+  parts-length : (n : ℕ) → n ≡ length hashes / 20 → length (headBytes h) ≡ length (text name) + length (text source) + length (number n) + length hashes
   parts-length n e =
       let name-same = ap (λ (v : Text). length (text v)) (w .type) in
       let source-same = ap (λ (v : Text). length (text v)) (w .uri) in
@@ -167,3 +167,22 @@ module _ {name source hashes : List ℕ} (h : Head) (w : HeadParts name source h
   wrote-head e a b c d =
       wrote-then (wrote-then (wrote-as (ap text (w .type)) a) (wrote-as (ap text (w .uri)) b))
       (wrote-then (wrote-as (ap number (e ∙ head-count)) c) (wrote-as (w .parents) d))
+
+-- each part has its room after those before it
+module _ {name source hashes : List ℕ} {at size : ℕ} (p : HeadRoom name source hashes at size) where
+  all-room : at + (length (text name) + length (text source) + length (number (length hashes / 20)) + length hashes) ≤ size
+  all-room = omega (arith, p .room, parts-length (p .head) (p .parts) _ refl)
+
+  pub room-name : at + length (text name) ≤ size
+  room-name = omega (arith, all-room)
+
+module _ {name source hashes l l₁ : List ℕ} {at n₁ : ℕ} (p : HeadRoom name source hashes at (length l)) (a : Wrote l at (text name) l₁ n₁) where
+  pub room-source : n₁ + length (text source) ≤ length l₁
+  room-source = omega (arith, all-room p, a .after, wrote-length a)
+
+  module _ {l₂ : List ℕ} {n₂ : ℕ} (b : Wrote l₁ n₁ (text source) l₂ n₂) where
+    pub room-count : n₂ + length (number (length hashes / 20)) ≤ length l₂
+    room-count = omega (arith, all-room p, a .after, wrote-length a, b .after, wrote-length b)
+
+    pub room-hashes : {l₃ : List ℕ} {n₃ : ℕ} → Wrote l₂ n₂ (number (length hashes / 20)) l₃ n₃ → n₃ + length hashes ≤ length l₃
+    room-hashes c = omega (arith, all-room p, a .after, wrote-length a, b .after, wrote-length b, c .after, wrote-length c)

@@ -1,6 +1,6 @@
 -- The laws of writing sets from where they stand: a set, the sets of a presence number, and runs of sets that stand one after the other.
 use mathlib.Core.Path.{_≡_, ap, ap₂, refl, sym, _∙_, subst, subst₂}
-use mathlib.Core.Logic.{_⊎_, ⊎-elim}
+use mathlib.Core.Logic.{_⊎_, inl, inr, ⊎-elim}
 use mathlib.Core.List.{List, _++_, map, flatten, [], _∷_, append-assoc}
 use Prim.Native.Nat.{ℕ, _+_, _-_, _/_, _%_, _≤_, _<_}
 use native.Mathlib.Numerals.{add-one}
@@ -14,10 +14,11 @@ use Rattle.packed.specs.code.Written.{Wrote, ToGo}
 use Rattle.packed.proofs.ReadLaws.{part-join}
 use Rattle.packed.proofs.WriteLaws.{to-go, gone, gone-to, all-gone, wrote-as, wrote-then}
 use Rattle.event.specs.EventLayout.{presenceBit, bitNumber, setBytes, setsBytes}
-use Rattle.event.specs.code.EventIndex.{countSize, SetIs}
-use Rattle.event.specs.code.SetWriting.{placeBytes, presentBytes, runBytes, RunIs}
+use Rattle.event.specs.code.EventIndex.{countSize, SetIs, setIn, SetsAre}
+use Rattle.event.specs.code.SetWriting.{placeBytes, presentBytes, PresentRoom, runBytes, RunIs, RunRoom}
 use Rattle.event.specs.declared.sets.SetAt.{SetAt}
 use Rattle.event.specs.declared.write.Run.{Run}
+use Rattle.event.proofs.SetLaws.{set-read}
 use Rattle.event.proofs.EventLayoutLaws.{low-bit, high-bits, presence-small}
 
 -- ---- a set that is made: its count, then its values
@@ -93,12 +94,9 @@ run-new s r x vs start {l} {l₁} {to} is e o =
     subst (ToGo l (r .to) (runBytes s r ++ setBytes vs) l₁ to) (sym set) (gone (runBytes s r) (setBytes vs) to-go refl o)
 
 -- the first k places are written but for the run, which is still to be copied, and `bits` has the bits of the others
-pub record RunTo (s l₀ : List ℕ) (at presence : ℕ) (xs : List (List Text)) (l : List ℕ) (r : Run) (bits k : ℕ) : Type 0 where
-  pub run : RunIs s r
-  pub to-write : ToGo l₀ at (presentBytes presence xs) l (r .to) (runBytes s r ++ presentBytes bits (drop k xs))
-
-pub run-none : (s l : List ℕ) (at presence : ℕ) (xs : List (List Text)) → RunTo s l at presence xs l (record { start = 0; end = 0; to = at }) presence 0
-run-none s l at presence xs = record { run = record { order = omega arith; within = omega arith }; to-write = to-go }
+record RunTo (s l₀ : List ℕ) (at presence : ℕ) (xs : List (List Text)) (l : List ℕ) (r : Run) (bits k : ℕ) : Type 0 where
+  run : RunIs s r
+  to-write : ToGo l₀ at (presentBytes presence xs) l (r .to) (runBytes s r ++ presentBytes bits (drop k xs))
 
 module _ {s l₀ : List ℕ} {at presence : ℕ} {xs : List (List Text)} {l : List ℕ} {r : Run} {bits k : ℕ} (w : RunTo s l₀ at presence xs l r bits k) where
   abbrev left : List ℕ
@@ -107,15 +105,15 @@ module _ {s l₀ : List ℕ} {at presence : ℕ} {xs : List (List Text)} {l : Li
   abbrev next : List ℕ
   next = presentBytes (bits / 2) (drop (k + 1) xs)
 
-  pub run-same : {l₁ : List ℕ} {r₁ : Run} → l₁ ≡ l → r₁ ≡ r → RunTo s l₀ at presence xs l₁ r₁ bits k
+  run-same : {l₁ : List ℕ} {r₁ : Run} → l₁ ≡ l → r₁ ≡ r → RunTo s l₀ at presence xs l₁ r₁ bits k
   run-same e f = subst₂ (λ (m : List ℕ) (q : Run). RunTo s l₀ at presence xs m q bits k) (sym e) (sym f) w
 
   -- the run has its room
-  pub run-room : at + length (presentBytes presence xs) ≤ length l₀ → r .to + length (runBytes s r) ≤ length l
+  run-room : at + length (presentBytes presence xs) ≤ length l₀ → r .to + length (runBytes s r) ≤ length l
   run-room h = omega (arith, w .to-write .after, w .to-write .long, length-append (runBytes s r) left)
 
   -- it is the last one
-  pub run-last : (length xs ≤ k) ⊎ (bits ≡ 0) → {l₁ : List ℕ} {end : ℕ} → Wrote l (r .to) (runBytes s r) l₁ end → Wrote l₀ at (presentBytes presence xs) l₁ end
+  run-last : (length xs ≤ k) ⊎ (bits ≡ 0) → {l₁ : List ℕ} {end : ℕ} → Wrote l (r .to) (runBytes s r) l₁ end → Wrote l₀ at (presentBytes presence xs) l₁ end
   run-last h o = all-gone (gone (runBytes s r) left (w .to-write) refl o) (⊎-elim (present-past bits xs k) (λ e. rw e (present-clear (drop k xs))) h)
 
   module _ (h : k < length xs) where
@@ -124,13 +122,13 @@ module _ {s l₀ : List ℕ} {at presence : ℕ} {xs : List (List Text)} {l : Li
     step = rw add-one (ap (presentBytes bits) (drop-cons xs k [] h))
 
     -- a place without objects, and one with a set
-    pub run-over : (bits % 2 ≡ 1 → ⊥) → RunTo s l₀ at presence xs l r (bits / 2) (k + 1)
+    run-over : (bits % 2 ≡ 1 → ⊥) → RunTo s l₀ at presence xs l r (bits / 2) (k + 1)
     unfolding placeBytes
     run-over e =
         let none : left ≡ next = step ∙ rw (ne-eqb (bits % 2) 1 e) in
         record { run = w .run; to-write = subst (λ (z : List ℕ). ToGo l₀ at (presentBytes presence xs) l (r .to) (runBytes s r ++ z)) none (w .to-write) }
 
-    pub run-more :
+    run-more :
         bits % 2 ≡ 1 → {l₁ : List ℕ} {r₁ : Run} → RunIs s r₁ → ToGo l (r .to) (runBytes s r ++ setBytes (getD xs k [])) l₁ (r₁ .to) (runBytes s r₁) →
         RunTo s l₀ at presence xs l₁ r₁ (bits / 2) (k + 1)
     unfolding placeBytes
@@ -141,3 +139,52 @@ module _ {s l₀ : List ℕ} {at presence : ℕ} {xs : List (List Text)} {l : Li
         ap (λ (z : List ℕ). runBytes s r ++ z) some ∙ sym (append-assoc (runBytes s r) set next)
         in
         record { run = is; to-write = gone-to (runBytes s r ++ set) next (w .to-write) split g }
+
+-- so of the sets that the numbers ats say
+pub record RunsTo (s ats l₀ : List ℕ) (at presence : ℕ) (l : List ℕ) (r : Run) (bits k : ℕ) : Type 0 where
+  each : (xs : List (List Text)) → SetsAre s xs ats → RunTo s l₀ at presence xs l r bits k
+
+pub runs-none : {s ats l : List ℕ} {at presence : ℕ} → RunsTo s ats l at presence l (record { start = 0; end = 0; to = at }) presence 0
+runs-none = record { each = λ xs are. record { run = record { order = omega arith; within = omega arith }; to-write = to-go } }
+
+module _ {s ats l₀ : List ℕ} {at presence : ℕ} {l : List ℕ} {r : Run} {bits k : ℕ} (w : RunsTo s ats l₀ at presence l r bits k) where
+  pub runs-same : {l₁ : List ℕ} {r₁ : Run} → l₁ ≡ l → r₁ ≡ r → RunsTo s ats l₀ at presence l₁ r₁ bits k
+  runs-same e f = record { each = λ xs are. run-same (w .each xs are) e f }
+
+  pub runs-last :
+      (32 ≤ k) ⊎ (bits ≤ 0) → {l₁ : List ℕ} {end : ℕ} → Wrote l (r .to) (runBytes s r) l₁ end →
+      (xs : List (List Text)) → SetsAre s xs ats → Wrote l₀ at (presentBytes presence xs) l₁ end
+  runs-last h o xs are =
+      let over : (length xs ≤ k) ⊎ (bits ≡ 0) = ⊎-elim (λ a. inl (omega (arith, are .long))) (λ b. inr (omega arith)) h in
+      run-last (w .each xs are) over o
+
+  -- the run has its room where all of them have
+  module _ (p : PresentRoom s ats presence at (length l₀)) where
+    here : RunTo s l₀ at presence (p .values) l r bits k
+    here = w .each (p .values) (p .are)
+
+    pub runs-copy : (r .start ≤ r .end) × (r .end ≤ length s) × (r .to + length (runBytes s r) ≤ length l)
+    runs-copy = (here .run .order, here .run .within, run-room here (p .room))
+
+    pub runs-room : k < 32 → {x : SetAt} → x ≡ setIn ats k → RunRoom s r x (length l)
+    runs-room h e = record {
+      run = here .run;
+      values = getD (p .values) k [];
+      is = set-read e (p .are .each k h);
+      room = run-room here (p .room);
+    }
+
+    pub runs-long : length l ≡ length l₀
+    runs-long = here .to-write .long
+
+  module _ (h : k < 32) where
+    pub runs-over : (bits % 2 ≡ 1 → ⊥) → RunsTo s ats l₀ at presence l r (bits / 2) (k + 1)
+    runs-over e = record { each = λ xs are. run-over (w .each xs are) (omega (arith, are .long)) e }
+
+    pub runs-more :
+        {x : SetAt} {l₁ : List ℕ} {r₁ : Run} → bits % 2 ≡ 1 → x ≡ setIn ats k →
+        RunIs s r₁ × ((vs : List Text) → SetIs s vs x → ToGo l (r .to) (runBytes s r ++ setBytes vs) l₁ (r₁ .to) (runBytes s r₁)) →
+        RunsTo s ats l₀ at presence l₁ r₁ (bits / 2) (k + 1)
+    runs-more b e with-set = record {
+      each = λ xs are. run-more (w .each xs are) (omega (arith, are .long)) b (with-set .0) (with-set .1 _ (set-read e (are .each k h)));
+    }

@@ -1,8 +1,8 @@
 use borrow.Author.Needs.{needs}
-use Prim.Native.Nat.{_+_, _-_, _*_}
+use Prim.Native.Nat.{_-_}
 use native.Mathlib.Omega.{arith}
 use mathlib.Core.Path.{_≡_, _∙_}
-use lib.ListN.{length, set, length-set}
+use lib.ListN.{length, length-set}
 use Rattle.ontology.proofs.TripleLaws.{three-long}
 use Rattle.event.proofs.SetLaws.{Cleared, cleared-none, cleared-more}
 use Rattle.event.proofs.sets.clear_from.Statement.{statement}
@@ -18,13 +18,10 @@ loop-holds : tie.Need-loop-holds Inv-loop μ-loop
 loop-holds c = (c .pre, cleared-none _ _)
 
 slice-write-sets-2 : tie.Need-slice-write-sets-2 Inv-loop μ-loop
-slice-write-sets-2 c = let l = c .before .loop in omega (arith, length-set (l .sets) (3 * l .k) 0, l .inv .0)
+slice-write-sets-2 c = simp length-set (omega (arith, c .before .loop .inv .0))
 
 slice-write-sets-3 : tie.Need-slice-write-sets-3 Inv-loop μ-loop
-slice-write-sets-3 c =
-    let l = c .before .loop in
-    let first = set (l .sets) (3 * l .k) 0 in
-    omega (arith, length-set (l .sets) (3 * l .k) 0, length-set first (3 * l .k + 1) 0, l .inv .0)
+slice-write-sets-3 c = simp length-set (omega (arith, c .before .loop .inv .0))
 
 loop-again : tie.Need-loop-again Inv-loop μ-loop
 loop-again c =

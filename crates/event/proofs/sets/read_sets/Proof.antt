@@ -1,9 +1,9 @@
 -- `sets::read_sets` meets its contract: the invariant `Sofar` says that the sets of the places below k are read and stand in the numbers, and what is left to read.
 use borrow.Author.Needs.{needs}
 use native.Mathlib.Omega.{arith}
-use Prim.Native.Nat.{_+_, _-_, _*_, _%_}
+use Prim.Native.Nat.{_-_, _%_}
 use mathlib.Core.Logic.{inl, inr, ⊎-elim}
-use lib.ListN.{drop, set, length-set}
+use lib.ListN.{drop, length-set}
 use borrow.Author.Tests.{ltb-false}
 use Rattle.event.specs.EventLayout.{readPlace, readSets}
 use Rattle.event.specs.code.EventIndex.{SetStops}
@@ -50,16 +50,10 @@ returns c =
     sofar-bad (turn .before .loop .inv) (turn .loop-test .taken) (set-refused _ (c .enum-told .given .1) (read .read-place .ensures))
 
 slice-write-sets-2 : tie.Need-slice-write-sets-2 Inv-loop μ-loop
-slice-write-sets-2 c =
-    let l = to-turn c .before .loop in
-    omega (arith, length-set (l .sets) (3 * l .k) (c .before .x .given .0 .0 .start), l .inv .ats-long)
+slice-write-sets-2 c = simp length-set (omega (arith, to-turn c .before .loop .inv .ats-long))
 
 slice-write-sets-3 : tie.Need-slice-write-sets-3 Inv-loop μ-loop
-slice-write-sets-3 c =
-    let l = to-turn c .before .loop in
-    let x = c .before .x .given .0 .0 in
-    let first = set (l .sets) (3 * l .k) (x .start) in
-    omega (arith, length-set (l .sets) (3 * l .k) (x .start), length-set first (3 * l .k + 1) (x .end), l .inv .ats-long)
+slice-write-sets-3 c = simp length-set (omega (arith, to-turn c .before .loop .inv .ats-long))
 
 add-objects : tie.Need-add-objects Inv-loop μ-loop
 add-objects c =

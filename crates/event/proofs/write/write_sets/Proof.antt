@@ -1,21 +1,17 @@
+-- `write::write_sets` meets its contract: the invariant says that the places below k are written but for the run, which is copied at the end.
 use borrow.Author.Needs.{needs}
-use mathlib.Core.Path.{_≡_, _∙_}
-use mathlib.Core.Logic.{_⊎_, inl, inr, ⊎-elim}
-use mathlib.Core.List.{List, []}
-use Prim.Native.Nat.{_-_, _≤_, _<_}
+use mathlib.Core.Path.{_∙_}
+use mathlib.Core.Logic.{inl, inr, ⊎-elim}
+use Prim.Native.Nat.{_-_}
 use native.Mathlib.Omega.{arith}
-use lib.ListN.{length, getD}
 use borrow.Author.Tests.{ltb-false}
-use Rattle.model.specs.Order.{Text}
 use Rattle.packed.proofs.WriteLaws.{wrote-length}
-use Rattle.event.specs.code.EventIndex.{SetsAre}
-use Rattle.event.proofs.SetLaws.{set-read}
-use Rattle.event.proofs.SetWriteLaws.{RunTo, run-none, run-same, run-room, run-last, run-over, run-more}
+use Rattle.event.proofs.SetWriteLaws.{RunsTo, runs-none, runs-same, runs-copy, runs-room, runs-long, runs-over, runs-more, runs-last}
 use Rattle.event.proofs.write.write_sets.Statement.{statement}
 use Rattle.event.proofs.write.write_sets.Tie as tie
 
 abbrev Inv-loop : tie.InvT-loop
-Inv-loop s sets presence out₀ at run₀ bits₀ k₀ out run bits k = (xs : List (List Text)) → SetsAre s xs sets → RunTo s out₀ at presence xs out run bits k
+Inv-loop s sets presence out₀ at run₀ bits₀ k₀ out run bits k = RunsTo s sets out₀ at presence out run bits k
 
 abbrev μ-loop : tie.MeasureT-loop
 μ-loop s sets presence out₀ at run₀ bits₀ k₀ out run bits k = 32 - k
@@ -25,70 +21,42 @@ abbrev μ-loop : tie.MeasureT-loop
 abbrev to-start : tie.At-loop Inv-loop μ-loop → tie.Start Inv-loop μ-loop
 to-start c = c .before .before .before .before
 
-abbrev to-turn : tie.Then1 Inv-loop μ-loop → tie.In-loop Inv-loop μ-loop
-to-turn c = c .before
-
 -- ---- the needs
 
-loop-holds : tie.Need-loop-holds Inv-loop μ-loop
-loop-holds c = λ xs are. run-none _ _ _ _ xs
-
 set-at-requires : tie.Need-set-at-requires Inv-loop μ-loop
-set-at-requires c κs = (to-start (to-turn (c .before) .before) .pre .0, omega arith)
+set-at-requires c κs = (to-start (c .before .before .before) .pre .0, omega arith)
 
 with-set-requires : tie.Need-with-set-requires Inv-loop μ-loop
 with-set-requires c κs =
-    let turn = to-turn (c .before .before .before) in
-    let l = turn .before .loop in
-    let p = to-start (turn .before) .pre .1 in
-    let w = l .inv (p .values) (p .are) in
-    record {
-      run = w .run;
-      values = getD (p .values) (l .k) [];
-      is = set-read (c .before .set-at .ensures) (p .are .each (l .k) (turn .loop-test .taken));
-      room = run-room w (p .room);
-    }
+    let odd = c .before .before .before in
+    let l = odd .before .before in
+    runs-room (l .loop .inv) (to-start l .pre .1) (odd .before .loop-test .taken) (c .before .set-at .ensures)
 
 loop-again : tie.Need-loop-again Inv-loop μ-loop
-loop-again c = λ xs are.
-    let turn = to-turn (c .before) in
-    let l = turn .before .loop in
-    let w = l .inv xs are in
+loop-again c =
+    let turn = c .before .before in
+    let inv = turn .before .loop .inv in
     let inside = turn .loop-test .taken in
-    let place : l .k < length xs = omega (arith, are .long, inside) in
     ⊎-elim
-    (λ x.
-    let with = x .3 .ensures in
-    run-same (run-more w place (x .0 .taken) (with .0) (with .1 _ (set-read (x .1 .ensures) (are .each (l .k) inside)))) (x .6) (x .7))
-    (λ y. run-same (run-over w place (y .0 .left)) (y .1) (y .2))
+    (λ x. runs-same (runs-more inv inside (x .0 .taken) (x .1 .ensures) (x .3 .ensures)) (x .6) (x .7))
+    (λ y. runs-same (runs-over inv inside (y .0 .left)) (y .1) (y .2))
     (c .if2 .came)
 
 copy-part-requires : tie.Need-copy-part-requires Inv-loop μ-loop
-copy-part-requires c κs =
-    let at-loop = c .before .before in
-    let p = to-start at-loop .pre .1 in
-    let w = at-loop .loop .inv (p .values) (p .are) in
-    (w .run .order, w .run .within, run-room w (p .room))
+copy-part-requires c κs = let l = c .before .before in runs-copy (l .loop .inv) (to-start l .pre .1)
 
 same-length : tie.Need-same-length Inv-loop μ-loop
 same-length c =
     let copied = c .before .before in
-    let at-loop = copied .before .before .before in
-    let p = to-start at-loop .pre .1 in
-    wrote-length (copied .copy-part .ensures) ∙ at-loop .loop .inv (p .values) (p .are) .to-write .long
+    let l = copied .before .before .before in
+    wrote-length (copied .copy-part .ensures) ∙ runs-long (l .loop .inv) (to-start l .pre .1)
 
 returns : tie.Need-returns Inv-loop μ-loop
-returns c = λ xs are.
+returns c =
     let copied = c .before .before in
     let left-loop = copied .before .before in
-    let l = left-loop .before .loop in
-    let over : (length xs ≤ l .k) ⊎ (l .bits ≡ 0) =
-    ⊎-elim
-    (λ x. let none : l .bits ≤ 0 = ltb-false 0 (l .bits) (x .1 .left) in inr (omega arith))
-    (λ y. inl (omega (arith, are .long, y .left)))
-    (left-loop .loop-test .came)
-    in
-    run-last (l .inv xs are) over (copied .copy-part .ensures)
+    let over = ⊎-elim (λ x. inr (ltb-false _ _ (x .1 .left))) (λ y. inl (y .left)) (left-loop .loop-test .came) in
+    runs-last (left-loop .before .loop .inv) over (copied .copy-part .ensures)
 
 pub write-sets-spec : {M : Type 1} → statement M
 write-sets-spec =
@@ -96,7 +64,7 @@ write-sets-spec =
     (tie.spec
     Inv-loop
     μ-loop
-    loop-holds
+    (λ c. runs-none)
     set-at-requires
     with-set-requires
     (λ c. search needs)
