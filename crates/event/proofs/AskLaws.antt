@@ -9,7 +9,7 @@ use native.Mathlib.Omega.{arith}
 use lib.ListN.{getElem?}
 use Rattle.model.specs.Order.{Text}
 use Rattle.model.proofs.Cases.{never}
-use Rattle.packed.specs.Parse.{fail, got, _>>=_}
+use Rattle.packed.specs.Parse.{fail, got}
 use Rattle.packed.specs.Packed.{number, text, readText, part}
 use Rattle.packed.proofs.LayoutLaws.{fail-got, text-read}
 use Rattle.packed.proofs.ReadLaws.{TextStops}

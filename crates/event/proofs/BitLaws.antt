@@ -40,7 +40,11 @@ pub record BitsFrom (bits : List Bool) (n k : ℕ) : Type 0 where
 
 pub bits-none : {bits : List Bool} → length bits ≡ 32 → BitsFrom bits 0 32
 unfolding bitNumber
-bits-none {bits} long = record { long = long; is = sym (ap (λ (l : List Bool). bitNumber (map bitOf l)) (drop-of-length-le bits {i = 32} (omega arith))); within = omega arith }
+bits-none {bits} long = record {
+  long = long;
+  is = sym (ap (λ (l : List Bool). bitNumber (map bitOf l)) (drop-of-length-le bits {i = 32} (omega arith)));
+  within = omega arith;
+}
 
 module _ {bits : List Bool} {n k : ℕ} (w : BitsFrom bits n k) where
   pub bits-all : k ≤ 0 → n ≡ bitNumber (map bitOf bits)

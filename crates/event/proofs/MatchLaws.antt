@@ -160,7 +160,8 @@ module _ {count : ℕ} {ps a ats b bts : List ℕ} where
     same-at w h property left right asked = record {
       same = λ s ty xs ys are u v.
           let i : k < 32 = omega (arith, are .few) in
-          let told = asked s _ _ _ (subst (PropertyIs s _) (sym property) (this-is s ty count ps are k h)) (set-read left (u .each k i)) (set-read right (v .each k i)) in
+          let of-place = subst (PropertyIs s _) (sym property) (this-is s ty count ps are k h) in
+          let told = asked s _ _ _ of-place (set-read left (u .each k i)) (set-read right (v .each k i)) in
           w .same s ty xs ys are u v
           ∙ step s ty count ps are k h xs ys (u .long) (v .long)
           ∙ ap (λ (c : Bool). c && sameFrom ty (k + 1) xs ys) (sym told);

@@ -500,29 +500,37 @@ sets-refused {p} s ats h w = subst (SetsReads p s ats) h w
 -- those from `place` up to k are clear, and those before stand as in the numbers old
 pub record Cleared (old ats : List ℕ) (place k : ℕ) : Type 0 where
   pub long : length ats ≡ length old
-  pub from : place ≤ k
-  pub kept : (i : ℕ) → i < place → setIn ats i ≡ setIn old i
-  pub clear : (i : ℕ) → place ≤ i → i < k → setIn ats i ≡ noSet
+  pub all : length ats ≡ 96
+  from : place ≤ k
+  kept : (i : ℕ) → i < place → setIn ats i ≡ setIn old i
+  clear : (i : ℕ) → place ≤ i → i < k → setIn ats i ≡ noSet
 
-pub cleared-none : (ats : List ℕ) (place : ℕ) → Cleared ats ats place place
-cleared-none ats place = record { long = refl; from = le-refl place; kept = λ i h. refl; clear = λ i a b. absurd (omega arith) }
+pub cleared-none : {ats : List ℕ} {place : ℕ} → length ats ≡ 96 → Cleared ats ats place place
+cleared-none {place} l = record { long = refl; all = l; from = le-refl place; kept = λ i h. refl; clear = λ i a b. absurd (omega arith) }
 
-module _ (old ats : List ℕ) (place k : ℕ) (w : Cleared old ats place k) (h : 3 * k + 2 < length old) where
-  -- the numbers with place k cleared
-  abbrev next-ats : List ℕ
-  next-ats = putThree ats k 0 0 0
+module _ {old ats : List ℕ} {place k : ℕ} (w : Cleared old ats place k) where
+  pub cleared-all :
+      32 ≤ k →
+      ((i : ℕ) → i < place → setIn ats i ≡ setIn old i) × ((i : ℕ) → place ≤ i → i < 32 → setIn ats i ≡ noSet)
+  cleared-all h = (w .kept, λ i a b. w .clear i a (omega arith))
 
-  next-clear : (i : ℕ) → place ≤ i → i < k + 1 → (b : Bool) → eqb i k ≡ b → setIn next-ats i ≡ noSet
-  next-clear i a l true e = rw (eqb-true i k e) (set-here ats k noSet (omega (arith, w .long)))
-  next-clear i a l false e = let ne = eqb-false i k e in set-other ats k noSet i ne ∙ w .clear i a (omega (arith, ne))
+  module _ (h : k < 32) where
+    -- the numbers with place k cleared
+    abbrev next-ats : List ℕ
+    next-ats = putThree ats k 0 0 0
 
-  pub cleared-more : Cleared old next-ats place (k + 1)
-  cleared-more = record {
-    long = three-long ats k 0 0 0 ∙ w .long;
-    from = omega (arith, w .from);
-    kept = λ i l. set-other ats k noSet i (λ e. absurd (omega (arith, w .from))) ∙ w .kept i l;
-    clear = λ i a l. next-clear i a l (eqb i k) refl;
-  }
+    next-clear : (i : ℕ) → place ≤ i → i < k + 1 → (b : Bool) → eqb i k ≡ b → setIn next-ats i ≡ noSet
+    next-clear i a l true e = rw (eqb-true i k e) (set-here ats k noSet (omega (arith, w .all)))
+    next-clear i a l false e = let ne = eqb-false i k e in set-other ats k noSet i ne ∙ w .clear i a (omega (arith, ne))
+
+    pub cleared-more : Cleared old next-ats place (k + 1)
+    cleared-more = record {
+      long = three-long ats k 0 0 0 ∙ w .long;
+      all = three-long ats k 0 0 0 ∙ w .all;
+      from = omega (arith, w .from);
+      kept = λ i l. set-other ats k noSet i (λ e. absurd (omega (arith, w .from))) ∙ w .kept i l;
+      clear = λ i a l. next-clear i a l (eqb i k) refl;
+    }
 
 -- ---- the text at an index
 

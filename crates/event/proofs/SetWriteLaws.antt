@@ -12,10 +12,10 @@ use Rattle.model.specs.Order.{Text}
 use Rattle.packed.specs.Packed.{number, text, part}
 use Rattle.packed.specs.code.Written.{Wrote, ToGo}
 use Rattle.packed.proofs.ReadLaws.{part-join}
-use Rattle.packed.proofs.WriteLaws.{to-go, gone, gone-to, all-gone, wrote-as, wrote-then}
+use Rattle.packed.proofs.WriteLaws.{to-go, to-go-as, gone, gone-to, all-gone, wrote-as, wrote-then}
 use Rattle.event.specs.EventLayout.{presenceBit, bitNumber, setBytes, setsBytes}
 use Rattle.event.specs.code.EventIndex.{countSize, SetIs, setIn, SetsAre}
-use Rattle.event.specs.code.SetWriting.{placeBytes, presentBytes, PresentRoom, runBytes, RunIs, RunRoom}
+use Rattle.event.specs.code.SetWriting.{SetRoom, placeBytes, presentBytes, PresentRoom, runBytes, RunIs, RunRoom}
 use Rattle.event.specs.declared.sets.SetAt.{SetAt}
 use Rattle.event.specs.declared.write.Run.{Run}
 use Rattle.event.proofs.SetLaws.{set-read}
@@ -74,24 +74,46 @@ pub present-own : (xs : List (List Text)) → presentBytes (bitNumber (map prese
 present-own [] = present-nil []
 present-own (x ∷ xs) = present-cons x x xs xs (place-own x) (present-own xs)
 
+-- ---- a set that is copied with its count
+
+module _ {s : List ℕ} {x : SetAt} {start : ℕ} (e : start ≡ x .start - countSize (x .count)) where
+  whole-set : (vs : List Text) → SetIs s vs x → part s start (x .end) ≡ setBytes vs
+  whole-set vs is = ap (λ (i : ℕ). part s i (x .end)) e ∙ is .whole
+
+  pub copy-room : {at size : ℕ} → SetRoom s x at size → (start ≤ x .end) × (x .end ≤ length s) × (at + length (part s start (x .end)) ≤ size)
+  copy-room p = (omega (arith, e, p .is .order), p .is .within, omega (arith, p .room, ap length (whole-set (p .values) (p .is))))
+
+  pub copied-set :
+      {l l₁ : List ℕ} {at next : ℕ} → Wrote l at (part s start (x .end)) l₁ next → (vs : List Text) → SetIs s vs x → Wrote l at (setBytes vs) l₁ next
+  copied-set w vs is = wrote-as (whole-set vs is) w
+
 -- ---- runs
 
--- a set that begins where a run ends is its next one
-pub run-longer :
-    (s : List ℕ) (r : Run) (x : SetAt) (vs : List Text) (start : ℕ) → RunIs s r → SetIs s vs x → start ≡ x .start - countSize (x .count) → start ≡ r .end →
-    runBytes s r ++ setBytes vs ≡ part s (r .start) (x .end)
-run-longer s r x vs start w is e h =
-    let begin : x .start - countSize (x .count) ≡ r .end = omega (arith, e, h) in
-    ap (λ (l : List ℕ). runBytes s r ++ l) (sym (is .whole) ∙ ap (λ (a : ℕ). part s a (x .end)) begin)
-    ∙ part-join s (r .start) (r .end) (x .end) (w .order) (omega (arith, begin, is .order))
+module _ {s : List ℕ} {r : Run} {x : SetAt} {size : ℕ} (p : RunRoom s r x size) {start : ℕ} (e : start ≡ x .start - countSize (x .count)) where
+  -- a set that begins where a run ends is its next one
+  pub run-longer :
+      {l : List ℕ} → start ≡ r .end →
+      RunIs s (record { start = r .start; end = x .end; to = r .to })
+      × ((vs : List Text) → SetIs s vs x → ToGo l (r .to) (runBytes s r ++ setBytes vs) l (r .to) (part s (r .start) (x .end)))
+  run-longer h =
+      let begin : x .start - countSize (x .count) ≡ r .end = omega (arith, e, h) in
+      let order : r .end ≤ x .end = omega (arith, begin, p .is .order) in (
+        record { order = omega (arith, p .run .order); within = p .is .within },
+        λ vs is. to-go-as (ap (λ (l : List ℕ). runBytes s r ++ l) (sym (is .whole) ∙ ap (λ (a : ℕ). part s a (x .end)) begin)
+            ∙ part-join s (r .start) (r .end) (x .end) (p .run .order) order),
+      )
 
--- and one that stands elsewhere begins a new run, where the old one is copied
-pub run-new :
-    (s : List ℕ) (r : Run) (x : SetAt) (vs : List Text) (start : ℕ) {l l₁ : List ℕ} {to : ℕ} → SetIs s vs x → start ≡ x .start - countSize (x .count) →
-    Wrote l (r .to) (runBytes s r) l₁ to → ToGo l (r .to) (runBytes s r ++ setBytes vs) l₁ to (part s start (x .end))
-run-new s r x vs start {l} {l₁} {to} is e o =
-    let set : part s start (x .end) ≡ setBytes vs = ap (λ (a : ℕ). part s a (x .end)) e ∙ is .whole in
-    subst (ToGo l (r .to) (runBytes s r ++ setBytes vs) l₁ to) (sym set) (gone (runBytes s r) (setBytes vs) to-go refl o)
+  -- and one that stands elsewhere begins a new run, where the old one is copied
+  pub run-new :
+      {l l₁ : List ℕ} {to : ℕ} → Wrote l (r .to) (runBytes s r) l₁ to →
+      RunIs s (record { start = start; end = x .end; to = to })
+      × ((vs : List Text) → SetIs s vs x → ToGo l (r .to) (runBytes s r ++ setBytes vs) l₁ to (part s start (x .end)))
+  run-new {l} {l₁} {to} o = (
+    record { order = omega (arith, e, p .is .order); within = p .is .within },
+    λ vs is.
+        let set : part s start (x .end) ≡ setBytes vs = ap (λ (a : ℕ). part s a (x .end)) e ∙ is .whole in
+        subst (ToGo l (r .to) (runBytes s r ++ setBytes vs) l₁ to) (sym set) (gone (runBytes s r) (setBytes vs) to-go refl o),
+  )
 
 -- the first k places are written but for the run, which is still to be copied, and `bits` has the bits of the others
 record RunTo (s l₀ : List ℕ) (at presence : ℕ) (xs : List (List Text)) (l : List ℕ) (r : Run) (bits k : ℕ) : Type 0 where

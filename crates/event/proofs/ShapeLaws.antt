@@ -175,7 +175,9 @@ module _ (t : EventType) (x : Event) (left matches k : ℕ) (w : Shape (t .prope
           sym (ap (λ (b : Bool). eachPlace setFits isEmpty (t .properties) (x .sets) && b) (lt-leb _ _ many)
           ∙ and-false (eachPlace setFits isEmpty (t .properties) (x .sets)))
 
-      shape-next : (count : ℕ) → count ≡ length (getD (x .sets) k []) → fitsAt t x k ≡ true → Shape (t .properties) (x .sets) (left - count) (matches + n) (k + 1)
+      shape-next :
+          (count : ℕ) → count ≡ length (getD (x .sets) k []) → fitsAt t x k ≡ true →
+          Shape (t .properties) (x .sets) (left - count) (matches + n) (k + 1)
       shape-next count o f = record {
         each = each-next ∙ rw f;
         count = count-next ∙ sym (add-assoc matches n (matchCount (drop (k + 1) (t .properties)) (drop (k + 1) (x .sets))));

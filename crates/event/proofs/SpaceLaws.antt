@@ -153,7 +153,8 @@ fitFrom t ss k = eachPlace (λ p s. areInSpace (p .kind) s) (λ s. true) (drop k
 
 -- so much is known of a type and of the sets of an event
 abbrev pub Spoken : List ℕ → List ℕ → ℕ → List ℕ → (EventType → List (List Text) → Type 0) → Type 0
-Spoken s ats count ps f = (u : List ℕ) (ty : EventType) (xs : List (List Text)) → PropertiesAre u (ty .properties) count ps → KindsAre ty → SetsAre s xs ats → f ty xs
+Spoken s ats count ps f =
+    (u : List ℕ) (ty : EventType) (xs : List (List Text)) → PropertiesAre u (ty .properties) count ps → KindsAre ty → SetsAre s xs ats → f ty xs
 
 -- the places below k are in their spaces
 pub record FitTo (s ats : List ℕ) (count : ℕ) (ps : List ℕ) (k : ℕ) : Type 0 where

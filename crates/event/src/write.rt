@@ -61,8 +61,8 @@ fn with_set(s: &[u8], run: Run, x: SetAt, out: &mut [u8]) -> Run
     }
 }
 
-// The sets of a presence number, each from where it stands: what an event or a snapshot has after its numbers. Those that stand one after the other, as all of an
-// event or a snapshot do, are copied as one run.
+// The sets of a presence number, each from where it stands: what an event or a snapshot has after its numbers. Those that stand one after the other, as all
+// of an event or a snapshot do, are copied as one run.
 pub fn write_sets(s: &[u8], sets: &[usize], presence: u64, out: &mut [u8], at: usize) -> usize
     requires { ⌜ (length (now sets) ≡ 96) × PresentRoom (now s) (now sets) presence at (length (now out)) ⌝ }
     ensures { λ r. ⌜ ((xs : List (List Text)) → SetsAre (now (s .entry)) xs (now (sets .entry))

@@ -1,4 +1,4 @@
--- `agree::is_match_same` meets its contract: the invariant says that the match sets are the same if those from place k on are, and `told` is the step of a place.
+-- `agree::is_match_same` meets its contract: the invariant says that the match sets are the same if those from place k on are; `told` is the step of a place.
 use Prim.Native.Nat.{_-_}
 use Rattle.event.proofs.MatchLaws.{SameTo, SameAt, same-none, same-at, same-bad, same-more, same-end}
 use borrow.Author.Tests.{not-true, not-false}

@@ -1,3 +1,4 @@
+-- `ask::type_name` meets its contract: an event begins with the text of its type name.
 use borrow.Author.Needs.{needs}
 use Rattle.packed.proofs.ReadLaws.{TextStops}
 use Rattle.event.proofs.AnswerLaws.{text-got, text-not}

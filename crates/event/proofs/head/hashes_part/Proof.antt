@@ -1,7 +1,6 @@
 use borrow.Author.Needs.{needs}
 use native.Mathlib.Omega.{arith}
 use mathlib.Core.Path.{_∙_}
-use Rattle.packed.proofs.read.part_of.Reads as part-of-reads
 use Rattle.event.proofs.head.hashes_part.Statement.{statement}
 use Rattle.event.proofs.head.hashes_part.Tie as tie
 

@@ -1,10 +1,10 @@
--- `lookup::find_value` meets its contract: the sets before the place's own and the texts before the index are skipped, and a reading there cannot fail where the
--- event stands.
+-- `lookup::find_value` meets its contract: the sets before the place's own and the texts before the index are skipped, and where the event stands no reading
+-- fails.
 use borrow.Author.Needs.{needs}
 use native.Mathlib.Omega.{arith}
 use mathlib.Core.Path.{_≡_, ap, _∙_}
-use mathlib.Core.List.{List, []}
-use Prim.Native.Nat.{ℕ, _<_}
+use mathlib.Core.List.{[]}
+use Prim.Native.Nat.{_<_}
 use lib.ListN.{length, getD}
 use Rattle.packed.proofs.ReadLaws.{NumberStops}
 use Rattle.ontology.proofs.RunLaws.{no-element}

@@ -5,8 +5,6 @@ use Rattle.event.specs.code.EventIndex.{countsOf}
 use Rattle.event.specs.declared.read.EventCounts.{EventCounts}
 use Rattle.event.proofs.read.most_parents.Statement.{statement}
 use Rattle.event.proofs.read.most_parents.Tie as tie
-use Rattle.event.proofs.read.most_parents.Reads as reads
-use Rattle.event.proofs.read.most_parents.Lts as lts
 
 returns : tie.Need-returns
 unfolding narrow wide

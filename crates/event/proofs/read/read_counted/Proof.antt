@@ -1,5 +1,5 @@
--- `read::read_counted` meets its contract: head, presence number and sets are read in the order of the layout, and each return is a law of the first of them, or of
--- the limits, that is not met, or of them all.
+-- `read::read_counted` meets its contract: head, presence number and sets are read in the order of the layout, and each return is a law of the first that
+-- fails or breaks a limit, or of them all.
 use borrow.Author.Needs.{needs}
 use lib.ListN.{drop}
 use Rattle.packed.proofs.ReadLaws.{NumberStops}

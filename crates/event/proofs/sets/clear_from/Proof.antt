@@ -1,41 +1,33 @@
+-- `sets::clear_from` meets its contract: the loop's invariant says that the places from `place` up to k are clear, and that those before are kept.
 use borrow.Author.Needs.{needs}
-use Prim.Native.Nat.{_-_}
+use Prim.Native.Nat.{_+_, _-_, _*_, _<_}
 use native.Mathlib.Omega.{arith}
-use mathlib.Core.Path.{_≡_, _∙_}
 use lib.ListN.{length, length-set}
-use Rattle.ontology.proofs.TripleLaws.{three-long}
-use Rattle.event.proofs.SetLaws.{Cleared, cleared-none, cleared-more}
+use Rattle.event.proofs.SetLaws.{Cleared, cleared-none, cleared-more, cleared-all}
 use Rattle.event.proofs.sets.clear_from.Statement.{statement}
 use Rattle.event.proofs.sets.clear_from.Tie as tie
 
 abbrev Inv-loop : tie.InvT-loop
-Inv-loop sets₀ place k₀ sets k = (length sets ≡ 96) × Cleared sets₀ sets place k
+Inv-loop sets₀ place k₀ sets k = Cleared sets₀ sets place k
 
 abbrev μ-loop : tie.MeasureT-loop
 μ-loop sets₀ place k₀ sets k = 32 - k
 
-loop-holds : tie.Need-loop-holds Inv-loop μ-loop
-loop-holds c = (c .pre, cleared-none _ _)
+-- the three numbers of the place
+inside : (c : tie.In-loop Inv-loop μ-loop) → 3 * c .before .loop .k + 2 < length (c .before .loop .sets)
+inside c = omega (arith, c .loop-test .taken, c .before .loop .inv .all)
 
 slice-write-sets-2 : tie.Need-slice-write-sets-2 Inv-loop μ-loop
-slice-write-sets-2 c = simp length-set (omega (arith, c .before .loop .inv .0))
+slice-write-sets-2 c = simp length-set (omega (arith, inside c))
 
 slice-write-sets-3 : tie.Need-slice-write-sets-3 Inv-loop μ-loop
-slice-write-sets-3 c = simp length-set (omega (arith, c .before .loop .inv .0))
+slice-write-sets-3 c = simp length-set (inside c)
 
 loop-again : tie.Need-loop-again Inv-loop μ-loop
-loop-again c =
-    let l = c .before .loop in
-    let w = l .inv .1 in
-    (three-long (l .sets) (l .k) 0 0 0 ∙ l .inv .0, cleared-more _ _ _ _ w (omega (arith, c .loop-test .taken, w .long, l .inv .0)))
-
-same-length : tie.Need-same-length Inv-loop μ-loop
-same-length c = c .before .loop .inv .1 .long
+loop-again c = cleared-more (c .before .loop .inv) (c .loop-test .taken)
 
 returns : tie.Need-returns Inv-loop μ-loop
-returns c =
-    let w = c .before .loop .inv .1 in
-    (w .kept, λ i a b. w .clear i a (omega (arith, c .loop-test .left)))
+returns c = cleared-all (c .before .loop .inv) (c .loop-test .left)
 
 pub clear-from-spec : {M : Type 1} → statement M
 clear-from-spec =
@@ -43,7 +35,7 @@ clear-from-spec =
     (tie.spec
     Inv-loop
     μ-loop
-    loop-holds
+    (λ c. cleared-none (c .pre))
     (λ c. search needs)
     (λ c. search needs)
     (λ c. search needs)
@@ -58,5 +50,5 @@ clear-from-spec =
     (λ c. search needs)
     (λ c. search needs)
     loop-again
-    same-length
+    (λ c. c .before .loop .inv .long)
     returns)

@@ -1,4 +1,3 @@
-use borrow.Author.Needs.{needs}
 use mathlib.Core.Path.{_≡_, sym, subst}
 use mathlib.Core.List.{List}
 use lib.ListN.{drop}
@@ -18,7 +17,9 @@ read-set-requires : tie.Need-read-set-requires
 read-set-requires c κs = subst (Promised (c .before .before .args .known)) (has-set c) (c .before .before .pre .1)
 
 returns : tie.Need-returns
-returns c = subst (λ (p : Parse (List Text)). SetReads p (c .before .before .before .args .s .now) (c .read-set .result)) (sym (has-set (c .before))) (c .read-set .ensures)
+returns c =
+    let s = c .before .before .before .args .s .now in
+    subst (λ (p : Parse (List Text)). SetReads p s (c .read-set .result)) (sym (has-set (c .before))) (c .read-set .ensures)
 
 returns-2 : tie.Need-returns-2
 returns-2 c = place-clear _ _ _ (c .if1 .left) (c .before .before .pre .0)

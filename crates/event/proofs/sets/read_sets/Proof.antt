@@ -1,9 +1,9 @@
--- `sets::read_sets` meets its contract: the invariant `Sofar` says that the sets of the places below k are read and stand in the numbers, and what is left to read.
+-- `sets::read_sets` meets its contract: the invariant says that the sets of the places below k are read, where they stand, and what is left to read.
 use borrow.Author.Needs.{needs}
 use native.Mathlib.Omega.{arith}
-use Prim.Native.Nat.{_-_, _%_}
+use Prim.Native.Nat.{_+_, _-_, _*_, _%_, _<_}
 use mathlib.Core.Logic.{inl, inr, ⊎-elim}
-use lib.ListN.{drop, length-set}
+use lib.ListN.{length, drop, length-set}
 use borrow.Author.Tests.{ltb-false}
 use Rattle.event.specs.EventLayout.{readPlace, readSets}
 use Rattle.event.specs.code.EventIndex.{SetStops}
@@ -32,6 +32,10 @@ here : (c : tie.After-known-told Inv-loop μ-loop) → let l = to-turn c .before
     SetStops (readPlace (l .loop .bits % 2) (drop (l .loop .next) s)) s (c .before .x .given .0 .0)
 here c = set-reads (c .before .x .given .1) (c .before .before .before .read-place .ensures)
 
+-- the three numbers of the place
+inside : (c : tie.After-known-told Inv-loop μ-loop) → let l = to-turn c .before .loop in 3 * l .k + 2 < length (l .sets)
+inside c = omega (arith, to-turn c .loop-test .taken, to-turn c .before .loop .inv .ats-long)
+
 -- ---- the needs
 
 loop-holds : tie.Need-loop-holds Inv-loop μ-loop
@@ -50,10 +54,10 @@ returns c =
     sofar-bad (turn .before .loop .inv) (turn .loop-test .taken) (set-refused _ (c .enum-told .given .1) (read .read-place .ensures))
 
 slice-write-sets-2 : tie.Need-slice-write-sets-2 Inv-loop μ-loop
-slice-write-sets-2 c = simp length-set (omega (arith, to-turn c .before .loop .inv .ats-long))
+slice-write-sets-2 c = simp length-set (omega (arith, inside c))
 
 slice-write-sets-3 : tie.Need-slice-write-sets-3 Inv-loop μ-loop
-slice-write-sets-3 c = simp length-set (omega (arith, to-turn c .before .loop .inv .ats-long))
+slice-write-sets-3 c = simp length-set (inside c)
 
 add-objects : tie.Need-add-objects Inv-loop μ-loop
 add-objects c =

@@ -1,9 +1,6 @@
 use borrow.Author.Needs.{needs}
 use Rattle.event.proofs.shape.matches_at.Statement.{statement}
 use Rattle.event.proofs.shape.matches_at.Tie as tie
-use Rattle.event.proofs.shape.matches_at.Reads as reads
-use Rattle.event.proofs.shape.matches_at.Lts as lts
-use Rattle.ontology.proofs.properties.is_match.Reads as is-match-reads
 
 returns : tie.Need-returns
 returns c = rw (← c .before .is-match .ensures, c .if1 .taken)
