@@ -19,7 +19,7 @@ use Rattle.ontology.specs.Table.{EventType, Table, typeNamed}
 use Rattle.ontology.specs.TableLayout.{tableOf}
 use Rattle.ontology.specs.code.TypeIndex.{TypeIs, TypeSays, TableSays}
 use Rattle.ontology.specs.declared.tables.TableRead.{TableRead}
-use Rattle.ontology.proofs.TypeIndexLaws.{table-got, table-refused, type-absent, type-found, properties-rules}
+use Rattle.ontology.proofs.TypeIndexLaws.{TableGot, table-got, table-refused, type-absent, type-found, properties-rules}
 use Rattle.event.specs.Event.{Event, setAt}
 use Rattle.event.specs.EventLayout.{Counts, wide, eventOf, setsBytes, presenceBit, bitNumber, eventBytes}
 use Rattle.event.specs.Head.{parentsBytes, headBytes}
@@ -61,112 +61,12 @@ name-part counts s e a z h t = let g = sym (t .is) ∙ name-there counts s e h .
 
 -- ---- what asking answers
 
--- the questions after 3, of a type and an event
+-- the questions after 4, of a type and an event
 abbrev typed : EventType → Event → Asked Typed
 typed t e = accepted (record { type = t; event = e })
 
 abbrev later : EventType → Event → Asked Typed
 later t e = questions._>>_ (ensure 5 (eventShape t e)) (questions._>>_ (ensure 6 (valuesFit t (e .sets))) (typed t e))
-
--- an event was read, and the table has its type; ps are the numbers of the type's properties, ats those of the event's sets
-record Met (table : List ℕ) (ts : Table) (event ps ats : List ℕ) (counts : Counts) (t : TableRead) (x : EventIndex) : Type 0 where
-  type : EventType
-  e : Event
-  is : eventAsked counts ts event ≡ later type e
-  type-is : TypeIs table type (t .index) ps
-  event-is : EventIs event e x ats
-  kinds : KindsAre type
-
-module _ (table : List ℕ) (ts : Table) (event ps ats : List ℕ) (counts : Counts) (x : EventIndex)
-    (reads : EventReads (eventOf counts event) event ats x) where
-  no-event : (r : EventAsked) → x .ok ≡ false → r .number ≡ 3 → EventAnswers (eventAsked counts ts event) table event ps ats r
-  unfolding EventReads EventAnswers eventAsked
-  no-event r h n = go (eventOf counts event) reads
-    where
-      go :
-          (o : Option Event) → EventReads o event ats x →
-          EventAnswers (questions._>>=_ (ask 3 o) (λ e. questions._>>=_ (ask 4 (typeNamed (e .head .type) ts)) (λ t. later t e))) table event ps ats r
-      go none w = n
-      go (some u) w = let z : _≡_ {A = Bool} true false = sym (w .0) ∙ h in let y : _≡_ {A = ℕ} 0 1 = cc in absurd (omega arith)
-
-  module _ (ok : x .ok ≡ true) where
-    event-there : (e : Event) × (eventOf counts event ≡ some e) × EventIs event e x ats
-    unfolding EventReads
-    event-there = go (eventOf counts event) refl reads
-      where
-        go : (o : Option Event) → eventOf counts event ≡ o → EventReads o event ats x → (e : Event) × (eventOf counts event ≡ some e) × EventIs event e x ats
-        go none e w = let z : _≡_ {A = Bool} true false = sym ok ∙ w in let y : _≡_ {A = ℕ} 0 1 = cc in absurd (omega arith)
-        go (some u) e w = (u, e, w .1)
-
-    so-far :
-        (o : Option EventType) → typeNamed (event-there .0 .head .type) ts ≡ o →
-        eventAsked counts ts event ≡ questions._>>=_ (ask 4 o) (λ y. later y (event-there .0))
-    unfolding eventAsked
-    so-far o h = rw (event-there .1, h)
-
-    module _ (t : TableRead) (says : (e : Event) → eventOf counts event ≡ some e → TypeSays (typeNamed (e .head .type) ts) table ps t) where
-      type-there : TypeSays (typeNamed (event-there .0 .head .type) ts) table ps t
-      type-there = says (event-there .0) (event-there .1)
-
-      no-type : (r : EventAsked) → t .found ≡ false → r .number ≡ 4 → EventAnswers (eventAsked counts ts event) table event ps ats r
-      unfolding EventAnswers
-      no-type r f n =
-          let none-named = type-absent (typeNamed (event-there .0 .head .type) ts) table ps t type-there f in
-          subst (λ (q : Asked Typed). EventAnswers q table event ps ats r) (sym (so-far none none-named)) n
-
-      met : tableOf table ≡ some ts → t .found ≡ true → Met table ts event ps ats counts t x
-      met h f =
-          let y = type-found (typeNamed (event-there .0 .head .type) ts) table ps t type-there f in
-          record {
-            type = y .what;
-            e = event-there .0;
-            is = so-far (some (y .what)) (y .is);
-            type-is = y .stands;
-            event-is = event-there .2;
-            kinds = table-kinds table ts (event-there .0 .head .type) (y .what) h (y .is);
-          }
-
-module _ (table : List ℕ) (ts : Table) (event ps ats : List ℕ) (counts : Counts) (t : TableRead) (x : EventIndex)
-    (m : Met table ts event ps ats counts t x) (r : EventAsked) where
-  no-shape : false ≡ eventShape (m .type) (m .e) → r .number ≡ 5 → EventAnswers (eventAsked counts ts event) table event ps ats r
-  unfolding EventAnswers
-  no-shape h n = rw (m .is, ← h) n
-
-  no-values :
-      true ≡ eventShape (m .type) (m .e) → false ≡ valuesFit (m .type) (m .e .sets) → r .number ≡ 6 →
-      EventAnswers (eventAsked counts ts event) table event ps ats r
-  unfolding EventAnswers
-  no-values h k n = rw (m .is, ← h, ← k) n
-
-  all-met :
-      true ≡ eventShape (m .type) (m .e) → true ≡ valuesFit (m .type) (m .e .sets) → r .number ≡ 0 →
-      TypeIs table (m .type) (r .type) ps → EventIs event (m .e) (r .event) ats →
-      EventAnswers (eventAsked counts ts event) table event ps ats r
-  unfolding EventAnswers
-  all-met h k n u v = rw (m .is, ← h, ← k) (n, u, v)
-
--- ---- question 2
-
-module _ (table event ps ats : List ℕ) (counts : Counts) (name : Text) (t : TableRead)
-    (says : TableSays (tableOf table) table name ps t) (r : EventAsked) where
-  no-table : t .ok ≡ false → r .number ≡ 2 → EventAnswers (eventQuestions counts table event) table event ps ats r
-  unfolding EventAnswers
-  no-table h n = rw (table-refused table name ps t says h) n
-
--- where the table is read, the questions are those that follow, and it says what it has of the event's type
-module _ (table event ps : List ℕ) (counts : Counts) (ts : Table) (h : tableOf table ≡ some ts) where
-  with-table :
-      (ats : List ℕ) (r : EventAsked) → EventAnswers (eventAsked counts ts event) table event ps ats r →
-      EventAnswers (eventQuestions counts table event) table event ps ats r
-  with-table ats r w =
-      subst (λ (o : Option Table). EventAnswers (questions._>>=_ (ask 2 o) (λ us. eventAsked counts us event)) table event ps ats r) (sym h) w
-
-  type-of-event :
-      (name : Text) (t : TableRead) → TypeSays (typeNamed name ts) table ps t → ((e : Event) → eventOf counts event ≡ some e → name ≡ e .head .type) →
-      (e : Event) → eventOf counts event ≡ some e → TypeSays (typeNamed (e .head .type) ts) table ps t
-  type-of-event name t says names e k = subst (λ (n : Text). TypeSays (typeNamed n ts) table ps t) (names e k) says
-
--- ---- each question, by what the code was answered
 
 -- n is the number that the questions come to, of every table and counts of which the code's answers are right
 abbrev pub Questioned : List ℕ → List ℕ → List ℕ → TableRead → EventIndex → ℕ → Type 0
@@ -175,6 +75,22 @@ Questioned event ats ps t x n =
     ((e : Event) → eventOf counts event ≡ some e → name ≡ e .head .type) → EventReads (eventOf counts event) event ats x →
     EventAnswers (eventQuestions counts table event) table event ps ats (asked n (t .index) x)
 
+-- what the reader's answer says of the event
+event-absent : (o : Option Event) (event ats : List ℕ) (x : EventIndex) → EventReads o event ats x → x .ok ≡ false → o ≡ none
+unfolding EventReads
+event-absent none event ats x w h = refl
+event-absent (some e) event ats x w h = never (cc (w .0))
+
+record EventGot (o : Option Event) (event ats : List ℕ) (x : EventIndex) : Type 0 where
+  what : Event
+  is : o ≡ some what
+  stands : EventIs event what x ats
+
+event-got : (o : Option Event) (event ats : List ℕ) (x : EventIndex) → EventReads o event ats x → x .ok ≡ true → EventGot o event ats x
+unfolding EventReads
+event-got none event ats x w h = never (cc)
+event-got (some e) event ats x w h = record { what = e; is = refl; stands = w .1 }
+
 -- questions 2 to 4 are answered yes
 pub record Right (t : TableRead) (x : EventIndex) : Type 0 where
   pub table : t .ok ≡ true
@@ -182,60 +98,87 @@ pub record Right (t : TableRead) (x : EventIndex) : Type 0 where
   pub type : t .found ≡ true
 
 module _ (event ats ps : List ℕ) (t : TableRead) (x : EventIndex) where
-  pub ask-table : t .ok ≡ false → Questioned event ats ps t x 2
-  ask-table h table name counts says names reads = no-table table event ps ats counts name t says _ h refl
-
-  -- the table is read
-  in-table :
-      (n : ℕ) (table : List ℕ) (name : Text) (counts : Counts) → t .ok ≡ true → TableSays (tableOf table) table name ps t →
-      ((e : Event) → eventOf counts event ≡ some e → name ≡ e .head .type) →
-      ((ts : Table) → tableOf table ≡ some ts →
-      ((e : Event) → eventOf counts event ≡ some e → TypeSays (typeNamed (e .head .type) ts) table ps t) →
-      EventAnswers (eventAsked counts ts event) table event ps ats (asked n (t .index) x)) →
+  refused-by :
+      (n : ℕ) (table : List ℕ) (counts : Counts) → eventQuestions counts table event ≡ refused n →
       EventAnswers (eventQuestions counts table event) table event ps ats (asked n (t .index) x)
-  in-table n table name counts h says names f =
-      let g = table-got table name ps t says h in
-      let of-event = type-of-event table event ps counts (g .what) (g .is) name t (g .says) names in
-      with-table table event ps counts (g .what) (g .is) ats _ (f (g .what) (g .is) of-event)
+  unfolding EventAnswers
+  refused-by n table counts e = rw e
+
+  pub ask-table : t .ok ≡ false → Questioned event ats ps t x 2
+  ask-table h table name counts says names reads = refused-by 2 table counts (rw (table-refused table name ps t says h))
 
   pub ask-read : t .ok ≡ true → x .ok ≡ false → Questioned event ats ps t x 3
+  unfolding eventAsked
   ask-read h k table name counts says names reads =
-      in-table 3 table name counts h says names (λ ts e typed. no-event table ts event ps ats counts x reads _ k refl)
+      refused-by 3 table counts (rw (table-got table name ps t says h .is, event-absent (eventOf counts event) event ats x reads k))
+
+  -- what the table has of the event's type
+  type-says :
+      (counts : Counts) {table : List ℕ} {name : Text} (g : TableGot table name ps t) → ((e : Event) → eventOf counts event ≡ some e → name ≡ e .head .type) →
+      (e : EventGot (eventOf counts event) event ats x) → TypeSays (typeNamed (e .what .head .type) (g .what)) table ps t
+  type-says counts {table} g names e = subst (λ (n : Text). TypeSays (typeNamed n (g .what)) table ps t) (names (e .what) (e .is)) (g .says)
 
   pub ask-type : t .ok ≡ true → x .ok ≡ true → t .found ≡ false → Questioned event ats ps t x 4
+  unfolding eventAsked
   ask-type h k l table name counts says names reads =
-      in-table 4 table name counts h says names (λ ts e typed. no-type table ts event ps ats counts x reads k t typed _ l refl)
+      let g = table-got table name ps t says h in
+      let e = event-got (eventOf counts event) event ats x reads k in
+      refused-by 4 table counts (rw (g .is, e .is, type-absent _ table ps t (type-says counts g names e) l))
+
+  -- the event and its type
+  record Met (table : List ℕ) (counts : Counts) : Type 0 where
+    type : EventType
+    e : Event
+    is : eventQuestions counts table event ≡ later type e
+    type-is : TypeIs table type (t .index) ps
+    event-is : EventIs event e x ats
+    kinds : KindsAre type
+
+  questions-later :
+      (table : List ℕ) (counts : Counts) {ts : Table} {e : Event} {y : EventType} → tableOf table ≡ some ts → eventOf counts event ≡ some e →
+      typeNamed (e .head .type) ts ≡ some y → eventQuestions counts table event ≡ later y e
+  unfolding eventAsked
+  questions-later table counts f g h = rw (f, g, h)
+
+  met :
+      Right t x → (table : List ℕ) (name : Text) (counts : Counts) → TableSays (tableOf table) table name ps t →
+      ((e : Event) → eventOf counts event ≡ some e → name ≡ e .head .type) → EventReads (eventOf counts event) event ats x → Met table counts
+  met r table name counts says names reads =
+      let g = table-got table name ps t says (r .table) in
+      let e = event-got (eventOf counts event) event ats x reads (r .event) in
+      let y = type-found _ table ps t (type-says counts g names e) (r .type) in
+      record {
+        type = y .what;
+        e = e .what;
+        is = questions-later table counts (g .is) (e .is) (y .is);
+        type-is = y .stands;
+        event-is = e .stands;
+        kinds = table-kinds table (g .what) (e .what .head .type) (y .what) (g .is) (y .is);
+      }
 
   module _ (r : Right t x) {shape : Bool} (shaped : Shaped (t .index .count) ps (x .objects) ats (λ y u. shape ≡ eventShape y u)) where
-    -- the event and its type
-    in-type :
-        (n : ℕ) (table : List ℕ) (name : Text) (counts : Counts) → TableSays (tableOf table) table name ps t →
-        ((e : Event) → eventOf counts event ≡ some e → name ≡ e .head .type) → EventReads (eventOf counts event) event ats x →
-        ((ts : Table) (m : Met table ts event ps ats counts t x) → shape ≡ eventShape (m .type) (m .e) →
-        EventAnswers (eventAsked counts ts event) table event ps ats (asked n (t .index) x)) →
-        EventAnswers (eventQuestions counts table event) table event ps ats (asked n (t .index) x)
-    in-type n table name counts says names reads f =
-        in-table n table name counts (r .table) says names (λ ts e typed.
-        let m = met table ts event ps ats counts x reads (r .event) t typed e (r .type) in
-        f ts m (shaped table event (m .type) (m .e) (m .type-is .are) (m .event-is .sets) (m .event-is .objects)))
+    shape-is : {table : List ℕ} {counts : Counts} (m : Met table counts) → eventShape (m .type) (m .e) ≡ shape
+    shape-is {table} m = sym (shaped table event (m .type) (m .e) (m .type-is .are) (m .event-is .sets) (m .event-is .objects))
 
     pub ask-shape : shape ≡ false → Questioned event ats ps t x 5
     ask-shape h table name counts says names reads =
-        in-type 5 table name counts says names reads (λ ts m s. no-shape table ts event ps ats counts t x m _ (sym h ∙ s) refl)
+        let m = met r table name counts says names reads in
+        refused-by 5 table counts (m .is ∙ rw (shape-is m ∙ h))
 
     module _ (fits : shape ≡ true) {values : Bool} (valued : Spoken event ats (t .index .count) ps (λ y xs. values ≡ valuesFit y xs)) where
-      values-are : {table : List ℕ} {ts : Table} {counts : Counts} (m : Met table ts event ps ats counts t x) → values ≡ valuesFit (m .type) (m .e .sets)
-      values-are {table} m = valued table (m .type) (m .e .sets) (m .type-is .are) (m .kinds) (m .event-is .sets)
+      values-are : {table : List ℕ} {counts : Counts} (m : Met table counts) → valuesFit (m .type) (m .e .sets) ≡ values
+      values-are {table} m = sym (valued table (m .type) (m .e .sets) (m .type-is .are) (m .kinds) (m .event-is .sets))
 
       pub ask-values : values ≡ false → Questioned event ats ps t x 6
       ask-values h table name counts says names reads =
-          in-type 6 table name counts says names reads
-          (λ ts m s. no-values table ts event ps ats counts t x m _ (sym fits ∙ s) (sym h ∙ values-are m) refl)
+          let m = met r table name counts says names reads in
+          refused-by 6 table counts (m .is ∙ rw (shape-is m ∙ fits, values-are m ∙ h))
 
       pub ask-all : values ≡ true → Questioned event ats ps t x 0
+      unfolding EventAnswers
       ask-all h table name counts says names reads =
-          in-type 0 table name counts says names reads
-          (λ ts m s. all-met table ts event ps ats counts t x m _ (sym fits ∙ s) (sym h ∙ values-are m) refl (m .type-is) (m .event-is))
+          let m = met r table name counts says names reads in
+          rw (m .is, shape-is m ∙ fits, values-are m ∙ h) (refl, m .type-is, m .event-is)
 
 -- ---- what is known after asking
 

@@ -38,11 +38,6 @@ risen p count = do
   values ← times p count
   foundIf (rising texts values) values
 
--- The last that was read is v, and `left` more stand at t; q is what is found of them all
-record Onward (p : Layout Text) (q : Parse (List Text)) (v : Text) (left : ℕ) (t : List ℕ) : Type 0 where
-  sofar : List Text
-  is : q ≡ andThen (times p left t) (λ ws r. foundIf (rising texts (v ∷ ws)) (sofar ++ ws) r)
-
 suc-of : (n : ℕ) → 0 < n → suc (n - 1) ≡ n
 suc-of n h = omega arith
 
@@ -82,63 +77,6 @@ module _ (p : Layout Text) where
       let f = foundIf-got (rising texts (c .value)) (c .value) (c .left) vs r (c .second) in
       c .first ∙ ap₂ got (f .value) (f .rest)
 
--- the first of them is read
-onward-first :
-    {p : Layout Text} {q : Parse (List Text)} (count : ℕ) (t : List ℕ) {r : List ℕ} {v : Text} →
-    q ≡ risen p count t → 0 < count → p t ≡ got v r → Onward p q v (count - 1) r
-unfolding risen
-onward-first {p} count t {r} {v} f h e = record { sofar = v ∷ []; is = f ∙ times-next p (λ ws. foundIf (rising texts ws) ws) count t r v h e }
-
-module _ {p : Layout Text} {q : Parse (List Text)} {v : Text} {left : ℕ} {t : List ℕ} (w : Onward p q v left t) where
-  onward-all : left ≤ 0 → q ≡ got (w .sofar) t
-  unfolding times rising
-  onward-all h =
-      let z : left ≡ 0 = omega arith in
-      w .is
-      ∙ ap (λ (n : ℕ). andThen (times p n t) (λ ws r. foundIf (rising texts (v ∷ ws)) (w .sofar ++ ws) r)) z
-      ∙ ap (λ (l : List Text). got l t) (append-nil (w .sofar))
-
-  module _ (h : 0 < left) where
-    onward-bad : p t ≡ fail → q ≡ fail
-    onward-bad e = w .is ∙ times-bad p (λ ws r. foundIf (rising texts (v ∷ ws)) (w .sofar ++ ws) r) left t h e
-
-    -- the next one, u
-    module _ {u : Text} {r : List ℕ} (e : p t ≡ got u r) where
-      step : q ≡ andThen (times p (left - 1) r) (λ ws o. foundIf (rising texts (v ∷ u ∷ ws)) (w .sofar ++ (u ∷ ws)) o)
-      step = w .is ∙ times-next p (λ ws o. foundIf (rising texts (v ∷ ws)) (w .sofar ++ ws) o) left t r u h e
-
-      onward-not : pick (texts .cmp v u) true false false ≡ false → q ≡ fail
-      unfolding rising
-      onward-not b = step ∙ go (texts .cmp v u) b (times p (left - 1) r)
-        where
-          go : (o : Ordering) → pick o true false false ≡ false → (m : Parse (List Text)) →
-              andThen m (λ ws o′. foundIf (pick o (rising texts (u ∷ ws)) false false) (w .sofar ++ (u ∷ ws)) o′) ≡ fail
-          go Ordering·lt b m = cc
-          go Ordering·eq b fail = refl
-          go Ordering·eq b (got ws o′) = refl
-          go Ordering·gt b fail = refl
-          go Ordering·gt b (got ws o′) = refl
-
-      -- where they are promised, the next one comes after
-      onward-promised : {known : Bool} → Promised known q → known ≡ true → pick (texts .cmp v u) true false false ≡ true
-      onward-promised m e = go (pick (texts .cmp v u) true false false) refl
-        where
-          go : (b : Bool) → pick (texts .cmp v u) true false false ≡ b → b ≡ true
-          go true k = refl
-          go false k = absurd (m e (onward-not k))
-
-      onward-more : pick (texts .cmp v u) true false false ≡ true → Onward p q u (left - 1) r
-      unfolding rising
-      onward-more b = record { sofar = w .sofar ++ (u ∷ []); is = step ∙ go (texts .cmp v u) b (times p (left - 1) r) }
-        where
-          go : (o : Ordering) → pick o true false false ≡ true → (m : Parse (List Text)) →
-              andThen m (λ ws o′. foundIf (pick o (rising texts (u ∷ ws)) false false) (w .sofar ++ (u ∷ ws)) o′)
-              ≡ andThen m (λ ws o′. foundIf (rising texts (u ∷ ws)) ((w .sofar ++ (u ∷ [])) ++ ws) o′)
-          go Ordering·lt b fail = refl
-          go Ordering·lt b (got ws o′) = ap (λ (l : List Text). foundIf (rising texts (u ∷ ws)) l o′) (sym (append-assoc (w .sofar) (u ∷ []) ws))
-          go Ordering·eq b m = cc
-          go Ordering·gt b m = cc
-
 -- a text stands at `at`, from a up to e
 pub record Stands (p : Layout Text) (s : List ℕ) (at a e : ℕ) : Type 0 where
   pub is : p (drop at s) ≡ got (part s a e) (drop e s)
@@ -148,40 +86,83 @@ pub record Stands (p : Layout Text) (s : List ℕ) (at a e : ℕ) : Type 0 where
 pub text-stands : {s : List ℕ} {at a e : ℕ} → TextStops s at a e → Stands readText s at a e
 text-stands t = record { is = t .is; order = t .order; within = t .within }
 
--- The last that was read stands from `from` up to `to`, and `left` more follow
+-- The last that was read stands from `from` up to `to`, and `left` more follow; q is what is found of them all
 pub record RisingTo (p : Layout Text) (q : Parse (List Text)) (s : List ℕ) (from to left : ℕ) : Type 0 where
   pub order : from ≤ to
   pub within : to ≤ length s
-  onward : Onward p q (part s from to) left (drop to s)
+  pub sofar : List Text
+  is : q ≡ andThen (times p left (drop to s)) (λ ws r. foundIf (rising texts (part s from to ∷ ws)) (sofar ++ ws) r)
 
 pub rising-first :
     {p : Layout Text} {q : Parse (List Text)} {s : List ℕ} (count start : ℕ) {a e : ℕ} →
     q ≡ risen p count (drop start s) → 0 < count → Stands p s start a e → RisingTo p q s a e (count - 1)
-rising-first {s} count start f h t = record { order = t .order; within = t .within; onward = onward-first count (drop start s) f h (t .is) }
+unfolding risen
+rising-first {p} {s} count start {a} {e} f h t = record {
+  order = t .order;
+  within = t .within;
+  sofar = part s a e ∷ [];
+  is = f ∙ times-next p (λ ws. foundIf (rising texts ws) ws) count (drop start s) (drop e s) (part s a e) h (t .is);
+}
 
 module _ {p : Layout Text} {q : Parse (List Text)} {s : List ℕ} {from to left : ℕ} (w : RisingTo p q s from to left) where
-  -- all of them
-  pub risen-all : List Text
-  risen-all = w .onward .sofar
+  -- what is found, where ws follow
+  abbrev with-those : List Text → List ℕ → Parse (List Text)
+  with-those ws r = foundIf (rising texts (part s from to ∷ ws)) (w .sofar ++ ws) r
 
-  pub rising-all : left ≤ 0 → q ≡ got risen-all (drop to s)
-  unfolding risen-all
-  rising-all h = onward-all (w .onward) h
+  pub rising-all : left ≤ 0 → q ≡ got (w .sofar) (drop to s)
+  unfolding times rising
+  rising-all h =
+      let z : left ≡ 0 = omega arith in
+      w .is ∙ ap (λ (n : ℕ). andThen (times p n (drop to s)) with-those) z ∙ ap (λ (l : List Text). got l (drop to s)) (append-nil (w .sofar))
 
   module _ (h : 0 < left) where
     pub rising-bad : p (drop to s) ≡ fail → q ≡ fail
-    rising-bad e = onward-bad (w .onward) h e
+    rising-bad e = w .is ∙ times-bad p with-those left (drop to s) h e
 
+    -- the next one
     module _ {a e : ℕ} (t : Stands p s to a e) where
-      pub rising-not : precedes (part s from to) (part s a e) ≡ false → q ≡ fail
-      rising-not b = onward-not (w .onward) h (t .is) b
+      abbrev u : Text
+      u = part s a e
+
+      step : q ≡ andThen (times p (left - 1) (drop e s)) (λ ws. with-those (u ∷ ws))
+      step = w .is ∙ times-next p with-those left (drop to s) (drop e s) u h (t .is)
+
+      pub rising-not : precedes (part s from to) u ≡ false → q ≡ fail
+      unfolding rising
+      rising-not b = step ∙ go (texts .cmp (part s from to) u) b (times p (left - 1) (drop e s))
+        where
+          go : (o : Ordering) → pick o true false false ≡ false → (m : Parse (List Text)) →
+              andThen m (λ ws r. foundIf (pick o (rising texts (u ∷ ws)) false false) (w .sofar ++ (u ∷ ws)) r) ≡ fail
+          go Ordering·lt b m = cc
+          go Ordering·eq b fail = refl
+          go Ordering·eq b (got ws r) = refl
+          go Ordering·gt b fail = refl
+          go Ordering·gt b (got ws r) = refl
 
       -- where they are promised, the next one comes after
-      pub rising-promised : {known : Bool} → Promised known q → known ≡ true → precedes (part s from to) (part s a e) ≡ true
-      rising-promised m k = onward-promised (w .onward) h (t .is) m k
+      pub rising-promised : {known : Bool} → Promised known q → known ≡ true → precedes (part s from to) u ≡ true
+      rising-promised m k = go (precedes (part s from to) u) refl
+        where
+          go : (b : Bool) → precedes (part s from to) u ≡ b → b ≡ true
+          go true f = refl
+          go false f = absurd (m k (rising-not f))
 
-      pub rising-more : precedes (part s from to) (part s a e) ≡ true → RisingTo p q s a e (left - 1)
-      rising-more b = record { order = t .order; within = t .within; onward = onward-more (w .onward) h (t .is) b }
+      pub rising-more : precedes (part s from to) u ≡ true → RisingTo p q s a e (left - 1)
+      unfolding rising
+      rising-more b = record {
+        order = t .order;
+        within = t .within;
+        sofar = w .sofar ++ (u ∷ []);
+        is = step ∙ go (texts .cmp (part s from to) u) b (times p (left - 1) (drop e s));
+      }
+        where
+          go : (o : Ordering) → pick o true false false ≡ true → (m : Parse (List Text)) →
+              andThen m (λ ws r. foundIf (pick o (rising texts (u ∷ ws)) false false) (w .sofar ++ (u ∷ ws)) r)
+              ≡ andThen m (λ ws r. foundIf (rising texts (u ∷ ws)) ((w .sofar ++ (u ∷ [])) ++ ws) r)
+          go Ordering·lt b fail = refl
+          go Ordering·lt b (got ws r) = ap (λ (l : List Text). foundIf (rising texts (u ∷ ws)) l r) (sym (append-assoc (w .sofar) (u ∷ []) ws))
+          go Ordering·eq b m = cc
+          go Ordering·gt b m = cc
 
 -- ---- a set
 
@@ -226,7 +207,7 @@ module _ {s : List ℕ} {at count start : ℕ} (n : NumberStops s at count start
 
   module _ (some : 0 < count) {from to left : ℕ} (w : RisingTo readText (readSet (drop at s)) s from to left) (h : left ≤ 0) where
     abbrev vs : List Text
-    vs = risen-all w
+    vs = w .sofar
 
     values : (drop start s ≡ flatten (map text vs) ++ drop to s) × (length vs ≡ count) × All (λ (v : Text). length v < 2 ^ 64) vs
     values =

@@ -7,7 +7,7 @@ use mathlib.Core.List.{List, [], _∷_}
 use Prim.Native.Nat.{ℕ, zero, suc, _+_, _-_, _≤_, _<_}
 use native.Mathlib.Omega.{arith}
 use native.Mathlib.Numerals.{add-one}
-use native.Mathlib.Nat.{add-assoc, zero-add}
+use native.Mathlib.Nat.{zero-add}
 use lib.Dec.{ltb, eqb}
 use lib.ListN.{length, drop, getD, getElem?, drop-of-length-le}
 use lib.Seq.{drop-cons}
@@ -140,62 +140,20 @@ all-empty f [] = refl
 all-empty f ([] ∷ ss) = rw zero-add (all-empty f ss)
 all-empty f ((v ∷ vs) ∷ ss) = rw (ne-eqb (length (v ∷ vs)) 0 (λ e. omega arith), ne-eqb (length (v ∷ vs) + objectCount ss) 0 (λ e. omega arith))
 
+-- the answers on the places from k on: whether they fit, and how many match objects they have
+abbrev fitFrom : EventType → Event → ℕ → Bool
+fitFrom t x k = eachPlace setFits isEmpty (drop k (t .properties)) (drop k (x .sets))
+
+abbrev matchesFrom : EventType → Event → ℕ → ℕ
+matchesFrom t x k = matchCount (drop k (t .properties)) (drop k (x .sets))
+
 -- The places below k fit, and have so many match objects; the others have `left` objects
-record Shape (ps : List Property) (ss : List (List Text)) (left matches k : ℕ) : Type 0 where
-  each : eachPlace setFits isEmpty ps ss ≡ eachPlace setFits isEmpty (drop k ps) (drop k ss)
-  count : matchCount ps ss ≡ matches + matchCount (drop k ps) (drop k ss)
-  objects : left ≡ objectCount (drop k ss)
+record Shape (t : EventType) (x : Event) (left matches k : ℕ) : Type 0 where
+  each : fitFrom t x 0 ≡ fitFrom t x k
+  count : matchesFrom t x 0 ≡ matches + matchesFrom t x k
+  objects : left ≡ objectCount (drop k (x .sets))
 
--- whether the set of place k fits
-abbrev fitsAt : EventType → Event → ℕ → Bool
-fitsAt t x k = let vs = getD (x .sets) k [] in atPlace (isEmpty vs) (λ q. setFits q vs) (getElem? (t .properties) k)
-
-module _ (t : EventType) (x : Event) (left matches k : ℕ) (w : Shape (t .properties) (x .sets) left matches k) where
-  module _ (h : k < length (x .sets)) where
-    each-next :
-        eachPlace setFits isEmpty (t .properties) (x .sets)
-        ≡ (fitsAt t x k && eachPlace setFits isEmpty (drop (k + 1) (t .properties)) (drop (k + 1) (x .sets)))
-    each-next = w .each ∙ each-step setFits isEmpty k (t .properties) (x .sets) h
-
-    fits-not : fitsAt t x k ≡ false → false ≡ eventShape t x
-    unfolding eventShape
-    fits-not e = sym (rw (each-next, e))
-
-    module _ (n : ℕ) (e : n ≡ matchesAt (getElem? (t .properties) k) (getD (x .sets) k [])) where
-      count-next : matchCount (t .properties) (x .sets) ≡ matches + (n + matchCount (drop (k + 1) (t .properties)) (drop (k + 1) (x .sets)))
-      count-next =
-          w .count
-          ∙ ap (λ (i : ℕ). matches + i) (match-step k (t .properties) (x .sets) h
-          ∙ ap (λ (i : ℕ). i + matchCount (drop (k + 1) (t .properties)) (drop (k + 1) (x .sets))) (sym e))
-
-      matches-many : 32 - matches < n → matches ≤ 32 → false ≡ eventShape t x
-      unfolding eventShape
-      matches-many l m =
-          let many : 32 < matchCount (t .properties) (x .sets) = omega (arith, count-next) in
-          sym (ap (λ (b : Bool). eachPlace setFits isEmpty (t .properties) (x .sets) && b) (lt-leb _ _ many)
-          ∙ and-false (eachPlace setFits isEmpty (t .properties) (x .sets)))
-
-      shape-next :
-          (count : ℕ) → count ≡ length (getD (x .sets) k []) → fitsAt t x k ≡ true →
-          Shape (t .properties) (x .sets) (left - count) (matches + n) (k + 1)
-      shape-next count o f = record {
-        each = each-next ∙ rw f;
-        count = count-next ∙ sym (add-assoc matches n (matchCount (drop (k + 1) (t .properties)) (drop (k + 1) (x .sets))));
-        objects = omega (arith, w .objects, objects-step k (x .sets) h);
-      }
-
-    objects-left : (count : ℕ) → count ≡ length (getD (x .sets) k []) → left < count → ⊥
-    objects-left count e l = omega (arith, w .objects, objects-step k (x .sets) h)
-
-  shape-past : length (t .properties) ≤ k → matches ≤ 32 → eqb left 0 ≡ eventShape t x
-  unfolding eventShape
-  shape-past l m =
-      let c : matchCount (t .properties) (x .sets) ≤ 32 = omega (arith, w .count, match-end k (t .properties) (x .sets) l) in
-      sym (rw (w .each, drop-of-length-le (t .properties) l, all-empty setFits (drop k (x .sets)), ← w .objects, le-leb _ _ c) (and-true (eqb left 0)))
-
--- ---- the same, of the numbers of a type and of an event
-
--- so much is known of them
+-- so much is known of the numbers of a type and of an event
 abbrev pub Shaped : ℕ → List ℕ → ℕ → List ℕ → (EventType → Event → Type 0) → Type 0
 Shaped count ps objects ats f =
     (table event : List ℕ) (t : EventType) (x : Event) → PropertiesAre table (t .properties) count ps → SetsAre event (x .sets) ats →
@@ -203,7 +161,7 @@ Shaped count ps objects ats f =
 
 pub record ShapeTo (count : ℕ) (ps : List ℕ) (objects : ℕ) (ats : List ℕ) (left matches k : ℕ) : Type 0 where
   pub few : matches ≤ 32
-  shape : Shaped count ps objects ats (λ t x. Shape (t .properties) (x .sets) left matches k)
+  shape : Shaped count ps objects ats (λ t x. Shape t x left matches k)
 
 -- place k has a property; its property p and its set v are taken from the numbers
 pub record PlaceIs (count : ℕ) (ps ats : List ℕ) (k : ℕ) (p : PropertyAt) (v : SetAt) : Type 0 where
@@ -213,7 +171,7 @@ pub record PlaceIs (count : ℕ) (ps ats : List ℕ) (k : ℕ) (p : PropertyAt) 
   pub set : v ≡ setIn ats k
 
 pub shape-none : {count : ℕ} {ps : List ℕ} {objects : ℕ} {ats : List ℕ} → ShapeTo count ps objects ats objects 0 0
-shape-none = record { few = omega arith; shape = λ table event t x u v n. record { each = refl; count = omega arith; objects = n } }
+shape-none = record { few = omega arith; shape = λ table event t x are is n. record { each = refl; count = omega arith; objects = n } }
 
 module _ {count : ℕ} {ps : List ℕ} {objects : ℕ} {ats : List ℕ} {left matches k : ℕ} (w : ShapeTo count ps objects ats left matches k) where
   module _ {p : PropertyAt} {v : SetAt} (here : PlaceIs count ps ats k p v) where
@@ -228,43 +186,56 @@ module _ {count : ℕ} {ps : List ℕ} {objects : ℕ} {ats : List ℕ} {left ma
 
     pub shape-few : left < v .count → Shaped count ps objects ats (λ t x. false ≡ eventShape t x)
     shape-few l table event t x are is n =
-        absurd (objects-left t x _ _ k (w .shape table event t x are is n) (place-inside is) (v .count) (set-count is) l)
+        absurd (omega (arith, w .shape table event t x are is n .objects, objects-step k (x .sets) (place-inside is), set-count is))
 
     -- the set fits as is answered
     module _ {fits : Bool} (asked : (s : List ℕ) (q : Property) (vs : List Text) → PropertyIs s q p → v .count ≡ length vs → fits ≡ setFits q vs) where
-      fits-told : Shaped count ps objects ats (λ t x. fits ≡ fitsAt t x k)
-      fits-told table event t x are is n =
+      fit-next : Shaped count ps objects ats (λ t x. fitFrom t x 0 ≡ (fits && fitFrom t x (k + 1)))
+      fit-next table event t x are is n =
           let vs = getD (x .sets) k [] in
+          let told =
           place-said table t count ps k (isEmpty vs) (λ q. setFits q vs) fits are (here .there)
-          (λ q i z. asked table q vs (property-read z) (set-count is))
+          (λ q i z. asked table q vs (property-read z) (set-count is)) in
+          w .shape table event t x are is n .each
+          ∙ each-step setFits isEmpty k (t .properties) (x .sets) (place-inside is)
+          ∙ ap (λ (b : Bool). b && fitFrom t x (k + 1)) (sym told)
 
       pub shape-not : fits ≡ false → Shaped count ps objects ats (λ t x. false ≡ eventShape t x)
-      shape-not e table event t x are is n =
-          fits-not t x _ _ k (w .shape table event t x are is n) (place-inside is) (sym (fits-told table event t x are is n) ∙ e)
+      unfolding eventShape
+      shape-not e table event t x are is n = sym (rw (fit-next table event t x are is n, e))
 
     -- and has so many match objects
     module _ {n : ℕ} (matched : n ≡ cond (hasMatch p) (v .count) 0) where
-      matches-told : Shaped count ps objects ats (λ t x. n ≡ matchesAt (getElem? (t .properties) k) (getD (x .sets) k []))
-      matches-told table event t x are is o =
+      matches-next : Shaped count ps objects ats (λ t x. matchesFrom t x 0 ≡ matches + (n + matchesFrom t x (k + 1)))
+      matches-next table event t x are is o =
           let vs = getD (x .sets) k [] in
+          let told : n ≡ matchesAt (getElem? (t .properties) k) vs =
           place-said table t count ps k 0 (λ q. cond (isMatch q) (length vs) 0) n are (here .there)
-          (λ q i z. matched ∙ matches-are q vs (property-read z) (set-count is))
+          (λ q i z. matched ∙ matches-are q vs (property-read z) (set-count is)) in
+          omega (arith, w .shape table event t x are is o .count, match-step k (t .properties) (x .sets) (place-inside is), told)
 
       pub shape-many : 32 - matches < n → Shaped count ps objects ats (λ t x. false ≡ eventShape t x)
+      unfolding eventShape
       shape-many l table event t x are is o =
-          matches-many t x _ _ k (w .shape table event t x are is o) (place-inside is) n (matches-told table event t x are is o) l (w .few)
+          let many : 32 < matchesFrom t x 0 = omega (arith, matches-next table event t x are is o, w .few) in
+          sym (ap (λ (b : Bool). fitFrom t x 0 && b) (lt-leb _ _ many) ∙ and-false (fitFrom t x 0))
 
       pub shape-more :
           {fits : Bool} → ((s : List ℕ) (q : Property) (vs : List Text) → PropertyIs s q p → v .count ≡ length vs → fits ≡ setFits q vs) →
           fits ≡ true → n ≤ 32 - matches → ShapeTo count ps objects ats (left - v .count) (matches + n) (k + 1)
       shape-more asked e l = record {
         few = omega (arith, w .few);
-        shape = λ table event t x are is o.
-            shape-next t x _ _ k (w .shape table event t x are is o) (place-inside is) n (matches-told table event t x are is o) (v .count) (set-count is)
-            (sym (fits-told asked table event t x are is o) ∙ e);
+        shape = λ table event t x are is o. record {
+          each = fit-next asked table event t x are is o ∙ ap (λ (b : Bool). b && fitFrom t x (k + 1)) e;
+          count = omega (arith, matches-next table event t x are is o);
+          objects = omega (arith, w .shape table event t x are is o .objects, objects-step k (x .sets) (place-inside is), set-count is);
+        };
       }
 
   pub shape-end : (count ≤ k) ⊎ (32 ≤ k) → Shaped count ps objects ats (λ t x. eqb left 0 ≡ eventShape t x)
+  unfolding eventShape
   shape-end past table event t x are is n =
+      let s = w .shape table event t x are is n in
       let l : length (t .properties) ≤ k = ⊎-elim (λ h. omega (arith, are .count)) (λ h. omega (arith, are .count, are .few)) past in
-      shape-past t x _ _ k (w .shape table event t x are is n) l (w .few)
+      let c : matchesFrom t x 0 ≤ 32 = omega (arith, s .count, match-end k (t .properties) (x .sets) l, w .few) in
+      sym (rw (s .each, drop-of-length-le (t .properties) l, all-empty setFits (drop k (x .sets)), ← s .objects, le-leb _ _ c) (and-true (eqb left 0)))
