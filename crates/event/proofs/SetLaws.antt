@@ -546,49 +546,40 @@ no-next t (u ∷ us) l h e =
     let z : _≡_ {A = ℕ} 0 1 = cc in
     absurd (omega arith)
 
-module _ {x : Text} {s : List ℕ} {at left : ℕ} (w : Walked x s at left) (small : length s < 2 ^ 64) where
-  rest-small : length (drop at s) < 2 ^ 64
-  rest-small = omega (arith, length-drop at s)
-
-  walked-bad : readText (drop at s) ≡ fail → [] ≡ x
-  walked-bad e =
-      let z : w .more ≡ [] = no-next (drop at s) (w .more) rest-small e (w .bytes) in
-      sym (w .is ∙ ap (λ (l : List Text). getD l left []) z)
-
-  module _ {a e : ℕ} (t : TextStops s at a e) where
-    walked-more : 0 < left → Walked x s e (left - 1)
-    walked-more h =
-        let n = next (drop at s) (part s a e) (drop e s) (w .more) rest-small (t .is) (w .bytes) in
-        record {
-          more = n .more;
-          bytes = n .bytes;
-          is = w .is ∙ ap₂ (λ (l : List Text) (i : ℕ). getD l i []) (n .all) (sym (suc-of left h));
-        }
-
-    walked-found : left ≤ 0 → part s a e ≡ x
-    walked-found h =
-        let z : left ≡ 0 = omega arith in
-        let n = next (drop at s) (part s a e) (drop e s) (w .more) rest-small (t .is) (w .bytes) in
-        sym (w .is ∙ ap₂ (λ (l : List Text) (i : ℕ). getD l i []) (n .all) z)
-
 -- of the texts that s is made of, those before `at` are walked past to the one at `index`
 pub record WalkedTo (s : List ℕ) (index at left : ℕ) : Type 0 where
   walked : (vs : List Text) → s ≡ flatten (map text vs) → Walked (getD vs index []) s at left
 
 -- x is the text at `index`, or nothing where there is none
-abbrev pub ValueIn : List ℕ → ℕ → Text → Type 0
+abbrev ValueIn : List ℕ → ℕ → Text → Type 0
 ValueIn s index x = (vs : List Text) → s ≡ flatten (map text vs) → x ≡ getD vs index []
 
 pub walks-none : {s : List ℕ} {index : ℕ} → WalkedTo s index 0 index
 walks-none = record { walked = λ vs h. record { more = vs; bytes = h; is = refl } }
 
 module _ {s : List ℕ} {index at left : ℕ} (w : WalkedTo s index at left) (small : length s < 2 ^ 64) where
+  rest-small : length (drop at s) < 2 ^ 64
+  rest-small = omega (arith, length-drop at s)
+
   pub walks-bad : readText (drop at s) ≡ fail → ValueIn s index []
-  walks-bad e vs h = walked-bad (w .walked vs h) small e
+  walks-bad e vs h =
+      let o = w .walked vs h in
+      sym (o .is ∙ ap (λ (l : List Text). getD l left []) (no-next (drop at s) (o .more) rest-small e (o .bytes)))
 
   module _ {a e : ℕ} (t : TextStops s at a e) where
+    first : (vs : List Text) (h : s ≡ flatten (map text vs)) → Next (w .walked vs h .more) (part s a e) (drop e s)
+    first vs h = next (drop at s) (part s a e) (drop e s) (w .walked vs h .more) rest-small (t .is) (w .walked vs h .bytes)
+
     pub walks-more : 0 < left → WalkedTo s index e (left - 1)
-    walks-more h = record { walked = λ vs k. walked-more (w .walked vs k) small t h }
+    walks-more k = record {
+      walked = λ vs h. record {
+        more = first vs h .more;
+        bytes = first vs h .bytes;
+        is = w .walked vs h .is ∙ ap₂ (λ (l : List Text) (i : ℕ). getD l i []) (first vs h .all) (sym (suc-of left k));
+      };
+    }
 
     pub walks-found : left ≤ 0 → ValueIn s index (part s a e)
-    walks-found h vs k = walked-found (w .walked vs k) small t h
+    walks-found k vs h =
+        let z : left ≡ 0 = omega arith in
+        sym (w .walked vs h .is ∙ ap₂ (λ (l : List Text) (i : ℕ). getD l i []) (first vs h .all) z)

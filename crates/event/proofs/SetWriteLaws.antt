@@ -1,6 +1,6 @@
 -- The laws of writing sets from where they stand: a set, the sets of a presence number, and runs of sets that stand one after the other.
 use mathlib.Core.Path.{_≡_, ap, ap₂, refl, sym, _∙_, subst, subst₂}
-use mathlib.Core.Logic.{_⊎_, inl, inr, ⊎-elim}
+use mathlib.Core.Logic.{_⊎_, ⊎-elim}
 use mathlib.Core.List.{List, _++_, map, flatten, [], _∷_, append-assoc}
 use Prim.Native.Nat.{ℕ, _+_, _-_, _/_, _%_, _≤_, _<_}
 use native.Mathlib.Numerals.{add-one}
@@ -120,48 +120,6 @@ record RunTo (s l₀ : List ℕ) (at presence : ℕ) (xs : List (List Text)) (l 
   run : RunIs s r
   to-write : ToGo l₀ at (presentBytes presence xs) l (r .to) (runBytes s r ++ presentBytes bits (drop k xs))
 
-module _ {s l₀ : List ℕ} {at presence : ℕ} {xs : List (List Text)} {l : List ℕ} {r : Run} {bits k : ℕ} (w : RunTo s l₀ at presence xs l r bits k) where
-  abbrev left : List ℕ
-  left = presentBytes bits (drop k xs)
-
-  abbrev next : List ℕ
-  next = presentBytes (bits / 2) (drop (k + 1) xs)
-
-  run-same : {l₁ : List ℕ} {r₁ : Run} → l₁ ≡ l → r₁ ≡ r → RunTo s l₀ at presence xs l₁ r₁ bits k
-  run-same e f = subst₂ (λ (m : List ℕ) (q : Run). RunTo s l₀ at presence xs m q bits k) (sym e) (sym f) w
-
-  -- the run has its room
-  run-room : at + length (presentBytes presence xs) ≤ length l₀ → r .to + length (runBytes s r) ≤ length l
-  run-room h = omega (arith, w .to-write .after, w .to-write .long, length-append (runBytes s r) left)
-
-  -- it is the last one
-  run-last : (length xs ≤ k) ⊎ (bits ≡ 0) → {l₁ : List ℕ} {end : ℕ} → Wrote l (r .to) (runBytes s r) l₁ end → Wrote l₀ at (presentBytes presence xs) l₁ end
-  run-last h o = all-gone (gone (runBytes s r) left (w .to-write) refl o) (⊎-elim (present-past bits xs k) (λ e. rw e (present-clear (drop k xs))) h)
-
-  module _ (h : k < length xs) where
-    step : left ≡ placeBytes (bits % 2) (getD xs k []) ++ next
-    unfolding presentBytes
-    step = rw add-one (ap (presentBytes bits) (drop-cons xs k [] h))
-
-    -- a place without objects, and one with a set
-    run-over : (bits % 2 ≡ 1 → ⊥) → RunTo s l₀ at presence xs l r (bits / 2) (k + 1)
-    unfolding placeBytes
-    run-over e =
-        let none : left ≡ next = step ∙ rw (ne-eqb (bits % 2) 1 e) in
-        record { run = w .run; to-write = subst (λ (z : List ℕ). ToGo l₀ at (presentBytes presence xs) l (r .to) (runBytes s r ++ z)) none (w .to-write) }
-
-    run-more :
-        bits % 2 ≡ 1 → {l₁ : List ℕ} {r₁ : Run} → RunIs s r₁ → ToGo l (r .to) (runBytes s r ++ setBytes (getD xs k [])) l₁ (r₁ .to) (runBytes s r₁) →
-        RunTo s l₀ at presence xs l₁ r₁ (bits / 2) (k + 1)
-    unfolding placeBytes
-    run-more e is g =
-        let set = setBytes (getD xs k []) in
-        let some : left ≡ set ++ next = step ∙ rw (eq-eqb (bits % 2) 1 e) in
-        let split : runBytes s r ++ left ≡ (runBytes s r ++ set) ++ next =
-        ap (λ (z : List ℕ). runBytes s r ++ z) some ∙ sym (append-assoc (runBytes s r) set next)
-        in
-        record { run = is; to-write = gone-to (runBytes s r ++ set) next (w .to-write) split g }
-
 -- so of the sets that the numbers ats say
 pub record RunsTo (s ats l₀ : List ℕ) (at presence : ℕ) (l : List ℕ) (r : Run) (bits k : ℕ) : Type 0 where
   each : (xs : List (List Text)) → SetsAre s xs ats → RunTo s l₀ at presence xs l r bits k
@@ -171,42 +129,63 @@ runs-none = record { each = λ xs are. record { run = record { order = omega ari
 
 module _ {s ats l₀ : List ℕ} {at presence : ℕ} {l : List ℕ} {r : Run} {bits k : ℕ} (w : RunsTo s ats l₀ at presence l r bits k) where
   pub runs-same : {l₁ : List ℕ} {r₁ : Run} → l₁ ≡ l → r₁ ≡ r → RunsTo s ats l₀ at presence l₁ r₁ bits k
-  runs-same e f = record { each = λ xs are. run-same (w .each xs are) e f }
+  runs-same e f = subst₂ (λ (m : List ℕ) (q : Run). RunsTo s ats l₀ at presence m q bits k) (sym e) (sym f) w
 
+  -- the run is the last one
   pub runs-last :
       (32 ≤ k) ⊎ (bits ≤ 0) → {l₁ : List ℕ} {end : ℕ} → Wrote l (r .to) (runBytes s r) l₁ end →
       (xs : List (List Text)) → SetsAre s xs ats → Wrote l₀ at (presentBytes presence xs) l₁ end
   runs-last h o xs are =
-      let over : (length xs ≤ k) ⊎ (bits ≡ 0) = ⊎-elim (λ a. inl (omega (arith, are .long))) (λ b. inr (omega arith)) h in
-      run-last (w .each xs are) over o
+      let none : presentBytes bits (drop k xs) ≡ [] =
+      ⊎-elim (λ a. present-past bits xs k (omega (arith, are .long))) (λ b. let z : bits ≡ 0 = omega arith in rw z (present-clear (drop k xs))) h in
+      all-gone (gone (runBytes s r) (presentBytes bits (drop k xs)) (w .each xs are .to-write) refl o) none
 
-  -- the run has its room where all of them have
+  -- it has its room where all sets have
   module _ (p : PresentRoom s ats presence at (length l₀)) where
     here : RunTo s l₀ at presence (p .values) l r bits k
     here = w .each (p .values) (p .are)
 
-    pub runs-copy : (r .start ≤ r .end) × (r .end ≤ length s) × (r .to + length (runBytes s r) ≤ length l)
-    runs-copy = (here .run .order, here .run .within, run-room here (p .room))
-
-    pub runs-room : k < 32 → {x : SetAt} → x ≡ setIn ats k → RunRoom s r x (length l)
-    runs-room h e = record {
-      run = here .run;
-      values = getD (p .values) k [];
-      is = set-read e (p .are .each k h);
-      room = run-room here (p .room);
-    }
-
     pub runs-long : length l ≡ length l₀
     runs-long = here .to-write .long
 
+    room : r .to + length (runBytes s r) ≤ length l
+    room = omega (arith, p .room, here .to-write .after, runs-long, length-append (runBytes s r) (presentBytes bits (drop k (p .values))))
+
+    pub runs-copy : (r .start ≤ r .end) × (r .end ≤ length s) × (r .to + length (runBytes s r) ≤ length l)
+    runs-copy = (here .run .order, here .run .within, room)
+
+    pub runs-room : k < 32 → {x : SetAt} → x ≡ setIn ats k → RunRoom s r x (length l)
+    runs-room h e = record { run = here .run; values = getD (p .values) k []; is = set-read e (p .are .each k h); room = room }
+
   module _ (h : k < 32) where
+    step :
+        (xs : List (List Text)) → SetsAre s xs ats →
+        presentBytes bits (drop k xs) ≡ placeBytes (bits % 2) (getD xs k []) ++ presentBytes (bits / 2) (drop (k + 1) xs)
+    unfolding presentBytes
+    step xs are = let i : k < length xs = omega (arith, are .long) in rw add-one (ap (presentBytes bits) (drop-cons xs k [] i))
+
+    -- a place without objects, and one with a set
     pub runs-over : (bits % 2 ≡ 1 → ⊥) → RunsTo s ats l₀ at presence l r (bits / 2) (k + 1)
-    runs-over e = record { each = λ xs are. run-over (w .each xs are) (omega (arith, are .long)) e }
+    unfolding placeBytes
+    runs-over e = record {
+      each = λ xs are.
+          let none : presentBytes bits (drop k xs) ≡ presentBytes (bits / 2) (drop (k + 1) xs) = step xs are ∙ rw (ne-eqb (bits % 2) 1 e) in
+          let o = w .each xs are in
+          record { run = o .run; to-write = subst (λ (z : List ℕ). ToGo l₀ at (presentBytes presence xs) l (r .to) (runBytes s r ++ z)) none (o .to-write) };
+    }
 
     pub runs-more :
         {x : SetAt} {l₁ : List ℕ} {r₁ : Run} → bits % 2 ≡ 1 → x ≡ setIn ats k →
         RunIs s r₁ × ((vs : List Text) → SetIs s vs x → ToGo l (r .to) (runBytes s r ++ setBytes vs) l₁ (r₁ .to) (runBytes s r₁)) →
         RunsTo s ats l₀ at presence l₁ r₁ (bits / 2) (k + 1)
+    unfolding placeBytes
     runs-more b e with-set = record {
-      each = λ xs are. run-more (w .each xs are) (omega (arith, are .long)) b (with-set .0) (with-set .1 _ (set-read e (are .each k h)));
+      each = λ xs are.
+          let set = setBytes (getD xs k []) in
+          let next = presentBytes (bits / 2) (drop (k + 1) xs) in
+          let some : presentBytes bits (drop k xs) ≡ set ++ next = step xs are ∙ rw (eq-eqb (bits % 2) 1 b) in
+          let split : runBytes s r ++ presentBytes bits (drop k xs) ≡ (runBytes s r ++ set) ++ next =
+          ap (λ (z : List ℕ). runBytes s r ++ z) some ∙ sym (append-assoc (runBytes s r) set next) in
+          let g = with-set .1 _ (set-read e (are .each k h)) in
+          record { run = with-set .0; to-write = gone-to (runBytes s r ++ set) next (w .each xs are .to-write) split g };
     }

@@ -40,55 +40,12 @@ record InSpace (k : Kind) (b : Bool) (s : List ℕ) (at : ℕ) : Type 0 where
   bytes : drop at s ≡ flatten (map text more)
   is : b ≡ areInSpace k more
 
-module _ {k : Kind} {b : Bool} {s : List ℕ} {at : ℕ} (w : InSpace k b s at) where
-  ended : length s ≤ at → true ≡ b
-  unfolding areInSpace flatten
-  ended h = go (w .more) (w .bytes) (w .is)
-    where
-      go : (more : List Text) → drop at s ≡ flatten (map text more) → b ≡ areInSpace k more → true ≡ b
-      go [] d e = sym e
-      go (v ∷ vs) d e =
-          absurd (omega (arith, length-drop at s, ap length d, length-append (text v) (flatten (map text vs)), text-length v, number-bounds (length v) .0))
-
-  module _ (small : length s < 2 ^ 64) (l : at < length s) where
-    -- the first text, and the others
-    record First : Type 0 where
-      v : Text
-      vs : List Text
-      bytes : drop at s ≡ text v ++ flatten (map text vs)
-      is : b ≡ (inSpace k v && areInSpace k vs)
-
-    first : First
-    unfolding areInSpace flatten
-    first = go (w .more) (w .bytes) (w .is)
-      where
-        go : (more : List Text) → drop at s ≡ flatten (map text more) → b ≡ areInSpace k more → First
-        go [] d e = absurd (omega (arith, length-drop at s, ap length d))
-        go (v ∷ vs) d e = record { v = v; vs = vs; bytes = d; is = e }
-
-    unread : readText (drop at s) ≡ fail → ⊥
-    unread e = text-there s small at (omega arith) (first .v) (flatten (map text (first .vs))) (first .bytes) e
-
-    module _ {a z : ℕ} (t : TextStops s at a z) where
-      there : (part s a z ≡ first .v) × (drop z s ≡ flatten (map text (first .vs)))
-      there = let n = text-next s small at (omega arith) (first .v) (flatten (map text (first .vs))) (first .bytes) a z t in (n .0, n .2 .rest)
-
-      outside : inSpace k (part s a z) ≡ false → false ≡ b
-      outside e = sym (first .is ∙ ap (λ (c : Bool). c && areInSpace k (first .vs)) (sym (ap (inSpace k) (there .0)) ∙ e))
-
-      onward : inSpace k (part s a z) ≡ true → InSpace k b s z
-      onward e = record {
-        more = first .vs;
-        bytes = there .1;
-        is = first .is ∙ ap (λ (c : Bool). c && areInSpace k (first .vs)) (sym (ap (inSpace k) (there .0)) ∙ e);
-      }
-
 -- the texts of v before `at` are in the space of each kind that is spoken of
 pub record SpaceTo {I : Type 0} (kind : I → Kind) (v : List ℕ) (at : ℕ) : Type 0 where
   texts : (i : I) (vs : List Text) → v ≡ flatten (map text vs) → InSpace (kind i) (areInSpace (kind i) vs) v at
 
 -- what is answered on all of them
-abbrev pub SpaceTold : {I : Type 0} → (I → Kind) → List ℕ → Bool → Type 0
+abbrev SpaceTold : {I : Type 0} → (I → Kind) → List ℕ → Bool → Type 0
 SpaceTold {I} kind v b = (i : I) (vs : List Text) → v ≡ flatten (map text vs) → b ≡ areInSpace (kind i) vs
 
 pub space-none : {I : Type 0} {kind : I → Kind} {v : List ℕ} → SpaceTo kind v 0
@@ -96,18 +53,51 @@ space-none = record { texts = λ i vs e. record { more = vs; bytes = e; is = ref
 
 module _ {I : Type 0} {kind : I → Kind} {v : List ℕ} {at : ℕ} (w : SpaceTo kind v at) where
   pub space-end : length v ≤ at → SpaceTold kind v true
-  space-end h i vs e = ended (w .texts i vs e) h
+  unfolding areInSpace flatten
+  space-end h i vs e = go (w .texts i vs e .more) (w .texts i vs e .bytes) (w .texts i vs e .is)
+    where
+      go : (more : List Text) → drop at v ≡ flatten (map text more) → areInSpace (kind i) vs ≡ areInSpace (kind i) more → true ≡ areInSpace (kind i) vs
+      go [] d f = sym f
+      go (u ∷ us) d f =
+          absurd (omega (arith, length-drop at v, ap length d, length-append (text u) (flatten (map text us)), text-length u, number-bounds (length u) .0))
 
   module _ (small : length v < 2 ^ 64) (l : at < length v) where
+    -- the first text, and the others
+    record First (i : I) (vs : List Text) : Type 0 where
+      u : Text
+      us : List Text
+      bytes : drop at v ≡ text u ++ flatten (map text us)
+      is : areInSpace (kind i) vs ≡ (inSpace (kind i) u && areInSpace (kind i) us)
+
+    first : (i : I) (vs : List Text) → v ≡ flatten (map text vs) → First i vs
+    unfolding areInSpace flatten
+    first i vs e = go (w .texts i vs e .more) (w .texts i vs e .bytes) (w .texts i vs e .is)
+      where
+        go : (more : List Text) → drop at v ≡ flatten (map text more) → areInSpace (kind i) vs ≡ areInSpace (kind i) more → First i vs
+        go [] d f = absurd (omega (arith, length-drop at v, ap length d))
+        go (u ∷ us) d f = record { u = u; us = us; bytes = d; is = f }
+
     pub space-bad : readText (drop at v) ≡ fail → SpaceTold kind v false
-    space-bad f i vs e = absurd (unread (w .texts i vs e) small l f)
+    space-bad f i vs e =
+        let x = first i vs e in
+        absurd (text-there v small at (omega arith) (x .u) (flatten (map text (x .us))) (x .bytes) f)
 
     module _ {a z : ℕ} (t : TextStops v at a z) where
+      there : {i : I} {vs : List Text} (x : First i vs) → (part v a z ≡ x .u) × (drop z v ≡ flatten (map text (x .us)))
+      there x = let n = text-next v small at (omega arith) (x .u) (flatten (map text (x .us))) (x .bytes) a z t in (n .0, n .2 .rest)
+
+      told :
+          {b : Bool} → ((i : I) → inSpace (kind i) (part v a z) ≡ b) → {i : I} {vs : List Text} (x : First i vs) →
+          areInSpace (kind i) vs ≡ (b && areInSpace (kind i) (x .us))
+      told f {i} x = x .is ∙ ap (λ (c : Bool). c && areInSpace (kind i) (x .us)) (sym (ap (inSpace (kind i)) (there x .0)) ∙ f i)
+
       pub space-not : ((i : I) → inSpace (kind i) (part v a z) ≡ false) → SpaceTold kind v false
-      space-not f i vs e = outside (w .texts i vs e) small l t (f i)
+      space-not f i vs e = sym (told f (first i vs e))
 
       pub space-more : ((i : I) → inSpace (kind i) (part v a z) ≡ true) → SpaceTo kind v z
-      space-more f = record { texts = λ i vs e. onward (w .texts i vs e) small l t (f i) }
+      space-more f = record {
+        texts = λ i vs e. let x = first i vs e in record { more = x .us; bytes = there x .1; is = told f x };
+      }
 
 -- a kind that has these numbers
 abbrev pub KindHere : ℕ → ℕ → ℕ → ℕ → Type 0
