@@ -63,85 +63,44 @@ module _ (s : List ℕ) (small : length s < 2 ^ 64) (at : ℕ) (within : at ≤ 
 
 -- ---- texts
 
--- `left` texts stand at pos, r follows them, and they end at `end`
-pub record Skipping (end : ℕ) (r s : List ℕ) (pos left : ℕ) : Type 0 where
-  pub more : List Text
-  pub bytes : drop pos s ≡ flatten (map text more) ++ r
-  pub long : left ≡ length more
-  pub far : pos + length (flatten (map text more)) ≡ end
-  pub within : pos ≤ length s
-
-module _ {end : ℕ} {r s : List ℕ} {pos left : ℕ} (w : Skipping end r s pos left) (small : length s < 2 ^ 64) (h : 0 < left) where
-  -- the first text, and the others
-  record First : Type 0 where
-    v : Text
-    vs : List Text
-    bytes : drop pos s ≡ text v ++ (flatten (map text vs) ++ r)
-    long : left ≡ suc (length vs)
-    far : pos + (length (text v) + length (flatten (map text vs))) ≡ end
-
-  first : First
-  unfolding flatten
-  first = go (w .more) (w .bytes) (w .long) (w .far)
-    where
-      go :
-          (more : List Text) → drop pos s ≡ flatten (map text more) ++ r → left ≡ length more → pos + length (flatten (map text more)) ≡ end → First
-      go [] b l f = absurd (omega arith)
-      go (v ∷ vs) b l f = record {
-        v = v;
-        vs = vs;
-        bytes = b ∙ append-assoc (text v) (flatten (map text vs)) r;
-        long = l;
-        far = ap (λ (n : ℕ). pos + n) (sym (length-append (text v) (flatten (map text vs)))) ∙ f;
-      }
-
-  skipping-bad : readText (drop pos s) ≡ fail → ⊥
-  skipping-bad e = text-there s small pos (w .within) (first .v) (flatten (map text (first .vs)) ++ r) (first .bytes) e
-
-  skipping-more : {a z : ℕ} → TextStops s pos a z → Skipping end r s z (left - 1)
-  skipping-more {a} {z} t =
-      let n = text-next s small pos (w .within) (first .v) (flatten (map text (first .vs)) ++ r) (first .bytes) a z t .2 in
-      record { more = first .vs; bytes = n .rest; long = omega (arith, first .long); far = omega (arith, first .far, n .far); within = n .within }
-
-skipping-all : {at : ℕ} {x r s : List ℕ} {pos left : ℕ} → Skipping (at + length x) r s pos left → left ≤ 0 → Skipped s at x r pos
-unfolding flatten
-skipping-all {at} {x} {r} {s} {pos} {left} w h = go (w .more) (w .bytes) (w .long) (w .far)
-  where
-    go :
-        (more : List Text) → drop pos s ≡ flatten (map text more) ++ r → left ≡ length more → pos + length (flatten (map text more)) ≡ at + length x →
-        Skipped s at x r pos
-    go [] b l f = record { rest = b; far = omega arith; within = w .within }
-    go (v ∷ vs) b l f = absurd (omega arith)
-
--- of `count` texts at `at`, those before pos are skipped
+-- skipping `count` texts at `at` ends where skipping `left` texts at pos does
 pub record TextsTo (s : List ℕ) (at count pos left : ℕ) : Type 0 where
-  pub skipping :
-      (vs : List Text) (r : List ℕ) → drop at s ≡ flatten (map text vs) ++ r → at ≤ length s → count ≡ length vs →
-      Skipping (at + length (flatten (map text vs))) r s pos left
+  on : (to : ℕ) → TextsSkipped s pos left to → TextsSkipped s at count to
 
 pub texts-none : {s : List ℕ} {at count : ℕ} → TextsTo s at count at count
-texts-none = record { skipping = λ vs r b k l. record { more = vs; bytes = b; long = l; far = refl; within = k } }
+texts-none = record { on = λ to h. h }
 
 module _ {s : List ℕ} {at count pos left : ℕ} (w : TextsTo s at count pos left) where
   pub texts-all : left ≤ 0 → TextsSkipped s at count pos
-  texts-all h vs r b k l = skipping-all (w .skipping vs r b k l) h
+  unfolding flatten
+  texts-all h = w .on pos here
+    where
+      here : TextsSkipped s pos left pos
+      here [] r b k l = record { rest = b; far = omega arith; within = k }
+      here (v ∷ vs) r b k l = absurd (omega arith)
 
   module _ (small : length s < 2 ^ 64) (h : 0 < left) where
     pub texts-bad : readText (drop pos s) ≡ fail → TextsSkipped s at count pos
-    texts-bad e vs r b k l = absurd (skipping-bad (w .skipping vs r b k l) small h e)
+    unfolding flatten
+    texts-bad e = w .on pos here
+      where
+        here : TextsSkipped s pos left pos
+        here [] r b k l = absurd (omega arith)
+        here (v ∷ vs) r b k l =
+            absurd (text-there s small pos k v (flatten (map text vs) ++ r) (b ∙ append-assoc (text v) (flatten (map text vs)) r) e)
 
     pub texts-more : {a z : ℕ} → TextStops s pos a z → TextsTo s at count z (left - 1)
-    texts-more t = record { skipping = λ vs r b k l. skipping-more (w .skipping vs r b k l) small h t }
+    unfolding flatten
+    texts-more {a} {z} t = record { on = λ to f. w .on to (here to f) }
+      where
+        here : (to : ℕ) → TextsSkipped s z (left - 1) to → TextsSkipped s pos left to
+        here to f [] r b k l = absurd (omega arith)
+        here to f (v ∷ vs) r b k l =
+            let n = text-next s small pos k v (flatten (map text vs) ++ r) (b ∙ append-assoc (text v) (flatten (map text vs)) r) a z t .2 in
+            let m = f vs r (n .rest) (n .within) (omega arith) in
+            record { rest = m .rest; far = omega (arith, m .far, n .far, length-append (text v) (flatten (map text vs))); within = m .within }
 
 -- ---- sets
-
--- `left` sets stand at pos
-pub record SetsSkipping (end : ℕ) (r s : List ℕ) (pos left : ℕ) : Type 0 where
-  pub more : List (List Text)
-  pub bytes : drop pos s ≡ setsBytes more ++ r
-  pub long : left ≡ present more
-  pub far : pos + length (setsBytes more) ≡ end
-  pub within : pos ≤ length s
 
 -- the first place with objects, and those after it
 record FirstSet (xs : List (List Text)) : Type 0 where
@@ -167,78 +126,63 @@ none-present [] h = refl
 none-present ([] ∷ xs) h = none-present xs (omega arith)
 none-present ((v ∷ vs) ∷ xs) h = absurd (omega arith)
 
-module _ {end : ℕ} {r s : List ℕ} {pos left : ℕ} (w : SetsSkipping end r s pos left) (small : length s < 2 ^ 64) (h : 0 < left) where
-  next-set : FirstSet (w .more)
-  next-set = first-set (w .more) (omega (arith, w .long))
-
-  next-bytes : drop pos s ≡ number (length (next-set .vs)) ++ (flatten (map text (next-set .vs)) ++ (setsBytes (next-set .more) ++ r))
-  next-bytes =
-      let f = next-set in
-      w .bytes ∙ ap (λ (l : List ℕ). l ++ r) (f .bytes)
-      ∙ append-assoc (number (length (f .vs))) (flatten (map text (f .vs)) ++ setsBytes (f .more)) r
-      ∙ ap (λ (l : List ℕ). number (length (f .vs)) ++ l) (append-assoc (flatten (map text (f .vs))) (setsBytes (f .more)) r)
-
-  next-few : length (next-set .vs) < 2 ^ 64
-  next-few =
-      let f = next-set in
-      omega (
-        arith,
-        texts-long (f .vs),
-        length-drop pos s,
-        ap length next-bytes,
-        length-append (number (length (f .vs))) (flatten (map text (f .vs)) ++ (setsBytes (f .more) ++ r)),
-        length-append (flatten (map text (f .vs))) (setsBytes (f .more) ++ r),
-      )
-
-  sets-skipping-bad : readNumber (drop pos s) ≡ fail → ⊥
-  sets-skipping-bad e = number-there s small pos (w .within) (length (next-set .vs)) _ next-few next-bytes e
-
-  sets-skipping-more : {n start to : ℕ} → NumberStops s pos n start → TextsSkipped s start n to → SetsSkipping end r s to (left - 1)
-  sets-skipping-more {n} {start} {to} m skip =
-      let f = next-set in
-      let a = number-next s small pos (w .within) (length (f .vs)) (flatten (map text (f .vs)) ++ (setsBytes (f .more) ++ r)) next-few next-bytes n start m in
-      let b = skip (f .vs) (setsBytes (f .more) ++ r) (a .1 .rest) (a .1 .within) (a .0) in
-      record {
-        more = f .more;
-        bytes = b .rest;
-        long = omega (arith, w .long, f .long);
-        far = omega (
-          arith,
-          w .far,
-          a .1 .far,
-          b .far,
-          ap length (f .bytes),
-          length-append (number (length (f .vs))) (flatten (map text (f .vs)) ++ setsBytes (f .more)),
-          length-append (flatten (map text (f .vs))) (setsBytes (f .more)),
-        );
-        within = b .within;
-      }
-
-sets-skipping-all : {at : ℕ} {x r s : List ℕ} {pos left : ℕ} → SetsSkipping (at + length x) r s pos left → left ≤ 0 → Skipped s at x r pos
-sets-skipping-all {at} {x} {r} {s} {pos} {left} w h =
-    let z : present (w .more) ≡ 0 = omega (arith, w .long) in
-    let e = none-present (w .more) z in
-    record { rest = w .bytes ∙ ap (λ (l : List ℕ). l ++ r) e; far = omega (arith, w .far, ap length e); within = w .within }
-
--- of the sets of `count` places at `at`, those before pos are skipped
+-- the same for the sets of `count` places
 pub record SetsTo (s : List ℕ) (at count pos left : ℕ) : Type 0 where
-  pub skipping :
-      (xs : List (List Text)) (r : List ℕ) → drop at s ≡ setsBytes xs ++ r → at ≤ length s → count ≡ present xs →
-      SetsSkipping (at + length (setsBytes xs)) r s pos left
+  on : (to : ℕ) → SetsSkipped s pos left to → SetsSkipped s at count to
 
 pub sets-none : {s : List ℕ} {at count : ℕ} → SetsTo s at count at count
-sets-none = record { skipping = λ xs r b k l. record { more = xs; bytes = b; long = l; far = refl; within = k } }
+sets-none = record { on = λ to h. h }
 
 module _ {s : List ℕ} {at count pos left : ℕ} (w : SetsTo s at count pos left) where
   pub sets-all : left ≤ 0 → SetsSkipped s at count pos
-  sets-all h xs r b k l = sets-skipping-all (w .skipping xs r b k l) h
+  sets-all h = w .on pos λ xs r b k l.
+      let e = none-present xs (omega arith) in
+      record { rest = b ∙ ap (λ (l : List ℕ). l ++ r) e; far = omega (arith, ap length e); within = k }
 
   module _ (small : length s < 2 ^ 64) (h : 0 < left) where
+    -- what stands at pos
+    module _ (xs : List (List Text)) (r : List ℕ) (b : drop pos s ≡ setsBytes xs ++ r) (l : left ≡ present xs) where
+      first : FirstSet xs
+      first = first-set xs (omega arith)
+
+      values : List ℕ
+      values = flatten (map text (first .vs))
+
+      others : List ℕ
+      others = setsBytes (first .more)
+
+      here : drop pos s ≡ number (length (first .vs)) ++ (values ++ (others ++ r))
+      unfolding values others
+      here =
+          b ∙ ap (λ (l : List ℕ). l ++ r) (first .bytes) ∙ append-assoc (number (length (first .vs))) (values ++ others) r
+          ∙ ap (λ (l : List ℕ). number (length (first .vs)) ++ l) (append-assoc values others r)
+
+      next-few : length (first .vs) < 2 ^ 64
+      unfolding values
+      next-few =
+          let parts = length-append (number (length (first .vs))) (values ++ (others ++ r)) in
+          omega (arith, texts-long (first .vs), length-drop pos s, ap length here, parts, length-append values (others ++ r))
+
     pub sets-bad : readNumber (drop pos s) ≡ fail → SetsSkipped s at count pos
-    sets-bad e xs r b k l = absurd (sets-skipping-bad (w .skipping xs r b k l) small h e)
+    sets-bad e = w .on pos λ xs r b k l.
+        absurd (number-there s small pos k (length (first xs r b l .vs)) _ (next-few xs r b l) (here xs r b l) e)
 
     pub sets-more : {n start to : ℕ} → NumberStops s pos n start → TextsSkipped s start n to → SetsTo s at count to (left - 1)
-    sets-more m t = record { skipping = λ xs r b k l. sets-skipping-more (w .skipping xs r b k l) small h m t }
+    unfolding values others
+    sets-more {n} {start} {to} m skip = record {
+      on = λ end f. w .on end λ xs r b k l.
+          let x = first xs r b l in
+          let a = number-next s small pos k (length (x .vs)) _ (next-few xs r b l) (here xs r b l) n start m in
+          let v = skip (x .vs) (setsBytes (x .more) ++ r) (a .1 .rest) (a .1 .within) (a .0) in
+          let o = f (x .more) r (v .rest) (v .within) (omega (arith, x .long)) in
+          let texts = flatten (map text (x .vs)) in
+          let parts = length-append (number (length (x .vs))) (texts ++ setsBytes (x .more)) in
+          record {
+            rest = o .rest;
+            far = omega (arith, o .far, v .far, a .1 .far, ap length (x .bytes), parts, length-append texts (setsBytes (x .more)));
+            within = o .within;
+          };
+    }
 
 -- ---- the ones below a place
 

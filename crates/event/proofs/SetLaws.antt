@@ -515,12 +515,6 @@ module _ {old ats : List ℕ} {place k : ℕ} (w : Cleared old ats place k) wher
 
 -- ---- the text at an index
 
--- what is looked for, x, is the text at `left` among those from `at` on
-record Walked (x : Text) (s : List ℕ) (at left : ℕ) : Type 0 where
-  more : List Text
-  bytes : drop at s ≡ flatten (map text more)
-  is : x ≡ getD more left []
-
 -- a text that stands among others is the first of them
 record Next (vs : List Text) (v : Text) (r : List ℕ) : Type 0 where
   more : List Text
@@ -546,40 +540,36 @@ no-next t (u ∷ us) l h e =
     let z : _≡_ {A = ℕ} 0 1 = cc in
     absurd (omega arith)
 
--- of the texts that s is made of, those before `at` are walked past to the one at `index`
-pub record WalkedTo (s : List ℕ) (index at left : ℕ) : Type 0 where
-  walked : (vs : List Text) → s ≡ flatten (map text vs) → Walked (getD vs index []) s at left
+-- x is the text at `index` among those from `at` on, or nothing where there is none
+abbrev ValueFrom : List ℕ → ℕ → ℕ → Text → Type 0
+ValueFrom s at index x = (vs : List Text) → drop at s ≡ flatten (map text vs) → x ≡ getD vs index []
 
--- x is the text at `index`, or nothing where there is none
-abbrev ValueIn : List ℕ → ℕ → Text → Type 0
-ValueIn s index x = (vs : List Text) → s ≡ flatten (map text vs) → x ≡ getD vs index []
+-- the text at `index` is the one at `left` from `at` on
+pub record WalkedTo (s : List ℕ) (index at left : ℕ) : Type 0 where
+  on : (x : Text) → ValueFrom s at left x → ValueFrom s 0 index x
 
 pub walks-none : {s : List ℕ} {index : ℕ} → WalkedTo s index 0 index
-walks-none = record { walked = λ vs h. record { more = vs; bytes = h; is = refl } }
+walks-none = record { on = λ x h. h }
 
 module _ {s : List ℕ} {index at left : ℕ} (w : WalkedTo s index at left) (small : length s < 2 ^ 64) where
   rest-small : length (drop at s) < 2 ^ 64
   rest-small = omega (arith, length-drop at s)
 
-  pub walks-bad : readText (drop at s) ≡ fail → ValueIn s index []
-  walks-bad e vs h =
-      let o = w .walked vs h in
-      sym (o .is ∙ ap (λ (l : List Text). getD l left []) (no-next (drop at s) (o .more) rest-small e (o .bytes)))
+  pub walks-bad : readText (drop at s) ≡ fail → ValueFrom s 0 index []
+  walks-bad e = w .on [] λ vs h. sym (ap (λ (l : List Text). getD l left []) (no-next (drop at s) vs rest-small e h))
 
   module _ {a e : ℕ} (t : TextStops s at a e) where
-    first : (vs : List Text) (h : s ≡ flatten (map text vs)) → Next (w .walked vs h .more) (part s a e) (drop e s)
-    first vs h = next (drop at s) (part s a e) (drop e s) (w .walked vs h .more) rest-small (t .is) (w .walked vs h .bytes)
+    first : (vs : List Text) → drop at s ≡ flatten (map text vs) → Next vs (part s a e) (drop e s)
+    first vs h = next (drop at s) (part s a e) (drop e s) vs rest-small (t .is) h
 
     pub walks-more : 0 < left → WalkedTo s index e (left - 1)
     walks-more k = record {
-      walked = λ vs h. record {
-        more = first vs h .more;
-        bytes = first vs h .bytes;
-        is = w .walked vs h .is ∙ ap₂ (λ (l : List Text) (i : ℕ). getD l i []) (first vs h .all) (sym (suc-of left k));
-      };
+      on = λ x f. w .on x λ vs h.
+          let n = first vs h in
+          f (n .more) (n .bytes) ∙ sym (ap₂ (λ (l : List Text) (i : ℕ). getD l i []) (n .all) (sym (suc-of left k)));
     }
 
-    pub walks-found : left ≤ 0 → ValueIn s index (part s a e)
-    walks-found k vs h =
+    pub walks-found : left ≤ 0 → ValueFrom s 0 index (part s a e)
+    walks-found k = w .on (part s a e) λ vs h.
         let z : left ≡ 0 = omega arith in
-        sym (w .walked vs h .is ∙ ap₂ (λ (l : List Text) (i : ℕ). getD l i []) (first vs h .all) z)
+        sym (ap₂ (λ (l : List Text) (i : ℕ). getD l i []) (first vs h .all) z)

@@ -3,7 +3,7 @@ use mathlib.Core.Path.{_≡_, refl, sym, ap, _∙_}
 use mathlib.Core.Bool.{Bool, true, false, _&&_}
 use mathlib.Core.Option.{Option, some}
 use mathlib.Core.Logic.{_⊎_, ⊎-elim}
-use mathlib.Core.List.{List, [], _∷_, _++_, map, flatten}
+use mathlib.Core.List.{List, [], _∷_, map, flatten}
 use Prim.Native.Nat.{ℕ, _+_, _-_, _^_, _≤_, _<_}
 use native.Mathlib.Omega.{arith}
 use lib.Dec.{ltb, leb}
@@ -34,70 +34,52 @@ kind-of k kind size after sign w = rw (w .number, w .size-is, w .after-is, w .si
 
 -- ---- texts
 
--- the texts before `at` are in the space
-record InSpace (k : Kind) (b : Bool) (s : List ℕ) (at : ℕ) : Type 0 where
-  more : List Text
-  bytes : drop at s ≡ flatten (map text more)
-  is : b ≡ areInSpace k more
+-- b is the answer on the texts from `at` on, of each kind that is spoken of
+abbrev SpaceFrom : {I : Type 0} → (I → Kind) → List ℕ → ℕ → Bool → Type 0
+SpaceFrom {I} kind v at b = (i : I) (vs : List Text) → drop at v ≡ flatten (map text vs) → b ≡ areInSpace (kind i) vs
 
--- the texts of v before `at` are in the space of each kind that is spoken of
+-- the answer on all of them is that on those from `at` on
 pub record SpaceTo {I : Type 0} (kind : I → Kind) (v : List ℕ) (at : ℕ) : Type 0 where
-  texts : (i : I) (vs : List Text) → v ≡ flatten (map text vs) → InSpace (kind i) (areInSpace (kind i) vs) v at
-
--- what is answered on all of them
-abbrev SpaceTold : {I : Type 0} → (I → Kind) → List ℕ → Bool → Type 0
-SpaceTold {I} kind v b = (i : I) (vs : List Text) → v ≡ flatten (map text vs) → b ≡ areInSpace (kind i) vs
+  on : (b : Bool) → SpaceFrom kind v at b → SpaceFrom kind v 0 b
 
 pub space-none : {I : Type 0} {kind : I → Kind} {v : List ℕ} → SpaceTo kind v 0
-space-none = record { texts = λ i vs e. record { more = vs; bytes = e; is = refl } }
+space-none = record { on = λ b h. h }
 
 module _ {I : Type 0} {kind : I → Kind} {v : List ℕ} {at : ℕ} (w : SpaceTo kind v at) where
-  pub space-end : length v ≤ at → SpaceTold kind v true
+  pub space-end : length v ≤ at → SpaceFrom kind v 0 true
   unfolding areInSpace flatten
-  space-end h i vs e = go (w .texts i vs e .more) (w .texts i vs e .bytes) (w .texts i vs e .is)
+  space-end h = w .on true here
     where
-      go : (more : List Text) → drop at v ≡ flatten (map text more) → areInSpace (kind i) vs ≡ areInSpace (kind i) more → true ≡ areInSpace (kind i) vs
-      go [] d f = sym f
-      go (u ∷ us) d f =
+      here : SpaceFrom kind v at true
+      here i [] d = refl
+      here i (u ∷ us) d =
           absurd (omega (arith, length-drop at v, ap length d, length-append (text u) (flatten (map text us)), text-length u, number-bounds (length u) .0))
 
   module _ (small : length v < 2 ^ 64) (l : at < length v) where
-    -- the first text, and the others
-    record First (i : I) (vs : List Text) : Type 0 where
-      u : Text
-      us : List Text
-      bytes : drop at v ≡ text u ++ flatten (map text us)
-      is : areInSpace (kind i) vs ≡ (inSpace (kind i) u && areInSpace (kind i) us)
-
-    first : (i : I) (vs : List Text) → v ≡ flatten (map text vs) → First i vs
-    unfolding areInSpace flatten
-    first i vs e = go (w .texts i vs e .more) (w .texts i vs e .bytes) (w .texts i vs e .is)
+    pub space-bad : readText (drop at v) ≡ fail → SpaceFrom kind v 0 false
+    unfolding flatten
+    space-bad f = w .on false here
       where
-        go : (more : List Text) → drop at v ≡ flatten (map text more) → areInSpace (kind i) vs ≡ areInSpace (kind i) more → First i vs
-        go [] d f = absurd (omega (arith, length-drop at v, ap length d))
-        go (u ∷ us) d f = record { u = u; us = us; bytes = d; is = f }
-
-    pub space-bad : readText (drop at v) ≡ fail → SpaceTold kind v false
-    space-bad f i vs e =
-        let x = first i vs e in
-        absurd (text-there v small at (omega arith) (x .u) (flatten (map text (x .us))) (x .bytes) f)
+        here : SpaceFrom kind v at false
+        here i [] d = absurd (omega (arith, length-drop at v, ap length d))
+        here i (u ∷ us) d = absurd (text-there v small at (omega arith) u (flatten (map text us)) d f)
 
     module _ {a z : ℕ} (t : TextStops v at a z) where
-      there : {i : I} {vs : List Text} (x : First i vs) → (part v a z ≡ x .u) × (drop z v ≡ flatten (map text (x .us)))
-      there x = let n = text-next v small at (omega arith) (x .u) (flatten (map text (x .us))) (x .bytes) a z t in (n .0, n .2 .rest)
+      -- the answer on the next text, and that on the others
+      step :
+          {b : Bool} → ((i : I) → inSpace (kind i) (part v a z) ≡ b) → (i : I) (vs : List Text) → drop at v ≡ flatten (map text vs) →
+          (us : List Text) × (drop z v ≡ flatten (map text us)) × (areInSpace (kind i) vs ≡ (b && areInSpace (kind i) us))
+      unfolding areInSpace flatten
+      step f i [] d = absurd (omega (arith, length-drop at v, ap length d))
+      step f i (u ∷ us) d =
+          let n = text-next v small at (omega arith) u (flatten (map text us)) d a z t in
+          (us, n .2 .rest, ap (λ (c : Bool). c && areInSpace (kind i) us) (sym (ap (inSpace (kind i)) (n .0)) ∙ f i))
 
-      told :
-          {b : Bool} → ((i : I) → inSpace (kind i) (part v a z) ≡ b) → {i : I} {vs : List Text} (x : First i vs) →
-          areInSpace (kind i) vs ≡ (b && areInSpace (kind i) (x .us))
-      told f {i} x = x .is ∙ ap (λ (c : Bool). c && areInSpace (kind i) (x .us)) (sym (ap (inSpace (kind i)) (there x .0)) ∙ f i)
-
-      pub space-not : ((i : I) → inSpace (kind i) (part v a z) ≡ false) → SpaceTold kind v false
-      space-not f i vs e = sym (told f (first i vs e))
+      pub space-not : ((i : I) → inSpace (kind i) (part v a z) ≡ false) → SpaceFrom kind v 0 false
+      space-not f = w .on false λ i vs d. sym (step f i vs d .2)
 
       pub space-more : ((i : I) → inSpace (kind i) (part v a z) ≡ true) → SpaceTo kind v z
-      space-more f = record {
-        texts = λ i vs e. let x = first i vs e in record { more = x .us; bytes = there x .1; is = told f x };
-      }
+      space-more f = record { on = λ b g. w .on b λ i vs d. let n = step f i vs d in g i (n .0) (n .1) ∙ sym (n .2) }
 
 -- a kind that has these numbers
 abbrev pub KindHere : ℕ → ℕ → ℕ → ℕ → Type 0

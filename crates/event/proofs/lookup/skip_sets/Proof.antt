@@ -1,4 +1,4 @@
--- `lookup::skip_sets` meets its contract: the invariant says that `left` of the sets stand at `pos`, and its laws are those of none, one more and all.
+-- `lookup::skip_sets` meets its contract: the invariant says that skipping all sets ends where skipping `left` of them at `pos` does.
 use borrow.Author.Needs.{needs}
 use native.Mathlib.Omega.{arith}
 use Rattle.event.proofs.AnswerLaws.{number-got, number-not}

@@ -1,5 +1,5 @@
--- `spaces::are_in_space` meets its contract: strings without a byte above 7F are told by `are_short`, and of others the invariant says that the texts
--- before `at` are in the space.
+-- `spaces::are_in_space` meets its contract: strings without a byte above 7F are told by `are_short`, and of others the invariant says that the
+-- answer is that on the texts from `at` on.
 use borrow.Author.Needs.{needs}
 use native.Mathlib.Omega.{arith}
 use Prim.Native.Nat.{_-_}

@@ -1,5 +1,5 @@
--- `spaces::are_short` meets its contract: the invariant, which `are_in_space` has too, says that the texts before `at` are in the space. Each is told by its
--- length.
+-- `spaces::are_short` meets its contract: the invariant, which `are_in_space` has too, says that the answer is that on the texts from `at` on. Each is told
+-- by its length.
 use borrow.Author.Needs.{needs}
 use native.Mathlib.Omega.{arith}
 use Prim.Native.Nat.{_-_}
