@@ -1,12 +1,13 @@
 -- The laws of copying some bytes at a time, where the last may be written over bytes that stand already.
 use mathlib.Core.Path.{_≡_, refl, sym, ap, _∙_}
 use mathlib.Core.List.{List, [], _∷_}
-use Prim.Native.Nat.{ℕ, _+_, _-_, _≤_}
+use Prim.Native.Nat.{ℕ, _+_, _-_, _≤_, _<_}
 use native.Mathlib.Omega.{arith}
 use native.Mathlib.Numerals.{towards-suc}
-use lib.ListN.{length, take, drop, set, length-drop}
+use lib.ListN.{length, take, drop, getD, set, length-drop}
 use lib.Seq.{sets, length-sets, length-take-le, take-add, take-all}
 use Rattle.packed.specs.code.Written.{Wrote}
+use Rattle.packed.proofs.ReadLaws.{drop-next}
 use Rattle.packed.proofs.WriteLaws.{sets-append, stores-under}
 
 -- eight stores, each a place after the one before, are one run
@@ -25,14 +26,13 @@ in-two l s at j n h =
 
 -- the first i bytes of s stand in l′, from position `at` on, and all else is as in l
 pub record Copied (l : List ℕ) (at : ℕ) (s : List ℕ) (i : ℕ) (l′ : List ℕ) : Type 0 where
+  pub within : i ≤ length s
+  pub long : length l′ ≡ length l
   pub bytes : l′ ≡ sets l at (take i s)
 
 module _ {l s : List ℕ} {at : ℕ} where
   pub copied-none : Copied l at s 0 l
-  copied-none = record { bytes = refl }
-
-  pub copied-length : {i : ℕ} {l′ : List ℕ} → Copied l at s i l′ → length l′ ≡ length l
-  copied-length {i} c = ap length (c .bytes) ∙ length-sets l at (take i s)
+  copied-none = record { within = omega arith; long = refl; bytes = refl }
 
   -- the n bytes from j on are written: j is i, or before it, where those between the two are written again
   pub copied-more :
@@ -48,6 +48,8 @@ module _ {l s : List ℕ} {at : ℕ} where
       let short : length again ≡ i - j = length-take-le (i - j) (drop j s) (omega arith) in
       let long : length more ≡ n = length-take-le n (drop j s) (omega arith) in
       record {
+        within = h;
+        long = ap length e ∙ length-sets l₁ (at + j) more ∙ c .long;
         bytes =
             e
             ∙ ap (λ (x : List ℕ). sets x (at + j) more) was
@@ -55,5 +57,10 @@ module _ {l s : List ℕ} {at : ℕ} where
             ∙ sym (in-two l s at j n h);
       }
 
-  pub copied-all : {i : ℕ} {l′ : List ℕ} → Copied l at s i l′ → length s ≤ i → Wrote l at s l′ (at + length s)
-  copied-all {i} c h = record { bytes = c .bytes ∙ ap (sets l at) (take-all i s h); after = refl }
+  pub copied-byte : {i : ℕ} {l′ : List ℕ} → Copied l at s i l′ → i < length s → Copied l at s (i + 1) (set l′ (at + i) (getD s i 0))
+  copied-byte {i} {l′} c h =
+      let one : getD s i 0 ∷ [] ≡ take 1 (drop i s) = rw (drop-next s i h) in
+      copied-more i 1 c (omega arith) (omega arith) (omega arith) (ap (sets l′ (at + i)) one)
+
+  pub copied-all : {i next : ℕ} {l′ : List ℕ} → Copied l at s i l′ → length s ≤ i → next ≡ at + length s → Wrote l at s l′ next
+  copied-all {i} c h e = record { bytes = c .bytes ∙ ap (sets l at) (take-all i s h); after = e }

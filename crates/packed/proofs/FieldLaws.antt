@@ -16,7 +16,7 @@ use Rattle.packed.specs.Parse.{Parse, fail, got, Layout, andThen, foundI
 use Rattle.packed.specs.Packed.{readNumber, readText, part, isWithin}
 use Rattle.packed.specs.code.Located.{numberAt, textAt, Got, NumberReads, NameStops, NameReads}
 use Rattle.packed.proofs.LayoutLaws.{suchThat-got}
-use Rattle.packed.proofs.ReadLaws.{number-stops, text-stops}
+use Rattle.packed.proofs.ReadLaws.{number-stops, number-none, text-stops}
 
 -- ---- what is known of a call's answer in the arm of a `match`
 
@@ -47,7 +47,8 @@ module _ {A B : Type 0} (k : A → Layout B) where
   pub then-fail : {p : Parse A} {s : List ℕ} {at : ℕ} {a : A} {e : ℕ} → Got p s at a e → k a (drop e s) ≡ fail → andThen p k ≡ fail
   then-fail {p} {s} {at} {a} {e} g h = ap (λ (q : Parse A). andThen q k) (g .is) ∙ h
 
-  pub then-got : {p : Parse A} {s : List ℕ} {at : ℕ} {a : A} {e : ℕ} {b : B} {f : ℕ} → Got p s at a e → Got (k a (drop e s)) s e b f → Got (andThen p k) s at b f
+  pub then-got :
+      {p : Parse A} {s : List ℕ} {at : ℕ} {a : A} {e : ℕ} {b : B} {f : ℕ} → Got p s at a e → Got (k a (drop e s)) s e b f → Got (andThen p k) s at b f
   then-got {p} {s} {at} {a} {e} {b} {f} g h = record {
     is = ap (λ (q : Parse A). andThen q k) (g .is) ∙ h .is;
     after = omega (arith, g .after, h .after);
@@ -102,5 +103,21 @@ size-is most n h = rw (le-leb 1 n h)
 pub within-bounds : (least most n : ℕ) → isWithin least most n ≡ true → (least ≤ n) × (n ≤ most)
 within-bounds least most n e = let b = and-parts (leb least n) (leb n most) e in (leb-true least n (b .0), leb-true n most (b .1))
 
-pub got-bounds : {s : List ℕ} {at n next : ℕ} (least most : ℕ) → Got (suchThat (isWithin least most) readNumber (drop at s)) s at n next → (least ≤ n) × (n ≤ most)
+pub got-bounds :
+    {s : List ℕ} {at n next : ℕ} (least most : ℕ) → Got (suchThat (isWithin least most) readNumber (drop at s)) s at n next → (least ≤ n) × (n ≤ most)
 got-bounds {s} {at} {n} {next} least most g = within-bounds least most n (such-was (isWithin least most) readNumber s at g .1)
+
+-- the steps of reading one, each for a return of `read_within`: r is the answer for the number
+module _ (s : List ℕ) (at least most : ℕ) {r : NumberAt} (read : r ≡ numberAt s at) where
+  pub within-none : r ≡ NoNumber → suchThat (isWithin least most) readNumber (drop at s) ≡ fail
+  within-none e = such-none (isWithin least most) readNumber s at (number-none s at (sym read ∙ e))
+
+  module _ {n next : ℕ} (e : r ≡ Number n next) where
+    pub within-below : n < least → suchThat (isWithin least most) readNumber (drop at s) ≡ fail
+    within-below h = such-fail (isWithin least most) readNumber s at (number-here s at n next (sym read ∙ e)) (is-below least most n h)
+
+    pub within-above : least ≤ n → most < n → suchThat (isWithin least most) readNumber (drop at s) ≡ fail
+    within-above h k = such-fail (isWithin least most) readNumber s at (number-here s at n next (sym read ∙ e)) (is-above least most n h k)
+
+    pub within-got : least ≤ n → n ≤ most → Got (suchThat (isWithin least most) readNumber (drop at s)) s at n next
+    within-got h k = such-got (isWithin least most) readNumber s at (number-here s at n next (sym read ∙ e)) (is-within least most n h k)

@@ -91,21 +91,27 @@ module _ {a b : List ℕ} {x y : StringAt} {n m i : ℕ} (w : ComparesFrom a b x
   pub both-end : n ≤ i → m ≤ i → Ordering·eq ≡ texts .cmp X Y
   both-end h k = sym (w .is ∙ order-same X Y i (omega (arith, w .first)) (omega (arith, w .second)))
 
-  -- both have a byte i
-  module _ (h : i < n) (k : i < m) {p q : ℕ} (e : p ≡ getD X i 0) (f : q ≡ getD Y i 0) where
-    pub byte-less : p < q → Ordering·lt ≡ texts .cmp X Y
-    byte-less l = sym (w .is ∙ order-less X Y i (omega (arith, w .first)) (omega (arith, w .second)) (omega arith))
+  -- both have a byte i, and these are p and q
+  pub record BytesAt (p q : ℕ) : Type 0 where
+    pub in-first : i < length X
+    pub in-second : i < length Y
+    pub p-is : p ≡ getD X i 0
+    pub q-is : q ≡ getD Y i 0
 
-    pub byte-more : q < p → Ordering·gt ≡ texts .cmp X Y
-    byte-more l = sym (w .is ∙ order-more X Y i (omega (arith, w .first)) (omega (arith, w .second)) (omega arith))
+module _ {a b : List ℕ} {x y : StringAt} {n m i p q : ℕ} {w : ComparesFrom a b x y n m i} (v : BytesAt w p q) where
+  pub byte-less : p < q → Ordering·lt ≡ texts .cmp (X w) (Y w)
+  byte-less l = sym (w .is ∙ order-less (X w) (Y w) i (v .in-first) (v .in-second) (omega (arith, v .p-is, v .q-is)))
 
-    pub byte-same : p ≡ q → ComparesFrom a b x y n m (i + 1)
-    byte-same l = record {
-      first = w .first;
-      second = w .second;
-      within = omega arith;
-      is = w .is ∙ order-step X Y i (omega (arith, w .first)) (omega (arith, w .second)) (omega arith);
-    }
+  pub byte-more : q < p → Ordering·gt ≡ texts .cmp (X w) (Y w)
+  byte-more l = sym (w .is ∙ order-more (X w) (Y w) i (v .in-first) (v .in-second) (omega (arith, v .p-is, v .q-is)))
+
+  pub byte-same : q ≤ p → p ≤ q → ComparesFrom a b x y n m (i + 1)
+  byte-same l g = record {
+    first = w .first;
+    second = w .second;
+    within = omega (arith, v .in-first, w .first);
+    is = w .is ∙ order-step (X w) (Y w) i (v .in-first) (v .in-second) (omega (arith, v .p-is, v .q-is));
+  }
 
 -- ---- parts of a list
 

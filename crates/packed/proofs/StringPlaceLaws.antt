@@ -1,12 +1,15 @@
 -- The laws of strings that are lent as numbers, four for each place.
-use mathlib.Core.Path.{_≡_, refl, ap, ap₂, _∙_}
+use mathlib.Core.Path.{_≡_, refl, sym, ap, ap₂, _∙_, subst}
+use mathlib.Core.Bool.{Bool, true, false}
 use mathlib.Core.List.{List, _∷_}
-use Prim.Native.Nat.{ℕ, zero, suc, _+_, _*_, _<_}
+use Prim.Native.Nat.{ℕ, zero, suc, _+_, _-_, _*_, _≤_, _<_}
 use native.Mathlib.Omega.{arith}
 use lib.ListN.{length, getD, set, length-set}
 use lib.Seq.{getD-set-same, getD-set-other}
-use Rattle.packed.specs.code.Strings.{noString, stringIn, stringsFrom, stringsIn}
+use Rattle.model.specs.Order.{texts, pick}
+use Rattle.packed.specs.code.Strings.{noString, stringIn, stringsFrom, stringsIn, stringOf, StringFits, StringsFit, Inserted}
 use Rattle.packed.specs.declared.strings.StringAt.{StringAt}
+use Rattle.packed.proofs.StringLaws.{Moved, moved-none, moved-more, Before, before-none, before-more, last-fits, inserted-after, inserted-first}
 
 -- ---- the four numbers of a place
 
@@ -24,13 +27,13 @@ module _ (xs : List ℕ) (k : ℕ) (x : StringAt) where
   abbrev three : List ℕ
   three = set two (4 * k + 2) (x .second)
 
-  pub one-long : length one ≡ length xs
+  one-long : length one ≡ length xs
   one-long = length-set xs (4 * k) (x .first)
 
-  pub two-long : length two ≡ length xs
+  two-long : length two ≡ length xs
   two-long = length-set one (4 * k + 1) (x .colon) ∙ one-long
 
-  pub three-long : length three ≡ length xs
+  three-long : length three ≡ length xs
   three-long = length-set two (4 * k + 2) (x .second) ∙ two-long
 
   module _ (h : 4 * k + 3 < length xs) where
@@ -122,3 +125,65 @@ string-put xs k x h l =
     from-put xs (putFour xs k x) x 0 32 k h
     (ap (stringIn (putFour xs k x)) (omega arith) ∙ four-here xs k x (omega arith))
     (λ i n. four-other xs k x i (λ e. n (omega arith)))
+
+-- ---- inserting a string
+
+-- in `new` the strings of `old` from place k on stand one place further, and x comes before them
+pub record Placing (a b old : List ℕ) (count : ℕ) (x : StringAt) (new : List ℕ) (k : ℕ) : Type 0 where
+  pub fits : StringsFit a b (stringsIn old) count
+  pub fit : StringFits a b x
+  pub room : count < 32
+  pub long : length new ≡ 128
+  pub moved : Moved (stringsIn old) (stringsIn new) count k
+  pub before : Before a b (stringsIn old) count x k
+
+pub placing-none :
+    {a b old : List ℕ} {count : ℕ} {x : StringAt} → StringsFit a b (stringsIn old) count → StringFits a b x → count < 32 → length old ≡ 128 →
+    Placing a b old count x old count
+placing-none {a} {b} {old} {count} {x} f g r l = record {
+  fits = f;
+  fit = g;
+  room = r;
+  long = l;
+  moved = moved-none _ _ r (f .long);
+  before = before-none a b (stringsIn old) count x f g r;
+}
+
+module _ {a b old new : List ℕ} {count k : ℕ} {x : StringAt} (w : Placing a b old count x new k) where
+  pub placed-first : k ≤ 0 → {rs : List StringAt} → rs ≡ set (stringsIn new) k x → Inserted a b (stringsIn old) count x rs
+  placed-first h put =
+      subst (Inserted a b (stringsIn old) count x) (sym put)
+      (inserted-first a b (stringsIn old) count x (w .fits) (w .fit) (w .room) (stringsIn new) k (w .moved) (w .before) h)
+
+  -- y is the string before place k
+  module _ (h : 0 < k) {y : StringAt} (is : y ≡ stringIn new (k - 1)) where
+    y-is : y ≡ getD (stringsIn new) (k - 1) noString
+    y-is = is ∙ string-taken new (k - 1) (omega (arith, w .moved .low, w .room))
+
+    pub before-fits : StringFits a b y
+    before-fits =
+        subst (StringFits a b) (sym y-is)
+        (last-fits a b (stringsIn old) count x (w .fits) (w .fit) (w .room) (stringsIn new) k (w .moved) h)
+
+    module _ {t : Bool} (asked : t ≡ pick (texts .cmp (stringOf a b x) (stringOf a b y)) false false true) where
+      told : {v : Bool} → t ≡ v → pick (texts .cmp (stringOf a b x) (stringOf a b (getD (stringsIn new) (k - 1) noString))) false false true ≡ v
+      told e =
+          ap (λ (z : StringAt). pick (texts .cmp (stringOf a b x) (stringOf a b z)) false false true) (sym y-is) ∙ sym asked ∙ e
+
+      pub placed-after : t ≡ true → {rs : List StringAt} → rs ≡ set (stringsIn new) k x → Inserted a b (stringsIn old) count x rs
+      placed-after e put =
+          subst (Inserted a b (stringsIn old) count x) (sym put)
+          (inserted-after a b (stringsIn old) count x (w .fits) (w .fit) (w .room) (stringsIn new) k (w .moved) (w .before) h (told e))
+
+      pub placing-more :
+          t ≡ false → {r : List ℕ} → length r ≡ 128 → stringsIn r ≡ set (stringsIn new) k y → Placing a b old count x r (k - 1)
+      placing-more e l put = record {
+        fits = w .fits;
+        fit = w .fit;
+        room = w .room;
+        long = l;
+        moved =
+            subst (λ (ys : List StringAt). Moved (stringsIn old) ys count (k - 1)) (sym (put ∙ ap (set (stringsIn new) k) y-is))
+            (moved-more (stringsIn old) count (w .room) (w .fits .long) (stringsIn new) k (w .moved) h);
+        before = before-more a b (stringsIn old) count x (w .fits) (w .fit) (w .room) (stringsIn new) k (w .moved) h (told e);
+      }

@@ -1,17 +1,19 @@
 -- The laws of words of bytes: words of equal length are in the order of their bytes.
 -- Assumes nothing.
-use mathlib.Core.Path.{_≡_, refl, sym, ap, ap₂, _∙_}
+use mathlib.Core.Path.{_≡_, refl, sym, ap, ap₂, _∙_, subst}
 use mathlib.Core.List.{List, [], _∷_, _++_}
-use mathlib.Core.Logic.{_⊎_, ⊎-elim}
+use mathlib.Core.Logic.{_⊎_, inl, inr, ⊎-elim}
 use Prim.Native.Nat.{ℕ, zero, suc, _+_, _-_, _*_, _%_, _^_, _≤_, _<_, compare, Ordering, Ordering·lt, Ordering·gt}
 use native.Mathlib.Omega.{arith}
-use native.Mathlib.Numerals.{add-one}
+use mir.Syntax.{w8}
+use mir.Val.{Fits}
 use lib.Bits.{bitAnd, bitOr, or-shifted, and-block, and-self, and-zero-r}
 use lib.ListN.{length, take, drop, getD, replicate, length-drop, take-append-drop}
-use lib.Seq.{getD-drop, take-add, take-suc, take-take}
+use lib.Seq.{getD-drop, take-add, take-take}
 use Rattle.model.specs.Order.{texts, numbers, lists, lex, pick, nat-self, nat-same}
 use Rattle.model.proofs.Cases.{three}
 use Rattle.model.proofs.OrderLaws.{lt-compare, gt-compare, eq-compare, compare-lt, compare-gt}
+use Rattle.packed.specs.code.Comparison.{orderNumber}
 use Rattle.packed.specs.code.Words.{wordAfter, wordOf}
 use Rattle.packed.proofs.LayoutLaws.{lt-or-ge}
 use Rattle.packed.proofs.ReadLaws.{drop-next}
@@ -20,6 +22,13 @@ use Rattle.packed.proofs.OrderLaws.{order-first, order-second, order-sa
 -- each element is a byte
 abbrev pub Bytes : List ℕ → Type 0
 Bytes s = (k : ℕ) → getD s k 0 < 256
+
+-- what the check knows of a slice
+abbrev pub Known : List ℕ → Type 0
+Known s = (k : ℕ) → Fits w8 (getD s k 0)
+
+known-bytes : (s : List ℕ) → Known s → Bytes s
+known-bytes s h k = omega (arith, h k)
 
 bytes-drop : (s : List ℕ) (i : ℕ) → Bytes s → Bytes (drop i s)
 bytes-drop s i h k = rw (getD-drop i s k 0) (h (i + k))
@@ -77,76 +86,119 @@ unfolding texts lists lex numbers
 prefix-order [] u v = refl
 prefix-order (a ∷ x) u v = rw (nat-self a) (prefix-order x u v)
 
-pub alike-at : (a b : List ℕ) (i j : ℕ) → i ≡ j → take j a ≡ take j b → take i a ≡ take i b
-alike-at a b i j e h = rw e h
-
-module _ (a b : List ℕ) (i : ℕ) (e : take i a ≡ take i b) where
-  pub alike-order : texts .cmp a b ≡ texts .cmp (drop i a) (drop i b)
-  alike-order =
-      ap₂ (texts .cmp) (sym (take-append-drop i a)) (sym (take-append-drop i b) ∙ ap (λ (x : List ℕ). x ++ drop i b) (sym e))
-      ∙ prefix-order (take i a) (drop i a) (drop i b)
-
-  pub alike-before : (j : ℕ) → j ≤ i → take j a ≡ take j b
-  alike-before j h = sym (take-take j i a h) ∙ ap (take j) e ∙ take-take j i b h
-
-  -- one of them is at its end
-  pub alike-end : (n : ℕ) → n ≤ i → i ≤ length a → i ≤ length b → (length a ≤ n) ⊎ (length b ≤ n) → texts .cmp a b ≡ compare (length a) (length b)
-  alike-end n j h k d = alike-order ∙
-      three (compare (length a) (length b))
-      (λ l. let m = compare-lt (length a) (length b) l in
-      order-first a b i (⊎-elim (λ (x : length a ≤ n). omega arith) (λ (x : length b ≤ n). omega arith) d) (omega arith) ∙ sym l)
-      (λ s. let m = nat-same (length a) (length b) s in
-      order-same a b i (⊎-elim (λ (x : length a ≤ n). omega arith) (λ (x : length b ≤ n). omega arith) d)
-      (⊎-elim (λ (x : length a ≤ n). omega arith) (λ (x : length b ≤ n). omega arith) d) ∙ sym s)
-      (λ g. let m = compare-gt (length a) (length b) g in
-      order-second a b i (omega arith) (⊎-elim (λ (x : length a ≤ n). omega arith) (λ (x : length b ≤ n). omega arith) d) ∙ sym g)
-
-  pub alike-byte : i < length a → i < length b → getD a i 0 ≡ getD b i 0 → take (i + 1) a ≡ take (i + 1) b
-  alike-byte h k g = rw add-one (take-suc a i 0 h ∙ ap₂ {C = List ℕ} (λ x y. x ++ (y ∷ [])) e g ∙ sym (take-suc b i 0 k))
-
--- x and y are the words of n bytes at i, and the bytes before i are the same
-pub record WordsAt (a b : List ℕ) (i n x y : ℕ) : Type 0 where
-  pub alike : take i a ≡ take i b
+-- a and b are of bytes, the shorter one has n, and their first i bytes are the same
+pub record Alike (a b : List ℕ) (n i : ℕ) : Type 0 where
   pub a-bytes : Bytes a
   pub b-bytes : Bytes b
-  pub in-a : i + n ≤ length a
-  pub in-b : i + n ≤ length b
-  pub a-word : x ≡ wordOf (take n (drop i a))
-  pub b-word : y ≡ wordOf (take n (drop i b))
+  pub shorter : (n ≤ length a) × (n ≤ length b) × ((length a ≤ n) ⊎ (length b ≤ n))
+  pub within : i ≤ n
+  pub same : take i a ≡ take i b
 
-module _ {a b : List ℕ} {i n x y : ℕ} (w : WordsAt a b i n x y) where
-  a-left : n ≤ length (drop i a)
-  a-left = omega (arith, w .in-a, length-drop i a)
+pub alike-none : {a b : List ℕ} {n : ℕ} → Known a → Known b → (n ≤ length a) × (n ≤ length b) × ((length a ≤ n) ⊎ (length b ≤ n)) → Alike a b n 0
+alike-none {a} {b} p q h = record { a-bytes = known-bytes a p; b-bytes = known-bytes b q; shorter = h; within = omega arith; same = refl }
 
-  b-left : n ≤ length (drop i b)
-  b-left = omega (arith, w .in-b, length-drop i b)
+pub alike-as : {a b : List ℕ} {n i j : ℕ} → i ≡ j → Alike a b n j → Alike a b n i
+alike-as {a} {b} {n} e w = subst (Alike a b n) (sym e) w
 
-  pub alike-word : x ≡ y → take (i + n) a ≡ take (i + n) b
-  unfolding wordOf
-  alike-word e =
-      let words = sym (w .a-word) ∙ e ∙ w .b-word in
-      let same = words-same n 0 0 (drop i a) (drop i b) (bytes-drop a i (w .a-bytes)) (bytes-drop b i (w .b-bytes)) a-left b-left words in
-      take-add i n a ∙ ap₂ {C = List ℕ} (λ u v. u ++ v) (w .alike) (same .1) ∙ sym (take-add i n b)
+module _ {a b : List ℕ} {n i : ℕ} (w : Alike a b n i) where
+  same-before : (j : ℕ) → j ≤ i → take j a ≡ take j b
+  same-before j h = sym (take-take j i a h) ∙ ap (take j) (w .same) ∙ take-take j i b h
 
-  by-word : texts .cmp a b ≡ pick (compare x y) Ordering·lt (lex numbers (drop n (drop i a)) (drop n (drop i b))) Ordering·gt
+  order-from : (j : ℕ) → j ≤ i → texts .cmp a b ≡ texts .cmp (drop j a) (drop j b)
+  order-from j h =
+      ap₂ (texts .cmp) (sym (take-append-drop j a)) (sym (take-append-drop j b) ∙ ap (λ (x : List ℕ). x ++ drop j b) (sym (same-before j h)))
+      ∙ prefix-order (take j a) (drop j a) (drop j b)
+
+  -- one of them is at its end: the lengths decide
+  pub alike-all : n ≤ i → {r : ℕ} → r ≡ orderNumber (compare (length a) (length b)) → r ≡ orderNumber (texts .cmp a b)
+  alike-all h e =
+      let in-a = w .shorter .0 in
+      let in-b = w .shorter .1 in
+      let ends : (length a ≤ i) ⊎ (length b ≤ i) = ⊎-elim (λ x. inl (omega (arith, x))) (λ x. inr (omega (arith, x))) (w .shorter .2) in
+      e ∙ ap orderNumber (sym (order-from i (omega arith) ∙
+      three (compare (length a) (length b))
+      (λ l. let m = compare-lt (length a) (length b) l in
+      order-first a b i (⊎-elim (λ (x : length a ≤ i). x) (λ (x : length b ≤ i). omega arith) ends) (omega (arith, w .within)) ∙ sym l)
+      (λ s. let m = nat-same (length a) (length b) s in
+      order-same a b i (⊎-elim (λ (x : length a ≤ i). x) (λ (x : length b ≤ i). omega arith) ends)
+      (⊎-elim (λ (x : length a ≤ i). omega arith) (λ (x : length b ≤ i). x) ends) ∙ sym s)
+      (λ g. let m = compare-gt (length a) (length b) g in
+      order-second a b i (omega (arith, w .within)) (⊎-elim (λ (x : length a ≤ i). omega arith) (λ (x : length b ≤ i). x) ends) ∙ sym g)))
+
+  -- x and y are the words of the k bytes from j on, and the bytes before are the same
+  pub record WordsAt (j k x y : ℕ) : Type 0 where
+    pub low : j ≤ i
+    pub fits : j + k ≤ n
+    pub a-word : x ≡ wordOf (take k (drop j a))
+    pub b-word : y ≡ wordOf (take k (drop j b))
+
+pub words-at :
+    {a b : List ℕ} {n i x y : ℕ} (w : Alike a b n i) (j k : ℕ) → j ≤ i → j + k ≤ n →
+    x ≡ wordOf (take k (drop j a)) → y ≡ wordOf (take k (drop j b)) → WordsAt w j k x y
+words-at w j k h f p q = record { low = h; fits = f; a-word = p; b-word = q }
+
+module _ {a b : List ℕ} {n i j k x y : ℕ} {w : Alike a b n i} (v : WordsAt w j k x y) where
+  a-left : k ≤ length (drop j a)
+  a-left = omega (arith, v .fits, w .shorter .0, length-drop j a)
+
+  b-left : k ≤ length (drop j b)
+  b-left = omega (arith, v .fits, w .shorter .1, length-drop j b)
+
+  by-word : texts .cmp a b ≡ pick (compare x y) Ordering·lt (lex numbers (drop k (drop j a)) (drop k (drop j b))) Ordering·gt
   unfolding wordOf texts lists
   by-word =
-      rw (w .a-word)
-      (rw (w .b-word)
-      (alike-order a b i (w .alike)
-      ∙ words-order n 0 0 (drop i a) (drop i b) (bytes-drop a i (w .a-bytes)) (bytes-drop b i (w .b-bytes)) a-left b-left))
+      rw (v .a-word)
+      (rw (v .b-word)
+      (order-from w j (v .low)
+      ∙ words-order k 0 0 (drop j a) (drop j b) (bytes-drop a j (w .a-bytes)) (bytes-drop b j (w .b-bytes)) a-left b-left))
 
-  pub word-less : x < y → texts .cmp a b ≡ Ordering·lt
-  word-less l = by-word ∙ rw (lt-compare x y l)
+  pub word-less : x < y → 0 ≡ orderNumber (texts .cmp a b)
+  word-less l = let less : texts .cmp a b ≡ Ordering·lt = by-word ∙ rw (lt-compare x y l) in ap orderNumber (sym less)
 
-  pub word-more : y < x → texts .cmp a b ≡ Ordering·gt
-  word-more l = by-word ∙ rw (gt-compare x y l)
+  pub word-more : (x ≡ y → ⊥) → y ≤ x → 2 ≡ orderNumber (texts .cmp a b)
+  word-more e l = let more : texts .cmp a b ≡ Ordering·gt = by-word ∙ rw (gt-compare x y (omega arith)) in ap orderNumber (sym more)
+
+  pub word-same : x ≡ y → Alike a b n (j + k)
+  unfolding wordOf
+  word-same e =
+      let words = sym (v .a-word) ∙ e ∙ v .b-word in
+      let here = words-same k 0 0 (drop j a) (drop j b) (bytes-drop a j (w .a-bytes)) (bytes-drop b j (w .b-bytes)) a-left b-left words in
+      record {
+        a-bytes = w .a-bytes;
+        b-bytes = w .b-bytes;
+        shorter = w .shorter;
+        within = v .fits;
+        same = take-add j k a ∙ ap₂ {C = List ℕ} (λ u t. u ++ t) (same-before w j (v .low)) (here .1) ∙ sym (take-add j k b);
+      }
 
 -- ---- reading a word
 
 -- the first bytes from i on
 first-byte : (s : List ℕ) (i next k : ℕ) → i < length s → i + 1 ≡ next → take (suc k) (drop i s) ≡ getD s i 0 ∷ take k (drop next s)
 first-byte s i next k h e = rw (drop-next s i h, e)
+
+-- a byte is a word of one byte
+one : (s : List ℕ) (i : ℕ) → i < length s → getD s i 0 ≡ wordOf (take 1 (drop i s))
+unfolding wordOf wordAfter
+one s i h = rw (first-byte s i (i + 1) 0 h refl) (omega arith)
+
+module _ {a b : List ℕ} {n i : ℕ} (w : Alike a b n i) (h : i < n) where
+  bytes-at : WordsAt w i 1 (getD a i 0) (getD b i 0)
+  bytes-at = record {
+    low = omega arith;
+    fits = omega arith;
+    a-word = one a i (omega (arith, w .shorter .0));
+    b-word = one b i (omega (arith, w .shorter .1));
+  }
+
+  pub byte-less : getD a i 0 < getD b i 0 → 0 ≡ orderNumber (texts .cmp a b)
+  byte-less = word-less bytes-at
+
+  pub byte-more : (getD a i 0 ≡ getD b i 0 → ⊥) → getD b i 0 ≤ getD a i 0 → 2 ≡ orderNumber (texts .cmp a b)
+  byte-more = word-more bytes-at
+
+  pub byte-same : getD a i 0 ≡ getD b i 0 → Alike a b n (i + 1)
+  byte-same = word-same bytes-at
 
 pub eight :
     (s : List ℕ) (at : ℕ) → at + 8 ≤ length s →
@@ -264,9 +316,10 @@ low-bytes (suc k) m n (a ∷ x) p h e =
     low h f (suc j) l = f j (omega arith)
 
 pub all-low :
-    (s : List ℕ) (at w : ℕ) → Bytes s → at + 8 ≤ length s → w ≡ wordOf (take 8 (drop at s)) → bitAnd w 0x8080808080808080 ≡ 0 →
+    (s : List ℕ) (at w : ℕ) → Known s → at + 8 ≤ length s → w ≡ wordOf (take 8 (drop at s)) → bitAnd w 0x8080808080808080 ≡ 0 →
     (k : ℕ) → k < 8 → getD s (at + k) 0 < 128
 unfolding wordOf wordAfter
 all-low s at w p h q e k l =
     rw (← getD-drop at s k 0)
-    (low-bytes 8 0 0 (drop at s) (bytes-drop s at p) (omega (arith, length-drop at s)) (ap (λ (x : ℕ). bitAnd x 0x8080808080808080) (sym q) ∙ e) .1 k l)
+    (low-bytes 8 0 0 (drop at s) (bytes-drop s at (known-bytes s p)) (omega (arith, length-drop at s))
+    (ap (λ (x : ℕ). bitAnd x 0x8080808080808080) (sym q) ∙ e) .1 k l)

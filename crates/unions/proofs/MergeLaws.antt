@@ -2,7 +2,8 @@
 use mathlib.Core.Path.{_≡_, refl, sym, ap, ap₂, _∙_, subst}
 use mathlib.Core.Logic.{_⊎_, inl, inr, ⊎-elim}
 use mathlib.Core.Bool.{Bool, true, false, cond}
-use mathlib.Core.List.{List, [], _∷_, _++_, append-assoc, map, flatten, List·Memᴰ, List·Memᴰ·head, List·Memᴰ·tail, List·Memᴰ·cases-cons, List·Memᴰ·not-nil, List·Memᴰ·append-cases, Memᴰ·append-left, Memᴰ·append-right, Memᴰ·cast}
+use mathlib.Core.List.{List, [], _∷_, _++_, append-assoc, map, flatten, List·Memᴰ, List·Memᴰ·head, List·Memᴰ·tail, List·Memᴰ·cases-cons, List·Memᴰ·not-nil}
+use mathlib.Core.List.{List·Memᴰ·append-cases, Memᴰ·append-left, Memᴰ·append-right, Memᴰ·cast}
 use Prim.Native.Nat.{ℕ, zero, suc, _+_, _^_, _≤_, _<_, Ordering, Ordering·lt, Ordering·eq, Ordering·gt}
 use native.Mathlib.Omega.{arith}
 use native.Mathlib.Numerals.{add-one}
@@ -44,7 +45,9 @@ passed-member m [] a n = n
 passed-member m (x ∷ xs) a n = truth (equal texts x m) (λ t. List·Memᴰ·tail (rw t at n)) (λ f. rw f at n)
 
 -- where m is no larger than any, it is less than all that are left
-above-passed : (m : Text) (xs : List Text) → Ups texts xs → ((a : Text) → List·Memᴰ a xs → (m ≡ a) ⊎ (texts .cmp m a ≡ Ordering·lt)) → (a : Text) → List·Memᴰ a (passed m xs) → texts .cmp m a ≡ Ordering·lt
+above-passed :
+    (m : Text) (xs : List Text) → Ups texts xs → ((a : Text) → List·Memᴰ a xs → (m ≡ a) ⊎ (texts .cmp m a ≡ Ordering·lt)) → (a : Text) →
+    List·Memᴰ a (passed m xs) → texts .cmp m a ≡ Ordering·lt
 unfolding passed
 above-passed m [] h low a n = absurd (List·Memᴰ·not-nil n)
 above-passed m (x ∷ xs) h low a n =
@@ -70,7 +73,9 @@ member-flat m (xs ∷ xss) a n = ⊎-elim
     (λ k. Memᴰ·append-right xs (member-flat m xss a k))
     (List·Memᴰ·append-cases (passed m xs) n)
 
-above-flat : (m : Text) (xss : List (List Text)) → All (Ups texts) xss → ((a : Text) → List·Memᴰ a (flatten xss) → (m ≡ a) ⊎ (texts .cmp m a ≡ Ordering·lt)) → (a : Text) → List·Memᴰ a (flatten (map (passed m) xss)) → texts .cmp m a ≡ Ordering·lt
+above-flat :
+    (m : Text) (xss : List (List Text)) → All (Ups texts) xss → ((a : Text) → List·Memᴰ a (flatten xss) → (m ≡ a) ⊎ (texts .cmp m a ≡ Ordering·lt)) →
+    (a : Text) → List·Memᴰ a (flatten (map (passed m) xss)) → texts .cmp m a ≡ Ordering·lt
 unfolding flatten
 above-flat m [] h low a n = absurd (List·Memᴰ·not-nil n)
 above-flat m (xs ∷ xss) h low a n = ⊎-elim
@@ -86,7 +91,9 @@ canon-above : (m : Text) (zs : List Text) → ((a : Text) → List·Memᴰ a zs 
 unfolding canon merge
 canon-above m zs h = merge-left texts itself first (λ a b e. refl) m [] (canon texts zs) tt (above-all m (canon texts zs) (λ a n. h a (canon-of texts zs a n)))
 
-pub canon-least : (xss : List (List Text)) (m : Text) → All (Ups texts) xss → smallest texts (flatten xss) ≡ m ∷ [] → canon texts (flatten xss) ≡ m ∷ canon texts (flatten (map (passed m) xss))
+pub canon-least :
+    (xss : List (List Text)) (m : Text) → All (Ups texts) xss → smallest texts (flatten xss) ≡ m ∷ [] →
+    canon texts (flatten xss) ≡ m ∷ canon texts (flatten (map (passed m) xss))
 canon-least xss m h e =
     let w = smallest-member texts (flatten xss) [] m e in
     canon-same texts (flatten xss) (m ∷ flatten (map (passed m) xss)) (
@@ -125,7 +132,14 @@ module _ (s : List ℕ) (at end : ℕ) where
   unfolding flatten
   set-end [] h r = refl
   set-end (x ∷ xs) h r =
-      absurd (omega (arith, ap length (r .bytes), part-length s at end (r .order) (r .within), length-append (text x) (flatten (map text xs)), text-length x, number-bounds (length x)))
+      absurd (omega (
+        arith,
+        ap length (r .bytes),
+        part-length s at end (r .order) (r .within),
+        length-append (text x) (flatten (map text xs)),
+        text-length x,
+        number-bounds (length x),
+      ))
 
   pub set-no-head : length s < 2 ^ 64 → NoHead form.Texts s at → (xs : List Text) → SetRun s at end xs → xs ≡ []
   unfolding flatten
@@ -147,7 +161,9 @@ module _ (s : List ℕ) (at end : ℕ) where
     set-smallest xs r = ap (take 1) (canon-ups texts xs (rising-ups texts xs .0 (r .rises)) ∙ set-first xs r .all)
 
 -- what is left after the first value
-set-rest : (s : List ℕ) (end e : ℕ) (xs : List Text) (v : Text) → e ≤ length s → end ≤ length s → (w : First form.Texts xs v (drop e s) (drop end s)) → SetRun s e end (w .more)
+set-rest :
+    (s : List ℕ) (end e : ℕ) (xs : List Text) (v : Text) → e ≤ length s → end ≤ length s → (w : First form.Texts xs v (drop e s) (drop end s)) →
+    SetRun s e end (w .more)
 set-rest s end e xs v h k w = run-is s e end (w .more) h k (w .left)
 
 -- ---- one run more is taken in

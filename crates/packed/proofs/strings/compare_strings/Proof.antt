@@ -1,6 +1,8 @@
+-- `compare_strings` meets its contract. The loop's invariant: the strings compare as they do from byte i on (`ComparesFrom`). Bytes that differ decide, and so
+-- does the string that ends first.
 use native.Mathlib.Omega.{arith}
 use Prim.Native.Nat.{_-_}
-use Rattle.packed.proofs.StringLaws.{ComparesFrom, compares-all, first-ends, second-ends, both-end, byte-less, byte-more, byte-same}
+use Rattle.packed.proofs.StringLaws.{ComparesFrom, compares-all, first-ends, second-ends, both-end, BytesAt, byte-less, byte-more, byte-same}
 use borrow.Author.Needs.{needs}
 use Rattle.packed.proofs.strings.compare_strings.Statement.{statement}
 use Rattle.packed.proofs.strings.compare_strings.Tie as tie
@@ -11,48 +13,37 @@ Inv-loop a b x y n m i₀ i = ComparesFrom a b x y n m i
 abbrev μ-loop : tie.MeasureT-loop
 μ-loop a b x y n m i₀ i = n - i
 
-string-size-requires : tie.Need-string-size-requires Inv-loop μ-loop
-string-size-requires c κs = c .before .before .pre .0
+-- ---- the places
 
-string-size-requires-2 : tie.Need-string-size-requires-2 Inv-loop μ-loop
-string-size-requires-2 c κs = c .before .before .before .pre .1
+abbrev to-turn : tie.After-string-byte2 Inv-loop μ-loop → tie.At-loop Inv-loop μ-loop
+to-turn c = c .before .before .before .before
 
-loop-holds : tie.Need-loop-holds Inv-loop μ-loop
-loop-holds c = compares-all (c .before .string-size .ensures) (c .string-size2 .ensures)
+abbrev to-start : tie.At-loop Inv-loop μ-loop → tie.Start Inv-loop μ-loop
+to-start c = c .before .before .before .before .before
 
-returns : tie.Need-returns Inv-loop μ-loop
-returns c = second-ends (c .before .before .loop .inv) (omega arith) (omega arith)
+-- ---- the facts
+
+bytes : (c : tie.After-string-byte2 Inv-loop μ-loop) → BytesAt (to-turn c .loop .inv) (c .before .string-byte .result) (c .string-byte2 .result)
+bytes c =
+    let w = to-turn c .loop .inv in
+    record {
+      in-first = omega (arith, w .first);
+      in-second = omega (arith, w .second);
+      p-is = c .before .string-byte .ensures;
+      q-is = c .string-byte2 .ensures;
+    }
+
+-- ---- the needs
 
 string-byte-requires : tie.Need-string-byte-requires Inv-loop μ-loop
 string-byte-requires c κs =
-    let l = c .before .before in
-    (l .before .before .before .before .before .pre .0, omega (arith, l .loop .inv .first))
+    let turn = c .before .before in
+    (to-start turn .pre .0, omega (arith, turn .loop .inv .first))
 
 string-byte-requires-2 : tie.Need-string-byte-requires-2 Inv-loop μ-loop
 string-byte-requires-2 c κs =
-    let l = c .before .before .before in
-    (l .before .before .before .before .before .pre .1, omega (arith, l .loop .inv .second))
-
-returns-2 : tie.Need-returns-2 Inv-loop μ-loop
-returns-2 c =
-    byte-less (c .before .before .before .before .before .loop .inv) (omega arith) (omega arith)
-    (c .before .before .string-byte .ensures) (c .before .string-byte2 .ensures) (omega arith)
-
-returns-3 : tie.Need-returns-3 Inv-loop μ-loop
-returns-3 c =
-    byte-more (c .before .before .before .before .before .before .loop .inv) (omega arith) (omega arith)
-    (c .before .before .before .string-byte .ensures) (c .before .before .string-byte2 .ensures) (omega arith)
-
-loop-again : tie.Need-loop-again Inv-loop μ-loop
-loop-again c =
-    byte-same (c .before .before .before .before .before .before .loop .inv) (omega arith) (omega arith)
-    (c .before .before .before .string-byte .ensures) (c .before .before .string-byte2 .ensures) (omega arith)
-
-returns-4 : tie.Need-returns-4 Inv-loop μ-loop
-returns-4 c = first-ends (c .before .before .loop .inv) (omega arith) (omega arith)
-
-returns-5 : tie.Need-returns-5 Inv-loop μ-loop
-returns-5 c = both-end (c .before .before .loop .inv) (omega arith) (omega arith)
+    let turn = c .before .before .before in
+    (to-start turn .pre .1, omega (arith, turn .loop .inv .second))
 
 pub compare-strings-spec : {M : Type 1} → statement M
 compare-strings-spec =
@@ -60,16 +51,16 @@ compare-strings-spec =
     (tie.spec
     Inv-loop
     μ-loop
-    string-size-requires
-    string-size-requires-2
-    loop-holds
-    returns
+    (λ c κs. c .before .before .pre .0)
+    (λ c κs. c .before .before .before .pre .1)
+    (λ c. compares-all (c .before .string-size .ensures) (c .string-size2 .ensures))
+    (λ c. second-ends (c .before .before .loop .inv) (omega arith) (omega arith))
     string-byte-requires
     string-byte-requires-2
-    returns-2
-    returns-3
+    (λ c. byte-less (bytes (c .before)) (c .if2 .taken))
+    (λ c. byte-more (bytes (c .before .before)) (c .if3 .taken))
     (λ c. search needs)
     (λ c. search needs)
-    loop-again
-    returns-4
-    returns-5)
+    (λ c. byte-same (bytes (c .before .before)) (c .before .if2 .left) (c .if3 .left))
+    (λ c. first-ends (c .before .before .loop .inv) (omega arith) (omega arith))
+    (λ c. both-end (c .before .before .loop .inv) (omega arith) (omega arith)))

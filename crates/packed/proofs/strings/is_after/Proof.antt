@@ -1,20 +1,16 @@
-use Prim.Native.Nat.{Ordering}
-use mathlib.Core.Path.{sym, ap, _∙_}
-use mathlib.Core.Bool.{true, false}
-use Rattle.model.specs.Order.{pick}
-use Rattle.packed.specs.code.Comparison.{ordering}
+use Rattle.packed.proofs.OrderLaws.{after-is}
 use borrow.Author.Needs.{needs}
 use Rattle.packed.proofs.strings.is_after.Statement.{statement}
 use Rattle.packed.proofs.strings.is_after.Tie as tie
 
 returns : tie.Need-returns
-returns c = ap (λ (o : Ordering). pick o false false true) (sym (ap ordering (c .enum-told .given .1)) ∙ c .before .before .compare-strings .ensures)
+returns c = after-is (c .enum-told .given .1) (c .before .before .compare-strings .ensures)
 
 returns-2 : tie.Need-returns-2
-returns-2 c = ap (λ (o : Ordering). pick o false false true) (sym (ap ordering (c .enum-told2 .given .1)) ∙ c .before .before .compare-strings .ensures)
+returns-2 c = after-is (c .enum-told2 .given .1) (c .before .before .compare-strings .ensures)
 
 returns-3 : tie.Need-returns-3
-returns-3 c = ap (λ (o : Ordering). pick o false false true) (sym (ap ordering (c .enum-told3 .given .1)) ∙ c .before .before .compare-strings .ensures)
+returns-3 c = after-is (c .enum-told3 .given .1) (c .before .before .compare-strings .ensures)
 
 pub is-after-spec : {M : Type 1} → statement M
 is-after-spec =

@@ -10,36 +10,12 @@ use borrow.Author.Needs.{needs}
 use Rattle.packed.proofs.write.copy_eight.Statement.{statement}
 use Rattle.packed.proofs.write.copy_eight.Tie as tie
 
--- ---- the place
+-- ---- the places
 
 abbrev to-start : tie.After-shared-slice-known8 → tie.Start
 to-start c = c .before .before .before .before .before .before .before .before
 
 -- ---- the needs
-
-slice-write-out-2 : tie.Need-slice-write-out-2
-slice-write-out-2 c = simp length-set (omega arith)
-
-slice-write-out-3 : tie.Need-slice-write-out-3
-slice-write-out-3 c = simp length-set (omega arith)
-
-slice-write-out-4 : tie.Need-slice-write-out-4
-slice-write-out-4 c = simp length-set (omega arith)
-
-slice-write-out-5 : tie.Need-slice-write-out-5
-slice-write-out-5 c = simp length-set (omega arith)
-
-slice-write-out-6 : tie.Need-slice-write-out-6
-slice-write-out-6 c = simp length-set (omega arith)
-
-slice-write-out-7 : tie.Need-slice-write-out-7
-slice-write-out-7 c = simp length-set (omega arith)
-
-slice-write-out-8 : tie.Need-slice-write-out-8
-slice-write-out-8 c = simp length-set (omega arith)
-
-same-length : tie.Need-same-length
-same-length c = simp length-set
 
 returns : tie.Need-returns
 returns c =
@@ -67,18 +43,18 @@ copy-eight-spec =
     (λ c. search needs)
     (λ c. search needs)
     (λ c. search needs)
-    slice-write-out-2
+    (λ c. simp length-set (omega arith))
     (λ c. search needs)
-    slice-write-out-3
+    (λ c. simp length-set (omega arith))
     (λ c. search needs)
-    slice-write-out-4
+    (λ c. simp length-set (omega arith))
     (λ c. search needs)
-    slice-write-out-5
+    (λ c. simp length-set (omega arith))
     (λ c. search needs)
-    slice-write-out-6
+    (λ c. simp length-set (omega arith))
     (λ c. search needs)
-    slice-write-out-7
+    (λ c. simp length-set (omega arith))
     (λ c. search needs)
-    slice-write-out-8
-    same-length
+    (λ c. simp length-set (omega arith))
+    (λ c. simp length-set)
     returns)
