@@ -1,5 +1,5 @@
 -- The laws of writing a number before bytes that stand already: stores at different places can change their order, and what is stored last covers.
-use mathlib.Core.Path.{_≡_, refl, sym, ap, ap₂, _∙_}
+use mathlib.Core.Path.{_≡_, refl, sym, ap, ap₂, _∙_, subst}
 use mathlib.Core.List.{List, [], _∷_, _++_, append-assoc}
 use Prim.Native.Nat.{ℕ, suc, _+_, _-_, _≤_, _<_}
 use native.Mathlib.Omega.{arith}
@@ -37,28 +37,37 @@ part-next l k to h b =
 
 -- those from i up to `to` have moved
 pub record MovedFrom (l : List ℕ) (to by i : ℕ) (l′ : List ℕ) : Type 0 where
+  pub long : length l′ ≡ length l
   pub bytes : l′ ≡ sets l (i + by) (part l i to)
 
-module _ (l : List ℕ) (to by : ℕ) where
-  pub moved-none : MovedFrom l to by to l
-  moved-none = let e : to - to ≡ 0 = omega arith in record { bytes = ap (λ (n : ℕ). sets l (to + by) (take n (drop to l))) (sym e) }
+pub moved-by : {l l′ : List ℕ} {to by i : ℕ} → l′ ≡ sets l (i + by) (part l i to) → MovedFrom l to by i l′
+moved-by {l} {l′} {to} {by} {i} e = record { long = ap length e ∙ length-sets l (i + by) (part l i to); bytes = e }
 
-  pub moved-more : (k : ℕ) (l′ : List ℕ) → k < to → to ≤ length l → MovedFrom l to by (k + 1) l′ → MovedFrom l to by k (set l′ (k + by) (getD l′ k 0))
-  moved-more k l′ h b m =
+module _ {l : List ℕ} {to by : ℕ} where
+  pub moved-none : MovedFrom l to by to l
+  moved-none = let e : to - to ≡ 0 = omega arith in moved-by (ap (λ (n : ℕ). sets l (to + by) (take n (drop to l))) (sym e))
+
+  one-more : (k : ℕ) (l′ : List ℕ) → k < to → to ≤ length l → MovedFrom l to by (k + 1) l′ → MovedFrom l to by k (set l′ (k + by) (getD l′ k 0))
+  one-more k l′ h b m =
       let after = part l (k + 1) to in
       let a = getD l k 0 in
       let e : k + 1 + by ≡ suc (k + by) = omega arith in
-      record {
-        bytes =
-            ap (λ (x : List ℕ). set x (k + by) (getD x k 0)) (m .bytes)
-            ∙ ap (set (sets l (k + 1 + by) after) (k + by)) (load-before l (k + 1 + by) after k (omega arith))
-            ∙ store-before l (k + 1 + by) after (k + by) a (omega arith)
-            ∙ ap (λ (i : ℕ). sets (set l (k + by) a) i after) e
-            ∙ ap (sets l (k + by)) (sym (part-next l k to h b));
-      }
+      moved-by (
+      ap (λ (x : List ℕ). set x (k + by) (getD x k 0)) (m .bytes)
+      ∙ ap (set (sets l (k + 1 + by) after) (k + by)) (load-before l (k + 1 + by) after k (omega arith))
+      ∙ store-before l (k + 1 + by) after (k + by) a (omega arith)
+      ∙ ap (λ (i : ℕ). sets (set l (k + by) a) i after) e
+      ∙ ap (sets l (k + by)) (sym (part-next l k to h b))
+      )
 
-pub moved-length : {l l′ : List ℕ} {to by i : ℕ} → MovedFrom l to by i l′ → length l′ ≡ length l
-moved-length {l} {l′} {to} {by} {i} m = ap length (m .bytes) ∙ length-sets l (i + by) (part l i to)
+  module _ {i : ℕ} {l′ : List ℕ} (m : MovedFrom l to by i l′) where
+    pub moved-more : 0 < i → i ≤ to → to ≤ length l → MovedFrom l to by (i - 1) (set l′ (i - 1 + by) (getD l′ (i - 1) 0))
+    moved-more z h b =
+        let e : i ≡ i - 1 + 1 = omega arith in
+        one-more (i - 1) l′ (omega arith) b (subst (λ (k : ℕ). MovedFrom l to by k l′) e m)
+
+    pub moved-all : (from : ℕ) → i ≡ from → l′ ≡ sets l (from + by) (part l from to)
+    moved-all from e = subst (λ (k : ℕ). MovedFrom l to by k l′) e m .bytes
 
 -- by no place
 pub moved-not : (l : List ℕ) (from to by : ℕ) → by ≡ 0 → from ≤ to → to ≤ length l → MovedFrom l to by from l
@@ -67,17 +76,14 @@ moved-not l from to by z h b =
     let n = part-length l from to h b in
     let e : from + length bytes ≡ to = omega (arith, n) in
     let f : from + by ≡ from = omega arith in
-    record {
-      bytes =
-          sym (
-          ap (λ (i : ℕ). sets l i bytes) f
-          ∙ sets-eq bytes l from (omega (arith, e))
-          ∙ ap (λ (i : ℕ). take from l ++ bytes ++ drop i l) e
-          ∙ append-assoc (take from l) bytes (drop to l)
-          ∙ ap (λ (r : List ℕ). take from l ++ r) (sym (part-then l from to h b))
-          ∙ take-append-drop from l
-          );
-    }
+    moved-by (sym (
+    ap (λ (i : ℕ). sets l i bytes) f
+    ∙ sets-eq bytes l from (omega (arith, e))
+    ∙ ap (λ (i : ℕ). take from l ++ bytes ++ drop i l) e
+    ∙ append-assoc (take from l) bytes (drop to l)
+    ∙ ap (λ (r : List ℕ). take from l ++ r) (sym (part-then l from to h b))
+    ∙ take-append-drop from l
+    ))
 
 -- ---- a number before bytes that stand already
 

@@ -22,10 +22,12 @@ use Rattle.packed.specs.Packed.{text, part}
 use Rattle.packed.proofs.LayoutLaws.{All, text-length, number-bounds}
 use Rattle.packed.proofs.ReadLaws.{part-length, stretch}
 use Rattle.packed.specs.code.Written.{Wrote, ToGo}
-use Rattle.packed.proofs.WriteLaws.{to-go, all-gone}
+use Rattle.packed.proofs.WriteLaws.{to-go, all-gone, wrote-length}
+use Rattle.packed.specs.code.Comparison.{orderNumber}
+use Rattle.packed.proofs.OrderLaws.{number-less, number-equal, number-more}
 use Rattle.unions.specs.declared.heads.Form.the-variants as form
 use Rattle.unions.specs.code.Runs.{written, run, Run, HeadIs, NoHead}
-use Rattle.unions.specs.code.Merging.{SetRun, SetRuns, passed, Told, RightLeast, leastText, valueAt, LeastTo, Lesser, IsLeast}
+use Rattle.unions.specs.code.Merging.{SetRun, SetRuns, passed, Told, RightLeast, leastText, valueAt, LeastTo, Lesser, IsLeast, MergedRoom}
 use Rattle.unions.proofs.RunLaws.{First, part-then, head-part, run-head, texts-fit, write-room, write-next}
 
 -- ---- the least value of rising lists is the first of their union, and the others follow without it
@@ -128,7 +130,7 @@ module _ (s : List ℕ) (at end : ℕ) where
       record { bytes = w .0; order = w .1; within = k; rises = rising-ups texts xs .1 (r .rises) }
 
   -- an empty stretch has no values
-  pub set-end : (xs : List Text) → end ≤ at → SetRun s at end xs → xs ≡ []
+  set-end : (xs : List Text) → end ≤ at → SetRun s at end xs → xs ≡ []
   unfolding flatten
   set-end [] h r = refl
   set-end (x ∷ xs) h r =
@@ -141,7 +143,7 @@ module _ (s : List ℕ) (at end : ℕ) where
         number-bounds (length x),
       ))
 
-  pub set-no-head : length s < 2 ^ 64 → NoHead form.Texts s at → (xs : List Text) → SetRun s at end xs → xs ≡ []
+  set-no-head : length s < 2 ^ 64 → NoHead form.Texts s at → (xs : List Text) → SetRun s at end xs → xs ≡ []
   unfolding flatten
   set-no-head l w [] r = refl
   set-no-head l w (x ∷ xs) r =
@@ -227,7 +229,7 @@ abbrev onward : Told → ℕ → ℕ → Told
 onward r j q = record { found = r .found; start = r .start; value = r .value; end = r .end; after = set (r .after) j q }
 
 -- the value from p up to q, which stands first in run j
-abbrev pub headOf : List ℕ → ℕ → ℕ → ℕ → Told
+abbrev headOf : List ℕ → ℕ → ℕ → ℕ → Told
 headOf ats j p q = record { found = true; start = getD ats j 0; value = p; end = q; after = set ats j q }
 
 module _
@@ -293,7 +295,7 @@ module _
       }
 
 module _ (s : List ℕ) (best : Told) (ats : List ℕ) (j end : ℕ) where
-  pub lesser-none : RightLeast s best → ((xs : List Text) → SetRun s (getD ats j 0) end xs → xs ≡ []) → Lesser s best ats j end best
+  lesser-none : RightLeast s best → ((xs : List Text) → SetRun s (getD ats j 0) end xs → xs ≡ []) → Lesser s best ats j end best
   unfolding passed
   lesser-none r k = record {
     right = r;
@@ -318,7 +320,7 @@ module _ (s : List ℕ) (best : Told) (ats : List ℕ) (j end : ℕ) where
     run-least : (xs : List Text) → SetRun s (getD ats j 0) end xs → smallest texts xs ≡ first-text ∷ []
     run-least = set-smallest s (getD ats j 0) end l some p q w
 
-    pub lesser-first : j < length ats → best .found ≡ false → Lesser s best ats j end (headOf ats j p q)
+    lesser-first : j < length ats → best .found ≡ false → Lesser s best ats j end (headOf ats j p q)
     lesser-first long f = record {
       right = λ t. w;
       more = λ ends n xss v h e b.
@@ -339,7 +341,7 @@ module _ (s : List ℕ) (best : Told) (ats : List ℕ) (j end : ℕ) where
           ∙ ap (λ (o : Ordering). pick o (leastText s best ∷ []) (leastText s best ∷ []) (first-text ∷ []))
           (texts .turn first-text (leastText s best) ∙ ap flip c)
 
-      pub lesser-less : j < length ats → texts .cmp first-text (leastText s best) ≡ Ordering·lt →
+      lesser-less : j < length ats → texts .cmp first-text (leastText s best) ≡ Ordering·lt →
           Lesser s best ats j end (headOf ats j p q)
       lesser-less long c = record {
         right = λ t. w;
@@ -352,7 +354,7 @@ module _ (s : List ℕ) (best : Told) (ats : List ℕ) (j end : ℕ) where
             (rw e (run-passed first-text refl (getD xss j []) r));
       }
 
-      pub lesser-both : RightLeast s best → j < length (best .after) → texts .cmp first-text (leastText s best) ≡ Ordering·eq →
+      lesser-both : RightLeast s best → j < length (best .after) → texts .cmp first-text (leastText s best) ≡ Ordering·eq →
           Lesser s best ats j end (onward best j q)
       lesser-both right long c = record {
         right = right;
@@ -364,7 +366,7 @@ module _ (s : List ℕ) (best : Told) (ats : List ℕ) (j end : ℕ) where
             (rw e (run-passed (leastText s best) (texts .same first-text (leastText s best) c) (getD xss j []) r));
       }
 
-      pub lesser-kept : RightLeast s best → texts .cmp first-text (leastText s best) ≡ Ordering·gt → Lesser s best ats j end best
+      lesser-kept : RightLeast s best → texts .cmp first-text (leastText s best) ≡ Ordering·gt → Lesser s best ats j end best
       unfolding passed
       lesser-kept right c = record {
         right = right;
@@ -376,10 +378,75 @@ module _ (s : List ℕ) (best : Told) (ats : List ℕ) (j end : ℕ) where
             (λ t. rw (run-first (getD xss j []) r .all, equal-false texts first-text (leastText s best) .1 ne));
       }
 
+-- ---- the answers of `lesser`
+
+-- run j is taken in, and where nothing is found the runs still go on as they did
+abbrev pub Answer : List ℕ → Told → List ℕ → ℕ → ℕ → Told → Type 0
+Answer s best ats j end r = Lesser s best ats j end r × (r .found ≡ false → r .after ≡ ats)
+
+module _ {s : List ℕ} {best : Told} {ats : List ℕ} {j end : ℕ} (right : RightLeast s best) (fresh : best .found ≡ false → best .after ≡ ats) where
+  pub answer-end : end ≤ getD ats j 0 → Answer s best ats j end best
+  answer-end h = (lesser-none s best ats j end right (λ xs r. set-end s (getD ats j 0) end xs h r), fresh)
+
+  pub answer-no-head : length s < 2 ^ 64 → NoHead form.Texts s (getD ats j 0) → Answer s best ats j end best
+  answer-no-head l h = (lesser-none s best ats j end right (set-no-head s (getD ats j 0) end l h), fresh)
+
+-- the value from p up to q stands first in run j
+pub record HeadOf (s : List ℕ) (best : Told) (ats : List ℕ) (j end p q : ℕ) : Type 0 where
+  pub short : length s < 2 ^ 64
+  pub some : getD ats j 0 < end
+  pub in-ats : j < length ats
+  pub in-after : j < length (best .after)
+  pub right : RightLeast s best
+  pub fresh : best .found ≡ false → best .after ≡ ats
+  pub head : HeadIs form.Texts s (getD ats j 0) p q
+
+module _ {s : List ℕ} {best : Told} {ats : List ℕ} {j end p q : ℕ} (w : HeadOf s best ats j end p q) where
+  -- it is the answer, where run j went on as the others in l
+  taken :
+      (l : List ℕ) → l ≡ ats → Lesser s best ats j end (headOf ats j p q) →
+      Answer s best ats j end (record { found = true; start = getD ats j 0; value = p; end = q; after = set l j q })
+  taken l e v = (
+    subst
+        (λ (m : List ℕ). Lesser s best ats j end (record { found = true; start = getD ats j 0; value = p; end = q; after = set m j q }))
+        (sym e)
+        v,
+    λ t. never (cc t),
+  )
+
+  pub first-answer :
+      best .found ≡ false → Answer s best ats j end (record { found = true; start = getD ats j 0; value = p; end = q; after = set (best .after) j q })
+  first-answer f = taken (best .after) (w .fresh f) (lesser-first s best ats j end (w .short) (w .some) p q (w .head) (w .in-ats) f)
+
+  -- the least so far, with which it is compared, stands in s too
+  pub least-inside : best .found ≡ true → (p ≤ q) × (q ≤ length s) × (best .value ≤ best .end) × (best .end ≤ length s)
+  least-inside f = let least = w .right f in (w .head .order, w .head .within, least .order, least .within)
+
+  pub record Compared (r : ℕ) : Type 0 where
+    pub found : best .found ≡ true
+    pub order : r ≡ orderNumber (texts .cmp (part s p q) (leastText s best))
+
+module _ {s : List ℕ} {best : Told} {ats : List ℕ} {j end p q r : ℕ} {w : HeadOf s best ats j end p q} (v : Compared w r) where
+  pub less-answer :
+      r ≡ 0 → {l : List ℕ} → l ≡ ats → Answer s best ats j end (record { found = true; start = getD ats j 0; value = p; end = q; after = set l j q })
+  less-answer e {l} g =
+      taken w l g
+      (lesser-less s best ats j end (w .short) (w .some) p q (w .head) (v .found) (w .in-ats) (sym (number-less _ (v .order) e)))
+
+  pub both-answer : r ≡ 1 → Answer s best ats j end (onward best j q)
+  both-answer e = (
+    lesser-both s best ats j end (w .short) (w .some) p q (w .head) (v .found) (w .right) (w .in-after) (sym (number-equal _ (v .order) e)),
+    λ t. never (cc (sym (v .found) ∙ t)),
+  )
+
+  pub kept-answer : 2 ≤ r → Answer s best ats j end best
+  kept-answer e =
+      (lesser-kept s best ats j end (w .short) (w .some) p q (w .head) (v .found) (w .right) (sym (number-more _ (v .order) e)), w .fresh)
+
 -- ---- the least of the first values of all runs
 
 -- nothing is found in no runs
-pub least-none : (s ends : List ℕ) (n : ℕ) (xss : List (List Text)) (r : Told) → r .found ≡ false → LeastTo s ends n xss 0 r
+least-none : (s ends : List ℕ) (n : ℕ) (xss : List (List Text)) (r : Told) → r .found ≡ false → LeastTo s ends n xss 0 r
 unfolding smallest canon flatten
 least-none s ends n xss r f = record {
   least = value-none s r f;
@@ -397,18 +464,35 @@ length-map : (m : Text) (xss : List (List Text)) → length (map (passed m) xss)
 length-map m [] = refl
 length-map m (xs ∷ xss) = ap suc (length-map m xss)
 
--- all of n runs are looked at
-pub least-all :
-    (s ats ends : List ℕ) (n j : ℕ) (r : Told) → n ≤ j → RightLeast s r →
-    ((xss : List (List Text)) → SetRuns s ats ends n xss → LeastTo s ends n xss j r) → IsLeast s ats ends n r
-least-all s ats ends n j r h right k = record {
-  right = right;
-  is = λ xss w. k xss w .least ∙ ap (λ (z : List (List Text)). smallest texts (flatten z)) (take-all j xss (omega (arith, w .long)));
-  goes = λ xss w f. record {
-    long = length-map (leastText s r) xss ∙ w .long;
-    each = λ i l. rw (getD-passed (leastText s r) xss i) (k xss w .passes f i (omega arith) l);
-  };
-}
+-- the first j of n runs are looked at
+pub record LeastSofar (s ats ends : List ℕ) (n j : ℕ) (r : Told) : Type 0 where
+  pub within : j ≤ n
+  pub right : RightLeast s r
+  pub fresh : r .found ≡ false → r .after ≡ ats
+  pub least : (xss : List (List Text)) → SetRuns s ats ends n xss → LeastTo s ends n xss j r
+
+pub sofar-none : {s ats ends : List ℕ} {n : ℕ} {r : Told} → r .found ≡ false → r .after ≡ ats → LeastSofar s ats ends n 0 r
+sofar-none {s} {ats} {ends} {n} {r} f e =
+    record { within = omega arith; right = λ t. never (cc (sym f ∙ t)); fresh = λ t. e; least = λ xss v. least-none s ends n xss r f }
+
+module _ {s ats ends : List ℕ} {n j : ℕ} {r : Told} (w : LeastSofar s ats ends n j r) where
+  pub sofar-on : {t : Told} → j < n → Answer s r ats j (getD ends j 0) t → LeastSofar s ats ends n (j + 1) t
+  sofar-on h v = record {
+    within = omega arith;
+    right = v .0 .right;
+    fresh = v .1;
+    least = λ xss k. v .0 .more ends n xss k h refl (w .least xss k);
+  }
+
+  pub sofar-all : n ≤ j → IsLeast s ats ends n r
+  sofar-all h = record {
+    right = w .right;
+    is = λ xss v. w .least xss v .least ∙ ap (λ (z : List (List Text)). smallest texts (flatten z)) (take-all j xss (omega (arith, v .long)));
+    goes = λ xss v f. record {
+      long = length-map (leastText s r) xss ∙ v .long;
+      each = λ i l. rw (getD-passed (leastText s r) xss i) (w .least xss v .passes f i (omega arith) l);
+    };
+  }
 
 -- ---- the union of all runs from here on
 
@@ -445,31 +529,88 @@ pub record Written (l₀ : List ℕ) (at : ℕ) (all : List Text) (l : List ℕ)
   pub go : ToGo l₀ at (flatten (map text all)) l p (flatten (map text zs))
   pub counted : length all ≡ count + length zs
 
-pub written-none : (l : List ℕ) (at : ℕ) (zs : List Text) → Written l at zs l at 0 zs
+written-none : (l : List ℕ) (at : ℕ) (zs : List Text) → Written l at zs l at 0 zs
 written-none l at zs = record { go = to-go; counted = omega arith }
 
 module _ {s ats ends : List ℕ} {n : ℕ} {l₀ l : List ℕ} {all : List Text} {at p count : ℕ}
     (g : Merging s ats ends n (Written l₀ at all l p count)) {r : Told} (w : IsLeast s ats ends n r) where
-  pub merged-wrote : r .found ≡ false → Wrote l₀ at (flatten (map text all)) l p
+  merged-wrote : r .found ≡ false → Wrote l₀ at (flatten (map text all)) l p
   unfolding flatten
   merged-wrote f = all-gone (merging-none g w f .go) refl
 
-  pub merged-counted : r .found ≡ false → count ≡ length all
+  merged-counted : r .found ≡ false → count ≡ length all
   merged-counted f = omega (arith, merging-none g w f .counted)
 
   module _ (f : r .found ≡ true) where
     head-bytes : part s (r .start) (r .end) ≡ written form.Texts (leastText s r)
     head-bytes = head-part form.Texts s (r .start) (r .value) (r .end) (w .right f)
 
-    pub least-room : at + length (flatten (map text all)) ≤ length l₀ → p + length (part s (r .start) (r .end)) ≤ length l
+    least-room : at + length (flatten (map text all)) ≤ length l₀ → p + length (part s (r .start) (r .end)) ≤ length l
     unfolding written
     least-room h =
         let rest = canon texts (flatten (map (passed (leastText s r)) (g .xss))) in
         write-room form.Texts (leastText s r) rest (part s (r .start) (r .end)) h head-bytes (merging-first g w f .go)
 
-    pub least-wrote : {l₁ : List ℕ} {p₁ : ℕ} → Wrote l p (part s (r .start) (r .end)) l₁ p₁ → Merging s (r .after) ends n (Written l₀ at all l₁ p₁ (count + 1))
+    least-wrote : {l₁ : List ℕ} {p₁ : ℕ} → Wrote l p (part s (r .start) (r .end)) l₁ p₁ → Merging s (r .after) ends n (Written l₀ at all l₁ p₁ (count + 1))
     unfolding written
     least-wrote {l₁} {p₁} o = merging-on g w (Written l₀ at all l₁ p₁ (count + 1)) f (λ zs h. record {
       go = write-next form.Texts (leastText s r) zs (part s (r .start) (r .end)) o head-bytes (h .go);
       counted = omega (arith, h .counted);
     })
+
+-- ---- the loop that writes the union
+
+-- `out` has the first `count` values of the union, each of a byte at least
+pub record Merges (s starts ends : List ℕ) (n : ℕ) (out₀ : List ℕ) (at : ℕ) (out left : List ℕ) (next count : ℕ) : Type 0 where
+  pub wanted : MergedRoom s starts ends n at (length out₀)
+  pub long : length out ≡ length out₀
+  pub few : at + count ≤ next
+  pub merging :
+      (xss : List (List Text)) → SetRuns s starts ends n xss → Merging s left ends n (Written out₀ at (canon texts (flatten xss)) out next count)
+
+pub merges-none :
+    {s starts ends : List ℕ} {n : ℕ} {out₀ : List ℕ} {at : ℕ} → MergedRoom s starts ends n at (length out₀) →
+    Merges s starts ends n out₀ at out₀ starts at 0
+merges-none h = record {
+  wanted = h;
+  long = refl;
+  few = omega arith;
+  merging = λ xss v. record { xss = xss; runs = v; so = written-none _ _ _ };
+}
+
+module _ {s starts ends : List ℕ} {n : ℕ} {out₀ : List ℕ} {at : ℕ} {out left : List ℕ} {next count : ℕ}
+    (w : Merges s starts ends n out₀ at out left next count) {r : Told} (l : IsLeast s left ends n r) where
+  -- no run has a value left
+  pub merges-all :
+      r .found ≡ false →
+      ((xss : List (List Text)) → SetRuns s starts ends n xss → Wrote out₀ at (flatten (map text (canon texts (flatten xss)))) out next)
+      × ((xss : List (List Text)) → SetRuns s starts ends n xss → count ≡ length (canon texts (flatten xss)))
+  merges-all f = (λ xss v. merged-wrote (w .merging xss v) l f, λ xss v. merged-counted (w .merging xss v) l f)
+
+  -- the least is found: it has its room, and takes a byte at least
+  pub record Found : Type 0 where
+    pub found : r .found ≡ true
+    pub fits : (r .start ≤ r .end) × (r .end ≤ length s) × (next + length (part s (r .start) (r .end)) ≤ length out)
+    pub some : 1 ≤ length (part s (r .start) (r .end))
+
+  pub least-found : r .found ≡ true → Found
+  least-found f =
+      let head = l .right f in
+      let order : r .start ≤ r .end = omega (arith, head .after) in
+      record {
+        found = f;
+        fits = (order, head .within, least-room (w .merging (w .wanted .xss) (w .wanted .runs)) l f (w .wanted .room));
+        some = omega (arith, head .after, part-length s (r .start) (r .end) order (head .within));
+      }
+
+module _ {s starts ends : List ℕ} {n : ℕ} {out₀ : List ℕ} {at : ℕ} {out left : List ℕ} {next count : ℕ}
+    {w : Merges s starts ends n out₀ at out left next count} {r : Told} {l : IsLeast s left ends n r} (v : Found w l) where
+  pub merges-on :
+      {out₁ : List ℕ} {p₁ : ℕ} → Wrote out next (part s (r .start) (r .end)) out₁ p₁ →
+      Merges s starts ends n out₀ at out₁ (r .after) p₁ (count + 1)
+  merges-on o = record {
+    wanted = w .wanted;
+    long = wrote-length o ∙ w .long;
+    few = omega (arith, w .few, v .some, o .after);
+    merging = λ xss h. least-wrote (w .merging xss h) l (v .found) o;
+  }

@@ -19,7 +19,9 @@ use Rattle.packed.specs.declared.read.TextAt.the-variants as at
 use Rattle.packed.proofs.LayoutLaws.{All, text-read, text-was, text-length, number-bounds, flat}
 use Rattle.packed.proofs.ReadLaws.{text-stops, text-none, part-length, to-end, stretch}
 use Rattle.packed.specs.code.Written.{Wrote, ToGo}
-use Rattle.packed.proofs.WriteLaws.{gone, all-gone}
+use Rattle.packed.proofs.WriteLaws.{to-go, gone, all-gone, wrote-length}
+use Rattle.packed.specs.code.Comparison.{orderNumber}
+use Rattle.packed.proofs.OrderLaws.{number-less, number-equal, number-more}
 use Rattle.unions.specs.declared.heads.Form.{Form}
 use Rattle.unions.specs.declared.heads.Form.the-variants as form
 use Rattle.unions.specs.declared.pair.Joined.{Joined}
@@ -51,7 +53,7 @@ part-then s a e h k =
     let n : a + (e - a) ≡ e = omega arith in
     sym (take-append-drop (e - a) (drop a s)) ∙ ap (λ (r : List ℕ). part s a e ++ r) (drop-drop (e - a) a s ∙ ap (λ (i : ℕ). drop i s) n)
 
-pub text-head : (s : List ℕ) (i : ℕ) (r : TextAt) → r ≡ textAt s i → Heads form.Texts s i r
+text-head : (s : List ℕ) (i : ℕ) (r : TextAt) → r ≡ textAt s i → Heads form.Texts s i r
 unfolding written fits
 text-head s i (at.Text a e) h =
     let t = text-stops s i a e (sym h) in
@@ -64,11 +66,15 @@ text-head s i at.NoText h = record {
       absurd (omega arith);
 }
 
-pub hash-head : (s : List ℕ) (i : ℕ) → i + 20 ≤ length s → HeadIs form.Hashes s i i (i + 20)
+-- the steps of finding a head, each for a return of `head_at`
+pub texts-head : (f : Form) (s : List ℕ) (i : ℕ) {r : TextAt} → f ≡ form.Texts → r ≡ textAt s i → Heads f s i r
+texts-head f s i {r} e h = rw e (text-head s i r h)
+
+pub hash-head : {f : Form} {s : List ℕ} {i : ℕ} → f ≡ form.Hashes → i + 20 ≤ length s → HeadIs f s i i (i + 20)
 unfolding written fits
-hash-head s i h =
+hash-head {f} {s} {i} e h =
     let k : i + 20 - i ≡ 20 = omega arith in
-    record {
+    rw e record {
       order = omega arith;
       after = omega arith;
       within = h;
@@ -76,9 +82,9 @@ hash-head s i h =
       bytes = part-then s i (i + 20) (omega arith) h;
     }
 
-pub no-hash : (s : List ℕ) (i : ℕ) → length s < i + 20 → NoHead form.Hashes s i
+pub no-hash : {f : Form} {s : List ℕ} {i : ℕ} → f ≡ form.Hashes → length s < i + 20 → NoHead f s i
 unfolding written fits
-no-hash s i h = record { none = λ v r k e. omega (arith, ap length e, length-drop i s, length-append v r) }
+no-hash {f} {s} {i} e h = rw e record { none = λ v r k q. omega (arith, ap length q, length-drop i s, length-append v r) }
 
 -- what is known of a call's answer in the arm of a `match`
 pub heads-some : {f : Form} {s : List ℕ} {i a e : ℕ} {r : TextAt} → r ≡ at.Text a e → Heads f s i r → HeadIs f s i a e
@@ -111,7 +117,7 @@ module _ (f : Form) (s : List ℕ) (i : ℕ) where
       let q = run-head f (drop i s) u us [] (part s a e) (drop e s) r (w .bytes) (w .fit) in
       record { more = us; all = ap (λ (v : Text). v ∷ us) (q .0); left = q .1 }
 
-  pub first-none : NoHead f s i → (xs : List Text) → Run f (drop i s) xs [] → xs ≡ []
+  first-none : NoHead f s i → (xs : List Text) → Run f (drop i s) xs [] → xs ≡ []
   unfolding flatten
   first-none w [] r = refl
   first-none w (u ∷ us) r = absurd (w .none u (run f us ++ []) (r .each .0) (r .bytes ∙ append-assoc (written f u) (run f us) []))
@@ -130,32 +136,51 @@ pub record Left (f : Form) (s : List ℕ) (all n : ℕ) : Type 0 where
   pub left : Run f s more []
   pub counted : all ≡ n + length more
 
-module _ (f : Form) (s : List ℕ) (i all n : ℕ) (w : Left f (drop i s) all n) where
-  pub left-more : (a e : ℕ) → HeadIs f s i a e → Left f (drop e s) all (n + 1)
-  left-more a e h =
-      let r = first-of f s i a e h (w .more) (w .left) in
-      record { more = r .more; left = r .left; counted = omega (arith, w .counted, ap length (r .all)) }
+-- n values are counted from `at` up to i, each of a byte at least
+pub record CountingOne (f : Form) (s : List ℕ) (at i n : ℕ) : Type 0 where
+  pub low : at ≤ i
+  pub high : i ≤ length s
+  pub few : n ≤ i - at
+  pub going : (xs : List Text) → Run f (drop at s) xs [] → Left f (drop i s) (length xs) n
 
-  pub left-none : NoHead f s i → n ≡ all
-  left-none h = omega (arith, w .counted, ap length (first-none f s i h (w .more) (w .left)))
+pub one-none : {f : Form} {s : List ℕ} {at : ℕ} → at ≤ length s → CountingOne f s at at 0
+one-none h = record { low = omega arith; high = h; few = omega arith; going = λ xs r. record { more = xs; left = r; counted = omega arith } }
+
+module _ {f : Form} {s : List ℕ} {at i n : ℕ} (w : CountingOne f s at i n) where
+  pub one-on : {a e : ℕ} → HeadIs f s i a e → CountingOne f s at e (n + 1)
+  one-on {a} {e} h = record {
+    low = omega (arith, w .low, h .after);
+    high = h .within;
+    few = omega (arith, w .low, w .few, h .after);
+    going = λ xs r.
+        let g = w .going xs r in
+        let q = first-of f s i a e h (g .more) (g .left) in
+        record { more = q .more; left = q .left; counted = omega (arith, g .counted, ap length (q .all)) };
+  }
+
+  pub one-all : NoHead f s i → (n ≤ length s - at) × ((xs : List Text) → Run f (drop at s) xs [] → n ≡ length xs)
+  one-all h = (
+    omega (arith, w .high, w .few),
+    λ xs r. let g = w .going xs r in omega (arith, g .counted, ap length (first-none f s i h (g .more) (g .left))),
+  )
 
 -- ---- a step through two runs, by the comparison of their heads
 
 module _ {f : Form} {a : List ℕ} {i p x : ℕ} {b : List ℕ} {j q y : ℕ} (hx : HeadIs f a i p x) (hy : HeadIs f b j q y) where
-  both : (xs ys : List Text) (rx : Run f (drop i a) xs []) (ry : Run f (drop j b) ys []) →
+  joined : (xs ys : List Text) (rx : Run f (drop i a) xs []) (ry : Run f (drop j b) ys []) →
       let u = first-of f a i p x hx xs rx .more in
       let v = first-of f b j q y hy ys ry .more in
       let m = part a p x in
       let n = part b q y in
       union texts xs ys ≡ pick (texts .cmp m n) (m ∷ union texts u ys) (m ∷ union texts u v) (n ∷ union texts xs v)
-  both xs ys rx ry = go xs ys (first-of f a i p x hx xs rx .all) (first-of f b j q y hy ys ry .all) (rx .rises) (ry .rises)
+  joined xs ys rx ry = go xs ys (first-of f a i p x hx xs rx .all) (first-of f b j q y hy ys ry .all) (rx .rises) (ry .rises)
     where
       go : {us vs : List Text} {u v : Text} (xs ys : List Text) → xs ≡ u ∷ us → ys ≡ v ∷ vs → Ups texts xs → Ups texts ys →
           union texts xs ys ≡ pick (texts .cmp u v) (u ∷ union texts us ys) (u ∷ union texts us vs) (v ∷ union texts xs vs)
       go {us} {vs} {u} {v} xs ys e g h k = rw (e, g) (union-step texts u us v vs (subst (Ups texts) e h) (subst (Ups texts) g k))
 
-  pub step-less : texts .cmp (part a p x) (part b q y) ≡ Ordering·lt → StepIs f a i b j (part a i x) 1 x j
-  step-less o = record {
+  by-less : texts .cmp (part a p x) (part b q y) ≡ Ordering·lt → StepIs f a i b j (part a i x) 1 x j
+  by-less o = record {
     within = hx .within;
     within′ = omega (arith, hy .after, hy .within);
     more = omega (arith, hx .after);
@@ -168,13 +193,13 @@ module _ {f : Form} {a : List ℕ} {i p x : ℕ} {b : List ℕ} {j q y : ℕ} (h
           is = head-part f a i p x hx;
           left = u .left;
           right = ry;
-          first = both xs ys rx ry ∙ rw o;
+          first = joined xs ys rx ry ∙ rw o;
           fewer = omega (arith, ap length (u .all));
         };
   }
 
-  pub step-same : texts .cmp (part a p x) (part b q y) ≡ Ordering·eq → StepIs f a i b j (part a i x) 2 x y
-  step-same o = record {
+  by-same : texts .cmp (part a p x) (part b q y) ≡ Ordering·eq → StepIs f a i b j (part a i x) 2 x y
+  by-same o = record {
     within = hx .within;
     within′ = hy .within;
     more = omega (arith, hx .after, hy .after);
@@ -188,13 +213,13 @@ module _ {f : Form} {a : List ℕ} {i p x : ℕ} {b : List ℕ} {j q y : ℕ} (h
           is = head-part f a i p x hx;
           left = u .left;
           right = v .left;
-          first = both xs ys rx ry ∙ rw o;
+          first = joined xs ys rx ry ∙ rw o;
           fewer = omega (arith, ap length (u .all), ap length (v .all));
         };
   }
 
-  pub step-more : texts .cmp (part a p x) (part b q y) ≡ Ordering·gt → StepIs f a i b j (part b j y) 1 i y
-  step-more o = record {
+  by-more : texts .cmp (part a p x) (part b q y) ≡ Ordering·gt → StepIs f a i b j (part b j y) 1 i y
+  by-more o = record {
     within = omega (arith, hx .after, hx .within);
     within′ = hy .within;
     more = omega (arith, hy .after);
@@ -207,10 +232,35 @@ module _ {f : Form} {a : List ℕ} {i p x : ℕ} {b : List ℕ} {j q y : ℕ} (h
           is = head-part f b j q y hy;
           left = rx;
           right = v .left;
-          first = both xs ys rx ry ∙ rw o;
+          first = joined xs ys rx ry ∙ rw o;
           fewer = omega (arith, ap length (v .all));
         };
   }
+
+-- a value stands first on both sides, from p up to x and from q up to y
+pub record Both (f : Form) (a : List ℕ) (i : ℕ) (b : List ℕ) (j p x q y : ℕ) : Type 0 where
+  pub left : HeadIs f a i p x
+  pub right : HeadIs f b j q y
+
+pub both-heads :
+    {f : Form} {a : List ℕ} {i : ℕ} {b : List ℕ} {j p x q y : ℕ} {r t : TextAt} →
+    r ≡ at.Text p x → Heads f a i r → t ≡ at.Text q y → Heads f b j t → Both f a i b j p x q y
+both-heads e v g w = record { left = heads-some e v; right = heads-some g w }
+
+module _ {f : Form} {a : List ℕ} {i : ℕ} {b : List ℕ} {j p x q y : ℕ} (h : Both f a i b j p x q y) where
+  -- they are compared where they stand
+  pub both-inside : (p ≤ x) × (x ≤ length a) × (q ≤ y) × (y ≤ length b)
+  both-inside = (h .left .order, h .left .within, h .right .order, h .right .within)
+
+  module _ {r : ℕ} (o : r ≡ orderNumber (texts .cmp (part a p x) (part b q y))) where
+    pub step-less : r ≡ 0 → StepIs f a i b j (part a i x) 1 x j
+    step-less e = by-less (h .left) (h .right) (sym (number-less _ o e))
+
+    pub step-same : r ≡ 1 → StepIs f a i b j (part a i x) 2 x y
+    step-same e = by-same (h .left) (h .right) (sym (number-equal _ o e))
+
+    pub step-more : 2 ≤ r → StepIs f a i b j (part b j y) 1 i y
+    step-more e = by-more (h .left) (h .right) (sym (number-more _ o e))
 
 pub stepped : {f : Form} {a : List ℕ} {i : ℕ} {b : List ℕ} {j : ℕ} {head : List ℕ} {n x y : ℕ} → StepIs f a i b j head n x y → Stepped f a i b j x y
 stepped {head = head} {n = n} w = record { head = head; n = n; step = w }
@@ -233,7 +283,7 @@ pub record Going (f : Form) (s t : List ℕ) (P : ℕ → List Text → Type 0) 
   pub so : P (length xs + length ys) (union texts xs ys)
 
 module _ {f : Form} {P : ℕ → List Text → Type 0} (a : List ℕ) (i : ℕ) (b : List ℕ) (j : ℕ) (g : Going f (drop i a) (drop j b) P) where
-  pub going-on : (Q : ℕ → List Text → Type 0) {head : List ℕ} {n x y : ℕ} → StepIs f a i b j head n x y →
+  going-on : (Q : ℕ → List Text → Type 0) {head : List ℕ} {n x y : ℕ} → StepIs f a i b j head n x y →
       ((v : Text) (m : ℕ) (zs : List Text) → head ≡ written f v → P (n + m) (v ∷ zs) → Q m zs) → Going f (drop x a) (drop y b) Q
   going-on Q w k =
       let t = w .takes (g .xs) (g .ys) (g .left) (g .right) in
@@ -246,13 +296,13 @@ module _ {f : Form} {P : ℕ → List Text → Type 0} (a : List ℕ) (i : ℕ) 
       }
 
   -- one side alone is left
-  pub left-alone : NoHead f b j → (g .ys ≡ []) × P (length (g .xs)) (g .xs)
+  left-alone : NoHead f b j → (g .ys ≡ []) × P (length (g .xs)) (g .xs)
   left-alone w =
       let e = first-none f b j w (g .ys) (g .right) in
       let n : length (g .xs) + length (g .ys) ≡ length (g .xs) = omega (arith, ap length e) in
       (e, subst₂ P n (ap (union texts (g .xs)) e ∙ union-right-nil texts (g .xs) (g .left .rises)) (g .so))
 
-  pub right-alone : NoHead f a i → (g .xs ≡ []) × P (length (g .ys)) (g .ys)
+  right-alone : NoHead f a i → (g .xs ≡ []) × P (length (g .ys)) (g .ys)
   right-alone w =
       let e = first-none f a i w (g .xs) (g .left) in
       let n : length (g .xs) + length (g .ys) ≡ length (g .ys) = omega (arith, ap length e) in
@@ -260,13 +310,45 @@ module _ {f : Form} {P : ℕ → List Text → Type 0} (a : List ℕ) (i : ℕ) 
 
 -- ---- counting a union
 
--- n values of all are counted, and one side alone is left
-pub alone-count : {f : Form} {a b : List ℕ} {i j all : ℕ} (n : ℕ) (g : Going f (drop i a) (drop j b) (λ m zs. all ≡ n + length zs)) {p q : ℕ} →
-    IsAlone f a i b j → p ≡ length (g .xs) → q ≡ length (g .ys) → n + p + q ≡ all
-alone-count {f} {a} {b} {i} {j} n g w h k = ⊎-elim
-    (λ l. let r = right-alone a i b j g l in omega (arith, ap length (r .0), r .1))
-    (λ r. let l = left-alone a i b j g r in omega (arith, ap length (l .0), l .1))
-    (w .either)
+-- n values are counted where i and j are reached, each of a byte at least
+pub record Counting (f : Form) (a b : List ℕ) (i j n : ℕ) : Type 0 where
+  pub left-in : i ≤ length a
+  pub right-in : j ≤ length b
+  pub few : n ≤ i + j
+  pub going :
+      (xs ys : List Text) → Run f a xs [] → Run f b ys [] → Going f (drop i a) (drop j b) (λ m zs. length (union texts xs ys) ≡ n + length zs)
+
+pub counting-none : {f : Form} {a b : List ℕ} → Counting f a b 0 0 0
+counting-none = record {
+  left-in = omega arith;
+  right-in = omega arith;
+  few = omega arith;
+  going = λ xs ys rx ry. record { xs = xs; ys = ys; left = rx; right = ry; so = omega arith };
+}
+
+module _ {f : Form} {a b : List ℕ} {i j n : ℕ} (w : Counting f a b i j n) where
+  pub counting-on : {x y : ℕ} → Stepped f a i b j x y → Counting f a b x y (n + 1)
+  counting-on v = record {
+    left-in = v .step .within;
+    right-in = v .step .within′;
+    few = omega (arith, v .step .more, w .few);
+    going = λ xs ys rx ry.
+        going-on a i b j (w .going xs ys rx ry) (λ m zs. length (union texts xs ys) ≡ n + 1 + length zs) (v .step) (λ u m zs e h. omega (arith, h));
+  }
+
+  -- one side alone is left, of p or of q values
+  pub counting-all :
+      {p q : ℕ} → IsAlone f a i b j → ((xs : List Text) → Run f (drop i a) xs [] → p ≡ length xs) →
+      ((ys : List Text) → Run f (drop j b) ys [] → q ≡ length ys) →
+      (xs ys : List Text) → Run f a xs [] → Run f b ys [] → n + p + q ≡ length (union texts xs ys)
+  counting-all v h k xs ys rx ry =
+      let g = w .going xs ys rx ry in
+      let p-is = h (g .xs) (g .left) in
+      let q-is = k (g .ys) (g .right) in
+      ⊎-elim
+      (λ l. let r = right-alone a i b j g l in omega (arith, ap length (r .0), r .1))
+      (λ r. let l = left-alone a i b j g r in omega (arith, ap length (l .0), l .1))
+      (v .either)
 
 -- ---- what is written of a union
 
@@ -288,10 +370,10 @@ pub record ToJoin (f : Form) (l₀ : List ℕ) (at : ℕ) (xs ys : List Text) (l
 
 module _ (f : Form) (a : List ℕ) (i : ℕ) (b : List ℕ) (j : ℕ) (l₀ : List ℕ) (at : ℕ) (xs ys : List Text) (l : List ℕ) (p shared : ℕ)
     (g : Going f (drop i a) (drop j b) (ToJoin f l₀ at xs ys l p shared)) where
-  pub head-room : {head : List ℕ} {n x y : ℕ} → StepIs f a i b j head n x y → at + length (run f (union texts xs ys)) ≤ length l₀ → p + length head ≤ length l
+  head-room : {head : List ℕ} {n x y : ℕ} → StepIs f a i b j head n x y → at + length (run f (union texts xs ys)) ≤ length l₀ → p + length head ≤ length l
   head-room {head} w h = going-on a i b j g (λ m zs. p + length head ≤ length l) w (λ v m zs e k. write-room f v zs head h e (k .writes)) .so
 
-  pub head-wrote : {head l₁ : List ℕ} {n x y p₁ shared₁ : ℕ} → StepIs f a i b j head n x y → shared + n ≡ shared₁ + 1 → Wrote l p head l₁ p₁ →
+  head-wrote : {head l₁ : List ℕ} {n x y p₁ shared₁ : ℕ} → StepIs f a i b j head n x y → shared + n ≡ shared₁ + 1 → Wrote l p head l₁ p₁ →
       Going f (drop x a) (drop y b) (ToJoin f l₀ at xs ys l₁ p₁ shared₁)
   head-wrote {head} {l₁} {n} {x} {y} {p₁} {shared₁} w c o = going-on a i b j g (ToJoin f l₀ at xs ys l₁ p₁ shared₁) w
       (λ v m zs e k. record { writes = write-next f v zs head o e (k .writes); counts = omega (arith, k .counts) })
@@ -302,15 +384,115 @@ module _ (f : Form) (s : List ℕ) (i : ℕ) {l₀ : List ℕ} {at : ℕ} {xs ys
   rest : run f zs ≡ part s i (length s)
   rest = sym (append-nil (run f zs)) ∙ sym (r .bytes) ∙ sym (to-end s i)
 
-  pub rest-room : at + length (run f (union texts xs ys)) ≤ length l₀ → p + length (part s i (length s)) ≤ length l
+  rest-room : at + length (run f (union texts xs ys)) ≤ length l₀ → p + length (part s i (length s)) ≤ length l
   rest-room h = omega (arith, g .writes .after, g .writes .long, ap length rest)
 
-  pub rest-wrote : {l₁ : List ℕ} {p₁ : ℕ} → Wrote l p (part s i (length s)) l₁ p₁ →
+  rest-wrote : {l₁ : List ℕ} {p₁ : ℕ} → Wrote l p (part s i (length s)) l₁ p₁ →
       WroteUnion l₀ at (run f (union texts xs ys)) l₁ xs ys (record { next = p₁; shared = shared })
   rest-wrote w = record {
     wrote = all-gone (gone (part s i (length s)) [] (g .writes) (rest ∙ sym (append-nil (part s i (length s)))) w) refl;
     counts = omega (arith, g .counts);
   }
+
+-- ---- the loop that writes a union
+
+-- `out` has what a up to i and b up to j give, and `shared` values were on both sides, each of a byte of a at least
+pub record Joining (f : Form) (a b out₀ : List ℕ) (at : ℕ) (out : List ℕ) (i j next shared : ℕ) : Type 0 where
+  pub wanted : Room f a b at (length out₀)
+  pub left-in : i ≤ length a
+  pub right-in : j ≤ length b
+  pub long : length out ≡ length out₀
+  pub few : shared ≤ i
+  pub going :
+      (xs ys : List Text) → Run f a xs [] → Run f b ys [] → Going f (drop i a) (drop j b) (ToJoin f out₀ at xs ys out next shared)
+
+pub joining-none : {f : Form} {a b out₀ : List ℕ} {at : ℕ} → Room f a b at (length out₀) → Joining f a b out₀ at out₀ 0 0 at 0
+joining-none h = record {
+  wanted = h;
+  left-in = omega arith;
+  right-in = omega arith;
+  long = refl;
+  few = omega arith;
+  going = λ xs ys rx ry. record { xs = xs; ys = ys; left = rx; right = ry; so = record { writes = to-go; counts = omega arith } };
+}
+
+module _ {f : Form} {a b out₀ : List ℕ} {at : ℕ} {out : List ℕ} {i j next shared : ℕ} (w : Joining f a b out₀ at out i j next shared) where
+  abbrev asked : Going f (drop i a) (drop j b) (ToJoin f out₀ at (w .wanted .xs) (w .wanted .ys) out next shared)
+  asked = w .going (w .wanted .xs) (w .wanted .ys) (w .wanted .left) (w .wanted .right)
+
+  step-room : {head : List ℕ} {n x y : ℕ} → StepIs f a i b j head n x y → next + length head ≤ length out
+  step-room v = head-room f a i b j out₀ at (w .wanted .xs) (w .wanted .ys) out next shared asked v (w .wanted .room)
+
+  step-on : {head out₁ : List ℕ} {n x y p₁ shared₁ : ℕ} → StepIs f a i b j head n x y → shared + n ≡ shared₁ + 1 → shared₁ ≤ x →
+      Wrote out next head out₁ p₁ → Joining f a b out₀ at out₁ x y p₁ shared₁
+  step-on v c l o = record {
+    wanted = w .wanted;
+    left-in = v .within;
+    right-in = v .within′;
+    long = wrote-length o ∙ w .long;
+    few = l;
+    going = λ xs ys rx ry. head-wrote f a i b j out₀ at xs ys out next shared (w .going xs ys rx ry) v c o;
+  }
+
+  -- the value that stands first in a is written, n is 2 where it stands first in b too
+  pub record LeftStep (n x y : ℕ) : Type 0 where
+    pub on : i < x
+    pub most : n ≤ 2
+    pub step : StepIs f a i b j (part a i x) n x y
+
+  -- the value that stands first in b is written
+  pub record RightStep (y : ℕ) : Type 0 where
+    pub on : j < y
+    pub step : StepIs f a i b j (part b j y) 1 i y
+
+  module _ {p x q y r : ℕ} (h : Both f a i b j p x q y) (o : r ≡ orderNumber (texts .cmp (part a p x) (part b q y))) where
+    pub less-step : r ≡ 0 → LeftStep 1 x j
+    less-step e = record { on = h .left .after; most = omega arith; step = step-less h o e }
+
+    pub same-step : r ≡ 1 → LeftStep 2 x y
+    same-step e = record { on = h .left .after; most = omega arith; step = step-same h o e }
+
+    pub more-step : 2 ≤ r → RightStep y
+    more-step e = record { on = h .right .after; step = step-more h o e }
+
+  -- a has no more values: the rest of b is written
+  module _ (v : NoHead f a i) where
+    pub right-rest : (j ≤ length b) × (length b ≤ length b) × (next + length (part b j (length b)) ≤ length out)
+    right-rest = (w .right-in, omega arith, rest-room f b j (asked .ys) (right-alone a i b j asked v .1) (asked .right) (w .wanted .room))
+
+    pub right-wrote :
+        {out₁ : List ℕ} {p₁ : ℕ} → Wrote out next (part b j (length b)) out₁ p₁ → (xs ys : List Text) → Run f a xs [] → Run f b ys [] →
+        WroteUnion out₀ at (run f (union texts xs ys)) out₁ xs ys (record { next = p₁; shared = shared })
+    right-wrote o xs ys rx ry =
+        let g = w .going xs ys rx ry in
+        rest-wrote f b j (g .ys) (right-alone a i b j g v .1) (g .right) o
+
+  module _ (v : NoHead f b j) where
+    pub left-rest : (i ≤ length a) × (length a ≤ length a) × (next + length (part a i (length a)) ≤ length out)
+    left-rest = (w .left-in, omega arith, rest-room f a i (asked .xs) (left-alone a i b j asked v .1) (asked .left) (w .wanted .room))
+
+    pub left-wrote :
+        {out₁ : List ℕ} {p₁ : ℕ} → Wrote out next (part a i (length a)) out₁ p₁ → (xs ys : List Text) → Run f a xs [] → Run f b ys [] →
+        WroteUnion out₀ at (run f (union texts xs ys)) out₁ xs ys (record { next = p₁; shared = shared })
+    left-wrote o xs ys rx ry =
+        let g = w .going xs ys rx ry in
+        rest-wrote f a i (g .xs) (left-alone a i b j g v .1) (g .left) o
+
+module _ {f : Form} {a b out₀ : List ℕ} {at : ℕ} {out : List ℕ} {i j next shared : ℕ} {w : Joining f a b out₀ at out i j next shared} where
+  module _ {n x y : ℕ} (v : LeftStep w n x y) where
+    pub left-fits : (i ≤ x) × (x ≤ length a) × (next + length (part a i x) ≤ length out)
+    left-fits = (omega (arith, v .on), v .step .within, step-room w (v .step))
+
+    pub left-on :
+        {out₁ : List ℕ} {p₁ shared₁ : ℕ} → shared + n ≡ shared₁ + 1 → Wrote out next (part a i x) out₁ p₁ → Joining f a b out₀ at out₁ x y p₁ shared₁
+    left-on c o = step-on w (v .step) c (omega (arith, v .on, v .most, w .few)) o
+
+  module _ {y : ℕ} (v : RightStep w y) where
+    pub right-fits : (j ≤ y) × (y ≤ length b) × (next + length (part b j y) ≤ length out)
+    right-fits = (omega (arith, v .on), v .step .within′, step-room w (v .step))
+
+    pub right-on : {out₁ : List ℕ} {p₁ : ℕ} → Wrote out next (part b j y) out₁ p₁ → Joining f a b out₀ at out₁ i y p₁ shared
+    right-on o = step-on w (v .step) refl (w .few) o
 
 -- ---- the runs in the words of the callers
 

@@ -1,20 +1,13 @@
 use borrow.Author.Needs.{needs}
 use native.Mathlib.Omega.{arith}
-use Rattle.unions.proofs.RunLaws.{text-head, hash-head, no-hash}
+use mathlib.Core.Path.{_≡_}
+use Rattle.unions.specs.declared.heads.Form.the-variants as form
+use Rattle.unions.proofs.RunLaws.{texts-head, hash-head, no-hash}
 use Rattle.unions.proofs.heads.head_at.Statement.{statement}
 use Rattle.unions.proofs.heads.head_at.Tie as tie
 
-returns : tie.Need-returns
-returns c = let a = c .before .before .before .before .args in rw (c .before .enum-told2 .given .1) (no-hash (a .s .now) (a .at) (omega arith))
-
-returns-2 : tie.Need-returns-2
-returns-2 c = let a = c .before .before .before .before .before .args in rw (c .before .before .enum-told2 .given .1) (no-hash (a .s .now) (a .at) (omega arith))
-
-returns-3 : tie.Need-returns-3
-returns-3 c = rw (c .before .enum-told .given .1) (text-head _ _ _ (c .read-text .ensures))
-
-returns-4 : tie.Need-returns-4
-returns-4 c = rw (c .before .before .enum-told2 .given .1) (hash-head _ _ (omega arith))
+hashes : (c : tie.After-enum-told2) → c .before .before .before .args .form ≡ form.Hashes
+hashes c = c .enum-told2 .given .1
 
 pub head-at-spec : {M : Type 1} → statement M
 head-at-spec =
@@ -23,9 +16,9 @@ head-at-spec =
     (λ c. search needs)
     (λ c κs. search needs)
     (λ c. search needs)
-    returns
+    (λ c. no-hash (hashes (c .before)) (omega arith))
     (λ c. search needs)
-    returns-2
+    (λ c. no-hash (hashes (c .before .before)) (omega arith))
     (λ c. search needs)
-    returns-3
-    returns-4)
+    (λ c. texts-head _ _ _ (c .before .enum-told .given .1) (c .read-text .ensures))
+    (λ c. hash-head (hashes (c .before .before)) (omega arith)))

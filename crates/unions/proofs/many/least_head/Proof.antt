@@ -1,52 +1,39 @@
+-- `least_head` meets its contract. The loop's invariant (`LeastSofar`): the answer so far is the least of the first j runs, and has been passed in them.
 use borrow.Author.Needs.{needs}
 use native.Mathlib.Omega.{arith}
-use Prim.Native.Nat.{_≤_, _-_}
-use mathlib.Core.Path.{_≡_, refl, sym, _∙_}
-use mathlib.Core.Bool.{false}
-use mathlib.Core.List.{List}
+use Prim.Native.Nat.{_-_}
+use mathlib.Core.Path.{_≡_, refl}
 use lib.ListN.{length}
-use Rattle.model.specs.Order.{Text}
-use Rattle.model.proofs.Cases.{never}
-use Rattle.unions.specs.code.Merging.{SetRuns, told, RightLeast, LeastTo}
-use Rattle.unions.proofs.MergeLaws.{least-none, least-all}
+use Rattle.unions.specs.code.Merging.{told}
+use Rattle.unions.proofs.MergeLaws.{LeastSofar, sofar-none, sofar-on, sofar-all}
 use Rattle.unions.proofs.many.least_head.Statement.{statement}
 use Rattle.unions.proofs.many.least_head.Tie as tie
 
 abbrev Inv-loop : tie.InvT-loop
-Inv-loop s at ends n after₀ best₀ j₀ after best j =
-    (j ≤ n) × (length after ≡ 8) × RightLeast s (told best after) × (best .found ≡ false → after ≡ at)
-    × ((xss : List (List Text)) → SetRuns s at ends n xss → LeastTo s ends n xss j (told best after))
+Inv-loop s at ends n after₀ best₀ j₀ after best j = (length after ≡ 8) × LeastSofar s at ends n j (told best after)
 
 abbrev μ-loop : tie.MeasureT-loop
 μ-loop s at ends n after₀ best₀ j₀ after best j = n - j
 
+-- ---- the places
+
 abbrev to-start : tie.At-loop Inv-loop μ-loop → tie.Start Inv-loop μ-loop
 to-start c = c .before .before .before .before .before .before .before .before .before
 
-loop-holds : tie.Need-loop-holds Inv-loop μ-loop
-loop-holds c =
-    let copied = c .before .before .copy-eight .ensures in
-    (omega arith, search needs, λ f. never (cc f), λ f. copied, λ xss w. least-none _ _ _ xss _ refl)
+-- ---- the needs
 
 lesser-requires : tie.Need-lesser-requires Inv-loop μ-loop
 lesser-requires c κs =
     let turn = c .before .before in
     let inv = turn .before .loop .inv in
-    let start = to-start (turn .before) in
-    ((omega (arith, turn .loop-test .taken, start .pre .0), start .pre .1, inv .1), (inv .2, inv .3))
+    let pre = to-start (turn .before) .pre in
+    ((omega (arith, turn .loop-test .taken, pre .0), pre .1, inv .0), (inv .1 .right, inv .1 .fresh))
 
 loop-again : tie.Need-loop-again Inv-loop μ-loop
 loop-again c =
-    let lesser = c .before .before in
-    let turn = lesser .before .before .before in
-    let low = turn .loop-test .taken in
-    let r = lesser .lesser .ensures in
-    (omega (arith, low), search needs, r .0 .right, r .1, λ xss w. r .0 .more _ _ xss w low refl (turn .before .loop .inv .4 xss w))
-
-returns : tie.Need-returns Inv-loop μ-loop
-returns c =
-    let inv = c .before .loop .inv in
-    least-all _ _ _ _ _ _ (c .loop-test .left) (inv .2) (inv .4)
+    let asked = c .before .before in
+    let turn = asked .before .before .before in
+    (search needs, sofar-on (turn .before .loop .inv .1) (turn .loop-test .taken) (asked .lesser .ensures))
 
 pub least-head-spec : {M : Type 1} → statement M
 least-head-spec =
@@ -55,7 +42,7 @@ least-head-spec =
     Inv-loop
     μ-loop
     (λ c κs. search needs)
-    loop-holds
+    (λ c. (search needs, sofar-none refl (c .before .before .copy-eight .ensures)))
     (λ c. search needs)
     (λ c. search needs)
     lesser-requires
@@ -63,4 +50,4 @@ least-head-spec =
     (λ c. search needs)
     loop-again
     (λ c. search needs)
-    returns)
+    (λ c. sofar-all (c .before .loop .inv .1) (c .loop-test .left)))

@@ -1,14 +1,9 @@
+-- `next_of` meets its contract: where both sides have a first value (`heads`), how the two compare says which step it is (`step-less`, `step-same`,
+-- `step-more`).
 use borrow.Author.Needs.{needs}
 use native.Mathlib.Omega.{arith}
-use Prim.Native.Nat.{ℕ}
-use mathlib.Core.Path.{sym}
 use mathlib.Core.Logic.{inl, inr}
-use mathlib.Core.List.{List}
-use denote.Ref.{now}
-use Rattle.packed.proofs.OrderLaws.{number-less, number-equal, number-more}
-use Rattle.unions.specs.declared.heads.Form.{Form}
-use Rattle.unions.specs.code.Runs.{HeadIs}
-use Rattle.unions.proofs.RunLaws.{heads-some, heads-none, step-less, step-same, step-more, stepped}
+use Rattle.unions.proofs.RunLaws.{heads-none, Both, both-heads, both-inside, step-less, step-same, step-more, stepped}
 use Rattle.unions.proofs.pair.next_of.Statement.{statement}
 use Rattle.unions.proofs.pair.next_of.Tie as tie
 
@@ -21,44 +16,15 @@ to-start c = c .before .before .before .before .before
 abbrev to-p : tie.After-q → tie.After-p
 to-p c = c .before .before .before .before
 
--- ---- the values
-
-module _ (c : tie.After-q) where
-  abbrev form : Form
-  form = to-start (to-p c) .args .form
-
-  abbrev a : List ℕ
-  a = now (to-start (to-p c) .args .a)
-
-  abbrev b : List ℕ
-  b = now (to-start (to-p c) .args .b)
-
-  abbrev i : ℕ
-  i = to-start (to-p c) .args .i
-
-  abbrev j : ℕ
-  j = to-start (to-p c) .args .j
-
-  abbrev p : ℕ
-  p = to-p c .p .given .0 .0
-
-  abbrev x : ℕ
-  x = to-p c .p .given .0 .1 .0
-
-  abbrev q : ℕ
-  q = c .q .given .0 .0
-
-  abbrev y : ℕ
-  y = c .q .given .0 .1 .0
-
 -- ---- the facts
 
-module _ (c : tie.After-q) where
-  left : HeadIs (form c) (a c) (i c) (p c) (x c)
-  left = heads-some (to-p c .p .given .1) (to-p c .before .before .head-at .ensures)
-
-  right : HeadIs (form c) (b c) (j c) (q c) (y c)
-  right = heads-some (c .q .given .1) (c .before .before .head-at2 .ensures)
+heads :
+    (c : tie.After-q) →
+    let s = to-start (to-p c) .args in
+    let left = to-p c .p .given .0 in
+    let right = c .q .given .0 in
+    Both (s .form) (s .a .now) (s .i) (s .b .now) (s .j) (left .0) (left .1 .0) (right .0) (right .1 .0)
+heads c = both-heads (to-p c .p .given .1) (to-p c .before .before .head-at .ensures) (c .q .given .1) (c .before .before .head-at2 .ensures)
 
 -- ---- the needs
 
@@ -68,29 +34,20 @@ returns c = record { either = inl (heads-none (c .enum-told .given .1) (c .befor
 returns-2 : tie.Need-returns-2
 returns-2 c = record { either = inr (heads-none (c .enum-told2 .given .1) (c .before .before .head-at2 .ensures)) }
 
-order-parts-requires : tie.Need-order-parts-requires
-order-parts-requires c κs =
-    let u = left (c .before) in
-    let v = right (c .before) in
-    (u .order, u .within, v .order, v .within)
-
 returns-3 : tie.Need-returns-3
 returns-3 c =
     let compared = c .before in
-    let at-q = compared .before .before in
-    stepped (step-less (left at-q) (right at-q) (sym (number-less _ (compared .order-parts .ensures) (omega (arith, c .match3 .keys1)))))
+    stepped (step-less (heads (compared .before .before)) (compared .order-parts .ensures) (omega (arith, c .match3 .keys1)))
 
 returns-4 : tie.Need-returns-4
 returns-4 c =
     let compared = c .before in
-    let at-q = compared .before .before in
-    stepped (step-same (left at-q) (right at-q) (sym (number-equal _ (compared .order-parts .ensures) (omega (arith, c .match3 .keys2)))))
+    stepped (step-same (heads (compared .before .before)) (compared .order-parts .ensures) (omega (arith, c .match3 .keys2)))
 
 returns-5 : tie.Need-returns-5
 returns-5 c =
     let compared = c .before in
-    let at-q = compared .before .before in
-    stepped (step-more (left at-q) (right at-q) (sym (number-more _ (compared .order-parts .ensures) (omega (arith, c .match3 .rest)))))
+    stepped (step-more (heads (compared .before .before)) (compared .order-parts .ensures) (omega (arith, c .match3 .rest)))
 
 pub next-of-spec : {M : Type 1} → statement M
 next-of-spec =
@@ -104,7 +61,7 @@ next-of-spec =
     (λ c. search needs)
     (λ c. search needs)
     returns-2
-    order-parts-requires
+    (λ c κs. both-inside (heads (c .before)))
     returns-3
     returns-4
     returns-5)
