@@ -10,12 +10,6 @@ Inv-loop count i₀ i = Unit {0}
 abbrev μ-loop : tie.MeasureT-loop
 μ-loop count i₀ i = count - i
 
-loop-holds : tie.Need-loop-holds Inv-loop μ-loop
-loop-holds c = tt
-
-loop-again : tie.Need-loop-again Inv-loop μ-loop
-loop-again c = tt
-
 pub main-spec : {M : Type 1} → statement M
 main-spec =
     tie.close
@@ -23,9 +17,9 @@ main-spec =
     Inv-loop
     μ-loop
     (λ c κs. search needs)
-    loop-holds
+    (λ c. tt)
     (λ c κs. search needs)
     (λ c. search needs)
     (λ c. omega arith)
-    loop-again
+    (λ c. tt)
     (λ c. search needs))

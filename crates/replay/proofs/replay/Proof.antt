@@ -12,23 +12,17 @@ Inv-loop script at₀ t4 at = Unit {0}
 abbrev μ-loop : tie.MeasureT-loop
 μ-loop script at₀ t4 at = length script - at
 
-loop-holds : tie.Need-loop-holds Inv-loop μ-loop
-loop-holds c = tt
-
-loop-again : tie.Need-loop-again Inv-loop μ-loop
-loop-again c = tt
-
 pub replay-spec : {M : Type 1} → statement M
 replay-spec =
     tie.close
     (tie.spec
     Inv-loop
     μ-loop
-    loop-holds
+    (λ c. tt)
     (λ c κs. search needs)
     (λ c. search needs)
     (λ c κs. search needs)
     (λ c. search needs)
     (λ c. omega arith)
-    loop-again
+    (λ c. tt)
     (λ c. search needs))

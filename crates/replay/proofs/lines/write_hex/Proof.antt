@@ -11,19 +11,13 @@ Inv-loop s at₀ at = Unit {0}
 abbrev μ-loop : tie.MeasureT-loop
 μ-loop s at₀ at = length s - at
 
-loop-holds : tie.Need-loop-holds Inv-loop μ-loop
-loop-holds c = tt
-
-loop-again : tie.Need-loop-again Inv-loop μ-loop
-loop-again c = tt
-
 pub write-hex-spec : {M : Type 1} → statement M
 write-hex-spec =
     tie.close
     (tie.spec
     Inv-loop
     μ-loop
-    loop-holds
+    (λ c. tt)
     (λ c. search needs)
     (λ c κs. search needs)
     (λ c. search needs)
@@ -32,5 +26,5 @@ write-hex-spec =
     (λ c. search needs)
     (λ c κs. search needs)
     (λ c. omega arith)
-    loop-again
+    (λ c. tt)
     (λ c. search needs))

@@ -13,19 +13,13 @@ Inv-loop s digits₀ i₀ digits i = (length s ≤ 512) × (i ≤ length s) × (
 abbrev μ-loop : tie.MeasureT-loop
 μ-loop s digits₀ i₀ digits i = length s - i
 
-loop-holds : tie.Need-loop-holds Inv-loop μ-loop
-loop-holds c = (omega arith, omega arith, refl)
-
-loop-again : tie.Need-loop-again Inv-loop μ-loop
-loop-again c = (omega arith, omega arith, simp length-set (omega arith))
-
 pub write-some-spec : {M : Type 1} → statement M
 write-some-spec =
     tie.close
     (tie.spec
     Inv-loop
     μ-loop
-    loop-holds
+    (λ c. (omega arith, omega arith, refl))
     (λ c. search needs)
     (λ c κs. search needs)
     (λ c. search needs)
@@ -37,7 +31,7 @@ write-some-spec =
     (λ c. search needs)
     (λ c. search needs)
     (λ c. search needs)
-    loop-again
+    (λ c. (omega arith, omega arith, simp length-set (omega arith)))
     (λ c. search needs)
     (λ c. search needs)
     (λ c. search needs)

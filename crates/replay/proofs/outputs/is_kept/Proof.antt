@@ -11,22 +11,16 @@ Inv-loop out from i₀ i = Unit {0}
 abbrev μ-loop : tie.MeasureT-loop
 μ-loop out from i₀ i = length out - i
 
-loop-holds : tie.Need-loop-holds Inv-loop μ-loop
-loop-holds c = tt
-
-loop-again : tie.Need-loop-again Inv-loop μ-loop
-loop-again c = tt
-
 pub is-kept-spec : {M : Type 1} → statement M
 is-kept-spec =
     tie.close
     (tie.spec
     Inv-loop
     μ-loop
-    loop-holds
+    (λ c. tt)
     (λ c. search needs)
     (λ c. search needs)
     (λ c. search needs)
     (λ c. omega arith)
-    loop-again
+    (λ c. tt)
     (λ c. search needs))
