@@ -65,11 +65,14 @@ module _ {A B : Type 0} (k : A → Layout B) where
 
 -- a value that passes or fails its test
 module _ {A : Type 0} (t : A → Bool) (p : Layout A) (s : List ℕ) (at : ℕ) where
+  tested : (a : A) (r : List ℕ) {x : Bool} → t a ≡ x → foundIf (t a) a r ≡ cond x (got a r) fail
+  tested a r h = ap (λ (x : Bool). cond x (got a r) fail) h
+
   pub such-got : {a : A} {e : ℕ} → Got (p (drop at s)) s at a e → t a ≡ true → Got (suchThat t p (drop at s)) s at a e
-  such-got {a} {e} g h = then-found (λ b. foundIf (t b) b) g (ap (λ (x : Bool). cond x (got a (drop e s)) fail) h)
+  such-got {a} {e} g h = then-found (λ b. foundIf (t b) b) g (tested a (drop e s) h)
 
   pub such-fail : {a : A} {e : ℕ} → Got (p (drop at s)) s at a e → t a ≡ false → suchThat t p (drop at s) ≡ fail
-  such-fail {a} {e} g h = then-fail (λ b. foundIf (t b) b) g (ap (λ (x : Bool). cond x (got a (drop e s)) fail) h)
+  such-fail {a} {e} g h = then-fail (λ b. foundIf (t b) b) g (tested a (drop e s) h)
 
   pub such-none : p (drop at s) ≡ fail → suchThat t p (drop at s) ≡ fail
   such-none e = then-none (λ b. foundIf (t b) b) e
@@ -77,8 +80,7 @@ module _ {A : Type 0} (t : A → Bool) (p : Layout A) (s : List ℕ) (at : ℕ) 
   -- a layout that fails its test has no value that passes it
   pub such-never : {a : A} {r : List ℕ} → suchThat t p (drop at s) ≡ fail → p (drop at s) ≡ got a r → t a ≡ true → _≡_ {A = ℕ} 0 1
   such-never {a} {r} e q h =
-      let z : fail ≡ got a r =
-      sym e ∙ ap (λ (x : Parse A). andThen x (λ b. foundIf (t b) b)) q ∙ ap (λ (x : Bool). cond x (got a r) fail) h in
+      let z : fail ≡ got a r = sym e ∙ ap (λ (x : Parse A). andThen x (λ b. foundIf (t b) b)) q ∙ tested a r h in
       cc
 
   pub such-was : {a : A} {e : ℕ} → Got (suchThat t p (drop at s)) s at a e → Got (p (drop at s)) s at a e × (t a ≡ true)

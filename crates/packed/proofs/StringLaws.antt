@@ -257,15 +257,16 @@ module _ (a b : List ℕ) (xs : List StringAt) (n : ℕ) (x : StringAt) (fits : 
 
   module _ (new : List StringAt) (k : ℕ) (w : Moved xs new n k) where
     -- the string before place k
+    last-same : 0 < k → getD xs (k - 1) noString ≡ getD new (k - 1) noString
+    last-same h = sym (moved-same xs n room (fits .long) new k w (k - 1) (omega arith))
+
     pub last-fits : 0 < k → StringFits a b (getD new (k - 1) noString)
     last-fits h =
         let i : k - 1 < n = omega (arith, w .low) in
-        subst (StringFits a b) (sym (moved-same xs n room (fits .long) new k w (k - 1) (omega arith))) (fits .each (k - 1) i)
+        subst (StringFits a b) (last-same h) (fits .each (k - 1) i)
 
     last-string : 0 < k → getD ss (k - 1) (stringOf a b noString) ≡ stringOf a b (getD new (k - 1) noString)
-    last-string h =
-        string-at a b xs n (k - 1) (omega (arith, w .low))
-        ∙ ap (stringOf a b) (sym (moved-same xs n room (fits .long) new k w (k - 1) (omega arith)))
+    last-string h = string-at a b xs n (k - 1) (omega (arith, w .low)) ∙ ap (stringOf a b) (last-same h)
 
     pub before-more : 0 < k → pick (texts .cmp s (stringOf a b (getD new (k - 1) noString))) false false true ≡ false → Before a b xs n x (k - 1)
     unfolding Before

@@ -2,7 +2,7 @@
 -- Assumes nothing.
 use mathlib.Core.Path.{_≡_, refl, sym, ap, ap₂, _∙_, subst}
 use mathlib.Core.List.{List, [], _∷_, _++_}
-use mathlib.Core.Logic.{_⊎_, inl, inr, ⊎-elim}
+use mathlib.Core.Logic.{_⊎_, ⊎-elim}
 use Prim.Native.Nat.{ℕ, zero, suc, _+_, _-_, _*_, _%_, _^_, _≤_, _<_, compare, Ordering, Ordering·lt, Ordering·gt}
 use native.Mathlib.Omega.{arith}
 use mir.Syntax.{w8}
@@ -41,15 +41,19 @@ digit-order :
     pick (compare m n) Ordering·lt (pick (compare a b) Ordering·lt o Ordering·gt) Ordering·gt
     ≡ pick (compare (256 * m + a) (256 * n + b)) Ordering·lt o Ordering·gt
 digit-order m n a b o p q =
+    let x = 256 * m + a in
+    let y = 256 * n + b in
+    let less : x < y → Ordering·lt ≡ pick (compare x y) Ordering·lt o Ordering·gt = λ h. rw (lt-compare x y h) in
+    let more : y < x → Ordering·gt ≡ pick (compare x y) Ordering·lt o Ordering·gt = λ h. rw (gt-compare x y h) in
     three (compare m n)
-    (λ l. let h = compare-lt m n l in rw (l, lt-compare (256 * m + a) (256 * n + b) (omega arith)))
+    (λ l. let h = compare-lt m n l in rw l (less (omega arith)))
     (λ s. let h = nat-same m n s in
     rw s
     (three (compare a b)
-    (λ l. let k = compare-lt a b l in rw (l, lt-compare (256 * m + a) (256 * n + b) (omega arith)))
-    (λ t. let k = nat-same a b t in rw (t, eq-compare (256 * m + a) (256 * n + b) (omega arith)))
-    (λ g. let k = compare-gt a b g in rw (g, gt-compare (256 * m + a) (256 * n + b) (omega arith)))))
-    (λ g. let h = compare-gt m n g in rw (g, gt-compare (256 * m + a) (256 * n + b) (omega arith)))
+    (λ l. let k = compare-lt a b l in rw l (less (omega arith)))
+    (λ t. let k = nat-same a b t in rw (t, eq-compare x y (omega arith)))
+    (λ g. let k = compare-gt a b g in rw g (more (omega arith)))))
+    (λ g. let h = compare-gt m n g in rw g (more (omega arith)))
 
 -- the order of two lists of bytes is that of the words of their first k bytes, and then that of what is left
 pub words-order :
@@ -114,16 +118,15 @@ module _ {a b : List ℕ} {n i : ℕ} (w : Alike a b n i) where
   alike-all h e =
       let in-a = w .shorter .0 in
       let in-b = w .shorter .1 in
-      let ends : (length a ≤ i) ⊎ (length b ≤ i) = ⊎-elim (λ x. inl (omega (arith, x))) (λ x. inr (omega (arith, x))) (w .shorter .2) in
+      let within = w .within in
+      let ends = w .shorter .2 in
+      let a-ends : length a ≤ length b → length a ≤ i = λ k. ⊎-elim (λ (x : length a ≤ n). omega arith) (λ (x : length b ≤ n). omega arith) ends in
+      let b-ends : length b ≤ length a → length b ≤ i = λ k. ⊎-elim (λ (x : length a ≤ n). omega arith) (λ (x : length b ≤ n). omega arith) ends in
       e ∙ ap orderNumber (sym (order-from i (omega arith) ∙
       three (compare (length a) (length b))
-      (λ l. let m = compare-lt (length a) (length b) l in
-      order-first a b i (⊎-elim (λ (x : length a ≤ i). x) (λ (x : length b ≤ i). omega arith) ends) (omega (arith, w .within)) ∙ sym l)
-      (λ s. let m = nat-same (length a) (length b) s in
-      order-same a b i (⊎-elim (λ (x : length a ≤ i). x) (λ (x : length b ≤ i). omega arith) ends)
-      (⊎-elim (λ (x : length a ≤ i). omega arith) (λ (x : length b ≤ i). x) ends) ∙ sym s)
-      (λ g. let m = compare-gt (length a) (length b) g in
-      order-second a b i (omega (arith, w .within)) (⊎-elim (λ (x : length a ≤ i). omega arith) (λ (x : length b ≤ i). x) ends) ∙ sym g)))
+      (λ l. let m = compare-lt (length a) (length b) l in order-first a b i (a-ends (omega arith)) (omega arith) ∙ sym l)
+      (λ s. let m = nat-same (length a) (length b) s in order-same a b i (a-ends (omega arith)) (b-ends (omega arith)) ∙ sym s)
+      (λ g. let m = compare-gt (length a) (length b) g in order-second a b i (omega arith) (b-ends (omega arith)) ∙ sym g)))
 
   -- x and y are the words of the k bytes from j on, and the bytes before are the same
   pub record WordsAt (j k x y : ℕ) : Type 0 where

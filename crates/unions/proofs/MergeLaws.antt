@@ -196,13 +196,15 @@ flat-at (xs ∷ xss) zero (suc j) h a n = Memᴰ·append-left (flatten (take j x
 flat-at (xs ∷ xss) (suc i) (suc j) h a n = Memᴰ·append-right xs (flat-at xss i j (omega arith) a n)
 
 -- what the answer tells of
-value-some : (s : List ℕ) (r : Told) → r .found ≡ true → valueAt s r ≡ leastText s r ∷ []
+value-told : (s : List ℕ) (r : Told) {b : Bool} → r .found ≡ b → valueAt s r ≡ cond b (leastText s r ∷ []) []
 unfolding valueAt
-value-some s r f = ap (λ (b : Bool). cond b (leastText s r ∷ []) []) f
+value-told s r f = ap (λ (b : Bool). cond b (leastText s r ∷ []) []) f
+
+value-some : (s : List ℕ) (r : Told) → r .found ≡ true → valueAt s r ≡ leastText s r ∷ []
+value-some s r f = value-told s r f
 
 value-none : (s : List ℕ) (r : Told) → r .found ≡ false → valueAt s r ≡ []
-unfolding valueAt
-value-none s r f = ap (λ (b : Bool). cond b (leastText s r ∷ []) []) f
+value-none s r f = value-told s r f
 
 value-nil : (s : List ℕ) (r : Told) → take 1 (union texts (valueAt s r) (smallest texts [])) ≡ valueAt s r
 unfolding smallest canon
@@ -317,6 +319,9 @@ module _ (s : List ℕ) (best : Told) (ats : List ℕ) (j end : ℕ) where
         let f = run-first xs r in
         rw (f .all, equal-true texts first-text m .1 e) (set-rest s end q xs first-text (w .within) (r .within) f)
 
+    first-passed : (xs : List Text) → SetRun s (getD ats j 0) end xs → SetRun s q end (passed first-text xs)
+    first-passed = run-passed first-text refl
+
     run-least : (xs : List Text) → SetRun s (getD ats j 0) end xs → smallest texts xs ≡ first-text ∷ []
     run-least = set-smallest s (getD ats j 0) end l some p q w
 
@@ -329,7 +334,7 @@ module _ (s : List ℕ) (best : Told) (ats : List ℕ) (j end : ℕ) where
           (rw (value-none s best f, run-least (getD xss j []) r) (ap (take 1) (union-left-nil texts (first-text ∷ []))))
           (low-none first-text (flatten (take j xss)) (sym (b .least) ∙ value-none s best f))
           long
-          (rw e (run-passed first-text refl (getD xss j []) r));
+          (rw e (first-passed (getD xss j []) r));
     }
 
     module _ (f : best .found ≡ true) where
@@ -351,7 +356,7 @@ module _ (s : List ℕ) (best : Told) (ats : List ℕ) (j end : ℕ) where
             (picked Ordering·lt c (getD xss j []) r)
             (low-less first-text (leastText s best) (flatten (take j xss)) (sym (b .least) ∙ value-some s best f) c)
             long
-            (rw e (run-passed first-text refl (getD xss j []) r));
+            (rw e (first-passed (getD xss j []) r));
       }
 
       lesser-both : RightLeast s best → j < length (best .after) → texts .cmp first-text (leastText s best) ≡ Ordering·eq →
