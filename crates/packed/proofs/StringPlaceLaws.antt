@@ -165,25 +165,35 @@ module _ {a b old new : List ℕ} {count k : ℕ} {x : StringAt} (w : Placing a 
         subst (StringFits a b) (sym y-is)
         (last-fits a b (stringsIn old) count x (w .fits) (w .fit) (w .room) (stringsIn new) k (w .moved) h)
 
-    module _ {t : Bool} (asked : t ≡ pick (texts .cmp (stringOf a b x) (stringOf a b y)) false false true) where
-      told : {v : Bool} → t ≡ v → pick (texts .cmp (stringOf a b x) (stringOf a b (getD (stringsIn new) (k - 1) noString))) false false true ≡ v
-      told e =
-          ap (λ (z : StringAt). pick (texts .cmp (stringOf a b x) (stringOf a b z)) false false true) (sym y-is) ∙ sym asked ∙ e
+  -- y is the string before place k, and t tells whether x comes after it
+  pub record Asked (y : StringAt) (t : Bool) : Type 0 where
+    pub some : 0 < k
+    pub is : y ≡ stringIn new (k - 1)
+    pub told : t ≡ pick (texts .cmp (stringOf a b x) (stringOf a b y)) false false true
 
-      pub placed-after : t ≡ true → {rs : List StringAt} → rs ≡ set (stringsIn new) k x → Inserted a b (stringsIn old) count x rs
-      placed-after e put =
-          subst (Inserted a b (stringsIn old) count x) (sym put)
-          (inserted-after a b (stringsIn old) count x (w .fits) (w .fit) (w .room) (stringsIn new) k (w .moved) (w .before) h (told e))
+module _ {a b old new : List ℕ} {count k : ℕ} {x y : StringAt} {t : Bool} {w : Placing a b old count x new k} (v : Asked w y t) where
+  after-is : {u : Bool} → t ≡ u → pick (texts .cmp (stringOf a b x) (stringOf a b (getD (stringsIn new) (k - 1) noString))) false false true ≡ u
+  after-is e =
+      ap (λ (z : StringAt). pick (texts .cmp (stringOf a b x) (stringOf a b z)) false false true) (sym (y-is w (v .some) (v .is)))
+      ∙ sym (v .told)
+      ∙ e
 
-      pub placing-more :
-          t ≡ false → {r : List ℕ} → length r ≡ 128 → stringsIn r ≡ set (stringsIn new) k y → Placing a b old count x r (k - 1)
-      placing-more e l put = record {
-        fits = w .fits;
-        fit = w .fit;
-        room = w .room;
-        long = l;
-        moved =
-            subst (λ (ys : List StringAt). Moved (stringsIn old) ys count (k - 1)) (sym (put ∙ ap (set (stringsIn new) k) y-is))
-            (moved-more (stringsIn old) count (w .room) (w .fits .long) (stringsIn new) k (w .moved) h);
-        before = before-more a b (stringsIn old) count x (w .fits) (w .fit) (w .room) (stringsIn new) k (w .moved) h (told e);
-      }
+  pub placed-after : t ≡ true → {rs : List StringAt} → rs ≡ set (stringsIn new) k x → Inserted a b (stringsIn old) count x rs
+  placed-after e put =
+      subst (Inserted a b (stringsIn old) count x) (sym put)
+      (inserted-after a b (stringsIn old) count x (w .fits) (w .fit) (w .room) (stringsIn new) k (w .moved) (w .before) (v .some) (after-is e))
+
+  pub placing-more :
+      t ≡ false → {r : List ℕ} → length r ≡ length new → stringsIn r ≡ set (stringsIn new) k y → Placing a b old count x r (k - 1)
+  placing-more e l put = record {
+    fits = w .fits;
+    fit = w .fit;
+    room = w .room;
+    long = l ∙ w .long;
+    moved =
+        subst
+        (λ (ys : List StringAt). Moved (stringsIn old) ys count (k - 1))
+        (sym (put ∙ ap (set (stringsIn new) k) (y-is w (v .some) (v .is))))
+        (moved-more (stringsIn old) count (w .room) (w .fits .long) (stringsIn new) k (w .moved) (v .some));
+    before = before-more a b (stringsIn old) count x (w .fits) (w .fit) (w .room) (stringsIn new) k (w .moved) (v .some) (after-is e);
+  }

@@ -233,60 +233,50 @@ four s at h =
 under : (k n : ℕ) {w low v : ℕ} → w ≡ n * 2 ^ k → low < 2 ^ k → n * 2 ^ k + low ≡ v → bitOr w low ≡ v
 under k n {w} {low} {v} e l s = ap (λ (x : ℕ). bitOr x low) e ∙ or-shifted n k low l ∙ s
 
+-- a byte shifted up by k bits, in a word of 64
+abbrev up : ℕ → ℕ → ℕ
+up k a = a * 2 ^ k % 2 ^ 64
+
 pub joined :
     (a b c d e f g h : ℕ) → a < 256 → b < 256 → c < 256 → d < 256 → e < 256 → f < 256 → g < 256 → h < 256 →
-    bitOr (bitOr (bitOr (bitOr (bitOr (bitOr (bitOr (a * 72057594037927936 % 18446744073709551616) (b * 281474976710656 % 18446744073709551616))
-    (c * 1099511627776 % 18446744073709551616)) (d * 4294967296 % 18446744073709551616)) (e * 16777216 % 18446744073709551616))
-    (f * 65536 % 18446744073709551616)) (g * 256 % 18446744073709551616)) h
+    bitOr (bitOr (bitOr (bitOr (bitOr (bitOr (bitOr (up 56 a) (up 48 b)) (up 40 c)) (up 32 d)) (up 24 e)) (up 16 f)) (up 8 g)) h
     ≡ wordOf (a ∷ b ∷ c ∷ d ∷ e ∷ f ∷ g ∷ h ∷ [])
 unfolding wordOf wordAfter
 joined a b c d e f g h pa pb pc pd pe pf pg ph =
-    let na : ℕ = 256 * 0 + a in
-    let wa : a * 72057594037927936 % 18446744073709551616 ≡ na * 2 ^ 56 = omega arith in
-    let nb : ℕ = 256 * na + b in
-    let wb : bitOr (a * 72057594037927936 % 18446744073709551616) (b * 281474976710656 % 18446744073709551616)
-    ≡ nb * 2 ^ 48 = under 56 na wa (omega arith) (omega arith) in
+    let a-up : up 56 a ≡ a * 2 ^ 56 = omega arith in
+    let nb : ℕ = 256 * a + b in
+    let wb : ℕ = bitOr (up 56 a) (up 48 b) in
+    let b-up : wb ≡ nb * 2 ^ 48 = under 56 a a-up (omega arith) (omega arith) in
     let nc : ℕ = 256 * nb + c in
-    let wc : bitOr (bitOr (a * 72057594037927936 % 18446744073709551616) (b * 281474976710656 % 18446744073709551616))
-    (c * 1099511627776 % 18446744073709551616) ≡ nc * 2 ^ 40 = under 48 nb wb (omega arith) (omega arith) in
+    let wc : ℕ = bitOr wb (up 40 c) in
+    let c-up : wc ≡ nc * 2 ^ 40 = under 48 nb b-up (omega arith) (omega arith) in
     let nd : ℕ = 256 * nc + d in
-    let wd : bitOr (bitOr (bitOr (a * 72057594037927936 % 18446744073709551616) (b * 281474976710656 % 18446744073709551616))
-    (c * 1099511627776 % 18446744073709551616)) (d * 4294967296 % 18446744073709551616) ≡ nd * 2 ^ 32 = under 40 nc wc (omega arith) (omega arith) in
+    let wd : ℕ = bitOr wc (up 32 d) in
+    let d-up : wd ≡ nd * 2 ^ 32 = under 40 nc c-up (omega arith) (omega arith) in
     let ne : ℕ = 256 * nd + e in
-    let we : bitOr (bitOr (bitOr (bitOr (a * 72057594037927936 % 18446744073709551616) (b * 281474976710656 % 18446744073709551616))
-    (c * 1099511627776 % 18446744073709551616)) (d * 4294967296 % 18446744073709551616)) (e * 16777216 % 18446744073709551616)
-    ≡ ne * 2 ^ 24 = under 32 nd wd (omega arith) (omega arith) in
+    let we : ℕ = bitOr wd (up 24 e) in
+    let e-up : we ≡ ne * 2 ^ 24 = under 32 nd d-up (omega arith) (omega arith) in
     let nf : ℕ = 256 * ne + f in
-    let wf : bitOr (bitOr (bitOr (bitOr (bitOr (a * 72057594037927936 % 18446744073709551616) (b * 281474976710656 % 18446744073709551616))
-    (c * 1099511627776 % 18446744073709551616)) (d * 4294967296 % 18446744073709551616)) (e * 16777216 % 18446744073709551616))
-    (f * 65536 % 18446744073709551616) ≡ nf * 2 ^ 16 = under 24 ne we (omega arith) (omega arith) in
+    let wf : ℕ = bitOr we (up 16 f) in
+    let f-up : wf ≡ nf * 2 ^ 16 = under 24 ne e-up (omega arith) (omega arith) in
     let ng : ℕ = 256 * nf + g in
-    let wg : bitOr (bitOr (bitOr (bitOr (bitOr (bitOr (a * 72057594037927936 % 18446744073709551616) (b * 281474976710656 % 18446744073709551616))
-    (c * 1099511627776 % 18446744073709551616)) (d * 4294967296 % 18446744073709551616)) (e * 16777216 % 18446744073709551616))
-    (f * 65536 % 18446744073709551616)) (g * 256 % 18446744073709551616) ≡ ng * 2 ^ 8 = under 16 nf wf (omega arith) (omega arith) in
-    let nh : ℕ = 256 * ng + h in
-    let wh : bitOr (bitOr (bitOr (bitOr (bitOr (bitOr (bitOr (a * 72057594037927936 % 18446744073709551616) (b * 281474976710656 % 18446744073709551616))
-    (c * 1099511627776 % 18446744073709551616)) (d * 4294967296 % 18446744073709551616)) (e * 16777216 % 18446744073709551616))
-    (f * 65536 % 18446744073709551616)) (g * 256 % 18446744073709551616)) h ≡ nh = under 8 ng wg (omega arith) (omega arith) in
-    wh
+    let wg : ℕ = bitOr wf (up 8 g) in
+    let g-up : wg ≡ ng * 2 ^ 8 = under 16 nf f-up (omega arith) (omega arith) in
+    under 8 ng g-up (omega arith) (omega arith)
 
 pub joined-four :
     (a b c d : ℕ) → a < 256 → b < 256 → c < 256 → d < 256 →
-    bitOr (bitOr (bitOr (a * 16777216 % 18446744073709551616) (b * 65536 % 18446744073709551616)) (c * 256 % 18446744073709551616)) d
-    ≡ wordOf (a ∷ b ∷ c ∷ d ∷ [])
+    bitOr (bitOr (bitOr (up 24 a) (up 16 b)) (up 8 c)) d ≡ wordOf (a ∷ b ∷ c ∷ d ∷ [])
 unfolding wordOf wordAfter
 joined-four a b c d pa pb pc pd =
-    let na : ℕ = 256 * 0 + a in
-    let wa : a * 16777216 % 18446744073709551616 ≡ na * 2 ^ 24 = omega arith in
-    let nb : ℕ = 256 * na + b in
-    let wb : bitOr (a * 16777216 % 18446744073709551616) (b * 65536 % 18446744073709551616) ≡ nb * 2 ^ 16 = under 24 na wa (omega arith) (omega arith) in
+    let a-up : up 24 a ≡ a * 2 ^ 24 = omega arith in
+    let nb : ℕ = 256 * a + b in
+    let wb : ℕ = bitOr (up 24 a) (up 16 b) in
+    let b-up : wb ≡ nb * 2 ^ 16 = under 24 a a-up (omega arith) (omega arith) in
     let nc : ℕ = 256 * nb + c in
-    let wc : bitOr (bitOr (a * 16777216 % 18446744073709551616) (b * 65536 % 18446744073709551616)) (c * 256 % 18446744073709551616)
-    ≡ nc * 2 ^ 8 = under 16 nb wb (omega arith) (omega arith) in
-    let nd : ℕ = 256 * nc + d in
-    let wd : bitOr (bitOr (bitOr (a * 16777216 % 18446744073709551616) (b * 65536 % 18446744073709551616)) (c * 256 % 18446744073709551616)) d
-    ≡ nd = under 8 nc wc (omega arith) (omega arith) in
-    wd
+    let wc : ℕ = bitOr wb (up 8 c) in
+    let c-up : wc ≡ nc * 2 ^ 8 = under 16 nb b-up (omega arith) (omega arith) in
+    under 8 nc c-up (omega arith) (omega arith)
 
 -- ---- bytes whose top bit is clear
 

@@ -3,6 +3,9 @@ use Rattle.packed.proofs.OrderLaws.{less-is}
 use Rattle.packed.proofs.order.is_before.Statement.{statement}
 use Rattle.packed.proofs.order.is_before.Tie as tie
 
+returns : tie.Need-returns
+returns c = less-is _ _ (c .order-number .ensures)
+
 pub is-before-spec : {M : Type 1} → statement M
 is-before-spec =
     tie.close
@@ -14,4 +17,4 @@ is-before-spec =
     (λ c. search needs)
     (λ c. search needs)
     (λ c κs. search needs)
-    (λ c. less-is _ _ (c .order-number .ensures)))
+    returns)

@@ -32,6 +32,9 @@ last-words c =
 
 -- ---- the needs
 
+returns : tie.Need-returns Inv-loop μ-loop
+returns c = c .compare-short .ensures
+
 loop-holds : tie.Need-loop-holds Inv-loop μ-loop
 loop-holds c =
     let known = c .before .before in
@@ -63,7 +66,7 @@ order-number-spec =
     μ-loop
     (λ c κs. search needs)
     (λ c κs. search needs)
-    (λ c. c .compare-short .ensures)
+    returns
     loop-holds
     (λ c κs. search needs)
     (λ c κs. search needs)

@@ -35,6 +35,18 @@ bytes c =
 
 -- ---- the needs
 
+string-size-requires : tie.Need-string-size-requires Inv-loop μ-loop
+string-size-requires c κs = c .before .before .pre .0
+
+string-size-requires-2 : tie.Need-string-size-requires-2 Inv-loop μ-loop
+string-size-requires-2 c κs = c .before .before .before .pre .1
+
+loop-holds : tie.Need-loop-holds Inv-loop μ-loop
+loop-holds c = compares-all (c .before .string-size .ensures) (c .string-size2 .ensures)
+
+returns : tie.Need-returns Inv-loop μ-loop
+returns c = second-ends (c .before .before .loop .inv) (omega arith) (omega arith)
+
 string-byte-requires : tie.Need-string-byte-requires Inv-loop μ-loop
 string-byte-requires c κs =
     let turn = c .before .before in
@@ -45,22 +57,37 @@ string-byte-requires-2 c κs =
     let turn = c .before .before .before in
     (to-start turn .pre .1, omega (arith, turn .loop .inv .second))
 
+returns-2 : tie.Need-returns-2 Inv-loop μ-loop
+returns-2 c = byte-less (bytes (c .before)) (c .if2 .taken)
+
+returns-3 : tie.Need-returns-3 Inv-loop μ-loop
+returns-3 c = byte-more (bytes (c .before .before)) (c .if3 .taken)
+
+loop-again : tie.Need-loop-again Inv-loop μ-loop
+loop-again c = byte-same (bytes (c .before .before)) (c .before .if2 .left) (c .if3 .left)
+
+returns-4 : tie.Need-returns-4 Inv-loop μ-loop
+returns-4 c = first-ends (c .before .before .loop .inv) (omega arith) (omega arith)
+
+returns-5 : tie.Need-returns-5 Inv-loop μ-loop
+returns-5 c = both-end (c .before .before .loop .inv) (omega arith) (omega arith)
+
 pub compare-strings-spec : {M : Type 1} → statement M
 compare-strings-spec =
     tie.close
     (tie.spec
     Inv-loop
     μ-loop
-    (λ c κs. c .before .before .pre .0)
-    (λ c κs. c .before .before .before .pre .1)
-    (λ c. compares-all (c .before .string-size .ensures) (c .string-size2 .ensures))
-    (λ c. second-ends (c .before .before .loop .inv) (omega arith) (omega arith))
+    string-size-requires
+    string-size-requires-2
+    loop-holds
+    returns
     string-byte-requires
     string-byte-requires-2
-    (λ c. byte-less (bytes (c .before)) (c .if2 .taken))
-    (λ c. byte-more (bytes (c .before .before)) (c .if3 .taken))
+    returns-2
+    returns-3
     (λ c. search needs)
     (λ c. search needs)
-    (λ c. byte-same (bytes (c .before .before)) (c .before .if2 .left) (c .if3 .left))
-    (λ c. first-ends (c .before .before .loop .inv) (omega arith) (omega arith))
-    (λ c. both-end (c .before .before .loop .inv) (omega arith) (omega arith)))
+    loop-again
+    returns-4
+    returns-5)

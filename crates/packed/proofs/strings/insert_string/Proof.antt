@@ -1,7 +1,7 @@
 -- `insert_string` meets its contract. The loop's invariant (`Placing`): the strings from place k on have moved up by one, and x comes before them. A turn
 -- asks whether x comes after the string before place k: then x stands at k (`placed-after`), else that string moves too (`placing-more`).
 use native.Mathlib.Omega.{arith}
-use Rattle.packed.proofs.StringPlaceLaws.{Placing, placing-none, placing-more, before-fits, placed-after, placed-first}
+use Rattle.packed.proofs.StringPlaceLaws.{Placing, placing-none, before-fits, Asked, placed-after, placing-more, placed-first}
 use borrow.Author.Needs.{needs}
 use Rattle.packed.proofs.strings.insert_string.Statement.{statement}
 use Rattle.packed.proofs.strings.insert_string.Tie as tie
@@ -11,6 +11,18 @@ Inv-loop a b strings₀ count x k₀ strings k = Placing a b strings₀ count x 
 
 abbrev μ-loop : tie.MeasureT-loop
 μ-loop a b strings₀ count x k₀ strings k = k
+
+-- ---- the facts
+
+asked :
+    (c : tie.After-is-after Inv-loop μ-loop) →
+    let turn = c .before .before .before in
+    Asked (turn .before .loop .inv) (c .before .string-at .result) (c .is-after .result)
+asked c = record {
+  some = c .before .before .before .loop-test .taken;
+  is = c .before .string-at .ensures;
+  told = c .is-after .ensures;
+}
 
 -- ---- the needs
 
@@ -27,20 +39,13 @@ returns : tie.Need-returns Inv-loop μ-loop
 returns c =
     let put = c .before .before in
     let chosen = put .before .before in
-    let read = chosen .before .before in
-    let turn = read .before .before in
-    placed-after (turn .before .loop .inv) (turn .loop-test .taken) (read .string-at .ensures) (chosen .before .is-after .ensures) (chosen .if1 .taken)
-    (put .put-string .ensures)
+    placed-after (asked (chosen .before)) (chosen .if1 .taken) (put .put-string .ensures)
 
 loop-again : tie.Need-loop-again Inv-loop μ-loop
 loop-again c =
     let put = c .before .before in
     let chosen = put .before .before in
-    let read = chosen .before .before in
-    let turn = read .before .before in
-    let w = turn .before .loop .inv in
-    placing-more w (turn .loop-test .taken) (read .string-at .ensures) (chosen .before .is-after .ensures) (chosen .if1 .left)
-    (omega (arith, w .long, c .before .strings2 .given)) (put .put-string2 .ensures)
+    placing-more (asked (chosen .before)) (chosen .if1 .left) (omega (arith, c .before .strings2 .given)) (put .put-string2 .ensures)
 
 returns-2 : tie.Need-returns-2 Inv-loop μ-loop
 returns-2 c =

@@ -27,6 +27,12 @@ returns c = let test = c .before .before in sym (string-first _ _ _ (test .befor
 returns-2 : tie.Need-returns-2
 returns-2 c = sym (string-colon _ _ _ (c .before .before .before .pre .0) _ (c .if2 .taken))
 
+add-j-2 : tie.Need-add-j-2
+add-j-2 c = omega (arith, inside (to-start c))
+
+shared-slice-read-result-2 : tie.Need-shared-slice-read-result-2
+shared-slice-read-result-2 c = omega (arith, inside (to-start (c .before)))
+
 returns-3 : tie.Need-returns-3
 returns-3 c = let p = to-start (c .before) .pre in sym (string-second _ _ _ (p .0) _ (omega arith) (p .1))
 
@@ -40,6 +46,6 @@ string-byte-spec =
     returns
     returns-2
     (λ c. search needs)
-    (λ c. omega (arith, inside (to-start c)))
-    (λ c. omega (arith, inside (to-start (c .before))))
+    add-j-2
+    shared-slice-read-result-2
     returns-3)

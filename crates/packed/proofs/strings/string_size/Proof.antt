@@ -4,6 +4,9 @@ use borrow.Author.Needs.{needs}
 use Rattle.packed.proofs.strings.string_size.Statement.{statement}
 use Rattle.packed.proofs.strings.string_size.Tie as tie
 
+returns : tie.Need-returns
+returns c = sym (string-length _ _ _ (c .before .before .pre))
+
 pub string-size-spec : {M : Type 1} → statement M
 string-size-spec =
     tie.close
@@ -12,4 +15,4 @@ string-size-spec =
     (λ c. search needs)
     (λ c. search needs)
     (λ c. search needs)
-    (λ c. sym (string-length _ _ _ (c .before .before .pre))))
+    returns)

@@ -16,6 +16,9 @@ abbrev μ-loop : tie.MeasureT-loop
 
 -- ---- the needs
 
+loop-holds : tie.Need-loop-holds Inv-loop μ-loop
+loop-holds c = copied-none
+
 loop-again : tie.Need-loop-again Inv-loop μ-loop
 loop-again c =
     let put = c .before .before in
@@ -37,7 +40,7 @@ copy-short-spec =
     Inv-loop
     μ-loop
     (λ c. search needs)
-    (λ c. copied-none)
+    loop-holds
     (λ c. search needs)
     (λ c κs. search needs)
     (λ c. search needs)

@@ -12,18 +12,27 @@ Inv-loop out₀ from to by i₀ out i = (from ≤ i) × (i ≤ to) × MovedFrom 
 abbrev μ-loop : tie.MeasureT-loop
 μ-loop out₀ from to by i₀ out i = i
 
+loop-holds : tie.Need-loop-holds Inv-loop μ-loop
+loop-holds c = (c .pre .0, omega arith, moved-none)
+
+loop-again : tie.Need-loop-again Inv-loop μ-loop
+loop-again c = (omega arith, omega arith, moved-more (c .before .before .loop .inv .2) (omega arith) (omega arith) (omega arith))
+
+returns : tie.Need-returns Inv-loop μ-loop
+returns c = moved-all (c .before .loop .inv .2) _ (omega arith)
+
 pub move-up-spec : {M : Type 1} → statement M
 move-up-spec =
     tie.close
     (tie.spec
     Inv-loop
     μ-loop
-    (λ c. (c .pre .0, omega arith, moved-none))
+    loop-holds
     (λ c. search needs)
     (λ c. search needs)
     (λ c. search needs)
     (λ c. search needs)
     (λ c. search needs)
-    (λ c. (omega arith, omega arith, moved-more (c .before .before .loop .inv .2) (omega arith) (omega arith) (omega arith)))
+    loop-again
     (λ c. search needs)
-    (λ c. moved-all (c .before .loop .inv .2) _ (omega arith)))
+    returns)

@@ -40,8 +40,14 @@ moved c = ⊎-elim
 
 -- ---- the needs
 
+sub-more : tie.Need-sub-more
+sub-more c = omega (arith, size c)
+
 write-number-requires : tie.Need-write-number-requires
 write-number-requires c κs = let sized = c .before .before in omega (arith, size sized, within sized, moved (c .before) .long)
+
+same-length : tie.Need-same-length
+same-length c = wrote-length (c .before .before .write-number .ensures) ∙ moved (joined c) .long
 
 returns : tie.Need-returns
 returns c = λ l bytes w.
@@ -53,10 +59,10 @@ write-before-spec =
     tie.close
     (tie.spec
     (λ c κs. search needs)
-    (λ c. omega (arith, size c))
+    sub-more
     (λ c. search needs)
     (λ c κs. search needs)
     write-number-requires
     (λ c. search needs)
-    (λ c. wrote-length (c .before .before .write-number .ensures) ∙ moved (joined c) .long)
+    same-length
     returns)

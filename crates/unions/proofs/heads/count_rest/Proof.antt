@@ -31,8 +31,20 @@ head c = heads-some (c .before .end .given .1) (c .before .before .before .head-
 
 -- ---- the needs
 
+loop-holds : tie.Need-loop-holds Inv-loop μ-loop
+loop-holds c = one-none (c .before .pre)
+
 returns : tie.Need-returns Inv-loop μ-loop
 returns c = let asked = c .before .before in one-all (asked .before .loop .inv) (heads-none (c .enum-told .given .1) (asked .head-at .ensures))
+
+add-n : tie.Need-add-n Inv-loop μ-loop
+add-n c = omega (arith, head c)
+
+loop-less : tie.Need-loop-less Inv-loop μ-loop
+loop-less c = omega (arith, head c)
+
+loop-again : tie.Need-loop-again Inv-loop μ-loop
+loop-again c = one-on (to-loop c .loop .inv) (head c)
 
 pub count-rest-spec : {M : Type 1} → statement M
 count-rest-spec =
@@ -40,11 +52,11 @@ count-rest-spec =
     (tie.spec
     Inv-loop
     μ-loop
-    (λ c. one-none (c .before .pre))
+    loop-holds
     (λ c κs. search needs)
     (λ c. search needs)
     (λ c. search needs)
     returns
-    (λ c. omega (arith, head c))
-    (λ c. omega (arith, head c))
-    (λ c. one-on (to-loop c .loop .inv) (head c)))
+    add-n
+    loop-less
+    loop-again)

@@ -9,6 +9,18 @@ use Rattle.unions.proofs.heads.head_at.Tie as tie
 hashes : (c : tie.After-enum-told2) → c .before .before .before .args .form ≡ form.Hashes
 hashes c = c .enum-told2 .given .1
 
+returns : tie.Need-returns
+returns c = no-hash (hashes (c .before)) (omega arith)
+
+returns-2 : tie.Need-returns-2
+returns-2 c = no-hash (hashes (c .before .before)) (omega arith)
+
+returns-3 : tie.Need-returns-3
+returns-3 c = texts-head _ _ _ (c .before .enum-told .given .1) (c .read-text .ensures)
+
+returns-4 : tie.Need-returns-4
+returns-4 c = hash-head (hashes (c .before .before)) (omega arith)
+
 pub head-at-spec : {M : Type 1} → statement M
 head-at-spec =
     tie.close
@@ -16,9 +28,9 @@ head-at-spec =
     (λ c. search needs)
     (λ c κs. search needs)
     (λ c. search needs)
-    (λ c. no-hash (hashes (c .before)) (omega arith))
+    returns
     (λ c. search needs)
-    (λ c. no-hash (hashes (c .before .before)) (omega arith))
+    returns-2
     (λ c. search needs)
-    (λ c. texts-head _ _ _ (c .before .enum-told .given .1) (c .read-text .ensures))
-    (λ c. hash-head (hashes (c .before .before)) (omega arith)))
+    returns-3
+    returns-4)

@@ -14,6 +14,9 @@ Inv-loop from to₀ j₀ to j = (length to ≡ 8) × (take j to ≡ take j from)
 abbrev μ-loop : tie.MeasureT-loop
 μ-loop from to₀ j₀ to j = 8 - j
 
+loop-holds : tie.Need-loop-holds Inv-loop μ-loop
+loop-holds c = (c .pre .1, refl)
+
 loop-again : tie.Need-loop-again Inv-loop μ-loop
 loop-again c =
     let turn = c .before in
@@ -34,7 +37,7 @@ copy-eight-spec =
     (tie.spec
     Inv-loop
     μ-loop
-    (λ c. (c .pre .1, refl))
+    loop-holds
     (λ c. search needs)
     (λ c. search needs)
     (λ c. search needs)

@@ -22,6 +22,9 @@ to-start c = c .before .before .before .before .before .before .before .before .
 
 -- ---- the needs
 
+loop-holds : tie.Need-loop-holds Inv-loop μ-loop
+loop-holds c = (search needs, sofar-none refl (c .before .before .copy-eight .ensures))
+
 lesser-requires : tie.Need-lesser-requires Inv-loop μ-loop
 lesser-requires c κs =
     let turn = c .before .before in
@@ -35,6 +38,9 @@ loop-again c =
     let turn = asked .before .before .before in
     (search needs, sofar-on (turn .before .loop .inv .1) (turn .loop-test .taken) (asked .lesser .ensures))
 
+returns : tie.Need-returns Inv-loop μ-loop
+returns c = sofar-all (c .before .loop .inv .1) (c .loop-test .left)
+
 pub least-head-spec : {M : Type 1} → statement M
 least-head-spec =
     tie.close
@@ -42,7 +48,7 @@ least-head-spec =
     Inv-loop
     μ-loop
     (λ c κs. search needs)
-    (λ c. (search needs, sofar-none refl (c .before .before .copy-eight .ensures)))
+    loop-holds
     (λ c. search needs)
     (λ c. search needs)
     lesser-requires
@@ -50,4 +56,4 @@ least-head-spec =
     (λ c. search needs)
     loop-again
     (λ c. search needs)
-    (λ c. sofar-all (c .before .loop .inv .1) (c .loop-test .left)))
+    returns)

@@ -61,11 +61,26 @@ returns-2 c =
     let pre = known .before .pre in
     answer-no-head (pre .1 .0) (pre .1 .1) (short known) (heads-none (c .enum-told .given .1) (asked .head-at .ensures))
 
+slice-write-after : tie.Need-slice-write-after
+slice-write-after c = head (c .before) .in-after
+
+returns-3 : tie.Need-returns-3
+returns-3 c = first-answer (head (c .before)) (not-true _ (c .if2 .taken))
+
+order-parts-requires : tie.Need-order-parts-requires
+order-parts-requires c κs = least-inside (head (c .before)) (not-false _ (c .if2 .left))
+
 returns-4 : tie.Need-returns-4
 returns-4 c =
     let copied = c .before .before in
     let arm = copied .before .before in
     less-answer (compared (arm .before)) (omega (arith, arm .match2 .keys1)) (copied .copy-eight .ensures)
+
+returns-5 : tie.Need-returns-5
+returns-5 c = both-answer (compared (c .before)) (omega (arith, c .match2 .keys2))
+
+returns-6 : tie.Need-returns-6
+returns-6 c = kept-answer (compared (c .before)) (omega (arith, c .match2 .rest))
 
 pub lesser-spec : {M : Type 1} → statement M
 lesser-spec =
@@ -79,10 +94,10 @@ lesser-spec =
     (λ c. search needs)
     returns-2
     (λ c. search needs)
-    (λ c. head (c .before) .in-after)
+    slice-write-after
     (λ c. search needs)
-    (λ c. first-answer (head (c .before)) (not-true _ (c .if2 .taken)))
-    (λ c κs. least-inside (head (c .before)) (not-false _ (c .if2 .left)))
+    returns-3
+    order-parts-requires
     (λ c κs. search needs)
     (λ c. search needs)
     (λ c. search needs)
@@ -91,5 +106,5 @@ lesser-spec =
     (λ c. search needs)
     returns-4
     (λ c. search needs)
-    (λ c. both-answer (compared (c .before)) (omega (arith, c .match2 .keys2)))
-    (λ c. kept-answer (compared (c .before)) (omega (arith, c .match2 .rest))))
+    returns-5
+    returns-6)

@@ -19,6 +19,9 @@ abbrev μ-loop : tie.MeasureT-loop
 
 -- ---- the places
 
+abbrev to-least : tie.Else1 Inv-loop μ-loop → tie.After-least-head Inv-loop μ-loop
+to-least c = c .before .before .before
+
 abbrev to-loop : tie.After-least-head Inv-loop μ-loop → tie.At-loop Inv-loop μ-loop
 to-loop c = c .before .before .before .before
 
@@ -34,10 +37,13 @@ to-turn c = to-copy c .before .before
 short : (c : tie.After-slice-known Inv-loop μ-loop) → length (c .before .before .args .out .now) < 2 ^ 64
 short c = omega arith
 
-least : (c : tie.Else1 Inv-loop μ-loop) → let asked = c .before .before .before in Found (to-loop asked .loop .inv .2) (asked .least-head .ensures)
+least : (c : tie.Else1 Inv-loop μ-loop) → Found (to-loop (to-least c) .loop .inv .2) (to-least c .least-head .ensures)
 least c = least-found _ _ (not-false _ (c .if1 .left))
 
 -- ---- the needs
+
+loop-holds : tie.Need-loop-holds Inv-loop μ-loop
+loop-holds c = (search needs, refl, merges-none (c .before .before .pre .1))
 
 least-head-requires : tie.Need-least-head-requires Inv-loop μ-loop
 least-head-requires c κs =
@@ -49,16 +55,22 @@ returns c =
     let asked = c .before .before .before in
     merges-all (to-loop asked .loop .inv .2) (asked .least-head .ensures) (not-true _ (c .if1 .taken))
 
+copy-part-requires : tie.Need-copy-part-requires Inv-loop μ-loop
+copy-part-requires c κs = least (c .before) .fits
+
 add-count : tie.Need-add-count Inv-loop μ-loop
 add-count c =
     let turn = to-turn c in
-    let at-loop = to-loop (turn .before .before .before) in
+    let at-loop = to-loop (to-least turn) in
     omega (arith, at-loop .loop .inv .2 .long, at-loop .loop .inv .2 .few, least turn, short (at-loop .before))
 
 loop-less : tie.Need-loop-less Inv-loop μ-loop
 loop-less c =
     let turn = to-turn c in
-    omega (arith, to-copy c .copy-part .ensures .after, least turn, to-loop (turn .before .before .before) .loop .inv .2 .long)
+    omega (arith, to-copy c .copy-part .ensures .after, least turn, to-loop (to-least turn) .loop .inv .2 .long)
+
+loop-again : tie.Need-loop-again Inv-loop μ-loop
+loop-again c = (search needs, search needs, merges-on (least (to-turn c)) (to-copy c .copy-part .ensures))
 
 pub write-merged-spec : {M : Type 1} → statement M
 write-merged-spec =
@@ -66,14 +78,14 @@ write-merged-spec =
     (tie.spec
     Inv-loop
     μ-loop
-    (λ c. (search needs, refl, merges-none (c .before .before .pre .1)))
+    loop-holds
     (λ c. search needs)
     (λ c. search needs)
     (λ c. search needs)
     least-head-requires
     (λ c. search needs)
     returns
-    (λ c κs. least (c .before) .fits)
+    copy-part-requires
     add-count
     loop-less
-    (λ c. (search needs, search needs, merges-on (least (to-turn c)) (to-copy c .copy-part .ensures))))
+    loop-again)

@@ -31,6 +31,18 @@ next c = steps-next (c .before .x .given .1) (c .before .before .before .next-of
 
 -- ---- the needs
 
+loop-holds : tie.Need-loop-holds Inv-loop μ-loop
+loop-holds c = counting-none
+
+count-rest-requires : tie.Need-count-rest-requires Inv-loop μ-loop
+count-rest-requires c κs = c .before .before .before .loop .inv .left-in
+
+add-result : tie.Need-add-result Inv-loop μ-loop
+add-result c = omega (arith, c .count-rest .ensures .0)
+
+count-rest-requires-2 : tie.Need-count-rest-requires-2 Inv-loop μ-loop
+count-rest-requires-2 c κs = let told = c .before in told .before .before .before .loop .inv .right-in
+
 add-result-2 : tie.Need-add-result-2 Inv-loop μ-loop
 add-result-2 c = omega (arith, c .count-rest2 .ensures .0, c .before .count-rest .ensures .0)
 
@@ -41,21 +53,30 @@ returns c =
     counting-all (stopped .before .loop .inv) (steps-alone (told .enum-told .given .1) (stopped .next-of .ensures)) (c .before .count-rest .ensures .1)
     (c .count-rest2 .ensures .1)
 
+add-n : tie.Need-add-n Inv-loop μ-loop
+add-n c = omega (arith, next c .step)
+
+loop-less : tie.Need-loop-less Inv-loop μ-loop
+loop-less c = omega (arith, next c .step)
+
+loop-again : tie.Need-loop-again Inv-loop μ-loop
+loop-again c = counting-on (to-loop c .loop .inv) (next c)
+
 pub count-runs-spec : {M : Type 1} → statement M
 count-runs-spec =
     tie.close
     (tie.spec
     Inv-loop
     μ-loop
-    (λ c. counting-none)
+    loop-holds
     (λ c κs. search needs)
     (λ c. search needs)
     (λ c. search needs)
-    (λ c κs. c .before .before .before .loop .inv .left-in)
-    (λ c. omega (arith, c .count-rest .ensures .0))
-    (λ c κs. let told = c .before in told .before .before .before .loop .inv .right-in)
+    count-rest-requires
+    add-result
+    count-rest-requires-2
     add-result-2
     returns
-    (λ c. omega (arith, next c .step))
-    (λ c. omega (arith, next c .step))
-    (λ c. counting-on (to-loop c .loop .inv) (next c)))
+    add-n
+    loop-less
+    loop-again)

@@ -34,6 +34,9 @@ returns c = record { either = inl (heads-none (c .enum-told .given .1) (c .befor
 returns-2 : tie.Need-returns-2
 returns-2 c = record { either = inr (heads-none (c .enum-told2 .given .1) (c .before .before .head-at2 .ensures)) }
 
+order-parts-requires : tie.Need-order-parts-requires
+order-parts-requires c κs = both-inside (heads (c .before))
+
 returns-3 : tie.Need-returns-3
 returns-3 c =
     let compared = c .before in
@@ -61,7 +64,7 @@ next-of-spec =
     (λ c. search needs)
     (λ c. search needs)
     returns-2
-    (λ c κs. both-inside (heads (c .before)))
+    order-parts-requires
     returns-3
     returns-4
     returns-5)

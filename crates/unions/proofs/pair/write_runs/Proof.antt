@@ -85,11 +85,20 @@ more c = let compared = c .before .before in more-step _ (heads (to-q compared))
 
 -- ---- the needs
 
+loop-holds : tie.Need-loop-holds Inv-loop μ-loop
+loop-holds c = joining-none (c .before .before .before .pre)
+
+copy-part-requires : tie.Need-copy-part-requires Inv-loop μ-loop
+copy-part-requires c κs = right-rest (none-to-loop (c .before) .loop .inv) (no-left (c .before))
+
 returns : tie.Need-returns Inv-loop μ-loop
 returns c =
     let copied = c .before .before in
     let none = copied .before .before in
     right-wrote (none-to-loop none .loop .inv) (no-left none) (copied .copy-part .ensures)
+
+copy-part-requires-2 : tie.Need-copy-part-requires-2 Inv-loop μ-loop
+copy-part-requires-2 c κs = left-rest (p-to-loop (none-to-p (c .before)) .loop .inv) (no-right (c .before))
 
 returns-2 : tie.Need-returns-2 Inv-loop μ-loop
 returns-2 c =
@@ -97,17 +106,38 @@ returns-2 c =
     let none = copied .before .before in
     left-wrote (p-to-loop (none-to-p none) .loop .inv) (no-right none) (copied .copy-part2 .ensures)
 
+order-parts-requires : tie.Need-order-parts-requires Inv-loop μ-loop
+order-parts-requires c κs = both-inside (heads (c .before))
+
+copy-part-requires-3 : tie.Need-copy-part-requires-3 Inv-loop μ-loop
+copy-part-requires-3 c κs = left-fits (less c)
+
+loop-less : tie.Need-loop-less Inv-loop μ-loop
+loop-less c = omega (arith, less (c .before .before .before) .step)
+
+loop-again : tie.Need-loop-again Inv-loop μ-loop
+loop-again c = let copied = c .before .before in left-on (less (copied .before)) (omega arith) (copied .copy-part3 .ensures)
+
+copy-part-requires-4 : tie.Need-copy-part-requires-4 Inv-loop μ-loop
+copy-part-requires-4 c κs = left-fits (same c)
+
 add-shared : tie.Need-add-shared Inv-loop μ-loop
 add-shared c =
     let arg = c .before .before .before in
     let l = turn (to-q (arg .before .before)) in
     omega (arith, l .loop .inv .few, same arg .on, same arg .step .within, a-short (l .before .before .before))
 
-loop-again : tie.Need-loop-again Inv-loop μ-loop
-loop-again c = let copied = c .before .before in left-on (less (copied .before)) (omega arith) (copied .copy-part3 .ensures)
+loop-less-2 : tie.Need-loop-less-2 Inv-loop μ-loop
+loop-less-2 c = omega (arith, same (c .before .before .before) .step)
 
 loop-again-2 : tie.Need-loop-again-2 Inv-loop μ-loop
 loop-again-2 c = let copied = c .before .before in left-on (same (copied .before)) (omega arith) (copied .copy-part4 .ensures)
+
+copy-part-requires-5 : tie.Need-copy-part-requires-5 Inv-loop μ-loop
+copy-part-requires-5 c κs = right-fits (more c)
+
+loop-less-3 : tie.Need-loop-less-3 Inv-loop μ-loop
+loop-less-3 c = omega (arith, more (c .before .before .before) .step)
 
 loop-again-3 : tie.Need-loop-again-3 Inv-loop μ-loop
 loop-again-3 c = let copied = c .before .before in right-on (more (copied .before)) (copied .copy-part5 .ensures)
@@ -118,27 +148,27 @@ write-runs-spec =
     (tie.spec
     Inv-loop
     μ-loop
-    (λ c. joining-none (c .before .before .before .pre))
+    loop-holds
     (λ c κs. search needs)
     (λ c. search needs)
     (λ c. search needs)
-    (λ c κs. right-rest (none-to-loop (c .before) .loop .inv) (no-left (c .before)))
+    copy-part-requires
     (λ c. search needs)
     returns
     (λ c κs. search needs)
     (λ c. search needs)
     (λ c. search needs)
-    (λ c κs. left-rest (p-to-loop (none-to-p (c .before)) .loop .inv) (no-right (c .before)))
+    copy-part-requires-2
     (λ c. search needs)
     returns-2
-    (λ c κs. both-inside (heads (c .before)))
-    (λ c κs. left-fits (less c))
-    (λ c. omega (arith, less (c .before .before .before) .step))
+    order-parts-requires
+    copy-part-requires-3
+    loop-less
     loop-again
-    (λ c κs. left-fits (same c))
+    copy-part-requires-4
     add-shared
-    (λ c. omega (arith, same (c .before .before .before) .step))
+    loop-less-2
     loop-again-2
-    (λ c κs. right-fits (more c))
-    (λ c. omega (arith, more (c .before .before .before) .step))
+    copy-part-requires-5
+    loop-less-3
     loop-again-3)
