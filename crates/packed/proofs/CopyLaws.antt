@@ -1,14 +1,14 @@
 -- The laws of copying some bytes at a time, where the last may be written over bytes that stand already.
 use mathlib.Core.Path.{_≡_, refl, sym, ap, _∙_}
-use mathlib.Core.List.{List, [], _∷_}
+use mathlib.Core.List.{List, [], _∷_, _++_, append-nil}
 use Prim.Native.Nat.{ℕ, _+_, _-_, _≤_, _<_}
 use native.Mathlib.Omega.{arith}
 use native.Mathlib.Numerals.{towards-suc}
-use lib.ListN.{length, take, drop, getD, set, length-drop}
+use lib.ListN.{length, take, drop, getD, set, length-drop, drop-of-length-le}
 use lib.Seq.{sets, length-sets, length-take-le, take-add, take-all}
 use Rattle.packed.specs.code.Written.{Wrote}
 use Rattle.packed.proofs.ReadLaws.{drop-next}
-use Rattle.packed.proofs.WriteLaws.{sets-append, stores-under}
+use Rattle.packed.proofs.WriteLaws.{sets-append, stores-under, wrote-between}
 
 -- eight stores, each a place after the one before, are one run
 pub stores-eight :
@@ -57,10 +57,17 @@ module _ {l s : List ℕ} {at : ℕ} where
             ∙ sym (in-two l s at j n h);
       }
 
-  pub copied-byte : {i : ℕ} {l′ : List ℕ} → Copied l at s i l′ → i < length s → Copied l at s (i + 1) (set l′ (at + i) (getD s i 0))
-  copied-byte {i} {l′} c h =
+  pub copied-byte : {i p : ℕ} {l′ : List ℕ} → Copied l at s i l′ → i < length s → p ≡ at + i → Copied l at s (i + 1) (set l′ p (getD s i 0))
+  copied-byte {i} {p} {l′} c h e =
       let one : getD s i 0 ∷ [] ≡ take 1 (drop i s) = rw (drop-next s i h) in
-      copied-more i 1 c (omega arith) (omega arith) (omega arith) (ap (sets l′ (at + i)) one)
+      copied-more i 1 c (omega arith) (omega arith) (omega arith) (rw e (ap (sets l′ (at + i)) one))
 
   pub copied-all : {i next : ℕ} {l′ : List ℕ} → Copied l at s i l′ → length s ≤ i → next ≡ at + length s → Wrote l at s l′ next
   copied-all {i} c h e = record { bytes = c .bytes ∙ ap (sets l at) (take-all i s h); after = e }
+
+-- all of l is written over
+pub copied-over : {l s : List ℕ} {i : ℕ} {l′ : List ℕ} → Copied l 0 s i l′ → length s ≤ i → length l ≡ length s → l′ ≡ s
+copied-over {l} {s} {i} {l′} c h e =
+    let ended : length l ≤ length s = omega arith in
+    let w : Wrote l 0 s l′ (length s) = copied-all c h (omega arith) in
+    wrote-between (omega arith) w ∙ ap (λ (r : List ℕ). s ++ r) (drop-of-length-le l ended) ∙ append-nil s

@@ -8,7 +8,7 @@ use Prim.Native.Nat.{ℕ, zero, suc, _+_, _^_, _≤_, _<_, Ordering, Ordering·l
 use native.Mathlib.Omega.{arith}
 use native.Mathlib.Numerals.{add-one}
 use lib.ListN.{length, take, drop, getD, set, length-append}
-use lib.Seq.{take-suc, take-suc-set, take-all, getD-set-same, getD-set-other}
+use lib.Seq.{take-suc, take-all, getD-set-same, getD-set-other}
 use borrow.Author.Count.{below-more}
 use Rattle.model.specs.Order.{Text, texts, rising, equal, pick, flip}
 use Rattle.model.specs.Keyed.{Above, merge}
@@ -212,19 +212,6 @@ value-nil s r =
     truth (r .found)
     (λ f. rw (value-some s r f) (ap (take 1) (union-right-nil texts (leastText s r ∷ []) (tt, tt))))
     (λ f. rw (value-none s r f) (ap (take 1) (union-left-nil texts [])))
-
--- a list copied place by place
-pub copied-more :
-    (xs ys : List ℕ) (j : ℕ) → j < length xs → j < length ys → take j xs ≡ take j ys → take (j + 1) (set xs j (getD ys j 0)) ≡ take (j + 1) ys
-copied-more xs ys j a b e =
-    ap (λ (k : ℕ). take k (set xs j (getD ys j 0))) (add-one j)
-    ∙ take-suc-set xs j (getD ys j 0) a
-    ∙ ap (λ (l : List ℕ). l ++ (getD ys j 0 ∷ [])) e
-    ∙ sym (take-suc ys j 0 b)
-    ∙ ap (λ (k : ℕ). take k ys) (sym (add-one j))
-
-pub copied-all : (xs ys : List ℕ) (j : ℕ) → length xs ≤ j → length ys ≤ j → take j xs ≡ take j ys → xs ≡ ys
-copied-all xs ys j a b e = sym (take-all j xs a) ∙ e ∙ take-all j ys b
 
 -- the answer r, with run j going on at q
 abbrev onward : Told → ℕ → ℕ → Told
