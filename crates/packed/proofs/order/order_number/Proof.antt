@@ -32,9 +32,6 @@ last-words c =
 
 -- ---- the needs
 
-returns : tie.Need-returns Inv-loop μ-loop
-returns c = c .compare-short .ensures
-
 loop-holds : tie.Need-loop-holds Inv-loop μ-loop
 loop-holds c =
     let known = c .before .before in
@@ -66,7 +63,7 @@ order-number-spec =
     μ-loop
     (λ c κs. search needs)
     (λ c κs. search needs)
-    returns
+    (λ c. search needs)
     loop-holds
     (λ c κs. search needs)
     (λ c κs. search needs)

@@ -18,9 +18,6 @@ abbrev μ-loop : tie.MeasureT-loop
 abbrev to-turn : tie.After-string-byte2 Inv-loop μ-loop → tie.At-loop Inv-loop μ-loop
 to-turn c = c .before .before .before .before
 
-abbrev to-start : tie.At-loop Inv-loop μ-loop → tie.Start Inv-loop μ-loop
-to-start c = c .before .before .before .before .before
-
 -- ---- the facts
 
 bytes : (c : tie.After-string-byte2 Inv-loop μ-loop) → BytesAt (to-turn c .loop .inv) (c .before .string-byte .result) (c .string-byte2 .result)
@@ -35,27 +32,11 @@ bytes c =
 
 -- ---- the needs
 
-string-size-requires : tie.Need-string-size-requires Inv-loop μ-loop
-string-size-requires c κs = c .before .before .pre .0
-
-string-size-requires-2 : tie.Need-string-size-requires-2 Inv-loop μ-loop
-string-size-requires-2 c κs = c .before .before .before .pre .1
-
 loop-holds : tie.Need-loop-holds Inv-loop μ-loop
 loop-holds c = compares-all (c .before .string-size .ensures) (c .string-size2 .ensures)
 
 returns : tie.Need-returns Inv-loop μ-loop
 returns c = second-ends (c .before .before .loop .inv) (omega arith) (omega arith)
-
-string-byte-requires : tie.Need-string-byte-requires Inv-loop μ-loop
-string-byte-requires c κs =
-    let turn = c .before .before in
-    (to-start turn .pre .0, omega (arith, turn .loop .inv .first))
-
-string-byte-requires-2 : tie.Need-string-byte-requires-2 Inv-loop μ-loop
-string-byte-requires-2 c κs =
-    let turn = c .before .before .before in
-    (to-start turn .pre .1, omega (arith, turn .loop .inv .second))
 
 returns-2 : tie.Need-returns-2 Inv-loop μ-loop
 returns-2 c = byte-less (bytes (c .before)) (c .if2 .taken)
@@ -78,12 +59,12 @@ compare-strings-spec =
     (tie.spec
     Inv-loop
     μ-loop
-    string-size-requires
-    string-size-requires-2
+    (λ c κs. search needs)
+    (λ c κs. search needs)
     loop-holds
     returns
-    string-byte-requires
-    string-byte-requires-2
+    (λ c κs. search needs)
+    (λ c κs. search needs)
     returns-2
     returns-3
     (λ c. search needs)

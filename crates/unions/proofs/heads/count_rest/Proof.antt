@@ -37,9 +37,6 @@ loop-holds c = one-none (c .before .pre)
 returns : tie.Need-returns Inv-loop μ-loop
 returns c = let asked = c .before .before in one-all (asked .before .loop .inv) (heads-none (c .enum-told .given .1) (asked .head-at .ensures))
 
-add-n : tie.Need-add-n Inv-loop μ-loop
-add-n c = omega (arith, head c)
-
 loop-less : tie.Need-loop-less Inv-loop μ-loop
 loop-less c = omega (arith, head c)
 
@@ -57,6 +54,6 @@ count-rest-spec =
     (λ c. search needs)
     (λ c. search needs)
     returns
-    add-n
+    (λ c. search needs)
     loop-less
     loop-again)

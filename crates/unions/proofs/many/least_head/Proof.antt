@@ -1,6 +1,5 @@
 -- `least_head` meets its contract. The loop's invariant (`LeastSofar`): the answer so far is the least of the first j runs, and has been passed in them.
 use borrow.Author.Needs.{needs}
-use native.Mathlib.Omega.{arith}
 use Prim.Native.Nat.{_-_}
 use mathlib.Core.Path.{_≡_, refl}
 use lib.ListN.{length}
@@ -15,22 +14,8 @@ Inv-loop s at ends n after₀ best₀ j₀ after best j = (length after ≡ 8) �
 abbrev μ-loop : tie.MeasureT-loop
 μ-loop s at ends n after₀ best₀ j₀ after best j = n - j
 
--- ---- the places
-
-abbrev to-start : tie.At-loop Inv-loop μ-loop → tie.Start Inv-loop μ-loop
-to-start c = c .before .before .before .before .before .before .before .before .before
-
--- ---- the needs
-
 loop-holds : tie.Need-loop-holds Inv-loop μ-loop
 loop-holds c = (search needs, sofar-none refl (c .before .before .copy-eight .ensures))
-
-lesser-requires : tie.Need-lesser-requires Inv-loop μ-loop
-lesser-requires c κs =
-    let turn = c .before .before in
-    let inv = turn .before .loop .inv in
-    let pre = to-start (turn .before) .pre in
-    ((omega (arith, turn .loop-test .taken, pre .0), pre .1, inv .0), (inv .1 .right, inv .1 .fresh))
 
 loop-again : tie.Need-loop-again Inv-loop μ-loop
 loop-again c =
@@ -51,7 +36,7 @@ least-head-spec =
     loop-holds
     (λ c. search needs)
     (λ c. search needs)
-    lesser-requires
+    (λ c κs. search needs)
     (λ c. search needs)
     (λ c. search needs)
     loop-again

@@ -61,9 +61,6 @@ returns-2 c =
     let pre = known .before .pre in
     answer-no-head (pre .1 .0) (pre .1 .1) (short known) (heads-none (c .enum-told .given .1) (asked .head-at .ensures))
 
-slice-write-after : tie.Need-slice-write-after
-slice-write-after c = head (c .before) .in-after
-
 returns-3 : tie.Need-returns-3
 returns-3 c = first-answer (head (c .before)) (not-true _ (c .if2 .taken))
 
@@ -94,7 +91,7 @@ lesser-spec =
     (λ c. search needs)
     returns-2
     (λ c. search needs)
-    slice-write-after
+    (λ c. search needs)
     (λ c. search needs)
     returns-3
     order-parts-requires

@@ -45,11 +45,6 @@ least c = least-found _ _ (not-false _ (c .if1 .left))
 loop-holds : tie.Need-loop-holds Inv-loop μ-loop
 loop-holds c = (search needs, refl, merges-none (c .before .before .pre .1))
 
-least-head-requires : tie.Need-least-head-requires Inv-loop μ-loop
-least-head-requires c κs =
-    let at-loop = c .before .before .before in
-    (at-loop .before .before .before .pre .0, at-loop .loop .inv .0, search needs, at-loop .loop .inv .1)
-
 returns : tie.Need-returns Inv-loop μ-loop
 returns c =
     let asked = c .before .before .before in
@@ -82,7 +77,7 @@ write-merged-spec =
     (λ c. search needs)
     (λ c. search needs)
     (λ c. search needs)
-    least-head-requires
+    (λ c κs. search needs)
     (λ c. search needs)
     returns
     copy-part-requires

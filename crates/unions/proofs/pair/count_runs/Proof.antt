@@ -34,18 +34,6 @@ next c = steps-next (c .before .x .given .1) (c .before .before .before .next-of
 loop-holds : tie.Need-loop-holds Inv-loop μ-loop
 loop-holds c = counting-none
 
-count-rest-requires : tie.Need-count-rest-requires Inv-loop μ-loop
-count-rest-requires c κs = c .before .before .before .loop .inv .left-in
-
-add-result : tie.Need-add-result Inv-loop μ-loop
-add-result c = omega (arith, c .count-rest .ensures .0)
-
-count-rest-requires-2 : tie.Need-count-rest-requires-2 Inv-loop μ-loop
-count-rest-requires-2 c κs = let told = c .before in told .before .before .before .loop .inv .right-in
-
-add-result-2 : tie.Need-add-result-2 Inv-loop μ-loop
-add-result-2 c = omega (arith, c .count-rest2 .ensures .0, c .before .count-rest .ensures .0)
-
 returns : tie.Need-returns Inv-loop μ-loop
 returns c =
     let told = c .before .before in
@@ -72,10 +60,10 @@ count-runs-spec =
     (λ c κs. search needs)
     (λ c. search needs)
     (λ c. search needs)
-    count-rest-requires
-    add-result
-    count-rest-requires-2
-    add-result-2
+    (λ c κs. search needs)
+    (λ c. search needs)
+    (λ c κs. search needs)
+    (λ c. search needs)
     returns
     add-n
     loop-less

@@ -2,7 +2,7 @@
 -- two first values is written (`left-on`, `right-on`); where one side has no more, the rest of the other is.
 use borrow.Author.Needs.{needs}
 use native.Mathlib.Omega.{arith}
-use Prim.Native.Nat.{ℕ, _+_, _-_, _^_, _<_}
+use Prim.Native.Nat.{ℕ, _+_, _-_}
 use lib.ListN.{length}
 use Rattle.unions.specs.code.Runs.{NoHead}
 use Rattle.unions.proofs.RunLaws.{heads-none, Both, both-heads, both-inside}
@@ -51,10 +51,6 @@ module _ (c : tie.After-q Inv-loop μ-loop) where
   y = c .q .given .0 .1 .0
 
 -- ---- the facts
-
--- there are no more bytes than a `usize` counts
-a-short : (c : tie.After-shared-slice-known Inv-loop μ-loop) → length (c .before .args .a .now) < 2 ^ 64
-a-short c = omega arith
 
 no-left : (c : tie.After-enum-told Inv-loop μ-loop) → let l = none-to-loop c in let s = to-start l .args in NoHead (s .form) (s .a .now) (l .loop .i)
 no-left c = heads-none (c .enum-told .given .1) (c .before .before .head-at .ensures)
@@ -121,12 +117,6 @@ loop-again c = let copied = c .before .before in left-on (less (copied .before))
 copy-part-requires-4 : tie.Need-copy-part-requires-4 Inv-loop μ-loop
 copy-part-requires-4 c κs = left-fits (same c)
 
-add-shared : tie.Need-add-shared Inv-loop μ-loop
-add-shared c =
-    let arg = c .before .before .before in
-    let l = turn (to-q (arg .before .before)) in
-    omega (arith, l .loop .inv .few, same arg .on, same arg .step .within, a-short (l .before .before .before))
-
 loop-less-2 : tie.Need-loop-less-2 Inv-loop μ-loop
 loop-less-2 c = omega (arith, same (c .before .before .before) .step)
 
@@ -166,7 +156,7 @@ write-runs-spec =
     loop-less
     loop-again
     copy-part-requires-4
-    add-shared
+    (λ c. search needs)
     loop-less-2
     loop-again-2
     copy-part-requires-5
