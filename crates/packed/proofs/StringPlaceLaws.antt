@@ -172,8 +172,8 @@ module _ {a b old new : List ℕ} {count k : ℕ} {x : StringAt} (w : Placing a 
     pub told : t ≡ pick (texts .cmp (stringOf a b x) (stringOf a b y)) false false true
 
 module _ {a b old new : List ℕ} {count k : ℕ} {x y : StringAt} {t : Bool} {w : Placing a b old count x new k} (v : Asked w y t) where
-  after-is : {u : Bool} → t ≡ u → pick (texts .cmp (stringOf a b x) (stringOf a b (getD (stringsIn new) (k - 1) noString))) false false true ≡ u
-  after-is e =
+  answer-is : {u : Bool} → t ≡ u → pick (texts .cmp (stringOf a b x) (stringOf a b (getD (stringsIn new) (k - 1) noString))) false false true ≡ u
+  answer-is e =
       ap (λ (z : StringAt). pick (texts .cmp (stringOf a b x) (stringOf a b z)) false false true) (sym (y-is w (v .some) (v .is)))
       ∙ sym (v .told)
       ∙ e
@@ -181,7 +181,7 @@ module _ {a b old new : List ℕ} {count k : ℕ} {x y : StringAt} {t : Bool} {w
   pub placed-after : t ≡ true → {rs : List StringAt} → rs ≡ set (stringsIn new) k x → Inserted a b (stringsIn old) count x rs
   placed-after e put =
       subst (Inserted a b (stringsIn old) count x) (sym put)
-      (inserted-after a b (stringsIn old) count x (w .fits) (w .fit) (w .room) (stringsIn new) k (w .moved) (w .before) (v .some) (after-is e))
+      (inserted-after a b (stringsIn old) count x (w .fits) (w .fit) (w .room) (stringsIn new) k (w .moved) (w .before) (v .some) (answer-is e))
 
   pub placing-more :
       t ≡ false → {r : List ℕ} → length r ≡ length new → stringsIn r ≡ set (stringsIn new) k y → Placing a b old count x r (k - 1)
@@ -195,5 +195,5 @@ module _ {a b old new : List ℕ} {count k : ℕ} {x y : StringAt} {t : Bool} {w
         (λ (ys : List StringAt). Moved (stringsIn old) ys count (k - 1))
         (sym (put ∙ ap (set (stringsIn new) k) (y-is w (v .some) (v .is))))
         (moved-more (stringsIn old) count (w .room) (w .fits .long) (stringsIn new) k (w .moved) (v .some));
-    before = before-more a b (stringsIn old) count x (w .fits) (w .fit) (w .room) (stringsIn new) k (w .moved) (v .some) (after-is e);
+    before = before-more a b (stringsIn old) count x (w .fits) (w .fit) (w .room) (stringsIn new) k (w .moved) (v .some) (answer-is e);
   }
