@@ -12,12 +12,14 @@ use borrow.Author.Tests.{le-leb, lt-leb, eq-eqb, ne-eqb, eqb-true}
 use Rattle.packed.specs.Parse.{Parse, fail, got, Layout, andThen, found, foundIf, suchThat}
 use Rattle.packed.specs.Packed.{readNumber, isWithin}
 use Rattle.packed.specs.code.Located.{Got}
-use Rattle.packed.proofs.FieldLaws.{then-none, then-fail, then-got, then-found, is-within, is-below, is-above, within-bounds}
+use Rattle.packed.proofs.FieldLaws.{then-none, then-fail, then-found, is-within, is-below, is-above, within-bounds}
 use Rattle.values.specs.Spaces.{Kind, unsigned, signed, decimal, currency, sequence, datetime, boolean, string, hex, kindNumber, unsignedNumber, signedNumber, decimalNumber, stringNumber, hexNumber, isWidth, isKind}
+use Rattle.values.specs.code.KindNumbers.{sizeParameter, afterParameter, signParameter}
 use Rattle.ontology.specs.TableLayout.{readFlag, readDecimal, readParameters, readKind}
 use Rattle.ontology.specs.declared.kinds.KindRead.{KindRead}
 use Rattle.ontology.specs.declared.kinds.KindRead.the-variants.{OfKind, NoKind}
 use Rattle.ontology.specs.code.TypeIndex.{HasOne, parameterFits, KindIs, KindStops, KindReads}
+use Rattle.ontology.proofs.OnwardLaws.{Onward, on-passed, on-found}
 
 -- what is known of a call's answer in the arm of a `match`
 pub kind-got : {p : Parse Kind} {s : List ℕ} {at : ℕ} {r : KindRead} {n a b c e : ℕ} → r ≡ OfKind n a b c e → KindReads p s at r → KindStops p s at n a b c e
@@ -73,16 +75,20 @@ fits-small kind n e = go (leb kind signedNumber) (eqb kind stringNumber) e
     go false true e = within-bounds 1 120 n e .1
     go false false e = omega (arith, within-bounds 1 60 n e .1)
 
-pub digits-few : (total after : ℕ) → total < 2 → (isWithin 2 38 total && isWithin 1 (total - 1) after) ≡ false
+-- the digits of a decimal are in their ranges
+abbrev pub digitsFit : ℕ → ℕ → Bool
+digitsFit total after = isWithin 2 38 total && isWithin 1 (total - 1) after
+
+pub digits-few : (total after : ℕ) → total < 2 → digitsFit total after ≡ false
 digits-few total after h = rw (is-below 2 38 total h)
 
-pub digits-many : (total after : ℕ) → 2 ≤ total → 38 < total → (isWithin 2 38 total && isWithin 1 (total - 1) after) ≡ false
+pub digits-many : (total after : ℕ) → 2 ≤ total → 38 < total → digitsFit total after ≡ false
 digits-many total after h k = rw (is-above 2 38 total h k)
 
-pub digits-are : (total after : ℕ) → 2 ≤ total → total ≤ 38 → (isWithin 2 38 total && isWithin 1 (total - 1) after) ≡ isWithin 1 (total - 1) after
+pub digits-are : (total after : ℕ) → 2 ≤ total → total ≤ 38 → digitsFit total after ≡ isWithin 1 (total - 1) after
 digits-are total after h k = rw (is-within 2 38 total h k)
 
-pub digits-small : (total after : ℕ) → (isWithin 2 38 total && isWithin 1 (total - 1) after) ≡ true → (total ≤ 38) × (after ≤ 38)
+pub digits-small : (total after : ℕ) → digitsFit total after ≡ true → (total ≤ 38) × (after ≤ 38)
 digits-small total after e = go (isWithin 2 38 total) refl e
   where
     go : (t : Bool) → isWithin 2 38 total ≡ t → (t && isWithin 1 (total - 1) after) ≡ true → (total ≤ 38) × (after ≤ 38)
@@ -93,6 +99,10 @@ digits-small total after e = go (isWithin 2 38 total) refl e
     go false h e = let z : _≡_ {A = ℕ} 0 1 = cc in absurd (omega arith)
 
 -- ---- a kind of one parameter
+
+kind-is :
+    {k : Kind} {n a b c : ℕ} → n ≡ kindNumber k → a ≡ sizeParameter k → b ≡ afterParameter k → c ≡ signParameter k → KindIs k n a b c
+kind-is n a b c = record { number = n; size-is = a; after-is = b; sign-is = c }
 
 record OneParameter (kind : ℕ) : Type 0 where
   make : ℕ → Kind
@@ -106,7 +116,7 @@ one-unsigned = record {
   make = unsigned;
   layout = λ t. refl;
   fits = λ n. refl;
-  are = λ n. record { number = refl; size-is = refl; after-is = refl; sign-is = refl };
+  are = λ n. kind-is refl refl refl refl;
 }
 
 one-signed : OneParameter signedNumber
@@ -115,7 +125,7 @@ one-signed = record {
   make = signed;
   layout = λ t. refl;
   fits = λ n. refl;
-  are = λ n. record { number = refl; size-is = refl; after-is = refl; sign-is = refl };
+  are = λ n. kind-is refl refl refl refl;
 }
 
 one-string : OneParameter stringNumber
@@ -124,7 +134,7 @@ one-string = record {
   make = string;
   layout = λ t. refl;
   fits = λ n. refl;
-  are = λ n. record { number = refl; size-is = refl; after-is = refl; sign-is = refl };
+  are = λ n. kind-is refl refl refl refl;
 }
 
 one-hex : OneParameter hexNumber
@@ -133,7 +143,7 @@ one-hex = record {
   make = hex;
   layout = λ t. refl;
   fits = λ n. refl;
-  are = λ n. record { number = refl; size-is = refl; after-is = refl; sign-is = refl };
+  are = λ n. kind-is refl refl refl refl;
 }
 
 one-parameter : (kind : ℕ) → HasOne kind → OneParameter kind
@@ -172,76 +182,53 @@ module _ (s : List ℕ) (at kind : ℕ) (h : HasOne kind) where
 
 -- ---- a decimal
 
+-- what follows each number and the flag
+abbrev pub after-sign : ℕ → ℕ → Bool → Layout Kind
+after-sign total after sign t = cond (digitsFit total after) (got (decimal total after sign) t) fail
+
+abbrev pub after-point : ℕ → ℕ → Layout Kind
+after-point total after t = andThen (readFlag t) (after-sign total after)
+
+abbrev pub after-total : ℕ → Layout Kind
+after-total total t = andThen (readNumber t) (after-point total)
+
+pub decimal-layout : (t : List ℕ) → kindAfter decimalNumber t ≡ andThen (readNumber t) after-total
+unfolding readParameters readDecimal isKind
+decimal-layout t = go (readNumber t)
+  where
+    tested : Parse Kind → Parse Kind
+    tested p = andThen p (λ k. foundIf (isKind k) k)
+
+    of-sign :
+        (total after : ℕ) (p : Parse Bool) → tested (andThen p (λ sign. found (decimal total after sign))) ≡ andThen p (after-sign total after)
+    of-sign total after fail = refl
+    of-sign total after (got sign v) = refl
+
+    of-after :
+        (total : ℕ) (p : Parse ℕ) →
+        tested (andThen p (λ after u. andThen (readFlag u) (λ sign. found (decimal total after sign)))) ≡ andThen p (after-point total)
+    of-after total fail = refl
+    of-after total (got after u) = of-sign total after (readFlag u)
+
+    go :
+        (p : Parse ℕ) →
+        tested (andThen p (λ total r. andThen (readNumber r) (λ after u. andThen (readFlag u) (λ sign. found (decimal total after sign)))))
+        ≡ andThen p after-total
+    go fail = refl
+    go (got total r) = of-after total (readNumber r)
+
 sign-byte : (b : Bool) → boolByte b ≡ cond b 1 0
 sign-byte true = refl
 sign-byte false = refl
 
-module _ (s : List ℕ) (at : ℕ) where
-  decimal-layout :
-      kindAfter decimalNumber (drop at s) ≡
-      andThen (readNumber (drop at s)) (λ total r. andThen (readNumber r) (λ after u. andThen (readFlag u)
-      (λ sign v. cond (isWithin 2 38 total && isWithin 1 (total - 1) after) (got (decimal total after sign) v) fail)))
-  unfolding readParameters readDecimal isKind
-  decimal-layout = go (readNumber (drop at s))
-    where
-      of-sign : (total after : ℕ) (p : Parse Bool) →
-          andThen (andThen p (λ sign. found (decimal total after sign))) (λ k. foundIf (isKind k) k)
-          ≡ andThen p (λ sign v. cond (isWithin 2 38 total && isWithin 1 (total - 1) after) (got (decimal total after sign) v) fail)
-      of-sign total after fail = refl
-      of-sign total after (got sign v) = refl
-
-      of-after : (total : ℕ) (p : Parse ℕ) →
-          andThen (andThen p (λ after u. andThen (readFlag u) (λ sign. found (decimal total after sign)))) (λ k. foundIf (isKind k) k)
-          ≡ andThen p (λ after u. andThen (readFlag u) (λ sign v. cond (isWithin 2 38 total && isWithin 1 (total - 1) after) (got (decimal total after sign) v) fail))
-      of-after total fail = refl
-      of-after total (got after u) = of-sign total after (readFlag u)
-
-      go : (p : Parse ℕ) →
-          andThen (andThen p (λ total r. andThen (readNumber r) (λ after u. andThen (readFlag u) (λ sign. found (decimal total after sign))))) (λ k. foundIf (isKind k) k)
-          ≡ andThen p (λ total r. andThen (readNumber r) (λ after u. andThen (readFlag u)
-          (λ sign v. cond (isWithin 2 38 total && isWithin 1 (total - 1) after) (got (decimal total after sign) v) fail)))
-      go fail = refl
-      go (got total r) = of-after total (readNumber r)
-
-  -- what follows each number and the flag
-  abbrev signed-last : ℕ → ℕ → Bool → Layout Kind
-  signed-last total after sign v = cond (isWithin 2 38 total && isWithin 1 (total - 1) after) (got (decimal total after sign) v) fail
-
-  abbrev after-point : ℕ → ℕ → Layout Kind
-  after-point total after u = andThen (readFlag u) (signed-last total after)
-
-  abbrev after-total : ℕ → Layout Kind
-  after-total total r = andThen (readNumber r) (after-point total)
-
-  pub decimal-none : readNumber (drop at s) ≡ fail → kindAfter decimalNumber (drop at s) ≡ fail
-  decimal-none e = decimal-layout ∙ then-none after-total e
-
-  module _ {total e : ℕ} (g : Got (readNumber (drop at s)) s at total e) where
-    pub decimal-no-after : readNumber (drop e s) ≡ fail → kindAfter decimalNumber (drop at s) ≡ fail
-    decimal-no-after h = decimal-layout ∙ then-fail after-total g (then-none (after-point total) h)
-
-    module _ {after f : ℕ} (h : Got (readNumber (drop e s)) s e after f) where
-      pub decimal-no-sign : readFlag (drop f s) ≡ fail → kindAfter decimalNumber (drop at s) ≡ fail
-      decimal-no-sign k = decimal-layout ∙ then-fail after-total g (then-fail (after-point total) h (then-none (signed-last total after) k))
-
-      module _ {sign : Bool} {n : ℕ} (k : Got (readFlag (drop f s)) s f sign n) where
-        pub decimal-bad : (isWithin 2 38 total && isWithin 1 (total - 1) after) ≡ false → kindAfter decimalNumber (drop at s) ≡ fail
-        decimal-bad b =
-            decimal-layout
-            ∙ then-fail after-total g (then-fail (after-point total) h (then-fail (signed-last total after) k
-            (ap (λ (t : Bool). cond t (got (decimal total after sign) (drop n s)) fail) b)))
-
-        pub decimal-got :
-            (isWithin 2 38 total && isWithin 1 (total - 1) after) ≡ true →
-            KindStops (kindAfter decimalNumber (drop at s)) s at decimalNumber total after (boolByte sign) n
-        decimal-got b = record {
-          what = decimal total after sign;
-          stops =
-              rw decimal-layout
-              (then-got after-total g (then-got (after-point total) h (then-found (signed-last total after) k
-              (ap (λ (t : Bool). cond t (got (decimal total after sign) (drop n s)) fail) b))));
-          are = record { number = refl; size-is = refl; after-is = refl; sign-is = sign-byte sign };
-        }
+pub decimal-is :
+    {s : List ℕ} {at total after e : ℕ} (sign : Bool) → Onward (kindAfter decimalNumber) s at (after-sign total after sign) e → digitsFit total after ≡ true →
+    KindStops (kindAfter decimalNumber (drop at s)) s at decimalNumber total after (boolByte sign) e
+decimal-is {s} {at} {total} {after} {e} sign w h = record {
+  what = decimal total after sign;
+  stops = on-found (on-passed (got (decimal total after sign)) w h);
+  are = kind-is refl refl refl (sign-byte sign);
+}
 
 -- ---- a kind
 
@@ -257,10 +244,10 @@ plain zero h k = absurd (omega arith)
 plain (suc zero) h k = absurd (omega arith)
 plain (suc (suc zero)) h k = absurd (omega arith)
 plain (suc (suc (suc zero))) h k = absurd (omega arith)
-plain (suc (suc (suc (suc zero)))) h k = record { what = currency; layout = λ t. refl; are = record { number = refl; size-is = refl; after-is = refl; sign-is = refl } }
-plain (suc (suc (suc (suc (suc zero))))) h k = record { what = sequence; layout = λ t. refl; are = record { number = refl; size-is = refl; after-is = refl; sign-is = refl } }
-plain (suc (suc (suc (suc (suc (suc zero)))))) h k = record { what = datetime; layout = λ t. refl; are = record { number = refl; size-is = refl; after-is = refl; sign-is = refl } }
-plain (suc (suc (suc (suc (suc (suc (suc zero))))))) h k = record { what = boolean; layout = λ t. refl; are = record { number = refl; size-is = refl; after-is = refl; sign-is = refl } }
+plain (suc (suc (suc (suc zero)))) h k = record { what = currency; layout = λ t. refl; are = kind-is refl refl refl refl }
+plain (suc (suc (suc (suc (suc zero))))) h k = record { what = sequence; layout = λ t. refl; are = kind-is refl refl refl refl }
+plain (suc (suc (suc (suc (suc (suc zero)))))) h k = record { what = datetime; layout = λ t. refl; are = kind-is refl refl refl refl }
+plain (suc (suc (suc (suc (suc (suc (suc zero))))))) h k = record { what = boolean; layout = λ t. refl; are = kind-is refl refl refl refl }
 plain (suc (suc (suc (suc (suc (suc (suc (suc n)))))))) h k = absurd (omega arith)
 
 -- a number of no kind

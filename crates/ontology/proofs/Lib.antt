@@ -1,3 +1,4 @@
+pub mod OnwardLaws
 pub mod FlagLaws
 pub mod NameLaws
 pub mod KindLaws

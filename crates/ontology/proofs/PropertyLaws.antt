@@ -13,7 +13,7 @@ use Rattle.packed.specs.Parse.{Parse, fail, got, Layout, andThen, found, foundI
 use Rattle.packed.specs.Packed.{readNumber, readText, part, isWithin}
 use Rattle.packed.specs.code.Located.{Got, NameStops}
 use Rattle.packed.proofs.LayoutLaws.{andThen-got, suchThat-got}
-use Rattle.packed.proofs.FieldLaws.{then-none, then-fail, then-got, then-found, such-was, within-bounds, is-within}
+use Rattle.packed.proofs.FieldLaws.{such-was, within-bounds, is-within}
 use Rattle.values.specs.Spaces.{Kind}
 use Rattle.ontology.specs.Table.{Strategy, min, max, add, replace, match, set, any, strategyNumber, Property, isName, isNameWithin}
 use Rattle.ontology.specs.TableLayout.{readFlag, readKind, readStrategy, readProperty}
@@ -21,6 +21,7 @@ use Rattle.ontology.specs.declared.properties.PropertyAt.{PropertyAt}
 use Rattle.ontology.specs.declared.properties.PropertyRead.{PropertyRead}
 use Rattle.ontology.specs.declared.properties.PropertyRead.the-variants as read
 use Rattle.ontology.specs.code.TypeIndex.{KindStops, PropertyStops, PropertyReads}
+use Rattle.ontology.proofs.OnwardLaws.{Onward, on-got, on-found}
 
 -- what is known of a call's answer in the arm of a `match`
 pub property-got : {p : Parse Property} {s : List ℕ} {at : ℕ} {r : PropertyRead} {x : PropertyAt} {e : ℕ} → r ≡ read.Property x e → PropertyReads p s at r → PropertyStops p s at x e
@@ -71,111 +72,83 @@ strategy-outside n t r h e =
       ne-eqb n (strategyNumber any) (λ q. none (omega arith) (omega arith)),
     )
 
-module _ (s : List ℕ) (at : ℕ) where
-  -- the strategy of a number, by the number's position
-  pub record StrategyStops (n next : ℕ) : Type 0 where
-    pub what : Strategy
-    pub stops : Got (readStrategy (drop at s)) s at what next
-    pub number : n ≡ strategyNumber what
+-- the strategy of a number, by the number's position
+pub record StrategyStops (s : List ℕ) (at n next : ℕ) : Type 0 where
+  pub what : Strategy
+  pub stops : Got (readStrategy (drop at s)) s at what next
+  pub number : n ≡ strategyNumber what
+  pub small : n ≤ strategyNumber any
 
-  pub strategy-got : {n e : ℕ} → Got (suchThat isNumbered readNumber (drop at s)) s at n e → StrategyStops n e
-  strategy-got {n} {e} g =
-      let w = such-was isNumbered readNumber s at g in
-      let b = within-bounds (strategyNumber min) (strategyNumber any) n (w .1) in
-      let x = strategy-of n (b .0) (b .1) in
-      record {
-        what = x .what;
-        stops = record { is = x .layout (drop at s) (drop e s) (w .0 .is); after = g .after; within = g .within };
-        number = x .number;
-      }
+pub strategy-got : {s : List ℕ} {at n e : ℕ} → Got (suchThat isNumbered readNumber (drop at s)) s at n e → StrategyStops s at n e
+strategy-got {s} {at} {n} {e} g =
+    let w = such-was isNumbered readNumber s at g in
+    let b = within-bounds (strategyNumber min) (strategyNumber any) n (w .1) in
+    let x = strategy-of n (b .0) (b .1) in
+    record {
+      what = x .what;
+      stops = record { is = x .layout (drop at s) (drop e s) (w .0 .is); after = g .after; within = g .within };
+      number = x .number;
+      small = b .1;
+    }
 
-  pub strategy-none : suchThat isNumbered readNumber (drop at s) ≡ fail → readStrategy (drop at s) ≡ fail
-  unfolding readStrategy
-  strategy-none e = go (readNumber (drop at s)) refl e
-    where
-      go : (p : Parse ℕ) → readNumber (drop at s) ≡ p → andThen p (λ n. foundIf (isNumbered n) n) ≡ fail → readStrategy (drop at s) ≡ fail
-      go fail q e = rw q
-      go (got n r) q e = test (isNumbered n) refl e
-        where
-          test : (t : Bool) → isNumbered n ≡ t → cond t (got n r) fail ≡ fail → readStrategy (drop at s) ≡ fail
-          test true h e = let z : _≡_ {A = ℕ} 0 1 = cc in absurd (omega arith)
-          test false h e = strategy-outside n (drop at s) r h q
+pub strategy-none : (t : List ℕ) → suchThat isNumbered readNumber t ≡ fail → readStrategy t ≡ fail
+unfolding readStrategy
+strategy-none t e = go (readNumber t) refl e
+  where
+    go : (p : Parse ℕ) → readNumber t ≡ p → andThen p (λ n. foundIf (isNumbered n) n) ≡ fail → readStrategy t ≡ fail
+    go fail q e = rw q
+    go (got n r) q e = test (isNumbered n) refl e
+      where
+        test : (b : Bool) → isNumbered n ≡ b → cond b (got n r) fail ≡ fail → readStrategy t ≡ fail
+        test true h e = let z : _≡_ {A = ℕ} 0 1 = cc in absurd (omega arith)
+        test false h e = strategy-outside n t r h q
 
 -- ---- the property
 
--- what follows each field
 abbrev property : Text → Kind → Bool → Bool → Strategy → Property
 property name kind optional multivalued strategy =
     record { name = name; kind = kind; optional = optional; multivalued = multivalued; strategy = strategy }
 
-abbrev after-multivalued : Text → Kind → Bool → Bool → Layout Property
-after-multivalued n k o m r = andThen (readStrategy r) (λ y. found (property n k o m y))
+-- what follows each field
+abbrev pub after-multivalued : Text → Kind → Bool → Bool → Layout Property
+after-multivalued n k o m t = andThen (readStrategy t) (λ y. found (property n k o m y))
 
-abbrev after-optional : Text → Kind → Bool → Layout Property
-after-optional n k o r = andThen (readFlag r) (after-multivalued n k o)
+abbrev pub after-optional : Text → Kind → Bool → Layout Property
+after-optional n k o t = andThen (readFlag t) (after-multivalued n k o)
 
-abbrev after-kind : Text → Kind → Layout Property
-after-kind n k r = andThen (readFlag r) (after-optional n k)
+abbrev pub after-kind : Text → Kind → Layout Property
+after-kind n k t = andThen (readFlag t) (after-optional n k)
 
-abbrev after-name : Text → Layout Property
-after-name n r = andThen (readKind r) (after-kind n)
+abbrev pub after-name : Text → Layout Property
+after-name n t = andThen (readKind t) (after-kind n)
 
-module _ (s : List ℕ) (at : ℕ) where
-  property-layout : readProperty (drop at s) ≡ andThen (suchThat (isNameWithin 32) readText (drop at s)) after-name
-  unfolding readProperty
-  property-layout = refl
-
-  pub property-no-name : suchThat (isNameWithin 32) readText (drop at s) ≡ fail → readProperty (drop at s) ≡ fail
-  property-no-name e = property-layout ∙ then-none after-name e
-
-  module _ {v : Text} {e : ℕ} (g : Got (suchThat (isNameWithin 32) readText (drop at s)) s at v e) where
-    pub property-no-kind : readKind (drop e s) ≡ fail → readProperty (drop at s) ≡ fail
-    property-no-kind h = property-layout ∙ then-fail after-name g (then-none (after-kind v) h)
-
-    module _ {k : Kind} {f : ℕ} (h : Got (readKind (drop e s)) s e k f) where
-      pub property-no-optional : readFlag (drop f s) ≡ fail → readProperty (drop at s) ≡ fail
-      property-no-optional i = property-layout ∙ then-fail after-name g (then-fail (after-kind v) h (then-none (after-optional v k) i))
-
-      module _ {o : Bool} {l : ℕ} (i : Got (readFlag (drop f s)) s f o l) where
-        pub property-no-multivalued : readFlag (drop l s) ≡ fail → readProperty (drop at s) ≡ fail
-        property-no-multivalued j =
-            property-layout
-            ∙ then-fail after-name g (then-fail (after-kind v) h (then-fail (after-optional v k) i (then-none (after-multivalued v k o) j)))
-
-        module _ {m : Bool} {n : ℕ} (j : Got (readFlag (drop l s)) s l m n) where
-          pub property-no-strategy : readStrategy (drop n s) ≡ fail → readProperty (drop at s) ≡ fail
-          property-no-strategy q =
-              property-layout
-              ∙ then-fail after-name g (then-fail (after-kind v) h (then-fail (after-optional v k) i (then-fail (after-multivalued v k o) j
-              (then-none (λ y. found (property v k o m y)) q))))
-
-          pub property-stops : {y : Strategy} {z : ℕ} → Got (readStrategy (drop n s)) s n y z → Got (readProperty (drop at s)) s at (property v k o m y) z
-          property-stops {y} {z} q =
-              rw property-layout
-              (then-got after-name g (then-got (after-kind v) h (then-got (after-optional v k) i (then-got (after-multivalued v k o) j
-              (then-found (λ y. found (property v k o m y)) q refl)))))
+pub property-layout : (t : List ℕ) → readProperty t ≡ andThen (suchThat (isNameWithin 32) readText t) after-name
+unfolding readProperty
+property-layout t = refl
 
 -- the property that was read, as the index has it
 pub property-is :
-    {s : List ℕ} {at start end kind size after sign f l n z strategy : ℕ} {o m : Bool} →
+    {s : List ℕ} {at start end kind size after sign f n z strategy : ℕ} {o m : Bool} →
     NameStops (suchThat (isNameWithin 32) readText (drop at s)) s at start end →
-    KindStops (readKind (drop end s)) s end kind size after sign f →
-    Got (readFlag (drop f s)) s f o l → Got (readFlag (drop l s)) s l m n → StrategyStops s n strategy z →
+    (k : KindStops (readKind (drop end s)) s end kind size after sign f) →
+    Onward readProperty s at (after-multivalued (part s start end) (k .what) o m) n → StrategyStops s n strategy z →
     PropertyStops (readProperty (drop at s)) s at
     (record { start = start; end = end; kind = kind; size = size; after = after; sign = sign; optional = o; multivalued = m; strategy = strategy }) z
-property-is {s} {at} {start} {end} {kind} {size} {after} {sign} {f} {l} {n} {z} {strategy} {o} {m} g k i j y = record {
-  what = property (part s start end) (k .what) o m (y .what);
-  stops = property-stops s at (g .stops) (k .stops) i j (y .stops);
-  is = record {
-    name = refl;
-    order = g .order;
-    within = g .stops .within;
-    kind = k .are;
-    optional = refl;
-    multivalued = refl;
-    strategy = y .number;
-  };
-}
+property-is {s} {at} {start} {end} {o = o} {m = m} g k w y =
+    let made = property (part s start end) (k .what) o m in
+    record {
+      what = made (y .what);
+      stops = on-found (on-got readStrategy (λ y. found (made y)) w (y .stops));
+      is = record {
+        name = refl;
+        order = g .order;
+        within = g .stops .within;
+        kind = k .are;
+        optional = refl;
+        multivalued = refl;
+        strategy = y .number;
+      };
+    }
 
 -- a property that was read has a name
 pub property-named : (s : List ℕ) (q : Property) (r : List ℕ) → readProperty s ≡ got q r → isName (q .name) ≡ true

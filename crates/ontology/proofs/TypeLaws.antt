@@ -11,11 +11,11 @@ use lib.Dec.{ltb, leb, eqb}
 use borrow.Author.Tests.{le-leb, leb-true, eq-eqb, ne-eqb, eqb-true, eqb-false}
 use Rattle.model.specs.Order.{Text}
 use Rattle.model.proofs.Cases.{never, truth, and-parts}
-use Rattle.packed.specs.Parse.{Parse, fail, got, andThen, found, foundIf, suchThat, times}
+use Rattle.packed.specs.Parse.{Parse, fail, got, Layout, andThen, found, foundIf, suchThat, times}
 use Rattle.packed.specs.Packed.{readNumber, readText, part, isWithin}
 use Rattle.packed.proofs.LayoutLaws.{andThen-got, suchThat-got}
-use Rattle.packed.specs.code.Located.{Got}
-use Rattle.packed.proofs.FieldLaws.{such-never, such-was, within-bounds, is-within}
+use Rattle.packed.specs.code.Located.{NameStops}
+use Rattle.packed.proofs.FieldLaws.{within-bounds, is-within}
 use Rattle.values.specs.declared.versions.DefinitionVersion.{DefinitionVersion}
 use Rattle.ontology.specs.Table.{Property, EventType, isNameWithin, namesRise, allFit, markFits, isVersioned, typeRules}
 use Rattle.ontology.specs.TableLayout.{readProperty, readType}
@@ -28,6 +28,7 @@ use Rattle.ontology.specs.declared.types.TypeIndex.{TypeIndex}
 use Rattle.ontology.specs.declared.types.TypeRead.{TypeRead}
 use Rattle.ontology.specs.code.TypeIndex.{PropertyIs, PropertyStops, propertyIn, PropertiesStop, PropertiesSay}
 use Rattle.ontology.specs.code.TypeIndex.{propertyFits, fitInTurn, fittingFrom, readFitting, propertyRules, typeOf, HeadStops, HeadReads, TypeReads}
+use Rattle.ontology.proofs.OnwardLaws.{Onward}
 use Rattle.ontology.proofs.RunLaws.{prepend, prepend-nil, prepend-two, times-length, snoc-at}
 use Rattle.ontology.proofs.TurnLaws.{fitting-stop, fitting-end, fitting-not, fitting-more, rules-in-turn}
 
@@ -135,55 +136,83 @@ two-tests :
 two-tests true b f x r = refl
 two-tests false b f x r = refl
 
--- ---- what stands before the properties, each for a return of `read_head`
+-- ---- a type that is asked its rules in turn, as it is read
 
-module _ (s : List ℕ) (at : ℕ) where
-  pub head-no-name : suchThat (isNameWithin 64) readText (drop at s) ≡ fail → suchThat typeRules readType (drop at s) ≡ fail
-  head-no-name h = type-fail (drop at s) (λ t r w k. such-never (isNameWithin 64) readText s at h (w .name) (k .name))
+-- what follows each field
+abbrev pub type-after-count : Text → ℕ → ℕ → ℕ → Layout EventType
+type-after-count v d m n t = andThen (readFitting m n t) (λ qs. foundIf (leb m n) (typeOf v d m qs))
 
-  module _ {v : Text} {e : ℕ} (g : Got (readText (drop at s)) s at v e) where
-    pub head-no-definition : readNumber (drop e s) ≡ fail → suchThat typeRules readType (drop at s) ≡ fail
-    head-no-definition h = type-fail (drop at s) (λ t r w k. cc)
+abbrev pub type-after-mark : Text → ℕ → ℕ → Layout EventType
+type-after-mark v d m t = andThen (suchThat (isWithin 1 32) readNumber t) (type-after-count v d m)
 
-    module _ {d f : ℕ} (h : Got (readNumber (drop e s)) s e d f) where
-      pub head-undefined : d ≡ 0 → suchThat typeRules readType (drop at s) ≡ fail
-      head-undefined i = type-fail (drop at s) (λ t r w k. let z : t .definition ≡ d = cc in omega (arith, k .definition))
+abbrev pub type-defined : Text → ℕ → Layout EventType
+type-defined v d t = andThen (readNumber t) (type-after-mark v d)
 
-      pub head-no-mark : readNumber (drop f s) ≡ fail → suchThat typeRules readType (drop at s) ≡ fail
-      head-no-mark i = type-fail (drop at s) (λ t r w k. cc)
+abbrev pub type-after-definition : Text → ℕ → Layout EventType
+type-after-definition v d t = cond (leb 1 d) (type-defined v d t) fail
 
-      module _ {m l : ℕ} (i : Got (readNumber (drop f s)) s f m l) where
-        pub head-no-count : suchThat (isWithin 1 32) readNumber (drop l s) ≡ fail → suchThat typeRules readType (drop at s) ≡ fail
-        head-no-count j = type-fail (drop at s) (λ t r w k.
-            let y : readNumber (drop l s) ≡ got (w .count) (w .after-count) = cc in
-            let b : isWithin 1 32 (w .count) ≡ true = is-within 1 32 (w .count) (omega (arith, k .least, w .long)) (omega (arith, k .most, w .long)) in
-            such-never (isWithin 1 32) readNumber s l j y b)
+abbrev pub type-after-name : Text → Layout EventType
+type-after-name v t = andThen (readNumber t) (type-after-definition v)
 
-        module _ {n z : ℕ} (j : Got (suchThat (isWithin 1 32) readNumber (drop l s)) s l n z) where
-          few : (1 ≤ n) × (n ≤ 32)
-          few = within-bounds 1 32 n (such-was (isWithin 1 32) readNumber s l j .1)
+module _ (s : List ℕ) where
+  module _ {v : Text} {t : List ℕ} (name : readText s ≡ got v t) (named : isNameWithin 64 v ≡ true) where
+    module _ {d : ℕ} {u : List ℕ} (definition : readNumber t ≡ got d u) (defined : leb 1 d ≡ true) where
+      module _ {m : ℕ} {x : List ℕ} (mark : readNumber u ≡ got m x) where
+        counted : {n : ℕ} {y : List ℕ} → readNumber x ≡ got n y → isWithin 1 32 n ≡ true → suchThat typeRules readType s ≡ type-after-count v d m n y
+        unfolding readType
+        counted {n} {y} count few = rw (name, definition, mark, count) (go (times readProperty n y) refl)
+          where
+            go :
+                (p : Parse (List Property)) → times readProperty n y ≡ p →
+                andThen (andThen p (λ qs. found (typeOf v d m qs))) (λ t. foundIf (typeRules t) t)
+                ≡ andThen (andThen p (λ qs. foundIf (fitInTurn (ltb 0 m) m [] qs) qs)) (λ qs. foundIf (leb m n) (typeOf v d m qs))
+            go fail e = refl
+            go (got qs r) e =
+                let long = times-length readProperty n y qs r e in
+                let (least, most) = within-bounds 1 32 n few in
+                ap (λ (b : Bool). cond b (got (typeOf v d m qs) r) fail)
+                (rules-are v d m qs named (leb-true 1 d defined) (omega arith) (omega arith) ∙ rules-in-turn m n y qs r e)
+                ∙ two-tests (fitInTurn (ltb 0 m) m [] qs) (leb m n) (typeOf v d m) qs r
 
-          pub head-is : {start : ℕ} → v ≡ part s start e → start ≤ e → isNameWithin 64 v ≡ true → (d ≡ 0 → ⊥) → HeadStops s at start e (record { 0 = d }) m n z
-          unfolding readType
-          head-is {start} q o name def = record {
-            is = rw (g .is, h .is, i .is, such-was (isWithin 1 32) readNumber s l j .0 .is) (go (times readProperty n (drop z s)) refl);
-            order = o;
-            ends = g .within;
-            few = few .1;
-            after = omega (arith, g .after, h .after, i .after, j .after);
-            within = j .within;
-          }
-            where
-              go :
-                  (p : Parse (List Property)) → times readProperty n (drop z s) ≡ p →
-                  andThen (andThen p (λ qs. found (typeOf v d m qs))) (λ t. foundIf (typeRules t) t)
-                  ≡ andThen (andThen p (λ qs. foundIf (fitInTurn (ltb 0 m) m [] qs) qs)) (λ qs. foundIf (leb m n) (typeOf (part s start e) d m qs))
-              go fail x = refl
-              go (got qs r) x =
-                  let len = times-length readProperty n (drop z s) qs r x in
-                  ap (λ (b : Bool). cond b (got (typeOf v d m qs) r) fail) (rules-are v d m qs name (omega arith) (omega (arith, few)) (omega (arith, few)))
-                  ∙ ap₂ (λ (b : Bool) (u : Text). cond b (got (typeOf u d m qs) r) fail) (rules-in-turn m n (drop z s) qs r x) q
-                  ∙ two-tests (fitInTurn (ltb 0 m) m [] qs) (leb m n) (typeOf (part s start e) d m) qs r
+        with-count : (p : Parse ℕ) → readNumber x ≡ p → suchThat typeRules readType s ≡ andThen (andThen p (λ n. foundIf (isWithin 1 32 n) n)) (type-after-count v d m)
+        with-count fail e = type-fail s (λ t r w k. cc)
+        with-count (got n y) e =
+            truth (isWithin 1 32 n)
+            (λ h. rw h (counted e h))
+            (λ h. rw h (type-fail s (λ t r w k.
+            let n-is : w .count ≡ n = cc in
+            let in-range = is-within 1 32 n (omega (arith, k .least, w .long)) (omega (arith, k .most, w .long)) in
+            cc in-range)))
+
+      with-mark : (p : Parse ℕ) → readNumber u ≡ p → suchThat typeRules readType s ≡ andThen p (type-after-mark v d)
+      with-mark fail e = type-fail s (λ t r w k. cc)
+      with-mark (got m x) e = with-count e (readNumber x) refl
+
+    with-definition : (p : Parse ℕ) → readNumber t ≡ p → suchThat typeRules readType s ≡ andThen p (type-after-definition v)
+    with-definition fail e = type-fail s (λ t r w k. cc)
+    with-definition (got d u) e =
+        truth (leb 1 d)
+        (λ h. rw h (with-mark e h (readNumber u) refl))
+        (λ h. rw h (type-fail s (λ t r w k.
+        let d-is : t .definition ≡ d = cc in
+        cc (le-leb 1 d (omega (arith, k .definition))))))
+
+  with-name : (p : Parse Text) → readText s ≡ p → suchThat typeRules readType s ≡ andThen (andThen p (λ v. foundIf (isNameWithin 64 v) v)) type-after-name
+  with-name fail e = type-fail s (λ t r w k. cc)
+  with-name (got v t) e =
+      truth (isNameWithin 64 v)
+      (λ h. rw h (with-definition e h (readNumber t) refl))
+      (λ h. rw h (type-fail s (λ t r w k. cc (k .name))))
+
+  pub type-in-turn : suchThat typeRules readType s ≡ andThen (suchThat (isNameWithin 64) readText s) type-after-name
+  type-in-turn = with-name (readText s) refl
+
+-- what stands before the properties was read
+pub head-is :
+    {s : List ℕ} {at start end d m n z : ℕ} → NameStops (suchThat (isNameWithin 64) readText (drop at s)) s at start end →
+    Onward (suchThat typeRules readType) s at (type-after-count (part s start end) d m n) z → n ≤ 32 → HeadStops s at start end (record { 0 = d }) m n z
+head-is g w few =
+    record { is = w .is; order = g .order; ends = g .stops .within; few = few; after = w .after; within = w .within }
 
 -- ---- properties, one by one
 
