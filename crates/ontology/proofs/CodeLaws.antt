@@ -1,19 +1,22 @@
 -- The laws of a property as three numbers.
-use mathlib.Core.Path.{_≡_, refl, sym, ap, ap₂, _∙_}
+use mathlib.Core.Path.{_≡_, refl}
 use mathlib.Core.Bool.{Bool, true, false}
 use mathlib.Core.List.{List}
 use Prim.Native.Nat.{ℕ, _+_, _*_, _/_, _%_, _≤_, _<_}
 use native.Mathlib.Omega.{arith}
 use lib.Dec.{eqb}
-use lib.ListN.{length, getD}
+use lib.ListN.{length}
 use Rattle.ontology.specs.declared.properties.PropertyAt.{PropertyAt}
 use Rattle.ontology.specs.code.TypeIndex.{bitOf, codeOf, decoded, propertyIn}
 use Rattle.ontology.proofs.TripleLaws.{putThree, three-first, three-second, three-third, three-zero, three-other}
 
-pub bit-small : (b : Bool) → bitOf b ≤ 1
+bit-small : (b : Bool) → bitOf b ≤ 1
 unfolding bitOf
 bit-small true = omega arith
 bit-small false = omega arith
+
+pub bit-read : (b : Bool) {n : ℕ} → n ≡ bitOf b → n ≤ 1
+bit-read b e = omega (arith, bit-small b)
 
 bit-back : (b : Bool) (n : ℕ) → n ≡ bitOf b → eqb n 1 ≡ b
 unfolding bitOf

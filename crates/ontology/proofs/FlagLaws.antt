@@ -34,8 +34,8 @@ flag-same t = go (readNumber t)
     go fail = refl
     go (got n r) = rw (le-leb 0 n (omega arith))
 
-pub flag-is : (s : List ℕ) (at : ℕ) {n e : ℕ} → Got (suchThat (isWithin 0 1) readNumber (drop at s)) s at n e → Got (readFlag (drop at s)) s at (eqb n 1) e
-flag-is s at {n} {e} g = rw (flag-same (drop at s)) (then-found (λ n. got (eqb n 1)) g refl)
+pub flag-is : {s : List ℕ} {at n e : ℕ} → Got (suchThat (isWithin 0 1) readNumber (drop at s)) s at n e → Got (readFlag (drop at s)) s at (eqb n 1) e
+flag-is {s} {at} g = rw (flag-same (drop at s)) (then-found (λ n. got (eqb n 1)) g refl)
 
-pub flag-none : (s : List ℕ) (at : ℕ) → suchThat (isWithin 0 1) readNumber (drop at s) ≡ fail → readFlag (drop at s) ≡ fail
-flag-none s at e = flag-same (drop at s) ∙ then-none (λ n. got (eqb n 1)) e
+pub flag-none : (t : List ℕ) → suchThat (isWithin 0 1) readNumber t ≡ fail → readFlag t ≡ fail
+flag-none t e = flag-same t ∙ then-none (λ n. got (eqb n 1)) e

@@ -12,14 +12,14 @@ use borrow.Author.Tests.{le-leb, lt-leb, eq-eqb, ne-eqb, eqb-true}
 use Rattle.packed.specs.Parse.{Parse, fail, got, Layout, andThen, found, foundIf, suchThat}
 use Rattle.packed.specs.Packed.{readNumber, isWithin}
 use Rattle.packed.specs.code.Located.{Got}
-use Rattle.packed.proofs.FieldLaws.{then-none, then-fail, then-found, is-within, is-below, is-above, within-bounds}
+use Rattle.packed.proofs.FieldLaws.{then-none, is-within, is-below, is-above, within-bounds}
 use Rattle.values.specs.Spaces.{Kind, unsigned, signed, decimal, currency, sequence, datetime, boolean, string, hex, kindNumber, unsignedNumber, signedNumber, decimalNumber, stringNumber, hexNumber, isWidth, isKind}
 use Rattle.values.specs.code.KindNumbers.{sizeParameter, afterParameter, signParameter}
 use Rattle.ontology.specs.TableLayout.{readFlag, readDecimal, readParameters, readKind}
 use Rattle.ontology.specs.declared.kinds.KindRead.{KindRead}
 use Rattle.ontology.specs.declared.kinds.KindRead.the-variants.{OfKind, NoKind}
 use Rattle.ontology.specs.code.TypeIndex.{HasOne, parameterFits, KindIs, KindStops, KindReads}
-use Rattle.ontology.proofs.OnwardLaws.{Onward, on-passed, on-found}
+use Rattle.ontology.proofs.OnwardLaws.{Onward, on-first, on-not, on-passed, on-found}
 
 -- what is known of a call's answer in the arm of a `match`
 pub kind-got : {p : Parse Kind} {s : List ℕ} {at : ℕ} {r : KindRead} {n a b c e : ℕ} → r ≡ OfKind n a b c e → KindReads p s at r → KindStops p s at n a b c e
@@ -156,29 +156,33 @@ one-parameter kind (inr (inr (inr e))) = subst OneParameter (sym e) one-hex
 abbrev pub kindAfter : ℕ → List ℕ → Parse Kind
 kindAfter kind t = suchThat isKind (readParameters kind) t
 
-module _ (s : List ℕ) (at kind : ℕ) (h : HasOne kind) where
-  one-layout : kindAfter kind (drop at s) ≡ andThen (readNumber (drop at s)) (λ n r. cond (parameterFits kind n) (got (one-parameter kind h .make n) r) fail)
-  one-layout = rw (one-parameter kind h .layout (drop at s)) (go (readNumber (drop at s)))
+module _ {kind : ℕ} (h : HasOne kind) where
+  abbrev made : ℕ → Kind
+  made = one-parameter kind h .make
+
+  -- what follows the parameter
+  abbrev after-one : ℕ → Layout Kind
+  after-one n t = cond (parameterFits kind n) (got (made n) t) fail
+
+  one-layout : (t : List ℕ) → kindAfter kind t ≡ andThen (readNumber t) after-one
+  one-layout t = rw (one-parameter kind h .layout t) (go (readNumber t))
     where
-      go :
-          (p : Parse ℕ) →
-          andThen (andThen p (λ n. found (one-parameter kind h .make n))) (λ k. foundIf (isKind k) k)
-          ≡ andThen p (λ n r. cond (parameterFits kind n) (got (one-parameter kind h .make n) r) fail)
+      go : (p : Parse ℕ) → andThen (andThen p (λ n. found (made n))) (λ k. foundIf (isKind k) k) ≡ andThen p after-one
       go fail = refl
       go (got n r) = rw (one-parameter kind h .fits n)
 
-  pub one-none : readNumber (drop at s) ≡ fail → kindAfter kind (drop at s) ≡ fail
-  one-none e = one-layout ∙ then-none (λ n r. cond (parameterFits kind n) (got (one-parameter kind h .make n) r) fail) e
+  pub one-none : (t : List ℕ) → readNumber t ≡ fail → kindAfter kind t ≡ fail
+  one-none t e = one-layout t ∙ then-none after-one e
 
-  pub one-bad : {n e : ℕ} → Got (readNumber (drop at s)) s at n e → parameterFits kind n ≡ false → kindAfter kind (drop at s) ≡ fail
-  one-bad {n} {e} g f = one-layout ∙ then-fail (λ n r. cond (parameterFits kind n) (got (one-parameter kind h .make n) r) fail) g (rw f)
+  module _ {s : List ℕ} {at n e : ℕ} (g : Got (readNumber (drop at s)) s at n e) where
+    one-read : Onward (kindAfter kind) s at (after-one n) e
+    one-read = on-first readNumber after-one one-layout g
 
-  pub one-got : {n e : ℕ} → Got (readNumber (drop at s)) s at n e → parameterFits kind n ≡ true → KindStops (kindAfter kind (drop at s)) s at kind n 0 0 e
-  one-got {n} {e} g f = record {
-    what = one-parameter kind h .make n;
-    stops = rw one-layout (then-found (λ n r. cond (parameterFits kind n) (got (one-parameter kind h .make n) r) fail) g (rw f));
-    are = one-parameter kind h .are n;
-  }
+    pub one-bad : parameterFits kind n ≡ false → kindAfter kind (drop at s) ≡ fail
+    one-bad f = on-not (got (made n)) one-read f
+
+    pub one-got : parameterFits kind n ≡ true → KindStops (kindAfter kind (drop at s)) s at kind n 0 0 e
+    one-got f = record { what = made n; stops = on-found (on-passed (got (made n)) one-read f); are = one-parameter kind h .are n }
 
 -- ---- a decimal
 
@@ -270,37 +274,36 @@ kind-outside n t (inr h) =
       ne-eqb n hexNumber (λ e. omega arith),
     )
 
-module _ (s : List ℕ) (at : ℕ) where
-  pub kind-none : readNumber (drop at s) ≡ fail → readKind (drop at s) ≡ fail
+pub kind-none : (t : List ℕ) → readNumber t ≡ fail → readKind t ≡ fail
+unfolding readKind
+kind-none t e = rw e
+
+module _ {s : List ℕ} {at n e : ℕ} (g : Got (readNumber (drop at s)) s at n e) where
+  kind-next : readKind (drop at s) ≡ kindAfter n (drop e s)
   unfolding readKind
-  kind-none e = rw e
+  kind-next = rw (g .is)
 
-  module _ {n e : ℕ} (g : Got (readNumber (drop at s)) s at n e) where
-    kind-next : readKind (drop at s) ≡ kindAfter n (drop e s)
-    unfolding readKind
-    kind-next = rw (g .is)
+  -- what a reader of the parameters answers is the answer for the kind
+  pub kind-after : (r : KindRead) {k : ℕ} → n ≡ k → KindReads (kindAfter k (drop e s)) s e r → KindReads (readKind (drop at s)) s at r
+  kind-after (OfKind m a b c f) {k} q w = record {
+    what = w .what;
+    stops = record {
+      is = kind-next ∙ ap (λ (i : ℕ). kindAfter i (drop e s)) q ∙ w .stops .is;
+      after = omega (arith, g .after, w .stops .after);
+      within = w .stops .within;
+    };
+    are = w .are;
+  }
+  kind-after NoKind {k} q w = kind-next ∙ ap (λ (i : ℕ). kindAfter i (drop e s)) q ∙ w
 
-    -- what a reader of the parameters answers is the answer for the kind
-    pub kind-after : (r : KindRead) (k : ℕ) → n ≡ k → KindReads (kindAfter k (drop e s)) s e r → KindReads (readKind (drop at s)) s at r
-    kind-after (OfKind m a b c f) k q w = record {
-      what = w .what;
-      stops = record {
-        is = kind-next ∙ ap (λ (i : ℕ). kindAfter i (drop e s)) q ∙ w .stops .is;
-        after = omega (arith, g .after, w .stops .after);
-        within = w .stops .within;
-      };
-      are = w .are;
-    }
-    kind-after NoKind k q w = kind-next ∙ ap (λ (i : ℕ). kindAfter i (drop e s)) q ∙ w
+  pub kind-plain : kindNumber currency ≤ n → n ≤ kindNumber boolean → KindStops (readKind (drop at s)) s at n 0 0 0 e
+  kind-plain h k =
+      let x = plain n h k in
+      record {
+        what = x .what;
+        stops = record { is = kind-next ∙ x .layout (drop e s); after = g .after; within = g .within };
+        are = x .are;
+      }
 
-    pub kind-plain : kindNumber currency ≤ n → n ≤ kindNumber boolean → KindStops (readKind (drop at s)) s at n 0 0 0 e
-    kind-plain h k =
-        let x = plain n h k in
-        record {
-          what = x .what;
-          stops = record { is = kind-next ∙ x .layout (drop e s); after = g .after; within = g .within };
-          are = x .are;
-        }
-
-    pub kind-other : IsOutside n → readKind (drop at s) ≡ fail
-    kind-other h = kind-next ∙ kind-outside n (drop e s) h
+  pub kind-other : IsOutside n → readKind (drop at s) ≡ fail
+  kind-other h = kind-next ∙ kind-outside n (drop e s) h

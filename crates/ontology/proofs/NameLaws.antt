@@ -10,10 +10,13 @@ use lib.Dec.{ltb, leb, eqb}
 use borrow.Author.Tests.{le-leb, lt-leb, leb-true, ltb-true, ltb-false, eq-eqb, ne-eqb, eqb-false}
 use Rattle.model.specs.Order.{Text, pick}
 use Rattle.model.proofs.Cases.{and-parts}
-use Rattle.packed.specs.Packed.{part}
+use Rattle.packed.specs.Parse.{fail, suchThat}
+use Rattle.packed.specs.Packed.{readText, part}
+use Rattle.packed.specs.code.Located.{Got, NameStops}
 use Rattle.packed.specs.code.Comparison.{precedes}
 use Rattle.packed.proofs.OrderLaws.{order-less, order-more}
-use Rattle.packed.proofs.ReadLaws.{drop-next, part-length}
+use Rattle.packed.proofs.ReadLaws.{TextStops, drop-next, part-length}
+use Rattle.packed.proofs.FieldLaws.{such-got, such-fail}
 use Rattle.ontology.specs.Table.{isLetter, isNameByte, areNameBytes, isName, isNameWithin}
 
 -- ---- bytes
@@ -66,6 +69,17 @@ name-length most v e = let b = and-parts (isName v) (leb (length v) most) e in (
     go : (v : Text) → isName v ≡ true → 1 ≤ length v
     go [] e = let z : _≡_ {A = ℕ} 0 1 = cc in absurd (omega arith)
     go (b ∷ v) e = omega arith
+
+-- a text that was read is a name, or it is none
+module _ {s : List ℕ} {at a e : ℕ} (most : ℕ) (w : TextStops s at a e) where
+  text-got : Got (readText (drop at s)) s at (part s a e) e
+  text-got = record { is = w .is; after = omega (arith, w .after, w .order); within = w .within }
+
+  pub name-is : isNameWithin most (part s a e) ≡ true → NameStops (suchThat (isNameWithin most) readText (drop at s)) s at a e
+  name-is h = record { stops = such-got (isNameWithin most) readText s at text-got h; order = w .order }
+
+  pub name-not : isNameWithin most (part s a e) ≡ false → suchThat (isNameWithin most) readText (drop at s) ≡ fail
+  name-not h = such-fail (isNameWithin most) readText s at text-got h
 
 -- ---- the order of two names
 

@@ -36,7 +36,7 @@ not-extreme : (x : PropertyAt) → hasReplace x ≡ true → hasExtreme x ≡ fa
 not-extreme x h =
     ap (λ (n : ℕ). eqb n (strategyNumber min) || eqb n (strategyNumber max)) (eqb-true (x .strategy) (strategyNumber replace) h)
 
-module _ (s : List ℕ) (q : Property) (x : PropertyAt) (v : Bool) (w : PropertyIs s q x) where
+module _ {s : List ℕ} {q : Property} {x : PropertyAt} (v : Bool) (w : PropertyIs s q x) where
   abbrev ordered : Bool
   ordered = leb (x .kind) (kindNumber datetime)
 
@@ -83,7 +83,7 @@ module _ (s : List ℕ) (q : Property) (x : PropertyAt) (v : Bool) (w : Property
 
 -- ---- the marked property, by its index
 
-module _ (s : List ℕ) (q : Property) (x : PropertyAt) (w : PropertyIs s q x) where
+module _ {s : List ℕ} {q : Property} {x : PropertyAt} (w : PropertyIs s q x) where
   abbrev inSequence : Bool
   inSequence = eqb (x .kind) (kindNumber sequence)
 

@@ -11,10 +11,12 @@ use borrow.Author.Tests.{lt-ltb, ne-eqb}
 use Rattle.model.specs.Order.{Text, texts, lists, lex, rising, pick}
 use Rattle.model.proofs.Cases.{never, and-true, and-false}
 use Rattle.packed.specs.Parse.{fail, got, Layout, times}
+use Rattle.packed.specs.Packed.{part}
 use Rattle.packed.specs.code.Comparison.{precedes}
 use Rattle.ontology.specs.Table.{Property, isName, namesRise, strategyFits, allFit, canBeMarked, markFits}
 use Rattle.ontology.specs.TableLayout.{readProperty}
-use Rattle.ontology.specs.code.TypeIndex.{propertyFits, fitInTurn, fittingFrom, propertyRules}
+use Rattle.ontology.specs.declared.properties.PropertyAt.{PropertyAt}
+use Rattle.ontology.specs.code.TypeIndex.{PropertyIs, propertyFits, fitInTurn, fittingFrom, propertyRules}
 use Rattle.ontology.proofs.PropertyLaws.{property-named}
 use Rattle.ontology.proofs.RunLaws.{prepend, times-first, times-length, such-stop, such-end, such-more, such-bad}
 
@@ -44,12 +46,15 @@ rise-from p f named n s (x ∷ xs) r e = let a = times-first p n s x xs r e in g
 
 -- ---- a property in its turn
 
--- its rules, by the answers of the first two
+-- its rules, by the answers on its name, which stands in the bytes s, and on its strategy, and by whether it is marked
 pub fits-by :
-    (versioned marked : Bool) (last : Text) (q : Property) {a b : Bool} → precedes last (q .name) ≡ a → strategyFits versioned q ≡ b →
-    propertyFits versioned marked last q ≡ (a && b && (not marked || canBeMarked q))
+    {s : List ℕ} {q : Property} {x : PropertyAt} (versioned : Bool) {marked a b m : Bool} (last : Text) → PropertyIs s q x →
+    precedes last (part s (x .start) (x .end)) ≡ a → strategyFits versioned q ≡ b → marked ≡ m →
+    propertyFits versioned marked last q ≡ (a && b && (not m || canBeMarked q))
 unfolding propertyFits
-fits-by versioned marked last q h k = ap₂ (λ (a b : Bool). a && b && (not marked || canBeMarked q)) h k
+fits-by {q = q} versioned {marked} {a} {b} last w h k l =
+    ap₂ (λ (a b : Bool). a && b && (not marked || canBeMarked q)) (ap (precedes last) (sym (w .name)) ∙ h) k
+    ∙ ap (λ (y : Bool). a && b && (not y || canBeMarked q)) l
 
 -- ---- properties that meet their rules, read one by one
 

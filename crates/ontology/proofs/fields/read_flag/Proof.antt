@@ -3,26 +3,12 @@ use Rattle.ontology.proofs.FlagLaws.{flag-none, flag-is}
 use borrow.Author.Needs.{needs}
 use Rattle.ontology.proofs.fields.read_flag.Statement.{statement}
 use Rattle.ontology.proofs.fields.read_flag.Tie as tie
-use Rattle.ontology.proofs.fields.read_flag.Reads as reads
-use Rattle.ontology.proofs.fields.read_flag.Lts as lts
-use Rattle.packed.proofs.read.read_within.Reads as read-within-reads
 
 returns : tie.Need-returns
-returns c =
-    let a = c .before .before .before .before .args in
-    flag-none (a .s .now) (a .at) (number-fail (a .s .now) (a .at) (c .enum-told .given .1) (c .before .before .read-within .ensures))
+returns c = flag-none _ (number-fail _ _ (c .enum-told .given .1) (c .before .before .read-within .ensures))
 
 returns-2 : tie.Need-returns-2
-returns-2 c =
-    let a = c .before .before .before .before .before .args in
-    flag-is (a .s .now) (a .at) (number-got (c .before .n .given .1) (c .before .before .before .read-within .ensures))
+returns-2 c = flag-is (number-got (c .before .n .given .1) (c .before .before .before .read-within .ensures))
 
 pub read-flag-spec : {M : Type 1} → statement M
-read-flag-spec =
-    tie.close
-    (tie.spec
-    (λ c κs. search needs)
-    (λ c. search needs)
-    (λ c. search needs)
-    returns
-    returns-2)
+read-flag-spec = tie.close (tie.spec (λ c κs. search needs) (λ c. search needs) (λ c. search needs) returns returns-2)

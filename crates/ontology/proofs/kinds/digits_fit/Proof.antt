@@ -4,9 +4,6 @@ use native.Mathlib.Omega.{arith}
 use borrow.Author.Needs.{needs}
 use Rattle.ontology.proofs.kinds.digits_fit.Statement.{statement}
 use Rattle.ontology.proofs.kinds.digits_fit.Tie as tie
-use Rattle.ontology.proofs.kinds.digits_fit.Reads as reads
-use Rattle.ontology.proofs.kinds.digits_fit.Lts as lts
-use Rattle.ontology.proofs.kinds.is_size.Reads as is-size-reads
 
 returns : tie.Need-returns
 returns c =

@@ -3,8 +3,6 @@ use mathlib.Core.Path.{sym}
 use native.Mathlib.Omega.{arith}
 use Rattle.ontology.proofs.kinds.is_size.Statement.{statement}
 use Rattle.ontology.proofs.kinds.is_size.Tie as tie
-use Rattle.ontology.proofs.kinds.is_size.Reads as reads
-use Rattle.ontology.proofs.kinds.is_size.Lts as lts
 
 returns : tie.Need-returns
 returns c =

@@ -3,8 +3,6 @@ use mathlib.Core.Path.{sym}
 use native.Mathlib.Omega.{arith}
 use Rattle.ontology.proofs.kinds.is_width.Statement.{statement}
 use Rattle.ontology.proofs.kinds.is_width.Tie as tie
-use Rattle.ontology.proofs.kinds.is_width.Reads as reads
-use Rattle.ontology.proofs.kinds.is_width.Lts as lts
 
 returns : tie.Need-returns
 returns c = sym (width-eight _ (c .match .keys1))

@@ -4,10 +4,6 @@ use native.Mathlib.Omega.{arith}
 use borrow.Author.Needs.{needs}
 use Rattle.ontology.proofs.kinds.parameter_fits.Statement.{statement}
 use Rattle.ontology.proofs.kinds.parameter_fits.Tie as tie
-use Rattle.ontology.proofs.kinds.parameter_fits.Reads as reads
-use Rattle.ontology.proofs.kinds.parameter_fits.Lts as lts
-use Rattle.ontology.proofs.kinds.is_size.Reads as is-size-reads
-use Rattle.ontology.proofs.kinds.is_width.Reads as is-width-reads
 
 returns : tie.Need-returns
 returns c = c .is-width .ensures ∙ sym (fits-width _ _ (omega arith))

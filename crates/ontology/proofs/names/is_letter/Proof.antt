@@ -3,8 +3,6 @@ use mathlib.Core.Path.{sym}
 use native.Mathlib.Omega.{arith}
 use Rattle.ontology.proofs.names.is_letter.Statement.{statement}
 use Rattle.ontology.proofs.names.is_letter.Tie as tie
-use Rattle.ontology.proofs.names.is_letter.Reads as reads
-use Rattle.ontology.proofs.names.is_letter.Lts as lts
 
 returns : tie.Need-returns
 returns c = sym (letter-is _ (omega arith) (omega arith))

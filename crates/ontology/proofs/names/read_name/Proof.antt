@@ -1,42 +1,44 @@
-use Rattle.packed.proofs.FieldLaws.{text-here, such-none, such-got, such-fail}
-use Rattle.ontology.specs.Table.{isNameWithin}
-use Rattle.packed.proofs.ReadLaws.{text-stops, text-none}
-use Rattle.packed.specs.Packed.{readText}
+-- A text is read, and whether it is a name decides.
+use Rattle.packed.proofs.ReadLaws.{TextStops, text-stops, text-none}
+use Rattle.packed.proofs.FieldLaws.{then-none}
+use Rattle.ontology.proofs.NameLaws.{name-is, name-not}
 use mathlib.Core.Path.{sym, _∙_}
 use borrow.Author.Needs.{needs}
 use Rattle.ontology.proofs.names.read_name.Statement.{statement}
 use Rattle.ontology.proofs.names.read_name.Tie as tie
-use Rattle.ontology.proofs.names.read_name.Reads as reads
-use Rattle.ontology.proofs.names.read_name.Lts as lts
-use Rattle.ontology.proofs.names.is_name.Reads as is-name-reads
-use Rattle.packed.proofs.read.read_text.Reads as read-text-reads
+
+-- ---- the places
+
+abbrev to-start : tie.After-known-told → tie.Start
+to-start c = c .before .before .before .before .before
+
+-- ---- the facts
+
+text :
+    (c : tie.After-known-told) →
+    let a = to-start c .args in
+    TextStops (a .s .now) (a .at) (c .before .start .given .0 .0) (c .before .start .given .0 .1 .0)
+text c = text-stops _ _ _ _ (sym (c .before .before .before .read-text .ensures) ∙ c .before .start .given .1)
+
+-- ---- the needs
 
 returns : tie.Need-returns
-returns c =
-    let a = c .before .before .before .before .args in
-    such-none (isNameWithin (a .most)) readText (a .s .now) (a .at) (text-none (a .s .now) (a .at) (sym (c .before .before .read-text .ensures) ∙ c .enum-told .given .1))
+returns c = then-none _ (text-none _ _ (sym (c .before .before .read-text .ensures) ∙ c .enum-told .given .1))
 
 sub-is-name : tie.Need-sub-is-name
-sub-is-name c = text-stops _ _ _ _ (sym (c .before .before .before .read-text .ensures) ∙ c .before .start .given .1) .order
+sub-is-name c = text c .order
 
 part-is-name-start : tie.Need-part-is-name-start
-part-is-name-start c = text-stops _ _ _ _ (sym (c .before .before .before .read-text .ensures) ∙ c .before .start .given .1) .order
+part-is-name-start c = text c .order
 
 part-is-name-end : tie.Need-part-is-name-end
-part-is-name-end c = text-stops _ _ _ _ (sym (c .before .before .before .read-text .ensures) ∙ c .before .start .given .1) .within
+part-is-name-end c = text c .within
 
 returns-2 : tie.Need-returns-2
-returns-2 c =
-    let a = c .before .before .before .before .before .before .before .before .args in
-    let t = text-here (a .s .now) (a .at) _ _ (sym (c .before .before .before .before .before .before .read-text .ensures) ∙ c .before .before .before .before .start .given .1) in
-    let o = text-stops (a .s .now) (a .at) _ _ (sym (c .before .before .before .before .before .before .read-text .ensures) ∙ c .before .before .before .before .start .given .1) in
-    record { stops = such-got (isNameWithin (a .most)) readText (a .s .now) (a .at) t (sym (c .before .is-name .ensures) ∙ c .if1 .taken); order = o .order }
+returns-2 c = name-is _ (text (c .before .before .before)) (sym (c .before .is-name .ensures) ∙ c .if1 .taken)
 
 returns-3 : tie.Need-returns-3
-returns-3 c =
-    let a = c .before .before .before .before .before .before .before .before .args in
-    let t = text-here (a .s .now) (a .at) _ _ (sym (c .before .before .before .before .before .before .read-text .ensures) ∙ c .before .before .before .before .start .given .1) in
-    such-fail (isNameWithin (a .most)) readText (a .s .now) (a .at) t (sym (c .before .is-name .ensures) ∙ c .if1 .left)
+returns-3 c = name-not _ (text (c .before .before .before)) (sym (c .before .is-name .ensures) ∙ c .if1 .left)
 
 pub read-name-spec : {M : Type 1} → statement M
 read-name-spec =

@@ -1,8 +1,6 @@
 use borrow.Author.Tests.{eq-eqb, ne-eqb}
 use Rattle.ontology.proofs.properties.is_extreme.Statement.{statement}
 use Rattle.ontology.proofs.properties.is_extreme.Tie as tie
-use Rattle.ontology.proofs.properties.is_extreme.Reads as reads
-use Rattle.ontology.proofs.properties.is_extreme.Lts as lts
 
 returns : tie.Need-returns
 returns c = rw (eq-eqb _ 1 (c .if1 .taken))

@@ -1,3 +1,4 @@
+-- Three writes put the three numbers of a property at its place: what is read back there is the property, and what stands elsewhere stays.
 use Rattle.ontology.proofs.CodeLaws.{IsSmall, put-here, put-other}
 use lib.ListN.{length, set, length-set}
 use Prim.Native.Nat.{_+_, _*_, _<_}
@@ -5,34 +6,19 @@ use native.Mathlib.Omega.{arith}
 use borrow.Author.Needs.{needs}
 use Rattle.ontology.proofs.properties.put_property.Statement.{statement}
 use Rattle.ontology.proofs.properties.put_property.Tie as tie
-use Rattle.ontology.proofs.properties.put_property.Reads as reads
-use Rattle.ontology.proofs.properties.put_property.Lts as lts
-use Rattle.ontology.proofs.properties.code_of.Reads as code-of-reads
 
 slice-write-properties-2 : tie.Need-slice-write-properties-2
-slice-write-properties-2 c =
-    let a = c .before .args in
-    omega (arith, length-set (a .properties .now) (3 * a .k) (a .p .start), c .before .pre .0)
+slice-write-properties-2 c = simp length-set (omega arith)
 
 slice-write-properties-3 : tie.Need-slice-write-properties-3
-slice-write-properties-3 c =
-    let a = c .before .before .args in
-    let first = set (a .properties .now) (3 * a .k) (a .p .start) in
-    omega (arith, length-set (a .properties .now) (3 * a .k) (a .p .start), length-set first (3 * a .k + 1) (a .p .end), c .before .before .pre .0)
+slice-write-properties-3 c = simp length-set (omega arith)
 
 returns : tie.Need-returns
 returns c =
     let a = c .before .before .args in
-    let numbers = a .properties .now in
-    let room : 3 * a .k + 2 < length numbers = omega (arith, c .before .before .pre .0) in
-    let small : IsSmall (a .p) = record {
-      kind = omega arith;
-      size = omega arith;
-      after = omega arith;
-      sign = omega arith;
-      strategy = omega arith;
-    } in
-    (put-here numbers (a .k) (a .p) _ room small (c .code-of .ensures), put-other numbers (a .k) (a .p) _)
+    let room : 3 * a .k + 2 < length (a .properties .now) = omega arith in
+    let small : IsSmall (a .p) = record { kind = omega arith; size = omega arith; after = omega arith; sign = omega arith; strategy = omega arith } in
+    (put-here (a .properties .now) (a .k) (a .p) _ room small (c .code-of .ensures), put-other (a .properties .now) (a .k) (a .p) _)
 
 pub put-property-spec : {M : Type 1} → statement M
 put-property-spec =

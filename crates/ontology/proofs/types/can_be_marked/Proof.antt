@@ -5,19 +5,17 @@ use borrow.Author.Needs.{needs}
 use borrow.Author.Tests.{not-true, not-false}
 use Rattle.ontology.proofs.types.can_be_marked.Statement.{statement}
 use Rattle.ontology.proofs.types.can_be_marked.Tie as tie
-use Rattle.ontology.proofs.types.can_be_marked.Reads as reads
-use Rattle.ontology.proofs.types.can_be_marked.Lts as lts
-use Rattle.ontology.proofs.properties.is_max.Reads as is-max-reads
-use Rattle.ontology.proofs.types.is_mandatory_single.Reads as is-mandatory-single-reads
 
 returns : tie.Need-returns
-returns c = λ s q w. sym (marked-kind s q _ w (c .if1 .taken))
+returns c = λ s q w. sym (marked-kind w (c .if1 .taken))
 
 returns-2 : tie.Need-returns-2
-returns-2 c = λ s q w. sym (marked-strategy s q _ w (sym (c .before .is-max .ensures) ∙ not-true _ (c .if2 .taken)))
+returns-2 c = λ s q w. sym (marked-strategy w (sym (c .before .is-max .ensures) ∙ not-true _ (c .if2 .taken)))
 
 returns-3 : tie.Need-returns-3
-returns-3 c = λ s q w. c .is-mandatory-single .ensures ∙ sym (marked-is s q _ w (omega arith) (sym (c .before .before .is-max .ensures) ∙ not-false _ (c .before .if2 .left)))
+returns-3 c = λ s q w.
+    let has-max = sym (c .before .before .is-max .ensures) ∙ not-false _ (c .before .if2 .left) in
+    c .is-mandatory-single .ensures ∙ sym (marked-is w (omega arith) has-max)
 
 pub can-be-marked-spec : {M : Type 1} → statement M
 can-be-marked-spec =
