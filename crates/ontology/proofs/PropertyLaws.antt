@@ -13,15 +13,15 @@ use Rattle.packed.specs.Parse.{Parse, fail, got, Layout, andThen, found, foundI
 use Rattle.packed.specs.Packed.{readNumber, readText, part, isWithin}
 use Rattle.packed.specs.code.Located.{Got, NameStops}
 use Rattle.packed.proofs.LayoutLaws.{andThen-got, suchThat-got}
-use Rattle.packed.proofs.FieldLaws.{such-was, within-bounds, is-within}
+use Rattle.packed.proofs.FieldLaws.{then-none, such-was, within-bounds, is-within}
 use Rattle.values.specs.Spaces.{Kind}
 use Rattle.ontology.specs.Table.{Strategy, min, max, add, replace, match, set, any, strategyNumber, Property, isName, isNameWithin}
 use Rattle.ontology.specs.TableLayout.{readFlag, readKind, readStrategy, readProperty}
 use Rattle.ontology.specs.declared.properties.PropertyAt.{PropertyAt}
 use Rattle.ontology.specs.declared.properties.PropertyRead.{PropertyRead}
 use Rattle.ontology.specs.declared.properties.PropertyRead.the-variants as read
-use Rattle.ontology.specs.code.TypeIndex.{KindStops, PropertyStops, PropertyReads}
-use Rattle.ontology.proofs.OnwardLaws.{Onward, on-got, on-found}
+use Rattle.ontology.specs.code.TypeIndex.{KindIs, KindStops, PropertyStops, PropertyReads}
+use Rattle.ontology.proofs.OnwardLaws.{Onward, on-first, on-got, on-found}
 
 -- what is known of a call's answer in the arm of a `match`
 pub property-got : {p : Parse Property} {s : List ℕ} {at : ℕ} {r : PropertyRead} {x : PropertyAt} {e : ℕ} → r ≡ read.Property x e → PropertyReads p s at r → PropertyStops p s at x e
@@ -110,45 +110,78 @@ property name kind optional multivalued strategy =
     record { name = name; kind = kind; optional = optional; multivalued = multivalued; strategy = strategy }
 
 -- what follows each field
-abbrev pub after-multivalued : Text → Kind → Bool → Bool → Layout Property
+abbrev after-multivalued : Text → Kind → Bool → Bool → Layout Property
 after-multivalued n k o m t = andThen (readStrategy t) (λ y. found (property n k o m y))
 
-abbrev pub after-optional : Text → Kind → Bool → Layout Property
+abbrev after-optional : Text → Kind → Bool → Layout Property
 after-optional n k o t = andThen (readFlag t) (after-multivalued n k o)
 
-abbrev pub after-kind : Text → Kind → Layout Property
+abbrev after-kind : Text → Kind → Layout Property
 after-kind n k t = andThen (readFlag t) (after-optional n k)
 
-abbrev pub after-name : Text → Layout Property
+abbrev after-name : Text → Layout Property
 after-name n t = andThen (readKind t) (after-kind n)
 
-pub property-layout : (t : List ℕ) → readProperty t ≡ andThen (suchThat (isNameWithin 32) readText t) after-name
+property-layout : (t : List ℕ) → readProperty t ≡ andThen (suchThat (isNameWithin 32) readText t) after-name
 unfolding readProperty
 property-layout t = refl
 
--- the property that was read, as the index has it
-pub property-is :
-    {s : List ℕ} {at start end kind size after sign f n z strategy : ℕ} {o m : Bool} →
-    NameStops (suchThat (isNameWithin 32) readText (drop at s)) s at start end →
-    (k : KindStops (readKind (drop end s)) s end kind size after sign f) →
-    Onward readProperty s at (after-multivalued (part s start end) (k .what) o m) n → StrategyStops s n strategy z →
-    PropertyStops (readProperty (drop at s)) s at
-    (record { start = start; end = end; kind = kind; size = size; after = after; sign = sign; optional = o; multivalued = m; strategy = strategy }) z
-property-is {s} {at} {start} {end} {o = o} {m = m} g k w y =
-    let made = property (part s start end) (k .what) o m in
-    record {
-      what = made (y .what);
-      stops = on-found (on-got readStrategy (λ y. found (made y)) w (y .stops));
-      is = record {
-        name = refl;
-        order = g .order;
-        within = g .stops .within;
-        kind = k .are;
-        optional = refl;
-        multivalued = refl;
-        strategy = y .number;
-      };
-    }
+pub property-unnamed : (t : List ℕ) → suchThat (isNameWithin 32) readText t ≡ fail → readProperty t ≡ fail
+property-unnamed t e = property-layout t ∙ then-none after-name e
+
+-- the name is read, from start up to end
+pub record NameLeft (s : List ℕ) (at start end : ℕ) : Type 0 where
+  pub order : start ≤ end
+  pub left : Onward readProperty s at (after-name (part s start end)) end
+
+-- the kind is read too
+pub record KindLeft (s : List ℕ) (at start end kind size after sign e : ℕ) : Type 0 where
+  pub name : NameLeft s at start end
+  pub what : Kind
+  pub are : KindIs what kind size after sign
+  pub left : Onward readProperty s at (after-kind (part s start end) what) e
+
+pub name-left : {s : List ℕ} {at start end : ℕ} → NameStops (suchThat (isNameWithin 32) readText (drop at s)) s at start end → NameLeft s at start end
+name-left g = record { order = g .order; left = on-first (suchThat (isNameWithin 32) readText) after-name property-layout (g .stops) }
+
+pub kind-left :
+    {s : List ℕ} {at start end kind size after sign e : ℕ} → NameLeft s at start end → KindStops (readKind (drop end s)) s end kind size after sign e →
+    KindLeft s at start end kind size after sign e
+kind-left {s} {at} {start} {end} g k = record {
+  name = g;
+  what = k .what;
+  are = k .are;
+  left = on-got readKind (after-kind (part s start end)) (g .left) (k .stops);
+}
+
+module _ {s : List ℕ} {at start end kind size after sign e : ℕ} (k : KindLeft s at start end kind size after sign e) where
+  -- the first flag is read, and both
+  abbrev pub OptionalLeft : Bool → ℕ → Type 0
+  OptionalLeft o f = Onward readProperty s at (after-optional (part s start end) (k .what) o) f
+
+  abbrev pub FlagsLeft : Bool → Bool → ℕ → Type 0
+  FlagsLeft o m f = Onward readProperty s at (after-multivalued (part s start end) (k .what) o m) f
+
+  -- the property that was read, as the index has it
+  pub property-is :
+      (o m : Bool) {f strategy z : ℕ} → FlagsLeft o m f → StrategyStops s f strategy z →
+      PropertyStops (readProperty (drop at s)) s at
+      (record { start = start; end = end; kind = kind; size = size; after = after; sign = sign; optional = o; multivalued = m; strategy = strategy }) z
+  property-is o m w y =
+      let made = property (part s start end) (k .what) o m in
+      record {
+        what = made (y .what);
+        stops = on-found (on-got readStrategy (λ y. found (made y)) w (y .stops));
+        is = record {
+          name = refl;
+          order = k .name .order;
+          within = k .name .left .within;
+          kind = k .are;
+          optional = refl;
+          multivalued = refl;
+          strategy = y .number;
+        };
+      }
 
 -- a property that was read has a name
 pub property-named : (s : List ℕ) (q : Property) (r : List ℕ) → readProperty s ≡ got q r → isName (q .name) ≡ true

@@ -15,7 +15,7 @@ use Rattle.packed.specs.Parse.{Parse, fail, got, Layout, andThen, found, foundI
 use Rattle.packed.specs.Packed.{readNumber, readText, part, isWithin}
 use Rattle.packed.proofs.LayoutLaws.{andThen-got, suchThat-got}
 use Rattle.packed.specs.code.Located.{NameStops}
-use Rattle.packed.proofs.FieldLaws.{within-bounds, is-within}
+use Rattle.packed.proofs.FieldLaws.{then-none, within-bounds, is-within}
 use Rattle.values.specs.declared.versions.DefinitionVersion.{DefinitionVersion}
 use Rattle.ontology.specs.Table.{Property, EventType, isNameWithin, namesRise, allFit, markFits, isVersioned, typeRules}
 use Rattle.ontology.specs.TableLayout.{readProperty, readType}
@@ -28,7 +28,7 @@ use Rattle.ontology.specs.declared.types.TypeIndex.{TypeIndex}
 use Rattle.ontology.specs.declared.types.TypeRead.{TypeRead}
 use Rattle.ontology.specs.code.TypeIndex.{PropertyIs, PropertyStops, propertyIn, PropertiesStop, PropertiesSay}
 use Rattle.ontology.specs.code.TypeIndex.{propertyFits, fitInTurn, fittingFrom, readFitting, propertyRules, typeOf, HeadStops, HeadReads, TypeReads}
-use Rattle.ontology.proofs.OnwardLaws.{Onward}
+use Rattle.ontology.proofs.OnwardLaws.{Onward, on-first}
 use Rattle.ontology.proofs.RunLaws.{prepend, prepend-nil, prepend-two, times-length, snoc-at}
 use Rattle.ontology.proofs.TurnLaws.{fitting-stop, fitting-end, fitting-not, fitting-more, rules-in-turn}
 
@@ -138,27 +138,27 @@ two-tests false b f x r = refl
 
 -- ---- a type that is asked its rules in turn, as it is read
 
--- what follows each field
-abbrev pub type-after-count : Text → ℕ → ℕ → ℕ → Layout EventType
-type-after-count v d m n t = andThen (readFitting m n t) (λ qs. foundIf (leb m n) (typeOf v d m qs))
+-- what follows each field of the type with the name v
+abbrev after-count : ℕ → ℕ → ℕ → Text → Layout EventType
+after-count d m n v t = andThen (readFitting m n t) (λ qs. foundIf (leb m n) (typeOf v d m qs))
 
-abbrev pub type-after-mark : Text → ℕ → ℕ → Layout EventType
-type-after-mark v d m t = andThen (suchThat (isWithin 1 32) readNumber t) (type-after-count v d m)
+abbrev pub after-mark : ℕ → ℕ → Text → Layout EventType
+after-mark d m v t = andThen (suchThat (isWithin 1 32) readNumber t) (λ n. after-count d m n v)
 
-abbrev pub type-defined : Text → ℕ → Layout EventType
-type-defined v d t = andThen (readNumber t) (type-after-mark v d)
+abbrev pub when-defined : ℕ → Text → Layout EventType
+when-defined d v t = andThen (readNumber t) (λ m. after-mark d m v)
 
-abbrev pub type-after-definition : Text → ℕ → Layout EventType
-type-after-definition v d t = cond (leb 1 d) (type-defined v d t) fail
+abbrev pub after-definition : ℕ → Text → Layout EventType
+after-definition d v t = cond (leb 1 d) (when-defined d v t) fail
 
-abbrev pub type-after-name : Text → Layout EventType
-type-after-name v t = andThen (readNumber t) (type-after-definition v)
+abbrev after-name : Text → Layout EventType
+after-name v t = andThen (readNumber t) (λ d. after-definition d v)
 
 module _ (s : List ℕ) where
   module _ {v : Text} {t : List ℕ} (name : readText s ≡ got v t) (named : isNameWithin 64 v ≡ true) where
     module _ {d : ℕ} {u : List ℕ} (definition : readNumber t ≡ got d u) (defined : leb 1 d ≡ true) where
       module _ {m : ℕ} {x : List ℕ} (mark : readNumber u ≡ got m x) where
-        counted : {n : ℕ} {y : List ℕ} → readNumber x ≡ got n y → isWithin 1 32 n ≡ true → suchThat typeRules readType s ≡ type-after-count v d m n y
+        counted : {n : ℕ} {y : List ℕ} → readNumber x ≡ got n y → isWithin 1 32 n ≡ true → suchThat typeRules readType s ≡ after-count d m n v y
         unfolding readType
         counted {n} {y} count few = rw (name, definition, mark, count) (go (times readProperty n y) refl)
           where
@@ -174,7 +174,7 @@ module _ (s : List ℕ) where
                 (rules-are v d m qs named (leb-true 1 d defined) (omega arith) (omega arith) ∙ rules-in-turn m n y qs r e)
                 ∙ two-tests (fitInTurn (ltb 0 m) m [] qs) (leb m n) (typeOf v d m) qs r
 
-        with-count : (p : Parse ℕ) → readNumber x ≡ p → suchThat typeRules readType s ≡ andThen (andThen p (λ n. foundIf (isWithin 1 32 n) n)) (type-after-count v d m)
+        with-count : (p : Parse ℕ) → readNumber x ≡ p → suchThat typeRules readType s ≡ andThen (andThen p (λ n. foundIf (isWithin 1 32 n) n)) (λ n. after-count d m n v)
         with-count fail e = type-fail s (λ t r w k. cc)
         with-count (got n y) e =
             truth (isWithin 1 32 n)
@@ -184,11 +184,11 @@ module _ (s : List ℕ) where
             let in-range = is-within 1 32 n (omega (arith, k .least, w .long)) (omega (arith, k .most, w .long)) in
             cc in-range)))
 
-      with-mark : (p : Parse ℕ) → readNumber u ≡ p → suchThat typeRules readType s ≡ andThen p (type-after-mark v d)
+      with-mark : (p : Parse ℕ) → readNumber u ≡ p → suchThat typeRules readType s ≡ andThen p (λ m. after-mark d m v)
       with-mark fail e = type-fail s (λ t r w k. cc)
       with-mark (got m x) e = with-count e (readNumber x) refl
 
-    with-definition : (p : Parse ℕ) → readNumber t ≡ p → suchThat typeRules readType s ≡ andThen p (type-after-definition v)
+    with-definition : (p : Parse ℕ) → readNumber t ≡ p → suchThat typeRules readType s ≡ andThen p (λ d. after-definition d v)
     with-definition fail e = type-fail s (λ t r w k. cc)
     with-definition (got d u) e =
         truth (leb 1 d)
@@ -197,22 +197,36 @@ module _ (s : List ℕ) where
         let d-is : t .definition ≡ d = cc in
         cc (le-leb 1 d (omega (arith, k .definition))))))
 
-  with-name : (p : Parse Text) → readText s ≡ p → suchThat typeRules readType s ≡ andThen (andThen p (λ v. foundIf (isNameWithin 64 v) v)) type-after-name
+  with-name : (p : Parse Text) → readText s ≡ p → suchThat typeRules readType s ≡ andThen (andThen p (λ v. foundIf (isNameWithin 64 v) v)) after-name
   with-name fail e = type-fail s (λ t r w k. cc)
   with-name (got v t) e =
       truth (isNameWithin 64 v)
       (λ h. rw h (with-definition e h (readNumber t) refl))
       (λ h. rw h (type-fail s (λ t r w k. cc (k .name))))
 
-  pub type-in-turn : suchThat typeRules readType s ≡ andThen (suchThat (isNameWithin 64) readText s) type-after-name
-  type-in-turn = with-name (readText s) refl
+  in-turn : suchThat typeRules readType s ≡ andThen (suchThat (isNameWithin 64) readText s) after-name
+  in-turn = with-name (readText s) refl
 
--- what stands before the properties was read
-pub head-is :
-    {s : List ℕ} {at start end d m n z : ℕ} → NameStops (suchThat (isNameWithin 64) readText (drop at s)) s at start end →
-    Onward (suchThat typeRules readType) s at (type-after-count (part s start end) d m n) z → n ≤ 32 → HeadStops s at start end (record { 0 = d }) m n z
-head-is g w few =
-    record { is = w .is; order = g .order; ends = g .stops .within; few = few; after = w .after; within = w .within }
+  pub type-unnamed : suchThat (isNameWithin 64) readText s ≡ fail → suchThat typeRules readType s ≡ fail
+  type-unnamed e = in-turn ∙ then-none after-name e
+
+-- a type's name is read, from start up to end
+pub record TypeNamed (s : List ℕ) (at start end : ℕ) : Type 0 where
+  pub order : start ≤ end
+  pub left : Onward (suchThat typeRules readType) s at (after-name (part s start end)) end
+
+pub type-named :
+    {s : List ℕ} {at start end : ℕ} → NameStops (suchThat (isNameWithin 64) readText (drop at s)) s at start end → TypeNamed s at start end
+type-named g = record { order = g .order; left = on-first (suchThat (isNameWithin 64) readText) after-name in-turn (g .stops) }
+
+module _ {s : List ℕ} {at start end : ℕ} (g : TypeNamed s at start end) where
+  -- what is left of it
+  abbrev pub Left : (Text → Layout EventType) → ℕ → Type 0
+  Left rest e = Onward (suchThat typeRules readType) s at (rest (part s start end)) e
+
+  pub head-is : (d m : ℕ) {n e : ℕ} → Left (after-count d m n) e → n ≤ 32 → HeadStops s at start end (record { 0 = d }) m n e
+  head-is d m w few =
+      record { is = w .is; order = g .order; ends = g .left .within; few = few; after = w .after; within = w .within }
 
 -- ---- properties, one by one
 

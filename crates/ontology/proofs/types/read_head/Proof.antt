@@ -1,17 +1,11 @@
 -- The rules of a type are asked as its fields are read. After each field and its rule the whole answer is the answer of what is left of the type, read from
 -- there, so that a field or a rule that fails fails the whole.
-use Rattle.packed.specs.Parse.{Layout, suchThat}
-use Rattle.packed.specs.Packed.{readNumber, readText, part, isWithin}
-use Rattle.packed.specs.code.Located.{NameStops}
-use Rattle.packed.proofs.FieldLaws.{number-got, number-fail, name-got, name-fail, then-none, got-bounds}
-use Rattle.ontology.specs.Table.{EventType, isNameWithin, typeRules}
-use Rattle.ontology.specs.TableLayout.{readType}
-use Rattle.ontology.proofs.OnwardLaws.{any-got, any-fail, Onward, on-first, on-got, on-fail, on-not, on-passed}
-use Rattle.ontology.proofs.TypeLaws.{type-after-name, type-after-definition, type-defined, type-after-mark, type-in-turn, head-is}
+use Rattle.packed.specs.Parse.{suchThat}
+use Rattle.packed.specs.Packed.{readNumber, isWithin}
+use Rattle.packed.proofs.FieldLaws.{number-got, number-fail, name-got, name-fail, got-bounds}
+use Rattle.ontology.proofs.OnwardLaws.{any-got, any-fail, on-got, on-fail, on-not, on-passed}
+use Rattle.ontology.proofs.TypeLaws.{type-unnamed, TypeNamed, type-named, Left, after-definition, when-defined, after-mark, head-is}
 use Prim.Native.Nat.{ℕ}
-use mathlib.Core.Path.{_∙_}
-use mathlib.Core.List.{List}
-use lib.ListN.{drop}
 use borrow.Author.Tests.{le-leb, lt-leb}
 use native.Mathlib.Omega.{arith}
 use borrow.Author.Needs.{needs}
@@ -26,91 +20,66 @@ to-start c = c .before .before .before .before .before
 abbrev to-name : tie.After-known-told2 → tie.After-known-told
 to-name c = c .before .before .before .before
 
-abbrev to-definition : tie.After-known-told3 → tie.Else1
-to-definition c = c .before .before .before .before
+abbrev to-defined : tie.After-known-told3 → tie.Else1
+to-defined c = c .before .before .before .before
 
 abbrev to-mark : tie.After-known-told4 → tie.After-known-told3
 to-mark c = c .before .before .before .before
 
--- ---- the name
+-- ---- the values
 
-module _ (c : tie.After-known-told) where
-  abbrev table : List ℕ
-  table = to-start c .args .table .now
+abbrev definition : tie.After-known-told2 → ℕ
+definition c = c .before .definition .given .0 .0
 
-  abbrev at : ℕ
-  at = to-start c .args .at
+-- ---- the facts: what is left after each field and its rule
 
-  abbrev start : ℕ
-  start = c .before .start .given .0 .0
+named :
+    (c : tie.After-known-told) →
+    let a = to-start c .args in
+    TypeNamed (a .table .now) (a .at) (c .before .start .given .0 .0) (c .before .start .given .0 .1 .0)
+named c = type-named (name-got (c .before .start .given .1) (c .before .before .before .read-name .ensures))
 
-  abbrev end : ℕ
-  end = c .before .start .given .0 .1 .0
+numbered : (c : tie.After-known-told2) → Left (named (to-name c)) (after-definition (definition c)) (c .before .definition .given .0 .1 .0)
+numbered c =
+    on-got readNumber _ (named (to-name c) .left) (any-got (c .before .definition .given .1) (c .before .before .before .read-number .ensures))
 
-  abbrev named : List ℕ
-  named = part table start end
+defined :
+    (c : tie.Else1) →
+    let d = c .before in
+    Left (named (to-name d)) (when-defined (definition d)) (d .before .definition .given .0 .1 .0)
+defined c = on-passed _ (numbered (c .before)) (le-leb 1 (definition (c .before)) (omega arith))
 
-  -- what is left after a field, and where
-  abbrev Left : Layout EventType → ℕ → Type 0
-  Left = Onward (suchThat typeRules readType) table at
-
-  name : NameStops (suchThat (isNameWithin 64) readText (drop at table)) table at start end
-  name = name-got (c .before .start .given .1) (c .before .before .before .read-name .ensures)
-
-  name-read : Left (type-after-name named) end
-  name-read = on-first (suchThat (isNameWithin 64) readText) _ type-in-turn (name .stops)
-
--- ---- the definition version
-
-module _ (c : tie.After-known-told2) where
-  abbrev definition : ℕ
-  definition = c .before .definition .given .0 .0
-
-  abbrev after-definition : ℕ
-  after-definition = c .before .definition .given .0 .1 .0
-
-  definition-read : Left (to-name c) (type-after-definition (named (to-name c)) definition) after-definition
-  definition-read =
-      on-got readNumber _ (name-read (to-name c)) (any-got (c .before .definition .given .1) (c .before .before .before .read-number .ensures))
-
-defined : (c : tie.Else1) → Left (to-name (c .before)) (type-defined (named (to-name (c .before))) (definition (c .before))) (after-definition (c .before))
-defined c = on-passed _ (definition-read (c .before)) (le-leb 1 (definition (c .before)) (omega arith))
-
--- ---- the mark
-
-module _ (c : tie.After-known-told3) where
-  abbrev at-definition : tie.After-known-told2
-  at-definition = to-definition c .before
-
-  abbrev mark : ℕ
-  mark = c .before .mark .given .0 .0
-
-  mark-read : Left (to-name at-definition) (type-after-mark (named (to-name at-definition)) (definition at-definition) mark) (c .before .mark .given .0 .1 .0)
-  mark-read = on-got readNumber _ (defined (to-definition c)) (any-got (c .before .mark .given .1) (c .before .before .before .read-number2 .ensures))
+marked :
+    (c : tie.After-known-told3) →
+    let d = to-defined c .before in
+    Left (named (to-name d)) (after-mark (definition d) (c .before .mark .given .0 .0)) (c .before .mark .given .0 .1 .0)
+marked c = on-got readNumber _ (defined (to-defined c)) (any-got (c .before .mark .given .1) (c .before .before .before .read-number2 .ensures))
 
 -- ---- the needs
 
 returns : tie.Need-returns
-returns c =
-    let start = c .before .before .before .before in
-    type-in-turn _ ∙ then-none _ (name-fail (start .args .table .now) (start .args .at) (c .enum-told .given .1) (c .before .before .read-name .ensures))
+returns c = type-unnamed _ (name-fail _ _ (c .enum-told .given .1) (c .before .before .read-name .ensures))
 
 returns-2 : tie.Need-returns-2
-returns-2 c = on-fail readNumber _ (name-read (c .before .before .before)) (any-fail _ _ (c .enum-told2 .given .1) (c .before .before .read-number .ensures))
+returns-2 c = on-fail readNumber _ (named (c .before .before .before) .left) (any-fail _ _ (c .enum-told2 .given .1) (c .before .before .read-number .ensures))
 
 returns-3 : tie.Need-returns-3
-returns-3 c = on-not _ (definition-read (c .before)) (lt-leb 1 (definition (c .before)) (omega arith))
+returns-3 c = on-not _ (numbered (c .before)) (lt-leb 1 (definition (c .before)) (omega arith))
 
 returns-4 : tie.Need-returns-4
 returns-4 c = on-fail readNumber _ (defined (c .before .before .before)) (any-fail _ _ (c .enum-told3 .given .1) (c .before .before .read-number2 .ensures))
 
 returns-5 : tie.Need-returns-5
-returns-5 c = on-fail (suchThat (isWithin 1 32) readNumber) _ (mark-read (c .before .before .before)) (number-fail _ _ (c .enum-told4 .given .1) (c .before .before .read-within .ensures))
+returns-5 c =
+    let fails = number-fail _ _ (c .enum-told4 .given .1) (c .before .before .read-within .ensures) in
+    on-fail (suchThat (isWithin 1 32) readNumber) _ (marked (c .before .before .before)) fails
 
 returns-6 : tie.Need-returns-6
 returns-6 c =
+    let mark = to-mark c in
     let counted = number-got (c .before .count .given .1) (c .before .before .before .read-within .ensures) in
-    head-is (name (to-name (at-definition (to-mark c)))) (on-got (suchThat (isWithin 1 32) readNumber) _ (mark-read (to-mark c)) counted) (got-bounds 1 32 counted .1)
+    let left = on-got (suchThat (isWithin 1 32) readNumber) _ (marked mark) counted in
+    head-is (named (to-name (to-defined mark .before))) _ _ left (got-bounds 1 32 counted .1)
 
 pub read-head-spec : {M : Type 1} → statement M
 read-head-spec =
