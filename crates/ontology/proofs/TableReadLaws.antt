@@ -1,6 +1,6 @@
 -- The laws of a table: its types one by one, in the order of their names, and the type of a name among them.
 use mathlib.Core.Path.{_≡_, refl, sym, ap, _∙_, subst}
-use mathlib.Core.Bool.{Bool, true, false, cond, _&&_}
+use mathlib.Core.Bool.{Bool, true, false, cond, not, _&&_}
 use mathlib.Core.Option.{Option, none, some}
 use mathlib.Core.List.{List, [], _∷_, _++_, map, append-nil}
 use Prim.Native.Nat.{ℕ, _-_, _≤_, _<_}
@@ -30,36 +30,33 @@ use Rattle.ontology.proofs.TypeLaws.{rules-hold}
 
 -- ---- what a caller of `read_type` has
 
-pub record TypeGot (p : Parse EventType) (s : List ℕ) (at : ℕ) (keep : Bool) (ps : List ℕ) (r : TypeRead) : Type 0 where
+abbrev readRuled : Layout EventType
+readRuled = suchThat typeRules readType
+
+pub record TypeGot (s : List ℕ) (at : ℕ) (keep : Bool) (ps : List ℕ) (r : TypeRead) : Type 0 where
   pub what : EventType
   pub left : List ℕ
-  pub is : p ≡ got what (drop (r .next) s)
+  pub is : readRuled (drop at s) ≡ got what (drop (r .next) s)
   pub stops : TypeStops s at what left keep ps r
 
-module _ (p : Parse EventType) (s : List ℕ) (at : ℕ) (keep : Bool) (ps : List ℕ) (r : TypeRead) (w : TypeReads p s at keep ps r) where
-  pub type-got : r .ok ≡ true → TypeGot p s at keep ps r
-  unfolding TypeReads
-  type-got h = go p w
-    where
-      go : (q : Parse EventType) → TypeReads q s at keep ps r → TypeGot q s at keep ps r
-      go fail k = never (cc)
-      go (got t u) k = record { what = t; left = u; is = ap (got t) (k .follows); stops = k }
+pub type-got :
+    {s : List ℕ} {at : ℕ} {keep : Bool} {ps : List ℕ} {r : TypeRead} → TypeReads (readRuled (drop at s)) s at keep ps r → r .ok ≡ true → TypeGot s at keep ps r
+unfolding TypeReads
+type-got {s} {at} {keep} {ps} {r} w h = go (readRuled (drop at s)) refl w
+  where
+    go : (q : Parse EventType) → readRuled (drop at s) ≡ q → TypeReads q s at keep ps r → TypeGot s at keep ps r
+    go fail e k = never (cc)
+    go (got t u) e k = record { what = t; left = u; is = e ∙ ap (got t) (k .follows); stops = k }
 
-  pub type-not : r .ok ≡ false → p ≡ fail
-  unfolding TypeReads
-  type-not h = go p w
-    where
-      go : (q : Parse EventType) → TypeReads q s at keep ps r → q ≡ fail
-      go fail k = refl
-      go (got t u) k = never (cc (k .right))
+pub type-not : (p : Parse EventType) (s : List ℕ) (at : ℕ) (keep : Bool) (ps : List ℕ) (r : TypeRead) → TypeReads p s at keep ps r → r .ok ≡ false → p ≡ fail
+unfolding TypeReads
+type-not fail s at keep ps r k h = refl
+type-not (got t u) s at keep ps r k h = never (cc (k .right))
 
 -- ---- the types that are left, each name above the one before
 
 abbrev nameOf : EventType → Text
 nameOf t = t .name
-
-abbrev readRuled : Layout EventType
-readRuled = suchThat typeRules readType
 
 -- their names rise from `last` on
 abbrev risesFrom : Text → List EventType → Bool
@@ -112,6 +109,12 @@ unfolding readTable
 table-from s {n} {next} g =
     ap (λ (p : Parse ℕ). andThen p (λ count r. andThen (times readRuled count r) (λ ts. foundIf (namesRise (map nameOf ts)) ts))) (g .is) ∙ all-from n (drop next s)
 
+-- what r says of the numbers ps it says of others, if these are the same where the type is found
+says-stay : (o : Option EventType) (s ps qs : List ℕ) (r : TableRead) → TypeSays o s ps r → (r .found ≡ true → qs ≡ ps) → TypeSays o s qs r
+unfolding TypeSays
+says-stay none s ps qs r w h = w
+says-stay (some t) s ps qs r w h = (w .0, subst (TypeIs s t (r .index)) (sym (h (w .0))) (w .1))
+
 -- The types before `at` are read, and r and the numbers ps have the type of the name among them
 pub record Listed (s : List ℕ) (name : Text) (ps : List ℕ) (r : TableRead) (left at start end : ℕ) : Type 0 where
   pub before : List EventType
@@ -140,7 +143,8 @@ module _ {s : List ℕ} {name : Text} {ps : List ℕ} {r : TableRead} {left at s
   pub listed-bad : 0 < left → readRuled (drop at s) ≡ fail → readTable s ≡ fail
   listed-bad h e = w .rest ∙ ap (prepend (w .before)) (types-none (part s start end) left (drop at s) h e)
 
-  module _ {keep : Bool} {qs : List ℕ} {t : TypeRead} (h : 0 < left) (g : TypeGot (readRuled (drop at s)) s at keep qs t) where
+  -- a further type is read into the numbers ps′, which stay where the type of the name is found
+  module _ {ps′ : List ℕ} {t : TypeRead} (h : 0 < left) (g : TypeGot s at (not (r .found)) ps′ t) where
     -- the names, where the type's stands in the bytes
     named-here : {b : Bool} → precedes (part s start end) (part s (t .index .start) (t .index .end)) ≡ b → precedes (part s start end) (g .what .name) ≡ b
     named-here e = ap (precedes (part s start end)) (sym (g .stops .name)) ∙ e
@@ -151,10 +155,11 @@ module _ {s : List ℕ} {name : Text} {ps : List ℕ} {r : TableRead} {left at s
         ∙ ap (prepend (w .before)) (types-low (part s start end) left (drop at s) (g .what) (drop (t .next) s) h (g .is) (named-here b))
 
     pub listed-more :
-        (ps′ : List ℕ) (q : TableRead) → precedes (part s start end) (part s (t .index .start) (t .index .end)) ≡ true → q .ok ≡ r .ok →
-        (TypeSays (typeNamed name (w .before)) s ps r → TypeSays (typeNamed name (w .before ++ (g .what ∷ []))) s ps′ q) →
-        Listed s name ps′ q (left - 1) (t .next) (t .index .start) (t .index .end)
-    listed-more ps′ q b o k = record {
+        {q : TableRead} → precedes (part s start end) (part s (t .index .start) (t .index .end)) ≡ true → q .ok ≡ r .ok →
+        ((ts : List EventType) (u : EventType) (ns : List ℕ) → TypeSays (typeNamed name ts) s ns r → (r .found ≡ false → TypeIs s u (t .index) ns) →
+        TypeSays (typeNamed name (ts ++ (u ∷ []))) s ns q) →
+        (not (r .found) ≡ false → ps′ ≡ ps) → Listed s name ps′ q (left - 1) (t .next) (t .index .start) (t .index .end)
+    listed-more b o kept stay = record {
       before = w .before ++ (g .what ∷ []);
       rest =
           w .rest
@@ -165,7 +170,8 @@ module _ {s : List ℕ} {name : Text} {ps : List ℕ} {r : TableRead} {left at s
       order = g .stops .order;
       ends = g .stops .ends;
       unset = o ∙ w .unset;
-      says = k (w .says);
+      says =
+          kept (w .before) (g .what) ps′ (says-stay (typeNamed name (w .before)) s ps ps′ r (w .says) (λ e. stay (ap not e))) (λ e. g .stops .is (ap not e));
     }
 
   listed-all : left ≡ 0 → readTable s ≡ got (w .before) (drop at s)
@@ -215,12 +221,6 @@ named-none n (x ∷ ts) t e = go (equal texts n (x .name)) (λ q. named-none n t
         cond b (some x) (typeNamed n ts) ≡ none → cond b (some x) (typeNamed n (ts ++ (t ∷ []))) ≡ cond (equal texts n (t .name)) (some t) none
     go true f e = let z : _≡_ {A = ℕ} 0 1 = cc in absurd (omega arith)
     go false f e = f e
-
--- what r says of the numbers ps it says of others, if these are the same where the type is found
-pub says-stay : (o : Option EventType) (s ps qs : List ℕ) (r : TableRead) → TypeSays o s ps r → (r .found ≡ true → qs ≡ ps) → TypeSays o s qs r
-unfolding TypeSays
-says-stay none s ps qs r w h = w
-says-stay (some t) s ps qs r w h = (w .0, subst (TypeIs s t (r .index)) (sym (h (w .0))) (w .1))
 
 module _ (n : Text) (ts : List EventType) (t : EventType) (s ps : List ℕ) (r : TableRead) (w : TypeSays (typeNamed n ts) s ps r) where
   pub keep-old : r .found ≡ true → TypeSays (typeNamed n (ts ++ (t ∷ []))) s ps r

@@ -314,31 +314,32 @@ module _
     }
 
     module _ {x : PropertyAt} {e : ℕ} (h : k < count) (t : PropertyStops (readProperty (drop next s)) s next x e) where
-      -- the answer of `property_fits`
-      abbrev pub Fits : Bool → Type 0
-      Fits b = propertyFits (ltb 0 mark) (eqb (k + 1) mark) (part s start end) (t .what) ≡ b
+      -- b is the answer of `property_fits`
+      abbrev Fits : Bool → Type 0
+      Fits b = (q : Property) → PropertyIs s q x → b ≡ propertyFits (ltb 0 mark) (eqb (k + 1) mark) (part s start end) q
 
       -- the same with the mark counted from here
-      fits-here : {b : Bool} → Fits b → propertyFits (ltb 0 mark) (eqb (mark - k) 1) (part s start end) (t .what) ≡ b
-      fits-here f = ap (λ (m : Bool). propertyFits (ltb 0 mark) m (part s start end) (t .what)) (sym (mark-here mark k)) ∙ f
+      fits-here : {b d : Bool} → Fits b → b ≡ d → propertyFits (ltb 0 mark) (eqb (mark - k) 1) (part s start end) (t .what) ≡ d
+      fits-here f e =
+          ap (λ (m : Bool). propertyFits (ltb 0 mark) m (part s start end) (t .what)) (sym (mark-here mark k)) ∙ sym (f (t .what) (t .is)) ∙ e
 
-      pub filled-not : Fits false → p ≡ fail
-      filled-not f =
+      pub filled-not : {b : Bool} → Fits b → b ≡ false → p ≡ fail
+      filled-not f e =
           whole-by
-          (fitting-not (ltb 0 mark) (mark - k) (part s start end) (count - k) (drop next s) (t .what) (drop e s) (omega arith) (t .stops .is) (fits-here f))
+          (fitting-not (ltb 0 mark) (mark - k) (part s start end) (count - k) (drop next s) (t .what) _ (omega arith) (t .stops .is) (fits-here f e))
 
       -- what is left after it, with the mark m, the last name v and n properties
       abbrev after : ℕ → Text → ℕ → Parse (List Property)
       after m v n = prepend (w .before ++ (t .what ∷ [])) (fittingFrom (ltb 0 mark) m v n (drop e s))
 
-      pub filled-more : {ys : List ℕ} → Fits true → Placed keep k x xs ys → Filled p s at mark keep xs₀ ys e (x .start) (x .end) (k + 1) count
-      filled-more {ys} f d = record {
+      pub filled-more : {b : Bool} {ys : List ℕ} → Fits b → b ≡ true → Placed keep k x xs ys → Filled p s at mark keep xs₀ ys e (x .start) (x .end) (k + 1) count
+      filled-more {b} {ys} f o d = record {
         before = w .before ++ (t .what ∷ []);
         long = length-append (w .before) (t .what ∷ []) ∙ ap (λ (n : ℕ). n + 1) (w .long);
         few = omega arith;
         rest =
             whole-by
-            (fitting-more (ltb 0 mark) (mark - k) (part s start end) (count - k) (drop next s) (t .what) (drop e s) (omega arith) (t .stops .is) (fits-here f))
+            (fitting-more (ltb 0 mark) (mark - k) (part s start end) (count - k) (drop next s) (t .what) (drop e s) (omega arith) (t .stops .is) (fits-here f o))
             ∙ prepend-two (w .before) (t .what ∷ []) (fittingFrom (ltb 0 mark) (mark - k - 1) (t .what .name) (count - k - 1) (drop e s))
             ∙ ap₂ (λ (m n : ℕ). after m (t .what .name) n)
             (let z : mark - k - 1 ≡ mark - (k + 1) = omega arith in z) (let z : count - k - 1 ≡ count - (k + 1) = omega arith in z)

@@ -1,6 +1,6 @@
 -- Three writes put the three numbers of a property at its place: what is read back there is the property, and what stands elsewhere stays.
 use Rattle.ontology.proofs.CodeLaws.{IsSmall, put-here, put-other}
-use lib.ListN.{length, set, length-set}
+use lib.ListN.{length, length-set}
 use Prim.Native.Nat.{_+_, _*_, _<_}
 use native.Mathlib.Omega.{arith}
 use borrow.Author.Needs.{needs}

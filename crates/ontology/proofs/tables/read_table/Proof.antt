@@ -1,20 +1,14 @@
 -- Each turn reads a type with its rules, and asks that its name comes after the last one. Until the type of the name is found, the properties of each type are
 -- kept, and so are those of the type that is found; afterwards none are, so that these stay.
-use Rattle.packed.specs.Parse.{suchThat}
-use Rattle.packed.specs.Packed.{part}
-use Rattle.packed.specs.code.Comparison.{precedes}
 use Rattle.packed.proofs.FieldLaws.{number-got, number-fail}
-use Rattle.ontology.specs.Table.{typeRules}
-use Rattle.ontology.specs.TableLayout.{readType}
-use Rattle.ontology.specs.declared.types.TypeRead.{TypeRead}
 use Rattle.ontology.proofs.TableReadLaws.{TypeGot, type-got, type-not, table-none, table-fail}
-use Rattle.ontology.proofs.TableReadLaws.{Listed, listed-none, listed-bad, listed-low, listed-more, listed-exact, listed-early, says-stay}
+use Rattle.ontology.proofs.TableReadLaws.{Listed, listed-none, listed-bad, listed-low, listed-more, listed-exact, listed-early}
 use borrow.Author.Tests.{not-true, not-false}
 use Prim.Native.Nat.{ℕ}
-use mathlib.Core.Path.{_≡_, refl, sym, ap, _∙_}
-use mathlib.Core.Bool.{Bool, not}
+use mathlib.Core.Path.{_≡_, refl, sym, _∙_}
+use mathlib.Core.Bool.{not}
 use mathlib.Core.List.{List}
-use lib.ListN.{length, drop}
+use lib.ListN.{length}
 use native.Mathlib.Omega.{arith}
 use borrow.Author.Needs.{needs}
 use Rattle.ontology.proofs.tables.read_table.Statement.{statement}
@@ -29,99 +23,75 @@ abbrev μ-loop : tie.MeasureT-loop
 
 -- ---- the places
 
-abbrev counted-to-start : tie.After-read-within Inv-loop μ-loop → tie.Start Inv-loop μ-loop
-counted-to-start c = c .before .before .before .before .before
+abbrev counted-to-start : tie.After-known-told Inv-loop μ-loop → tie.Start Inv-loop μ-loop
+counted-to-start c = c .before .before .before .before .before .before .before .before
 
 abbrev to-start : tie.At-loop Inv-loop μ-loop → tie.Start Inv-loop μ-loop
-to-start c = counted-to-start (c .before .before .before .before)
+to-start c = counted-to-start (c .before)
 
-abbrev to-turn : tie.After-read-type Inv-loop μ-loop → tie.In-loop Inv-loop μ-loop
-to-turn c = c .before .before .before
+-- ---- a type is read
 
-abbrev to-loop : tie.After-read-type Inv-loop μ-loop → tie.At-loop Inv-loop μ-loop
-to-loop c = to-turn c .before
+module _ (c : tie.After-struct-known2 Inv-loop μ-loop) where
+  abbrev read : tie.After-read-type Inv-loop μ-loop
+  read = c .before .before .before
 
-abbrev to-read : tie.After-struct-known2 Inv-loop μ-loop → tie.After-read-type Inv-loop μ-loop
-to-read c = c .before .before .before
+  abbrev turn : tie.In-loop Inv-loop μ-loop
+  turn = read .before .before .before
 
--- ---- the values
-
-abbrev table : tie.At-loop Inv-loop μ-loop → List ℕ
-table c = to-start c .args .table .now
-
-module _ (c : tie.After-read-type Inv-loop μ-loop) where
-  -- the type that was read
-  abbrev typed : TypeRead
-  typed = c .read-type .result
+  abbrev loop : tie.At-loop Inv-loop μ-loop
+  loop = turn .before
 
   -- the numbers of the properties
   abbrev numbers : List ℕ
-  numbers = c .read-type .last .1 .1 .1 .0
+  numbers = read .read-type .last .1 .1 .1 .0
 
--- ---- the facts
+  long : length numbers ≡ 96
+  long = search needs
 
-long : (c : tie.After-struct-known2 Inv-loop μ-loop) → length (numbers (to-read c)) ≡ 96
-long c = search needs
-
--- what is read keeps the length of `properties`, which is lent
-same : (c : tie.After-struct-known2 Inv-loop μ-loop) → length (numbers (to-read c)) ≡ length (to-start (to-loop (to-read c)) .args .properties .now)
-same c = long c ∙ sym (to-start (to-loop (to-read c)) .pre)
+  -- what is read keeps the length of `properties`, which is lent
+  same : length numbers ≡ length (to-start loop .args .properties .now)
+  same = long ∙ sym (to-start loop .pre)
 
 got :
     (c : tie.Else1 Inv-loop μ-loop) →
-    let read = to-read (c .before) in
-    let l = to-loop read in
-    TypeGot (suchThat typeRules readType (drop (l .loop .at) (table l))) (table l) (l .loop .at) (not (l .loop .r .found)) (numbers read) (typed read)
-got c = type-got _ _ _ _ _ _ (to-read (c .before) .read-type .ensures .0) (not-false _ (c .if1 .left))
-
--- the answer of `is_before` is whether the names rise
-rises :
-    (c : tie.After-is-before Inv-loop μ-loop) {b : Bool} → c .is-before .result ≡ b →
-    let read = to-read (c .before .before .before) in
-    let l = to-loop read in
-    precedes (part (table l) (l .loop .start) (l .loop .end)) (part (table l) (typed read .index .start) (typed read .index .end)) ≡ b
-rises c e = sym (c .is-before .ensures) ∙ e
+    let l = loop (c .before) in
+    TypeGot (to-start l .args .table .now) (l .loop .at) (not (l .loop .r .found)) (numbers (c .before)) (read (c .before) .read-type .result)
+got c = type-got (read (c .before) .read-type .ensures .0) (not-false _ (c .if1 .left))
 
 -- ---- the needs
 
 returns : tie.Need-returns Inv-loop μ-loop
-returns c =
-    let read = c .before .before in
-    let bytes = counted-to-start read .args .table .now in
-    table-fail _ _ _ _ (table-none bytes (number-fail bytes 0 (c .enum-told .given .1) (read .read-within .ensures))) refl
+returns c = table-fail _ _ _ _ (table-none _ (number-fail _ _ (c .enum-told .given .1) (c .before .before .read-within .ensures))) refl
 
 loop-holds : tie.Need-loop-holds Inv-loop μ-loop
 loop-holds c =
-    let read = c .before .before .before in
-    let counted = number-got (c .before .count .given .1) (read .read-within .ensures) in
-    (listed-none _ _ _ _ counted refl refl, counted-to-start read .pre)
+    let counted = number-got (c .before .count .given .1) (c .before .before .before .read-within .ensures) in
+    (listed-none _ _ _ _ counted refl refl, counted-to-start c .pre)
 
 same-length : tie.Need-same-length Inv-loop μ-loop
 same-length c = same (c .before)
 
 returns-2 : tie.Need-returns-2 Inv-loop μ-loop
 returns-2 c =
-    let read = to-read (c .before) in
-    let l = to-loop read .loop .inv .0 in
-    let fails = type-not _ _ _ _ _ _ (read .read-type .ensures .0) (not-true _ (c .if1 .taken)) in
-    table-fail _ _ _ _ (listed-bad l (to-turn read .loop-test .taken) fails) (l .unset)
+    let l = loop (c .before) .loop .inv .0 in
+    let fails = type-not _ _ _ _ _ _ (read (c .before) .read-type .ensures .0) (not-true _ (c .if1 .taken)) in
+    table-fail _ _ _ _ (listed-bad l (turn (c .before) .loop-test .taken) fails) (l .unset)
 
 is-before-requires : tie.Need-is-before-requires Inv-loop μ-loop
 is-before-requires c κs =
-    let l = to-loop (to-read (c .before .before)) .loop .inv .0 in
+    let l = loop (c .before .before) .loop .inv .0 in
     let g = got (c .before) .stops in
     (l .order, l .ends, g .order, g .ends)
 
 same-length-2 : tie.Need-same-length-2 Inv-loop μ-loop
-same-length-2 c = let x = c .before .before in same (x .before .before)
+same-length-2 c = let good = c .before .before .before in same (good .before)
 
 returns-3 : tie.Need-returns-3 Inv-loop μ-loop
 returns-3 c =
     let good = c .before .before .before in
-    let read = to-read (good .before) in
-    let l = to-loop read .loop .inv .0 in
-    let low = listed-low l (to-turn read .loop-test .taken) (got good) (rises (c .before) (not-true _ (c .if2 .taken))) in
-    table-fail _ _ _ _ low (l .unset)
+    let l = loop (good .before) .loop .inv .0 in
+    let low = sym (c .before .is-before .ensures) ∙ not-true _ (c .if2 .taken) in
+    table-fail _ _ _ _ (listed-low l (turn (good .before) .loop-test .taken) (got good) low) (l .unset)
 
 keep-requires : tie.Need-keep-requires Inv-loop μ-loop
 keep-requires c κs =
@@ -132,12 +102,10 @@ loop-again : tie.Need-loop-again Inv-loop μ-loop
 loop-again c =
     let compared = c .before .before in
     let good = compared .before .before in
-    let read = to-read (good .before) in
-    let l = to-loop read .loop .inv .0 in
-    let g = got good in (
-      listed-more l (to-turn read .loop-test .taken) g _ _ (rises compared (not-false _ (c .before .if2 .left))) (c .keep .ensures .0)
-          (λ w. c .keep .ensures .1 _ (g .what) _ (says-stay _ _ _ _ _ w (λ e. read .read-type .ensures .1 (ap not e))) (λ e. g .stops .is (ap not e))),
-      long (good .before),
+    let d = good .before in
+    let rises = sym (compared .is-before .ensures) ∙ not-false _ (c .before .if2 .left) in (
+      listed-more (loop d .loop .inv .0) (turn d .loop-test .taken) (got good) rises (c .keep .ensures .0) (c .keep .ensures .1) (read d .read-type .ensures .1),
+      long d,
     )
 
 same-length-3 : tie.Need-same-length-3 Inv-loop μ-loop

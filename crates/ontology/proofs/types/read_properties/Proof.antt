@@ -4,10 +4,9 @@ use Rattle.ontology.specs.TableLayout.{readProperty}
 use Rattle.ontology.specs.declared.properties.PropertyAt.{PropertyAt}
 use Rattle.ontology.specs.code.TypeIndex.{PropertyStops, readFitting}
 use Rattle.ontology.proofs.PropertyLaws.{property-got, property-fail}
-use Rattle.ontology.proofs.TypeLaws.{Fits, Placed, placed, not-placed, Filled, filled-none, filled-bad, filled-not, filled-more, filled-all}
+use Rattle.ontology.proofs.TypeLaws.{placed, not-placed, Filled, filled-none, filled-bad, filled-not, filled-more, filled-all}
 use Prim.Native.Nat.{ℕ, _-_}
 use mathlib.Core.Path.{_≡_, sym, _∙_}
-use mathlib.Core.Bool.{Bool}
 use mathlib.Core.List.{List}
 use mathlib.Core.Logic.{⊎-elim}
 use lib.ListN.{drop, length}
@@ -60,24 +59,6 @@ stops :
     PropertyStops (readProperty (drop (l .loop .next) (table l))) (table l) (l .loop .next) (property c) (c .p .given .0 .1 .0)
 stops c = property-got (c .p .given .1) (c .before .before .read-property .ensures)
 
--- the answer of `property_fits` is about that property
-fits :
-    (c : tie.After-property-fits Inv-loop μ-loop) {b : Bool} → c .property-fits .result ≡ b →
-    Fits (loop (to-read c) .loop .inv) (to-turn (to-read c) .loop-test .taken) (stops (to-read c)) b
-fits c e = sym (c .property-fits .ensures _ (stops (to-read c) .is)) ∙ e
-
--- where properties are kept, it has its place
-put : (c : tie.Joined2 Inv-loop μ-loop) →
-    let read = to-read (c .before .before) in
-    let l = loop read in
-    Placed (to-start l .args .keep) (l .loop .k) (property read) (l .loop .properties) (c .if2 .properties)
-put c =
-    let size = loop (to-read (c .before .before)) .loop .inv .size in
-    ⊎-elim
-    (λ w. placed (w .0 .taken) (w .5) (w .2 .ensures .0) (w .2 .ensures .1) (omega (arith, size, w .3 .given)))
-    (λ w. not-placed (w .0 .left) (w .1) size)
-    (c .if2 .came)
-
 -- ---- the needs
 
 loop-holds : tie.Need-loop-holds Inv-loop μ-loop
@@ -106,7 +87,7 @@ returns-2 : tie.Need-returns-2 Inv-loop μ-loop
 returns-2 c =
     let read = to-read (c .before) in
     let i = loop read .loop .inv in
-    (filled-not i (to-turn read .loop-test .taken) (stops read) (fits (c .before) (not-true _ (c .if1 .taken))), i .stay)
+    (filled-not i (to-turn read .loop-test .taken) (stops read) (c .before .property-fits .ensures) (not-true _ (c .if1 .taken)), i .stay)
 
 put-property-requires : tie.Need-put-property-requires Inv-loop μ-loop
 put-property-requires c κs =
@@ -117,7 +98,12 @@ loop-again : tie.Need-loop-again Inv-loop μ-loop
 loop-again c =
     let asked = c .before .before in
     let read = to-read asked in
-    filled-more (loop read .loop .inv) (to-turn read .loop-test .taken) (stops read) (fits asked (not-false _ (c .before .if1 .left))) (put c)
+    let i = loop read .loop .inv in
+    filled-more i (to-turn read .loop-test .taken) (stops read) (asked .property-fits .ensures) (not-false _ (c .before .if1 .left))
+    (⊎-elim
+    (λ w. placed (w .0 .taken) (w .5) (w .2 .ensures .0) (w .2 .ensures .1) (omega (arith, i .size, w .3 .given)))
+    (λ w. not-placed (w .0 .left) (w .1) (i .size))
+    (c .if2 .came))
 
 same-length-3 : tie.Need-same-length-3 Inv-loop μ-loop
 same-length-3 c = same (c .before)
