@@ -19,7 +19,7 @@ use Rattle.ontology.specs.TableLayout.{readFlag, readDecimal, readParame
 use Rattle.ontology.specs.declared.kinds.KindRead.{KindRead}
 use Rattle.ontology.specs.declared.kinds.KindRead.the-variants.{OfKind, NoKind}
 use Rattle.ontology.specs.code.TypeIndex.{HasOne, parameterFits, KindIs, KindStops, KindReads}
-use Rattle.ontology.proofs.OnwardLaws.{Onward, on-first, on-not, on-passed, on-found}
+use Rattle.ontology.proofs.OnwardLaws.{Onward, on-first, on-got, on-not, on-passed, on-found}
 
 -- what is known of a call's answer in the arm of a `match`
 pub kind-got : {p : Parse Kind} {s : List ℕ} {at : ℕ} {r : KindRead} {n a b c e : ℕ} → r ≡ OfKind n a b c e → KindReads p s at r → KindStops p s at n a b c e
@@ -156,6 +156,12 @@ one-parameter kind (inr (inr (inr e))) = subst OneParameter (sym e) one-hex
 abbrev pub kindAfter : ℕ → List ℕ → Parse Kind
 kindAfter kind t = suchThat isKind (readParameters kind) t
 
+-- the parameters are read, and b is whether they are in their ranges
+pub record KindTested (s : List ℕ) (at kind size after sign e : ℕ) (b : Bool) : Type 0 where
+  pub fails : b ≡ false → kindAfter kind (drop at s) ≡ fail
+  pub stops : b ≡ true → KindStops (kindAfter kind (drop at s)) s at kind size after sign e
+  pub small : b ≡ true → (size ≤ 120) × (after ≤ 120)
+
 module _ {kind : ℕ} (h : HasOne kind) where
   abbrev made : ℕ → Kind
   made = one-parameter kind h .make
@@ -174,29 +180,28 @@ module _ {kind : ℕ} (h : HasOne kind) where
   pub one-none : (t : List ℕ) → readNumber t ≡ fail → kindAfter kind t ≡ fail
   one-none t e = one-layout t ∙ then-none after-one e
 
-  module _ {s : List ℕ} {at n e : ℕ} (g : Got (readNumber (drop at s)) s at n e) where
-    one-read : Onward (kindAfter kind) s at (after-one n) e
-    one-read = on-first readNumber after-one one-layout g
-
-    pub one-bad : parameterFits kind n ≡ false → kindAfter kind (drop at s) ≡ fail
-    one-bad f = on-not (got (made n)) one-read f
-
-    pub one-got : parameterFits kind n ≡ true → KindStops (kindAfter kind (drop at s)) s at kind n 0 0 e
-    one-got f = record { what = made n; stops = on-found (on-passed (got (made n)) one-read f); are = one-parameter kind h .are n }
+  pub one-tested :
+      {s : List ℕ} {at n e : ℕ} {b : Bool} → Got (readNumber (drop at s)) s at n e → b ≡ parameterFits kind n → KindTested s at kind n 0 0 e b
+  one-tested {n = n} g f =
+      let w = on-first readNumber after-one one-layout g in record {
+        fails = λ e. on-not (got (made n)) w (sym f ∙ e);
+        stops = λ e. record { what = made n; stops = on-found (on-passed (got (made n)) w (sym f ∙ e)); are = one-parameter kind h .are n };
+        small = λ e. (fits-small kind n (sym f ∙ e), omega arith);
+      }
 
 -- ---- a decimal
 
 -- what follows each number and the flag
-abbrev pub after-sign : ℕ → ℕ → Bool → Layout Kind
+abbrev after-sign : ℕ → ℕ → Bool → Layout Kind
 after-sign total after sign t = cond (digitsFit total after) (got (decimal total after sign) t) fail
 
-abbrev pub after-point : ℕ → ℕ → Layout Kind
+abbrev after-point : ℕ → ℕ → Layout Kind
 after-point total after t = andThen (readFlag t) (after-sign total after)
 
-abbrev pub after-total : ℕ → Layout Kind
+abbrev after-total : ℕ → Layout Kind
 after-total total t = andThen (readNumber t) (after-point total)
 
-pub decimal-layout : (t : List ℕ) → kindAfter decimalNumber t ≡ andThen (readNumber t) after-total
+decimal-layout : (t : List ℕ) → kindAfter decimalNumber t ≡ andThen (readNumber t) after-total
 unfolding readParameters readDecimal isKind
 decimal-layout t = go (readNumber t)
   where
@@ -225,14 +230,30 @@ sign-byte : (b : Bool) → boolByte b ≡ cond b 1 0
 sign-byte true = refl
 sign-byte false = refl
 
-pub decimal-is :
-    {s : List ℕ} {at total after e : ℕ} (sign : Bool) → Onward (kindAfter decimalNumber) s at (after-sign total after sign) e → digitsFit total after ≡ true →
-    KindStops (kindAfter decimalNumber (drop at s)) s at decimalNumber total after (boolByte sign) e
-decimal-is {s} {at} {total} {after} {e} sign w h = record {
-  what = decimal total after sign;
-  stops = on-found (on-passed (got (decimal total after sign)) w h);
-  are = kind-is refl refl refl (sign-byte sign);
-}
+pub decimal-none : (t : List ℕ) → readNumber t ≡ fail → kindAfter decimalNumber t ≡ fail
+decimal-none t e = decimal-layout t ∙ then-none after-total e
+
+-- the total is read, and the digits after the point
+abbrev pub TotalLeft : List ℕ → ℕ → ℕ → ℕ → Type 0
+TotalLeft s at total e = Onward (kindAfter decimalNumber) s at (after-total total) e
+
+abbrev pub PointLeft : List ℕ → ℕ → ℕ → ℕ → ℕ → Type 0
+PointLeft s at total after e = Onward (kindAfter decimalNumber) s at (after-point total after) e
+
+module _ {s : List ℕ} {at : ℕ} where
+  pub total-left : {total e : ℕ} → Got (readNumber (drop at s)) s at total e → TotalLeft s at total e
+  total-left g = on-first readNumber after-total decimal-layout g
+
+  pub decimal-tested :
+      {total after e f : ℕ} {sign b : Bool} → PointLeft s at total after e → Got (readFlag (drop e s)) s e sign f → b ≡ digitsFit total after →
+      KindTested s at decimalNumber total after (boolByte sign) f b
+  decimal-tested {total} {after} {sign = sign} w g q =
+      let made = decimal total after sign in
+      let left = on-got readFlag (after-sign total after) w g in record {
+        fails = λ h. on-not (got made) left (sym q ∙ h);
+        stops = λ h. record { what = made; stops = on-found (on-passed (got made) left (sym q ∙ h)); are = kind-is refl refl refl (sign-byte sign) };
+        small = λ h. let (few, fewer) = digits-small total after (sym q ∙ h) in (omega arith, omega arith);
+      }
 
 -- ---- a kind
 

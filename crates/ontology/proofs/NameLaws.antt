@@ -50,9 +50,16 @@ byte-mark b h k = rw (letter-below b (omega arith), lt-leb 48 b (omega arith)) (
     go true e = refl
     go false e = eq-eqb b 45 (omega (arith, eqb-false b 46 e))
 
-pub byte-low : (b : ℕ) → b < 48 → (b ≡ 45 → ⊥) → (b ≡ 46 → ⊥) → isNameByte b ≡ false
+byte-low : (b : ℕ) → b < 48 → (b ≡ 45 → ⊥) → (b ≡ 46 → ⊥) → isNameByte b ≡ false
 unfolding isNameByte
 byte-low b h k l = rw (letter-below b (omega arith), lt-leb 48 b h, ne-eqb b 46 l, ne-eqb b 45 k)
+
+pub byte-below : (b : ℕ) → b < 45 → isNameByte b ≡ false
+byte-below b h = byte-low b (omega arith) (λ e. omega arith) (λ e. omega arith)
+
+-- the slash
+pub byte-between : (b : ℕ) → 46 < b → b < 48 → isNameByte b ≡ false
+byte-between b h k = byte-low b k (λ e. omega arith) (λ e. omega arith)
 
 pub byte-high : (b : ℕ) → 57 < b → isLetter b ≡ false → isNameByte b ≡ false
 unfolding isNameByte

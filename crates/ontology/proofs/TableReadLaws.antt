@@ -21,6 +21,7 @@ use Rattle.replies.specs.Replies.{tableReplied}
 use Rattle.ontology.specs.Table.{EventType, Table, isName, isNameWithin, namesRise, typeRules, typeNamed}
 use Rattle.ontology.specs.TableLayout.{readType, readTable, tableOf}
 use Rattle.ontology.specs.TableCall.{replyToTable, tableCall}
+use Rattle.ontology.specs.declared.types.TypeIndex.{TypeIndex}
 use Rattle.ontology.specs.declared.types.TypeRead.{TypeRead}
 use Rattle.ontology.specs.declared.tables.TableRead.{TableRead}
 use Rattle.ontology.specs.code.TypeIndex.{TypeIs, TypeStops, TypeReads, TypeSays, TableSays}
@@ -239,15 +240,19 @@ module _ (n : Text) (ts : List EventType) (t : EventType) (s ps : List ℕ) (r :
       go none k = refl
       go (some u) k = let y = k .0 in let z : _≡_ {A = ℕ} 0 1 = cc in absurd (omega arith)
 
-  pub keep-new :
-      (q : TableRead) → r .found ≡ false → equal texts n (t .name) ≡ true → q .found ≡ true → TypeIs s t (q .index) ps →
-      TypeSays (typeNamed n (ts ++ (t ∷ []))) s ps q
-  unfolding TypeSays
-  keep-new q h e f k = rw (named-none n ts t (none-yet h), e) (f, k)
+  -- x is the next type, whose name stands in the bytes
+  module _ {x : TypeIndex} (h : r .found ≡ false) (k : TypeIs s t x ps) where
+    now-named : {b : Bool} → equal texts n (part s (x .start) (x .end)) ≡ b → typeNamed n (ts ++ (t ∷ [])) ≡ cond b (some t) none
+    now-named e = named-none n ts t (none-yet h) ∙ ap (λ (b : Bool). cond b (some t) none) (ap (equal texts n) (sym (k .name)) ∙ e)
 
-  pub keep-none : r .found ≡ false → equal texts n (t .name) ≡ false → TypeSays (typeNamed n (ts ++ (t ∷ []))) s ps r
-  unfolding TypeSays
-  keep-none h e = rw (named-none n ts t (none-yet h), e) h
+    pub keep-new :
+        equal texts n (part s (x .start) (x .end)) ≡ true → TypeSays (typeNamed n (ts ++ (t ∷ []))) s ps (record { ok = r .ok; found = true; index = x })
+    unfolding TypeSays
+    keep-new e = rw (now-named e) (refl, k)
+
+    pub keep-none : equal texts n (part s (x .start) (x .end)) ≡ false → TypeSays (typeNamed n (ts ++ (t ∷ []))) s ps r
+    unfolding TypeSays
+    keep-none e = rw (now-named e) h
 
 -- ---- the call
 

@@ -1,16 +1,12 @@
 -- After each field the whole answer is the answer of what is left of the layout, read from there: a field that fails fails the whole, and the digits, which are
 -- asked last, decide it.
-use Rattle.packed.specs.Parse.{Layout}
 use Rattle.packed.specs.Packed.{readNumber}
-use Rattle.values.specs.Spaces.{Kind, decimalNumber}
+use Rattle.values.specs.Spaces.{decimalNumber}
 use Rattle.ontology.specs.TableLayout.{readFlag}
-use Rattle.ontology.proofs.OnwardLaws.{any-got, any-fail, Onward, on-first, on-got, on-fail, on-not}
+use Rattle.ontology.proofs.OnwardLaws.{any-got, any-fail, on-got, on-fail}
 use Rattle.ontology.proofs.FlagLaws.{flag-got, flag-fail}
-use Rattle.ontology.proofs.KindLaws.{kindAfter, digitsFit, digits-small, after-total, after-point, after-sign, decimal-layout, decimal-is}
-use Rattle.packed.proofs.FieldLaws.{then-none}
-use Prim.Native.Nat.{ℕ, _≤_}
-use mathlib.Core.Path.{_≡_, sym, _∙_}
-use mathlib.Core.Bool.{Bool, true}
+use Rattle.ontology.proofs.KindLaws.{KindTested, decimal-none, TotalLeft, total-left, PointLeft, decimal-tested}
+use mir.Val.{boolByte}
 use native.Mathlib.Omega.{arith}
 use borrow.Author.Needs.{needs}
 use Rattle.ontology.proofs.kinds.read_decimal.Statement.{statement}
@@ -24,71 +20,56 @@ to-start c = c .before .before .before .before .before
 abbrev to-total : tie.After-known-told2 → tie.After-known-told
 to-total c = c .before .before .before .before
 
-abbrev to-after : tie.After-known-told3 → tie.After-known-told2
-to-after c = c .before .before .before .before
-
--- ---- the values
-
-abbrev total : tie.After-known-told → ℕ
-total c = c .before .total .given .0 .0
-
-abbrev after : tie.After-known-told2 → ℕ
-after c = c .before .after .given .0 .0
+abbrev to-point : tie.After-known-told3 → tie.After-known-told2
+to-point c = c .before .before .before .before
 
 -- ---- the facts
 
--- what is left after a field, and where
-abbrev Left : tie.After-known-told → Layout Kind → ℕ → Type 0
-Left c = Onward (kindAfter decimalNumber) (to-start c .args .s .now) (to-start c .args .at)
+total :
+    (c : tie.After-known-told) →
+    let a = to-start c .args in
+    TotalLeft (a .s .now) (a .at) (c .before .total .given .0 .0) (c .before .total .given .0 .1 .0)
+total c = total-left (any-got (c .before .total .given .1) (c .before .before .before .read-number .ensures))
 
-total-read : (c : tie.After-known-told) → Left c (after-total (total c)) (c .before .total .given .0 .1 .0)
-total-read c = on-first readNumber _ decimal-layout (any-got (c .before .total .given .1) (c .before .before .before .read-number .ensures))
+point :
+    (c : tie.After-known-told2) →
+    let a = to-start (to-total c) .args in
+    PointLeft (a .s .now) (a .at) (to-total c .before .total .given .0 .0) (c .before .after .given .0 .0) (c .before .after .given .0 .1 .0)
+point c = on-got readNumber _ (total (to-total c)) (any-got (c .before .after .given .1) (c .before .before .before .read-number2 .ensures))
 
-after-read : (c : tie.After-known-told2) → Left (to-total c) (after-point (total (to-total c)) (after c)) (c .before .after .given .0 .1 .0)
-after-read c = on-got readNumber _ (total-read (to-total c)) (any-got (c .before .after .given .1) (c .before .before .before .read-number2 .ensures))
-
-module _ (c : tie.After-known-told3) where
-  abbrev fits : Bool
-  fits = digitsFit (total (to-total (to-after c))) (after (to-after c))
-
-  sign-read :
-      let d = to-after c in
-      Left (to-total d) (after-sign (total (to-total d)) (after d) (c .before .sign .given .0 .0)) (c .before .sign .given .0 .1 .0)
-  sign-read = on-got readFlag _ (after-read (to-after c)) (flag-got (c .before .sign .given .1) (c .before .before .before .read-flag .ensures))
-
-module _ (c : tie.Then1) where
-  fit : fits (c .before .before) ≡ true
-  fit = sym (c .before .digits-fit .ensures) ∙ c .if1 .taken
-
-  small :
-      let d = to-after (c .before .before) in
-      (total (to-total d) ≤ 38) × (after d ≤ 38)
-  small = digits-small _ _ fit
+tested :
+    (c : tie.After-digits-fit) →
+    let d = to-point (c .before) in
+    let a = to-start (to-total d) .args in
+    let sign = c .before .before .sign .given .0 in
+    KindTested (a .s .now) (a .at) decimalNumber (to-total d .before .total .given .0 .0) (d .before .after .given .0 .0) (boolByte (sign .0)) (sign .1 .0)
+    (c .digits-fit .result)
+tested c =
+    let read = c .before .before .before in
+    decimal-tested (point (to-point (c .before))) (flag-got (c .before .before .sign .given .1) (read .before .read-flag .ensures)) (c .digits-fit .ensures)
 
 -- ---- the needs
 
 returns : tie.Need-returns
-returns c =
-    let start = c .before .before .before .before in
-    decimal-layout _ ∙ then-none _ (any-fail (start .args .s .now) (start .args .at) (c .enum-told .given .1) (c .before .before .read-number .ensures))
+returns c = decimal-none _ (any-fail _ _ (c .enum-told .given .1) (c .before .before .read-number .ensures))
 
 returns-2 : tie.Need-returns-2
-returns-2 c = on-fail readNumber _ (total-read (c .before .before .before)) (any-fail _ _ (c .enum-told2 .given .1) (c .before .before .read-number2 .ensures))
+returns-2 c = on-fail readNumber _ (total (c .before .before .before)) (any-fail _ _ (c .enum-told2 .given .1) (c .before .before .read-number2 .ensures))
 
 returns-3 : tie.Need-returns-3
-returns-3 c = on-fail readFlag _ (after-read (c .before .before .before)) (flag-fail _ _ (c .enum-told3 .given .1) (c .before .before .read-flag .ensures))
+returns-3 c = on-fail readFlag _ (point (c .before .before .before)) (flag-fail _ _ (c .enum-told3 .given .1) (c .before .before .read-flag .ensures))
 
 cast-t14 : tie.Need-cast-t14
-cast-t14 c = omega (arith, small c .0)
+cast-t14 c = omega (arith, tested (c .before) .small (c .if1 .taken) .0)
 
 cast-t15 : tie.Need-cast-t15
-cast-t15 c = omega (arith, small c .1)
+cast-t15 c = omega (arith, tested (c .before) .small (c .if1 .taken) .1)
 
 returns-4 : tie.Need-returns-4
-returns-4 c = decimal-is _ (sign-read (c .before .before)) (fit c)
+returns-4 c = tested (c .before) .stops (c .if1 .taken)
 
 returns-5 : tie.Need-returns-5
-returns-5 c = on-not _ (sign-read (c .before .before)) (sym (c .before .digits-fit .ensures) ∙ c .if1 .left)
+returns-5 c = tested (c .before) .fails (c .if1 .left)
 
 pub read-decimal-spec : {M : Type 1} → statement M
 read-decimal-spec =

@@ -1,11 +1,16 @@
 use Rattle.ontology.specs.Table.{isLetter}
-use Rattle.ontology.proofs.NameLaws.{byte-letter, byte-digit, byte-mark, byte-low, byte-high}
+use Rattle.ontology.proofs.NameLaws.{byte-letter, byte-digit, byte-mark, byte-below, byte-between, byte-high}
 use mathlib.Core.Path.{_≡_, sym, _∙_}
 use mathlib.Core.Bool.{false}
 use native.Mathlib.Omega.{arith}
 use borrow.Author.Needs.{needs}
 use Rattle.ontology.proofs.names.is_name_byte.Statement.{statement}
 use Rattle.ontology.proofs.names.is_name_byte.Tie as tie
+
+-- ---- the places
+
+abbrev to-if1 : tie.Else5 → tie.Else1
+to-if1 c = c .before .before .before .before
 
 -- ---- the facts
 
@@ -24,13 +29,13 @@ returns-3 : tie.Need-returns-3
 returns-3 c = sym (byte-digit _ (omega arith) (omega arith))
 
 returns-4 : tie.Need-returns-4
-returns-4 c = sym (byte-low _ (omega arith) (λ e. omega arith) (λ e. omega arith))
+returns-4 c = sym (byte-below _ (omega arith))
 
 returns-5 : tie.Need-returns-5
-returns-5 c = sym (byte-low _ (omega arith) (λ e. omega arith) (λ e. omega arith))
+returns-5 c = sym (byte-between _ (omega arith) (omega arith))
 
 returns-6 : tie.Need-returns-6
-returns-6 c = sym (byte-high _ (omega arith) (no-letter (c .before .before .before .before)))
+returns-6 c = sym (byte-high _ (omega arith) (no-letter (to-if1 c)))
 
 pub is-name-byte-spec : {M : Type 1} → statement M
 is-name-byte-spec =

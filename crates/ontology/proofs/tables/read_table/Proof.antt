@@ -29,7 +29,12 @@ counted-to-start c = c .before .before .before .before .before .before .before .
 abbrev to-start : tie.At-loop Inv-loop μ-loop → tie.Start Inv-loop μ-loop
 to-start c = counted-to-start (c .before)
 
--- ---- a type is read
+-- ---- the facts
+
+lent : (c : tie.At-loop Inv-loop μ-loop) → length (c .loop .properties) ≡ length (to-start c .args .properties .now)
+lent c = c .loop .inv .1 ∙ sym (to-start c .pre)
+
+-- ---- the facts of a type that is read
 
 module _ (c : tie.After-struct-known2 Inv-loop μ-loop) where
   abbrev read : tie.After-read-type Inv-loop μ-loop
@@ -103,19 +108,18 @@ loop-again c =
     let compared = c .before .before in
     let good = compared .before .before in
     let d = good .before in
-    let rises = sym (compared .is-before .ensures) ∙ not-false _ (c .before .if2 .left) in (
-      listed-more (loop d .loop .inv .0) (turn d .loop-test .taken) (got good) rises (c .keep .ensures .0) (c .keep .ensures .1) (read d .read-type .ensures .1),
-      long d,
-    )
+    let l = loop d .loop .inv .0 in
+    let rises = sym (compared .is-before .ensures) ∙ not-false _ (c .before .if2 .left) in
+    (listed-more l (turn d .loop-test .taken) (got good) rises (c .keep .ensures .0) (c .keep .ensures .1) (read d .read-type .ensures .1), long d)
 
 same-length-3 : tie.Need-same-length-3 Inv-loop μ-loop
-same-length-3 c = let l = c .before .before in l .loop .inv .1 ∙ sym (to-start l .pre)
+same-length-3 c = lent (c .before .before)
 
 returns-4 : tie.Need-returns-4 Inv-loop μ-loop
 returns-4 c = listed-exact (c .before .before .loop .inv .0) (omega arith) (c .if3 .taken)
 
 same-length-4 : tie.Need-same-length-4 Inv-loop μ-loop
-same-length-4 c = let l = c .before .before in l .loop .inv .1 ∙ sym (to-start l .pre)
+same-length-4 c = lent (c .before .before)
 
 returns-5 : tie.Need-returns-5 Inv-loop μ-loop
 returns-5 c = listed-early (c .before .before .loop .inv .0) (omega arith) (c .if3 .left)
