@@ -9,7 +9,7 @@ use lib.Seq.{getD-take, getD-drop}
 use lib.Dec.{ltb, leb, eqb}
 use borrow.Author.Tests.{le-leb, lt-leb, leb-true, ltb-true, ltb-false, eq-eqb, ne-eqb, eqb-false}
 use Rattle.model.specs.Order.{Text, pick}
-use Rattle.model.proofs.Cases.{and-parts}
+use Rattle.model.proofs.Cases.{and-parts, and-true}
 use Rattle.packed.specs.Parse.{fail, suchThat}
 use Rattle.packed.specs.Packed.{readText, part}
 use Rattle.packed.specs.code.Located.{Got, NameStops}
@@ -152,25 +152,30 @@ module _ (most : ℕ) (v : List ℕ) where
   unfolding isNameWithin
   name-unlettered h k = rw (name-first h, k)
 
-  pub name-lettered : 0 < length v → length v ≤ most → isLetter (getD v 0 0) ≡ true → isNameWithin most v ≡ areNameBytes (drop 1 v)
+  -- the bytes before i are those of a name, so that the others decide it
+  pub record NameFrom (i : ℕ) : Type 0 where
+    pub within : i ≤ length v
+    pub is : isNameWithin most v ≡ areNameBytes (drop i v)
+
+  pub name-lettered : 0 < length v → length v ≤ most → isLetter (getD v 0 0) ≡ true → NameFrom 1
   unfolding isNameWithin
-  name-lettered h l k = rw (name-first h, k, le-leb (length v) most l) (go (areNameBytes (drop 1 v)))
-    where
-      go : (t : Bool) → (t && true) ≡ t
-      go true = refl
-      go false = refl
+  name-lettered h l k =
+      record { within = h; is = rw (name-first h, k, le-leb (length v) most l) (and-true (areNameBytes (drop 1 v))) }
 
-module _ (v : List ℕ) (i : ℕ) where
-  bytes-step : i < length v → areNameBytes (drop i v) ≡ (isNameByte (getD v i 0) && areNameBytes (drop (i + 1) v))
+bytes-step : (v : List ℕ) (i : ℕ) → i < length v → areNameBytes (drop i v) ≡ (isNameByte (getD v i 0) && areNameBytes (drop (i + 1) v))
+unfolding areNameBytes
+bytes-step v i h = ap areNameBytes (drop-next v i h)
+
+module _ {most : ℕ} {v : List ℕ} {i : ℕ} (w : NameFrom most v i) where
+  name-by : i < length v → {b : Bool} → isNameByte (getD v i 0) ≡ b → isNameWithin most v ≡ (b && areNameBytes (drop (i + 1) v))
+  name-by h e = w .is ∙ bytes-step v i h ∙ ap (λ (t : Bool). t && areNameBytes (drop (i + 1) v)) e
+
+  pub name-bad : i < length v → isNameByte (getD v i 0) ≡ false → isNameWithin most v ≡ false
+  name-bad h e = name-by h e
+
+  pub name-more : i < length v → isNameByte (getD v i 0) ≡ true → NameFrom most v (i + 1)
+  name-more h e = record { within = omega arith; is = name-by h e }
+
+  pub name-all : length v ≤ i → isNameWithin most v ≡ true
   unfolding areNameBytes
-  bytes-step h = ap areNameBytes (drop-next v i h)
-
-  pub bytes-not : i < length v → isNameByte (getD v i 0) ≡ false → areNameBytes (drop i v) ≡ false
-  bytes-not h e = bytes-step h ∙ ap (λ (t : Bool). t && areNameBytes (drop (i + 1) v)) e
-
-  pub bytes-more : i < length v → isNameByte (getD v i 0) ≡ true → areNameBytes (drop i v) ≡ areNameBytes (drop (i + 1) v)
-  bytes-more h e = bytes-step h ∙ ap (λ (t : Bool). t && areNameBytes (drop (i + 1) v)) e
-
-  pub bytes-end : length v ≤ i → areNameBytes (drop i v) ≡ true
-  unfolding areNameBytes
-  bytes-end h = ap areNameBytes (drop-of-length-le v h)
+  name-all h = w .is ∙ ap areNameBytes (drop-of-length-le v h)

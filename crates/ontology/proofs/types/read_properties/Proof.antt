@@ -1,13 +1,11 @@
 -- Each turn reads a property and asks its rules. Where the property is none or breaks one, no list that begins with what was read so far meets the rules;
 -- else one more is read, and what is left of the rules is about those after it.
 use Rattle.ontology.specs.TableLayout.{readProperty}
-use Rattle.ontology.specs.declared.properties.PropertyAt.{PropertyAt}
 use Rattle.ontology.specs.code.TypeIndex.{PropertyStops, readFitting}
 use Rattle.ontology.proofs.PropertyLaws.{property-got, property-fail}
 use Rattle.ontology.proofs.TypeLaws.{placed, not-placed, Filled, filled-none, filled-bad, filled-not, filled-more, filled-all}
-use Prim.Native.Nat.{ℕ, _-_}
+use Prim.Native.Nat.{_-_}
 use mathlib.Core.Path.{_≡_, sym, _∙_}
-use mathlib.Core.List.{List}
 use mathlib.Core.Logic.{⊎-elim}
 use lib.ListN.{drop, length}
 use borrow.Author.Tests.{not-true, not-false}
@@ -34,30 +32,21 @@ to-turn c = c .before .before .before
 abbrev to-read : tie.After-property-fits Inv-loop μ-loop → tie.After-p Inv-loop μ-loop
 to-read c = c .before .before
 
--- ---- the values
-
-abbrev table : tie.At-loop Inv-loop μ-loop → List ℕ
-table c = to-start c .args .table .now
-
-module _ (c : tie.After-p Inv-loop μ-loop) where
-  abbrev loop : tie.At-loop Inv-loop μ-loop
-  loop = to-turn c .before
-
-  abbrev property : PropertyAt
-  property = c .p .given .0 .0
-
 -- ---- the facts
 
 -- the array is as long as it was, which is lent
 same : (c : tie.At-loop Inv-loop μ-loop) → length (c .loop .properties) ≡ length (to-start c .args .properties .now)
 same c = c .loop .inv .size ∙ sym (to-start c .pre .2)
 
--- the property that was read
-stops :
-    (c : tie.After-p Inv-loop μ-loop) →
-    let l = loop c in
-    PropertyStops (readProperty (drop (l .loop .next) (table l))) (table l) (l .loop .next) (property c) (c .p .given .0 .1 .0)
-stops c = property-got (c .p .given .1) (c .before .before .read-property .ensures)
+module _ (c : tie.After-p Inv-loop μ-loop) where
+  abbrev loop : tie.At-loop Inv-loop μ-loop
+  loop = to-turn c .before
+
+  -- the property that was read
+  stops :
+      let table = to-start loop .args .table .now in
+      PropertyStops (readProperty (drop (loop .loop .next) table)) table (loop .loop .next) (c .p .given .0 .0) (c .p .given .0 .1 .0)
+  stops = property-got (c .p .given .1) (c .before .before .read-property .ensures)
 
 -- ---- the needs
 
@@ -71,7 +60,7 @@ returns : tie.Need-returns Inv-loop μ-loop
 returns c =
     let turn = c .before .before .before in
     let l = turn .before in
-    let fails = property-fail (table l) (l .loop .next) (c .enum-told .given .1) (c .before .before .read-property .ensures) in
+    let fails = property-fail _ _ (c .enum-told .given .1) (c .before .before .read-property .ensures) in
     (filled-bad (l .loop .inv) (turn .loop-test .taken) fails, l .loop .inv .stay)
 
 property-fits-requires : tie.Need-property-fits-requires Inv-loop μ-loop
