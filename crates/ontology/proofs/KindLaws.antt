@@ -13,7 +13,8 @@ use Rattle.packed.specs.Parse.{Parse, fail, got, Layout, andThen, found, foundI
 use Rattle.packed.specs.Packed.{readNumber, isWithin}
 use Rattle.packed.specs.code.Located.{Got}
 use Rattle.packed.proofs.FieldLaws.{then-none, is-within, is-below, is-above, within-bounds}
-use Rattle.values.specs.Spaces.{Kind, unsigned, signed, decimal, currency, sequence, datetime, boolean, string, hex, kindNumber, unsignedNumber, signedNumber, decimalNumber, stringNumber, hexNumber, isWidth, isKind}
+use Rattle.values.specs.Spaces.{Kind, unsigned, signed, decimal, currency, sequence, datetime, boolean, string, hex, isWidth, isKind}
+use Rattle.values.specs.Spaces.{kindNumber, unsignedNumber, signedNumber, decimalNumber, stringNumber, hexNumber}
 use Rattle.values.specs.code.KindNumbers.{sizeParameter, afterParameter, signParameter}
 use Rattle.ontology.specs.TableLayout.{readFlag, readDecimal, readParameters, readKind}
 use Rattle.ontology.specs.declared.kinds.KindRead.{KindRead}

@@ -24,7 +24,9 @@ use Rattle.ontology.specs.code.TypeIndex.{KindIs, KindStops, PropertySto
 use Rattle.ontology.proofs.OnwardLaws.{Onward, on-first, on-got, on-found}
 
 -- what is known of a call's answer in the arm of a `match`
-pub property-got : {p : Parse Property} {s : List ℕ} {at : ℕ} {r : PropertyRead} {x : PropertyAt} {e : ℕ} → r ≡ read.Property x e → PropertyReads p s at r → PropertyStops p s at x e
+pub property-got :
+    {p : Parse Property} {s : List ℕ} {at : ℕ} {r : PropertyRead} {x : PropertyAt} {e : ℕ} → r ≡ read.Property x e → PropertyReads p s at r →
+    PropertyStops p s at x e
 property-got {p} {s} {at} h w = subst (PropertyReads p s at) h w
 
 pub property-fail : {p : Parse Property} (s : List ℕ) (at : ℕ) {r : PropertyRead} → r ≡ read.NoProperty → PropertyReads p s at r → p ≡ fail

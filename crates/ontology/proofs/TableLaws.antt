@@ -12,7 +12,8 @@ use Rattle.model.specs.Order.{Text}
 use Rattle.model.proofs.Cases.{never, where-so, and-parts}
 use Rattle.values.specs.Spaces.{Kind, isSequence, unsigned, signed, decimal, currency, sequence, datetime, boolean, string, hex}
 use Rattle.values.specs.ValueOrder.{isOrdered}
-use Rattle.ontology.specs.Table.{Property, EventType, Table, isMandatory, isSingle, isMin, isMax, isReplace, isVersioned, isName, isNameWithin, strategyFits, allFit, canBeMarked, markFits, namesRise, typeRules, typeNamed}
+use Rattle.ontology.specs.Table.{Property, EventType, Table, isMandatory, isSingle, isMin, isMax, isReplace, isVersioned, isName, isNameWithin}
+use Rattle.ontology.specs.Table.{strategyFits, allFit, canBeMarked, markFits, namesRise, typeRules, typeNamed}
 use Rattle.ontology.specs.TableLayout.{tableOf}
 use Rattle.ontology.proofs.TypeIndexLaws.{type-rules}
 
@@ -102,11 +103,14 @@ pub place-in : (t : EventType) → TypeKept t → (p : ℕ) (q : Property) → g
 place-in t k p q e = omega (arith, k .few, place-below (t .properties) p q e)
 
 -- "Min and max need a mandatory single-valued property of kind 1 to 6"
-extreme-parts : (b : Bool) (q : Property) → strategyFits b q ≡ true → (isMin q || isMax q) ≡ true → ((isMandatory q && isSingle q) ≡ true) × (isOrdered (q .kind) ≡ true)
+extreme-parts :
+    (b : Bool) (q : Property) → strategyFits b q ≡ true → (isMin q || isMax q) ≡ true →
+    ((isMandatory q && isSingle q) ≡ true) × (isOrdered (q .kind) ≡ true)
 unfolding strategyFits
 extreme-parts b q h e =
     and-parts (isMandatory q && isSingle q) (isOrdered (q .kind))
-    (where-so (isMin q || isMax q) (isMandatory q && isSingle q && isOrdered (q .kind)) (and-parts _ (not (isReplace q) || (q .optional && isSingle q && b)) h .0) e)
+    (where-so (isMin q || isMax q) (isMandatory q && isSingle q && isOrdered (q .kind))
+    (and-parts _ (not (isReplace q) || (q .optional && isSingle q && b)) h .0) e)
 
 pub extreme-single : (b : Bool) (q : Property) → strategyFits b q ≡ true → (isMin q || isMax q) ≡ true → q .multivalued ≡ false
 extreme-single b q h e = not-true (q .multivalued) (and-parts (isMandatory q) _ (extreme-parts b q h e .0) .1)

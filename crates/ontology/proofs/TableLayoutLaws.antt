@@ -13,12 +13,16 @@ use Rattle.model.specs.Order.{Text}
 use Rattle.model.proofs.Cases.{never, truth, and-parts, where-so}
 use Rattle.packed.specs.Parse.{got, Layout, _>>=_, found, suchThat, times}
 use Rattle.packed.specs.Packed.{groups, number, readNumber, text, readText, isWithin}
-use Rattle.packed.proofs.LayoutLaws.{All, lt-or-ge, fail-got, andThen-got, foundIf-got, suchThat-got, whole-some, number-read, number-was, text-read, text-was, times-read, times-was}
+use Rattle.packed.proofs.LayoutLaws.{All, lt-or-ge, fail-got, andThen-got, foundIf-got, suchThat-got, whole-some, number-read, number-was, text-read, text-was}
+use Rattle.packed.proofs.LayoutLaws.{times-read, times-was}
 use Rattle.packed.proofs.FieldLaws.{within-bounds}
-use Rattle.values.specs.Spaces.{Kind, unsigned, signed, decimal, currency, sequence, datetime, boolean, string, hex, kindNumber, unsignedNumber, signedNumber, decimalNumber, stringNumber, hexNumber, isKind}
-use Rattle.ontology.specs.Table.{Strategy, min, max, add, replace, match, set, any, strategyNumber, Property, EventType, Table, isNameWithin, allFit, markFits, namesRise, typeRules}
-use Rattle.ontology.specs.TableLayout.{readFlag, readDecimal, readParameters, readKind, readStrategy, readProperty, readType, readTable, tableOf, flagBytes, parameterBytes, kindBytes, propertyBytes, typeBytes, tableBytes}
-use Rattle.ontology.specs.code.TypeIndex.{parameterFits, propertyRules}
+use Rattle.values.specs.Spaces.{Kind, unsigned, signed, decimal, currency, sequence, datetime, boolean, string, hex, isKind}
+use Rattle.values.specs.Spaces.{kindNumber, unsignedNumber, signedNumber, decimalNumber, stringNumber, hexNumber}
+use Rattle.ontology.specs.Table.{Strategy, min, max, add, replace, match, set, any, strategyNumber}
+use Rattle.ontology.specs.Table.{Property, EventType, Table, isNameWithin, allFit, markFits, namesRise, typeRules}
+use Rattle.ontology.specs.TableLayout.{readFlag, readDecimal, readParameters, readKind, readStrategy, readProperty, readType, readTable, tableOf}
+use Rattle.ontology.specs.TableLayout.{flagBytes, parameterBytes, kindBytes, propertyBytes, typeBytes, tableBytes}
+use Rattle.ontology.specs.code.TypeIndex.{parameterFits, propertyRules, typeOf}
 use Rattle.ontology.proofs.NameLaws.{name-length}
 use Rattle.ontology.proofs.KindLaws.{fits-small, digits-small}
 use Rattle.ontology.proofs.RunLaws.{no-element}
@@ -96,7 +100,9 @@ parameters-read boolean r h = refl
 parameters-read (string n) r h = rw (number-read n r (omega (arith, fits-small stringNumber n h)))
 parameters-read (hex n) r h = rw (number-read n r (omega (arith, fits-small hexNumber n h)))
 
-kind-is : (z k : Kind) (n : ℕ) (s t r : List ℕ) → n ≡ kindNumber z → s ≡ parameterBytes z ++ t → got z t ≡ got k r → (n ≡ kindNumber k) × (s ≡ parameterBytes k ++ r)
+kind-is :
+    (z k : Kind) (n : ℕ) (s t r : List ℕ) → n ≡ kindNumber z → s ≡ parameterBytes z ++ t → got z t ≡ got k r →
+    (n ≡ kindNumber k) × (s ≡ parameterBytes k ++ r)
 kind-is z k n s t r a b e =
     let x : z ≡ k = cc in
     let y : t ≡ r = cc in
@@ -104,10 +110,13 @@ kind-is z k n s t r a b e =
 
 -- a kind of one parameter
 module _ (make : ℕ → Kind) (same : (w : ℕ) → parameterBytes (make w) ≡ number w) where
-  one-was : (n : ℕ) (s : List ℕ) (k : Kind) (r : List ℕ) → ((w : ℕ) → n ≡ kindNumber (make w)) → (readNumber >>= λ w. found (make w)) s ≡ got k r → (n ≡ kindNumber k) × (s ≡ parameterBytes k ++ r)
+  one-was :
+      (n : ℕ) (s : List ℕ) (k : Kind) (r : List ℕ) → ((w : ℕ) → n ≡ kindNumber (make w)) → (readNumber >>= λ w. found (make w)) s ≡ got k r →
+      (n ≡ kindNumber k) × (s ≡ parameterBytes k ++ r)
   one-was n s k r a e =
       let c = andThen-got (readNumber s) _ k r e in
-      kind-is (make (c .value)) k n s (c .left) r (a (c .value)) (number-was s (c .value) (c .left) (c .first) .0 ∙ ap (λ (b : List ℕ). b ++ c .left) (sym (same (c .value)))) (c .second)
+      kind-is (make (c .value)) k n s (c .left) r (a (c .value))
+      (number-was s (c .value) (c .left) (c .first) .0 ∙ ap (λ (b : List ℕ). b ++ c .left) (sym (same (c .value)))) (c .second)
 
 decimal-was : (s : List ℕ) (k : Kind) (r : List ℕ) → readDecimal s ≡ got k r → (decimalNumber ≡ kindNumber k) × (s ≡ parameterBytes k ++ r)
 unfolding readDecimal parameterBytes
@@ -117,10 +126,13 @@ decimal-was s k r e =
     let c = andThen-got (readFlag (b .left)) _ k r (b .second) in
     kind-is (decimal (a .value) (b .value) (c .value)) k decimalNumber s (c .left) r refl
     (decimal-bytes (a .value) (b .value) (c .value) (a .left) (b .left) (c .left)
-    (number-was s (a .value) (a .left) (a .first) .0) (number-was (a .left) (b .value) (b .left) (b .first) .0) (flag-was (b .left) (c .value) (c .left) (c .first)))
+    (number-was s (a .value) (a .left) (a .first) .0) (number-was (a .left) (b .value) (b .left) (b .first) .0)
+    (flag-was (b .left) (c .value) (c .left) (c .first)))
     (c .second)
   where
-    decimal-bytes : (total after : ℕ) (sign : Bool) (t u v : List ℕ) → s ≡ number total ++ t → t ≡ number after ++ u → u ≡ flagBytes sign ++ v → s ≡ number total ++ number after ++ flagBytes sign ++ v
+    decimal-bytes :
+        (total after : ℕ) (sign : Bool) (t u v : List ℕ) → s ≡ number total ++ t → t ≡ number after ++ u → u ≡ flagBytes sign ++ v →
+        s ≡ number total ++ number after ++ flagBytes sign ++ v
     decimal-bytes total after sign t u v a b c = a ∙ rw (b, c) (simp append-assoc)
 
 parameters-was : (n : ℕ) (s : List ℕ) (k : Kind) (r : List ℕ) → readParameters n s ≡ got k r → (n ≡ kindNumber k) × (s ≡ parameterBytes k ++ r)
@@ -269,7 +281,8 @@ mark-low mark qs e =
 type-parts :
     (t : EventType) (r : List ℕ) →
     typeBytes t ++ r
-    ≡ text (t .name) ++ (number (t .definition) ++ (number (t .mark) ++ (number (length (t .properties)) ++ (flatten (map propertyBytes (t .properties)) ++ r))))
+    ≡ text (t .name) ++ (number (t .definition) ++
+    (number (t .mark) ++ (number (length (t .properties)) ++ (flatten (map propertyBytes (t .properties)) ++ r))))
 unfolding typeBytes
 type-parts t r = simp append-assoc
 
@@ -352,10 +365,12 @@ table-one s t ts h k = table-was s ts h .0 ∙ sym (table-was t ts k .0)
 
 -- ---- an example
 
--- one type `a` of definition version 1, with no mark, and its property `b`: a signed decimal of five digits, two of them after the point; optional, single-valued, strategy any
+-- one type `a` of definition version 1, with no mark, and its property `b`: a signed decimal of five digits, two of them after the point; optional,
+-- single-valued, strategy any
 written :
     tableBytes
-    (record { name = 97 ∷ []; definition = 1; mark = 0; properties = record { name = 98 ∷ []; kind = decimal 5 2 true; optional = true; multivalued = false; strategy = any } ∷ [] } ∷ [])
+    (typeOf (97 ∷ []) 1 0
+    (record { name = 98 ∷ []; kind = decimal 5 2 true; optional = true; multivalued = false; strategy = any } ∷ []) ∷ [])
     ≡ 1 ∷ 1 ∷ 97 ∷ 1 ∷ 0 ∷ 1 ∷ 1 ∷ 98 ∷ 3 ∷ 5 ∷ 2 ∷ 1 ∷ 1 ∷ 0 ∷ 7 ∷ []
 unfolding tableBytes typeBytes propertyBytes kindBytes parameterBytes flagBytes text number groups flatten
 written = refl

@@ -108,7 +108,8 @@ table-none s e = rw e
 pub table-from : (s : List ℕ) {n next : ℕ} → Got (suchThat (isWithin 1 16) readNumber (drop 0 s)) s 0 n next → readTable s ≡ typesFrom [] n (drop next s)
 unfolding readTable
 table-from s {n} {next} g =
-    ap (λ (p : Parse ℕ). andThen p (λ count r. andThen (times readRuled count r) (λ ts. foundIf (namesRise (map nameOf ts)) ts))) (g .is) ∙ all-from n (drop next s)
+    ap (λ (p : Parse ℕ). andThen p (λ count r. andThen (times readRuled count r) (λ ts. foundIf (namesRise (map nameOf ts)) ts))) (g .is)
+    ∙ all-from n (drop next s)
 
 -- what r says of the numbers ps it says of others, if these are the same where the type is found
 says-stay : (o : Option EventType) (s ps qs : List ℕ) (r : TableRead) → TypeSays o s ps r → (r .found ≡ true → qs ≡ ps) → TypeSays o s qs r
@@ -177,7 +178,8 @@ module _ {s : List ℕ} {name : Text} {ps : List ℕ} {r : TableRead} {left at s
 
   listed-all : left ≡ 0 → readTable s ≡ got (w .before) (drop at s)
   listed-all h =
-      w .rest ∙ ap (prepend (w .before)) (types-end (part s start end) left (drop at s) h) ∙ ap (λ (l : List EventType). got l (drop at s)) (append-nil (w .before))
+      w .rest ∙ ap (prepend (w .before)) (types-end (part s start end) left (drop at s) h)
+      ∙ ap (λ (l : List EventType). got l (drop at s)) (append-nil (w .before))
 
   pub listed-exact : left ≡ 0 → at ≡ length s → TableSays (tableOf s) s name ps (record { ok = true; found = r .found; index = r .index })
   unfolding TableSays TypeSays tableOf
@@ -212,7 +214,9 @@ named-some n (x ∷ ts) t u e = go (equal texts n (x .name)) (λ q. named-some n
     go true f e = e
     go false f e = f e
 
-named-none : (n : Text) (ts : List EventType) (t : EventType) → typeNamed n ts ≡ none → typeNamed n (ts ++ (t ∷ [])) ≡ cond (equal texts n (t .name)) (some t) none
+named-none :
+    (n : Text) (ts : List EventType) (t : EventType) → typeNamed n ts ≡ none →
+    typeNamed n (ts ++ (t ∷ [])) ≡ cond (equal texts n (t .name)) (some t) none
 unfolding typeNamed
 named-none n [] t e = refl
 named-none n (x ∷ ts) t e = go (equal texts n (x .name)) (λ q. named-none n ts t q) e

@@ -9,7 +9,8 @@ use lib.ListN.{getElem?}
 use Rattle.model.specs.Order.{Text, texts, equal}
 use Rattle.model.proofs.Cases.{never, truth}
 use Rattle.packed.proofs.OrderLaws.{texts-equal}
-use Rattle.ontology.specs.Table.{Strategy, min, max, replace, match, strategyNumber, Property, EventType, Table, isStrategy, isMin, isMax, isReplace, isMatch, typeRules, typeNamed}
+use Rattle.ontology.specs.Table.{Strategy, min, max, replace, match, strategyNumber, isStrategy, isMin, isMax, isReplace, isMatch}
+use Rattle.ontology.specs.Table.{Property, EventType, Table, typeRules, typeNamed}
 use Rattle.ontology.specs.TableLayout.{tableOf}
 use Rattle.ontology.specs.declared.properties.PropertyAt.{PropertyAt}
 use Rattle.ontology.specs.declared.tables.TableRead.{TableRead}

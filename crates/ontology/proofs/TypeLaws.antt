@@ -33,7 +33,9 @@ use Rattle.ontology.proofs.RunLaws.{prepend, prepend-nil, prepend-two, 
 use Rattle.ontology.proofs.TurnLaws.{fitting-stop, fitting-end, fitting-not, fitting-more, rules-in-turn}
 
 -- what is known of a call's answer in the arm of a `match`
-pub head-got : {s : List ℕ} {at : ℕ} {r : HeadRead} {a e : ℕ} {d : DefinitionVersion} {m n f : ℕ} → r ≡ Head a e d m n f → HeadReads s at r → HeadStops s at a e d m n f
+pub head-got :
+    {s : List ℕ} {at : ℕ} {r : HeadRead} {a e : ℕ} {d : DefinitionVersion} {m n f : ℕ} → r ≡ Head a e d m n f → HeadReads s at r →
+    HeadStops s at a e d m n f
 head-got {s} {at} h w = subst (HeadReads s at) h w
 
 pub head-fail : (s : List ℕ) (at : ℕ) {r : HeadRead} → r ≡ NoHead → HeadReads s at r → suchThat typeRules readType (drop at s) ≡ fail
@@ -174,7 +176,9 @@ module _ (s : List ℕ) where
                 (rules-are v d m qs named (leb-true 1 d defined) (omega arith) (omega arith) ∙ rules-in-turn m n y qs r e)
                 ∙ two-tests (fitInTurn (ltb 0 m) m [] qs) (leb m n) (typeOf v d m) qs r
 
-        with-count : (p : Parse ℕ) → readNumber x ≡ p → suchThat typeRules readType s ≡ andThen (andThen p (λ n. foundIf (isWithin 1 32 n) n)) (λ n. after-count d m n v)
+        with-count :
+            (p : Parse ℕ) → readNumber x ≡ p →
+            suchThat typeRules readType s ≡ andThen (andThen p (λ n. foundIf (isWithin 1 32 n) n)) (λ n. after-count d m n v)
         with-count fail e = type-fail s (λ t r w k. cc)
         with-count (got n y) e =
             truth (isWithin 1 32 n)
@@ -332,14 +336,16 @@ module _
       abbrev after : ℕ → Text → ℕ → Parse (List Property)
       after m v n = prepend (w .before ++ (t .what ∷ [])) (fittingFrom (ltb 0 mark) m v n (drop e s))
 
-      pub filled-more : {b : Bool} {ys : List ℕ} → Fits b → b ≡ true → Placed keep k x xs ys → Filled p s at mark keep xs₀ ys e (x .start) (x .end) (k + 1) count
+      pub filled-more :
+          {b : Bool} {ys : List ℕ} → Fits b → b ≡ true → Placed keep k x xs ys → Filled p s at mark keep xs₀ ys e (x .start) (x .end) (k + 1) count
       filled-more {b} {ys} f o d = record {
         before = w .before ++ (t .what ∷ []);
         long = length-append (w .before) (t .what ∷ []) ∙ ap (λ (n : ℕ). n + 1) (w .long);
         few = omega arith;
         rest =
             whole-by
-            (fitting-more (ltb 0 mark) (mark - k) (part s start end) (count - k) (drop next s) (t .what) (drop e s) (omega arith) (t .stops .is) (fits-here f o))
+            (fitting-more (ltb 0 mark) (mark - k) (part s start end) (count - k) (drop next s) (t .what) (drop e s) (omega arith) (t .stops .is)
+            (fits-here f o))
             ∙ prepend-two (w .before) (t .what ∷ []) (fittingFrom (ltb 0 mark) (mark - k - 1) (t .what .name) (count - k - 1) (drop e s))
             ∙ ap₂ (λ (m n : ℕ). after m (t .what .name) n)
             (let z : mark - k - 1 ≡ mark - (k + 1) = omega arith in z) (let z : count - k - 1 ≡ count - (k + 1) = omega arith in z)

@@ -7,8 +7,10 @@ use lib.ListN.{length}
 use lib.Dec.{leb, eqb}
 use Rattle.packed.specs.Parse.{fail, Layout, _>>=_, found, foundIf, suchThat, times, whole}
 use Rattle.packed.specs.Packed.{number, readNumber, text, readText, isWithin}
-use Rattle.values.specs.Spaces.{Kind, unsigned, signed, decimal, currency, sequence, datetime, boolean, string, hex, kindNumber, unsignedNumber, signedNumber, decimalNumber, stringNumber, hexNumber, isKind}
-use Rattle.ontology.specs.Table.{Strategy, min, max, add, replace, match, set, any, strategyNumber, Property, EventType, Table, isNameWithin, namesRise, typeRules}
+use Rattle.values.specs.Spaces.{Kind, unsigned, signed, decimal, currency, sequence, datetime, boolean, string, hex, isKind}
+use Rattle.values.specs.Spaces.{kindNumber, unsignedNumber, signedNumber, decimalNumber, stringNumber, hexNumber}
+use Rattle.ontology.specs.Table.{Strategy, min, max, add, replace, match, set, any, strategyNumber}
+use Rattle.ontology.specs.Table.{Property, EventType, Table, isNameWithin, namesRise, typeRules}
 
 -- 0 or 1
 unfoldable pub readFlag : Layout Bool

@@ -76,7 +76,8 @@ pub fn is_match(p: PropertyAt) -> bool
 }
 
 fn read_strategy(table: &[u8], at: usize) -> NumberAt
-    ensures { λ r. ⌜ NumberReads (suchThat (isWithin (strategyNumber min) (strategyNumber any)) readNumber (drop at (now (table .entry)))) (now (table .entry)) at r ⌝ }
+    ensures { λ r. ⌜ NumberReads (suchThat (isWithin (strategyNumber min) (strategyNumber any)) readNumber (drop at (now (table .entry))))
+        (now (table .entry)) at r ⌝ }
 {
     read_within(table, at, MIN as u64, ANY as u64)
 }

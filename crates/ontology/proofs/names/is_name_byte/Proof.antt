@@ -1,3 +1,4 @@
+-- The ranges of the `match` cover all bytes, and of each a law says whether its bytes are those of a name.
 use Rattle.ontology.specs.Table.{isLetter}
 use Rattle.ontology.proofs.NameLaws.{byte-letter, byte-digit, byte-mark, byte-below, byte-between, byte-high}
 use mathlib.Core.Path.{_≡_, sym, _∙_}
