@@ -1,8 +1,6 @@
 -- The ranges of the `match` cover all bytes, and of each a law says whether its bytes are those of a name.
-use Rattle.ontology.specs.Table.{isLetter}
 use Rattle.ontology.proofs.NameLaws.{byte-letter, byte-digit, byte-mark, byte-below, byte-between, byte-high}
-use mathlib.Core.Path.{_≡_, sym, _∙_}
-use mathlib.Core.Bool.{false}
+use mathlib.Core.Path.{sym, _∙_}
 use native.Mathlib.Omega.{arith}
 use borrow.Author.Needs.{needs}
 use Rattle.ontology.proofs.names.is_name_byte.Statement.{statement}
@@ -12,11 +10,6 @@ use Rattle.ontology.proofs.names.is_name_byte.Tie as tie
 
 abbrev to-if1 : tie.Else5 → tie.Else1
 to-if1 c = c .before .before .before .before
-
--- ---- the facts
-
-no-letter : (c : tie.Else1) → isLetter (c .before .before .args .b) ≡ false
-no-letter c = sym (c .before .is-letter .ensures) ∙ c .if1 .left
 
 -- ---- the needs
 
@@ -36,7 +29,7 @@ returns-5 : tie.Need-returns-5
 returns-5 c = sym (byte-between _ (omega arith) (omega arith))
 
 returns-6 : tie.Need-returns-6
-returns-6 c = sym (byte-high _ (omega arith) (no-letter (to-if1 c)))
+returns-6 c = sym (byte-high _ (omega arith) (sym (to-if1 c .before .is-letter .ensures) ∙ to-if1 c .if1 .left))
 
 pub is-name-byte-spec : {M : Type 1} → statement M
 is-name-byte-spec =

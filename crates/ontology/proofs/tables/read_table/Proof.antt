@@ -31,11 +31,6 @@ to-start c = counted-to-start (c .before)
 
 -- ---- the facts
 
-lent : (c : tie.At-loop Inv-loop μ-loop) → length (c .loop .properties) ≡ length (to-start c .args .properties .now)
-lent c = c .loop .inv .1 ∙ sym (to-start c .pre)
-
--- ---- the facts of a type that is read
-
 module _ (c : tie.After-struct-known2 Inv-loop μ-loop) where
   abbrev read : tie.After-read-type Inv-loop μ-loop
   read = c .before .before .before
@@ -53,10 +48,6 @@ module _ (c : tie.After-struct-known2 Inv-loop μ-loop) where
   long : length numbers ≡ 96
   long = search needs
 
-  -- what is read keeps the length of `properties`, which is lent
-  same : length numbers ≡ length (to-start loop .args .properties .now)
-  same = long ∙ sym (to-start loop .pre)
-
 got :
     (c : tie.Else1 Inv-loop μ-loop) →
     let l = loop (c .before) in
@@ -73,9 +64,6 @@ loop-holds c =
     let counted = number-got (c .before .count .given .1) (c .before .before .before .read-within .ensures) in
     (listed-none _ _ _ _ counted refl refl, counted-to-start c .pre)
 
-same-length : tie.Need-same-length Inv-loop μ-loop
-same-length c = same (c .before)
-
 returns-2 : tie.Need-returns-2 Inv-loop μ-loop
 returns-2 c =
     let l = loop (c .before) .loop .inv .0 in
@@ -89,7 +77,9 @@ is-before-requires c κs =
     (l .order, l .ends, g .order, g .ends)
 
 same-length-2 : tie.Need-same-length-2 Inv-loop μ-loop
-same-length-2 c = let good = c .before .before .before in same (good .before)
+same-length-2 c =
+    let good = c .before .before .before in
+    long (good .before) ∙ sym (to-start (loop (good .before)) .pre)
 
 returns-3 : tie.Need-returns-3 Inv-loop μ-loop
 returns-3 c =
@@ -112,14 +102,8 @@ loop-again c =
     let rises = sym (compared .is-before .ensures) ∙ not-false _ (c .before .if2 .left) in
     (listed-more l (turn d .loop-test .taken) (got good) rises (c .keep .ensures .0) (c .keep .ensures .1) (read d .read-type .ensures .1), long d)
 
-same-length-3 : tie.Need-same-length-3 Inv-loop μ-loop
-same-length-3 c = lent (c .before .before)
-
 returns-4 : tie.Need-returns-4 Inv-loop μ-loop
 returns-4 c = listed-exact (c .before .before .loop .inv .0) (omega arith) (c .if3 .taken)
-
-same-length-4 : tie.Need-same-length-4 Inv-loop μ-loop
-same-length-4 c = lent (c .before .before)
 
 returns-5 : tie.Need-returns-5 Inv-loop μ-loop
 returns-5 c = listed-early (c .before .before .loop .inv .0) (omega arith) (c .if3 .left)
@@ -137,7 +121,7 @@ read-table-spec =
     returns
     loop-holds
     (λ c κs. search needs)
-    same-length
+    (λ c. search needs)
     returns-2
     is-before-requires
     same-length-2
@@ -146,7 +130,7 @@ read-table-spec =
     (λ c. search needs)
     (λ c. search needs)
     loop-again
-    same-length-3
+    (λ c. search needs)
     returns-4
-    same-length-4
+    (λ c. search needs)
     returns-5)

@@ -27,9 +27,6 @@ returns c =
     let p = to-start both .pre in
     first-decides _ _ _ _ _ (both .before .if1 .taken) (p .1) (some-second both) (p .3) (c .if3 .taken)
 
-returns-2 : tie.Need-returns-2
-returns-2 c = c .is-before .ensures
-
 pub name-before-spec : {M : Type 1} → statement M
 name-before-spec =
-    tie.close (tie.spec (λ c. search needs) shared-slice-read-y returns (λ c κs. search needs) returns-2)
+    tie.close (tie.spec (λ c. search needs) shared-slice-read-y returns (λ c κs. search needs) (λ c. search needs))

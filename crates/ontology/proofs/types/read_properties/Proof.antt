@@ -5,9 +5,8 @@ use Rattle.ontology.specs.code.TypeIndex.{PropertyStops, readFitting}
 use Rattle.ontology.proofs.PropertyLaws.{property-got, property-fail}
 use Rattle.ontology.proofs.TypeLaws.{placed, not-placed, Filled, filled-none, filled-bad, filled-not, filled-more, filled-all}
 use Prim.Native.Nat.{_-_}
-use mathlib.Core.Path.{_≡_, sym, _∙_}
 use mathlib.Core.Logic.{⊎-elim}
-use lib.ListN.{drop, length}
+use lib.ListN.{drop}
 use borrow.Author.Tests.{not-true, not-false}
 use native.Mathlib.Omega.{arith}
 use borrow.Author.Needs.{needs}
@@ -34,10 +33,6 @@ to-read c = c .before .before
 
 -- ---- the facts
 
--- the array is as long as it was, which is lent
-same : (c : tie.At-loop Inv-loop μ-loop) → length (c .loop .properties) ≡ length (to-start c .args .properties .now)
-same c = c .loop .inv .size ∙ sym (to-start c .pre .2)
-
 module _ (c : tie.After-p Inv-loop μ-loop) where
   abbrev loop : tie.At-loop Inv-loop μ-loop
   loop = to-turn c .before
@@ -53,9 +48,6 @@ module _ (c : tie.After-p Inv-loop μ-loop) where
 loop-holds : tie.Need-loop-holds Inv-loop μ-loop
 loop-holds c = filled-none _ _ _ _ _ _ (c .before .before .pre .0) (c .before .before .pre .2)
 
-same-length : tie.Need-same-length Inv-loop μ-loop
-same-length c = let turn = c .before .before .before in same (turn .before)
-
 returns : tie.Need-returns Inv-loop μ-loop
 returns c =
     let turn = c .before .before .before in
@@ -68,9 +60,6 @@ property-fits-requires c κs =
     let i = loop (c .before) .loop .inv in
     let p = stops (c .before) .is in
     (i .order, i .ends, p .order, p .within)
-
-same-length-2 : tie.Need-same-length-2 Inv-loop μ-loop
-same-length-2 c = same (loop (to-read (c .before)))
 
 returns-2 : tie.Need-returns-2 Inv-loop μ-loop
 returns-2 c =
@@ -94,9 +83,6 @@ loop-again c =
     (λ w. not-placed (w .0 .left) (w .1) (i .size))
     (c .if2 .came))
 
-same-length-3 : tie.Need-same-length-3 Inv-loop μ-loop
-same-length-3 c = same (c .before)
-
 returns-3 : tie.Need-returns-3 Inv-loop μ-loop
 returns-3 c =
     let i = c .before .loop .inv in
@@ -112,15 +98,15 @@ read-properties-spec =
     (λ c κs. search needs)
     (λ c. search needs)
     (λ c. search needs)
-    same-length
+    (λ c. search needs)
     returns
     (λ c. search needs)
     property-fits-requires
-    same-length-2
+    (λ c. search needs)
     returns-2
     put-property-requires
     (λ c. search needs)
     (λ c. search needs)
     loop-again
-    same-length-3
+    (λ c. search needs)
     returns-3)
