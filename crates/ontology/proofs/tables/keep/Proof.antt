@@ -8,15 +8,6 @@ use Rattle.ontology.proofs.tables.keep.Tie as tie
 returns : tie.Need-returns
 returns c = (refl, λ ts t ps w k. keep-old _ ts t _ _ _ w (c .if1 .taken))
 
-sub-same : tie.Need-sub-same
-sub-same c = c .before .before .before .pre .0
-
-part-same-start : tie.Need-part-same-start
-part-same-start c = c .before .before .before .pre .0
-
-part-same-end : tie.Need-part-same-end
-part-same-end c = c .before .before .before .pre .1
-
 returns-2 : tie.Need-returns-2
 returns-2 c =
     let left = c .before .before .before .if1 .left in
@@ -30,4 +21,4 @@ returns-3 c =
 pub keep-spec : {M : Type 1} → statement M
 keep-spec =
     tie.close
-    (tie.spec returns sub-same part-same-start part-same-end (λ c κs. search needs) returns-2 returns-3)
+    (tie.spec returns (λ c. search needs) (λ c. search needs) (λ c. search needs) (λ c κs. search needs) returns-2 returns-3)

@@ -67,11 +67,6 @@ returns-2 c =
     let i = loop read .loop .inv in
     (filled-not i (to-turn read .loop-test .taken) (stops read) (c .before .property-fits .ensures) (not-true _ (c .if1 .taken)), i .stay)
 
-put-property-requires : tie.Need-put-property-requires Inv-loop μ-loop
-put-property-requires c κs =
-    let l = loop (to-read (c .before .before .before)) in
-    (l .loop .inv .size, omega (arith, to-start l .pre .1))
-
 loop-again : tie.Need-loop-again Inv-loop μ-loop
 loop-again c =
     let asked = c .before .before in
@@ -104,7 +99,7 @@ read-properties-spec =
     property-fits-requires
     (λ c. search needs)
     returns-2
-    put-property-requires
+    (λ c κs. search needs)
     (λ c. search needs)
     (λ c. search needs)
     loop-again
