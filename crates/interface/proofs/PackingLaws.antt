@@ -3,7 +3,6 @@ use Prim.Native.Nat.{ℕ, _+_, _*_, _-_, _%_}
 use native.Mathlib.Nat.{zero-add}
 use mathlib.Core.Path.{_≡_, refl, sym, ap, _∙_}
 use mathlib.Core.List.{List}
-use Rattle.packed.specs.Packed.{part}
 use Rattle.packed.proofs.ReadLaws.{part-length}
 use Rattle.values.specs.declared.versions.EventVersion.{EventVersion}
 use Rattle.replies.specs.Answers as answers
@@ -21,10 +20,12 @@ use Rattle.replies.specs.declared.reply.Opened.{Opened}
 use Rattle.replies.specs.declared.reply.Opened.the-variants.{Merged, Found, Refused}
 use Rattle.replies.specs.declared.reply.BatchReply.{BatchReply}
 use Rattle.replies.specs.declared.reply.BatchReply.the-variants as batch
-use Rattle.event.specs.Event.{Event}
-use Rattle.event.specs.Value.{Part}
-use Rattle.event.specs.code.EventIndex.{ValueStands}
-use Rattle.event.proofs.AskLaws.{nothing}
+use Rattle.event.specs.EventLayout.{wide}
+use Rattle.event.specs.Value.{Part, valueCall}
+use Rattle.event.specs.declared.lookup.ValueAt.{ValueAt}
+use Rattle.event.specs.declared.lookup.ValueAt.the-variants.{NoValue}
+use Rattle.event.specs.code.EventIndex.{ValueFound, ValueStands, eventQuestions, EventAsked, EventAnswers}
+use Rattle.event.proofs.AskLaws.{Accepted, refused-is, found-none, nothing, value-refused, value-missing, value-is}
 use Rattle.interface.specs.Packing.{low, kinded, packedRefusal, packedFinding, packedAs, packed, packedOpened, versionOr, versionAfter, packedPart}
 
 pub refusal-is : (number position : ℕ) → 288230376151711744 + (position % 16777216 * 256 + number) ≡ packedRefusal number position
@@ -33,25 +34,27 @@ refusal-is number position = refl
 
 -- ---- the arms of a reply
 
-pub reply-done : {r : Reply} {n k : ℕ} → r ≡ reply.Done n → k ≡ low n → k ≡ packed (replied r)
+-- done, with so many bytes
+done-is : {q : answers.Reply} {n k : ℕ} → q ≡ answers.Reply.done n → k ≡ low n → k ≡ packed q
 unfolding packedAs kinded
-reply-done {n} h e = e ∙ sym (zero-add (low n)) ∙ ap (λ (r : Reply). packed (replied r)) (sym h)
+done-is {n = n} h e = e ∙ sym (zero-add (low n)) ∙ ap packed (sym h)
+
+pub reply-done : {r : Reply} {n k : ℕ} → r ≡ reply.Done n → k ≡ low n → k ≡ packed (replied r)
+reply-done h e = done-is (ap replied h) e
 
 pub reply-refused : {r : Reply} {n k : ℕ} → r ≡ reply.Refused n → k ≡ packedRefusal n 0 → k ≡ packed (replied r)
 unfolding packedAs
 reply-refused h e = e ∙ ap (λ (r : Reply). packed (replied r)) (sym h)
 
 pub batch-done : {r : BatchReply} {n k : ℕ} → r ≡ batch.Done n → k ≡ low n → k ≡ packed (batchReplied r)
-unfolding packedAs kinded
-batch-done {n} h e = e ∙ sym (zero-add (low n)) ∙ ap (λ (r : BatchReply). packed (batchReplied r)) (sym h)
+batch-done h e = done-is (ap batchReplied h) e
 
 pub batch-refused : {r : BatchReply} {n i k : ℕ} → r ≡ batch.Refused n i → k ≡ packedRefusal n i → k ≡ packed (batchReplied r)
 unfolding packedAs
 batch-refused h e = e ∙ ap (λ (r : BatchReply). packed (batchReplied r)) (sym h)
 
 pub combined-done : {r : Combined} {n k : ℕ} → r ≡ combined.Done n → k ≡ low n → k ≡ packed (combineReplied r)
-unfolding packedAs kinded
-combined-done {n} h e = e ∙ sym (zero-add (low n)) ∙ ap (λ (r : Combined). packed (combineReplied r)) (sym h)
+combined-done h e = done-is (ap combineReplied h) e
 
 pub combined-refused : {r : Combined} {n k : ℕ} → r ≡ combined.Refused n → k ≡ packedRefusal n 0 → k ≡ packed (combineReplied r)
 unfolding packedAs
@@ -105,28 +108,48 @@ version-refused old h = ap (λ (r : Opened). versionAfter (openReplied r) old) (
 
 -- ---- a call's equation, told as C sees it
 
-pub answered : {n : ℕ} {r : answers.Reply} {bytes : List ℕ} {o : Outcome} → n ≡ packed r → _≡_ {A = Outcome} (record { reply = r; bytes = bytes }) o → (n ≡ packed (o .reply)) × (bytes ≡ o .bytes)
+pub answered :
+    {n : ℕ} {r : answers.Reply} {bytes : List ℕ} {o : Outcome} → n ≡ packed r → _≡_ {A = Outcome} (record { reply = r; bytes = bytes }) o →
+    (n ≡ packed (o .reply)) × (bytes ≡ o .bytes)
 answered e h = (e ∙ ap (λ (o : Outcome). packed (o .reply)) h, ap (λ (o : Outcome). o .bytes) h)
 
-pub answered-open : {n v : ℕ} {r : answers.Reply} {bytes : List ℕ} {o : Outcome} (old : ℕ) → n ≡ packedOpened r → v ≡ versionAfter r old → _≡_ {A = Outcome} (record { reply = r; bytes = bytes }) o → (n ≡ packedOpened (o .reply)) × ((bytes ≡ o .bytes) × (v ≡ versionAfter (o .reply) old))
-answered-open old e w h = (e ∙ ap (λ (o : Outcome). packedOpened (o .reply)) h, (ap (λ (o : Outcome). o .bytes) h, w ∙ ap (λ (o : Outcome). versionAfter (o .reply) old) h))
+pub answered-open :
+    {n v : ℕ} {r : answers.Reply} {bytes : List ℕ} {o : Outcome} (old : ℕ) → n ≡ packedOpened r → v ≡ versionAfter r old →
+    _≡_ {A = Outcome} (record { reply = r; bytes = bytes }) o →
+    (n ≡ packedOpened (o .reply)) × ((bytes ≡ o .bytes) × (v ≡ versionAfter (o .reply) old))
+answered-open old e w h = (
+  e ∙ ap (λ (o : Outcome). packedOpened (o .reply)) h,
+  (ap (λ (o : Outcome). o .bytes) h, w ∙ ap (λ (o : Outcome). versionAfter (o .reply) old) h),
+)
 
-pub answered-accepted : {n : ℕ} {r : TableReply} {o : answers.Reply} → r ≡ table.Accepted → n ≡ packed (answers.Reply.done 0) → tableReplied r ≡ o → n ≡ packed o
+pub answered-accepted :
+    {n : ℕ} {r : TableReply} {o : answers.Reply} → r ≡ table.Accepted → n ≡ packed (answers.Reply.done 0) → tableReplied r ≡ o → n ≡ packed o
 unfolding tableReplied
 answered-accepted h e w = e ∙ ap packed (ap tableReplied (sym h) ∙ w)
 
-pub answered-refused : {n k : ℕ} {r : TableReply} {o : answers.Reply} → r ≡ table.Refused k → n ≡ packed (answers.Reply.refused k) → tableReplied r ≡ o → n ≡ packed o
+pub answered-refused :
+    {n k : ℕ} {r : TableReply} {o : answers.Reply} → r ≡ table.Refused k → n ≡ packed (answers.Reply.refused k) → tableReplied r ≡ o → n ≡ packed o
 unfolding tableReplied
 answered-refused h e w = e ∙ ap packed (ap tableReplied (sym h) ∙ w)
 
 -- ---- the value call
 
-pub part-none : {x : Part} → x ≡ nothing → 0 ≡ packedPart x
+none-packed : {x : Part} → x ≡ nothing → 0 ≡ packedPart x
 unfolding packedPart
-part-none h = ap packedPart (sym h)
+none-packed h = ap packedPart (sym h)
 
-pub part-packed : {s : List ℕ} {e : Event} {place index a z : ℕ} {x : Part} → ValueStands s e place index a z → x ≡ record { bytes = part s a z; start = a } → (z - a) % 268435456 + a % 268435456 * 268435456 ≡ packedPart x
-unfolding packedPart
-part-packed {s} {e} {place} {index} {a} {z} v h =
-    ap (λ (n : ℕ). n % 268435456 + a % 268435456 * 268435456) (sym (part-length s a z (v .order) (v .within)))
-    ∙ ap packedPart (sym h)
+module _ (table event : List ℕ) (place index : ℕ) (ps ats : List ℕ) (r : EventAsked) where
+  pub value-unasked :
+      EventAnswers (eventQuestions wide table event) table event ps ats r → (r .number ≡ 0 → ⊥) → 0 ≡ packedPart (valueCall table event place index)
+  value-unasked w h = none-packed (value-refused table event place index _ (refused-is wide table event ps ats r w h))
+
+  module _ (a : Accepted wide table event ps ats r) where
+    pub value-absent : {q : ValueAt} → q ≡ NoValue → ValueFound event (a .e) place index q → 0 ≡ packedPart (valueCall table event place index)
+    value-absent h w = none-packed (value-missing table event place index ps ats r a (found-none event (a .e) place index h w))
+
+    pub value-packed :
+        {s z : ℕ} → ValueStands event (a .e) place index s z → (z - s) % 268435456 + s % 268435456 * 268435456 ≡ packedPart (valueCall table event place index)
+    unfolding packedPart
+    value-packed {s} {z} v =
+        ap (λ (n : ℕ). n % 268435456 + s % 268435456 * 268435456) (sym (part-length event s z (v .order) (v .within)))
+        ∙ ap packedPart (sym (value-is table event place index ps ats r a s z v))

@@ -14,7 +14,8 @@ use Rattle.batch.specs.Taken.{Bounded}
 use Rattle.report.proofs.ReportDemandLaws.{report-bounded}
 use Rattle.theorems.proofs.ReplyBoundLaws.{replies-bounded}
 use Rattle.interface.specs.Packing.{kinded, packedRefusal, packedFinding, packedAs, versionOr, versionAfter, packedPart}
-use Rattle.interface.specs.Unpacking.{kindOf, lowOf, numberOf, positionOf, valueLengthOf, valueStartOf, TellsFinding, Tells, inNumber, CallTold, PartTold, Told}
+use Rattle.interface.specs.Unpacking.{kindOf, lowOf, numberOf, positionOf, valueLengthOf, valueStartOf}
+use Rattle.interface.specs.Unpacking.{TellsFinding, Tells, inNumber, CallTold, PartTold, Told}
 
 -- ---- replies
 

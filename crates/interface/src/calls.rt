@@ -97,14 +97,16 @@ pub extern "C" fn merger_open(
 ) -> u64
     ensures { λ r. ⌜ r ≡ packedOpened (openCall standard (now (table .entry)) (now (dossier .entry)) (now (out .entry)) .reply) ⌝ }
     ensures { λ _. ⌜ now (out .exit) ≡ openCall standard (now (table .entry)) (now (dossier .entry)) (now (out .entry)) .bytes ⌝ }
-    ensures { λ _. ⌜ now (version .exit) ≡ versionAfter (openCall standard (now (table .entry)) (now (dossier .entry)) (now (out .entry)) .reply) (now (version .entry)) ⌝ }
+    ensures { λ _. ⌜ now (version .exit) ≡ versionAfter (openCall standard (now (table .entry)) (now (dossier .entry)) (now (out .entry)) .reply)
+        (now (version .entry)) ⌝ }
 {
     let r = open_dossier(table, dossier, out);
     *version = conflict_version(r, *version);
     pack_opened(r)
 }
 
-// The start and the length that C reads from the number are a part of the event that has the value's bytes (`Told` of specs/Unpacking, proved in proofs/UnpackingLaws).
+// The start and the length that C reads from the number are a part of the event that has the value's bytes (`Told` of specs/Unpacking, proved in
+// proofs/UnpackingLaws).
 #[no_mangle]
 pub extern "C" fn merger_value(table: &[u8], event: &[u8], place: usize, index: usize) -> u64
     ensures { λ r. ⌜ r ≡ packedPart (valueCall (now (table .entry)) (now (event .entry)) place index) ⌝ }
@@ -149,8 +151,12 @@ pub extern "C" fn merger_batch(
     b: &mut [u8],
     c: &mut [u8],
 ) -> u64
-    ensures { λ r. ⌜ r ≡ packed (batchCall standard (record { output = length (now (out .entry)); first = length (now (a .entry)); second = length (now (b .entry)); third = length (now (c .entry)) }) (now (table .entry)) (now (events .entry)) (now (out .entry)) .reply) ⌝ }
-    ensures { λ _. ⌜ now (out .exit) ≡ batchCall standard (record { output = length (now (out .entry)); first = length (now (a .entry)); second = length (now (b .entry)); third = length (now (c .entry)) }) (now (table .entry)) (now (events .entry)) (now (out .entry)) .bytes ⌝ }
+    ensures { λ r. ⌜ r ≡ packed (batchCall standard
+        (record { output = length (now (out .entry)); first = length (now (a .entry)); second = length (now (b .entry)); third = length (now (c .entry)) })
+        (now (table .entry)) (now (events .entry)) (now (out .entry)) .reply) ⌝ }
+    ensures { λ _. ⌜ now (out .exit) ≡ batchCall standard
+        (record { output = length (now (out .entry)); first = length (now (a .entry)); second = length (now (b .entry)); third = length (now (c .entry)) })
+        (now (table .entry)) (now (events .entry)) (now (out .entry)) .bytes ⌝ }
 {
     pack_batch(batch(table, events, out, a, b, c))
 }

@@ -1,22 +1,18 @@
+-- Where the event is refused or has no value there, the answer is 0. Else it is made of the part of the event that `find_value` answers, which has the value.
 use borrow.Author.Needs.{needs}
 use Prim.Native.Nat.{ℕ}
 use mathlib.Core.List.{List}
-use denote.Ref.{now}
 use Rattle.event.specs.EventLayout.{wide}
 use Rattle.event.specs.code.EventIndex.{ValueFound, ValueStands, eventQuestions, EventAsked, asked, EventAnswers}
-use Rattle.event.proofs.AskLaws.{Accepted, accepted-is, refused-is, found-value, found-none, value-refused, value-missing, value-is}
-use Rattle.interface.proofs.PackingLaws.{part-none, part-packed}
+use Rattle.event.proofs.AskLaws.{Accepted, accepted-is, found-value}
+use Rattle.interface.proofs.PackingLaws.{value-unasked, value-absent, value-packed}
 use Rattle.interface.proofs.calls.merger_value.Statement.{statement}
 use Rattle.interface.proofs.calls.merger_value.Tie as tie
 
 -- ---- the places
 
--- The table is read at `After-read-table`, the event at `After-read-event`, and the questions are asked at `After-ask-event`.
-abbrev to-start : tie.After-type-name → tie.Start
-to-start c = c .before .before .before
-
-abbrev to-name : tie.After-read-table → tie.After-type-name
-to-name c = c .before .before
+abbrev to-start : tie.After-read-table → tie.Start
+to-start c = c .before .before .before .before .before
 
 abbrev to-table : tie.After-read-event → tie.After-read-table
 to-table c = c .before .before .before
@@ -24,28 +20,24 @@ to-table c = c .before .before .before
 abbrev to-event : tie.After-ask-event → tie.After-read-event
 to-event c = c .before .before .before .before
 
-abbrev asked-start : tie.After-ask-event → tie.Start
-asked-start c = to-start (to-name (to-table (to-event c)))
-
 abbrev to-taken : tie.After-find-value → tie.Else1
 to-taken c = c .before .before
 
-abbrev of-start : tie.After-find-value → tie.Start
-of-start c = asked-start (to-taken c .before)
-
--- ---- the values
-
-module _ (c : tie.Start) where
-  abbrev table : List ℕ
-  table = now (c .args .table)
-
-  abbrev event : List ℕ
-  event = now (c .args .event)
+-- ---- the event is asked
 
 module _ (c : tie.After-ask-event) where
+  abbrev tabled : tie.After-read-table
+  tabled = to-table (to-event c)
+
+  abbrev table : List ℕ
+  table = to-start tabled .args .table .now
+
+  abbrev event : List ℕ
+  event = to-start tabled .args .event .now
+
   -- the numbers of the type's properties
   abbrev ps : List ℕ
-  ps = to-table (to-event c) .read-table .last .1 .1 .0
+  ps = tabled .read-table .last .1 .1 .0
 
   -- where the event's sets stand
   abbrev ats : List ℕ
@@ -53,56 +45,52 @@ module _ (c : tie.After-ask-event) where
 
   -- the number, the type and the event
   abbrev answer : EventAsked
-  answer = asked (c .ask-event .result) (to-table (to-event c) .read-table .result .index) (to-event c .read-event .result)
+  answer = asked (c .ask-event .result) (tabled .read-table .result .index) (to-event c .read-event .result)
 
--- ---- the facts
+  answered : EventAnswers (eventQuestions wide table event) table event ps ats answer
+  answered =
+      c .ask-event .ensures _ _ wide (tabled .read-table .ensures) (λ x h. tabled .before .before .type-name .ensures wide x h) (to-event c .read-event .ensures)
 
-answered : (c : tie.After-ask-event) → let s = asked-start c in
-    EventAnswers (eventQuestions wide (table s) (event s)) (table s) (event s) (ps c) (ats c) (answer c)
-answered c =
-    let read = to-event c in
-    let tabled = to-table read in
-    c .ask-event .ensures _ _ wide (tabled .read-table .ensures) (λ x h. to-name tabled .type-name .ensures wide x h) (read .read-event .ensures)
-
-abbrev accepted : (c : tie.Else1) → let s = asked-start (c .before) in
-    Accepted wide (table s) (event s) (ps (c .before)) (ats (c .before)) (answer (c .before))
+abbrev accepted : (c : tie.Else1) → let d = c .before in Accepted wide (table d) (event d) (ps d) (ats d) (answer d)
 accepted c = accepted-is wide _ _ _ _ _ (answered (c .before)) (c .if1 .left)
 
-found : (c : tie.After-find-value) →
-    let a = of-start c .args in
-    ValueFound (event (of-start c)) (accepted (to-taken c) .e) (a .place) (a .index) (c .find-value .result)
-found c = c .find-value .ensures (accepted (to-taken c) .e) (accepted (to-taken c) .event-is)
+-- ---- the value is looked up
+
+module _ (c : tie.After-find-value) where
+  abbrev here : tie.After-ask-event
+  here = to-taken c .before
+
+  abbrev place : ℕ
+  place = to-start (tabled here) .args .place
+
+  abbrev index : ℕ
+  index = to-start (tabled here) .args .index
+
+  found : ValueFound (event here) (accepted (to-taken c) .e) place index (c .find-value .result)
+  found = c .find-value .ensures (accepted (to-taken c) .e) (accepted (to-taken c) .event-is)
 
 -- where the value stands
-stands : (c : tie.After-start) →
-    let at-find = c .before .before in let a = of-start at-find .args in
-    ValueStands (event (of-start at-find)) (accepted (to-taken at-find) .e) (a .place) (a .index) (c .start .given .0 .0) (c .start .given .0 .1 .0)
+stands :
+    (c : tie.After-start) →
+    let f = c .before .before in
+    ValueStands (event (here f)) (accepted (to-taken f) .e) (place f) (index f) (c .start .given .0 .0) (c .start .given .0 .1 .0)
 stands c = found-value (c .start .given .1) (found (c .before .before))
 
 -- ---- the needs
 
 returns : tie.Need-returns
-returns c =
-    let a = asked-start (c .before) .args in
-    part-none (value-refused _ _ (a .place) (a .index) _ (refused-is wide _ _ _ _ _ (answered (c .before)) (c .if1 .taken)))
+returns c = value-unasked _ _ _ _ _ _ _ (answered (c .before)) (c .if1 .taken)
 
 sub-result : tie.Need-sub-result
 sub-result c = stands (c .before) .order
 
 returns-2 : tie.Need-returns-2
-returns-2 c =
-    let here = c .before in
-    let at-find = here .before .before in
-    let a = of-start at-find .args in
-    part-packed (stands here) (value-is _ _ (a .place) (a .index) _ _ _ (accepted (to-taken at-find)) _ _ (stands here))
+returns-2 c = value-packed _ _ _ _ _ _ _ (accepted (to-taken (c .before .before .before))) (stands (c .before))
 
 returns-3 : tie.Need-returns-3
 returns-3 c =
-    let at-find = c .before .before in
-    let a = of-start at-find .args in
-    let known = accepted (to-taken at-find) in
-    let none-there = found-none (event (of-start at-find)) (known .e) (a .place) (a .index) (c .enum-told .given .1) (found at-find) in
-    part-none (value-missing _ _ (a .place) (a .index) _ _ _ known none-there)
+    let f = c .before .before in
+    value-absent _ _ _ _ _ _ _ (accepted (to-taken f)) (c .enum-told .given .1) (found f)
 
 pub merger-value-spec : {M : Type 1} → statement M
 merger-value-spec =
