@@ -23,9 +23,9 @@ use Rattle.replies.specs.declared.reply.BatchReply.the-variants as batch
 use Rattle.event.specs.EventLayout.{wide}
 use Rattle.event.specs.Value.{Part, valueCall}
 use Rattle.event.specs.declared.lookup.ValueAt.{ValueAt}
-use Rattle.event.specs.declared.lookup.ValueAt.the-variants.{NoValue}
+use Rattle.event.specs.declared.lookup.ValueAt.the-variants.{Value, NoValue}
 use Rattle.event.specs.code.EventIndex.{ValueFound, ValueStands, eventQuestions, EventAsked, EventAnswers}
-use Rattle.event.proofs.AskLaws.{Accepted, refused-is, found-none, nothing, value-refused, value-missing, value-is}
+use Rattle.event.proofs.AskLaws.{Accepted, refused-is, found-value, found-none, nothing, value-refused, value-missing, value-is}
 use Rattle.interface.specs.Packing.{low, kinded, packedRefusal, packedFinding, packedAs, packed, packedOpened, versionOr, versionAfter, packedPart}
 
 pub refusal-is : (number position : ℕ) → 288230376151711744 + (position % 16777216 * 256 + number) ≡ packedRefusal number position
@@ -138,18 +138,28 @@ none-packed : {x : Part} → x ≡ nothing → 0 ≡ packedPart x
 unfolding packedPart
 none-packed h = ap packedPart (sym h)
 
-module _ (table event : List ℕ) (place index : ℕ) (ps ats : List ℕ) (r : EventAsked) where
-  pub value-unasked :
-      EventAnswers (eventQuestions wide table event) table event ps ats r → (r .number ≡ 0 → ⊥) → 0 ≡ packedPart (valueCall table event place index)
-  value-unasked w h = none-packed (value-refused table event place index _ (refused-is wide table event ps ats r w h))
+-- what the questions answer on a table and an event, and what is known where they accept them
+abbrev pub Answers : List ℕ → List ℕ → List ℕ → List ℕ → EventAsked → Type 0
+Answers table event ps ats r = EventAnswers (eventQuestions wide table event) table event ps ats r
 
-  module _ (a : Accepted wide table event ps ats r) where
-    pub value-absent : {q : ValueAt} → q ≡ NoValue → ValueFound event (a .e) place index q → 0 ≡ packedPart (valueCall table event place index)
-    value-absent h w = none-packed (value-missing table event place index ps ats r a (found-none event (a .e) place index h w))
+abbrev pub Taken : List ℕ → List ℕ → List ℕ → List ℕ → EventAsked → Type 0
+Taken table event ps ats r = Accepted wide table event ps ats r
 
-    pub value-packed :
-        {s z : ℕ} → ValueStands event (a .e) place index s z → (z - s) % 268435456 + s % 268435456 * 268435456 ≡ packedPart (valueCall table event place index)
-    unfolding packedPart
-    value-packed {s} {z} v =
-        ap (λ (n : ℕ). n % 268435456 + s % 268435456 * 268435456) (sym (part-length event s z (v .order) (v .within)))
-        ∙ ap packedPart (sym (value-is table event place index ps ats r a s z v))
+pub value-unasked :
+    (table event : List ℕ) (place index : ℕ) (ps ats : List ℕ) (r : EventAsked) → Answers table event ps ats r → (r .number ≡ 0 → ⊥) →
+    0 ≡ packedPart (valueCall table event place index)
+value-unasked table event place index ps ats r w h =
+    none-packed (value-refused table event place index _ (refused-is wide table event ps ats r w h))
+
+module _ {table event ps ats : List ℕ} {r : EventAsked} (a : Taken table event ps ats r) (place index : ℕ) {q : ValueAt} where
+  pub value-absent : q ≡ NoValue → ValueFound event (a .e) place index q → 0 ≡ packedPart (valueCall table event place index)
+  value-absent h w = none-packed (value-missing table event place index ps ats r a (found-none event (a .e) place index h w))
+
+  pub value-packed :
+      {s z : ℕ} → q ≡ Value s z → ValueFound event (a .e) place index q →
+      (z - s) % 268435456 + s % 268435456 * 268435456 ≡ packedPart (valueCall table event place index)
+  unfolding packedPart
+  value-packed {s} {z} h w =
+      let v : ValueStands event (a .e) place index s z = found-value h w in
+      ap (λ (n : ℕ). n % 268435456 + s % 268435456 * 268435456) (sym (part-length event s z (v .order) (v .within)))
+      ∙ ap packedPart (sym (value-is table event place index ps ats r a s z v))

@@ -2,10 +2,9 @@
 use borrow.Author.Needs.{needs}
 use Prim.Native.Nat.{ℕ}
 use mathlib.Core.List.{List}
-use Rattle.event.specs.EventLayout.{wide}
-use Rattle.event.specs.code.EventIndex.{ValueFound, ValueStands, eventQuestions, EventAsked, asked, EventAnswers}
-use Rattle.event.proofs.AskLaws.{Accepted, accepted-is, found-value}
-use Rattle.interface.proofs.PackingLaws.{value-unasked, value-absent, value-packed}
+use Rattle.event.specs.code.EventIndex.{ValueFound, EventAsked, asked}
+use Rattle.event.proofs.AskLaws.{accepted-is, found-value}
+use Rattle.interface.proofs.PackingLaws.{Answers, Taken, value-unasked, value-absent, value-packed}
 use Rattle.interface.proofs.calls.merger_value.Statement.{statement}
 use Rattle.interface.proofs.calls.merger_value.Tie as tie
 
@@ -20,10 +19,7 @@ to-table c = c .before .before .before
 abbrev to-event : tie.After-ask-event → tie.After-read-event
 to-event c = c .before .before .before .before
 
-abbrev to-taken : tie.After-find-value → tie.Else1
-to-taken c = c .before .before
-
--- ---- the event is asked
+-- ---- the facts
 
 module _ (c : tie.After-ask-event) where
   abbrev tabled : tie.After-read-table
@@ -47,34 +43,19 @@ module _ (c : tie.After-ask-event) where
   abbrev answer : EventAsked
   answer = asked (c .ask-event .result) (tabled .read-table .result .index) (to-event c .read-event .result)
 
-  answered : EventAnswers (eventQuestions wide table event) table event ps ats answer
+  answered : Answers table event ps ats answer
   answered =
-      c .ask-event .ensures _ _ wide (tabled .read-table .ensures) (λ x h. tabled .before .before .type-name .ensures wide x h) (to-event c .read-event .ensures)
+      c .ask-event .ensures _ _ _ (tabled .read-table .ensures) (tabled .before .before .type-name .ensures _) (to-event c .read-event .ensures)
 
-abbrev accepted : (c : tie.Else1) → let d = c .before in Accepted wide (table d) (event d) (ps d) (ats d) (answer d)
-accepted c = accepted-is wide _ _ _ _ _ (answered (c .before)) (c .if1 .left)
+abbrev accepted : (c : tie.Else1) → let d = c .before in Taken (table d) (event d) (ps d) (ats d) (answer d)
+accepted c = accepted-is _ _ _ _ _ _ (answered (c .before)) (c .if1 .left)
 
--- ---- the value is looked up
-
-module _ (c : tie.After-find-value) where
-  abbrev here : tie.After-ask-event
-  here = to-taken c .before
-
-  abbrev place : ℕ
-  place = to-start (tabled here) .args .place
-
-  abbrev index : ℕ
-  index = to-start (tabled here) .args .index
-
-  found : ValueFound (event here) (accepted (to-taken c) .e) place index (c .find-value .result)
-  found = c .find-value .ensures (accepted (to-taken c) .e) (accepted (to-taken c) .event-is)
-
--- where the value stands
-stands :
-    (c : tie.After-start) →
-    let f = c .before .before in
-    ValueStands (event (here f)) (accepted (to-taken f) .e) (place f) (index f) (c .start .given .0 .0) (c .start .given .0 .1 .0)
-stands c = found-value (c .start .given .1) (found (c .before .before))
+found :
+    (c : tie.After-find-value) →
+    let taken = c .before .before in
+    let a = to-start (tabled (taken .before)) .args in
+    ValueFound (a .event .now) (accepted taken .e) (a .place) (a .index) (c .find-value .result)
+found c = let taken = accepted (c .before .before) in c .find-value .ensures (taken .e) (taken .event-is)
 
 -- ---- the needs
 
@@ -82,15 +63,17 @@ returns : tie.Need-returns
 returns c = value-unasked _ _ _ _ _ _ _ (answered (c .before)) (c .if1 .taken)
 
 sub-result : tie.Need-sub-result
-sub-result c = stands (c .before) .order
+sub-result c = found-value (c .before .start .given .1) (found (c .before .before .before)) .order
 
 returns-2 : tie.Need-returns-2
-returns-2 c = value-packed _ _ _ _ _ _ _ (accepted (to-taken (c .before .before .before))) (stands (c .before))
+returns-2 c =
+    let f = c .before .before .before in
+    value-packed (accepted (f .before .before)) _ _ (c .before .start .given .1) (found f)
 
 returns-3 : tie.Need-returns-3
 returns-3 c =
     let f = c .before .before in
-    value-absent _ _ _ _ _ _ _ (accepted (to-taken f)) (c .enum-told .given .1) (found f)
+    value-absent (accepted (f .before .before)) _ _ (c .enum-told .given .1) (found f)
 
 pub merger-value-spec : {M : Type 1} → statement M
 merger-value-spec =

@@ -4,7 +4,7 @@ use Rattle.interface.proofs.pack.pack_refusal.Statement.{statement}
 use Rattle.interface.proofs.pack.pack_refusal.Tie as tie
 
 returns : tie.Need-returns
-returns c = refusal-is (c .args .number) (c .args .position)
+returns c = refusal-is _ _
 
 pub pack-refusal-spec : {M : Type 1} → statement M
 pack-refusal-spec = tie.close (tie.spec (λ c. search needs) (λ c. search needs) (λ c. search needs) returns)
