@@ -5,7 +5,7 @@ use mathlib.Core.Bool.{Bool, true, false, cond, _&&_, and-eq-true-iff}
 use mathlib.Core.Option.{Option, none, some}
 use mathlib.Core.List.{List, [], _∷_, _++_, map, List·Memᴰ, List·Memᴰ·head, List·Memᴰ·tail, List·Memᴰ·cases-cons, List·Memᴰ·not-nil, List·Memᴰ·eq-of-singleton}
 use mathlib.Core.List.{Memᴰ·append-left, Memᴰ·append-right}
-use Prim.Native.Nat.{ℕ, zero, suc, _+_, _-_, _≤_, _<_}
+use Prim.Native.Nat.{ℕ, zero, suc, _+_, _-_, _≤_}
 use native.Mathlib.Omega.{arith}
 use native.Mathlib.Numerals.{sub-one}
 use lib.ListN.{length, take, drop, getD, take-append-drop, length-append}
@@ -36,6 +36,8 @@ use Rattle.ontology.specs.Table.{EventType, Table}
 use Rattle.ontology.specs.TableLayout.{tableOf}
 use Rattle.ontology.specs.code.TypeIndex.{TypeIs}
 use Rattle.ontology.specs.declared.types.TypeIndex.{TypeIndex}
+use Rattle.ontology.specs.declared.tables.TableRead.{TableRead}
+use Rattle.ontology.proofs.TypeIndexLaws.{TableGot}
 use Rattle.event.specs.Event.{Event, typeView, view}
 use Rattle.event.specs.EventLayout.{narrow}
 use Rattle.event.specs.EventQuestions.{Typed, eventAsked}
@@ -51,12 +53,13 @@ use Rattle.combining.specs.CombineCall.{combined, combineAsked, combineAnswer, 
 use Rattle.ways.specs.ByteWays.{eventOr, eventAt, byteView, dossierReturned, returned, wayAnswer, HasRoom, SameMatch}
 use Rattle.ways.proofs.RuleQuestionLaws.{has-length}
 use Rattle.ways.proofs.CallLaws.{returned-gives, rule-bytes, Colliding, ruleOf, bytesOf, checked-one, asked, same-match, one-fits, two-joined, byte-calls}
-use Rattle.batch.specs.Batch.{AskedAt, refusedAt, accepted, _>>=_, _>>_, at, eventsAsked, eventsAgree, agreeWith, batchOf, batchDossier, together, batchAsked, batchGiven, Rooms, haveRoom, batchAnswer, batchCall}
+use Rattle.batch.specs.Batch.{AskedAt, refusedAt, accepted, _>>=_, _>>_, at, eventsAsked, eventsAgree, agreeWith, batchOf, batchDossier, together}
+use Rattle.batch.specs.Batch.{batchAsked, batchGiven, Rooms, haveRoom, batchAnswer, batchCall}
 use Rattle.batch.specs.code.BatchIndex.{BatchIs, BatchReads, eventsAgreed, eventsTogether, FirstTyped, RefusalIs, combinedGiven, combinedAnswer}
-use Rattle.batch.specs.code.BatchIndex.{Agreed, FirstOf, MeasuredFirst, DoneWithin, atFirst}
+use Rattle.batch.specs.code.BatchIndex.{Agreed, FirstOf, MeasuredFirst, DoneWithin, CombinedFirst, atFirst}
 use Rattle.batch.specs.declared.asked.EventsAsked.{EventsAsked}
 use Rattle.batch.specs.declared.frame.BatchIndex.{BatchIndex}
-use Rattle.batch.proofs.AskedLaws.{same-type, apartThen, goingOn, first-accepted, first-refused}
+use Rattle.batch.proofs.AskedLaws.{same-type, apartThen, goingOn, first-accepted, first-refused, IsEvent}
 
 -- ---- events of which questions 3 to 7 are answered yes
 
@@ -122,30 +125,35 @@ module _ (ts : Table) (s : List ℕ) (a : Typed) (h : eventAsked narrow ts s ≡
   sets-long : length (a .event .sets) ≡ 32
   sets-long = event-fits ts s (a .type) (a .event) (event-accepted narrow ts s (a .type) (a .event) h) .written .sets .long
 
-module _ (ts : Table) (s r : List ℕ) (a b : Typed) (h : eventAsked narrow ts s ≡ questions.accepted a) (k : eventAsked narrow ts r ≡ questions.accepted b) (l : Alike a b) where
-  one-type : b .type ≡ a .type
-  one-type = sym (same-type ts s r a b h k (l .type))
+module _
+    (ts : Table) (s r : List ℕ) (a b : Typed) (h : eventAsked narrow ts s ≡ questions.accepted a)
+    (k : eventAsked narrow ts r ≡ questions.accepted b) (l : Alike a b)
+  where
+    one-type : b .type ≡ a .type
+    one-type = sym (same-type ts s r a b h k (l .type))
 
-  alike-match : SameMatch (a .type) (b .event) (a .event)
-  alike-match =
-      let e : matchSets (a .type .properties) (b .event .sets) ≡ matchSets (a .type .properties) (a .event .sets) =
-      ap (λ (t : EventType). matchSets (t .properties) (b .event .sets)) (sym one-type) ∙ sym (l .sets) in
-      match-sets (a .type .properties) (b .event .sets) (a .event .sets) (sets-long ts r b k ∙ sym (sets-long ts s a h)) .1 e
+    alike-match : SameMatch (a .type) (b .event) (a .event)
+    alike-match =
+        let e : matchSets (a .type .properties) (b .event .sets) ≡ matchSets (a .type .properties) (a .event .sets) =
+        ap (λ (t : EventType). matchSets (t .properties) (b .event .sets)) (sym one-type) ∙ sym (l .sets) in
+        match-sets (a .type .properties) (b .event .sets) (a .event .sets) (sets-long ts r b k ∙ sym (sets-long ts s a h)) .1 e
 
-  colliding : Colliding ts (a .type) (a .event .head .source) s r
-  colliding = record {
-    taken = k ∙ ap questions.accepted (λ i. record { type = one-type i; event = sym (is-event ts r b k) i });
-    source = ap (λ (e : Event). e .head .source) (is-event ts r b k) ∙ sym (l .source);
-    alike = subst (λ (e : Event). SameMatch (a .type) e (eventAt s)) (sym (is-event ts r b k))
-        (subst (λ (e : Event). SameMatch (a .type) (b .event) e) (sym (is-event ts s a h)) alike-match);
-  }
+    colliding : Colliding ts (a .type) (a .event .head .source) s r
+    colliding = record {
+      taken = k ∙ ap questions.accepted (λ i. record { type = one-type i; event = sym (is-event ts r b k) i });
+      source = ap (λ (e : Event). e .head .source) (is-event ts r b k) ∙ sym (l .source);
+      alike = subst (λ (e : Event). SameMatch (a .type) e (eventAt s)) (sym (is-event ts r b k))
+          (subst (λ (e : Event). SameMatch (a .type) (b .event) e) (sym (is-event ts s a h)) alike-match);
+    }
 
 pub known : (ts : Table) (ss : List (List ℕ)) → eventsTogether ts ss ≡ accepted tt → Known ts ss
 unfolding eventsTogether eventsAsked eventsAgreed goingOn apartThen
 known ts [] e = never (cc)
 known ts (s ∷ ss) e = asked (eventAsked narrow ts s) refl
   where
-    agreed : (a : Typed) → eventAsked narrow ts s ≡ questions.accepted a → (q : AskedAt (List Typed)) → eventsAsked ts 1 ss ≡ q → (q >>= λ bs. agreeWith a 1 bs) ≡ accepted tt → Known ts (s ∷ ss)
+    agreed :
+        (a : Typed) → eventAsked narrow ts s ≡ questions.accepted a → (q : AskedAt (List Typed)) → eventsAsked ts 1 ss ≡ q →
+        (q >>= λ bs. agreeWith a 1 bs) ≡ accepted tt → Known ts (s ∷ ss)
     agreed a h (refusedAt n i) f g = never (cc)
     agreed a h (accepted bs) f g =
         let self = colliding ts s s a a h h (record { type = refl; source = refl; sets = refl }) in
@@ -196,7 +204,9 @@ any-buffer (Answer.finds f) x y = refl
 any-buffer (refuses n) x y = refl
 any-buffer (refusesAt n i) x y = refl
 
-for-done : (w : ways.Reply (List ℕ)) (n : ℕ) (bytes old : List ℕ) → wrote (take n bytes) ≡ returned (outcome (answerFor w) old) → answerFor w ≡ gives (take n bytes)
+for-done :
+    (w : ways.Reply (List ℕ)) (n : ℕ) (bytes old : List ℕ) → wrote (take n bytes) ≡ returned (outcome (answerFor w) old) →
+    answerFor w ≡ gives (take n bytes)
 unfolding answerFor
 for-done (wrote x) n bytes old e = let z = e ∙ returned-gives x old in cc
 for-done (said m) n bytes old e = never (cc)
@@ -260,7 +270,8 @@ module _ (table : List ℕ) (ts : Table) (isTable : tableOf table ≡ some ts) (
   two-agree s r h g =
       let f = fitting s h in
       let e = fitting r g in
-      let m = match-sets (t .properties) (eventAt s .sets) (eventAt r .sets) (f .written .sets .long ∙ sym (e .written .sets .long)) .0 (λ p q x y. h .alike p q x y ∙ sym (g .alike p q x y)) in
+      let m = match-sets (t .properties) (eventAt s .sets) (eventAt r .sets) (f .written .sets .long ∙ sym (e .written .sets .long)) .0
+      (λ p q x y. h .alike p q x y ∙ sym (g .alike p q x y)) in
       agree-exact _ _ _ _ _ _ .1 (f .named ∙ sym (e .named), h .source ∙ sym (g .source), m)
 
   all-agree : (s : List ℕ) → S s → (i : ℕ) (es : List (List ℕ)) → Each S es → agreeWith (typed s) i (map typed es) ≡ accepted tt
@@ -279,7 +290,8 @@ module _ (table : List ℕ) (ts : Table) (isTable : tableOf table ≡ some ts) (
 
   last-question : (s : List ℕ) (es : List (List ℕ)) → Each S (s ∷ es) →
       together standard (map typed (s ∷ es))
-      ≡ (at 0 (ensure 8 (fits standard (typeView t) (modelOf (batchDossier (typed s) (map typed es))))) >> accepted (record { type = t; headed = batchDossier (typed s) (map typed es) }))
+      ≡ (at 0 (ensure 8 (fits standard (typeView t) (modelOf (batchDossier (typed s) (map typed es)))))
+      >> accepted (record { type = t; headed = batchDossier (typed s) (map typed es) }))
   unfolding together
   last-question s es h = rw (all-agree s (h s (List·Memᴰ·head refl)) 1 es (λ r m. h r (List·Memᴰ·tail m)))
 
@@ -339,7 +351,9 @@ module _ (table : List ℕ) (ts : Table) (isTable : tableOf table ≡ some ts) (
   first-last (suc n) h l = rw (sub-one) (take-suc ss n [] (omega arith))
 
   last-is : (n : ℕ) → 1 ≤ n → n ≤ length ss → S (getD ss (n - 1) [])
-  last-is n h l = first-each n (getD ss (n - 1) []) (subst (λ (xs : List (List ℕ)). List·Memᴰ (getD ss (n - 1) []) xs) (sym (first-last n h l)) (Memᴰ·append-right (take (n - 1) ss) (List·Memᴰ·head refl)))
+  last-is n h l =
+      first-each n (getD ss (n - 1) []) (subst (λ (xs : List (List ℕ)). List·Memᴰ (getD ss (n - 1) []) xs) (sym (first-last n h l))
+      (Memᴰ·append-right (take (n - 1) ss) (List·Memᴰ·head refl)))
 
   first-is : (n : ℕ) → 1 ≤ n → n ≤ length ss → combinedAnswer ts (take n ss) ≡ answerFor (ruled (take n ss))
   first-is n h l = combined-is (take n ss) (first-has ss n h l) (first-each n)
@@ -563,10 +577,6 @@ combine-within : (r : reply.Reply) (after table x y out : List ℕ) → replies 
 unfolding combineCall
 combine-within r after table x y out e = call-within r after out (combineAnswer standard (length out) table x y) e
 
-pub done-within : (r : reply.Reply) (s : List ℕ) (n : ℕ) → DoneWithin r s → r ≡ variant.Done n → n ≤ length s
-unfolding DoneWithin
-done-within r s n w e = subst (λ (y : reply.Reply). DoneWithin y s) e w
-
 refused-within : (r : reply.Reply) (s : List ℕ) (n : ℕ) → r ≡ variant.Refused n → DoneWithin r s
 unfolding DoneWithin
 refused-within r s n e = subst (λ (y : reply.Reply). DoneWithin y s) (sym e) tt
@@ -575,34 +585,35 @@ refused-measured : (ts : Table) (es : List (List ℕ)) (r : reply.Reply) (m : Li
 unfolding MeasuredFirst
 refused-measured ts es r m n e = subst (λ (y : reply.Reply). MeasuredFirst ts es y m) (sym e) tt
 
-pub taken-count : (n : ℕ) (l : List ℕ) → n ≤ length l → n ≡ length (take n l)
-taken-count n l h = sym (length-take-le n l h)
-
 -- ---- what the code knows of the first n events
 
--- s stands where the index has the i-th event, counted from 1
-abbrev pub IsEvent : List ℕ → BatchIndex → ℕ → List ℕ → Type 0
-IsEvent batch x i s = (ss : List (List ℕ)) → BatchIs batch ss x → i - 1 < length ss → s ≡ getD ss (i - 1) []
+-- what was written is inside the buffer
+module _
+    {table batch : List ℕ} {x : BatchIndex} {n size : ℕ} {r : reply.Reply} {m after old : List ℕ} (w : CombinedFirst table batch x n r m after old)
+    (done : r ≡ variant.Done size) where
+  pub done-within : size ≤ length after
+  unfolding DoneWithin
+  done-within = subst (λ (y : reply.Reply). DoneWithin y after) done (w .within)
 
--- r and m are what combining the first n events answered, in a buffer that had the bytes `old` and has `after`
-pub record CombinedFirst (table batch : List ℕ) (x : BatchIndex) (n : ℕ) (r : reply.Reply) (m after old : List ℕ) : Type 0 where
-  pub within : DoneWithin r after
-  pub first :
-      (ts : Table) (ss : List (List ℕ)) → Agreed table batch x ts ss → n ≤ length ss →
-      dossierReturned (replied r) after ≡ returned (outcome (combinedAnswer ts (take n ss)) old)
-  pub measured : (ts : Table) (ss : List (List ℕ)) → Agreed table batch x ts ss → n ≤ length ss → MeasuredFirst ts (take n ss) r m
+  pub done-long : size ≡ length (take size after)
+  done-long = sym (length-take-le size after done-within)
 
-module _ (table batch : List ℕ) (x : BatchIndex) (t : TypeIndex) (ps : List ℕ) (n : ℕ) (w : FirstOf table batch x t ps n) where
+-- r is the answer of combining the first n events, in a buffer that had the bytes `old` and has `after`
+pub record AnswersFirst (table batch : List ℕ) (x : BatchIndex) (n : ℕ) (r : reply.Reply) (after old : List ℕ) : Type 0 where
+  pub is :
+      (ts : Table) (ss : List (List ℕ)) → Agreed table batch x ts ss → n ≤ length ss → replies r after ≡ outcome (combinedAnswer ts (take n ss)) old
+
+module _ {table batch : List ℕ} {x : BatchIndex} {t : TypeIndex} {ps : List ℕ} {n : ℕ} (w : FirstOf table batch x t ps n) where
   pub fewer : FirstOf table batch x t ps (n - 1)
   fewer = record { types = w .types; events = w .events; agreed = w .agreed; typed = w .typed; within = omega (arith, w .within) }
 
-  -- the i-th event was accepted, with the type t
-  pub event-known : (i : ℕ) (s : List ℕ) → 1 ≤ i → i ≤ n → IsEvent batch x i s → KnownEvent table s t
-  event-known i s h l e =
+  -- the first event was accepted, with the type t
+  pub first-known : {s : List ℕ} → IsEvent batch x 0 s → KnownEvent table s t
+  first-known {s} is =
       let g = w .agreed in
-      let m : i ≤ length (w .events) = omega (arith, w .within) in
-      nth-known table (w .types) (g .isTable) (w .events) (known (w .types) (w .events) (g .agreed)) i s t ps h m
-      (e (w .events) (g .isBatch) (omega arith)) (w .typed)
+      let one : 1 ≤ length (w .events) = omega (arith, g .isBatch .one, g .isBatch .count) in
+      nth-known table (w .types) (g .isTable) (w .events) (known (w .types) (w .events) (g .agreed)) 1 s t ps (omega arith) one
+      (is (w .events) (g .isBatch) (omega arith)) (w .typed)
 
   -- the table and the batch have one reading, so that under any the type is that of the first event
   first-typed : (ts : Table) (ss : List (List ℕ)) → Agreed table batch x ts ss → FirstTyped table ts ss t ps
@@ -619,43 +630,48 @@ module _ (table batch : List ℕ) (x : BatchIndex) (t : TypeIndex) (ps : List �
       }
 
   -- one event, checked
-  module _ (s after old : List ℕ) (r : reply.Reply) (one : n ≡ 1) (room : HasRoom old) (is : IsEvent batch x 1 s)
+  module _
+      {s after old : List ℕ} {r : reply.Reply} (some : 1 ≤ n) (few : n ≤ 1) (room : HasRoom old) (is : IsEvent batch x 0 s)
       (e : replies r after ≡ checkCall table s old) where
-    pub one-checked :
-        (ts : Table) (ss : List (List ℕ)) → Agreed table batch x ts ss → n ≤ length ss → replies r after ≡ outcome (combinedAnswer ts (take n ss)) old
-    one-checked ts ss g l =
-        check-one table ts (g .isTable) ss (known ts ss (g .agreed)) n s old after r one (omega arith) room (is ss (g .isBatch) (omega arith)) e
-
-    pub one-combined :
-        (m : List ℕ) → ((k : KnownEvent table s t) → Measured (eventDossier (k .event) .snapshots) m) → CombinedFirst table batch x n r m after old
-    one-combined m f = record {
-      within = check-within r after table s old e;
-      first = λ ts ss g l. ap (λ (o : Outcome). returned o) (one-checked ts ss g l);
-      measured = λ ts ss g l.
-          subst (λ (i : ℕ). MeasuredFirst ts (take i ss) r m) (sym one)
-          (one-measured table ts (g .isTable) ss (known ts ss (g .agreed)) s t ps r m (omega arith) (is ss (g .isBatch) (omega arith)) (first-typed ts ss g) f);
+    pub one-checked : AnswersFirst table batch x n r after old
+    one-checked = record {
+      is = λ ts ss g l.
+          check-one table ts (g .isTable) ss (known ts ss (g .agreed)) n s old after r (omega arith) (omega arith) room (is ss (g .isBatch) (omega arith)) e;
     }
 
-  -- those before the n-th, combined
-  module _ (two : 2 ≤ n) (r : reply.Reply) (m after old : List ℕ) (others : CombinedFirst table batch x (n - 1) r m after old) where
-    -- a refusal of these is one of all
-    pub all-refused :
-        (z : ℕ) (out : List ℕ) → r ≡ variant.Refused z →
-        (ts : Table) (ss : List (List ℕ)) → Agreed table batch x ts ss → n ≤ length ss → replies r out ≡ outcome (combinedAnswer ts (take n ss)) out
-    all-refused z out e ts ss g l =
-        stopped table ts (g .isTable) ss (known ts ss (g .agreed)) (n - 1) (omega arith) (omega arith) r after old
-        (others .first ts ss g (omega arith)) n z out (omega arith) l e
+    pub one-combined :
+        {m : List ℕ} → ((k : KnownEvent table s t) → Measured (eventDossier (k .event) .snapshots) m) → CombinedFirst table batch x n r m after old
+    one-combined {m} f =
+        let one : 1 ≡ n = omega arith in
+        record {
+          within = check-within r after table s old e;
+          first = λ ts ss g l. ap (λ (o : Outcome). returned o) (one-checked .is ts ss g l);
+          measured = λ ts ss g l.
+              subst (λ (i : ℕ). MeasuredFirst ts (take i ss) r m) one
+              (one-measured table ts (g .isTable) ss (known ts ss (g .agreed)) s t ps r m (omega arith) (is ss (g .isBatch) (omega arith))
+              (first-typed ts ss g) f);
+        }
 
-    pub refused-combined : (z : ℕ) (out old′ : List ℕ) → r ≡ variant.Refused z → CombinedFirst table batch x n r m out old′
-    refused-combined z out old′ e = record {
+  -- those before the n-th, combined
+  module _ {r : reply.Reply} {m after old : List ℕ} (two : 2 ≤ n) (others : CombinedFirst table batch x (n - 1) r m after old) where
+    -- a refusal of these is one of all
+    pub all-refused : {z : ℕ} {out : List ℕ} → r ≡ variant.Refused z → AnswersFirst table batch x n r out out
+    all-refused {z} {out} e = record {
+      is = λ ts ss g l.
+          stopped table ts (g .isTable) ss (known ts ss (g .agreed)) (n - 1) (omega arith) (omega arith) r after old
+          (others .first ts ss g (omega arith)) n z out (omega arith) l e;
+    }
+
+    pub refused-combined : {z : ℕ} {out old′ : List ℕ} → r ≡ variant.Refused z → CombinedFirst table batch x n r m out old′
+    refused-combined {z} {out} {old′} e = record {
       within = refused-within r out z e;
       first = λ ts ss g l.
-          ap (λ (o : Outcome). returned o) (all-refused z out e ts ss g l) ∙ any-buffer (combinedAnswer ts (take n ss)) out old′;
+          ap (λ (o : Outcome). returned o) (all-refused e .is ts ss g l) ∙ any-buffer (combinedAnswer ts (take n ss)) out old′;
       measured = λ ts ss g l. refused-measured ts (take n ss) r m z e;
     }
 
     -- to their dossier the n-th, s, is added
-    module _ (size : ℕ) (done : r ≡ variant.Done size) (s : List ℕ) (is : IsEvent batch x n s) where
+    module _ {size : ℕ} {s : List ℕ} (done : r ≡ variant.Done size) (is : IsEvent batch x (n - 1) s) where
       last-adds :
           (ts : Table) (ss : List (List ℕ)) → Agreed table batch x ts ss → n ≤ length ss → Adds table (take size after) m s t ps ts (take n ss)
       last-adds ts ss g l =
@@ -670,33 +686,31 @@ module _ (table batch : List ℕ) (x : BatchIndex) (t : TypeIndex) (ps : List �
       last-addable = last-adds (w .types) (w .events) (w .agreed) (w .within) .addable
 
       -- what that answered
-      module _ (r′ : reply.Reply) (after′ out : List ℕ) (room : HasRoom out)
+      module _
+          {r′ : reply.Reply} {after′ : List ℕ} (out : List ℕ) (room : HasRoom out)
           (e : (h : Addable table (take size after) m s t ps) → replies r′ after′ ≡ combineCall standard table (take size after) (h .lone) out) where
-        pub last-added :
-            (ts : Table) (ss : List (List ℕ)) → Agreed table batch x ts ss → n ≤ length ss → replies r′ after′ ≡ outcome (combinedAnswer ts (take n ss)) out
-        last-added ts ss g l = let a = last-adds ts ss g l in e (a .addable) ∙ a .joined out room
+        pub last-added : AnswersFirst table batch x n r′ after′ out
+        last-added = record { is = λ ts ss g l. let a = last-adds ts ss g l in e (a .addable) ∙ a .joined out room }
 
         pub last-combined :
-            (m′ old′ : List ℕ) →
+            {m′ old′ : List ℕ} →
             ((h : Addable table (take size after) m s t ps) (z : ℕ) → r′ ≡ variant.Done z →
             Measured (combined (h .both .left) (h .both .right) .snapshots) m′) →
             CombinedFirst table batch x n r′ m′ after′ old′
-        last-combined m′ old′ f = record {
+        last-combined {m′} {old′} f = record {
           within = combine-within r′ after′ table (take size after) (last-addable .lone) out (e last-addable);
           first = λ ts ss g l.
-              ap (λ (o : Outcome). returned o) (last-added ts ss g l) ∙ any-buffer (combinedAnswer ts (take n ss)) out old′;
+              ap (λ (o : Outcome). returned o) (last-added .is ts ss g l) ∙ any-buffer (combinedAnswer ts (take n ss)) out old′;
           measured = λ ts ss g l. let a = last-adds ts ss g l in a .measured r′ m′ (f (a .addable));
         }
 
 -- as many events as the index has are all
 pub all-taken :
-    (table batch : List ℕ) (x : BatchIndex) (r : reply.Reply) (after old : List ℕ) →
-    ((ts : Table) (ss : List (List ℕ)) → Agreed table batch x ts ss → x .count ≤ length ss →
-    replies r after ≡ outcome (combinedAnswer ts (take (x .count) ss)) old) →
+    {table batch : List ℕ} {x : BatchIndex} (r : reply.Reply) {after old : List ℕ} → AnswersFirst table batch x (x .count) r after old →
     (ts : Table) (ss : List (List ℕ)) → Agreed table batch x ts ss → replies r after ≡ outcome (combinedAnswer ts ss) old
-all-taken table batch x r after old e ts ss g =
+all-taken {x = x} r {old = old} e ts ss g =
     let n = g .isBatch .count in
-    e ts ss g (omega (arith, n)) ∙ ap (λ (xs : List (List ℕ)). outcome (combinedAnswer ts xs) old) (take-all (x .count) ss (omega (arith, n)))
+    e .is ts ss g (omega (arith, n)) ∙ ap (λ (xs : List (List ℕ)). outcome (combinedAnswer ts xs) old) (take-all (x .count) ss (omega (arith, n)))
 
 -- ---- the whole batch
 
@@ -721,7 +735,7 @@ placed-laid (Answer.finds f) old = refl
 placed-laid (refuses n) old = refl
 placed-laid (refusesAt n i) old = refl
 
-pub placed-replies :
+placed-replies :
     (b : BatchReply) (r : reply.Reply) (after out : List ℕ) (a : Answer) → batchReplied b ≡ atFirst (replied r) → replies r after ≡ outcome a out →
     batchReplies b after ≡ outcome (placed a) out
 placed-replies b r after out a p e =
@@ -738,7 +752,7 @@ placed-limited false x = refl
 abbrev all-given : Table → List (List ℕ) → AskedAt TypedDossier
 all-given ts ss = eventsAsked ts 0 ss >>= together standard
 
-pub given-placed : (ts : Table) (ss : List (List ℕ)) → eventsTogether ts ss ≡ accepted tt → batchGiven (all-given ts ss) ≡ placed (combinedAnswer ts ss)
+given-placed : (ts : Table) (ss : List (List ℕ)) → eventsTogether ts ss ≡ accepted tt → batchGiven (all-given ts ss) ≡ placed (combinedAnswer ts ss)
 unfolding eventsTogether eventsAgreed combinedAnswer together batchGiven combinedGiven placed
 given-placed ts ss e = go (eventsAsked ts 0 ss) e
   where
@@ -746,18 +760,23 @@ given-placed ts ss e = go (eventsAsked ts 0 ss) e
     eight true d = refl
     eight false d = refl
 
-    seven : (q : AskedAt (Unit {0})) (k : AskedAt TypedDossier) → q ≡ accepted tt → batchGiven k ≡ placed (combinedGiven k) → batchGiven (q >> k) ≡ placed (combinedGiven (q >> k))
+    seven :
+        (q : AskedAt (Unit {0})) (k : AskedAt TypedDossier) → q ≡ accepted tt → batchGiven k ≡ placed (combinedGiven k) →
+        batchGiven (q >> k) ≡ placed (combinedGiven (q >> k))
     seven (refusedAt n i) k e w = never (cc)
     seven (accepted u) k e w = w
 
-    go : (q : AskedAt (List Typed)) → (q >>= eventsAgreed) ≡ accepted tt → batchGiven (q >>= together standard) ≡ placed (combinedGiven (q >>= together standard))
+    go :
+        (q : AskedAt (List Typed)) → (q >>= eventsAgreed) ≡ accepted tt →
+        batchGiven (q >>= together standard) ≡ placed (combinedGiven (q >>= together standard))
     go (refusedAt n i) e = never (cc)
     go (accepted []) e = never (cc)
     go (accepted (a ∷ bs)) e =
-        seven (agreeWith a 1 bs) (at 0 (ensure 8 (fits standard (typeView (a .type)) (modelOf (batchDossier a bs)))) >> accepted (record { type = a .type; headed = batchDossier a bs })) e
-        (eight (fits standard (typeView (a .type)) (modelOf (batchDossier a bs))) (record { type = a .type; headed = batchDossier a bs }))
+        let d : TypedDossier = record { type = a .type; headed = batchDossier a bs } in
+        let inside = fits standard (typeView (a .type)) (modelOf (batchDossier a bs)) in
+        seven (agreeWith a 1 bs) (at 0 (ensure 8 inside) >> accepted d) e (eight inside d)
 
-pub given-refused : (ts : Table) (ss : List (List ℕ)) (n i : ℕ) → eventsTogether ts ss ≡ refusedAt n i → batchGiven (all-given ts ss) ≡ refusesAt n i
+given-refused : (ts : Table) (ss : List (List ℕ)) (n i : ℕ) → eventsTogether ts ss ≡ refusedAt n i → batchGiven (all-given ts ss) ≡ refusesAt n i
 unfolding eventsTogether eventsAgreed together batchGiven
 given-refused ts ss n i e = go (eventsAsked ts 0 ss) e
   where
@@ -769,7 +788,9 @@ given-refused ts ss n i e = go (eventsAsked ts 0 ss) e
     go (accepted []) e = cc
     go (accepted (a ∷ bs)) e = seven (agreeWith a 1 bs) _ e
 
-module _ (table : List ℕ) (ts : Table) (ss : List (List ℕ)) (q : AskedAt (Unit {0})) (t : TypeIndex) (ps : List ℕ) (r : EventsAsked) (w : RefusalIs table ts ss q t ps r) where
+module _
+    (table : List ℕ) (ts : Table) (ss : List (List ℕ)) (q : AskedAt (Unit {0})) (t : TypeIndex) (ps : List ℕ) (r : EventsAsked)
+    (w : RefusalIs table ts ss q t ps r) where
   pub refusal-was : (r .number ≡ 0 → ⊥) → q ≡ refusedAt (r .number) (r .position)
   unfolding RefusalIs
   refusal-was h = go q w
@@ -808,36 +829,78 @@ unframed batch x w h = go (batchOf batch) refl w
     go none e w = e
     go (some ss) e w = let z = w .0 in never (cc)
 
-pub rooms-are : (r : Rooms) → haveRoom r ≡ true → (dossierCapacity ≤ r .output) × (dossierCapacity ≤ r .first) × (dossierCapacity ≤ r .second) × (dossierCapacity ≤ r .third)
+pub rooms-are :
+    (r : Rooms) → haveRoom r ≡ true →
+    (dossierCapacity ≤ r .output) × (dossierCapacity ≤ r .first) × (dossierCapacity ≤ r .second) × (dossierCapacity ≤ r .third)
 unfolding haveRoom
 rooms-are r h =
-    let (x, d) = and-eq-true-iff (leb dossierCapacity (r .output) && leb dossierCapacity (r .first) && leb dossierCapacity (r .second)) (leb dossierCapacity (r .third)) .0 h in
+    let (x, d) = and-eq-true-iff (leb dossierCapacity (r .output) && leb dossierCapacity (r .first) && leb dossierCapacity (r .second))
+    (leb dossierCapacity (r .third)) .0 h in
     let (y, c) = and-eq-true-iff (leb dossierCapacity (r .output) && leb dossierCapacity (r .first)) (leb dossierCapacity (r .second)) .0 x in
-    let (a, b) = and-eq-true-iff (leb dossierCapacity (r .output)) (leb dossierCapacity (r .first)) .0 y in
-    (leb-true dossierCapacity (r .output) a, leb-true dossierCapacity (r .first) b, leb-true dossierCapacity (r .second) c, leb-true dossierCapacity (r .third) d)
+    let (a, b) = and-eq-true-iff (leb dossierCapacity (r .output)) (leb dossierCapacity (r .first)) .0 y in (
+      leb-true dossierCapacity (r .output) a,
+      leb-true dossierCapacity (r .first) b,
+      leb-true dossierCapacity (r .second) c,
+      leb-true dossierCapacity (r .third) d,
+    )
 
-module _ (rooms : Rooms) (table batch : List ℕ) where
-  pub no-room : haveRoom rooms ≡ false → batchAnswer standard rooms table batch ≡ refusesAt 1 0
-  unfolding batchAnswer batchGiven
-  no-room h = rw h
+-- no event was refused
+abbrev pub agreed-first :
+    {table batch : List ℕ} {name : Text} {ps : List ℕ} {read : TableRead} {x : BatchIndex} (t : TableGot table name ps read) (f : Framed batch x)
+    (r : EventsAsked) → RefusalIs table (t .what) (f .what) (eventsTogether (t .what) (f .what)) (read .index) ps r → r .number ≡ 0 →
+    FirstOf table batch x (read .index) ps (x .count)
+agreed-first t f r w h =
+    let a = all-agreed _ (t .what) (f .what) _ _ _ r w h in
+    record {
+      types = t .what;
+      events = f .what;
+      agreed = record { isTable = t .is; isBatch = f .stands; agreed = a .0 };
+      typed = a .1;
+      within = omega (arith, f .stands .count);
+    }
 
-  module _ (room : haveRoom rooms ≡ true) where
-    pub no-table : tableOf table ≡ none → batchAnswer standard rooms table batch ≡ refusesAt 2 0
-    unfolding batchAnswer batchAsked batchGiven
-    no-table h = rw (room, h)
+-- the questions in their order, up to those of the events
+all-asked-is :
+    (rooms : Rooms) (table batch : List ℕ) → haveRoom rooms ≡ true → (ts : Table) → tableOf table ≡ some ts → (ss : List (List ℕ)) →
+    batchOf batch ≡ some ss → batchAnswer standard rooms table batch ≡ batchGiven (all-given ts ss)
+unfolding batchAnswer batchAsked
+all-asked-is rooms table batch room ts t ss f = rw (room, t, f)
 
-    module _ (ts : Table) (isTable : tableOf table ≡ some ts) where
-      pub no-frame : batchOf batch ≡ none → batchAnswer standard rooms table batch ≡ refusesAt 9 0
-      unfolding batchAnswer batchAsked batchGiven
-      no-frame h = rw (room, isTable, h)
-
-      pub all-asked-is : (ss : List (List ℕ)) → batchOf batch ≡ some ss → batchAnswer standard rooms table batch ≡ batchGiven (all-given ts ss)
-      unfolding batchAnswer batchAsked
-      all-asked-is ss h = rw (room, isTable, h)
-
-pub call-is : (rooms : Rooms) (table batch out : List ℕ) (a : Answer) → batchAnswer standard rooms table batch ≡ a → batchCall standard rooms table batch out ≡ outcome a out
+call-is :
+    (rooms : Rooms) (table batch out : List ℕ) (a : Answer) → batchAnswer standard rooms table batch ≡ a →
+    batchCall standard rooms table batch out ≡ outcome a out
 unfolding batchCall
 call-is rooms table batch out a e = ap (λ (b : Answer). outcome b out) e
+
+module _ (rooms : Rooms) (table batch out : List ℕ) where
+  pub no-room : haveRoom rooms ≡ false → outcome (refusesAt 1 0) out ≡ batchCall standard rooms table batch out
+  unfolding batchAnswer batchGiven
+  no-room h = sym (call-is rooms table batch out (refusesAt 1 0) (rw h))
+
+  module _ (room : haveRoom rooms ≡ true) where
+    pub no-table : tableOf table ≡ none → outcome (refusesAt 2 0) out ≡ batchCall standard rooms table batch out
+    unfolding batchAnswer batchAsked batchGiven
+    no-table h = sym (call-is rooms table batch out (refusesAt 2 0) (rw (room, h)))
+
+    module _ {name : Text} {ps : List ℕ} {read : TableRead} (t : TableGot table name ps read) where
+      pub no-frame : batchOf batch ≡ none → outcome (refusesAt 9 0) out ≡ batchCall standard rooms table batch out
+      unfolding batchAnswer batchAsked batchGiven
+      no-frame h = sym (call-is rooms table batch out (refusesAt 9 0) (rw (room, t .is, h)))
+
+      module _ {x : BatchIndex} (f : Framed batch x) where
+        asked-is : (a : Answer) → batchGiven (all-given (t .what) (f .what)) ≡ a → batchCall standard rooms table batch out ≡ outcome a out
+        asked-is a e = call-is rooms table batch out a (all-asked-is rooms table batch room (t .what) (t .is) (f .what) (f .is) ∙ e)
+
+        pub refused-events :
+            {n i : ℕ} → eventsTogether (t .what) (f .what) ≡ refusedAt n i → outcome (refusesAt n i) out ≡ batchCall standard rooms table batch out
+        refused-events e = sym (asked-is (refusesAt _ _) (given-refused (t .what) (f .what) _ _ e))
+
+        pub combined-events :
+            eventsTogether (t .what) (f .what) ≡ accepted tt → (b : BatchReply) (r : reply.Reply) {after : List ℕ} →
+            batchReplied b ≡ atFirst (replied r) → replies r after ≡ outcome (combinedAnswer (t .what) (f .what)) out →
+            batchReplies b after ≡ batchCall standard rooms table batch out
+        combined-events agreed b r e all =
+            placed-replies b r _ out _ e all ∙ sym (asked-is (placed (combinedAnswer (t .what) (f .what))) (given-placed (t .what) (f .what) agreed))
 
 -- ---- the batch gives the rule over its events
 
@@ -864,18 +927,22 @@ module _ (rooms : Rooms) (table batch out : List ℕ) (ts : Table) (ss : List (L
       ∙ (given-placed ts ss agreed
       ∙ ap placed (combined-is table ts isTable ss these ss (known-has ts ss agreed) (these .each)))
 
-  -- "Is the rule .. (of a batch: over all its events) inside the limits? 8": it gives the bytes of the rule over all its events, or is refused with 8 and the position 0
+  -- "Is the rule .. (of a batch: over all its events) inside the limits? 8": it gives the bytes of the rule over all its events, or is refused with 8
+  -- and the position 0
   pub batch-rule :
       batchCall standard rooms table batch out
-      ≡ outcome (cond (fits standard (typeView batchType) batchRule) (gives (dossierBytes (headed (batchType .name) batchSource batchRule))) (refusesAt 8 0)) out
+      ≡ outcome
+      (cond (fits standard (typeView batchType) batchRule) (gives (dossierBytes (headed (batchType .name) batchSource batchRule))) (refusesAt 8 0)) out
   unfolding limited
   batch-rule =
       let bytes = dossierBytes (headed (batchType .name) batchSource batchRule) in
       call-is rooms table batch out _ (all-combined ∙ placed-limited (fits standard (typeView batchType) batchRule) bytes)
 
-  -- "A batch gives one dossier: all its events but the last are combined first, then the last is added." It answers what that way answers, on any buffers with room
+  -- "A batch gives one dossier: all its events but the last are combined first, then the last is added." It answers what that way answers, on any
+  -- buffers with room
   pub batch-way : (checked combined : ℕ → List ℕ) → ((i : ℕ) → HasRoom (checked i)) → ((i : ℕ) → HasRoom (combined i)) →
-      batchCall standard rooms table batch out ≡ outcome (placed (answerFor (wayAnswer table (ways.batch (λ i. getD ss i []) checked combined (length ss - 1))))) out
+      batchCall standard rooms table batch out
+      ≡ outcome (placed (answerFor (wayAnswer table (ways.batch (λ i. getD ss i []) checked combined (length ss - 1))))) out
   unfolding wayAnswer byte-calls
   batch-way checked combined f g =
       let n = length ss - 1 in

@@ -12,8 +12,11 @@ use lib.Dec.{eqb}
 use borrow.Author.Tests.{le-leb, lt-leb, eqb-true, eqb-false}
 use Rattle.packed.specs.Parse.{Parse, fail, got, andThen, foundIf, times, whole}
 use Rattle.packed.specs.Packed.{readNumber, readText, part, isWithin}
+use Rattle.packed.specs.code.Located.{numberAt, textAt}
+use Rattle.packed.specs.declared.read.NumberAt.the-variants.{NoNumber}
+use Rattle.packed.specs.declared.read.TextAt.the-variants.{Text, NoText}
 use Rattle.packed.proofs.LayoutLaws.{lt-or-ge}
-use Rattle.packed.proofs.ReadLaws.{NumberStops, TextStops, stops-got, stops-early}
+use Rattle.packed.proofs.ReadLaws.{NumberStops, TextStops, number-none, text-none, text-stops, stops-got, stops-early}
 use Rattle.event.proofs.SetLaws.{prepend}
 use Rattle.batch.specs.Batch.{readBatch, batchOf}
 use Rattle.batch.specs.code.BatchIndex.{BatchIs, BatchReads}
@@ -52,19 +55,23 @@ pub record Passed (p : Parse (List (List ℕ))) (s starts ends : List ℕ) (n at
   pub vs : List (List ℕ)
   pub long : length vs ≡ i
   pub below : i ≤ n
+  pub few : n ≤ 16
   pub rest : p ≡ prepend vs (times readText (n - i) (drop at s))
   pub within : at ≤ length s
   pub each : (k : ℕ) → k < i → EventStands s (getD vs k []) (getD starts k 0) (getD ends k 0)
   pub starts-long : length starts ≡ 16
   pub ends-long : length ends ≡ 16
 
-pub passed-none : (s starts ends : List ℕ) (n at : ℕ) → at ≤ length s → length starts ≡ 16 → length ends ≡ 16 → Passed (times readText n (drop at s)) s starts ends n at 0
-passed-none s starts ends n at h a b =
+pub passed-none :
+    {s starts ends : List ℕ} {n at : ℕ} → at ≤ length s → n ≤ 16 → length starts ≡ 16 → length ends ≡ 16 →
+    Passed (times readText n (drop at s)) s starts ends n at 0
+passed-none {s} {starts} {ends} {n} {at} h few a b =
     let z : n - 0 ≡ n = omega arith in
     record {
       vs = [];
       long = refl;
       below = omega arith;
+      few = few;
       rest = prepend-none (times readText n (drop at s)) ∙ ap (λ (m : ℕ). prepend [] (times readText m (drop at s))) (sym z);
       within = h;
       each = λ i k. absurd (omega arith);
@@ -72,27 +79,28 @@ passed-none s starts ends n at h a b =
       ends-long = b;
     }
 
-pub batch-none : (o : Option (List (List ℕ))) (s : List ℕ) (x : BatchIndex) → o ≡ none → x .ok ≡ false → BatchReads o s x
+batch-none : (o : Option (List (List ℕ))) (s : List ℕ) (x : BatchIndex) → o ≡ none → x .ok ≡ false → BatchReads o s x
 unfolding BatchReads
 batch-none o s x e h = rw e h
 
-module _ (p : Parse (List (List ℕ))) (s starts ends : List ℕ) (n at i : ℕ) (w : Passed p s starts ends n at i) where
+module _ {p : Parse (List (List ℕ))} {s starts ends : List ℕ} {n at i : ℕ} (w : Passed p s starts ends n at i) where
   one-more : i < n → suc (n - (i + 1)) ≡ n - i
   one-more h = omega arith
 
-  pub passed-bad : i < n → readText (drop at s) ≡ fail → whole p ≡ none
-  passed-bad h b = ap whole
+  pub passed-bad : i < n → textAt s at ≡ NoText → (x : BatchIndex) → x .ok ≡ false → BatchReads (whole p) s x
+  passed-bad h e x = batch-none (whole p) s x (ap whole
       (w .rest
       ∙ ap (λ (m : ℕ). prepend (w .vs) (times readText m (drop at s))) (sym (one-more h))
-      ∙ ap (prepend (w .vs)) (times-stop (n - (i + 1)) (drop at s) b))
+      ∙ ap (prepend (w .vs)) (times-stop (n - (i + 1)) (drop at s) (text-none s at e))))
 
-  pub passed-more : i < n → n ≤ 16 → (a z : ℕ) → TextStops s at a z → Passed p s (set starts i a) (set ends i z) n z (i + 1)
-  passed-more h few a z t =
+  pub passed-more : i < n → {a z : ℕ} → textAt s at ≡ Text a z → Passed p s (set starts i a) (set ends i z) n z (i + 1)
+  passed-more h {a} {z} e =
       let v = part s a z in
       record {
         vs = w .vs ++ (v ∷ []);
         long = length-append (w .vs) (v ∷ []) ∙ ap (λ (m : ℕ). m + 1) (w .long);
         below = omega arith;
+        few = w .few;
         rest =
             w .rest
             ∙ ap (λ (m : ℕ). prepend (w .vs) (times readText m (drop at s))) (sym (one-more h))
@@ -104,10 +112,13 @@ module _ (p : Parse (List (List ℕ))) (s starts ends : List ℕ) (n at i : ℕ)
         ends-long = length-set ends i z ∙ w .ends-long;
       }
     where
+      t : TextStops s at a z
+      t = text-stops s at a z e
+
       last : EventStands s (getD (w .vs ++ (part s a z ∷ [])) i []) (getD (set starts i a) i 0) (getD (set ends i z) i 0)
       last =
-          let b : i < length starts = omega (arith, w .starts-long) in
-          let c : i < length ends = omega (arith, w .ends-long) in
+          let b : i < length starts = omega (arith, w .starts-long, w .few) in
+          let c : i < length ends = omega (arith, w .ends-long, w .few) in
           rw (getD-set-same starts i a 0 b, getD-set-same ends i z 0 c, getD-at (w .vs) (part s a z) [] [] i (w .long))
           (record { bytes = refl; order = t .order; within = t .within })
 
@@ -118,9 +129,9 @@ module _ (p : Parse (List (List ℕ))) (s starts ends : List ℕ) (n at i : ℕ)
           (w .each k l)
 
   -- all are read: it is a batch where they end with the bytes
-  pub passed-all : n ≤ i → 1 ≤ n → n ≤ 16 → BatchReads (whole p) s (record { ok = eqb at (length s); count = n; starts = starts; ends = ends })
+  pub passed-all : n ≤ i → 1 ≤ n → BatchReads (whole p) s (record { ok = eqb at (length s); count = n; starts = starts; ends = ends })
   unfolding BatchReads
-  passed-all h one few = go (eqb at (length s)) refl
+  passed-all h one = go (eqb at (length s)) refl
     where
       all : p ≡ got (w .vs) (drop at s)
       all =
@@ -135,7 +146,7 @@ module _ (p : Parse (List (List ℕ))) (s starts ends : List ℕ) (n at i : ℕ)
       is = record {
         count = sym long;
         one = one;
-        few = few;
+        few = w .few;
         each = λ k l. w .each k (omega (arith, w .long)) .bytes;
         order = λ k l. w .each k (omega (arith, w .long)) .order;
         within = λ k l. w .each k (omega (arith, w .long)) .within;
@@ -151,24 +162,24 @@ module _ (p : Parse (List (List ℕ))) (s starts ends : List ℕ) (n at i : ℕ)
 
 -- ---- the whole batch
 
-no-batch : (s : List ℕ) → readBatch s ≡ fail → batchOf s ≡ none
+bad-batch : (s : List ℕ) (x : BatchIndex) → readBatch s ≡ fail → x .ok ≡ false → BatchReads (batchOf s) s x
 unfolding batchOf
-no-batch s e = rw e
+bad-batch s x e h = batch-none (batchOf s) s x (rw e) h
 
-pub no-count : (s : List ℕ) → readNumber s ≡ fail → batchOf s ≡ none
+pub no-count : (s : List ℕ) → numberAt s 0 ≡ NoNumber → (x : BatchIndex) → x .ok ≡ false → BatchReads (batchOf s) s x
 unfolding readBatch
-no-count s e = no-batch s (rw e)
+no-count s e x = let none : readNumber s ≡ fail = number-none s 0 e in bad-batch s x (rw none)
 
-module _ (s : List ℕ) (n at : ℕ) (c : NumberStops s 0 n at) where
+module _ {s : List ℕ} {n at : ℕ} (c : NumberStops s 0 n at) where
   counted : readBatch s ≡ andThen (foundIf (isWithin 1 16 n) n (drop at s)) (times readText)
   unfolding readBatch
   counted = ap (λ (p : Parse ℕ). andThen (andThen p (λ m. foundIf (isWithin 1 16 m) m)) (times readText)) (c .is)
 
-  pub count-none : n < 1 → batchOf s ≡ none
-  count-none h = no-batch s (counted ∙ rw (lt-leb 1 n h))
+  pub count-none : n < 1 → (x : BatchIndex) → x .ok ≡ false → BatchReads (batchOf s) s x
+  count-none h x = bad-batch s x (counted ∙ rw (lt-leb 1 n h))
 
-  pub count-large : 16 < n → batchOf s ≡ none
-  count-large h = no-batch s (counted ∙ rw (le-leb 1 n (omega arith), lt-leb n 16 h))
+  pub count-large : 16 < n → (x : BatchIndex) → x .ok ≡ false → BatchReads (batchOf s) s x
+  count-large h x = bad-batch s x (counted ∙ rw (le-leb 1 n (omega arith), lt-leb n 16 h))
 
   pub count-read : 1 ≤ n → n ≤ 16 → (x : BatchIndex) → BatchReads (whole (times readText n (drop at s))) s x → BatchReads (batchOf s) s x
   unfolding batchOf

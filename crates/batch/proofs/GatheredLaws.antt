@@ -26,7 +26,8 @@ use Rattle.dossier.specs.DossierQuestions.{TypedDossier, dossierAsked}
 use Rattle.dossier.proofs.DossierQuestionLaws.{match-sets, agree-exact}
 use Rattle.ways.specs.ByteWays.{SameMatch}
 use Rattle.ways.proofs.RuleQuestionLaws.{Gathered, rule-asked}
-use Rattle.batch.specs.Batch.{AskedAt, refusedAt, accepted, _>>=_, _>>_, at, eventsAsked, eventsAgree, agreeWith, batchOf, batchDossier, together, batchAsked}
+use Rattle.batch.specs.Batch.{AskedAt, refusedAt, accepted, _>>=_, _>>_, at, eventsAsked, eventsAgree, agreeWith, batchOf, batchDossier, together}
+use Rattle.batch.specs.Batch.{batchAsked}
 
 -- ---- the questions in their order
 

@@ -24,7 +24,8 @@ use Rattle.event.specs.Event.{typeView}
 use Rattle.event.specs.EventLayout.{Counts, narrow, eventOf}
 use Rattle.event.specs.EventQuestions.{eventShape, valuesFit, Typed, eventAsked}
 use Rattle.dossier.specs.DossierLayout.{modelOf}
-use Rattle.batch.specs.Batch.{AskedAt, refusedAt, accepted, _>>=_, _>>_, at, readBatch, batchOf, eventsAsked, eventsAgree, agreeWith, batchDossier, together, batchAsked}
+use Rattle.batch.specs.Batch.{AskedAt, refusedAt, accepted, _>>=_, _>>_, at, readBatch, batchOf, eventsAsked, eventsAgree, agreeWith, batchDossier}
+use Rattle.batch.specs.Batch.{together, batchAsked}
 use Rattle.batch.specs.Taken.{IsNumber, IsPosition, Reads, TakesIn, Takes, BatchReads}
 
 -- ---- questions with numbers from 1 to 9 refuse with such a number, and where they accept, what was asked for is known

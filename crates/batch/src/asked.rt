@@ -96,7 +96,8 @@ fn ask_one(
     ask_event(event, e, sets, again, &others)
 }
 
-// Questions 3 to 6 of each event in turn, then 7 of each against the first. Each event is read once, and the table was read for the name of the first one's type.
+// Questions 3 to 6 of each event in turn, then 7 of each against the first. Each event is read once, and the table was read for the name of the first
+// one's type.
 pub fn ask_events(
     table: &[u8],
     batch: &[u8],

@@ -1,15 +1,14 @@
 ghost use Prim.Native.Nat.{ℕ, _≤_};
 ghost use mathlib.Core.Path.{_≡_};
 ghost use mathlib.Core.List.{List};
-ghost use lib.ListN.{length, take};
+ghost use lib.ListN.{length};
 ghost use Rattle.model.specs.Limits.{standard};
 ghost use Rattle.replies.specs.Answers.{outcome};
 ghost use Rattle.replies.specs.Replies.{replied, replies, batchReplied, batchReplies};
 ghost use Rattle.replies.specs.Capacities.{dossierCapacity};
 ghost use Rattle.ontology.specs.Table.{Table};
-ghost use Rattle.ways.specs.ByteWays.{dossierReturned, returned};
 ghost use Rattle.batch.specs.Batch.{haveRoom, batchCall};
-ghost use Rattle.batch.specs.code.BatchIndex.{Agreed, combinedAnswer, FirstOf, MeasuredFirst, DoneWithin, atFirst};
+ghost use Rattle.batch.specs.code.BatchIndex.{Agreed, combinedAnswer, FirstOf, CombinedFirst, atFirst};
 use crate::asked::ask_events;
 use crate::frame::BatchIndex;
 use crate::frame::event_part;
@@ -40,11 +39,7 @@ fn combine_first(
     requires { ⌜ (1 ≤ n) × (n ≤ 16) × (length (now properties) ≡ 96) × (length (now measures) ≡ 17) ⌝ }
     requires { ⌜ (dossierCapacity ≤ length (now a)) × (dossierCapacity ≤ length (now b)) × (dossierCapacity ≤ length (now c)) ⌝ }
     requires { ⌜ FirstOf (now table) (now batch) x t (now properties) n ⌝ }
-    ensures within { λ r. ⌜ DoneWithin r (now (a .exit)) ⌝ }
-    ensures first { λ r. ⌜ ((ts : Table) (ss : List (List ℕ)) → Agreed (now (table .entry)) (now (batch .entry)) x ts ss → n ≤ length ss
-        → dossierReturned (replied r) (now (a .exit)) ≡ returned (outcome (combinedAnswer ts (take n ss)) (now (a .entry)))) ⌝ }
-    ensures measured { λ r. ⌜ ((ts : Table) (ss : List (List ℕ)) → Agreed (now (table .entry)) (now (batch .entry)) x ts ss → n ≤ length ss
-        → MeasuredFirst ts (take n ss) r (now (measures .exit))) ⌝ }
+    ensures { λ r. ⌜ CombinedFirst (now (table .entry)) (now (batch .entry)) x n r (now (measures .exit)) (now (a .exit)) (now (a .entry)) ⌝ }
 {
     if n <= 1 {
         return check_known(table, event_part(batch, x, 0), t, measures, a);
@@ -143,7 +138,9 @@ pub fn batch(
     b: &mut [u8],
     c: &mut [u8],
 ) -> BatchReply
-    ensures { λ r. ⌜ batchReplies r (now (out .exit)) ≡ batchCall standard (record { output = length (now (out .entry)); first = length (now (a .entry)); second = length (now (b .entry)); third = length (now (c .entry)) }) (now (table .entry)) (now (batch .entry)) (now (out .entry)) ⌝ }
+    ensures { λ r. ⌜ batchReplies r (now (out .exit)) ≡ batchCall standard
+        (record { output = length (now (out .entry)); first = length (now (a .entry)); second = length (now (b .entry)); third = length (now (c .entry)) })
+        (now (table .entry)) (now (batch .entry)) (now (out .entry)) ⌝ }
 {
     if !have_room(out.len(), a.len(), b.len(), c.len()) {
         return BatchReply::Refused(1, 0);

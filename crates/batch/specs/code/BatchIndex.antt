@@ -4,14 +4,15 @@ use mathlib.Core.Path.{_≡_}
 use mathlib.Core.Bool.{Bool, true, false, cond, not, _&&_}
 use mathlib.Core.Option.{Option, none, some}
 use mathlib.Core.List.{List, [], _∷_}
-use lib.ListN.{length, getD}
+use lib.ListN.{length, take, getD}
 use lib.Dec.{eqb}
 use Rattle.model.specs.Limits.{standard}
 use Rattle.model.specs.Order.{Text}
 use Rattle.packed.specs.Packed.{part}
 use Rattle.replies.specs.Questions as questions
 use Rattle.replies.specs.Answers as answers
-use Rattle.replies.specs.Answers.{Answer, gives, refuses}
+use Rattle.replies.specs.Answers.{Answer, gives, refuses, outcome}
+use Rattle.replies.specs.Replies as replies
 use Rattle.replies.specs.declared.reply.Reply as reply
 use Rattle.replies.specs.declared.reply.Reply.the-variants as replied
 use Rattle.ontology.specs.Table.{Table}
@@ -27,6 +28,7 @@ use Rattle.event.specs.declared.read.EventIndex.{EventIndex}
 use Rattle.dossier.specs.DossierLayout.{dossierBytes}
 use Rattle.dossier.specs.DossierQuestions.{TypedDossier}
 use Rattle.combining.specs.code.AddIndex.{Measured}
+use Rattle.ways.specs.ByteWays.{dossierReturned, returned}
 use Rattle.batch.specs.Batch.{AskedAt, refusedAt, accepted, _>>=_, eventsAsked, agreeWith, together}
 use Rattle.batch.specs.declared.asked.EventsAsked.{EventsAsked}
 use Rattle.batch.specs.declared.frame.BatchIndex.{BatchIndex}
@@ -114,6 +116,14 @@ MeasuredFirst ts ss (replied.Refused n) m = Unit {0}
 unfoldable pub DoneWithin : reply.Reply → List ℕ → Type 0
 DoneWithin (replied.Done n) s = n ≤ length s
 DoneWithin (replied.Refused n) s = Unit {0}
+
+-- r and m are what combining the first n events answers, in a buffer that had the bytes `old` and has `after`
+pub record CombinedFirst (table batch : List ℕ) (x : BatchIndex) (n : ℕ) (r : reply.Reply) (m after old : List ℕ) : Type 0 where
+  pub within : DoneWithin r after
+  pub first :
+      (ts : Table) (ss : List (List ℕ)) → Agreed table batch x ts ss → n ≤ length ss →
+      dossierReturned (replies.replied r) after ≡ returned (outcome (combinedAnswer ts (take n ss)) old)
+  pub measured : (ts : Table) (ss : List (List ℕ)) → Agreed table batch x ts ss → n ≤ length ss → MeasuredFirst ts (take n ss) r m
 
 -- a refusal of the whole batch has the position 0
 abbrev pub atFirst : answers.Reply → answers.Reply

@@ -1,3 +1,4 @@
+-- Where the event's type has the name that the table was read for, what was read for it answers; otherwise the table is read again, for the other name.
 use borrow.Author.Needs.{needs}
 use Rattle.ontology.proofs.TypeIndexLaws.{says-same}
 use Rattle.event.specs.EventLayout.{narrow}
@@ -24,18 +25,14 @@ returns c =
     let named = told .before in
     let (says, reads) = to-start named .pre in
     let said = says-same _ _ _ _ _ (told .same .ensures) (chosen .if1 .taken) (says .0) in
-    record { numbers = _; type = _; answers = c .ask-event .ensures _ _ narrow said (λ e h. named .type-name .ensures narrow e h) reads }
+    record { numbers = _; type = _; answers = c .ask-event .ensures _ _ narrow said (named .type-name .ensures narrow) reads }
 
 returns-2 : tie.Need-returns-2
 returns-2 c =
     let read = to-read c in
     let named = to-name read in
     let reads = to-start named .pre .1 in
-    record {
-      numbers = _;
-      type = _;
-      answers = c .ask-event2 .ensures _ _ narrow (read .read-table .ensures) (λ e h. named .type-name .ensures narrow e h) reads;
-    }
+    record { numbers = _; type = _; answers = c .ask-event2 .ensures _ _ narrow (read .read-table .ensures) (named .type-name .ensures narrow) reads }
 
 pub ask-one-spec : {M : Type 1} → statement M
 ask-one-spec =

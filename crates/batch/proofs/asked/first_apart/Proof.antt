@@ -2,8 +2,6 @@ use borrow.Author.Tests.{eq-eqb, ne-eqb, not-true, not-false}
 use Rattle.batch.specs.code.BatchIndex.{firstApart}
 use Rattle.batch.proofs.asked.first_apart.Statement.{statement}
 use Rattle.batch.proofs.asked.first_apart.Tie as tie
-use Rattle.batch.proofs.asked.first_apart.Reads as reads
-use Rattle.batch.proofs.asked.first_apart.Lts as lts
 
 returns : tie.Need-returns
 unfolding firstApart

@@ -5,8 +5,6 @@ use Rattle.replies.specs.declared.reply.Reply.{Reply}
 use Rattle.batch.specs.code.BatchIndex.{atFirst}
 use Rattle.batch.proofs.calls.batch_reply.Statement.{statement}
 use Rattle.batch.proofs.calls.batch_reply.Tie as tie
-use Rattle.batch.proofs.calls.batch_reply.Reads as reads
-use Rattle.batch.proofs.calls.batch_reply.Lts as lts
 
 returns : tie.Need-returns
 returns c = ap (λ (q : Reply). atFirst (replied q)) (sym (c .before .r .given .1))

@@ -1,6 +1,5 @@
 use borrow.Author.Needs.{needs}
 use mathlib.Core.Path.{_∙_}
-use Rattle.packed.proofs.read.part_of.Reads as part-of-reads
 use Rattle.batch.proofs.frame.event_part.Statement.{statement}
 use Rattle.batch.proofs.frame.event_part.Tie as tie
 
