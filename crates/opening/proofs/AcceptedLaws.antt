@@ -39,7 +39,9 @@ use Rattle.opening.proofs.MarkLaws.{last-largest, fits-own, marked-max}
 
 -- ---- place by place
 
-cell-at : (f : Property → Cell → Bool) (g : Cell → Bool) (ps : List Property) (cs : List Cell) → eachCell f g ps cs ≡ true → (p : ℕ) (q : Property) → getElem? ps p ≡ some q → f q (getD cs p (holds [])) ≡ true
+cell-at :
+    (f : Property → Cell → Bool) (g : Cell → Bool) (ps : List Property) (cs : List Cell) → eachCell f g ps cs ≡ true → (p : ℕ) (q : Property) →
+    getElem? ps p ≡ some q → f q (getD cs p (holds [])) ≡ true
 unfolding eachCell
 cell-at f g [] cs h p q e = never (cc)
 cell-at f g (x ∷ ps) [] h zero q e = let k : x ≡ q = cc in rw (← k) (and-parts (f x (holds [])) (eachCell f g ps []) h .0)
@@ -75,7 +77,10 @@ unfolding cellFits isLoneIfSingle isLoneIfExtreme isLone
 lone-cell v q c h m e =
     leb-true (length (held c)) 1 (go v (and-parts (isPresent q c) _ (and-parts (isPresent q c && _) (isUnmarkedMatch q c) h .0) .1))
   where
-    go : (v : Bool) → cond v (q .multivalued || leb (length (held c)) 1) (not (isMark c) && (not (isMin q || isMax q) || leb (length (held c)) 1)) ≡ true → leb (length (held c)) 1 ≡ true
+    go :
+        (v : Bool) →
+        cond v (q .multivalued || leb (length (held c)) 1) (not (isMark c) && (not (isMin q || isMax q) || leb (length (held c)) 1)) ≡ true →
+        leb (length (held c)) 1 ≡ true
     go true k = or-part (q .multivalued) (leb (length (held c)) 1) k m
     go false k = where-so (isMin q || isMax q) (leb (length (held c)) 1) (and-parts (not (isMark c)) _ k .1) e
 
@@ -102,7 +107,9 @@ module _ (s : List ℕ) (d : DossierIndex) (rows : List ℕ) (t : TypeIndex) (ps
       let each = eachCell (cellFits (isVersioned t)) isVacant (t .properties) (z .cells) in
       and-parts (each && leb (matchCount (t .properties) (map held (z .cells))) 32) (versionFits t z) (taken-fits taken j l) .1
 
-  fits-at : (j : ℕ) → j < length snapshots → eachCell (cellFits (isVersioned (o .type))) isVacant (o .type .properties) (getD snapshots j noSnapshot .cells) ≡ true
+  fits-at :
+      (j : ℕ) → j < length snapshots →
+      eachCell (cellFits (isVersioned (o .type))) isVacant (o .type .properties) (getD snapshots j noSnapshot .cells) ≡ true
   unfolding snapshotFits
   fits-at j l =
       let t = o .type in
@@ -128,7 +135,8 @@ module _ (s : List ℕ) (d : DossierIndex) (rows : List ℕ) (t : TypeIndex) (ps
     unfolding cellAt snapshotValues valuesFit
     space-there =
         ap (areInSpace (q .kind)) (sym (held-at (getD snapshots j noSnapshot .cells) p))
-        ∙ each-place-at (λ p s. areInSpace (p .kind) s) (λ s. true) (o .type .properties) (map held (getD snapshots j noSnapshot .cells)) (taken-values taken j l) p q e
+        ∙ each-place-at (λ p s. areInSpace (p .kind) s) (λ s. true) (o .type .properties) (map held (getD snapshots j noSnapshot .cells))
+        (taken-values taken j l) p q e
 
     lone-there : Lone (q .kind) (getD (column snapshots p) j [])
     lone-there = subst (Lone (q .kind)) (sym (column-at snapshots p j)) (record { one = one-there; in-space = space-there })

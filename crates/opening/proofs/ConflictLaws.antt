@@ -137,7 +137,8 @@ module _ (ps : List ℕ) where
 
     pub conflict-here : (r : Conflict) → conflictOf r ≡ conflict ps (getD ss j noSnapshot ∷ []) → (r ≡ NoConflict → ⊥) → conflictOf r ≡ conflict ps (drop j ss)
     unfolding conflict
-    conflict-here (Differs v p) e n = sooner (getD ss j noSnapshot .version) (v .0) p (marked ps (getD ss j noSnapshot)) (conflict ps (drop (j + 1) ss)) e ∙ sym conflict-split
+    conflict-here (Differs v p) e n =
+        sooner (getD ss j noSnapshot .version) (v .0) p (marked ps (getD ss j noSnapshot)) (conflict ps (drop (j + 1) ss)) e ∙ sym conflict-split
     conflict-here NoConflict e n = absurd (n refl)
 
   pub conflict-end : (ss : List Snapshot) (j : ℕ) → length ss ≤ j → noConflict ≡ conflict ps (drop j ss)

@@ -77,7 +77,8 @@ module _ (k : Kind) (largest : Bool) where
   lone-union (v ∷ []) (w ∷ []) p q =
       let o = valueOrder k .cmp v w in
       subst (Lone k) (chosen largest k v w o refl)
-      (lone-one k (cond (pick o (not largest) true largest) v w) (cond-in (pick o (not largest) true largest) v w (lone-in k (v ∷ []) p (λ z. omega arith)) (lone-in k (w ∷ []) q (λ z. omega arith))))
+      (lone-one k (cond (pick o (not largest) true largest) v w)
+      (cond-in (pick o (not largest) true largest) v w (lone-in k (v ∷ []) p (λ z. omega arith)) (lone-in k (w ∷ []) q (λ z. omega arith))))
   lone-union (v ∷ []) (w ∷ u ∷ r) p q = absurd (omega (arith, q .one))
   lone-union (v ∷ u ∷ r) (w ∷ ws) p q = absurd (omega (arith, p .one))
 
@@ -107,9 +108,12 @@ module _ (s : List ℕ) (k : Kind) (largest : Bool) (vs ws : List Text) (a b : S
     one-second = lone-is k ws w (λ e. n (q .count ∙ e))
 
     -- the comparison of the values as they were read
-    pub value-order : (x y : Text) (o : Ordering) → x ≡ getD vs 0 [] → y ≡ getD ws 0 [] → (inSpace k x ≡ true → inSpace k y ≡ true → o ≡ valueOrder k .cmp x y) → valueOrder k .cmp (getD vs 0 []) (getD ws 0 []) ≡ o
+    pub value-order :
+        (x y : Text) (o : Ordering) → x ≡ getD vs 0 [] → y ≡ getD ws 0 [] → (inSpace k x ≡ true → inSpace k y ≡ true → o ≡ valueOrder k .cmp x y) →
+        valueOrder k .cmp (getD vs 0 []) (getD ws 0 []) ≡ o
     value-order x y o e f h =
-        sym (h (ap (inSpace k) e ∙ lone-in k vs v (λ z. m (p .count ∙ z))) (ap (inSpace k) f ∙ lone-in k ws w (λ z. n (q .count ∙ z))) ∙ ap₂ (λ (x y : Text). valueOrder k .cmp x y) e f)
+        sym (h (ap (inSpace k) e ∙ lone-in k vs v (λ z. m (p .count ∙ z))) (ap (inSpace k) f ∙ lone-in k ws w (λ z. n (q .count ∙ z)))
+        ∙ ap₂ (λ (x y : Text). valueOrder k .cmp x y) e f)
 
     module _ (o : Ordering) (c : valueOrder k .cmp (getD vs 0 []) (getD ws 0 []) ≡ o) where
       union-is : (t : Bool) → pick o (not largest) true largest ≡ t → take 1 (union (extremeOrder largest k) vs ws) ≡ cond t (getD vs 0 []) (getD ws 0 []) ∷ []
@@ -133,14 +137,17 @@ module _ (s : List ℕ) (k : Kind) (largest : Bool) (xss : List (List Text)) whe
   chosen-start : (xs : List Text) (yss : List (List Text)) (x : SetAt) → Lone k xs → SetIs s xs x → Chosen s k largest (xs ∷ yss) x 1
   unfolding flatten
   chosen-start xs yss x l w =
-      let e : smallest (extremeOrder largest k) (flatten (take 1 (xs ∷ yss))) ≡ xs = ap (smallest (extremeOrder largest k)) (append-nil xs) ∙ lone-smallest k largest xs l in
+      let e : smallest (extremeOrder largest k) (flatten (take 1 (xs ∷ yss))) ≡ xs = ap (smallest (extremeOrder largest k)) (append-nil xs)
+      ∙ lone-smallest k largest xs l in
       record { is = rw e w; lone = rw e l }
 
   pub chosen-first : (x : SetAt) → 1 ≤ length xss → Lone k (getD xss 0 []) → SetIs s (getD xss 0 []) x → Chosen s k largest xss x 1
-  chosen-first x h l w = subst (λ (yss : List (List Text)). Chosen s k largest yss x 1) (sym (drop-cons xss 0 [] h)) (chosen-start (getD xss 0 []) (drop 1 xss) x l w)
+  chosen-first x h l w =
+      subst (λ (yss : List (List Text)). Chosen s k largest yss x 1) (sym (drop-cons xss 0 [] h)) (chosen-start (getD xss 0 []) (drop 1 xss) x l w)
 
   pub chosen-more : (j : ℕ) (best r : SetAt) → j < length xss → Chosen s k largest xss best j → Lone k (getD xss j []) →
-      SetIs s (take 1 (union (extremeOrder largest k) (smallest (extremeOrder largest k) (flatten (take j xss))) (getD xss j []))) r → Chosen s k largest xss r (j + 1)
+      SetIs s (take 1 (union (extremeOrder largest k) (smallest (extremeOrder largest k) (flatten (take j xss))) (getD xss j []))) r →
+      Chosen s k largest xss r (j + 1)
   chosen-more j best r h c l w =
       let O = extremeOrder largest k in
       let e : smallest O (flatten (take (j + 1) xss)) ≡ take 1 (union O (smallest O (flatten (take j xss))) (getD xss j [])) =

@@ -74,13 +74,19 @@ module _ (s : List ℕ) (d : DossierIndex) (rows : List ℕ) (t : TypeIndex) (ps
   abbrev opens : model.Opened
   opens = opening (typeView (o .type)) dossier
 
-  module _ (v : EventVersion) (p : ℕ) {r : found.Conflict} (e : r ≡ Differs v p) (f : conflictOf r ≡ conflict (upTo 32) (dossier .snapshots)) (out : List ℕ) where
-    pub replies-conflict : openReplies (Found (Conflict v p)) out ≡ outcome (openedAnswer (o .headed) opens) out
-    unfolding openedAnswer opening firstOf places typeView eventView
-    replies-conflict =
-        ap (λ (c : model.Conflict). outcome (openedAnswer (o .headed) (firstOf c (overfull (typeView (o .type)) dossier) (mergedSets (typeView (o .type)) dossier))) out) (sym (ap conflictOf e) ∙ f)
+  module _
+      (v : EventVersion) (p : ℕ) {r : found.Conflict} (e : r ≡ Differs v p) (f : conflictOf r ≡ conflict (upTo 32) (dossier .snapshots))
+      (out : List ℕ)
+    where
+      pub replies-conflict : openReplies (Found (Conflict v p)) out ≡ outcome (openedAnswer (o .headed) opens) out
+      unfolding openedAnswer opening firstOf places typeView eventView
+      replies-conflict =
+          ap (λ (c : model.Conflict). outcome (openedAnswer (o .headed)
+          (firstOf c (overfull (typeView (o .type)) dossier) (mergedSets (typeView (o .type)) dossier))) out) (sym (ap conflictOf e) ∙ f)
 
-  pub no-conflict : {r : found.Conflict} → r ≡ NoConflict → conflictOf r ≡ conflict (upTo 32) (dossier .snapshots) → conflict (upTo 32) (dossier .snapshots) ≡ noConflict
+  pub no-conflict :
+      {r : found.Conflict} → r ≡ NoConflict → conflictOf r ≡ conflict (upTo 32) (dossier .snapshots) →
+      conflict (upTo 32) (dossier .snapshots) ≡ noConflict
   no-conflict e f = sym f ∙ ap conflictOf e
 
   module _ (free : conflict (upTo 32) (dossier .snapshots) ≡ noConflict) where
@@ -88,7 +94,9 @@ module _ (s : List ℕ) (d : DossierIndex) (rows : List ℕ) (t : TypeIndex) (ps
     unfolding places typeView eventView
     opens-free = opening-free (typeView (o .type)) dossier free
 
-    pub replies-overfull : (p : ℕ) {r : Lowest} → r ≡ Place p → lowestOf r ≡ overfull (typeView (o .type)) dossier → (out : List ℕ) → openReplies (Found (Overfull p)) out ≡ outcome (openedAnswer (o .headed) opens) out
+    pub replies-overfull :
+        (p : ℕ) {r : Lowest} → r ≡ Place p → lowestOf r ≡ overfull (typeView (o .type)) dossier → (out : List ℕ) →
+        openReplies (Found (Overfull p)) out ≡ outcome (openedAnswer (o .headed) opens) out
     unfolding openedAnswer firstOf
     replies-overfull p e f out =
         ap (λ (m : Option ℕ). outcome (openedAnswer (o .headed) (firstOf noConflict m (mergedSets (typeView (o .type)) dossier))) out) (sym (ap lowestOf e) ∙ f)
@@ -101,7 +109,9 @@ module _ (s : List ℕ) (d : DossierIndex) (rows : List ℕ) (t : TypeIndex) (ps
     unfolding firstOf
     opens-merged e f = opens-free ∙ ap (λ (m : Option ℕ). firstOf noConflict m (mergedSets (typeView (o .type)) dossier)) (sym f ∙ ap lowestOf e)
 
-    pub replies-merged : {r : Lowest} → r ≡ NoPlace → lowestOf r ≡ overfull (typeView (o .type)) dossier → {out new : List ℕ} {n : ℕ} → dossierCapacity ≤ length out → Wrote out 0 bytes new n → openReplies (Merged n) new ≡ outcome (openedAnswer (o .headed) opens) out
+    pub replies-merged :
+        {r : Lowest} → r ≡ NoPlace → lowestOf r ≡ overfull (typeView (o .type)) dossier → {out new : List ℕ} {n : ℕ} → dossierCapacity ≤ length out →
+        Wrote out 0 bytes new n → openReplies (Merged n) new ≡ outcome (openedAnswer (o .headed) opens) out
     unfolding openedAnswer
     replies-merged e f {out} {new} {n} h w =
         let a : 0 + length bytes ≤ length out = omega (arith, merged-size s d rows t ps o) in
@@ -159,12 +169,15 @@ module _ (table s out : List ℕ) where
     unfolding openCall openAnswer askedOpening
     open-table e = rw (has-room dossierCapacity (length out) h, e)
 
-    pub open-refused : (ts : Table) (n : ℕ) → tableOf table ≡ some ts → dossierAsked standard ts s ≡ refused n → openReplies (Refused n) out ≡ openCall standard table s out
+    pub open-refused :
+        (ts : Table) (n : ℕ) → tableOf table ≡ some ts → dossierAsked standard ts s ≡ refused n →
+        openReplies (Refused n) out ≡ openCall standard table s out
     unfolding openCall openAnswer askedOpening
     open-refused ts n e f = rw (has-room dossierCapacity (length out) h, e, f)
 
     pub open-done :
         (d : DossierIndex) (rows : List ℕ) (t : TypeIndex) (ps : List ℕ) (a : Accepted table s d rows t ps) →
-        outcome (openedAnswer (a .openable .headed) (opening (typeView (a .openable .type)) (modelOf (a .openable .headed)))) out ≡ openCall standard table s out
+        outcome (openedAnswer (a .openable .headed) (opening (typeView (a .openable .type)) (modelOf (a .openable .headed)))) out ≡ openCall standard
+        table s out
     unfolding openCall openAnswer askedOpening
     open-done d rows t ps a = rw (has-room dossierCapacity (length out) h, a .from, a .openable .asked)

@@ -55,8 +55,10 @@ column-value ss h v m =
 merged-short : (r : Bool) (c : Choice) (ss : List (List Text)) → All Short ss → Short (mergedSet r c ss)
 unfolding mergedSet smallest
 merged-short true c ss h = last-short ss h
-merged-short false every ss h = member-all (λ (w : Text). length w ≤ 120) (canon texts (flatten ss)) (λ v m. column-value ss h v (canon-of texts (flatten ss) v m))
-merged-short false (least O) ss h = member-all (λ (w : Text). length w ≤ 120) _ (λ v m. column-value ss h v (canon-of O (flatten ss) v (take-of (canon O (flatten ss)) v m)))
+merged-short false every ss h =
+    member-all (λ (w : Text). length w ≤ 120) (canon texts (flatten ss)) (λ v m. column-value ss h v (canon-of texts (flatten ss) v m))
+merged-short false (least O) ss h =
+    member-all (λ (w : Text). length w ≤ 120) _ (λ v m. column-value ss h v (canon-of O (flatten ss) v (take-of (canon O (flatten ss)) v m)))
 
 column-short : (ss : List Snapshot) (p : ℕ) → All (λ (z : Snapshot). ValuesShort (map held (z .cells))) ss → All Short (column ss p)
 unfolding column cellAt
@@ -65,7 +67,9 @@ column-short (z ∷ ss) p h = (subst Short (held-at (z .cells) p) (all-at Short 
 
 -- ---- the size of an event with so many objects
 
-event-short : (h : Headed) (ss : List (List Text)) → HeadWritten 32 (h .head) → length (h .head .type) ≤ 64 → length ss ≡ 32 → objectCount ss ≤ 256 → ValuesShort ss → length (eventBytes (mergedEvent h ss)) ≤ dossierCapacity
+event-short :
+    (h : Headed) (ss : List (List Text)) → HeadWritten 32 (h .head) → length (h .head .type) ≤ 64 → length ss ≡ 32 → objectCount ss ≤ 256 →
+    ValuesShort ss → length (eventBytes (mergedEvent h ss)) ≤ dossierCapacity
 unfolding eventBytes mergedEvent
 event-short h ss w t n o v =
     simp length-append

@@ -33,7 +33,8 @@ use values::spaces::takes_first;
 
 // The smaller of the values of two sets of at most one, or the larger, where it stands.
 fn better(s: &[u8], kind: u8, largest: bool, a: SetAt, b: SetAt) -> SetAt
-    ensures { λ r. ⌜ ((k : Kind) (vs ws : List Text) → Chooses k kind → SetIs (now (s .entry)) vs a → SetIs (now (s .entry)) ws b → Lone k vs → Lone k ws → SetIs (now (s .entry)) (take 1 (union (extremeOrder largest k) vs ws)) r) ⌝ }
+    ensures { λ r. ⌜ ((k : Kind) (vs ws : List Text) → Chooses k kind → SetIs (now (s .entry)) vs a → SetIs (now (s .entry)) ws b
+        → Lone k vs → Lone k ws → SetIs (now (s .entry)) (take 1 (union (extremeOrder largest k) vs ws)) r) ⌝ }
 {
     if a.count == 0 {
         return b;

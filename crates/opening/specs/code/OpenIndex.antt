@@ -86,7 +86,9 @@ pub record Mergeable (s rows : List ℕ) (n : ℕ) (t : EventType) (d : Dossier)
   pub count : length (d .snapshots) ≡ n
   pub vacant : (p : ℕ) → getElem? (t .properties) p ≡ none → flatten (column (d .snapshots) p) ≡ []
   pub chosen : (p : ℕ) (q : Property) → getElem? (t .properties) p ≡ some q → (isMin q || isMax q) ≡ true → Chooses (q .kind) (kindNumber (q .kind))
-  pub lone : (p : ℕ) (q : Property) → getElem? (t .properties) p ≡ some q → (isMin q || isMax q) ≡ true → (j : ℕ) → j < n → Lone (q .kind) (getD (column (d .snapshots) p) j [])
+  pub lone :
+      (p : ℕ) (q : Property) → getElem? (t .properties) p ≡ some q → (isMin q || isMax q) ≡ true → (j : ℕ) → j < n →
+      Lone (q .kind) (getD (column (d .snapshots) p) j [])
   pub marked : (p : ℕ) → p + 1 ≡ t .mark → mergedAt (typeView t) d p ≡ getD (column (d .snapshots) p) (n - 1) []
 
 -- d is the index of a dossier that was asked its questions; the rows are those of its snapshots, t is the index of its type, and ps the numbers of the type's
