@@ -22,8 +22,8 @@ use Rattle.model.proofs.OrderLaws.{equal-true, equal-false}
 use Rattle.model.proofs.StepLaws.{union-left-nil, union-right-nil, smallest-snoc}
 use Rattle.model.proofs.SetLaws.{rising-ups, ups-canon, canon-ups, canon-of, canon-in, canon-same, by-members, union-canon}
 use Rattle.packed.specs.Packed.{text}
-use Rattle.values.specs.Spaces.{Kind, inSpace}
-use Rattle.values.specs.ValueOrder.{valueOrder, extremeOrder}
+use Rattle.values.specs.Spaces.{Kind, kindNumber, inSpace}
+use Rattle.values.specs.ValueOrder.{valueOrder, extremeOrder, isOrdered}
 use Rattle.values.proofs.SpaceLaws.{chosen}
 use Rattle.ontology.specs.Table.{Property, EventType, strategyNumber, isMax, isReplace, atPlace}
 use Rattle.ontology.specs.code.TypeIndex.{PropertiesAre}
@@ -88,45 +88,65 @@ module _ (k : Kind) (largest : Bool) where
   lone-smallest (v ∷ []) w = refl
   lone-smallest (v ∷ u ∷ r) w = absurd (omega (arith, w .one))
 
--- two sets of at most one value, where they stand
-module _ (s : List ℕ) (k : Kind) (largest : Bool) (vs ws : List Text) (a b : SetAt) (p : SetIs s vs a) (q : SetIs s ws b) (v : Lone k vs) (w : Lone k ws) where
-  pub better-none : a .count ≡ 0 → SetIs s (take 1 (union (extremeOrder largest k) vs ws)) b
-  better-none e =
+-- r is where the chosen value of two sets of at most one stands, which stand at a and b
+abbrev pub Better : List ℕ → ℕ → Bool → SetAt → SetAt → SetAt → Type 0
+Better s kind largest a b r =
+    (k : Kind) (vs ws : List Text) → Chooses k kind → SetIs s vs a → SetIs s ws b → Lone k vs → Lone k ws →
+    SetIs s (take 1 (union (extremeOrder largest k) vs ws)) r
+
+module _ {s : List ℕ} {kind : ℕ} (largest : Bool) {a b : SetAt} where
+  pub better-none : a .count ≡ 0 → Better s kind largest a b b
+  better-none e k vs ws ch p q v w =
       let z : vs ≡ [] = no-value vs (omega (arith, p .count)) in
       subst (λ (l : List Text). SetIs s l b) (sym (ap (λ (l : List Text). take 1 (union (extremeOrder largest k) l ws)) z ∙ union-lone-none k largest ws w)) q
 
-  pub better-only : b .count ≡ 0 → SetIs s (take 1 (union (extremeOrder largest k) vs ws)) a
-  better-only e =
+  pub better-only : b .count ≡ 0 → Better s kind largest a b a
+  better-only e k vs ws ch p q v w =
       let z : ws ≡ [] = no-value ws (omega (arith, q .count)) in
       subst (λ (l : List Text). SetIs s l a) (sym (ap (λ (l : List Text). take 1 (union (extremeOrder largest k) vs l)) z ∙ union-none-lone k largest vs v)) p
 
-  module _ (m : a .count ≡ 0 → ⊥) (n : b .count ≡ 0 → ⊥) where
+-- the first is chosen, or the second
+abbrev pub BetterBy : List ℕ → ℕ → Bool → SetAt → SetAt → Bool → Type 0
+BetterBy s kind largest a b first = (first ≡ true → Better s kind largest a b a) × (first ≡ false → Better s kind largest a b b)
+
+-- the values as they were read, x and y, are compared
+module _
+    (largest : Bool) {s : List ℕ} {kind : ℕ} {a b : SetAt} {first-bytes second-bytes x y : List ℕ} {o : Ordering} {first : Bool}
+    (m : a .count ≡ 0 → ⊥) (n : b .count ≡ 0 → ⊥)
+    (first-part : (vs : List Text) → SetIs s vs a → first-bytes ≡ flatten (map text vs))
+    (x-is : (vs : List Text) → first-bytes ≡ flatten (map text vs) → x ≡ getD vs 0 [])
+    (second-part : (ws : List Text) → SetIs s ws b → second-bytes ≡ flatten (map text ws))
+    (y-is : (ws : List Text) → second-bytes ≡ flatten (map text ws) → y ≡ getD ws 0 [])
+    (compared : (k : Kind) → kindNumber k ≡ kind → isOrdered k ≡ true → inSpace k x ≡ true → inSpace k y ≡ true → o ≡ valueOrder k .cmp x y)
+    (takes : first ≡ pick o (not largest) true largest) where
+  module _ (k : Kind) (vs ws : List Text) (ch : Chooses k kind) (p : SetIs s vs a) (q : SetIs s ws b) (v : Lone k vs) (w : Lone k ws) where
     one-first : vs ≡ getD vs 0 [] ∷ []
     one-first = lone-is k vs v (λ e. m (p .count ∙ e))
 
     one-second : ws ≡ getD ws 0 [] ∷ []
     one-second = lone-is k ws w (λ e. n (q .count ∙ e))
 
-    -- the comparison of the values as they were read
-    pub value-order :
-        (x y : Text) (o : Ordering) → x ≡ getD vs 0 [] → y ≡ getD ws 0 [] → (inSpace k x ≡ true → inSpace k y ≡ true → o ≡ valueOrder k .cmp x y) →
-        valueOrder k .cmp (getD vs 0 []) (getD ws 0 []) ≡ o
-    value-order x y o e f h =
-        sym (h (ap (inSpace k) e ∙ lone-in k vs v (λ z. m (p .count ∙ z))) (ap (inSpace k) f ∙ lone-in k ws w (λ z. n (q .count ∙ z)))
-        ∙ ap₂ (λ (x y : Text). valueOrder k .cmp x y) e f)
+    order : valueOrder k .cmp (getD vs 0 []) (getD ws 0 []) ≡ o
+    order =
+        let e = x-is vs (first-part vs p) in
+        let f = y-is ws (second-part ws q) in
+        let x-in = ap (inSpace k) e ∙ lone-in k vs v (λ z. m (p .count ∙ z)) in
+        let y-in = ap (inSpace k) f ∙ lone-in k ws w (λ z. n (q .count ∙ z)) in
+        sym (compared k (ch .number) (ch .ordered) x-in y-in ∙ ap₂ (λ (x y : Text). valueOrder k .cmp x y) e f)
 
-    module _ (o : Ordering) (c : valueOrder k .cmp (getD vs 0 []) (getD ws 0 []) ≡ o) where
-      union-is : (t : Bool) → pick o (not largest) true largest ≡ t → take 1 (union (extremeOrder largest k) vs ws) ≡ cond t (getD vs 0 []) (getD ws 0 []) ∷ []
-      union-is t e =
-          ap₂ (λ (x y : List Text). take 1 (union (extremeOrder largest k) x y)) one-first one-second
-          ∙ sym (chosen largest k (getD vs 0 []) (getD ws 0 []) o c)
-          ∙ ap (λ (t : Bool). cond t (getD vs 0 []) (getD ws 0 []) ∷ []) e
+    union-is : (t : Bool) → first ≡ t → take 1 (union (extremeOrder largest k) vs ws) ≡ cond t (getD vs 0 []) (getD ws 0 []) ∷ []
+    union-is t h =
+        ap₂ (λ (x y : List Text). take 1 (union (extremeOrder largest k) x y)) one-first one-second
+        ∙ sym (chosen largest k (getD vs 0 []) (getD ws 0 []) o order)
+        ∙ ap (λ (t : Bool). cond t (getD vs 0 []) (getD ws 0 []) ∷ []) (sym takes ∙ h)
 
-      pub better-first : pick o (not largest) true largest ≡ true → SetIs s (take 1 (union (extremeOrder largest k) vs ws)) a
-      better-first e = subst (λ (l : List Text). SetIs s l a) (one-first ∙ sym (union-is true e)) p
-
-      pub better-second : pick o (not largest) true largest ≡ false → SetIs s (take 1 (union (extremeOrder largest k) vs ws)) b
-      better-second e = subst (λ (l : List Text). SetIs s l b) (one-second ∙ sym (union-is false e)) q
+  pub better-chosen : BetterBy s kind largest a b first
+  better-chosen = (
+    λ h k vs ws ch p q v w.
+        subst (λ (l : List Text). SetIs s l a) (one-first k vs ws ch p q v w ∙ sym (union-is k vs ws ch p q v w true h)) p,
+    λ h k vs ws ch p q v w.
+        subst (λ (l : List Text). SetIs s l b) (one-second k vs ws ch p q v w ∙ sym (union-is k vs ws ch p q v w false h)) q,
+  )
 
 -- the least value of the first j snapshots, where it stands
 pub record Chosen (s : List ℕ) (k : Kind) (largest : Bool) (xss : List (List Text)) (best : SetAt) (j : ℕ) : Type 0 where
@@ -141,11 +161,11 @@ module _ (s : List ℕ) (k : Kind) (largest : Bool) (xss : List (List Text)) whe
       ∙ lone-smallest k largest xs l in
       record { is = rw e w; lone = rw e l }
 
-  pub chosen-first : (x : SetAt) → 1 ≤ length xss → Lone k (getD xss 0 []) → SetIs s (getD xss 0 []) x → Chosen s k largest xss x 1
+  chosen-first : (x : SetAt) → 1 ≤ length xss → Lone k (getD xss 0 []) → SetIs s (getD xss 0 []) x → Chosen s k largest xss x 1
   chosen-first x h l w =
       subst (λ (yss : List (List Text)). Chosen s k largest yss x 1) (sym (drop-cons xss 0 [] h)) (chosen-start (getD xss 0 []) (drop 1 xss) x l w)
 
-  pub chosen-more : (j : ℕ) (best r : SetAt) → j < length xss → Chosen s k largest xss best j → Lone k (getD xss j []) →
+  chosen-more : (j : ℕ) (best r : SetAt) → j < length xss → Chosen s k largest xss best j → Lone k (getD xss j []) →
       SetIs s (take 1 (union (extremeOrder largest k) (smallest (extremeOrder largest k) (flatten (take j xss))) (getD xss j []))) r →
       Chosen s k largest xss r (j + 1)
   chosen-more j best r h c l w =
@@ -157,8 +177,42 @@ module _ (s : List ℕ) (k : Kind) (largest : Bool) (xss : List (List Text)) whe
       ∙ ap (λ (vs : List Text). take 1 (union O (smallest O (flatten (take j xss))) vs)) (lone-smallest k largest (getD xss j []) l) in
       record { is = rw e w; lone = rw e (lone-union k largest (smallest O (flatten (take j xss))) (getD xss j []) (c .lone) l) }
 
-  pub chosen-all : (j : ℕ) (best : SetAt) → length xss ≤ j → Chosen s k largest xss best j → SetIs s (smallest (extremeOrder largest k) (flatten xss)) best
+  chosen-all : (j : ℕ) (best : SetAt) → length xss ≤ j → Chosen s k largest xss best j → SetIs s (smallest (extremeOrder largest k) (flatten xss)) best
   chosen-all j best h c = let e = take-all j xss h in rw e at (c .is)
+
+-- so of any n snapshots whose cells the code has
+pub record ChosenTo (s rows : List ℕ) (place n kind : ℕ) (largest : Bool) (best : SetAt) (j : ℕ) : Type 0 where
+  pub inside : place < 32
+  pub is :
+      (ss : List Snapshot) (k : Kind) → CellsStand s ss rows → length ss ≡ n → Chooses k kind → ((i : ℕ) → i < n → Lone k (getD (column ss place) i [])) →
+      Chosen s k largest (column ss place) best j
+
+pub chosen-one :
+    {s rows : List ℕ} {place n kind : ℕ} {largest : Bool} {x : SetAt} → place < 32 → 1 ≤ n → x ≡ cellIn rows place 0 →
+    ChosenTo s rows place n kind largest x 1
+chosen-one {place = place} p h e = record {
+  inside = p;
+  is = λ ss k w c ch l.
+      let first = column-stands _ ss _ place 0 p w (omega (arith, c)) e in
+      chosen-first _ k _ (column ss place) _ (omega (arith, c, column-long ss place)) (l 0 h) first;
+}
+
+module _ {s rows : List ℕ} {place n kind : ℕ} {largest : Bool} {best : SetAt} {j : ℕ} (g : ChosenTo s rows place n kind largest best j) where
+  pub chosen-next :
+      {x r : SetAt} → j < n → x ≡ cellIn rows place j → Better s kind largest best x r → ChosenTo s rows place n kind largest r (j + 1)
+  chosen-next h e better = record {
+    inside = g .inside;
+    is = λ ss k w c ch l.
+        let so-far = g .is ss k w c ch l in
+        let here = column-stands s ss rows place j (g .inside) w (omega (arith, c)) e in
+        chosen-more s k largest (column ss place) j best _ (omega (arith, c, column-long ss place)) so-far (l j h)
+        (better k _ _ ch (so-far .is) here (so-far .lone) (l j h));
+  }
+
+  pub chosen-last :
+      n ≤ j → (ss : List Snapshot) (k : Kind) → CellsStand s ss rows → length ss ≡ n → Chooses k kind →
+      ((i : ℕ) → i < n → Lone k (getD (column ss place) i [])) → SetIs s (smallest (extremeOrder largest k) (flatten (column ss place))) best
+  chosen-last h ss k w c ch l = chosen-all s k largest (column ss place) j best (omega (arith, c, column-long ss place)) (g .is ss k w c ch l)
 
 -- ---- the merged set of each strategy
 
@@ -285,23 +339,23 @@ within-all (xs ∷ xss) (suc j) = (
 )
 
 -- the union of the first j sets
-abbrev pub unionTo : List (List Text) → ℕ → List Text
+abbrev unionTo : List (List Text) → ℕ → List Text
 unionTo xss j = canon texts (flatten (take j xss))
 
 -- it stands at `only`, and the set that follows at x
-pub record OneMore (s : List ℕ) (xss : List (List Text)) (j : ℕ) (only x : SetAt) : Type 0 where
-  pub within : j < length xss
-  pub rises : rising texts (getD xss j []) ≡ true
-  pub before : SetIs s (unionTo xss j) only
-  pub here : SetIs s (getD xss j []) x
+record OneMore (s : List ℕ) (xss : List (List Text)) (j : ℕ) (only x : SetAt) : Type 0 where
+  within : j < length xss
+  rises : rising texts (getD xss j []) ≡ true
+  before : SetIs s (unionTo xss j) only
+  here : SetIs s (getD xss j []) x
 
 module _ (s : List ℕ) (xss : List (List Text)) where
-  pub only-first : (x : SetAt) → 1 ≤ length xss → rising texts (getD xss 0 []) ≡ true → SetIs s (getD xss 0 []) x → SetIs s (unionTo xss 1) x
+  only-first : (x : SetAt) → 1 ≤ length xss → rising texts (getD xss 0 []) ≡ true → SetIs s (getD xss 0 []) x → SetIs s (unionTo xss 1) x
   unfolding flatten canon
   only-first x h u w =
       subst (λ (vs : List Text). SetIs s vs x) (sym (union-more xss 0 h (rising-ups texts (getD xss 0 []) .0 u) ∙ union-left-nil texts (getD xss 0 []))) w
 
-  pub only-all : (j : ℕ) (x : SetAt) → length xss ≤ j → SetIs s (unionTo xss j) x → SetIs s (canon texts (flatten xss)) x
+  only-all : (j : ℕ) (x : SetAt) → length xss ≤ j → SetIs s (unionTo xss j) x → SetIs s (canon texts (flatten xss)) x
   only-all j x h w = let e = take-all j xss h in rw e at w
 
 module _ {s : List ℕ} {xss : List (List Text)} {j : ℕ} {only x : SetAt} (g : OneMore s xss j only x) where
@@ -321,13 +375,13 @@ module _ {s : List ℕ} {xss : List (List Text)} {j : ℕ} {only x : SetAt} (g :
   union-next = union-more xss j (g .within) here-ups
 
   -- an empty set more
-  pub only-kept : x .count ≡ 0 → SetIs s (unionTo xss (j + 1)) only
+  only-kept : x .count ≡ 0 → SetIs s (unionTo xss (j + 1)) only
   only-kept e =
       let z : here ≡ [] = no-value here (omega (arith, g .here .count)) in
       subst (λ (vs : List Text). SetIs s vs only) (sym (union-next ∙ ap (union texts before) z ∙ union-right-nil texts before before-ups)) (g .before)
 
   -- a set after empty ones
-  pub only-taken : only .count ≡ 0 → SetIs s (unionTo xss (j + 1)) x
+  only-taken : only .count ≡ 0 → SetIs s (unionTo xss (j + 1)) x
   only-taken e =
       let z : before ≡ [] = no-value before (omega (arith, g .before .count)) in
       subst (λ (vs : List Text). SetIs s vs x) (sym (union-next ∙ ap (λ (vs : List Text). union texts vs here) z ∙ union-left-nil texts here)) (g .here)
@@ -339,12 +393,12 @@ module _ {s : List ℕ} {xss : List (List Text)} {j : ℕ} {only x : SetAt} (g :
     alike : r ≡ equal sets before here
     alike = e ∙ ap₂ (equal texts) p q ∙ flat-equal before here (set-short s before only (g .before) l)
 
-    pub only-same : r ≡ true → SetIs s (unionTo xss (j + 1)) only
+    only-same : r ≡ true → SetIs s (unionTo xss (j + 1)) only
     only-same t =
         let q : before ≡ here = equal-true sets before here .0 (sym alike ∙ t) in
         subst (λ (vs : List Text). SetIs s vs only) (sym (union-next ∙ ap (union texts before) (sym q) ∙ union-self before before-ups)) (g .before)
 
-    pub only-differs : (only .count ≡ 0 → ⊥) → (x .count ≡ 0 → ⊥) → r ≡ false → Joined (canon texts (flatten xss)) xss
+    only-differs : (only .count ≡ 0 → ⊥) → (x .count ≡ 0 → ⊥) → r ≡ false → Joined (canon texts (flatten xss)) xss
     only-differs m n f = record {
       union = refl;
       several =
@@ -356,10 +410,71 @@ module _ {s : List ℕ} {xss : List (List Text)} {j : ℕ} {only x : SetAt} (g :
           (equal-false sets before here .0 (sym alike ∙ f));
     }
 
+-- the union of the first j sets of a place stands at `only`, whatever the n snapshots whose cells the code has
+pub record UnionTo (s rows : List ℕ) (place n : ℕ) (only : SetAt) (j : ℕ) : Type 0 where
+  pub below : j ≤ n
+  pub inside : place < 32
+  pub short : length s < 2 ^ 64
+  pub is : (ss : List Snapshot) → CellsStand s ss rows → length ss ≡ n → SetIs s (unionTo (column ss place) j) only
+
+pub union-one :
+    {s rows : List ℕ} {place n : ℕ} {x : SetAt} → 1 ≤ n → place < 32 → length s < 2 ^ 64 → x ≡ cellIn rows place 0 → UnionTo s rows place n x 1
+union-one {place = place} h p l e = record {
+  below = h;
+  inside = p;
+  short = l;
+  is = λ ss w c.
+      let k : 0 < length ss = omega (arith, c) in
+      only-first _ (column ss place) _ (omega (arith, column-long ss place)) (column-rises _ ss _ place 0 p w k) (column-stands _ ss _ place 0 p w k e);
+}
+
+module _ {s rows : List ℕ} {place n : ℕ} {only : SetAt} {j : ℕ} (g : UnionTo s rows place n only j) where
+  pub union-all :
+      n ≤ j → (ss : List Snapshot) → CellsStand s ss rows → length ss ≡ n → SetIs s (canon texts (flatten (column ss place))) only
+  union-all h ss w c = only-all s (column ss place) j only (omega (arith, c, column-long ss place)) (g .is ss w c)
+
+  -- the set of snapshot j stands at x
+  module _ {x : SetAt} (h : j < n) (e : x ≡ cellIn rows place j) where
+    one-more : (ss : List Snapshot) → CellsStand s ss rows → length ss ≡ n → OneMore s (column ss place) j only x
+    one-more ss w c =
+        let k : j < length ss = omega (arith, c) in
+        record {
+          within = omega (arith, column-long ss place);
+          rises = column-rises s ss rows place j (g .inside) w k;
+          before = g .is ss w c;
+          here = column-stands s ss rows place j (g .inside) w k e;
+        }
+
+    union-with :
+        {now y : SetAt} → now ≡ y → ((ss : List Snapshot) → CellsStand s ss rows → length ss ≡ n → SetIs s (unionTo (column ss place) (j + 1)) y) →
+        UnionTo s rows place n now (j + 1)
+    union-with f is = rw f (record { below = omega arith; inside = g .inside; short = g .short; is = is })
+
+    pub union-taken : only .count ≡ 0 → {now : SetAt} → now ≡ x → UnionTo s rows place n now (j + 1)
+    union-taken z f = union-with f (λ ss w c. only-taken (one-more ss w c) z)
+
+    pub union-kept : x .count ≡ 0 → {now : SetAt} → now ≡ only → UnionTo s rows place n now (j + 1)
+    union-kept z f = union-with f (λ ss w c. only-kept (one-more ss w c) z)
+
+    -- the bytes of both sets, a and b, are compared
+    module _
+        {a b : List ℕ} {r : Bool} (p : (vs : List Text) → SetIs s vs only → a ≡ flatten (map text vs))
+        (q : (vs : List Text) → SetIs s vs x → b ≡ flatten (map text vs)) (f : r ≡ equal texts a b) where
+      pub union-same : r ≡ true → {now : SetAt} → now ≡ only → UnionTo s rows place n now (j + 1)
+      union-same t i =
+          union-with i (λ ss w c. let m = one-more ss w c in only-same m (g .short) (p _ (m .before)) (q _ (m .here)) f t)
+
+      pub union-differs :
+          (only .count ≡ 0 → ⊥) → (x .count ≡ 0 → ⊥) → r ≡ false → (ss : List Snapshot) → CellsStand s ss rows → length ss ≡ n →
+          Joined (canon texts (flatten (column ss place))) (column ss place)
+      union-differs k l t ss w c =
+          let m = one-more ss w c in
+          only-differs m (g .short) (p _ (m .before)) (q _ (m .here)) f k l t
+
 -- ---- the merged set of a place
 
 module _
-    (s rows : List ℕ) (n : ℕ) (t : EventType) (d : Dossier) (p : ℕ) (h : p < 32) (m : Mergeable s rows n t d) (r : PlaceRule)
+    {s rows : List ℕ} {n : ℕ} {t : EventType} {d : Dossier} {r : PlaceRule} (p : ℕ) (h : p < 32) (m : Mergeable s rows n t d)
     (w : RuleIs (getElem? (t .properties) p) r) where
   abbrev sets-here : List (List Text)
   sets-here = column (d .snapshots) p
@@ -370,17 +485,16 @@ module _
   here-stands : (j : ℕ) → j < n → SetIs s (getD sets-here j []) (cellIn rows p j)
   here-stands j l = column-stands s (d .snapshots) rows p j h (m .stand) (omega (arith, m .count)) refl
 
-  last-cell : 1 ≤ n → merged-here ≡ getD sets-here (n - 1) [] → SetIs s merged-here (cellIn rows p (n - 1))
-  last-cell k e =
-      subst (λ (vs : List Text). SetIs s vs (cellIn rows p (n - 1))) (sym e) (here-stands (n - 1) (omega arith))
+  last-cell : 1 ≤ n → {x : SetAt} → x ≡ cellIn rows p (n - 1) → merged-here ≡ getD sets-here (n - 1) [] → SetIs s merged-here x
+  last-cell k c e = rw (c, e) (here-stands (n - 1) (omega arith))
 
-  pub stands-last : 1 ≤ n → r .replaces ≡ true → SetIs s merged-here (cellIn rows p (n - 1))
-  stands-last k e =
+  pub stands-last : 1 ≤ n → {x : SetAt} → x ≡ cellIn rows p (n - 1) → r .replaces ≡ true → SetIs s merged-here x
+  stands-last k c e =
       let l : length sets-here ≡ suc (n - 1) = column-long (d .snapshots) p ∙ m .count ∙ omega arith in
-      last-cell k (merged-last t d p r w e ∙ last-at sets-here (n - 1) l)
+      last-cell k c (merged-last t d p r w e ∙ last-at sets-here (n - 1) l)
 
-  pub stands-marked : 1 ≤ n → p + 1 ≡ t .mark → SetIs s merged-here (cellIn rows p (n - 1))
-  stands-marked k e = last-cell k (m .marked p e)
+  pub stands-marked : 1 ≤ n → {x : SetAt} → x ≡ cellIn rows p (n - 1) → p + 1 ≡ t .mark → SetIs s merged-here x
+  stands-marked k c e = last-cell k c (m .marked p e)
 
   module _ (k : n ≡ 1) where
     only-flat : flatten sets-here ≡ getD sets-here 0 []
@@ -400,22 +514,22 @@ module _
         merged-least t d p r w e f ∙ ap (smallest (chosen-order t d p r w)) only-flat
         ∙ lone-smallest (w .what .kind) (r .largest) (getD sets-here 0 []) (m .lone p (w .what) (w .is) o 0 (omega arith))
 
-    pub stands-only : SetIs s merged-here (cellIn rows p (n - 1))
-    stands-only = by (r .replaces) (r .extreme) refl refl
+    pub stands-only : {x : SetAt} → x ≡ cellIn rows p (n - 1) → SetIs s merged-here x
+    stands-only {x} c = by (r .replaces) (r .extreme) refl refl
       where
         first : n - 1 ≡ 0
         first = omega arith
 
-        by : (a b : Bool) → r .replaces ≡ a → r .extreme ≡ b → SetIs s merged-here (cellIn rows p (n - 1))
-        by true b e f = stands-last (omega arith) e
-        by false true e f = last-cell (omega arith) (only-least e f ∙ ap (λ (i : ℕ). getD sets-here i []) (sym first))
-        by false false e f = last-cell (omega arith) (only-union e f ∙ ap (λ (i : ℕ). getD sets-here i []) (sym first))
+        by : (a b : Bool) → r .replaces ≡ a → r .extreme ≡ b → SetIs s merged-here x
+        by true b e f = stands-last (omega arith) c e
+        by false true e f = last-cell (omega arith) c (only-least e f ∙ ap (λ (i : ℕ). getD sets-here i []) (sym first))
+        by false false e f = last-cell (omega arith) c (only-union e f ∙ ap (λ (i : ℕ). getD sets-here i []) (sym first))
 
-  pub stands-chosen : (x : SetAt) → r .replaces ≡ false → r .extreme ≡ true →
+  pub stands-chosen : {x : SetAt} → r .replaces ≡ false → r .extreme ≡ true →
       ((ss : List Snapshot) (k : Kind) → CellsStand s ss rows → length ss ≡ n → Chooses k (r .kind) → ((j : ℕ) → j < n → Lone k (getD (column ss p) j [])) →
       SetIs s (smallest (extremeOrder (r .largest) k) (flatten (column ss p))) x) →
       SetIs s merged-here x
-  stands-chosen x e g h =
+  stands-chosen {x} e g h =
       let k = w .what .kind in
       let o = sym (w .rule .extreme) ∙ g in
       let chooses = subst (Chooses k) (sym (w .rule .kind)) (m .chosen p (w .what) (w .is) o) in

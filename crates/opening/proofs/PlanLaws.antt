@@ -2,22 +2,22 @@
 use mathlib.Core.Path.{_≡_, refl, sym, ap, ap₂, _∙_}
 use mathlib.Core.Logic.{⊎-elim}
 use mathlib.Core.Bool.{Bool, true, false, not, _&&_}
-use mathlib.Core.Option.{Option, some}
+use mathlib.Core.Option.{Option, none, some}
 use mathlib.Core.List.{List, [], _∷_, map}
 use Prim.Native.Nat.{ℕ, _+_, _-_, _*_, _≤_, _<_}
 use native.Mathlib.Omega.{arith}
-use lib.Dec.{ltb, leb}
+use lib.Dec.{ltb, leb, eqb}
 use lib.ListN.{length, getD, getElem?, set, length-set}
 use lib.Seq.{getD-set-same, getD-set-other}
 use borrow.Author.Count.{below-more}
-use borrow.Author.Tests.{lt-ltb, le-leb}
+use borrow.Author.Tests.{lt-ltb, le-leb, eqb-true}
 use Rattle.model.specs.Order.{Text}
 use Rattle.model.specs.Sets.{upFrom, upTo}
 use Rattle.model.specs.Rule.{places, Dossier}
 use Rattle.model.specs.Opening.{column, lowest, mergedAt, mergedSets, overfull}
 use Rattle.packed.proofs.LayoutLaws.{lt-or-ge}
 use Rattle.ontology.specs.Table.{Property, EventType, isSingle, atPlace}
-use Rattle.ontology.specs.code.TypeIndex.{propertyIn, PropertiesAre}
+use Rattle.ontology.specs.code.TypeIndex.{PropertyIs, propertyIn, PropertiesAre}
 use Rattle.ontology.specs.declared.properties.PropertyAt.{PropertyAt}
 use Rattle.ontology.proofs.RunLaws.{no-element}
 use Rattle.event.specs.Event.{typeView, eventView}
@@ -27,15 +27,19 @@ use Rattle.event.specs.declared.sets.SetAt.{SetAt}
 use Rattle.event.proofs.BitLaws.{FilledTo, presence-bits}
 use Rattle.event.proofs.MatchLaws.{this, this-is}
 use Rattle.opening.specs.code.CellIndex.{setFrom, withSet}
+use Rattle.opening.specs.code.OpenIndex.{RuleOf, RuleIs, Mergeable}
 use Rattle.opening.specs.code.PlanIndex.{PlaceIs, withPlace, TellsCount, PlanAt, PlanIs}
 use Rattle.opening.specs.declared.merge.PlaceMerged.{PlaceMerged}
 use Rattle.opening.specs.declared.merge.PlaceMerged.the-variants.{Stands, Joins}
+use Rattle.opening.specs.declared.strategies.PlaceRule.{PlaceRule}
 use Rattle.opening.proofs.StandLaws.{set-put, put-other, put-length, set-kept}
-use Rattle.opening.proofs.MergeLaws.{no-set}
+use Rattle.opening.proofs.MergeLaws.{no-set, merged-vacant}
+use Rattle.opening.proofs.StrategyLaws.{rule-at}
+use Rattle.opening.proofs.ConflictLaws.{lowest-here, lowest-next, lowest-none}
 
 -- ---- the plan of a place
 
-pub place-length : (plan : List ℕ) (p : ℕ) (x : PlaceMerged) {new : List ℕ} → new ≡ withPlace plan p x → length new ≡ length plan
+place-length : (plan : List ℕ) (p : ℕ) (x : PlaceMerged) {new : List ℕ} → new ≡ withPlace plan p x → length new ≡ length plan
 unfolding withPlace
 place-length plan p (Stands x) e = ap length e ∙ length-set (withSet plan (4 * p) x) (4 * p + 3) 0 ∙ put-length plan (4 * p) x
 place-length plan p Joins e = ap length e ∙ length-set (set plan (4 * p + 2) 2) (4 * p + 3) 1 ∙ length-set plan (4 * p + 2) 2
@@ -125,10 +129,10 @@ pub record PlannedTo (s plan : List ℕ) (t : EventType) (d : Dossier) (p : ℕ)
   pub clear : (i : ℕ) → 4 * p ≤ i → i < 128 → getD plan i 0 ≡ 0
 
 module _ (s plan : List ℕ) (t : EventType) (d : Dossier) where
-  pub planned-none : ((i : ℕ) → i < 128 → getD plan i 0 ≡ 0) → PlannedTo s plan t d 0
+  planned-none : ((i : ℕ) → i < 128 → getD plan i 0 ≡ 0) → PlannedTo s plan t d 0
   planned-none z = record { each = λ i h. absurd (omega arith); clear = λ i h l. z i l }
 
-  pub planned-more :
+  planned-more :
       (p : ℕ) (x : PlaceMerged) {new : List ℕ} → length plan ≡ 128 → p < 32 → PlannedTo s plan t d p →
       PlaceIs s (mergedAt (typeView t) d p) (column (d .snapshots) p) x → new ≡ withPlace plan p x → PlannedTo s new t d (p + 1)
   planned-more p x l h w here e = rw e (record {
@@ -140,7 +144,7 @@ module _ (s plan : List ℕ) (t : EventType) (d : Dossier) where
   })
 
   -- the places from p on have no objects
-  pub planned-all : (p : ℕ) → ((i : ℕ) → p ≤ i → mergedAt (typeView t) d i ≡ []) → PlannedTo s plan t d p → PlanIs s plan t d
+  planned-all : (p : ℕ) → ((i : ℕ) → p ≤ i → mergedAt (typeView t) d i ≡ []) → PlannedTo s plan t d p → PlanIs s plan t d
   planned-all p v w = record {
     each = λ i l.
         ⊎-elim (λ h. w .each i h)
@@ -148,17 +152,43 @@ module _ (s plan : List ℕ) (t : EventType) (d : Dossier) where
         (lt-or-ge i p);
   }
 
+-- so of any dossier and type whose properties the code has
+pub record PlansTo (s rows : List ℕ) (n count mark : ℕ) (ps plan : List ℕ) (p : ℕ) : Type 0 where
+  pub long : length plan ≡ 128
+  pub is :
+      (u : List ℕ) (ty : EventType) (d : Dossier) → PropertiesAre u (ty .properties) count ps → mark ≡ ty .mark → Mergeable s rows n ty d →
+      PlannedTo s plan ty d p
+
+pub plans-none :
+    {s rows ps plan : List ℕ} {n count mark : ℕ} → length plan ≡ 128 → ((i : ℕ) → i < 128 → getD plan i 0 ≡ 0) → PlansTo s rows n count mark ps plan 0
+plans-none l z = record { long = l; is = λ u ty d w k m. planned-none _ _ ty d z }
+
+module _ {s rows ps plan : List ℕ} {n count mark p : ℕ} (g : PlansTo s rows n count mark ps plan p) where
+  pub plans-next :
+      {q : PropertyAt} {r : PlaceRule} (x : PlaceMerged) {new : List ℕ} → p < count → q ≡ propertyIn ps p →
+      ((u : List ℕ) (v : Property) → PropertyIs u v q → RuleOf v r) →
+      ((t : EventType) (d : Dossier) → Mergeable s rows n t d → RuleIs (getElem? (t .properties) p) r → (eqb (p + 1) mark ≡ true → p + 1 ≡ t .mark) →
+      PlaceIs s (mergedAt (typeView t) d p) (column (d .snapshots) p) x) →
+      new ≡ withPlace plan p x → PlansTo s rows n count mark ps new (p + 1)
+  plans-next x h same rule merged e = record {
+    long = place-length plan p x e ∙ g .long;
+    is = λ u ty d w k m.
+        let here = merged ty d m (rule-at u ty count ps w p h same rule) (λ b. eqb-true (p + 1) mark b ∙ k) in
+        planned-more s plan ty d p x (g .long) (omega (arith, w .few)) (g .is u ty d w k m) here e;
+  }
+
+  pub plans-all :
+      count ≤ p → (u : List ℕ) (ty : EventType) (d : Dossier) → PropertiesAre u (ty .properties) count ps → mark ≡ ty .mark → Mergeable s rows n ty d →
+      PlanIs s plan ty d
+  plans-all h u ty d w k m = planned-all s plan ty d p (λ i l. merged-vacant s rows u n ty count ps d i w m (omega arith)) (g .is u ty d w k m)
+
 -- ---- which place is overfull
 
 pub single-overfull : (b : Bool) (n : ℕ) → b ≡ true → leb 2 n ≡ (b && leb 2 n)
 single-overfull b n e = sym (ap (λ (a : Bool). a && leb 2 n) e)
 
-abbrev pub isOverfull : EventType → Dossier → ℕ → Bool
+abbrev isOverfull : EventType → Dossier → ℕ → Bool
 isOverfull ty d p = typeView ty .single p && leb 2 (length (mergedAt (typeView ty) d p))
-
-pub overfull-start : (ty : EventType) (d : Dossier) → overfull (typeView ty) d ≡ lowest (isOverfull ty d) (upFrom 0 (32 - 0))
-unfolding overfull places upTo typeView eventView
-overfull-start ty d = refl
 
 module _
     (u : List ℕ) (ty : EventType) (count : ℕ) (ps : List ℕ) (w : PropertiesAre u (ty .properties) count ps) (d : Dossier) (p : ℕ) where
@@ -166,7 +196,7 @@ module _
   unfolding typeView eventView
   single-at o e = ap (atPlace false isSingle) e
 
-  pub place-overfull :
+  place-overfull :
       (s plan : List ℕ) {q : PropertyAt} {b : Bool} → q ≡ propertyIn ps p → PlanIs s plan ty d → p < count →
       b ≡ (not (q .multivalued) && leb 2 (getD plan (4 * p + 2) 0)) → b ≡ isOverfull ty d p
   unfolding atPlace
@@ -178,10 +208,44 @@ module _
       (v .each p (omega (arith, w .few)) .counts .several)
 
   -- there is no property
-  pub no-overfull : count ≤ p → isOverfull ty d p ≡ false
+  no-overfull : count ≤ p → isOverfull ty d p ≡ false
   unfolding atPlace
   no-overfull h =
       ap (λ (b : Bool). b && leb 2 (length (mergedAt (typeView ty) d p))) (single-at _ (no-element (ty .properties) p (omega (arith, w .count))))
+
+-- the lowest such place is that of the places from p on
+pub record OverfullFrom (count : ℕ) (ps plan : List ℕ) (p : ℕ) : Type 0 where
+  pub is :
+      (u s : List ℕ) (ty : EventType) (d : Dossier) → PropertiesAre u (ty .properties) count ps → PlanIs s plan ty d →
+      overfull (typeView ty) d ≡ lowest (isOverfull ty d) (upFrom p (32 - p))
+
+pub overfull-start : {count : ℕ} {ps plan : List ℕ} → OverfullFrom count ps plan 0
+unfolding overfull places upTo typeView eventView
+overfull-start = record { is = λ u s ty d w v. refl }
+
+abbrev LowestOverfull : ℕ → List ℕ → List ℕ → Option ℕ → Type 0
+LowestOverfull count ps plan o =
+    (u s : List ℕ) (ty : EventType) (d : Dossier) → PropertiesAre u (ty .properties) count ps → PlanIs s plan ty d → o ≡ overfull (typeView ty) d
+
+module _ {count : ℕ} {ps plan : List ℕ} {p : ℕ} (o : OverfullFrom count ps plan p) where
+  -- b is what the code asks of place p
+  module _
+      {q : PropertyAt} {b : Bool} (h : p < count) (same : q ≡ propertyIn ps p) (e : b ≡ (not (q .multivalued) && leb 2 (getD plan (4 * p + 2) 0))) where
+    pub overfull-found : b ≡ true → LowestOverfull count ps plan (some p)
+    overfull-found t u s ty d w v =
+        let here = sym (place-overfull u ty count ps w d p s plan same v h e) ∙ t in
+        sym (o .is u s ty d w v ∙ lowest-here (isOverfull ty d) p (omega (arith, w .few)) here)
+
+    pub overfull-next : b ≡ false → OverfullFrom count ps plan (p + 1)
+    overfull-next f = record {
+      is = λ u s ty d w v.
+          let not-here = sym (place-overfull u ty count ps w d p s plan same v h e) ∙ f in
+          o .is u s ty d w v ∙ lowest-next (isOverfull ty d) p (omega (arith, w .few)) not-here;
+    }
+
+  pub none-overfull : count ≤ p → LowestOverfull count ps plan none
+  none-overfull l u s ty d w v =
+      sym (o .is u s ty d w v ∙ lowest-none (isOverfull ty d) p (λ i h. no-overfull u ty count ps w d i (omega arith)))
 
 -- ---- the presence number
 

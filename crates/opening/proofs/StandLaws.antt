@@ -23,6 +23,7 @@ use Rattle.dossier.proofs.CellLaws.{held-at}
 use Rattle.dossier.proofs.DossierBodyLaws.{snapshot-was}
 use Rattle.opening.specs.code.OpenIndex.{CellStands, CellsStand}
 use Rattle.opening.specs.code.CellIndex.{setFrom, withSet, cellIn}
+use Rattle.opening.specs.declared.cells.Runs.{Runs}
 
 -- ---- the column of a place
 
@@ -77,14 +78,14 @@ set-kept l l′ at h = rw (h at (omega arith) (omega arith), h (at + 1) (omega a
 -- ---- the runs of a place
 
 -- the first j runs are those of the cells of n snapshots
-pub record RunsTo (rows : List ℕ) (place n : ℕ) (starts ends : List ℕ) (j : ℕ) : Type 0 where
-  pub starts-long : length starts ≡ 8
-  pub ends-long : length ends ≡ 8
-  pub start : (i : ℕ) → i < j → i < n → getD starts i 0 ≡ cellIn rows place i .start
-  pub end : (i : ℕ) → i < j → i < n → getD ends i 0 ≡ cellIn rows place i .end
+pub record RunsTo (rows : List ℕ) (place n : ℕ) (r : Runs) (j : ℕ) : Type 0 where
+  pub starts-long : length (r .starts) ≡ 8
+  pub ends-long : length (r .ends) ≡ 8
+  pub start : (i : ℕ) → i < j → i < n → getD (r .starts) i 0 ≡ cellIn rows place i .start
+  pub end : (i : ℕ) → i < j → i < n → getD (r .ends) i 0 ≡ cellIn rows place i .end
 
-pub runs-none : (rows : List ℕ) (place n : ℕ) (starts ends : List ℕ) → length starts ≡ 8 → length ends ≡ 8 → RunsTo rows place n starts ends 0
-runs-none rows place n starts ends a b =
+pub runs-none : {rows : List ℕ} {place n : ℕ} {r : Runs} → length (r .starts) ≡ 8 → length (r .ends) ≡ 8 → RunsTo rows place n r 0
+runs-none a b =
     record { starts-long = a; ends-long = b; start = λ i h k. absurd (omega arith); end = λ i h k. absurd (omega arith) }
 
 put-more :
@@ -95,35 +96,37 @@ put-more f l j n x h e old =
     (λ i k m. let ne : i ≡ j → ⊥ = λ e. omega arith in getD-set-other l j i x 0 ne ∙ old i k m)
     (λ m. getD-set-same l j x 0 h ∙ e)
 
-module _ (rows : List ℕ) (place n : ℕ) (starts ends : List ℕ) (j : ℕ) (w : RunsTo rows place n starts ends j) where
-  pub runs-more : (x : SetAt) → j < 8 → x ≡ cellIn rows place j → RunsTo rows place n (set starts j (x .start)) (set ends j (x .end)) (j + 1)
-  runs-more x h e = record {
-    starts-long = length-set starts j (x .start) ∙ w .starts-long;
-    ends-long = length-set ends j (x .end) ∙ w .ends-long;
+module _ {rows : List ℕ} {place n : ℕ} {r : Runs} {j : ℕ} (w : RunsTo rows place n r j) where
+  pub runs-more :
+      {x : SetAt} {now : Runs} → j < 8 → x ≡ cellIn rows place j →
+      now ≡ record { starts = set (r .starts) j (x .start); ends = set (r .ends) j (x .end) } → RunsTo rows place n now (j + 1)
+  runs-more {x} h e f = rw f (record {
+    starts-long = length-set (r .starts) j (x .start) ∙ w .starts-long;
+    ends-long = length-set (r .ends) j (x .end) ∙ w .ends-long;
     start =
-        put-more (λ (i : ℕ). cellIn rows place i .start) starts j n (x .start) (omega (arith, w .starts-long))
+        put-more (λ (i : ℕ). cellIn rows place i .start) (r .starts) j n (x .start) (omega (arith, w .starts-long))
         (ap (λ (y : SetAt). y .start) e) (w .start);
     end =
-        put-more (λ (i : ℕ). cellIn rows place i .end) ends j n (x .end) (omega (arith, w .ends-long))
+        put-more (λ (i : ℕ). cellIn rows place i .end) (r .ends) j n (x .end) (omega (arith, w .ends-long))
         (ap (λ (y : SetAt). y .end) e) (w .end);
-  }
+  })
 
   -- past the last snapshot nothing is put
-  pub runs-past : n ≤ j → RunsTo rows place n starts ends (j + 1)
-  runs-past h = record {
+  pub runs-past : {now : Runs} → n ≤ j → now ≡ r → RunsTo rows place n now (j + 1)
+  runs-past h f = rw f (record {
     starts-long = w .starts-long;
     ends-long = w .ends-long;
     start = λ i k l. w .start i (omega arith) l;
     end = λ i k l. w .end i (omega arith) l;
-  }
+  })
 
-pub cell-run : (s : List ℕ) (vs : List Text) (x : SetAt) → CellStands s vs x → SetRun s (x .start) (x .end) vs
+cell-run : (s : List ℕ) (vs : List Text) (x : SetAt) → CellStands s vs x → SetRun s (x .start) (x .end) vs
 cell-run s vs x w = record { bytes = w .is .bytes; order = w .is .order; within = w .is .within; rises = w .rises }
 
 pub runs-all :
-    (s : List ℕ) (ss : List Snapshot) (rows : List ℕ) (place n : ℕ) (starts ends : List ℕ) (j : ℕ) → place < 32 → CellsStand s ss rows → length ss ≡ n → 8 ≤ j →
-    RunsTo rows place n starts ends j → SetRuns s starts ends (length ss) (column ss place)
-runs-all s ss rows place n starts ends j p w e full r = record {
+    {rows : List ℕ} {place n : ℕ} {runs : Runs} {j : ℕ} → RunsTo rows place n runs j → 8 ≤ j → place < 32 →
+    (s : List ℕ) (ss : List Snapshot) → CellsStand s ss rows → length ss ≡ n → SetRuns s (runs .starts) (runs .ends) (length ss) (column ss place)
+runs-all {rows} {place} {n} {j = j} r full p s ss w e = record {
   long = column-long ss place;
   each = λ i l.
       let k : i < j = omega (arith, w .few) in

@@ -1,3 +1,4 @@
+-- An output that is too small is refused with 1 (`open-small`); otherwise as many rows are lent as the dossier can have snapshots (`one-row`, `all-rows`).
 use borrow.Author.Needs.{needs}
 use Prim.Native.Nat.{_≤_}
 use lib.ListN.{length}

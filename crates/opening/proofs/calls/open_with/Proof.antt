@@ -1,3 +1,5 @@
+-- Each question that is answered no is a law of the call (`open-table`, `open-refused`); a dossier that is accepted can be opened (`asked-open`), and what it
+-- opens as is what the call answers (`open-done`).
 use borrow.Author.Needs.{needs}
 use mathlib.Core.Path.{_≡_, _∙_}
 use mathlib.Core.List.{List}
@@ -6,13 +8,9 @@ use native.Mathlib.Omega.{arith}
 use denote.Ref.{now}
 use lib.ListN.{length}
 use borrow.Author.Tests.{not-true, not-false}
-use Rattle.model.specs.Limits.{standard}
 use Rattle.replies.specs.Capacities.{dossierCapacity}
 use Rattle.ontology.proofs.TypeIndexLaws.{TableGot, table-refused, table-got}
-use Rattle.dossier.specs.DossierQuestions.{dossierAsked}
-use Rattle.dossier.specs.code.DossierIndex.{DossierAnswers}
-use Rattle.dossier.proofs.AcceptedLaws.{asked-refused}
-use Rattle.opening.proofs.OpenLaws.{found-low, type-says, open-table, open-refused, open-done, Accepted, asked-open}
+use Rattle.opening.proofs.OpenLaws.{found-low, open-table, open-refused, open-done, Accepted, asked-open}
 use Rattle.opening.proofs.calls.open_with.Statement.{statement}
 use Rattle.opening.proofs.calls.open_with.Tie as tie
 
@@ -30,11 +28,8 @@ to-table c = c .before .before .before
 abbrev to-taken : tie.After-ask-dossier → tie.Else1
 to-taken c = c .before .before .before
 
-abbrev to-asked : tie.After-t → tie.After-ask-dossier
-to-asked c = c .before .before
-
-abbrev to-type : tie.After-open-asked-arg2 → tie.After-t
-to-type c = c .before .before .before
+abbrev to-accepted : tie.After-open-asked-arg2 → tie.Else2
+to-accepted c = c .before .before .before .before
 
 -- ---- the values
 
@@ -73,24 +68,15 @@ got :
     TableGot (table (to-read at-table)) (name at-table) (properties at-table) (at-table .read-table .result)
 got c = table-got _ _ _ _ (to-table c .read-table .ensures) (not-false _ (c .if1 .left))
 
--- what the questions come to
-answered :
-    (c : tie.After-ask-dossier) → let taken = to-taken c in let at-table = to-table taken in let read = to-read at-table in
-    DossierAnswers (dossierAsked standard (got taken .what) (dossier read)) (table read)
-    (at-table .read-table .result .index) (properties at-table) (c .ask-dossier .result)
-answered c =
-    let taken = to-taken c in
-    let named = to-table taken .before .before in
-    c .ask-dossier .ensures _ _ (got taken .is) (λ h w. type-says _ _ _ _ (got taken) (named .type-name .ensures h w))
-
--- the dossier is accepted
 accepted :
-    (c : tie.After-t) → let at-table = to-table (to-taken (to-asked c)) in let read = to-read at-table in
+    (c : tie.Else2) → let asked = c .before in let at-table = to-table (to-taken asked) in let read = to-read at-table in
     Accepted (table read) (dossier read) (read .read-dossier .result) (rows read) (at-table .read-table .result .index) (properties at-table)
 accepted c =
-    let asked = to-asked c in
+    let asked = c .before in
     let taken = to-taken asked in
-    asked-open _ _ _ _ _ (to-read (to-table taken) .read-dossier .ensures .0) _ _ _ (answered asked) (got taken .is) (c .before .if2 .left)
+    let at-table = to-table taken in
+    asked-open _ (got taken) (at-table .before .before .type-name .ensures) (asked .ask-dossier .ensures) (to-read at-table .read-dossier .ensures .0)
+    (c .if2 .left)
 
 -- ---- the needs
 
@@ -103,26 +89,27 @@ ask-dossier-requires : tie.Need-ask-dossier-requires
 ask-dossier-requires c κs =
     let taken = c .before .before in
     let read = to-read (to-table taken) in
-    ((inside read, search needs), (read .read-dossier .ensures .0, found-low _ _ _ _ (got taken)))
+    ((inside read, search needs), (read .read-dossier .ensures .0, found-low (got taken)))
 
 returns-2 : tie.Need-returns-2
 returns-2 c =
     let asked = c .before in
     let taken = to-taken asked in
-    open-refused _ _ _ (room (to-read (to-table taken))) _ _ (got taken .is) (asked-refused _ _ _ _ _ _ (answered asked) (c .if2 .taken))
+    let at-table = to-table taken in
+    open-refused _ (got taken) (at-table .before .before .type-name .ensures) (asked .ask-dossier .ensures) (room (to-read at-table)) (c .if2 .taken)
 
 open-asked-requires : tie.Need-open-asked-requires
 open-asked-requires c κs =
-    let at-type = to-type c in
-    let read = to-read (to-table (to-taken (to-asked at-type))) in
-    ((inside read, search needs, room read), accepted at-type .openable)
+    let done = to-accepted c in
+    let read = to-read (to-table (to-taken (done .before))) in
+    ((inside read, search needs, room read), accepted done .openable)
 
 returns-3 : tie.Need-returns-3
 returns-3 c =
     let opened = c .before .before in
-    let at-type = to-type (opened .before) in
-    let a = accepted at-type in
-    opened .open-asked .ensures (a .openable) ∙ open-done _ _ _ (room (to-read (to-table (to-taken (to-asked at-type))))) _ _ _ _ a
+    let done = to-accepted (opened .before) in
+    let a = accepted done in
+    opened .open-asked .ensures (a .openable) ∙ open-done _ _ _ (room (to-read (to-table (to-taken (done .before))))) a
 
 pub open-with-spec : {M : Type 1} → statement M
 open-with-spec =

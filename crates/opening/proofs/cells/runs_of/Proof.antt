@@ -1,48 +1,25 @@
+-- The invariant (`RunsTo`) is that the runs before this one are those of the cells: each turn puts one more, or is past the last snapshot.
 use borrow.Author.Needs.{needs}
-use mathlib.Core.Path.{refl, sym, subst}
+use mathlib.Core.Path.{refl}
 use mathlib.Core.Logic.{⊎-elim}
-use Prim.Native.Nat.{_+_, _-_}
-use Rattle.opening.specs.declared.cells.Runs.{Runs}
+use Prim.Native.Nat.{_-_}
 use Rattle.opening.proofs.StandLaws.{RunsTo, runs-none, runs-more, runs-past, runs-all}
 use Rattle.opening.proofs.cells.runs_of.Statement.{statement}
 use Rattle.opening.proofs.cells.runs_of.Tie as tie
 
 abbrev Inv-loop : tie.InvT-loop
-Inv-loop rows place n r₀ j₀ r j = RunsTo rows place n (r .starts) (r .ends) j
+Inv-loop rows place n r₀ j₀ r j = RunsTo rows place n r j
 
 abbrev μ-loop : tie.MeasureT-loop
 μ-loop rows place n r₀ j₀ r j = 8 - j
 
--- ---- the places
-
-abbrev to-start : tie.At-loop Inv-loop μ-loop → tie.Start Inv-loop μ-loop
-to-start c = c .before .before
-
--- ---- the facts
-
--- the runs that a turn leaves
-abbrev After : tie.In-loop Inv-loop μ-loop → Runs → Type 0
-After c r =
-    let a = to-start (c .before) .args in
-    RunsTo (a .rows .now) (a .place) (a .n) (r .starts) (r .ends) (c .before .loop .j + 1)
-
--- ---- the needs
-
-loop-holds : tie.Need-loop-holds Inv-loop μ-loop
-loop-holds c = runs-none _ _ _ _ _ refl refl
-
 loop-again : tie.Need-loop-again Inv-loop μ-loop
 loop-again c =
-    let turn = c .before in
-    let l = turn .before .loop in
-    ⊎-elim
-    (λ x. subst (After turn) (sym (x .2)) (runs-more _ _ _ _ _ _ (l .inv) _ (turn .loop-test .taken) (x .1 .ensures)))
-    (λ y. subst (After turn) (sym (y .1)) (runs-past _ _ _ _ _ _ (l .inv) (y .0 .left)))
-    (c .if1 .came)
+    let inv = c .before .before .loop .inv in
+    ⊎-elim (λ x. runs-more inv (c .before .loop-test .taken) (x .1 .ensures) (x .2)) (λ y. runs-past inv (y .0 .left) (y .1)) (c .if1 .came)
 
 returns : tie.Need-returns Inv-loop μ-loop
-returns c =
-    λ s ss w e. runs-all s ss _ _ _ _ _ _ (to-start (c .before) .pre .1) w e (c .loop-test .left) (c .before .loop .inv)
+returns c = runs-all (c .before .loop .inv) (c .loop-test .left) (c .before .before .before .pre .1)
 
 pub runs-of-spec : {M : Type 1} → statement M
 runs-of-spec =
@@ -50,7 +27,7 @@ runs-of-spec =
     (tie.spec
     Inv-loop
     μ-loop
-    loop-holds
+    (λ c. runs-none refl refl)
     (λ c κs. search needs)
     (λ c. search needs)
     (λ c. search needs)

@@ -1,3 +1,4 @@
+-- The bits are filled one by one (`FilledTo`), each by whether the plan counts a value, and so their number is the presence number (`presence-is`).
 use borrow.Author.Needs.{needs}
 use mathlib.Core.Path.{refl}
 use Prim.Native.Nat.{_+_, _-_, _*_}
@@ -38,7 +39,7 @@ presence-of-spec =
     (λ c. search needs)
     (λ c. search needs)
     (λ c. search needs)
-    array-write-present
+    (λ c. search needs)
     (λ c. search needs)
     (λ c. search needs)
     loop-again

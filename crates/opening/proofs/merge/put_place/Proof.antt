@@ -1,3 +1,4 @@
+-- What is stored is `withPlace`, by its two cases: the set that stands and 0 (`place-stands`), or 2 and 1 (`place-joins`).
 use borrow.Author.Needs.{needs}
 use native.Mathlib.Omega.{arith}
 use Prim.Native.Nat.{_+_, _*_}
@@ -7,16 +8,20 @@ use Rattle.opening.proofs.PlanLaws.{place-stands, place-joins}
 use Rattle.opening.proofs.merge.put_place.Statement.{statement}
 use Rattle.opening.proofs.merge.put_place.Tie as tie
 
+-- ---- the places
+
+abbrev to-set : tie.After-slice-known2 → tie.After-x
+to-set c = c .before .before .before .before .before
+
+-- ---- the needs
+
 slice-write-plan-3 : tie.Need-slice-write-plan-3
 slice-write-plan-3 c =
     let start = c .before .before .before in
     omega (arith, start .pre .0, start .pre .1, length-set (now (start .args .plan)) (4 * start .args .place + 2) 2)
 
 returns : tie.Need-returns
-returns c =
-    let told = c .before .before .before .before in
-    let put = c .before .before in
-    place-stands _ _ (told .before .x .given .1) (put .put-set .ensures)
+returns c = place-stands _ _ (to-set c .x .given .1) (c .before .before .put-set .ensures)
 
 returns-2 : tie.Need-returns-2
 returns-2 c = place-joins _ _ (c .enum-told .given .1)

@@ -1,3 +1,5 @@
+-- The head, the presence number and the sets are written one after the other: what is left of the room after each is the room of the next (`presence-room`,
+-- `sets-room`), and together they are the event (`wrote-event`).
 use borrow.Author.Needs.{needs}
 use native.Mathlib.Omega.{arith}
 use mathlib.Core.Path.{refl}
@@ -17,8 +19,8 @@ to-start c = c .before .before .before .before .before .before .before .before .
 abbrev to-head : tie.After-presence-of → tie.After-write-head
 to-head c = c .before .before .before .before
 
-abbrev to-presence : tie.After-write-sets-arg → tie.After-presence-of
-to-presence c = c .before .before .before .before
+abbrev to-number : tie.After-write-sets-arg → tie.After-write-number
+to-number c = c .before .before .before
 
 -- ---- the facts
 
@@ -41,29 +43,26 @@ write-head-requires c κs =
 
 write-number-requires : tie.Need-write-number-requires
 write-number-requires c κs =
-    let at-head = to-head c in
-    let w = to-start (at-head .before) .pre .3 in
-    presence-room w refl (at-head .write-head .ensures _ (parts (at-head .before) _ (w .is .head))) _ (c .presence-of .ensures _ _ _ (w .planned))
+    let head = to-head c in
+    presence-room (to-start (head .before) .pre .3) refl (parts (head .before)) (head .write-head .ensures) (c .presence-of .ensures)
 
 write-sets-requires : tie.Need-write-sets-requires
 write-sets-requires c κs =
-    let at-presence = to-presence c in
-    let at-head = to-head at-presence in
-    let m = to-start (at-head .before) .pre in
-    let w = m .3 in
-    let head = at-head .write-head .ensures _ (parts (at-head .before) _ (w .is .head)) in
-    let presence = at-presence .presence-of .ensures _ _ _ (w .planned) in
-    ((m .0, m .1, w .is .few, m .2), sets-room w refl head _ presence (c .before .before .before .write-number .ensures))
+    let number = to-number c in
+    let head = to-head (number .before) in
+    let p = to-start (head .before) .pre in (
+      (p .0, p .1, p .3 .is .few, p .2),
+      sets-room (p .3) refl (parts (head .before)) (head .write-head .ensures) (number .before .presence-of .ensures) (number .write-number .ensures),
+    )
 
 returns : tie.Need-returns
-returns c = λ w.
-    let at-sets = c .before .before in
-    let at-presence = to-presence (at-sets .before) in
-    let at-head = to-head at-presence in
-    let head = at-head .write-head .ensures _ (parts (at-head .before) _ (w .is .head)) in
-    let presence = at-presence .presence-of .ensures _ _ _ (w .planned) in
-    let number = at-sets .before .before .before .before .write-number .ensures in
-    wrote-event w refl head _ presence number (at-sets .write-sets .ensures (sets-room w refl head _ presence number))
+returns c =
+    let sets = c .before .before in
+    let number = to-number (sets .before) in
+    let head = to-head (number .before) in
+    λ w.
+    wrote-event w refl (parts (head .before)) (head .write-head .ensures) (number .before .presence-of .ensures) (number .write-number .ensures)
+    (sets .write-sets .ensures)
 
 pub write-event-spec : {M : Type 1} → statement M
 write-event-spec =
