@@ -1,9 +1,8 @@
 -- The first event is asked before the loop, the others in it: the invariant is that the whole answer is the answer of going on from here (`GoesOn`), and
 -- each event that is refused ends it. After the last, the answer is the position of the first event that does not agree with the first one.
 use borrow.Author.Needs.{needs}
-use mathlib.Core.Path.{_≡_, sym}
-use Prim.Native.Nat.{_-_, _<_}
-use native.Mathlib.Omega.{arith}
+use mathlib.Core.Path.{_≡_}
+use Prim.Native.Nat.{_-_}
 use lib.ListN.{length}
 use Rattle.batch.proofs.AskedLaws.{GoesOn, first-refuses, goes-first, next-refuses, goes-next, none-refuses, apart-refuses}
 use Rattle.batch.proofs.asked.ask_events.Statement.{statement}
@@ -36,18 +35,12 @@ to-part2 c = c .before .before .before .before .before
 abbrev to-accepted : tie.After-first-apart Inv-loop μ-loop → tie.Else3 Inv-loop μ-loop
 to-accepted c = c .before .before .before .before
 
--- ---- the facts
-
-below : (c : tie.Then2 Inv-loop μ-loop) → to-turn c .loop .i < 16
-below c = omega (arith, c .if2 .taken, to-turn c .loop .inv .2 .few)
-
 -- ---- the needs
 
 ask-one-requires : tie.Need-ask-one-requires Inv-loop μ-loop
 ask-one-requires c κs =
     let read = c .before .before in
-    let p = to-start (read .before .before) .pre in
-    ((p .0 .says, p .1, search needs), read .read-event .ensures)
+    ((to-start (read .before .before) .pre .0 .says, search needs, search needs), read .read-event .ensures)
 
 returns : tie.Need-returns Inv-loop μ-loop
 returns c =
@@ -74,19 +67,11 @@ returns-2 c =
     next-refuses (to-turn more .loop .inv .2) (more .if2 .taken) (part .event-part2 .ensures) (asked .ask-one2 .ensures) (c .before .if3 .taken)
     _ (c .answer2 .ensures)
 
-slice-aggregate-events-agree : tie.Need-slice-aggregate-events-agree Inv-loop μ-loop
-slice-aggregate-events-agree c = sym (to-turn (to-part2 (c .before .before) .before) .loop .inv .0)
-
 events-agree-requires : tie.Need-events-agree-requires Inv-loop μ-loop
 events-agree-requires c κs =
     let turn = to-turn (to-part2 (c .before .before .before) .before) in
-    (turn .loop .inv .2 .typed .are .few, to-begin turn .pre .1, turn .loop .inv .0, search needs)
-
-add-i : tie.Need-add-i Inv-loop μ-loop
-add-i c = omega (arith, below (to-part2 (to-accepted c .before) .before))
-
-loop-less : tie.Need-loop-less Inv-loop μ-loop
-loop-less c = omega (arith, to-part2 (to-accepted c .before) .before .if2 .taken)
+    let inv = turn .loop .inv in
+    (inv .2 .typed .are .few, to-begin turn .pre .1, inv .0, search needs)
 
 loop-again : tie.Need-loop-again Inv-loop μ-loop
 loop-again c =
@@ -125,19 +110,19 @@ ask-events-spec =
     (λ c κs. search needs)
     returns
     loop-holds
-    (λ c κs. below c)
+    (λ c κs. search needs)
     (λ c. search needs)
     (λ c κs. search needs)
     (λ c. search needs)
     ask-one-requires-2
     (λ c κs. search needs)
     returns-2
-    slice-aggregate-events-agree
+    (λ c. search needs)
     (λ c. search needs)
     events-agree-requires
     (λ c κs. search needs)
-    add-i
-    loop-less
+    (λ c. search needs)
+    (λ c. search needs)
     loop-again
     (λ c κs. search needs)
     returns-3

@@ -113,7 +113,7 @@ module _ {t : ℕ} where
   check-known-requires c κs =
       let taken = c .before .before in
       let start = one-to-start taken in
-      (first-known (first-of start) (taken .event-part .ensures), start .pre .1 .0 .3, a-room start)
+      (first-known (first-of start) (taken .event-part .ensures), search needs, search needs)
 
   returns : At lts.Need-returns t
   returns c =

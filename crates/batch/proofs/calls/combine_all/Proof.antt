@@ -70,7 +70,7 @@ check-known-requires : tie.Need-check-known-requires
 check-known-requires c κs =
     let taken = c .before .before in
     let start = one-to-start taken in
-    (first-known (first-of start) (taken .event-part .ensures), search needs, out-room start)
+    (first-known (first-of start) (taken .event-part .ensures), search needs, search needs)
 
 returns : tie.Need-returns
 returns c =
@@ -105,7 +105,7 @@ add-event-requires c κs =
     let start = to-start combined in
     let addable = last-addable (first-of start) (two (to-more combined)) (combined .combine-first .ensures)
     (to-reply taken .others .given .1) (taken .event-part2 .ensures) in
-    ((addable, start .pre .0 .2, measures-long combined), (lone-room combined, out-room start))
+    ((addable, search needs, measures-long combined), (lone-room combined, out-room start))
 
 returns-3 : tie.Need-returns-3
 returns-3 c =

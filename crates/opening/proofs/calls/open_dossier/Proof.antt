@@ -11,9 +11,6 @@ use Rattle.opening.proofs.calls.open_dossier.Tie as tie
 
 -- ---- the places
 
-abbrev to-if1 : tie.After-snapshot-count → tie.Else1
-to-if1 c = c .before
-
 abbrev to-start : tie.Else1 → tie.Start
 to-start c = c .before .before .before .before
 
@@ -30,12 +27,12 @@ returns c = open-small _ _ _ (c .if1 .taken)
 open-with-requires : tie.Need-open-with-requires
 open-with-requires c κs =
     let few = c .before .before in
-    (one-row _ _ (few .before .snapshot-count .ensures) (few .if2 .taken), room (to-if1 (few .before)))
+    (one-row _ _ (few .before .snapshot-count .ensures) (few .if2 .taken), room (few .before .before))
 
 open-with-requires-2 : tie.Need-open-with-requires-2
 open-with-requires-2 c κs =
     let several = c .before .before in
-    (all-rows _, room (to-if1 (several .before)))
+    (all-rows _, room (several .before .before))
 
 pub open-dossier-spec : {M : Type 1} → statement M
 open-dossier-spec =

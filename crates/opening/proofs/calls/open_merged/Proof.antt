@@ -29,13 +29,13 @@ to-find c = to-told c .before .before
 plan-sets-requires : tie.Need-plan-sets-requires
 plan-sets-requires c κs =
     let (p, o) = plan-to-start c .pre in
-    ((o .typed .are .few, o .is .one, o .is .few, p .0, p .1, refl), λ i h. getD-replicate 128 i 0 0 h)
+    ((o .typed .are .few, o .is .one, o .is .few, search needs, search needs, refl), λ i h. getD-replicate 128 i 0 0 h)
 
 write-event-requires : tie.Need-write-event-requires
 write-event-requires c κs =
     let plan = to-plan (to-find c) in
     let (p, o) = to-start plan .pre in
-    (p .0, search needs, o .typed .are .few, writable o (plan .plan-sets .ensures) (p .2))
+    (search needs, search needs, o .typed .are .few, writable o (plan .plan-sets .ensures) (p .2))
 
 returns : tie.Need-returns
 returns c =

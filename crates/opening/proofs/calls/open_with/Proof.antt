@@ -28,6 +28,9 @@ to-table c = c .before .before .before
 abbrev to-taken : tie.After-ask-dossier → tie.Else1
 to-taken c = c .before .before .before
 
+abbrev done-to-read : tie.Else2 → tie.After-read-dossier
+done-to-read c = to-read (to-table (to-taken (c .before)))
+
 abbrev to-accepted : tie.After-open-asked-arg2 → tie.Else2
 to-accepted c = c .before .before .before .before
 
@@ -62,7 +65,6 @@ same-rows c = search needs
 inside : (c : tie.After-read-dossier) → 96 * c .read-dossier .result .count ≤ length (rows c)
 inside c = omega (arith, same-rows c, c .read-dossier .ensures .1)
 
--- the table was read
 got :
     (c : tie.Else1) → let at-table = to-table c in
     TableGot (table (to-read at-table)) (name at-table) (properties at-table) (at-table .read-table .result)
@@ -101,15 +103,14 @@ returns-2 c =
 open-asked-requires : tie.Need-open-asked-requires
 open-asked-requires c κs =
     let done = to-accepted c in
-    let read = to-read (to-table (to-taken (done .before))) in
+    let read = done-to-read done in
     ((inside read, search needs, room read), accepted done .openable)
 
 returns-3 : tie.Need-returns-3
 returns-3 c =
     let opened = c .before .before in
     let done = to-accepted (opened .before) in
-    let a = accepted done in
-    opened .open-asked .ensures (a .openable) ∙ open-done _ _ _ (room (to-read (to-table (to-taken (done .before))))) a
+    opened .open-asked .ensures (accepted done .openable) ∙ open-done _ _ _ (room (done-to-read done)) (accepted done)
 
 pub open-with-spec : {M : Type 1} → statement M
 open-with-spec =

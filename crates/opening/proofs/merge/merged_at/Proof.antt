@@ -1,5 +1,5 @@
--- By the way that the place came: of the only snapshot, at the marked place and under replace it is the last cell, otherwise the chosen value or the union, as
--- the rule of the place says.
+-- Of the only snapshot, at the marked place and under replace the merged set is the last cell; otherwise it is the chosen value or the union, as the rule of
+-- the place says.
 use borrow.Author.Needs.{needs}
 use mathlib.Core.Logic.{⊎-elim}
 use Rattle.opening.proofs.MergeLaws.{stands-only, stands-marked, stands-last, stands-chosen, place-every}

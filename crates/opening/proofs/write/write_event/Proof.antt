@@ -51,7 +51,7 @@ write-sets-requires c κs =
     let number = to-number c in
     let head = to-head (number .before) in
     let p = to-start (head .before) .pre in (
-      (p .0, p .1, p .3 .is .few, p .2),
+      (search needs, search needs, p .3 .is .few, search needs),
       sets-room (p .3) refl (parts (head .before)) (head .write-head .ensures) (number .before .presence-of .ensures) (number .write-number .ensures),
     )
 

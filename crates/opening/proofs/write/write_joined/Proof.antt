@@ -22,7 +22,7 @@ write-merged-requires : tie.Need-write-merged-requires
 write-merged-requires c κs =
     let runs = c .before .before .before in
     let p = to-start runs .pre in
-    (p .2, values-room (p .3) (runs .runs-of .ensures))
+    (search needs, values-room (p .3) (runs .runs-of .ensures))
 
 write-before-requires : tie.Need-write-before-requires
 write-before-requires c κs =
