@@ -176,8 +176,8 @@ abbrev pub IsEvent : List ℕ → BatchIndex → ℕ → List ℕ → Type 0
 IsEvent batch x i s = (ss : List (List ℕ)) → BatchIs batch ss x → i < length ss → s ≡ getD ss i []
 
 -- r is what asking the events answers
-abbrev Refuses : List ℕ → List ℕ → BatchIndex → TypeIndex → List ℕ → EventsAsked → Type 0
-Refuses table batch x t ps r =
+abbrev AnswersEvents : List ℕ → List ℕ → BatchIndex → TypeIndex → List ℕ → EventsAsked → Type 0
+AnswersEvents table batch x t ps r =
     (ts : Table) (ss : List (List ℕ)) → tableOf table ≡ some ts → BatchIs batch ss x → RefusalIs table ts ss (eventsTogether ts ss) t ps r
 
 -- The first event is accepted, as `first` with the index d, and t is its type. The whole answer is the answer of going on from position i
@@ -201,7 +201,7 @@ module _ {table batch s ats : List ℕ} {x : BatchIndex} {n : ℕ} {e : EventInd
   first-asked q h ts ss tb b = asked-of table ts tb s _ q (is ss b (omega (arith, b .one, b .count))) h
 
   pub first-refuses :
-      (n ≡ 0 → ⊥) → (t : TypeIndex) (ps : List ℕ) (r : EventsAsked) → (r .number ≡ n) × (r .position ≡ 0) → Refuses table batch x t ps r
+      (n ≡ 0 → ⊥) → (t : TypeIndex) (ps : List ℕ) (r : EventsAsked) → (r .number ≡ n) × (r .position ≡ 0) → AnswersEvents table batch x t ps r
   first-refuses ne t ps r answer ts ss tb b =
       let refused = first-asked _ (refused-is narrow _ _ _ _ _ (w .answers) ne) ts ss tb b in
       refusal-is table ts ss _ t ps n 0 r (first-refused ts ss n (omega (arith, b .one, b .count)) refused) answer (omega (arith, ne))
@@ -228,7 +228,7 @@ module _
     (g : GoesOn table batch x head left d t ps i apart) where
   -- the next one, s, is asked
   module _ {s ats : List ℕ} {n : ℕ} {e : EventIndex} (more : i < x .count) (is : IsEvent batch x i s) (w : OneAnswers table s ats n e) where
-    pub next-refuses : (n ≡ 0 → ⊥) → (r : EventsAsked) → (r .number ≡ n) × (r .position ≡ i) → Refuses table batch x t ps r
+    pub next-refuses : (n ≡ 0 → ⊥) → (r : EventsAsked) → (r .number ≡ n) × (r .position ≡ i) → AnswersEvents table batch x t ps r
     next-refuses ne r answer ts ss tb b =
         let here : i < length ss = omega (arith, b .count) in
         let refused = asked-of table ts tb s _ _ (is ss b here) (refused-is narrow _ _ _ _ _ (w .answers) ne) in
@@ -261,12 +261,12 @@ module _
 
   -- all were asked
   module _ (all : x .count ≤ i) (r : EventsAsked) where
-    pub none-refuses : apart ≡ 0 → r .number ≡ 0 → Refuses table batch x t ps r
+    pub none-refuses : apart ≡ 0 → r .number ≡ 0 → AnswersEvents table batch x t ps r
     none-refuses z answer ts ss tb b =
         let none = none-apart ts (g .first) i ss (omega (arith, b .count)) apart z in
         no-refusal table ts ss _ t ps (g .first) r (g .whole ts ss tb b ∙ none) answer (g .taken ts ss tb b) (g .typed)
 
-    pub apart-refuses : (apart ≡ 0 → ⊥) → (r .number ≡ 7) × (r .position ≡ apart) → Refuses table batch x t ps r
+    pub apart-refuses : (apart ≡ 0 → ⊥) → (r .number ≡ 7) × (r .position ≡ apart) → AnswersEvents table batch x t ps r
     apart-refuses ne answer ts ss tb b =
         let one = one-apart ts (g .first) i ss (omega (arith, b .count)) apart ne in
         refusal-is table ts ss _ t ps 7 apart r (g .whole ts ss tb b ∙ one) answer (omega arith)

@@ -141,9 +141,8 @@ pub record Accepted (table s : List ℕ) (d : DossierIndex) (rows : List ℕ) (t
 module _
     {table s : List ℕ} {name : Text} {ps : List ℕ} {read : TableRead} {d : DossierIndex} (r : ℕ) (t : TableGot table name ps read)
     (named : (h : Headed) → DossierIs s h d → name ≡ h .head .type)
-    (asks : (u : List ℕ) (ts : Table) → tableOf u ≡ some ts →
-    ((h :
-    Headed) → DossierIs s h d → TypeSays (typeNamed (h .head .type) ts) u ps read) → DossierAnswers (dossierAsked standard ts s) u (read .index) ps r) where
+    (asks : (u : List ℕ) (ts : Table) → tableOf u ≡ some ts → ((h : Headed) → DossierIs s h d → TypeSays (typeNamed (h .head .type) ts) u ps read) →
+    DossierAnswers (dossierAsked standard ts s) u (read .index) ps r) where
   answered : DossierAnswers (dossierAsked standard (t .what) s) table (read .index) ps r
   answered = asks table (t .what) (t .is) (λ h w. subst (λ (n : Text). TypeSays (typeNamed n (t .what)) table ps read) (named h w) (t .says))
 

@@ -13,6 +13,9 @@ Inv-loop rows place n r₀ j₀ r j = RunsTo rows place n r j
 abbrev μ-loop : tie.MeasureT-loop
 μ-loop rows place n r₀ j₀ r j = 8 - j
 
+loop-holds : tie.Need-loop-holds Inv-loop μ-loop
+loop-holds c = runs-none refl refl
+
 loop-again : tie.Need-loop-again Inv-loop μ-loop
 loop-again c =
     let inv = c .before .before .loop .inv in
@@ -27,7 +30,7 @@ runs-of-spec =
     (tie.spec
     Inv-loop
     μ-loop
-    (λ c. runs-none refl refl)
+    loop-holds
     (λ c κs. search needs)
     (λ c. search needs)
     (λ c. search needs)

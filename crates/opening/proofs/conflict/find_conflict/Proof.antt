@@ -18,6 +18,9 @@ to-turn c = c .before .before .before
 
 -- ---- the needs
 
+loop-holds : tie.Need-loop-holds Inv-loop μ-loop
+loop-holds c = conflict-start
+
 returns : tie.Need-returns Inv-loop μ-loop
 returns c =
     let asked = c .before .before in
@@ -39,7 +42,7 @@ find-conflict-spec =
     (tie.spec
     Inv-loop
     μ-loop
-    (λ c. conflict-start)
+    loop-holds
     (λ c. search needs)
     (λ c. search needs)
     (λ c. search needs)

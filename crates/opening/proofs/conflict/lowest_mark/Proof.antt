@@ -13,6 +13,9 @@ Inv-loop differ bits₀ k₀ bits k = MarksFrom differ bits k
 abbrev μ-loop : tie.MeasureT-loop
 μ-loop differ bits₀ k₀ bits k = 32 - k
 
+loop-holds : tie.Need-loop-holds Inv-loop μ-loop
+loop-holds c = marks-start
+
 returns : tie.Need-returns Inv-loop μ-loop
 returns c = let turn = c .before .before in mark-found (turn .before .loop .inv) (turn .loop-test .taken) (c .if2 .taken)
 
@@ -33,7 +36,7 @@ lowest-mark-spec =
     (tie.spec
     Inv-loop
     μ-loop
-    (λ c. marks-start)
+    loop-holds
     returns
     (λ c. search needs)
     (λ c. search needs)

@@ -38,6 +38,12 @@ returns c = better-none (c .before .before .before .args .largest) (c .if1 .take
 returns-2 : tie.Need-returns-2
 returns-2 c = let full = c .before .before in better-only (full .before .before .before .args .largest) (c .if2 .taken)
 
+returns-3 : tie.Need-returns-3
+returns-3 c = chosen (c .before) .0 (c .if3 .taken)
+
+returns-4 : tie.Need-returns-4
+returns-4 c = chosen (c .before) .1 (c .if3 .left)
+
 pub better-spec : {M : Type 1} → statement M
 better-spec =
     tie.close
@@ -50,5 +56,5 @@ better-spec =
     (λ c κs. search needs)
     (λ c κs. search needs)
     (λ c κs. search needs)
-    (λ c. chosen (c .before) .0 (c .if3 .taken))
-    (λ c. chosen (c .before) .1 (c .if3 .left)))
+    returns-3
+    returns-4)

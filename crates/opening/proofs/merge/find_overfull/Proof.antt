@@ -18,6 +18,9 @@ to-property c = c .before .before .before
 
 -- ---- the needs
 
+loop-holds : tie.Need-loop-holds Inv-loop μ-loop
+loop-holds c = overfull-start
+
 returns : tie.Need-returns Inv-loop μ-loop
 returns c =
     let property = to-property (c .before) in
@@ -39,7 +42,7 @@ find-overfull-spec =
     (tie.spec
     Inv-loop
     μ-loop
-    (λ c. overfull-start)
+    loop-holds
     (λ c κs. search needs)
     (λ c. search needs)
     (λ c. search needs)

@@ -23,6 +23,9 @@ to-start c = begin-to-start (c .before)
 
 -- ---- the needs
 
+loop-holds : tie.Need-loop-holds Inv-loop μ-loop
+loop-holds c = sets-begin (begin-to-start c .pre .0 .3)
+
 write-joined-requires : tie.Need-write-joined-requires Inv-loop μ-loop
 write-joined-requires c κs =
     let turn = c .before .before .before in
@@ -58,7 +61,7 @@ write-sets-spec =
     (tie.spec
     Inv-loop
     μ-loop
-    (λ c. sets-begin (begin-to-start c .pre .0 .3))
+    loop-holds
     (λ c. search needs)
     (λ c. search needs)
     (λ c. search needs)
