@@ -1,4 +1,4 @@
--- Where the event is refused or has no value there, the answer is 0. Else it is made of the part of the event that `find_value` answers, which has the value.
+-- A refused event or a missing value gives 0. Else the number is made of where `find_value` says that the value stands.
 use borrow.Author.Needs.{needs}
 use Prim.Native.Nat.{ℕ}
 use mathlib.Core.List.{List}
@@ -13,27 +13,24 @@ use Rattle.interface.proofs.calls.merger_value.Tie as tie
 abbrev to-start : tie.After-read-table → tie.Start
 to-start c = c .before .before .before .before .before
 
-abbrev to-table : tie.After-read-event → tie.After-read-table
-to-table c = c .before .before .before
-
 abbrev to-event : tie.After-ask-event → tie.After-read-event
 to-event c = c .before .before .before .before
+
+abbrev to-table : tie.After-ask-event → tie.After-read-table
+to-table c = to-event c .before .before .before
 
 -- ---- the facts
 
 module _ (c : tie.After-ask-event) where
-  abbrev tabled : tie.After-read-table
-  tabled = to-table (to-event c)
-
   abbrev table : List ℕ
-  table = to-start tabled .args .table .now
+  table = to-start (to-table c) .args .table .now
 
   abbrev event : List ℕ
-  event = to-start tabled .args .event .now
+  event = to-start (to-table c) .args .event .now
 
   -- the numbers of the type's properties
   abbrev ps : List ℕ
-  ps = tabled .read-table .last .1 .1 .0
+  ps = to-table c .read-table .last .1 .1 .0
 
   -- where the event's sets stand
   abbrev ats : List ℕ
@@ -41,11 +38,11 @@ module _ (c : tie.After-ask-event) where
 
   -- the number, the type and the event
   abbrev answer : EventAsked
-  answer = asked (c .ask-event .result) (tabled .read-table .result .index) (to-event c .read-event .result)
+  answer = asked (c .ask-event .result) (to-table c .read-table .result .index) (to-event c .read-event .result)
 
   answered : Answers table event ps ats answer
   answered =
-      c .ask-event .ensures _ _ _ (tabled .read-table .ensures) (tabled .before .before .type-name .ensures _) (to-event c .read-event .ensures)
+      c .ask-event .ensures _ _ _ (to-table c .read-table .ensures) (to-table c .before .before .type-name .ensures _) (to-event c .read-event .ensures)
 
 abbrev accepted : (c : tie.Else1) → let d = c .before in Taken (table d) (event d) (ps d) (ats d) (answer d)
 accepted c = accepted-is _ _ _ _ _ _ (answered (c .before)) (c .if1 .left)
@@ -53,7 +50,7 @@ accepted c = accepted-is _ _ _ _ _ _ (answered (c .before)) (c .if1 .left)
 found :
     (c : tie.After-find-value) →
     let taken = c .before .before in
-    let a = to-start (tabled (taken .before)) .args in
+    let a = to-start (to-table (taken .before)) .args in
     ValueFound (a .event .now) (accepted taken .e) (a .place) (a .index) (c .find-value .result)
 found c = let taken = accepted (c .before .before) in c .find-value .ensures (taken .e) (taken .event-is)
 
