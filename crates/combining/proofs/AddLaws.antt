@@ -10,11 +10,11 @@ use lib.ListN.{length, take, drop, getD, length-append, length-drop}
 use lib.Dec.{leb, ltb}
 use borrow.Author.Tests.{lt-ltb, le-ltb}
 use lib.Seq.{take-at}
-use Rattle.model.specs.Order.{Text, texts, numbers}
+use Rattle.model.specs.Order.{Text, numbers}
 use Rattle.model.specs.Keyed.{merge}
 use Rattle.model.specs.Rule.{Snapshot, joinSnapshots, sizes}
 use Rattle.model.specs.Opening.{held}
-use Rattle.model.specs.Sets.{upTo, union}
+use Rattle.model.specs.Sets.{upTo}
 use Rattle.model.specs.Limits.{standard, fits}
 use Rattle.model.proofs.Cases.{never}
 use Rattle.model.proofs.LimitLaws.{fits-bounds}
@@ -49,16 +49,19 @@ use Rattle.dossier.proofs.DossierLayoutLaws.{DossierWritten, dossier-was}
 use Rattle.dossier.proofs.DossierSizeLaws.{held-objects}
 use Rattle.combining.specs.CombineCall.{combined}
 use Rattle.combining.specs.code.AddIndex.{bytesOf, Splits, lowerOrSame, withSnapshot, Adding, alone, metWith, Met, newSnapshot, Inside}
-use Rattle.combining.specs.code.AddIndex.{countIn, Addable, Measured, MeasuredIn}
-use Rattle.combining.specs.code.CheckIndex.{KnownEvent, aloneBytes, loneBytes}
+use Rattle.combining.specs.code.AddIndex.{countIn, Addable, Measured, MeasuredIn, AddingAt, MetRoom, NewRoom, WithRoom, AddedRoom, addedBytes}
+use Rattle.combining.specs.code.CheckIndex.{KnownEvent, aloneBytes, loneBytes, AloneRoom}
 use Rattle.combining.specs.code.CombineIndex.{Known, Meet, Shared}
-use Rattle.combining.specs.code.WriteIndex.{SharedRoom, HeadsAre}
+use Rattle.combining.specs.code.WriteIndex.{SharedRoom, HeadsAre, HeadsRoom, bothHeads}
 use Rattle.combining.specs.declared.measures.Place.{Place}
 use Rattle.combining.proofs.InsertLaws.{Stands, stands, join-keeps, merged-with, bytes-split, bytes-next, bytes-with, length-with, written-at}
 use Rattle.combining.proofs.CheckLaws.{Checked, fit, kept, lone-short, none-differ, lone-sets, lone-snapshots, lone-head, alone-bytes}
 use Rattle.combining.proofs.MeetLaws.{versionIn, taken-rises, left-taken, known-meet}
-use Rattle.combining.proofs.MergedLaws.{known-heads}
-use Rattle.combining.proofs.FitLaws.{left-written, right-written, whole-snapshots, left-one, same-version, unversioned, fits-versions, fits-versioned}
+use Rattle.combining.proofs.PartLaws.{count-room, body-room}
+use Rattle.combining.proofs.RoomLaws.{combined-room}
+use Rattle.combining.proofs.MergedLaws.{known-heads, whole-length, whole-room, whole-wrote}
+use Rattle.combining.proofs.FitLaws.{left-written, right-written, whole-snapshots, left-one, same-version, unversioned}
+use Rattle.combining.proofs.FitLaws.{ToVersions, ToObjects, to-objects, fits-versions, fits-versioned}
 
 -- ---- a snapshot that was read where one is known to stand
 
@@ -113,8 +116,6 @@ module _
       right-bytes = refl;
       room = room;
     }
-
--- ---- a reply that was made
 
 -- ---- a dossier that an event can be added to
 
@@ -260,7 +261,7 @@ module _
   lower-stands : Stands sofar body (bytesOf (take (p .index) ss)) (bytesOf (drop (p .index) ss))
   lower-stands = stands sofar body _ _ (h .begins) (h .rest ∙ bytes-split (p .index) ss)
 
-  pub lower-within : start ≤ length sofar
+  lower-within : start ≤ length sofar
   lower-within = omega (arith, h .splits .before, lower-stands .within)
 
   pub lower-part : part sofar body start ≡ bytesOf (take (p .index) ss)
@@ -273,7 +274,7 @@ module _
       (q : p .meets ≡ true) → Stands sofar start (snapshotBytes (getD ss (p .index) noSnapshot)) (bytesOf (drop (suc (p .index)) ss))
   met-there q = stands sofar start _ _ lower-within (from-start ∙ bytes-next ss (p .index) (h .splits .met q .0))
 
-  pub higher-there : (start + p .size ≤ length sofar) × (drop (start + p .size) sofar ≡ bytesOf (drop (lowerOrSame p) ss))
+  higher-there : (start + p .size ≤ length sofar) × (drop (start + p .size) sofar ≡ bytesOf (drop (lowerOrSame p) ss))
   higher-there = go (p .meets) refl
     where
       go : (b : Bool) → p .meets ≡ b → (start + p .size ≤ length sofar) × (drop (start + p .size) sofar ≡ bytesOf (drop (lowerOrSame p) ss))
@@ -387,7 +388,7 @@ module _
       p .meets ≡ false → (version : ℕ) → version ≡ versionOf (typed .type) (typed .event) → snapshotBytes (newSnapshot h) ≡ aloneBytes (typed .event) version
   new-alone-bytes q version n = ap snapshotBytes (new-alone q) ∙ y-bytes ∙ ap (aloneBytes (typed .event)) (sym n)
 
-  pub alone-short : length (snapshotBytes y) ≤ dossierCapacity
+  alone-short : length (snapshotBytes y) ≤ dossierCapacity
   unfolding loneBytes
   alone-short =
       let v = versionOf (typed .type) (typed .event) in
@@ -401,7 +402,7 @@ module _
       )
 
   -- the lower ones, the new one and the higher ones
-  pub parts-length :
+  parts-length :
       length (bytesOf (combined (k .left) (k .right) .snapshots))
       ≡ length (part sofar body start) + length (snapshotBytes (newSnapshot h)) + length (part sofar (start + p .size) (length sofar))
   parts-length =
@@ -417,18 +418,18 @@ module _
 
   -- ---- the whole dossier, and its measures
 
-  pub counted : {n : ℕ} → n ≡ cond (p .meets) (countIn m) (countIn m + 1) → n ≡ length (combined (k .left) (k .right) .snapshots)
+  counted : {n : ℕ} → n ≡ cond (p .meets) (countIn m) (countIn m + 1) → n ≡ length (combined (k .left) (k .right) .snapshots)
   counted is = is ∙ go (p .meets) refl
     where
       go : (b : Bool) → p .meets ≡ b → cond (p .meets) (countIn m) (countIn m + 1) ≡ length (combined (k .left) (k .right) .snapshots)
       go true q = ap (λ (b : Bool). cond b (countIn m) (countIn m + 1)) q ∙ h .added .measured .count ∙ sym (many-met q)
       go false q = ap (λ (b : Bool). cond b (countIn m) (countIn m + 1)) q ∙ ap (λ (i : ℕ). i + 1) (h .added .measured .count) ∙ sym (many-unmet q)
 
-  pub added-heads : Inside h → HeadsAre sofar x event (e .head) (k .left .headed .head) (k .right .headed .head)
+  added-heads : Inside h → HeadsAre sofar x event (e .head) (k .left .headed .head) (k .right .headed .head)
   added-heads inside = known-heads k inside (h .head) right-head-is
 
   -- there is a place for the measures of one more
-  pub has-place :
+  has-place :
       Inside h → (countIn m ≤ 8) × (p .index ≤ countIn m) × (p .meets ≡ true → p .index < countIn m) × (p .meets ≡ false → countIn m < 8)
   unfolding standard
   has-place inside =
@@ -482,17 +483,16 @@ module _
 
   -- ---- question 8
 
-  pub met-few : length ss ≤ 8
-  met-few = h .added .measured .few
-
   abbrev asked : Bool
   asked = fits standard (typeView ty) (combined (k .left) (k .right))
 
+  -- where the event's version is met, there are no more snapshots than the dossier has
+  pub met-to-objects : ToVersions k → p .meets ≡ true → ToObjects k
+  met-to-objects go-on q = to-objects k go-on (sym (many-met q)) (h .added .measured .few)
+
   -- one snapshot more, of a versioned type
-  pub fits-unmet :
-      (n : Bool) → n ≡ leb (length (union texts (k .left .headed .head .parents) (k .right .headed .head .parents))) 32 → n ≡ true →
-      p .meets ≡ false → ltb (countIn m) 8 ≡ asked
-  fits-unmet n w o q = ⊎-elim below above (lt-or-ge (countIn m) 8)
+  pub fits-unmet : ToVersions k → p .meets ≡ false → ltb (countIn m) 8 ≡ asked
+  fits-unmet go-on q = ⊎-elim below above (lt-or-ge (countIn m) 8)
     where
       many : countIn m + 1 ≡ length (combined (k .left) (k .right) .snapshots)
       many = ap (λ (i : ℕ). i + 1) (h .added .measured .count) ∙ sym (many-unmet q)
@@ -504,10 +504,10 @@ module _
           unlike z = never (cc)
 
       below : countIn m < 8 → ltb (countIn m) 8 ≡ asked
-      below l = lt-ltb (countIn m) 8 l ∙ fits-versioned k n w o (countIn m + 1) many (omega arith) marked
+      below l = lt-ltb (countIn m) 8 l ∙ fits-versioned k (to-objects k go-on many (omega arith)) marked
 
       above : 8 ≤ countIn m → ltb (countIn m) 8 ≡ asked
-      above l = le-ltb (countIn m) 8 l ∙ fits-versions k n w o (countIn m + 1) many (omega arith)
+      above l = le-ltb (countIn m) 8 l ∙ fits-versions k go-on many (omega arith)
 
   module _ (un : t .mark ≤ 0) where
     abbrev first : Snapshot
@@ -537,3 +537,122 @@ module _
         says table ty first y _ (k .typed .are) (unversioned k un)
         (subst (λ (i : ℕ). Meet ty (getD ss i noSnapshot) y) (first-place un .0) (met-meet (always-met un))) first-read y-objects (y-cells .sets)
         ∙ ap (λ (zs : List Snapshot). leb (sizes (joinSnapshots (typeView ty) first (getD zs 0 noSnapshot) .cells)) 256) (sym right-snapshots)
+
+-- ---- writing the snapshot of the event's version
+
+-- the place of that snapshot stands in the bytes of the dossier
+pub ends-within :
+    {sofar event : List ℕ} {e : EventIndex} {ats : List ℕ} {body : ℕ} {p : Place} {t : TypeIndex} {ps : List ℕ} →
+    AddingAt sofar event e ats body p t ps → (body + p .before ≤ length sofar) × (body + p .before + p .size ≤ length sofar)
+ends-within i = (lower-within (i .is), higher-there (i .is) .0)
+
+module _
+    {sofar event : List ℕ} {e : EventIndex} {ats : List ℕ} {body : ℕ} {p : Place} {version : EventVersion} {t : TypeIndex} {ps : List ℕ}
+    {apart at size : ℕ} (r : NewRoom sofar event e ats body p version t ps apart at size) where
+  pub alone-there : p .meets ≡ false → AloneRoom event e ats (version .0) at size
+  alone-there q =
+      let h = r .in-some .is in
+      record { event = h .added .new .event .event; read = h .read; room = omega (arith, r .room, ap length (new-alone-bytes h q _ (r .number))) }
+
+  pub both-there : p .meets ≡ true → MetRoom version sofar (body + p .before) (body + p .before + p .size) event e ats t ps apart at size
+  both-there q =
+      let h = r .in-some .is in
+      record {
+        met = met-both h q version (r .number);
+        lone = omega (arith, r .scratch, alone-short h);
+        room = omega (arith, r .room, ap (λ (x : Snapshot). length (snapshotBytes x)) (new-met h q));
+      }
+
+-- ---- writing the snapshots with that one among them
+
+module _
+    {sofar event : List ℕ} {e : EventIndex} {ats : List ℕ} {body : ℕ} {p : Place} {version : EventVersion} {t : TypeIndex} {ps : List ℕ} {apart at : ℕ} where
+  pub lower-there :
+      {size : ℕ} → WithRoom sofar event e ats body p version t ps apart at size →
+      (body ≤ body + p .before) × (body + p .before ≤ length sofar) × (at + length (part sofar body (body + p .before)) ≤ size)
+  lower-there r = let h = r .in-some .is in (omega arith, lower-within h, omega (arith, r .room, parts-length h))
+
+  -- the lower ones are written
+  module _
+      {l l₁ : List ℕ} {b : ℕ} (lower : Wrote l at (part sofar body (body + p .before)) l₁ b)
+      (r : WithRoom sofar event e ats body p version t ps apart at (length l)) where
+    pub new-there : NewRoom sofar event e ats body p version t ps apart b (length l₁)
+    new-there = record {
+      in-some = r .in-some;
+      number = r .number;
+      scratch = r .scratch;
+      room = omega (arith, r .room, parts-length (r .in-some .is), lower .after, wrote-length lower);
+    }
+
+    -- and the one of the event's version
+    module _
+        {l₂ : List ℕ} {c : ℕ}
+        (new : (table z : List ℕ) (x : HeadAt) (h : Adding table sofar z event e ats x body p t ps) →
+        version .0 ≡ versionOf (h .added .new .event .type) (h .added .new .event .event) → Wrote l₁ b (snapshotBytes (newSnapshot h)) l₂ c) where
+      new-wrote : Wrote l₁ b (snapshotBytes (newSnapshot (r .in-some .is))) l₂ c
+      new-wrote = new _ _ _ (r .in-some .is) (r .number)
+
+      pub new-follows : b ≤ c
+      new-follows = omega (arith, new-wrote .after)
+
+      pub higher-room :
+          (body + p .before + p .size ≤ length sofar) × (length sofar ≤ length sofar)
+          × (c + length (part sofar (body + p .before + p .size) (length sofar)) ≤ length l₂)
+      higher-room =
+          let h = r .in-some .is in
+          (higher-there h .0, omega arith, omega (arith, r .room, parts-length h, lower .after, wrote-length lower, new-wrote .after, wrote-length new-wrote))
+
+-- ---- writing the dossier with the event
+
+module _
+    {sofar m event : List ℕ} {e : EventIndex} {ats : List ℕ} {x : HeadAt} {body : ℕ} {p : Place} {version : EventVersion}
+    {t : TypeIndex} {ps : List ℕ} {apart : ℕ} where
+  module _ {size : ℕ} (r : AddedRoom sofar m event e ats x body p version t ps apart size) where
+    abbrev is : Adding (r .in-some .table) sofar m event e ats x body p t ps
+    is = r .in-some .is
+
+    whole-short : length (addedBytes is) ≤ size
+    whole-short = omega (arith, combined-room (is .added .both) (r .inside _ is), r .room)
+
+    pub heads-within : HeadsRoom sofar x event (e .head) size
+    heads-within = record {
+      left = _;
+      right = _;
+      are = added-heads is (r .inside _ is);
+      room = omega (arith, whole-short, whole-length (is .added .both));
+    }
+
+    pub place-there :
+        (countIn m ≤ 8) × (p .index ≤ countIn m) × (p .meets ≡ true → p .index < countIn m) × (p .meets ≡ false → countIn m < 8)
+    place-there = has-place is (r .inside _ is)
+
+  -- what `write_heads` leaves, and what `count_with` answers
+  module _
+      {l l₁ : List ℕ} {a n : ℕ}
+      (heads : (g h : Head) → HeadsAre sofar x event (e .head) g h → Wrote l 0 (dossierHeadBytes (bothHeads g h)) l₁ a)
+      (counts : n ≡ cond (p .meets) (countIn m) (countIn m + 1)) (r : AddedRoom sofar m event e ats x body p version t ps apart (length l)) where
+    head-wrote :
+        {table : List ℕ} (h : Adding table sofar m event e ats x body p t ps) → let k = h .added .both in
+        Wrote l 0 (dossierHeadBytes (bothHeads (k .left .headed .head) (k .right .headed .head))) l₁ a
+    head-wrote h = heads _ _ (added-heads h (r .inside _ h))
+
+    pub number-within : a + length (number n) ≤ length l₁
+    number-within = count-room (whole-room (is r .added .both) (whole-short r)) (head-wrote (is r)) (counted (is r) counts)
+
+    module _ {l₂ : List ℕ} {b : ℕ} (number-wrote : Wrote l₁ a (number n) l₂ b) where
+      pub with-there : WithRoom sofar event e ats body p version t ps apart b (length l₂)
+      with-there = record {
+        in-some = record { table = _; measures = _; head = _; is = is r };
+        number = r .number;
+        scratch = r .scratch;
+        room = body-room (whole-room (is r .added .both) (whole-short r)) (head-wrote (is r)) (counted (is r) counts) number-wrote;
+      }
+
+      pub added-wrote :
+          {l₃ : List ℕ} {c : ℕ} →
+          ((table z : List ℕ) (y : HeadAt) (h : Adding table sofar z event e ats y body p t ps) →
+          version .0 ≡ versionOf (h .added .new .event .type) (h .added .new .event .event) →
+          Wrote l₂ b (bytesOf (combined (h .added .both .left) (h .added .both .right) .snapshots)) l₃ c) →
+          (table : List ℕ) (h : Adding table sofar m event e ats x body p t ps) →
+          version .0 ≡ versionOf (h .added .new .event .type) (h .added .new .event .event) → Inside h → Wrote l 0 (addedBytes h) l₃ c
+      added-wrote wrote table h v inside = whole-wrote (h .added .both) (counted h counts) (head-wrote h) number-wrote (wrote table m x h v)

@@ -5,7 +5,7 @@ use mathlib.Core.List.{List, [], _∷_, _++_, map}
 use Prim.Native.Nat.{ℕ, suc, _+_, _/_, _%_, _≤_, _<_}
 use native.Mathlib.Omega.{arith}
 use lib.Dec.{ltb}
-use lib.ListN.{length, drop, set, getD, replicate, length-append, length-map, List·getD-map}
+use lib.ListN.{length, drop, set, getD, replicate, length-map, List·getD-map}
 use borrow.Author.Tests.{lt-ltb}
 use Rattle.model.specs.Order.{Text, sets, equal}
 use Rattle.model.proofs.OrderLaws.{equal-true, equal-false}
@@ -28,7 +28,8 @@ use Rattle.dossier.proofs.CellLaws.{held-at, bit-here, bits-next}
 use Rattle.combining.specs.code.CombineIndex.{VacantFrom, Shared}
 use Rattle.combining.specs.code.AgreedIndex.{isAgreed, isFilled, PlacesAre}
 use Rattle.combining.specs.declared.agreed.Places.{Places}
-use Rattle.combining.proofs.PlaceLaws.{join-long, join-vacant, FilledOnly, only-none, only-more, only-list}
+use Rattle.combining.proofs.PartLaws.{PartsRoom}
+use Rattle.combining.proofs.PlaceLaws.{left-vacant, right-vacant, join-long, join-vacant, FilledOnly, only-none, only-more, only-list}
 
 -- ---- a place
 
@@ -234,19 +235,24 @@ pub record Both
   pub present : presence ≡ bitNumber (map presenceBit (map held (joinSnapshots (typeView ty) left right .cells)))
   pub marked : differ ≡ bitNumber (map differBit (joinSnapshots (typeView ty) left right .cells))
 
+-- `agreed_places` answers `found`, of which these are the two numbers
 module _
-    {version : EventVersion} {a x : List ℕ} {m : ℕ} {b y : List ℕ} {n : ℕ} {ty : EventType} {left right : Snapshot}
-    (v : isVersioned ty ≡ true) (w : Shared version a x m b y n ty left right) where
+    {a x : List ℕ} {m : ℕ} {b y : List ℕ} {n count : ℕ} {found : Places} {presence differ : ℕ}
+    (says : (ty : EventType) (left right : Snapshot) → isVersioned ty ≡ true → CellsAre a (left .cells) m x → CellsAre b (right .cells) n y →
+    VacantFrom count (left .cells) → VacantFrom count (right .cells) → PlacesAre (joinSnapshots (typeView ty) left right .cells) found)
+    (p : presence ≡ bitNumber (map bitOf (found .present))) (q : differ ≡ bitNumber (map bitOf (found .marked))) where
   pub both-found :
-      {presence differ : ℕ} (found : Places) → PlacesAre (joinSnapshots (typeView ty) left right .cells) found →
-      presence ≡ bitNumber (map bitOf (found .present)) → differ ≡ bitNumber (map bitOf (found .marked)) →
-      Both version a x m b y n presence differ ty left right
-  both-found found are p q = record {
-    versioned = v;
-    shared = w;
-    present = p ∙ presence-is a b m n x y ty left right v (w .left-is) (w .right-is) found are;
-    marked = q ∙ differ-is a b m n x y ty left right v (w .left-is) (w .right-is) found are;
-  }
+      {version : EventVersion} {ty : EventType} {left right : Snapshot} → isVersioned ty ≡ true → count ≡ length (ty .properties) →
+      Shared version a x m b y n ty left right → Both version a x m b y n presence differ ty left right
+  both-found {ty = ty} {left = left} {right = right} v e w =
+      let fits = w .meet .fitting in
+      let are = says ty left right v (w .left-is) (w .right-is) (left-vacant fits e) (right-vacant fits e) in
+      record {
+        versioned = v;
+        shared = w;
+        present = p ∙ presence-is a b m n x y ty left right v (w .left-is) (w .right-is) found are;
+        marked = q ∙ differ-is a b m n x y ty left right v (w .left-is) (w .right-is) found are;
+      }
 
 module _
     {version : EventVersion} {a x : List ℕ} {m : ℕ} {b y : List ℕ} {n presence differ : ℕ} {ty : EventType} {left right : Snapshot}
@@ -273,8 +279,8 @@ module _
       ap₂ (λ (v p : ℕ). number v ++ number p ++ number differ ++ kept) (w .shared .number) (w .present)
       ∙ ap₂ (λ (n : ℕ) (l : List ℕ). number (left .version) ++ number (bitNumber (map presenceBit (map held cells))) ++ number n ++ l) (w .marked) kept-is
 
-  pub both-length : length joined-bytes ≡ length (number (version .0)) + length (number presence) + length (number differ) + length kept
-  both-length = ap length (sym parts) ∙ simp length-append
+  pub both-parts : {l : List ℕ} (at : ℕ) → at + length joined-bytes ≤ length l → PartsRoom l at (version .0) presence differ kept
+  both-parts {l} at room = record { room = subst (λ (z : List ℕ). at + length z ≤ length l) (sym parts) room }
 
   pub wrote-both :
       {l l₁ l₂ l₃ l₄ : List ℕ} {at after-version after-presence after-differ next : ℕ} →

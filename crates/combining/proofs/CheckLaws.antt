@@ -159,7 +159,11 @@ module _ {table event : List ℕ} {t : TypeIndex} {x : EventIndex} {ats : List �
     event = a .e;
     mark = a .mark;
     sets = a .read .sets;
-    marked = λ u. (let m = kept .marked u in omega (arith, place-in (a .type) kept (a .type .mark - 1) (m .property) (m .at)), version-set (a .type) (a .e) kept fit u);
+    marked =
+        λ u. (
+          let m = kept .marked u in omega (arith, place-in (a .type) kept (a .type .mark - 1) (m .property) (m .at)),
+          version-set (a .type) (a .e) kept fit u,
+        );
     below = version-below (a .type) (a .e) kept fit;
   }
 

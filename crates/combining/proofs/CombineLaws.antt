@@ -186,7 +186,9 @@ module _ (table left right out : List ℕ) where
     unfolding combineCall combineAnswer combineAsked
     combine-untabled name ps r w h = rw (has-room dossierCapacity (length out) room, table-refused table name ps r w h)
 
-    pub combine-left : (k : Tabled table) (n : ℕ) → dossierAsked standard (k .types) left ≡ refused n → combineReplies (Refused n) out ≡ combineCall standard table left right out
+    pub combine-left :
+        (k : Tabled table) (n : ℕ) → dossierAsked standard (k .types) left ≡ refused n →
+        combineReplies (Refused n) out ≡ combineCall standard table left right out
     unfolding combineCall combineAnswer combineAsked
     combine-left k n e = rw (has-room dossierCapacity (length out) room, k .is, e)
 

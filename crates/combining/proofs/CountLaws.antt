@@ -23,7 +23,7 @@ pub record VersionsLeft (xs ys : List ℕ) (i j count : ℕ) : Type 0 where
   pub right : j ≤ length ys
   pub few : count ≤ i + j
 
-pub versions-none : (xs ys : List ℕ) → VersionsLeft xs ys 0 0 0
+versions-none : (xs ys : List ℕ) → VersionsLeft xs ys 0 0 0
 versions-none xs ys = record { is = λ h k. omega arith; left = omega arith; right = omega arith; few = omega arith }
 
 ups-drop : (xs : List ℕ) (i : ℕ) → Ups numbers xs → Ups numbers (drop i xs)
@@ -95,11 +95,13 @@ module _ (xs ys : List ℕ) (i j count : ℕ) (w : VersionsLeft xs ys i j count)
           (λ (b : (y ≤ x) × (j′ ≡ j + 1)). both-split ∙ first-both x y (drop (suc i) xs) (drop (suc j) ys) hx hy (omega arith)
           ∙ ap₂ (λ (a b : ℕ). 1 + length (union numbers (drop a xs) (drop b ys))) (sym (a .1 ∙ add-one i)) (sym (b .1 ∙ add-one j)))
           (λ (b : (x < y) × (j′ ≡ j)). both-split ∙ first-left x y (drop (suc i) xs) (drop (suc j) ys) hx hy (b .0)
-          ∙ ap₂ (λ (a : ℕ) (b : List ℕ). 1 + length (union numbers (drop a xs) b)) (sym (a .1 ∙ add-one i)) (sym right-is ∙ ap (λ (n : ℕ). drop n ys) (sym (b .1))))
+          ∙ ap₂ (λ (a : ℕ) (b : List ℕ). 1 + length (union numbers (drop a xs) b)) (sym (a .1 ∙ add-one i))
+          (sym right-is ∙ ap (λ (n : ℕ). drop n ys) (sym (b .1))))
           q)
           (λ (a : (y < x) × (i′ ≡ i)). ⊎-elim
           (λ (b : (y ≤ x) × (j′ ≡ j + 1)). both-split ∙ first-right x y (drop (suc i) xs) (drop (suc j) ys) hx hy (a .0)
-          ∙ ap₂ (λ (a : List ℕ) (b : ℕ). 1 + length (union numbers a (drop b ys))) (sym left-is ∙ ap (λ (n : ℕ). drop n xs) (sym (a .1))) (sym (b .1 ∙ add-one j)))
+          ∙ ap₂ (λ (a : List ℕ) (b : ℕ). 1 + length (union numbers a (drop b ys))) (sym left-is ∙ ap (λ (n : ℕ). drop n xs) (sym (a .1)))
+          (sym (b .1 ∙ add-one j)))
           (λ (b : (x < y) × (j′ ≡ j)). absurd (omega arith))
           q)
           p
@@ -154,13 +156,13 @@ module _ (m n : ℕ) (v w : List EventVersion) (long : (length v ≡ 8) × (leng
   right-length = many n w (omega (arith, long, few))
 
   module _ (z : VersionsLeft lefts rights i j count) where
-    pub counted-within : (i ≤ m) × (j ≤ n) × (count ≤ i + j)
+    counted-within : (i ≤ m) × (j ≤ n) × (count ≤ i + j)
     counted-within = (omega (arith, z .left, left-length), omega (arith, z .right, right-length), z .few)
 
-    pub counted-left : n ≤ j → rising numbers lefts ≡ true → rising numbers rights ≡ true → count + (m - i) ≡ length (union numbers lefts rights)
+    counted-left : n ≤ j → rising numbers lefts ≡ true → rising numbers rights ≡ true → count + (m - i) ≡ length (union numbers lefts rights)
     counted-left l h k = omega (arith, left-length, versions-left lefts rights i j count z (omega (arith, right-length)) h k)
 
-    pub counted-right : m ≤ i → rising numbers lefts ≡ true → rising numbers rights ≡ true → count + (n - j) ≡ length (union numbers lefts rights)
+    counted-right : m ≤ i → rising numbers lefts ≡ true → rising numbers rights ≡ true → count + (n - j) ≡ length (union numbers lefts rights)
     counted-right l h k = omega (arith, right-length, versions-right lefts rights i j count z (omega (arith, left-length)) h k)
 
     module _ (l : i < m) (k : j < n) (i′ j′ : ℕ) (p : Passed (versionAt v i) (versionAt w j) i i′) (q : Passed (versionAt w j) (versionAt v i) j j′) where
@@ -170,8 +172,45 @@ module _ (m n : ℕ) (v w : List EventVersion) (long : (length v ≡ 8) × (leng
       right-passed : Passed (getD rights j 0) (getD lefts i 0) j j′
       right-passed = subst₂ (λ (a b : ℕ). Passed a b j j′) (version-at n w j k) (version-at m v i l) q
 
-      pub counted-passed : (i + j + 1 ≤ i′ + j′) × (i ≤ i′) × (i′ ≤ i + 1) × (j ≤ j′) × (j′ ≤ j + 1)
+      counted-passed : (i + j + 1 ≤ i′ + j′) × (i ≤ i′) × (i′ ≤ i + 1) × (j ≤ j′) × (j′ ≤ j + 1)
       counted-passed = passed-some lefts rights i j count z (omega (arith, left-length)) (omega (arith, right-length)) i′ j′ left-passed right-passed
 
-      pub counted-more : VersionsLeft lefts rights i′ j′ (count + 1)
+      counted-more : VersionsLeft lefts rights i′ j′ (count + 1)
       counted-more = versions-more lefts rights i j count z (omega (arith, left-length)) (omega (arith, right-length)) i′ j′ left-passed right-passed
+
+-- ---- a turn of the count
+
+-- `count` of the first m versions of v and the first n of w are counted; those from i and from j on are left
+pub record Counting (m n : ℕ) (v w : List EventVersion) (i j count : ℕ) : Type 0 where
+  pub long : (length v ≡ 8) × (length w ≡ 8)
+  pub few : (m ≤ 8) × (n ≤ 8)
+  pub within : (i ≤ m) × (j ≤ n) × (count ≤ i + j)
+  pub left : VersionsLeft (versionNumbers (take m v)) (versionNumbers (take n w)) i j count
+
+pub counting-none : {m n : ℕ} {v w : List EventVersion} → (length v ≡ 8) × (length w ≡ 8) → (m ≤ 8) × (n ≤ 8) → Counting m n v w 0 0 0
+counting-none long few = record { long = long; few = few; within = (omega arith, omega arith, omega arith); left = versions-none _ _ }
+
+module _ {m n : ℕ} {v w : List EventVersion} {i j count : ℕ} (c : Counting m n v w i j count) where
+  -- one side is at its end
+  pub counting-left :
+      n ≤ j → rising numbers (versionNumbers (take m v)) ≡ true → rising numbers (versionNumbers (take n w)) ≡ true →
+      count + (m - i) ≡ length (union numbers (versionNumbers (take m v)) (versionNumbers (take n w)))
+  counting-left = counted-left m n v w (c .long) (c .few) i j count (c .left)
+
+  pub counting-right :
+      m ≤ i → rising numbers (versionNumbers (take m v)) ≡ true → rising numbers (versionNumbers (take n w)) ≡ true →
+      count + (n - j) ≡ length (union numbers (versionNumbers (take m v)) (versionNumbers (take n w)))
+  counting-right = counted-right m n v w (c .long) (c .few) i j count (c .left)
+
+  -- one version more is counted, and each side that has it goes on
+  module _
+      (l : i < m) (k : j < n) {i′ j′ : ℕ} (p : Passed (versionAt v i) (versionAt w j) i i′) (q : Passed (versionAt w j) (versionAt v i) j j′) where
+    pub counting-more : Counting m n v w i′ j′ (count + 1)
+    counting-more =
+        let more = counted-more m n v w (c .long) (c .few) i j count (c .left) l k i′ j′ p q in
+        record { long = c .long; few = c .few; within = counted-within m n v w (c .long) (c .few) i′ j′ (count + 1) more; left = more }
+
+    pub counting-less : (m - i′) + (n - j′) < (m - i) + (n - j)
+    counting-less =
+        let passed = counted-passed m n v w (c .long) (c .few) i j count (c .left) l k i′ j′ p q in
+        omega (arith, c .within, counting-more .within, passed)

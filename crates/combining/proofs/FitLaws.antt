@@ -16,14 +16,18 @@ use Rattle.model.specs.Limits.{standard, fits}
 use Rattle.model.specs.Opening.{cellAt, held}
 use Rattle.packed.proofs.LayoutLaws.{All}
 use Rattle.ontology.specs.Table.{EventType, Table, isVersioned}
+use Rattle.ontology.specs.code.TypeIndex.{PropertiesAre}
 use Rattle.ontology.specs.declared.types.TypeIndex.{TypeIndex}
 use Rattle.event.specs.Event.{typeView, eventView}
 use Rattle.event.specs.EventQuestions.{matchCount}
+use Rattle.event.specs.code.EventIndex.{SetsAre, HashesAre}
+use Rattle.event.specs.declared.sets.SetAt.{SetAt}
 use Rattle.unions.specs.code.Runs.{Hashes}
 use Rattle.dossier.specs.DossierQuestions.{eachCell, isVacant, holdsVersion, TypedDossier}
-use Rattle.dossier.specs.code.DossierIndex.{noSnapshot, versionNumbers, cellFits, versionFits, snapshotFits}
+use Rattle.dossier.specs.code.DossierIndex.{noSnapshot, versionNumbers, rowOf, cellFits, versionFits, snapshotFits}
 use Rattle.dossier.specs.declared.dossiers.DossierIndex.{DossierIndex}
 use Rattle.dossier.proofs.DossierLayoutLaws.{DossierWritten}
+use Rattle.dossier.proofs.AskLaws.{snapshot-stands}
 use Rattle.dossier.proofs.AcceptedLaws.{DossierTaken, taken-written, taken-lone, taken-fits}
 use Rattle.combining.specs.CombineCall.{combined}
 use Rattle.combining.specs.code.CombineIndex.{Known, Combinable, Meet}
@@ -172,37 +176,49 @@ module _ {table a b : List ℕ} {t : TypeIndex} {ps : List ℕ} (k : Known table
   abbrev fewVersions : Bool
   fewVersions = leb (length (whole .snapshots)) 8 && fewObjects
 
-  module _ (n : Bool) (p : n ≡ leb (length (union texts (k .left .headed .head .parents) (k .right .headed .head .parents))) 32) where
+  -- the whole answer is that of going on: with the versions once the parents are few enough, with the objects once the versions are
+  abbrev pub ToVersions : Type 0
+  ToVersions = asked ≡ fewVersions
+
+  abbrev pub ToObjects : Type 0
+  ToObjects = asked ≡ fewObjects
+
+  -- `parents_fit` answers n of the parents
+  module _
+      {n : Bool} {s u : List ℕ} {v w : SetAt}
+      (says : (gs hs : List Text) → HashesAre s gs v → HashesAre u hs w → Hashes gs → Hashes hs → rising texts gs ≡ true → rising texts hs ≡ true →
+      n ≡ leb (length (union texts gs hs)) 32)
+      (left-are : HashesAre s (k .left .headed .head .parents) v) (right-are : HashesAre u (k .right .headed .head .parents) w) where
     then-parents : asked ≡ (n && fewVersions)
-    then-parents = fits-parts ty whole ∙ ap (λ (z : Bool). z && fewVersions) (ap (λ (hs : List Text). leb (length hs) 32) whole-parents ∙ sym p)
+    then-parents =
+        let p = says _ _ left-are right-are (left-hashes .0) (right-hashes .0) (left-hashes .1) (right-hashes .1) in
+        fits-parts ty whole ∙ ap (λ (z : Bool). z && fewVersions) (ap (λ (hs : List Text). leb (length hs) 32) whole-parents ∙ sym p)
 
     pub fits-parents : n ≡ false → false ≡ asked
     fits-parents l = sym (then-parents ∙ rw l)
 
-    module _ (l : n ≡ true) (m : ℕ) (q : m ≡ length (whole .snapshots)) where
-      then-versions : asked ≡ fewVersions
-      then-versions = then-parents ∙ rw l
+    pub to-versions : n ≡ true → ToVersions
+    to-versions l = then-parents ∙ rw l
 
-      pub fits-versions : 8 < m → false ≡ asked
-      fits-versions h = sym (then-versions ∙ ap (λ (z : Bool). z && fewObjects) (lt-leb (length (whole .snapshots)) 8 (omega (arith, q))))
+  -- there are m versions
+  module _ (go-on : ToVersions) {m : ℕ} (q : m ≡ length (whole .snapshots)) where
+    pub fits-versions : 8 < m → false ≡ asked
+    fits-versions h = sym (go-on ∙ ap (λ (z : Bool). z && fewObjects) (lt-leb (length (whole .snapshots)) 8 (omega (arith, q))))
 
-      module _ (h : m ≤ 8) where
-        then-objects : asked ≡ fewObjects
-        then-objects = then-versions ∙ ap (λ (z : Bool). z && fewObjects) (le-leb (length (whole .snapshots)) 8 (omega (arith, q)))
+    pub to-objects : m ≤ 8 → ToObjects
+    to-objects h = go-on ∙ ap (λ (z : Bool). z && fewObjects) (le-leb (length (whole .snapshots)) 8 (omega (arith, q)))
 
-        pub fits-versioned : 0 < t .mark → true ≡ asked
-        fits-versioned v =
-            sym (
-            then-objects
-            ∙ ap (λ (z : Bool). z || leb (objects (whole .snapshots)) 256) (lt-ltb 0 (ty .mark) (omega (arith, k .typed .mark)))
-            )
+  module _ (go-on : ToObjects) where
+    pub fits-versioned : 0 < t .mark → true ≡ asked
+    fits-versioned v =
+        sym (go-on ∙ ap (λ (z : Bool). z || leb (objects (whole .snapshots)) 256) (lt-ltb 0 (ty .mark) (omega (arith, k .typed .mark))))
 
-        pub fits-objects : (un : t .mark ≤ 0) {r : Bool} → r ≡ leb (sizes (joinSnapshots (typeView ty) (x un) (y un) .cells)) 256 → r ≡ asked
-        fits-objects un r =
-            r
-            ∙ sym (then-objects
-            ∙ ap (λ (z : Bool). z || leb (objects (whole .snapshots)) 256) (unversioned un)
-            ∙ ap (λ (z : ℕ). leb z 256) (whole-objects un))
+    pub fits-objects : (un : t .mark ≤ 0) {r : Bool} → r ≡ leb (sizes (joinSnapshots (typeView ty) (x un) (y un) .cells)) 256 → r ≡ asked
+    fits-objects un r =
+        r
+        ∙ sym (go-on
+        ∙ ap (λ (z : Bool). z || leb (objects (whole .snapshots)) 256) (unversioned un)
+        ∙ ap (λ (z : ℕ). leb z 256) (whole-objects un))
 
 -- ---- and both are read
 
@@ -216,13 +232,13 @@ module _
   right-versions : versionNumbers (take (e .count) (e .versions)) ≡ versions (snapshots (c .known .right))
   right-versions = ap (λ (n : ℕ). versionNumbers (take n (e .versions))) (c .right-read .count) ∙ c .right-read .snapshots .numbers
 
-  pub left-rises : rising numbers (versionNumbers (take (d .count) (d .versions))) ≡ true
+  left-rises : rising numbers (versionNumbers (take (d .count) (d .versions))) ≡ true
   left-rises = ap (rising numbers) left-versions ∙ left-written (c .known) .body .rises
 
-  pub right-rises : rising numbers (versionNumbers (take (e .count) (e .versions))) ≡ true
+  right-rises : rising numbers (versionNumbers (take (e .count) (e .versions))) ≡ true
   right-rises = ap (rising numbers) right-versions ∙ right-written (c .known) .body .rises
 
-  pub whole-versions :
+  whole-versions :
       length (union numbers (versionNumbers (take (d .count) (d .versions))) (versionNumbers (take (e .count) (e .versions))))
       ≡ length (combined (c .known .left) (c .known .right) .snapshots)
   whole-versions =
@@ -237,7 +253,34 @@ module _
       keys : (ss rs : List Snapshot) → versions (merge numbers versionIn join ss rs) ≡ union numbers (versions ss) (versions rs)
       keys = merge-keys numbers versionIn join (λ x y. unfold joinSnapshots in refl)
 
-  -- two first snapshots of an unversioned type
-  pub first-meet : (un : t .mark ≤ 0) → Meet (c .known .left .type) (x (c .known) un) (y (c .known) un)
-  first-meet un =
-      meet c 0 0 (omega (arith, left-one (c .known) un)) (omega (arith, right-one (c .known) un)) (same-version (c .known) un)
+  -- `count_versions` answers how many snapshots there are
+  pub versions-counted :
+      {n : ℕ} →
+      (rising numbers (versionNumbers (take (d .count) (d .versions))) ≡ true → rising numbers (versionNumbers (take (e .count) (e .versions))) ≡ true →
+      n ≡ length (union numbers (versionNumbers (take (d .count) (d .versions))) (versionNumbers (take (e .count) (e .versions))))) →
+      n ≡ length (combined (c .known .left) (c .known .right) .snapshots)
+  versions-counted says = says left-rises right-rises ∙ whole-versions
+
+  -- two first snapshots of an unversioned type, which `objects_fit` is asked of
+  module _ (un : t .mark ≤ 0) where
+    abbrev left-first : Snapshot
+    left-first = x (c .known) un
+
+    abbrev right-first : Snapshot
+    right-first = y (c .known) un
+
+    first-meet : Meet (c .known .left .type) left-first right-first
+    first-meet = meet c 0 0 (omega (arith, left-one (c .known) un)) (omega (arith, right-one (c .known) un)) (same-version (c .known) un)
+
+    pub firsts-counted :
+        {r : Bool} →
+        ((u : List ℕ) (tz : EventType) (g h : Snapshot) → PropertiesAre u (tz .properties) (t .count) ps → isVersioned tz ≡ false → Meet tz g h →
+        getD (d .objects) 0 0 ≡ sizes (g .cells) → getD (e .objects) 0 0 ≡ sizes (h .cells) →
+        SetsAre a (map held (g .cells)) (rowOf left 0) → SetsAre b (map held (h .cells)) (rowOf right 0) →
+        r ≡ leb (sizes (joinSnapshots (typeView tz) g h .cells)) 256) →
+        r ≡ leb (sizes (joinSnapshots (typeView (c .known .left .type)) left-first right-first .cells)) 256
+    firsts-counted says =
+        let v = snapshot-stands a (c .known .left .headed) d (c .left-read) left (c .left-rows) 0 (omega (arith, c .left-read .one)) in
+        let w = snapshot-stands b (c .known .right .headed) e (c .right-read) right (c .right-rows) 0 (omega (arith, c .right-read .one)) in
+        says table (c .known .left .type) left-first right-first (c .known .typed .are) (unversioned (c .known) un) first-meet
+        (v .objects) (w .objects) (v .sets) (w .sets)

@@ -22,11 +22,11 @@ use Rattle.packed.specs.Parse.{got}
 use Rattle.packed.specs.Packed.{number, text}
 use Rattle.packed.specs.code.Written.{Wrote, ToGo}
 use Rattle.packed.proofs.LayoutLaws.{text-length, number-bounds}
-use Rattle.packed.proofs.WriteLaws.{wrote-length, wrote-then, wrote-as}
+use Rattle.packed.proofs.WriteLaws.{wrote-then, wrote-as}
 use Rattle.values.specs.Spaces.{Kind, kindNumber, inSpace}
 use Rattle.values.specs.ValueOrder.{isOrdered, extremeOrder}
 use Rattle.ontology.specs.Table.{Property, EventType, isMin, isMax, isVersioned, atPlace}
-use Rattle.ontology.specs.code.TypeIndex.{PropertyIs, propertyIn, PropertiesAre, hasMax}
+use Rattle.ontology.specs.code.TypeIndex.{PropertyIs, propertyIn, hasMax}
 use Rattle.ontology.specs.declared.properties.PropertyAt.{PropertyAt}
 use Rattle.ontology.proofs.TypeIndexLaws.{max-of}
 use Rattle.event.specs.Event.{typeView, eventView}
@@ -46,10 +46,11 @@ use Rattle.dossier.specs.DossierQuestions.{isVacant, isPresent, isLone, isLoneI
 use Rattle.dossier.specs.code.DossierIndex.{cellFits, versionFits, snapshotFits}
 use Rattle.dossier.proofs.DossierBodyLaws.{snapshot-was}
 use Rattle.dossier.proofs.CellLaws.{held-at}
-use Rattle.combining.specs.code.CombineIndex.{isExtremeAt, Fitting, Meet}
+use Rattle.combining.specs.code.CombineIndex.{isExtremeAt, Fitting}
 use Rattle.combining.specs.code.JoinedIndex.{haveObjects, PresentAre, NoObjectsFrom, Extremes, joinedSet, ValuesAre, Paired, PlaceIs, PlaceRoom}
 use Rattle.combining.proofs.CheckLaws.{sets-held, none-differ}
-use Rattle.combining.proofs.ObjectLaws.{keeps-every}
+use Rattle.combining.proofs.PartLaws.{PartsRoom}
+use Rattle.combining.proofs.ObjectLaws.{keeps-every, Joins}
 use Rattle.combining.proofs.PlaceLaws.{fits-parts, placeFits, place-fits, left-vacant, right-vacant, FilledOnly, only-all}
 
 -- ---- the smaller or larger of two values
@@ -378,19 +379,6 @@ set-rises s x r e p = all-at SetWritten [] empty-written (map held (x .cells)) (
 
 -- ---- two unversioned snapshots
 
--- their sets stand in a and b where the numbers i and j say
-pub record Joins (table a b : List ℕ) (count : ℕ) (ps i j : List ℕ) (ty : EventType) (x y : Snapshot) : Type 0 where
-  pub typed : PropertiesAre table (ty .properties) count ps
-  pub unversioned : isVersioned ty ≡ false
-  pub meet : Meet ty x y
-  pub left : SetsAre a (map held (x .cells)) i
-  pub right : SetsAre b (map held (y .cells)) j
-
-pub joins : {table a b : List ℕ} {count : ℕ} {ps i j : List ℕ} {ty : EventType} {x y : Snapshot} →
-    PropertiesAre table (ty .properties) count ps → isVersioned ty ≡ false → Meet ty x y →
-    SetsAre a (map held (x .cells)) i → SetsAre b (map held (y .cells)) j → Joins table a b count ps i j ty x y
-joins w u m l r = record { typed = w; unversioned = u; meet = m; left = l; right = r }
-
 -- the bytes of their sets together, from place k on
 unfoldable pub setsFrom : EventType → Snapshot → Snapshot → ℕ → List ℕ
 setsFrom ty x y k = setsBytes (map (λ p. joinedSet ty p (setOf x p) (setOf y p)) (upFrom k (32 - k)))
@@ -431,7 +419,7 @@ module _ {table a b : List ℕ} {count : ℕ} {ps i j : List ℕ} {ty : EventTyp
   unfolding held
   right-none p l = held-at (y .cells) p ∙ ap held (right-vacant f (h .typed .count) .each p l)
 
-  pub objects-none : NoObjectsFrom count i j
+  objects-none : NoObjectsFrom count i j
   objects-none = record {
     each = λ p l m.
         ap₂ (λ (a b : ℕ). ltb 0 a || ltb 0 b) (h .left .each p m .count ∙ ap length (left-none p l)) (h .right .each p m .count ∙ ap length (right-none p l));
@@ -486,7 +474,11 @@ module _ {table a b : List ℕ} {count : ℕ} {ps i j : List ℕ} {ty : EventTyp
   unfolding joinSnapshots
   joined-version = plain-version ty x (f .left-fits) (h .unversioned)
 
-  module _ (present : List Bool) (w : PresentAre i j present) where
+  -- `joined_places` answers `present`
+  module _ {present : List Bool} (says : NoObjectsFrom count i j → PresentAre i j present) where
+    w : PresentAre i j present
+    w = says objects-none
+
     joined-bits : map presenceBit (map joined (upTo 32)) ≡ map bitOf present
     joined-bits =
         presence-bits joined present (w .long)
@@ -504,23 +496,18 @@ module _ {table a b : List ℕ} {count : ℕ} {ps i j : List ℕ} {ty : EventTyp
         (sets-held joined (upTo 32)) (none-differ joined (upTo 32))
         ∙ ap (λ (bs : List ℕ). number 0 ++ number (bitNumber bs) ++ number 0 ++ setsBytes (map joined (upTo 32))) joined-bits
 
-    -- its length, part by part
-    pub joined-length :
-        length (snapshotBytes (joinSnapshots (typeView ty) x y))
-        ≡ length (number 0) + length (number (bitNumber (map bitOf present))) + length (number 0) + length (setsFrom ty x y 0)
-    joined-length = ap length joined-bytes ∙ simp length-append (omega arith)
+    -- its room, part by part
+    pub joined-parts :
+        {l : List ℕ} (at : ℕ) → at + length (snapshotBytes (joinSnapshots (typeView ty) x y)) ≤ length l →
+        PartsRoom l at 0 (bitNumber (map bitOf present)) 0 (setsFrom ty x y 0)
+    joined-parts {l} at room = record { room = subst (λ (z : List ℕ). at + length z ≤ length l) joined-bytes room }
 
     -- the numbers are written, and then the sets
-    module _ {l l₁ l₂ l₃ : List ℕ} {at p q r : ℕ} (n : ℕ) (e : n ≡ bitNumber (map bitOf present))
-        (u : Wrote l at (number 0) l₁ p) (v : Wrote l₁ p (number n) l₂ q) (z : Wrote l₂ q (number 0) l₃ r) where
-      pub sets-room : at + length (snapshotBytes (joinSnapshots (typeView ty) x y)) ≤ length l → r + length (setsFrom ty x y 0) ≤ length l₃
-      sets-room k =
-          let size = ap (λ (m : ℕ). length (number m)) e in
-          omega (arith, joined-length, size, u .after, v .after, z .after, wrote-length u, wrote-length v, wrote-length z)
-
-      pub joined-wrote : {l₄ : List ℕ} {m : ℕ} → Wrote l₃ r (setsFrom ty x y 0) l₄ m → Wrote l at (snapshotBytes (joinSnapshots (typeView ty) x y)) l₄ m
-      joined-wrote g =
-          wrote-as (ap (λ (m : ℕ). number 0 ++ number m ++ number 0 ++ setsFrom ty x y 0) e ∙ sym joined-bytes) (wrote-then (wrote-then (wrote-then u v) z) g)
+    pub joined-wrote :
+        {l l₁ l₂ l₃ l₄ : List ℕ} {at p q r m n : ℕ} → n ≡ bitNumber (map bitOf present) →
+        Wrote l at (number 0) l₁ p → Wrote l₁ p (number n) l₂ q → Wrote l₂ q (number 0) l₃ r → Wrote l₃ r (setsFrom ty x y 0) l₄ m →
+        Wrote l at (snapshotBytes (joinSnapshots (typeView ty) x y)) l₄ m
+    joined-wrote e u v z g = wrote-as (sym joined-bytes) (wrote-then (wrote-then (wrote-then u (wrote-as (ap number e) v)) z) g)
 
     -- a place that has objects, with its room, where the places before it are written
     pub place-next :

@@ -1,4 +1,5 @@
 -- The laws of the calls check an event and combine.
+pub mod PartLaws
 pub mod LoneLaws
 pub mod CheckLaws
 pub mod MeasureLaws
@@ -11,6 +12,7 @@ pub mod FitLaws
 pub mod AgreedLaws
 pub mod JoinedLaws
 pub mod MergedLaws
+pub mod TurnLaws
 pub mod RoomLaws
 pub mod CombineLaws
 pub mod InsertLaws

@@ -24,7 +24,8 @@ use Rattle.event.specs.declared.read.EventIndex.{EventIndex}
 use Rattle.event.proofs.EventQuestionLaws.{version-none}
 use Rattle.event.proofs.SetWriteLaws.{present-own}
 use Rattle.dossier.specs.DossierHead.{dossierHeadBytes}
-use Rattle.combining.specs.code.CheckIndex.{aloneBytes, loneBytes, Checkable}
+use Rattle.combining.specs.code.CheckIndex.{aloneBytes, loneBytes, Checkable, AloneRoom, LoneRoom}
+use Rattle.combining.proofs.PartLaws.{WholeRoom, count-room, body-room}
 
 -- ---- the version of an event
 
@@ -68,39 +69,77 @@ module _ {bytes : List ℕ} {t : TypeIndex} {ats : List ℕ} (h : Checkable byte
       omega (arith, version-is, h .below),
     )
 
+-- ---- the dossier: its head, one snapshot, and that
+
+lone-length :
+    (e : Event) (version : ℕ) → length (loneBytes e version) ≡ length (dossierHeadBytes (e .head)) + length (number 1) + length (aloneBytes e version)
+unfolding loneBytes
+lone-length e version = simp length-append (omega arith)
+
 -- ---- the head, as it stands in the event
 
-module _ {s : List ℕ} {e : Event} {x : EventIndex} {ats : List ℕ} (w : EventIs s e x ats) where
-  pub head-size : length (headBytes (e .head)) + length (number (x .presence)) ≡ x .«after_presence»
-  head-size =
-      omega (arith, ap length (w .front), length-append (headBytes (e .head)) (number (x .presence)), length-take-le (x .«after_presence») s (w .within))
+-- `number_size` answers n of the presence number
+module _ {s : List ℕ} {x : EventIndex} {n : ℕ} (sized : n ≡ length (number (x .presence))) where
+  head-size : {e : Event} {ats : List ℕ} → EventIs s e x ats → length (headBytes (e .head)) + n ≡ x .«after_presence»
+  head-size {e} w =
+      omega (
+        arith,
+        sized,
+        ap length (w .front),
+        length-append (headBytes (e .head)) (number (x .presence)),
+        length-take-le (x .«after_presence») s (w .within),
+      )
 
-  pub head-part : part s 0 (x .«after_presence» - length (number (x .presence))) ≡ dossierHeadBytes (e .head)
+  pub size-within : {ats : List ℕ} {version size : ℕ} → LoneRoom s x ats version size → n ≤ x .«after_presence»
+  size-within r = omega (arith, head-size (r .read))
+
+  head-part : {e : Event} {ats : List ℕ} → EventIs s e x ats → part s 0 (x .«after_presence» - n) ≡ dossierHeadBytes (e .head)
   unfolding dossierHeadBytes
-  head-part =
+  head-part {e} w =
       let h = headBytes (e .head) in
       let p = number (x .presence) in
       let rest = drop (x .«after_presence») s in
       let all : s ≡ h ++ (p ++ rest) =
       sym (take-append-drop (x .«after_presence») s) ∙ ap (λ (b : List ℕ). b ++ rest) (w .front) ∙ append-assoc h p rest in
-      let long : x .«after_presence» - length p - 0 ≡ length h = omega (arith, head-size) in
+      let long : x .«after_presence» - n - 0 ≡ length h = omega (arith, head-size w) in
       ap₂ take long all ∙ take-append-seam h (p ++ rest)
+
+  pub head-there :
+      {ats : List ℕ} {version size : ℕ} → LoneRoom s x ats version size →
+      (0 ≤ x .«after_presence» - n) × (x .«after_presence» - n ≤ length s) × (0 + length (part s 0 (x .«after_presence» - n)) ≤ size)
+  head-there {version = version} r =
+      (omega arith, omega (arith, r .read .within), omega (arith, r .room, lone-length (r .event) version, ap length (head-part (r .read))))
+
+  -- the head is copied
+  module _ {l l₁ : List ℕ} {a : ℕ} (copied : Wrote l 0 (part s 0 (x .«after_presence» - n)) l₁ a) {ats : List ℕ} where
+    head-wrote : {e : Event} → EventIs s e x ats → Wrote l 0 (dossierHeadBytes (e .head)) l₁ a
+    head-wrote w = wrote-as (head-part w) copied
+
+    module _ {version : ℕ} (r : LoneRoom s x ats version (length l)) where
+      rooms : WholeRoom l (dossierHeadBytes (r .event .head)) 1 (aloneBytes (r .event) version)
+      rooms = record { room = omega (arith, r .room, lone-length (r .event) version) }
+
+      pub one-there : a + length (number 1) ≤ length l₁
+      one-there = count-room rooms (head-wrote (r .read)) refl
+
+      pub alone-there : {l₂ : List ℕ} {b : ℕ} → Wrote l₁ a (number 1) l₂ b → AloneRoom s x ats version b (length l₂)
+      alone-there w = record { event = r .event; read = r .read; room = body-room rooms (head-wrote (r .read)) refl w }
+
+    pub lone-wrote :
+        (version : ℕ) {l₂ l₃ : List ℕ} {b c : ℕ} → Wrote l₁ a (number 1) l₂ b → ((e : Event) → EventIs s e x ats → Wrote l₂ b (aloneBytes e version) l₃ c) →
+        (e : Event) → EventIs s e x ats → Wrote l 0 (loneBytes e version) l₃ c
+    unfolding loneBytes
+    lone-wrote version p q e w = wrote-then (head-wrote w) (wrote-then p (q e w))
 
 -- ---- the parts of the snapshot
 
 module _ {bytes : List ℕ} {e : Event} {x : EventIndex} {ats : List ℕ} (w : EventIs bytes e x ats) where
   -- all sets, by the event's own presence number
-  abbrev pub sets : List ℕ
+  abbrev sets : List ℕ
   sets = presentBytes (x .presence) (e .sets)
 
-  sets-are : sets ≡ setsBytes (e .sets)
+  pub sets-are : sets ≡ setsBytes (e .sets)
   sets-are = ap (λ (n : ℕ). presentBytes n (e .sets)) (w .presence) ∙ present-own (e .sets)
-
-  -- their lengths, one after the other
-  pub alone-length :
-      (version : ℕ) →
-      length (aloneBytes e version) ≡ length (number version) + length (number (x .presence)) + length (number 0) + length sets
-  alone-length version = simp length-append (omega (arith, ap length sets-are, ap (λ (n : ℕ). length (number n)) (w .presence)))
 
   pub wrote-alone :
       (version : ℕ) {l l₁ l₂ l₃ l₄ : List ℕ} {at a b c d : ℕ} →
@@ -111,17 +150,3 @@ module _ {bytes : List ℕ} {e : Event} {x : EventIndex} {ats : List ℕ} (w : E
 -- where bytes were written, their place says how many they are
 pub wrote-size : {l xs l₁ : List ℕ} {at next : ℕ} → Wrote l at xs l₁ next → (at ≤ next) × (length xs ≡ next - at)
 wrote-size w = (omega (arith, w .after), omega (arith, w .after))
-
--- ---- the parts of the dossier
-
-module _ (e : Event) (version : ℕ) where
-  pub lone-length : length (loneBytes e version) ≡ length (dossierHeadBytes (e .head)) + length (number 1) + length (aloneBytes e version)
-  unfolding loneBytes
-  lone-length = simp length-append (omega arith)
-
-  pub wrote-lone :
-      {l l₁ l₂ l₃ : List ℕ} {a b c : ℕ} →
-      Wrote l 0 (dossierHeadBytes (e .head)) l₁ a → Wrote l₁ a (number 1) l₂ b → Wrote l₂ b (aloneBytes e version) l₃ c →
-      Wrote l 0 (loneBytes e version) l₃ c
-  unfolding loneBytes
-  wrote-lone p q r = wrote-then p (wrote-then q r)

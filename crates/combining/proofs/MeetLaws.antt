@@ -28,7 +28,8 @@ versionIn s = s .version
 
 -- the versions of the snapshots rise
 pub taken-rises : {types : Table} {s : List ℕ} {a : TypedDossier} → DossierTaken types s a → Rising numbers versionIn (a .headed .snapshots)
-taken-rises {types} {s} {a} w = let ss = a .headed .snapshots in rising-keys numbers versionIn ss .1 (rising-ups numbers (map versionIn ss) .0 (taken-written w .body .rises))
+taken-rises {types} {s} {a} w =
+    let ss = a .headed .snapshots in rising-keys numbers versionIn ss .1 (rising-ups numbers (map versionIn ss) .0 (taken-written w .body .rises))
 
 module _ {table a b : List ℕ} {t : TypeIndex} {ps : List ℕ} (k : Known table a b t ps) where
   pub left-taken : DossierTaken (k .types) a (k .left)
@@ -41,7 +42,9 @@ module _ {table a b : List ℕ} {t : TypeIndex} {ps : List ℕ} (k : Known table
   pub same-type : k .left .type ≡ k .right .type
   unfolding dossiersAgree
   same-type =
-      one-type left-taken right-taken (agree-exact (k .left .headed .head .type) (k .left .headed .head .source) (dossierMatch (k .left .type) (k .left .headed .snapshots)) (k .right .headed .head .type) (k .right .headed .head .source) (dossierMatch (k .right .type) (k .right .headed .snapshots)) .0 (k .agree) .0)
+      one-type left-taken right-taken (agree-exact (k .left .headed .head .type) (k .left .headed .head .source)
+      (dossierMatch (k .left .type) (k .left .headed .snapshots)) (k .right .headed .head .type) (k .right .headed .head .source)
+      (dossierMatch (k .right .type) (k .right .headed .snapshots)) .0 (k .agree) .0)
 
   pub kept : TypeKept (k .left .type)
   kept = taken-kept left-taken table (k .is)

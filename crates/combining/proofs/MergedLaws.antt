@@ -9,7 +9,7 @@ use lib.Dec.{leb}
 use lib.ListN.{length, take, drop, getD, length-append, drop-of-length-le, List·getD-map}
 use lib.Seq.{drop-cons, drop-drop, take-at}
 use borrow.Author.Tests.{lt-ltb, le-ltb, le-leb, lt-leb}
-use Rattle.model.specs.Order.{texts, numbers, pick, equal}
+use Rattle.model.specs.Order.{texts, numbers, pick, equal, rising}
 use Rattle.model.proofs.Cases.{three}
 use Rattle.model.specs.Keyed.{Rising, merge}
 use Rattle.model.specs.Sets.{union}
@@ -41,11 +41,12 @@ use Rattle.dossier.specs.DossierHead.{dossierHeadBytes}
 use Rattle.combining.proofs.RoomLaws.{combined-parents}
 use Rattle.combining.specs.CombineCall.{headedAs, combined}
 use Rattle.combining.specs.code.CombineIndex.{Known, Combinable, Meet, Shared, AgreedRoom, JoinedRoom}
-use Rattle.combining.specs.code.WriteIndex.{SharedRoom, bytesFrom, RestRoom, HeadsAre, bothHeads}
+use Rattle.combining.specs.code.WriteIndex.{SharedRoom, bytesFrom, RestRoom, HeadsAre, bothHeads, HeadsRoom, SnapshotsRoom, CombinedRoom}
 use Rattle.combining.proofs.MeetLaws.{versionIn, taken-rises, left-taken, right-taken, meet}
 use Rattle.combining.proofs.CountLaws.{versionAt, version-at}
 use Rattle.combining.proofs.SelfLaws.{same-joined}
-use Rattle.combining.proofs.FitLaws.{left-hashes, right-hashes, whole-versions}
+use Rattle.combining.proofs.PartLaws.{WholeRoom, count-room, body-room}
+use Rattle.combining.proofs.FitLaws.{left-hashes, right-hashes, versions-counted}
 
 -- ---- writes
 
@@ -103,7 +104,7 @@ module _
 -- ---- the snapshots of one side
 
 -- what `part_of` says of its answer p
-abbrev StandsIn : List ℕ → ℕ → ℕ → List ℕ → Type 0
+abbrev pub StandsIn : List ℕ → ℕ → ℕ → List ℕ → Type 0
 StandsIn s start end p = start ≤ end → end ≤ length s → p ≡ part s start end
 
 abbrev Rises : List Snapshot → Type 0
@@ -154,18 +155,24 @@ module _ (s : List ℕ) (d : DossierIndex) (h : Headed) (w : DossierIs s h d) (i
   rest-none l = bytes-none these i (omega (arith, w .count))
 
   module _ (l : i < d .count) where
-    rest-stretch : (part s (getD (d .starts) i 0) (getD (d .ends) (d .count - 1) 0) ≡ bytesFrom these i) × (getD (d .starts) i 0 ≤ getD (d .ends) (d .count - 1) 0) × (getD (d .ends) (d .count - 1) 0 ≤ length s)
+    rest-stretch :
+        (part s (getD (d .starts) i 0) (getD (d .ends) (d .count - 1) 0) ≡ bytesFrom these i)
+        × (getD (d .starts) i 0 ≤ getD (d .ends) (d .count - 1) 0) × (getD (d .ends) (d .count - 1) 0 ≤ length s)
     rest-stretch =
         let a = w .snapshots .each i (omega (arith, w .count)) in
         let z = w .snapshots .each (d .count - 1) (omega (arith, w .count)) in
-        let r = run-from s these (d .starts) (d .ends) (d .versions) (w .snapshots) (length these - suc i) i (d .count - 1) (omega (arith, w .count)) (omega (arith, w .count)) in
+        let r = run-from s these (d .starts) (d .ends) (d .versions) (w .snapshots) (length these - suc i) i (d .count - 1) (omega (arith, w .count))
+        (omega (arith, w .count)) in
         let q = stretch s (bytesFrom these i) (getD (d .starts) i 0) (getD (d .ends) (d .count - 1) 0) (omega (arith, a .order, a .within)) (z .within) r in
         (q .0, q .1, z .within)
 
     pub rest-part : part s (getD (d .starts) i 0) (getD (d .ends) (d .count - 1) 0) ≡ bytesFrom these i
     rest-part = rest-stretch .0
 
-    pub rest-there : (at size : ℕ) → at + length (bytesFrom these i) ≤ size → (getD (d .starts) i 0 ≤ getD (d .ends) (d .count - 1) 0) × (getD (d .ends) (d .count - 1) 0 ≤ length s) × (at + length (part s (getD (d .starts) i 0) (getD (d .ends) (d .count - 1) 0)) ≤ size)
+    pub rest-there :
+        (at size : ℕ) → at + length (bytesFrom these i) ≤ size →
+        (getD (d .starts) i 0 ≤ getD (d .ends) (d .count - 1) 0) × (getD (d .ends) (d .count - 1) 0 ≤ length s)
+        × (at + length (part s (getD (d .starts) i 0) (getD (d .ends) (d .count - 1) 0)) ≤ size)
     rest-there at size k = (rest-stretch .1, rest-stretch .2, omega (arith, ap length rest-part))
 
 -- ---- the next snapshot of both sides
@@ -216,38 +223,52 @@ mergedOf ty xs ys = merge numbers versionIn (joinSnapshots (typeView ty)) xs ys
 -- the sides have come to the snapshots x and y
 merge-next : (ty : EventType) (x : Snapshot) (xs : List Snapshot) (y : Snapshot) (ys : List Snapshot) →
     Rises (x ∷ xs) → Rises (y ∷ ys) →
-    mergedOf ty (x ∷ xs) (y ∷ ys) ≡ nextSnapshot ty x y ∷ mergedOf ty (drop (stepBy (x .version) (y .version)) (x ∷ xs)) (drop (stepBy (y .version) (x .version)) (y ∷ ys))
+    mergedOf ty (x ∷ xs) (y ∷ ys) ≡ nextSnapshot ty x y ∷ mergedOf ty (drop (stepBy (x .version) (y .version)) (x ∷ xs))
+    (drop (stepBy (y .version) (x .version)) (y ∷ ys))
 merge-next ty x xs y ys hx hy =
     three (numbers .cmp (x .version) (y .version))
     (λ l. less l (less-of (x .version) (y .version) l))
     (λ e. same (numbers .same (x .version) (y .version) e))
     (λ g. more (more-turn numbers (x .version) (y .version) g) (less-of (y .version) (x .version) (more-turn numbers (x .version) (y .version) g)))
   where
-    less : numbers .cmp (x .version) (y .version) ≡ Ordering·lt → x .version < y .version → mergedOf ty (x ∷ xs) (y ∷ ys) ≡ nextSnapshot ty x y ∷ mergedOf ty (drop (stepBy (x .version) (y .version)) (x ∷ xs)) (drop (stepBy (y .version) (x .version)) (y ∷ ys))
+    less :
+        numbers .cmp (x .version) (y .version) ≡ Ordering·lt → x .version < y .version →
+        mergedOf ty (x ∷ xs) (y ∷ ys) ≡ nextSnapshot ty x y ∷ mergedOf ty (drop (stepBy (x .version) (y .version)) (x ∷ xs))
+        (drop (stepBy (y .version) (x .version)) (y ∷ ys))
     less l h =
         rw (next-less ty x y h, step-on (x .version) (y .version) (omega arith), step-none (y .version) (x .version) h)
-        (merge-left numbers versionIn (joinSnapshots (typeView ty)) (join-keeps ty) x xs (y ∷ ys) (hx .0) (l, above-trans numbers versionIn (x .version) (y .version) ys l (hy .0)))
+        (merge-left numbers versionIn (joinSnapshots (typeView ty)) (join-keeps ty) x xs (y ∷ ys) (hx .0)
+        (l, above-trans numbers versionIn (x .version) (y .version) ys l (hy .0)))
 
-    same : x .version ≡ y .version → mergedOf ty (x ∷ xs) (y ∷ ys) ≡ nextSnapshot ty x y ∷ mergedOf ty (drop (stepBy (x .version) (y .version)) (x ∷ xs)) (drop (stepBy (y .version) (x .version)) (y ∷ ys))
+    same :
+        x .version ≡ y .version →
+        mergedOf ty (x ∷ xs) (y ∷ ys) ≡ nextSnapshot ty x y ∷ mergedOf ty (drop (stepBy (x .version) (y .version)) (x ∷ xs))
+        (drop (stepBy (y .version) (x .version)) (y ∷ ys))
     same e =
         rw (next-same ty x y e, step-on (x .version) (y .version) (omega arith), step-on (y .version) (x .version) (omega arith))
         (merge-meet numbers versionIn (joinSnapshots (typeView ty)) (join-keeps ty) x xs y ys (hx .0) e)
 
-    more : numbers .cmp (y .version) (x .version) ≡ Ordering·lt → y .version < x .version → mergedOf ty (x ∷ xs) (y ∷ ys) ≡ nextSnapshot ty x y ∷ mergedOf ty (drop (stepBy (x .version) (y .version)) (x ∷ xs)) (drop (stepBy (y .version) (x .version)) (y ∷ ys))
+    more :
+        numbers .cmp (y .version) (x .version) ≡ Ordering·lt → y .version < x .version →
+        mergedOf ty (x ∷ xs) (y ∷ ys) ≡ nextSnapshot ty x y ∷ mergedOf ty (drop (stepBy (x .version) (y .version)) (x ∷ xs))
+        (drop (stepBy (y .version) (x .version)) (y ∷ ys))
     more l h =
         rw (next-more ty x y h, step-none (x .version) (y .version) h, step-on (y .version) (x .version) (omega arith))
-        (merge-right numbers versionIn (joinSnapshots (typeView ty)) (join-keeps ty) (x ∷ xs) y ys (l, above-trans numbers versionIn (y .version) (x .version) xs l (hx .0)))
+        (merge-right numbers versionIn (joinSnapshots (typeView ty)) (join-keeps ty) (x ∷ xs) y ys
+        (l, above-trans numbers versionIn (y .version) (x .version) xs l (hx .0)))
 
 merge-at : (ty : EventType) (xs ys : List Snapshot) (i j : ℕ) → i < length xs → j < length ys →
     Rises (drop i xs) → Rises (drop j ys) →
     let x = getD xs i noSnapshot in
     let y = getD ys j noSnapshot in
-    mergedOf ty (drop i xs) (drop j ys) ≡ nextSnapshot ty x y ∷ mergedOf ty (drop (i + stepBy (x .version) (y .version)) xs) (drop (j + stepBy (y .version) (x .version)) ys)
+    mergedOf ty (drop i xs) (drop j ys) ≡ nextSnapshot ty x y ∷ mergedOf ty (drop (i + stepBy (x .version) (y .version)) xs)
+    (drop (j + stepBy (y .version) (x .version)) ys)
 merge-at ty xs ys i j l m hx hy =
     let x = getD xs i noSnapshot in
     let y = getD ys j noSnapshot in
     go (drop i xs) (drop j ys) (drop-cons xs i noSnapshot l) (drop-cons ys j noSnapshot m) hx hy
-    ∙ ap₂ (λ (u v : List Snapshot). nextSnapshot ty x y ∷ mergedOf ty u v) (drop-drop (stepBy (x .version) (y .version)) i xs) (drop-drop (stepBy (y .version) (x .version)) j ys)
+    ∙ ap₂ (λ (u v : List Snapshot). nextSnapshot ty x y ∷ mergedOf ty u v) (drop-drop (stepBy (x .version) (y .version)) i xs)
+    (drop-drop (stepBy (y .version) (x .version)) j ys)
   where
     go : (zs ws : List Snapshot) {x y : Snapshot} {us vs : List Snapshot} → zs ≡ x ∷ us → ws ≡ y ∷ vs → Rises zs → Rises ws →
         mergedOf ty zs ws ≡ nextSnapshot ty x y ∷ mergedOf ty (drop (stepBy (x .version) (y .version)) zs) (drop (stepBy (y .version) (x .version)) ws)
@@ -277,27 +298,28 @@ known-heads k inside p q =
 
 -- ---- a combined dossier: its head, how many snapshots it has, and these
 
-module _
-    {table a b : List ℕ} {t : TypeIndex} {ps : List ℕ} (k : Known table a b t ps)
-    (n : ℕ) (is : n ≡ length (combined (k .left) (k .right) .snapshots)) where
+module _ {table a b : List ℕ} {t : TypeIndex} {ps : List ℕ} (k : Known table a b t ps) where
   abbrev wholeHead : List ℕ
   wholeHead = dossierHeadBytes (bothHeads (k .left .headed .head) (k .right .headed .head))
 
   abbrev wholeSnapshots : List ℕ
   wholeSnapshots = flatten (map snapshotBytes (combined (k .left) (k .right) .snapshots))
 
-  pub known-length :
-      length (dossierBytes (headedAs (k .left .headed) (combined (k .left) (k .right))))
-      ≡ length wholeHead + length (number n) + length wholeSnapshots
-  unfolding dossierBytes bodyBytes combined combine
-  known-length = rw is (simp length-append (omega arith))
+  abbrev whole : List ℕ
+  whole = dossierBytes (headedAs (k .left .headed) (combined (k .left) (k .right)))
 
-  pub known-wrote :
-      {l l₁ l₂ l₃ : List ℕ} {x y z : ℕ} → Wrote l 0 wholeHead l₁ x → Wrote l₁ x (number n) l₂ y → Wrote l₂ y wholeSnapshots l₃ z →
-      Wrote l 0 (dossierBytes (headedAs (k .left .headed) (combined (k .left) (k .right)))) l₃ z
+  pub whole-length : length whole ≡ length wholeHead + length (number (length (combined (k .left) (k .right) .snapshots))) + length wholeSnapshots
   unfolding dossierBytes bodyBytes combined combine
-  known-wrote {l} {l₁} {l₂} {l₃} {x} {y} {z} p q r =
-      wrote-then p (wrote-then (subst (λ (k : ℕ). Wrote l₁ x (number k) l₂ y) is q) r)
+  whole-length = simp length-append (omega arith)
+
+  pub whole-room : {l : List ℕ} → length whole ≤ length l → WholeRoom l wholeHead (length (combined (k .left) (k .right) .snapshots)) wholeSnapshots
+  whole-room r = record { room = omega (arith, whole-length) }
+
+  pub whole-wrote :
+      {n : ℕ} → n ≡ length (combined (k .left) (k .right) .snapshots) → {l l₁ l₂ l₃ : List ℕ} {x y z : ℕ} →
+      Wrote l 0 wholeHead l₁ x → Wrote l₁ x (number n) l₂ y → Wrote l₂ y wholeSnapshots l₃ z → Wrote l 0 whole l₃ z
+  unfolding dossierBytes bodyBytes combined combine
+  whole-wrote is p q r = wrote-then p (wrote-then (wrote-as (ap number is) q) r)
 
 module _
     {table a left b right : List ℕ} {d e : DossierIndex} {t : TypeIndex} {ps : List ℕ} (c : Combinable table a d left b e right t ps) where
@@ -308,7 +330,7 @@ module _
   rights = c .known .right .headed .snapshots
 
   -- the bytes of them all
-  abbrev snapshotsPart : List ℕ
+  abbrev pub snapshotsPart : List ℕ
   snapshotsPart = flatten (map snapshotBytes (combined (c .known .left) (c .known .right) .snapshots))
 
   -- what is to be written when the sides have come to their i-th and their j-th
@@ -339,7 +361,8 @@ module _
   pub merged-right : (i j : ℕ) → d .count ≤ i → mergedBytes i j ≡ bytesFrom rights j
   unfolding merge
   merged-right i j h =
-      ap (λ (ss : List Snapshot). flatten (map snapshotBytes (mergedOf (c .known .left .type) ss (drop j rights)))) (drop-of-length-le lefts {i = i} (omega (arith, c .left-read .count)))
+      ap (λ (ss : List Snapshot). flatten (map snapshotBytes (mergedOf (c .known .left .type) ss (drop j rights))))
+      (drop-of-length-le lefts {i = i} (omega (arith, c .left-read .count)))
 
   left-version : (i : ℕ) → i < d .count → versionAt (d .versions) i ≡ getD lefts i noSnapshot .version
   left-version i l = version-is a lefts (d .starts) (d .ends) (d .versions) (c .left-read .snapshots) i (omega (arith, c .left-read .count))
@@ -361,7 +384,8 @@ module _
     unfolding flatten
     merged-next x y p q =
         ap (λ (ss : List Snapshot). flatten (map snapshotBytes ss))
-        (merge-at (c .known .left .type) lefts rights i j (omega (arith, c .left-read .count)) (omega (arith, c .right-read .count)) (left-rising i) (right-rising j)
+        (merge-at (c .known .left .type) lefts rights i j (omega (arith, c .left-read .count)) (omega (arith, c .right-read .count)) (left-rising i)
+        (right-rising j)
         ∙ ap₂ (λ (u v : ℕ). nextSnapshot (c .known .left .type) leftOne rightOne ∷ mergedOf (c .known .left .type) (drop (i + u) lefts) (drop (j + v) rights))
         (sym (p ∙ ap₂ stepBy (left-version i l) (right-version j m)))
         (sym (q ∙ ap₂ stepBy (right-version j m) (left-version i l))))
@@ -381,13 +405,15 @@ module _
           versionAt (d .versions) i < versionAt (e .versions) j →
           (getD (d .starts) i 0 ≤ getD (d .ends) i 0) × (getD (d .ends) i 0 ≤ length a)
           × (at + length (part a (getD (d .starts) i 0) (getD (d .ends) i 0)) ≤ size)
-      left-there h = let s = c .left-read .snapshots .each i (omega (arith, c .left-read .count)) in (s .order, s .within, omega (arith, ap length (next-left h)))
+      left-there h =
+          let s = c .left-read .snapshots .each i (omega (arith, c .left-read .count)) in (s .order, s .within, omega (arith, ap length (next-left h)))
 
       pub right-there :
           versionAt (e .versions) j < versionAt (d .versions) i →
           (getD (e .starts) j 0 ≤ getD (e .ends) j 0) × (getD (e .ends) j 0 ≤ length b)
           × (at + length (part b (getD (e .starts) j 0) (getD (e .ends) j 0)) ≤ size)
-      right-there h = let s = c .right-read .snapshots .each j (omega (arith, c .right-read .count)) in (s .order, s .within, omega (arith, ap length (next-right h)))
+      right-there h =
+          let s = c .right-read .snapshots .each j (omega (arith, c .right-read .count)) in (s .order, s .within, omega (arith, ap length (next-right h)))
 
     one-version :
         versionAt (e .versions) j ≤ versionAt (d .versions) i → versionAt (d .versions) i ≤ versionAt (e .versions) j → leftOne .version ≡ rightOne .version
@@ -494,37 +520,60 @@ module _
 
   -- ---- the head
 
-  abbrev pub leftHead : Head
+  abbrev leftHead : Head
   leftHead = c .known .left .headed .head
 
-  abbrev pub rightHead : Head
+  abbrev rightHead : Head
   rightHead = c .known .right .headed .head
 
-  pub heads-are :
+  heads-are :
       fits standard (typeView (c .known .left .type)) (combined (c .known .left) (c .known .right)) ≡ true →
       HeadsAre a (d .head) b (e .head) leftHead rightHead
   heads-are inside = known-heads (c .known) inside (c .left-read .head) (c .right-read .head)
 
-  -- ---- the whole
+-- ---- the whole: the head, how many snapshots there are, and these
 
-  abbrev pub headPart : List ℕ
-  headPart = dossierHeadBytes (bothHeads leftHead rightHead)
+module _
+    {a left b right : List ℕ} {d e : DossierIndex} {t : TypeIndex} {ps : List ℕ} where
+  pub heads-there : {size : ℕ} → CombinedRoom a d left b e right t ps size → HeadsRoom a (d .head) b (e .head) size
+  heads-there r = record {
+    left = leftHead (r .both);
+    right = rightHead (r .both);
+    are = heads-are (r .both) (r .inside _ (r .both));
+    room = omega (arith, r .room, whole-length (r .both .known));
+  }
 
-  pub versions-counted :
-      (n : ℕ) → n ≡ length (union numbers (versionNumbers (take (d .count) (d .versions))) (versionNumbers (take (e .count) (e .versions)))) →
-      n ≡ length (combined (c .known .left) (c .known .right) .snapshots)
-  versions-counted n h = h ∙ whole-versions c
+  -- what `write_heads` leaves, and what `count_versions` answers
+  module _
+      {l l₁ : List ℕ} {x n : ℕ} (heads : (g h : Head) → HeadsAre a (d .head) b (e .head) g h → Wrote l 0 (dossierHeadBytes (bothHeads g h)) l₁ x)
+      (counts : rising numbers (versionNumbers (take (d .count) (d .versions))) ≡ true →
+      rising numbers (versionNumbers (take (e .count) (e .versions))) ≡ true →
+      n ≡ length (union numbers (versionNumbers (take (d .count) (d .versions))) (versionNumbers (take (e .count) (e .versions)))))
+      (r : CombinedRoom a d left b e right t ps (length l)) where
+    head-wrote :
+        {table : List ℕ} (h : Combinable table a d left b e right t ps) → Wrote l 0 (dossierHeadBytes (bothHeads (leftHead h) (rightHead h))) l₁ x
+    head-wrote h = heads (leftHead h) (rightHead h) (heads-are h (r .inside _ h))
 
-  module _ (n : ℕ) (is : n ≡ length (combined (c .known .left) (c .known .right) .snapshots)) where
-    abbrev pub combined-length :
-        length (dossierBytes (headedAs (c .known .left .headed) (combined (c .known .left) (c .known .right))))
-        ≡ length headPart + length (number n) + length snapshotsPart
-    combined-length = known-length (c .known) n is
+    rooms : WholeRoom l (wholeHead (r .both .known)) (length (combined (r .both .known .left) (r .both .known .right) .snapshots)) (wholeSnapshots (r .both .known))
+    rooms = whole-room (r .both .known) (r .room)
 
-    abbrev pub wrote-combined :
-        {l l₁ l₂ l₃ : List ℕ} {x y z : ℕ} → Wrote l 0 headPart l₁ x → Wrote l₁ x (number n) l₂ y → Wrote l₂ y snapshotsPart l₃ z →
-        Wrote l 0 (dossierBytes (headedAs (c .known .left .headed) (combined (c .known .left) (c .known .right)))) l₃ z
-    wrote-combined = known-wrote (c .known) n is
+    pub number-there : x + length (number n) ≤ length l₁
+    number-there = count-room rooms (head-wrote (r .both)) (versions-counted (r .both) counts)
+
+    module _ {l₂ : List ℕ} {y : ℕ} (number-wrote : Wrote l₁ x (number n) l₂ y) where
+      pub snapshots-there : SnapshotsRoom a d left b e right t ps y (length l₂)
+      snapshots-there = record {
+        table = r .table;
+        both = r .both;
+        room = body-room rooms (head-wrote (r .both)) (versions-counted (r .both) counts) number-wrote;
+      }
+
+      pub combined-wrote :
+          {l₃ : List ℕ} {z : ℕ} →
+          ((table : List ℕ) (h : Combinable table a d left b e right t ps) → Wrote l₂ y (snapshotsPart h) l₃ z) →
+          (table : List ℕ) (h : Combinable table a d left b e right t ps) →
+          Wrote l 0 (dossierBytes (headedAs (h .known .left .headed) (combined (h .known .left) (h .known .right)))) l₃ z
+      combined-wrote wrote table h = whole-wrote (h .known) (versions-counted h counts) (head-wrote h) number-wrote (wrote table h)
 
 -- ---- the union of the parents, made apart
 

@@ -25,7 +25,9 @@ use Rattle.ontology.proofs.TypeIndexLaws.{extreme-of}
 use Rattle.ontology.proofs.RunLaws.{no-element}
 use Rattle.event.specs.Event.{choiceOf, typeView, eventView}
 use Rattle.event.specs.code.EventIndex.{SetIs, SetsAre, setIn}
+use Rattle.event.specs.declared.sets.SetAt.{SetAt}
 use Rattle.event.specs.EventQuestions.{isEmpty}
+use Rattle.event.proofs.SetLaws.{set-read}
 use Rattle.event.proofs.EventLayoutLaws.{SetWritten}
 use Rattle.event.proofs.EventQuestionLaws.{all-at, empty-written, choice-every, choice-least}
 use Rattle.event.proofs.MatchLaws.{elem}
@@ -33,7 +35,7 @@ use Rattle.dossier.specs.DossierQuestions.{isVacant, isPresent, isLone, isLoneI
 use Rattle.dossier.specs.code.DossierIndex.{cellFits, snapshotFits}
 use Rattle.dossier.proofs.CellLaws.{held-at, leb-sub}
 use Rattle.dossier.proofs.DossierBodyLaws.{SnapshotWritten, snapshot-cells, snapshot-was}
-use Rattle.combining.specs.code.CombineIndex.{isExtremeAt, Meet}
+use Rattle.combining.specs.code.CombineIndex.{isExtremeAt, Meet, JoinedRoom}
 use Rattle.combining.proofs.PlaceLaws.{placeFits, place-fits, left-vacant, right-vacant, join-long, join-vacant}
 
 -- ---- strategy min or max
@@ -220,7 +222,7 @@ module _ (ty : EventType) (x y : Snapshot) (un : isVersioned ty ≡ false) (m : 
   joined-long = join-long ty x y (snapshot-cells x left-written) (snapshot-cells y right-written)
 
   -- no place past the type's properties has any
-  pub objects-end : {count : ℕ} (k room : ℕ) → count ≡ length (ty .properties) → count ≤ k → true ≡ leb (sizes (drop k joined)) room
+  objects-end : {count : ℕ} (k room : ℕ) → count ≡ length (ty .properties) → count ≤ k → true ≡ leb (sizes (drop k joined)) room
   objects-end k room e h =
       let v = left-vacant (m .fitting) e in
       let w = right-vacant (m .fitting) e in
@@ -228,16 +230,16 @@ module _ (ty : EventType) (x y : Snapshot) (un : isVersioned ty ≡ false) (m : 
       sym (le-leb (sizes (drop k joined)) room (omega (arith, no-sizes joined k (λ p l. past .each p (omega arith)))))
 
   module _ (k : ℕ) (h : k < 32) where
-    pub left-cell : PlainCell ty k (getD (x .cells) k (holds []))
+    left-cell : PlainCell ty k (getD (x .cells) k (holds []))
     left-cell = plain-cell ty x left-written un (m .fitting .left-fits) k h
 
-    pub right-cell : PlainCell ty k (getD (y .cells) k (holds []))
+    right-cell : PlainCell ty k (getD (y .cells) k (holds []))
     right-cell = plain-cell ty y right-written un (m .fitting .right-fits) k h
 
-    pub left-set : (a sets : List ℕ) → SetsAre a (map held (x .cells)) sets → SetIs a (held (getD (x .cells) k (holds []))) (setIn sets k)
+    left-set : (a sets : List ℕ) → SetsAre a (map held (x .cells)) sets → SetIs a (held (getD (x .cells) k (holds []))) (setIn sets k)
     left-set a sets r = subst (λ (vs : List Text). SetIs a vs (setIn sets k)) (held-at (x .cells) k) (r .each k h)
 
-    pub right-set : (b sets : List ℕ) → SetsAre b (map held (y .cells)) sets → SetIs b (held (getD (y .cells) k (holds []))) (setIn sets k)
+    right-set : (b sets : List ℕ) → SetsAre b (map held (y .cells)) sets → SetIs b (held (getD (y .cells) k (holds []))) (setIn sets k)
     right-set b sets r = subst (λ (vs : List Text). SetIs b vs (setIn sets k)) (held-at (y .cells) k) (r .each k h)
 
     -- the cell that the two have together
@@ -261,8 +263,55 @@ module _ (ty : EventType) (x y : Snapshot) (un : isVersioned ty ≡ false) (m : 
           ap sizes (drop-cons joined k (holds []) (omega (arith, joined-long)))
           ∙ ap₂ (λ (p q : ℕ). p + sizes (drop q joined)) (sym (held-size (getD joined k (holds []))) ∙ here) (sym (add-one k))
 
-      pub objects-large : room < n → leb (sizes (drop k joined)) room ≡ false
+      objects-large : room < n → leb (sizes (drop k joined)) room ≡ false
       objects-large l = lt-leb (sizes (drop k joined)) room (omega (arith, objects-step))
 
-      pub objects-more : n ≤ room → leb (sizes (drop k joined)) room ≡ leb (sizes (drop (k + 1) joined)) (room - n)
+      objects-more : n ≤ room → leb (sizes (drop k joined)) room ≡ leb (sizes (drop (k + 1) joined)) (room - n)
       objects-more l = ap (λ (q : ℕ). leb q room) objects-step ∙ leb-sub n (sizes (drop (k + 1) joined)) room l
+
+-- ---- two unversioned snapshots that are joined
+
+-- their sets stand in a and b where the numbers i and j say
+pub record Joins (table a b : List ℕ) (count : ℕ) (ps i j : List ℕ) (ty : EventType) (x y : Snapshot) : Type 0 where
+  pub typed : PropertiesAre table (ty .properties) count ps
+  pub unversioned : isVersioned ty ≡ false
+  pub meet : Meet ty x y
+  pub left : SetsAre a (map held (x .cells)) i
+  pub right : SetsAre b (map held (y .cells)) j
+
+pub joins : {table a b : List ℕ} {count : ℕ} {ps i j : List ℕ} {ty : EventType} {x y : Snapshot} →
+    PropertiesAre table (ty .properties) count ps → isVersioned ty ≡ false → Meet ty x y →
+    SetsAre a (map held (x .cells)) i → SetsAre b (map held (y .cells)) j → Joins table a b count ps i j ty x y
+joins w u m l r = record { typed = w; unversioned = u; meet = m; left = l; right = r }
+
+-- those that a room is asked for
+abbrev pub room-joins :
+    {a x b y : List ℕ} {count : ℕ} {ps : List ℕ} {at size : ℕ} (q : JoinedRoom a x b y count ps at size) →
+    Joins (q .table) a b count ps x y (q .type) (q .left) (q .right)
+room-joins q = record { typed = q .typed; unversioned = q .unversioned; meet = q .meet; left = q .left-is; right = q .right-is }
+
+module _ {table a b : List ℕ} {count : ℕ} {ps i j : List ℕ} {ty : EventType} {x y : Snapshot} (h : Joins table a b count ps i j ty x y) where
+  abbrev together-cells : List Cell
+  together-cells = joinSnapshots (typeView ty) x y .cells
+
+  pub counted-all : (k room : ℕ) → count ≤ k → true ≡ leb (sizes (drop k together-cells)) room
+  counted-all k room = objects-end ty x y (h .unversioned) (h .meet) k room (h .typed .count)
+
+  -- `count_place` answers n of the place k
+  module _
+      (k room : ℕ) (low : k < 32) {v w : SetAt} (left-at : v ≡ setIn i k) (right-at : w ≡ setIn j k) {n : ℕ}
+      (says : (u : List ℕ) (tz : EventType) (xs ys : List Text) → PropertiesAre u (tz .properties) count ps → SetIs a xs v → SetIs b ys w →
+      rising texts xs ≡ true → rising texts ys ≡ true → (isExtremeAt tz k ≡ true → (length xs ≤ 1) × (length ys ≤ 1)) →
+      n ≡ length (held (joinCell false (typeView tz .choice k) (holds xs) (holds ys)))) where
+    here : n ≡ length (held (together-at ty x y (h .unversioned) (h .meet) k low))
+    here =
+        let p = left-cell ty x y (h .unversioned) (h .meet) k low in
+        let q = right-cell ty x y (h .unversioned) (h .meet) k low in
+        says table ty _ _ (h .typed) (set-read left-at (left-set ty x y (h .unversioned) (h .meet) k low a i (h .left)))
+        (set-read right-at (right-set ty x y (h .unversioned) (h .meet) k low b j (h .right))) (p .rises) (q .rises) (λ e. (p .lone e, q .lone e))
+
+    pub counted-over : room < n → leb (sizes (drop k together-cells)) room ≡ false
+    counted-over = objects-large ty x y (h .unversioned) (h .meet) k low n room here
+
+    pub counted-next : n ≤ room → leb (sizes (drop k together-cells)) room ≡ leb (sizes (drop (k + 1) together-cells)) (room - n)
+    counted-next = objects-more ty x y (h .unversioned) (h .meet) k low n room here

@@ -32,7 +32,8 @@ use values::versions::EventVersion;
 // How many versions two dossiers have together, where each has its versions rising.
 pub fn count_versions(v: [EventVersion; 8], m: usize, w: [EventVersion; 8], n: usize) -> usize
     requires { ⌜ (m ≤ 8) × (n ≤ 8) ⌝ }
-    ensures { λ r. ⌜ (rising numbers (versionNumbers (take m v)) ≡ true → rising numbers (versionNumbers (take n w)) ≡ true → r ≡ length (union numbers (versionNumbers (take m v)) (versionNumbers (take n w)))) ⌝ }
+    ensures { λ r. ⌜ (rising numbers (versionNumbers (take m v)) ≡ true → rising numbers (versionNumbers (take n w)) ≡ true
+        → r ≡ length (union numbers (versionNumbers (take m v)) (versionNumbers (take n w)))) ⌝ }
 {
     let mut i: usize = 0;
     let mut j: usize = 0;

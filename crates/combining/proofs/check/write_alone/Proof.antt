@@ -1,21 +1,18 @@
--- `check::write_alone` meets its contract: the four parts of a snapshot are written one after the other, and `alone-length` says that each has its room.
+-- `check::write_alone` meets its contract: the four parts of a snapshot are written one after the other, and where the whole has its room, each of them has.
 use borrow.Author.Needs.{needs}
-use native.Mathlib.Omega.{arith}
 use mathlib.Core.Path.{refl}
-use mathlib.Core.List.{List}
-use Prim.Native.Nat.{ℕ, _+_, _≤_}
-use lib.ListN.{length}
+use mathlib.Core.List.{map}
 use denote.Ref.{now}
-use Rattle.packed.specs.Packed.{number}
-use Rattle.packed.proofs.WriteLaws.{Reached, reached-start, reached-by}
-use Rattle.combining.proofs.LoneLaws.{sets, alone-length, wrote-alone}
+use Rattle.event.specs.EventLayout.{presenceBit, bitNumber, setsBytes}
+use Rattle.combining.proofs.PartLaws.{PartsRoom, version-room, presence-room, differ-room, sets-room}
+use Rattle.combining.proofs.LoneLaws.{sets-are, wrote-alone}
 use Rattle.combining.proofs.check.write_alone.Statement.{statement}
 use Rattle.combining.proofs.check.write_alone.Tie as tie
 
--- ---- the places: each write from the argument of the next, and the start from each
+-- ---- the places
 
-abbrev start₀ : tie.After-write-number-arg → tie.Start
-start₀ c = c .before .before .before .before
+abbrev to-start : tie.After-write-number-arg → tie.Start
+to-start c = c .before .before .before .before
 
 abbrev to-version : tie.After-write-number-arg2 → tie.After-write-number
 to-version c = c .before .before .before
@@ -26,76 +23,51 @@ to-presence c = c .before .before .before
 abbrev to-differ : tie.After-write-sets-arg → tie.After-write-number3
 to-differ c = c .before .before .before
 
-abbrev start₁ : tie.After-write-number → tie.Start
-start₁ c = start₀ (c .before)
+-- ---- the facts
 
-abbrev start₂ : tie.After-write-number2 → tie.Start
-start₂ c = start₁ (to-version (c .before))
-
-abbrev start₃ : tie.After-write-number3 → tie.Start
-start₃ c = start₂ (to-presence (c .before))
-
--- ---- at the start
-
-module _ (c : tie.Start) where
-  abbrev out₀ : List ℕ
-  out₀ = now (c .args .out)
-
-  -- where each part ends
-  abbrev version-end : ℕ
-  version-end = c .args .at + length (number (c .args .version .0))
-
-  abbrev presence-end : ℕ
-  presence-end = version-end + length (number (c .args .e .presence))
-
-  abbrev differ-end : ℕ
-  differ-end = presence-end + length (number 0)
-
-  fits : differ-end + length (sets (c .pre .1 .read)) ≤ length out₀
-  fits = omega (arith, c .pre .1 .room, alone-length (c .pre .1 .read) (c .args .version .0))
-
--- ---- how far each write comes
-
-version-written : (c : tie.After-write-number) → Reached (out₀ (start₁ c)) (version-end (start₁ c)) (c .write-number .last .0) (c .write-number .result)
-version-written c = reached-by reached-start (c .write-number .ensures) refl
-
-presence-written : (c : tie.After-write-number2) → Reached (out₀ (start₂ c)) (presence-end (start₂ c)) (c .write-number2 .last .0) (c .write-number2 .result)
-presence-written c = reached-by (version-written (to-version (c .before))) (c .write-number2 .ensures) refl
-
-differ-written : (c : tie.After-write-number3) → Reached (out₀ (start₃ c)) (differ-end (start₃ c)) (c .write-number3 .last .0) (c .write-number3 .result)
-differ-written c = reached-by (presence-written (to-presence (c .before))) (c .write-number3 .ensures) refl
+parts :
+    (c : tie.Start) → let e = c .pre .1 .event in
+    PartsRoom (now (c .args .out)) (c .args .at) (c .args .version .0) (bitNumber (map presenceBit (e .sets))) 0 (setsBytes (e .sets))
+parts c = record { room = c .pre .1 .room }
 
 -- ---- the needs
 
-write-number-requires : tie.Need-write-number-requires
-write-number-requires c κs = omega (arith, fits (start₀ c))
-
 write-number-requires-2 : tie.Need-write-number-requires-2
-write-number-requires-2 c κs = omega (arith, fits (start₁ (to-version c)), version-written (to-version c))
+write-number-requires-2 c κs =
+    let v = to-version c in
+    let s = to-start (v .before) in
+    presence-room (parts s) (v .write-number .ensures) (s .pre .1 .read .presence)
 
 write-number-requires-3 : tie.Need-write-number-requires-3
-write-number-requires-3 c κs = omega (arith, fits (start₂ (to-presence c)), presence-written (to-presence c))
+write-number-requires-3 c κs =
+    let p = to-presence c in
+    let v = to-version (p .before) in
+    let s = to-start (v .before) in
+    differ-room (parts s) (v .write-number .ensures) (s .pre .1 .read .presence) (p .write-number2 .ensures) refl
 
 write-sets-requires : tie.Need-write-sets-requires
 write-sets-requires c κs =
-    let begin = start₃ (to-differ c) in
-    let p = begin .pre .1 in
-    (begin .pre .0, record { values = p .event .sets; are = p .read .sets; room = omega (arith, fits begin, differ-written (to-differ c)) })
+    let d = to-differ c in
+    let p = to-presence (d .before) in
+    let v = to-version (p .before) in
+    let s = to-start (v .before) in
+    let is = s .pre .1 .read in
+    let room = sets-room (parts s) (v .write-number .ensures) (is .presence) (p .write-number2 .ensures) refl (d .write-number3 .ensures) (sets-are is) in
+    (s .pre .0, record { values = s .pre .1 .event .sets; are = is .sets; room = room })
 
 returns : tie.Need-returns
-returns c = λ e w.
-    let at-sets = c .before .before in
-    let at-differ = to-differ (at-sets .before) in
-    let at-presence = to-presence (at-differ .before) in
-    let at-version = to-version (at-presence .before) in
-    wrote-alone w _
-    (at-version .write-number .ensures) (at-presence .write-number2 .ensures) (at-differ .write-number3 .ensures) (at-sets .write-sets .ensures _ (w .sets))
+returns c = λ e is.
+    let sets = c .before .before in
+    let d = to-differ (sets .before) in
+    let p = to-presence (d .before) in
+    let v = to-version (p .before) in
+    wrote-alone is _ (v .write-number .ensures) (p .write-number2 .ensures) (d .write-number3 .ensures) (sets .write-sets .ensures _ (is .sets))
 
 pub write-alone-spec : {M : Type 1} → statement M
 write-alone-spec =
     tie.close
     (tie.spec
-    write-number-requires
+    (λ c κs. version-room (parts (to-start c)))
     write-number-requires-2
     write-number-requires-3
     write-sets-requires
