@@ -10,7 +10,7 @@ use lib.ListN.{length, take, drop, getD, length-append, length-drop}
 use lib.Dec.{leb, ltb}
 use borrow.Author.Tests.{lt-ltb, le-ltb}
 use lib.Seq.{take-at}
-use Rattle.model.specs.Order.{Text, numbers}
+use Rattle.model.specs.Order.{Text, texts, numbers, equal}
 use Rattle.model.specs.Keyed.{merge}
 use Rattle.model.specs.Rule.{Snapshot, joinSnapshots, sizes}
 use Rattle.model.specs.Opening.{held}
@@ -30,11 +30,11 @@ use Rattle.replies.specs.Capacities.{dossierCapacity}
 use Rattle.ontology.specs.Table.{EventType, Table, isVersioned}
 use Rattle.ontology.specs.code.TypeIndex.{PropertiesAre}
 use Rattle.ontology.specs.declared.types.TypeIndex.{TypeIndex}
-use Rattle.event.specs.Event.{setAt, objectCount, typeView, versionOf}
+use Rattle.event.specs.Event.{Event, setAt, objectCount, typeView, versionOf}
 use Rattle.event.specs.Head.{Head}
-use Rattle.event.specs.EventLayout.{narrow}
+use Rattle.event.specs.EventLayout.{narrow, eventOf}
 use Rattle.event.specs.EventQuestions.{Typed, eventAsked}
-use Rattle.event.specs.code.EventIndex.{SetsAre, HeadIs, EventIs}
+use Rattle.event.specs.code.EventIndex.{SetsAre, HeadIs, EventIs, EventReads}
 use Rattle.event.specs.declared.head.HeadAt.{HeadAt}
 use Rattle.event.specs.declared.read.EventIndex.{EventIndex}
 use Rattle.dossier.specs.DossierBody.{readSnapshot, snapshotBytes, bodyBytes}
@@ -50,16 +50,17 @@ use Rattle.dossier.proofs.DossierSizeLaws.{held-objects}
 use Rattle.combining.specs.CombineCall.{combined}
 use Rattle.combining.specs.code.AddIndex.{bytesOf, Splits, lowerOrSame, withSnapshot, Adding, alone, metWith, Met, newSnapshot, Inside}
 use Rattle.combining.specs.code.AddIndex.{countIn, Addable, Measured, MeasuredIn, AddingAt, MetRoom, NewRoom, WithRoom, AddedRoom, addedBytes}
-use Rattle.combining.specs.code.CheckIndex.{KnownEvent, aloneBytes, loneBytes, AloneRoom}
+use Rattle.combining.specs.code.CheckIndex.{KnownEvent, Checkable, aloneBytes, loneBytes, AloneRoom}
 use Rattle.combining.specs.code.CombineIndex.{Known, Meet, Shared}
 use Rattle.combining.specs.code.WriteIndex.{SharedRoom, HeadsAre, HeadsRoom, bothHeads}
 use Rattle.combining.specs.declared.measures.Place.{Place}
 use Rattle.combining.proofs.InsertLaws.{Stands, stands, join-keeps, merged-with, bytes-split, bytes-next, bytes-with, length-with, written-at}
+use Rattle.combining.proofs.CheckLaws.{known-read, known-checked, checkable}
 use Rattle.combining.proofs.CheckLaws.{Checked, fit, kept, lone-short, none-differ, lone-sets, lone-snapshots, lone-head, alone-bytes}
 use Rattle.combining.proofs.MeetLaws.{versionIn, taken-rises, left-taken, known-meet}
 use Rattle.combining.proofs.PartLaws.{count-room, body-room}
 use Rattle.combining.proofs.RoomLaws.{combined-room}
-use Rattle.combining.proofs.MergedLaws.{known-heads, whole-length, whole-room, whole-wrote}
+use Rattle.combining.proofs.MergedLaws.{StandsIn, same-written, known-heads, whole-length, whole-room, whole-wrote}
 use Rattle.combining.proofs.FitLaws.{left-written, right-written, whole-snapshots, left-one, same-version, unversioned}
 use Rattle.combining.proofs.FitLaws.{ToVersions, ToObjects, to-objects, fits-versions, fits-versioned}
 
@@ -76,7 +77,7 @@ read-is {s} {n = n} {ats = ats} {z = z} w q =
 -- ---- a snapshot of a dossier, and that of an event of the same version
 
 -- what is written at the front is the front
-pub front-is : {l xs l₁ : List ℕ} {n : ℕ} → length xs ≤ length l → Wrote l 0 xs l₁ n → (n ≤ length l₁) × (take n l₁ ≡ xs)
+front-is : {l xs l₁ : List ℕ} {n : ℕ} → length xs ≤ length l → Wrote l 0 xs l₁ n → (n ≤ length l₁) × (take n l₁ ≡ xs)
 front-is {l} {xs} {l₁} {n} r w =
     let k : n ≡ length xs = omega (arith, w .after) in
     (omega (arith, w .after, wrote-length w), ap (take n) (wrote-between (omega arith) w) ∙ take-at xs (drop n l) n (sym k))
@@ -90,7 +91,7 @@ module _
       unread z = never (cc)
 
   -- the event's snapshot has one form
-  pub same-alone : (g h : Met version sofar start end event e ats t ps) → snapshotBytes (g .right) ≡ snapshotBytes (h .right)
+  same-alone : (g h : Met version sofar start end event e ats t ps) → snapshotBytes (g .right) ≡ snapshotBytes (h .right)
   same-alone g h =
       g .bytes
       ∙ ap₂ (λ (n : ℕ) (l : List ℕ). number (version .0) ++ number n ++ number 0 ++ l)
@@ -98,23 +99,57 @@ module _
       (sym (g .read .rest) ∙ h .read .rest)
       ∙ sym (h .bytes)
 
-  module _ (h : Met version sofar start end event e ats t ps) {n : SnapshotNumbers} {row : List ℕ} (is : SnapshotIs sofar (h .left) n row) where
-    abbrev pub met-shared : Shared version sofar row (n .differ) event ats 0 (h .type) (h .left) (h .right)
-    met-shared = record { meet = h .meet; number = h .number; left-is = cells-are sofar (h .left) n row is; right-is = h .right-is }
+  -- the event's is written apart
+  pub apart-there : {apart at size : ℕ} → MetRoom version sofar start end event e ats t ps apart at size → AloneRoom event e ats (version .0) 0 apart
+  apart-there r = record { event = r .met .what; read = r .met .read; room = omega (arith, r .lone, ap length (r .met .bytes)) }
 
-    abbrev pub met-room :
-        {at size : ℕ} → at + length (snapshotBytes (joinSnapshots (typeView (h .type)) (h .left) (h .right))) ≤ size →
+  module _
+      {l l₁ : List ℕ} {n : ℕ} (alone-wrote : (x : Event) → EventIs event x e ats → Wrote l 0 (aloneBytes x (version .0)) l₁ n)
+      {at size : ℕ} (r : MetRoom version sofar start end event e ats t ps (length l) at size) where
+    apart-is : (h : Met version sofar start end event e ats t ps) → (n ≤ length l₁) × (take n l₁ ≡ snapshotBytes (h .right))
+    apart-is h = front-is (omega (arith, r .lone, ap length (same-alone (r .met) h))) (wrote-as (sym (h .bytes)) (alone-wrote (h .what) (h .read)))
+
+    pub apart-within : n ≤ length l₁
+    apart-within = apart-is (r .met) .0
+
+    -- `same` answers that it has the bytes p, which `part_of` lends, of the one that stands in `sofar`: that one is both together
+    module _
+        {p : List ℕ} (lent : StandsIn sofar start end p) {alike : Bool} (asked : alike ≡ equal texts p (take n l₁)) (yes-same : alike ≡ true) where
+      both-is : (h : Met version sofar start end event e ats t ps) → p ≡ snapshotBytes (joinSnapshots (typeView (h .type)) (h .left) (h .right))
+      both-is h = same-written (h .meet) (lent (h .stands .order) (h .stands .within) ∙ h .stands .bytes) (apart-is h .1) (sym asked ∙ yes-same)
+
+      pub copy-there : at + length p ≤ size
+      copy-there = omega (arith, r .room, ap length (both-is (r .met)))
+
+      pub both-copied :
+          {o o₁ : List ℕ} {next : ℕ} → Wrote o at p o₁ next →
+          (h : Met version sofar start end event e ats t ps) → Wrote o at (snapshotBytes (joinSnapshots (typeView (h .type)) (h .left) (h .right))) o₁ next
+      both-copied w h = wrote-as (both-is h) w
+
+  -- the one that stands in `sofar` is read
+  module _ {n : SnapshotNumbers} {next : ℕ} {row : List ℕ} (stops : SnapshotStops sofar start n next row) where
+    pub met-shared :
+        (h : Met version sofar start end event e ats t ps) → Shared version sofar row (n .differ) event ats 0 (h .type) (h .left) (h .right)
+    met-shared h = record {
+      meet = h .meet;
+      number = h .number;
+      left-is = cells-are sofar (h .left) n row (read-is stops (h .stands .is));
+      right-is = h .right-is;
+    }
+
+    pub met-room :
+        {apart at size : ℕ} (r : MetRoom version sofar start end event e ats t ps apart at size) → let h = r .met in
         SharedRoom version sofar row (n .differ) event ats 0 (snapshotBytes (h .left)) (snapshotBytes (h .right)) t ps at size
-    met-room room = record {
+    met-room r = let h = r .met in record {
       table = h .table;
       type = h .type;
       left = h .left;
       right = h .right;
       typed = h .typed;
-      shared = met-shared;
+      shared = met-shared h;
       left-bytes = refl;
       right-bytes = refl;
-      room = room;
+      room = r .room;
     }
 
 -- ---- a dossier that an event can be added to
@@ -174,7 +209,7 @@ module _ {table sofar m event : List ℕ} {t : TypeIndex} {ps : List ℕ} (a : A
           ap (λ (i : ℕ). drop (end + i) sofar) (sym one) ∙ drop-on sofar end (number (length ss)) (bytesOf ss) (follows .1),
         )
 
-    abbrev pub adding :
+    abbrev adding :
         {e : EventIndex} {ats : List ℕ} {p : Place} → EventIs event (a .new .event .event) e ats →
         Splits (dossier .snapshots) (versionOf (a .new .event .type) (a .new .event .event)) p → Adding table sofar m event e ats x (end + 1) p t ps
     adding read splits = record {
@@ -656,3 +691,37 @@ module _
           (table : List ℕ) (h : Adding table sofar m event e ats x body p t ps) →
           version .0 ≡ versionOf (h .added .new .event .type) (h .added .new .event .event) → Inside h → Wrote l 0 (addedBytes h) l₃ c
       added-wrote wrote table h v inside = whole-wrote (h .added .both) (counted h counts) (head-wrote h) number-wrote (wrote table m x h v)
+
+-- ---- an event is added
+
+-- the event and the head of the dossier are read, and the event's snapshot has its place
+pub record ReadFor
+    (sofar m event : List ℕ) (e : EventIndex) (ats : List ℕ) (x : HeadAt) (end : ℕ) (p : Place) (t : TypeIndex) (version : EventVersion) : Type 0 where
+  pub reads : EventReads (eventOf narrow event) event ats e
+  pub versioned : (h : Checkable event t ats) → version .0 ≡ versionOf (h .type) (h .event)
+  pub stops : DossierHeadStops (readDossierHead standard sofar) sofar x end
+  pub placed : (zs : List Snapshot) → Measured zs m → Splits zs (version .0) p
+
+module _
+    {sofar m event : List ℕ} {e : EventIndex} {ats : List ℕ} {x : HeadAt} {end : ℕ} {p : Place} {t : TypeIndex} {version : EventVersion}
+    (r : ReadFor sofar m event e ats x end p t version) {table ps : List ℕ} (a : Addable table sofar m event t ps) where
+  pub version-known : version .0 ≡ versionOf (a .new .event .type) (a .new .event .event)
+  version-known = r .versioned (checkable (known-checked (a .new) (r .reads)))
+
+  abbrev pub is-adding : Adding table sofar m event e ats x (end + 1) p t ps
+  is-adding = adding a (r .stops) (known-read (a .new) (r .reads) .1) (split-at a version-known (r .placed))
+
+  -- `added_fits` answers yes
+  pub added-there :
+      {fitting : Bool} →
+      ((z : List ℕ) (h : Adding z sofar m event e ats x (end + 1) p t ps) →
+      fitting ≡ fits standard (typeView (h .added .both .left .type)) (combined (h .added .both .left) (h .added .both .right))) →
+      fitting ≡ true → {apart size : ℕ} → dossierCapacity ≤ apart → dossierCapacity ≤ size →
+      AddedRoom sofar m event e ats x (end + 1) p version t ps apart size
+  added-there says inside scratch room = record {
+    in-some = record { table = _; is = is-adding };
+    number = version-known;
+    scratch = scratch;
+    room = room;
+    inside = λ z h. sym (says z h) ∙ inside;
+  }

@@ -20,6 +20,8 @@ use Rattle.ontology.specs.Table.{EventType, isVersioned}
 use Rattle.event.specs.Event.{typeView, eventView}
 use Rattle.event.specs.EventLayout.{presenceBit, bitNumber, setBytes, setsBytes}
 use Rattle.event.specs.code.EventIndex.{SetIs, bitOf, setIn}
+use Rattle.event.specs.declared.sets.SetAt.{SetAt}
+use Rattle.event.proofs.SetLaws.{set-read}
 use Rattle.event.specs.code.SetWriting.{placeBytes, presentBytes}
 use Rattle.event.proofs.SetWriteLaws.{present-nil, present-cons}
 use Rattle.dossier.specs.DossierBody.{differBit, snapshotBytes}
@@ -165,13 +167,13 @@ module _
   places-none = record { filled = only-none; differing = only-none; left-bits = x .bits; right-bits = y .bits }
 
   module _ (present marked : List Bool) (m n k : ℕ) (h : k < 32) (t : PlacesSofar ty left right present marked m n k) where
-    pub places-marks : m % 2 + n % 2 ≡ differBit (leftAt k) + differBit (rightAt k)
+    places-marks : m % 2 + n % 2 ≡ differBit (leftAt k) + differBit (rightAt k)
     places-marks = ap₂ (λ (c d : ℕ). c + d) (bit-here (left .cells) k m (t .left-bits)) (bit-here (right .cells) k n (t .right-bits))
 
-    pub left-set : SetIs a (held (leftAt k)) (setIn ats k)
+    left-set : SetIs a (held (leftAt k)) (setIn ats k)
     left-set = subst (λ (s : List Text). SetIs a s (setIn ats k)) (held-at (left .cells) k) (x .sets .each k h)
 
-    pub right-set : SetIs b (held (rightAt k)) (setIn bts k)
+    right-set : SetIs b (held (rightAt k)) (setIn bts k)
     right-set = subst (λ (s : List Text). SetIs b s (setIn bts k)) (held-at (right .cells) k) (y .sets .each k h)
 
     -- whether it has objects, and whether it is marked
@@ -191,7 +193,7 @@ module _
         ∙ ap isMark (sym (joined-at k h))
         ∙ sym (mark-at joined k)
 
-    pub places-more :
+    places-more :
         (kept fill : Bool) → kept ≡ isAgreed (leftAt k) (rightAt k) → fill ≡ (kept && ltb 0 (setIn ats k .count)) →
         PlacesSofar ty left right (set present k fill) (set marked k (not kept)) (m / 2) (n / 2) (k + 1)
     places-more kept fill g o = record {
@@ -226,6 +228,22 @@ module _
 
   differ-is : (found : Places) → PlacesAre joined found → bitNumber (map bitOf (found .marked)) ≡ bitNumber (map differBit joined)
   differ-is found are = ap (λ (l : List Bool). bitNumber (map bitOf l)) (are .marked) ∙ ap bitNumber (mark-bits joined)
+
+-- a turn: `is_kept` says of the place k whether it is kept, and `has_objects` whether it has objects
+module _
+    {a b : List ℕ} {e f : ℕ} {ats bts : List ℕ} {ty : EventType} {left right : Snapshot} (v : isVersioned ty ≡ true)
+    (x : CellsAre a (left .cells) e ats) (y : CellsAre b (right .cells) f bts)
+    {present marked : List Bool} {m n k : ℕ} (h : k < 32) (t : PlacesSofar ty left right present marked m n k) where
+  pub places-next :
+      {s r : SetAt} → s ≡ setIn ats k → r ≡ setIn bts k → {kept fill : Bool} →
+      ((c d : Cell) → m % 2 + n % 2 ≡ differBit c + differBit d → SetIs a (held c) s → SetIs b (held d) r → kept ≡ isAgreed c d) →
+      fill ≡ (kept && ltb 0 (s .count)) → PlacesSofar ty left right (set present k fill) (set marked k (not kept)) (m / 2) (n / 2) (k + 1)
+  places-next p q {kept} {fill} agrees filled =
+      let marks = places-marks a b e f ats bts ty left right v x y present marked m n k h t in
+      let lefts = set-read p (left-set a b e f ats bts ty left right v x y present marked m n k h t) in
+      let rights = set-read q (right-set a b e f ats bts ty left right v x y present marked m n k h t) in
+      places-more a b e f ats bts ty left right v x y present marked m n k h t kept fill (agrees _ _ marks lefts rights)
+      (filled ∙ ap (λ (z : SetAt). kept && ltb 0 (z .count)) p)
 
 -- Two versioned snapshots of one version, with the presence and the differ number of what they are together
 pub record Both

@@ -3,7 +3,7 @@ use mathlib.Core.Path.{_≡_, refl, sym, ap, ap₂, _∙_, subst}
 use mathlib.Core.Bool.{Bool, true, false}
 use mathlib.Core.Option.{some}
 use mathlib.Core.List.{List, _++_}
-use Prim.Native.Nat.{ℕ, zero, suc, _+_, _≤_, _<_}
+use Prim.Native.Nat.{ℕ, zero, suc, _+_, _*_, _≤_, _<_}
 use native.Mathlib.Omega.{arith}
 use lib.ListN.{length, drop}
 use Rattle.model.specs.Order.{Text}
@@ -81,7 +81,7 @@ module _
       go (accepted a) e k = taken-as a e
 
 -- what `ask_dossier` answers
-abbrev Asks : List ℕ → DossierIndex → TableRead → List ℕ → ℕ → Type 0
+abbrev pub Asks : List ℕ → DossierIndex → TableRead → List ℕ → ℕ → Type 0
 Asks s d read ps r =
     (table : List ℕ) (ts : Table) → tableOf table ≡ some ts → ((h : Headed) → DossierIs s h d → TypeSays (typeNamed (h .head .type) ts) table ps read) →
     DossierAnswers (dossierAsked standard ts s) table (read .index) ps r
@@ -231,3 +231,55 @@ module _ (table left right out : List ℕ) where
           let m : n ≡ length whole = omega (arith, w .after) in
           rw (asked-whole y)
           (ap₂ (λ (k : ℕ) (l : List ℕ). combineReplies (Done k) l) m (wrote-between s w ∙ ap (λ (k : ℕ). whole ++ drop k out) m))
+
+-- ---- both dossiers and the table are read
+
+pub record Opened
+    (table a : List ℕ) (d : DossierIndex) (left b : List ℕ) (e : DossierIndex) (right : List ℕ) (name : Text) (read : TableRead) (ps : List ℕ) : Type 0 where
+  pub left-read : DossierReads (dossierOf standard a) a left d
+  pub right-read : DossierReads (dossierOf standard b) b right e
+  -- each snapshot has its row
+  pub left-inside : 96 * d .count ≤ length left
+  pub right-inside : 96 * e .count ≤ length right
+  pub left-named : (h : Headed) → DossierIs a h d → name ≡ h .head .type
+  pub table-read : TableSays (tableOf table) table name ps read
+  pub long : length ps ≡ 96
+
+module _
+    {table a : List ℕ} {d : DossierIndex} {left b : List ℕ} {e : DossierIndex} {right : List ℕ} {name : Text} {read : TableRead} {ps : List ℕ}
+    (o : Opened table a d left b e right name read ps) (ok : read .ok ≡ true) where
+  abbrev known : Tabled table
+  known = tabled table name ps read (o .table-read) ok
+
+  pub few-properties : read .found ≡ true → read .index .count ≤ 32
+  few-properties = type-few table name ps read (o .table-read) known
+
+  -- `ask_dossier` answers `first` of the left one
+  module _ (first : ℕ) (asks : Asks a d read ps first) where
+    left-number : NumberIs (dossierAsked standard (known .types) a) first
+    left-number = numbered table a known d name (o .left-named) ps read (o .table-read) first asks
+
+    pub left-refused :
+        (first ≡ 0 → ⊥) → (out : List ℕ) → dossierCapacity ≤ length out → combineReplies (Refused first) out ≡ combineCall standard table a b out
+    left-refused n out room = combine-left table a b out room known first (refused-by (known .types) a d left (o .left-read) first left-number n)
+
+    abbrev left-taken : first ≡ 0 → Taken (known .types) a d left
+    left-taken = taken-by (known .types) a d left (o .left-read) first left-number
+
+    -- and `ask_other` answers `second` of the right one
+    module _ (yes-left : first ≡ 0) (second : ℕ) (says : (ts : Table) → tableOf table ≡ some ts → NumberIs (dossierAsked standard ts b) second) where
+      right-number : NumberIs (dossierAsked standard (known .types) b) second
+      right-number = says (known .types) (known .is)
+
+      pub right-refused :
+          (second ≡ 0 → ⊥) → (out : List ℕ) → dossierCapacity ≤ length out → combineReplies (Refused second) out ≡ combineCall standard table a b out
+      right-refused n out room =
+          combine-right table a b out room known (left-taken yes-left) second (refused-by (known .types) b e right (o .right-read) second right-number n)
+
+      pub both-taken : second ≡ 0 → BothTaken table a d left b e right (read .index) ps
+      both-taken yes-right = record {
+        known = known;
+        left-taken = left-taken yes-left;
+        right-taken = taken-by (known .types) b e right (o .right-read) second right-number yes-right;
+        typed = typed-by table a known d name (o .left-named) ps read (o .table-read) first asks yes-left (left-taken yes-left .what) (left-taken yes-left .asked);
+      }

@@ -22,11 +22,11 @@ use Rattle.packed.specs.Parse.{got}
 use Rattle.packed.specs.Packed.{number, text}
 use Rattle.packed.specs.code.Written.{Wrote, ToGo}
 use Rattle.packed.proofs.LayoutLaws.{text-length, number-bounds}
-use Rattle.packed.proofs.WriteLaws.{wrote-then, wrote-as}
+use Rattle.packed.proofs.WriteLaws.{wrote-length, wrote-then, wrote-as}
 use Rattle.values.specs.Spaces.{Kind, kindNumber, inSpace}
 use Rattle.values.specs.ValueOrder.{isOrdered, extremeOrder}
 use Rattle.ontology.specs.Table.{Property, EventType, isMin, isMax, isVersioned, atPlace}
-use Rattle.ontology.specs.code.TypeIndex.{PropertyIs, propertyIn, hasMax}
+use Rattle.ontology.specs.code.TypeIndex.{PropertiesAre, PropertyIs, propertyIn, hasMax}
 use Rattle.ontology.specs.declared.properties.PropertyAt.{PropertyAt}
 use Rattle.ontology.proofs.TypeIndexLaws.{max-of}
 use Rattle.event.specs.Event.{typeView, eventView}
@@ -47,7 +47,8 @@ use Rattle.dossier.specs.code.DossierIndex.{cellFits, versionFits, snapshotFits
 use Rattle.dossier.proofs.DossierBodyLaws.{snapshot-was}
 use Rattle.dossier.proofs.CellLaws.{held-at}
 use Rattle.combining.specs.code.CombineIndex.{isExtremeAt, Fitting}
-use Rattle.combining.specs.code.JoinedIndex.{haveObjects, PresentAre, NoObjectsFrom, Extremes, joinedSet, ValuesAre, Paired, PlaceIs, PlaceRoom}
+use Rattle.combining.specs.code.JoinedIndex.{haveObjects, PresentAre, NoObjectsFrom, Extremes, joinedSet, ValuesAre, ValuesRoom, Paired}
+use Rattle.combining.specs.code.JoinedIndex.{PlaceIs, PlaceRoom}
 use Rattle.combining.proofs.CheckLaws.{sets-held, none-differ}
 use Rattle.combining.proofs.PartLaws.{PartsRoom}
 use Rattle.combining.proofs.ObjectLaws.{keeps-every, Joins}
@@ -58,25 +59,25 @@ use Rattle.combining.proofs.PlaceLaws.{fits-parts, placeFits, place-fit
 whole-part : (v : Text) → take (length v - 0) (drop 0 v) ≡ v
 whole-part v = take-all (length v - 0) v (omega arith)
 
-module _ (k : Kind) (kind : ℕ) (xs ys : List Text) (e : Extremes k kind xs ys) where
-  pub chosen-right : (O : Order Text) (w : Text) → length xs ≡ 0 → w ≡ getD ys 0 [] → w ∷ [] ≡ take 1 (union O xs ys)
-  chosen-right O w n q =
+module _ {k : Kind} {kind : ℕ} {xs ys : List Text} (e : Extremes k kind xs ys) where
+  pub chosen-right : (O : Order Text) {w : Text} → length xs ≡ 0 → w ≡ getD ys 0 [] → w ∷ [] ≡ take 1 (union O xs ys)
+  chosen-right O n q =
       let y : ys ≡ getD ys 0 [] ∷ [] = one-value ys (λ z. omega (arith, e .some)) (e .right-one) in
       ap (λ (v : Text). v ∷ []) q ∙ sym (ap (take 1) (ap (λ (l : List Text). union O l ys) (no-value xs n) ∙ union-left-nil O ys ∙ y))
 
-  pub chosen-left : (O : Order Text) (v : Text) → length ys ≡ 0 → v ≡ getD xs 0 [] → v ∷ [] ≡ take 1 (union O xs ys)
+  pub chosen-left : (O : Order Text) {v : Text} → length ys ≡ 0 → v ≡ getD xs 0 [] → v ∷ [] ≡ take 1 (union O xs ys)
   unfolding rising
-  chosen-left O v n q =
+  chosen-left O {v} n q =
       let x : xs ≡ v ∷ [] = one-value xs (λ z. omega (arith, e .some)) (e .left-one) ∙ ap (λ (v : Text). v ∷ []) (sym q) in
       sym (ap (take 1) (ap₂ (union O) x (no-value ys n) ∙ union-right-nil O (v ∷ []) (rising-ups O (v ∷ []) .0 refl)))
 
   pub chosen-both :
-      (largest : Bool) (r v w : Text) → (length xs ≡ 0 → ⊥) → (length ys ≡ 0 → ⊥) → v ≡ getD xs 0 [] → w ≡ getD ys 0 [] →
+      {largest wanted : Bool} {r v w : Text} → largest ≡ wanted → (length xs ≡ 0 → ⊥) → (length ys ≡ 0 → ⊥) → v ≡ getD xs 0 [] → w ≡ getD ys 0 [] →
       ((k : Kind) → kindNumber k ≡ kind → isOrdered k ≡ true →
       inSpace k (take (length v - 0) (drop 0 v)) ≡ true → inSpace k (take (length w - 0) (drop 0 w)) ≡ true →
       r ∷ [] ≡ take 1 (union (extremeOrder largest k) (take (length v - 0) (drop 0 v) ∷ []) (take (length w - 0) (drop 0 w) ∷ []))) →
-      r ∷ [] ≡ take 1 (union (extremeOrder largest k) xs ys)
-  chosen-both largest r v w m n p q c =
+      r ∷ [] ≡ take 1 (union (extremeOrder wanted k) xs ys)
+  chosen-both {largest} {wanted} {r} {v} {w} same m n p q c =
       let x : xs ≡ v ∷ [] = one-value xs m (e .left-one) ∙ ap (λ (v : Text). v ∷ []) (sym p) in
       let y : ys ≡ w ∷ [] = one-value ys n (e .right-one) ∙ ap (λ (v : Text). v ∷ []) (sym q) in
       c k (e .number) (e .ordered)
@@ -84,6 +85,7 @@ module _ (k : Kind) (kind : ℕ) (xs ys : List Text) (e : Extremes k kind xs ys)
       (ap (inSpace k) (whole-part w ∙ q) ∙ one-in-space k ys n (e .right-one) (e .right-values))
       ∙ ap₂ (λ (a b : List Text). take 1 (union (extremeOrder largest k) a b))
       (ap (λ (a : Text). a ∷ []) (whole-part v) ∙ sym x) (ap (λ (a : Text). a ∷ []) (whole-part w) ∙ sym y)
+      ∙ ap (λ (b : Bool). take 1 (union (extremeOrder b k) xs ys)) same
 
 -- ---- the set of a place
 
@@ -93,7 +95,7 @@ pub record ExtremeAt (ty : EventType) (p : ℕ) : Type 0 where
   pub is : getElem? (ty .properties) p ≡ some what
   pub extreme : (isMin what || isMax what) ≡ true
 
-pub extreme-at : (ty : EventType) (p : ℕ) → isExtremeAt ty p ≡ true → ExtremeAt ty p
+extreme-at : (ty : EventType) (p : ℕ) → isExtremeAt ty p ≡ true → ExtremeAt ty p
 unfolding isExtremeAt atPlace
 extreme-at ty p h = go (getElem? (ty .properties) p) refl h
   where
@@ -123,16 +125,16 @@ take-one [] h = absurd (omega arith)
 take-one (a ∷ l) h = refl
 
 module _ (ty : EventType) (p : ℕ) (xs ys : List Text) where
-  pub joined-every : isExtremeAt ty p ≡ false → joinedSet ty p xs ys ≡ union texts xs ys
+  joined-every : isExtremeAt ty p ≡ false → joinedSet ty p xs ys ≡ union texts xs ys
   unfolding joinCell held
   joined-every h = rw (keeps-every ty p h)
 
-  pub joined-extreme : (e : ExtremeAt ty p) → joinedSet ty p xs ys ≡ take 1 (union (extremeOrder (isMax (e .what)) (e .what .kind)) xs ys)
+  joined-extreme : (e : ExtremeAt ty p) → joinedSet ty p xs ys ≡ take 1 (union (extremeOrder (isMax (e .what)) (e .what .kind)) xs ys)
   unfolding joinCell held
   joined-extreme e = rw (least-at ty p e)
 
   -- it is empty only where both are
-  pub joined-none : xs ≡ [] → ys ≡ [] → joinedSet ty p xs ys ≡ []
+  joined-none : xs ≡ [] → ys ≡ [] → joinedSet ty p xs ys ≡ []
   unfolding joinCell held
   joined-none a b = ap₂ (joinedSet ty p) a b ∙ go (typeView ty .choice p)
     where
@@ -140,7 +142,7 @@ module _ (ty : EventType) (p : ℕ) (xs ys : List Text) where
       go every = union-left-nil texts []
       go (least O) = ap (take 1) (union-left-nil O [])
 
-  pub joined-some : 1 ≤ length xs + length ys → 1 ≤ length (joinedSet ty p xs ys)
+  joined-some : 1 ≤ length xs + length ys → 1 ≤ length (joinedSet ty p xs ys)
   unfolding joinCell held
   joined-some h = go (typeView ty .choice p)
     where
@@ -149,7 +151,7 @@ module _ (ty : EventType) (p : ℕ) (xs ys : List Text) where
       go (least O) = omega (arith, take-one (union O xs ys) (union-some O xs ys h))
 
   -- a place of strategy min or max has one value then
-  pub joined-one : 1 ≤ length xs + length ys → isExtremeAt ty p ≡ true → 1 ≡ length (joinedSet ty p xs ys)
+  joined-one : 1 ≤ length xs + length ys → isExtremeAt ty p ≡ true → 1 ≡ length (joinedSet ty p xs ys)
   joined-one h x =
       let e = extreme-at ty p x in
       let O = extremeOrder (isMax (e .what)) (e .what .kind) in
@@ -158,7 +160,7 @@ module _ (ty : EventType) (p : ℕ) (xs ys : List Text) where
 -- ---- whether one of two places has objects
 
 module _ (a : List ℕ) (x : SetAt) (b : List ℕ) (y : SetAt) (xs ys : List Text) (v : SetIs a xs x) (w : SetIs b ys y) where
-  pub have-none : haveObjects x y ≡ false → (xs ≡ []) × (ys ≡ [])
+  have-none : haveObjects x y ≡ false → (xs ≡ []) × (ys ≡ [])
   have-none h = go (x .count) (y .count) (v .count) (w .count) h
     where
       go : (m n : ℕ) → m ≡ length xs → n ≡ length ys → (ltb 0 m || ltb 0 n) ≡ false → (xs ≡ []) × (ys ≡ [])
@@ -166,7 +168,7 @@ module _ (a : List ℕ) (x : SetAt) (b : List ℕ) (y : SetAt) (xs ys : List Tex
       go zero (suc n) p q h = let z : ltb 0 (suc n) ≡ true = lt-ltb 0 (suc n) (omega arith) in never (cc)
       go (suc m) n p q h = let z : ltb 0 (suc m) ≡ true = lt-ltb 0 (suc m) (omega arith) in never (cc (rw z at h))
 
-  pub have-some : haveObjects x y ≡ true → 1 ≤ length xs + length ys
+  have-some : haveObjects x y ≡ true → 1 ≤ length xs + length ys
   have-some h = go (x .count) (y .count) (v .count) (w .count) h
     where
       go : (m n : ℕ) → m ≡ length xs → n ≡ length ys → (ltb 0 m || ltb 0 n) ≡ true → 1 ≤ length xs + length ys
@@ -175,11 +177,11 @@ module _ (a : List ℕ) (x : SetAt) (b : List ℕ) (y : SetAt) (xs ys : List Tex
       go (suc m) n p q h = omega arith
 
   module _ (ty : EventType) (p : ℕ) where
-    pub nothing-bytes : haveObjects x y ≡ false → setBytes (joinedSet ty p xs ys) ≡ []
+    nothing-bytes : haveObjects x y ≡ false → setBytes (joinedSet ty p xs ys) ≡ []
     unfolding setBytes
     nothing-bytes h = let (m, n) = have-none h in ap setBytes (joined-none ty p xs ys m n)
 
-    pub some-bytes : haveObjects x y ≡ true →
+    some-bytes : haveObjects x y ≡ true →
         setBytes (joinedSet ty p xs ys) ≡ number (length (joinedSet ty p xs ys)) ++ flatten (map text (joinedSet ty p xs ys))
     unfolding setBytes
     some-bytes h = go (joinedSet ty p xs ys) (joined-some ty p xs ys (have-some h))
@@ -188,7 +190,7 @@ module _ (a : List ℕ) (x : SetAt) (b : List ℕ) (y : SetAt) (xs ys : List Tex
         go [] h = absurd (omega arith)
         go (c ∷ l) h = refl
 
-    pub presence-is : presenceBit (joinedSet ty p xs ys) ≡ bitOf (haveObjects x y)
+    presence-is : presenceBit (joinedSet ty p xs ys) ≡ bitOf (haveObjects x y)
     unfolding presenceBit bitOf
     presence-is = go (haveObjects x y) refl
       where
@@ -222,12 +224,12 @@ module _ {a : List ℕ} {m : ℕ} {b : List ℕ} {n : ℕ} {xs ys : List Text} (
         set-some (length (union texts xs ys)) (union texts xs ys) refl (λ z. omega (arith, k))
 
     -- the bytes that the count and the values take
-    pub values-size :
+    values-size :
         length (setBytes (union texts xs ys)) ≡ length (number (length (union texts xs ys))) + length (flatten (map text (union texts xs ys)))
     values-size = ap length values-bytes ∙ length-append (number (length (union texts xs ys))) (flatten (map text (union texts xs ys)))
 
     -- the values go one byte after where the count is to stand, which takes a byte at least
-    pub values-room : (at size : ℕ) → at + length (setBytes (union texts xs ys)) ≤ size → TextsRoom a b (at + 1) size
+    values-room : (at size : ℕ) → at + length (setBytes (union texts xs ys)) ≤ size → TextsRoom a b (at + 1) size
     values-room at size h = record {
       xs = xs;
       ys = ys;
@@ -239,12 +241,50 @@ module _ {a : List ℕ} {m : ℕ} {b : List ℕ} {n : ℕ} {xs ys : List Text} (
     }
 
     -- how many there are: those of both sets but for the second of each that both have
-    pub values-count : {l bytes l′ : List ℕ} {at : ℕ} {r : Joined} → WroteUnion l at bytes l′ xs ys r → m + n - r .shared ≡ length (union texts xs ys)
+    values-count : {l bytes l′ : List ℕ} {at : ℕ} {r : Joined} → WroteUnion l at bytes l′ xs ys r → m + n - r .shared ≡ length (union texts xs ys)
     values-count o = omega (arith, o .counts, w .left-count, w .right-count)
 
-    pub values-wrote : {l l′ : List ℕ} {at next : ℕ} (k : ℕ) → k ≡ length (union texts xs ys) →
+    values-wrote : {l l′ : List ℕ} {at next : ℕ} (k : ℕ) → k ≡ length (union texts xs ys) →
         Wrote l at (number k ++ flatten (map text (union texts xs ys))) l′ next → Wrote l at (setBytes (union texts xs ys)) l′ next
     values-wrote k e o = wrote-as (ap (λ (i : ℕ). number i ++ flatten (map text (union texts xs ys))) e ∙ sym values-bytes) o
+
+-- what `write_values` asks
+module _ {a : List ℕ} {m : ℕ} {b : List ℕ} {n at size : ℕ} (q : ValuesRoom a m b n at size) where
+  -- the count takes a byte at least
+  counted-parts :
+      let u = union texts (q .xs) (q .ys) in
+      (1 ≤ length (number (length u))) × (at + length (number (length u)) + length (flatten (map text u)) ≤ size)
+  counted-parts = (number-bounds (length (union texts (q .xs) (q .ys))) .0, omega (arith, q .room, values-size (q .are) (q .some)))
+
+  pub at-within : at < size
+  at-within = omega (arith, counted-parts)
+
+  pub union-there : TextsRoom a b (at + 1) size
+  union-there = values-room (q .are) (q .some) at size (q .room)
+
+-- and where `write_union` has left the values one byte after where their count is to stand
+module _
+    {a : List ℕ} {m : ℕ} {b : List ℕ} {n at : ℕ} {l l₁ : List ℕ} {r : Joined}
+    (says : (xs ys : List Text) → a ≡ flatten (map text xs) → b ≡ flatten (map text ys) → rising texts xs ≡ true → rising texts ys ≡ true →
+    WroteUnion l (at + 1) (flatten (map text (union texts xs ys))) l₁ xs ys r)
+    (q : ValuesRoom a m b n at (length l)) where
+  union-wrote : {xs ys : List Text} → ValuesAre a m b n xs ys → WroteUnion l (at + 1) (flatten (map text (union texts xs ys))) l₁ xs ys r
+  union-wrote {xs} {ys} w = says xs ys (w .left) (w .right) (w .left-rises) (w .right-rises)
+
+  pub shared-within : r .shared ≤ m + n
+  shared-within = omega (arith, union-wrote (q .are) .counts, q .are .left-count, q .are .right-count)
+
+  pub before-there : (at + 1 ≤ r .next) × (r .next + (length (number (m + n - r .shared)) - 1) ≤ length l₁)
+  before-there =
+      let o = union-wrote (q .are) .wrote in
+      let k = ap (λ (i : ℕ). length (number i)) (values-count (q .are) (q .some) (union-wrote (q .are))) in
+      (omega (arith, o .after), omega (arith, o .after, wrote-length o, k, counted-parts q))
+
+  pub union-written :
+      {l₂ : List ℕ} {next : ℕ} →
+      ((z bytes : List ℕ) → Wrote z (at + 1) bytes l₁ (r .next) → Wrote z at (number (m + n - r .shared) ++ bytes) l₂ next) →
+      (xs ys : List Text) → ValuesAre a m b n xs ys → Wrote l at (setBytes (union texts xs ys)) l₂ next
+  union-written before xs ys w = values-wrote w (q .some) _ (values-count w (q .some) (union-wrote w)) (before l _ (union-wrote w .wrote))
 
 -- ---- writing a place
 
@@ -270,7 +310,7 @@ module _
     }
 
     -- the text of the chosen value is all of the set
-    pub chosen-text :
+    chosen-text :
         {q : PropertyAt} → q ≡ propertyIn ps p → (v : Text) →
         ((k : Kind) (xs ys : List Text) → SetIs a xs x → SetIs b ys y → Extremes k (q .kind) xs ys →
         v ∷ [] ≡ take 1 (union (extremeOrder (hasMax q) k) xs ys)) →
@@ -284,7 +324,7 @@ module _
         ∙ sym (joined-extreme (h .type) p (h .xs) (h .ys) here))
 
   -- elsewhere the union is all of the set
-  pub place-values : (u v : List ℕ) → u ≡ flatten (map text (h .xs)) → v ≡ flatten (map text (h .ys)) → ValuesAre u (x .count) v (y .count) (h .xs) (h .ys)
+  place-values : (u v : List ℕ) → u ≡ flatten (map text (h .xs)) → v ≡ flatten (map text (h .ys)) → ValuesAre u (x .count) v (y .count) (h .xs) (h .ys)
   place-values u v l r = record {
     left = l;
     right = r;
@@ -294,7 +334,7 @@ module _
     right-rises = h .paired .right-rises;
   }
 
-  pub place-union : isExtremeAt (h .type) p ≡ false → setBytes (union texts (h .xs) (h .ys)) ≡ setBytes (joinedSet (h .type) p (h .xs) (h .ys))
+  place-union : isExtremeAt (h .type) p ≡ false → setBytes (union texts (h .xs) (h .ys)) ≡ setBytes (joinedSet (h .type) p (h .xs) (h .ys))
   place-union e = ap setBytes (sym (joined-every (h .type) p (h .xs) (h .ys) e))
 
   abbrev whole : List Text
@@ -303,12 +343,74 @@ module _
   whole-bytes : setBytes whole ≡ number (length whole) ++ flatten (map text whole)
   whole-bytes = some-bytes a x b y (h .xs) (h .ys) (h .left) (h .right) (h .type) p some
 
-  pub place-room : (n at size : ℕ) → n ≡ length whole → at + length (setBytes whole) ≤ size → at + length (number n) + length (flatten (map text whole)) ≤ size
+  place-room : (n at size : ℕ) → n ≡ length whole → at + length (setBytes whole) ≤ size → at + length (number n) + length (flatten (map text whole)) ≤ size
   place-room n at size e k = set-room n whole at size e (subst (λ (z : List ℕ). at + length z ≤ size) whole-bytes k)
 
-  pub place-wrote : {l l₁ l₂ : List ℕ} {at b next : ℕ} (n : ℕ) → n ≡ length whole →
+  place-wrote : {l l₁ l₂ : List ℕ} {at b next : ℕ} (n : ℕ) → n ≡ length whole →
       Wrote l at (number n) l₁ b → Wrote l₁ b (flatten (map text whole)) l₂ next → Wrote l at (setBytes whole) l₂ next
   place-wrote n e v w = wrote-as (sym whole-bytes) (wrote-set n whole e v w)
+
+-- `is_extreme_at` answers `asked` of the place
+module _
+    {count : ℕ} {ps : List ℕ} {p : ℕ} {a : List ℕ} {x : SetAt} {b : List ℕ} {y : SetAt} {asked : Bool}
+    (says : (u : List ℕ) (ty : EventType) → PropertiesAre u (ty .properties) count ps → asked ≡ isExtremeAt ty p) where
+  extreme-so : {c : Bool} → asked ≡ c → (h : PlaceIs count ps p a x b y) → isExtremeAt (h .type) p ≡ c
+  extreme-so e h = sym (says (h .table) (h .type) (h .typed)) ∙ e
+
+  -- one value is written where the strategy is min or max
+  module _ (e : asked ≡ true) where
+    one : haveObjects x y ≡ true → (h : PlaceIs count ps p a x b y) → 1 ≡ length (joinedSet (h .type) p (h .xs) (h .ys))
+    one there h = joined-one (h .type) p (h .xs) (h .ys) (have-some a x b y (h .xs) (h .ys) (h .left) (h .right) there) (extreme-so e h)
+
+    one-parts :
+        {at size : ℕ} (r : PlaceRoom count ps p a x b y at size) → let h = r .place in
+        at + length (number 1) + length (flatten (map text (joinedSet (h .type) p (h .xs) (h .ys)))) ≤ size
+    one-parts r = place-room (r .some) (r .place) 1 _ _ (one (r .some) (r .place)) (r .room)
+
+    pub one-room : {at size : ℕ} → PlaceRoom count ps p a x b y at size → at + length (number 1) ≤ size
+    one-room r = omega (arith, one-parts r)
+
+    -- `chosen` answers v of the property that was read
+    module _
+        {q : PropertyAt} (same : q ≡ propertyIn ps p) {v : Text}
+        (chosen : (k : Kind) (xs ys : List Text) → SetIs a xs x → SetIs b ys y → Extremes k (q .kind) xs ys →
+        v ∷ [] ≡ take 1 (union (extremeOrder (hasMax q) k) xs ys))
+        {l l₁ : List ℕ} {at n : ℕ} (counted : Wrote l at (number 1) l₁ n) (r : PlaceRoom count ps p a x b y at (length l)) where
+      value : (h : PlaceIs count ps p a x b y) → text v ≡ flatten (map text (joinedSet (h .type) p (h .xs) (h .ys)))
+      value h = chosen-text (r .some) h (extreme-so e h) same v chosen
+
+      pub value-room : n + length (text v) ≤ length l₁
+      value-room = omega (arith, one-parts r, counted .after, wrote-length counted, ap length (value (r .place)))
+
+      pub value-wrote :
+          {l₂ : List ℕ} {next : ℕ} → Wrote l₁ n (text v) l₂ next →
+          (h : PlaceIs count ps p a x b y) → Wrote l at (setBytes (joinedSet (h .type) p (h .xs) (h .ys))) l₂ next
+      value-wrote w h = place-wrote (r .some) h 1 (one (r .some) h) counted (wrote-as (value h) w)
+
+  -- elsewhere all values of both are, from the parts u and v that `set_part` lends
+  module _
+      (e : asked ≡ false) {u v : List ℕ}
+      (left : (xs : List Text) → SetIs a xs x → u ≡ flatten (map text xs)) (right : (ys : List Text) → SetIs b ys y → v ≡ flatten (map text ys))
+      {at size : ℕ} (r : PlaceRoom count ps p a x b y at size) where
+    values : (h : PlaceIs count ps p a x b y) → ValuesAre u (x .count) v (y .count) (h .xs) (h .ys)
+    values h = place-values (r .some) h u v (left (h .xs) (h .left)) (right (h .ys) (h .right))
+
+    pub values-there : ValuesRoom u (x .count) v (y .count) at size
+    values-there =
+        let h = r .place in
+        record {
+          xs = h .xs;
+          ys = h .ys;
+          are = values h;
+          some = omega (arith, have-some a x b y (h .xs) (h .ys) (h .left) (h .right) (r .some), h .left .count, h .right .count);
+          room = omega (arith, r .room, ap length (place-union (r .some) h (extreme-so e h)));
+        }
+
+    pub all-wrote :
+        {l l₁ : List ℕ} {next : ℕ} →
+        ((xs ys : List Text) → ValuesAre u (x .count) v (y .count) xs ys → Wrote l at (setBytes (union texts xs ys)) l₁ next) →
+        (h : PlaceIs count ps p a x b y) → Wrote l at (setBytes (joinedSet (h .type) p (h .xs) (h .ys))) l₁ next
+    all-wrote w h = wrote-as (place-union (r .some) h (extreme-so e h)) (w (h .xs) (h .ys) (values h))
 
 pub to-go-same : {l₀ whole l l′ xs : List ℕ} {at p p′ : ℕ} → ToGo l₀ at whole l p xs → l′ ≡ l → p′ ≡ p → ToGo l₀ at whole l′ p′ xs
 to-go-same g e f = rw (e, f) g

@@ -115,7 +115,7 @@ module _ {m : List ℕ} {v before k : ℕ} (p : PassedIn m v before k) where
       (omega (arith, p (i .snapshots) w .within, w .count), omega (arith, w .count, w .few))
 
   -- x is the measure of the next one
-  module _ (l : k < countIn m) (x : Measure) (here : x ≡ measureIn m k) where
+  module _ (l : k < countIn m) {x : Measure} (here : x ≡ measureIn m k) where
     next-passed :
         (ss : List Snapshot) → Measured ss m →
         (k < length ss) × (x .version .0 ≡ getD ss k noSnapshot .version) × (x .size ≡ length (snapshotBytes (getD ss k noSnapshot)))

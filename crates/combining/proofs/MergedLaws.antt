@@ -6,10 +6,10 @@ use Prim.Native.Nat.{ℕ, zero, suc, _+_, _-_, _*_, _≤_, _<_, Ordering·lt}
 use native.Mathlib.Omega.{arith}
 use native.Mathlib.Nat.{add-zero}
 use lib.Dec.{leb}
-use lib.ListN.{length, take, drop, getD, length-append, drop-of-length-le, List·getD-map}
+use lib.ListN.{length, take, drop, getD, replicate, length-append, length-replicate, drop-of-length-le, List·getD-map}
 use lib.Seq.{drop-cons, drop-drop, take-at}
 use borrow.Author.Tests.{lt-ltb, le-ltb, le-leb, lt-leb}
-use Rattle.model.specs.Order.{texts, numbers, pick, equal, rising}
+use Rattle.model.specs.Order.{Text, texts, numbers, pick, equal, rising}
 use Rattle.model.proofs.Cases.{three}
 use Rattle.model.specs.Keyed.{Rising, merge}
 use Rattle.model.specs.Sets.{union}
@@ -17,23 +17,25 @@ use Rattle.model.specs.Rule.{Snapshot, joinSnapshots, combine}
 use Rattle.model.proofs.OrderLaws.{less-of, less-cmp, less-turn, more-turn, equal-true}
 use Rattle.model.proofs.KeyedLaws.{merge-left, merge-right, merge-meet, merge-nil, above-trans}
 use Rattle.model.specs.Limits.{fits, standard}
+use Rattle.model.specs.Opening.{held}
 use Rattle.packed.specs.Packed.{number, part}
 use Rattle.packed.specs.code.Written.{Wrote, ToGo}
 use Rattle.packed.proofs.WriteLaws.{wrote-then, wrote-as, to-go, gone, all-gone, wrote-between, wrote-length}
 use Rattle.packed.proofs.ReadLaws.{part-length, stretch}
 use Rattle.values.specs.declared.versions.EventVersion.{EventVersion}
 use Rattle.ontology.specs.Table.{EventType, isVersioned}
-use Rattle.ontology.specs.code.TypeIndex.{TypeIs}
+use Rattle.ontology.specs.code.TypeIndex.{PropertiesAre, TypeIs}
 use Rattle.ontology.specs.declared.types.TypeIndex.{TypeIndex}
 use Rattle.event.specs.Event.{typeView}
 use Rattle.event.specs.Head.{Head}
-use Rattle.event.specs.code.EventIndex.{HeadIs, HeadParts}
+use Rattle.event.specs.code.EventIndex.{SetsAre, HashesAre, TextIs, HeadIs, HeadParts}
 use Rattle.event.specs.declared.head.HeadAt.{HeadAt}
 use Rattle.event.proofs.HeadLayoutLaws.{hashes-size}
+use Rattle.unions.specs.code.Runs.{Hashes, HashesRoom}
 use Rattle.unions.proofs.RunLaws.{part-then}
 use Rattle.dossier.specs.DossierLayout.{Headed, dossierBytes}
 use Rattle.dossier.specs.DossierBody.{snapshotBytes, bodyBytes}
-use Rattle.dossier.specs.code.DossierIndex.{noSnapshot, noVersion, versionNumbers, rowOf, SnapshotsAre, DossierIs}
+use Rattle.dossier.specs.code.DossierIndex.{noSnapshot, noVersion, versionNumbers, rowOf, SnapshotsAre, DossierIs, DossierHeadRoom}
 use Rattle.dossier.specs.declared.dossiers.DossierIndex.{DossierIndex}
 use Rattle.dossier.proofs.AskLaws.{snapshot-stands}
 use Rattle.dossier.proofs.VersionLaws.{cells-are}
@@ -63,10 +65,10 @@ same-written {ty} {x} {y} {left} {right} m p q e =
     p ∙ ap snapshotBytes (sym (same-joined m (sym p ∙ equal-true texts left right .0 e ∙ q)))
 
 module _ {table : List ℕ} {ty : EventType} {t : TypeIndex} {ps : List ℕ} (w : TypeIs table ty t ps) where
-  pub is-versioned : 0 < t .mark → isVersioned ty ≡ true
+  is-versioned : 0 < t .mark → isVersioned ty ≡ true
   is-versioned h = lt-ltb 0 (ty .mark) (omega (arith, w .mark))
 
-  pub not-versioned : t .mark ≤ 0 → isVersioned ty ≡ false
+  not-versioned : t .mark ≤ 0 → isVersioned ty ≡ false
   not-versioned h = le-ltb 0 (ty .mark) (omega (arith, w .mark))
 
 module _
@@ -100,6 +102,22 @@ module _
     right-is = r .shared .right-is .sets;
     room = r .room;
   }
+
+-- what `write_agreed` and `write_joined` leave of two snapshots of one version
+module _
+    {version : EventVersion} {a x b y : List ℕ} {m n : ℕ} {t : TypeIndex} {ps : List ℕ} {l l₁ : List ℕ} {at next : ℕ}
+    {table : List ℕ} {ty : EventType} {g h : Snapshot} (w : TypeIs table ty t ps) (s : Shared version a x m b y n ty g h) where
+  pub agreed-wrote :
+      ((tz : EventType) (p q : Snapshot) → isVersioned tz ≡ true → t .count ≡ length (tz .properties) → Shared version a x m b y n tz p q →
+      Wrote l at (snapshotBytes (joinSnapshots (typeView tz) p q)) l₁ next) →
+      0 < t .mark → Wrote l at (snapshotBytes (joinSnapshots (typeView ty) g h)) l₁ next
+  agreed-wrote says marked = says ty g h (is-versioned w marked) (w .are .count) s
+
+  pub joined-wrote :
+      ((u : List ℕ) (tz : EventType) (p q : Snapshot) → PropertiesAre u (tz .properties) (t .count) ps → isVersioned tz ≡ false → Meet tz p q →
+      SetsAre a (map held (p .cells)) x → SetsAre b (map held (q .cells)) y → Wrote l at (snapshotBytes (joinSnapshots (typeView tz) p q)) l₁ next) →
+      t .mark ≤ 0 → Wrote l at (snapshotBytes (joinSnapshots (typeView ty) g h)) l₁ next
+  joined-wrote says unmarked = says table ty g h (w .are) (not-versioned w unmarked) (s .meet) (s .left-is .sets) (s .right-is .sets)
 
 -- ---- the snapshots of one side
 
@@ -577,17 +595,59 @@ module _
 
 -- ---- the union of the parents, made apart
 
-pub union-room : {a b : List ℕ} {x y : HeadAt} {g h : Head} → HeadsAre a x b y g h → length (flatten (union texts (g .parents) (h .parents))) ≤ 640
-union-room {g = g} {h = h} w = omega (arith, w .few, hashes-size (union texts (g .parents) (h .parents)) (w .both-each))
+union-few :
+    {a b : List ℕ} {x y : HeadAt} {g h : Head} → HeadsAre a x b y g h →
+    length (flatten (union texts (g .parents) (h .parents))) ≤ length {A = ℕ} (replicate 640 0)
+union-few {g = g} {h = h} w =
+    omega (arith, w .few, hashes-size (union texts (g .parents) (h .parents)) (w .both-each), length-replicate {A = ℕ} 640 0)
 
 -- the bytes in front of where it ends are the hashes
-pub union-part : {l xs l₁ : List ℕ} {n : ℕ} → length xs ≤ length l → Wrote l 0 xs l₁ n → (n ≤ length l₁) × (part l₁ 0 n ≡ xs)
+union-part : {l xs l₁ : List ℕ} {n : ℕ} → length xs ≤ length l → Wrote l 0 xs l₁ n → (n ≤ length l₁) × (part l₁ 0 n ≡ xs)
 union-part {l} {xs} {l₁} {n} r w =
     let e = wrote-between (omega arith) w in
     let k : n - 0 ≡ length xs = omega (arith, w .after) in
     (omega (arith, w .after, wrote-length w), ap (take (n - 0)) e ∙ take-at xs (drop n l) (n - 0) (sym k))
 
-pub both-parts :
-    {a b name source hashes : List ℕ} {x y : HeadAt} {g h : Head} → HeadsAre a x b y g h →
-    name ≡ g .type → source ≡ g .source → hashes ≡ flatten (union texts (g .parents) (h .parents)) → HeadParts name source hashes (bothHeads g h)
-both-parts w x y z = record { type = x; uri = y; parents = z; each = w .both-each }
+-- `hashes_part` lends the parents of both
+module _
+    {a b : List ℕ} {x y : HeadAt} {p q : List ℕ} (left : (gs : List Text) → HashesAre a gs (x .parents) → p ≡ flatten gs)
+    (right : (hs : List Text) → HashesAre b hs (y .parents) → q ≡ flatten hs) where
+  pub union-there : {size : ℕ} → HeadsRoom a x b y size → HashesRoom p q 0 (length {A = ℕ} (replicate 640 0))
+  union-there r = let w = r .are in record {
+    xs = r .left .parents;
+    ys = r .right .parents;
+    left = left _ (w .left .hashes);
+    right = right _ (w .right .hashes);
+    xs-each = w .left-each;
+    ys-each = w .right-each;
+    xs-rise = w .left-rise;
+    ys-rise = w .right-rise;
+    room = omega (arith, union-few w);
+  }
+
+  -- and their union is made
+  module _
+      {l₁ : List ℕ} {n : ℕ}
+      (made : (xs ys : List Text) → p ≡ flatten xs → q ≡ flatten ys → Hashes xs → Hashes ys → rising texts xs ≡ true → rising texts ys ≡ true →
+      Wrote (replicate 640 0) 0 (flatten (union texts xs ys)) l₁ n) where
+    hashes : {g h : Head} → HeadsAre a x b y g h → (n ≤ length l₁) × (part l₁ 0 n ≡ flatten (union texts (g .parents) (h .parents)))
+    hashes w =
+        union-part (union-few w)
+        (made _ _ (left _ (w .left .hashes)) (right _ (w .right .hashes)) (w .left-each) (w .right-each) (w .left-rise) (w .right-rise))
+
+    pub union-within : {size : ℕ} → HeadsRoom a x b y size → n ≤ length l₁
+    union-within r = hashes (r .are) .0
+
+    -- `text_part` lends the name of the type and the source
+    module _
+        {name source : List ℕ} (named : (v : Text) → TextIs a v (x .name) → name ≡ v) (sourced : (v : Text) → TextIs a v (x .source) → source ≡ v) where
+      parts : {g h : Head} → HeadsAre a x b y g h → HeadParts name source (part l₁ 0 n) (bothHeads g h)
+      parts w = record { type = named _ (w .left .name); uri = sourced _ (w .left .uri); parents = hashes w .1; each = w .both-each }
+
+      pub parts-there : {size : ℕ} → HeadsRoom a x b y size → DossierHeadRoom name source (part l₁ 0 n) size
+      parts-there r = record { head = bothHeads (r .left) (r .right); parts = parts (r .are); room = r .room }
+
+      pub heads-wrote :
+          {l l₂ : List ℕ} {next : ℕ} → ((h : Head) → HeadParts name source (part l₁ 0 n) h → Wrote l 0 (dossierHeadBytes h) l₂ next) →
+          (g h : Head) → HeadsAre a x b y g h → Wrote l 0 (dossierHeadBytes (bothHeads g h)) l₂ next
+      heads-wrote wrote g h w = wrote (bothHeads g h) (parts w)

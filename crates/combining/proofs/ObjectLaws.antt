@@ -110,7 +110,7 @@ module _ (ty : EventType) (k : ℕ) (xs ys : List Text) where
   abbrev together : ℕ
   together = length (held (joinCell false (typeView ty .choice k) (holds xs) (holds ys)))
 
-  pub count-every : isExtremeAt ty k ≡ false → length (union texts xs ys) ≡ together
+  count-every : isExtremeAt ty k ≡ false → length (union texts xs ys) ≡ together
   unfolding joinCell held
   count-every h = sym (ap (λ (c : Choice). length (held (joinCell false c (holds xs) (holds ys)))) (keeps-every ty k h))
 
@@ -119,11 +119,26 @@ module _ (ty : EventType) (k : ℕ) (xs ys : List Text) where
     unfolding joinCell held
     count-least = ap (λ (c : Choice). length (held (joinCell false c (holds xs) (holds ys)))) (keeps-least ty k h .is)
 
-    pub count-right : (n : ℕ) → length xs ≡ 0 → n ≡ length ys → length ys ≤ 1 → n ≡ together
+    count-right : (n : ℕ) → length xs ≡ 0 → n ≡ length ys → length ys ≤ 1 → n ≡ together
     count-right n e f l = f ∙ sym (count-least ∙ union-none (keeps-least ty k h .order) xs ys e l)
 
-    pub count-one : (length xs ≡ 0 → ⊥) → 1 ≡ together
+    count-one : (length xs ≡ 0 → ⊥) → 1 ≡ together
     count-one e = sym (count-least ∙ union-some (keeps-least ty k h .order) xs ys e)
+
+-- `is_extreme_at` answers r of the place k
+module _
+    (ty : EventType) (k : ℕ) (xs ys : List Text) {u : List ℕ} {count : ℕ} {ps : List ℕ} {r : Bool}
+    (says : (z : List ℕ) (tz : EventType) → PropertiesAre z (tz .properties) count ps → r ≡ isExtremeAt tz k)
+    (w : PropertiesAre u (ty .properties) count ps) where
+  pub place-every : r ≡ false → length (union texts xs ys) ≡ together ty k xs ys
+  place-every e = count-every ty k xs ys (sym (says u ty w) ∙ e)
+
+  pub place-right :
+      r ≡ true → {n : ℕ} → length xs ≡ 0 → n ≡ length ys → (isExtremeAt ty k ≡ true → (length xs ≤ 1) × (length ys ≤ 1)) → n ≡ together ty k xs ys
+  place-right e {n} empty f few = let h = sym (says u ty w) ∙ e in count-right ty k xs ys h n empty f (few h .1)
+
+  pub place-one : r ≡ true → (length xs ≡ 0 → ⊥) → 1 ≡ together ty k xs ys
+  place-one e = count-one ty k xs ys (sym (says u ty w) ∙ e)
 
 -- ---- two snapshots have no more objects when they are joined than both have
 

@@ -1,5 +1,6 @@
+-- `combine::ask_other` meets its contract: what the table says of the name that it was read for holds of the dossier's own type name where the two are the
+-- same, and where they are not, the table is read for that name.
 use borrow.Author.Needs.{needs}
-use mathlib.Core.Path.{_≡_}
 use mathlib.Core.List.{List}
 use Prim.Native.Nat.{ℕ}
 use denote.Ref.{now}
@@ -7,8 +8,6 @@ use Rattle.model.specs.Order.{Text}
 use Rattle.ontology.specs.TableLayout.{tableOf}
 use Rattle.ontology.specs.code.TypeIndex.{TableSays}
 use Rattle.ontology.proofs.TypeIndexLaws.{says-same}
-use Rattle.dossier.specs.DossierLayout.{Headed}
-use Rattle.dossier.specs.code.DossierIndex.{DossierIs}
 use Rattle.combining.proofs.CombineLaws.{Tabled, tabled, type-few, numbered}
 use Rattle.combining.proofs.combine.ask_other.Statement.{statement}
 use Rattle.combining.proofs.combine.ask_other.Tie as tie
@@ -27,7 +26,7 @@ to-else c = c .before .before
 abbrev to-read : tie.After-others3 → tie.After-read-table
 to-read c = c .before .before
 
--- ---- the values
+-- ---- the dossier's type is named
 
 module _ (c : tie.After-type-name) where
   abbrev table : List ℕ
@@ -36,14 +35,8 @@ module _ (c : tie.After-type-name) where
   abbrev other : Text
   other = now (c .type-name .result)
 
--- ---- the facts
-
-module _ (c : tie.After-type-name) where
-  known : Tabled (table c)
+  known : Tabled table
   known = let p = to-start c .pre .1 in tabled _ _ _ _ (p .1) (p .0)
-
-  named : (h : Headed) → DossierIs (now (to-start c .args .s)) h (to-start c .args .d) → other c ≡ h .head .type
-  named = c .type-name .ensures
 
 -- the table was read for the name of this dossier's type
 read-before :
@@ -68,7 +61,7 @@ ask-dossier-requires c κs =
 
 returns : tie.Need-returns
 returns c = λ ts e.
-    numbered _ _ (record { types = ts; is = e }) _ _ (named (c .before .before .before)) _ _ (read-before (c .before)) _ (c .ask-dossier .ensures)
+    numbered _ _ (record { types = ts; is = e }) _ _ (c .before .before .before .type-name .ensures) _ _ (read-before (c .before)) _ (c .ask-dossier .ensures)
 
 ask-dossier-requires-2 : tie.Need-ask-dossier-requires-2
 ask-dossier-requires-2 c κs =
@@ -79,7 +72,7 @@ ask-dossier-requires-2 c κs =
 returns-2 : tie.Need-returns-2
 returns-2 c = λ ts e.
     let read = to-read (c .before) in
-    numbered _ _ (record { types = ts; is = e }) _ _ (named (to-named (to-else read))) _ _ (read-again read) _ (c .ask-dossier2 .ensures)
+    numbered _ _ (record { types = ts; is = e }) _ _ (to-named (to-else read) .type-name .ensures) _ _ (read-again read) _ (c .ask-dossier2 .ensures)
 
 pub ask-other-spec : {M : Type 1} → statement M
 ask-other-spec =

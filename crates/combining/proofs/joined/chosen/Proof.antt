@@ -1,36 +1,48 @@
+-- `joined::chosen` meets its contract: where one place is empty, the other one's value is all that the union has; where neither is, `choose` takes the first of
+-- both in the order of the strategy.
 use borrow.Author.Needs.{needs}
-use mathlib.Core.Path.{sym, ap, _∙_}
-use mathlib.Core.Bool.{Bool}
-use lib.ListN.{take}
-use Rattle.model.specs.Sets.{union}
-use Rattle.values.specs.ValueOrder.{extremeOrder}
+use mathlib.Core.Path.{_≡_, sym, _∙_}
+use mathlib.Core.List.{List, []}
+use lib.ListN.{getD}
+use denote.Ref.{now}
+use Rattle.model.specs.Order.{Text}
+use Rattle.event.specs.code.EventIndex.{SetIs}
 use Rattle.combining.proofs.JoinedLaws.{chosen-right, chosen-left, chosen-both}
 use Rattle.combining.proofs.joined.chosen.Statement.{statement}
 use Rattle.combining.proofs.joined.chosen.Tie as tie
-use Rattle.combining.proofs.joined.chosen.Reads as reads
-use Rattle.combining.proofs.joined.chosen.Lts as lts
-use Rattle.event.proofs.sets.set_part.Reads as set-part-reads
-use Rattle.event.proofs.sets.value_in.Reads as value-in-reads
-use Rattle.ontology.proofs.properties.is_max.Reads as is-max-reads
-use Rattle.values.proofs.spaces.choose.Reads as choose-reads
+
+-- ---- the places
+
+abbrev to-start : tie.After-value-in2 → tie.Start
+to-start c = c .before .before .before .before .before .before
+
+abbrev to-values : tie.After-struct-known2 → tie.After-value-in2
+to-values c = c .before .before .before
+
+-- ---- the values of the two places
+
+module _ (c : tie.After-value-in2) {vs : List Text} where
+  left-value : SetIs (now (to-start c .args .a)) vs (to-start c .args .x) → now (c .before .before .value-in .result) ≡ getD vs 0 []
+  left-value w = c .before .before .value-in .ensures vs (c .before .before .before .set-part .ensures vs w)
+
+  right-value : SetIs (now (to-start c .args .b)) vs (to-start c .args .y) → now (c .value-in2 .result) ≡ getD vs 0 []
+  right-value w = c .value-in2 .ensures vs (c .before .set-part2 .ensures vs w)
+
+-- ---- the needs
 
 returns : tie.Need-returns
-returns c =
-    λ kind xs ys v w e. chosen-right kind _ xs ys e _ _ (sym (v .count) ∙ c .if1 .taken) (c .before .before .value-in2 .ensures ys (c .before .before .before .set-part2 .ensures ys w))
+returns c = λ kind xs ys v w e. chosen-right e _ (sym (v .count) ∙ c .if1 .taken) (right-value (c .before .before) w)
 
 returns-2 : tie.Need-returns-2
-returns-2 c = λ kind xs ys v w e. chosen-left kind _ xs ys e _ _ (sym (w .count) ∙ c .if2 .taken) (c .before .before .before .before .before .before .value-in .ensures xs (c .before .before .before .before .before .before .before .set-part .ensures xs v))
+returns-2 c = λ kind xs ys v w e. chosen-left e _ (sym (w .count) ∙ c .if2 .taken) (left-value (to-values (c .before)) v)
 
 returns-3 : tie.Need-returns-3
-returns-3 c =
-    λ kind xs ys v w e.
-    chosen-both kind _ xs ys e (c .before .is-max .result) _ _ _
-    (λ z. c .before .before .before .before .if1 .left (v .count ∙ z))
-    (λ z. c .before .before .if2 .left (w .count ∙ z))
-    (c .before .before .before .before .before .before .before .before .value-in .ensures xs (c .before .before .before .before .before .before .before .before .before .set-part .ensures xs v))
-    (c .before .before .before .before .before .before .value-in2 .ensures ys (c .before .before .before .before .before .before .before .set-part2 .ensures ys w))
-    (c .choose .ensures)
-    ∙ ap (λ (largest : Bool). take 1 (union (extremeOrder largest kind) xs ys)) (c .before .is-max .ensures)
+returns-3 c = λ kind xs ys v w e.
+    let max = c .before in
+    let both = max .before in
+    let values = to-values (both .before) in
+    chosen-both e (max .is-max .ensures) (λ z. both .before .before .if1 .left (v .count ∙ z)) (λ z. both .if2 .left (w .count ∙ z))
+    (left-value values v) (right-value values w) (c .choose .ensures)
 
 pub chosen-spec : {M : Type 1} → statement M
 chosen-spec =

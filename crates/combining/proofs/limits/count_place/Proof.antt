@@ -1,28 +1,35 @@
 use borrow.Author.Needs.{needs}
 use mathlib.Core.Path.{sym, _∙_}
-use Rattle.combining.proofs.ObjectLaws.{count-every, count-right, count-one}
+use Rattle.combining.proofs.ObjectLaws.{place-every, place-right, place-one}
 use Rattle.combining.proofs.limits.count_place.Statement.{statement}
 use Rattle.combining.proofs.limits.count_place.Tie as tie
 
+-- ---- the places
+
+abbrev to-start : tie.After-is-extreme-at → tie.Start
+to-start c = c .before .before .before .before
+
+-- ---- the needs
+
 returns : tie.Need-returns
-returns c = λ u ty xs ys w v z p q l.
-    let d = c .before .before .before in
-    let k = d .before .before .before .before .args .k in
-    let e = sym (d .is-extreme-at .ensures u ty w) ∙ c .before .before .if1 .taken in
-    count-right ty k xs ys e _ (sym (v .count) ∙ c .if2 .taken) (z .count) (l e .1)
+returns c = λ u ty xs ys w v z p q few.
+    let extreme = c .before .before in
+    let asked = extreme .before in
+    place-right ty (to-start asked .args .k) xs ys (asked .is-extreme-at .ensures) w (extreme .if1 .taken) (sym (v .count) ∙ c .if2 .taken) (z .count) few
 
 returns-2 : tie.Need-returns-2
-returns-2 c = λ u ty xs ys w v z p q l.
-    let d = c .before .before .before in
-    let k = d .before .before .before .before .args .k in
-    count-one ty k xs ys (sym (d .is-extreme-at .ensures u ty w) ∙ c .before .before .if1 .taken) (λ e. c .if2 .left (v .count ∙ e))
+returns-2 c = λ u ty xs ys w v z p q few.
+    let extreme = c .before .before in
+    let asked = extreme .before in
+    place-one ty (to-start asked .args .k) xs ys (asked .is-extreme-at .ensures) w (extreme .if1 .taken) (λ e. c .if2 .left (v .count ∙ e))
 
 returns-3 : tie.Need-returns-3
-returns-3 c = λ u ty xs ys w v z p q l.
-    let d = c .before .before .before .before in
-    let k = d .before .before .before .before .args .k in
-    c .count-union .ensures xs ys (c .before .before .set-part .ensures xs v) (c .before .set-part2 .ensures ys z) p q
-    ∙ count-every ty k xs ys (sym (d .is-extreme-at .ensures u ty w) ∙ c .before .before .before .if1 .left)
+returns-3 c = λ u ty xs ys w v z p q few.
+    let left = c .before .before in
+    let plain = left .before in
+    let asked = plain .before in
+    c .count-union .ensures xs ys (left .set-part .ensures xs v) (c .before .set-part2 .ensures ys z) p q
+    ∙ place-every ty (to-start asked .args .k) xs ys (asked .is-extreme-at .ensures) w (plain .if1 .left)
 
 pub count-place-spec : {M : Type 1} → statement M
 count-place-spec =

@@ -6,7 +6,7 @@ use native.Mathlib.Omega.{arith}
 use mathlib.Core.Path.{_≡_, refl}
 use Prim.Native.Nat.{_-_, _≤_, _<_}
 use denote.Ref.{now}
-use Rattle.combining.specs.code.AddIndex.{countIn, measureIn}
+use Rattle.combining.specs.code.AddIndex.{countIn}
 use Rattle.combining.proofs.MeasureLaws.{PassedIn, none-passed, passed-low, passed-fits, passed-next, splits-met, splits-unmet, splits-end}
 use Rattle.combining.proofs.measures.place_of.Statement.{statement}
 use Rattle.combining.proofs.measures.place_of.Tie as tie
@@ -22,20 +22,15 @@ abbrev μ-loop : tie.MeasureT-loop
 abbrev to-start : tie.At-loop Inv-loop μ-loop → tie.Start Inv-loop μ-loop
 to-start c = c .before .before .before .before
 
-abbrev to-loop : tie.After-measure-at Inv-loop μ-loop → tie.At-loop Inv-loop μ-loop
-to-loop c = c .before .before
+-- the measure of the next snapshot is read
+abbrev to-read : tie.After-struct-known2 Inv-loop μ-loop → tie.After-measure-at Inv-loop μ-loop
+to-read c = c .before .before .before
 
-abbrev met-read : tie.Then1 Inv-loop μ-loop → tie.After-measure-at Inv-loop μ-loop
-met-read c = c .before .before .before .before
-
-abbrev else-read : tie.Else1 Inv-loop μ-loop → tie.After-measure-at Inv-loop μ-loop
-else-read c = c .before .before .before .before
-
-abbrev lower-read : tie.Then2 Inv-loop μ-loop → tie.After-measure-at Inv-loop μ-loop
-lower-read c = else-read (c .before .before .before)
+abbrev other : tie.After-struct-known4 Inv-loop μ-loop → tie.Else1 Inv-loop μ-loop
+other c = c .before .before
 
 abbrev higher-read : tie.Else2 Inv-loop μ-loop → tie.After-measure-at Inv-loop μ-loop
-higher-read c = else-read (c .before .before .before)
+higher-read c = to-read (other (c .before) .before)
 
 -- ---- the facts
 
@@ -43,48 +38,49 @@ higher-read c = else-read (c .before .before .before)
 low : (c : tie.At-loop Inv-loop μ-loop) → let m = now (to-start c .args .measures) in (c .loop .k ≤ countIn m) × (countIn m ≤ 8)
 low c = passed-low (c .loop .inv .1) (to-start c .pre .0)
 
-module _ (c : tie.After-measure-at Inv-loop μ-loop) where
-  -- there is a next snapshot, and its measure is read
-  next : to-loop c .loop .k < countIn (now (to-start (to-loop c) .args .measures))
-  next = omega (arith, to-loop c .loop .inv .0, c .before .loop-test .taken)
-
-  here : c .measure-at .result ≡ measureIn (now (to-start (to-loop c) .args .measures)) (to-loop c .loop .k)
-  here = c .measure-at .ensures
+-- there is a next snapshot
+next : (c : tie.In-loop Inv-loop μ-loop) → c .before .loop .k < countIn (now (to-start (c .before) .args .measures))
+next c = omega (arith, c .before .loop .inv .0, c .loop-test .taken)
 
 -- ---- the needs
 
-loop-holds : tie.Need-loop-holds Inv-loop μ-loop
-loop-holds c = (refl, none-passed)
-
 measure-at-requires : tie.Need-measure-at-requires Inv-loop μ-loop
-measure-at-requires c κs =
-    let at = c .before in
-    (to-start at .pre .1, omega (arith, at .loop .inv .0, c .loop-test .taken, low at))
+measure-at-requires c κs = (to-start (c .before) .pre .1, omega (arith, next c, low (c .before)))
 
 returns : tie.Need-returns Inv-loop μ-loop
-returns c = let at = met-read c in splits-met (to-loop at .loop .inv .1) (next at) _ (here at) (c .if1 .taken)
+returns c =
+    let read = to-read (c .before) in
+    let turn = read .before in
+    splits-met (turn .before .loop .inv .1) (next turn) (read .measure-at .ensures) (c .if1 .taken)
 
 returns-2 : tie.Need-returns-2 Inv-loop μ-loop
-returns-2 c = let at = lower-read c in splits-unmet (to-loop at .loop .inv .1) (next at) _ (here at) (c .if2 .taken)
+returns-2 c =
+    let read = to-read (other (c .before) .before) in
+    let turn = read .before in
+    splits-unmet (turn .before .loop .inv .1) (next turn) (read .measure-at .ensures) (c .if2 .taken)
 
 add-before : tie.Need-add-before Inv-loop μ-loop
 add-before c =
-    let at = higher-read (c .before) in
-    let start = to-start (to-loop at) in
-    omega (arith, passed-fits (to-loop at .loop .inv .1) (next at) _ (here at) (start .pre .0), start .good .0)
+    let read = higher-read (c .before) in
+    let turn = read .before in
+    let start = to-start (turn .before) in
+    omega (arith, passed-fits (turn .before .loop .inv .1) (next turn) (read .measure-at .ensures) (start .pre .0), start .good .0)
 
 add-k : tie.Need-add-k Inv-loop μ-loop
-add-k c = let at = higher-read (c .before) in omega (arith, next at, low (to-loop at))
+add-k c = let turn = higher-read (c .before) .before in omega (arith, next turn, low (turn .before))
 
 loop-less : tie.Need-loop-less Inv-loop μ-loop
-loop-less c = let at = higher-read (c .before) in omega (arith, at .before .loop-test .taken)
+loop-less c = omega (arith, higher-read (c .before) .before .loop-test .taken)
 
 loop-again : tie.Need-loop-again Inv-loop μ-loop
 loop-again c =
-    let at = higher-read (c .before) in
-    let below : at .measure-at .result .version .0 < to-start (to-loop at) .args .version .0 =
-    omega (arith, c .before .before .before .before .if1 .left, c .before .if2 .left) in
-    (to-loop at .loop .inv .0, passed-next (to-loop at .loop .inv .1) (next at) _ (here at) below)
+    let higher = c .before in
+    let read = higher-read higher in
+    let turn = read .before in
+    let l = turn .before .loop in
+    let below : read .measure-at .result .version .0 < to-start (turn .before) .args .version .0 =
+    omega (arith, other (higher .before) .if1 .left, higher .if2 .left) in
+    (l .inv .0, passed-next (l .inv .1) (next turn) (read .measure-at .ensures) below)
 
 returns-3 : tie.Need-returns-3 Inv-loop μ-loop
 returns-3 c = splits-end (c .before .loop .inv .1) (omega (arith, c .before .loop .inv .0, c .loop-test .left))
@@ -96,7 +92,7 @@ place-of-spec =
     Inv-loop
     μ-loop
     (λ c. search needs)
-    loop-holds
+    (λ c. (refl, none-passed))
     measure-at-requires
     returns
     returns-2

@@ -1,12 +1,12 @@
--- Two snapshots of the same bytes are one, and together with itself a snapshot is itself. Of others the type's mark says by which of the two rules they are
--- joined; each needs the count of the type's properties, past which both sides are vacant.
+-- `write::write_shared` meets its contract. Two snapshots of the same bytes are one, and together with itself a snapshot is itself. Of others the type's mark
+-- says by which of the two rules they are joined; each needs the count of the type's properties, past which both sides are vacant.
+use borrow.Author.Needs.{needs}
 use mathlib.Core.Path.{_≡_, sym, _∙_}
 use mathlib.Core.Bool.{true}
 use denote.Ref.{now}
 use Rattle.model.specs.Order.{texts, equal}
 use Rattle.packed.proofs.WriteLaws.{wrote-as}
-use Rattle.combining.proofs.MergedLaws.{same-written, same-room, is-versioned, not-versioned, agreed-room, joined-room}
-use borrow.Author.Needs.{needs}
+use Rattle.combining.proofs.MergedLaws.{same-written, same-room, agreed-room, joined-room, agreed-wrote, joined-wrote}
 use Rattle.combining.proofs.write.write_shared.Statement.{statement}
 use Rattle.combining.proofs.write.write_shared.Tie as tie
 
@@ -25,9 +25,6 @@ alike c = sym (c .before .same .ensures) ∙ c .if1 .taken
 
 -- ---- the needs
 
-copy-requires : tie.Need-copy-requires
-copy-requires c κs = same-room (to-start (c .before .before) .pre .3) (alike (c .before))
-
 returns : tie.Need-returns
 returns c = λ u ty x y w s p q.
     let copied = c .before .before in
@@ -41,7 +38,7 @@ write-agreed-requires c κs =
 returns-2 : tie.Need-returns-2
 returns-2 c = λ u ty x y w s p q.
     let wrote = c .before .before in
-    wrote .write-agreed .ensures ty x y (is-versioned w (wrote .before .before .if2 .taken)) (w .are .count) s
+    agreed-wrote w s (wrote .write-agreed .ensures) (wrote .before .before .if2 .taken)
 
 write-joined-requires : tie.Need-write-joined-requires
 write-joined-requires c κs =
@@ -51,14 +48,14 @@ write-joined-requires c κs =
 returns-3 : tie.Need-returns-3
 returns-3 c = λ u ty x y w s p q.
     let wrote = c .before .before in
-    wrote .write-joined .ensures u ty x y (w .are) (not-versioned w (wrote .before .before .if2 .left)) (s .meet) (s .left-is .sets) (s .right-is .sets)
+    joined-wrote w s (wrote .write-joined .ensures) (wrote .before .before .if2 .left)
 
 pub write-shared-spec : {M : Type 1} → statement M
 write-shared-spec =
     tie.close
     (tie.spec
     (λ c κs. search needs)
-    copy-requires
+    (λ c κs. same-room (to-start (c .before .before) .pre .3) (alike (c .before)))
     (λ c. search needs)
     returns
     write-agreed-requires
