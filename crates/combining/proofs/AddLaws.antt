@@ -266,7 +266,7 @@ module _
   right-head-is = subst (λ (g : Head). HeadIs event g (e .head)) (sym right-head) (h .read .head)
 
   -- the snapshots of both
-  pub whole-with : combined (k .left) (k .right) .snapshots ≡ withSnapshot ss p (metWith ty ss p y)
+  whole-with : combined (k .left) (k .right) .snapshots ≡ withSnapshot ss p (metWith ty ss p y)
   whole-with =
       whole-snapshots k
       ∙ ap (merge numbers versionIn (joinSnapshots (typeView ty)) ss) right-snapshots
@@ -274,14 +274,14 @@ module _
 
   -- ---- how many they are
 
-  pub many-met : p .meets ≡ true → length (combined (k .left) (k .right) .snapshots) ≡ length ss
+  many-met : p .meets ≡ true → length (combined (k .left) (k .right) .snapshots) ≡ length ss
   many-met q =
       ap length whole-with
       ∙ ap (λ (b : Bool). length (take (p .index) ss ++ (metWith ty ss p y ∷ drop (cond b (suc (p .index)) (p .index)) ss))) q
       ∙ length-with ss (p .index) (suc (p .index)) (metWith ty ss p y) (h .splits .within) (omega (arith, h .splits .met q .0))
       ∙ omega (arith, h .splits .met q .0)
 
-  pub many-unmet : p .meets ≡ false → length (combined (k .left) (k .right) .snapshots) ≡ length ss + 1
+  many-unmet : p .meets ≡ false → length (combined (k .left) (k .right) .snapshots) ≡ length ss + 1
   many-unmet q =
       ap length whole-with
       ∙ ap (λ (b : Bool). length (take (p .index) ss ++ (metWith ty ss p y ∷ drop (cond b (suc (p .index)) (p .index)) ss))) q
@@ -299,7 +299,7 @@ module _
   lower-within : start ≤ length sofar
   lower-within = omega (arith, h .splits .before, lower-stands .within)
 
-  pub lower-part : part sofar body start ≡ bytesOf (take (p .index) ss)
+  lower-part : part sofar body start ≡ bytesOf (take (p .index) ss)
   lower-part = ap (λ (n : ℕ). part sofar body (body + n)) (h .splits .before) ∙ lower-stands .here
 
   from-start : drop start sofar ≡ bytesOf (drop (p .index) ss)
@@ -327,7 +327,7 @@ module _
             ap (λ (n : ℕ). drop n sofar) n ∙ from-start ∙ ap (λ (b : Bool). bytesOf (drop (cond b (suc (p .index)) (p .index)) ss)) (sym q),
           )
 
-  pub higher-part : part sofar (start + p .size) (length sofar) ≡ bytesOf (drop (lowerOrSame p) ss)
+  higher-part : part sofar (start + p .size) (length sofar) ≡ bytesOf (drop (lowerOrSame p) ss)
   higher-part = to-end sofar (start + p .size) ∙ higher-there .1
 
   -- ---- the snapshot of the event, and the one of its version
@@ -344,7 +344,7 @@ module _
       y-sets : map held (y .cells) ≡ typed .event .sets
       y-sets = lone-sets (typed .type) (typed .event) (kept checked) (fit checked)
 
-  pub y-objects : e .objects ≡ sizes (y .cells)
+  y-objects : e .objects ≡ sizes (y .cells)
   y-objects =
       h .read .objects
       ∙ ap objectCount (sym (lone-sets (typed .type) (typed .event) (kept checked) (fit checked)))
@@ -404,10 +404,10 @@ module _
     pub new-met : metWith ty ss p y ≡ joinSnapshots (typeView ty) here y
     new-met = ap (λ (b : Bool). cond b (joinSnapshots (typeView ty) here y) y) q
 
-  pub new-alone : p .meets ≡ false → metWith ty ss p y ≡ y
+  new-alone : p .meets ≡ false → metWith ty ss p y ≡ y
   new-alone q = ap (λ (b : Bool). cond b (joinSnapshots (typeView ty) (getD ss (p .index) noSnapshot) y) y) q
 
-  pub y-bytes : snapshotBytes y ≡ aloneBytes (typed .event) (versionOf (typed .type) (typed .event))
+  y-bytes : snapshotBytes y ≡ aloneBytes (typed .event) (versionOf (typed .type) (typed .event))
   y-bytes = alone-bytes (typed .type) (typed .event) (kept checked) (fit checked)
 
   -- ---- the snapshots of both, as bytes
@@ -492,7 +492,7 @@ module _
 
   -- ---- an unversioned dossier has the event's version
 
-  pub always-met : t .mark ≤ 0 → p .meets ≡ true
+  always-met : t .mark ≤ 0 → p .meets ≡ true
   always-met un = go (p .meets) refl
     where
       one : length ss ≡ 1
@@ -510,7 +510,7 @@ module _
       go true q = q
       go false q = absurd (apart (p .index) (omega (arith, one, h .splits .within)) (h .splits .lower) (h .splits .unmet q .1))
 
-  pub first-place : t .mark ≤ 0 → (p .index ≡ 0) × (start ≡ body)
+  first-place : t .mark ≤ 0 → (p .index ≡ 0) × (start ≡ body)
   unfolding flatten
   first-place un =
       let z : p .index ≡ 0 = omega (arith, left-one k un, h .splits .met (always-met un) .0) in
@@ -578,8 +578,8 @@ module _
 -- the place of that snapshot stands in the bytes of the dossier
 pub ends-within :
     {sofar event : List ℕ} {e : EventIndex} {ats : List ℕ} {body : ℕ} {p : Place} {t : TypeIndex} {ps : List ℕ} →
-    AddingAt sofar event e ats body p t ps → (body + p .before ≤ length sofar) × (body + p .before + p .size ≤ length sofar)
-ends-within i = (lower-within (i .is), higher-there (i .is) .0)
+    AddingAt sofar event e ats body p t ps → body + p .before + p .size ≤ length sofar
+ends-within i = higher-there (i .is) .0
 
 module _
     {sofar event : List ℕ} {e : EventIndex} {ats : List ℕ} {body : ℕ} {p : Place} {version : EventVersion} {t : TypeIndex} {ps : List ℕ}

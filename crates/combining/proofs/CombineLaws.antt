@@ -59,7 +59,7 @@ pub record Taken (types : Table) (s : List ℕ) (d : DossierIndex) (rows : List 
 module _
     (types : Table) (s : List ℕ) (d : DossierIndex) (rows : List ℕ) (w : DossierReads (dossierOf standard s) s rows d)
     (r : ℕ) (number : NumberIs (dossierAsked standard types s) r) where
-  pub refused-by : (r ≡ 0 → ⊥) → dossierAsked standard types s ≡ refused r
+  refused-by : (r ≡ 0 → ⊥) → dossierAsked standard types s ≡ refused r
   unfolding NumberIs
   refused-by h = go (dossierAsked standard types s) number
     where
@@ -72,7 +72,7 @@ module _
       let is = reads-is s rows d (a .headed) w (dossier-taken types s a e .read) in
       record { what = a; asked = e; stands = is .0; in-rows = is .1 }
 
-  pub taken-by : r ≡ 0 → Taken types s d rows
+  taken-by : r ≡ 0 → Taken types s d rows
   unfolding NumberIs
   taken-by h = go (dossierAsked standard types s) refl number
     where
@@ -81,7 +81,7 @@ module _
       go (accepted a) e k = taken-as a e
 
 -- what `ask_dossier` answers
-abbrev pub Asks : List ℕ → DossierIndex → TableRead → List ℕ → ℕ → Type 0
+abbrev Asks : List ℕ → DossierIndex → TableRead → List ℕ → ℕ → Type 0
 Asks s d read ps r =
     (table : List ℕ) (ts : Table) → tableOf table ≡ some ts → ((h : Headed) → DossierIs s h d → TypeSays (typeNamed (h .head .type) ts) table ps read) →
     DossierAnswers (dossierAsked standard ts s) table (read .index) ps r
@@ -112,7 +112,7 @@ module _
       go (accepted a) e w = w .0
 
   -- the type of the dossier is the one that the table was read for
-  pub typed-by : r ≡ 0 → (a : TypedDossier) → dossierAsked standard (k .types) s ≡ accepted a → TypeIs table (a .type) (read .index) ps
+  typed-by : r ≡ 0 → (a : TypedDossier) → dossierAsked standard (k .types) s ≡ accepted a → TypeIs table (a .type) (read .index) ps
   typed-by h a e =
       let x = all-answered h in
       subst (λ (z : TypedDossier). TypeIs table (z .type) (read .index) ps) (accepted-same (x .what) a (sym (x .asked) ∙ e)) (x .typed)
@@ -186,13 +186,13 @@ module _ (table left right out : List ℕ) where
     unfolding combineCall combineAnswer combineAsked
     combine-untabled name ps r w h = rw (has-room dossierCapacity (length out) room, table-refused table name ps r w h)
 
-    pub combine-left :
+    combine-left :
         (k : Tabled table) (n : ℕ) → dossierAsked standard (k .types) left ≡ refused n →
         combineReplies (Refused n) out ≡ combineCall standard table left right out
     unfolding combineCall combineAnswer combineAsked
     combine-left k n e = rw (has-room dossierCapacity (length out) room, k .is, e)
 
-    pub combine-right :
+    combine-right :
         (k : Tabled table) {d : DossierIndex} {rows : List ℕ} → Taken (k .types) left d rows →
         (n : ℕ) → dossierAsked standard (k .types) right ≡ refused n → combineReplies (Refused n) out ≡ combineCall standard table left right out
     unfolding combineCall combineAnswer combineAsked
@@ -277,9 +277,11 @@ module _
           combine-right table a b out room known (left-taken yes-left) second (refused-by (known .types) b e right (o .right-read) second right-number n)
 
       pub both-taken : second ≡ 0 → BothTaken table a d left b e right (read .index) ps
-      both-taken yes-right = record {
-        known = known;
-        left-taken = left-taken yes-left;
-        right-taken = taken-by (known .types) b e right (o .right-read) second right-number yes-right;
-        typed = typed-by table a known d name (o .left-named) ps read (o .table-read) first asks yes-left (left-taken yes-left .what) (left-taken yes-left .asked);
-      }
+      both-taken yes-right =
+          let x = left-taken yes-left in
+          record {
+            known = known;
+            left-taken = x;
+            right-taken = taken-by (known .types) b e right (o .right-read) second right-number yes-right;
+            typed = typed-by table a known d name (o .left-named) ps read (o .table-read) first asks yes-left (x .what) (x .asked);
+          }

@@ -261,6 +261,17 @@ module _
       n ≡ length (combined (c .known .left) (c .known .right) .snapshots)
   versions-counted says = says left-rises right-rises ∙ whole-versions
 
+  module _
+      (go-on : ToVersions (c .known)) {n : ℕ}
+      (says : rising numbers (versionNumbers (take (d .count) (d .versions))) ≡ true →
+      rising numbers (versionNumbers (take (e .count) (e .versions))) ≡ true →
+      n ≡ length (union numbers (versionNumbers (take (d .count) (d .versions))) (versionNumbers (take (e .count) (e .versions))))) where
+    pub versions-over : 8 < n → false ≡ fits standard (typeView (c .known .left .type)) (combined (c .known .left) (c .known .right))
+    versions-over = fits-versions (c .known) go-on (versions-counted says)
+
+    pub versions-few : n ≤ 8 → ToObjects (c .known)
+    versions-few = to-objects (c .known) go-on (versions-counted says)
+
   -- two first snapshots of an unversioned type, which `objects_fit` is asked of
   module _ (un : t .mark ≤ 0) where
     abbrev left-first : Snapshot

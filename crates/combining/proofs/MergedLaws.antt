@@ -370,13 +370,13 @@ module _
   nextBytes i j = snapshotBytes (nextSnapshot (c .known .left .type) (getD lefts i noSnapshot) (getD rights j noSnapshot))
 
   -- one side alone is left
-  pub merged-left : (i j : ℕ) → e .count ≤ j → mergedBytes i j ≡ bytesFrom lefts i
+  merged-left : (i j : ℕ) → e .count ≤ j → mergedBytes i j ≡ bytesFrom lefts i
   merged-left i j h =
       ap (λ (ss : List Snapshot). flatten (map snapshotBytes ss))
       (ap (mergedOf (c .known .left .type) (drop i lefts)) (drop-of-length-le rights {i = j} (omega (arith, c .right-read .count)))
       ∙ merge-nil numbers versionIn (joinSnapshots (typeView (c .known .left .type))) (join-keeps (c .known .left .type)) (drop i lefts) (left-rising i))
 
-  pub merged-right : (i j : ℕ) → d .count ≤ i → mergedBytes i j ≡ bytesFrom rights j
+  merged-right : (i j : ℕ) → d .count ≤ i → mergedBytes i j ≡ bytesFrom rights j
   unfolding merge
   merged-right i j h =
       ap (λ (ss : List Snapshot). flatten (map snapshotBytes (mergedOf (c .known .left .type) ss (drop j rights))))
@@ -408,12 +408,12 @@ module _
         (sym (p ∙ ap₂ stepBy (left-version i l) (right-version j m)))
         (sym (q ∙ ap₂ stepBy (right-version j m) (left-version i l))))
 
-    pub next-left : versionAt (d .versions) i < versionAt (e .versions) j → part a (getD (d .starts) i 0) (getD (d .ends) i 0) ≡ nextBytes i j
+    next-left : versionAt (d .versions) i < versionAt (e .versions) j → part a (getD (d .starts) i 0) (getD (d .ends) i 0) ≡ nextBytes i j
     next-left h =
         c .left-read .snapshots .each i (omega (arith, c .left-read .count)) .bytes
         ∙ ap snapshotBytes (sym (next-less (c .known .left .type) leftOne rightOne (omega (arith, left-version i l, right-version j m))))
 
-    pub next-right : versionAt (e .versions) j < versionAt (d .versions) i → part b (getD (e .starts) j 0) (getD (e .ends) j 0) ≡ nextBytes i j
+    next-right : versionAt (e .versions) j < versionAt (d .versions) i → part b (getD (e .starts) j 0) (getD (e .ends) j 0) ≡ nextBytes i j
     next-right h =
         c .right-read .snapshots .each j (omega (arith, c .right-read .count)) .bytes
         ∙ ap snapshotBytes (sym (next-more (c .known .left .type) leftOne rightOne (omega (arith, left-version i l, right-version j m))))
@@ -437,7 +437,7 @@ module _
         versionAt (e .versions) j ≤ versionAt (d .versions) i → versionAt (d .versions) i ≤ versionAt (e .versions) j → leftOne .version ≡ rightOne .version
     one-version h k = omega (arith, left-version i l, right-version j m)
 
-    pub next-both :
+    next-both :
         versionAt (e .versions) j ≤ versionAt (d .versions) i → versionAt (d .versions) i ≤ versionAt (e .versions) j →
         snapshotBytes (joinSnapshots (typeView (c .known .left .type)) leftOne rightOne) ≡ nextBytes i j
     next-both h k = ap snapshotBytes (sym (next-same (c .known .left .type) leftOne rightOne (one-version h k)))
@@ -572,7 +572,7 @@ module _
         {table : List ℕ} (h : Combinable table a d left b e right t ps) → Wrote l 0 (dossierHeadBytes (bothHeads (leftHead h) (rightHead h))) l₁ x
     head-wrote h = heads (leftHead h) (rightHead h) (heads-are h (r .inside _ h))
 
-    rooms : WholeRoom l (wholeHead (r .both .known)) (length (combined (r .both .known .left) (r .both .known .right) .snapshots)) (wholeSnapshots (r .both .known))
+    rooms : let k = r .both .known in WholeRoom l (wholeHead k) (length (combined (k .left) (k .right) .snapshots)) (wholeSnapshots k)
     rooms = whole-room (r .both .known) (r .room)
 
     pub number-there : x + length (number n) ≤ length l₁

@@ -40,9 +40,6 @@ pub record WholeRoom (l head : List ℕ) (count : ℕ) (body : List ℕ) : Type 
   pub room : length head + length (number count) + length body ≤ length l
 
 module _ {l head : List ℕ} {count : ℕ} {body : List ℕ} (r : WholeRoom l head count body) where
-  pub head-room : length head ≤ length l
-  head-room = omega (arith, r .room)
-
   module _ {l₁ : List ℕ} {p : ℕ} (u : Wrote l 0 head l₁ p) {n : ℕ} (e : n ≡ count) where
     head-end : p + length (number n) + length body ≤ length l₁
     head-end = omega (arith, r .room, u .after, wrote-length u, ap (λ (i : ℕ). length (number i)) e)

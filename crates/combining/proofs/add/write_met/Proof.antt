@@ -69,8 +69,8 @@ returns c =
     let alike = copied .before .before in
     let asked = alike .before in
     let apart = to-alone (asked .before) in
-    both-copied (apart .write-alone .ensures) (alone-to-start apart .pre .2) (apart .before .before .part-of .ensures) (asked .same .ensures) (alike .if1 .taken)
-    (copied .copy .ensures)
+    both-copied (apart .write-alone .ensures) (alone-to-start apart .pre .2) (apart .before .before .part-of .ensures) (asked .same .ensures)
+    (alike .if1 .taken) (copied .copy .ensures)
 
 read-snapshot-requires : tie.Need-read-snapshot-requires
 read-snapshot-requires c κs =

@@ -3,6 +3,9 @@ use borrow.Author.Needs.{needs}
 use borrow.Author.Tests.{not-true, not-false}
 use native.Mathlib.Omega.{arith}
 use mathlib.Core.Path.{sym, ap}
+use Prim.Native.Nat.{_+_, _≤_}
+use lib.ListN.{length}
+use denote.Ref.{now}
 use Rattle.packed.proofs.WriteLaws.{wrote-as}
 use Rattle.dossier.specs.DossierBody.{snapshotBytes}
 use Rattle.combining.proofs.AddLaws.{ends-within, alone-there, new-alone-bytes, both-there, met-both, new-met}
@@ -22,6 +25,12 @@ to-met c = c .before .before .before .before
 
 abbrev written : tie.After-slice-known5 → tie.After-write-met
 written c = c .before .before .before .before
+
+-- ---- the facts
+
+-- the snapshot of the event's version stands in the dossier
+stands-within : (c : tie.Else1) → let a = met-to-start c .args in a .body + a .p .before + a .p .size ≤ length (now (a .sofar))
+stands-within c = ends-within (met-to-start c .pre .2 .in-some)
 
 -- ---- the needs
 
@@ -55,8 +64,8 @@ write-new-spec =
     write-alone-requires
     (λ c. search needs)
     returns
-    (λ c. omega (arith, ends-within (met-to-start (c .before) .pre .2 .in-some)))
-    (λ c. omega (arith, ends-within (met-to-start (c .before .before) .pre .2 .in-some)))
+    (λ c. omega (arith, stands-within (c .before)))
+    (λ c. omega (arith, stands-within (c .before .before)))
     write-met-requires
     (λ c. search needs)
     (λ c. search needs)

@@ -2,6 +2,9 @@
 -- those of higher versions as they stand.
 use borrow.Author.Needs.{needs}
 use native.Mathlib.Omega.{arith}
+use Prim.Native.Nat.{_+_, _≤_}
+use lib.ListN.{length}
+use denote.Ref.{now}
 use Rattle.combining.proofs.AddLaws.{ends-within, lower-there, new-there, new-follows, higher-room, wrote-parts}
 use Rattle.combining.proofs.add.write_with.Statement.{statement}
 use Rattle.combining.proofs.add.write_with.Tie as tie
@@ -21,6 +24,12 @@ to-lower c = c .before .before .before .before
 -- and the one of the event's version
 abbrev to-new : tie.After-slice-known5 → tie.After-write-new
 to-new c = c .before .before .before .before
+
+-- ---- the facts
+
+-- the place of the event's version stands in the dossier
+place-within : (c : tie.After-struct-known) → let a = to-start c .args in a .body + a .p .before + a .p .size ≤ length (now (a .sofar))
+place-within c = ends-within (to-start c .pre .2 .in-some)
 
 -- ---- the needs
 
@@ -58,8 +67,8 @@ pub write-with-spec : {M : Type 1} → statement M
 write-with-spec =
     tie.close
     (tie.spec
-    (λ c. omega (arith, ends-within (to-start c .pre .2 .in-some)))
-    (λ c. omega (arith, ends-within (to-start (c .before) .pre .2 .in-some)))
+    (λ c. omega (arith, place-within c))
+    (λ c. omega (arith, place-within (c .before)))
     copy-part-requires
     write-new-requires
     sub-size

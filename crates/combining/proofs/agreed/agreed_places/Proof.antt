@@ -1,5 +1,5 @@
--- `agreed::agreed_places` meets its contract. A place that was looked at has what is agreed there: it is kept where neither side marks it and both have one set.
--- A place from `count` on has no property, so it is vacant on both sides and in what they are together; it stays false in both arrays.
+-- `agreed::agreed_places` meets its contract. A place that was looked at has what is agreed there: it is kept where neither side marks it and both have one
+-- set. A place from `count` on has no property, so it is vacant on both sides and in what they are together; it stays false in both arrays.
 use mathlib.Core.Path.{_≡_, refl}
 use mathlib.Core.Bool.{true}
 use Prim.Native.Nat.{_-_, _<_}

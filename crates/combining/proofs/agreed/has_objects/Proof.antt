@@ -3,8 +3,6 @@ use mathlib.Core.Bool.{Bool, _&&_}
 use lib.Dec.{ltb}
 use Rattle.combining.proofs.agreed.has_objects.Statement.{statement}
 use Rattle.combining.proofs.agreed.has_objects.Tie as tie
-use Rattle.combining.proofs.agreed.has_objects.Reads as reads
-use Rattle.combining.proofs.agreed.has_objects.Lts as lts
 
 returns : tie.Need-returns
 returns c = sym (ap (λ (b : Bool). b && ltb 0 (c .before .args .count)) (c .if1 .taken))

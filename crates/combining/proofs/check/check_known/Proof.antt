@@ -24,22 +24,19 @@ to-version c = c .before .before
 abbrev to-written : tie.After-struct-known → tie.After-write-lone
 to-written c = c .before .before .before
 
--- ---- the values
+-- ---- the event is read
 
--- the numbers of the event's sets
-abbrev sets : tie.After-read-event → List ℕ
-sets c = c .read-event .last .1 .1 .0
+module _ (c : tie.After-read-event) where
+  -- the numbers of its sets
+  abbrev sets : List ℕ
+  sets = c .read-event .last .1 .1 .0
 
--- ---- the facts
+  sets-long : length sets ≡ 96
+  sets-long = search needs
 
-sets-long : (c : tie.After-read-event) → length (sets c) ≡ 96
-sets-long c = search needs
-
--- the event is accepted, as it is known to be
-abbrev event-taken :
-    (c : tie.After-read-event) → let a = to-start c .args in
-    Checked (now (a .table)) (now (a .event)) (a .t) (c .read-event .result) (sets c)
-event-taken c = known-checked (to-start c .pre .0) (c .read-event .ensures)
+  -- it is accepted, as it is known to be
+  abbrev event-taken : let a = to-start c .args in Checked (now (a .table)) (now (a .event)) (a .t) (c .read-event .result) sets
+  event-taken = known-checked (to-start c .pre .0) (c .read-event .ensures)
 
 -- ---- the needs
 

@@ -45,12 +45,6 @@ read-before :
     TableSays (tableOf (table n)) (table n) (other n) (now (a .properties)) (a .read)
 read-before c = says-same _ _ _ _ _ (c .before .same .ensures) (c .if1 .taken) (to-start (c .before .before) .pre .1 .1)
 
--- or is read for it
-read-again :
-    (c : tie.After-read-table) → let n = to-named (to-else c) in
-    TableSays (tableOf (table n)) (table n) (other n) (c .read-table .last .1 .1 .0) (c .read-table .result)
-read-again c = c .read-table .ensures
-
 -- ---- the needs
 
 ask-dossier-requires : tie.Need-ask-dossier-requires
@@ -65,14 +59,15 @@ returns c = λ ts e.
 
 ask-dossier-requires-2 : tie.Need-ask-dossier-requires-2
 ask-dossier-requires-2 c κs =
-    let n = to-named (to-else (to-read c)) in
+    let read = to-read c in
+    let n = to-named (to-else read) in
     let p = to-start n .pre .0 in
-    ((p .0, search needs), (p .2, type-few _ _ _ _ (read-again (to-read c)) (known n)))
+    ((p .0, search needs), (p .2, type-few _ _ _ _ (read .read-table .ensures) (known n)))
 
 returns-2 : tie.Need-returns-2
 returns-2 c = λ ts e.
     let read = to-read (c .before) in
-    numbered _ _ (record { types = ts; is = e }) _ _ (to-named (to-else read) .type-name .ensures) _ _ (read-again read) _ (c .ask-dossier2 .ensures)
+    numbered _ _ (record { types = ts; is = e }) _ _ (to-named (to-else read) .type-name .ensures) _ _ (read .read-table .ensures) _ (c .ask-dossier2 .ensures)
 
 pub ask-other-spec : {M : Type 1} → statement M
 ask-other-spec =

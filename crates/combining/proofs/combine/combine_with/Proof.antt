@@ -104,22 +104,14 @@ ok c = not-false _ (c .if1 .left)
 
 -- ---- both dossiers are taken
 
-module _ (c : tie.Else3) where
-  both :
-      let t = if3-to-table c in
-      let a = to-start t .args in
-      BothTaken (now (a .table)) (now (a .a)) (d t) (left-rows t) (now (a .b)) (e t) (right-rows t) (read t .index) (properties t)
-  both =
-      let at = to-if2 (c .before) in
-      let asked = at .before in
-      both-taken (opened (if3-to-table c)) (ok (to-if1 asked)) _ (asked .ask-dossier .ensures) (at .if2 .left) _ (c .before .ask-other .ensures) (c .if3 .left)
-
-  -- a dossier has a snapshot, so its first row is there
-  left-first : 96 ≤ length (left-rows (if3-to-table c))
-  left-first = omega (arith, opened (if3-to-table c) .left-inside, both .left-taken .stands .one)
-
-  right-first : 96 ≤ length (right-rows (if3-to-table c))
-  right-first = omega (arith, opened (if3-to-table c) .right-inside, both .right-taken .stands .one)
+both :
+    (c : tie.Else3) → let t = if3-to-table c in
+    let a = to-start t .args in
+    BothTaken (now (a .table)) (now (a .a)) (d t) (left-rows t) (now (a .b)) (e t) (right-rows t) (read t .index) (properties t)
+both c =
+    let at = to-if2 (c .before) in
+    let asked = at .before in
+    both-taken (opened (if3-to-table c)) (ok (to-if1 asked)) _ (asked .ask-dossier .ensures) (at .if2 .left) _ (c .before .ask-other .ensures) (c .if3 .left)
 
 -- ---- the needs
 
@@ -158,7 +150,10 @@ dossiers-agree-requires : tie.Need-dossiers-agree-requires
 dossiers-agree-requires c κs =
     let rows = c .before in
     let at-if3 = rows .before .before .before in
-    (both at-if3 .typed .are .few, left-first at-if3, right-first at-if3, opened (if3-to-table at-if3) .long)
+    let b = both at-if3 in
+    let o = opened (if3-to-table at-if3) in
+    -- a dossier has a snapshot, so its first row is there
+    (b .typed .are .few, omega (arith, o .left-inside, b .left-taken .stands .one), omega (arith, o .right-inside, b .right-taken .stands .one), o .long)
 
 returns-4 : tie.Need-returns-4
 returns-4 c =

@@ -1,4 +1,5 @@
--- A place of the loop has what is said of it, and the places past it are still false, which is right where the loop ends: from `count` on there are no objects.
+-- `joined::joined_places` meets its contract: a place that the loop has passed has what is said of it, and the others are still false, which is right where
+-- the loop ends, since from `count` on there are no objects.
 use mathlib.Core.Path.{ap₂, _∙_}
 use Prim.Native.Nat.{_-_, _<_}
 use Rattle.event.specs.code.EventIndex.{setIn}
@@ -16,35 +17,26 @@ Inv-loop left right count present₀ k₀ present k = FilledOnly (λ p. haveObje
 abbrev μ-loop : tie.MeasureT-loop
 μ-loop left right count present₀ k₀ present k = count - k
 
+-- ---- the places
+
 abbrev to-turn : tie.After-have-objects Inv-loop μ-loop → tie.In-loop Inv-loop μ-loop
 to-turn c = c .before .before .before
+
+-- ---- the facts
 
 -- a place of the loop is one of the 32
 inside : (c : tie.In-loop Inv-loop μ-loop) → c .before .loop .k < 32
 inside c = search needs
 
-loop-holds : tie.Need-loop-holds Inv-loop μ-loop
-loop-holds c = only-none
-
-set-at-requires : tie.Need-set-at-requires Inv-loop μ-loop
-set-at-requires c κs = (search needs, inside c)
-
-set-at-requires-2 : tie.Need-set-at-requires-2 Inv-loop μ-loop
-set-at-requires-2 c κs = (search needs, inside (c .before))
+-- ---- the needs
 
 array-write-present : tie.Need-array-write-present Inv-loop μ-loop
 array-write-present c = omega (arith, inside (to-turn c), to-turn c .before .loop .inv .filled .long)
-
-loop-less : tie.Need-loop-less Inv-loop μ-loop
-loop-less c = omega (arith, to-turn c .loop-test .taken)
 
 loop-again : tie.Need-loop-again Inv-loop μ-loop
 loop-again c =
     let there = c .have-objects .ensures ∙ ap₂ haveObjects (c .before .before .set-at .ensures) (c .before .set-at2 .ensures) in
     only-more (to-turn c .before .loop .inv) (inside (to-turn c)) there
-
-returns : tie.Need-returns Inv-loop μ-loop
-returns c = λ none. places-all (c .before .loop .inv) none (c .loop-test .left)
 
 pub joined-places-spec : {M : Type 1} → statement M
 joined-places-spec =
@@ -52,12 +44,12 @@ joined-places-spec =
     (tie.spec
     Inv-loop
     μ-loop
-    loop-holds
-    set-at-requires
-    set-at-requires-2
+    (λ c. only-none)
+    (λ c κs. (search needs, inside c))
+    (λ c κs. (search needs, inside (c .before)))
     (λ c κs. search needs)
     array-write-present
     (λ c. search needs)
-    loop-less
+    (λ c. omega (arith, to-turn c .loop-test .taken))
     loop-again
-    returns)
+    (λ c. λ empty. places-all (c .before .loop .inv) empty (c .loop-test .left)))

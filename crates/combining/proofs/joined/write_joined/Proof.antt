@@ -7,7 +7,7 @@ use Prim.Native.Nat.{ℕ, _-_, _<_}
 use denote.Ref.{now}
 use Rattle.model.specs.Rule.{Snapshot}
 use Rattle.packed.specs.code.Written.{ToGo}
-use Rattle.packed.proofs.WriteLaws.{wrote-length, to-go, gone, all-gone}
+use Rattle.packed.proofs.WriteLaws.{to-go, gone, all-gone}
 use Rattle.ontology.specs.Table.{EventType}
 use Rattle.event.specs.EventLayout.{bitNumber}
 use Rattle.event.specs.code.EventIndex.{bitOf}
@@ -106,8 +106,7 @@ same-length : tie.Need-same-length Inv-loop μ-loop
 same-length c =
     let at-loop = c .before in
     at-loop .loop .inv _ _ _ _ (room-joins (to-start (places at-loop) .pre .3)) .long
-    ∙ wrote-length (differ at-loop .write-number3 .ensures) ∙ wrote-length (presence at-loop .write-number2 .ensures)
-    ∙ wrote-length (version at-loop .write-number .ensures)
+    ∙ differ at-loop .write-number3 .kept .0 ∙ presence at-loop .write-number2 .kept .0 ∙ version at-loop .write-number .kept .0
 
 returns : tie.Need-returns Inv-loop μ-loop
 returns c = λ u ty x y w v m l r.

@@ -1,6 +1,5 @@
 -- `joined::write_values` meets its contract: the union is written one byte after where its count is to stand, which takes a byte at least, and the count, which
 -- is known then, is put before it.
-use borrow.Author.Needs.{needs}
 use native.Mathlib.Omega.{arith}
 use mathlib.Core.Path.{_∙_}
 use Rattle.combining.proofs.JoinedLaws.{values-few, at-within, union-there, shared-within, before-there, union-written}

@@ -1,3 +1,4 @@
+-- `limits::count_place` meets its contract: a place of strategy min or max has one object where either side has one, and any other place those of the union.
 use borrow.Author.Needs.{needs}
 use mathlib.Core.Path.{sym, _∙_}
 use Rattle.combining.proofs.ObjectLaws.{place-every, place-right, place-one}

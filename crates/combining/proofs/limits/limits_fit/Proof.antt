@@ -2,16 +2,13 @@
 -- yes, the whole answer is that of going on (`ToVersions`, `ToObjects`).
 use borrow.Author.Needs.{needs}
 use borrow.Author.Tests.{not-true, not-false}
-use mathlib.Core.Path.{_≡_}
 use mathlib.Core.List.{List}
-use Prim.Native.Nat.{ℕ, _≤_}
-use lib.ListN.{length}
-use lib.Seq.{length-take-le}
+use Prim.Native.Nat.{ℕ}
 use denote.Ref.{now}
-use Rattle.dossier.specs.code.DossierIndex.{rowOf}
 use Rattle.combining.specs.code.CombineIndex.{Combinable}
-use Rattle.combining.proofs.FitLaws.{ToVersions, ToObjects, versions-counted, firsts-counted}
-use Rattle.combining.proofs.FitLaws.{fits-parents, to-versions, fits-versions, to-objects, fits-versioned, fits-objects}
+use Rattle.combining.proofs.FitLaws.{ToVersions, ToObjects, fits-parents, to-versions, versions-over, versions-few}
+use Rattle.combining.proofs.FitLaws.{fits-versioned, fits-objects, firsts-counted}
+use Rattle.combining.proofs.MergedLaws.{row-long}
 use Rattle.combining.proofs.limits.limits_fit.Statement.{statement}
 use Rattle.combining.proofs.limits.limits_fit.Tie as tie
 
@@ -39,16 +36,11 @@ module _ (c : tie.Start) (table : List ℕ) where
       Combinable table (now (a .a)) (a .t2) (now (a .left)) (now (a .b)) (a .t5) (now (a .right)) (a .t) (now (a .properties))
 
 few-parents : (c : tie.Else1) {table : List ℕ} (h : Two (to-start (c .before)) table) → ToVersions (h .known)
-few-parents c h = to-versions (h .known) (c .before .parents-fit .ensures) (h .left-read .head .hashes) (h .right-read .head .hashes) (not-false _ (c .if1 .left))
+few-parents c h =
+    to-versions (h .known) (c .before .parents-fit .ensures) (h .left-read .head .hashes) (h .right-read .head .hashes) (not-false _ (c .if1 .left))
 
 few-versions : (c : tie.Else2) {table : List ℕ} (h : Two (versions-to-start c) table) → ToObjects (h .known)
-few-versions c h =
-    let counted = c .before in
-    to-objects (h .known) (few-parents (to-parents counted) h) (versions-counted h (counted .count-versions .ensures)) (c .if2 .left)
-
--- the first row is a whole one
-row-long : (rows : List ℕ) → 96 ≤ length rows → length (rowOf rows 0) ≡ 96
-row-long rows h = length-take-le 96 rows h
+few-versions c h = let counted = c .before in versions-few h (few-parents (to-parents counted) h) (counted .count-versions .ensures) (c .if2 .left)
 
 -- ---- the needs
 
@@ -64,7 +56,7 @@ count-versions-requires c κs =
 returns-2 : tie.Need-returns-2
 returns-2 c = λ table h.
     let counted = c .before in
-    fits-versions (h .known) (few-parents (to-parents counted) h) (versions-counted h (counted .count-versions .ensures)) (c .if2 .taken)
+    versions-over h (few-parents (to-parents counted) h) (counted .count-versions .ensures) (c .if2 .taken)
 
 returns-3 : tie.Need-returns-3
 returns-3 c = λ table h. fits-versioned (h .known) (few-versions (c .before .before) h) (c .if3 .taken)
@@ -72,8 +64,8 @@ returns-3 c = λ table h. fits-versioned (h .known) (few-versions (c .before .be
 objects-fit-requires : tie.Need-objects-fit-requires
 objects-fit-requires c κs =
     let s = versions-to-start (to-versions-asked (c .before .before)) in
-    let long = s .pre .1 in
-    (s .pre .0 .2, row-long (now (s .args .left)) (long .0), row-long (now (s .args .right)) (long .1), long .2)
+    let (few, (left, right, long)) = s .pre in
+    (few .2, row-long (now (s .args .left)) 0 left, row-long (now (s .args .right)) 0 right, long)
 
 returns-4 : tie.Need-returns-4
 returns-4 c = λ table h.

@@ -49,22 +49,24 @@ returns c = λ u ty left right w un m o p v z. objects-few (typeView ty) left ri
 
 returns-2 : tie.Need-returns-2 Inv-loop μ-loop
 returns-2 c = λ u ty left right w un m o p v z.
-    let right-read = c .before .before in
-    let left-read = right-read .before in
-    let turn = left-read .before in
+    let counted = c .before in
+    let right-set = counted .before in
+    let left-set = right-set .before in
+    let turn = left-set .before in
     let l = turn .before .loop in
     let h = joins w un m v z in
     sym (l .inv _ _ _ _ h
-    ∙ counted-over h (l .k) (l .room) (inside turn) (left-read .set-at .ensures) (right-read .set-at2 .ensures) (c .before .count-place .ensures) (c .if3 .taken))
+    ∙ counted-over h (l .k) (l .room) (inside turn) (left-set .set-at .ensures) (right-set .set-at2 .ensures) (counted .count-place .ensures) (c .if3 .taken))
 
 loop-again : tie.Need-loop-again Inv-loop μ-loop
 loop-again c = λ u ty left right h.
-    let right-read = c .before .before in
-    let left-read = right-read .before in
-    let turn = left-read .before in
+    let counted = c .before in
+    let right-set = counted .before in
+    let left-set = right-set .before in
+    let turn = left-set .before in
     let l = turn .before .loop in
     l .inv _ _ _ _ h
-    ∙ counted-next h (l .k) (l .room) (inside turn) (left-read .set-at .ensures) (right-read .set-at2 .ensures) (c .before .count-place .ensures) (c .if3 .left)
+    ∙ counted-next h (l .k) (l .room) (inside turn) (left-set .set-at .ensures) (right-set .set-at2 .ensures) (counted .count-place .ensures) (c .if3 .left)
 
 returns-3 : tie.Need-returns-3 Inv-loop μ-loop
 returns-3 c = λ u ty left right w un m o p v z.

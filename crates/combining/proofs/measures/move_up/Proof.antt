@@ -1,4 +1,5 @@
--- The loop's invariant says that the measures from k on stand one place higher, and those below k where they stood; at the end k is the index.
+-- `measures::move_up` meets its contract: the loop's invariant says that the measures from k on stand one place higher, and those below k where they stood; at
+-- the end k is the index.
 use borrow.Author.Needs.{needs}
 use native.Mathlib.Omega.{arith}
 use mathlib.Core.Path.{_≡_, refl, _∙_}
@@ -40,12 +41,6 @@ loop-holds c =
     let start = c .before .before in
     (refl, start .pre .1, omega arith, none-moved (now (start .args .measures)) (start .pre .0))
 
-measure-at-requires : tie.Need-measure-at-requires Inv-loop μ-loop
-measure-at-requires c κs = let turn = c .before in (turn .before .loop .inv .3 .long, omega (arith, low turn))
-
-put-measure-requires : tie.Need-put-measure-requires Inv-loop μ-loop
-put-measure-requires c κs = let turn = to-turn (c .before) in (turn .before .loop .inv .3 .long, low turn .1)
-
 loop-again : tie.Need-loop-again Inv-loop μ-loop
 loop-again c =
     let put = c .before .before in
@@ -58,9 +53,6 @@ loop-again c =
       omega (arith, below),
       moved-next _ _ _ _ moved (low turn .0) (put .put-measure .kept .0) (here ∙ read .measure-at .ensures) others,
     )
-
-slice-write-measures : tie.Need-slice-write-measures Inv-loop μ-loop
-slice-write-measures c = omega (arith, c .before .loop .inv .3 .long)
 
 same-length : tie.Need-same-length Inv-loop μ-loop
 same-length c =
@@ -82,12 +74,12 @@ move-up-spec =
     (λ c. search needs)
     loop-holds
     (λ c. search needs)
-    measure-at-requires
-    put-measure-requires
+    (λ c κs. let turn = c .before in (turn .before .loop .inv .3 .long, omega (arith, low turn)))
+    (λ c κs. let turn = to-turn (c .before) in (turn .before .loop .inv .3 .long, low turn .1))
     (λ c. search needs)
     (λ c. search needs)
     loop-again
     (λ c. search needs)
-    slice-write-measures
+    (λ c. omega (arith, c .before .loop .inv .3 .long))
     same-length
     returns)

@@ -1,5 +1,5 @@
--- `measures::put_snapshot` meets its contract: the snapshot's measure is put at its place, instead of the one of its version, or where those behind it have moved
--- up.
+-- `measures::put_snapshot` meets its contract: the snapshot's measure is put at its place, instead of the one of its version, or where those behind it have
+-- moved up.
 use borrow.Author.Needs.{needs}
 use native.Mathlib.Omega.{arith}
 use mathlib.Core.Path.{refl, _∙_}

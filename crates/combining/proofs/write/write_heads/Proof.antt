@@ -1,5 +1,5 @@
--- `write::write_heads` meets its contract: the union of the parents is made apart, where it has its room since there are 32 at most, and the head is written from
--- the name and the source of the left side and from that union.
+-- `write::write_heads` meets its contract: the union of the parents is made apart, where it has its room since there are 32 at most, and the head is written
+-- from the name and the source of the left side and from that union.
 use borrow.Author.Needs.{needs}
 use Rattle.combining.proofs.MergedLaws.{union-there, union-within, parts-there, heads-wrote}
 use Rattle.combining.proofs.write.write_heads.Statement.{statement}
