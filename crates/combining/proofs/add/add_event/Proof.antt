@@ -27,14 +27,11 @@ sofar-known c = c .before .before .before .before .before .before .before
 abbrev to-start : tie.After-read-event → tie.Start
 to-start c = sofar-known c .before .before
 
-abbrev to-read : tie.After-version-of → tie.After-read-event
-to-read c = c .before .before .before
-
 abbrev x-to-head : tie.After-x → tie.After-read-dossier-head
 x-to-head c = c .before .before
 
 abbrev x-to-read : tie.After-x → tie.After-read-event
-x-to-read c = to-read (x-to-head c .before)
+x-to-read c = x-to-head c .before .before .before .before
 
 abbrev to-x : tie.After-place-of → tie.After-x
 to-x c = c .before .before .before

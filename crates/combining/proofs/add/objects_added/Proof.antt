@@ -10,9 +10,6 @@ use Rattle.combining.proofs.add.objects_added.Tie as tie
 abbrev to-start : tie.After-row → tie.Start
 to-start c = c .before .before .before .before .before
 
-abbrev read-to-start : tie.After-read-snapshot → tie.Start
-read-to-start c = to-start (c .before)
-
 -- ---- the needs
 
 read-snapshot-requires : tie.Need-read-snapshot-requires
@@ -23,7 +20,7 @@ read-snapshot-requires c κs =
 returns : tie.Need-returns
 returns c = λ u ty left right rest typed un meet e objects sets.
     let read = c .before .before .before in
-    absurd (read-to-start read .pre .1 .1 (snapshot-refused _ _ _ (c .enum-told .given .1) (read .read-snapshot .ensures)))
+    absurd (to-start (read .before) .pre .1 .1 (snapshot-refused _ _ _ (c .enum-told .given .1) (read .read-snapshot .ensures)))
 
 returns-2 : tie.Need-returns-2
 returns-2 c = λ u ty left right rest typed un meet e objects sets.

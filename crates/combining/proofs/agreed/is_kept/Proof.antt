@@ -21,6 +21,9 @@ to-counts c = c .before .before .before .before
 
 -- ---- the needs
 
+returns : tie.Need-returns
+returns c = λ x y m u v. agreed-marked x y _ m (c .if1 .taken)
+
 returns-2 : tie.Need-returns-2
 returns-2 c = λ x y m u v.
     agreed-counts x y _ m (c .before .before .before .if1 .left) (λ e. c .if2 .taken (u .count ∙ e ∙ sym (v .count)))
@@ -44,7 +47,7 @@ pub is-kept-spec : {M : Type 1} → statement M
 is-kept-spec =
     tie.close
     (tie.spec
-    (λ c. λ x y m u v. agreed-marked x y _ m (c .if1 .taken))
+    returns
     returns-2
     returns-3
     (λ c κs. search needs)

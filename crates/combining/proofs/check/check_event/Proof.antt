@@ -29,9 +29,6 @@ to-event c = c .before .before .before .before
 abbrev to-if1 : tie.After-ask-event → tie.Else1
 to-if1 c = to-table (to-event c) .before .before .before
 
-abbrev to-version : tie.After-write-lone-arg → tie.After-version-of
-to-version c = c .before .before
-
 -- ---- the questions are asked
 
 -- the output is large enough
@@ -78,7 +75,7 @@ version-of-requires c κs = let taken = c .before in (sets-long (taken .before),
 
 write-lone-requires : tie.Need-write-lone-requires
 write-lone-requires c κs =
-    let v = to-version c in
+    let v = c .before .before in
     let taken = v .before .before in
     let a = event-taken taken in
     (sets-long (taken .before), lone-room a _ _ (v .version-of .ensures (checkable a)) (room (to-if1 (taken .before))))
@@ -86,7 +83,7 @@ write-lone-requires c κs =
 returns-3 : tie.Need-returns-3
 returns-3 c =
     let written = c .before .before in
-    let v = to-version (written .before) in
+    let v = written .before .before .before in
     let taken = v .before .before in
     let a = event-taken taken in
     check-done _ _ _ a _ _ _ (room (to-if1 (taken .before))) (v .version-of .ensures (checkable a)) (written .write-lone .ensures .0 _ (a .read))

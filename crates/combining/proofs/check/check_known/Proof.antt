@@ -18,9 +18,6 @@ to-start c = c .before .before .before .before .before .before
 abbrev to-read : tie.After-version-of → tie.After-read-event
 to-read c = c .before .before .before
 
-abbrev to-version : tie.After-write-lone-arg → tie.After-version-of
-to-version c = c .before .before
-
 abbrev to-written : tie.After-struct-known → tie.After-write-lone
 to-written c = c .before .before .before
 
@@ -45,7 +42,7 @@ version-of-requires c κs = let read = c .before .before in (sets-long read, che
 
 write-lone-requires : tie.Need-write-lone-requires
 write-lone-requires c κs =
-    let v = to-version c in
+    let v = c .before .before in
     let read = to-read v in
     let a = event-taken read in
     (sets-long read, lone-room a _ _ (v .version-of .ensures (checkable a)) (to-start read .pre .2))
@@ -53,13 +50,13 @@ write-lone-requires c κs =
 sub-size : tie.Need-sub-size
 sub-size c =
     let written = to-written c in
-    written .write-lone .ensures .1 _ (event-taken (to-read (to-version (written .before))) .read) .0
+    written .write-lone .ensures .1 _ (event-taken (to-read (written .before .before .before)) .read) .0
 
 returns : tie.Need-returns
 returns c =
     let measured = c .before .before in
     let written = to-written (measured .before .before) in
-    let v = to-version (written .before) in
+    let v = written .before .before .before in
     let a = event-taken (to-read v) in (
       check-done _ _ _ a _ _ _ (to-start (to-read v) .pre .2) (v .version-of .ensures (checkable a)) (written .write-lone .ensures .0 _ (a .read)),
       λ k.

@@ -17,14 +17,8 @@ use Rattle.combining.proofs.combine.ask_other.Tie as tie
 abbrev to-start : tie.After-type-name → tie.Start
 to-start c = c .before .before .before .before .before .before
 
-abbrev to-named : tie.Else1 → tie.After-type-name
-to-named c = c .before .before
-
-abbrev to-else : tie.After-read-table → tie.Else1
-to-else c = c .before .before
-
-abbrev to-read : tie.After-others3 → tie.After-read-table
-to-read c = c .before .before
+abbrev to-named : tie.After-read-table → tie.After-type-name
+to-named c = c .before .before .before .before
 
 -- ---- the dossier's type is named
 
@@ -59,15 +53,15 @@ returns c = λ ts e.
 
 ask-dossier-requires-2 : tie.Need-ask-dossier-requires-2
 ask-dossier-requires-2 c κs =
-    let read = to-read c in
-    let n = to-named (to-else read) in
+    let read = c .before .before in
+    let n = to-named read in
     let p = to-start n .pre .0 in
     ((p .0, search needs), (p .2, type-few _ _ _ _ (read .read-table .ensures) (known n)))
 
 returns-2 : tie.Need-returns-2
 returns-2 c = λ ts e.
-    let read = to-read (c .before) in
-    numbered _ _ (record { types = ts; is = e }) _ _ (to-named (to-else read) .type-name .ensures) _ _ (read .read-table .ensures) _ (c .ask-dossier2 .ensures)
+    let read = c .before .before .before in
+    numbered _ _ (record { types = ts; is = e }) _ _ (to-named read .type-name .ensures) _ _ (read .read-table .ensures) _ (c .ask-dossier2 .ensures)
 
 pub ask-other-spec : {M : Type 1} → statement M
 ask-other-spec =

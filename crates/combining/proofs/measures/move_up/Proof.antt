@@ -22,9 +22,6 @@ abbrev μ-loop : tie.MeasureT-loop
 abbrev to-start : tie.At-loop Inv-loop μ-loop → tie.Start Inv-loop μ-loop
 to-start c = c .before .before .before
 
-abbrev to-turn : tie.After-measure-at Inv-loop μ-loop → tie.In-loop Inv-loop μ-loop
-to-turn c = c .before .before
-
 -- ---- the facts
 
 -- a turn is at a place of a measure
@@ -45,7 +42,7 @@ loop-again : tie.Need-loop-again Inv-loop μ-loop
 loop-again c =
     let put = c .before .before in
     let read = put .before .before in
-    let turn = to-turn read in
+    let turn = read .before .before in
     let (is, _, below, moved) = turn .before .loop .inv in
     let (here, (others, _)) = put .put-measure .ensures in (
       is,
@@ -75,7 +72,7 @@ move-up-spec =
     loop-holds
     (λ c. search needs)
     (λ c κs. let turn = c .before in (turn .before .loop .inv .3 .long, omega (arith, low turn)))
-    (λ c κs. let turn = to-turn (c .before) in (turn .before .loop .inv .3 .long, low turn .1))
+    (λ c κs. let turn = c .before .before .before in (turn .before .loop .inv .3 .long, low turn .1))
     (λ c. search needs)
     (λ c. search needs)
     loop-again
