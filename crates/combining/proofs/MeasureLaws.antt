@@ -114,6 +114,14 @@ module _ {m : List ℕ} {v before k : ℕ} (p : PassedIn m v before k) where
       let w = i .measured in
       (omega (arith, p (i .snapshots) w .within, w .count), omega (arith, w .count, w .few))
 
+  -- the next one, if there is one, is of a higher version
+  none-met :
+      (ss : List Snapshot) → Measured ss m → (k < length ss → v < getD ss k noSnapshot .version) →
+      Splits ss v (record { index = k; before = before; meets = false; size = 0 })
+  none-met ss w above =
+      let u = p ss w in
+      record { within = u .within; before = u .sum; lower = u .lower; met = λ e. never (cc); unmet = λ _. (refl, above) }
+
   -- x is the measure of the next one
   module _ (l : k < countIn m) {x : Measure} (here : x ≡ measureIn m k) where
     next-passed :
@@ -165,28 +173,11 @@ module _ {m : List ℕ} {v before k : ℕ} (p : PassedIn m v before k) where
 
     pub splits-unmet :
         v < x .version .0 → (ss : List Snapshot) → Measured ss m → Splits ss v (record { index = k; before = before; meets = false; size = 0 })
-    splits-unmet below ss w =
-        let (h, version, size) = next-passed ss w in
-        let u = p ss w in
-        record {
-          within = u .within;
-          before = u .sum;
-          lower = u .lower;
-          met = λ e. never (cc);
-          unmet = λ _. (refl, λ _. omega (arith, below, version));
-        }
+    splits-unmet below ss w = let (h, version, size) = next-passed ss w in none-met ss w (λ _. omega (arith, below, version))
 
   pub splits-end :
       countIn m ≤ k → (ss : List Snapshot) → Measured ss m → Splits ss v (record { index = k; before = before; meets = false; size = 0 })
-  splits-end all ss w =
-      let u = p ss w in
-      record {
-        within = u .within;
-        before = u .sum;
-        lower = u .lower;
-        met = λ e. never (cc);
-        unmet = λ _. (refl, λ h. absurd (omega (arith, h, w .count)));
-      }
+  splits-end all ss w = none-met ss w (λ h. absurd (omega (arith, h, w .count)))
 
 -- ---- room for one more
 

@@ -3,7 +3,7 @@
 use borrow.Author.Needs.{needs}
 use borrow.Author.Tests.{leb-true}
 use native.Mathlib.Omega.{arith}
-use Prim.Native.Nat.{ℕ, _+_, _-_, _≤_, _<_}
+use Prim.Native.Nat.{ℕ, _-_, _<_}
 use mathlib.Core.Path.{_≡_, refl, sym, _∙_}
 use mathlib.Core.List.{List}
 use lib.Dec.{leb}
@@ -37,15 +37,12 @@ to-start c = c .before .before .before .before .before .before .before
 inside : (c : tie.In-loop Inv-loop μ-loop) → c .before .loop .k < 32
 inside c = omega (arith, c .loop-test .taken, to-start (c .before) .pre .0)
 
-few : (c : tie.Then2 Inv-loop μ-loop) → let a = if1-to-start (c .before) .args in a .m + a .n ≤ 256
-few c =
-    let a = if1-to-start (c .before) .args in
-    omega (arith, c .before .if1 .taken, leb-true (a .n) (256 - a .m) (c .if2 .taken))
-
 -- ---- the needs
 
 returns : tie.Need-returns Inv-loop μ-loop
-returns c = λ u ty left right w un m o p v z. objects-few (typeView ty) left right _ _ o p (few c)
+returns c = λ u ty left right w un m o p v z.
+    let a = if1-to-start (c .before) .args in
+    objects-few (typeView ty) left right _ _ o p (omega (arith, c .before .if1 .taken, leb-true (a .n) (256 - a .m) (c .if2 .taken)))
 
 returns-2 : tie.Need-returns-2 Inv-loop μ-loop
 returns-2 c = λ u ty left right w un m o p v z.

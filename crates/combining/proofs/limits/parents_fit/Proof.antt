@@ -1,7 +1,7 @@
 use borrow.Author.Needs.{needs}
 use borrow.Author.Tests.{leb-true}
 use native.Mathlib.Omega.{arith}
-use Prim.Native.Nat.{ℕ, _+_, _-_, _≤_}
+use Prim.Native.Nat.{ℕ, _-_}
 use mathlib.Core.Path.{ap}
 use lib.Dec.{leb}
 use Rattle.combining.proofs.FitLaws.{parents-few}
@@ -10,23 +10,16 @@ use Rattle.combining.proofs.limits.parents_fit.Tie as tie
 
 -- ---- the places
 
-abbrev to-if1 : tie.Then2 → tie.Then1
-to-if1 c = c .before .before .before
-
 abbrev to-start : tie.Then1 → tie.Start
 to-start c = c .before .before .before .before
-
--- ---- the facts
-
-few : (c : tie.Then2) → let a = to-start (to-if1 c) .args in a .x .count + a .y .count ≤ 32
-few c =
-    let a = to-start (to-if1 c) .args in
-    omega (arith, to-if1 c .if1 .taken, leb-true (a .y .count) (32 - a .x .count) (c .if2 .taken))
 
 -- ---- the needs
 
 returns : tie.Need-returns
-returns c = λ gs hs g h eg eh rg rh. parents-few gs hs _ _ (g .count) (h .count) (few c)
+returns c = λ gs hs g h eg eh rg rh.
+    let below = c .before .before .before in
+    let a = to-start below .args in
+    parents-few gs hs _ _ (g .count) (h .count) (omega (arith, below .if1 .taken, leb-true (a .y .count) (32 - a .x .count) (c .if2 .taken)))
 
 returns-2 : tie.Need-returns-2
 returns-2 c = λ gs hs g h eg eh rg rh.

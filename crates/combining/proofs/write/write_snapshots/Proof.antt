@@ -26,8 +26,8 @@ to-start c = c .before .before .before .before .before .before .before
 abbrev to-turn : tie.After-struct-known2 Inv-loop μ-loop → tie.Else1 Inv-loop μ-loop
 to-turn c = c .before .before .before .before
 
-abbrev not-left : tie.After-struct-known4 Inv-loop μ-loop → tie.Else2 Inv-loop μ-loop
-not-left c = c .before .before
+abbrev other-turn : tie.After-struct-known4 Inv-loop μ-loop → tie.Else1 Inv-loop μ-loop
+other-turn c = to-turn (c .before .before .before)
 
 abbrev copied-left : tie.After-copy-part Inv-loop μ-loop → tie.Then2 Inv-loop μ-loop
 copied-left c = c .before .before .before .before
@@ -37,7 +37,7 @@ copied-right c = c .before .before .before .before
 
 -- both are of one version
 abbrev one-turn : tie.Else3 Inv-loop μ-loop → tie.Else1 Inv-loop μ-loop
-one-turn c = to-turn (not-left (c .before) .before)
+one-turn c = other-turn (c .before)
 
 abbrev parts-to-one : tie.After-part-of2 Inv-loop μ-loop → tie.Else3 Inv-loop μ-loop
 parts-to-one c = c .before .before .before .before .before .before .before .before .before .before
@@ -91,15 +91,13 @@ loop-again c =
     turn-left (turn (to-turn (lower .before))) (lower .if2 .taken) (copied .copy-part .ensures)
 
 copy-part-requires-2 : tie.Need-copy-part-requires-2 Inv-loop μ-loop
-copy-part-requires-2 c κs =
-    let lower = c .before .before .before in
-    right-copied (turn (to-turn (not-left (lower .before) .before))) (lower .if3 .taken)
+copy-part-requires-2 c κs = let lower = c .before .before .before in right-copied (turn (other-turn (lower .before))) (lower .if3 .taken)
 
 loop-again-2 : tie.Need-loop-again-2 Inv-loop μ-loop
 loop-again-2 c =
     let copied = c .before .before in
     let lower = copied-right copied in
-    turn-right (turn (to-turn (not-left (lower .before) .before))) (lower .if3 .taken) (copied .copy-part2 .ensures)
+    turn-right (turn (other-turn (lower .before))) (lower .if3 .taken) (copied .copy-part2 .ensures)
 
 write-shared-requires : tie.Need-write-shared-requires Inv-loop μ-loop
 write-shared-requires c κs =
@@ -109,7 +107,7 @@ write-shared-requires c κs =
       row-long _ _ (left-row at),
       row-long _ _ (right-row at),
       start at .pre .2,
-      shared-there (turn at) (not-left (one .before) .if2 .left) (one .if3 .left) (parts .before .before .before .part-of .ensures)
+      shared-there (turn at) (one .before .before .before .if2 .left) (one .if3 .left) (parts .before .before .before .part-of .ensures)
           (parts .part-of2 .ensures),
     )
 
@@ -118,7 +116,7 @@ loop-again-3 c =
     let shared = c .before .before in
     let parts = shared .before .before in
     let one = parts-to-one parts in
-    turn-both (turn (one-turn one)) (not-left (one .before) .if2 .left) (one .if3 .left) (parts .before .before .before .part-of .ensures)
+    turn-both (turn (one-turn one)) (one .before .before .before .if2 .left) (one .if3 .left) (parts .before .before .before .part-of .ensures)
     (parts .part-of2 .ensures) (shared .write-shared .ensures)
 
 write-rest-requires-2 : tie.Need-write-rest-requires-2 Inv-loop μ-loop
