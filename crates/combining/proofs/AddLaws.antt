@@ -60,7 +60,7 @@ use Rattle.combining.proofs.CheckLaws.{Checked, fit, kept, lone-short, 
 use Rattle.combining.proofs.MeetLaws.{versionIn, taken-rises, left-taken, known-meet}
 use Rattle.combining.proofs.PartLaws.{count-room, body-room}
 use Rattle.combining.proofs.RoomLaws.{combined-room}
-use Rattle.combining.proofs.MergedLaws.{StandsIn, same-written, known-heads, whole-length, whole-room, whole-wrote}
+use Rattle.combining.proofs.MergedLaws.{StandsIn, same-written, known-heads, whole-length, whole-room, WritesHeads, whole-wrote}
 use Rattle.combining.proofs.FitLaws.{left-written, right-written, whole-snapshots, left-one, same-version, unversioned}
 use Rattle.combining.proofs.FitLaws.{ToVersions, ToObjects, to-objects, fits-versions, fits-versioned}
 
@@ -663,8 +663,7 @@ module _
 
   -- what `write_heads` leaves, and what `count_with` answers
   module _
-      {l l₁ : List ℕ} {a n : ℕ}
-      (heads : (g h : Head) → HeadsAre sofar x event (e .head) g h → Wrote l 0 (dossierHeadBytes (bothHeads g h)) l₁ a)
+      {l l₁ : List ℕ} {a n : ℕ} (heads : WritesHeads sofar x event (e .head) l l₁ a)
       (counts : n ≡ cond (p .meets) (countIn m) (countIn m + 1)) (r : AddedRoom sofar m event e ats x body p version t ps apart (length l)) where
     head-wrote :
         {table : List ℕ} (h : Adding table sofar m event e ats x body p t ps) → let k = h .added .both in

@@ -141,45 +141,6 @@ version-at n vs i l =
 many : (n : ℕ) (vs : List EventVersion) → n ≤ length vs → length (versionNumbers (take n vs)) ≡ n
 many n vs l = length-map (take n vs) (λ (v : EventVersion). v .0) ∙ length-take-le n vs l
 
-module _ (m n : ℕ) (v w : List EventVersion) (long : (length v ≡ 8) × (length w ≡ 8)) (few : (m ≤ 8) × (n ≤ 8)) (i j count : ℕ) where
-  -- the first m of one and the first n of the other
-  abbrev lefts : List ℕ
-  lefts = versionNumbers (take m v)
-
-  abbrev rights : List ℕ
-  rights = versionNumbers (take n w)
-
-  left-length : length lefts ≡ m
-  left-length = many m v (omega (arith, long, few))
-
-  right-length : length rights ≡ n
-  right-length = many n w (omega (arith, long, few))
-
-  module _ (z : VersionsLeft lefts rights i j count) where
-    counted-within : (i ≤ m) × (j ≤ n) × (count ≤ i + j)
-    counted-within = (omega (arith, z .left, left-length), omega (arith, z .right, right-length), z .few)
-
-    counted-left : n ≤ j → rising numbers lefts ≡ true → rising numbers rights ≡ true → count + (m - i) ≡ length (union numbers lefts rights)
-    counted-left l h k = omega (arith, left-length, versions-left lefts rights i j count z (omega (arith, right-length)) h k)
-
-    counted-right : m ≤ i → rising numbers lefts ≡ true → rising numbers rights ≡ true → count + (n - j) ≡ length (union numbers lefts rights)
-    counted-right l h k = omega (arith, right-length, versions-right lefts rights i j count z (omega (arith, left-length)) h k)
-
-    module _ (l : i < m) (k : j < n) (i′ j′ : ℕ) (p : Passed (versionAt v i) (versionAt w j) i i′) (q : Passed (versionAt w j) (versionAt v i) j j′) where
-      left-passed : Passed (getD lefts i 0) (getD rights j 0) i i′
-      left-passed = subst₂ (λ (a b : ℕ). Passed a b i i′) (version-at m v i l) (version-at n w j k) p
-
-      right-passed : Passed (getD rights j 0) (getD lefts i 0) j j′
-      right-passed = subst₂ (λ (a b : ℕ). Passed a b j j′) (version-at n w j k) (version-at m v i l) q
-
-      counted-passed : (i + j + 1 ≤ i′ + j′) × (i ≤ i′) × (i′ ≤ i + 1) × (j ≤ j′) × (j′ ≤ j + 1)
-      counted-passed = passed-some lefts rights i j count z (omega (arith, left-length)) (omega (arith, right-length)) i′ j′ left-passed right-passed
-
-      counted-more : VersionsLeft lefts rights i′ j′ (count + 1)
-      counted-more = versions-more lefts rights i j count z (omega (arith, left-length)) (omega (arith, right-length)) i′ j′ left-passed right-passed
-
--- ---- a turn of the count
-
 -- `count` of the first m versions of v and the first n of w are counted; those from i and from j on are left
 pub record Counting (m n : ℕ) (v w : List EventVersion) (i j count : ℕ) : Type 0 where
   pub long : (length v ≡ 8) × (length w ≡ 8)
@@ -191,26 +152,44 @@ pub counting-none : {m n : ℕ} {v w : List EventVersion} → (length v ≡ 8) �
 counting-none long few = record { long = long; few = few; within = (omega arith, omega arith, omega arith); left = versions-none _ _ }
 
 module _ {m n : ℕ} {v w : List EventVersion} {i j count : ℕ} (c : Counting m n v w i j count) where
-  -- one side is at its end
-  pub counting-left :
-      n ≤ j → rising numbers (versionNumbers (take m v)) ≡ true → rising numbers (versionNumbers (take n w)) ≡ true →
-      count + (m - i) ≡ length (union numbers (versionNumbers (take m v)) (versionNumbers (take n w)))
-  counting-left = counted-left m n v w (c .long) (c .few) i j count (c .left)
+  abbrev lefts : List ℕ
+  lefts = versionNumbers (take m v)
 
-  pub counting-right :
-      m ≤ i → rising numbers (versionNumbers (take m v)) ≡ true → rising numbers (versionNumbers (take n w)) ≡ true →
-      count + (n - j) ≡ length (union numbers (versionNumbers (take m v)) (versionNumbers (take n w)))
-  counting-right = counted-right m n v w (c .long) (c .few) i j count (c .left)
+  abbrev rights : List ℕ
+  rights = versionNumbers (take n w)
+
+  left-length : length lefts ≡ m
+  left-length = many m v (omega (arith, c .long, c .few))
+
+  right-length : length rights ≡ n
+  right-length = many n w (omega (arith, c .long, c .few))
+
+  -- one side is at its end
+  pub counting-left : n ≤ j → rising numbers lefts ≡ true → rising numbers rights ≡ true → count + (m - i) ≡ length (union numbers lefts rights)
+  counting-left l h k = omega (arith, left-length, versions-left lefts rights i j count (c .left) (omega (arith, right-length)) h k)
+
+  pub counting-right : m ≤ i → rising numbers lefts ≡ true → rising numbers rights ≡ true → count + (n - j) ≡ length (union numbers lefts rights)
+  counting-right l h k = omega (arith, right-length, versions-right lefts rights i j count (c .left) (omega (arith, left-length)) h k)
 
   -- one version more is counted, and each side that has it goes on
   module _
       (l : i < m) (k : j < n) {i′ j′ : ℕ} (p : Passed (versionAt v i) (versionAt w j) i i′) (q : Passed (versionAt w j) (versionAt v i) j j′) where
+    left-passed : Passed (getD lefts i 0) (getD rights j 0) i i′
+    left-passed = subst₂ (λ (a b : ℕ). Passed a b i i′) (version-at m v i l) (version-at n w j k) p
+
+    right-passed : Passed (getD rights j 0) (getD lefts i 0) j j′
+    right-passed = subst₂ (λ (a b : ℕ). Passed a b j j′) (version-at n w j k) (version-at m v i l) q
+
+    passed : (i + j + 1 ≤ i′ + j′) × (i ≤ i′) × (i′ ≤ i + 1) × (j ≤ j′) × (j′ ≤ j + 1)
+    passed = passed-some lefts rights i j count (c .left) (omega (arith, left-length)) (omega (arith, right-length)) i′ j′ left-passed right-passed
+
     pub counting-more : Counting m n v w i′ j′ (count + 1)
-    counting-more =
-        let more = counted-more m n v w (c .long) (c .few) i j count (c .left) l k i′ j′ p q in
-        record { long = c .long; few = c .few; within = counted-within m n v w (c .long) (c .few) i′ j′ (count + 1) more; left = more }
+    counting-more = record {
+      long = c .long;
+      few = c .few;
+      within = (omega (arith, passed), omega (arith, passed), omega (arith, c .within, passed));
+      left = versions-more lefts rights i j count (c .left) (omega (arith, left-length)) (omega (arith, right-length)) i′ j′ left-passed right-passed;
+    }
 
     pub counting-less : (m - i′) + (n - j′) < (m - i) + (n - j)
-    counting-less =
-        let passed = counted-passed m n v w (c .long) (c .few) i j count (c .left) l k i′ j′ p q in
-        omega (arith, c .within, counting-more .within, passed)
+    counting-less = omega (arith, c .within, passed)

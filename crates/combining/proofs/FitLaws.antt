@@ -222,25 +222,32 @@ module _ {table a b : List ℕ} {t : TypeIndex} {ps : List ℕ} (k : Known table
 
 -- ---- and both are read
 
+-- the versions that an index notes
+abbrev pub versionsIn : DossierIndex → List ℕ
+versionsIn d = versionNumbers (take (d .count) (d .versions))
+
+-- what `count_versions` answers of two
+abbrev pub CountsVersions : DossierIndex → DossierIndex → ℕ → Type 0
+CountsVersions d e n =
+    rising numbers (versionsIn d) ≡ true → rising numbers (versionsIn e) ≡ true → n ≡ length (union numbers (versionsIn d) (versionsIn e))
+
 module _
     {table a : List ℕ} {d : DossierIndex} {left b : List ℕ} {e : DossierIndex} {right : List ℕ} {t : TypeIndex} {ps : List ℕ}
     (c : Combinable table a d left b e right t ps) where
   -- the versions of each rise
-  left-versions : versionNumbers (take (d .count) (d .versions)) ≡ versions (snapshots (c .known .left))
+  left-versions : versionsIn d ≡ versions (snapshots (c .known .left))
   left-versions = ap (λ (n : ℕ). versionNumbers (take n (d .versions))) (c .left-read .count) ∙ c .left-read .snapshots .numbers
 
-  right-versions : versionNumbers (take (e .count) (e .versions)) ≡ versions (snapshots (c .known .right))
+  right-versions : versionsIn e ≡ versions (snapshots (c .known .right))
   right-versions = ap (λ (n : ℕ). versionNumbers (take n (e .versions))) (c .right-read .count) ∙ c .right-read .snapshots .numbers
 
-  left-rises : rising numbers (versionNumbers (take (d .count) (d .versions))) ≡ true
+  left-rises : rising numbers (versionsIn d) ≡ true
   left-rises = ap (rising numbers) left-versions ∙ left-written (c .known) .body .rises
 
-  right-rises : rising numbers (versionNumbers (take (e .count) (e .versions))) ≡ true
+  right-rises : rising numbers (versionsIn e) ≡ true
   right-rises = ap (rising numbers) right-versions ∙ right-written (c .known) .body .rises
 
-  whole-versions :
-      length (union numbers (versionNumbers (take (d .count) (d .versions))) (versionNumbers (take (e .count) (e .versions))))
-      ≡ length (combined (c .known .left) (c .known .right) .snapshots)
+  whole-versions : length (union numbers (versionsIn d) (versionsIn e)) ≡ length (combined (c .known .left) (c .known .right) .snapshots)
   whole-versions =
       ap₂ (λ (v w : List ℕ). length (union numbers v w)) left-versions right-versions
       ∙ sym (ap length (keys (snapshots (c .known .left)) (snapshots (c .known .right))))
@@ -253,19 +260,10 @@ module _
       keys : (ss rs : List Snapshot) → versions (merge numbers versionIn join ss rs) ≡ union numbers (versions ss) (versions rs)
       keys = merge-keys numbers versionIn join (λ x y. unfold joinSnapshots in refl)
 
-  -- `count_versions` answers how many snapshots there are
-  pub versions-counted :
-      {n : ℕ} →
-      (rising numbers (versionNumbers (take (d .count) (d .versions))) ≡ true → rising numbers (versionNumbers (take (e .count) (e .versions))) ≡ true →
-      n ≡ length (union numbers (versionNumbers (take (d .count) (d .versions))) (versionNumbers (take (e .count) (e .versions))))) →
-      n ≡ length (combined (c .known .left) (c .known .right) .snapshots)
+  pub versions-counted : {n : ℕ} → CountsVersions d e n → n ≡ length (combined (c .known .left) (c .known .right) .snapshots)
   versions-counted says = says left-rises right-rises ∙ whole-versions
 
-  module _
-      (go-on : ToVersions (c .known)) {n : ℕ}
-      (says : rising numbers (versionNumbers (take (d .count) (d .versions))) ≡ true →
-      rising numbers (versionNumbers (take (e .count) (e .versions))) ≡ true →
-      n ≡ length (union numbers (versionNumbers (take (d .count) (d .versions))) (versionNumbers (take (e .count) (e .versions))))) where
+  module _ (go-on : ToVersions (c .known)) {n : ℕ} (says : CountsVersions d e n) where
     pub versions-over : 8 < n → false ≡ fits standard (typeView (c .known .left .type)) (combined (c .known .left) (c .known .right))
     versions-over = fits-versions (c .known) go-on (versions-counted says)
 

@@ -35,7 +35,7 @@ use Rattle.unions.specs.code.Runs.{Hashes, HashesRoom}
 use Rattle.unions.proofs.RunLaws.{part-then}
 use Rattle.dossier.specs.DossierLayout.{Headed, dossierBytes}
 use Rattle.dossier.specs.DossierBody.{snapshotBytes, bodyBytes}
-use Rattle.dossier.specs.code.DossierIndex.{noSnapshot, noVersion, versionNumbers, rowOf, SnapshotsAre, DossierIs, DossierHeadRoom}
+use Rattle.dossier.specs.code.DossierIndex.{noSnapshot, noVersion, rowOf, SnapshotsAre, DossierIs, DossierHeadRoom}
 use Rattle.dossier.specs.declared.dossiers.DossierIndex.{DossierIndex}
 use Rattle.dossier.proofs.AskLaws.{snapshot-stands}
 use Rattle.dossier.proofs.VersionLaws.{cells-are}
@@ -48,7 +48,7 @@ use Rattle.combining.proofs.MeetLaws.{versionIn, taken-rises, left-take
 use Rattle.combining.proofs.CountLaws.{versionAt, version-at}
 use Rattle.combining.proofs.SelfLaws.{same-joined}
 use Rattle.combining.proofs.PartLaws.{WholeRoom, count-room, body-room}
-use Rattle.combining.proofs.FitLaws.{left-hashes, right-hashes, versions-counted}
+use Rattle.combining.proofs.FitLaws.{left-hashes, right-hashes, CountsVersions, versions-counted}
 
 -- ---- writes
 
@@ -214,14 +214,14 @@ next-same ty x y e = ap (λ (o : _). pick o x (joinSnapshots (typeView ty) x y) 
 -- ---- how far the sides go on
 
 -- how many snapshots a side of version v goes on by, where the other one has version w
-unfoldable stepBy : ℕ → ℕ → ℕ
+unfoldable pub stepBy : ℕ → ℕ → ℕ
 stepBy v w = cond (leb v w) 1 0
 
-step-on : (v w : ℕ) → v ≤ w → stepBy v w ≡ 1
+pub step-on : (v w : ℕ) → v ≤ w → stepBy v w ≡ 1
 unfolding stepBy
 step-on v w h = rw (le-leb v w h)
 
-step-none : (v w : ℕ) → w < v → stepBy v w ≡ 0
+pub step-none : (v w : ℕ) → w < v → stepBy v w ≡ 0
 unfolding stepBy
 step-none v w h = rw (lt-leb v w h)
 
@@ -370,13 +370,13 @@ module _
   nextBytes i j = snapshotBytes (nextSnapshot (c .known .left .type) (getD lefts i noSnapshot) (getD rights j noSnapshot))
 
   -- one side alone is left
-  merged-left : (i j : ℕ) → e .count ≤ j → mergedBytes i j ≡ bytesFrom lefts i
+  pub merged-left : (i j : ℕ) → e .count ≤ j → mergedBytes i j ≡ bytesFrom lefts i
   merged-left i j h =
       ap (λ (ss : List Snapshot). flatten (map snapshotBytes ss))
       (ap (mergedOf (c .known .left .type) (drop i lefts)) (drop-of-length-le rights {i = j} (omega (arith, c .right-read .count)))
       ∙ merge-nil numbers versionIn (joinSnapshots (typeView (c .known .left .type))) (join-keeps (c .known .left .type)) (drop i lefts) (left-rising i))
 
-  merged-right : (i j : ℕ) → d .count ≤ i → mergedBytes i j ≡ bytesFrom rights j
+  pub merged-right : (i j : ℕ) → d .count ≤ i → mergedBytes i j ≡ bytesFrom rights j
   unfolding merge
   merged-right i j h =
       ap (λ (ss : List Snapshot). flatten (map snapshotBytes (mergedOf (c .known .left .type) ss (drop j rights))))
@@ -389,6 +389,12 @@ module _
   right-version j l = version-is b rights (e .starts) (e .ends) (e .versions) (c .right-read .snapshots) j (omega (arith, c .right-read .count))
 
   module _ (i j : ℕ) (l : i < d .count) (m : j < e .count) where
+    abbrev v : ℕ
+    v = versionAt (d .versions) i
+
+    abbrev w : ℕ
+    w = versionAt (e .versions) j
+
     abbrev leftOne : Snapshot
     leftOne = getD lefts i noSnapshot
 
@@ -396,9 +402,8 @@ module _
     rightOne = getD rights j noSnapshot
 
     -- the next one is written, and both sides have gone on
-    merged-next :
-        (x y : ℕ) → x ≡ stepBy (versionAt (d .versions) i) (versionAt (e .versions) j) → y ≡ stepBy (versionAt (e .versions) j) (versionAt (d .versions) i) →
-        mergedBytes i j ≡ nextBytes i j ++ mergedBytes (i + x) (j + y)
+    pub merged-next :
+        (x y : ℕ) → x ≡ stepBy v w → y ≡ stepBy w v → mergedBytes i j ≡ nextBytes i j ++ mergedBytes (i + x) (j + y)
     unfolding flatten
     merged-next x y p q =
         ap (λ (ss : List Snapshot). flatten (map snapshotBytes ss))
@@ -408,43 +413,26 @@ module _
         (sym (p ∙ ap₂ stepBy (left-version i l) (right-version j m)))
         (sym (q ∙ ap₂ stepBy (right-version j m) (left-version i l))))
 
-    next-left : versionAt (d .versions) i < versionAt (e .versions) j → part a (getD (d .starts) i 0) (getD (d .ends) i 0) ≡ nextBytes i j
+    pub next-left : v < w → part a (getD (d .starts) i 0) (getD (d .ends) i 0) ≡ nextBytes i j
     next-left h =
         c .left-read .snapshots .each i (omega (arith, c .left-read .count)) .bytes
         ∙ ap snapshotBytes (sym (next-less (c .known .left .type) leftOne rightOne (omega (arith, left-version i l, right-version j m))))
 
-    next-right : versionAt (e .versions) j < versionAt (d .versions) i → part b (getD (e .starts) j 0) (getD (e .ends) j 0) ≡ nextBytes i j
+    pub next-right : w < v → part b (getD (e .starts) j 0) (getD (e .ends) j 0) ≡ nextBytes i j
     next-right h =
         c .right-read .snapshots .each j (omega (arith, c .right-read .count)) .bytes
         ∙ ap snapshotBytes (sym (next-more (c .known .left .type) leftOne rightOne (omega (arith, left-version i l, right-version j m))))
 
-    module _ (at size : ℕ) (room : at + length (nextBytes i j) ≤ size) where
-      pub left-there :
-          versionAt (d .versions) i < versionAt (e .versions) j →
-          (getD (d .starts) i 0 ≤ getD (d .ends) i 0) × (getD (d .ends) i 0 ≤ length a)
-          × (at + length (part a (getD (d .starts) i 0) (getD (d .ends) i 0)) ≤ size)
-      left-there h =
-          let s = c .left-read .snapshots .each i (omega (arith, c .left-read .count)) in (s .order, s .within, omega (arith, ap length (next-left h)))
-
-      pub right-there :
-          versionAt (e .versions) j < versionAt (d .versions) i →
-          (getD (e .starts) j 0 ≤ getD (e .ends) j 0) × (getD (e .ends) j 0 ≤ length b)
-          × (at + length (part b (getD (e .starts) j 0) (getD (e .ends) j 0)) ≤ size)
-      right-there h =
-          let s = c .right-read .snapshots .each j (omega (arith, c .right-read .count)) in (s .order, s .within, omega (arith, ap length (next-right h)))
-
-    one-version :
-        versionAt (e .versions) j ≤ versionAt (d .versions) i → versionAt (d .versions) i ≤ versionAt (e .versions) j → leftOne .version ≡ rightOne .version
+    one-version : w ≤ v → v ≤ w → leftOne .version ≡ rightOne .version
     one-version h k = omega (arith, left-version i l, right-version j m)
 
-    next-both :
-        versionAt (e .versions) j ≤ versionAt (d .versions) i → versionAt (d .versions) i ≤ versionAt (e .versions) j →
-        snapshotBytes (joinSnapshots (typeView (c .known .left .type)) leftOne rightOne) ≡ nextBytes i j
+    pub next-both :
+        w ≤ v → v ≤ w → snapshotBytes (joinSnapshots (typeView (c .known .left .type)) leftOne rightOne) ≡ nextBytes i j
     next-both h k = ap snapshotBytes (sym (next-same (c .known .left .type) leftOne rightOne (one-version h k)))
 
     -- the two of one version, with the numbers of the indexes, stand where their rows say
     pub next-shared :
-        versionAt (e .versions) j ≤ versionAt (d .versions) i → versionAt (d .versions) i ≤ versionAt (e .versions) j →
+        w ≤ v → v ≤ w →
         Shared (getD (d .versions) i noVersion) a (rowOf left i) (getD (d .differs) i 0) b (rowOf right j) (getD (e .differs) j 0)
         (c .known .left .type) leftOne rightOne
     next-shared h k =
@@ -459,79 +447,10 @@ module _
 
     -- the parts of a and b that `part_of` lends are their bytes
     pub left-bytes : {p : List ℕ} → StandsIn a (getD (d .starts) i 0) (getD (d .ends) i 0) p → p ≡ snapshotBytes leftOne
-    left-bytes w = let s = c .left-read .snapshots .each i (omega (arith, c .left-read .count)) in w (s .order) (s .within) ∙ s .bytes
+    left-bytes lent = let s = c .left-read .snapshots .each i (omega (arith, c .left-read .count)) in lent (s .order) (s .within) ∙ s .bytes
 
     pub right-bytes : {q : List ℕ} → StandsIn b (getD (e .starts) j 0) (getD (e .ends) j 0) q → q ≡ snapshotBytes rightOne
-    right-bytes w = let s = c .right-read .snapshots .each j (omega (arith, c .right-read .count)) in w (s .order) (s .within) ∙ s .bytes
-
-    pub shared-room :
-        (at size : ℕ) → at + length (nextBytes i j) ≤ size →
-        versionAt (e .versions) j ≤ versionAt (d .versions) i → versionAt (d .versions) i ≤ versionAt (e .versions) j →
-        {p q : List ℕ} → p ≡ snapshotBytes leftOne → q ≡ snapshotBytes rightOne →
-        SharedRoom (getD (d .versions) i noVersion) a (rowOf left i) (getD (d .differs) i 0) b (rowOf right j) (getD (e .differs) j 0) p q t ps at size
-    shared-room at size room h k p-is q-is = record {
-      table = table;
-      type = c .known .left .type;
-      left = leftOne;
-      right = rightOne;
-      typed = c .known .typed;
-      shared = next-shared h k;
-      left-bytes = p-is;
-      right-bytes = q-is;
-      room = omega (arith, ap length (next-both h k));
-    }
-
-  -- ---- writing them
-
-  module _ {l₀ l : List ℕ} {at next : ℕ} (i j : ℕ) (g : ToGo l₀ at snapshotsPart l next (mergedBytes i j)) where
-    module _ (room : at + length snapshotsPart ≤ length l₀) where
-      pub left-room : e .count ≤ j → RestRoom a d i next (length l)
-      left-room h = record { what = c .known .left .headed; is = c .left-read; room = omega (arith, g .after, g .long, ap length (merged-left i j h)) }
-
-      pub right-room : d .count ≤ i → RestRoom b e j next (length l)
-      right-room h = record { what = c .known .right .headed; is = c .right-read; room = omega (arith, g .after, g .long, ap length (merged-right i j h)) }
-
-      pub next-room : i < d .count → j < e .count → next + length (nextBytes i j) ≤ length l
-      next-room p q =
-          let x = stepBy (versionAt (d .versions) i) (versionAt (e .versions) j) in
-          let y = stepBy (versionAt (e .versions) j) (versionAt (d .versions) i) in
-          omega (arith, g .after, g .long, ap length (merged-next i j p q x y refl refl), length-append (nextBytes i j) (mergedBytes (i + x) (j + y)))
-
-    pub left-wrote : {l₁ : List ℕ} {to : ℕ} → e .count ≤ j → Wrote l next (bytesFrom lefts i) l₁ to → Wrote l₀ at snapshotsPart l₁ to
-    left-wrote h w = all-gone (gone (bytesFrom lefts i) [] g (merged-left i j h ∙ sym (append-nil (bytesFrom lefts i))) w) refl
-
-    pub right-wrote : {l₁ : List ℕ} {to : ℕ} → d .count ≤ i → Wrote l next (bytesFrom rights j) l₁ to → Wrote l₀ at snapshotsPart l₁ to
-    right-wrote h w = all-gone (gone (bytesFrom rights j) [] g (merged-right i j h ∙ sym (append-nil (bytesFrom rights j))) w) refl
-
-    next-wrote :
-        {l₁ : List ℕ} {to : ℕ} (x y : ℕ) → i < d .count → j < e .count →
-        x ≡ stepBy (versionAt (d .versions) i) (versionAt (e .versions) j) → y ≡ stepBy (versionAt (e .versions) j) (versionAt (d .versions) i) →
-        Wrote l next (nextBytes i j) l₁ to → ToGo l₀ at snapshotsPart l₁ to (mergedBytes (i + x) (j + y))
-    next-wrote x y p q u v w = gone (nextBytes i j) (mergedBytes (i + x) (j + y)) g (merged-next i j p q x y u v) w
-
-    -- the left one is lower, the right one is, or both are of one version
-    abbrev v : ℕ
-    v = versionAt (d .versions) i
-
-    abbrev w : ℕ
-    w = versionAt (e .versions) j
-
-    module _ {l₁ : List ℕ} {to : ℕ} (p : i < d .count) (q : j < e .count) where
-      pub left-turn : v < w → Wrote l next (part a (getD (d .starts) i 0) (getD (d .ends) i 0)) l₁ to → ToGo l₀ at snapshotsPart l₁ to (mergedBytes (i + 1) j)
-      left-turn h o =
-          subst (λ (n : ℕ). ToGo l₀ at snapshotsPart l₁ to (mergedBytes (i + 1) n)) (add-zero j)
-          (next-wrote 1 0 p q (sym (step-on v w (omega arith))) (sym (step-none w v h)) (wrote-as (next-left i j p q h) o))
-
-      pub right-turn : w < v → Wrote l next (part b (getD (e .starts) j 0) (getD (e .ends) j 0)) l₁ to → ToGo l₀ at snapshotsPart l₁ to (mergedBytes i (j + 1))
-      right-turn h o =
-          subst (λ (n : ℕ). ToGo l₀ at snapshotsPart l₁ to (mergedBytes n (j + 1))) (add-zero i)
-          (next-wrote 0 1 p q (sym (step-none v w h)) (sym (step-on w v (omega arith))) (wrote-as (next-right i j p q h) o))
-
-      pub both-turn :
-          w ≤ v → v ≤ w →
-          Wrote l next (snapshotBytes (joinSnapshots (typeView (c .known .left .type)) (getD lefts i noSnapshot) (getD rights j noSnapshot))) l₁ to →
-          ToGo l₀ at snapshotsPart l₁ to (mergedBytes (i + 1) (j + 1))
-      both-turn h k o = next-wrote 1 1 p q (sym (step-on v w k)) (sym (step-on w v h)) (wrote-as (next-both i j p q h k) o)
+    right-bytes lent = let s = c .right-read .snapshots .each j (omega (arith, c .right-read .count)) in lent (s .order) (s .within) ∙ s .bytes
 
   pub merged-to-go : {l : List ℕ} {at : ℕ} → ToGo l at snapshotsPart l at (mergedBytes 0 0)
   merged-to-go {l} {at} = subst (λ (z : List ℕ). ToGo l at snapshotsPart l at z) merged-all to-go
@@ -551,6 +470,10 @@ module _
 
 -- ---- the whole: the head, how many snapshots there are, and these
 
+-- what `write_heads` leaves
+abbrev pub WritesHeads : List ℕ → HeadAt → List ℕ → HeadAt → List ℕ → List ℕ → ℕ → Type 0
+WritesHeads a x b y l l₁ n = (g h : Head) → HeadsAre a x b y g h → Wrote l 0 (dossierHeadBytes (bothHeads g h)) l₁ n
+
 module _
     {a left b right : List ℕ} {d e : DossierIndex} {t : TypeIndex} {ps : List ℕ} where
   pub heads-there : {size : ℕ} → CombinedRoom a d left b e right t ps size → HeadsRoom a (d .head) b (e .head) size
@@ -563,10 +486,7 @@ module _
 
   -- what `write_heads` leaves, and what `count_versions` answers
   module _
-      {l l₁ : List ℕ} {x n : ℕ} (heads : (g h : Head) → HeadsAre a (d .head) b (e .head) g h → Wrote l 0 (dossierHeadBytes (bothHeads g h)) l₁ x)
-      (counts : rising numbers (versionNumbers (take (d .count) (d .versions))) ≡ true →
-      rising numbers (versionNumbers (take (e .count) (e .versions))) ≡ true →
-      n ≡ length (union numbers (versionNumbers (take (d .count) (d .versions))) (versionNumbers (take (e .count) (e .versions)))))
+      {l l₁ : List ℕ} {x n : ℕ} (heads : WritesHeads a (d .head) b (e .head) l l₁ x) (counts : CountsVersions d e n)
       (r : CombinedRoom a d left b e right t ps (length l)) where
     head-wrote :
         {table : List ℕ} (h : Combinable table a d left b e right t ps) → Wrote l 0 (dossierHeadBytes (bothHeads (leftHead h) (rightHead h))) l₁ x
@@ -649,5 +569,5 @@ module _
 
       pub heads-wrote :
           {l l₂ : List ℕ} {next : ℕ} → ((h : Head) → HeadParts name source (part l₁ 0 n) h → Wrote l 0 (dossierHeadBytes h) l₂ next) →
-          (g h : Head) → HeadsAre a x b y g h → Wrote l 0 (dossierHeadBytes (bothHeads g h)) l₂ next
+          WritesHeads a x b y l l₂ next
       heads-wrote wrote g h w = wrote (bothHeads g h) (parts w)

@@ -222,68 +222,6 @@ no-sizes [] (suc k) h = refl
 no-sizes (c ∷ cs) zero h = ap₂ (λ (d : Cell) (n : ℕ). size d + n) (h 0 (omega arith)) (no-sizes cs 0 (λ p l. h (suc p) (omega arith)))
 no-sizes (c ∷ cs) (suc k) h = no-sizes cs k (λ p l. h (suc p) (omega arith))
 
--- two snapshots of an unversioned type
-module _ (ty : EventType) (x y : Snapshot) (un : isVersioned ty ≡ false) (m : Meet ty x y) where
-  left-written : SnapshotWritten x
-  left-written = snapshot-was (m .left-bytes) x (m .left-rest) (m .left-read) .1
-
-  right-written : SnapshotWritten y
-  right-written = snapshot-was (m .right-bytes) y (m .right-rest) (m .right-read) .1
-
-  abbrev joined : List Cell
-  joined = joinSnapshots (typeView ty) x y .cells
-
-  joined-long : length joined ≡ 32
-  joined-long = join-long ty x y (snapshot-cells x left-written) (snapshot-cells y right-written)
-
-  -- no place past the type's properties has any
-  objects-end : {count : ℕ} (k room : ℕ) → count ≡ length (ty .properties) → count ≤ k → true ≡ leb (sizes (drop k joined)) room
-  objects-end k room e h =
-      let v = left-vacant (m .fitting) e in
-      let w = right-vacant (m .fitting) e in
-      let past = join-vacant ty x y (snapshot-cells x left-written) (snapshot-cells y right-written) v w in
-      sym (le-leb (sizes (drop k joined)) room (omega (arith, no-sizes joined k (λ p l. past .each p (omega arith)))))
-
-  module _ (k : ℕ) (h : k < 32) where
-    left-cell : PlainCell ty k (getD (x .cells) k (holds []))
-    left-cell = plain-cell ty x left-written un (m .fitting .left-fits) k h
-
-    right-cell : PlainCell ty k (getD (y .cells) k (holds []))
-    right-cell = plain-cell ty y right-written un (m .fitting .right-fits) k h
-
-    left-set : (a sets : List ℕ) → SetsAre a (map held (x .cells)) sets → SetIs a (held (getD (x .cells) k (holds []))) (setIn sets k)
-    left-set a sets r = subst (λ (vs : List Text). SetIs a vs (setIn sets k)) (held-at (x .cells) k) (r .each k h)
-
-    right-set : (b sets : List ℕ) → SetsAre b (map held (y .cells)) sets → SetIs b (held (getD (y .cells) k (holds []))) (setIn sets k)
-    right-set b sets r = subst (λ (vs : List Text). SetIs b vs (setIn sets k)) (held-at (y .cells) k) (r .each k h)
-
-    -- the cell that the two have together
-    abbrev together-at : Cell
-    together-at = joinCell false (typeView ty .choice k) (holds (held (getD (x .cells) k (holds [])))) (holds (held (getD (y .cells) k (holds []))))
-
-    joined-at : getD joined k (holds []) ≡ together-at
-    unfolding cellAt
-    joined-at =
-        wide ∙ ap (λ (v : Bool). joinCell v (typeView ty .choice k) (getD (x .cells) k (holds [])) (getD (y .cells) k (holds []))) un
-        ∙ ap₂ (joinCell false (typeView ty .choice k)) (left-cell .holds-it) (right-cell .holds-it)
-      where
-        wide : getD joined k (holds []) ≡ joinCell (isVersioned ty) (typeView ty .choice k) (getD (x .cells) k (holds [])) (getD (y .cells) k (holds []))
-        wide = unfold typeView eventView in join-at (typeView ty) x y (snapshot-cells x left-written) (snapshot-cells y right-written) k h
-
-    module _ (n room : ℕ) (e : n ≡ length (held together-at)) where
-      objects-step : sizes (drop k joined) ≡ n + sizes (drop (k + 1) joined)
-      unfolding sizes
-      objects-step =
-          let here : length (held (getD joined k (holds []))) ≡ n = ap (λ (c : Cell). length (held c)) joined-at ∙ sym e in
-          ap sizes (drop-cons joined k (holds []) (omega (arith, joined-long)))
-          ∙ ap₂ (λ (p q : ℕ). p + sizes (drop q joined)) (sym (held-size (getD joined k (holds []))) ∙ here) (sym (add-one k))
-
-      objects-large : room < n → leb (sizes (drop k joined)) room ≡ false
-      objects-large l = lt-leb (sizes (drop k joined)) room (omega (arith, objects-step))
-
-      objects-more : n ≤ room → leb (sizes (drop k joined)) room ≡ leb (sizes (drop (k + 1) joined)) (room - n)
-      objects-more l = ap (λ (q : ℕ). leb q room) objects-step ∙ leb-sub n (sizes (drop (k + 1) joined)) room l
-
 -- ---- two unversioned snapshots that are joined
 
 -- their sets stand in a and b where the numbers i and j say
@@ -306,27 +244,74 @@ abbrev pub room-joins :
 room-joins q = record { typed = q .typed; unversioned = q .unversioned; meet = q .meet; left = q .left-is; right = q .right-is }
 
 module _ {table a b : List ℕ} {count : ℕ} {ps i j : List ℕ} {ty : EventType} {x y : Snapshot} (h : Joins table a b count ps i j ty x y) where
-  abbrev together-cells : List Cell
-  together-cells = joinSnapshots (typeView ty) x y .cells
+  left-written : SnapshotWritten x
+  left-written = snapshot-was (h .meet .left-bytes) x (h .meet .left-rest) (h .meet .left-read) .1
 
-  pub counted-all : (k room : ℕ) → count ≤ k → true ≡ leb (sizes (drop k together-cells)) room
-  counted-all k room = objects-end ty x y (h .unversioned) (h .meet) k room (h .typed .count)
+  right-written : SnapshotWritten y
+  right-written = snapshot-was (h .meet .right-bytes) y (h .meet .right-rest) (h .meet .right-read) .1
 
-  -- `count_place` answers n of the place k
-  module _
-      (k room : ℕ) (low : k < 32) {v w : SetAt} (left-at : v ≡ setIn i k) (right-at : w ≡ setIn j k) {n : ℕ}
-      (says : (u : List ℕ) (tz : EventType) (xs ys : List Text) → PropertiesAre u (tz .properties) count ps → SetIs a xs v → SetIs b ys w →
-      rising texts xs ≡ true → rising texts ys ≡ true → (isExtremeAt tz k ≡ true → (length xs ≤ 1) × (length ys ≤ 1)) →
-      n ≡ length (held (joinCell false (typeView tz .choice k) (holds xs) (holds ys)))) where
-    here : n ≡ length (held (together-at ty x y (h .unversioned) (h .meet) k low))
-    here =
-        let p = left-cell ty x y (h .unversioned) (h .meet) k low in
-        let q = right-cell ty x y (h .unversioned) (h .meet) k low in
-        says table ty _ _ (h .typed) (set-read left-at (left-set ty x y (h .unversioned) (h .meet) k low a i (h .left)))
-        (set-read right-at (right-set ty x y (h .unversioned) (h .meet) k low b j (h .right))) (p .rises) (q .rises) (λ e. (p .lone e, q .lone e))
+  abbrev joined : List Cell
+  joined = joinSnapshots (typeView ty) x y .cells
 
-    pub counted-over : room < n → leb (sizes (drop k together-cells)) room ≡ false
-    counted-over = objects-large ty x y (h .unversioned) (h .meet) k low n room here
+  joined-long : length joined ≡ 32
+  joined-long = join-long ty x y (snapshot-cells x left-written) (snapshot-cells y right-written)
 
-    pub counted-next : n ≤ room → leb (sizes (drop k together-cells)) room ≡ leb (sizes (drop (k + 1) together-cells)) (room - n)
-    counted-next = objects-more ty x y (h .unversioned) (h .meet) k low n room here
+  -- no place past the type's properties has any
+  pub counted-all : (k room : ℕ) → count ≤ k → true ≡ leb (sizes (drop k joined)) room
+  counted-all k room l =
+      let v = left-vacant (h .meet .fitting) (h .typed .count) in
+      let w = right-vacant (h .meet .fitting) (h .typed .count) in
+      let past = join-vacant ty x y (snapshot-cells x left-written) (snapshot-cells y right-written) v w in
+      sym (le-leb (sizes (drop k joined)) room (omega (arith, no-sizes joined k (λ p q. past .each p (omega arith)))))
+
+  module _ (k room : ℕ) (low : k < 32) where
+    abbrev leftCell : Cell
+    leftCell = getD (x .cells) k (holds [])
+
+    abbrev rightCell : Cell
+    rightCell = getD (y .cells) k (holds [])
+
+    left-cell : PlainCell ty k leftCell
+    left-cell = plain-cell ty x left-written (h .unversioned) (h .meet .fitting .left-fits) k low
+
+    right-cell : PlainCell ty k rightCell
+    right-cell = plain-cell ty y right-written (h .unversioned) (h .meet .fitting .right-fits) k low
+
+    -- the cell that the two have together
+    abbrev together-at : Cell
+    together-at = joinCell false (typeView ty .choice k) (holds (held leftCell)) (holds (held rightCell))
+
+    joined-at : getD joined k (holds []) ≡ together-at
+    unfolding cellAt
+    joined-at =
+        wide ∙ ap (λ (v : Bool). joinCell v (typeView ty .choice k) leftCell rightCell) (h .unversioned)
+        ∙ ap₂ (joinCell false (typeView ty .choice k)) (left-cell .holds-it) (right-cell .holds-it)
+      where
+        wide : getD joined k (holds []) ≡ joinCell (isVersioned ty) (typeView ty .choice k) leftCell rightCell
+        wide = unfold typeView eventView in join-at (typeView ty) x y (snapshot-cells x left-written) (snapshot-cells y right-written) k low
+
+    -- `count_place` answers n of the place
+    module _
+        {v w : SetAt} (left-at : v ≡ setIn i k) (right-at : w ≡ setIn j k) {n : ℕ}
+        (says : (u : List ℕ) (tz : EventType) (xs ys : List Text) → PropertiesAre u (tz .properties) count ps → SetIs a xs v → SetIs b ys w →
+        rising texts xs ≡ true → rising texts ys ≡ true → (isExtremeAt tz k ≡ true → (length xs ≤ 1) × (length ys ≤ 1)) →
+        n ≡ length (held (joinCell false (typeView tz .choice k) (holds xs) (holds ys)))) where
+      counted-here : n ≡ length (held together-at)
+      counted-here =
+          let lefts = subst (λ (vs : List Text). SetIs a vs (setIn i k)) (held-at (x .cells) k) (h .left .each k low) in
+          let rights = subst (λ (vs : List Text). SetIs b vs (setIn j k)) (held-at (y .cells) k) (h .right .each k low) in
+          says table ty _ _ (h .typed) (set-read left-at lefts) (set-read right-at rights) (left-cell .rises) (right-cell .rises)
+          (λ e. (left-cell .lone e, right-cell .lone e))
+
+      objects-step : sizes (drop k joined) ≡ n + sizes (drop (k + 1) joined)
+      unfolding sizes
+      objects-step =
+          let here : length (held (getD joined k (holds []))) ≡ n = ap (λ (c : Cell). length (held c)) joined-at ∙ sym counted-here in
+          ap sizes (drop-cons joined k (holds []) (omega (arith, joined-long)))
+          ∙ ap₂ (λ (p q : ℕ). p + sizes (drop q joined)) (sym (held-size (getD joined k (holds []))) ∙ here) (sym (add-one k))
+
+      pub counted-over : room < n → leb (sizes (drop k joined)) room ≡ false
+      counted-over l = lt-leb (sizes (drop k joined)) room (omega (arith, objects-step))
+
+      pub counted-next : n ≤ room → leb (sizes (drop k joined)) room ≡ leb (sizes (drop (k + 1) joined)) (room - n)
+      counted-next l = ap (λ (q : ℕ). leb q room) objects-step ∙ leb-sub n (sizes (drop (k + 1) joined)) room l

@@ -1,14 +1,15 @@
 -- The laws of writing the snapshots of both sides by rising version: what is still to be written when the sides have come so far, and how each way of going
 -- on leads to the next turn.
-use mathlib.Core.Path.{_≡_, refl, _∙_}
-use mathlib.Core.List.{List}
+use mathlib.Core.Path.{_≡_, refl, sym, ap, _∙_, subst}
+use mathlib.Core.List.{List, [], append-nil}
 use Prim.Native.Nat.{ℕ, _+_, _≤_, _<_}
 use native.Mathlib.Omega.{arith}
-use lib.ListN.{length, getD}
+use native.Mathlib.Nat.{add-zero}
+use lib.ListN.{length, getD, length-append}
 use Rattle.model.specs.Rule.{Snapshot, joinSnapshots}
 use Rattle.packed.specs.Packed.{part}
 use Rattle.packed.specs.code.Written.{Wrote, ToGo}
-use Rattle.packed.proofs.WriteLaws.{wrote-length}
+use Rattle.packed.proofs.WriteLaws.{wrote-length, wrote-as, gone, all-gone}
 use Rattle.ontology.specs.Table.{EventType}
 use Rattle.ontology.specs.code.TypeIndex.{TypeIs}
 use Rattle.ontology.specs.declared.types.TypeIndex.{TypeIndex}
@@ -20,9 +21,8 @@ use Rattle.dossier.specs.declared.dossiers.DossierIndex.{DossierIndex}
 use Rattle.combining.specs.code.CombineIndex.{Combinable, Shared}
 use Rattle.combining.specs.code.WriteIndex.{SharedRoom, bytesFrom, RestRoom, SnapshotsRoom}
 use Rattle.combining.proofs.CountLaws.{versionAt}
-use Rattle.combining.proofs.MergedLaws.{StandsIn, snapshotsPart, mergedBytes, nextBytes, merged-to-go, left-room, right-room, next-room}
-use Rattle.combining.proofs.MergedLaws.{left-there, right-there, left-bytes, right-bytes, next-shared, shared-room}
-use Rattle.combining.proofs.MergedLaws.{left-wrote, right-wrote, left-turn, right-turn, both-turn}
+use Rattle.combining.proofs.MergedLaws.{StandsIn, stepBy, step-on, step-none, snapshotsPart, mergedBytes, nextBytes, merged-to-go}
+use Rattle.combining.proofs.MergedLaws.{merged-left, merged-right, merged-next, next-left, next-right, next-both, next-shared, left-bytes, right-bytes}
 
 -- the sides have come to their i-th and their j-th snapshots, and what is left of them goes into `out` from `next` on
 pub record Merging
@@ -42,21 +42,32 @@ module _
     (m : Merging a left b right t ps out₀ at d e out i j next) where
   module _ (room : SnapshotsRoom a d left b e right t ps at (length out₀)) where
     pub left-rest : e .count ≤ j → RestRoom a d i next (length out)
-    left-rest h = left-room (room .both) i j (m .to-go _ (room .both)) (room .room) h
+    left-rest l =
+        let h = room .both in
+        let g = m .to-go _ h in
+        record { what = h .known .left .headed; is = h .left-read; room = omega (arith, g .after, room .room, m .long, ap length (merged-left h i j l)) }
 
     pub right-rest : d .count ≤ i → RestRoom b e j next (length out)
-    right-rest h = right-room (room .both) i j (m .to-go _ (room .both)) (room .room) h
+    right-rest l =
+        let h = room .both in
+        let g = m .to-go _ h in
+        record { what = h .known .right .headed; is = h .right-read; room = omega (arith, g .after, room .room, m .long, ap length (merged-right h i j l)) }
 
   module _ {out₁ : List ℕ} {to : ℕ} where
+    last-wrote :
+        {table xs : List ℕ} (h : Combinable table a d left b e right t ps) → mergedBytes h i j ≡ xs → Wrote out next xs out₁ to →
+        Wrote out₀ at (snapshotsPart h) out₁ to
+    last-wrote {xs = xs} h is w = all-gone (gone xs [] (m .to-go _ h) (is ∙ sym (append-nil xs)) w) refl
+
     pub left-end :
         e .count ≤ j → ((h : Headed) → DossierIs a h d → Wrote out next (bytesFrom (h .snapshots) i) out₁ to) →
         (table : List ℕ) (h : Combinable table a d left b e right t ps) → Wrote out₀ at (snapshotsPart h) out₁ to
-    left-end l w table h = left-wrote h i j (m .to-go table h) l (w (h .known .left .headed) (h .left-read))
+    left-end l w table h = last-wrote h (merged-left h i j l) (w (h .known .left .headed) (h .left-read))
 
     pub right-end :
         d .count ≤ i → ((h : Headed) → DossierIs b h e → Wrote out next (bytesFrom (h .snapshots) j) out₁ to) →
         (table : List ℕ) (h : Combinable table a d left b e right t ps) → Wrote out₀ at (snapshotsPart h) out₁ to
-    right-end l w table h = right-wrote h i j (m .to-go table h) l (w (h .known .right .headed) (h .right-read))
+    right-end l w table h = last-wrote h (merged-right h i j l) (w (h .known .right .headed) (h .right-read))
 
 -- ---- a snapshot of each side is left
 
@@ -101,22 +112,40 @@ module _
     rightPart = part b (getD (e .starts) j 0) (getD (e .ends) j 0)
 
     next-fits : next + length (nextBytes both i j) ≤ length out
-    next-fits = next-room both i j (u .so .to-go _ both) (u .room .room) (u .left-in) (u .right-in)
+    next-fits =
+        let x = stepBy v w in
+        let y = stepBy w v in
+        let g = u .so .to-go _ both in
+        let parts = merged-next both i j (u .left-in) (u .right-in) x y refl refl in
+        omega (arith, g .after, g .long, u .room .room, ap length parts, length-append (nextBytes both i j) (mergedBytes both (i + x) (j + y)))
 
     -- the one of the lower version is copied
     pub left-copied : v < w → (getD (d .starts) i 0 ≤ getD (d .ends) i 0) × (getD (d .ends) i 0 ≤ length a) × (next + length leftPart ≤ length out)
-    left-copied = left-there both i j (u .left-in) (u .right-in) next (length out) next-fits
+    left-copied l =
+        let s = both .left-read .snapshots .each i (omega (arith, both .left-read .count, u .left-in)) in
+        (s .order, s .within, omega (arith, next-fits, ap length (next-left both i j (u .left-in) (u .right-in) l)))
 
     pub right-copied : w < v → (getD (e .starts) j 0 ≤ getD (e .ends) j 0) × (getD (e .ends) j 0 ≤ length b) × (next + length rightPart ≤ length out)
-    right-copied = right-there both i j (u .left-in) (u .right-in) next (length out) next-fits
+    right-copied l =
+        let s = both .right-read .snapshots .each j (omega (arith, both .right-read .count, u .right-in)) in
+        (s .order, s .within, omega (arith, next-fits, ap length (next-right both i j (u .left-in) (u .right-in) l)))
 
     module _ {out₁ : List ℕ} {to : ℕ} where
+      -- the next one is written, and the sides go on by x and y
+      goes-on :
+          (x y : ℕ) → x ≡ stepBy v w → y ≡ stepBy w v → {table : List ℕ} (h : Combinable table a d left b e right t ps) →
+          Wrote out next (nextBytes h i j) out₁ to → ToGo out₀ at (snapshotsPart h) out₁ to (mergedBytes h (i + x) (j + y))
+      goes-on x y p q h o =
+          gone (nextBytes h i j) (mergedBytes h (i + x) (j + y)) (u .so .to-go _ h) (merged-next h i j (u .left-in) (u .right-in) x y p q) o
+
       pub turn-left : v < w → Wrote out next leftPart out₁ to → Merging a left b right t ps out₀ at d e out₁ (i + 1) j to
       turn-left l o = record {
         left-within = omega (arith, u .left-in);
         right-within = u .so .right-within;
         long = wrote-length o ∙ u .so .long;
-        to-go = λ table h. left-turn h i j (u .so .to-go table h) (u .left-in) (u .right-in) l o;
+        to-go = λ table h.
+            subst (λ (n : ℕ). ToGo out₀ at (snapshotsPart h) out₁ to (mergedBytes h (i + 1) n)) (add-zero j)
+            (goes-on 1 0 (sym (step-on v w (omega arith))) (sym (step-none w v l)) h (wrote-as (next-left h i j (u .left-in) (u .right-in) l) o));
       }
 
       pub turn-right : w < v → Wrote out next rightPart out₁ to → Merging a left b right t ps out₀ at d e out₁ i (j + 1) to
@@ -124,7 +153,9 @@ module _
         left-within = u .so .left-within;
         right-within = omega (arith, u .right-in);
         long = wrote-length o ∙ u .so .long;
-        to-go = λ table h. right-turn h i j (u .so .to-go table h) (u .left-in) (u .right-in) l o;
+        to-go = λ table h.
+            subst (λ (n : ℕ). ToGo out₀ at (snapshotsPart h) out₁ to (mergedBytes h n (j + 1))) (add-zero i)
+            (goes-on 0 1 (sym (step-none v w l)) (sym (step-on w v (omega arith))) h (wrote-as (next-right h i j (u .left-in) (u .right-in) l) o));
       }
 
     -- two of one version are written together, from the parts p and q that `part_of` lends
@@ -134,28 +165,33 @@ module _
       pub shared-there :
           SharedRoom (getD (d .versions) i noVersion) a (rowOf left i) (getD (d .differs) i 0) b (rowOf right j) (getD (e .differs) j 0) p q t ps
           next (length out)
-      shared-there =
-          shared-room both i j (u .left-in) (u .right-in) next (length out) next-fits above below
-          (left-bytes both i j (u .left-in) (u .right-in) left-lent) (right-bytes both i j (u .left-in) (u .right-in) right-lent)
+      shared-there = record {
+        table = u .room .table;
+        type = both .known .left .type;
+        left = getD (both .known .left .headed .snapshots) i noSnapshot;
+        right = getD (both .known .right .headed .snapshots) j noSnapshot;
+        typed = both .known .typed;
+        shared = next-shared both i j (u .left-in) (u .right-in) above below;
+        left-bytes = left-bytes both i j (u .left-in) (u .right-in) left-lent;
+        right-bytes = right-bytes both i j (u .left-in) (u .right-in) right-lent;
+        room = omega (arith, next-fits, ap length (next-both both i j (u .left-in) (u .right-in) above below));
+      }
 
       module _
           {out₁ : List ℕ} {to : ℕ}
           (says : (z : List ℕ) (ty : EventType) (x y : Snapshot) → TypeIs z ty t ps →
           Shared (getD (d .versions) i noVersion) a (rowOf left i) (getD (d .differs) i 0) b (rowOf right j) (getD (e .differs) j 0) ty x y →
           p ≡ snapshotBytes x → q ≡ snapshotBytes y → Wrote out next (snapshotBytes (joinSnapshots (typeView ty) x y)) out₁ to) where
-        both-wrote :
-            {table : List ℕ} (h : Combinable table a d left b e right t ps) →
-            let x = getD (h .known .left .headed .snapshots) i noSnapshot in
-            let y = getD (h .known .right .headed .snapshots) j noSnapshot in
-            Wrote out next (snapshotBytes (joinSnapshots (typeView (h .known .left .type)) x y)) out₁ to
+        both-wrote : {table : List ℕ} (h : Combinable table a d left b e right t ps) → Wrote out next (nextBytes h i j) out₁ to
         both-wrote {table} h =
-            says table (h .known .left .type) _ _ (h .known .typed) (next-shared h i j (u .left-in) (u .right-in) above below)
-            (left-bytes h i j (u .left-in) (u .right-in) left-lent) (right-bytes h i j (u .left-in) (u .right-in) right-lent)
+            wrote-as (next-both h i j (u .left-in) (u .right-in) above below)
+            (says table (h .known .left .type) _ _ (h .known .typed) (next-shared h i j (u .left-in) (u .right-in) above below)
+            (left-bytes h i j (u .left-in) (u .right-in) left-lent) (right-bytes h i j (u .left-in) (u .right-in) right-lent))
 
         pub turn-both : Merging a left b right t ps out₀ at d e out₁ (i + 1) (j + 1) to
         turn-both = record {
           left-within = omega (arith, u .left-in);
           right-within = omega (arith, u .right-in);
           long = wrote-length (both-wrote both) ∙ u .so .long;
-          to-go = λ table h. both-turn h i j (u .so .to-go table h) (u .left-in) (u .right-in) above below (both-wrote h);
+          to-go = λ table h. goes-on 1 1 (sym (step-on v w below)) (sym (step-on w v above)) h (both-wrote h);
         }
