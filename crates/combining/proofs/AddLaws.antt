@@ -2,7 +2,6 @@
 use mathlib.Core.Path.{_≡_, refl, sym, ap, ap₂, _∙_, subst}
 use mathlib.Core.Logic.{⊎-elim}
 use mathlib.Core.Bool.{Bool, true, false, cond}
-use mathlib.Core.Option.{Option}
 use mathlib.Core.List.{List, [], _∷_, _++_, map, flatten}
 use Prim.Native.Nat.{ℕ, zero, suc, _+_, _≤_, _<_}
 use native.Mathlib.Omega.{arith}
@@ -25,15 +24,14 @@ use Rattle.packed.proofs.WriteLaws.{wrote-length, wrote-between, wrote-as, wrot
 use Rattle.packed.proofs.LayoutLaws.{lt-or-ge, number-length-1}
 use Rattle.packed.proofs.ReadLaws.{drop-on, to-end}
 use Rattle.values.specs.declared.versions.EventVersion.{EventVersion}
-use Rattle.replies.specs.Questions.{ask, _>>=_}
 use Rattle.replies.specs.Capacities.{dossierCapacity}
-use Rattle.ontology.specs.Table.{EventType, Table, isVersioned}
+use Rattle.ontology.specs.Table.{EventType, isVersioned}
 use Rattle.ontology.specs.code.TypeIndex.{PropertiesAre}
 use Rattle.ontology.specs.declared.types.TypeIndex.{TypeIndex}
 use Rattle.event.specs.Event.{Event, setAt, objectCount, typeView, versionOf}
 use Rattle.event.specs.Head.{Head}
 use Rattle.event.specs.EventLayout.{narrow, eventOf}
-use Rattle.event.specs.EventQuestions.{Typed, eventAsked}
+use Rattle.event.specs.EventQuestions.{Typed}
 use Rattle.event.specs.code.EventIndex.{SetsAre, HeadIs, EventIs, EventReads}
 use Rattle.event.specs.declared.head.HeadAt.{HeadAt}
 use Rattle.event.specs.declared.read.EventIndex.{EventIndex}
@@ -50,12 +48,12 @@ use Rattle.dossier.proofs.DossierSizeLaws.{held-objects}
 use Rattle.combining.specs.CombineCall.{combined}
 use Rattle.combining.specs.code.AddIndex.{bytesOf, Splits, lowerOrSame, withSnapshot, Adding, alone, metWith, Met, newSnapshot, Inside}
 use Rattle.combining.specs.code.AddIndex.{countIn, Addable, Measured, MeasuredIn, AddingAt, MetRoom, NewRoom, WithRoom, AddedRoom, addedBytes}
-use Rattle.combining.specs.code.CheckIndex.{KnownEvent, Checkable, aloneBytes, loneBytes, AloneRoom}
+use Rattle.combining.specs.code.CheckIndex.{Checkable, aloneBytes, loneBytes, AloneRoom}
 use Rattle.combining.specs.code.CombineIndex.{Known, Meet, Shared}
 use Rattle.combining.specs.code.WriteIndex.{SharedRoom, HeadsAre, HeadsRoom, bothHeads}
 use Rattle.combining.specs.declared.measures.Place.{Place}
 use Rattle.combining.proofs.InsertLaws.{Stands, stands, join-keeps, merged-with, bytes-split, bytes-next, bytes-with, length-with, written-at}
-use Rattle.combining.proofs.CheckLaws.{known-read, known-checked, checkable}
+use Rattle.combining.proofs.CheckLaws.{taken-event, known-read, known-checked, checkable}
 use Rattle.combining.proofs.CheckLaws.{Checked, fit, kept, lone-short, none-differ, lone-sets, lone-snapshots, lone-head, alone-bytes}
 use Rattle.combining.proofs.MeetLaws.{versionIn, taken-rises, left-taken, known-meet}
 use Rattle.combining.proofs.PartLaws.{count-room, body-room}
@@ -223,18 +221,6 @@ module _ {table sofar m event : List ℕ} {t : TypeIndex} {ps : List ℕ} (a : A
 
 -- ---- an event that is added
 
--- it is accepted, as it is known to be
-abbrev taken-event :
-    {table event : List ℕ} {t : TypeIndex} (k : KnownEvent table event t) {e : EventIndex} {ats : List ℕ} →
-    EventIs event (k .event .event) e ats → Checked table event t e ats
-taken-event {table} {event} k w = record {
-  type = k .event .type;
-  e = k .event .event;
-  is = ap (λ (m : Option Table). ask 2 m >>= λ ts. eventAsked narrow ts event) (k .is) ∙ k .asked;
-  mark = k .mark;
-  read = w;
-}
-
 module _
     {table sofar m event : List ℕ} {e : EventIndex} {ats : List ℕ} {x : HeadAt} {body : ℕ} {p : Place}
     {t : TypeIndex} {ps : List ℕ} (h : Adding table sofar m event e ats x body p t ps) where
@@ -253,6 +239,16 @@ module _
   abbrev y : Snapshot
   y = alone typed
 
+  -- the snapshots of both, and the one of the event's version among them
+  abbrev whole : List Snapshot
+  whole = combined (k .left) (k .right) .snapshots
+
+  abbrev new : Snapshot
+  new = metWith ty ss p y
+
+  abbrev event-version : ℕ
+  event-version = versionOf (typed .type) (typed .event)
+
   abbrev pub checked : Checked table event t e ats
   checked = taken-event (h .added .new) (h .read)
 
@@ -266,7 +262,7 @@ module _
   right-head-is = subst (λ (g : Head). HeadIs event g (e .head)) (sym right-head) (h .read .head)
 
   -- the snapshots of both
-  whole-with : combined (k .left) (k .right) .snapshots ≡ withSnapshot ss p (metWith ty ss p y)
+  whole-with : whole ≡ withSnapshot ss p new
   whole-with =
       whole-snapshots k
       ∙ ap (merge numbers versionIn (joinSnapshots (typeView ty)) ss) right-snapshots
@@ -274,18 +270,18 @@ module _
 
   -- ---- how many they are
 
-  many-met : p .meets ≡ true → length (combined (k .left) (k .right) .snapshots) ≡ length ss
+  many-met : p .meets ≡ true → length whole ≡ length ss
   many-met q =
       ap length whole-with
-      ∙ ap (λ (b : Bool). length (take (p .index) ss ++ (metWith ty ss p y ∷ drop (cond b (suc (p .index)) (p .index)) ss))) q
-      ∙ length-with ss (p .index) (suc (p .index)) (metWith ty ss p y) (h .splits .within) (omega (arith, h .splits .met q .0))
+      ∙ ap (λ (b : Bool). length (take (p .index) ss ++ (new ∷ drop (cond b (suc (p .index)) (p .index)) ss))) q
+      ∙ length-with ss (p .index) (suc (p .index)) new (h .splits .within) (omega (arith, h .splits .met q .0))
       ∙ omega (arith, h .splits .met q .0)
 
-  many-unmet : p .meets ≡ false → length (combined (k .left) (k .right) .snapshots) ≡ length ss + 1
+  many-unmet : p .meets ≡ false → length whole ≡ length ss + 1
   many-unmet q =
       ap length whole-with
-      ∙ ap (λ (b : Bool). length (take (p .index) ss ++ (metWith ty ss p y ∷ drop (cond b (suc (p .index)) (p .index)) ss))) q
-      ∙ length-with ss (p .index) (p .index) (metWith ty ss p y) (h .splits .within) (h .splits .within)
+      ∙ ap (λ (b : Bool). length (take (p .index) ss ++ (new ∷ drop (cond b (suc (p .index)) (p .index)) ss))) q
+      ∙ length-with ss (p .index) (p .index) new (h .splits .within) (h .splits .within)
       ∙ omega (arith, h .splits .within)
 
   -- ---- where the others stand
@@ -385,7 +381,7 @@ module _
         some-right = subst (λ (n : ℕ). 0 < n) (sym (ap length right-snapshots)) (omega arith)
 
     abbrev pub met-both :
-        (version : EventVersion) → version .0 ≡ versionOf (typed .type) (typed .event) → Met version sofar start (start + p .size) event e ats t ps
+        (version : EventVersion) → version .0 ≡ event-version → Met version sofar start (start + p .size) event e ats t ps
     met-both version n = record {
       table = table;
       type = ty;
@@ -401,32 +397,32 @@ module _
       right-is = y-cells;
     }
 
-    pub new-met : metWith ty ss p y ≡ joinSnapshots (typeView ty) here y
+    pub new-met : new ≡ joinSnapshots (typeView ty) here y
     new-met = ap (λ (b : Bool). cond b (joinSnapshots (typeView ty) here y) y) q
 
-  new-alone : p .meets ≡ false → metWith ty ss p y ≡ y
+  new-alone : p .meets ≡ false → new ≡ y
   new-alone q = ap (λ (b : Bool). cond b (joinSnapshots (typeView ty) (getD ss (p .index) noSnapshot) y) y) q
 
-  y-bytes : snapshotBytes y ≡ aloneBytes (typed .event) (versionOf (typed .type) (typed .event))
+  y-bytes : snapshotBytes y ≡ aloneBytes (typed .event) event-version
   y-bytes = alone-bytes (typed .type) (typed .event) (kept checked) (fit checked)
 
   -- ---- the snapshots of both, as bytes
 
   pub whole-bytes :
-      bytesOf (combined (k .left) (k .right) .snapshots)
-      ≡ bytesOf (take (p .index) ss) ++ (snapshotBytes (metWith ty ss p y) ++ bytesOf (drop (lowerOrSame p) ss))
-  whole-bytes = ap bytesOf whole-with ∙ bytes-with ss p (metWith ty ss p y)
+      bytesOf whole
+      ≡ bytesOf (take (p .index) ss) ++ (snapshotBytes new ++ bytesOf (drop (lowerOrSame p) ss))
+  whole-bytes = ap bytesOf whole-with ∙ bytes-with ss p new
 
   -- ---- what is written of them
 
   pub new-alone-bytes :
-      p .meets ≡ false → (version : ℕ) → version ≡ versionOf (typed .type) (typed .event) → snapshotBytes (newSnapshot h) ≡ aloneBytes (typed .event) version
+      p .meets ≡ false → (version : ℕ) → version ≡ event-version → snapshotBytes (newSnapshot h) ≡ aloneBytes (typed .event) version
   new-alone-bytes q version n = ap snapshotBytes (new-alone q) ∙ y-bytes ∙ ap (aloneBytes (typed .event)) (sym n)
 
   alone-short : length (snapshotBytes y) ≤ dossierCapacity
   unfolding loneBytes
   alone-short =
-      let v = versionOf (typed .type) (typed .event) in
+      let v = event-version in
       let g = dossierHeadBytes (typed .event .head) in
       omega (
         arith,
@@ -438,7 +434,7 @@ module _
 
   -- the lower ones, the new one and the higher ones
   parts-length :
-      length (bytesOf (combined (k .left) (k .right) .snapshots))
+      length (bytesOf whole)
       ≡ length (part sofar body start) + length (snapshotBytes (newSnapshot h)) + length (part sofar (start + p .size) (length sofar))
   parts-length =
       let lower = bytesOf (take (p .index) ss) in
@@ -448,15 +444,15 @@ module _
 
   pub wrote-parts :
       {l l₁ l₂ l₃ : List ℕ} {a b c d : ℕ} → Wrote l a (part sofar body start) l₁ b → Wrote l₁ b (snapshotBytes (newSnapshot h)) l₂ c →
-      Wrote l₂ c (part sofar (start + p .size) (length sofar)) l₃ d → Wrote l a (bytesOf (combined (k .left) (k .right) .snapshots)) l₃ d
+      Wrote l₂ c (part sofar (start + p .size) (length sofar)) l₃ d → Wrote l a (bytesOf whole) l₃ d
   wrote-parts u v w = wrote-as (sym whole-bytes) (wrote-then (wrote-as lower-part u) (wrote-then v (wrote-as higher-part w)))
 
   -- ---- the whole dossier, and its measures
 
-  counted : {n : ℕ} → n ≡ cond (p .meets) (countIn m) (countIn m + 1) → n ≡ length (combined (k .left) (k .right) .snapshots)
+  counted : {n : ℕ} → n ≡ cond (p .meets) (countIn m) (countIn m + 1) → n ≡ length whole
   counted is = is ∙ go (p .meets) refl
     where
-      go : (b : Bool) → p .meets ≡ b → cond (p .meets) (countIn m) (countIn m + 1) ≡ length (combined (k .left) (k .right) .snapshots)
+      go : (b : Bool) → p .meets ≡ b → cond (p .meets) (countIn m) (countIn m + 1) ≡ length whole
       go true q = ap (λ (b : Bool). cond b (countIn m) (countIn m + 1)) q ∙ h .added .measured .count ∙ sym (many-met q)
       go false q = ap (λ (b : Bool). cond b (countIn m) (countIn m + 1)) q ∙ ap (λ (i : ℕ). i + 1) (h .added .measured .count) ∙ sym (many-unmet q)
 
@@ -476,17 +472,17 @@ module _
         λ q. omega (arith, c, many-unmet q, versions),
       )
 
-  new-version : newSnapshot h .version ≡ versionOf (typed .type) (typed .event)
+  new-version : newSnapshot h .version ≡ event-version
   new-version = go (p .meets) refl
     where
-      go : (b : Bool) → p .meets ≡ b → newSnapshot h .version ≡ versionOf (typed .type) (typed .event)
+      go : (b : Bool) → p .meets ≡ b → newSnapshot h .version ≡ event-version
       go true q = ap (λ (z : Snapshot). z .version) (new-met q) ∙ join-keeps ty (getD ss (p .index) noSnapshot) y ∙ h .splits .met q .1
       go false q = ap (λ (z : Snapshot). z .version) (new-alone q)
 
   pub measured-with :
-      {version size : ℕ} {r : List ℕ} → version ≡ versionOf (typed .type) (typed .event) → length (snapshotBytes (newSnapshot h)) ≡ size →
+      {version size : ℕ} {r : List ℕ} → version ≡ event-version → length (snapshotBytes (newSnapshot h)) ≡ size →
       ((zs : List Snapshot) (z : Snapshot) → Measured zs m → z .version ≡ version → length (snapshotBytes z) ≡ size → Measured (withSnapshot zs p z) r) →
-      Measured (combined (k .left) (k .right) .snapshots) r
+      Measured whole r
   measured-with {r = r} n s says =
       subst (λ (zs : List Snapshot). Measured zs r) (sym whole-with) (says ss (newSnapshot h) (h .added .measured) (new-version ∙ sym n) s)
 
@@ -529,7 +525,7 @@ module _
   pub fits-unmet : ToVersions k → p .meets ≡ false → ltb (countIn m) 8 ≡ asked
   fits-unmet go-on q = ⊎-elim below above (lt-or-ge (countIn m) 8)
     where
-      many : countIn m + 1 ≡ length (combined (k .left) (k .right) .snapshots)
+      many : countIn m + 1 ≡ length whole
       many = ap (λ (i : ℕ). i + 1) (h .added .measured .count) ∙ sym (many-unmet q)
 
       marked : 0 < t .mark

@@ -122,6 +122,17 @@ abbrev pub asked-checked :
 asked-checked a = record { type = a .type; e = a .e; is = a .is; mark = a .type-is .mark; read = a .event-is }
 
 -- and where it is known to be accepted, once it is read
+abbrev pub taken-event :
+    {table event : List ℕ} {t : TypeIndex} (k : KnownEvent table event t) {x : EventIndex} {ats : List ℕ} →
+    EventIs event (k .event .event) x ats → Checked table event t x ats
+taken-event {table} {event} k w = record {
+  type = k .event .type;
+  e = k .event .event;
+  is = ap (λ (m : Option Table). ask 2 m >>= λ ts. eventAsked narrow ts event) (k .is) ∙ k .asked;
+  mark = k .mark;
+  read = w;
+}
+
 module _
     {table event : List ℕ} {t : TypeIndex} (k : KnownEvent table event t)
     {ats : List ℕ} {x : EventIndex} (w : EventReads (eventOf narrow event) event ats x) where
@@ -132,13 +143,7 @@ module _
       subst (λ (o : Option Event). EventReads o event ats x) (a .read) w
 
   abbrev pub known-checked : Checked table event t x ats
-  known-checked = record {
-    type = k .event .type;
-    e = k .event .event;
-    is = ap (λ (m : Option Table). ask 2 m >>= λ ts. eventAsked narrow ts event) (k .is) ∙ k .asked;
-    mark = k .mark;
-    read = known-read .1;
-  }
+  known-checked = taken-event k (known-read .1)
 
 module _ {table event : List ℕ} {t : TypeIndex} {x : EventIndex} {ats : List ℕ} (a : Checked table event t x ats) where
   abbrev from : OfTable table event (record { type = a .type; event = a .e })
