@@ -1,6 +1,6 @@
 -- The laws of question 8: the limits of two dossiers together.
 use mathlib.Core.Path.{_≡_, refl, sym, ap, ap₂, _∙_}
-use mathlib.Core.Bool.{Bool, true, false, cond, _&&_, _||_}
+use mathlib.Core.Bool.{Bool, true, false, _&&_, _||_}
 use mathlib.Core.List.{List, [], _∷_, map}
 use Prim.Native.Nat.{ℕ, zero, suc, _+_, _-_, _≤_, _<_}
 use native.Mathlib.Omega.{arith}
@@ -8,29 +8,29 @@ use lib.Dec.{leb, eqb}
 use lib.ListN.{length, take, getD, length-map}
 use borrow.Author.Tests.{lt-ltb, le-ltb, le-leb, lt-leb, eqb-true}
 use Rattle.model.specs.Order.{Order, Text, numbers, texts, rising}
-use Rattle.model.proofs.Cases.{three, and-parts, or-part}
+use Rattle.model.proofs.Cases.{three, or-part}
 use Rattle.model.specs.Keyed.{put, merge}
 use Rattle.model.specs.Sets.{itself, first, union}
 use Rattle.model.specs.Rule.{Snapshot, joinSnapshots, Dossier, combine, sizes, objects}
 use Rattle.model.specs.Limits.{standard, fits}
-use Rattle.model.specs.Opening.{cellAt, held}
+use Rattle.model.specs.Opening.{held}
 use Rattle.packed.proofs.LayoutLaws.{All}
 use Rattle.ontology.specs.Table.{EventType, Table, isVersioned}
 use Rattle.ontology.specs.code.TypeIndex.{PropertiesAre}
 use Rattle.ontology.specs.declared.types.TypeIndex.{TypeIndex}
 use Rattle.event.specs.Event.{typeView, eventView}
-use Rattle.event.specs.EventQuestions.{matchCount}
 use Rattle.event.specs.code.EventIndex.{SetsAre, HashesAre}
 use Rattle.event.specs.declared.sets.SetAt.{SetAt}
 use Rattle.unions.specs.code.Runs.{Hashes}
-use Rattle.dossier.specs.DossierQuestions.{eachCell, isVacant, holdsVersion, TypedDossier}
-use Rattle.dossier.specs.code.DossierIndex.{noSnapshot, versionNumbers, rowOf, cellFits, versionFits, snapshotFits}
+use Rattle.dossier.specs.DossierQuestions.{TypedDossier}
+use Rattle.dossier.specs.code.DossierIndex.{noSnapshot, versionNumbers, rowOf}
 use Rattle.dossier.specs.declared.dossiers.DossierIndex.{DossierIndex}
 use Rattle.dossier.proofs.DossierLayoutLaws.{DossierWritten}
 use Rattle.dossier.proofs.AskLaws.{snapshot-stands}
 use Rattle.dossier.proofs.AcceptedLaws.{DossierTaken, taken-written, taken-lone, taken-fits}
 use Rattle.combining.specs.CombineCall.{combined}
 use Rattle.combining.specs.code.CombineIndex.{Known, Combinable, Meet}
+use Rattle.combining.proofs.PlaceLaws.{version-none}
 use Rattle.combining.proofs.ObjectLaws.{union-few}
 use Rattle.combining.proofs.MeetLaws.{versionIn, left-taken, right-taken, same-type, meet}
 
@@ -83,17 +83,6 @@ alone : (ss : List Snapshot) → length ss ≡ 1 → ss ≡ getD ss 0 noSnapshot
 alone [] h = absurd (omega arith)
 alone (s ∷ []) h = refl
 alone (s ∷ r ∷ ss) h = absurd (omega arith)
-
-version-none : (ty : EventType) (s : Snapshot) → isVersioned ty ≡ false → snapshotFits ty s ≡ true → s .version ≡ 0
-unfolding snapshotFits versionFits
-version-none ty s un h =
-    let versioned = leb (sizes (s .cells)) 32 && holdsVersion (s .version) (cellAt s (ty .mark - 1)) in
-    let plain = eqb (s .version) 0 && leb (sizes (s .cells)) 256 in
-    let cells = eachCell (cellFits (isVersioned ty)) isVacant (ty .properties) (s .cells) in
-    let matches = leb (matchCount (ty .properties) (map held (s .cells))) 32 in
-    let a = and-parts (cells && matches) (versionFits ty s) h .1 in
-    let b = sym (ap (λ (v : Bool). cond v versioned plain) un) ∙ a in
-    eqb-true (s .version) 0 (and-parts (eqb (s .version) 0) (leb (sizes (s .cells)) 256) b .0)
 
 -- two snapshots of one version, merged
 merge-alone : (join : Snapshot → Snapshot → Snapshot) (x y : Snapshot) → x .version ≡ y .version →
@@ -153,8 +142,8 @@ module _ {table a b : List ℕ} {t : TypeIndex} {ps : List ℕ} (k : Known table
 
     pub same-version : x .version ≡ y .version
     same-version =
-        version-none ty x unversioned (taken-fits (left-taken k) 0 (omega (arith, left-one)))
-        ∙ sym (version-none (k .right .type) y right-unversioned (taken-fits (right-taken k) 0 (omega (arith, right-one))))
+        version-none ty x (taken-fits (left-taken k) 0 (omega (arith, left-one))) unversioned
+        ∙ sym (version-none (k .right .type) y (taken-fits (right-taken k) 0 (omega (arith, right-one))) right-unversioned)
 
     whole-objects : objects (whole .snapshots) ≡ sizes (joinSnapshots (typeView ty) x y .cells)
     unfolding objects

@@ -1,24 +1,23 @@
 -- The laws of joining two unversioned snapshots.
 use mathlib.Core.Path.{_≡_, refl, sym, ap, ap₂, _∙_, subst}
-use mathlib.Core.Bool.{Bool, true, false, not, _&&_, _||_}
+use mathlib.Core.Bool.{Bool, true, false, _||_}
 use mathlib.Core.Option.{Option, none, some}
 use mathlib.Core.List.{List, [], _∷_, _++_, map, flatten, append-nil, List·Memᴰ, List·Memᴰ·head, List·Memᴰ·tail}
 use Prim.Native.Nat.{ℕ, zero, suc, _+_, _-_, _≤_, _<_}
 use native.Mathlib.Omega.{arith}
 use native.Mathlib.Numerals.{add-one}
-use lib.Dec.{ltb, eqb}
+use lib.Dec.{ltb}
 use lib.ListN.{length, take, drop, getD, getElem?, length-append, length-map}
 use lib.Seq.{take-all}
-use borrow.Author.Tests.{lt-ltb, le-ltb, leb-true, eqb-true, not-true}
+use borrow.Author.Tests.{lt-ltb, le-ltb}
 use Rattle.model.specs.Order.{Order, Text, texts, rising}
 use Rattle.model.specs.Sets.{union, upFrom, upTo}
-use Rattle.model.specs.Rule.{Choice, every, least, Cell, holds, differs, joinCell, places, Snapshot, joinSnapshots}
-use Rattle.model.specs.Opening.{held, isMark, cellAt}
-use Rattle.model.proofs.Cases.{never, and-parts}
+use Rattle.model.specs.Rule.{Choice, every, least, Cell, holds, joinCell, places, Snapshot, joinSnapshots}
+use Rattle.model.specs.Opening.{held, cellAt}
+use Rattle.model.proofs.Cases.{never}
 use Rattle.model.proofs.SetLaws.{rising-ups, union-in}
 use Rattle.model.proofs.PartLaws.{map-same}
 use Rattle.model.proofs.StepLaws.{union-left-nil, union-right-nil, join-map}
-use Rattle.packed.specs.Parse.{got}
 use Rattle.packed.specs.Packed.{number, text}
 use Rattle.packed.specs.code.Written.{Wrote, ToGo}
 use Rattle.packed.proofs.LayoutLaws.{text-length, number-bounds}
@@ -36,23 +35,20 @@ use Rattle.event.specs.code.EventIndex.{SetIs, SetsAre, setIn, bitOf}
 use Rattle.event.proofs.SetLaws.{set-read}
 use Rattle.event.specs.declared.sets.SetAt.{SetAt}
 use Rattle.event.proofs.BitLaws.{presence-bits}
-use Rattle.event.proofs.EventLayoutLaws.{SetWritten}
-use Rattle.event.proofs.EventQuestionLaws.{all-at, each-place-at, empty-written, choice-least, no-value, one-value, one-in-space}
+use Rattle.event.proofs.EventQuestionLaws.{each-place-at, choice-least, no-value, one-value, one-in-space}
 use Rattle.event.proofs.SetWriteLaws.{set-some, set-room, wrote-set}
 use Rattle.unions.specs.declared.pair.Joined.{Joined}
 use Rattle.unions.specs.code.Runs.{TextsRoom, WroteUnion}
-use Rattle.dossier.specs.DossierBody.{readSnapshot, differBit, snapshotBytes}
-use Rattle.dossier.specs.DossierQuestions.{isVacant, isPresent, isLone, isLoneIfExtreme, snapshotValues}
-use Rattle.dossier.specs.code.DossierIndex.{cellFits, versionFits, snapshotFits}
-use Rattle.dossier.proofs.DossierBodyLaws.{snapshot-was}
+use Rattle.dossier.specs.DossierBody.{differBit, snapshotBytes}
+use Rattle.dossier.specs.DossierQuestions.{snapshotValues}
 use Rattle.dossier.proofs.CellLaws.{held-at}
 use Rattle.combining.specs.code.CombineIndex.{isExtremeAt, Fitting}
 use Rattle.combining.specs.code.JoinedIndex.{haveObjects, PresentAre, NoObjectsFrom, Extremes, joinedSet, ValuesAre, ValuesRoom, Paired}
 use Rattle.combining.specs.code.JoinedIndex.{PlaceIs, PlaceRoom}
 use Rattle.combining.proofs.CheckLaws.{sets-held, none-differ}
 use Rattle.combining.proofs.PartLaws.{PartsRoom}
-use Rattle.combining.proofs.ObjectLaws.{keeps-every, Joins}
-use Rattle.combining.proofs.PlaceLaws.{fits-parts, placeFits, place-fits, left-vacant, right-vacant, FilledOnly, only-all}
+use Rattle.combining.proofs.ObjectLaws.{keeps-every, Joins, left-cell, right-cell}
+use Rattle.combining.proofs.PlaceLaws.{version-none, left-vacant, right-vacant, FilledOnly, only-all}
 
 -- ---- the smaller or larger of two values
 
@@ -427,57 +423,15 @@ places-all w n h = record { long = w .filled .long; each = only-all w (λ p l m.
 abbrev pub setOf : Snapshot → ℕ → List Text
 setOf x p = getD (map held (x .cells)) p []
 
-plain-parts : (f : Bool) (q : Property) (c : Cell) → f ≡ false → cellFits f q c ≡ true → (not (isMark c) ≡ true) × (isLoneIfExtreme q c ≡ true)
-unfolding cellFits
-plain-parts f q c e h =
-    let a = and-parts (isPresent q c && (not (isMark c) && isLoneIfExtreme q c)) _ (rw e at h) .0 in
-    and-parts (not (isMark c)) (isLoneIfExtreme q c) (and-parts (isPresent q c) _ a .1)
-
-plain-mark : (f : Bool) (o : Option Property) (c : Cell) → f ≡ false → placeFits f o c ≡ true → isMark c ≡ false
-unfolding placeFits isVacant
-plain-mark f none c e h = not-true (isMark c) (and-parts (not (isMark c)) _ h .0)
-plain-mark f (some q) c e h = not-true (isMark c) (plain-parts f q c e h .0)
-
-plain-holds : (c : Cell) → isMark c ≡ false → c ≡ holds (held c)
-unfolding isMark held
-plain-holds (holds s) h = refl
-plain-holds differs h = never (cc)
-
-lone-extreme : (q : Property) (c : Cell) → isLoneIfExtreme q c ≡ true → (isMin q || isMax q) ≡ true → length (held c) ≤ 1
-unfolding isLoneIfExtreme isLone
-lone-extreme q c h e = leb-true (length (held c)) 1 (rw e at h)
-
-module _ (ty : EventType) (x : Snapshot) (f : snapshotFits ty x ≡ true) (u : isVersioned ty ≡ false) where
-  cell-fits : (p : ℕ) → placeFits (isVersioned ty) (getElem? (ty .properties) p) (getD (x .cells) p (holds [])) ≡ true
-  cell-fits = place-fits ty x f
-
-  plain-cell : (p : ℕ) → cellAt x p ≡ holds (setOf x p)
-  unfolding cellAt
-  plain-cell p =
-      plain-holds (getD (x .cells) p (holds [])) (plain-mark (isVersioned ty) (getElem? (ty .properties) p) (getD (x .cells) p (holds [])) u (cell-fits p))
-      ∙ ap holds (sym (held-at (x .cells) p))
-
-  plain-few : (p : ℕ) → isExtremeAt ty p ≡ true → length (setOf x p) ≤ 1
-  unfolding placeFits
-  plain-few p h =
-      let e = extreme-at ty p h in
-      let c = getD (x .cells) p (holds []) in
-      let k : cellFits (isVersioned ty) (e .what) c ≡ true = subst (λ (o : Option Property). placeFits (isVersioned ty) o c ≡ true) (e .is) (cell-fits p) in
-      subst (λ (s : List Text). length s ≤ 1) (sym (held-at (x .cells) p))
-      (lone-extreme (e .what) c (plain-parts (isVersioned ty) (e .what) c u k .1) (e .extreme))
-
-  plain-version : x .version ≡ 0
-  unfolding versionFits
-  plain-version = eqb-true (x .version) 0 (and-parts (eqb (x .version) 0) _ (rw u at (fits-parts ty x f .1)) .0)
+-- what is so of its cell's set is so of it
+at-set : (x : Snapshot) (p : ℕ) (P : List Text → Type 0) → P (held (getD (x .cells) p (holds []))) → P (setOf x p)
+at-set x p P w = subst P (sym (held-at (x .cells) p)) w
 
 set-values : (ty : EventType) (x : Snapshot) → snapshotValues ty x ≡ true → (p : ℕ) (q : Property) → getElem? (ty .properties) p ≡ some q →
     areInSpace (q .kind) (setOf x p) ≡ true
 unfolding snapshotValues valuesFit
 set-values ty x v p q e =
     each-place-at (λ (q : Property) (s : List Text). areInSpace (q .kind) s) (λ (s : List Text). true) (ty .properties) (map held (x .cells)) v p q e
-
-set-rises : (s : List ℕ) (x : Snapshot) (r : List ℕ) → readSnapshot s ≡ got x r → (p : ℕ) → rising texts (setOf x p) ≡ true
-set-rises s x r e p = all-at SetWritten [] empty-written (map held (x .cells)) (snapshot-was s x r e .1 .sets .each) p .rises
 
 -- ---- two unversioned snapshots
 
@@ -505,9 +459,9 @@ module _ {table a b : List ℕ} {count : ℕ} {ps i j : List ℕ} {ty : EventTyp
 
   pub paired : (p : ℕ) → Paired ty p (setOf x p) (setOf y p)
   paired p = record {
-    left-rises = set-rises (h .meet .left-bytes) x (h .meet .left-rest) (h .meet .left-read) p;
-    right-rises = set-rises (h .meet .right-bytes) y (h .meet .right-rest) (h .meet .right-read) p;
-    few = λ e. (plain-few ty x (f .left-fits) (h .unversioned) p e, plain-few ty y (f .right-fits) (h .unversioned) p e);
+    left-rises = at-set x p (λ s. rising texts s ≡ true) (left-cell h p .rises);
+    right-rises = at-set y p (λ s. rising texts s ≡ true) (right-cell h p .rises);
+    few = λ e. (at-set x p (λ s. length s ≤ 1) (left-cell h p .lone e), at-set y p (λ s. length s ≤ 1) (right-cell h p .lone e));
     values = λ q e. (set-values ty x (f .left-values) p q e, set-values ty y (f .right-values) p q e);
     ordered = λ q e o. f .ordered p q e o;
   }
@@ -559,7 +513,9 @@ module _ {table a b : List ℕ} {count : ℕ} {ps i j : List ℕ} {ty : EventTyp
   joined-cell : (p : ℕ) → joinCell (isVersioned ty) (typeView ty .choice p) (cellAt x p) (cellAt y p) ≡ holds (joined p)
   joined-cell p =
       ap (λ (v : Bool). joinCell v (typeView ty .choice p) (cellAt x p) (cellAt y p)) (h .unversioned)
-      ∙ ap₂ (joinCell false (typeView ty .choice p)) (plain-cell ty x (f .left-fits) (h .unversioned) p) (plain-cell ty y (f .right-fits) (h .unversioned) p)
+      ∙ ap₂ (joinCell false (typeView ty .choice p))
+      (at-set x p (λ s. cellAt x p ≡ holds s) (unfold cellAt in left-cell h p .holds-it))
+      (at-set y p (λ s. cellAt y p ≡ holds s) (unfold cellAt in right-cell h p .holds-it))
       ∙ go (typeView ty .choice p)
     where
       go : (c : Choice) → joinCell false c (holds (setOf x p)) (holds (setOf y p)) ≡ holds (held (joinCell false c (holds (setOf x p)) (holds (setOf y p))))
@@ -574,7 +530,7 @@ module _ {table a b : List ℕ} {count : ℕ} {ps i j : List ℕ} {ty : EventTyp
 
   joined-version : joinSnapshots (typeView ty) x y .version ≡ 0
   unfolding joinSnapshots
-  joined-version = plain-version ty x (f .left-fits) (h .unversioned)
+  joined-version = version-none ty x (f .left-fits) (h .unversioned)
 
   -- `joined_places` answers `present`
   module _ {present : List Bool} (says : NoObjectsFrom count i j → PresentAre i j present) where

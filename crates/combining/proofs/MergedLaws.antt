@@ -4,7 +4,6 @@ use mathlib.Core.Bool.{true, false, cond}
 use mathlib.Core.List.{List, [], _∷_, _++_, append-assoc, append-nil, map, flatten}
 use Prim.Native.Nat.{ℕ, zero, suc, _+_, _-_, _*_, _≤_, _<_, Ordering·lt}
 use native.Mathlib.Omega.{arith}
-use native.Mathlib.Nat.{add-zero}
 use lib.Dec.{leb}
 use lib.ListN.{length, take, drop, getD, replicate, length-append, length-replicate, drop-of-length-le, List·getD-map}
 use lib.Seq.{drop-cons, drop-drop, take-at}
@@ -20,7 +19,7 @@ use Rattle.model.specs.Limits.{fits, standard}
 use Rattle.model.specs.Opening.{held}
 use Rattle.packed.specs.Packed.{number, part}
 use Rattle.packed.specs.code.Written.{Wrote, ToGo}
-use Rattle.packed.proofs.WriteLaws.{wrote-then, wrote-as, to-go, gone, all-gone, wrote-between, wrote-length}
+use Rattle.packed.proofs.WriteLaws.{wrote-then, wrote-as, to-go, all-gone, wrote-between, wrote-length}
 use Rattle.packed.proofs.ReadLaws.{part-length, stretch}
 use Rattle.values.specs.declared.versions.EventVersion.{EventVersion}
 use Rattle.ontology.specs.Table.{EventType, isVersioned}
@@ -43,7 +42,7 @@ use Rattle.dossier.specs.DossierHead.{dossierHeadBytes}
 use Rattle.combining.proofs.RoomLaws.{combined-parents}
 use Rattle.combining.specs.CombineCall.{headedAs, combined}
 use Rattle.combining.specs.code.CombineIndex.{Known, Combinable, Meet, Shared, AgreedRoom, JoinedRoom}
-use Rattle.combining.specs.code.WriteIndex.{SharedRoom, bytesFrom, RestRoom, HeadsAre, bothHeads, HeadsRoom, SnapshotsRoom, CombinedRoom}
+use Rattle.combining.specs.code.WriteIndex.{SharedRoom, bytesFrom, HeadsAre, bothHeads, HeadsRoom, SnapshotsRoom, CombinedRoom}
 use Rattle.combining.proofs.MeetLaws.{versionIn, taken-rises, left-taken, right-taken, meet}
 use Rattle.combining.proofs.CountLaws.{versionAt, version-at}
 use Rattle.combining.proofs.SelfLaws.{same-joined}

@@ -193,7 +193,7 @@ place-says (some q) c h =
     let d = and-parts (not (isMark c)) (isLoneIfExtreme q c) b in
     (d .0, lone-so (isMin q || isMax q) (length (held c)) (d .1))
 
-module _ (ty : EventType) (x : Snapshot) (w : SnapshotWritten x) (un : isVersioned ty ≡ false) (fits : snapshotFits ty x ≡ true) (k : ℕ) (h : k < 32) where
+module _ (ty : EventType) (x : Snapshot) (w : SnapshotWritten x) (un : isVersioned ty ≡ false) (fits : snapshotFits ty x ≡ true) (k : ℕ) where
   abbrev cell : Cell
   cell = getD (x .cells) k (holds [])
 
@@ -250,6 +250,12 @@ module _ {table a b : List ℕ} {count : ℕ} {ps i j : List ℕ} {ty : EventTyp
   right-written : SnapshotWritten y
   right-written = snapshot-was (h .meet .right-bytes) y (h .meet .right-rest) (h .meet .right-read) .1
 
+  pub left-cell : (k : ℕ) → PlainCell ty k (getD (x .cells) k (holds []))
+  left-cell = plain-cell ty x left-written (h .unversioned) (h .meet .fitting .left-fits)
+
+  pub right-cell : (k : ℕ) → PlainCell ty k (getD (y .cells) k (holds []))
+  right-cell = plain-cell ty y right-written (h .unversioned) (h .meet .fitting .right-fits)
+
   abbrev joined : List Cell
   joined = joinSnapshots (typeView ty) x y .cells
 
@@ -271,12 +277,6 @@ module _ {table a b : List ℕ} {count : ℕ} {ps i j : List ℕ} {ty : EventTyp
     abbrev rightCell : Cell
     rightCell = getD (y .cells) k (holds [])
 
-    left-cell : PlainCell ty k leftCell
-    left-cell = plain-cell ty x left-written (h .unversioned) (h .meet .fitting .left-fits) k low
-
-    right-cell : PlainCell ty k rightCell
-    right-cell = plain-cell ty y right-written (h .unversioned) (h .meet .fitting .right-fits) k low
-
     -- the cell that the two have together
     abbrev together-at : Cell
     together-at = joinCell false (typeView ty .choice k) (holds (held leftCell)) (holds (held rightCell))
@@ -285,7 +285,7 @@ module _ {table a b : List ℕ} {count : ℕ} {ps i j : List ℕ} {ty : EventTyp
     unfolding cellAt
     joined-at =
         wide ∙ ap (λ (v : Bool). joinCell v (typeView ty .choice k) leftCell rightCell) (h .unversioned)
-        ∙ ap₂ (joinCell false (typeView ty .choice k)) (left-cell .holds-it) (right-cell .holds-it)
+        ∙ ap₂ (joinCell false (typeView ty .choice k)) (left-cell k .holds-it) (right-cell k .holds-it)
       where
         wide : getD joined k (holds []) ≡ joinCell (isVersioned ty) (typeView ty .choice k) leftCell rightCell
         wide = unfold typeView eventView in join-at (typeView ty) x y (snapshot-cells x left-written) (snapshot-cells y right-written) k low
@@ -300,8 +300,8 @@ module _ {table a b : List ℕ} {count : ℕ} {ps i j : List ℕ} {ty : EventTyp
       counted-here =
           let lefts = subst (λ (vs : List Text). SetIs a vs (setIn i k)) (held-at (x .cells) k) (h .left .each k low) in
           let rights = subst (λ (vs : List Text). SetIs b vs (setIn j k)) (held-at (y .cells) k) (h .right .each k low) in
-          says table ty _ _ (h .typed) (set-read left-at lefts) (set-read right-at rights) (left-cell .rises) (right-cell .rises)
-          (λ e. (left-cell .lone e, right-cell .lone e))
+          says table ty _ _ (h .typed) (set-read left-at lefts) (set-read right-at rights) (left-cell k .rises) (right-cell k .rises)
+          (λ e. (left-cell k .lone e, right-cell k .lone e))
 
       objects-step : sizes (drop k joined) ≡ n + sizes (drop (k + 1) joined)
       unfolding sizes

@@ -7,7 +7,7 @@ use mathlib.Core.Option.{Option, none, some}
 use mathlib.Core.List.{List, [], _∷_, map}
 use Prim.Native.Nat.{ℕ, zero, suc, _+_, _≤_, _<_}
 use native.Mathlib.Omega.{arith}
-use lib.Dec.{leb}
+use lib.Dec.{leb, eqb}
 use lib.ListN.{length, getD, getElem?, set, replicate, getD-replicate, length-map, List·getD-eq-default}
 use lib.Seq.{getD-set-other}
 use borrow.Author.Tests.{eqb-true}
@@ -48,12 +48,17 @@ fits-at f (q ∷ ps) (c ∷ cs) h zero = and-parts (cellFits f q c) _ h .0
 fits-at f (q ∷ ps) (c ∷ cs) h (suc p) = fits-at f ps cs (and-parts (cellFits f q c) _ h .1) p
 
 module _ (ty : EventType) (x : Snapshot) (f : snapshotFits ty x ≡ true) where
-  pub fits-parts : (eachCell (cellFits (isVersioned ty)) isVacant (ty .properties) (x .cells) ≡ true) × (versionFits ty x ≡ true)
+  fits-parts : (eachCell (cellFits (isVersioned ty)) isVacant (ty .properties) (x .cells) ≡ true) × (versionFits ty x ≡ true)
   unfolding snapshotFits
   fits-parts =
       let cells = eachCell (cellFits (isVersioned ty)) isVacant (ty .properties) (x .cells) in
       let (a, b) = and-parts (cells && leb (matchCount (ty .properties) (map held (x .cells))) 32) (versionFits ty x) f in
       (and-parts cells _ a .0, b)
+
+  -- an unversioned one has version 0
+  pub version-none : isVersioned ty ≡ false → x .version ≡ 0
+  unfolding versionFits
+  version-none u = eqb-true (x .version) 0 (and-parts (eqb (x .version) 0) _ (rw u at (fits-parts .1)) .0)
 
   pub place-fits : (p : ℕ) → placeFits (isVersioned ty) (getElem? (ty .properties) p) (getD (x .cells) p (holds [])) ≡ true
   place-fits = fits-at (isVersioned ty) (ty .properties) (x .cells) (fits-parts .0)

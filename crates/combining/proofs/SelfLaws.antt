@@ -2,7 +2,7 @@
 use mathlib.Core.Path.{_≡_, refl, sym, ap, _∙_}
 use mathlib.Core.Bool.{Bool, true, false, cond}
 use mathlib.Core.List.{List, [], _∷_, _++_}
-use Prim.Native.Nat.{ℕ, _≤_, _<_}
+use Prim.Native.Nat.{ℕ, _≤_}
 use native.Mathlib.Omega.{arith}
 use lib.ListN.{length, take, getD}
 use Rattle.model.specs.Order.{Order, Text, texts, sets}
@@ -14,7 +14,7 @@ use Rattle.model.proofs.Cases.{truth}
 use Rattle.model.proofs.OrderLaws.{equal-true}
 use Rattle.model.proofs.KeyedLaws.{merge-meet}
 use Rattle.model.proofs.SetLaws.{rising-ups}
-use Rattle.model.proofs.PartLaws.{map-same, map-getD, in-upTo}
+use Rattle.model.proofs.PartLaws.{map-same, map-getD}
 use Rattle.model.proofs.StepLaws.{join-map}
 use Rattle.packed.specs.Parse.{got}
 use Rattle.ontology.specs.Table.{EventType, isVersioned}
@@ -67,19 +67,19 @@ module _ (ty : EventType) (k : ℕ) where
 -- ---- a snapshot
 
 module _ (ty : EventType) (x : Snapshot) (w : SnapshotWritten x) (fits : snapshotFits ty x ≡ true) where
-  cell-self : (k : ℕ) → k < 32 → joinCell (isVersioned ty) (typeView ty .choice k) (cellAt x k) (cellAt x k) ≡ cellAt x k
+  cell-self : (k : ℕ) → joinCell (isVersioned ty) (typeView ty .choice k) (cellAt x k) (cellAt x k) ≡ cellAt x k
   unfolding cellAt
-  cell-self k l =
+  cell-self k =
       let c = getD (x .cells) k (holds []) in
       truth (isVersioned ty)
       (λ v. ap (λ (b : Bool). joinCell b (typeView ty .choice k) c c) v ∙ agreed-self (typeView ty .choice k) c)
-      (λ u. ap (λ (b : Bool). joinCell b (typeView ty .choice k) c c) u ∙ joined-self ty k c (plain-cell ty x w u fits k l))
+      (λ u. ap (λ (b : Bool). joinCell b (typeView ty .choice k) c c) u ∙ joined-self ty k c (plain-cell ty x w u fits k))
 
   cells-self : joinSnapshots (typeView ty) x x .cells ≡ x .cells
   unfolding typeView eventView places cellAt
   cells-self =
       join-map (typeView ty) x x (snapshot-cells x w) (snapshot-cells x w)
-      ∙ map-same _ (cellAt x) (upTo 32) (λ k m. cell-self k (in-upTo 32 k .1 m))
+      ∙ map-same _ (cellAt x) (upTo 32) (λ k m. cell-self k)
       ∙ map-getD (x .cells) (holds []) 32 (snapshot-cells x w)
 
   snapshot-self : joinSnapshots (typeView ty) x x ≡ x
