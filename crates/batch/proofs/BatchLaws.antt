@@ -538,13 +538,16 @@ module _ (table : List ℕ) (ts : Table) (isTable : tableOf table ≡ some ts) (
     as-ruled : dossierReturned (replied r) after ≡ returned (outcome (answerFor (ruled (take n ss))) old)
     as-ruled = e ∙ ap (λ (a : Answer). returned (outcome a old)) (first-is n h l)
 
+    replies-ruled : {y : reply.Reply} → r ≡ y → dossierReturned (replied y) after ≡ returned (outcome (answerFor (ruled (take n ss))) old)
+    replies-ruled f = ap (λ (y : reply.Reply). dossierReturned (replied y) after) (sym f) ∙ as-ruled
+
     first-done : (m : ℕ) → r ≡ variant.Done m → combinedAnswer ts (take n ss) ≡ gives (take m after)
-    first-done m f = first-is n h l ∙ for-done (ruled (take n ss)) m after old (ap (λ (y : reply.Reply). dossierReturned (replied y) after) (sym f) ∙ as-ruled)
+    first-done m f = first-is n h l ∙ for-done (ruled (take n ss)) m after old (replies-ruled f)
 
     -- so are more of them
     more-refused : (i m : ℕ) → i ≡ n + 1 → i ≤ length ss → r ≡ variant.Refused m → combinedAnswer ts (take i ss) ≡ refuses m
     more-refused i m q g f =
-        let s = ap (λ (y : reply.Reply). dossierReturned (replied y) after) (sym f) ∙ as-ruled in
+        let s = replies-ruled f in
         let j : i - 1 ≡ n = omega arith in
         let last = getD ss (i - 1) [] ∷ [] in
         let all : take i ss ≡ take n ss ++ last = first-last i (omega arith) g ∙ ap (λ (y : ℕ). take y ss ++ last) j in

@@ -17,32 +17,12 @@ use Rattle.packed.specs.declared.read.NumberAt.the-variants.{NoNumber}
 use Rattle.packed.specs.declared.read.TextAt.the-variants.{Text, NoText}
 use Rattle.packed.proofs.LayoutLaws.{lt-or-ge}
 use Rattle.packed.proofs.ReadLaws.{NumberStops, TextStops, number-none, text-none, text-stops, stops-got, stops-early}
-use Rattle.event.proofs.SetLaws.{prepend}
+use Rattle.ontology.proofs.RunLaws.{prepend, prepend-nil, prepend-one, times-by, times-end}
 use Rattle.batch.specs.Batch.{readBatch, batchOf}
 use Rattle.batch.specs.code.BatchIndex.{BatchIs, BatchReads}
 use Rattle.batch.specs.declared.frame.BatchIndex.{BatchIndex}
 
 -- ---- the events, one after the other
-
-times-step : (n : ℕ) (t v r : List ℕ) → readText t ≡ got v r → times readText (suc n) t ≡ andThen (times readText n r) (λ xs u. got (v ∷ xs) u)
-unfolding times
-times-step n t v r e = ap (λ (p : Parse (List ℕ)). andThen p (λ y o. andThen (times readText n o) (λ xs u. got (y ∷ xs) u))) e
-
-times-stop : (n : ℕ) (t : List ℕ) → readText t ≡ fail → times readText (suc n) t ≡ fail
-unfolding times
-times-stop n t e = ap (λ (p : Parse (List ℕ)). andThen p (λ y o. andThen (times readText n o) (λ xs u. got (y ∷ xs) u))) e
-
-times-none : (n : ℕ) (t : List ℕ) → n ≡ 0 → times readText n t ≡ got [] t
-unfolding times
-times-none n t e = rw e
-
-prepend-none : (p : Parse (List (List ℕ))) → p ≡ prepend [] p
-prepend-none fail = refl
-prepend-none (got ws t) = refl
-
-prepend-one : (vs : List (List ℕ)) (v : List ℕ) (p : Parse (List (List ℕ))) → prepend vs (andThen p (λ ws t. got (v ∷ ws) t)) ≡ prepend (vs ++ (v ∷ [])) p
-prepend-one vs v fail = refl
-prepend-one vs v (got ws t) = ap (λ (l : List (List ℕ)). got l t) (sym (append-assoc vs (v ∷ []) ws))
 
 -- an event stands in the bytes from a up to z
 pub record EventStands (s v : List ℕ) (a z : ℕ) : Type 0 where
@@ -72,7 +52,7 @@ passed-none {s} {starts} {ends} {n} {at} h few a b =
       long = refl;
       below = omega arith;
       few = few;
-      rest = prepend-none (times readText n (drop at s)) ∙ ap (λ (m : ℕ). prepend [] (times readText m (drop at s))) (sym z);
+      rest = prepend-nil (times readText n (drop at s)) ∙ ap (λ (m : ℕ). prepend [] (times readText m (drop at s))) (sym z);
       within = h;
       each = λ i k. absurd (omega arith);
       starts-long = a;
@@ -91,7 +71,7 @@ module _ {p : Parse (List (List ℕ))} {s starts ends : List ℕ} {n at i : ℕ}
   passed-bad h e x = batch-none (whole p) s x (ap whole
       (w .rest
       ∙ ap (λ (m : ℕ). prepend (w .vs) (times readText m (drop at s))) (sym (one-more h))
-      ∙ ap (prepend (w .vs)) (times-stop (n - (i + 1)) (drop at s) (text-none s at e))))
+      ∙ ap (prepend (w .vs)) (times-by readText (n - (i + 1)) (drop at s) (text-none s at e))))
 
   pub passed-more : i < n → {a z : ℕ} → textAt s at ≡ Text a z → Passed p s (set starts i a) (set ends i z) n z (i + 1)
   passed-more h {a} {z} e =
@@ -104,7 +84,7 @@ module _ {p : Parse (List (List ℕ))} {s starts ends : List ℕ} {n at i : ℕ}
         rest =
             w .rest
             ∙ ap (λ (m : ℕ). prepend (w .vs) (times readText m (drop at s))) (sym (one-more h))
-            ∙ ap (prepend (w .vs)) (times-step (n - (i + 1)) (drop at s) v (drop z s) (t .is))
+            ∙ ap (prepend (w .vs)) (times-by readText (n - (i + 1)) (drop at s) (t .is))
             ∙ prepend-one (w .vs) v (times readText (n - (i + 1)) (drop z s));
         within = t .within;
         each = λ k l. ⊎-elim (old k) (λ (g : i ≤ k). let e : k ≡ i = omega arith in rw e last) (lt-or-ge k i);
@@ -136,7 +116,7 @@ module _ {p : Parse (List (List ℕ))} {s starts ends : List ℕ} {n at i : ℕ}
       all : p ≡ got (w .vs) (drop at s)
       all =
           w .rest
-          ∙ ap (prepend (w .vs)) (times-none (n - i) (drop at s) (omega arith))
+          ∙ ap (prepend (w .vs)) (times-end readText (n - i) (drop at s) (omega arith))
           ∙ ap (λ (l : List (List ℕ)). got l (drop at s)) (append-nil (w .vs))
 
       long : length (w .vs) ≡ n

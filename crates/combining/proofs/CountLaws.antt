@@ -1,6 +1,6 @@
 -- The laws of counting the versions of two dossiers.
 use mathlib.Core.Path.{_≡_, sym, ap, ap₂, _∙_, subst, subst₂}
-use mathlib.Core.Logic.{_⊎_, ⊎-elim}
+use mathlib.Core.Logic.{_⊎_, inl, inr, ⊎-elim}
 use mathlib.Core.Bool.{true}
 use mathlib.Core.List.{List, [], _∷_}
 use Prim.Native.Nat.{ℕ, zero, suc, _+_, _-_, _≤_, _<_}
@@ -46,6 +46,17 @@ module _ (x y : ℕ) (xs ys : List ℕ) (hx : Ups numbers (x ∷ xs)) (hy : Ups 
 -- a side goes on where its version is not the greater one
 abbrev pub Passed : ℕ → ℕ → ℕ → ℕ → Type 0
 Passed a b i i′ = ((a ≤ b) × (i′ ≡ i + 1)) ⊎ ((b < a) × (i′ ≡ i))
+
+passed-most : (a b i i′ : ℕ) → Passed a b i i′ → i′ ≤ i + 1
+passed-most a b i i′ (inl p) = omega arith
+passed-most a b i i′ (inr p) = omega arith
+
+-- one of the two does
+passed-some : (a b i i′ j j′ : ℕ) → Passed a b i i′ → Passed b a j j′ → i + j + 1 ≤ i′ + j′
+passed-some a b i i′ j j′ (inl p) (inl q) = omega arith
+passed-some a b i i′ j j′ (inl p) (inr q) = omega arith
+passed-some a b i i′ j j′ (inr p) (inl q) = omega arith
+passed-some a b i i′ j j′ (inr p) (inr q) = absurd (omega arith)
 
 module _ (xs ys : List ℕ) (i j count : ℕ) (w : VersionsLeft xs ys i j count) where
   versions-left : length ys ≤ j → rising numbers xs ≡ true → rising numbers ys ≡ true → count + (length xs - i) ≡ length (union numbers xs ys)
@@ -106,26 +117,12 @@ module _ (xs ys : List ℕ) (i j count : ℕ) (w : VersionsLeft xs ys i j count)
           q)
           p
 
-    -- what one turn passes
-    passed-some : (i + j + 1 ≤ i′ + j′) × (i ≤ i′) × (i′ ≤ i + 1) × (j ≤ j′) × (j′ ≤ j + 1)
-    passed-some =
-        ⊎-elim
-        (λ (a : (getD xs i 0 ≤ getD ys j 0) × (i′ ≡ i + 1)). ⊎-elim
-        (λ (b : (getD ys j 0 ≤ getD xs i 0) × (j′ ≡ j + 1)). (omega arith, omega arith, omega arith, omega arith, omega arith))
-        (λ (b : (getD xs i 0 < getD ys j 0) × (j′ ≡ j)). (omega arith, omega arith, omega arith, omega arith, omega arith))
-        q)
-        (λ (a : (getD ys j 0 < getD xs i 0) × (i′ ≡ i)). ⊎-elim
-        (λ (b : (getD ys j 0 ≤ getD xs i 0) × (j′ ≡ j + 1)). (omega arith, omega arith, omega arith, omega arith, omega arith))
-        (λ (b : (getD xs i 0 < getD ys j 0) × (j′ ≡ j)). absurd (omega arith))
-        q)
-        p
-
     versions-more : VersionsLeft xs ys i′ j′ (count + 1)
     versions-more = record {
       is = λ h k. omega (arith, w .is h k, next h k);
-      left = omega (arith, passed-some);
-      right = omega (arith, passed-some);
-      few = omega (arith, passed-some, w .few);
+      left = omega (arith, passed-most _ _ i i′ p);
+      right = omega (arith, passed-most _ _ j j′ q);
+      few = omega (arith, passed-some _ _ i i′ j j′ p q, w .few);
     }
 
 -- ---- the versions of two arrays
@@ -180,8 +177,8 @@ module _ {m n : ℕ} {v w : List EventVersion} {i j count : ℕ} (c : Counting m
     right-passed : Passed (getD rights j 0) (getD lefts i 0) j j′
     right-passed = subst₂ (λ (a b : ℕ). Passed a b j j′) (version-at n w j k) (version-at m v i l) q
 
-    passed : (i + j + 1 ≤ i′ + j′) × (i ≤ i′) × (i′ ≤ i + 1) × (j ≤ j′) × (j′ ≤ j + 1)
-    passed = passed-some lefts rights i j count (c .left) (omega (arith, left-length)) (omega (arith, right-length)) i′ j′ left-passed right-passed
+    passed : (i + j + 1 ≤ i′ + j′) × (i′ ≤ i + 1) × (j′ ≤ j + 1)
+    passed = (passed-some _ _ i i′ j j′ p q, passed-most _ _ i i′ p, passed-most _ _ j j′ q)
 
     pub counting-more : Counting m n v w i′ j′ (count + 1)
     counting-more = record {

@@ -7,7 +7,7 @@ use native.Mathlib.Omega.{arith}
 use lib.ListN.{length, take, drop, getD, length-append, length-drop, take-append-drop}
 use lib.Seq.{drop-cons, length-take-le}
 use Rattle.model.specs.Order.{numbers}
-use Rattle.model.specs.Keyed.{Rising, merge}
+use Rattle.model.specs.Keyed.{Above, Rising, merge}
 use Rattle.model.specs.Rule.{Snapshot, joinSnapshots}
 use Rattle.model.proofs.OrderLaws.{less-cmp}
 use Rattle.model.proofs.KeyedLaws.{above-trans, merge-left, merge-right, merge-meet, merge-nil}
@@ -42,6 +42,12 @@ module _ (ty : EventType) where
   rest-stays : (ss : List Snapshot) → Rises ss → merge numbers versionIn (joinSnapshots (typeView ty)) ss [] ≡ ss
   rest-stays = merge-nil numbers versionIn (joinSnapshots (typeView ty)) keeps
 
+  -- one of a lower version stays first
+  lower-first :
+      (s : Snapshot) (ss : List Snapshot) (y : Snapshot) → Above numbers versionIn (s .version) ss → s .version < y .version →
+      mergedWith (s ∷ ss) y ≡ s ∷ mergedWith ss y
+  lower-first s ss y r h = merge-left numbers versionIn (joinSnapshots (typeView ty)) keeps s ss (y ∷ []) r (less-cmp (s .version) (y .version) h, tt)
+
   -- it comes before those of higher versions
   unmet-merged :
       (ss : List Snapshot) (i : ℕ) (y : Snapshot) → Rises ss → i ≤ length ss → ((j : ℕ) → j < i → getD ss j noSnapshot .version < y .version) →
@@ -55,7 +61,7 @@ module _ (ty : EventType) where
       merge-right numbers versionIn (joinSnapshots (typeView ty)) keeps (s ∷ ss) y [] (less, above)
       ∙ ap (λ (zs : List Snapshot). y ∷ zs) (rest-stays (s ∷ ss) r)
   unmet-merged (s ∷ ss) (suc i) y r l lower higher =
-      merge-left numbers versionIn (joinSnapshots (typeView ty)) keeps s ss (y ∷ []) (r .0) (less-cmp (s .version) (y .version) (lower 0 (omega arith)), tt)
+      lower-first s ss y (r .0) (lower 0 (omega arith))
       ∙ ap (λ (zs : List Snapshot). s ∷ zs)
       (unmet-merged ss i y (r .1) (omega arith) (λ j k. lower (suc j) (omega arith)) (λ k. higher (omega arith)))
 
@@ -69,7 +75,7 @@ module _ (ty : EventType) where
       merge-meet numbers versionIn (joinSnapshots (typeView ty)) keeps s ss y [] (r .0) e
       ∙ ap (λ (zs : List Snapshot). joinSnapshots (typeView ty) s y ∷ zs) (rest-stays ss (r .1))
   met-merged (s ∷ ss) (suc i) y r l lower e =
-      merge-left numbers versionIn (joinSnapshots (typeView ty)) keeps s ss (y ∷ []) (r .0) (less-cmp (s .version) (y .version) (lower 0 (omega arith)), tt)
+      lower-first s ss y (r .0) (lower 0 (omega arith))
       ∙ ap (λ (zs : List Snapshot). s ∷ zs) (met-merged ss i y (r .1) (omega arith) (λ j k. lower (suc j) (omega arith)) e)
 
   pub merged-with :

@@ -263,12 +263,15 @@ module _ (t : EventType) (ss : List Snapshot) (number j : ℕ) (l : j < length s
         sym (ap (λ (a : Bool). shapeNumber a (eqb number 0 && eachSnapshot (snapshotValues t) (drop j ss)))
         (fit-step (five (fitting one) (snapshotValues t one) (sym e ∙ h))))
 
+    last-of : {m : ℕ} → n ≡ m → cond (eqb n 6) 6 number ≡ cond (eqb m 6) 6 number
+    last-of h = ap (λ (m : ℕ). cond (eqb m 6) 6 number) h
+
     module _ (ne : n ≡ 5 → ⊥) where
       fits : (a b : Bool) → n ≡ shapeNumber a b → (a ≡ true) × (cond (eqb n 6) 6 number ≡ cond b number 6)
       unfolding shapeNumber
       fits false b h = absurd (ne h)
-      fits true false h = (refl, ap (λ (m : ℕ). cond (eqb m 6) 6 number) h)
-      fits true true h = (refl, ap (λ (m : ℕ). cond (eqb m 6) 6 number) h)
+      fits true false h = (refl, last-of h)
+      fits true true h = (refl, last-of h)
 
       none : (b x : Bool) → (eqb number 0 && (b && x)) ≡ (eqb (cond b number 6) 0 && x)
       none true x = refl

@@ -28,7 +28,7 @@ use Rattle.packed.specs.declared.read.NumberAt.{NumberAt}
 use Rattle.packed.specs.declared.read.NumberAt.the-variants.{Number, NoNumber}
 use Rattle.packed.proofs.FieldLaws.{number-got, number-fail, got-bounds}
 use Rattle.values.specs.declared.versions.EventVersion.{EventVersion}
-use Rattle.ontology.proofs.RunLaws.{prepend, prepend-nil, prepend-one}
+use Rattle.ontology.proofs.RunLaws.{prepend, prepend-nil, prepend-one, times-by}
 use Rattle.event.specs.Head.{Head}
 use Rattle.event.specs.EventLayout.{bitNumber}
 use Rattle.event.specs.code.EventIndex.{SetsAre}
@@ -116,16 +116,6 @@ module _ {vs : List EventVersion} {count k : ℕ} (w : RiseFrom vs count k) (few
         }
 
 -- ---- snapshots, one after the other
-
-times-step :
-    (n : ℕ) (t : List ℕ) (x : Snapshot) (r : List ℕ) → readSnapshot t ≡ got x r →
-    times readSnapshot (suc n) t ≡ andThen (times readSnapshot n r) (λ xs u. got (x ∷ xs) u)
-unfolding times
-times-step n t x r e = ap (λ (p : Parse Snapshot). andThen p (λ y o. andThen (times readSnapshot n o) (λ xs u. got (y ∷ xs) u))) e
-
-times-stop : (n : ℕ) (t : List ℕ) → readSnapshot t ≡ fail → times readSnapshot (suc n) t ≡ fail
-unfolding times
-times-stop n t e = ap (λ (p : Parse Snapshot). andThen p (λ y o. andThen (times readSnapshot n o) (λ xs u. got (y ∷ xs) u))) e
 
 -- as many as were asked for
 as-many : (n : ℕ) (t : List ℕ) (xs : List Snapshot) (r : List ℕ) → times readSnapshot n t ≡ got xs r → length xs ≡ n
@@ -245,7 +235,7 @@ module _ {p : Parse (List Snapshot)} {s rows : List ℕ} {r : SnapshotsRead} {n 
     stopped e =
         w .rest
         ∙ ap (λ (m : ℕ). prepend (w .xs) (times readSnapshot m (drop next s))) (sym (one-more h))
-        ∙ ap (prepend (w .xs)) (times-stop (n - (j + 1)) (drop next s) e)
+        ∙ ap (prepend (w .xs)) (times-by readSnapshot (n - (j + 1)) (drop next s) e)
 
     -- the next snapshot is none, and so are all
     pub sofar-bad : (rows′ : List ℕ) → readSnapshot (drop next s) ≡ fail → SnapshotsSay p s rows′ r
@@ -339,7 +329,7 @@ module _ {p : Parse (List Snapshot)} {s rows : List ℕ} {r : SnapshotsRead} {n 
         rest =
             w .rest
             ∙ ap (λ (m : ℕ). prepend (w .xs) (times readSnapshot m (drop next s))) (sym (one-more h))
-            ∙ ap (prepend (w .xs)) (times-step (n - (j + 1)) (drop next s) it (drop end s) (k .stands .is))
+            ∙ ap (prepend (w .xs)) (times-by readSnapshot (n - (j + 1)) (drop next s) (k .stands .is))
             ∙ prepend-one (w .xs) it (times readSnapshot (n - (j + 1)) (drop end s));
         within = k .stands .within;
         each = below-more (λ (m : ℕ). SnapshotAt s (getD all m noSnapshot) (getD (with-one .starts) m 0) (getD (with-one .ends) m 0)) j each-old each-last;

@@ -163,23 +163,24 @@ module _ (table event text written : List ℕ) (r : Reply) (told : replies r wri
     asked = hashTextAsked hashCapacity (length out) table event
 
     -- both calls ask the same after question 1
-    text-told : replies r written ≡ outcome (answer asked) text
+    text-told : {x : Reply} → r ≡ x → replies x written ≡ outcome (answer asked) text
     unfolding hashTextCall hashTextAnswer
-    text-told =
-        told
+    text-told e =
+        ap (λ (x : Reply). replies x written) (sym e)
+        ∙ told
         ∙ ap (λ (q : Asked (List ℕ)). outcome (answer q) text)
         (asked-is table event hashTextCapacity (length text) text-room ∙ sym (asked-is table event hashCapacity (length out) room))
 
     pub hash-refused : {n : ℕ} → r ≡ Refused n → replies (Refused n) out ≡ hashCall table event out
     unfolding hashCall hashAnswer
-    hash-refused {n} e = rw (go asked (ap (λ (x : Reply). replies x written) (sym e) ∙ text-told))
+    hash-refused {n} e = rw (go asked (text-told e))
       where
         go : (q : Asked (List ℕ)) → replies (Refused n) written ≡ outcome (answer q) text → q ≡ refused n
         go (refused m) h = let z : answers.Reply.refused n ≡ answers.Reply.refused m = ap (λ (x : Outcome). x .reply) h in cc
         go (accepted m) h = let z = ap (λ (x : Outcome). x .reply) h in never (cc)
 
     text-front : {n : ℕ} → r ≡ Done n → asked ≡ accepted (part written 0 n)
-    text-front {n} e = go asked (ap (λ (x : Reply). replies x written) (sym e) ∙ text-told)
+    text-front {n} e = go asked (text-told e)
       where
         go : (q : Asked (List ℕ)) → replies (Done n) written ≡ outcome (answer q) text → q ≡ accepted (part written 0 n)
         go (refused m) h = let z = ap (λ (x : Outcome). x .reply) h in never (cc)

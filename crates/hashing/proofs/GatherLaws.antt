@@ -67,6 +67,10 @@ module _ {event : List ℕ} {rest : List Text} {at left : ℕ} {tail : List ℕ}
       go [] l = refl
       go (v ∷ us) l = absurd (omega arith)
 
+  bytes-of : (v : Text) (us : List Text) → drop at event ≡ flatten (map text (v ∷ us)) ++ tail → drop at event ≡ text v ++ (flatten (map text us) ++ tail)
+  unfolding flatten
+  bytes-of v us b = b ∙ append-assoc (text v) (flatten (map text us)) tail
+
   module _ (small : length event < 2 ^ 64) (some : 0 < left) where
     pub standing-bad : readText (drop at event) ≡ fail → ⊥
     unfolding flatten
@@ -76,7 +80,7 @@ module _ {event : List ℕ} {rest : List Text} {at left : ℕ} {tail : List ℕ}
         go [] b l = omega arith
         go (v ∷ us) b l =
             let later = flatten (map text us) ++ tail in
-            text-there event small at (w .within) v later (b ∙ append-assoc (text v) (flatten (map text us)) tail) e
+            text-there event small at (w .within) v later (bytes-of v us b) e
 
     pub standing-next : {a z : ℕ} → TextStops event at a z → First event rest a z left tail
     unfolding flatten
@@ -86,7 +90,7 @@ module _ {event : List ℕ} {rest : List Text} {at left : ℕ} {tail : List ℕ}
         go [] b l = absurd (omega arith)
         go (v ∷ us) b l =
             let later = flatten (map text us) ++ tail in
-            let (is, far, read) = text-next event small at (w .within) v later (b ∙ append-assoc (text v) (flatten (map text us)) tail) a z t in record {
+            let (is, far, read) = text-next event small at (w .within) v later (bytes-of v us b) a z t in record {
               others = us;
               is = ap (λ (u : Text). u ∷ us) (sym is);
               standing = record { bytes = read .rest; within = read .within; long = omega arith };

@@ -34,77 +34,81 @@ refusal-is number position = refl
 
 -- ---- the arms of a reply
 
+-- what is told in an arm of a `match` is told of what is matched
+in-arm : {A : Type 0} (f : A → ℕ) {r x : A} {k : ℕ} → r ≡ x → k ≡ f x → k ≡ f r
+in-arm f h e = e ∙ ap f (sym h)
+
 -- done, with so many bytes
 done-is : {q : answers.Reply} {n k : ℕ} → q ≡ answers.Reply.done n → k ≡ low n → k ≡ packed q
 unfolding packedAs kinded
-done-is {n = n} h e = e ∙ sym (zero-add (low n)) ∙ ap packed (sym h)
+done-is {n = n} h e = in-arm packed h (e ∙ sym (zero-add (low n)))
 
 pub reply-done : {r : Reply} {n k : ℕ} → r ≡ reply.Done n → k ≡ low n → k ≡ packed (replied r)
 reply-done h e = done-is (ap replied h) e
 
 pub reply-refused : {r : Reply} {n k : ℕ} → r ≡ reply.Refused n → k ≡ packedRefusal n 0 → k ≡ packed (replied r)
 unfolding packedAs
-reply-refused h e = e ∙ ap (λ (r : Reply). packed (replied r)) (sym h)
+reply-refused h e = in-arm (λ r. packed (replied r)) h e
 
 pub batch-done : {r : BatchReply} {n k : ℕ} → r ≡ batch.Done n → k ≡ low n → k ≡ packed (batchReplied r)
 batch-done h e = done-is (ap batchReplied h) e
 
 pub batch-refused : {r : BatchReply} {n i k : ℕ} → r ≡ batch.Refused n i → k ≡ packedRefusal n i → k ≡ packed (batchReplied r)
 unfolding packedAs
-batch-refused h e = e ∙ ap (λ (r : BatchReply). packed (batchReplied r)) (sym h)
+batch-refused h e = in-arm (λ r. packed (batchReplied r)) h e
 
 pub combined-done : {r : Combined} {n k : ℕ} → r ≡ combined.Done n → k ≡ low n → k ≡ packed (combineReplied r)
 combined-done h e = done-is (ap combineReplied h) e
 
 pub combined-refused : {r : Combined} {n k : ℕ} → r ≡ combined.Refused n → k ≡ packedRefusal n 0 → k ≡ packed (combineReplied r)
 unfolding packedAs
-combined-refused h e = e ∙ ap (λ (r : Combined). packed (combineReplied r)) (sym h)
+combined-refused h e = in-arm (λ r. packed (combineReplied r)) h e
 
 -- ---- the arms of what opening finds
 
 pub found-conflict : {f : Finding} {v : EventVersion} {p k : ℕ} → f ≡ Conflict v p → k ≡ low p → 144115188075855872 + k ≡ packedFinding (findingOf f)
 unfolding packedFinding kinded
-found-conflict h e = ap (λ (k : ℕ). 144115188075855872 + k) e ∙ ap (λ (f : Finding). packedFinding (findingOf f)) (sym h)
+found-conflict h e = in-arm (λ f. packedFinding (findingOf f)) h (ap (λ (k : ℕ). 144115188075855872 + k) e)
 
 pub found-overfull : {f : Finding} {p k : ℕ} → f ≡ Overfull p → k ≡ low p → 216172782113783808 + k ≡ packedFinding (findingOf f)
 unfolding packedFinding kinded
-found-overfull h e = ap (λ (k : ℕ). 216172782113783808 + k) e ∙ ap (λ (f : Finding). packedFinding (findingOf f)) (sym h)
+found-overfull h e = in-arm (λ f. packedFinding (findingOf f)) h (ap (λ (k : ℕ). 216172782113783808 + k) e)
 
 pub conflict-version : {f : Finding} {v : EventVersion} {p : ℕ} (old : ℕ) → f ≡ Conflict v p → v .0 ≡ versionOr (findingOf f) old
 unfolding versionOr
-conflict-version old h = ap (λ (f : Finding). versionOr (findingOf f) old) (sym h)
+conflict-version old h = in-arm (λ f. versionOr (findingOf f) old) h refl
 
 pub overfull-version : {f : Finding} {p : ℕ} (old : ℕ) → f ≡ Overfull p → old ≡ versionOr (findingOf f) old
 unfolding versionOr
-overfull-version old h = ap (λ (f : Finding). versionOr (findingOf f) old) (sym h)
+overfull-version old h = in-arm (λ f. versionOr (findingOf f) old) h refl
 
 -- ---- the arms of what was opened
 
 pub opened-merged : {r : Opened} {n k : ℕ} → r ≡ Merged n → k ≡ low n → 72057594037927936 + k ≡ packedOpened (openReplied r)
 unfolding packedAs kinded
-opened-merged h e = ap (λ (k : ℕ). 72057594037927936 + k) e ∙ ap (λ (r : Opened). packedOpened (openReplied r)) (sym h)
+opened-merged h e = in-arm (λ r. packedOpened (openReplied r)) h (ap (λ (k : ℕ). 72057594037927936 + k) e)
 
 pub opened-found : {r : Opened} {f : Finding} {k : ℕ} → r ≡ Found f → k ≡ packedFinding (findingOf f) → k ≡ packedOpened (openReplied r)
 unfolding packedAs
-opened-found h e = e ∙ ap (λ (r : Opened). packedOpened (openReplied r)) (sym h)
+opened-found h e = in-arm (λ r. packedOpened (openReplied r)) h e
 
 pub opened-refused : {r : Opened} {n k : ℕ} → r ≡ Refused n → k ≡ packedRefusal n 0 → k ≡ packedOpened (openReplied r)
 unfolding packedAs
-opened-refused h e = e ∙ ap (λ (r : Opened). packedOpened (openReplied r)) (sym h)
+opened-refused h e = in-arm (λ r. packedOpened (openReplied r)) h e
 
 -- ---- the event version of a conflict
 
 pub version-merged : {r : Opened} {n : ℕ} (old : ℕ) → r ≡ Merged n → old ≡ versionAfter (openReplied r) old
 unfolding versionAfter
-version-merged old h = ap (λ (r : Opened). versionAfter (openReplied r) old) (sym h)
+version-merged old h = in-arm (λ r. versionAfter (openReplied r) old) h refl
 
 pub version-found : {r : Opened} {f : Finding} {k : ℕ} (old : ℕ) → r ≡ Found f → k ≡ versionOr (findingOf f) old → k ≡ versionAfter (openReplied r) old
 unfolding versionAfter
-version-found old h e = e ∙ ap (λ (r : Opened). versionAfter (openReplied r) old) (sym h)
+version-found old h e = in-arm (λ r. versionAfter (openReplied r) old) h e
 
 pub version-refused : {r : Opened} {n : ℕ} (old : ℕ) → r ≡ Refused n → old ≡ versionAfter (openReplied r) old
 unfolding versionAfter
-version-refused old h = ap (λ (r : Opened). versionAfter (openReplied r) old) (sym h)
+version-refused old h = in-arm (λ r. versionAfter (openReplied r) old) h refl
 
 -- ---- a call's equation, told as C sees it
 

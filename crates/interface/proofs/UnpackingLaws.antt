@@ -50,6 +50,10 @@ read-done zero reply k = refl
 read-done (suc zero) reply k = refl
 read-done (suc (suc kind)) reply k = absurd (omega arith)
 
+read-refusal : (n i reply : ℕ) → Tells 0 (Reply.refusedAt n i) reply → readAs (kindOf reply) reply ≡ Reply.refusedAt n i
+unfolding readAs
+read-refusal n i reply t = ap (λ (k : ℕ). readAs k reply) (t .0) ∙ ap₂ Reply.refusedAt (t .1) (t .2)
+
 reply-read : (kind : ℕ) → kind < 2 → (r : Reply) (reply : ℕ) → Tells kind r reply → readAs (kindOf reply) reply ≡ inNumber r
 unfolding readAs
 reply-read kind k (Reply.done n) reply t = ap (λ (k : ℕ). readAs k reply) (t .0) ∙ read-done kind reply k ∙ ap Reply.done (t .1)
@@ -57,8 +61,8 @@ reply-read kind k (Reply.found (conflictAt v p)) reply t =
     ap (λ (k : ℕ). readAs k reply) (t .0) ∙ ap (λ (q : ℕ). Reply.found (conflictAt 0 q)) (t .1)
 reply-read kind k (Reply.found (overfullAt p)) reply t =
     ap (λ (k : ℕ). readAs k reply) (t .0) ∙ ap (λ (q : ℕ). Reply.found (overfullAt q)) (t .1)
-reply-read kind k (Reply.refused n) reply t = ap (λ (k : ℕ). readAs k reply) (t .0) ∙ ap₂ Reply.refusedAt (t .1) (t .2)
-reply-read kind k (Reply.refusedAt n i) reply t = ap (λ (k : ℕ). readAs k reply) (t .0) ∙ ap₂ Reply.refusedAt (t .1) (t .2)
+reply-read kind k (Reply.refused n) reply t = read-refusal n 0 reply t
+reply-read kind k (Reply.refusedAt n i) reply t = read-refusal n i reply t
 
 call-told : {A : Type 0} (kind : ℕ) → kind < 2 → {size : ℕ} {reply : A → Reply} → ((a : A) → Bounded size (reply a)) → size < 2 ^ 32 → CallTold kind reply
 call-told {A} kind k {size} {reply} h l = record { tells = told; same = λ a b e. sym (read a) ∙ ap (λ (n : ℕ). readAs (kindOf n) n) e ∙ read b }

@@ -29,9 +29,14 @@ prepend-one vs v fail = refl
 prepend-one vs v (got ws t) = ap (λ (l : List _). got l t) (sym (append-assoc vs (v ∷ []) ws))
 
 module _ {A : Type 0} (p : Layout A) where
-  times-one : (n : ℕ) (s : List ℕ) (a : A) (t : List ℕ) → p s ≡ got a t → times p (suc n) s ≡ prepend (a ∷ []) (times p n t)
+  -- one more: its reading, and then the others
+  pub times-by :
+      (n : ℕ) (s : List ℕ) {q : Parse A} → p s ≡ q → times p (suc n) s ≡ andThen q (λ a r. andThen (times p n r) (λ xs u. got (a ∷ xs) u))
   unfolding times
-  times-one n s a t e = ap (λ (q : Parse A). andThen q (λ b r. andThen (times p n r) (λ xs u. got (b ∷ xs) u))) e ∙ go (times p n t)
+  times-by n s e = ap (λ (q : Parse A). andThen q (λ a r. andThen (times p n r) (λ xs u. got (a ∷ xs) u))) e
+
+  times-one : (n : ℕ) (s : List ℕ) (a : A) (t : List ℕ) → p s ≡ got a t → times p (suc n) s ≡ prepend (a ∷ []) (times p n t)
+  times-one n s a t e = times-by n s e ∙ go (times p n t)
     where
       go : (q : Parse (List A)) → andThen q (λ xs u. got (a ∷ xs) u) ≡ prepend (a ∷ []) q
       go fail = refl
@@ -41,13 +46,9 @@ module _ {A : Type 0} (p : Layout A) where
   times-more n s a t h e = ap (λ (k : ℕ). times p k s) (let z : n ≡ suc (n - 1) = omega arith in z) ∙ times-one (n - 1) s a t e
 
   times-stop : (n : ℕ) (s : List ℕ) → 0 < n → p s ≡ fail → times p n s ≡ fail
-  unfolding times
-  times-stop n s h e = ap (λ (k : ℕ). times p k s) (let z : n ≡ suc (n - 1) = omega arith in z) ∙ go (n - 1)
-    where
-      go : (k : ℕ) → times p (suc k) s ≡ fail
-      go k = ap (λ (q : Parse A). andThen q (λ b r. andThen (times p k r) (λ xs u. got (b ∷ xs) u))) e
+  times-stop n s h e = ap (λ (k : ℕ). times p k s) (let z : n ≡ suc (n - 1) = omega arith in z) ∙ times-by (n - 1) s e
 
-  times-end : (n : ℕ) (s : List ℕ) → n ≡ 0 → times p n s ≡ got [] s
+  pub times-end : (n : ℕ) (s : List ℕ) → n ≡ 0 → times p n s ≡ got [] s
   unfolding times
   times-end n s h = rw h
 

@@ -34,15 +34,16 @@ module _ (test : ℕ → Bool) where
   unfolding upTo
   lowest-start = refl
 
-  lowest-step : (k : ℕ) → k < 32 → lowest test (upFrom k (32 - k)) ≡ cond (test k) (some k) (lowest test (upFrom (k + 1) (32 - (k + 1))))
+  lowest-step :
+      (k : ℕ) → k < 32 → {b : Bool} → test k ≡ b → lowest test (upFrom k (32 - k)) ≡ cond b (some k) (lowest test (upFrom (k + 1) (32 - (k + 1))))
   unfolding lowest upFrom
-  lowest-step k h = let e : 32 - k ≡ suc (32 - (k + 1)) = omega arith in rw (e, add-one)
+  lowest-step k h t = let e : 32 - k ≡ suc (32 - (k + 1)) = omega arith in rw (e, add-one, t)
 
   pub lowest-here : (k : ℕ) → k < 32 → test k ≡ true → lowest test (upFrom k (32 - k)) ≡ some k
-  lowest-here k h e = lowest-step k h ∙ ap (λ (b : Bool). cond b (some k) (lowest test (upFrom (k + 1) (32 - (k + 1))))) e
+  lowest-here k h e = lowest-step k h e
 
   pub lowest-next : (k : ℕ) → k < 32 → test k ≡ false → lowest test (upFrom k (32 - k)) ≡ lowest test (upFrom (k + 1) (32 - (k + 1)))
-  lowest-next k h e = lowest-step k h ∙ ap (λ (b : Bool). cond b (some k) (lowest test (upFrom (k + 1) (32 - (k + 1))))) e
+  lowest-next k h e = lowest-step k h e
 
   -- no place from k on passes
   pub lowest-none : (k : ℕ) → ((i : ℕ) → k ≤ i → test i ≡ false) → lowest test (upFrom k (32 - k)) ≡ none

@@ -108,9 +108,15 @@ module _ {s : List ℕ} {d : DossierIndex} {rows : List ℕ} {t : TypeIndex} {ps
           ∙ ap (λ (m : Option ℕ). firstOf noConflict m (mergedSets (typeView (o .type)) dossier))
           (sym (finds (o .table) s (o .type) dossier (o .typed .are) planned) ∙ ap lowestOf e)
 
+      answered-as :
+          {q : Lowest} → r ≡ q → (out : List ℕ) →
+          outcome (openedAnswer (o .headed) (firstOf noConflict (lowestOf q) (mergedSets (typeView (o .type)) dossier))) out
+          ≡ outcome (openedAnswer (o .headed) opens) out
+      answered-as e out = sym (ap (λ (x : model.Opened). outcome (openedAnswer (o .headed) x) out) (opens-as e))
+
       pub replies-overfull : {p : ℕ} → r ≡ Place p → (out : List ℕ) → openReplies (Found (Overfull p)) out ≡ outcome (openedAnswer (o .headed) opens) out
       unfolding openedAnswer firstOf
-      replies-overfull e out = sym (ap (λ (x : model.Opened). outcome (openedAnswer (o .headed) x) out) (opens-as e))
+      replies-overfull e out = answered-as e out
 
       pub replies-merged :
           {out new : List ℕ} {n : ℕ} → r ≡ NoPlace → dossierCapacity ≤ length out →
@@ -123,7 +129,7 @@ module _ {s : List ℕ} {d : DossierIndex} {rows : List ℕ} {t : TypeIndex} {ps
           let a : 0 + length bytes ≤ length out = omega (arith, merged-size s d rows t ps o) in
           let m : n ≡ length bytes = omega (arith, w .after) in
           ap₂ (λ (k : ℕ) (l : List ℕ). openReplies (Merged k) l) m (wrote-between a w ∙ ap (λ (k : ℕ). bytes ++ drop k out) m)
-          ∙ sym (ap (λ (x : model.Opened). outcome (openedAnswer (o .headed) x) out) (opens-as e))
+          ∙ answered-as e out
 
 -- ---- the table
 

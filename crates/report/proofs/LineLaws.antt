@@ -154,6 +154,9 @@ module _ {table ps : List ℕ} (f : Finding) (p : FindingNamed table ps f) where
   pub named-at : {place : ℕ} → placeOf (findingOf f) ≡ place → getElem? (p .type .properties) place ≡ some (p .property)
   named-at e = subst (λ (k : ℕ). getElem? (p .type .properties) k ≡ some (p .property)) e (p .named)
 
+  finding-line : {g : Finding} → f ≡ g → findingLine (p .type) (findingOf f) ≡ findingLine (p .type) (findingOf g)
+  finding-line e = ap (λ (g : Finding). findingLine (p .type) (findingOf g)) e
+
   -- a conflict
   module _ {v : EventVersion} {place : ℕ} (e : f ≡ Conflict v place) where
     pub at-conflict : placeOf (findingOf f) ≡ place
@@ -165,7 +168,7 @@ module _ {table ps : List ℕ} (f : Finding) (p : FindingNamed table ps f) where
 
     conflict-line : findingLine (p .type) (findingOf f) ≡ conflictLine (p .type) (v .0) place
     unfolding findingLine
-    conflict-line = ap (λ (g : Finding). findingLine (p .type) (findingOf g)) e
+    conflict-line = finding-line e
 
     pub conflict-fits : {room : ℕ} → length (findingLine (p .type) (findingOf f)) ≤ room → length (conflictLine (p .type) (v .0) place) ≤ room
     conflict-fits {room} h = subst (λ (l : List ℕ). length l ≤ room) conflict-line h
@@ -186,7 +189,7 @@ module _ {table ps : List ℕ} (f : Finding) (p : FindingNamed table ps f) where
 
     overfull-line : findingLine (p .type) (findingOf f) ≡ overfullLine (p .type) place
     unfolding findingLine
-    overfull-line = ap (λ (g : Finding). findingLine (p .type) (findingOf g)) e
+    overfull-line = finding-line e
 
     pub overfull-fits : {room : ℕ} → length (findingLine (p .type) (findingOf f)) ≤ room → length (overfullLine (p .type) place) ≤ room
     overfull-fits {room} h = subst (λ (l : List ℕ). length l ≤ room) overfull-line h

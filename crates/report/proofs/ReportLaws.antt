@@ -137,12 +137,12 @@ front x y n new h e = (ap₂ (λ (k : ℕ) (l : List ℕ). take k l) h e ∙ tak
 
 module _ (table bytes old new : List ℕ) {d : TypedDossier} {room : ℕ} (w : DossierOpens table bytes d room) (big : dossierCapacity ≤ length old)
     (r : Opened) (e : openReplies r new ≡ openCall standard table bytes old) where
-  told : openReplies r new ≡ outcome (openedAnswer (d .headed) (opens d)) old
-  told = e ∙ opened-call table bytes old w big
+  told : {x : Opened} → r ≡ x → openReplies x new ≡ outcome (openedAnswer (d .headed) (opens d)) old
+  told q = ap (λ (x : Opened). openReplies x new) (sym q) ∙ e ∙ opened-call table bytes old w big
 
   pub opened-merged : {n : ℕ} → r ≡ opened.Merged n → OpensMerged d new n
   unfolding openedAnswer
-  opened-merged {n} q = go (opens d) refl (ap (λ (x : Opened). openReplies x new) (sym q) ∙ told)
+  opened-merged {n} q = go (opens d) refl (told q)
     where
       go : (o : model.Opened) → opens d ≡ o → openReplies (opened.Merged n) new ≡ outcome (openedAnswer (d .headed) o) old → OpensMerged d new n
       go (finds g) f h = let z = ap (λ (x : Outcome). x .reply) h in never (cc)
@@ -154,7 +154,7 @@ module _ (table bytes old new : List ℕ) {d : TypedDossier} {room : ℕ} (w : D
 
   pub opened-found : {f : Finding} → r ≡ opened.Found f → opens d ≡ finds (findingOf f)
   unfolding openedAnswer
-  opened-found {f} q = go (opens d) (ap (λ (x : Opened). openReplies x new) (sym q) ∙ told)
+  opened-found {f} q = go (opens d) (told q)
     where
       go : (o : model.Opened) → openReplies (opened.Found f) new ≡ outcome (openedAnswer (d .headed) o) old → o ≡ finds (findingOf f)
       go (finds g) h = let z : answers.Reply.found (findingOf f) ≡ answers.Reply.found g = ap (λ (x : Outcome). x .reply) h in cc
@@ -162,7 +162,7 @@ module _ (table bytes old new : List ℕ) {d : TypedDossier} {room : ℕ} (w : D
 
   pub opened-refused : {n : ℕ} → r ≡ opened.Refused n → ⊥
   unfolding openedAnswer
-  opened-refused {n} q = go (opens d) (ap (λ (x : Opened). openReplies x new) (sym q) ∙ told)
+  opened-refused {n} q = go (opens d) (told q)
     where
       go : (o : model.Opened) → openReplies (opened.Refused n) new ≡ outcome (openedAnswer (d .headed) o) old → ⊥
       go (finds g) h = let z = ap (λ (x : Outcome). x .reply) h in never (cc)
@@ -290,12 +290,12 @@ rooms-have r (h, i, j, k) =
 
 module _ (table events old new : List ℕ) (rooms : Rooms) (r : BatchReply) (e : batchReplies r new ≡ batchCall standard rooms table events old)
     (have : Roomy rooms) where
-  batch-told : batchReplies r new ≡ outcome (batchGiven (batchAsked standard table events)) old
-  batch-told = e ∙ unfold batchCall batchAnswer in (rw (rooms-have rooms have))
+  batch-told : {x : BatchReply} → r ≡ x → batchReplies x new ≡ outcome (batchGiven (batchAsked standard table events)) old
+  batch-told q = ap (λ (x : BatchReply). batchReplies x new) (sym q) ∙ e ∙ unfold batchCall batchAnswer in (rw (rooms-have rooms have))
 
   pub batch-done : {n : ℕ} → r ≡ batch.Done n → BatchDone table events new n
   unfolding batchGiven
-  batch-done {n} q = go (batchAsked standard table events) refl (ap (λ (x : BatchReply). batchReplies x new) (sym q) ∙ batch-told)
+  batch-done {n} q = go (batchAsked standard table events) refl (batch-told q)
     where
       go : (a : AskedAt TypedDossier) → batchAsked standard table events ≡ a → batchReplies (batch.Done n) new ≡ outcome (batchGiven a) old →
           BatchDone table events new n
@@ -307,7 +307,7 @@ module _ (table events old new : List ℕ) (rooms : Rooms) (r : BatchReply) (e :
 
   pub batch-refused : {n i : ℕ} → r ≡ batch.Refused n i → batchAsked standard table events ≡ refusedAt n i
   unfolding batchGiven
-  batch-refused {n} {i} q = go (batchAsked standard table events) (ap (λ (x : BatchReply). batchReplies x new) (sym q) ∙ batch-told)
+  batch-refused {n} {i} q = go (batchAsked standard table events) (batch-told q)
     where
       go : (a : AskedAt TypedDossier) → batchReplies (batch.Refused n i) new ≡ outcome (batchGiven a) old → a ≡ refusedAt n i
       go (refusedAt m j) h = let z : answers.Reply.refusedAt n i ≡ answers.Reply.refusedAt m j = ap (λ (x : Outcome). x .reply) h in cc
@@ -319,15 +319,20 @@ done-opens {table} {events} b room h =
     subst (λ (s : List ℕ). DossierOpens table s (b .what) room) (sym (b .bytes)) (batch-opens table events (b .what) (b .is) room h)
 
 module _ (table events : List ℕ) {out new : List ℕ} {n : ℕ} where
+  lines-of :
+      {a : AskedAt TypedDossier} → batchAsked standard table events ≡ a → Wrote out 0 (askedLines a) new n →
+      Wrote out 0 (askedLines (batchAsked standard table events)) new n
+  lines-of e w = subst (λ (a : AskedAt TypedDossier). Wrote out 0 (askedLines a) new n) (sym e) w
+
   pub done-lines : (d : TypedDossier) → batchAsked standard table events ≡ accepted d → Wrote out 0 (openedLines (d .type) (d .headed) (opens d)) new n →
       Wrote out 0 (askedLines (batchAsked standard table events)) new n
   unfolding askedLines
-  done-lines d e w = subst (λ (a : AskedAt TypedDossier). Wrote out 0 (askedLines a) new n) (sym e) w
+  done-lines d e w = lines-of e w
 
   pub refused-lines : (m i : ℕ) → batchAsked standard table events ≡ refusedAt m i → Wrote out 0 (refusedLine m i) new n →
       Wrote out 0 (askedLines (batchAsked standard table events)) new n
   unfolding askedLines
-  refused-lines m i e w = subst (λ (a : AskedAt TypedDossier). Wrote out 0 (askedLines a) new n) (sym e) w
+  refused-lines m i e w = lines-of e w
 
 -- ---- the report
 
