@@ -2,8 +2,8 @@
 use mathlib.Core.Path.{_≡_, sym, ap, _∙_}
 use mathlib.Core.Bool.{Bool, true, false, not, _&&_}
 use mathlib.Core.List.{List}
-use Prim.Native.Nat.{ℕ}
-use lib.ListN.{drop}
+use Prim.Native.Nat.{ℕ, _≤_}
+use lib.ListN.{length, drop}
 use borrow.Author.Tests.{not-true, not-false}
 use Rattle.packed.specs.Parse.{fail}
 use Rattle.packed.specs.Packed.{readNumber, readText}
@@ -19,11 +19,20 @@ use Rattle.packed.proofs.ReadLaws.{NumberStops, number-stops, number-none, Text
 pub number-got : {s : List ℕ} {at n next : ℕ} {r : NumberAt} → r ≡ numberAt s at → r ≡ Number n next → NumberStops s at n next
 number-got {s} {at} {n} {next} h e = number-stops s at n next (sym h ∙ e)
 
+pub number-within : (s : List ℕ) (at : ℕ) {n next : ℕ} {r : NumberAt} → r ≡ numberAt s at → r ≡ Number n next → next ≤ length s
+number-within s at h e = number-got h e .within
+
 pub number-not : (s : List ℕ) (at : ℕ) {r : NumberAt} → r ≡ numberAt s at → r ≡ NoNumber → readNumber (drop at s) ≡ fail
 number-not s at h e = number-none s at (sym h ∙ e)
 
 pub text-got : {s : List ℕ} {at a e : ℕ} {r : TextAt} → r ≡ textAt s at → r ≡ Text a e → TextStops s at a e
 text-got {s} {at} {a} {e} h k = text-stops s at a e (sym h ∙ k)
+
+pub text-order : (s : List ℕ) (at : ℕ) {a e : ℕ} {r : TextAt} → r ≡ textAt s at → r ≡ Text a e → a ≤ e
+text-order s at h k = text-got h k .order
+
+pub text-within : (s : List ℕ) (at : ℕ) {a e : ℕ} {r : TextAt} → r ≡ textAt s at → r ≡ Text a e → e ≤ length s
+text-within s at h k = text-got h k .within
 
 pub text-not : (s : List ℕ) (at : ℕ) {r : TextAt} → r ≡ textAt s at → r ≡ NoText → readText (drop at s) ≡ fail
 text-not s at h e = text-none s at (sym h ∙ e)

@@ -11,15 +11,25 @@ use borrow.Author.Tests.{le-leb, lt-leb, lt-ltb, le-ltb}
 use Rattle.model.specs.Order.{Text}
 use Rattle.packed.specs.Parse.{Parse, fail, got, andThen, foundIf, whole}
 use Rattle.packed.specs.Packed.{number, readNumber}
+use Rattle.packed.specs.code.Located.{numberAt}
+use Rattle.packed.specs.declared.read.NumberAt.{NumberAt}
+use Rattle.packed.specs.declared.read.NumberAt.the-variants.{Number}
 use Rattle.packed.proofs.LayoutLaws.{number-was}
 use Rattle.packed.proofs.ReadLaws.{drop-next, NumberStops, stretch}
 use Rattle.event.specs.Event.{Event, objectCount}
 use Rattle.event.specs.Head.{Head, readHead, headBytes}
 use Rattle.event.specs.EventLayout.{readBits, readSets, Counts, readEvent, eventOf, setsBytes}
-use Rattle.event.specs.code.EventIndex.{SetsStop, HeadStops, EventReads, counts}
+use Rattle.event.specs.code.EventIndex.{SetsStop, SetsReads, HeadStops, HeadReads, EventReads, counts}
+use Rattle.event.proofs.AnswerLaws.{number-got}
+use Rattle.event.proofs.HeadLaws.{head-reads}
+use Rattle.event.proofs.SetLaws.{sets-read}
 use Rattle.event.proofs.HeadLayoutLaws.{head-was}
 use Rattle.event.proofs.EventLayoutLaws.{readBody, sets-was}
 use Rattle.event.specs.declared.head.HeadAt.{HeadAt}
+use Rattle.event.specs.declared.head.HeadRead.{HeadRead}
+use Rattle.event.specs.declared.head.HeadRead.the-variants as read
+use Rattle.event.specs.declared.sets.SetsRead.{SetsRead}
+use Rattle.event.specs.declared.sets.SetsRead.the-variants.{Sets}
 use Rattle.event.specs.declared.read.EventIndex.{EventIndex}
 
 -- ---- the head, and what follows it
@@ -42,7 +52,21 @@ pub no-head : (counts : Counts) (s : List ℕ) → readHead (counts .parents) s 
 unfolding eventOf
 no-head counts s e = rw (event-then counts s, e)
 
-module _ (counts : Counts) {s : List ℕ} {h : HeadAt} (w : HeadStops (readHead (counts .parents) s) s h) where
+-- the event of a head and of these sets, where they are not too many
+abbrev event-of : Counts → Head → List (List Text) → List ℕ → Parse Event
+event-of counts h xs = foundIf (leb (objectCount xs) (counts .objects)) (record { head = h; sets = xs })
+
+-- the head and its presence number are read, and the sets are left
+pub record BodyAt (counts : Counts) (s : List ℕ) (h : HeadAt) (n next : ℕ) : Type 0 where
+  head : HeadStops (readHead (counts .parents) s) s h
+  number : NumberStops s (h .parents .end) n next
+  small : n < 2 ^ 32
+  after : readEvent counts s ≡ andThen (readSets 32 n (drop next s)) (event-of counts (head .what))
+
+module _ (counts : Counts) (s : List ℕ) {h : HeadAt} {r : HeadRead} (told : HeadReads (readHead (counts .parents) s) s r) (is : r ≡ read.Head h) where
+  w : HeadStops (readHead (counts .parents) s) s h
+  w = head-reads is told
+
   after-head : readEvent counts s ≡ readBody counts (w .what) (drop (h .parents .end) s)
   after-head = event-then counts s ∙ ap (λ (p : Parse Head). andThen p (readBody counts)) (w .is)
 
@@ -50,32 +74,31 @@ module _ (counts : Counts) {s : List ℕ} {h : HeadAt} (w : HeadStops (readHead 
   unfolding eventOf readBits
   no-presence e = rw (after-head, e)
 
-  pub presence-large : {n next : ℕ} → NumberStops s (h .parents .end) n next → 2 ^ 32 ≤ n → eventOf counts s ≡ none
-  unfolding eventOf readBits
-  presence-large {n} m k = rw (after-head, m .is, le-ltb n (2 ^ 32) k)
+  module _ {n next : ℕ} {a : NumberAt} (number-told : a ≡ numberAt s (h .parents .end)) (number-is : a ≡ Number n next) where
+    m : NumberStops s (h .parents .end) n next
+    m = number-got number-told number-is
 
--- the head and its presence number are read
-pub record BodyAt (counts : Counts) (s : List ℕ) (h : HeadAt) (n next : ℕ) : Type 0 where
-  pub head : HeadStops (readHead (counts .parents) s) s h
-  pub number : NumberStops s (h .parents .end) n next
-  pub small : n < 2 ^ 32
+    pub presence-large : 2 ^ 32 ≤ n → eventOf counts s ≡ none
+    unfolding eventOf readBits
+    presence-large k = rw (after-head, m .is, le-ltb n (2 ^ 32) k)
+
+    pub body-at : n < 2 ^ 32 → BodyAt counts s h n next
+    unfolding readBits
+    body-at small = record { head = w; number = m; small = small; after = rw (after-head, m .is, lt-ltb n (2 ^ 32) small) }
 
 module _ {counts : Counts} {s : List ℕ} {h : HeadAt} {n next : ℕ} (b : BodyAt counts s h n next) where
-  -- the event of these sets, where they are not too many
-  abbrev event-of : List (List Text) → List ℕ → Parse Event
-  event-of xs = foundIf (leb (objectCount xs) (counts .objects)) (record { head = b .head .what; sets = xs })
-
-  after-presence : readEvent counts s ≡ andThen (readSets 32 n (drop next s)) event-of
-  unfolding readBits
-  after-presence = rw (after-head counts (b .head), b .number .is, lt-ltb n (2 ^ 32) (b .small))
-
   pub no-sets : readSets 32 n (drop next s) ≡ fail → eventOf counts s ≡ none
   unfolding eventOf
-  no-sets e = rw (after-presence, e)
+  no-sets e = rw (b .after, e)
 
-  module _ {ats : List ℕ} {end objects : ℕ} (t : SetsStop (readSets 32 n (drop next s)) s ats end objects) where
-    after-sets : (l : List ℕ) → drop end s ≡ l → readEvent counts s ≡ event-of (t .what) l
-    after-sets l e = after-presence ∙ ap (λ (p : Parse (List (List Text))). andThen p event-of) (t .is ∙ ap (got (t .what)) e)
+  module _
+      (ats : List ℕ) {end objects : ℕ} {x : SetsRead}
+      (sets-told : SetsReads (readSets 32 n (drop next s)) s ats x) (sets-is : x ≡ Sets end objects) where
+    t : SetsStop (readSets 32 n (drop next s)) s ats end objects
+    t = sets-read sets-is sets-told
+
+    after-sets : (l : List ℕ) → drop end s ≡ l → readEvent counts s ≡ event-of counts (b .head .what) (t .what) l
+    after-sets l e = b .after ∙ ap (λ (p : Parse (List (List Text))). andThen p (event-of counts (b .head .what))) (t .is ∙ ap (got (t .what)) e)
 
     pub early : (end ≡ length s → ⊥) → eventOf counts s ≡ none
     unfolding eventOf

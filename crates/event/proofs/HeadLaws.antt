@@ -1,6 +1,6 @@
 -- The laws of reading what an event begins with: type name, source and parents.
 use mathlib.Core.Path.{_≡_, refl, sym, ap, _∙_, subst}
-use mathlib.Core.Bool.{true, false}
+use mathlib.Core.Bool.{Bool, true, false, not}
 use mathlib.Core.List.{List, [], _∷_, _++_, append-assoc, flatten}
 use Prim.Native.Nat.{ℕ, zero, suc, _+_, _-_, _*_, _≤_, _<_}
 use native.Mathlib.Omega.{arith}
@@ -10,11 +10,17 @@ use borrow.Author.Tests.{le-leb, lt-leb}
 use Rattle.model.specs.Order.{Text, rising}
 use Rattle.packed.specs.Parse.{Parse, fail, got, Layout, andThen, _>>=_, found, foundIf, suchThat, times, All}
 use Rattle.packed.specs.code.Comparison.{precedes}
+use Rattle.packed.specs.code.Located.{numberAt, textAt}
+use Rattle.packed.specs.declared.read.NumberAt.{NumberAt}
+use Rattle.packed.specs.declared.read.NumberAt.the-variants.{Number}
+use Rattle.packed.specs.declared.read.TextAt.{TextAt}
+use Rattle.packed.specs.declared.read.TextAt.the-variants as text-at
 use Rattle.packed.specs.Packed.{readNumber, readText, readBytes, part}
 use Rattle.packed.proofs.LayoutLaws.{All, times-was, bytes-was, flat}
 use Rattle.packed.proofs.ReadLaws.{drop-next, NumberStops, TextStops, stretch, part-length}
 use Rattle.event.specs.Head.{areSourceBytes, isSource, readParents, Head, readHead}
 use Rattle.event.specs.code.EventIndex.{ParentsStop, ParentsReads, HeadStops, HeadReads, HashesAre, HeadIs, HeadParts}
+use Rattle.event.proofs.AnswerLaws.{number-got, text-got, text-not, told-no, told-yes}
 use Rattle.event.proofs.SetLaws.{risen, risen-was, risen-bad, Stands, RisingTo, rising-first, rising-bad, rising-not, rising-more, rising-all}
 use Rattle.event.specs.declared.sets.SetAt.{SetAt}
 use Rattle.event.specs.declared.head.HeadAt.{HeadAt}
@@ -77,19 +83,19 @@ bytes-short s at n h =
     rw (lt-leb _ _ k)
 
 -- the hash at `at`
-hash-stands : {s : List ℕ} {at : ℕ} → at + 20 ≤ length s → Stands (readBytes 20) s at at (at + 20)
-hash-stands {s} {at} h = record { is = bytes-at s at 20 h; order = omega arith; within = h }
+hash-stands : {s : List ℕ} {at : ℕ} → 20 ≤ length s - at → Stands (readBytes 20) s at at (at + 20)
+hash-stands {s} {at} h = record { is = bytes-at s at 20 (omega arith); order = omega arith; within = omega arith }
 
 module _ {q : Parse (List Text)} {s : List ℕ} {from to left : ℕ} (w : RisingTo (readBytes 20) q s from to left) (h : 0 < left) where
   pub hash-bad : length s - to < 20 → q ≡ fail
   hash-bad k = rising-bad w h (bytes-short s to 20 k)
 
-  module _ (room : to + 20 ≤ length s) where
-    pub hash-not : precedes (part s from to) (part s to (to + 20)) ≡ false → q ≡ fail
-    hash-not b = rising-not w h (hash-stands room) b
+  module _ (room : 20 ≤ length s - to) {b : Bool} (told : b ≡ precedes (part s from to) (part s to (to + 20))) where
+    pub hash-not : not b ≡ true → q ≡ fail
+    hash-not = rising-not w h (hash-stands room) told
 
-    pub hash-more : precedes (part s from to) (part s to (to + 20)) ≡ true → RisingTo (readBytes 20) q s to (to + 20) (left - 1)
-    hash-more b = rising-more w h (hash-stands room) b
+    pub hash-more : not b ≡ false → RisingTo (readBytes 20) q s to (to + 20) (left - 1)
+    hash-more = rising-more w h (hash-stands room) told
 
 hash-at :
     (hs : List Text) (t r : List ℕ) (i : ℕ) → All (λ (h : Text). length h ≡ 20) hs → t ≡ flatten hs ++ r → i < length hs →
@@ -134,7 +140,10 @@ pub parents-none : (most : ℕ) (t : List ℕ) → readNumber t ≡ fail → rea
 unfolding readParents
 parents-none most t e = rw e
 
-module _ (most : ℕ) {s : List ℕ} {at n start : ℕ} (w : NumberStops s at n start) where
+module _ (most : ℕ) (s : List ℕ) (at : ℕ) {n start : ℕ} {r : NumberAt} (told : r ≡ numberAt s at) (is : r ≡ Number n start) where
+  w : NumberStops s at n start
+  w = number-got told is
+
   pub parents-many : most < n → readParents most (drop at s) ≡ fail
   unfolding readParents
   parents-many h = rw (w .is, lt-leb n most h)
@@ -148,18 +157,18 @@ module _ (most : ℕ) {s : List ℕ} {at n start : ℕ} (w : NumberStops s at n 
     unfolding times rising risen
     parents-zero z = hashes-found {hs = []} (w .within) (w .within) parents-some (parents-some ∙ rw z)
 
-    pub parents-bad : 0 < n → length s - start < 20 → readParents most (drop at s) ≡ fail
-    parents-bad h k = parents-some ∙ risen-bad (readBytes 20) n (drop start s) h (bytes-short s start 20 k)
+    pub parents-bad : (n ≡ 0 → ⊥) → length s - start < 20 → readParents most (drop at s) ≡ fail
+    parents-bad h k = parents-some ∙ risen-bad (readBytes 20) n (drop start s) (omega (arith, h)) (bytes-short s start 20 k)
 
-    pub parents-first : 0 < n → start + 20 ≤ length s → RisingTo (readBytes 20) (readParents most (drop at s)) s start (start + 20) (n - 1)
-    parents-first h room = rising-first n start parents-some h (hash-stands room)
+    pub parents-first : (n ≡ 0 → ⊥) → 20 ≤ length s - start → RisingTo (readBytes 20) (readParents most (drop at s)) s start (start + 20) (n - 1)
+    parents-first h room = rising-first n start parents-some (omega (arith, h)) (hash-stands room)
 
     pub parents-found :
         {from to left : ℕ} → RisingTo (readBytes 20) (readParents most (drop at s)) s from to left → left ≤ 0 →
         ParentsStop (readParents most (drop at s)) s (record { start = start; end = to; count = n })
-    parents-found r h = hashes-found (w .within) (r .within) parents-some (rising-all r h)
+    parents-found v h = hashes-found (w .within) (v .within) parents-some (rising-all v h)
 
-pub parents-reads : {p : Parse (List Text)} {s : List ℕ} {r : ParentsRead} {x : SetAt} → r ≡ Parents x → ParentsReads p s r → ParentsStop p s x
+parents-reads : {p : Parse (List Text)} {s : List ℕ} {r : ParentsRead} {x : SetAt} → r ≡ Parents x → ParentsReads p s r → ParentsStop p s x
 parents-reads {p} {s} h w = subst (ParentsReads p s) h w
 
 pub parents-refused : {p : Parse (List Text)} (s : List ℕ) {r : ParentsRead} → r ≡ NoParents → ParentsReads p s r → p ≡ fail
@@ -173,9 +182,9 @@ head-reads {p} {s} h w = subst (HeadReads p s) h w
 pub head-refused : {p : Parse Head} (s : List ℕ) {r : HeadRead} → r ≡ read.NoHead → HeadReads p s r → p ≡ fail
 head-refused {p} s h w = subst (HeadReads p s) h w
 
-pub no-name : (most : ℕ) (s : List ℕ) → readText s ≡ fail → readHead most s ≡ fail
+pub no-name : (most : ℕ) (s : List ℕ) {r : TextAt} → r ≡ textAt s 0 → r ≡ text-at.NoText → readHead most s ≡ fail
 unfolding readHead
-no-name most s e = rw e
+no-name most s told is = rw (text-not s 0 told is)
 
 -- what follows a source u, and a type name t
 abbrev afterSource : ℕ → Text → Text → Layout Head
@@ -184,7 +193,10 @@ afterSource most t u = readParents most >>= λ hs. found (record { type = t; sou
 abbrev afterName : ℕ → Text → Layout Head
 afterName most t = suchThat isSource readText >>= λ u. afterSource most t u
 
-module _ (most : ℕ) {s : List ℕ} {a e : ℕ} (n : TextStops s 0 a e) where
+module _ (most : ℕ) (s : List ℕ) {a e : ℕ} {r : TextAt} (name-told : r ≡ textAt s 0) (name-is : r ≡ text-at.Text a e) where
+  n : TextStops s 0 a e
+  n = text-got name-told name-is
+
   named : readHead most s ≡ afterName most (part s a e) (drop e s)
   unfolding readHead
   named = ap (λ (p : Parse Text). andThen p (λ t. afterName most t)) (n .is)
@@ -192,35 +204,37 @@ module _ (most : ℕ) {s : List ℕ} {a e : ℕ} (n : TextStops s 0 a e) where
   pub no-source : readText (drop e s) ≡ fail → readHead most s ≡ fail
   no-source f = named ∙ rw f
 
-  module _ {b f : ℕ} (u : TextStops s e b f) where
+  module _ {b f : ℕ} {o : TextAt} (told : o ≡ textAt s e) (is : o ≡ text-at.Text b f) {k : Bool} (asked : k ≡ isSource (part s b f)) where
+    u : TextStops s e b f
+    u = text-got told is
+
     step : readHead most s ≡ andThen (foundIf (isSource (part s b f)) (part s b f) (drop f s)) (λ v. afterSource most (part s a e) v)
     step = named ∙ ap (λ (p : Parse Text). andThen (andThen p (λ v. foundIf (isSource v) v)) (λ v. afterSource most (part s a e) v)) (u .is)
 
-    pub source-not : isSource (part s b f) ≡ false → readHead most s ≡ fail
-    source-not h = step ∙ rw h
+    pub source-not : not k ≡ true → readHead most s ≡ fail
+    source-not h = step ∙ rw (told-no asked h)
 
--- name and source are read
-pub record Sourced (s : List ℕ) (a e b f : ℕ) : Type 0 where
-  pub name : TextStops s 0 a e
-  pub source : TextStops s e b f
-  pub right : isSource (part s b f) ≡ true
+    module _ (right : not k ≡ false) where
+      pub parents-not : readParents most (drop f s) ≡ fail → readHead most s ≡ fail
+      parents-not g = step ∙ rw (told-yes asked right, g)
 
-module _ (most : ℕ) {s : List ℕ} {a e b f : ℕ} (w : Sourced s a e b f) where
-  pub parents-not : readParents most (drop f s) ≡ fail → readHead most s ≡ fail
-  parents-not g = step most (w .name) (w .source) ∙ rw (w .right, g)
+      head-of :
+          {x : SetAt} → ParentsStop (readParents most (drop f s)) s x →
+          HeadStops (readHead most s) s (record { name = record { start = a; end = e }; source = record { start = b; end = f }; parents = x })
+      head-of p = record {
+        what = record { type = part s a e; source = part s b f; parents = p .what };
+        is = step ∙ rw (told-yes asked right, p .is);
+        stands = record {
+          name = record { bytes = refl; order = n .order; within = n .within };
+          uri = record { bytes = refl; order = u .order; within = u .within };
+          hashes = p .stands;
+        };
+      }
 
-  pub head-found :
-      {x : SetAt} → ParentsStop (readParents most (drop f s)) s x →
-      HeadStops (readHead most s) s (record { name = record { start = a; end = e }; source = record { start = b; end = f }; parents = x })
-  head-found p = record {
-    what = record { type = part s a e; source = part s b f; parents = p .what };
-    is = step most (w .name) (w .source) ∙ rw (w .right, p .is);
-    stands = record {
-      name = record { bytes = refl; order = w .name .order; within = w .name .within };
-      uri = record { bytes = refl; order = w .source .order; within = w .source .within };
-      hashes = p .stands;
-    };
-  }
+      pub head-found :
+          {x : SetAt} {t : ParentsRead} → ParentsReads (readParents most (drop f s)) s t → t ≡ Parents x →
+          HeadStops (readHead most s) s (record { name = record { start = a; end = e }; source = record { start = b; end = f }; parents = x })
+      head-found h k = head-of (parents-reads k h)
 
 -- ---- the parts of a head, where they stand
 

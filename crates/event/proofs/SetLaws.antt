@@ -1,6 +1,6 @@
 -- The laws of reading sets and hashes: rising texts one after the other, a place's set, and the sets of all places.
 use mathlib.Core.Path.{_≡_, refl, sym, ap, ap₂, _∙_, subst}
-use mathlib.Core.Bool.{Bool, true, false}
+use mathlib.Core.Bool.{Bool, true, false, not}
 use mathlib.Core.Logic.{_⊎_, inl, inr}
 use mathlib.Core.List.{List, [], _∷_, _++_, append-assoc, append-nil, map, flatten}
 use Prim.Native.Nat.{ℕ, zero, suc, _+_, _-_, _*_, _/_, _%_, _^_, _≤_, _<_, Ordering, Ordering·lt, Ordering·eq, Ordering·gt}
@@ -14,6 +14,11 @@ use Rattle.model.specs.Order.{Text, texts, rising, pick}
 use Rattle.model.proofs.Cases.{never}
 use Rattle.packed.specs.Parse.{Parse, fail, got, Layout, andThen, _>>=_, foundIf, times, All}
 use Rattle.packed.specs.code.Comparison.{precedes}
+use Rattle.packed.specs.code.Located.{numberAt, textAt}
+use Rattle.packed.specs.declared.read.NumberAt.{NumberAt}
+use Rattle.packed.specs.declared.read.NumberAt.the-variants.{Number}
+use Rattle.packed.specs.declared.read.TextAt.{TextAt}
+use Rattle.packed.specs.declared.read.TextAt.the-variants as text-at
 use Rattle.packed.specs.Packed.{number, readNumber, text, readText, part}
 use Rattle.packed.proofs.LayoutLaws.{lt-or-ge, andThen-got, foundIf-got, times-was, text-read, text-was, text-length, number-was, number-bounds}
 use Rattle.packed.proofs.ReadLaws.{NumberStops, TextStops, stretch}
@@ -23,6 +28,7 @@ use Rattle.ontology.proofs.TripleLaws.{putThree, three-long, three-first, three
 use Rattle.event.specs.Event.{objectCount}
 use Rattle.event.specs.EventLayout.{readSet, readPlace, readSets, setBytes}
 use Rattle.event.specs.code.EventIndex.{countSize, SetIs, noSet, setIn, SetsAre, Promised, SetStops, SetReads, SetsStop, SetsReads}
+use Rattle.event.proofs.AnswerLaws.{number-got, text-got, text-not, told-no, told-yes}
 use Rattle.event.proofs.EventLayoutLaws.{set-was, nonempty-was}
 use Rattle.event.specs.declared.sets.SetAt.{SetAt}
 use Rattle.event.specs.declared.sets.SetRead.{SetRead}
@@ -83,8 +89,8 @@ pub record Stands (p : Layout Text) (s : List ℕ) (at a e : ℕ) : Type 0 where
   pub order : a ≤ e
   pub within : e ≤ length s
 
-pub text-stands : {s : List ℕ} {at a e : ℕ} → TextStops s at a e → Stands readText s at a e
-text-stands t = record { is = t .is; order = t .order; within = t .within }
+text-stands : {s : List ℕ} {at a e : ℕ} {r : TextAt} → r ≡ textAt s at → r ≡ text-at.Text a e → Stands readText s at a e
+text-stands h k = let t = text-got h k in record { is = t .is; order = t .order; within = t .within }
 
 -- The last that was read stands from `from` up to `to`, and `left` more follow; q is what is found of them all
 pub record RisingTo (p : Layout Text) (q : Parse (List Text)) (s : List ℕ) (from to left : ℕ) : Type 0 where
@@ -127,9 +133,9 @@ module _ {p : Layout Text} {q : Parse (List Text)} {s : List ℕ} {from to left 
       step : q ≡ andThen (times p (left - 1) (drop e s)) (λ ws. with-those (u ∷ ws))
       step = w .is ∙ times-next p with-those left (drop to s) (drop e s) u h (t .is)
 
-      pub rising-not : precedes (part s from to) u ≡ false → q ≡ fail
+      falling : precedes (part s from to) u ≡ false → q ≡ fail
       unfolding rising
-      rising-not b = step ∙ go (texts .cmp (part s from to) u) b (times p (left - 1) (drop e s))
+      falling b = step ∙ go (texts .cmp (part s from to) u) b (times p (left - 1) (drop e s))
         where
           go : (o : Ordering) → pick o true false false ≡ false → (m : Parse (List Text)) →
               andThen m (λ ws r. foundIf (pick o (rising texts (u ∷ ws)) false false) (w .sofar ++ (u ∷ ws)) r) ≡ fail
@@ -145,15 +151,19 @@ module _ {p : Layout Text} {q : Parse (List Text)} {s : List ℕ} {from to left 
         where
           go : (b : Bool) → precedes (part s from to) u ≡ b → b ≡ true
           go true f = refl
-          go false f = absurd (m k (rising-not f))
+          go false f = absurd (m k (falling f))
 
-      pub rising-more : precedes (part s from to) u ≡ true → RisingTo p q s a e (left - 1)
+      -- as is answered
+      pub rising-not : {b : Bool} → b ≡ precedes (part s from to) u → not b ≡ true → q ≡ fail
+      rising-not t f = falling (told-no t f)
+
+      pub rising-more : {b : Bool} → b ≡ precedes (part s from to) u → not b ≡ false → RisingTo p q s a e (left - 1)
       unfolding rising
-      rising-more b = record {
+      rising-more answered f = record {
         order = t .order;
         within = t .within;
         sofar = w .sofar ++ (u ∷ []);
-        is = step ∙ go (texts .cmp (part s from to) u) b (times p (left - 1) (drop e s));
+        is = step ∙ go (texts .cmp (part s from to) u) (told-yes answered f) (times p (left - 1) (drop e s));
       }
         where
           go : (o : Ordering) → pick o true false false ≡ true → (m : Parse (List Text)) →
@@ -164,27 +174,28 @@ module _ {p : Layout Text} {q : Parse (List Text)} {s : List ℕ} {from to left 
           go Ordering·eq b m = cc
           go Ordering·gt b m = cc
 
+-- where each is a text
+module _
+    {q : Parse (List Text)} {s : List ℕ} {from to left : ℕ} (w : RisingTo readText q s from to left) (h : 0 < left)
+    {r : TextAt} (told : r ≡ textAt s to) where
+  pub value-bad : r ≡ text-at.NoText → q ≡ fail
+  value-bad is = rising-bad w h (text-not s to told is)
+
+  module _ {a e : ℕ} (is : r ≡ text-at.Text a e) where
+    pub value-promised : {known : Bool} → Promised known q → known ≡ true → precedes (part s from to) (part s a e) ≡ true
+    value-promised = rising-promised w h (text-stands told is)
+
+    pub value-not : {b : Bool} → b ≡ precedes (part s from to) (part s a e) → not b ≡ true → q ≡ fail
+    value-not = rising-not w h (text-stands told is)
+
+    pub value-more : {b : Bool} → b ≡ precedes (part s from to) (part s a e) → not b ≡ false → RisingTo readText q s a e (left - 1)
+    value-more = rising-more w h (text-stands told is)
+
 -- ---- a set
 
 pub set-none : (t : List ℕ) → readNumber t ≡ fail → readSet t ≡ fail
 unfolding readSet
 set-none t e = rw e
-
-module _ {s : List ℕ} {at n start : ℕ} (w : NumberStops s at n start) where
-  pub set-zero : n ≡ 0 → readSet (drop at s) ≡ fail
-  unfolding readSet
-  set-zero h = rw (w .is, h)
-
-  module _ (h : 0 < n) where
-    set-some : readSet (drop at s) ≡ risen readText n (drop start s)
-    unfolding readSet risen
-    set-some = rw (w .is, le-leb 1 n h)
-
-    pub set-bad : readText (drop start s) ≡ fail → readSet (drop at s) ≡ fail
-    set-bad e = set-some ∙ risen-bad readText n (drop start s) h e
-
-    pub set-first : {a e : ℕ} → TextStops s start a e → RisingTo readText (readSet (drop at s)) s a e (n - 1)
-    set-first t = rising-first n start set-some h (text-stands t)
 
 -- what a set has before its values
 pub no-count : (n : ℕ) → n ≡ 0 → countSize n ≡ 0
@@ -198,42 +209,64 @@ some-count zero h = absurd (h refl)
 some-count (suc n) h = refl
 
 -- its count stands at `at`, and its values from `start` up to `to`
-module _ {s : List ℕ} {at count start : ℕ} (n : NumberStops s at count start) where
+module _ (s : List ℕ) (at : ℕ) {count start : ℕ} {r : NumberAt} (told : r ≡ numberAt s at) (is : r ≡ Number count start) where
+  n : NumberStops s at count start
+  n = number-got told is
+
+  pub set-zero : count ≡ 0 → readSet (drop at s) ≡ fail
+  unfolding readSet
+  set-zero h = rw (n .is, h)
+
   there : at ≤ length s
   there = omega (arith, n .after, n .within)
 
   before-values : length (number count) ≡ start - at
   before-values = stretch s (number count) at start there (n .within) (number-was (drop at s) count (drop start s) (n .is) .0) .2
 
-  module _ (some : 0 < count) {from to left : ℕ} (w : RisingTo readText (readSet (drop at s)) s from to left) (h : left ≤ 0) where
-    abbrev vs : List Text
-    vs = w .sofar
+  module _ (not-zero : count ≡ 0 → ⊥) where
+    some : 0 < count
+    some = omega (arith, not-zero)
 
-    values : (drop start s ≡ flatten (map text vs) ++ drop to s) × (length vs ≡ count) × All (λ (v : Text). length v < 2 ^ 64) vs
-    values =
-        times-was readText text (λ (v : Text). length v < 2 ^ 64) text-was count (drop start s) vs (drop to s)
-        (risen-was readText count (drop start s) vs (drop to s) (sym (set-some n some) ∙ rising-all w h))
+    set-some : readSet (drop at s) ≡ risen readText count (drop start s)
+    unfolding readSet risen
+    set-some = rw (n .is, le-leb 1 count some)
 
-    size : countSize count ≡ start - at
-    size = some-count count (λ (e : count ≡ 0). omega arith) ∙ before-values
+    pub set-bad : readText (drop start s) ≡ fail → readSet (drop at s) ≡ fail
+    set-bad e = set-some ∙ risen-bad readText count (drop start s) some e
 
-    pub set-found : SetStops (readSet (drop at s)) s (record { start = start; end = to; count = count })
-    set-found =
-        let p = stretch s (flatten (map text vs)) start to (n .within) (w .within) (values .0) in
-        let whole = stretch s (setBytes vs) at to there (w .within) (nonempty-was (drop at s) vs (drop to s) (rising-all w h) .bytes) in
-        let begin : start - countSize count ≡ at = omega (arith, size, n .after) in
-        record {
-          what = vs;
-          is = rising-all w h;
-          stands = record {
-            bytes = p .0;
-            count = sym (values .1);
-            order = p .1;
-            within = w .within;
-            counted = omega (arith, size);
-            whole = ap (λ (i : ℕ). part s i to) begin ∙ whole .0;
-          };
-        }
+    pub set-first :
+        {a e : ℕ} {t : TextAt} → t ≡ textAt s start → t ≡ text-at.Text a e → RisingTo readText (readSet (drop at s)) s a e (count - 1)
+    set-first h k = rising-first count start set-some some (text-stands h k)
+
+    module _ {from to left : ℕ} (w : RisingTo readText (readSet (drop at s)) s from to left) (h : left ≤ 0) where
+      abbrev vs : List Text
+      vs = w .sofar
+
+      values : (drop start s ≡ flatten (map text vs) ++ drop to s) × (length vs ≡ count) × All (λ (v : Text). length v < 2 ^ 64) vs
+      values =
+          times-was readText text (λ (v : Text). length v < 2 ^ 64) text-was count (drop start s) vs (drop to s)
+          (risen-was readText count (drop start s) vs (drop to s) (sym set-some ∙ rising-all w h))
+
+      size : countSize count ≡ start - at
+      size = some-count count not-zero ∙ before-values
+
+      pub set-found : SetStops (readSet (drop at s)) s (record { start = start; end = to; count = count })
+      set-found =
+          let p = stretch s (flatten (map text vs)) start to (n .within) (w .within) (values .0) in
+          let whole = stretch s (setBytes vs) at to there (w .within) (nonempty-was (drop at s) vs (drop to s) (rising-all w h) .bytes) in
+          let begin : start - countSize count ≡ at = omega (arith, size, n .after) in
+          record {
+            what = vs;
+            is = rising-all w h;
+            stands = record {
+              bytes = p .0;
+              count = sym (values .1);
+              order = p .1;
+              within = w .within;
+              counted = omega (arith, size);
+              whole = ap (λ (i : ℕ). part s i to) begin ∙ whole .0;
+            };
+          }
 
 -- what is known of a call's answer in the arm of a `match`
 pub set-reads : {p : Parse (List Text)} {s : List ℕ} {r : SetRead} {x : SetAt} → r ≡ Found x → SetReads p s r → SetStops p s x
@@ -387,7 +420,10 @@ module _ {p : Parse (List (List Text))} {s ats : List ℕ} {bits next objects k 
       ∙ ap (λ (n : ℕ). prepend (w .xs) (readSets n bits (drop next s))) (sym (one-more h))
       ∙ ap (prepend (w .xs)) (sets-stop (32 - (k + 1)) bits (drop next s) e)
 
-  module _ {x : SetAt} (h : k < 32) (t : SetStops (readPlace (bits % 2) (drop next s)) s x) where
+  module _ {x : SetAt} {r : SetRead} (h : k < 32) (told : SetReads (readPlace (bits % 2) (drop next s)) s r) (is : r ≡ Found x) where
+    t : SetStops (readPlace (bits % 2) (drop next s)) s x
+    t = set-reads is told
+
     -- the numbers with the set x at place k
     abbrev after : List ℕ
     after = putThree ats k (x .start) (x .end) (x .count)
@@ -405,11 +441,14 @@ module _ {p : Parse (List (List Text))} {s ats : List ℕ} {bits next objects k 
             rw (set-other ats k x i ne, getD-other [] (w .xs) (t .what) i (λ q. ne (q ∙ w .long))) (w .each i (omega (arith, ne)))
 
     -- the objects of a set are no more than its bytes
-    pub few-more : (next ≤ x .end) × (x .count ≤ x .end - next)
+    pub few-more : objects + x .count ≤ x .end
     few-more =
         let b = set-was (bits % 2) (drop next s) (t .what) (drop (x .end) s) (omega arith) (t .is) .bytes in
         let l = stretch s (setBytes (t .what)) next (x .end) (w .within) (t .stands .within) b in
-        (l .1, omega (arith, t .stands .count, set-long (t .what), l .2))
+        omega (arith, w .small, t .stands .count, set-long (t .what), l .1, l .2)
+
+    pub few-objects : length s < 2 ^ 64 → objects + x .count < 2 ^ 64
+    few-objects small = omega (arith, few-more, t .stands .within)
 
     pub sofar-more : Sofar p s after (bits / 2) (x .end) (objects + x .count) (k + 1)
     sofar-more = record {
@@ -423,7 +462,7 @@ module _ {p : Parse (List (List Text))} {s ats : List ℕ} {bits next objects k 
           ∙ prepend-one (w .xs) (t .what) (readSets (32 - (k + 1)) (bits / 2) (drop (x .end) s));
       within = t .stands .within;
       summed = omega (arith, w .summed, t .stands .count, objects-append (w .xs) (t .what ∷ []), objects-one (t .what));
-      small = omega (arith, w .small, few-more .0, few-more .1);
+      small = few-more;
       each = stand;
       ats-long = three-long ats k (x .start) (x .end) (x .count) ∙ w .ats-long;
     }
