@@ -1,12 +1,13 @@
 -- The laws of asking questions 2 to 6, and of the value call's answer.
 use mathlib.Core.Path.{_≡_, refl, sym, ap, _∙_, subst}
-use mathlib.Core.Bool.{Bool, true, false}
+use mathlib.Core.Bool.{Bool, true, false, not}
 use mathlib.Core.Option.{Option, none, some}
 use mathlib.Core.List.{List, [], _++_, append-assoc, map}
 use Prim.Native.Nat.{ℕ, _+_, _<_}
 use native.Mathlib.Nat.{add-comm}
 use native.Mathlib.Omega.{arith}
 use lib.ListN.{getElem?}
+use borrow.Author.Tests.{not-true, not-false}
 use Rattle.model.specs.Order.{Text}
 use Rattle.model.proofs.Cases.{never}
 use Rattle.packed.specs.Parse.{fail, got}
@@ -91,12 +92,6 @@ unfolding EventReads
 event-got none event ats x w h = never (cc)
 event-got (some e) event ats x w h = record { what = e; is = refl; stands = w .1 }
 
--- questions 2 to 4 are answered yes
-pub record Right (t : TableRead) (x : EventIndex) : Type 0 where
-  pub table : t .ok ≡ true
-  pub event : x .ok ≡ true
-  pub type : t .found ≡ true
-
 module _ (event ats ps : List ℕ) (t : TableRead) (x : EventIndex) where
   refused-by :
       (n : ℕ) (table : List ℕ) (counts : Counts) → eventQuestions counts table event ≡ refused n →
@@ -104,13 +99,14 @@ module _ (event ats ps : List ℕ) (t : TableRead) (x : EventIndex) where
   unfolding EventAnswers
   refused-by n table counts e = rw e
 
-  pub ask-table : t .ok ≡ false → Questioned event ats ps t x 2
-  ask-table h table name counts says names reads = refused-by 2 table counts (rw (table-refused table name ps t says h))
+  pub ask-table : not (t .ok) ≡ true → Questioned event ats ps t x 2
+  ask-table h table name counts says names reads = refused-by 2 table counts (rw (table-refused table name ps t says (not-true _ h)))
 
-  pub ask-read : t .ok ≡ true → x .ok ≡ false → Questioned event ats ps t x 3
+  pub ask-read : not (t .ok) ≡ false → not (x .ok) ≡ true → Questioned event ats ps t x 3
   unfolding eventAsked
   ask-read h k table name counts says names reads =
-      refused-by 3 table counts (rw (table-got table name ps t says h .is, event-absent (eventOf counts event) event ats x reads k))
+      let g = table-got table name ps t says (not-false _ h) in
+      refused-by 3 table counts (rw (g .is, event-absent (eventOf counts event) event ats x reads (not-true _ k)))
 
   -- what the table has of the event's type
   type-says :
@@ -118,12 +114,12 @@ module _ (event ats ps : List ℕ) (t : TableRead) (x : EventIndex) where
       (e : EventGot (eventOf counts event) event ats x) → TypeSays (typeNamed (e .what .head .type) (g .what)) table ps t
   type-says counts {table} g names e = subst (λ (n : Text). TypeSays (typeNamed n (g .what)) table ps t) (names (e .what) (e .is)) (g .says)
 
-  pub ask-type : t .ok ≡ true → x .ok ≡ true → t .found ≡ false → Questioned event ats ps t x 4
+  pub ask-type : not (t .ok) ≡ false → not (x .ok) ≡ false → not (t .found) ≡ true → Questioned event ats ps t x 4
   unfolding eventAsked
   ask-type h k l table name counts says names reads =
-      let g = table-got table name ps t says h in
-      let e = event-got (eventOf counts event) event ats x reads k in
-      refused-by 4 table counts (rw (g .is, e .is, type-absent _ table ps t (type-says counts g names e) l))
+      let g = table-got table name ps t says (not-false _ h) in
+      let e = event-got (eventOf counts event) event ats x reads (not-false _ k) in
+      refused-by 4 table counts (rw (g .is, e .is, type-absent _ table ps t (type-says counts g names e) (not-true _ l)))
 
   -- the event and its type
   record Met (table : List ℕ) (counts : Counts) : Type 0 where
@@ -141,12 +137,12 @@ module _ (event ats ps : List ℕ) (t : TableRead) (x : EventIndex) where
   questions-later table counts f g h = rw (f, g, h)
 
   met :
-      Right t x → (table : List ℕ) (name : Text) (counts : Counts) → TableSays (tableOf table) table name ps t →
+      not (t .ok) ≡ false → not (x .ok) ≡ false → not (t .found) ≡ false → (table : List ℕ) (name : Text) (counts : Counts) → TableSays (tableOf table) table name ps t →
       ((e : Event) → eventOf counts event ≡ some e → name ≡ e .head .type) → EventReads (eventOf counts event) event ats x → Met table counts
-  met r table name counts says names reads =
-      let g = table-got table name ps t says (r .table) in
-      let e = event-got (eventOf counts event) event ats x reads (r .event) in
-      let y = type-found _ table ps t (type-says counts g names e) (r .type) in
+  met h k l table name counts says names reads =
+      let g = table-got table name ps t says (not-false _ h) in
+      let e = event-got (eventOf counts event) event ats x reads (not-false _ k) in
+      let y = type-found _ table ps t (type-says counts g names e) (not-false _ l) in
       record {
         type = y .what;
         e = e .what;
@@ -156,29 +152,32 @@ module _ (event ats ps : List ℕ) (t : TableRead) (x : EventIndex) where
         kinds = table-kinds table (g .what) (e .what .head .type) (y .what) (g .is) (y .is);
       }
 
-  module _ (r : Right t x) {shape : Bool} (shaped : Shaped (t .index .count) ps (x .objects) ats (λ y u. shape ≡ eventShape y u)) where
+  -- questions 2 to 4 are answered yes
+  module _
+      (a : not (t .ok) ≡ false) (b : not (x .ok) ≡ false) (c : not (t .found) ≡ false) {shape : Bool}
+      (shaped : Shaped (t .index .count) ps (x .objects) ats (λ y u. shape ≡ eventShape y u)) where
     shape-is : {table : List ℕ} {counts : Counts} (m : Met table counts) → eventShape (m .type) (m .e) ≡ shape
     shape-is {table} m = sym (shaped table event (m .type) (m .e) (m .type-is .are) (m .event-is .sets) (m .event-is .objects))
 
-    pub ask-shape : shape ≡ false → Questioned event ats ps t x 5
+    pub ask-shape : not shape ≡ true → Questioned event ats ps t x 5
     ask-shape h table name counts says names reads =
-        let m = met r table name counts says names reads in
-        refused-by 5 table counts (m .is ∙ rw (shape-is m ∙ h))
+        let m = met a b c table name counts says names reads in
+        refused-by 5 table counts (m .is ∙ rw (shape-is m ∙ not-true _ h))
 
-    module _ (fits : shape ≡ true) {values : Bool} (valued : Spoken event ats (t .index .count) ps (λ y xs. values ≡ valuesFit y xs)) where
+    module _ (fits : not shape ≡ false) {values : Bool} (valued : Spoken event ats (t .index .count) ps (λ y xs. values ≡ valuesFit y xs)) where
       values-are : {table : List ℕ} {counts : Counts} (m : Met table counts) → valuesFit (m .type) (m .e .sets) ≡ values
       values-are {table} m = sym (valued table (m .type) (m .e .sets) (m .type-is .are) (m .kinds) (m .event-is .sets))
 
-      pub ask-values : values ≡ false → Questioned event ats ps t x 6
+      pub ask-values : not values ≡ true → Questioned event ats ps t x 6
       ask-values h table name counts says names reads =
-          let m = met r table name counts says names reads in
-          refused-by 6 table counts (m .is ∙ rw (shape-is m ∙ fits, values-are m ∙ h))
+          let m = met a b c table name counts says names reads in
+          refused-by 6 table counts (m .is ∙ rw (shape-is m ∙ not-false _ fits, values-are m ∙ not-true _ h))
 
-      pub ask-all : values ≡ true → Questioned event ats ps t x 0
+      pub ask-all : not values ≡ false → Questioned event ats ps t x 0
       unfolding EventAnswers
       ask-all h table name counts says names reads =
-          let m = met r table name counts says names reads in
-          rw (m .is, shape-is m ∙ fits, values-are m ∙ h) (refl, m .type-is, m .event-is)
+          let m = met a b c table name counts says names reads in
+          rw (m .is, shape-is m ∙ not-false _ fits, values-are m ∙ not-false _ h) (refl, m .type-is, m .event-is)
 
 -- ---- what is known after asking
 
