@@ -13,6 +13,11 @@ use lib.Seq.{drop-cons, length-take-le}
 use Rattle.model.specs.Order.{Text}
 use Rattle.packed.specs.Parse.{fail, got}
 use Rattle.packed.specs.Packed.{number, readNumber, text, readText, part}
+use Rattle.packed.specs.code.Located.{numberAt, textAt}
+use Rattle.packed.specs.declared.read.NumberAt.{NumberAt}
+use Rattle.packed.specs.declared.read.NumberAt.the-variants.{Number}
+use Rattle.packed.specs.declared.read.TextAt.{TextAt}
+use Rattle.packed.specs.declared.read.TextAt.the-variants as text-at
 use Rattle.packed.proofs.LayoutLaws.{fail-got, number-read, text-read, text-length}
 use Rattle.packed.proofs.ReadLaws.{part-length, NumberStops, TextStops, stretch}
 use Rattle.event.specs.Event.{Event, setAt}
@@ -20,6 +25,7 @@ use Rattle.event.specs.EventLayout.{setBytes, setsBytes, presenceBit, bi
 use Rattle.event.specs.Head.{headBytes}
 use Rattle.event.specs.Value.{bytesBefore}
 use Rattle.event.specs.code.EventIndex.{EventIs, present, Skipped, TextsSkipped, SetsSkipped, ValueStands}
+use Rattle.event.proofs.AnswerLaws.{number-got, text-got}
 use Rattle.event.proofs.EventLayoutLaws.{presence-small}
 use Rattle.event.proofs.SetLaws.{texts-long}
 use Rattle.event.specs.declared.read.EventIndex.{EventIndex}
@@ -80,23 +86,25 @@ module _ {s : List ℕ} {at count pos left : ℕ} (w : TextsTo s at count pos le
       here (v ∷ vs) r b k l = absurd (omega arith)
 
   module _ (small : length s < 2 ^ 64) (h : 0 < left) where
-    pub texts-bad : readText (drop pos s) ≡ fail → TextsSkipped s at count pos
+    first-text : (v : Text) (vs : List Text) (r : List ℕ) → drop pos s ≡ flatten (map text (v ∷ vs)) ++ r → drop pos s ≡ text v ++ (flatten (map text vs) ++ r)
     unfolding flatten
+    first-text v vs r b = b ∙ append-assoc (text v) (flatten (map text vs)) r
+
+    pub texts-bad : readText (drop pos s) ≡ fail → TextsSkipped s at count pos
     texts-bad e = w .on pos here
       where
         here : TextsSkipped s pos left pos
         here [] r b k l = absurd (omega arith)
-        here (v ∷ vs) r b k l =
-            absurd (text-there s small pos k v (flatten (map text vs) ++ r) (b ∙ append-assoc (text v) (flatten (map text vs)) r) e)
+        here (v ∷ vs) r b k l = absurd (text-there s small pos k v _ (first-text v vs r b) e)
 
-    pub texts-more : {a z : ℕ} → TextStops s pos a z → TextsTo s at count z (left - 1)
+    pub texts-more : {a z : ℕ} {o : TextAt} → o ≡ textAt s pos → o ≡ text-at.Text a z → TextsTo s at count z (left - 1)
     unfolding flatten
-    texts-more {a} {z} t = record { on = λ to f. w .on to (here to f) }
+    texts-more {a} {z} told is = record { on = λ to f. w .on to (here to f) }
       where
         here : (to : ℕ) → TextsSkipped s z (left - 1) to → TextsSkipped s pos left to
         here to f [] r b k l = absurd (omega arith)
         here to f (v ∷ vs) r b k l =
-            let n = text-next s small pos k v (flatten (map text vs) ++ r) (b ∙ append-assoc (text v) (flatten (map text vs)) r) a z t .2 in
+            let n = text-next s small pos k v _ (first-text v vs r b) a z (text-got told is) .2 in
             let m = f vs r (n .rest) (n .within) (omega arith) in
             record { rest = m .rest; far = omega (arith, m .far, n .far, length-append (text v) (flatten (map text vs))); within = m .within }
 
@@ -167,12 +175,12 @@ module _ {s : List ℕ} {at count pos left : ℕ} (w : SetsTo s at count pos lef
     sets-bad e = w .on pos λ xs r b k l.
         absurd (number-there s small pos k (length (first xs r b l .vs)) _ (next-few xs r b l) (here xs r b l) e)
 
-    pub sets-more : {n start to : ℕ} → NumberStops s pos n start → TextsSkipped s start n to → SetsTo s at count to (left - 1)
+    pub sets-more : {n start to : ℕ} {o : NumberAt} → o ≡ numberAt s pos → o ≡ Number n start → TextsSkipped s start n to → SetsTo s at count to (left - 1)
     unfolding values others
-    sets-more {n} {start} {to} m skip = record {
+    sets-more {n} {start} {to} told is skip = record {
       on = λ end f. w .on end λ xs r b k l.
           let x = first xs r b l in
-          let a = number-next s small pos k (length (x .vs)) _ (next-few xs r b l) (here xs r b l) n start m in
+          let a = number-next s small pos k (length (x .vs)) _ (next-few xs r b l) (here xs r b l) n start (number-got told is) in
           let v = skip (x .vs) (setsBytes (x .more) ++ r) (a .1 .rest) (a .1 .within) (a .0) in
           let o = f (x .more) r (v .rest) (v .within) (omega (arith, x .long)) in
           let texts = flatten (map text (x .vs)) in

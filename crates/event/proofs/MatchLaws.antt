@@ -8,6 +8,7 @@ use native.Mathlib.Omega.{arith}
 use native.Mathlib.Numerals.{add-one}
 use lib.ListN.{length, drop, getD, getElem?, length-append, drop-of-length-le}
 use lib.Seq.{drop-cons}
+use borrow.Author.Tests.{not-true, not-false}
 use Rattle.model.specs.Order.{Text, texts, sets, lists, lex, equal}
 use Rattle.model.proofs.Cases.{three}
 use Rattle.model.proofs.OrderLaws.{equal-true}
@@ -84,11 +85,14 @@ elem (a ∷ l) (suc k) h = elem-more a l k (elem l k (omega arith))
 -- ---- the set of a place
 
 module _ (s : List ℕ) (q : Property) (x : PropertyAt) (w : PropertyIs s q x) (b : Bool) where
+  by-match : {m : Bool} → hasMatch x ≡ m → (not m || b) ≡ (not (isMatch q) || b)
+  by-match h = ap (λ (m : Bool). not m || b) (sym h ∙ match-of w)
+
   pub place-free : hasMatch x ≡ false → true ≡ (not (isMatch q) || b)
-  place-free h = sym (ap (λ (m : Bool). not m || b) (sym (match-of w) ∙ h))
+  place-free = by-match
 
   pub place-held : hasMatch x ≡ true → b ≡ (not (isMatch q) || b)
-  place-held h = sym (ap (λ (m : Bool). not m || b) (sym (match-of w) ∙ h))
+  place-held = by-match
 
 -- ---- the match sets, from a place on
 
@@ -138,38 +142,33 @@ Matched count ps a ats b bts f =
 pub record SameTo (count : ℕ) (ps a ats b bts : List ℕ) (k : ℕ) : Type 0 where
   same : Matched count ps a ats b bts (λ ty xs ys. sameFrom ty 0 xs ys ≡ sameFrom ty k xs ys)
 
--- if r is true and those after place k are
-pub record SameAt (count : ℕ) (ps a ats b bts : List ℕ) (k : ℕ) (r : Bool) : Type 0 where
-  same : Matched count ps a ats b bts (λ ty xs ys. sameFrom ty 0 xs ys ≡ (r && sameFrom ty (k + 1) xs ys))
-
 module _ {count : ℕ} {ps a ats b bts : List ℕ} where
   pub same-none : SameTo count ps a ats b bts 0
   same-none = record { same = λ s ty xs ys w u v. refl }
 
-  module _ {k : ℕ} where
-    pub same-end : SameTo count ps a ats b bts k → count ≤ k → Matched count ps a ats b bts (λ ty xs ys. true ≡ sameFrom ty 0 xs ys)
+  module _ {k : ℕ} (w : SameTo count ps a ats b bts k) where
+    pub same-end : count ≤ k → Matched count ps a ats b bts (λ ty xs ys. true ≡ sameFrom ty 0 xs ys)
     unfolding matchSets
-    same-end w h s ty xs ys are u v =
+    same-end h s ty xs ys are u v =
         let l : length (ty .properties) ≤ k = omega (arith, are .count) in
         sym (w .same s ty xs ys are u v ∙ rw (drop-of-length-le (ty .properties) l) (equal-true (lists sets) [] [] .1 refl))
 
-    pub same-at :
-        {p : PropertyAt} {x y : SetAt} {r : Bool} → SameTo count ps a ats b bts k → k < count → p ≡ propertyIn ps k → x ≡ setIn ats k → y ≡ setIn bts k →
-        ((s : List ℕ) (q : Property) (vs ws : List Text) → PropertyIs s q p → SetIs a vs x → SetIs b ws y → r ≡ (not (isMatch q) || equal sets vs ws)) →
-        SameAt count ps a ats b bts k r
-    same-at w h property left right asked = record {
-      same = λ s ty xs ys are u v.
+    -- r is the answer on the two sets of place k
+    module _
+        {p : PropertyAt} {x y : SetAt} {r : Bool} (h : k < count) (property : p ≡ propertyIn ps k) (left : x ≡ setIn ats k) (right : y ≡ setIn bts k)
+        (asked : (s : List ℕ) (q : Property) (vs ws : List Text) → PropertyIs s q p → SetIs a vs x → SetIs b ws y →
+        r ≡ (not (isMatch q) || equal sets vs ws)) where
+      next : Matched count ps a ats b bts (λ ty xs ys. sameFrom ty 0 xs ys ≡ (r && sameFrom ty (k + 1) xs ys))
+      next s ty xs ys are u v =
           let i : k < 32 = omega (arith, are .few) in
           let of-place = subst (PropertyIs s _) (sym property) (this-is s ty count ps are k h) in
           let told = asked s _ _ _ of-place (set-read left (u .each k i)) (set-read right (v .each k i)) in
           w .same s ty xs ys are u v
           ∙ step s ty count ps are k h xs ys (u .long) (v .long)
-          ∙ ap (λ (c : Bool). c && sameFrom ty (k + 1) xs ys) (sym told);
-    }
+          ∙ ap (λ (c : Bool). c && sameFrom ty (k + 1) xs ys) (sym told)
 
-    module _ {r : Bool} (w : SameAt count ps a ats b bts k r) where
-      pub same-bad : r ≡ false → Matched count ps a ats b bts (λ ty xs ys. false ≡ sameFrom ty 0 xs ys)
-      same-bad e s ty xs ys are u v = sym (w .same s ty xs ys are u v ∙ ap (λ (c : Bool). c && sameFrom ty (k + 1) xs ys) e)
+      pub same-bad : not r ≡ true → Matched count ps a ats b bts (λ ty xs ys. false ≡ sameFrom ty 0 xs ys)
+      same-bad e s ty xs ys are u v = sym (next s ty xs ys are u v ∙ ap (λ (c : Bool). c && sameFrom ty (k + 1) xs ys) (not-true r e))
 
-      pub same-more : r ≡ true → SameTo count ps a ats b bts (k + 1)
-      same-more e = record { same = λ s ty xs ys are u v. w .same s ty xs ys are u v ∙ ap (λ (c : Bool). c && sameFrom ty (k + 1) xs ys) e }
+      pub same-more : not r ≡ false → SameTo count ps a ats b bts (k + 1)
+      same-more e = record { same = λ s ty xs ys are u v. next s ty xs ys are u v ∙ ap (λ (c : Bool). c && sameFrom ty (k + 1) xs ys) (not-false r e) }

@@ -597,9 +597,9 @@ module _ {s : List ℕ} {index at left : ℕ} (w : WalkedTo s index at left) (sm
   pub walks-bad : readText (drop at s) ≡ fail → ValueFrom s 0 index []
   walks-bad e = w .on [] λ vs h. sym (ap (λ (l : List Text). getD l left []) (no-next (drop at s) vs rest-small e h))
 
-  module _ {a e : ℕ} (t : TextStops s at a e) where
+  module _ {a e : ℕ} {r : TextAt} (told : r ≡ textAt s at) (is : r ≡ text-at.Text a e) where
     first : (vs : List Text) → drop at s ≡ flatten (map text vs) → Next vs (part s a e) (drop e s)
-    first vs h = next (drop at s) (part s a e) (drop e s) vs rest-small (t .is) h
+    first vs h = next (drop at s) (part s a e) (drop e s) vs rest-small (text-got told is .is) h
 
     pub walks-more : 0 < left → WalkedTo s index e (left - 1)
     walks-more k = record {

@@ -1,6 +1,6 @@
 -- The laws of question 5, place by place.
 use mathlib.Core.Path.{_≡_, refl, sym, ap, ap₂, _∙_, subst}
-use mathlib.Core.Bool.{Bool, true, false, cond, _&&_, _||_}
+use mathlib.Core.Bool.{Bool, true, false, cond, not, _&&_, _||_}
 use mathlib.Core.Option.{Option, none, some}
 use mathlib.Core.Logic.{_⊎_, ⊎-elim}
 use mathlib.Core.List.{List, [], _∷_}
@@ -11,7 +11,7 @@ use native.Mathlib.Nat.{zero-add}
 use lib.Dec.{ltb, eqb}
 use lib.ListN.{length, drop, getD, getElem?, drop-of-length-le}
 use lib.Seq.{drop-cons}
-use borrow.Author.Tests.{ltb-true, le-leb, lt-leb, ne-eqb}
+use borrow.Author.Tests.{ltb-true, le-leb, lt-leb, ne-eqb, not-true, not-false}
 use Rattle.model.specs.Order.{Text}
 use Rattle.model.proofs.Cases.{and-true, and-false}
 use Rattle.ontology.specs.Table.{Property, EventType, isMatch, atPlace}
@@ -163,26 +163,20 @@ pub record ShapeTo (count : ℕ) (ps : List ℕ) (objects : ℕ) (ats : List ℕ
   pub few : matches ≤ 32
   shape : Shaped count ps objects ats (λ t x. Shape t x left matches k)
 
--- place k has a property; its property p and its set v are taken from the numbers
-pub record PlaceIs (count : ℕ) (ps ats : List ℕ) (k : ℕ) (p : PropertyAt) (v : SetAt) : Type 0 where
-  pub inside : k < 32
-  pub there : ltb k count ≡ true
-  pub property : p ≡ propertyIn ps k
-  pub set : v ≡ setIn ats k
-
 pub shape-none : {count : ℕ} {ps : List ℕ} {objects : ℕ} {ats : List ℕ} → ShapeTo count ps objects ats objects 0 0
 shape-none = record { few = omega arith; shape = λ table event t x are is n. record { each = refl; count = omega arith; objects = n } }
 
 module _ {count : ℕ} {ps : List ℕ} {objects : ℕ} {ats : List ℕ} {left matches k : ℕ} (w : ShapeTo count ps objects ats left matches k) where
-  module _ {p : PropertyAt} {v : SetAt} (here : PlaceIs count ps ats k p v) where
+  -- place k has a property; its property p and its set v are taken from the numbers
+  module _ {p : PropertyAt} {v : SetAt} (inside : k < 32) (there : ltb k count ≡ true) (property : p ≡ propertyIn ps k) (set : v ≡ setIn ats k) where
     set-count : {event : List ℕ} {xs : List (List Text)} → SetsAre event xs ats → v .count ≡ length (getD xs k [])
-    set-count is = ap (λ (y : SetAt). y .count) (here .set) ∙ is .each k (here .inside) .count
+    set-count is = ap (λ (y : SetAt). y .count) set ∙ is .each k inside .count
 
     place-inside : {event : List ℕ} {xs : List (List Text)} → SetsAre event xs ats → k < length xs
-    place-inside is = omega (arith, here .inside, is .long)
+    place-inside is = omega (arith, inside, is .long)
 
     property-read : {s : List ℕ} {q : Property} → PropertyIs s q (propertyIn ps k) → PropertyIs s q p
-    property-read {s} {q} is = subst (PropertyIs s q) (sym (here .property)) is
+    property-read {s} {q} is = subst (PropertyIs s q) (sym property) is
 
     pub shape-few : left < v .count → Shaped count ps objects ats (λ t x. false ≡ eventShape t x)
     shape-few l table event t x are is n =
@@ -194,15 +188,15 @@ module _ {count : ℕ} {ps : List ℕ} {objects : ℕ} {ats : List ℕ} {left ma
       fit-next table event t x are is n =
           let vs = getD (x .sets) k [] in
           let told =
-          place-said table t count ps k (isEmpty vs) (λ q. setFits q vs) fits are (here .there)
+          place-said table t count ps k (isEmpty vs) (λ q. setFits q vs) fits are there
           (λ q i z. asked table q vs (property-read z) (set-count is)) in
           w .shape table event t x are is n .each
           ∙ each-step setFits isEmpty k (t .properties) (x .sets) (place-inside is)
           ∙ ap (λ (b : Bool). b && fitFrom t x (k + 1)) (sym told)
 
-      pub shape-not : fits ≡ false → Shaped count ps objects ats (λ t x. false ≡ eventShape t x)
+      pub shape-not : not fits ≡ true → Shaped count ps objects ats (λ t x. false ≡ eventShape t x)
       unfolding eventShape
-      shape-not e table event t x are is n = sym (rw (fit-next table event t x are is n, e))
+      shape-not e table event t x are is n = sym (rw (fit-next table event t x are is n, not-true fits e))
 
     -- and has so many match objects
     module _ {n : ℕ} (matched : n ≡ cond (hasMatch p) (v .count) 0) where
@@ -210,7 +204,7 @@ module _ {count : ℕ} {ps : List ℕ} {objects : ℕ} {ats : List ℕ} {left ma
       matches-next table event t x are is o =
           let vs = getD (x .sets) k [] in
           let told : n ≡ matchesAt (getElem? (t .properties) k) vs =
-          place-said table t count ps k 0 (λ q. cond (isMatch q) (length vs) 0) n are (here .there)
+          place-said table t count ps k 0 (λ q. cond (isMatch q) (length vs) 0) n are there
           (λ q i z. matched ∙ matches-are q vs (property-read z) (set-count is)) in
           omega (arith, w .shape table event t x are is o .count, match-step k (t .properties) (x .sets) (place-inside is), told)
 
@@ -222,11 +216,11 @@ module _ {count : ℕ} {ps : List ℕ} {objects : ℕ} {ats : List ℕ} {left ma
 
       pub shape-more :
           {fits : Bool} → ((s : List ℕ) (q : Property) (vs : List Text) → PropertyIs s q p → v .count ≡ length vs → fits ≡ setFits q vs) →
-          fits ≡ true → n ≤ 32 - matches → ShapeTo count ps objects ats (left - v .count) (matches + n) (k + 1)
-      shape-more asked e l = record {
+          not fits ≡ false → n ≤ 32 - matches → ShapeTo count ps objects ats (left - v .count) (matches + n) (k + 1)
+      shape-more {fits} asked e l = record {
         few = omega (arith, w .few);
         shape = λ table event t x are is o. record {
-          each = fit-next asked table event t x are is o ∙ ap (λ (b : Bool). b && fitFrom t x (k + 1)) e;
+          each = fit-next asked table event t x are is o ∙ ap (λ (b : Bool). b && fitFrom t x (k + 1)) (not-false fits e);
           count = omega (arith, matches-next table event t x are is o);
           objects = omega (arith, w .shape table event t x are is o .objects, objects-step k (x .sets) (place-inside is), set-count is);
         };

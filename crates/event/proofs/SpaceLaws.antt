@@ -1,13 +1,14 @@
 -- The laws of question 6, text by text and place by place.
 use mathlib.Core.Path.{_≡_, refl, sym, ap, _∙_}
-use mathlib.Core.Bool.{Bool, true, false, _&&_}
+use mathlib.Core.Bool.{Bool, true, false, not, _&&_}
 use mathlib.Core.Option.{Option, some}
-use mathlib.Core.Logic.{_⊎_, ⊎-elim}
+use mathlib.Core.Logic.{_⊎_, inl, inr, ⊎-elim}
 use mathlib.Core.List.{List, [], _∷_, map, flatten}
 use Prim.Native.Nat.{ℕ, _+_, _-_, _^_, _≤_, _<_}
 use native.Mathlib.Omega.{arith}
 use lib.Dec.{ltb, leb}
 use lib.ListN.{length, drop, getD, getElem?, length-append, length-drop, drop-of-length-le}
+use borrow.Author.Tests.{not-true, not-false, ltb-false}
 use Rattle.model.specs.Order.{Text}
 use Rattle.packed.specs.Parse.{fail}
 use Rattle.packed.specs.Packed.{text, readText, part}
@@ -162,13 +163,19 @@ module _ {s ats : List ℕ} {count : ℕ} {ps : List ℕ} {k : ℕ} (w : FitTo s
         ∙ each-step (λ p s. areInSpace (p .kind) s) (λ s. true) k (ty .properties) xs (omega (arith, a .inside, is .long))
         ∙ ap (λ (c : Bool). c && fitFrom ty xs (k + 1)) (sym (a .told u ty xs are kinds is))
 
-    pub fit-not : b ≡ false → Spoken s ats count ps (λ ty xs. false ≡ valuesFit ty xs)
-    fit-not e u ty xs are kinds is = sym (next u ty xs are kinds is ∙ ap (λ (c : Bool). c && fitFrom ty xs (k + 1)) e)
+    pub fit-not : not b ≡ true → Spoken s ats count ps (λ ty xs. false ≡ valuesFit ty xs)
+    fit-not e u ty xs are kinds is = sym (next u ty xs are kinds is ∙ ap (λ (c : Bool). c && fitFrom ty xs (k + 1)) (not-true b e))
 
-    pub fit-more : b ≡ true → FitTo s ats count ps (k + 1)
-    fit-more e = record { each = λ u ty xs are kinds is. next u ty xs are kinds is ∙ ap (λ (c : Bool). c && fitFrom ty xs (k + 1)) e }
+    pub fit-more : not b ≡ false → FitTo s ats count ps (k + 1)
+    fit-more e = record { each = λ u ty xs are kinds is. next u ty xs are kinds is ∙ ap (λ (c : Bool). c && fitFrom ty xs (k + 1)) (not-false b e) }
 
-  pub fit-end : (count ≤ k) ⊎ (32 ≤ k) → Spoken s ats count ps (λ ty xs. true ≡ valuesFit ty xs)
+  fit-end : (count ≤ k) ⊎ (32 ≤ k) → Spoken s ats count ps (λ ty xs. true ≡ valuesFit ty xs)
   fit-end past u ty xs are kinds is =
       let l : length (ty .properties) ≤ k = ⊎-elim (λ h. omega (arith, are .count)) (λ h. omega (arith, are .count, are .few)) past in
       sym (w .each u ty xs are kinds is ∙ rw (drop-of-length-le (ty .properties) l) (free (λ p s. areInSpace (p .kind) s) (drop k xs)))
+
+  pub fit-past : ltb k count ≡ false → Spoken s ats count ps (λ ty xs. true ≡ valuesFit ty xs)
+  fit-past h = fit-end (inl (ltb-false _ _ h))
+
+  pub fit-all : 32 ≤ k → Spoken s ats count ps (λ ty xs. true ≡ valuesFit ty xs)
+  fit-all h = fit-end (inr h)

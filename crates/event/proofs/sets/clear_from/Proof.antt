@@ -17,18 +17,6 @@ abbrev μ-loop : tie.MeasureT-loop
 inside : (c : tie.In-loop Inv-loop μ-loop) → 3 * c .before .loop .k + 2 < length (c .before .loop .sets)
 inside c = omega (arith, c .loop-test .taken, c .before .loop .inv .all)
 
-slice-write-sets-2 : tie.Need-slice-write-sets-2 Inv-loop μ-loop
-slice-write-sets-2 c = simp length-set (omega (arith, inside c))
-
-slice-write-sets-3 : tie.Need-slice-write-sets-3 Inv-loop μ-loop
-slice-write-sets-3 c = simp length-set (inside c)
-
-loop-again : tie.Need-loop-again Inv-loop μ-loop
-loop-again c = cleared-more (c .before .loop .inv) (c .loop-test .taken)
-
-returns : tie.Need-returns Inv-loop μ-loop
-returns c = cleared-all (c .before .loop .inv) (c .loop-test .left)
-
 pub clear-from-spec : {M : Type 1} → statement M
 clear-from-spec =
     tie.close
@@ -42,13 +30,13 @@ clear-from-spec =
     (λ c. search needs)
     (λ c. search needs)
     (λ c. search needs)
-    slice-write-sets-2
+    (λ c. simp length-set (omega (arith, inside c)))
     (λ c. search needs)
     (λ c. search needs)
     (λ c. search needs)
-    slice-write-sets-3
+    (λ c. simp length-set (inside c))
     (λ c. search needs)
     (λ c. search needs)
-    loop-again
+    (λ c. search cleared-more)
     (λ c. c .before .loop .inv .long)
-    returns)
+    (λ c. cleared-all (c .before .loop .inv) (c .loop-test .left)))
