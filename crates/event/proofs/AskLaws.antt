@@ -3,23 +3,26 @@ use mathlib.Core.Path.{_≡_, refl, sym, ap, _∙_, subst}
 use mathlib.Core.Bool.{Bool, true, false, not}
 use mathlib.Core.Option.{Option, none, some}
 use mathlib.Core.List.{List, [], _++_, append-assoc, map}
-use Prim.Native.Nat.{ℕ, _+_, _<_}
+use Prim.Native.Nat.{ℕ, _+_, _≤_, _<_}
 use native.Mathlib.Nat.{add-comm}
 use native.Mathlib.Omega.{arith}
-use lib.ListN.{getElem?}
+use lib.ListN.{length, getElem?}
 use borrow.Author.Tests.{not-true, not-false}
 use Rattle.model.specs.Order.{Text}
 use Rattle.model.proofs.Cases.{never}
 use Rattle.packed.specs.Parse.{fail, got}
 use Rattle.packed.specs.Packed.{number, text, readText, part}
 use Rattle.packed.proofs.LayoutLaws.{fail-got, text-read}
-use Rattle.packed.proofs.ReadLaws.{TextStops}
+use Rattle.packed.specs.code.Located.{textAt}
+use Rattle.packed.specs.declared.read.TextAt.{TextAt}
+use Rattle.packed.specs.declared.read.TextAt.the-variants as text-at
 use Rattle.replies.specs.Questions as questions
 use Rattle.replies.specs.Questions.{Asked, refused, accepted, ask, ensure}
 use Rattle.ontology.specs.Table.{EventType, Table, typeNamed}
 use Rattle.ontology.specs.TableLayout.{tableOf}
 use Rattle.ontology.specs.code.TypeIndex.{TypeIs, TypeSays, TableSays}
 use Rattle.ontology.specs.declared.tables.TableRead.{TableRead}
+use Rattle.ontology.specs.declared.types.TypeIndex.{TypeIndex}
 use Rattle.ontology.proofs.TypeIndexLaws.{TableGot, table-got, table-refused, type-absent, type-found, properties-rules}
 use Rattle.event.specs.Event.{Event, setAt}
 use Rattle.event.specs.EventLayout.{Counts, wide, eventOf, setsBytes, presenceBit, bitNumber, eventBytes}
@@ -27,6 +30,7 @@ use Rattle.event.specs.Head.{parentsBytes, headBytes}
 use Rattle.event.specs.EventQuestions.{eventShape, valuesFit, Typed, eventAsked}
 use Rattle.event.specs.Value.{Part, Lent, lentFrom, partOf, askedPart, valueCall}
 use Rattle.event.specs.code.EventIndex.{EventIs, ValueStands, ValueFound, EventReads, KindsAre, eventQuestions, EventAsked, asked, EventAnswers}
+use Rattle.event.proofs.AnswerLaws.{text-got, text-not}
 use Rattle.event.proofs.ShapeLaws.{Shaped}
 use Rattle.event.proofs.SpaceLaws.{Spoken}
 use Rattle.event.proofs.EventLayoutLaws.{event-was}
@@ -54,11 +58,12 @@ name-there counts s e h =
     let b : s ≡ t ++ (u ++ (p ++ (n ++ x))) = w .0 ∙ append-assoc (t ++ u ++ p) n x ∙ append-assoc (t ++ u) p (n ++ x) ∙ append-assoc t u (p ++ (n ++ x)) in
     (u ++ (p ++ (n ++ x)), ap readText b ∙ text-read (e .head .type) (u ++ (p ++ (n ++ x))) (w .1 .head .type))
 
-pub no-name-there : (counts : Counts) (s : List ℕ) (e : Event) → eventOf counts s ≡ some e → readText s ≡ fail → ⊥
-no-name-there counts s e h f = fail-got (sym f ∙ name-there counts s e h .1)
+module _ (counts : Counts) (s : List ℕ) (e : Event) (is-event : eventOf counts s ≡ some e) {r : TextAt} (told : r ≡ textAt s 0) where
+  pub no-name-there : r ≡ text-at.NoText → ⊥
+  no-name-there is = fail-got (sym (text-not s 0 told is) ∙ name-there counts s e is-event .1)
 
-pub name-part : (counts : Counts) (s : List ℕ) (e : Event) (a z : ℕ) → eventOf counts s ≡ some e → TextStops s 0 a z → part s a z ≡ e .head .type
-name-part counts s e a z h t = let g = sym (t .is) ∙ name-there counts s e h .1 in cc
+  pub name-part : {a z : ℕ} → r ≡ text-at.Text a z → part s a z ≡ e .head .type
+  name-part is = let g = sym (text-got told is .is) ∙ name-there counts s e is-event .1 in cc
 
 -- ---- what asking answers
 
@@ -137,7 +142,8 @@ module _ (event ats ps : List ℕ) (t : TableRead) (x : EventIndex) where
   questions-later table counts f g h = rw (f, g, h)
 
   met :
-      not (t .ok) ≡ false → not (x .ok) ≡ false → not (t .found) ≡ false → (table : List ℕ) (name : Text) (counts : Counts) → TableSays (tableOf table) table name ps t →
+      not (t .ok) ≡ false → not (x .ok) ≡ false → not (t .found) ≡ false →
+      (table : List ℕ) (name : Text) (counts : Counts) → TableSays (tableOf table) table name ps t →
       ((e : Event) → eventOf counts event ≡ some e → name ≡ e .head .type) → EventReads (eventOf counts event) event ats x → Met table counts
   met h k l table name counts says names reads =
       let g = table-got table name ps t says (not-false _ h) in
@@ -305,21 +311,36 @@ lent-is :
     _≡_ {A = Lent} (bytes, (at .0, start + at .1)) (lentFrom at x)
 lent-is {bytes} {start} at e = ap (λ (n : ℕ). (bytes, (at .0, n))) (add-comm start (at .1)) ∙ ap (lentFrom at) (sym e)
 
-module _ (at : ℕ × ℕ) where
-  pub lent-refused :
-      (table event : List ℕ) (place index : ℕ) (ps ats : List ℕ) (r : EventAsked) →
-      EventAnswers (eventQuestions wide table event) table event ps ats r → (r .number ≡ 0 → ⊥) →
-      _≡_ {A = Lent} ([], (at .0, 0 + at .1)) (lentFrom at (valueCall table event place index))
-  lent-refused table event place index ps ats r w h =
-      lent-is at (value-refused table event place index (r .number) (refused-is wide table event ps ats r w h))
+-- n is the answer on the table and on the event, whose index is x
+pub record Answered (table event ats : List ℕ) (x : EventIndex) (n : ℕ) : Type 0 where
+  ps : List ℕ
+  type : TypeIndex
+  is : EventAnswers (eventQuestions wide table event) table event ps ats (asked n type x)
 
-  module _ {table event ps ats : List ℕ} {r : EventAsked} (a : Accepted wide table event ps ats r) (place index : ℕ) where
-    pub lent-missing :
-        {v : ValueAt} → ValueFound event (a .e) place index v → v ≡ NoValue →
-        _≡_ {A = Lent} ([], (at .0, 0 + at .1)) (lentFrom at (valueCall table event place index))
-    lent-missing w e = lent-is at (value-missing table event place index ps ats r a (found-none event (a .e) place index e w))
+pub answered-by :
+    (table event ps ats : List ℕ) (name : Text) (t : TableRead) (x : EventIndex) (n : ℕ) → TableSays (tableOf table) table name ps t →
+    ((counts : Counts) (e : Event) → eventOf counts event ≡ some e → name ≡ e .head .type) → EventReads (eventOf wide event) event ats x →
+    Questioned event ats ps t x n → Answered table event ats x n
+answered-by table event ps ats name t x n says names reads asks =
+    record { ps = ps; type = t .index; is = asks table name wide says (names wide) reads }
 
-    pub lent-found :
-        {s z : ℕ} → ValueStands event (a .e) place index s z →
-        _≡_ {A = Lent} (part event s z, (at .0, s + at .1)) (lentFrom at (valueCall table event place index))
-    lent-found {s} {z} w = lent-is at (value-is table event place index ps ats r a s z w)
+module _ {table event ats : List ℕ} {x : EventIndex} {n : ℕ} (w : Answered table event ats x n) (place index : ℕ) where
+  pub lent-refused : (at : ℕ × ℕ) → (n ≡ 0 → ⊥) → _≡_ {A = Lent} ([], (at .0, 0 + at .1)) (lentFrom at (valueCall table event place index))
+  lent-refused at h = lent-is at (value-refused table event place index n (refused-is wide table event _ ats _ (w .is) h))
+
+  module _ (h : n ≡ 0) (v : ValueAt) (finds : (e : Event) → EventIs event e x ats → ValueFound event e place index v) where
+    a : Accepted wide table event (w .ps) ats (asked n (w .type) x)
+    a = accepted-is wide table event _ ats _ (w .is) h
+
+    found : ValueFound event (a .e) place index v
+    found = finds (a .e) (a .event-is)
+
+    pub lent-missing : (at : ℕ × ℕ) → v ≡ NoValue → _≡_ {A = Lent} ([], (at .0, 0 + at .1)) (lentFrom at (valueCall table event place index))
+    lent-missing at e = lent-is at (value-missing table event place index _ ats _ a (found-none event (a .e) place index e found))
+
+    module _ {s z : ℕ} (is : v ≡ Value s z) where
+      pub lent-inside : (s ≤ z) × (z ≤ length event)
+      lent-inside = let w = found-value is found in (w .order, w .within)
+
+      pub lent-found : (at : ℕ × ℕ) → _≡_ {A = Lent} (part event s z, (at .0, s + at .1)) (lentFrom at (valueCall table event place index))
+      lent-found at = lent-is at (value-is table event place index _ ats _ a s z (found-value is found))

@@ -62,13 +62,16 @@ module _ {bits : List Bool} {n k : ℕ} (w : BitsFrom bits n k) where
     pub bits-room : 2 * n + 1 < 8589934592
     bits-room = omega (arith, w .is, bits-least bits k, bits-below bits (w .long))
 
+    bits-more : {b : Bool} {m : ℕ} → getD bits (k - 1) false ≡ b → m ≡ bitOf b + 2 * n → BitsFrom bits m (k - 1)
+    bits-more h e = record { long = w .long; is = e ∙ ap (λ (b : Bool). bitOf b + 2 * n) (sym h) ∙ bits-step; within = omega (arith, w .within) }
+
     pub bits-set : getD bits (k - 1) false ≡ true → BitsFrom bits (2 * n + 1) (k - 1)
     unfolding bitOf
-    bits-set h = record { long = w .long; is = let e = ap bitOf h in omega (arith, e) ∙ bits-step; within = omega (arith, w .within) }
+    bits-set h = bits-more h (omega arith)
 
     pub bits-clear : getD bits (k - 1) false ≡ false → BitsFrom bits (2 * n) (k - 1)
     unfolding bitOf
-    bits-clear h = record { long = w .long; is = let e = ap bitOf h in omega (arith, e) ∙ bits-step; within = omega (arith, w .within) }
+    bits-clear h = bits-more h (omega arith)
 
 -- ---- an array of bits, filled place by place
 

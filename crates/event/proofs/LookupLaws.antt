@@ -15,20 +15,22 @@ use Rattle.packed.specs.Parse.{fail, got}
 use Rattle.packed.specs.Packed.{number, readNumber, text, readText, part}
 use Rattle.packed.specs.code.Located.{numberAt, textAt}
 use Rattle.packed.specs.declared.read.NumberAt.{NumberAt}
-use Rattle.packed.specs.declared.read.NumberAt.the-variants.{Number}
+use Rattle.packed.specs.declared.read.NumberAt.the-variants.{Number, NoNumber}
 use Rattle.packed.specs.declared.read.TextAt.{TextAt}
 use Rattle.packed.specs.declared.read.TextAt.the-variants as text-at
 use Rattle.packed.proofs.LayoutLaws.{fail-got, number-read, text-read, text-length}
 use Rattle.packed.proofs.ReadLaws.{part-length, NumberStops, TextStops, stretch}
+use Rattle.ontology.proofs.RunLaws.{no-element}
 use Rattle.event.specs.Event.{Event, setAt}
 use Rattle.event.specs.EventLayout.{setBytes, setsBytes, presenceBit, bitNumber}
 use Rattle.event.specs.Head.{headBytes}
 use Rattle.event.specs.Value.{bytesBefore}
-use Rattle.event.specs.code.EventIndex.{EventIs, present, Skipped, TextsSkipped, SetsSkipped, ValueStands}
-use Rattle.event.proofs.AnswerLaws.{number-got, text-got}
+use Rattle.event.specs.code.EventIndex.{EventIs, setIn, present, Skipped, TextsSkipped, SetsSkipped, ValueStands}
+use Rattle.event.proofs.AnswerLaws.{number-got, number-not, text-got, text-not}
 use Rattle.event.proofs.EventLayoutLaws.{presence-small}
 use Rattle.event.proofs.SetLaws.{texts-long}
 use Rattle.event.specs.declared.read.EventIndex.{EventIndex}
+use Rattle.event.specs.declared.sets.SetAt.{SetAt}
 
 -- ---- the next number and the next text
 
@@ -256,42 +258,51 @@ element [] i d h = absurd (omega arith)
 element (x ∷ xs) zero d h = refl
 element (x ∷ xs) (suc i) d h = element xs i d (omega arith)
 
-pub no-place : (xs : List (List Text)) (place index : ℕ) → length xs ≤ place → getElem? (getD xs place []) index ≡ none
-no-place [] place index h = refl
-no-place (x ∷ xs) zero index h = absurd (omega arith)
-no-place (x ∷ xs) (suc place) index h = no-place xs place index (omega arith)
+none-past : (xs : List (List Text)) (place index : ℕ) → length xs ≤ place → getElem? (getD xs place []) index ≡ none
+none-past [] place index h = refl
+none-past (x ∷ xs) zero index h = absurd (omega arith)
+none-past (x ∷ xs) (suc place) index h = none-past xs place index (omega arith)
+
+-- where there is no such place, and where its set has no such value
+module _ {s : List ℕ} {e : Event} {x : EventIndex} {ats : List ℕ} (is : EventIs s e x ats) (place index : ℕ) where
+  pub no-place : 31 < place → getElem? (setAt e place) index ≡ none
+  no-place h = none-past (e .sets) place index (omega (arith, is .sets .long))
+
+  count-here : place ≤ 31 → {v : SetAt} → v ≡ setIn ats place → v .count ≡ length (setAt e place)
+  count-here h set = ap (λ (y : SetAt). y .count) set ∙ is .sets .each place (omega arith) .count
+
+  pub no-index : place ≤ 31 → {v : SetAt} → v ≡ setIn ats place → v .count ≤ index → getElem? (setAt e place) index ≡ none
+  no-index h set l = no-element (setAt e place) index (omega (arith, count-here h set))
 
 -- The value at a place and an index of an event: so many sets stand before the place's own, and skipping them ends at `at`
-pub record Wanted (s : List ℕ) (e : Event) (x : EventIndex) (ats : List ℕ) (place index below at : ℕ) : Type 0 where
-  pub small : length s < 2 ^ 64
-  pub is : EventIs s e x ats
-  pub place-inside : place < 32
-  pub inside : index < length (setAt e place)
-  pub ones-are : below ≡ ones (x .presence % 2 ^ place)
-  pub skip : SetsSkipped s (x .«after_presence») below at
+module _
+    {s : List ℕ} {e : Event} {x : EventIndex} {ats : List ℕ} {place index below at : ℕ} {v : SetAt}
+    (small : length s < 2 ^ 64) (is : EventIs s e x ats) (place-inside : place ≤ 31) (set : v ≡ setIn ats place) (some-there : index < v .count)
+    (ones-are : below ≡ ones (x .presence % 2 ^ place)) (skip : SetsSkipped s (x .«after_presence») below at) where
+  inside : index < length (setAt e place)
+  inside = omega (arith, count-here is place index place-inside set)
 
-module _ {s : List ℕ} {e : Event} {x : EventIndex} {ats : List ℕ} {place index below at : ℕ} (v : Wanted s e x ats place index below at) where
   long : place < length (e .sets)
-  long = omega (arith, v .is .sets .long, v .place-inside)
+  long = omega (arith, is .sets .long)
 
   skipped : Skipped s (x .«after_presence») (setsBytes (take place (e .sets))) (setsBytes (drop place (e .sets))) at
   unfolding setsBytes
   skipped =
-      v .skip (take place (e .sets)) (setsBytes (drop place (e .sets))) (v .is .rest ∙ flat-split setBytes place (e .sets)) (v .is .within)
-      (v .ones-are ∙ ap (λ (n : ℕ). ones (n % 2 ^ place)) (v .is .presence) ∙ ones-below place (e .sets))
+      skip (take place (e .sets)) (setsBytes (drop place (e .sets))) (is .rest ∙ flat-split setBytes place (e .sets)) (is .within)
+      (ones-are ∙ ap (λ (n : ℕ). ones (n % 2 ^ place)) (is .presence) ∙ ones-below place (e .sets))
 
   set-here : drop at s ≡ number (length (setAt e place)) ++ (flatten (map text (setAt e place)) ++ setsBytes (drop (suc place) (e .sets)))
   unfolding setsBytes flatten
   set-here =
       skipped .rest
       ∙ ap (λ (l : List (List Text)). setsBytes l) (drop-cons (e .sets) place [] long)
-      ∙ ap (λ (l : List ℕ). l ++ setsBytes (drop (suc place) (e .sets))) (set-bytes (setAt e place) (omega (arith, v .inside)))
+      ∙ ap (λ (l : List ℕ). l ++ setsBytes (drop (suc place) (e .sets))) (set-bytes (setAt e place) (omega (arith, inside)))
       ∙ append-assoc (number (length (setAt e place))) (flatten (map text (setAt e place))) (setsBytes (drop (suc place) (e .sets)))
 
   few : length (setAt e place) < 2 ^ 64
   few = omega (
     arith,
-    v .small,
+    small,
     texts-long (setAt e place),
     length-drop at s,
     ap length set-here,
@@ -299,12 +310,14 @@ module _ {s : List ℕ} {e : Event} {x : EventIndex} {ats : List ℕ} {place ind
     length-append (flatten (map text (setAt e place))) (setsBytes (drop (suc place) (e .sets))),
   )
 
-  pub value-no-count : readNumber (drop at s) ≡ fail → ⊥
-  value-no-count f = number-there s (v .small) at (skipped .within) (length (setAt e place)) _ few set-here f
+  pub value-no-count : {r : NumberAt} → r ≡ numberAt s at → r ≡ NoNumber → getElem? (setAt e place) index ≡ none
+  value-no-count h k = absurd (number-there s small at (skipped .within) (length (setAt e place)) _ few set-here (number-not s at h k))
 
-  module _ {n start to : ℕ} (m : NumberStops s at n start) (skip-texts : TextsSkipped s start index to) where
+  module _
+      {n start to : ℕ} {r : NumberAt} (told : r ≡ numberAt s at) (number-is : r ≡ Number n start) (skip-texts : TextsSkipped s start index to)
+      {o : TextAt} (text-told : o ≡ textAt s to) where
     counted : Skipped s at (number (length (setAt e place))) (flatten (map text (setAt e place)) ++ setsBytes (drop (suc place) (e .sets))) start
-    counted = number-next s (v .small) at (skipped .within) (length (setAt e place)) _ few set-here n start m .1
+    counted = number-next s small at (skipped .within) (length (setAt e place)) _ few set-here n start (number-got told number-is) .1
 
     passed :
         Skipped s start (flatten (map text (take index (setAt e place))))
@@ -314,29 +327,30 @@ module _ {s : List ℕ} {e : Event} {x : EventIndex} {ats : List ℕ} {place ind
         (counted .rest ∙ ap (λ (l : List ℕ). l ++ setsBytes (drop (suc place) (e .sets))) (flat-split text index (setAt e place))
         ∙ append-assoc (flatten (map text (take index (setAt e place)))) (flatten (map text (drop index (setAt e place))))
         (setsBytes (drop (suc place) (e .sets))))
-        (counted .within) (sym (length-take-le index (setAt e place) (omega (arith, v .inside))))
+        (counted .within) (sym (length-take-le index (setAt e place) (omega (arith, inside))))
 
     value-here :
         drop to s ≡ text (getD (setAt e place) index []) ++ (flatten (map text (drop (suc index) (setAt e place))) ++ setsBytes (drop (suc place) (e .sets)))
     unfolding flatten
     value-here =
         passed .rest
-        ∙ ap (λ (l : List Text). flatten (map text l) ++ setsBytes (drop (suc place) (e .sets))) (drop-cons (setAt e place) index [] (v .inside))
+        ∙ ap (λ (l : List Text). flatten (map text l) ++ setsBytes (drop (suc place) (e .sets))) (drop-cons (setAt e place) index [] inside)
         ∙ append-assoc (text (getD (setAt e place) index [])) (flatten (map text (drop (suc index) (setAt e place)))) (setsBytes (drop (suc place) (e .sets)))
 
-    pub value-no-text : readText (drop to s) ≡ fail → ⊥
-    value-no-text f = text-there s (v .small) to (passed .within) (getD (setAt e place) index []) _ value-here f
+    pub value-no-text : o ≡ text-at.NoText → getElem? (setAt e place) index ≡ none
+    value-no-text k = absurd (text-there s small to (passed .within) (getD (setAt e place) index []) _ value-here (text-not s to text-told k))
 
-    pub value-stands : {a z : ℕ} → TextStops s to a z → ValueStands s e place index a z
+    pub value-stands : {a z : ℕ} → o ≡ text-at.Text a z → ValueStands s e place index a z
     unfolding bytesBefore
-    value-stands {a} {z} t =
-        let b = text-next s (v .small) to (passed .within) (getD (setAt e place) index []) _ value-here a z t in
+    value-stands {a} {z} k =
+        let t = text-got text-told k in
+        let b = text-next s small to (passed .within) (getD (setAt e place) index []) _ value-here a z t in
         let f : x .«after_presence» ≡ length (headBytes (e .head)) + length (number (x .presence)) =
-        sym (length-take-le (x .«after_presence») s (v .is .within)) ∙ ap length (v .is .front)
+        sym (length-take-le (x .«after_presence») s (is .within)) ∙ ap length (is .front)
         ∙ length-append (headBytes (e .head)) (number (x .presence)) in
-        let g : length (number (x .presence)) ≡ length (number (bitNumber (map presenceBit (e .sets)))) = ap (λ (n : ℕ). length (number n)) (v .is .presence) in
+        let g : length (number (x .presence)) ≡ length (number (bitNumber (map presenceBit (e .sets)))) = ap (λ (n : ℕ). length (number n)) (is .presence) in
         record {
-          some = element (setAt e place) index [] (v .inside) ∙ ap some (sym (b .0));
+          some = element (setAt e place) index [] inside ∙ ap some (sym (b .0));
           start = simp length-append (omega (arith, b .1, passed .far, counted .far, skipped .far, f, g));
           order = t .order;
           within = t .within;

@@ -277,9 +277,15 @@ set-refused {p} s h w = subst (SetReads p s) h w
 
 -- ---- a place
 
-pub place-set : (bit : ℕ) (t : List ℕ) → bit ≡ 1 → readPlace bit t ≡ readSet t
+place-set : (bit : ℕ) (t : List ℕ) → bit ≡ 1 → readPlace bit t ≡ readSet t
 unfolding readPlace
 place-set bit t h = rw (eq-eqb bit 1 h)
+
+pub place-promised : (bit : ℕ) (t : List ℕ) {known : Bool} → bit ≡ 1 → Promised known (readPlace bit t) → Promised known (readSet t)
+place-promised bit t {known} h = subst (Promised known) (place-set bit t h)
+
+pub place-reads : (bit : ℕ) (t s : List ℕ) (r : SetRead) → bit ≡ 1 → SetReads (readSet t) s r → SetReads (readPlace bit t) s r
+place-reads bit t s r h = subst (λ (p : Parse (List Text)). SetReads p s r) (sym (place-set bit t h))
 
 pub place-clear :
     (bit : ℕ) (s : List ℕ) (at : ℕ) → (bit ≡ 1 → ⊥) → at ≤ length s →
@@ -305,14 +311,10 @@ place-clear bit s at h k =
 
 -- so many more places
 sets-step :
-    (n presence : ℕ) (t : List ℕ) (x : List Text) (r : List ℕ) → readPlace (presence % 2) t ≡ got x r →
-    readSets (suc n) presence t ≡ andThen (readSets n (presence / 2) r) (λ xs u. got (x ∷ xs) u)
+    (n presence : ℕ) (t : List ℕ) {p : Parse (List Text)} → readPlace (presence % 2) t ≡ p →
+    readSets (suc n) presence t ≡ andThen p (λ x r. andThen (readSets n (presence / 2) r) (λ xs u. got (x ∷ xs) u))
 unfolding readSets
-sets-step n presence t x r e = ap (λ (p : Parse (List Text)). andThen p (λ y o. andThen (readSets n (presence / 2) o) (λ xs u. got (y ∷ xs) u))) e
-
-sets-stop : (n presence : ℕ) (t : List ℕ) → readPlace (presence % 2) t ≡ fail → readSets (suc n) presence t ≡ fail
-unfolding readSets
-sets-stop n presence t e = ap (λ (p : Parse (List Text)). andThen p (λ y o. andThen (readSets n (presence / 2) o) (λ xs u. got (y ∷ xs) u))) e
+sets-step n presence t e = ap (λ (p : Parse (List Text)). andThen p (λ x r. andThen (readSets n (presence / 2) r) (λ xs u. got (x ∷ xs) u))) e
 
 -- where no bit is left, no place has objects
 sets-clear : (n : ℕ) (t : List ℕ) → readSets n 0 t ≡ got (replicate n []) t
@@ -418,7 +420,7 @@ module _ {p : Parse (List (List Text))} {s ats : List ℕ} {bits next objects k 
   sofar-bad h e =
       w .rest
       ∙ ap (λ (n : ℕ). prepend (w .xs) (readSets n bits (drop next s))) (sym (one-more h))
-      ∙ ap (prepend (w .xs)) (sets-stop (32 - (k + 1)) bits (drop next s) e)
+      ∙ ap (prepend (w .xs)) (sets-step (32 - (k + 1)) bits (drop next s) e)
 
   module _ {x : SetAt} {r : SetRead} (h : k < 32) (told : SetReads (readPlace (bits % 2) (drop next s)) s r) (is : r ≡ Found x) where
     t : SetStops (readPlace (bits % 2) (drop next s)) s x
@@ -458,7 +460,7 @@ module _ {p : Parse (List (List Text))} {s ats : List ℕ} {bits next objects k 
       rest =
           w .rest
           ∙ ap (λ (n : ℕ). prepend (w .xs) (readSets n bits (drop next s))) (sym (one-more h))
-          ∙ ap (prepend (w .xs)) (sets-step (32 - (k + 1)) bits (drop next s) (t .what) (drop (x .end) s) (t .is))
+          ∙ ap (prepend (w .xs)) (sets-step (32 - (k + 1)) bits (drop next s) (t .is))
           ∙ prepend-one (w .xs) (t .what) (readSets (32 - (k + 1)) (bits / 2) (drop (x .end) s));
       within = t .stands .within;
       summed = omega (arith, w .summed, t .stands .count, objects-append (w .xs) (t .what ∷ []), objects-one (t .what));
