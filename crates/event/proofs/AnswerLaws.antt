@@ -2,7 +2,8 @@
 use mathlib.Core.Path.{_≡_, sym, ap, _∙_}
 use mathlib.Core.Bool.{Bool, true, false, not, _&&_}
 use mathlib.Core.List.{List}
-use Prim.Native.Nat.{ℕ, _≤_}
+use Prim.Native.Nat.{ℕ, _-_, _≤_, _<_}
+use native.Mathlib.Omega.{arith}
 use lib.ListN.{length, drop}
 use borrow.Author.Tests.{not-true, not-false}
 use Rattle.packed.specs.Parse.{fail}
@@ -33,6 +34,9 @@ text-order s at h k = text-got h k .order
 
 pub text-within : (s : List ℕ) (at : ℕ) {a e : ℕ} {r : TextAt} → r ≡ textAt s at → r ≡ Text a e → e ≤ length s
 text-within s at h k = text-got h k .within
+
+pub text-less : (s : List ℕ) (at : ℕ) {a e : ℕ} {r : TextAt} → r ≡ textAt s at → r ≡ Text a e → at < length s → length s - e < length s - at
+text-less s at h k l = let t = text-got h k in omega (arith, t .after, t .order, t .within)
 
 pub text-not : (s : List ℕ) (at : ℕ) {r : TextAt} → r ≡ textAt s at → r ≡ NoText → readText (drop at s) ≡ fail
 text-not s at h e = text-none s at (sym h ∙ e)

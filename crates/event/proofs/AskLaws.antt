@@ -10,7 +10,7 @@ use lib.ListN.{length, getElem?}
 use borrow.Author.Tests.{not-true, not-false}
 use Rattle.model.specs.Order.{Text}
 use Rattle.model.proofs.Cases.{never}
-use Rattle.packed.specs.Parse.{fail, got}
+use Rattle.packed.specs.Parse.{got}
 use Rattle.packed.specs.Packed.{number, text, readText, part}
 use Rattle.packed.proofs.LayoutLaws.{fail-got, text-read}
 use Rattle.packed.specs.code.Located.{textAt}

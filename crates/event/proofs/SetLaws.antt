@@ -21,7 +21,7 @@ use Rattle.packed.specs.declared.read.TextAt.{TextAt}
 use Rattle.packed.specs.declared.read.TextAt.the-variants as text-at
 use Rattle.packed.specs.Packed.{number, readNumber, text, readText, part}
 use Rattle.packed.proofs.LayoutLaws.{lt-or-ge, andThen-got, foundIf-got, times-was, text-read, text-was, text-length, number-was, number-bounds}
-use Rattle.packed.proofs.ReadLaws.{NumberStops, TextStops, stretch}
+use Rattle.packed.proofs.ReadLaws.{NumberStops, stretch}
 pub use Rattle.ontology.proofs.RunLaws.{prepend}
 use Rattle.ontology.proofs.RunLaws.{prepend-nil, prepend-one}
 use Rattle.ontology.proofs.TripleLaws.{putThree, three-long, three-first, three-second, three-third, three-zero, three-other}

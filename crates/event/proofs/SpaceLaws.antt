@@ -10,9 +10,11 @@ use lib.Dec.{ltb, leb}
 use lib.ListN.{length, drop, getD, getElem?, length-append, length-drop, drop-of-length-le}
 use borrow.Author.Tests.{not-true, not-false, ltb-false}
 use Rattle.model.specs.Order.{Text}
-use Rattle.packed.specs.Parse.{fail}
-use Rattle.packed.specs.Packed.{text, readText, part}
-use Rattle.packed.proofs.ReadLaws.{TextStops, part-length}
+use Rattle.packed.specs.Packed.{text, part}
+use Rattle.packed.specs.code.Located.{textAt}
+use Rattle.packed.specs.declared.read.TextAt.{TextAt}
+use Rattle.packed.specs.declared.read.TextAt.the-variants as text-at
+use Rattle.packed.proofs.ReadLaws.{part-length}
 use Rattle.packed.proofs.LayoutLaws.{text-length, number-bounds}
 use Rattle.values.specs.Spaces.{Kind, string, isKind, inSpace}
 use Rattle.values.specs.code.KindNumbers.{kindOf}
@@ -25,6 +27,7 @@ use Rattle.ontology.specs.code.TypeIndex.{KindIs, propertyIn, PropertiesAre}
 use Rattle.event.specs.EventQuestions.{eachPlace, areInSpace, valuesFit}
 use Rattle.event.specs.code.EventIndex.{SetIs, setIn, SetsAre, KindsAre}
 use Rattle.event.specs.declared.sets.SetAt.{SetAt}
+use Rattle.event.proofs.AnswerLaws.{text-got, text-not}
 use Rattle.event.proofs.SetLaws.{set-read}
 use Rattle.event.proofs.LookupLaws.{text-there, text-next}
 use Rattle.event.proofs.ShapeLaws.{place-said, each-step}
@@ -35,64 +38,70 @@ kind-of k kind size after sign w = rw (w .number, w .size-is, w .after-is, w .si
 
 -- ---- texts
 
--- b is the answer on the texts from `at` on, of each kind that is spoken of
-abbrev SpaceFrom : {I : Type 0} → (I → Kind) → List ℕ → ℕ → Bool → Type 0
-SpaceFrom {I} kind v at b = (i : I) (vs : List Text) → drop at v ≡ flatten (map text vs) → b ≡ areInSpace (kind i) vs
+-- b is the answer on the texts from `at` on, of each kind that p is said of
+abbrev SpaceFrom : (Kind → Type 0) → List ℕ → ℕ → Bool → Type 0
+SpaceFrom p v at b = (k : Kind) (vs : List Text) → p k → drop at v ≡ flatten (map text vs) → b ≡ areInSpace k vs
 
 -- the answer on all of them is that on those from `at` on
-pub record SpaceTo {I : Type 0} (kind : I → Kind) (v : List ℕ) (at : ℕ) : Type 0 where
-  on : (b : Bool) → SpaceFrom kind v at b → SpaceFrom kind v 0 b
+pub record SpaceTo (p : Kind → Type 0) (v : List ℕ) (at : ℕ) : Type 0 where
+  on : (b : Bool) → SpaceFrom p v at b → SpaceFrom p v 0 b
 
-pub space-none : {I : Type 0} {kind : I → Kind} {v : List ℕ} → SpaceTo kind v 0
+pub space-none : {p : Kind → Type 0} {v : List ℕ} → SpaceTo p v 0
 space-none = record { on = λ b h. h }
 
-module _ {I : Type 0} {kind : I → Kind} {v : List ℕ} {at : ℕ} (w : SpaceTo kind v at) where
-  pub space-end : length v ≤ at → SpaceFrom kind v 0 true
+module _ {p : Kind → Type 0} {v : List ℕ} {at : ℕ} (w : SpaceTo p v at) where
+  pub space-end : length v ≤ at → SpaceFrom p v 0 true
   unfolding areInSpace flatten
   space-end h = w .on true here
     where
-      here : SpaceFrom kind v at true
-      here i [] d = refl
-      here i (u ∷ us) d =
+      here : SpaceFrom p v at true
+      here k [] q d = refl
+      here k (u ∷ us) q d =
           absurd (omega (arith, length-drop at v, ap length d, length-append (text u) (flatten (map text us)), text-length u, number-bounds (length u) .0))
 
-  module _ (small : length v < 2 ^ 64) (l : at < length v) where
-    pub space-bad : readText (drop at v) ≡ fail → SpaceFrom kind v 0 false
+  module _ (small : length v < 2 ^ 64) (l : at < length v) {r : TextAt} (told : r ≡ textAt v at) where
+    pub space-bad : r ≡ text-at.NoText → SpaceFrom p v 0 false
     unfolding flatten
     space-bad f = w .on false here
       where
-        here : SpaceFrom kind v at false
-        here i [] d = absurd (omega (arith, length-drop at v, ap length d))
-        here i (u ∷ us) d = absurd (text-there v small at (omega arith) u (flatten (map text us)) d f)
+        here : SpaceFrom p v at false
+        here k [] q d = absurd (omega (arith, length-drop at v, ap length d))
+        here k (u ∷ us) q d = absurd (text-there v small at (omega arith) u (flatten (map text us)) d (text-not v at told f))
 
-    module _ {a z : ℕ} (t : TextStops v at a z) where
-      -- the answer on the next text, and that on the others
+    -- b is the answer on the next text
+    module _ {a z : ℕ} (is : r ≡ text-at.Text a z) {b : Bool} (asked : (k : Kind) → p k → b ≡ inSpace k (part v a z)) where
+      -- and that on the others
       step :
-          {b : Bool} → ((i : I) → inSpace (kind i) (part v a z) ≡ b) → (i : I) (vs : List Text) → drop at v ≡ flatten (map text vs) →
-          (us : List Text) × (drop z v ≡ flatten (map text us)) × (areInSpace (kind i) vs ≡ (b && areInSpace (kind i) us))
+          (k : Kind) (vs : List Text) → p k → drop at v ≡ flatten (map text vs) →
+          (us : List Text) × (drop z v ≡ flatten (map text us)) × (areInSpace k vs ≡ (b && areInSpace k us))
       unfolding areInSpace flatten
-      step f i [] d = absurd (omega (arith, length-drop at v, ap length d))
-      step f i (u ∷ us) d =
-          let n = text-next v small at (omega arith) u (flatten (map text us)) d a z t in
-          (us, n .2 .rest, ap (λ (c : Bool). c && areInSpace (kind i) us) (sym (ap (inSpace (kind i)) (n .0)) ∙ f i))
+      step k [] q d = absurd (omega (arith, length-drop at v, ap length d))
+      step k (u ∷ us) q d =
+          let n = text-next v small at (omega arith) u (flatten (map text us)) d a z (text-got told is) in
+          (us, n .2 .rest, ap (λ (c : Bool). c && areInSpace k us) (sym (asked k q ∙ ap (inSpace k) (n .0))))
 
-      pub space-not : ((i : I) → inSpace (kind i) (part v a z) ≡ false) → SpaceFrom kind v 0 false
-      space-not f = w .on false λ i vs d. sym (step f i vs d .2)
+      pub space-not : not b ≡ true → SpaceFrom p v 0 false
+      space-not f = w .on false λ k vs q d. let n = step k vs q d in sym (n .2 ∙ ap (λ (c : Bool). c && areInSpace k (n .0)) (not-true b f))
 
-      pub space-more : ((i : I) → inSpace (kind i) (part v a z) ≡ true) → SpaceTo kind v z
-      space-more f = record { on = λ b g. w .on b λ i vs d. let n = step f i vs d in g i (n .0) (n .1) ∙ sym (n .2) }
+      pub space-more : not b ≡ false → SpaceTo p v z
+      space-more f = record {
+        on = λ o g. w .on o λ k vs q d.
+            let n = step k vs q d in
+            g k (n .0) q (n .1) ∙ sym (n .2 ∙ ap (λ (c : Bool). c && areInSpace k (n .0)) (not-false b f));
+      }
 
 -- a kind that has these numbers
-abbrev pub KindHere : ℕ → ℕ → ℕ → ℕ → Type 0
-KindHere kind size after sign = (k : Kind) × (kindOf kind size after sign ≡ some k) × (isKind k ≡ true)
+abbrev pub KindHere : ℕ → ℕ → ℕ → ℕ → Kind → Type 0
+KindHere kind size after sign k = (kindOf kind size after sign ≡ some k) × (isKind k ≡ true)
 
 -- a text without a byte above 7F is told by its length
 pub short-fits :
-    {v : List ℕ} {at a z : ℕ} (most : ℕ) {b : Bool} → TextStops v at a z → AllLow v →
-    b ≡ (leb 1 (z - a) && leb (z - a) 120 && leb (z - a) most) → b ≡ inSpace (string most) (part v a z)
-short-fits {v} {a} {z} most t low e =
+    (v : List ℕ) (at : ℕ) {a z most : ℕ} {r : TextAt} {b : Bool} → r ≡ textAt v at → r ≡ text-at.Text a z →
+    b ≡ (leb 1 (z - a) && leb (z - a) 120 && leb (z - a) most) → (k : Kind) → (k ≡ string most) × AllLow v → b ≡ inSpace k (part v a z)
+short-fits v at {a} {z} {most} h is e k q =
+    let t = text-got h is in
     e ∙ ap (λ (n : ℕ). leb 1 n && leb n 120 && leb n most) (sym (part-length v a z (t .order) (t .within)))
-    ∙ short-string most _ (low-part v _ _ (t .order) (t .within) low)
+    ∙ short-string most _ (low-part v _ _ (t .order) (t .within) (q .1)) ∙ ap (λ (x : Kind). inSpace x (part v a z)) (sym (q .0))
 
 -- ---- places
 
