@@ -12,7 +12,7 @@ use Rattle.model.specs.Order.{Text}
 use Rattle.packed.specs.Packed.{number, text, part}
 use Rattle.packed.specs.code.Written.{Wrote, ToGo}
 use Rattle.packed.proofs.ReadLaws.{part-join}
-use Rattle.packed.proofs.WriteLaws.{to-go, to-go-as, gone, gone-to, all-gone, wrote-as, wrote-then}
+use Rattle.packed.proofs.WriteLaws.{to-go, to-go-as, gone, gone-to, all-gone, wrote-as, wrote-then, wrote-length}
 use Rattle.event.specs.EventLayout.{presenceBit, bitNumber, setBytes, setsBytes}
 use Rattle.event.specs.code.EventIndex.{countSize, SetIs, setIn, SetsAre}
 use Rattle.event.specs.code.SetWriting.{SetRoom, placeBytes, presentBytes, PresentRoom, runBytes, RunIs, RunRoom}
@@ -145,8 +145,11 @@ module _ {s ats l₀ : List ℕ} {at presence : ℕ} {l : List ℕ} {r : Run} {b
     here : RunTo s l₀ at presence (p .values) l r bits k
     here = w .each (p .values) (p .are)
 
-    pub runs-long : length l ≡ length l₀
+    runs-long : length l ≡ length l₀
     runs-long = here .to-write .long
+
+    pub copied-long : {l₁ : List ℕ} {end : ℕ} → Wrote l (r .to) (runBytes s r) l₁ end → length l₁ ≡ length l₀
+    copied-long o = wrote-length o ∙ runs-long
 
     room : r .to + length (runBytes s r) ≤ length l
     room = omega (arith, p .room, here .to-write .after, runs-long, length-append (runBytes s r) (presentBytes bits (drop k (p .values))))

@@ -1,12 +1,10 @@
 -- `write::write_sets` meets its contract: the invariant says that the places below k are written but for the run, which is copied at the end.
 use borrow.Author.Needs.{needs}
-use mathlib.Core.Path.{_∙_}
 use mathlib.Core.Logic.{inl, inr, ⊎-elim}
 use Prim.Native.Nat.{_-_}
 use native.Mathlib.Omega.{arith}
 use borrow.Author.Tests.{ltb-false}
-use Rattle.packed.proofs.WriteLaws.{wrote-length}
-use Rattle.event.proofs.SetWriteLaws.{RunsTo, runs-none, runs-same, runs-copy, runs-room, runs-long, runs-over, runs-more, runs-last}
+use Rattle.event.proofs.SetWriteLaws.{RunsTo, runs-none, runs-same, runs-copy, runs-room, copied-long, runs-over, runs-more, runs-last}
 use Rattle.event.proofs.write.write_sets.Statement.{statement}
 use Rattle.event.proofs.write.write_sets.Tie as tie
 
@@ -15,22 +13,6 @@ Inv-loop s sets presence out₀ at run₀ bits₀ k₀ out run bits k = RunsTo s
 
 abbrev μ-loop : tie.MeasureT-loop
 μ-loop s sets presence out₀ at run₀ bits₀ k₀ out run bits k = 32 - k
-
--- ---- the places
-
-abbrev to-start : tie.At-loop Inv-loop μ-loop → tie.Start Inv-loop μ-loop
-to-start c = c .before .before .before .before
-
--- ---- the needs
-
-set-at-requires : tie.Need-set-at-requires Inv-loop μ-loop
-set-at-requires c κs = (to-start (c .before .before .before) .pre .0, omega arith)
-
-with-set-requires : tie.Need-with-set-requires Inv-loop μ-loop
-with-set-requires c κs =
-    let odd = c .before .before .before in
-    let l = odd .before .before in
-    runs-room (l .loop .inv) (to-start l .pre .1) (odd .before .loop-test .taken) (c .before .set-at .ensures)
 
 loop-again : tie.Need-loop-again Inv-loop μ-loop
 loop-again c =
@@ -43,13 +25,7 @@ loop-again c =
     (c .if2 .came)
 
 copy-part-requires : tie.Need-copy-part-requires Inv-loop μ-loop
-copy-part-requires c κs = let l = c .before .before in runs-copy (l .loop .inv) (to-start l .pre .1)
-
-same-length : tie.Need-same-length Inv-loop μ-loop
-same-length c =
-    let copied = c .before .before in
-    let l = copied .before .before .before in
-    wrote-length (copied .copy-part .ensures) ∙ runs-long (l .loop .inv) (to-start l .pre .1)
+copy-part-requires c κs = let start : tie.Start Inv-loop μ-loop = search in runs-copy (c .before .before .loop .inv) (start .pre .1)
 
 returns : tie.Need-returns Inv-loop μ-loop
 returns c =
@@ -65,11 +41,11 @@ write-sets-spec =
     Inv-loop
     μ-loop
     (λ c. runs-none)
-    set-at-requires
-    with-set-requires
+    (λ c κs. search arith)
+    (λ c κs. search runs-room)
     (λ c. search needs)
     (λ c. search needs)
     loop-again
     copy-part-requires
-    same-length
+    (λ c. search copied-long)
     returns)
