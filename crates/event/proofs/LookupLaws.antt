@@ -43,10 +43,10 @@ module _ (s : List ℕ) (small : length s < 2 ^ 64) (at : ℕ) (within : at ≤ 
     there : readNumber (drop at s) ≡ got n r
     there = ap readNumber h ∙ number-read n r fits
 
-    pub number-there : readNumber (drop at s) ≡ fail → ⊥
+    number-there : readNumber (drop at s) ≡ fail → ⊥
     number-there e = fail-got (sym e ∙ there)
 
-    pub number-next : (m to : ℕ) → NumberStops s at m to → (m ≡ n) × Skipped s at (number n) r to
+    number-next : (m to : ℕ) → NumberStops s at m to → (m ≡ n) × Skipped s at (number n) r to
     number-next m to w =
         let g : got m (drop to s) ≡ got n r = sym (w .is) ∙ there in
         let a : drop to s ≡ r = cc in
@@ -235,7 +235,7 @@ bits-below (suc k) (x ∷ xs) =
     digit (presenceBit x) (bitNumber (map presenceBit xs)) k (presence-small x) ∙ ap (λ (m : ℕ). presenceBit x + 2 * m) (bits-below k xs)
 
 -- the ones below a place are the sets before the place's own
-pub ones-below : (k : ℕ) (xs : List (List Text)) → ones (bitNumber (map presenceBit xs) % 2 ^ k) ≡ present (take k xs)
+ones-below : (k : ℕ) (xs : List (List Text)) → ones (bitNumber (map presenceBit xs) % 2 ^ k) ≡ present (take k xs)
 ones-below k xs = ap ones (bits-below k xs) ∙ ones-bits (take k xs)
 
 -- ---- the value

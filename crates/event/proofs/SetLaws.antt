@@ -146,7 +146,7 @@ module _ {p : Layout Text} {q : Parse (List Text)} {s : List ℕ} {from to left 
           go Ordering·gt b (got ws r) = refl
 
       -- where they are promised, the next one comes after
-      pub rising-promised : {known : Bool} → Promised known q → known ≡ true → precedes (part s from to) u ≡ true
+      rising-promised : {known : Bool} → Promised known q → known ≡ true → precedes (part s from to) u ≡ true
       rising-promised m k = go (precedes (part s from to) u) refl
         where
           go : (b : Bool) → precedes (part s from to) u ≡ b → b ≡ true
@@ -269,7 +269,7 @@ module _ (s : List ℕ) (at : ℕ) {count start : ℕ} {r : NumberAt} (told : r 
           }
 
 -- what is known of a call's answer in the arm of a `match`
-pub set-reads : {p : Parse (List Text)} {s : List ℕ} {r : SetRead} {x : SetAt} → r ≡ Found x → SetReads p s r → SetStops p s x
+set-reads : {p : Parse (List Text)} {s : List ℕ} {r : SetRead} {x : SetAt} → r ≡ Found x → SetReads p s r → SetStops p s x
 set-reads {p} {s} h w = subst (SetReads p s) h w
 
 pub set-refused : {p : Parse (List Text)} (s : List ℕ) {r : SetRead} → r ≡ NoSet → SetReads p s r → p ≡ fail
@@ -443,7 +443,7 @@ module _ {p : Parse (List (List Text))} {s ats : List ℕ} {bits next objects k 
             rw (set-other ats k x i ne, getD-other [] (w .xs) (t .what) i (λ q. ne (q ∙ w .long))) (w .each i (omega (arith, ne)))
 
     -- the objects of a set are no more than its bytes
-    pub few-more : objects + x .count ≤ x .end
+    few-more : objects + x .count ≤ x .end
     few-more =
         let b = set-was (bits % 2) (drop next s) (t .what) (drop (x .end) s) (omega arith) (t .is) .bytes in
         let l = stretch s (setBytes (t .what)) next (x .end) (w .within) (t .stands .within) b in
