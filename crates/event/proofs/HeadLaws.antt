@@ -218,9 +218,10 @@ module _ (most : ℕ) (s : List ℕ) {a e : ℕ} {r : TextAt} (name-told : r ≡
       pub parents-not : readParents most (drop f s) ≡ fail → readHead most s ≡ fail
       parents-not g = step ∙ rw (told-yes asked right, g)
 
-      head-of :
-          {x : SetAt} → ParentsStop (readParents most (drop f s)) s x →
-          HeadStops (readHead most s) s (record { name = record { start = a; end = e }; source = record { start = b; end = f }; parents = x })
+      abbrev head-at : SetAt → HeadAt
+      head-at x = record { name = record { start = a; end = e }; source = record { start = b; end = f }; parents = x }
+
+      head-of : {x : SetAt} → ParentsStop (readParents most (drop f s)) s x → HeadStops (readHead most s) s (head-at x)
       head-of p = record {
         what = record { type = part s a e; source = part s b f; parents = p .what };
         is = step ∙ rw (told-yes asked right, p .is);
@@ -233,7 +234,7 @@ module _ (most : ℕ) (s : List ℕ) {a e : ℕ} {r : TextAt} (name-told : r ≡
 
       pub head-found :
           {x : SetAt} {t : ParentsRead} → ParentsReads (readParents most (drop f s)) s t → t ≡ Parents x →
-          HeadStops (readHead most s) s (record { name = record { start = a; end = e }; source = record { start = b; end = f }; parents = x })
+          HeadStops (readHead most s) s (head-at x)
       head-found h k = head-of (parents-reads k h)
 
 -- ---- the parts of a head, where they stand
