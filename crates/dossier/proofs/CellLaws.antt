@@ -106,11 +106,6 @@ pub record MatchesLeft (count : ℕ) (ps ats : List ℕ) (left k : ℕ) : Type 0
 pub matches-none : (count : ℕ) (ps ats : List ℕ) → MatchesLeft count ps ats 32 0
 matches-none count ps ats = record { is = λ s u qs xs w v. refl }
 
--- by the n match objects of place k
-pub record MatchesBy (count : ℕ) (ps ats : List ℕ) (left k n : ℕ) : Type 0 where
-  pub large : left < n → MatchesFew count ps ats false
-  pub small : n ≤ left → MatchesLeft count ps ats (left - n) (k + 1)
-
 module _ {count : ℕ} {ps ats : List ℕ} {left k : ℕ} (l : MatchesLeft count ps ats left k) where
   pub matches-all : count ≤ k → MatchesFew count ps ats true
   unfolding matchCount
@@ -118,6 +113,7 @@ module _ {count : ℕ} {ps ats : List ℕ} {left k : ℕ} (l : MatchesLeft count
       let past : length qs ≤ k = omega (arith, w .count) in
       sym (l .is s u qs xs w v ∙ rw (drop-of-length-le qs past) (le-leb 0 left (omega arith)))
 
+  -- by the n match objects of place k
   module _
       (h : k < count) {x : SetAt} (a : x ≡ setIn ats k) {p : PropertyAt} (b : p ≡ propertyIn ps k) {n : ℕ} (e : n ≡ cond (hasMatch p) (x .count) 0)
     where
@@ -133,14 +129,14 @@ module _ {count : ℕ} {ps ats : List ℕ} {left k : ℕ} (l : MatchesLeft count
           ∙ ap₂ (λ (b : Bool) (m : ℕ). cond b m 0) (match-of (w .each k (this .what) (this .is))) (v .each k few .count) in
           rw (this .split, drop-cons xs k [] inside, add-one, here)
 
-      pub matches-by : MatchesBy count ps ats left k n
-      matches-by = record {
-        large = λ m s u qs xs w v.
-            sym (l .is s u qs xs w v ∙ lt-leb (matchCount (drop k qs) (drop k xs)) left (omega (arith, split s u qs xs w v)));
-        small = λ m. record {
-          is = λ s u qs xs w v.
-              l .is s u qs xs w v
-              ∙ ap (λ (i : ℕ). leb i left) (split s u qs xs w v)
-              ∙ leb-sub n (matchCount (drop (k + 1) qs) (drop (k + 1) xs)) left m;
-        };
+      pub matches-over : left < n → MatchesFew count ps ats false
+      matches-over m s u qs xs w v =
+          sym (l .is s u qs xs w v ∙ lt-leb (matchCount (drop k qs) (drop k xs)) left (omega (arith, split s u qs xs w v)))
+
+      pub matches-more : n ≤ left → MatchesLeft count ps ats (left - n) (k + 1)
+      matches-more m = record {
+        is = λ s u qs xs w v.
+            l .is s u qs xs w v
+            ∙ ap (λ (i : ℕ). leb i left) (split s u qs xs w v)
+            ∙ leb-sub n (matchCount (drop (k + 1) qs) (drop (k + 1) xs)) left m;
       }

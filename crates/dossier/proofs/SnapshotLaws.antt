@@ -21,8 +21,11 @@ use Rattle.packed.proofs.ReadLaws.{number-stops, number-none, stretch}
 use Rattle.values.specs.declared.versions.EventVersion.{EventVersion}
 use Rattle.event.specs.Event.{objectCount}
 use Rattle.event.specs.EventLayout.{readBits, readSets, presenceBit, bitNumber}
-use Rattle.event.specs.code.EventIndex.{SetsAre, Promised, SetsStop, setIn}
+use Rattle.event.specs.code.EventIndex.{SetsAre, Promised, SetsStop, SetsReads, setIn}
 use Rattle.event.specs.declared.sets.SetAt.{SetAt}
+use Rattle.event.specs.declared.sets.SetsRead.{SetsRead}
+use Rattle.event.specs.declared.sets.SetsRead.the-variants.{Sets, NoSets}
+use Rattle.event.proofs.SetLaws.{sets-read, sets-refused}
 use Rattle.event.proofs.EventLayoutLaws.{SetsWas, sets-was}
 use Rattle.event.proofs.EventSizeLaws.{each-within}
 use Rattle.dossier.specs.DossierBody.{apart, cellsOf, areSmall, readSnapshot, snapshotBytes}
@@ -74,13 +77,8 @@ small-none ats = record { is = λ s xs w. refl }
 pub small-few : (ats : List ℕ) {objects : ℕ} → objects ≤ 256 → SmallSets ats objects true
 small-few ats h s xs w e = sym (all-small xs (each-within 256 xs (omega arith)))
 
--- by the number n of values at place k
-pub record SmallBy (ats : List ℕ) (objects k n : ℕ) : Type 0 where
-  pub large : 256 < n → SmallSets ats objects false
-  pub small : n ≤ 256 → SmallTo ats (k + 1)
-
-module _ {ats : List ℕ} {k : ℕ} (l : SmallTo ats k) (objects : ℕ) where
-  pub small-all : 32 ≤ k → SmallSets ats objects true
+module _ {ats : List ℕ} {k : ℕ} (l : SmallTo ats k) where
+  pub small-all : 32 ≤ k → {objects : ℕ} → SmallSets ats objects true
   unfolding areSmall
   small-all h s xs w o = let past : length xs ≤ k = omega (arith, w .long) in sym (l .is s xs w ∙ rw (drop-of-length-le xs past))
 
@@ -93,11 +91,11 @@ module _ {ats : List ℕ} {k : ℕ} (l : SmallTo ats k) (objects : ℕ) where
         let count : x .count ≡ length (getD xs k []) = ap (λ (y : SetAt). y .count) a ∙ w .each k h .count in
         l .is s xs w ∙ rw (drop-cons xs k [] inside, add-one, count)
 
-    pub small-by : SmallBy ats objects k (x .count)
-    small-by = record {
-      large = λ n s xs w o. sym (first s xs w ∙ rw (lt-leb (x .count) 256 n));
-      small = λ n. record { is = λ s xs w. first s xs w ∙ rw (le-leb (x .count) 256 n) };
-    }
+    pub small-over : 256 < x .count → {objects : ℕ} → SmallSets ats objects false
+    small-over n s xs w o = sym (first s xs w ∙ rw (lt-leb (x .count) 256 n))
+
+    pub small-more : x .count ≤ 256 → SmallTo ats (k + 1)
+    small-more n = record { is = λ s xs w. first s xs w ∙ rw (le-leb (x .count) 256 n) }
 
 -- ---- the numbers
 
@@ -113,124 +111,130 @@ bits-got : (t : List ℕ) (n : ℕ) (r : List ℕ) → readNumber t ≡ got n r 
 unfolding readBits
 bits-got t n r e h = rw (e, lt-ltb n (2 ^ 32) h)
 
--- what follows the presence number, and the differ number
-unfoldable pub afterPresence : ℕ → ℕ → Layout Snapshot
+-- what follows the presence number
+unfoldable afterPresence : ℕ → ℕ → Layout Snapshot
 afterPresence version presence = suchThat (apart 32 presence) readBits >>= afterNumbers version presence
 
-unfoldable pub afterDiffer : ℕ → ℕ → ℕ → Layout Snapshot
-afterDiffer version presence differ t = andThen (foundIf (apart 32 presence differ) differ t) (afterNumbers version presence)
-
--- by what a reader answers, the snapshot at `at` goes on after its version, or is none
-pub record VersionBy (s : List ℕ) (at : ℕ) (r : NumberAt) : Type 0 where
-  pub on : (n next : ℕ) → r ≡ Number n next → readSnapshot (drop at s) ≡ andThen (readBits (drop next s)) (afterPresence n)
-  pub fails : r ≡ NoNumber → readSnapshot (drop at s) ≡ fail
-
--- the same of a number that has to be below 2^32, with k after it
-pub record BitsBy (s : List ℕ) (at : ℕ) (k : ℕ → Layout Snapshot) (r : NumberAt) : Type 0 where
-  pub small : (n next : ℕ) → r ≡ Number n next → n < 4294967296 → (readSnapshot (drop at s) ≡ k n (drop next s)) × (next ≤ length s)
-  pub large : (n next : ℕ) → r ≡ Number n next → 4294967296 ≤ n → readSnapshot (drop at s) ≡ fail
-  pub fails : r ≡ NoNumber → readSnapshot (drop at s) ≡ fail
-
--- and by whether presence and differ are apart
-pub record ApartBy (s : List ℕ) (at version presence differ next : ℕ) (r : Bool) : Type 0 where
-  pub so : r ≡ true → NumbersStop s at version presence differ next
-  pub fails : r ≡ false → readSnapshot (drop at s) ≡ fail
-
-module _ (s : List ℕ) (at : ℕ) where
+-- the snapshot at `at` goes on after each number that is read, or is none
+module _ (s : List ℕ) (at : ℕ) {r₁ : NumberAt} (h₁ : r₁ ≡ numberAt s at) where
   abbrev whole : Parse Snapshot
   whole = readSnapshot (drop at s)
 
-  pub version-by : {r : NumberAt} → r ≡ numberAt s at → VersionBy s at r
+  then-version : {p : Parse ℕ} → readNumber (drop at s) ≡ p → whole ≡ andThen p (λ version. readBits >>= afterPresence version)
   unfolding readSnapshot afterPresence
-  version-by h =
-      let on : Parse ℕ → Parse Snapshot = λ p. andThen p (λ version. readBits >>= afterPresence version) in
-      record { on = λ n next q. ap on (number-stops s at n next (sym h ∙ q) .is); fails = λ q. ap on (number-none s at (sym h ∙ q)) }
+  then-version e = ap (λ (p : Parse ℕ). andThen p (λ version. readBits >>= afterPresence version)) e
 
-  -- a number below 2^32 stands at a
-  module _ (a : ℕ) {r : NumberAt} (h : r ≡ numberAt s a) where
-    bits-by : (on : Parse ℕ → Parse Snapshot) → on fail ≡ fail → whole ≡ on (readBits (drop a s)) → BitsBy s at (λ n t. on (got n t)) r
-    bits-by on z e = record {
-      small = λ n next q l.
-          let w = number-stops s a n next (sym h ∙ q) in
-          (e ∙ ap on (bits-got (drop a s) n (drop next s) (w .is) l), w .within);
-      large = λ n next q l.
-          let w = number-stops s a n next (sym h ∙ q) in
-          e ∙ ap on (bits-large (drop a s) n (drop next s) (w .is) l) ∙ z;
-      fails = λ q. e ∙ ap on (bits-none (drop a s) (number-none s a (sym h ∙ q))) ∙ z;
-    }
+  pub no-version : r₁ ≡ NoNumber → whole ≡ fail
+  no-version e = then-version (number-none s at (sym h₁ ∙ e))
 
-    pub presence-by : (version : ℕ) → whole ≡ andThen (readBits (drop a s)) (afterPresence version) → BitsBy s at (afterPresence version) r
-    presence-by version e = bits-by (λ p. andThen p (afterPresence version)) refl e
+  module _ {version a : ℕ} (e₁ : r₁ ≡ Number version a) {r₂ : NumberAt} (h₂ : r₂ ≡ numberAt s a) where
+    then-presence : {p : Parse ℕ} → readBits (drop a s) ≡ p → whole ≡ andThen p (afterPresence version)
+    then-presence e =
+        then-version (number-stops s at version a (sym h₁ ∙ e₁) .is) ∙ ap (λ (p : Parse ℕ). andThen p (afterPresence version)) e
 
-    pub differ-by :
-        (version presence : ℕ) → whole ≡ afterPresence version presence (drop a s) → BitsBy s at (afterDiffer version presence) r
-    unfolding afterPresence afterDiffer
-    differ-by version presence e =
-        bits-by (λ p. andThen (andThen p (λ d. foundIf (apart 32 presence d) d)) (afterNumbers version presence)) refl e
+    pub no-presence : r₂ ≡ NoNumber → whole ≡ fail
+    no-presence e = then-presence (bits-none (drop a s) (number-none s a (sym h₂ ∙ e)))
 
-  pub apart-by :
-      (version presence differ next : ℕ) → presence < 4294967296 → differ < 4294967296 →
-      (whole ≡ afterDiffer version presence differ (drop next s)) × (next ≤ length s) →
-      {r : Bool} → r ≡ apart 32 presence differ → ApartBy s at version presence differ next r
-  unfolding afterDiffer
-  apart-by version presence differ next l m w h =
-      let answered : Bool → Parse Snapshot = λ b. andThen (foundIf b differ (drop next s)) (afterNumbers version presence) in
-      record {
-        so = λ e.
-            let clear = sym h ∙ e in
-            record { is = w .0 ∙ ap answered clear; within = w .1; presence-low = l; differ-low = m; clear = clear };
-        fails = λ e. w .0 ∙ ap answered (sym h ∙ e);
-      }
+    module _ {presence b : ℕ} (e₂ : r₂ ≡ Number presence b) where
+      presence-there : readNumber (drop a s) ≡ got presence (drop b s)
+      presence-there = number-stops s a presence b (sym h₂ ∙ e₂) .is
 
--- ---- the snapshot
+      pub presence-large : 4294967296 ≤ presence → whole ≡ fail
+      presence-large l = then-presence (bits-large (drop a s) presence (drop b s) presence-there l)
 
--- what is known of a call's answer in the arm of a `match`
-pub numbers-read :
-    {s : List ℕ} {at : ℕ} {r : NumbersAt} {version : EventVersion} {presence differ after-differ : ℕ} →
-    r ≡ Numbers version presence differ after-differ → NumbersRead s at r → NumbersStop s at (version .0) presence differ after-differ
-numbers-read {s} {at} h w = subst (NumbersRead s at) h w
+      module _ (l : presence < 4294967296) {r₃ : NumberAt} (h₃ : r₃ ≡ numberAt s b) where
+        abbrev onDiffer : Parse ℕ → Parse Snapshot
+        onDiffer p = andThen (andThen p (λ d. foundIf (apart 32 presence d) d)) (afterNumbers version presence)
+
+        then-differ : {p : Parse ℕ} → readBits (drop b s) ≡ p → whole ≡ onDiffer p
+        unfolding afterPresence
+        then-differ e = then-presence (bits-got (drop a s) presence (drop b s) presence-there l) ∙ ap onDiffer e
+
+        pub no-differ : r₃ ≡ NoNumber → whole ≡ fail
+        no-differ e = then-differ (bits-none (drop b s) (number-none s b (sym h₃ ∙ e)))
+
+        module _ {differ c : ℕ} (e₃ : r₃ ≡ Number differ c) where
+          differ-there : numberAt s b ≡ Number differ c
+          differ-there = sym h₃ ∙ e₃
+
+          pub differ-large : 4294967296 ≤ differ → whole ≡ fail
+          differ-large m = then-differ (bits-large (drop b s) differ (drop c s) (number-stops s b differ c differ-there .is) m)
+
+          module _ (m : differ < 4294967296) {r : Bool} (h : r ≡ apart 32 presence differ) where
+            answered : {x : Bool} → r ≡ x → whole ≡ andThen (foundIf x differ (drop c s)) (afterNumbers version presence)
+            answered e =
+                then-differ (bits-got (drop b s) differ (drop c s) (number-stops s b differ c differ-there .is) m)
+                ∙ ap (λ (x : Bool). andThen (foundIf x differ (drop c s)) (afterNumbers version presence)) (sym h ∙ e)
+
+            pub not-apart : r ≡ false → whole ≡ fail
+            not-apart e = answered e
+
+            pub numbers-stop : r ≡ true → NumbersStop s at version presence differ c
+            numbers-stop e = record {
+              is = answered e;
+              within = number-stops s b differ c differ-there .within;
+              presence-low = l;
+              differ-low = m;
+              clear = sym h ∙ e;
+            }
+
+-- ---- the snapshot, by what its readers answer
 
 pub numbers-refused : (s : List ℕ) (at : ℕ) {r : NumbersAt} → r ≡ NoNumbers → NumbersRead s at r → readSnapshot (drop at s) ≡ fail
 numbers-refused s at h w = subst (NumbersRead s at) h w
 
-module _ {s : List ℕ} {at version presence differ after-differ : ℕ} (n : NumbersStop s at version presence differ after-differ) where
-  pub no-sets : readSets 32 presence (drop after-differ s) ≡ fail → readSnapshot (drop at s) ≡ fail
-  no-sets e = n .is ∙ rw e
+module _
+    (s : List ℕ) (at : ℕ) {r : NumbersAt} {version : EventVersion} {presence differ after-differ : ℕ}
+    (e : r ≡ Numbers version presence differ after-differ) (w : NumbersRead s at r) where
+  pub numbers-read : NumbersStop s at (version .0) presence differ after-differ
+  numbers-read = subst (NumbersRead s at) e w
+
+  abbrev setsThere : Parse (List (List Text))
+  setsThere = readSets 32 presence (drop after-differ s)
+
+  sets-fail : setsThere ≡ fail → readSnapshot (drop at s) ≡ fail
+  sets-fail f = numbers-read .is ∙ rw f
 
   -- where the snapshot is promised, its sets are
-  pub sets-promised : {known : Bool} → Promised known (readSnapshot (drop at s)) → Promised known (readSets 32 presence (drop after-differ s))
-  sets-promised q k e = q k (no-sets e)
+  pub sets-promised : {known : Bool} → Promised known (readSnapshot (drop at s)) → Promised known setsThere
+  sets-promised q k f = q k (sets-fail f)
+
+  pub no-sets : (ats : List ℕ) {q : SetsRead} → q ≡ NoSets → SetsReads setsThere s ats q → readSnapshot (drop at s) ≡ fail
+  no-sets ats k v = sets-fail (sets-refused s ats k v)
 
   -- the sets that follow the numbers
-  module _ {ats : List ℕ} {next objects : ℕ} (found : SetsStop (readSets 32 presence (drop after-differ s)) s ats next objects) where
+  module _ {ats : List ℕ} {q : SetsRead} {next objects : ℕ} (k : q ≡ Sets next objects) (v : SetsReads setsThere s ats q) where
+    found : SetsStop setsThere s ats next objects
+    found = sets-read k v
+
     small-is : {b c : Bool} → SmallSets ats objects b → b ≡ c → areSmall (found .what) ≡ c
-    small-is a e = sym (a s (found .what) (found .stands) (found .summed)) ∙ e
+    small-is a f = sym (a s (found .what) (found .stands) (found .summed)) ∙ f
 
     pub sets-large : {b : Bool} → SmallSets ats objects b → b ≡ false → readSnapshot (drop at s) ≡ fail
-    sets-large a e = n .is ∙ rw (found .is, small-is a e)
+    sets-large a f = numbers-read .is ∙ rw (found .is, small-is a f)
 
-    module _ (within : at ≤ length s) {b : Bool} (a : SmallSets ats objects b) (e : b ≡ true) where
+    module _ (within : at ≤ length s) {b : Bool} (a : SmallSets ats objects b) (so : b ≡ true) where
       was : SetsWas 32 presence (drop after-differ s) (found .what) (drop next s)
-      was = sets-was 32 presence (drop after-differ s) (found .what) (drop next s) (n .presence-low) (found .is)
+      was = sets-was 32 presence (drop after-differ s) (found .what) (drop next s) (numbers-read .presence-low) (found .is)
 
       cells-are : (xs : List (List Text)) → length xs ≡ 32 → bitNumber (map presenceBit xs) ≡ presence → CellsWas differ xs
-      cells-are xs l p = cells-was differ xs (rw l (n .differ-low)) (rw (l, p) (n .clear))
+      cells-are xs l p = cells-was differ xs (rw l (numbers-read .differ-low)) (rw (l, p) (numbers-read .clear))
 
       cells : CellsWas differ (found .what)
       cells = cells-are (found .what) (was .long) (was .present)
 
       abbrev it : Snapshot
-      it = record { version = version; cells = cellsOf differ (found .what) }
+      it = record { version = version .0; cells = cellsOf differ (found .what) }
 
       reads : readSnapshot (drop at s) ≡ got it (drop next s)
-      reads = n .is ∙ rw (found .is, small-is a e)
+      reads = numbers-read .is ∙ rw (found .is, small-is a so)
 
       stands : SnapshotAt s it at next
       stands =
           let z = stretch s (snapshotBytes it) at next within (found .within) (snapshot-was (drop at s) it (drop next s) reads .0) in
           record { is = reads; bytes = z .0; order = z .1; within = found .within }
 
-      pub snapshot-some : SnapshotStops s at (record { version = record { 0 = version }; differ = differ; objects = objects }) next ats
+      pub snapshot-some : SnapshotStops s at (record { version = version; differ = differ; objects = objects }) next ats
       snapshot-some = record {
         what = it;
         stands = stands;

@@ -25,32 +25,20 @@ to-turn c = c .before .before .before .before
 long : (c : tie.Start Inv-loop μ-loop) → c .args .count ≤ length (c .args .t1)
 long c = let l : length (c .args .t1) ≡ 8 = search needs in omega (arith, c .pre, l)
 
--- ---- the needs
-
-returns : tie.Need-returns Inv-loop μ-loop
-returns c =
-    let turn = to-turn (c .before) in
-    rise-not (turn .before .loop .inv) (long (turn .before .before)) (turn .loop-test .taken) (c .if1 .taken)
-
-loop-again : tie.Need-loop-again Inv-loop μ-loop
-loop-again c =
-    let turn = to-turn (c .before) in
-    rise-more (turn .before .loop .inv) (long (turn .before .before)) (turn .loop-test .taken) (c .if1 .left)
-
 pub versions-rise-spec : {M : Type 1} → statement M
 versions-rise-spec =
     tie.close
     (tie.spec
     Inv-loop
     μ-loop
-    (λ c. rise-one _ _)
+    (λ c. search rise-one)
     (λ c. search needs)
     (λ c. search needs)
-    (λ c. c .before .before .loop .inv .past)
+    (λ c. search)
     (λ c. search needs)
     (λ c. search needs)
-    returns
+    (λ c. search (rise-not, long))
     (λ c. search needs)
     (λ c. omega (arith, to-turn (c .before) .loop-test .taken))
-    loop-again
-    (λ c. rise-all (c .before .loop .inv) (long (c .before .before)) (c .loop-test .left)))
+    (λ c. search (rise-more, long))
+    (λ c. search (rise-all, long)))

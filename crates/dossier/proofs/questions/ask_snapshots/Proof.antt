@@ -40,23 +40,6 @@ number c u ty h w g x r =
     let here = snapshot-stands _ h _ x _ r _ (turn .loop-test .taken) in
     c .ask-snapshot .ensures u ty _ _ (w .mark) (w .are) masks g (first-sets _ h _ x _ r) here
 
--- ---- the needs
-
-returns : tie.Need-returns Inv-loop μ-loop
-returns c = not-lone _ _ _ _ _ (c .before .is-lone .ensures) (not-true _ (c .if1 .taken))
-
-loop-holds : tie.Need-loop-holds Inv-loop μ-loop
-loop-holds c = let lone = c .before .before in is-lone _ _ _ _ _ (lone .before .is-lone .ensures) (not-false _ (lone .if1 .left))
-
-returns-2 : tie.Need-returns-2 Inv-loop μ-loop
-returns-2 c = let turn = to-turn (c .before) in number-five (turn .before .loop .inv) (turn .loop-test .taken) (number (c .before)) (c .if2 .taken)
-
-loop-again : tie.Need-loop-again Inv-loop μ-loop
-loop-again c =
-    let asked = c .before .before in
-    let turn = to-turn asked in
-    number-more (turn .before .loop .inv) (turn .loop-test .taken) (number asked) (c .before .if2 .left) (c .first-number .ensures)
-
 pub ask-snapshots-spec : {M : Type 1} → statement M
 ask-snapshots-spec =
     tie.close
@@ -64,9 +47,9 @@ ask-snapshots-spec =
     Inv-loop
     μ-loop
     (λ c κs. search needs)
-    returns
+    (λ c. search (not-lone, not-true))
     (λ c κs. search needs)
-    loop-holds
+    (λ c. search (is-lone, not-false))
     (λ c. omega (arith, low c))
     (λ c. omega (arith, low c))
     (λ c. omega (arith, low (c .before)))
@@ -84,9 +67,9 @@ ask-snapshots-spec =
     (λ c. search needs)
     (λ c. search needs)
     (λ c κs. search needs)
-    returns-2
+    (λ c. search (number-five, number (c .before)))
     (λ c κs. search needs)
     (λ c. search needs)
     (λ c. search needs)
-    loop-again
-    (λ c. number-end (c .before .loop .inv) (c .loop-test .left)))
+    (λ c. search (number-more, number (c .before .before)))
+    (λ c. search number-end))

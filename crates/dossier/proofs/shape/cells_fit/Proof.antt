@@ -33,37 +33,19 @@ module _ (c : tie.In-loop Inv-loop μ-loop) where
 shared-slice-read-n : tie.Need-shared-slice-read-n Inv-loop μ-loop
 shared-slice-read-n c = let turn = c .before in omega (arith, few turn, turn .loop-test .taken, turn .before .before .before .pre .1)
 
-returns : tie.Need-returns Inv-loop μ-loop
-returns c = let turn = c .before .before in counts-few (turn .before .loop .inv) (count-few turn) (turn .loop-test .taken) _ (c .if1 .taken)
-
-loop-again : tie.Need-loop-again Inv-loop μ-loop
-loop-again c =
-    let bit = c .before in
-    let turn = bit .before .before .before in
-    counts-more (turn .before .loop .inv) (count-few turn) (turn .loop-test .taken) (bit .bit .ensures) (c .bit2 .ensures)
-
-returns-2 : tie.Need-returns-2 Inv-loop μ-loop
-returns-2 c = let l = c .before .before in counts-over (l .loop .inv) (l .before .before .pre .0) (c .before .loop-test .left) _ (c .if2 .taken)
-
-returns-3 : tie.Need-returns-3 Inv-loop μ-loop
-returns-3 c =
-    let all = c .before .before in
-    let l = all .before in
-    counts-fit (l .loop .inv) (l .before .before .pre .0) (all .loop-test .left) _ (c .before .if2 .left) (c .masks-fit .ensures)
-
 pub cells-fit-spec : {M : Type 1} → statement M
 cells-fit-spec =
     tie.close
     (tie.spec
     Inv-loop
     μ-loop
-    (λ c. counts-none _ _ _ _)
+    (λ c. search counts-none)
     (λ c. search needs)
     (λ c. omega (arith, few c))
     (λ c. omega (arith, few c))
     (λ c. omega (arith, few c))
     shared-slice-read-n
-    returns
+    (λ c. search counts-few)
     (λ c. omega (arith, present-room (c .before .before)))
     (λ c κs. search needs)
     (λ c. omega (arith, present-room (c .before .before .before), bit-low _ (c .bit .ensures)))
@@ -71,7 +53,7 @@ cells-fit-spec =
     (λ c κs. search needs)
     (λ c. let bit = c .before in omega (arith, several-room (bit .before .before .before), bit-low _ (c .bit2 .ensures)))
     (λ c. let bit = c .before in omega (arith, bit .before .before .before .loop-test .taken))
-    loop-again
-    returns-2
+    (λ c. search counts-more)
+    (λ c. search counts-over)
     (λ c κs. search needs)
-    returns-3)
+    (λ c. search counts-fit))

@@ -44,21 +44,13 @@ module _ (c : tie.In-loop Inv-loop μ-loop) where
 property-at-requires : tie.Need-property-at-requires Inv-loop μ-loop
 property-at-requires c κs = (to-start c .pre .1, omega (arith, c .loop-test .taken, few c))
 
-loop-again : tie.Need-loop-again Inv-loop μ-loop
-loop-again c =
-    let second = c .before .before .before in
-    let first = second .before .before .before in
-    let turn = from-bit first in
-    masks-more (turn .before .loop .inv) (turn .loop-test .taken) (to-start turn .pre .0) (to-property first .property-at .ensures) (first .bit .ensures)
-    (second .before .is-lone-place .ensures) (second .bit2 .ensures) (c .before .is-unmarked-place .ensures) (c .bit3 .ensures)
-
 pub masks-of-spec : {M : Type 1} → statement M
 masks-of-spec =
     tie.close
     (tie.spec
     Inv-loop
     μ-loop
-    (λ c. masks-none _ _ _)
+    (λ c. search masks-none)
     (λ c. search needs)
     property-at-requires
     (λ c. omega (arith, room (c .before .before) .all))
@@ -75,5 +67,5 @@ masks-of-spec =
     (λ c κs. search needs)
     (λ c. omega (arith, room (from-bit3 c) .unmarked, bit-low _ (c .bit3 .ensures)))
     (λ c. omega (arith, from-bit3 c .loop-test .taken))
-    loop-again
-    (λ c. masks-all (c .before .loop .inv) (c .loop-test .left)))
+    (λ c. search masks-more)
+    (λ c. search masks-all))
