@@ -445,16 +445,8 @@ head-reads {p} {s} h w = subst (DossierHeadReads p s) h w
 pub head-refused : {p : Parse Head} (s : List ℕ) {r : DossierHeadRead} → r ≡ read.NoHead → DossierHeadReads p s r → p ≡ fail
 head-refused {p} s h w = subst (DossierHeadReads p s) h w
 
--- by what its reader answers, the head is read, or the bytes are no dossier
-pub record HeadBy (s : List ℕ) (r : DossierHeadRead) : Type 0 where
-  pub on : (x : HeadAt) (end : ℕ) → r ≡ read.Head x end → DossierHeadStops (readDossierHead standard s) s x end
-  pub fails : r ≡ read.NoHead → dossierOf standard s ≡ none
-
-pub head-by : (s : List ℕ) {r : DossierHeadRead} → DossierHeadReads (readDossierHead standard s) s r → HeadBy s r
-head-by s w = record {
-  on = λ x end e. head-reads e w;
-  fails = λ e. let bad = head-refused s e w in no-dossier s (head-first s ∙ rw bad);
-}
+pub head-none : (s : List ℕ) {r : DossierHeadRead} → r ≡ read.NoHead → DossierHeadReads (readDossierHead standard s) s r → dossierOf standard s ≡ none
+head-none s e w = let bad = head-refused s e w in no-dossier s (head-first s ∙ rw bad)
 
 -- the head x and the number n of snapshots are read, which stand from `at` on
 pub record HeadCount (s : List ℕ) (x : HeadAt) (n at : ℕ) : Type 0 where
@@ -464,25 +456,25 @@ pub record HeadCount (s : List ℕ) (x : HeadAt) (n at : ℕ) : Type 0 where
   pub one : 1 ≤ n
   pub few : n ≤ 8
 
--- by what its reader answers, the number is read, or the bytes are no dossier
-pub record CountBy (s : List ℕ) (x : HeadAt) (r : NumberAt) : Type 0 where
-  pub on : (n at : ℕ) → r ≡ Number n at → HeadCount s x n at
-  pub fails : r ≡ NoNumber → dossierOf standard s ≡ none
-
 module _ {s : List ℕ} {x : HeadAt} {end : ℕ} (w : DossierHeadStops (readDossierHead standard s) s x end) where
   head-step : readDossier standard s ≡ andThen (andThen (numbered (drop end s)) counted) (under (w .what))
   head-step = head-first s ∙ rw (w .is)
 
-  with-count : (n at : ℕ) → Got (numbered (drop end s)) s end n at → HeadCount s x n at
-  with-count n at c =
-      let bounds = got-bounds 1 8 c in
-      record { end = end; head = w; count = c; one = bounds .0; few = bounds .1 }
+-- the number of snapshots, by what the readers of the head and of the number answer
+module _
+    (s : List ℕ) {r : DossierHeadRead} {x : HeadAt} {end : ℕ} (e : r ≡ read.Head x end) (w : DossierHeadReads (readDossierHead standard s) s r)
+    {q : NumberAt} (v : NumberReads (numbered (drop end s)) s end q)
+  where
+    pub count-none : q ≡ NoNumber → dossierOf standard s ≡ none
+    count-none k =
+        let head = head-reads e w in
+        no-dossier s (head-step head ∙ ap (λ (p : Parse ℕ). andThen (andThen p counted) (under (head .what))) (number-fail s end k v))
 
-  pub count-by : {r : NumberAt} → NumberReads (numbered (drop end s)) s end r → CountBy s x r
-  count-by h = record {
-    on = λ n at e. with-count n at (number-got e h);
-    fails = λ e. no-dossier s (head-step ∙ ap (λ (p : Parse ℕ). andThen (andThen p counted) (under (w .what))) (number-fail s end e h));
-  }
+    pub count-read : {n at : ℕ} → q ≡ Number n at → HeadCount s x n at
+    count-read k =
+        let count = number-got k v in
+        let bounds = got-bounds 1 8 count in
+        record { end = end; head = head-reads e w; count = count; one = bounds .0; few = bounds .1 }
 
 -- the snapshots are read too, as r says
 pub record SnapshotsFound (s : List ℕ) (x : HeadAt) (n : ℕ) (rows : List ℕ) (r : SnapshotsRead) : Type 0 where
@@ -490,22 +482,18 @@ pub record SnapshotsFound (s : List ℕ) (x : HeadAt) (n : ℕ) (rows : List ℕ
   pub counted : HeadCount s x n at
   pub all : AllFound (times readSnapshot n (drop at s)) s rows r
 
--- by what their reader answers, they are read, or the bytes are no dossier
-pub record SnapshotsBy (s : List ℕ) (x : HeadAt) (n : ℕ) (rows : List ℕ) (r : SnapshotsRead) : Type 0 where
-  pub on : r .ok ≡ true → SnapshotsFound s x n rows r
-  pub fails : r .ok ≡ false → dossierOf standard s ≡ none
-
 module _ {s : List ℕ} {x : HeadAt} {n at : ℕ} (w : HeadCount s x n at) where
   count-step : readDossier standard s ≡ andThen (andThen (times readSnapshot n (drop at s)) risen) (under (w .head .what))
   count-step = head-step (w .head) ∙ ap (λ (p : Parse ℕ). andThen (andThen p counted) (under (w .head .what))) (w .count .is)
 
-  pub snapshots-by : (rows : List ℕ) {r : SnapshotsRead} → SnapshotsSay (times readSnapshot n (drop at s)) s rows r → SnapshotsBy s x n rows r
-  snapshots-by rows {r} v = record {
-    on = λ ok. record { at = at; counted = w; all = snapshots-found (times readSnapshot n (drop at s)) s rows r v ok };
-    fails = λ bad.
+  module _ (rows : List ℕ) (r : SnapshotsRead) (v : SnapshotsSay (times readSnapshot n (drop at s)) s rows r) where
+    pub snapshots-none : r .ok ≡ false → dossierOf standard s ≡ none
+    snapshots-none bad =
         let e = snapshots-refused (times readSnapshot n (drop at s)) s rows r v bad in
-        no-dossier s (count-step ∙ ap (λ (p : Parse (List Snapshot)). andThen (andThen p risen) (under (w .head .what))) e);
-  }
+        no-dossier s (count-step ∙ ap (λ (p : Parse (List Snapshot)). andThen (andThen p risen) (under (w .head .what))) e)
+
+    pub snapshots-read : r .ok ≡ true → SnapshotsFound s x n rows r
+    snapshots-read ok = record { at = at; counted = w; all = snapshots-found (times readSnapshot n (drop at s)) s rows r v ok }
 
 -- the index of a dossier
 abbrev pub indexOf : HeadAt → ℕ → SnapshotsRead → DossierIndex
