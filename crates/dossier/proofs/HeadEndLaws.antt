@@ -86,18 +86,6 @@ passed s h t e =
 
 -- ---- where it ends
 
--- where a head is read, its name ends at `at`, its source does, or n hashes follow there
-pub record NameEnds (s : List ℕ) (at : ℕ) : Type 0 where
-  pub there : (t : List ℕ) (w : Passed s t) → w .after-name ≡ drop at s
-
-pub record SourceEnds (s : List ℕ) (at : ℕ) : Type 0 where
-  pub there : (t : List ℕ) (w : Passed s t) → w .after-source ≡ drop at s
-
-pub record HashesFollow (s : List ℕ) (n at : ℕ) : Type 0 where
-  pub few : n ≤ 32
-  pub within : at ≤ length s
-  pub there : (t : List ℕ) → Passed s t → HashesPassed n (drop at s) t
-
 -- two ways to say what is left
 left-same : {A : Type 0} {a b : A} {t u : List ℕ} → got a t ≡ got b u → t ≡ u
 left-same e = cc e
@@ -106,16 +94,6 @@ left-same e = cc e
 pub ends-read : (s : List ℕ) (x : HeadAt) (end : ℕ) → DossierHeadStops (readDossierHead standard s) s x end → HeadEnds s end
 ends-read s x end w = record { rest = λ h t e. left-same (sym e ∙ w .is) }
 
--- by what its reader answers, the name or the source ends here, or no head is read, so that any position will do
-pub record TextBy (s : List ℕ) (Ends : ℕ → Type 0) (r : TextAt) : Type 0 where
-  pub on : (a e : ℕ) → r ≡ text.Text a e → Ends e
-  pub fails : r ≡ text.NoText → (end : ℕ) → HeadEnds s end
-
--- the same of the number of parents, whose hashes follow it
-pub record CountBy (s : List ℕ) (r : NumberAt) : Type 0 where
-  pub on : (n e : ℕ) → r ≡ Number n e → HashesFollow s n e
-  pub fails : r ≡ NoNumber → (end : ℕ) → HeadEnds s end
-
 -- whatever refutes a head that is read
 no-head : (s : List ℕ) → ((t : List ℕ) → Passed s t → _≡_ {A = ℕ} 0 1) → (end : ℕ) → HeadEnds s end
 no-head s bad end = record { rest = λ h t e. never (bad t (passed s h t e)) }
@@ -123,48 +101,56 @@ no-head s bad end = record { rest = λ h t e. never (bad t (passed s h t e)) }
 never-both : {A : Type 0} {p : Parse A} {a : A} {t : List ℕ} → p ≡ fail → p ≡ got a t → _≡_ {A = ℕ} 0 1
 never-both e f = cc
 
-pub name-by : (s : List ℕ) {r : TextAt} → r ≡ textAt s 0 → TextBy s (NameEnds s) r
-name-by s h = record {
-  on = λ a e q. record { there = λ t w. left-same (sym (w .named) ∙ text-stops s 0 a e (sym h ∙ q) .is) };
-  fails = λ q. no-head s (λ t w. never-both (text-none s 0 (sym h ∙ q)) (w .named));
-}
-
-pub source-by : {s : List ℕ} {at : ℕ} → NameEnds s at → {r : TextAt} → r ≡ textAt s at → TextBy s (SourceEnds s) r
-source-by {s} {at} name h = record {
-  on = λ a e q. record { there = λ t w. left-same (sym (w .sourced) ∙ ap readText (name .there t w) ∙ text-stops s at a e (sym h ∙ q) .is) };
-  fails = λ q. no-head s (λ t w. never-both (text-none s at (sym h ∙ q)) (ap readText (sym (name .there t w)) ∙ w .sourced));
-}
-
 abbrev parents : List ℕ → ℕ → Parse ℕ
 parents s at = suchThat (isWithin 0 32) readNumber (drop at s)
 
-module _ {s : List ℕ} {at : ℕ} (source : SourceEnds s at) where
-  number-there : (t : List ℕ) (w : Passed s t) → readNumber (drop at s) ≡ got (w .count) (w .after-count)
-  number-there t w = ap readNumber (sym (source .there t w)) ∙ w .counted
+-- Each part of a head starts where the one before it ends, as the readers answer. Where one of them reads nothing, no head is read, so that any position will do.
+module _ (s : List ℕ) {r₁ : TextAt} (h₁ : r₁ ≡ textAt s 0) where
+  pub no-name : r₁ ≡ text.NoText → (end : ℕ) → HeadEnds s end
+  no-name q = no-head s (λ t w. never-both (text-none s 0 (sym h₁ ∙ q)) (w .named))
 
-  module _ {n e : ℕ} (c : Got (parents s at) s at n e) where
-    same : (t : List ℕ) (w : Passed s t) → got (w .count) (w .after-count) ≡ got n (drop e s)
-    same t w = sym (number-there t w) ∙ such-was (isWithin 0 32) readNumber s at c .0 .is
+  module _ {name name-end : ℕ} (e₁ : r₁ ≡ text.Text name name-end) {r₂ : TextAt} (h₂ : r₂ ≡ textAt s name-end) where
+    source-there : (t : List ℕ) (w : Passed s t) → readText (drop name-end s) ≡ got (w .source) (w .after-source)
+    source-there t w =
+        let at = left-same (sym (w .named) ∙ text-stops s 0 name name-end (sym h₁ ∙ e₁) .is) in
+        ap readText (sym at) ∙ w .sourced
 
-    hashes-there : (t : List ℕ) → Passed s t → HashesPassed n (drop e s) t
-    hashes-there t w =
-        let number : w .count ≡ n = cc (same t w) in
-        subst (λ (k : ℕ). HashesPassed k (drop e s) t) number
-        (subst (λ (l : List ℕ). HashesPassed (w .count) l t) (left-same (same t w)) (w .hashes))
+    pub no-source : r₂ ≡ text.NoText → (end : ℕ) → HeadEnds s end
+    no-source q = no-head s (λ t w. never-both (text-none s name-end (sym h₂ ∙ q)) (source-there t w))
 
-    follow : HashesFollow s n e
-    follow = record { few = got-bounds 0 32 c .1; within = c .within; there = hashes-there }
+    module _ {source at : ℕ} (e₂ : r₂ ≡ text.Text source at) where
+      number-there : (t : List ℕ) (w : Passed s t) → readNumber (drop at s) ≡ got (w .count) (w .after-count)
+      number-there t w =
+          let there = left-same (sym (source-there t w) ∙ text-stops s name-end source at (sym h₂ ∙ e₂) .is) in
+          ap readNumber (sym there) ∙ w .counted
 
-  pub count-by : {r : NumberAt} → NumberReads (parents s at) s at r → CountBy s r
-  count-by h = record {
-    on = λ n e q. follow (number-got q h);
-    fails = λ q. no-head s (λ t w.
-        such-never (isWithin 0 32) readNumber s at (number-fail s at q h) (number-there t w) (is-within 0 32 (w .count) (omega arith) (w .few)));
-  }
+      module _ {r₃ : NumberAt} (h₃ : NumberReads (parents s at) s at r₃) where
+        pub no-count : r₃ ≡ NoNumber → (end : ℕ) → HeadEnds s end
+        no-count q = no-head s (λ t w.
+            such-never (isWithin 0 32) readNumber s at (number-fail s at q h₃) (number-there t w) (is-within 0 32 (w .count) (omega arith) (w .few)))
 
-module _ {s : List ℕ} {n e : ℕ} (hashes : HashesFollow s n e) where
-  pub ends-short : (end : ℕ) → length s - e < 20 * n → HeadEnds s end
-  ends-short end less = record { rest = λ h t q. absurd (omega (arith, hashes .there t (passed s h t q) .within, length-drop e s)) }
+        -- n hashes follow from e on
+        module _ {n e : ℕ} (e₃ : r₃ ≡ Number n e) where
+          count : Got (parents s at) s at n e
+          count = number-got e₃ h₃
 
-  pub ends-here : HeadEnds s (e + 20 * n)
-  ends-here = record { rest = λ h t q. hashes .there t (passed s h t q) .rest ∙ drop-drop (20 * n) e s }
+          pub hashes-few : n ≤ 32
+          hashes-few = got-bounds 0 32 count .1
+
+          pub hashes-within : e ≤ length s
+          hashes-within = count .within
+
+          same : (t : List ℕ) (w : Passed s t) → got (w .count) (w .after-count) ≡ got n (drop e s)
+          same t w = sym (number-there t w) ∙ such-was (isWithin 0 32) readNumber s at count .0 .is
+
+          hashes-there : (t : List ℕ) → Passed s t → HashesPassed n (drop e s) t
+          hashes-there t w =
+              let number : w .count ≡ n = cc (same t w) in
+              subst (λ (k : ℕ). HashesPassed k (drop e s) t) number
+              (subst (λ (l : List ℕ). HashesPassed (w .count) l t) (left-same (same t w)) (w .hashes))
+
+          pub ends-short : (end : ℕ) → length s - e < 20 * n → HeadEnds s end
+          ends-short end less = record { rest = λ h t q. absurd (omega (arith, hashes-there t (passed s h t q) .within, length-drop e s)) }
+
+          pub ends-here : HeadEnds s (e + 20 * n)
+          ends-here = record { rest = λ h t q. hashes-there t (passed s h t q) .rest ∙ drop-drop (20 * n) e s }
