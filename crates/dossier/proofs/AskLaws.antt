@@ -9,6 +9,7 @@ use native.Mathlib.Numerals.{add-one}
 use lib.Dec.{ltb, leb, eqb}
 use lib.ListN.{length, take, drop, getD, drop-of-length-le, List·getD-map}
 use lib.Seq.{drop-cons, getD-take}
+use borrow.Author.Tests.{not-true}
 use Rattle.model.specs.Order.{Text, sets, lists, equal}
 use Rattle.model.proofs.OrderLaws.{equal-true}
 use Rattle.model.specs.Rule.{Cell, holds, Snapshot, sizes}
@@ -19,7 +20,6 @@ use Rattle.values.specs.declared.versions.EventVersion.{EventVersion}
 use Rattle.ontology.specs.Table.{Property, EventType, isVersioned}
 use Rattle.ontology.specs.code.TypeIndex.{PropertiesAre, TypeIs}
 use Rattle.ontology.specs.declared.types.TypeIndex.{TypeIndex}
-use Rattle.event.specs.EventQuestions.{matchCount}
 use Rattle.event.specs.EventLayout.{bitNumber}
 use Rattle.event.specs.Agreement.{matchSets}
 use Rattle.event.specs.code.EventIndex.{SetsAre, KindsAre}
@@ -198,14 +198,14 @@ Shaped s first row x m mark count ps P =
     MasksAre (isVersioned ty) (ty .properties) m → KindsAre ty → SetsAre s xs first → SnapshotIs s y x row → P ty xs y
 
 module _ (ty : EventType) (xs : List (List Text)) (y : Snapshot) where
-  pub number-shape : {r : Bool} → r ≡ snapshotFits ty y → r ≡ false → 5 ≡ snapshotNumber ty xs y
+  pub number-shape : {r : Bool} → not r ≡ true → r ≡ snapshotFits ty y → 5 ≡ snapshotNumber ty xs y
   unfolding shapeNumber
-  number-shape e h = sym (ap (λ (b : Bool). shapeNumber (b && matchLike ty xs y) (snapshotValues ty y)) (sym e ∙ h))
+  number-shape {r} h e = sym (ap (λ (b : Bool). shapeNumber (b && matchLike ty xs y) (snapshotValues ty y)) (sym e ∙ not-true r h))
 
-  pub number-match : {r : Bool} → r ≡ matchLike ty xs y → r ≡ false → 5 ≡ snapshotNumber ty xs y
+  pub number-match : {r : Bool} → not r ≡ true → r ≡ matchLike ty xs y → 5 ≡ snapshotNumber ty xs y
   unfolding shapeNumber
-  number-match e h =
-      sym (ap (λ (b : Bool). shapeNumber (snapshotFits ty y && b) (snapshotValues ty y)) (sym e ∙ h)
+  number-match {r} h e =
+      sym (ap (λ (b : Bool). shapeNumber (snapshotFits ty y && b) (snapshotValues ty y)) (sym e ∙ not-true r h)
       ∙ ap (λ (b : Bool). shapeNumber b (snapshotValues ty y)) (and-false (snapshotFits ty y)))
 
   -- where neither refuses, the values decide

@@ -104,7 +104,7 @@ never-both e f = cc
 abbrev parents : List ℕ → ℕ → Parse ℕ
 parents s at = suchThat (isWithin 0 32) readNumber (drop at s)
 
--- Each part of a head starts where the one before it ends, as the readers answer. Where one of them reads nothing, no head is read, so that any position will do.
+-- Each part of a head starts where the one before it ends, as the readers answer. Where one reads nothing, no head is read, so that any position will do.
 module _ (s : List ℕ) {r₁ : TextAt} (h₁ : r₁ ≡ textAt s 0) where
   pub no-name : r₁ ≡ text.NoText → (end : ℕ) → HeadEnds s end
   no-name q = no-head s (λ t w. never-both (text-none s 0 (sym h₁ ∙ q)) (w .named))

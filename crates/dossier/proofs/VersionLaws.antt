@@ -1,12 +1,12 @@
 -- The laws of a snapshot's version property, and of all that question 5 asks of one snapshot.
 use mathlib.Core.Path.{_≡_, refl, sym, ap, ap₂, _∙_, subst}
-use mathlib.Core.Bool.{Bool, true, false, cond, _&&_}
+use mathlib.Core.Bool.{Bool, true, false, cond, not, _&&_}
 use mathlib.Core.List.{List, [], _∷_, map}
 use Prim.Native.Nat.{ℕ, _-_, _≤_, _<_}
 use native.Mathlib.Omega.{arith}
 use lib.Dec.{ltb, leb, eqb}
 use lib.ListN.{length, getD, length-map, List·getD-eq-default}
-use borrow.Author.Tests.{lt-ltb, le-leb, lt-leb, eq-eqb, ne-eqb}
+use borrow.Author.Tests.{not-true, not-false, lt-ltb, le-leb, lt-leb, eq-eqb, ne-eqb}
 use Rattle.model.specs.Order.{Text, texts, sets, lists, lex, equal}
 use Rattle.model.proofs.Cases.{three, and-false}
 use Rattle.model.proofs.OrderLaws.{equal-false}
@@ -121,18 +121,19 @@ abbrev pub matchesFew : EventType → Snapshot → Bool
 matchesFew ty y = leb (matchCount (ty .properties) (map held (y .cells))) 32
 
 module _ (ty : EventType) (y : Snapshot) where
-  pub fits-cells : {a : Bool} → a ≡ cellsFit ty y → a ≡ false → false ≡ snapshotFits ty y
+  pub fits-cells : {a : Bool} → not a ≡ true → a ≡ cellsFit ty y → false ≡ snapshotFits ty y
   unfolding snapshotFits
-  fits-cells e f = sym (ap (λ (b : Bool). b && matchesFew ty y && versionFits ty y) (sym e ∙ f))
+  fits-cells {a} f e = sym (ap (λ (b : Bool). b && matchesFew ty y && versionFits ty y) (sym e ∙ not-true a f))
 
-  pub fits-match : {a : Bool} → a ≡ matchesFew ty y → a ≡ false → false ≡ snapshotFits ty y
+  pub fits-match : {a : Bool} → not a ≡ true → a ≡ matchesFew ty y → false ≡ snapshotFits ty y
   unfolding snapshotFits
-  fits-match e f =
-      sym (ap (λ (b : Bool). cellsFit ty y && b && versionFits ty y) (sym e ∙ f) ∙ ap (λ (b : Bool). b && versionFits ty y) (and-false (cellsFit ty y)))
+  fits-match {a} f e =
+      sym (ap (λ (b : Bool). cellsFit ty y && b && versionFits ty y) (sym e ∙ not-true a f)
+      ∙ ap (λ (b : Bool). b && versionFits ty y) (and-false (cellsFit ty y)))
 
-  pub fits-all : {a r : Bool} → a ≡ cellsFit ty y → a ≡ true → matchesFew ty y ≡ true → r ≡ versionFits ty y → r ≡ snapshotFits ty y
+  pub fits-all : {a r : Bool} → not a ≡ false → a ≡ cellsFit ty y → matchesFew ty y ≡ true → r ≡ versionFits ty y → r ≡ snapshotFits ty y
   unfolding snapshotFits
-  fits-all e f g k = k ∙ sym (ap₂ (λ (a b : Bool). a && b && versionFits ty y) (sym e ∙ f) g)
+  fits-all {a} f e g k = k ∙ sym (ap₂ (λ (a b : Bool). a && b && versionFits ty y) (sym e ∙ not-false a f) g)
 
   -- where there are few objects, there are few match objects
   pub match-within : {objects : ℕ} → objects ≡ sizes (y .cells) → objects ≤ 32 → matchesFew ty y ≡ true

@@ -1,7 +1,7 @@
 -- The cells, the match objects and the version are asked one after the other. Where there are at most 32 objects there are no more match objects, so that they
 -- are not asked about.
 use borrow.Author.Needs.{needs}
-use borrow.Author.Tests.{not-true, not-false}
+use borrow.Author.Tests.{not-false}
 use mathlib.Core.Path.{_≡_, sym, _∙_}
 use mathlib.Core.Logic.{⊎-elim}
 use mathlib.Core.Bool.{true}
@@ -29,26 +29,15 @@ matches c u ty y m w b v =
     ⊎-elim (λ t. sym (t .1 .ensures u _ (ty .properties) _ w (v .sets)) ∙ not-false _ (t .2 .left)) (λ t. match-within ty y (v .objects) (t .left))
     (c .if2 .came)
 
--- ---- the needs
-
-cells-fit-requires : tie.Need-cells-fit-requires
-cells-fit-requires c κs = let pre = c .before .before .before .pre in (pre .0, pre .1)
-
-returns : tie.Need-returns
-returns c u ty y m w b v = fits-cells ty y (cells (c .before) u ty y m w b v) (not-true _ (c .if1 .taken))
-
-is-match-small-requires : tie.Need-is-match-small-requires
-is-match-small-requires c κs = let pre = to-start (c .before .before .before) .pre in (pre .0, pre .2, pre .1)
-
-returns-2 : tie.Need-returns-2
-returns-2 c u ty y m w b v = fits-match ty y (c .before .is-match-small .ensures u _ (ty .properties) _ w (v .sets)) (not-true _ (c .if3 .taken))
-
-returns-3 : tie.Need-returns-3
-returns-3 c u ty y m w b v =
-    let fitted = c .before .before .before in
-    fits-all ty y (cells (fitted .before) u ty y m w b v) (not-false _ (fitted .if1 .left)) (matches (c .before) u ty y m w b v)
-    (c .fits-by-version .ensures y ty m v)
-
 pub snapshot-fits-spec : {M : Type 1} → statement M
 snapshot-fits-spec =
-    tie.close (tie.spec cells-fit-requires returns is-match-small-requires returns-2 (λ c κs. search needs) returns-3)
+    tie.close
+    (tie.spec
+    (λ c κs. search needs)
+    (λ c. search (fits-cells, cells (c .before)))
+    (λ c κs. search needs)
+    (λ c u ty y m w b v. fits-match ty y (c .if3 .taken) (c .before .is-match-small .ensures u _ (ty .properties) _ w (v .sets)))
+    (λ c κs. search needs)
+    (λ c.
+    let asked : tie.After-cells-fit = search in
+    search (fits-all, cells asked, matches (c .before), c .fits-by-version .ensures)))
