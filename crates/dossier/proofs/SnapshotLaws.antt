@@ -1,15 +1,14 @@
 -- The laws of reading a snapshot.
 use mathlib.Core.Path.{_≡_, refl, sym, ap, _∙_, subst}
 use mathlib.Core.Bool.{Bool, true, false, not, _&&_}
-use mathlib.Core.Logic.{_⊎_, inl, inr}
 use mathlib.Core.List.{List, [], map}
 use Prim.Native.Nat.{ℕ, zero, suc, _+_, _-_, _/_, _%_, _^_, _≤_, _<_}
 use native.Mathlib.Omega.{arith}
 use native.Mathlib.Numerals.{add-one, sub-one}
-use lib.Dec.{leb, eqb}
+use lib.Dec.{ltb, leb, eqb}
 use lib.ListN.{length, drop, getD, drop-of-length-le}
 use lib.Seq.{drop-cons}
-use borrow.Author.Tests.{lt-ltb, le-ltb, le-leb, lt-leb, eq-eqb, ne-eqb, eqb-true}
+use borrow.Author.Tests.{lt-ltb, le-ltb, le-leb, lt-leb, eq-eqb, ne-eqb, eqb-true, ltb-false}
 use Rattle.model.specs.Order.{Text}
 use Rattle.model.specs.Rule.{Snapshot}
 use Rattle.packed.specs.Parse.{Parse, fail, got, Layout, andThen, _>>=_, foundIf, suchThat}
@@ -37,15 +36,15 @@ use Rattle.dossier.proofs.DossierSizeLaws.{held-objects}
 
 -- ---- no bit in common
 
-pub apart-bad : (left m n : ℕ) → 0 < left → m % 2 + n % 2 ≡ 2 → apart left m n ≡ false
+apart-not : (left m n : ℕ) → 0 < left → m % 2 + n % 2 ≡ 2 → apart left m n ≡ false
 unfolding apart
-apart-bad zero m n h e = absurd (omega arith)
-apart-bad (suc k) m n h e = rw (eq-eqb (m % 2) 1 (omega arith), eq-eqb (n % 2) 1 (omega arith))
+apart-not zero m n h e = absurd (omega arith)
+apart-not (suc k) m n h e = rw (eq-eqb (m % 2) 1 (omega arith), eq-eqb (n % 2) 1 (omega arith))
 
-pub apart-step : (left m n : ℕ) → 0 < left → (m % 2 + n % 2 ≡ 2 → ⊥) → apart left m n ≡ apart (left - 1) (m / 2) (n / 2)
+apart-next : (left m n : ℕ) → 0 < left → (m % 2 + n % 2 ≡ 2 → ⊥) → apart left m n ≡ apart (left - 1) (m / 2) (n / 2)
 unfolding apart
-apart-step zero m n h e = absurd (omega arith)
-apart-step (suc k) m n h e = rw sub-one (ap (λ (b : Bool). not b && apart k (m / 2) (n / 2)) (go (eqb (m % 2) 1) refl))
+apart-next zero m n h e = absurd (omega arith)
+apart-next (suc k) m n h e = rw sub-one (ap (λ (b : Bool). not b && apart k (m / 2) (n / 2)) (go (eqb (m % 2) 1) refl))
   where
     go : (b : Bool) → eqb (m % 2) 1 ≡ b → (b && eqb (n % 2) 1) ≡ false
     go true q = ne-eqb (n % 2) 1 (λ f. e (omega (arith, eqb-true (m % 2) 1 q)))
@@ -54,12 +53,22 @@ apart-step (suc k) m n h e = rw sub-one (ap (λ (b : Bool). not b && apart k (m 
 apart-none : (left m : ℕ) → apart left m 0 ≡ true
 unfolding apart
 apart-none zero m = refl
-apart-none (suc k) m = apart-step (suc k) m 0 (omega arith) (λ e. omega arith) ∙ rw sub-one (apart-none k (m / 2))
+apart-none (suc k) m = apart-next (suc k) m 0 (omega arith) (λ e. omega arith) ∙ rw sub-one (apart-none k (m / 2))
 
-pub apart-end : (left m n : ℕ) → (left ≤ 0) ⊎ (n ≤ 0) → apart left m n ≡ true
-unfolding apart
-apart-end left m n (inl h) = let z : left ≡ 0 = omega arith in rw z
-apart-end left m n (inr h) = let z : n ≡ 0 = omega arith in rw z (apart-none left m)
+-- the whole answer is that of the bits left
+module _ (left m n : ℕ) {all : Bool} (rest : all ≡ apart left m n) where
+  pub apart-bad : 0 < left → m % 2 + n % 2 ≡ 2 → false ≡ all
+  apart-bad h e = sym (rest ∙ apart-not left m n h e)
+
+  pub apart-step : 0 < left → (m % 2 + n % 2 ≡ 2 → ⊥) → all ≡ apart (left - 1) (m / 2) (n / 2)
+  apart-step h e = rest ∙ apart-next left m n h e
+
+  pub apart-end : left ≤ 0 → true ≡ all
+  unfolding apart
+  apart-end h = let z : left ≡ 0 = omega arith in sym (rest ∙ rw z)
+
+  pub apart-clear : ltb 0 n ≡ false → true ≡ all
+  apart-clear h = let z : n ≡ 0 = omega (arith, ltb-false 0 n h) in sym (rest ∙ rw z (apart-none left m))
 
 -- ---- small sets
 

@@ -17,7 +17,7 @@ abbrev μ-loop : tie.MeasureT-loop
 -- ---- the places
 
 abbrev to-turn : tie.After-struct-known2 Inv-loop μ-loop → tie.In-loop Inv-loop μ-loop
-to-turn c = c .before .before .before .before
+to-turn c = search
 
 -- ---- the facts
 

@@ -19,10 +19,10 @@ abbrev μ-loop : tie.MeasureT-loop
 -- ---- the places
 
 abbrev to-start : tie.In-loop Inv-loop μ-loop → tie.Start Inv-loop μ-loop
-to-start c = c .before .before .before .before .before .before .before .before .before
+to-start c = search
 
 abbrev to-turn : tie.After-ask-snapshot Inv-loop μ-loop → tie.In-loop Inv-loop μ-loop
-to-turn c = c .before .before .before .before .before .before
+to-turn c = search
 
 -- ---- the facts
 

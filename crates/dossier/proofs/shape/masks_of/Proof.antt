@@ -16,19 +16,16 @@ abbrev μ-loop : tie.MeasureT-loop
 -- ---- the places
 
 abbrev to-start : tie.In-loop Inv-loop μ-loop → tie.Start Inv-loop μ-loop
-to-start c = c .before .before .before
-
-abbrev to-property : tie.After-bit Inv-loop μ-loop → tie.After-property-at Inv-loop μ-loop
-to-property c = c .before .before .before .before
+to-start c = search
 
 abbrev from-bit : tie.After-bit Inv-loop μ-loop → tie.In-loop Inv-loop μ-loop
-from-bit c = to-property c .before
+from-bit c = search
 
 abbrev from-bit2 : tie.After-bit2 Inv-loop μ-loop → tie.In-loop Inv-loop μ-loop
-from-bit2 c = from-bit (c .before .before .before)
+from-bit2 c = search
 
 abbrev from-bit3 : tie.After-bit3 Inv-loop μ-loop → tie.In-loop Inv-loop μ-loop
-from-bit3 c = from-bit2 (c .before .before .before)
+from-bit3 c = search
 
 -- ---- a turn
 
