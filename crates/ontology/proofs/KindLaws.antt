@@ -327,5 +327,8 @@ module _ {s : List ℕ} {at n e : ℕ} (g : Got (readNumber (drop at s)) s at n 
         are = x .are;
       }
 
-  pub kind-other : IsOutside n → readKind (drop at s) ≡ fail
-  kind-other h = kind-next ∙ kind-outside n (drop e s) h
+  pub kind-below : n < unsignedNumber → readKind (drop at s) ≡ fail
+  kind-below h = kind-next ∙ kind-outside n (drop e s) (inl h)
+
+  pub kind-above : hexNumber < n → readKind (drop at s) ≡ fail
+  kind-above h = kind-next ∙ kind-outside n (drop e s) (inr h)

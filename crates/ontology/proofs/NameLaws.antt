@@ -1,22 +1,24 @@
 -- The laws of names: their bytes, how many, and their order.
 use mathlib.Core.Path.{_≡_, refl, sym, ap, _∙_}
-use mathlib.Core.Bool.{Bool, true, false, _&&_, _||_}
+use mathlib.Core.Bool.{Bool, true, false, not, _&&_, _||_}
 use mathlib.Core.List.{List, [], _∷_}
 use Prim.Native.Nat.{ℕ, _+_, _-_, _≤_, _<_, Ordering}
 use native.Mathlib.Omega.{arith}
 use lib.ListN.{length, drop, getD, drop-of-length-le}
 use lib.Seq.{getD-take, getD-drop}
 use lib.Dec.{ltb, leb, eqb}
-use borrow.Author.Tests.{le-leb, lt-leb, leb-true, ltb-true, ltb-false, eq-eqb, ne-eqb, eqb-false}
+use borrow.Author.Tests.{le-leb, lt-leb, leb-true, ltb-true, ltb-false, eq-eqb, ne-eqb, eqb-false, not-true, not-false}
 use Rattle.model.specs.Order.{Text, pick}
 use Rattle.model.proofs.Cases.{and-parts, and-true}
 use Rattle.packed.specs.Parse.{fail, suchThat}
 use Rattle.packed.specs.Packed.{readText, part}
-use Rattle.packed.specs.code.Located.{Got, NameStops}
+use Rattle.packed.specs.declared.read.TextAt.{TextAt}
+use Rattle.packed.specs.declared.read.TextAt.the-variants as text
+use Rattle.packed.specs.code.Located.{textAt, Got, NameStops}
 use Rattle.packed.specs.code.Comparison.{precedes}
 use Rattle.packed.proofs.OrderLaws.{order-less, order-more}
-use Rattle.packed.proofs.ReadLaws.{TextStops, drop-next, part-length}
-use Rattle.packed.proofs.FieldLaws.{such-got, such-fail}
+use Rattle.packed.proofs.ReadLaws.{TextStops, text-stops, text-none, drop-next, part-length}
+use Rattle.packed.proofs.FieldLaws.{such-got, such-fail, such-none}
 use Rattle.ontology.specs.Table.{isLetter, isNameByte, areNameBytes, isName, isNameWithin}
 
 -- ---- bytes
@@ -77,16 +79,24 @@ name-length most v e = let b = and-parts (isName v) (leb (length v) most) e in (
     go [] e = let z : _≡_ {A = ℕ} 0 1 = cc in absurd (omega arith)
     go (b ∷ v) e = omega arith
 
+-- the answer of `read_text` in the arm of a `match`
+module _ (s : List ℕ) (at : ℕ) {r : TextAt} (read : r ≡ textAt s at) where
+  pub text-read : {a e : ℕ} → r ≡ text.Text a e → TextStops s at a e
+  text-read {a} {e} h = text-stops s at a e (sym read ∙ h)
+
+  pub name-unread : (most : ℕ) → r ≡ text.NoText → suchThat (isNameWithin most) readText (drop at s) ≡ fail
+  name-unread most h = such-none (isNameWithin most) readText s at (text-none s at (sym read ∙ h))
+
 -- a text that was read is a name, or it is none
-module _ {s : List ℕ} {at a e : ℕ} (most : ℕ) (w : TextStops s at a e) where
+module _ {s : List ℕ} {at a e : ℕ} (most : ℕ) (w : TextStops s at a e) {b : Bool} (told : b ≡ isNameWithin most (part s a e)) where
   text-got : Got (readText (drop at s)) s at (part s a e) e
   text-got = record { is = w .is; after = omega (arith, w .after, w .order); within = w .within }
 
-  pub name-is : isNameWithin most (part s a e) ≡ true → NameStops (suchThat (isNameWithin most) readText (drop at s)) s at a e
-  name-is h = record { stops = such-got (isNameWithin most) readText s at text-got h; order = w .order }
+  pub name-is : b ≡ true → NameStops (suchThat (isNameWithin most) readText (drop at s)) s at a e
+  name-is h = record { stops = such-got (isNameWithin most) readText s at text-got (sym told ∙ h); order = w .order }
 
-  pub name-not : isNameWithin most (part s a e) ≡ false → suchThat (isNameWithin most) readText (drop at s) ≡ fail
-  name-not h = such-fail (isNameWithin most) readText s at text-got h
+  pub name-not : b ≡ false → suchThat (isNameWithin most) readText (drop at s) ≡ fail
+  name-not h = such-fail (isNameWithin most) readText s at text-got (sym told ∙ h)
 
 -- ---- the order of two names
 
@@ -124,19 +134,19 @@ module _ (s : List ℕ) (a e b f : ℕ) (h : a < e) (k : e ≤ length s) (l : b 
 -- ---- names, from their second byte on
 
 module _ (most : ℕ) (v : List ℕ) where
-  pub name-none : length v ≡ 0 → isNameWithin most v ≡ false
+  pub name-none : length v ≡ 0 → false ≡ isNameWithin most v
   unfolding isNameWithin isName
   name-none h = go v h
     where
-      go : (v : List ℕ) → length v ≡ 0 → (isName v && leb (length v) most) ≡ false
+      go : (v : List ℕ) → length v ≡ 0 → false ≡ (isName v && leb (length v) most)
       go [] h = refl
       go (b ∷ v) h = absurd (omega arith)
 
-  pub name-long : most < length v → isNameWithin most v ≡ false
+  pub name-long : most < length v → false ≡ isNameWithin most v
   unfolding isNameWithin
   name-long h = rw (lt-leb (length v) most h) (go (isName v))
     where
-      go : (t : Bool) → (t && false) ≡ false
+      go : (t : Bool) → false ≡ (t && false)
       go true = refl
       go false = refl
 
@@ -148,34 +158,35 @@ module _ (most : ℕ) (v : List ℕ) where
       go [] h = absurd (omega arith)
       go (b ∷ v) h = refl
 
-  pub name-unlettered : 0 < length v → isLetter (getD v 0 0) ≡ false → isNameWithin most v ≡ false
+  pub name-unlettered : (length v ≡ 0 → ⊥) → {t : Bool} → t ≡ isLetter (getD v 0 0) → not t ≡ true → false ≡ isNameWithin most v
   unfolding isNameWithin
-  name-unlettered h k = rw (name-first h, k)
+  name-unlettered h told k = rw (name-first (omega (arith, h)), sym told ∙ not-true _ k)
 
   -- the bytes before i are those of a name, so that the others decide it
   pub record NameFrom (i : ℕ) : Type 0 where
     pub within : i ≤ length v
     pub is : isNameWithin most v ≡ areNameBytes (drop i v)
 
-  pub name-lettered : 0 < length v → length v ≤ most → isLetter (getD v 0 0) ≡ true → NameFrom 1
+  pub name-lettered : (length v ≡ 0 → ⊥) → length v ≤ most → {t : Bool} → t ≡ isLetter (getD v 0 0) → not t ≡ false → NameFrom 1
   unfolding isNameWithin
-  name-lettered h l k =
-      record { within = h; is = rw (name-first h, k, le-leb (length v) most l) (and-true (areNameBytes (drop 1 v))) }
+  name-lettered h l told k =
+      let some : 0 < length v = omega (arith, h) in
+      record { within = some; is = rw (name-first some, sym told ∙ not-false _ k, le-leb (length v) most l) (and-true (areNameBytes (drop 1 v))) }
 
 bytes-step : (v : List ℕ) (i : ℕ) → i < length v → areNameBytes (drop i v) ≡ (isNameByte (getD v i 0) && areNameBytes (drop (i + 1) v))
 unfolding areNameBytes
 bytes-step v i h = ap areNameBytes (drop-next v i h)
 
 module _ {most : ℕ} {v : List ℕ} {i : ℕ} (w : NameFrom most v i) where
-  name-by : i < length v → {b : Bool} → isNameByte (getD v i 0) ≡ b → isNameWithin most v ≡ (b && areNameBytes (drop (i + 1) v))
-  name-by h e = w .is ∙ bytes-step v i h ∙ ap (λ (t : Bool). t && areNameBytes (drop (i + 1) v)) e
+  name-by : i < length v → {b t : Bool} → t ≡ isNameByte (getD v i 0) → t ≡ b → isNameWithin most v ≡ (b && areNameBytes (drop (i + 1) v))
+  name-by h told e = w .is ∙ bytes-step v i h ∙ ap (λ (t : Bool). t && areNameBytes (drop (i + 1) v)) (sym told ∙ e)
 
-  pub name-bad : i < length v → isNameByte (getD v i 0) ≡ false → isNameWithin most v ≡ false
-  name-bad h e = name-by h e
+  pub name-bad : i < length v → {t : Bool} → t ≡ isNameByte (getD v i 0) → not t ≡ true → false ≡ isNameWithin most v
+  name-bad h told e = sym (name-by h told (not-true _ e))
 
-  pub name-more : i < length v → isNameByte (getD v i 0) ≡ true → NameFrom most v (i + 1)
-  name-more h e = record { within = omega arith; is = name-by h e }
+  pub name-more : i < length v → {t : Bool} → t ≡ isNameByte (getD v i 0) → not t ≡ false → NameFrom most v (i + 1)
+  name-more h told e = record { within = omega arith; is = name-by h told (not-false _ e) }
 
-  pub name-all : length v ≤ i → isNameWithin most v ≡ true
+  pub name-all : length v ≤ i → true ≡ isNameWithin most v
   unfolding areNameBytes
-  name-all h = w .is ∙ ap areNameBytes (drop-of-length-le v h)
+  name-all h = sym (w .is ∙ ap areNameBytes (drop-of-length-le v h))

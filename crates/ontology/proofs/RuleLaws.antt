@@ -5,7 +5,7 @@ use mathlib.Core.List.{List}
 use Prim.Native.Nat.{ℕ}
 use native.Mathlib.Omega.{arith}
 use lib.Dec.{leb, eqb}
-use borrow.Author.Tests.{le-leb, eq-eqb, ne-eqb, eqb-true}
+use borrow.Author.Tests.{le-leb, eq-eqb, ne-eqb, eqb-true, not-true, not-false}
 use Rattle.model.proofs.Cases.{and-true, and-false}
 use Rattle.values.specs.Spaces.{sequence, datetime, kindNumber, unsignedNumber}
 use Rattle.values.specs.ValueOrder.{isOrdered}
@@ -58,28 +58,31 @@ module _ {s : List ℕ} {q : Property} {x : PropertyAt} (v : Bool) (w : Property
   unfolding fitsBy
   fits-replace h = fits-by ∙ ap₂ (λ (a b : Bool). fitsBy a b (x .optional) (x .multivalued) ordered v) (not-extreme x h) h
 
-  pub fits-free : hasExtreme x ≡ false → hasReplace x ≡ false → strategyFits v q ≡ true
+  -- the returns of `strategy_fits`: what was answered on the index, and how
+  pub fits-free : {e r : Bool} → e ≡ hasExtreme x → e ≡ false → r ≡ hasReplace x → r ≡ false → true ≡ strategyFits v q
   unfolding fitsBy
-  fits-free h k = fits-by ∙ ap₂ (λ (a b : Bool). fitsBy a b (x .optional) (x .multivalued) ordered v) h k
+  fits-free a h b k = sym (fits-by ∙ ap₂ (λ (a b : Bool). fitsBy a b (x .optional) (x .multivalued) ordered v) (sym a ∙ h) (sym b ∙ k))
 
-  pub replace-many : hasReplace x ≡ true → x .multivalued ≡ true → strategyFits v q ≡ false
-  replace-many h k =
-      fits-replace h ∙ ap (λ (m : Bool). x .optional && not m && v) k ∙ ap (λ (b : Bool). b && v) (and-false (x .optional))
+  module _ {r : Bool} (told : r ≡ hasReplace x) (h : r ≡ true) where
+    pub replace-many : x .multivalued ≡ true → false ≡ strategyFits v q
+    replace-many k =
+        sym
+        (fits-replace (sym told ∙ h) ∙ ap (λ (m : Bool). x .optional && not m && v) k ∙ ap (λ (b : Bool). b && v) (and-false (x .optional)))
 
-  pub replace-optional : hasReplace x ≡ true → x .multivalued ≡ false → x .optional ≡ true → strategyFits v q ≡ v
-  replace-optional h k l = fits-replace h ∙ ap₂ (λ (o m : Bool). o && not m && v) l k
+    pub replace-optional : x .multivalued ≡ false → x .optional ≡ true → v ≡ strategyFits v q
+    replace-optional k l = sym (fits-replace (sym told ∙ h) ∙ ap₂ (λ (o m : Bool). o && not m && v) l k)
 
-  pub replace-mandatory : hasReplace x ≡ true → x .optional ≡ false → strategyFits v q ≡ false
-  replace-mandatory h l = fits-replace h ∙ ap (λ (o : Bool). o && not (x .multivalued) && v) l
+    pub replace-mandatory : x .optional ≡ false → false ≡ strategyFits v q
+    replace-mandatory l = sym (fits-replace (sym told ∙ h) ∙ ap (λ (o : Bool). o && not (x .multivalued) && v) l)
 
-  module _ (h : hasExtreme x ≡ true) where
-    pub ordered-is : (not (x .optional) && not (x .multivalued)) ≡ true → strategyFits v q ≡ isOrderedNumber (x .kind)
-    ordered-is l =
+  module _ {e : Bool} (told : e ≡ hasExtreme x) (h : e ≡ true) {m : Bool} (single : m ≡ (not (x .optional) && not (x .multivalued))) where
+    pub ordered-is : m ≡ true → {o : Bool} → o ≡ isOrderedNumber (x .kind) → o ≡ strategyFits v q
+    ordered-is l o =
         let least = ap (leb unsignedNumber) (w .kind .number) ∙ le-leb unsignedNumber (kindNumber (q .kind)) (kind-least (q .kind)) in
-        fits-ordered h ∙ ap (λ (b : Bool). b && ordered) (l ∙ sym least)
+        o ∙ sym (fits-ordered (sym told ∙ h) ∙ ap (λ (b : Bool). b && ordered) (sym single ∙ l ∙ sym least))
 
-    pub ordered-not : (not (x .optional) && not (x .multivalued)) ≡ false → strategyFits v q ≡ false
-    ordered-not l = fits-ordered h ∙ ap (λ (b : Bool). b && ordered) l
+    pub ordered-not : m ≡ false → false ≡ strategyFits v q
+    ordered-not l = sym (fits-ordered (sym told ∙ h) ∙ ap (λ (b : Bool). b && ordered) (sym single ∙ l))
 
 -- ---- the marked property, by its index
 
@@ -96,18 +99,23 @@ module _ {s : List ℕ} {q : Property} {x : PropertyAt} (w : PropertyIs s q x) w
       ap₂ (λ (k : ℕ) (b : Bool). not (q .optional) && not (q .multivalued) && eqb k (kindNumber sequence) && b) (sym (w .kind .number)) (sym (max-of w))
       ∙ ap₂ (λ (o m : Bool). not o && not m && inSequence && hasMax x) (sym (w .optional)) (sym (w .multivalued))
 
-  pub marked-kind : (x .kind ≡ kindNumber sequence → ⊥) → canBeMarked q ≡ false
+  pub marked-kind : (x .kind ≡ kindNumber sequence → ⊥) → false ≡ canBeMarked q
   marked-kind h =
-      marked-by
+      sym
+      (marked-by
       ∙ ap (λ (b : Bool). alone && b && hasMax x) (ne-eqb (x .kind) (kindNumber sequence) h)
-      ∙ ap (λ (b : Bool). b && hasMax x) (and-false alone)
+      ∙ ap (λ (b : Bool). b && hasMax x) (and-false alone))
 
-  pub marked-strategy : hasMax x ≡ false → canBeMarked q ≡ false
-  marked-strategy h = marked-by ∙ ap (λ (b : Bool). alone && inSequence && b) h ∙ and-false (alone && inSequence)
+  module _ {m : Bool} (told : m ≡ hasMax x) where
+    pub marked-strategy : not m ≡ true → false ≡ canBeMarked q
+    marked-strategy h =
+        sym (marked-by ∙ ap (λ (b : Bool). alone && inSequence && b) (sym told ∙ not-true _ h) ∙ and-false (alone && inSequence))
 
-  pub marked-is : x .kind ≡ kindNumber sequence → hasMax x ≡ true → canBeMarked q ≡ alone
-  marked-is h k =
-      marked-by
-      ∙ ap₂ (λ (b d : Bool). alone && b && d) (eq-eqb (x .kind) (kindNumber sequence) h) k
-      ∙ and-true (alone && true)
-      ∙ and-true alone
+    pub marked-is : x .kind ≡ kindNumber sequence → not m ≡ false → {a : Bool} → a ≡ alone → a ≡ canBeMarked q
+    marked-is h k a =
+        a
+        ∙ sym
+        (marked-by
+        ∙ ap₂ (λ (b d : Bool). alone && b && d) (eq-eqb (x .kind) (kindNumber sequence) h) (sym told ∙ not-false _ k)
+        ∙ and-true (alone && true)
+        ∙ and-true alone)

@@ -7,6 +7,7 @@ use Prim.Native.Nat.{ℕ, _-_, _≤_, _<_}
 use native.Mathlib.Omega.{arith}
 use lib.ListN.{length, drop, drop-of-length-le}
 use lib.Dec.{leb}
+use borrow.Author.Tests.{not-true, not-false}
 use Rattle.model.specs.Order.{Text, texts, equal, rising}
 use Rattle.model.proofs.Cases.{and-parts, never}
 use Rattle.packed.specs.Parse.{Parse, fail, got, Layout, andThen, foundIf, suchThat, times}
@@ -41,15 +42,28 @@ pub record TypeGot (s : List ℕ) (at : ℕ) (keep : Bool) (ps : List ℕ) (r : 
   pub stops : TypeStops s at what left keep ps r
 
 pub type-got :
-    {s : List ℕ} {at : ℕ} {keep : Bool} {ps : List ℕ} {r : TypeRead} → TypeReads (readRuled (drop at s)) s at keep ps r → r .ok ≡ true → TypeGot s at keep ps r
+    {s : List ℕ} {at : ℕ} {keep : Bool} {ps : List ℕ} {r : TypeRead} → TypeReads (readRuled (drop at s)) s at keep ps r → not (r .ok) ≡ false →
+    TypeGot s at keep ps r
 unfolding TypeReads
-type-got {s} {at} {keep} {ps} {r} w h = go (readRuled (drop at s)) refl w
+type-got {s} {at} {keep} {ps} {r} w n = let h = not-false (r .ok) n in go h (readRuled (drop at s)) refl w
   where
-    go : (q : Parse EventType) → readRuled (drop at s) ≡ q → TypeReads q s at keep ps r → TypeGot s at keep ps r
-    go fail e k = never (cc)
-    go (got t u) e k = record { what = t; left = u; is = e ∙ ap (got t) (k .follows); stops = k }
+    go : r .ok ≡ true → (q : Parse EventType) → readRuled (drop at s) ≡ q → TypeReads q s at keep ps r → TypeGot s at keep ps r
+    go h fail e k = never (cc)
+    go h (got t u) e k = record { what = t; left = u; is = e ∙ ap (got t) (k .follows); stops = k }
 
-pub type-not : (p : Parse EventType) (s : List ℕ) (at : ℕ) (keep : Bool) (ps : List ℕ) (r : TypeRead) → TypeReads p s at keep ps r → r .ok ≡ false → p ≡ fail
+module _
+    (s : List ℕ) (at : ℕ) (keep : Bool) (ps : List ℕ) (r : TypeRead) (w : TypeReads (readRuled (drop at s)) s at keep ps r) (n : not (r .ok) ≡ false)
+  where
+    good : TypeGot s at keep ps r
+    good = type-got w n
+
+    pub type-order : r .index .start ≤ r .index .end
+    type-order = good .stops .order
+
+    pub type-ends : r .index .end ≤ length s
+    type-ends = good .stops .ends
+
+type-not : (p : Parse EventType) (s : List ℕ) (at : ℕ) (keep : Bool) (ps : List ℕ) (r : TypeRead) → TypeReads p s at keep ps r → r .ok ≡ false → p ≡ fail
 unfolding TypeReads
 type-not fail s at keep ps r k h = refl
 type-not (got t u) s at keep ps r k h = never (cc (k .right))
@@ -111,6 +125,10 @@ table-from s {n} {next} g =
     ap (λ (p : Parse ℕ). andThen p (λ count r. andThen (times readRuled count r) (λ ts. foundIf (namesRise (map nameOf ts)) ts))) (g .is)
     ∙ all-from n (drop next s)
 
+pub table-fail : (s : List ℕ) (name : Text) (ps : List ℕ) (r : TableRead) → readTable s ≡ fail → r .ok ≡ false → TableSays (tableOf s) s name ps r
+unfolding TableSays tableOf
+table-fail s name ps r e h = rw e h
+
 -- what r says of the numbers ps it says of others, if these are the same where the type is found
 says-stay : (o : Option EventType) (s ps qs : List ℕ) (r : TableRead) → TypeSays o s ps r → (r .found ≡ true → qs ≡ ps) → TypeSays o s qs r
 unfolding TypeSays
@@ -142,46 +160,54 @@ listed-none s name ps r {n} {next} g h k = record {
 }
 
 module _ {s : List ℕ} {name : Text} {ps : List ℕ} {r : TableRead} {left at start end : ℕ} (w : Listed s name ps r left at start end) where
-  pub listed-bad : 0 < left → readRuled (drop at s) ≡ fail → readTable s ≡ fail
-  listed-bad h e = w .rest ∙ ap (prepend (w .before)) (types-none (part s start end) left (drop at s) h e)
+  -- where what is left fails, the table does
+  failed : (qs : List ℕ) → typesFrom (part s start end) left (drop at s) ≡ fail → TableSays (tableOf s) s name qs r
+  failed qs e = table-fail s name qs r (w .rest ∙ ap (prepend (w .before)) e) (w .unset)
 
-  -- a further type is read into the numbers ps′, which stay where the type of the name is found
-  module _ {ps′ : List ℕ} {t : TypeRead} (h : 0 < left) (g : TypeGot s at (not (r .found)) ps′ t) where
-    -- the names, where the type's stands in the bytes
-    named-here : {b : Bool} → precedes (part s start end) (part s (t .index .start) (t .index .end)) ≡ b → precedes (part s start end) (g .what .name) ≡ b
-    named-here e = ap (precedes (part s start end)) (sym (g .stops .name)) ∙ e
+  pub listed-bad :
+      (keep : Bool) (ps′ qs : List ℕ) (t : TypeRead) → 0 < left → TypeReads (readRuled (drop at s)) s at keep ps′ t → not (t .ok) ≡ true →
+      TableSays (tableOf s) s name qs r
+  listed-bad keep ps′ qs t h k n =
+      failed qs (types-none (part s start end) left (drop at s) h (type-not (readRuled (drop at s)) s at keep ps′ t k (not-true _ n)))
 
-    pub listed-low : precedes (part s start end) (part s (t .index .start) (t .index .end)) ≡ false → readTable s ≡ fail
-    listed-low b =
-        w .rest
-        ∙ ap (prepend (w .before)) (types-low (part s start end) left (drop at s) (g .what) (drop (t .next) s) h (g .is) (named-here b))
+  -- a further type is read into the numbers ps′, which stay where the type of the name is found, and b says whether its name comes after the last one
+  module _
+      {ps′ : List ℕ} {t : TypeRead} (h : 0 < left) (g : TypeGot s at (not (r .found)) ps′ t) {b : Bool}
+      (told : b ≡ precedes (part s start end) (part s (t .index .start) (t .index .end)))
+    where
+      -- the names, where the type's stands in the bytes
+      named-here : {c : Bool} → b ≡ c → precedes (part s start end) (g .what .name) ≡ c
+      named-here e = ap (precedes (part s start end)) (sym (g .stops .name)) ∙ sym told ∙ e
 
-    pub listed-more :
-        {q : TableRead} → precedes (part s start end) (part s (t .index .start) (t .index .end)) ≡ true → q .ok ≡ r .ok →
-        ((ts : List EventType) (u : EventType) (ns : List ℕ) → TypeSays (typeNamed name ts) s ns r → (r .found ≡ false → TypeIs s u (t .index) ns) →
-        TypeSays (typeNamed name (ts ++ (u ∷ []))) s ns q) →
-        (not (r .found) ≡ false → ps′ ≡ ps) → Listed s name ps′ q (left - 1) (t .next) (t .index .start) (t .index .end)
-    listed-more b o kept stay = record {
-      before = w .before ++ (g .what ∷ []);
-      rest =
-          w .rest
-          ∙ ap (prepend (w .before)) (types-more (part s start end) left (drop at s) (g .what) (drop (t .next) s) h (g .is) (named-here b))
-          ∙ prepend-two (w .before) (g .what ∷ []) (typesFrom (g .what .name) (left - 1) (drop (t .next) s))
-          ∙ ap (λ (v : Text). prepend (w .before ++ (g .what ∷ [])) (typesFrom v (left - 1) (drop (t .next) s))) (sym (g .stops .name));
-      within = g .stops .within;
-      order = g .stops .order;
-      ends = g .stops .ends;
-      unset = o ∙ w .unset;
-      says =
-          kept (w .before) (g .what) ps′ (says-stay (typeNamed name (w .before)) s ps ps′ r (w .says) (λ e. stay (ap not e))) (λ e. g .stops .is (ap not e));
-    }
+      pub listed-low : (qs : List ℕ) → not b ≡ true → TableSays (tableOf s) s name qs r
+      listed-low qs n = failed qs (types-low (part s start end) left (drop at s) (g .what) (drop (t .next) s) h (g .is) (named-here (not-true _ n)))
 
-  listed-all : left ≡ 0 → readTable s ≡ got (w .before) (drop at s)
+      pub listed-more :
+          {q : TableRead} → not b ≡ false → q .ok ≡ r .ok →
+          ((ts : List EventType) (u : EventType) (ns : List ℕ) → TypeSays (typeNamed name ts) s ns r → (r .found ≡ false → TypeIs s u (t .index) ns) →
+          TypeSays (typeNamed name (ts ++ (u ∷ []))) s ns q) →
+          (not (r .found) ≡ false → ps′ ≡ ps) → Listed s name ps′ q (left - 1) (t .next) (t .index .start) (t .index .end)
+      listed-more n o kept stay = record {
+        before = w .before ++ (g .what ∷ []);
+        rest =
+            w .rest
+            ∙ ap (prepend (w .before)) (types-more (part s start end) left (drop at s) (g .what) (drop (t .next) s) h (g .is) (named-here (not-false _ n)))
+            ∙ prepend-two (w .before) (g .what ∷ []) (typesFrom (g .what .name) (left - 1) (drop (t .next) s))
+            ∙ ap (λ (v : Text). prepend (w .before ++ (g .what ∷ [])) (typesFrom v (left - 1) (drop (t .next) s))) (sym (g .stops .name));
+        within = g .stops .within;
+        order = g .stops .order;
+        ends = g .stops .ends;
+        unset = o ∙ w .unset;
+        says =
+            kept (w .before) (g .what) ps′ (says-stay (typeNamed name (w .before)) s ps ps′ r (w .says) (λ e. stay (ap not e))) (λ e. g .stops .is (ap not e));
+      }
+
+  listed-all : left ≤ 0 → readTable s ≡ got (w .before) (drop at s)
   listed-all h =
-      w .rest ∙ ap (prepend (w .before)) (types-end (part s start end) left (drop at s) h)
+      w .rest ∙ ap (prepend (w .before)) (types-end (part s start end) left (drop at s) (omega arith))
       ∙ ap (λ (l : List EventType). got l (drop at s)) (append-nil (w .before))
 
-  pub listed-exact : left ≡ 0 → at ≡ length s → TableSays (tableOf s) s name ps (record { ok = true; found = r .found; index = r .index })
+  pub listed-exact : left ≤ 0 → at ≡ length s → TableSays (tableOf s) s name ps (record { ok = true; found = r .found; index = r .index })
   unfolding TableSays TypeSays tableOf
   listed-exact h e =
       let z : length s ≤ at = omega arith in
@@ -191,15 +217,11 @@ module _ {s : List ℕ} {name : Text} {ps : List ℕ} {r : TableRead} {left at s
       again none k = k
       again (some t) k = k
 
-  pub listed-early : left ≡ 0 → (at ≡ length s → ⊥) → TableSays (tableOf s) s name ps r
+  pub listed-early : left ≤ 0 → (at ≡ length s → ⊥) → TableSays (tableOf s) s name ps r
   unfolding TableSays tableOf
   listed-early h e =
       let z : at < length s = omega (arith, w .within, e) in
       rw (listed-all h, drop-next s at z) (w .unset)
-
-pub table-fail : (s : List ℕ) (name : Text) (ps : List ℕ) (r : TableRead) → readTable s ≡ fail → r .ok ≡ false → TableSays (tableOf s) s name ps r
-unfolding TableSays tableOf
-table-fail s name ps r e h = rw e h
 
 -- ---- the type of a name
 

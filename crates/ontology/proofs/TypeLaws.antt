@@ -8,7 +8,7 @@ use Prim.Native.Nat.{ℕ, _+_, _-_, _≤_, _<_}
 use native.Mathlib.Omega.{arith}
 use lib.ListN.{length, drop, getElem?, length-append}
 use lib.Dec.{ltb, leb, eqb}
-use borrow.Author.Tests.{le-leb, leb-true, eq-eqb, ne-eqb, eqb-true, eqb-false}
+use borrow.Author.Tests.{le-leb, leb-true, eq-eqb, ne-eqb, eqb-true, eqb-false, not-true, not-false}
 use Rattle.model.specs.Order.{Text}
 use Rattle.model.proofs.Cases.{never, truth, and-parts}
 use Rattle.packed.specs.Parse.{Parse, fail, got, Layout, andThen, found, foundIf, suchThat, times}
@@ -327,17 +327,18 @@ module _
       fits-here f e =
           ap (λ (m : Bool). propertyFits (ltb 0 mark) m (part s start end) (t .what)) (sym (mark-here mark k)) ∙ sym (f (t .what) (t .is)) ∙ e
 
-      pub filled-not : {b : Bool} → Fits b → b ≡ false → p ≡ fail
+      pub filled-not : {b : Bool} → Fits b → not b ≡ true → p ≡ fail
       filled-not f e =
           whole-by
-          (fitting-not (ltb 0 mark) (mark - k) (part s start end) (count - k) (drop next s) (t .what) _ (omega arith) (t .stops .is) (fits-here f e))
+          (fitting-not (ltb 0 mark) (mark - k) (part s start end) (count - k) (drop next s) (t .what) _ (omega arith) (t .stops .is)
+          (fits-here f (not-true _ e)))
 
       -- what is left after it, with the mark m, the last name v and n properties
       abbrev after : ℕ → Text → ℕ → Parse (List Property)
       after m v n = prepend (w .before ++ (t .what ∷ [])) (fittingFrom (ltb 0 mark) m v n (drop e s))
 
       pub filled-more :
-          {b : Bool} {ys : List ℕ} → Fits b → b ≡ true → Placed keep k x xs ys → Filled p s at mark keep xs₀ ys e (x .start) (x .end) (k + 1) count
+          {b : Bool} {ys : List ℕ} → Fits b → not b ≡ false → Placed keep k x xs ys → Filled p s at mark keep xs₀ ys e (x .start) (x .end) (k + 1) count
       filled-more {b} {ys} f o d = record {
         before = w .before ++ (t .what ∷ []);
         long = length-append (w .before) (t .what ∷ []) ∙ ap (λ (n : ℕ). n + 1) (w .long);
@@ -345,7 +346,7 @@ module _
         rest =
             whole-by
             (fitting-more (ltb 0 mark) (mark - k) (part s start end) (count - k) (drop next s) (t .what) (drop e s) (omega arith) (t .stops .is)
-            (fits-here f o))
+            (fits-here f (not-false _ o)))
             ∙ prepend-two (w .before) (t .what ∷ []) (fittingFrom (ltb 0 mark) (mark - k - 1) (t .what .name) (count - k - 1) (drop e s))
             ∙ ap₂ (λ (m n : ℕ). after m (t .what .name) n)
             (let z : mark - k - 1 ≡ mark - (k + 1) = omega arith in z) (let z : count - k - 1 ≡ count - (k + 1) = omega arith in z)

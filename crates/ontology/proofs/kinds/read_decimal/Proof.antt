@@ -29,13 +29,13 @@ total :
     (c : tie.After-known-told) →
     let a = to-start c .args in
     TotalLeft (a .s .now) (a .at) (c .before .total .given .0 .0) (c .before .total .given .0 .1 .0)
-total c = total-left (any-got (c .before .total .given .1) (c .before .before .before .read-number .ensures))
+total c = search (total-left, any-got)
 
 point :
     (c : tie.After-known-told2) →
     let a = to-start (to-total c) .args in
     PointLeft (a .s .now) (a .at) (to-total c .before .total .given .0 .0) (c .before .after .given .0 .0) (c .before .after .given .0 .1 .0)
-point c = on-got readNumber _ (total (to-total c)) (any-got (c .before .after .given .1) (c .before .before .before .read-number2 .ensures))
+point c = on-got readNumber _ (total (search)) (any-got (c .before .after .given .1) (search))
 
 tested :
     (c : tie.After-digits-fit) →
@@ -44,32 +44,7 @@ tested :
     let sign = c .before .before .sign .given .0 in
     KindTested (a .s .now) (a .at) decimalNumber (to-total d .before .total .given .0 .0) (d .before .after .given .0 .0) (boolByte (sign .0)) (sign .1 .0)
     (c .digits-fit .result)
-tested c =
-    let read = c .before .before .before in
-    decimal-tested (point (to-point (c .before))) (flag-got (c .before .before .sign .given .1) (read .before .read-flag .ensures)) (c .digits-fit .ensures)
-
--- ---- the needs
-
-returns : tie.Need-returns
-returns c = decimal-none _ (any-fail _ _ (c .enum-told .given .1) (c .before .before .read-number .ensures))
-
-returns-2 : tie.Need-returns-2
-returns-2 c = on-fail readNumber _ (total (c .before .before .before)) (any-fail _ _ (c .enum-told2 .given .1) (c .before .before .read-number2 .ensures))
-
-returns-3 : tie.Need-returns-3
-returns-3 c = on-fail readFlag _ (point (c .before .before .before)) (flag-fail _ _ (c .enum-told3 .given .1) (c .before .before .read-flag .ensures))
-
-cast-t14 : tie.Need-cast-t14
-cast-t14 c = omega (arith, tested (c .before) .small (c .if1 .taken) .0)
-
-cast-t15 : tie.Need-cast-t15
-cast-t15 c = omega (arith, tested (c .before) .small (c .if1 .taken) .1)
-
-returns-4 : tie.Need-returns-4
-returns-4 c = tested (c .before) .stops (c .if1 .taken)
-
-returns-5 : tie.Need-returns-5
-returns-5 c = tested (c .before) .fails (c .if1 .left)
+tested c = decimal-tested (point (search)) (flag-got (c .before .before .sign .given .1) (search)) (search)
 
 pub read-decimal-spec : {M : Type 1} → statement M
 read-decimal-spec =
@@ -78,18 +53,18 @@ read-decimal-spec =
     (λ c κs. search needs)
     (λ c. search needs)
     (λ c. search needs)
-    returns
+    (λ c. search (decimal-none, any-fail))
     (λ c κs. search needs)
     (λ c. search needs)
     (λ c. search needs)
-    returns-2
+    (λ c. on-fail readNumber _ (total (search)) (search any-fail))
     (λ c κs. search needs)
     (λ c. search needs)
     (λ c. search needs)
-    returns-3
+    (λ c. on-fail readFlag _ (point (search)) (search flag-fail))
     (λ c κs. search needs)
-    cast-t14
-    cast-t15
+    (λ c. omega (arith, tested (search) .small (search)))
+    (λ c. omega (arith, tested (search) .small (search) .1))
     (λ c. search needs)
-    returns-4
-    returns-5)
+    (λ c. tested (search) .stops (search))
+    (λ c. tested (search) .fails (search)))

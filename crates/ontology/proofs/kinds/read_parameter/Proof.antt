@@ -25,22 +25,6 @@ tested c =
     let read = to-read c in
     one-tested (to-start read .pre) (any-got (c .before .before .n .given .1) (read .read-number .ensures)) (c .parameter-fits .ensures)
 
--- ---- the needs
-
-returns : tie.Need-returns
-returns c =
-    let read = c .before .before in
-    one-none (to-start read .pre) _ (any-fail _ _ (c .enum-told .given .1) (read .read-number .ensures))
-
-cast-t9 : tie.Need-cast-t9
-cast-t9 c = omega (arith, tested (c .before) .small (c .if1 .taken))
-
-returns-2 : tie.Need-returns-2
-returns-2 c = tested (c .before) .stops (c .if1 .taken)
-
-returns-3 : tie.Need-returns-3
-returns-3 c = tested (c .before) .fails (c .if1 .left)
-
 pub read-parameter-spec : {M : Type 1} → statement M
 read-parameter-spec =
     tie.close
@@ -48,8 +32,8 @@ read-parameter-spec =
     (λ c κs. search needs)
     (λ c. search needs)
     (λ c. search needs)
-    returns
+    (λ c. search (one-none, any-fail))
     (λ c κs. search needs)
-    cast-t9
-    returns-2
-    returns-3)
+    (λ c. omega (arith, tested (search) .small (search)))
+    (λ c. tested (search) .stops (search))
+    (λ c. tested (search) .fails (search)))

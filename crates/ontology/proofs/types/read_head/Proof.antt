@@ -23,9 +23,6 @@ to-name c = c .before .before .before .before
 abbrev to-defined : tie.After-known-told3 → tie.Else1
 to-defined c = c .before .before .before .before
 
-abbrev to-mark : tie.After-known-told4 → tie.After-known-told3
-to-mark c = c .before .before .before .before
-
 -- ---- the values
 
 abbrev definition : tie.After-known-told2 → ℕ
@@ -37,11 +34,10 @@ named :
     (c : tie.After-known-told) →
     let a = to-start c .args in
     TypeNamed (a .table .now) (a .at) (c .before .start .given .0 .0) (c .before .start .given .0 .1 .0)
-named c = type-named (name-got (c .before .start .given .1) (c .before .before .before .read-name .ensures))
+named c = search (type-named, name-got)
 
 numbered : (c : tie.After-known-told2) → Left (named (to-name c)) (after-definition (definition c)) (c .before .definition .given .0 .1 .0)
-numbered c =
-    on-got readNumber _ (named (to-name c) .left) (any-got (c .before .definition .given .1) (c .before .before .before .read-number .ensures))
+numbered c = on-got readNumber _ (named (search) .left) (any-got (c .before .definition .given .1) (search))
 
 defined :
     (c : tie.Else1) →
@@ -53,33 +49,14 @@ marked :
     (c : tie.After-known-told3) →
     let d = to-defined c .before in
     Left (named (to-name d)) (after-mark (definition d) (c .before .mark .given .0 .0)) (c .before .mark .given .0 .1 .0)
-marked c = on-got readNumber _ (defined (to-defined c)) (any-got (c .before .mark .given .1) (c .before .before .before .read-number2 .ensures))
+marked c = on-got readNumber _ (defined (search)) (any-got (c .before .mark .given .1) (search))
 
 -- ---- the needs
 
-returns : tie.Need-returns
-returns c = type-unnamed _ (name-fail _ _ (c .enum-told .given .1) (c .before .before .read-name .ensures))
-
-returns-2 : tie.Need-returns-2
-returns-2 c = on-fail readNumber _ (named (c .before .before .before) .left) (any-fail _ _ (c .enum-told2 .given .1) (c .before .before .read-number .ensures))
-
-returns-3 : tie.Need-returns-3
-returns-3 c = on-not _ (numbered (c .before)) (lt-leb 1 (definition (c .before)) (omega arith))
-
-returns-4 : tie.Need-returns-4
-returns-4 c = on-fail readNumber _ (defined (c .before .before .before)) (any-fail _ _ (c .enum-told3 .given .1) (c .before .before .read-number2 .ensures))
-
-returns-5 : tie.Need-returns-5
-returns-5 c =
-    let fails = number-fail _ _ (c .enum-told4 .given .1) (c .before .before .read-within .ensures) in
-    on-fail (suchThat (isWithin 1 32) readNumber) _ (marked (c .before .before .before)) fails
-
 returns-6 : tie.Need-returns-6
 returns-6 c =
-    let mark = to-mark c in
     let counted = number-got (c .before .count .given .1) (c .before .before .before .read-within .ensures) in
-    let left = on-got (suchThat (isWithin 1 32) readNumber) _ (marked mark) counted in
-    head-is (named (to-name (to-defined mark .before))) _ _ left (got-bounds 1 32 counted .1)
+    head-is (named (search)) _ _ (on-got (suchThat (isWithin 1 32) readNumber) _ (marked (search)) counted) (got-bounds 1 32 counted .1)
 
 pub read-head-spec : {M : Type 1} → statement M
 read-head-spec =
@@ -88,18 +65,18 @@ read-head-spec =
     (λ c κs. search needs)
     (λ c. search needs)
     (λ c. search needs)
-    returns
+    (λ c. search (type-unnamed, name-fail))
     (λ c κs. search needs)
     (λ c. search needs)
     (λ c. search needs)
-    returns-2
-    returns-3
+    (λ c. on-fail readNumber _ (named (search) .left) (search any-fail))
+    (λ c. on-not _ (numbered (search)) (lt-leb 1 (definition (search)) (omega arith)))
     (λ c κs. search needs)
     (λ c. search needs)
     (λ c. search needs)
-    returns-4
+    (λ c. on-fail readNumber _ (defined (search)) (search any-fail))
     (λ c κs. search needs)
     (λ c. search needs)
     (λ c. search needs)
-    returns-5
+    (λ c. on-fail (suchThat (isWithin 1 32) readNumber) _ (marked (search)) (search number-fail))
     returns-6)

@@ -7,7 +7,6 @@ use Rattle.ontology.proofs.TypeLaws.{placed, not-placed, Filled, filled
 use Prim.Native.Nat.{_-_}
 use mathlib.Core.Logic.{⊎-elim}
 use lib.ListN.{drop}
-use borrow.Author.Tests.{not-true, not-false}
 use native.Mathlib.Omega.{arith}
 use borrow.Author.Needs.{needs}
 use Rattle.ontology.proofs.types.read_properties.Statement.{statement}
@@ -20,68 +19,33 @@ Inv-loop table at count mark keep properties₀ next₀ start₀ end₀ k₀ pro
 abbrev μ-loop : tie.MeasureT-loop
 μ-loop table at count mark keep properties₀ next₀ start₀ end₀ k₀ properties next start end k = count - k
 
--- ---- the places
-
-abbrev to-start : tie.At-loop Inv-loop μ-loop → tie.Start Inv-loop μ-loop
-to-start c = c .before .before .before
-
-abbrev to-turn : tie.After-p Inv-loop μ-loop → tie.In-loop Inv-loop μ-loop
-to-turn c = c .before .before .before
-
-abbrev to-read : tie.After-property-fits Inv-loop μ-loop → tie.After-p Inv-loop μ-loop
-to-read c = c .before .before
-
--- ---- the facts
-
-module _ (c : tie.After-p Inv-loop μ-loop) where
-  abbrev loop : tie.At-loop Inv-loop μ-loop
-  loop = to-turn c .before
-
-  -- the property that was read
-  stops :
-      let table = to-start loop .args .table .now in
-      PropertyStops (readProperty (drop (loop .loop .next) table)) table (loop .loop .next) (c .p .given .0 .0) (c .p .given .0 .1 .0)
-  stops = property-got (c .p .given .1) (c .before .before .read-property .ensures)
-
--- ---- the needs
-
-loop-holds : tie.Need-loop-holds Inv-loop μ-loop
-loop-holds c = filled-none _ _ _ _ _ _ (c .before .before .pre .0) (c .before .before .pre .2)
+-- the property that was read
+stops :
+    (c : tie.After-p Inv-loop μ-loop) →
+    let start : tie.Start Inv-loop μ-loop = search in
+    let l : tie.At-loop Inv-loop μ-loop = search in
+    let table = start .args .table .now in
+    PropertyStops (readProperty (drop (l .loop .next) table)) table (l .loop .next) (c .p .given .0 .0) (c .p .given .0 .1 .0)
+stops c = search property-got
 
 returns : tie.Need-returns Inv-loop μ-loop
 returns c =
-    let turn = c .before .before .before in
-    let l = turn .before in
-    let fails = property-fail _ _ (c .enum-told .given .1) (c .before .before .read-property .ensures) in
-    (filled-bad (l .loop .inv) (turn .loop-test .taken) fails, l .loop .inv .stay)
-
-property-fits-requires : tie.Need-property-fits-requires Inv-loop μ-loop
-property-fits-requires c κs =
-    let i = loop (c .before) .loop .inv in
-    let p = stops (c .before) .is in
-    (i .order, i .ends, p .order, p .within)
+    let l : tie.At-loop Inv-loop μ-loop = search in
+    (search (filled-bad, property-fail), l .loop .inv .stay)
 
 returns-2 : tie.Need-returns-2 Inv-loop μ-loop
 returns-2 c =
-    let read = to-read (c .before) in
-    let i = loop read .loop .inv in
-    (filled-not i (to-turn read .loop-test .taken) (stops read) (c .before .property-fits .ensures) (not-true _ (c .if1 .taken)), i .stay)
+    let l : tie.At-loop Inv-loop μ-loop = search in
+    (filled-not (l .loop .inv) (search) (stops (search)) (c .before .property-fits .ensures) (c .if1 .taken), l .loop .inv .stay)
 
 loop-again : tie.Need-loop-again Inv-loop μ-loop
 loop-again c =
-    let asked = c .before .before in
-    let read = to-read asked in
-    let i = loop read .loop .inv in
-    filled-more i (to-turn read .loop-test .taken) (stops read) (asked .property-fits .ensures) (not-false _ (c .before .if1 .left))
+    let l : tie.At-loop Inv-loop μ-loop = search in
+    filled-more (l .loop .inv) (search) (stops (search)) (c .before .before .property-fits .ensures) (c .before .if1 .left)
     (⊎-elim
-    (λ w. placed (w .0 .taken) (w .5) (w .2 .ensures .0) (w .2 .ensures .1) (omega (arith, i .size, w .3 .given)))
-    (λ w. not-placed (w .0 .left) (w .1) (i .size))
+    (λ w. placed (w .0 .taken) (w .5) (w .2 .ensures .0) (w .2 .ensures .1) (omega (arith, l .loop .inv .size, w .3 .given)))
+    (λ w. not-placed (w .0 .left) (w .1) (l .loop .inv .size))
     (c .if2 .came))
-
-returns-3 : tie.Need-returns-3 Inv-loop μ-loop
-returns-3 c =
-    let i = c .before .loop .inv in
-    (filled-all i (to-start (c .before) .pre .1) (c .loop-test .left), i .stay)
 
 pub read-properties-spec : {M : Type 1} → statement M
 read-properties-spec =
@@ -89,14 +53,14 @@ read-properties-spec =
     (tie.spec
     Inv-loop
     μ-loop
-    loop-holds
+    (λ c. search filled-none)
     (λ c κs. search needs)
     (λ c. search needs)
     (λ c. search needs)
     (λ c. search needs)
     returns
     (λ c. search needs)
-    property-fits-requires
+    (λ c κs. (search needs, search needs, stops (search) .is .order, stops (search) .is .within))
     (λ c. search needs)
     returns-2
     (λ c κs. search needs)
@@ -104,4 +68,4 @@ read-properties-spec =
     (λ c. search needs)
     loop-again
     (λ c. search needs)
-    returns-3)
+    (λ c. (search filled-all, c .before .loop .inv .stay)))
