@@ -31,19 +31,19 @@ kind-fail {p} s at h w = subst (KindReads p s at) h w
 
 -- ---- ranges
 
-pub width-is : (n : ℕ) → 1 ≤ n → n ≤ 4 → isWidth n ≡ true
+pub width-is : (n : ℕ) → 1 ≤ n → n ≤ 4 → true ≡ isWidth n
 unfolding isWidth
 width-is n h k = rw (is-within 1 4 n h k)
 
-pub width-eight : (n : ℕ) → n ≡ 8 → isWidth n ≡ true
+pub width-eight : (n : ℕ) → n ≡ 8 → true ≡ isWidth n
 unfolding isWidth
 width-eight n h = rw h
 
-pub width-none : (n : ℕ) → n < 1 → isWidth n ≡ false
+pub width-none : (n : ℕ) → n < 1 → false ≡ isWidth n
 unfolding isWidth
 width-none n h = rw (is-below 1 4 n h, ne-eqb n 8 (λ e. omega arith))
 
-pub width-wide : (n : ℕ) → 4 < n → (n ≡ 8 → ⊥) → isWidth n ≡ false
+pub width-wide : (n : ℕ) → 4 < n → (n ≡ 8 → ⊥) → false ≡ isWidth n
 unfolding isWidth
 width-wide n h k = rw (is-above 1 4 n (omega arith) h, ne-eqb n 8 k)
 
@@ -55,17 +55,19 @@ width-small n e = go (isWithin 1 4 n) refl e
     go true h e = omega (arith, within-bounds 1 4 n h)
     go false h e = omega (arith, eqb-true n 8 e)
 
-pub fits-width : (kind n : ℕ) → kind ≤ signedNumber → parameterFits kind n ≡ isWidth n
+pub fits-width : (kind n : ℕ) → kind ≤ signedNumber → {r : Bool} → r ≡ isWidth n → r ≡ parameterFits kind n
 unfolding parameterFits
-fits-width kind n h = rw (le-leb kind signedNumber h)
+fits-width kind n h r = rw (le-leb kind signedNumber h) r
 
-pub fits-string : (kind n : ℕ) → signedNumber < kind → kind ≡ stringNumber → parameterFits kind n ≡ isWithin 1 120 n
+pub fits-string :
+    (kind n : ℕ) → signedNumber < kind → kind ≡ stringNumber → {r : Bool} → r ≡ isWithin 1 120 n → r ≡ parameterFits kind n
 unfolding parameterFits
-fits-string kind n h k = rw (lt-leb kind signedNumber h, eq-eqb kind stringNumber k)
+fits-string kind n h k r = rw (lt-leb kind signedNumber h, eq-eqb kind stringNumber k) r
 
-pub fits-hex : (kind n : ℕ) → signedNumber < kind → (kind ≡ stringNumber → ⊥) → parameterFits kind n ≡ isWithin 1 60 n
+pub fits-hex :
+    (kind n : ℕ) → signedNumber < kind → (kind ≡ stringNumber → ⊥) → {r : Bool} → r ≡ isWithin 1 60 n → r ≡ parameterFits kind n
 unfolding parameterFits
-fits-hex kind n h k = rw (lt-leb kind signedNumber h, ne-eqb kind stringNumber k)
+fits-hex kind n h k r = rw (lt-leb kind signedNumber h, ne-eqb kind stringNumber k) r
 
 pub fits-small : (kind n : ℕ) → parameterFits kind n ≡ true → n ≤ 120
 unfolding parameterFits
@@ -80,14 +82,14 @@ fits-small kind n e = go (leb kind signedNumber) (eqb kind stringNumber) e
 abbrev pub digitsFit : ℕ → ℕ → Bool
 digitsFit total after = isWithin 2 38 total && isWithin 1 (total - 1) after
 
-pub digits-few : (total after : ℕ) → total < 2 → digitsFit total after ≡ false
+pub digits-few : (total after : ℕ) → total < 2 → false ≡ digitsFit total after
 digits-few total after h = rw (is-below 2 38 total h)
 
-pub digits-many : (total after : ℕ) → 2 ≤ total → 38 < total → digitsFit total after ≡ false
+pub digits-many : (total after : ℕ) → 2 ≤ total → 38 < total → false ≡ digitsFit total after
 digits-many total after h k = rw (is-above 2 38 total h k)
 
-pub digits-are : (total after : ℕ) → 2 ≤ total → total ≤ 38 → digitsFit total after ≡ isWithin 1 (total - 1) after
-digits-are total after h k = rw (is-within 2 38 total h k)
+pub digits-are : (total after : ℕ) → 2 ≤ total → total ≤ 38 → {r : Bool} → r ≡ isWithin 1 (total - 1) after → r ≡ digitsFit total after
+digits-are total after h k r = rw (is-within 2 38 total h k) r
 
 pub digits-small : (total after : ℕ) → digitsFit total after ≡ true → (total ≤ 38) × (after ≤ 38)
 digits-small total after e = go (isWithin 2 38 total) refl e

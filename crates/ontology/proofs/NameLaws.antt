@@ -35,38 +35,38 @@ pub letter-above : (b : ℕ) → 122 < b → isLetter b ≡ false
 unfolding isLetter
 letter-above b h = rw (le-leb 97 b (omega arith), lt-leb b 122 h)
 
-pub byte-letter : (b : ℕ) → isLetter b ≡ true → isNameByte b ≡ true
+pub byte-letter : (b : ℕ) {t : Bool} → t ≡ isLetter b → t ≡ true → true ≡ isNameByte b
 unfolding isNameByte
-byte-letter b h = rw h
+byte-letter b told h = rw (sym told ∙ h)
 
-pub byte-digit : (b : ℕ) → 48 ≤ b → b ≤ 57 → isNameByte b ≡ true
+pub byte-digit : (b : ℕ) → 48 ≤ b → b ≤ 57 → true ≡ isNameByte b
 unfolding isNameByte
 byte-digit b h k = rw (letter-below b (omega arith), le-leb 48 b h, le-leb b 57 k)
 
 -- the hyphen is 45, the dot 46
-pub byte-mark : (b : ℕ) → 45 ≤ b → b ≤ 46 → isNameByte b ≡ true
+pub byte-mark : (b : ℕ) → 45 ≤ b → b ≤ 46 → true ≡ isNameByte b
 unfolding isNameByte
 byte-mark b h k = rw (letter-below b (omega arith), lt-leb 48 b (omega arith)) (go (eqb b 46) refl)
   where
-    go : (t : Bool) → eqb b 46 ≡ t → (t || eqb b 45) ≡ true
+    go : (t : Bool) → eqb b 46 ≡ t → true ≡ (t || eqb b 45)
     go true e = refl
-    go false e = eq-eqb b 45 (omega (arith, eqb-false b 46 e))
+    go false e = sym (eq-eqb b 45 (omega (arith, eqb-false b 46 e)))
 
-byte-low : (b : ℕ) → b < 48 → (b ≡ 45 → ⊥) → (b ≡ 46 → ⊥) → isNameByte b ≡ false
+byte-low : (b : ℕ) → b < 48 → (b ≡ 45 → ⊥) → (b ≡ 46 → ⊥) → false ≡ isNameByte b
 unfolding isNameByte
 byte-low b h k l = rw (letter-below b (omega arith), lt-leb 48 b h, ne-eqb b 46 l, ne-eqb b 45 k)
 
-pub byte-below : (b : ℕ) → b < 45 → isNameByte b ≡ false
+pub byte-below : (b : ℕ) → b < 45 → false ≡ isNameByte b
 byte-below b h = byte-low b (omega arith) (λ e. omega arith) (λ e. omega arith)
 
 -- the slash
-pub byte-between : (b : ℕ) → 46 < b → b < 48 → isNameByte b ≡ false
+pub byte-between : (b : ℕ) → 46 < b → b < 48 → false ≡ isNameByte b
 byte-between b h k = byte-low b k (λ e. omega arith) (λ e. omega arith)
 
-pub byte-high : (b : ℕ) → 57 < b → isLetter b ≡ false → isNameByte b ≡ false
+pub byte-high : (b : ℕ) → 57 < b → {t : Bool} → t ≡ isLetter b → t ≡ false → false ≡ isNameByte b
 unfolding isNameByte
-byte-high b h k =
-    rw (k, le-leb 48 b (omega arith), lt-leb b 57 h, ne-eqb b 46 (λ e. omega arith), ne-eqb b 45 (λ e. omega arith))
+byte-high b h told k =
+    rw (sym told ∙ k, le-leb 48 b (omega arith), lt-leb b 57 h, ne-eqb b 46 (λ e. omega arith), ne-eqb b 45 (λ e. omega arith))
 
 -- ---- how long a name is
 

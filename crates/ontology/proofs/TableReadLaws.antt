@@ -267,18 +267,19 @@ module _ (n : Text) (ts : List EventType) (t : EventType) (s ps : List ℕ) (r :
       go (some u) k = let y = k .0 in let z : _≡_ {A = ℕ} 0 1 = cc in absurd (omega arith)
 
   -- x is the next type, whose name stands in the bytes
-  module _ {x : TypeIndex} (h : r .found ≡ false) (k : TypeIs s t x ps) where
-    now-named : {b : Bool} → equal texts n (part s (x .start) (x .end)) ≡ b → typeNamed n (ts ++ (t ∷ [])) ≡ cond b (some t) none
-    now-named e = named-none n ts t (none-yet h) ∙ ap (λ (b : Bool). cond b (some t) none) (ap (equal texts n) (sym (k .name)) ∙ e)
+  module _
+      (x : TypeIndex) (h : r .found ≡ false) (is : r .found ≡ false → TypeIs s t x ps) {e : Bool} (told : e ≡ equal texts n (part s (x .start) (x .end)))
+    where
+      now-named : {b : Bool} → e ≡ b → typeNamed n (ts ++ (t ∷ [])) ≡ cond b (some t) none
+      now-named e = named-none n ts t (none-yet h) ∙ ap (λ (b : Bool). cond b (some t) none) (ap (equal texts n) (sym (is h .name)) ∙ sym told ∙ e)
 
-    pub keep-new :
-        equal texts n (part s (x .start) (x .end)) ≡ true → TypeSays (typeNamed n (ts ++ (t ∷ []))) s ps (record { ok = r .ok; found = true; index = x })
-    unfolding TypeSays
-    keep-new e = rw (now-named e) (refl, k)
+      pub keep-new : e ≡ true → TypeSays (typeNamed n (ts ++ (t ∷ []))) s ps (record { ok = r .ok; found = true; index = x })
+      unfolding TypeSays
+      keep-new e = rw (now-named e) (refl, is h)
 
-    pub keep-none : equal texts n (part s (x .start) (x .end)) ≡ false → TypeSays (typeNamed n (ts ++ (t ∷ []))) s ps r
-    unfolding TypeSays
-    keep-none e = rw (now-named e) h
+      pub keep-none : e ≡ false → TypeSays (typeNamed n (ts ++ (t ∷ []))) s ps r
+      unfolding TypeSays
+      keep-none e = rw (now-named e) h
 
 -- ---- the call
 

@@ -15,13 +15,13 @@ use Rattle.ontology.proofs.kinds.read_decimal.Tie as tie
 -- ---- the places
 
 abbrev to-start : tie.After-known-told → tie.Start
-to-start c = c .before .before .before .before .before
+to-start c = search
 
 abbrev to-total : tie.After-known-told2 → tie.After-known-told
-to-total c = c .before .before .before .before
+to-total c = search
 
 abbrev to-point : tie.After-known-told3 → tie.After-known-told2
-to-point c = c .before .before .before .before
+to-point c = search
 
 -- ---- the facts
 

@@ -14,7 +14,7 @@ use Rattle.ontology.proofs.kinds.read_kind.Tie as tie
 -- ---- the places
 
 abbrev to-start : tie.After-known-told → tie.Start
-to-start c = c .before .before .before .before .before
+to-start c = search
 
 -- ---- the facts
 

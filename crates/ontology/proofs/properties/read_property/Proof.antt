@@ -14,19 +14,19 @@ use Rattle.ontology.proofs.properties.read_property.Tie as tie
 -- ---- the places
 
 abbrev to-start : tie.After-known-told → tie.Start
-to-start c = c .before .before .before .before .before
+to-start c = search
 
 abbrev to-name : tie.After-known-told2 → tie.After-known-told
-to-name c = c .before .before .before .before
+to-name c = search
 
 abbrev to-kind : tie.After-known-told3 → tie.After-known-told2
-to-kind c = c .before .before .before .before
+to-kind c = search
 
 abbrev to-optional : tie.After-known-told4 → tie.After-known-told3
-to-optional c = c .before .before .before .before
+to-optional c = search
 
 abbrev to-flags : tie.After-known-told5 → tie.After-known-told4
-to-flags c = c .before .before .before .before
+to-flags c = search
 
 -- ---- the facts: what is left after each field
 

@@ -15,13 +15,13 @@ use Rattle.ontology.proofs.types.read_head.Tie as tie
 -- ---- the places
 
 abbrev to-start : tie.After-known-told → tie.Start
-to-start c = c .before .before .before .before .before
+to-start c = search
 
 abbrev to-name : tie.After-known-told2 → tie.After-known-told
-to-name c = c .before .before .before .before
+to-name c = search
 
 abbrev to-defined : tie.After-known-told3 → tie.Else1
-to-defined c = c .before .before .before .before
+to-defined c = search
 
 -- ---- the values
 
