@@ -279,7 +279,7 @@ plain (suc (suc (suc (suc (suc (suc (suc zero))))))) h k = record { what = boole
 plain (suc (suc (suc (suc (suc (suc (suc (suc n)))))))) h k = absurd (omega arith)
 
 -- a number of no kind
-abbrev pub IsOutside : ℕ → Type 0
+abbrev IsOutside : ℕ → Type 0
 IsOutside n = (n < unsignedNumber) ⊎ (hexNumber < n)
 
 kind-outside : (n : ℕ) (t : List ℕ) → IsOutside n → kindAfter n t ≡ fail
