@@ -83,9 +83,7 @@ read-for c =
 -- ---- the needs
 
 version-of-requires : tie.Need-version-of-requires
-version-of-requires c κs =
-    let at = c .before .before in
-    (sets-long at, checkable (known-checked (to-start at .pre .0 .0 .new) (at .read-event .ensures)))
+version-of-requires c κs = let s : tie.Start = search in search (sets-long, checkable, known-checked (s .pre .0 .0 .new))
 
 returns : tie.Need-returns
 returns c =
@@ -97,9 +95,6 @@ add-body c =
     let x = c .before in
     let read = x-to-read x in
     omega (arith, body-begins (to-start read .pre .0 .0) (head x) .0, sofar-short (sofar-known read))
-
-place-of-requires : tie.Need-place-of-requires
-place-of-requires c κs = let p = to-start (x-to-read (c .before .before)) .pre .0 in (measured-in (p .0), p .2)
 
 added-fits-requires : tie.Need-added-fits-requires
 added-fits-requires c κs =
@@ -155,7 +150,7 @@ add-event-spec =
     (λ c. search needs)
     returns
     add-body
-    place-of-requires
+    (λ c κs. let s : tie.Start = search in (measured-in (s .pre .0 .0), search needs))
     (λ c. search needs)
     added-fits-requires
     (λ c. search needs)

@@ -41,22 +41,17 @@ returns c = λ table h.
     fits-parents (h .added .both) (c .before .parents-fit .ensures) (h .head .hashes) (right-head-is h .hashes) (not-true _ (c .if1 .taken))
 
 returns-2 : tie.Need-returns-2
-returns-2 c = λ table h. let unmet = c .before in fits-unmet h (few-parents (unmet .before .before) h) (not-true _ (unmet .if2 .taken))
+returns-2 c = λ table h. search (fits-unmet h (few-parents (search) h), not-true)
 
 returns-3 : tie.Need-returns-3
-returns-3 c = λ table h. fits-versioned (h .added .both) (few-snapshots (c .before .before) h) (c .if3 .taken)
+returns-3 c = λ table h. fits-versioned (h .added .both) (few-snapshots (search) h) search
 
 objects-added-requires : tie.Need-objects-added-requires
-objects-added-requires c κs =
-    let s = to-start (to-met (c .before .before)) in
-    let is = s .pre .1 .is in
-    ((is .added .both .typed .are .few, s .pre .0 .0, s .pre .0 .1), promised-first is (c .if3 .left))
+objects-added-requires c κs = let s : tie.Start = search in let is = s .pre .1 .is in search (is .added .both .typed .are, promised-first is)
 
 returns-4 : tie.Need-returns-4
 returns-4 c = λ table h.
-    let last = c .before in
-    let un = last .if3 .left in
-    fits-objects (h .added .both) (few-snapshots (last .before .before) h) un (first-joined h un (c .objects-added .ensures))
+    fits-objects (h .added .both) (few-snapshots (search) h) (search) (first-joined h (search) (c .objects-added .ensures))
 
 pub added-fits-spec : {M : Type 1} → statement M
 added-fits-spec =

@@ -24,14 +24,6 @@ to-with c = c .before .before .before .before
 
 -- ---- the needs
 
-count-with-requires : tie.Need-count-with-requires
-count-with-requires c κs = place-there (to-start (to-heads c .before) .pre .3) .0
-
-write-number-requires : tie.Need-write-number-requires
-write-number-requires c κs =
-    let heads = count-to-heads c in
-    number-within (heads .write-heads .ensures) (c .count-with .ensures) (to-start (heads .before) .pre .3)
-
 write-with-requires : tie.Need-write-with-requires
 write-with-requires c κs =
     let written = to-number c in
@@ -39,12 +31,6 @@ write-with-requires c κs =
     let heads = count-to-heads counted in
     let p = to-start (heads .before) .pre in
     (p .0, p .1, with-there (heads .write-heads .ensures) (counted .count-with .ensures) (p .3) (written .write-number .ensures))
-
-put-snapshot-requires : tie.Need-put-snapshot-requires
-put-snapshot-requires c κs =
-    let p = to-start (count-to-heads (to-number (to-with (c .before) .before) .before) .before) .pre in
-    let (few, within, met, unmet) = place-there (p .3) in
-    ((p .2, few, within), (met, unmet))
 
 returns : tie.Need-returns
 returns c =
@@ -62,12 +48,12 @@ pub write-added-spec : {M : Type 1} → statement M
 write-added-spec =
     tie.close
     (tie.spec
-    (λ c κs. heads-within (to-start c .pre .3))
+    (λ c κs. search heads-within)
     (λ c. search needs)
-    count-with-requires
-    write-number-requires
+    (λ c κs. let s : tie.Start = search in place-there (s .pre .3) .0)
+    (λ c κs. search number-within)
     write-with-requires
-    put-snapshot-requires
+    (λ c κs. let s : tie.Start = search in search (place-there (s .pre .3)))
     (λ c. search needs)
     (λ c. search needs)
     (λ c. search needs)

@@ -45,38 +45,6 @@ stops c = snapshot-read (c .x .given .1) (x-to-read c .read-snapshot .ensures)
 
 -- ---- the needs
 
-write-alone-requires : tie.Need-write-alone-requires
-write-alone-requires c κs = let p = to-start (c .before) .pre in (p .0, apart-there (p .2))
-
-slice-reshare-prefix-same : tie.Need-slice-reshare-prefix-same
-slice-reshare-prefix-same c = let apart = c .before .before in apart-within (apart .write-alone .ensures) (alone-to-start apart .pre .2)
-
-slice-aggregate-same : tie.Need-slice-aggregate-same
-slice-aggregate-same c =
-    let apart = to-alone c in
-    sym (length-take-le _ _ (apart-within (apart .write-alone .ensures) (alone-to-start apart .pre .2)))
-
-copy-requires : tie.Need-copy-requires
-copy-requires c κs =
-    let alike = c .before in
-    let asked = alike .before in
-    let apart = to-alone (asked .before) in
-    copy-there (apart .write-alone .ensures) (alone-to-start apart .pre .2) (apart .before .before .part-of .ensures) (asked .same .ensures) (alike .if1 .taken)
-
-returns : tie.Need-returns
-returns c =
-    let copied = c .before .before in
-    let alike = copied .before .before in
-    let asked = alike .before in
-    let apart = to-alone (asked .before) in
-    both-copied (apart .write-alone .ensures) (alone-to-start apart .pre .2) (apart .before .before .part-of .ensures) (asked .same .ensures)
-    (alike .if1 .taken) (copied .copy .ensures)
-
-read-snapshot-requires : tie.Need-read-snapshot-requires
-read-snapshot-requires c κs =
-    let promised = met-promised (row-to-start c .pre .2 .met) in
-    (promised .0, search needs, λ known. promised .1)
-
 returns-2 : tie.Need-returns-2
 returns-2 c = λ h.
     let read = c .before .before .before in
@@ -90,10 +58,7 @@ write-agreed-requires c κs =
     (search needs, p .0, agreed-room (met-room (stops at) (p .2)) (marked .if2 .taken))
 
 returns-3 : tie.Need-returns-3
-returns-3 c = λ h.
-    let wrote = c .before .before in
-    let marked = wrote .before .before .before in
-    agreed-wrote (h .typed) (met-shared (stops (to-x (marked .before))) h) (wrote .write-agreed .ensures) (marked .if2 .taken)
+returns-3 c = λ h. agreed-wrote (h .typed) (met-shared (stops search) h) (c .before .before .write-agreed .ensures) search
 
 write-joined-requires : tie.Need-write-joined-requires
 write-joined-requires c κs =
@@ -103,26 +68,23 @@ write-joined-requires c κs =
     (search needs, p .0, p .1, joined-room (met-room (stops at) (p .2)) (unmarked .if2 .left))
 
 returns-4 : tie.Need-returns-4
-returns-4 c = λ h.
-    let wrote = c .before .before in
-    let unmarked = wrote .before .before .before in
-    joined-wrote (h .typed) (met-shared (stops (to-x (unmarked .before))) h) (wrote .write-joined .ensures) (unmarked .if2 .left)
+returns-4 c = λ h. joined-wrote (h .typed) (met-shared (stops search) h) (c .before .before .write-joined .ensures) search
 
 pub write-met-spec : {M : Type 1} → statement M
 write-met-spec =
     tie.close
     (tie.spec
     (λ c κs. search needs)
-    write-alone-requires
-    slice-reshare-prefix-same
-    slice-aggregate-same
+    (λ c κs. search apart-there)
+    (λ c. search apart-within)
+    (λ c. sym (length-take-le _ _ (search apart-within)))
     (λ c κs. search needs)
-    copy-requires
+    (λ c κs. search copy-there)
     (λ c. search needs)
     (λ c. search needs)
-    returns
+    (λ c. search both-copied)
     (λ c. search needs)
-    read-snapshot-requires
+    (λ c κs. let s : tie.Start = search in search (met-promised (s .pre .2 .met)))
     (λ c. search needs)
     (λ c. search needs)
     (λ c. search needs)

@@ -34,22 +34,10 @@ stands-within c = ends-within (met-to-start c .pre .2 .in-some)
 
 -- ---- the needs
 
-write-alone-requires : tie.Need-write-alone-requires
-write-alone-requires c κs =
-    let unmet = c .before in
-    let p = to-start (unmet .before) .pre in
-    (p .0, alone-there (p .2) (not-true _ (unmet .if1 .taken)))
-
 returns : tie.Need-returns
 returns c = λ table m x h n.
     let wrote = c .before .before in
     wrote-as (sym (new-alone-bytes h (not-true _ (wrote .before .before .if1 .taken)) _ n)) (wrote .write-alone .ensures _ (h .read))
-
-write-met-requires : tie.Need-write-met-requires
-write-met-requires c κs =
-    let met = to-met c in
-    let p = met-to-start met .pre in
-    (p .0, p .1, both-there (p .2) (not-false _ (met .if1 .left)))
 
 returns-2 : tie.Need-returns-2
 returns-2 c = λ table m x h n.
@@ -61,12 +49,12 @@ pub write-new-spec : {M : Type 1} → statement M
 write-new-spec =
     tie.close
     (tie.spec
-    write-alone-requires
+    (λ c κs. search (alone-there, not-true))
     (λ c. search needs)
     returns
-    (λ c. omega (arith, stands-within (c .before)))
-    (λ c. omega (arith, stands-within (c .before .before)))
-    write-met-requires
+    (λ c. omega (arith, stands-within search))
+    (λ c. omega (arith, stands-within search))
+    (λ c κs. search (both-there, not-false))
     (λ c. search needs)
     (λ c. search needs)
     returns-2)

@@ -33,15 +33,6 @@ place-within c = ends-within (to-start c .pre .2 .in-some)
 
 -- ---- the needs
 
-copy-part-requires : tie.Need-copy-part-requires
-copy-part-requires c κs = lower-there (to-start (c .before .before) .pre .2)
-
-write-new-requires : tie.Need-write-new-requires
-write-new-requires c κs =
-    let lower = to-lower c in
-    let p = lower-to-start lower .pre in
-    (p .0, p .1, new-there (lower .copy-part .ensures) (p .2))
-
 sub-size : tie.Need-sub-size
 sub-size c =
     let new = to-new c in
@@ -69,8 +60,8 @@ write-with-spec =
     (tie.spec
     (λ c. omega (arith, place-within c))
     (λ c. omega (arith, place-within (c .before)))
-    copy-part-requires
-    write-new-requires
+    (λ c κs. search lower-there)
+    (λ c κs. search new-there)
     sub-size
     copy-part-requires-2
     (λ c. search needs)

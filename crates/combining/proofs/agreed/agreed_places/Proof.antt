@@ -58,8 +58,8 @@ agreed-places-spec =
     Inv-loop
     μ-loop
     loop-holds
-    (λ c κs. (search needs, inside c))
-    (λ c κs. (search needs, inside (c .before)))
+    (λ c κs. search (needs, inside))
+    (λ c κs. search (needs, inside))
     (λ c. search needs)
     (λ c κs. search needs)
     (λ c κs. search needs)

@@ -43,15 +43,6 @@ parts c =
 
 -- ---- the needs
 
-write-number-requires-2 : tie.Need-write-number-requires-2
-write-number-requires-2 c κs = let v = to-version c in presence-room (parts (v .before .before)) (v .write-number .ensures) refl
-
-write-number-requires-3 : tie.Need-write-number-requires-3
-write-number-requires-3 c κs =
-    let p = to-presence c in
-    let v = to-version (p .before) in
-    differ-room (parts (v .before .before)) (v .write-number .ensures) refl (p .write-number2 .ensures) refl
-
 write-sets-requires : tie.Need-write-sets-requires
 write-sets-requires c κs =
     let d = to-differ c in
@@ -81,9 +72,9 @@ write-agreed-spec =
     (λ c κs. search needs)
     (λ c κs. search needs)
     (λ c κs. search needs)
-    (λ c κs. version-room (parts (c .before)))
-    write-number-requires-2
-    write-number-requires-3
+    (λ c κs. version-room (parts search))
+    (λ c κs. search (presence-room (parts search)))
+    (λ c κs. let v : tie.After-write-number = search in search (differ-room (parts search) (v .write-number .ensures) refl))
     write-sets-requires
     (λ c. search needs)
     returns)

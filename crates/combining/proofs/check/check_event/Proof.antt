@@ -65,28 +65,17 @@ event-taken c = asked-checked (accepted-is narrow _ _ _ _ _ (answered (c .before
 
 -- ---- the needs
 
-returns-2 : tie.Need-returns-2
-returns-2 c =
-    let a = c .before in
-    check-refused _ _ _ _ (room (to-if1 a)) (refused-is narrow _ _ _ _ _ (answered a) (c .if2 .taken))
-
-version-of-requires : tie.Need-version-of-requires
-version-of-requires c κs = let taken = c .before in (sets-long (taken .before), checkable (event-taken taken))
-
 write-lone-requires : tie.Need-write-lone-requires
 write-lone-requires c κs =
-    let v = c .before .before in
-    let taken = v .before .before in
-    let a = event-taken taken in
-    (sets-long (taken .before), lone-room a _ _ (v .version-of .ensures (checkable a)) (room (to-if1 (taken .before))))
+    let a = event-taken search in
+    let v : tie.After-version-of = search in
+    search (sets-long, lone-room a, v .version-of .ensures (checkable a), room (to-if1 search))
 
 returns-3 : tie.Need-returns-3
 returns-3 c =
-    let written = c .before .before in
-    let v = written .before .before .before in
-    let taken = v .before .before in
-    let a = event-taken taken in
-    check-done _ _ _ a _ _ _ (room (to-if1 (taken .before))) (v .version-of .ensures (checkable a)) (written .write-lone .ensures .0 _ (a .read))
+    let a = event-taken search in
+    let v : tie.After-version-of = search in
+    check-done _ _ _ a _ _ _ (room (to-if1 search)) (v .version-of .ensures (checkable a)) (c .before .before .write-lone .ensures .0 _ (a .read))
 
 pub check-event-spec : {M : Type 1} → statement M
 check-event-spec =
@@ -101,9 +90,9 @@ check-event-spec =
     (λ c. search needs)
     (λ c. search needs)
     (λ c κs. search needs)
-    returns-2
+    (λ c. check-refused _ _ _ _ (room (to-if1 search)) (refused-is narrow _ _ _ _ _ (answered search) search))
     (λ c. search needs)
-    version-of-requires
+    (λ c κs. search (sets-long, checkable (event-taken search)))
     (λ c. search needs)
     write-lone-requires
     (λ c. search needs)

@@ -37,20 +37,11 @@ module _ (c : tie.After-read-event) where
 
 -- ---- the needs
 
-version-of-requires : tie.Need-version-of-requires
-version-of-requires c κs = let read = c .before .before in (sets-long read, checkable (event-taken read))
-
 write-lone-requires : tie.Need-write-lone-requires
 write-lone-requires c κs =
-    let v = c .before .before in
-    let read = to-read v in
-    let a = event-taken read in
-    (sets-long read, lone-room a _ _ (v .version-of .ensures (checkable a)) (to-start read .pre .2))
-
-sub-size : tie.Need-sub-size
-sub-size c =
-    let written = to-written c in
-    written .write-lone .ensures .1 _ (event-taken (to-read (written .before .before .before)) .read) .0
+    let a = event-taken search in
+    let v : tie.After-version-of = search in
+    search (sets-long, lone-room a, v .version-of .ensures (checkable a))
 
 returns : tie.Need-returns
 returns c =
@@ -71,10 +62,10 @@ check-known-spec =
     (λ c. search needs)
     (λ c κs. search needs)
     (λ c. search needs)
-    version-of-requires
+    (λ c κs. search (sets-long, checkable (event-taken search)))
     (λ c. search needs)
     write-lone-requires
-    sub-size
+    (λ c. let w : tie.After-write-lone = search in w .write-lone .ensures .1 _ (event-taken (search) .read) .0)
     (λ c κs. search needs)
     (λ c. search needs)
     (λ c. search needs)

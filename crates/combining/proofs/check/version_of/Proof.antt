@@ -35,9 +35,6 @@ marked-value c h =
 
 -- ---- the needs
 
-returns : tie.Need-returns
-returns c = λ h. no-version h (c .if1 .taken)
-
 set-at-requires : tie.Need-set-at-requires
 set-at-requires c κs =
     let low = mark-low (to-start c .pre .1) (c .if1 .left) in
@@ -56,7 +53,7 @@ pub version-of-spec : {M : Type 1} → statement M
 version-of-spec =
     tie.close
     (tie.spec
-    returns
+    (λ c. λ h. search (no-version h))
     (λ c. mark-low (to-start c .pre .1) (c .if1 .left) .0)
     set-at-requires
     (λ c κs. search needs)

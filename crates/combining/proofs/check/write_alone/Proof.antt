@@ -32,19 +32,6 @@ parts c = record { room = c .pre .1 .room }
 
 -- ---- the needs
 
-write-number-requires-2 : tie.Need-write-number-requires-2
-write-number-requires-2 c κs =
-    let v = to-version c in
-    let s = to-start (v .before) in
-    presence-room (parts s) (v .write-number .ensures) (s .pre .1 .read .presence)
-
-write-number-requires-3 : tie.Need-write-number-requires-3
-write-number-requires-3 c κs =
-    let p = to-presence c in
-    let v = to-version (p .before) in
-    let s = to-start (v .before) in
-    differ-room (parts s) (v .write-number .ensures) (s .pre .1 .read .presence) (p .write-number2 .ensures) refl
-
 write-sets-requires : tie.Need-write-sets-requires
 write-sets-requires c κs =
     let d = to-differ c in
@@ -55,21 +42,13 @@ write-sets-requires c κs =
     let room = sets-room (parts s) (v .write-number .ensures) (is .presence) (p .write-number2 .ensures) refl (d .write-number3 .ensures) (sets-are is) in
     (s .pre .0, record { values = s .pre .1 .event .sets; are = is .sets; room = room })
 
-returns : tie.Need-returns
-returns c = λ e is.
-    let sets = c .before .before in
-    let d = to-differ (sets .before) in
-    let p = to-presence (d .before) in
-    let v = to-version (p .before) in
-    wrote-alone is _ (v .write-number .ensures) (p .write-number2 .ensures) (d .write-number3 .ensures) (sets .write-sets .ensures _ (is .sets))
-
 pub write-alone-spec : {M : Type 1} → statement M
 write-alone-spec =
     tie.close
     (tie.spec
-    (λ c κs. version-room (parts (to-start c)))
-    write-number-requires-2
-    write-number-requires-3
+    (λ c κs. version-room (parts search))
+    (λ c κs. search (presence-room (parts search)))
+    (λ c κs. search (differ-room (parts search)))
     write-sets-requires
     (λ c. search needs)
-    returns)
+    (λ c. λ e is. search (wrote-alone is, c .before .before .write-sets .ensures _ (is .sets))))

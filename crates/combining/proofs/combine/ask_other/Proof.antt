@@ -41,12 +41,6 @@ read-before c = says-same _ _ _ _ _ (c .before .same .ensures) (c .if1 .taken) (
 
 -- ---- the needs
 
-ask-dossier-requires : tie.Need-ask-dossier-requires
-ask-dossier-requires c κs =
-    let n = c .before .before in
-    let p = to-start n .pre .0 in
-    ((p .0, p .1), (p .2, type-few _ _ _ _ (read-before c) (known n)))
-
 returns : tie.Need-returns
 returns c = λ ts e.
     numbered _ _ (record { types = ts; is = e }) _ _ (c .before .before .before .type-name .ensures) _ _ (read-before (c .before)) _ (c .ask-dossier .ensures)
@@ -69,7 +63,7 @@ ask-other-spec =
     (tie.spec
     (λ c κs. search needs)
     (λ c κs. search needs)
-    ask-dossier-requires
+    (λ c κs. search (type-few _ _ _ _ (read-before c) (known search)))
     returns
     (λ c. search needs)
     (λ c κs. search needs)

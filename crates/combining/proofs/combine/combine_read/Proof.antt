@@ -18,13 +18,6 @@ asked-to-start c = to-start (c .before)
 
 -- ---- the needs
 
-limits-fit-requires : tie.Need-limits-fit-requires
-limits-fit-requires c κs =
-    let ((left, right, long, _), both) = to-start c .pre in
-    let d = both .left-read in
-    let e = both .right-read in
-    ((d .few, e .few, both .known .typed .are .few), (omega (arith, d .one, left), omega (arith, e .one, right), long))
-
 returns : tie.Need-returns
 returns c =
     let asked = c .before in
@@ -55,7 +48,7 @@ pub combine-read-spec : {M : Type 1} → statement M
 combine-read-spec =
     tie.close
     (tie.spec
-    limits-fit-requires
+    (λ c κs. search (needs, arith))
     returns
     write-combined-requires
     (λ c. search needs)

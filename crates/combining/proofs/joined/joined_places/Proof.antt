@@ -45,11 +45,11 @@ joined-places-spec =
     Inv-loop
     μ-loop
     (λ c. only-none)
-    (λ c κs. (search needs, inside c))
-    (λ c κs. (search needs, inside (c .before)))
+    (λ c κs. search (needs, inside))
+    (λ c κs. search (needs, inside))
     (λ c κs. search needs)
     array-write-present
     (λ c. search needs)
-    (λ c. omega (arith, to-turn c .loop-test .taken))
+    (λ c. search (needs, arith))
     loop-again
     (λ c. λ empty. places-all (c .before .loop .inv) empty (c .loop-test .left)))

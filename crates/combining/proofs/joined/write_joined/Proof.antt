@@ -64,17 +64,6 @@ parts c = let q = to-start c .pre .3 in joined-parts (room-joins q) (c .joined-p
 
 -- ---- the needs
 
-write-number-requires-2 : tie.Need-write-number-requires-2 Inv-loop μ-loop
-write-number-requires-2 c κs =
-    let v = to-version c in
-    presence-room (parts (v .before .before)) (v .write-number .ensures) (c .number-of .ensures)
-
-write-number-requires-3 : tie.Need-write-number-requires-3 Inv-loop μ-loop
-write-number-requires-3 c κs =
-    let p = to-presence c in
-    let v = to-version (p .before) in
-    differ-room (parts (v .before .before)) (v .write-number .ensures) (p .before .number-of .ensures) (p .write-number2 .ensures) refl
-
 write-place-requires : tie.Need-write-place-requires Inv-loop μ-loop
 write-place-requires c κs =
     let right = c .before in
@@ -110,11 +99,9 @@ same-length c =
 
 returns : tie.Need-returns Inv-loop μ-loop
 returns c = λ u ty x y w v m l r.
-    let at-loop = c .before in
     let n = joins w v m l r in
-    joined-wrote n (places at-loop .joined-places .ensures) (presence at-loop .before .number-of .ensures)
-    (version at-loop .write-number .ensures) (presence at-loop .write-number2 .ensures) (differ at-loop .write-number3 .ensures)
-    (all-gone (at-loop .loop .inv u ty x y n) (sets-end n _ (c .loop-test .left)))
+    let at-loop = c .before in
+    search (joined-wrote n (places at-loop .joined-places .ensures), all-gone (at-loop .loop .inv u ty x y n) (sets-end n _ (c .loop-test .left)))
 
 pub write-joined-spec : {M : Type 1} → statement M
 write-joined-spec =
@@ -123,14 +110,14 @@ write-joined-spec =
     Inv-loop
     μ-loop
     (λ c κs. search needs)
-    (λ c κs. version-room (parts (c .before)))
+    (λ c κs. version-room (parts search))
     (λ c κs. search needs)
-    write-number-requires-2
-    write-number-requires-3
+    (λ c κs. search (presence-room (parts search)))
+    (λ c κs. search (differ-room (parts search)))
     (λ c. λ u ty x y n. to-go)
     (λ c. search needs)
-    (λ c κs. (search needs, inside (c .before)))
-    (λ c κs. (search needs, inside (c .before .before)))
+    (λ c κs. search (needs, inside))
+    (λ c κs. search (needs, inside))
     write-place-requires
     (λ c. search needs)
     (λ c. omega (arith, c .before .loop-test .taken))

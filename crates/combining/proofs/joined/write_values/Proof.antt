@@ -44,7 +44,7 @@ write-values-spec =
     tie.close
     (tie.spec
     (λ c. omega (arith, at-within (to-start c .pre)))
-    (λ c κs. union-there (to-start c .pre))
+    (λ c κs. search union-there)
     add-write-before
     sub-write-before
     write-before-requires

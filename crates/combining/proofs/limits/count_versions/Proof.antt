@@ -41,46 +41,25 @@ module _ (c : tie.Joined3 Inv-loop μ-loop) where
       Passed (versionAt (a .t3) (l .j)) (versionAt (a .t1) (l .i)) (l .j) (c .if3 .j)
   right-passed = ⊎-elim (λ w. inl (w .0 .taken, w .1)) (λ w. inr (w .0 .left, w .1)) (c .if3 .came)
 
--- ---- the needs
-
-loop-holds : tie.Need-loop-holds Inv-loop μ-loop
-loop-holds c = counting-none (search needs, search needs) (c .pre)
-
-returns : tie.Need-returns Inv-loop μ-loop
-returns c = counting-left (c .before .before .loop .inv) (c .if1 .taken)
-
-loop-less : tie.Need-loop-less Inv-loop μ-loop
-loop-less c =
-    let t = turn c in
-    counting-less (at-loop c .loop .inv) (t .before .loop-test .taken) (t .if1 .left) (left-passed c) (right-passed c)
-
-loop-again : tie.Need-loop-again Inv-loop μ-loop
-loop-again c =
-    let t = turn c in
-    counting-more (at-loop c .loop .inv) (t .before .loop-test .taken) (t .if1 .left) (left-passed c) (right-passed c)
-
-returns-2 : tie.Need-returns-2 Inv-loop μ-loop
-returns-2 c = counting-right (c .before .loop .inv) (c .loop-test .left)
-
 pub count-versions-spec : {M : Type 1} → statement M
 count-versions-spec =
     tie.close
     (tie.spec
     Inv-loop
     μ-loop
-    loop-holds
+    (λ c. search (counting-none, needs))
     (λ c. search needs)
     (λ c. search needs)
-    returns
-    (λ c. search needs)
-    (λ c. search needs)
-    (λ c. search needs)
+    (λ c. search counting-left)
     (λ c. search needs)
     (λ c. search needs)
     (λ c. search needs)
     (λ c. search needs)
-    loop-less
-    loop-again
     (λ c. search needs)
     (λ c. search needs)
-    returns-2)
+    (λ c. search needs)
+    (λ c. search (counting-less, left-passed c, right-passed c))
+    (λ c. search (counting-more, left-passed c, right-passed c))
+    (λ c. search needs)
+    (λ c. search needs)
+    (λ c. search counting-right))

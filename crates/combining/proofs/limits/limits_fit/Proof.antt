@@ -23,9 +23,6 @@ to-parents c = c .before .before .before
 abbrev versions-to-start : tie.Else2 → tie.Start
 versions-to-start c = to-start (to-parents (c .before) .before)
 
-abbrev to-versions-asked : tie.After-n → tie.Else2
-to-versions-asked c = c .before .before .before .before
-
 -- ---- the facts
 
 -- the two dossiers that are asked about
@@ -48,30 +45,14 @@ returns : tie.Need-returns
 returns c = λ table h.
     fits-parents (h .known) (c .before .parents-fit .ensures) (h .left-read .head .hashes) (h .right-read .head .hashes) (not-true _ (c .if1 .taken))
 
-count-versions-requires : tie.Need-count-versions-requires
-count-versions-requires c κs =
-    let few = to-start (c .before .before .before) .pre .0 in
-    (few .0, few .1)
-
 returns-2 : tie.Need-returns-2
-returns-2 c = λ table h.
-    let counted = c .before in
-    versions-over h (few-parents (to-parents counted) h) (counted .count-versions .ensures) (c .if2 .taken)
+returns-2 c = λ table h. search (versions-over h (few-parents (search) h), c .before .count-versions .ensures)
 
 returns-3 : tie.Need-returns-3
-returns-3 c = λ table h. fits-versioned (h .known) (few-versions (c .before .before) h) (c .if3 .taken)
-
-objects-fit-requires : tie.Need-objects-fit-requires
-objects-fit-requires c κs =
-    let s = versions-to-start (to-versions-asked (c .before .before)) in
-    let (few, (left, right, long)) = s .pre in
-    (few .2, row-long (now (s .args .left)) 0 left, row-long (now (s .args .right)) 0 right, long)
+returns-3 c = λ table h. fits-versioned (h .known) (few-versions (search) h) search
 
 returns-4 : tie.Need-returns-4
-returns-4 c = λ table h.
-    let at-n = c .before .before .before in
-    let un = at-n .before .before .if3 .left in
-    fits-objects (h .known) (few-versions (to-versions-asked at-n) h) un (firsts-counted h un (c .objects-fit .ensures))
+returns-4 c = λ table h. fits-objects (h .known) (few-versions (search) h) (search) (firsts-counted h (search) (c .objects-fit .ensures))
 
 pub limits-fit-spec : {M : Type 1} → statement M
 limits-fit-spec =
@@ -79,7 +60,7 @@ limits-fit-spec =
     (tie.spec
     (λ c κs. search needs)
     returns
-    count-versions-requires
+    (λ c κs. search needs)
     returns-2
     returns-3
     (λ c. search needs)
@@ -90,5 +71,5 @@ limits-fit-spec =
     (λ c. search needs)
     (λ c. search needs)
     (λ c. search needs)
-    objects-fit-requires
+    (λ c κs. search (needs, row-long))
     returns-4)

@@ -46,24 +46,14 @@ returns c = λ u ty left right w un m o p v z.
 
 returns-2 : tie.Need-returns-2 Inv-loop μ-loop
 returns-2 c = λ u ty left right w un m o p v z.
-    let counted = c .before in
-    let right-set = counted .before in
-    let left-set = right-set .before in
-    let turn = left-set .before in
-    let l = turn .before .loop in
+    let at-loop : tie.At-loop Inv-loop μ-loop = search in
     let h = joins w un m v z in
-    sym (l .inv _ _ _ _ h
-    ∙ counted-over h (l .k) (l .room) (inside turn) (left-set .set-at .ensures) (right-set .set-at2 .ensures) (counted .count-place .ensures) (c .if3 .taken))
+    sym (at-loop .loop .inv _ _ _ _ h ∙ search (counted-over h, inside))
 
 loop-again : tie.Need-loop-again Inv-loop μ-loop
 loop-again c = λ u ty left right h.
-    let counted = c .before in
-    let right-set = counted .before in
-    let left-set = right-set .before in
-    let turn = left-set .before in
-    let l = turn .before .loop in
-    l .inv _ _ _ _ h
-    ∙ counted-next h (l .k) (l .room) (inside turn) (left-set .set-at .ensures) (right-set .set-at2 .ensures) (counted .count-place .ensures) (c .if3 .left)
+    let at-loop : tie.At-loop Inv-loop μ-loop = search in
+    at-loop .loop .inv _ _ _ _ h ∙ search (counted-next h, inside)
 
 returns-3 : tie.Need-returns-3 Inv-loop μ-loop
 returns-3 c = λ u ty left right w un m o p v z.
@@ -79,8 +69,8 @@ objects-fit-spec =
     μ-loop
     returns
     (λ c. λ u ty left right h. refl)
-    (λ c κs. (search needs, inside c))
-    (λ c κs. (search needs, inside (c .before)))
+    (λ c κs. search (needs, inside))
+    (λ c κs. search (needs, inside))
     (λ c κs. search needs)
     returns-2
     (λ c. search needs)

@@ -57,11 +57,6 @@ same-length c =
     let start = to-start (c .before) in
     omega (arith, length-set (l .measures) 0 (countIn (now (start .args .measures)) + 1), l .inv .3 .long, start .pre .0)
 
-returns : tie.Need-returns Inv-loop μ-loop
-returns c =
-    let (is, above, _, moved) = c .before .loop .inv in
-    moved-up _ _ _ (c .before .loop .k) above (c .loop-test .left) moved
-
 pub move-up-spec : {M : Type 1} → statement M
 move-up-spec =
     tie.close
@@ -71,12 +66,12 @@ move-up-spec =
     (λ c. search needs)
     loop-holds
     (λ c. search needs)
-    (λ c κs. let turn = c .before in (turn .before .loop .inv .3 .long, omega (arith, low turn)))
-    (λ c κs. let turn = c .before .before .before in (turn .before .loop .inv .3 .long, low turn .1))
+    (λ c κs. search (needs, arith, low))
+    (λ c κs. search (needs, arith, low))
     (λ c. search needs)
     (λ c. search needs)
     loop-again
     (λ c. search needs)
     (λ c. omega (arith, c .before .loop .inv .3 .long))
     same-length
-    returns)
+    (λ c. search moved-up))

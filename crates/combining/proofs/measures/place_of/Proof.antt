@@ -47,30 +47,12 @@ next c = omega (arith, c .before .loop .inv .0, c .loop-test .taken)
 measure-at-requires : tie.Need-measure-at-requires Inv-loop μ-loop
 measure-at-requires c κs = (to-start (c .before) .pre .1, omega (arith, next c, low (c .before)))
 
-returns : tie.Need-returns Inv-loop μ-loop
-returns c =
-    let read = to-read (c .before) in
-    let turn = read .before in
-    splits-met (turn .before .loop .inv .1) (next turn) (read .measure-at .ensures) (c .if1 .taken)
-
-returns-2 : tie.Need-returns-2 Inv-loop μ-loop
-returns-2 c =
-    let read = to-read (other (c .before) .before) in
-    let turn = read .before in
-    splits-unmet (turn .before .loop .inv .1) (next turn) (read .measure-at .ensures) (c .if2 .taken)
-
 add-before : tie.Need-add-before Inv-loop μ-loop
 add-before c =
     let read = higher-read (c .before) in
     let turn = read .before in
     let start = to-start (turn .before) in
     omega (arith, passed-fits (turn .before .loop .inv .1) (next turn) (read .measure-at .ensures) (start .pre .0), start .good .0)
-
-add-k : tie.Need-add-k Inv-loop μ-loop
-add-k c = let turn = higher-read (c .before) .before in omega (arith, next turn, low (turn .before))
-
-loop-less : tie.Need-loop-less Inv-loop μ-loop
-loop-less c = omega (arith, higher-read (c .before) .before .loop-test .taken)
 
 loop-again : tie.Need-loop-again Inv-loop μ-loop
 loop-again c =
@@ -82,9 +64,6 @@ loop-again c =
     omega (arith, other (higher .before) .if1 .left, higher .if2 .left) in
     (l .inv .0, passed-next (l .inv .1) (next turn) (read .measure-at .ensures) below)
 
-returns-3 : tie.Need-returns-3 Inv-loop μ-loop
-returns-3 c = splits-end (c .before .loop .inv .1) (omega (arith, c .before .loop .inv .0, c .loop-test .left))
-
 pub place-of-spec : {M : Type 1} → statement M
 place-of-spec =
     tie.close
@@ -94,10 +73,10 @@ place-of-spec =
     (λ c. search needs)
     (λ c. (refl, none-passed))
     measure-at-requires
-    returns
-    returns-2
+    (λ c. search (splits-met, next search))
+    (λ c. search (splits-unmet, next search))
     add-before
-    add-k
-    loop-less
+    (λ c. omega (arith, next search, low search))
+    (λ c. search (needs, arith))
     loop-again
-    returns-3)
+    (λ c. search (splits-end, arith)))

@@ -18,16 +18,6 @@ to-number c = c .before .before .before
 
 -- ---- the needs
 
-count-versions-requires : tie.Need-count-versions-requires
-count-versions-requires c κs =
-    let h = to-start (to-heads c .before) .pre .3 .both in
-    (h .left-read .few, h .right-read .few)
-
-write-number-requires : tie.Need-write-number-requires
-write-number-requires c κs =
-    let heads = to-heads (c .before) in
-    number-there (heads .write-heads .ensures) (c .count-versions .ensures) (to-start (heads .before) .pre .3)
-
 write-snapshots-requires : tie.Need-write-snapshots-requires
 write-snapshots-requires c κs =
     let written = to-number c in
@@ -36,22 +26,13 @@ write-snapshots-requires c κs =
     let p = to-start (heads .before) .pre in
     (p .0, p .1, p .2, snapshots-there (heads .write-heads .ensures) (counted .count-versions .ensures) (p .3) (written .write-number .ensures))
 
-returns : tie.Need-returns
-returns c =
-    let snapshots = c .before .before in
-    let written = to-number (snapshots .before) in
-    let counted = written .before in
-    let heads = to-heads (counted .before) in
-    combined-wrote (heads .write-heads .ensures) (counted .count-versions .ensures) (to-start (heads .before) .pre .3) (written .write-number .ensures)
-    (snapshots .write-snapshots .ensures)
-
 pub write-combined-spec : {M : Type 1} → statement M
 write-combined-spec =
     tie.close
     (tie.spec
-    (λ c κs. heads-there (to-start c .pre .3))
-    count-versions-requires
-    write-number-requires
+    (λ c κs. search heads-there)
+    (λ c κs. search needs)
+    (λ c κs. search number-there)
     write-snapshots-requires
     (λ c. search needs)
-    returns)
+    (λ c. search combined-wrote))

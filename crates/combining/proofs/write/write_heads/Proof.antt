@@ -15,9 +15,6 @@ to-union c = c .before .before .before .before
 
 -- ---- the needs
 
-write-hash-union-requires : tie.Need-write-hash-union-requires
-write-hash-union-requires c κs = union-there (c .before .before .hashes-part .ensures) (c .before .hashes-part2 .ensures) (to-start c .pre)
-
 part-write-dossier-head-end : tie.Need-part-write-dossier-head-end
 part-write-dossier-head-end c =
     let made = to-union c in
@@ -50,7 +47,7 @@ write-heads-spec =
     (λ c κs. search needs)
     (λ c κs. search needs)
     (λ c. search needs)
-    write-hash-union-requires
+    (λ c κs. search union-there)
     (λ c κs. search needs)
     (λ c κs. search needs)
     (λ c. search needs)

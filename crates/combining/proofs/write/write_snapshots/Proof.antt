@@ -29,21 +29,12 @@ to-turn c = c .before .before .before .before
 abbrev other-turn : tie.After-struct-known4 Inv-loop μ-loop → tie.Else1 Inv-loop μ-loop
 other-turn c = to-turn (c .before .before .before)
 
-abbrev copied-left : tie.After-copy-part Inv-loop μ-loop → tie.Then2 Inv-loop μ-loop
-copied-left c = c .before .before .before .before
-
-abbrev copied-right : tie.After-copy-part2 Inv-loop μ-loop → tie.Then3 Inv-loop μ-loop
-copied-right c = c .before .before .before .before
-
 -- both are of one version
 abbrev one-turn : tie.Else3 Inv-loop μ-loop → tie.Else1 Inv-loop μ-loop
 one-turn c = other-turn (c .before)
 
 abbrev parts-to-one : tie.After-part-of2 Inv-loop μ-loop → tie.Else3 Inv-loop μ-loop
 parts-to-one c = c .before .before .before .before .before .before .before .before .before .before
-
-abbrev shared-turn : tie.After-write-shared Inv-loop μ-loop → tie.Else1 Inv-loop μ-loop
-shared-turn c = one-turn (parts-to-one (c .before .before))
 
 -- ---- a snapshot of each side is left
 
@@ -56,7 +47,7 @@ module _ (c : tie.Else1 Inv-loop μ-loop) where
       let l = c .before .before .loop in
       Turn (now (a .a)) (now (a .left)) (now (a .b)) (now (a .right)) (a .t) (now (a .properties)) (now (a .out)) (a .at) (a .t2) (a .t5)
       (l .out) (l .i) (l .j) (l .next)
-  turn = turn-at (c .before .before .loop .inv) (start .pre .3) (c .before .loop-test .taken) (c .if1 .left)
+  turn = search turn-at
 
   -- their rows are there
   left-row : 96 * c .before .before .loop .i + 96 ≤ length (now (start .args .left))
@@ -67,49 +58,12 @@ module _ (c : tie.Else1 Inv-loop μ-loop) where
 
 -- ---- the needs
 
-loop-holds : tie.Need-loop-holds Inv-loop μ-loop
-loop-holds c = merging-none
-
-write-rest-requires : tie.Need-write-rest-requires Inv-loop μ-loop
-write-rest-requires c κs =
-    let at-loop = c .before .before .before in
-    left-rest (at-loop .loop .inv) (to-start at-loop .pre .3) (c .before .if1 .taken)
-
-returns : tie.Need-returns Inv-loop μ-loop
-returns c =
-    let rest = c .before .before in
-    let ended = rest .before .before in
-    left-end (ended .before .before .loop .inv) (ended .if1 .taken) (rest .write-rest .ensures)
-
-copy-part-requires : tie.Need-copy-part-requires Inv-loop μ-loop
-copy-part-requires c κs = let lower = c .before .before .before in left-copied (turn (to-turn (lower .before))) (lower .if2 .taken)
-
-loop-again : tie.Need-loop-again Inv-loop μ-loop
-loop-again c =
-    let copied = c .before .before in
-    let lower = copied-left copied in
-    turn-left (turn (to-turn (lower .before))) (lower .if2 .taken) (copied .copy-part .ensures)
-
-copy-part-requires-2 : tie.Need-copy-part-requires-2 Inv-loop μ-loop
-copy-part-requires-2 c κs = let lower = c .before .before .before in right-copied (turn (other-turn (lower .before))) (lower .if3 .taken)
-
-loop-again-2 : tie.Need-loop-again-2 Inv-loop μ-loop
-loop-again-2 c =
-    let copied = c .before .before in
-    let lower = copied-right copied in
-    turn-right (turn (other-turn (lower .before))) (lower .if3 .taken) (copied .copy-part2 .ensures)
-
 write-shared-requires : tie.Need-write-shared-requires Inv-loop μ-loop
 write-shared-requires c κs =
-    let parts = c .before in
-    let one = parts-to-one parts in
-    let at = one-turn one in (
-      row-long _ _ (left-row at),
-      row-long _ _ (right-row at),
-      start at .pre .2,
-      shared-there (turn at) (one .before .before .before .if2 .left) (one .if3 .left) (parts .before .before .before .part-of .ensures)
-          (parts .part-of2 .ensures),
-    )
+    let one : tie.Else3 Inv-loop μ-loop = search in
+    let at = one-turn one in
+    let not-left = one .before .before .before .if2 .left in
+    (row-long _ _ (left-row at), row-long _ _ (right-row at), search needs, search (shared-there (turn at) not-left (one .if3 .left)))
 
 loop-again-3 : tie.Need-loop-again-3 Inv-loop μ-loop
 loop-again-3 c =
@@ -119,63 +73,52 @@ loop-again-3 c =
     turn-both (turn (one-turn one)) (one .before .before .before .if2 .left) (one .if3 .left) (parts .before .before .before .part-of .ensures)
     (parts .part-of2 .ensures) (shared .write-shared .ensures)
 
-write-rest-requires-2 : tie.Need-write-rest-requires-2 Inv-loop μ-loop
-write-rest-requires-2 c κs =
-    let at-loop = c .before .before in
-    right-rest (at-loop .loop .inv) (to-start at-loop .pre .3) (c .before .loop-test .left)
-
-returns-2 : tie.Need-returns-2 Inv-loop μ-loop
-returns-2 c =
-    let rest = c .before .before in
-    let ended = rest .before .before in
-    right-end (ended .before .loop .inv) (ended .loop-test .left) (rest .write-rest2 .ensures)
-
 pub write-snapshots-spec : {M : Type 1} → statement M
 write-snapshots-spec =
     tie.close
     (tie.spec
     Inv-loop
     μ-loop
-    loop-holds
-    write-rest-requires
+    (λ c. merging-none)
+    (λ c κs. search left-rest)
     (λ c. search needs)
-    returns
-    (λ c. search needs)
-    (λ c. search needs)
+    (λ c. search left-end)
     (λ c. search needs)
     (λ c. search needs)
     (λ c. search needs)
     (λ c. search needs)
     (λ c. search needs)
     (λ c. search needs)
-    copy-part-requires
     (λ c. search needs)
     (λ c. search needs)
-    loop-again
+    (λ c κs. search (left-copied, turn search))
     (λ c. search needs)
     (λ c. search needs)
-    (λ c. search needs)
-    (λ c. search needs)
-    copy-part-requires-2
-    (λ c. search needs)
-    (λ c. search needs)
-    loop-again-2
-    (λ c. omega (arith, turn (one-turn c)))
-    (λ c. omega (arith, turn (one-turn c)))
-    (λ c. omega (arith, turn (one-turn c)))
+    (λ c. search (turn-left, turn search))
     (λ c. search needs)
     (λ c. search needs)
     (λ c. search needs)
-    (λ c. left-row (one-turn c))
+    (λ c. search needs)
+    (λ c κs. search (right-copied, turn search))
     (λ c. search needs)
     (λ c. search needs)
-    (λ c. omega (arith, turn (one-turn (c .before .before))))
-    (λ c. omega (arith, turn (one-turn (c .before .before))))
-    (λ c. omega (arith, turn (one-turn (c .before .before))))
+    (λ c. search (turn-right, turn search))
+    (λ c. omega (arith, turn search))
+    (λ c. omega (arith, turn search))
+    (λ c. omega (arith, turn search))
     (λ c. search needs)
     (λ c. search needs)
     (λ c. search needs)
-    (λ c. right-row (one-turn (c .before .before)))
+    (λ c. search left-row)
+    (λ c. search needs)
+    (λ c. search needs)
+    (λ c. omega (arith, turn search))
+    (λ c. omega (arith, turn search))
+    (λ c. omega (arith, turn search))
+    (λ c. search needs)
+    (λ c. search needs)
+    (λ c. search needs)
+    (λ c. search right-row)
     (λ c. search needs)
     (λ c. search needs)
     (λ c. search needs)
@@ -189,10 +132,10 @@ write-snapshots-spec =
     (λ c. search needs)
     (λ c κs. search needs)
     write-shared-requires
-    (λ c. omega (arith, turn (shared-turn (c .before .before))))
-    (λ c. omega (arith, turn (shared-turn (c .before .before))))
+    (λ c. omega (arith, turn (one-turn search)))
+    (λ c. omega (arith, turn (one-turn search)))
     (λ c. search needs)
     loop-again-3
-    write-rest-requires-2
+    (λ c κs. search right-rest)
     (λ c. search needs)
-    returns-2)
+    (λ c. search right-end))
