@@ -32,9 +32,6 @@ x-to-read c = c .before .before .before
 abbrev x-to-start : tie.After-x → tie.Start
 x-to-start c = row-to-start (x-to-read c .before)
 
-abbrev to-x : tie.After-struct-known → tie.After-x
-to-x c = c .before .before
-
 -- ---- the facts
 
 -- the one that stands in `sofar` is read
@@ -52,20 +49,18 @@ returns-2 c = λ h.
 
 write-agreed-requires : tie.Need-write-agreed-requires
 write-agreed-requires c κs =
-    let marked = c .before .before in
-    let at = to-x (marked .before) in
+    let at : tie.After-x = search in
     let p = x-to-start at .pre in
-    (search needs, p .0, agreed-room (met-room (stops at) (p .2)) (marked .if2 .taken))
+    (search needs, p .0, agreed-room (met-room (stops at) (p .2)) search)
 
 returns-3 : tie.Need-returns-3
 returns-3 c = λ h. agreed-wrote (h .typed) (met-shared (stops search) h) (c .before .before .write-agreed .ensures) search
 
 write-joined-requires : tie.Need-write-joined-requires
 write-joined-requires c κs =
-    let unmarked = c .before .before in
-    let at = to-x (unmarked .before) in
+    let at : tie.After-x = search in
     let p = x-to-start at .pre in
-    (search needs, p .0, p .1, joined-room (met-room (stops at) (p .2)) (unmarked .if2 .left))
+    (search needs, p .0, p .1, joined-room (met-room (stops at) (p .2)) search)
 
 returns-4 : tie.Need-returns-4
 returns-4 c = λ h. joined-wrote (h .typed) (met-shared (stops search) h) (c .before .before .write-joined .ensures) search

@@ -17,14 +17,6 @@ to-start c = c .before .before .before .before .before .before .before
 abbrev lower-to-start : tie.After-copy-part → tie.Start
 lower-to-start c = to-start (c .before .before .before)
 
--- the lower ones are written
-abbrev to-lower : tie.After-write-new-arg2 → tie.After-copy-part
-to-lower c = c .before .before .before .before
-
--- and the one of the event's version
-abbrev to-new : tie.After-slice-known5 → tie.After-write-new
-to-new c = c .before .before .before .before
-
 -- ---- the facts
 
 -- the place of the event's version stands in the dossier
@@ -35,21 +27,21 @@ place-within c = ends-within (to-start c .pre .2 .in-some)
 
 sub-size : tie.Need-sub-size
 sub-size c =
-    let new = to-new c in
-    let lower = to-lower (new .before) in
+    let new : tie.After-write-new = search in
+    let lower : tie.After-copy-part = search in
     new-follows (lower .copy-part .ensures) (lower-to-start lower .pre .2) (new .write-new .ensures)
 
 copy-part-requires-2 : tie.Need-copy-part-requires-2
 copy-part-requires-2 c κs =
-    let new = to-new (c .before) in
-    let lower = to-lower (new .before) in
+    let new : tie.After-write-new = search in
+    let lower : tie.After-copy-part = search in
     higher-room (lower .copy-part .ensures) (lower-to-start lower .pre .2) (new .write-new .ensures)
 
 returns : tie.Need-returns
 returns c =
     let higher = c .before .before in
-    let new = to-new (higher .before .before) in
-    let lower = to-lower (new .before) in (
+    let new : tie.After-write-new = search in
+    let lower : tie.After-copy-part = search in (
       λ table m x h n. wrote-parts h (lower .copy-part .ensures) (new .write-new .ensures table m x h n) (higher .copy-part2 .ensures),
       λ table m x h n. omega (arith, new .write-new .ensures table m x h n .after),
     )
@@ -58,8 +50,8 @@ pub write-with-spec : {M : Type 1} → statement M
 write-with-spec =
     tie.close
     (tie.spec
-    (λ c. omega (arith, place-within c))
-    (λ c. omega (arith, place-within (c .before)))
+    (λ c. omega (arith, place-within search))
+    (λ c. omega (arith, place-within search))
     (λ c κs. search lower-there)
     (λ c κs. search new-there)
     sub-size

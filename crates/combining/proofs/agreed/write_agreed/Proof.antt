@@ -19,15 +19,6 @@ to-places c = c .before .before .before .before
 abbrev to-start : tie.After-number-of2 → tie.Start
 to-start c = to-places c .before .before .before .before .before .before
 
-abbrev to-version : tie.After-write-number-arg2 → tie.After-write-number
-to-version c = c .before .before .before
-
-abbrev to-presence : tie.After-write-number-arg3 → tie.After-write-number2
-to-presence c = c .before .before .before
-
-abbrev to-differ : tie.After-write-sets-arg → tie.After-write-number3
-to-differ c = c .before .before .before
-
 -- ---- the facts
 
 -- what is written has its room, part by part
@@ -45,9 +36,9 @@ parts c =
 
 write-sets-requires : tie.Need-write-sets-requires
 write-sets-requires c κs =
-    let d = to-differ c in
-    let p = to-presence (d .before) in
-    let v = to-version (p .before) in
+    let d : tie.After-write-number3 = search in
+    let p : tie.After-write-number2 = search in
+    let v : tie.After-write-number = search in
     let numbers = v .before .before in
     let pre = to-start numbers .pre in
     let q = pre .2 in
@@ -57,9 +48,9 @@ write-sets-requires c κs =
 returns : tie.Need-returns
 returns c = λ ty left right versioned counted shared.
     let sets = c .before .before in
-    let d = to-differ (sets .before) in
-    let p = to-presence (d .before) in
-    let v = to-version (p .before) in
+    let d : tie.After-write-number3 = search in
+    let p : tie.After-write-number2 = search in
+    let v : tie.After-write-number = search in
     let n = v .before .before in
     let found = to-places n .agreed-places in
     wrote-both (both-found (found .ensures) (n .before .number-of .ensures) (n .number-of2 .ensures) versioned counted shared)

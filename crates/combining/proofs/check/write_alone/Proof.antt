@@ -9,20 +9,6 @@ use Rattle.combining.proofs.LoneLaws.{sets-are, wrote-alone}
 use Rattle.combining.proofs.check.write_alone.Statement.{statement}
 use Rattle.combining.proofs.check.write_alone.Tie as tie
 
--- ---- the places
-
-abbrev to-start : tie.After-write-number-arg → tie.Start
-to-start c = c .before .before .before .before
-
-abbrev to-version : tie.After-write-number-arg2 → tie.After-write-number
-to-version c = c .before .before .before
-
-abbrev to-presence : tie.After-write-number-arg3 → tie.After-write-number2
-to-presence c = c .before .before .before
-
-abbrev to-differ : tie.After-write-sets-arg → tie.After-write-number3
-to-differ c = c .before .before .before
-
 -- ---- the facts
 
 parts :
@@ -34,10 +20,10 @@ parts c = record { room = c .pre .1 .room }
 
 write-sets-requires : tie.Need-write-sets-requires
 write-sets-requires c κs =
-    let d = to-differ c in
-    let p = to-presence (d .before) in
-    let v = to-version (p .before) in
-    let s = to-start (v .before) in
+    let d : tie.After-write-number3 = search in
+    let p : tie.After-write-number2 = search in
+    let v : tie.After-write-number = search in
+    let s : tie.Start = search in
     let is = s .pre .1 .read in
     let room = sets-room (parts s) (v .write-number .ensures) (is .presence) (p .write-number2 .ensures) refl (d .write-number3 .ensures) (sets-are is) in
     (s .pre .0, record { values = s .pre .1 .event .sets; are = is .sets; room = room })

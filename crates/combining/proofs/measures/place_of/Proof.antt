@@ -22,16 +22,6 @@ abbrev μ-loop : tie.MeasureT-loop
 abbrev to-start : tie.At-loop Inv-loop μ-loop → tie.Start Inv-loop μ-loop
 to-start c = c .before .before .before .before
 
--- the measure of the next snapshot is read
-abbrev to-read : tie.After-struct-known2 Inv-loop μ-loop → tie.After-measure-at Inv-loop μ-loop
-to-read c = c .before .before .before
-
-abbrev other : tie.After-struct-known4 Inv-loop μ-loop → tie.Else1 Inv-loop μ-loop
-other c = c .before .before
-
-abbrev higher-read : tie.Else2 Inv-loop μ-loop → tie.After-measure-at Inv-loop μ-loop
-higher-read c = to-read (other (c .before) .before)
-
 -- ---- the facts
 
 -- the measures up to the count are among the numbers
@@ -49,7 +39,7 @@ measure-at-requires c κs = (to-start (c .before) .pre .1, omega (arith, next c,
 
 add-before : tie.Need-add-before Inv-loop μ-loop
 add-before c =
-    let read = higher-read (c .before) in
+    let read : tie.After-measure-at Inv-loop μ-loop = search in
     let turn = read .before in
     let start = to-start (turn .before) in
     omega (arith, passed-fits (turn .before .loop .inv .1) (next turn) (read .measure-at .ensures) (start .pre .0), start .good .0)
@@ -57,11 +47,11 @@ add-before c =
 loop-again : tie.Need-loop-again Inv-loop μ-loop
 loop-again c =
     let higher = c .before in
-    let read = higher-read higher in
+    let read : tie.After-measure-at Inv-loop μ-loop = search in
     let turn = read .before in
     let l = turn .before .loop in
     let below : read .measure-at .result .version .0 < to-start (turn .before) .args .version .0 =
-    omega (arith, other (higher .before) .if1 .left, higher .if2 .left) in
+    omega (arith, higher .before .before .before .if1 .left, higher .if2 .left) in
     (l .inv .0, passed-next (l .inv .1) (next turn) (read .measure-at .ensures) below)
 
 pub place-of-spec : {M : Type 1} → statement M

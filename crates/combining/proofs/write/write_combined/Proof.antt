@@ -5,26 +5,15 @@ use Rattle.combining.proofs.MergedLaws.{heads-there, number-there, snap
 use Rattle.combining.proofs.write.write_combined.Statement.{statement}
 use Rattle.combining.proofs.write.write_combined.Tie as tie
 
--- ---- the places
-
-abbrev to-start : tie.After-write-heads-arg → tie.Start
-to-start c = c .before .before .before .before .before .before .before .before .before .before .before
-
-abbrev to-heads : tie.After-write-number-arg → tie.After-write-heads
-to-heads c = c .before .before .before
-
-abbrev to-number : tie.After-write-snapshots-arg → tie.After-write-number
-to-number c = c .before .before .before
-
 -- ---- the needs
 
 write-snapshots-requires : tie.Need-write-snapshots-requires
 write-snapshots-requires c κs =
-    let written = to-number c in
-    let counted = written .before in
-    let heads = to-heads (counted .before) in
-    let p = to-start (heads .before) .pre in
-    (p .0, p .1, p .2, snapshots-there (heads .write-heads .ensures) (counted .count-versions .ensures) (p .3) (written .write-number .ensures))
+    let written : tie.After-write-number = search in
+    let heads : tie.After-write-heads = search in
+    let start : tie.Start = search in
+    let p = start .pre in
+    (p .0, p .1, p .2, snapshots-there (heads .write-heads .ensures) (written .before .count-versions .ensures) (p .3) (written .write-number .ensures))
 
 pub write-combined-spec : {M : Type 1} → statement M
 write-combined-spec =
