@@ -18,8 +18,7 @@ main-spec =
     μ-loop
     (λ c κs. search needs)
     (λ c. tt)
-    (λ c κs. search needs)
-    (λ c. search needs)
+    (λ c κs. search needs) (λ c. search needs)
     (λ c. omega arith)
     (λ c. tt)
     (λ c. search needs))

@@ -39,8 +39,7 @@ sha1-spec =
     (λ c κs. search needs)
     loop-holds
     (λ c κs. omega (arith, length-padded (to-start c .args .message .now)))
-    (λ c. search needs)
-    (λ c. search needs)
+    (λ c. search needs) (λ c. search needs)
     (λ c. search hashed-more)
     (λ c κs. search needs)
     returns)

@@ -20,11 +20,7 @@ twenty-spec =
     Inv-loop
     μ-loop
     (λ c. rounded-none _ _ _)
-    (λ c. search needs)
-    (λ c. search needs)
-    (λ c. search needs)
-    (λ c κs. search needs)
-    (λ c. search needs)
+    (λ c. search needs) (λ c. search needs) (λ c. search needs) (λ c κs. search needs) (λ c. search needs)
     (λ c. search needs)
     (λ c. search rounded-more)
     (λ c. search rounded-all))

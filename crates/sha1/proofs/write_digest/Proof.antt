@@ -19,11 +19,7 @@ write-digest-spec =
     μ-loop
     (λ c κs. search needs)
     (λ c. search pasted-none)
-    (λ c. search needs)
-    (λ c. search needs)
-    (λ c. search needs)
-    (λ c. search needs)
-    (λ c. search needs)
+    (λ c. search needs) (λ c. search needs) (λ c. search needs) (λ c. search needs) (λ c. search needs)
     (λ c. search pasted-more)
     (λ c. search needs)
     (λ c. search pasted-all))

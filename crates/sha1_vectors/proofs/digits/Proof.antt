@@ -20,10 +20,6 @@ digits-spec =
     Inv-loop
     μ-loop
     (λ c. (omega arith, sym (length-replicate {A = ℕ} 8192 48)))
-    (λ c. search needs)
-    (λ c. search needs)
-    (λ c. search needs)
-    (λ c. search needs)
-    (λ c. search needs)
+    (λ c. search needs) (λ c. search needs) (λ c. search needs) (λ c. search needs) (λ c. search needs)
     (λ c. (omega arith, simp length-set (omega arith)))
     (λ c. search needs))

@@ -141,13 +141,9 @@ pub add-event-spec : {M : Type 1} → statement M
 add-event-spec =
     tie.close
     (tie.spec
-    (λ c. search needs)
-    (λ c κs. search needs)
-    (λ c. search needs)
+    (λ c. search needs) (λ c κs. search needs) (λ c. search needs)
     version-of-requires
-    (λ c κs. search needs)
-    (λ c. search needs)
-    (λ c. search needs)
+    (λ c κs. search needs) (λ c. search needs) (λ c. search needs)
     returns
     add-body
     (λ c κs. let s : tie.Start = search in (measured-in (s .pre .0 .0), search needs))
@@ -157,7 +153,5 @@ add-event-spec =
     returns-2
     (λ c. search needs)
     write-added-requires
-    (λ c. search needs)
-    (λ c. search needs)
-    (λ c. search needs)
+    (λ c. search needs) (λ c. search needs) (λ c. search needs)
     returns-3)

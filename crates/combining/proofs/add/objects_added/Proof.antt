@@ -35,9 +35,7 @@ objects-added-spec =
     (tie.spec
     (λ c. search needs)
     read-snapshot-requires
-    (λ c. search needs)
-    (λ c. search needs)
+    (λ c. search needs) (λ c. search needs)
     returns
-    (λ c. search needs)
-    (λ c κs. search needs)
+    (λ c. search needs) (λ c κs. search needs)
     returns-2)

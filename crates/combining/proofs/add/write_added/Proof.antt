@@ -54,7 +54,5 @@ write-added-spec =
     (λ c κs. search number-within)
     write-with-requires
     (λ c κs. let s : tie.Start = search in search (place-there (s .pre .3)))
-    (λ c. search needs)
-    (λ c. search needs)
-    (λ c. search needs)
+    (λ c. search needs) (λ c. search needs) (λ c. search needs)
     returns)

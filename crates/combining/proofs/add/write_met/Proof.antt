@@ -75,22 +75,17 @@ write-met-spec =
     (λ c. sym (length-take-le _ _ (search apart-within)))
     (λ c κs. search needs)
     (λ c κs. search copy-there)
-    (λ c. search needs)
-    (λ c. search needs)
+    (λ c. search needs) (λ c. search needs)
     (λ c. search both-copied)
     (λ c. search needs)
     (λ c κs. let s : tie.Start = search in search (met-promised (s .pre .2 .met)))
-    (λ c. search needs)
-    (λ c. search needs)
-    (λ c. search needs)
+    (λ c. search needs) (λ c. search needs) (λ c. search needs)
     returns-2
     (λ c. search needs)
     write-agreed-requires
-    (λ c. search needs)
-    (λ c. search needs)
+    (λ c. search needs) (λ c. search needs)
     returns-3
     (λ c. search needs)
     write-joined-requires
-    (λ c. search needs)
-    (λ c. search needs)
+    (λ c. search needs) (λ c. search needs)
     returns-4)

@@ -55,6 +55,5 @@ write-new-spec =
     (λ c. omega (arith, stands-within search))
     (λ c. omega (arith, stands-within search))
     (λ c κs. search (both-there, not-false))
-    (λ c. search needs)
-    (λ c. search needs)
+    (λ c. search needs) (λ c. search needs)
     returns-2)

@@ -56,6 +56,5 @@ write-with-spec =
     (λ c κs. search new-there)
     sub-size
     copy-part-requires-2
-    (λ c. search needs)
-    (λ c. search needs)
+    (λ c. search needs) (λ c. search needs)
     returns)

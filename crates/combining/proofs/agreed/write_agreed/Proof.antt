@@ -60,9 +60,7 @@ pub write-agreed-spec : {M : Type 1} → statement M
 write-agreed-spec =
     tie.close
     (tie.spec
-    (λ c κs. search needs)
-    (λ c κs. search needs)
-    (λ c κs. search needs)
+    (λ c κs. search needs) (λ c κs. search needs) (λ c κs. search needs)
     (λ c κs. version-room (parts search))
     (λ c κs. search (presence-room (parts search)))
     (λ c κs. let v : tie.After-write-number = search in search (differ-room (parts search) (v .write-number .ensures) refl))

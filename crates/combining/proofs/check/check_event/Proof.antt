@@ -82,14 +82,8 @@ check-event-spec =
     tie.close
     (tie.spec
     (λ c. check-small _ _ _ (c .if1 .taken))
-    (λ c κs. search needs)
-    (λ c. search needs)
-    (λ c κs. search needs)
-    (λ c. search needs)
-    (λ c κs. search needs)
-    (λ c. search needs)
-    (λ c. search needs)
-    (λ c κs. search needs)
+    (λ c κs. search needs) (λ c. search needs) (λ c κs. search needs) (λ c. search needs)
+    (λ c κs. search needs) (λ c. search needs) (λ c. search needs) (λ c κs. search needs)
     (λ c. check-refused _ _ _ _ (room (to-if1 search)) (refused-is narrow _ _ _ _ _ (answered search) search))
     (λ c. search needs)
     (λ c κs. search (sets-long, checkable (event-taken search)))

@@ -59,14 +59,10 @@ pub check-known-spec : {M : Type 1} → statement M
 check-known-spec =
     tie.close
     (tie.spec
-    (λ c. search needs)
-    (λ c κs. search needs)
-    (λ c. search needs)
+    (λ c. search needs) (λ c κs. search needs) (λ c. search needs)
     (λ c κs. search (sets-long, checkable (event-taken search)))
     (λ c. search needs)
     write-lone-requires
     (λ c. let w : tie.After-write-lone = search in w .write-lone .ensures .1 _ (event-taken (search) .read) .0)
-    (λ c κs. search needs)
-    (λ c. search needs)
-    (λ c. search needs)
+    (λ c κs. search needs) (λ c. search needs) (λ c. search needs)
     returns)

@@ -56,7 +56,6 @@ version-of-spec =
     (λ c. λ h. search (no-version h))
     (λ c. mark-low (to-start c .pre .1) (c .if1 .left) .0)
     set-at-requires
-    (λ c κs. search needs)
-    (λ c κs. search needs)
+    (λ c κs. search needs) (λ c κs. search needs)
     numeral-of-requires
     returns-2)

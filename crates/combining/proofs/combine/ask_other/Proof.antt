@@ -61,12 +61,9 @@ pub ask-other-spec : {M : Type 1} → statement M
 ask-other-spec =
     tie.close
     (tie.spec
-    (λ c κs. search needs)
-    (λ c κs. search needs)
+    (λ c κs. search needs) (λ c κs. search needs)
     (λ c κs. search (type-few _ _ _ _ (read-before c) (known search)))
     returns
-    (λ c. search needs)
-    (λ c κs. search needs)
-    (λ c. search needs)
+    (λ c. search needs) (λ c κs. search needs) (λ c. search needs)
     ask-dossier-requires-2
     returns-2)

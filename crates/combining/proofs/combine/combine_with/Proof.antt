@@ -100,10 +100,7 @@ pub combine-with-spec : {M : Type 1} → statement M
 combine-with-spec =
     tie.close
     (tie.spec
-    (λ c κs. search needs)
-    (λ c κs. search needs)
-    (λ c κs. search needs)
-    (λ c. search needs)
+    (λ c κs. search needs) (λ c κs. search needs) (λ c κs. search needs) (λ c. search needs)
     (λ c κs. refl)
     (λ c. search left-same)
     (λ c. search right-same)
@@ -127,5 +124,4 @@ combine-with-spec =
     (λ c κs. let t : tie.After-read-table = search in search (opened t, room t, combinable (both search), not-false))
     (λ c. search left-same)
     (λ c. search right-same)
-    (λ c. search needs)
-    (λ c. search needs))
+    (λ c. search needs) (λ c. search needs))

@@ -73,7 +73,6 @@ objects-fit-spec =
     (λ c κs. search (needs, inside))
     (λ c κs. search needs)
     returns-2
-    (λ c. search needs)
-    (λ c. search needs)
+    (λ c. search needs) (λ c. search needs)
     loop-again
     returns-3)

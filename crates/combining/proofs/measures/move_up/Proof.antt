@@ -68,8 +68,7 @@ move-up-spec =
     (λ c. search needs)
     (λ c κs. search (needs, arith, low))
     (λ c κs. search (needs, arith, low))
-    (λ c. search needs)
-    (λ c. search needs)
+    (λ c. search needs) (λ c. search needs)
     loop-again
     (λ c. search needs)
     (λ c. omega (arith, c .before .loop .inv .3 .long))

@@ -60,29 +60,20 @@ pub read-dossier-spec : {M : Type 1} → statement M
 read-dossier-spec =
     tie.close
     (tie.spec
-    (λ c κs. search needs)
-    (λ c. search needs)
-    (λ c. search needs)
-    (λ c κs. search needs)
+    (λ c κs. search needs) (λ c. search needs) (λ c. search needs) (λ c κs. search needs)
     (λ c. refused _ _ _ _ (search head-none) (c .no-dossier .ensures))
-    (λ c κs. search needs)
-    (λ c. search needs)
-    (λ c. search needs)
-    (λ c κs. search needs)
+    (λ c κs. search needs) (λ c. search needs) (λ c. search needs) (λ c κs. search needs)
     (λ c. refused _ _ _ _ (search count-none) (c .no-dossier2 .ensures))
     (λ c. omega (arith, counted c .few))
     (λ c κs. search needs)
     (λ c. refused _ _ _ _ (search (rows-short, counted (c .before .before))) (c .no-dossier3 .ensures))
     (λ c κs. let n = counted (c .before .before) in (n .count .within, n .one, n .few, c .before .if1 .left))
-    (λ c κs. search needs)
-    (λ c. search needs)
+    (λ c κs. search needs) (λ c. search needs)
     returns-4
-    (λ c κs. search needs)
-    (λ c. search needs)
+    (λ c κs. search needs) (λ c. search needs)
     returns-5
     versions-rise-requires
-    (λ c κs. search needs)
-    (λ c. search needs)
+    (λ c κs. search needs) (λ c. search needs)
     returns-6
     (λ c. search needs)
     returns-7)

@@ -32,11 +32,9 @@ versions-rise-spec =
     Inv-loop
     μ-loop
     (λ c. search rise-one)
-    (λ c. search needs)
-    (λ c. search needs)
+    (λ c. search needs) (λ c. search needs)
     (λ c. search)
-    (λ c. search needs)
-    (λ c. search needs)
+    (λ c. search needs) (λ c. search needs)
     (λ c. search (rise-not, long))
     (λ c. search needs)
     (λ c. omega (arith, to-turn (c .before) .loop-test .taken))

@@ -11,17 +11,11 @@ pub dossier-head-end-spec : {M : Type 1} → statement M
 dossier-head-end-spec =
     tie.close
     (tie.spec
-    (λ c κs. search needs)
-    (λ c. search needs)
-    (λ c. search needs)
+    (λ c κs. search needs) (λ c. search needs) (λ c. search needs)
     (λ c. search no-name)
-    (λ c κs. search needs)
-    (λ c. search needs)
-    (λ c. search needs)
+    (λ c κs. search needs) (λ c. search needs) (λ c. search needs)
     (λ c. search no-source)
-    (λ c κs. search needs)
-    (λ c. search needs)
-    (λ c. search needs)
+    (λ c κs. search needs) (λ c. search needs) (λ c. search needs)
     (λ c. search no-count)
     (λ c. let few : c .before .number .given .0 .0 ≤ 32 = search hashes-few in omega (arith, few))
     (λ c. search hashes-within)

@@ -25,8 +25,7 @@ pub is-lone-place-spec : {M : Type 1} → statement M
 is-lone-place-spec =
     tie.close
     (tie.spec
-    (λ c. search needs)
-    (λ c κs. search needs)
+    (λ c. search needs) (λ c κs. search needs)
     returns-2
     (λ c κs. search needs)
     returns-3

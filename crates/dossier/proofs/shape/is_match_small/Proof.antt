@@ -18,11 +18,8 @@ is-match-small-spec =
     Inv-loop
     μ-loop
     (λ c. search matches-none)
-    (λ c κs. search needs)
-    (λ c κs. search needs)
-    (λ c κs. search needs)
+    (λ c κs. search needs) (λ c κs. search needs) (λ c κs. search needs)
     (λ c. search matches-over)
-    (λ c. search needs)
-    (λ c. search needs)
+    (λ c. search needs) (λ c. search needs)
     (λ c. search matches-more)
     (λ c. search matches-all))

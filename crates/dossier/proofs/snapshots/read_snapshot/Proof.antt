@@ -9,9 +9,7 @@ pub read-snapshot-spec : {M : Type 1} → statement M
 read-snapshot-spec =
     tie.close
     (tie.spec
-    (λ c κs. search needs)
-    (λ c. search needs)
-    (λ c. search needs)
+    (λ c κs. search needs) (λ c. search needs) (λ c. search needs)
     (λ c. search numbers-refused)
     (λ c κs.
     let start : tie.Start = search in
@@ -19,12 +17,9 @@ read-snapshot-spec =
     let told = c .before .before .version .given .1 in
     let numbers = numbers-read _ _ told (call .read-numbers .ensures) in
     (numbers .within, start .pre .1, sets-promised _ _ told (call .read-numbers .ensures) (start .pre .2)))
-    (λ c. search needs)
-    (λ c. search needs)
-    (λ c. search needs)
+    (λ c. search needs) (λ c. search needs) (λ c. search needs)
     (λ c. search no-sets)
-    (λ c κs. search needs)
-    (λ c. search needs)
+    (λ c κs. search needs) (λ c. search needs)
     (λ c. search snapshot-some)
     (λ c. search needs)
     (λ c. search sets-large))

@@ -24,7 +24,6 @@ is-match-same-spec =
     (λ c κs. search arith)
     (λ c κs. search needs)
     (λ c. search same-bad)
-    (λ c. search needs)
-    (λ c. search needs)
+    (λ c. search needs) (λ c. search needs)
     (λ c. search same-more)
     (λ c. search same-end))

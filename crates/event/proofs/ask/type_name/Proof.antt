@@ -9,11 +9,7 @@ pub type-name-spec : {M : Type 1} → statement M
 type-name-spec =
     tie.close
     (tie.spec
-    (λ c κs. search needs)
-    (λ c. search needs)
-    (λ c. search needs)
-    (λ c. search needs)
-    (λ c. search needs)
+    (λ c κs. search needs) (λ c. search needs) (λ c. search needs) (λ c. search needs) (λ c. search needs)
     (λ c. search needs)
     (λ c counts e h. absurd (search no-name-there))
     (λ c. search text-order)

@@ -25,7 +25,6 @@ is-source-spec =
     (λ c. search needs)
     (λ c. search (source-low, arith))
     (λ c. search (source-high, arith))
-    (λ c. search needs)
-    (λ c. search needs)
+    (λ c. search needs) (λ c. search needs)
     (λ c. search (source-more, arith))
     (λ c. search source-end))

@@ -28,24 +28,19 @@ read-parents-spec =
     (tie.spec
     Inv-loop
     μ-loop
-    (λ c κs. search needs)
-    (λ c. search needs)
-    (λ c. search needs)
+    (λ c κs. search needs) (λ c. search needs) (λ c. search needs)
     (λ c. search (parents-none, number-not))
     (λ c. search parents-many)
     (λ c. search parents-zero)
     (λ c. search number-within)
     (λ c. search parents-bad)
-    (λ c. search needs)
-    (λ c. search needs)
+    (λ c. search needs) (λ c. search needs)
     (λ c. search parents-first)
     (λ c. search needs)
     (λ c. search hash-bad)
     (λ c. search needs)
     (λ c κs. search arith)
     (λ c. search hash-not)
-    (λ c. search needs)
-    (λ c. search needs)
-    (λ c. search needs)
+    (λ c. search needs) (λ c. search needs) (λ c. search needs)
     loop-again
     (λ c. search parents-found))

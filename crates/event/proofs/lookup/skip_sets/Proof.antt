@@ -19,12 +19,8 @@ skip-sets-spec =
     Inv-loop
     μ-loop
     (λ c. sets-none)
-    (λ c κs. search needs)
-    (λ c. search needs)
-    (λ c. search needs)
+    (λ c κs. search needs) (λ c. search needs) (λ c. search needs)
     (λ c. search (sets-bad, number-not, arith))
-    (λ c κs. search needs)
-    (λ c. search needs)
-    (λ c. search needs)
+    (λ c κs. search needs) (λ c. search needs) (λ c. search needs)
     (λ c. search (sets-more, arith))
     (λ c. search sets-all))

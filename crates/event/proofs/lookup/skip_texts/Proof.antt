@@ -19,11 +19,8 @@ skip-texts-spec =
     Inv-loop
     μ-loop
     (λ c. texts-none)
-    (λ c κs. search needs)
-    (λ c. search needs)
-    (λ c. search needs)
+    (λ c κs. search needs) (λ c. search needs) (λ c. search needs)
     (λ c. search (texts-bad, text-not, arith))
-    (λ c. search needs)
-    (λ c. search needs)
+    (λ c. search needs) (λ c. search needs)
     (λ c. search (texts-more, arith))
     (λ c. search texts-all))

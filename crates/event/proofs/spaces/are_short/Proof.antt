@@ -25,9 +25,7 @@ are-short-spec =
     Inv-loop
     μ-loop
     (λ c. space-none)
-    (λ c κs. search needs)
-    (λ c. search needs)
-    (λ c. search needs)
+    (λ c κs. search needs) (λ c. search needs) (λ c. search needs)
     (λ c. search (space-bad, arith))
     (λ c. search text-order)
     (λ c κs. search needs)

@@ -43,8 +43,7 @@ write-sets-spec =
     (λ c. runs-none)
     (λ c κs. search arith)
     (λ c κs. search runs-room)
-    (λ c. search needs)
-    (λ c. search needs)
+    (λ c. search needs) (λ c. search needs)
     loop-again
     copy-part-requires
     (λ c. search copied-long)

@@ -64,8 +64,7 @@ write-objects-spec =
     loop-holds
     (λ c κs. search needs)
     write-next-requires
-    (λ c. search needs)
-    (λ c. search needs)
+    (λ c. search needs) (λ c. search needs)
     loop-again
     (λ c. search needs)
     returns-2)

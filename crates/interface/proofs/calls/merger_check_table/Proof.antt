@@ -15,10 +15,7 @@ pub merger-check-table-spec : {M : Type 1} → statement M
 merger-check-table-spec =
     tie.close
     (tie.spec
-    (λ c κs. search needs)
-    (λ c. search needs)
-    (λ c κs. search needs)
-    (λ c. search needs)
+    (λ c κs. search needs) (λ c. search needs) (λ c κs. search needs) (λ c. search needs)
     (λ c κs. search needs)
     returns
     returns-2)

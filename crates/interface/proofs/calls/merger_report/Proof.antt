@@ -10,7 +10,5 @@ pub merger-report-spec : {M : Type 1} → statement M
 merger-report-spec =
     tie.close
     (tie.spec
-    (λ c κs. search needs)
-    (λ c κs. search needs)
-    (λ c. search needs)
+    (λ c κs. search needs) (λ c κs. search needs) (λ c. search needs)
     returns)

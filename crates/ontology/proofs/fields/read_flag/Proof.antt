@@ -8,8 +8,6 @@ pub read-flag-spec : {M : Type 1} → statement M
 read-flag-spec =
     tie.close
     (tie.spec
-    (λ c κs. search needs)
-    (λ c. search needs)
-    (λ c. search needs)
+    (λ c κs. search needs) (λ c. search needs) (λ c. search needs)
     (λ c. search (flag-none, number-fail))
     (λ c. search (flag-is, number-got)))

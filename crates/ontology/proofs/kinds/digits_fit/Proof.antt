@@ -9,6 +9,5 @@ digits-fit-spec =
     (tie.spec
     (λ c. search digits-few)
     (λ c. search digits-many)
-    (λ c. search needs)
-    (λ c κs. search needs)
+    (λ c. search needs) (λ c κs. search needs)
     (λ c. search digits-are))

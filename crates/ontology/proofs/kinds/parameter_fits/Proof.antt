@@ -9,7 +9,6 @@ parameter-fits-spec =
     (tie.spec
     (λ c κs. search needs)
     (λ c. search fits-width)
-    (λ c κs. search needs)
-    (λ c κs. search needs)
+    (λ c κs. search needs) (λ c κs. search needs)
     (λ c. search fits-string)
     (λ c. search fits-hex))

@@ -28,9 +28,7 @@ pub read-kind-spec : {M : Type 1} → statement M
 read-kind-spec =
     tie.close
     (tie.spec
-    (λ c κs. search needs)
-    (λ c. search needs)
-    (λ c. search needs)
+    (λ c κs. search needs) (λ c. search needs) (λ c. search needs)
     (λ c. search (kind-none, any-fail))
     (λ c. search needs)
     (λ c. kind-above (numbered (c .before)) (omega arith))

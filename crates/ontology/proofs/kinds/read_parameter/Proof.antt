@@ -29,9 +29,7 @@ pub read-parameter-spec : {M : Type 1} → statement M
 read-parameter-spec =
     tie.close
     (tie.spec
-    (λ c κs. search needs)
-    (λ c. search needs)
-    (λ c. search needs)
+    (λ c κs. search needs) (λ c. search needs) (λ c. search needs)
     (λ c. search (one-none, any-fail))
     (λ c κs. search needs)
     (λ c. omega (arith, tested (search) .small (search)))

@@ -10,9 +10,6 @@ keep-spec =
     tie.close
     (tie.spec
     (λ c. (refl, λ ts t ps w k. search keep-old))
-    (λ c. search needs)
-    (λ c. search needs)
-    (λ c. search needs)
-    (λ c κs. search needs)
+    (λ c. search needs) (λ c. search needs) (λ c. search needs) (λ c κs. search needs)
     (λ c. (refl, λ ts t ps w k. search keep-new))
     (λ c. (refl, λ ts t ps w k. search keep-none)))

@@ -55,21 +55,16 @@ read-table-spec =
     (tie.spec
     Inv-loop
     μ-loop
-    (λ c κs. search needs)
-    (λ c κs. search needs)
-    (λ c. search needs)
-    (λ c. search needs)
+    (λ c κs. search needs) (λ c κs. search needs) (λ c. search needs) (λ c. search needs)
     (λ c. table-fail _ _ _ _ (search (table-none, number-fail)) refl)
     (λ c. (listed-none _ _ _ _ (search number-got) refl refl, search needs))
-    (λ c κs. search needs)
-    (λ c. search needs)
+    (λ c κs. search needs) (λ c. search needs)
     (λ c. search listed-bad)
     (λ c κs. search (type-order, type-ends))
     same-length-2
     returns-3
     (λ c κs. search (type-order, type-ends))
-    (λ c. search needs)
-    (λ c. search needs)
+    (λ c. search needs) (λ c. search needs)
     loop-again
     (λ c. search needs)
     (λ c. search listed-exact)

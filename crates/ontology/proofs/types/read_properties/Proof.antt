@@ -54,18 +54,13 @@ read-properties-spec =
     Inv-loop
     μ-loop
     (λ c. search filled-none)
-    (λ c κs. search needs)
-    (λ c. search needs)
-    (λ c. search needs)
-    (λ c. search needs)
+    (λ c κs. search needs) (λ c. search needs) (λ c. search needs) (λ c. search needs)
     returns
     (λ c. search needs)
     (λ c κs. (search needs, search needs, stops (search) .is .order, stops (search) .is .within))
     (λ c. search needs)
     returns-2
-    (λ c κs. search needs)
-    (λ c. search needs)
-    (λ c. search needs)
+    (λ c κs. search needs) (λ c. search needs) (λ c. search needs)
     loop-again
     (λ c. search needs)
     (λ c. (search filled-all, c .before .loop .inv .stay)))

@@ -28,15 +28,10 @@ pub read-type-spec : {M : Type 1} → statement M
 read-type-spec =
     tie.close
     (tie.spec
-    (λ c κs. search needs)
-    (λ c κs. search needs)
-    (λ c. search needs)
-    (λ c. search needs)
+    (λ c κs. search needs) (λ c κs. search needs) (λ c. search needs) (λ c. search needs)
     (λ c. (type-none _ _ _ _ _ _ (search head-fail) refl, λ e. refl))
     (λ c κs. (head (search) .within, head (search) .few, search needs))
-    (λ c. search needs)
-    (λ c. search needs)
-    (λ c. search needs)
+    (λ c. search needs) (λ c. search needs) (λ c. search needs)
     returns-2
     (λ c. search needs)
     returns-3)

@@ -8,9 +8,7 @@ pub strategy-fits-spec : {M : Type 1} → statement M
 strategy-fits-spec =
     tie.close
     (tie.spec
-    (λ c κs. search needs)
-    (λ c κs. search needs)
-    (λ c κs. search needs)
+    (λ c κs. search needs) (λ c κs. search needs) (λ c κs. search needs)
     (λ c s q w. search ordered-is)
     (λ c s q w. search ordered-not)
     (λ c κs. search needs)

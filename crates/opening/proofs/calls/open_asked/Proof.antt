@@ -17,10 +17,7 @@ pub open-asked-spec : {M : Type 1} → statement M
 open-asked-spec =
     tie.close
     (tie.spec
-    (λ c κs. search needs)
-    (λ c. search needs)
-    (λ c. search needs)
-    (λ c κs. search needs)
+    (λ c κs. search needs) (λ c. search needs) (λ c. search needs) (λ c κs. search needs)
     returns
     (λ c. search needs)
     returns-2)

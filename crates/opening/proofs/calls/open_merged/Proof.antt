@@ -57,11 +57,7 @@ open-merged-spec =
     (tie.spec
     (λ c. search needs)
     plan-sets-requires
-    (λ c. search needs)
-    (λ c κs. search needs)
-    (λ c. search needs)
-    (λ c. search needs)
-    (λ c. search needs)
+    (λ c. search needs) (λ c κs. search needs) (λ c. search needs) (λ c. search needs) (λ c. search needs)
     write-event-requires
     returns
     (λ c. search needs)

@@ -38,8 +38,7 @@ lowest-mark-spec =
     μ-loop
     loop-holds
     returns
-    (λ c. search needs)
-    (λ c. search needs)
+    (λ c. search needs) (λ c. search needs)
     loop-again
     returns-2
     returns-3)

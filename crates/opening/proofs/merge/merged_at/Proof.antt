@@ -42,8 +42,7 @@ pub merged-at-spec : {M : Type 1} → statement M
 merged-at-spec =
     tie.close
     (tie.spec
-    (λ c. search needs)
-    (λ c κs. search needs)
+    (λ c. search needs) (λ c κs. search needs)
     returns
     (λ c κs. search needs)
     returns-2

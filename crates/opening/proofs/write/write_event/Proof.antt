@@ -68,9 +68,7 @@ pub write-event-spec : {M : Type 1} → statement M
 write-event-spec =
     tie.close
     (tie.spec
-    (λ c κs. search needs)
-    (λ c κs. search needs)
-    (λ c κs. search needs)
+    (λ c κs. search needs) (λ c κs. search needs) (λ c κs. search needs)
     write-head-requires
     (λ c κs. search needs)
     write-number-requires

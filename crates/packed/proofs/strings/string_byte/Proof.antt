@@ -40,9 +40,7 @@ pub string-byte-spec : {M : Type 1} → statement M
 string-byte-spec =
     tie.close
     (tie.spec
-    (λ c. search needs)
-    (λ c. search needs)
-    (λ c. search needs)
+    (λ c. search needs) (λ c. search needs) (λ c. search needs)
     returns
     returns-2
     (λ c. search needs)

@@ -18,13 +18,8 @@ write-hex-spec =
     Inv-loop
     μ-loop
     (λ c. tt)
-    (λ c. search needs)
-    (λ c κs. search needs)
-    (λ c. search needs)
-    (λ c. search needs)
-    (λ c. search needs)
-    (λ c. search needs)
-    (λ c κs. search needs)
+    (λ c. search needs) (λ c κs. search needs) (λ c. search needs) (λ c. search needs) (λ c. search needs)
+    (λ c. search needs) (λ c κs. search needs)
     (λ c. omega arith)
     (λ c. tt)
     (λ c. search needs))

@@ -18,9 +18,7 @@ is-kept-spec =
     Inv-loop
     μ-loop
     (λ c. tt)
-    (λ c. search needs)
-    (λ c. search needs)
-    (λ c. search needs)
+    (λ c. search needs) (λ c. search needs) (λ c. search needs)
     (λ c. omega arith)
     (λ c. tt)
     (λ c. search needs))

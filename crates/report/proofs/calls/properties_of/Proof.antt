@@ -19,7 +19,5 @@ properties-of-spec =
     (tie.spec
     (λ c. search needs)
     read-dossier-requires
-    (λ c κs. search needs)
-    (λ c κs. search needs)
-    (λ c. search needs)
+    (λ c κs. search needs) (λ c κs. search needs) (λ c. search needs)
     returns)

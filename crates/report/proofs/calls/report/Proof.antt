@@ -47,9 +47,7 @@ report-spec =
     (λ c κs. omega (arith, refused-short 9 0))
     (λ c. search needs)
     returns-2
-    (λ c κs. search needs)
-    (λ c. search needs)
-    (λ c. search needs)
+    (λ c κs. search needs) (λ c. search needs) (λ c. search needs)
     (λ c κs. omega (arith, refused-short 9 0))
     (λ c. search needs)
     returns-3
@@ -58,7 +56,5 @@ report-spec =
     (λ c. omega (arith, stops (search)))
     (λ c. omega (arith, stops (search)))
     (λ c. omega (arith, stops (search)))
-    (λ c. search needs)
-    (λ c κs. search needs)
-    (λ c. search needs)
+    (λ c. search needs) (λ c κs. search needs) (λ c. search needs)
     returns-4)

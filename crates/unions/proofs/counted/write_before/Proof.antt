@@ -60,8 +60,7 @@ write-before-spec =
     (tie.spec
     (λ c κs. search needs)
     sub-more
-    (λ c. search needs)
-    (λ c κs. search needs)
+    (λ c. search needs) (λ c κs. search needs)
     write-number-requires
     (λ c. search needs)
     same-length

@@ -9,11 +9,8 @@ compare-moments-spec =
     (tie.spec
     (λ c p q. absurd (datetime-short _ (c .if1 .taken) p))
     (λ c p q. absurd (datetime-short _ (c .if2 .taken) q))
-    (λ c κs. search needs)
-    (λ c κs. search needs)
+    (λ c κs. search needs) (λ c κs. search needs)
     (λ c. search stamp-less)
     (λ c. search stamp-more)
-    (λ c κs. search needs)
-    (λ c κs. search needs)
-    (λ c κs. search needs)
+    (λ c κs. search needs) (λ c κs. search needs) (λ c κs. search needs)
     (λ c. search stamp-same))

@@ -9,8 +9,5 @@ fraction-spec =
     tie.close
     (tie.spec
     (λ c. fraction-none _ (c .if1 .taken))
-    (λ c κs. search needs)
-    (λ c. search needs)
-    (λ c κs. search needs)
-    (λ c. search needs)
+    (λ c κs. search needs) (λ c. search needs) (λ c κs. search needs) (λ c. search needs)
     (λ c s. field-more _ 20 4 (omega arith) (c .before .four .ensures .0) (c .two .ensures .0)))

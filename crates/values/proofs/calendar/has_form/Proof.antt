@@ -20,11 +20,8 @@ has-form-spec =
     μ-loop
     (λ c. search form-other)
     (λ c. search formed-all)
-    (λ c. search needs)
-    (λ c. search needs)
-    (λ c κs. search needs)
+    (λ c. search needs) (λ c. search needs) (λ c κs. search needs)
     (λ c. search formed-not)
-    (λ c. search needs)
-    (λ c. search needs)
+    (λ c. search needs) (λ c. search needs)
     (λ c. search formed-next)
     (λ c. search formed-end))

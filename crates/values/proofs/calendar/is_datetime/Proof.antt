@@ -11,13 +11,11 @@ unfolding wholeSecond withFraction ascii
 is-datetime-spec =
     tie.close
     (tie.spec
-    (λ c. search needs)
-    (λ c κs. search needs)
+    (λ c. search needs) (λ c κs. search needs)
     (λ c κs. omega arith)
     (λ c. search whole-is)
     (λ c. search whole-not)
-    (λ c. search needs)
-    (λ c κs. search needs)
+    (λ c. search needs) (λ c κs. search needs)
     (λ c. search fraction-not)
     (λ c κs. search needs)
     (λ c κs. search fraction-long)

@@ -24,7 +24,6 @@ are-digits-spec =
     (λ c. search needs)
     (λ c. search digits-low)
     (λ c. search digits-high)
-    (λ c. search needs)
-    (λ c. search needs)
+    (λ c. search needs) (λ c. search needs)
     (λ c. search digits-more)
     (λ c. search digits-end))

@@ -7,10 +7,7 @@ pub at-most-spec : {M : Type 1} → statement M
 at-most-spec =
     tie.close
     (tie.spec
-    (λ c κs. search needs)
-    (λ c. search needs)
-    (λ c. search needs)
-    (λ c. search needs)
+    (λ c κs. search needs) (λ c. search needs) (λ c. search needs) (λ c. search needs)
     (λ c. search at-most-told)
     (λ c. search at-most-told)
     (λ c. search at-most-told))

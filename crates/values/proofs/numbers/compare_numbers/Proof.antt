@@ -8,9 +8,7 @@ pub compare-numbers-spec : {M : Type 1} → statement M
 compare-numbers-spec =
     tie.close
     (tie.spec
-    (λ c κs. search needs)
-    (λ c κs. search needs)
-    (λ c κs. search needs)
+    (λ c κs. search needs) (λ c κs. search needs) (λ c κs. search needs)
     (λ c. search value-order-told)
     (λ c. search value-order-told)
     (λ c κs. search needs)

@@ -23,7 +23,6 @@ has-nonzero-spec =
     (λ c. rest-all _ _)
     (λ c. search needs)
     (λ c. search nonzero-found)
-    (λ c. search needs)
-    (λ c. search needs)
+    (λ c. search needs) (λ c. search needs)
     (λ c. search nonzero-more)
     (λ c. search nonzero-end))

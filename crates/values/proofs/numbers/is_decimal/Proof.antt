@@ -8,12 +8,10 @@ pub is-decimal-spec : {M : Type 1} → statement M
 is-decimal-spec =
     tie.close
     (tie.spec
-    (λ c κs. search needs)
-    (λ c κs. search needs)
+    (λ c κs. search needs) (λ c κs. search needs)
     (λ c. search negative-long)
     (λ c. search negative-long)
-    (λ c. search needs)
-    (λ c κs. search needs)
+    (λ c. search needs) (λ c κs. search needs)
     (λ c. search (decimal-negative, and-yes))
     (λ c. search (decimal-negative, and-yes, and-no))
     (λ c. search (decimal-negative, and-no))

@@ -9,7 +9,6 @@ unfolding isUnsigned
 is-unsigned-spec =
     tie.close
     (tie.spec
-    (λ c κs. search needs)
-    (λ c κs. search needs)
+    (λ c κs. search needs) (λ c κs. search needs)
     (λ c. search (and-yes, c .unsigned-fits .ensures))
     (λ c. search and-no))

@@ -11,15 +11,8 @@ unfolding isNatural areDigits isDigit numeral numeralAfter
 negative-fits-spec =
     tie.close
     (tie.spec
-    (λ c. search needs)
-    (λ c κs. search needs)
-    (λ c. search needs)
-    (λ c κs. search needs)
-    (λ c. search needs)
-    (λ c κs. search needs)
-    (λ c. search needs)
-    (λ c κs. search needs)
-    (λ c. search needs)
+    (λ c. search needs) (λ c κs. search needs) (λ c. search needs) (λ c κs. search needs) (λ c. search needs)
+    (λ c κs. search needs) (λ c. search needs) (λ c κs. search needs) (λ c. search needs)
     (λ c κs. search needs)
     (λ c w n. rw (c .before .before .match .keys1) (c .at-most .ensures n refl))
     (λ c w n. rw (c .before .before .match .keys2) (c .at-most2 .ensures n refl))

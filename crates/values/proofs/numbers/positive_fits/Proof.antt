@@ -12,15 +12,8 @@ unfolding isNatural areDigits isDigit numeral numeralAfter
 positive-fits-spec =
     tie.close
     (tie.spec
-    (λ c. search needs)
-    (λ c κs. search needs)
-    (λ c. search needs)
-    (λ c κs. search needs)
-    (λ c. search needs)
-    (λ c κs. search needs)
-    (λ c. search needs)
-    (λ c κs. search needs)
-    (λ c. search needs)
+    (λ c. search needs) (λ c κs. search needs) (λ c. search needs) (λ c κs. search needs) (λ c. search needs)
+    (λ c κs. search needs) (λ c. search needs) (λ c κs. search needs) (λ c. search needs)
     (λ c κs. search needs)
     (λ c w n. rw (c .before .before .match .keys1, leb·suc-suc _ 127) (c .at-most .ensures n refl))
     (λ c w n. rw (c .before .before .match .keys2, leb·suc-suc _ 32767) (c .at-most2 .ensures n refl))

@@ -28,15 +28,12 @@ pub +write-decimal-spec : {M : Type 1} → statement M
     write-decimal-lts.spec (write-decimal-below t, write-decimal.Post)
     (write-decimal-at t)
     write-decimal.Post
-    (λ c. search needs)
-    (λ c. search needs)
+    (λ c. search needs) (λ c. search needs)
     (λ c. search last-fits)
-    (λ c. search needs)
-    (λ c. search needs)
+    (λ c. search needs) (λ c. search needs)
     (λ c. wrote-last _ _ _ (c .if1 .taken))
     (λ c κs. (omega arith, search tenth-fits))
-    (λ c. search needs)
-    (λ c. search needs)
+    (λ c. search needs) (λ c. search needs)
     (λ c. search digit-fits)
     (λ c.
     let tenth = c .before .before .write-decimal in

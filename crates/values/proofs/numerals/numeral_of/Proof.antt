@@ -32,7 +32,6 @@ numeral-of-spec =
     (λ c. omega (arith, c .shared-slice-known .given (c .before .before .loop .i)))
     (λ c. search counted-digit)
     (λ c. omega (arith, small c))
-    (λ c. search needs)
-    (λ c. search needs)
+    (λ c. search needs) (λ c. search needs)
     (λ c. search counted-more)
     (λ c. search counted-all))

@@ -11,8 +11,7 @@ pub compare-values-spec : {M : Type 1} → statement M
 compare-values-spec =
     tie.close
     (tie.spec
-    (λ c κs. search needs)
-    (λ c κs. search needs)
+    (λ c κs. search needs) (λ c κs. search needs)
     (λ c k n l. datetime-order k _ _ (n ∙ c .before .match .keys1) (c .compare-moments .ensures))
     (λ c k n l p q. c .compare-numbers .ensures k (le-leb (kindNumber k) (kindNumber sequence) (omega arith)) (of-kind k _ p) (of-kind k _ q))
     (λ c k n l p q. absurd (omega (arith, kind-least k)))

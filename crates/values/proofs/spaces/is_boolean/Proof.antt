@@ -10,9 +10,6 @@ unfolding ascii
 is-boolean-spec =
     tie.close
     (tie.spec
-    (λ c. search needs)
-    (λ c κs. search needs)
-    (λ c. search needs)
-    (λ c κs. search needs)
+    (λ c. search needs) (λ c κs. search needs) (λ c. search needs) (λ c κs. search needs)
     (λ c. search (or-yes, form-told))
     (λ c. search (or-no, form-told)))

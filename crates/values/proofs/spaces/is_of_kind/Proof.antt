@@ -8,14 +8,8 @@ pub is-of-kind-spec : {M : Type 1} → statement M
 is-of-kind-spec =
     tie.close
     (tie.spec
-    (λ c κs. search needs)
-    (λ c κs. search needs)
-    (λ c κs. search needs)
-    (λ c κs. search needs)
-    (λ c κs. search needs)
-    (λ c κs. search needs)
-    (λ c κs. search needs)
-    (λ c κs. search needs)
+    (λ c κs. search needs) (λ c κs. search needs) (λ c κs. search needs) (λ c κs. search needs)
+    (λ c κs. search needs) (λ c κs. search needs) (λ c κs. search needs) (λ c κs. search needs)
     (λ c κs. search needs)
     (λ c. as-unsigned _ _ _ _ _ (c .before .match .keys1) (c .is-unsigned .ensures))
     (λ c. as-signed _ _ _ _ _ (c .before .match .keys2) (c .is-signed .ensures))

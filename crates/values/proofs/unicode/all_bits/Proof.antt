@@ -22,8 +22,6 @@ all-bits-spec =
     Inv-loop
     μ-loop
     (λ c. joined-none _ _)
-    (λ c. search needs)
-    (λ c. search needs)
-    (λ c. search needs)
+    (λ c. search needs) (λ c. search needs) (λ c. search needs)
     loop-again
     (λ c. search joined-all))

@@ -10,9 +10,7 @@ scalar-spec =
     (tie.spec
     (λ c. search needs)
     (λ c. omega (arith, c .shared-slice-known2 .given (c .before .before .args .at)))
-    (λ c κs. search needs)
-    (λ c κs. search needs)
-    (λ c κs. search needs)
+    (λ c κs. search needs) (λ c κs. search needs) (λ c κs. search needs)
     (λ c. (search needs, search scalar-one))
     (λ c. (search needs, search (scalar-two, c .sequence .ensures .1)))
     (λ c. (search needs, search (scalar-three, c .sequence2 .ensures .1)))

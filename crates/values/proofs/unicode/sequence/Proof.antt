@@ -53,11 +53,9 @@ sequence-spec =
     (λ c. search needs)
     returns-2
     (λ c. omega (arith, small c))
-    (λ c. search needs)
-    (λ c. search needs)
+    (λ c. search needs) (λ c. search needs)
     add-n
-    (λ c. search needs)
-    (λ c. search needs)
+    (λ c. search needs) (λ c. search needs)
     (λ c. omega arith)
     (λ c. search continued-more)
     (λ c κs. search needs)
