@@ -3,7 +3,6 @@ use mathlib.Core.Path.{_≡_, sym, ap, _∙_, subst}
 use mathlib.Core.Bool.{Bool, true, false, cond}
 use mathlib.Core.List.{List}
 use Prim.Native.Nat.{ℕ, _≤_, _<_}
-use native.Mathlib.Omega.{arith}
 use lib.ListN.{drop}
 use lib.Dec.{leb}
 use borrow.Author.Tests.{le-leb, lt-leb, leb-true}
@@ -13,10 +12,10 @@ use Rattle.packed.specs.declared.read.NumberAt.the-variants.{Number, NoN
 use Rattle.packed.specs.declared.read.TextAt.{TextAt}
 use Rattle.packed.specs.declared.read.TextAt.the-variants.{Text, NoText}
 use Rattle.packed.specs.Parse.{Parse, fail, got, Layout, andThen, foundIf, suchThat}
-use Rattle.packed.specs.Packed.{readNumber, readText, part, isWithin}
-use Rattle.packed.specs.code.Located.{numberAt, textAt, Got, NumberReads, NameStops, NameReads}
+use Rattle.packed.specs.Packed.{readNumber, isWithin}
+use Rattle.packed.specs.code.Located.{numberAt, Got, NumberReads, NameStops, NameReads}
 use Rattle.packed.proofs.LayoutLaws.{suchThat-got}
-use Rattle.packed.proofs.ReadLaws.{number-stops, number-none, text-stops}
+use Rattle.packed.proofs.ReadLaws.{number-stops, number-none}
 
 -- ---- what is known of a call's answer in the arm of a `match`
 
@@ -35,9 +34,6 @@ name-fail {p} s at h w = subst (NameReads p s at) h w
 pub number-here : (s : List ℕ) (at n next : ℕ) → numberAt s at ≡ Number n next → Got (readNumber (drop at s)) s at n next
 number-here s at n next e = let w = number-stops s at n next e in record { is = w .is; after = w .after; within = w .within }
 
-pub text-here : (s : List ℕ) (at a e : ℕ) → textAt s at ≡ Text a e → Got (readText (drop at s)) s at (part s a e) e
-text-here s at a e q = let w = text-stops s at a e q in record { is = w .is; after = omega (arith, w .after, w .order); within = w .within }
-
 -- ---- one layout after the other
 
 module _ {A B : Type 0} (k : A → Layout B) where
@@ -46,14 +42,6 @@ module _ {A B : Type 0} (k : A → Layout B) where
 
   pub then-fail : {p : Parse A} {s : List ℕ} {at : ℕ} {a : A} {e : ℕ} → Got p s at a e → k a (drop e s) ≡ fail → andThen p k ≡ fail
   then-fail {p} {s} {at} {a} {e} g h = ap (λ (q : Parse A). andThen q k) (g .is) ∙ h
-
-  pub then-got :
-      {p : Parse A} {s : List ℕ} {at : ℕ} {a : A} {e : ℕ} {b : B} {f : ℕ} → Got p s at a e → Got (k a (drop e s)) s e b f → Got (andThen p k) s at b f
-  then-got {p} {s} {at} {a} {e} {b} {f} g h = record {
-    is = ap (λ (q : Parse A). andThen q k) (g .is) ∙ h .is;
-    after = omega (arith, g .after, h .after);
-    within = h .within;
-  }
 
   -- the last layout reads nothing more
   pub then-found : {p : Parse A} {s : List ℕ} {at : ℕ} {a : A} {e : ℕ} {b : B} → Got p s at a e → k a (drop e s) ≡ got b (drop e s) → Got (andThen p k) s at b e

@@ -1,11 +1,11 @@
 -- `write_merged` meets its contract: its seven writes are the parts of the lines in their order (`wrote-hashed`), and all lines have room (`fits`).
 use borrow.Author.Needs.{needs}
 use native.Mathlib.Omega.{arith}
-use mathlib.Core.Path.{ap}
+use mathlib.Core.Path.{_≡_, ap}
 use Prim.Native.Nat.{ℕ, _+_, _*_, _≤_}
 use lib.ListN.{length}
 use denote.Ref.{now}
-use Rattle.packed.proofs.WriteLaws.{Reached, wrote-length}
+use Rattle.packed.proofs.WriteLaws.{wrote-length}
 use Rattle.values.specs.Decimal.{inDecimal}
 use Rattle.report.specs.Report.{objectLines}
 use Rattle.report.proofs.LineLaws.{hashed-length, wrote-hashed, hex-length, objects-room}
@@ -45,8 +45,10 @@ module _ (c : tie.Start) where
 
 -- ---- how far the writes come
 
-headed : (c : tie.After-write-end) → Reached (now (start c .args .out)) (8 + digits (start c)) (c .write-end .last .0) (c .write-end .result)
-headed c = omega arith
+headed :
+    (c : tie.After-write-end) →
+    (c .write-end .result ≡ 8 + digits (start c)) × (length (c .write-end .last .0) ≡ length (now (start c .args .out)))
+headed c = (omega arith, omega arith)
 
 -- the last line has room behind the objects' lines
 last-fits :
@@ -55,15 +57,15 @@ last-fits :
 last-fits c =
     let s = start (to-end c) in
     let h = headed (to-end c) in
-    let w = c .write-objects .ensures (objects-room (s .pre .2) (h .here) (h .long)) in
-    omega (arith, fits s, h, w, wrote-length w)
+    let w = c .write-objects .ensures (objects-room (s .pre .2) (h .0) (h .1)) in
+    omega (arith, fits s, h .0, h .1, w, wrote-length w)
 
 -- ---- the needs
 
 write-objects-requires : tie.Need-write-objects-requires
 write-objects-requires c κs =
     let end = c .before .before .before in
-    (search, search, objects-room (start end .pre .2) (headed end .here) (headed end .long))
+    (search, search, objects-room (start end .pre .2) (headed end .0) (headed end .1))
 
 write-end-requires-2 : tie.Need-write-end-requires-2
 write-end-requires-2 c κs =
@@ -79,7 +81,7 @@ returns c = λ l.
     let last : tie.After-write-end2 = search in
     wrote-hashed (l .type) (l .event) _ (l .read .objects)
     (to-word end .copy .ensures) (to-count end .write-decimal .ensures) (end .write-end .ensures)
-    (objects .write-objects .ensures (objects-room l (headed end .here) (headed end .long)))
+    (objects .write-objects .ensures (objects-room l (headed end .0) (headed end .1)))
     (word2 .copy2 .ensures) (hash .write-hex .ensures) (last .write-end2 .ensures)
 
 pub write-merged-spec : {M : Type 1} → statement M
