@@ -139,12 +139,14 @@ module _
         match-sets (a .type .properties) (b .event .sets) (a .event .sets) (sets-long ts r b k ∙ sym (sets-long ts s a h)) .1 e
 
     colliding : Colliding ts (a .type) (a .event .head .source) s r
-    colliding = record {
-      taken = k ∙ ap questions.accepted (λ i. record { type = one-type i; event = sym (is-event ts r b k) i });
-      source = ap (λ (e : Event). e .head .source) (is-event ts r b k) ∙ sym (l .source);
-      alike = subst (λ (e : Event). SameMatch (a .type) e (eventAt s)) (sym (is-event ts r b k))
-          (subst (λ (e : Event). SameMatch (a .type) (b .event) e) (sym (is-event ts s a h)) alike-match);
-    }
+    colliding =
+        let read = is-event ts r b k in
+        record {
+          taken = k ∙ ap questions.accepted (λ i. record { type = one-type i; event = sym read i });
+          source = ap (λ (e : Event). e .head .source) read ∙ sym (l .source);
+          alike = subst (λ (e : Event). SameMatch (a .type) e (eventAt s)) (sym read)
+              (subst (λ (e : Event). SameMatch (a .type) (b .event) e) (sym (is-event ts s a h)) alike-match);
+        }
 
 pub known : (ts : Table) (ss : List (List ℕ)) → eventsTogether ts ss ≡ accepted tt → Known ts ss
 unfolding eventsTogether eventsAsked eventsAgreed goingOn apartThen
@@ -466,6 +468,9 @@ module _ (table : List ℕ) (ts : Table) (isTable : tableOf table ≡ some ts) (
     last-in : S last
     last-in = last-is n (omega arith) l
 
+    others-each : Each S others
+    others-each = first-each (n - 1)
+
     others-are : (fits standard (typeView t) (rules others) ≡ true) × (sofar ≡ bytes others)
     others-are = inside-of others sofar (sym (first-is (n - 1) (omega arith) (omega arith)) ∙ c)
 
@@ -479,7 +484,7 @@ module _ (table : List ℕ) (ts : Table) (isTable : tableOf table ≡ some ts) (
     unfolding dossiersAgree
     both-agree =
         let ms = matchSets (t .properties) (eventAt (k .first) .sets) in
-        let left = same-match table ts isTable t (k .source) (k .first) (k .model) others has-others (first-each (n - 1)) (others-are .0) in
+        let left = same-match table ts isTable t (k .source) (k .first) (k .model) others has-others others-each (others-are .0) in
         let right = same-match table ts isTable t (k .source) (k .first) (k .model) (last ∷ []) has-last (one-each last last-in) last-fits in
         rw (left, right) (agree-exact (t .name) (k .source) ms (t .name) (k .source) ms .1 (refl, refl, refl))
 
@@ -493,7 +498,7 @@ module _ (table : List ℕ) (ts : Table) (isTable : tableOf table ≡ some ts) (
         left = dossierOf others;
         right = dossierOf (last ∷ []);
         left-asked = ap (dossierAsked standard ts) (others-are .1)
-            ∙ asked table ts isTable t (k .source) (k .first) (k .model) others has-others (first-each (n - 1)) (others-are .0);
+            ∙ asked table ts isTable t (k .source) (k .first) (k .model) others has-others others-each (others-are .0);
         right-asked = asked table ts isTable t (k .source) (k .first) (k .model) (last ∷ []) has-last (one-each last last-in) last-fits;
         agree = both-agree;
         typed = first-type x ps (omega arith) f;
@@ -501,13 +506,13 @@ module _ (table : List ℕ) (ts : Table) (isTable : tableOf table ≡ some ts) (
       type-is = refl;
       headed-is = event-dossier last last-in;
       measured = subst (λ (d : Dossier). Measured (d .snapshots) m) (rule-bytes t others)
-          (rule-measured others size m has-others (first-each (n - 1)) (others-are .0) w);
+          (rule-measured others size m has-others others-each (others-are .0) w);
     }
 
     add-next : (out : List ℕ) → HasRoom out → combineCall standard table sofar (bytes (last ∷ [])) out ≡ outcome (combinedAnswer ts (take n ss)) out
     add-next out o =
         let both =
-        two-joined table ts isTable t (k .source) (k .first) (k .model) out others (last ∷ []) o has-others has-last (first-each (n - 1))
+        two-joined table ts isTable t (k .source) (k .first) (k .model) out others (last ∷ []) o has-others has-last others-each
         (one-each last last-in) (others-are .0) last-fits in
         let all : returned (combineCall standard table (bytes others) (bytes (last ∷ [])) out) ≡ ruled (take n ss) =
         both ∙ ap (limited standard (typeView t) (λ d. dossierBytes (headed (t .name) (k .source) d))) all-joined in

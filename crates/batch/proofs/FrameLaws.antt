@@ -4,7 +4,7 @@ use mathlib.Core.Bool.{Bool, true, false}
 use mathlib.Core.Option.{Option, none, some}
 use mathlib.Core.List.{List, [], _∷_, _++_, append-nil}
 use mathlib.Core.Logic.{⊎-elim}
-use Prim.Native.Nat.{ℕ, suc, _+_, _-_, _≤_, _<_}
+use Prim.Native.Nat.{ℕ, _+_, _-_, _≤_, _<_}
 use native.Mathlib.Omega.{arith}
 use lib.ListN.{length, drop, getD, set, length-append, length-set, List·getD-append}
 use lib.Seq.{drop-length, getD-at, getD-set-same, getD-set-other}
@@ -17,7 +17,7 @@ use Rattle.packed.specs.declared.read.NumberAt.the-variants.{NoNumber}
 use Rattle.packed.specs.declared.read.TextAt.the-variants.{Text, NoText}
 use Rattle.packed.proofs.LayoutLaws.{lt-or-ge}
 use Rattle.packed.proofs.ReadLaws.{NumberStops, TextStops, number-none, text-none, text-stops, stops-got, stops-early}
-use Rattle.ontology.proofs.RunLaws.{prepend, prepend-nil, prepend-one, times-by, times-end}
+use Rattle.ontology.proofs.RunLaws.{prepend, prepend-nil, prepend-one, times-left, times-end}
 use Rattle.batch.specs.Batch.{readBatch, batchOf}
 use Rattle.batch.specs.code.BatchIndex.{BatchIs, BatchReads}
 use Rattle.batch.specs.declared.frame.BatchIndex.{BatchIndex}
@@ -64,14 +64,9 @@ unfolding BatchReads
 batch-none o s x e h = rw e h
 
 module _ {p : Parse (List (List ℕ))} {s starts ends : List ℕ} {n at i : ℕ} (w : Passed p s starts ends n at i) where
-  one-more : i < n → suc (n - (i + 1)) ≡ n - i
-  one-more h = omega arith
-
   pub passed-bad : i < n → textAt s at ≡ NoText → (x : BatchIndex) → x .ok ≡ false → BatchReads (whole p) s x
-  passed-bad h e x = batch-none (whole p) s x (ap whole
-      (w .rest
-      ∙ ap (λ (m : ℕ). prepend (w .vs) (times readText m (drop at s))) (sym (one-more h))
-      ∙ ap (prepend (w .vs)) (times-by readText (n - (i + 1)) (drop at s) (text-none s at e))))
+  passed-bad h e x =
+      batch-none (whole p) s x (ap whole (w .rest ∙ ap (prepend (w .vs)) (times-left readText n i (drop at s) h (text-none s at e))))
 
   pub passed-more : i < n → {a z : ℕ} → textAt s at ≡ Text a z → Passed p s (set starts i a) (set ends i z) n z (i + 1)
   passed-more h {a} {z} e =
@@ -83,8 +78,7 @@ module _ {p : Parse (List (List ℕ))} {s starts ends : List ℕ} {n at i : ℕ}
         few = w .few;
         rest =
             w .rest
-            ∙ ap (λ (m : ℕ). prepend (w .vs) (times readText m (drop at s))) (sym (one-more h))
-            ∙ ap (prepend (w .vs)) (times-by readText (n - (i + 1)) (drop at s) (t .is))
+            ∙ ap (prepend (w .vs)) (times-left readText n i (drop at s) h (t .is))
             ∙ prepend-one (w .vs) v (times readText (n - (i + 1)) (drop z s));
         within = t .within;
         each = λ k l. ⊎-elim (old k) (λ (g : i ≤ k). let e : k ≡ i = omega arith in rw e last) (lt-or-ge k i);

@@ -138,8 +138,9 @@ unfolding batchAsked
 asks-batch table batch =
     asks-then-at (asks-all (asks-one 2 (omega arith, omega arith) (tableOf table))) λ ts isTable.
     asks-then-at (asks-all (asks-one 9 (omega arith, omega arith) (batchOf batch))) λ ss isBatch.
-    asks-then-at (asks-events ts 0 ss (omega (arith, batch-few batch ss isBatch))) λ xs reads.
-    asks-together xs (omega (arith, reads .0, batch-few batch ss isBatch)) ((ts, isTable), (ss, isBatch, reads .1))
+    let few = batch-few batch ss isBatch in
+    asks-then-at (asks-events ts 0 ss (omega arith)) λ xs reads.
+    asks-together xs (omega (arith, reads .0)) ((ts, isTable), (ss, isBatch, reads .1))
 
 -- ---- what a call gives
 

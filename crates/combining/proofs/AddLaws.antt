@@ -56,9 +56,10 @@ use Rattle.combining.proofs.InsertLaws.{Stands, stands, join-keeps, mer
 use Rattle.combining.proofs.CheckLaws.{taken-event, known-read, known-checked, checkable}
 use Rattle.combining.proofs.CheckLaws.{Checked, fit, kept, lone-short, none-differ, lone-sets, lone-snapshots, lone-head, alone-bytes}
 use Rattle.combining.proofs.MeetLaws.{versionIn, taken-rises, left-taken, known-meet}
-use Rattle.combining.proofs.PartLaws.{count-room, body-room}
+use Rattle.combining.proofs.PartLaws.{WholeRoom, count-room, body-room}
 use Rattle.combining.proofs.RoomLaws.{combined-room}
-use Rattle.combining.proofs.MergedLaws.{StandsIn, same-written, known-heads, whole-length, whole-room, WritesHeads, whole-wrote}
+use Rattle.combining.proofs.MergedLaws.{StandsIn, same-written, known-heads, wholeHead, wholeSnapshots, whole-length, whole-room}
+use Rattle.combining.proofs.MergedLaws.{WritesHeads, whole-wrote}
 use Rattle.combining.proofs.FitLaws.{left-written, right-written, whole-snapshots, left-one, same-version, unversioned}
 use Rattle.combining.proofs.FitLaws.{ToVersions, ToObjects, to-objects, fits-versions, fits-versioned}
 
@@ -221,6 +222,10 @@ module _ {table sofar m event : List ℕ} {t : TypeIndex} {ps : List ℕ} (a : A
 
 -- ---- an event that is added
 
+-- there is a place for the measures of one more
+abbrev pub HasPlace : List ℕ → Place → Type 0
+HasPlace m p = (countIn m ≤ 8) × (p .index ≤ countIn m) × (p .meets ≡ true → p .index < countIn m) × (p .meets ≡ false → countIn m < 8)
+
 module _
     {table sofar m event : List ℕ} {e : EventIndex} {ats : List ℕ} {x : HeadAt} {body : ℕ} {p : Place}
     {t : TypeIndex} {ps : List ℕ} (h : Adding table sofar m event e ats x body p t ps) where
@@ -331,20 +336,20 @@ module _
   y-written : SnapshotWritten y
   y-written = subst (λ (zs : List Snapshot). All SnapshotWritten zs) right-snapshots (right-written k .body .snapshots) .0
 
+  y-sets : map held (y .cells) ≡ typed .event .sets
+  y-sets = lone-sets (typed .type) (typed .event) (kept checked) (fit checked)
+
   pub y-cells : CellsAre event (y .cells) 0 ats
   y-cells = record {
     bits = sym (none-differ (setAt (typed .event)) (upTo 32));
     sets = subst (λ (xs : List (List Text)). SetsAre event xs ats) (sym y-sets) (h .read .sets);
   }
-    where
-      y-sets : map held (y .cells) ≡ typed .event .sets
-      y-sets = lone-sets (typed .type) (typed .event) (kept checked) (fit checked)
 
   y-objects : e .objects ≡ sizes (y .cells)
-  y-objects =
-      h .read .objects
-      ∙ ap objectCount (sym (lone-sets (typed .type) (typed .event) (kept checked) (fit checked)))
-      ∙ held-objects (y .cells)
+  y-objects = h .read .objects ∙ ap objectCount (sym y-sets) ∙ held-objects (y .cells)
+
+  pub y-bytes : snapshotBytes y ≡ aloneBytes (typed .event) event-version
+  y-bytes = alone-bytes (typed .type) (typed .event) (kept checked) (fit checked)
 
   module _ (q : p .meets ≡ true) where
     abbrev here : Snapshot
@@ -393,7 +398,7 @@ module _
       stands = met-stands;
       what = typed .event;
       read = h .read;
-      bytes = alone-bytes (typed .type) (typed .event) (kept checked) (fit checked) ∙ ap (aloneBytes (typed .event)) (sym n);
+      bytes = y-bytes ∙ ap (aloneBytes (typed .event)) (sym n);
       right-is = y-cells;
     }
 
@@ -402,9 +407,6 @@ module _
 
   new-alone : p .meets ≡ false → new ≡ y
   new-alone q = ap (λ (b : Bool). cond b (joinSnapshots (typeView ty) (getD ss (p .index) noSnapshot) y) y) q
-
-  y-bytes : snapshotBytes y ≡ aloneBytes (typed .event) event-version
-  y-bytes = alone-bytes (typed .type) (typed .event) (kept checked) (fit checked)
 
   -- ---- the snapshots of both, as bytes
 
@@ -459,9 +461,7 @@ module _
   added-heads : Inside h → HeadsAre sofar x event (e .head) (k .left .headed .head) (k .right .headed .head)
   added-heads inside = known-heads k inside (h .head) right-head-is
 
-  -- there is a place for the measures of one more
-  has-place :
-      Inside h → (countIn m ≤ 8) × (p .index ≤ countIn m) × (p .meets ≡ true → p .index < countIn m) × (p .meets ≡ false → countIn m < 8)
+  has-place : Inside h → HasPlace m p
   unfolding standard
   has-place inside =
       let c = h .added .measured .count in
@@ -653,8 +653,7 @@ module _
       room = omega (arith, whole-short, whole-length (is .added .both));
     }
 
-    pub place-there :
-        (countIn m ≤ 8) × (p .index ≤ countIn m) × (p .meets ≡ true → p .index < countIn m) × (p .meets ≡ false → countIn m < 8)
+    pub place-there : HasPlace m p
     place-there = has-place is (r .inside _ is)
 
   -- what `write_heads` leaves, and what `count_with` answers
@@ -666,8 +665,11 @@ module _
         Wrote l 0 (dossierHeadBytes (bothHeads (k .left .headed .head) (k .right .headed .head))) l₁ a
     head-wrote h = heads _ _ (added-heads h (r .inside _ h))
 
+    rooms : let k = is r .added .both in WholeRoom l (wholeHead k) (length (combined (k .left) (k .right) .snapshots)) (wholeSnapshots k)
+    rooms = whole-room (is r .added .both) (whole-short r)
+
     pub number-within : a + length (number n) ≤ length l₁
-    number-within = count-room (whole-room (is r .added .both) (whole-short r)) (head-wrote (is r)) (counted (is r) counts)
+    number-within = count-room rooms (head-wrote (is r)) (counted (is r) counts)
 
     module _ {l₂ : List ℕ} {b : ℕ} (number-wrote : Wrote l₁ a (number n) l₂ b) where
       pub with-there : WithRoom sofar event e ats body p version t ps apart b (length l₂)
@@ -675,7 +677,7 @@ module _
         in-some = record { table = _; measures = _; head = _; is = is r };
         number = r .number;
         scratch = r .scratch;
-        room = body-room (whole-room (is r .added .both) (whole-short r)) (head-wrote (is r)) (counted (is r) counts) number-wrote;
+        room = body-room rooms (head-wrote (is r)) (counted (is r) counts) number-wrote;
       }
 
       pub added-wrote :

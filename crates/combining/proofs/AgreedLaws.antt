@@ -113,9 +113,9 @@ joins-bytes t e (p ∷ ps) (c ∷ cs) (d ∷ ds) =
 filled-bits : (cs : List Cell) → map bitOf (map isFilled cs) ≡ map presenceBit (map held cs)
 unfolding bitOf isFilled presenceBit held
 filled-bits [] = refl
-filled-bits (differs ∷ cs) = ap (λ (l : List ℕ). 0 ∷ l) (filled-bits cs)
-filled-bits (holds [] ∷ cs) = ap (λ (l : List ℕ). 0 ∷ l) (filled-bits cs)
-filled-bits (holds (v ∷ vs) ∷ cs) = ap (λ (l : List ℕ). 1 ∷ l) (filled-bits cs)
+filled-bits (differs ∷ cs) = rw (filled-bits cs)
+filled-bits (holds [] ∷ cs) = rw (filled-bits cs)
+filled-bits (holds (v ∷ vs) ∷ cs) = rw (filled-bits cs)
 
 mark-bits : (cs : List Cell) → map bitOf (map isMark cs) ≡ map differBit cs
 unfolding bitOf isMark differBit

@@ -257,8 +257,9 @@ module _ (table event out : List ℕ) where
   unfolding checkCall checkAnswer
   check-done a new n version h q w₀ =
       let x = dossierBytes (eventDossier (record { type = a .type; event = a .e })) in
-      let w : Wrote out 0 x new n = subst (λ (z : List ℕ). Wrote out 0 z new n) (ap (loneBytes (a .e)) q ∙ sym (lone-is a)) w₀ in
-      let s : 0 + length x ≤ length out = omega (arith, lone-short a, ap length (lone-is a)) in
+      let alone = lone-is a in
+      let w : Wrote out 0 x new n = subst (λ (z : List ℕ). Wrote out 0 z new n) (ap (loneBytes (a .e)) q ∙ sym alone) w₀ in
+      let s : 0 + length x ≤ length out = omega (arith, lone-short a, ap length alone) in
       let m : n ≡ length x = omega (arith, w .after) in
       rw (asked-of table event (length out) (accepted (record { type = a .type; event = a .e })) h (a .is))
       (ap₂ (λ (k : ℕ) (l : List ℕ). replies (Done k) l) m (wrote-between s w ∙ ap (λ (k : ℕ). x ++ drop k out) m))

@@ -58,12 +58,15 @@ passed-some a b i i′ j j′ (inl p) (inr q) = omega arith
 passed-some a b i i′ j j′ (inr p) (inl q) = omega arith
 passed-some a b i i′ j j′ (inr p) (inr q) = absurd (omega arith)
 
+rising-from : (xs : List ℕ) (i : ℕ) → rising numbers xs ≡ true → Ups numbers (drop i xs)
+rising-from xs i h = ups-drop xs i (rising-ups numbers xs .0 h)
+
 module _ (xs ys : List ℕ) (i j count : ℕ) (w : VersionsLeft xs ys i j count) where
   versions-left : length ys ≤ j → rising numbers xs ≡ true → rising numbers ys ≡ true → count + (length xs - i) ≡ length (union numbers xs ys)
   versions-left l h k =
       sym (w .is h k
       ∙ ap (λ (zs : List ℕ). count + length (union numbers (drop i xs) zs)) (drop-of-length-le ys l)
-      ∙ ap (λ (zs : List ℕ). count + length zs) (union-right-nil numbers (drop i xs) (ups-drop xs i (rising-ups numbers xs .0 h)))
+      ∙ ap (λ (zs : List ℕ). count + length zs) (union-right-nil numbers (drop i xs) (rising-from xs i h))
       ∙ ap (λ (n : ℕ). count + n) (length-drop i xs))
 
   versions-right : length xs ≤ i → rising numbers xs ≡ true → rising numbers ys ≡ true → count + (length ys - j) ≡ length (union numbers xs ys)
@@ -91,28 +94,30 @@ module _ (xs ys : List ℕ) (i j count : ℕ) (w : VersionsLeft xs ys i j count)
       right-is = drop-cons ys j 0 m
 
       hx : Ups numbers (x ∷ drop (suc i) xs)
-      hx = subst (Ups numbers) left-is (ups-drop xs i (rising-ups numbers xs .0 h))
+      hx = subst (Ups numbers) left-is (rising-from xs i h)
 
       hy : Ups numbers (y ∷ drop (suc j) ys)
-      hy = subst (Ups numbers) right-is (ups-drop ys j (rising-ups numbers ys .0 k))
+      hy = subst (Ups numbers) right-is (rising-from ys j k)
 
       both-split : length (union numbers (drop i xs) (drop j ys)) ≡ length (union numbers (x ∷ drop (suc i) xs) (y ∷ drop (suc j) ys))
       both-split = ap₂ (λ (a b : List ℕ). length (union numbers a b)) left-is right-is
 
       next : Next
       next =
+          let i-next = add-one i in
+          let j-next = add-one j in
           ⊎-elim
           (λ (a : (x ≤ y) × (i′ ≡ i + 1)). ⊎-elim
           (λ (b : (y ≤ x) × (j′ ≡ j + 1)). both-split ∙ first-both x y (drop (suc i) xs) (drop (suc j) ys) hx hy (omega arith)
-          ∙ ap₂ (λ (a b : ℕ). 1 + length (union numbers (drop a xs) (drop b ys))) (sym (a .1 ∙ add-one i)) (sym (b .1 ∙ add-one j)))
+          ∙ ap₂ (λ (a b : ℕ). 1 + length (union numbers (drop a xs) (drop b ys))) (sym (a .1 ∙ i-next)) (sym (b .1 ∙ j-next)))
           (λ (b : (x < y) × (j′ ≡ j)). both-split ∙ first-left x y (drop (suc i) xs) (drop (suc j) ys) hx hy (b .0)
-          ∙ ap₂ (λ (a : ℕ) (b : List ℕ). 1 + length (union numbers (drop a xs) b)) (sym (a .1 ∙ add-one i))
+          ∙ ap₂ (λ (a : ℕ) (b : List ℕ). 1 + length (union numbers (drop a xs) b)) (sym (a .1 ∙ i-next))
           (sym right-is ∙ ap (λ (n : ℕ). drop n ys) (sym (b .1))))
           q)
           (λ (a : (y < x) × (i′ ≡ i)). ⊎-elim
           (λ (b : (y ≤ x) × (j′ ≡ j + 1)). both-split ∙ first-right x y (drop (suc i) xs) (drop (suc j) ys) hx hy (a .0)
           ∙ ap₂ (λ (a : List ℕ) (b : ℕ). 1 + length (union numbers a (drop b ys))) (sym left-is ∙ ap (λ (n : ℕ). drop n xs) (sym (a .1)))
-          (sym (b .1 ∙ add-one j)))
+          (sym (b .1 ∙ j-next)))
           (λ (b : (x < y) × (j′ ≡ j)). absurd (omega arith))
           q)
           p

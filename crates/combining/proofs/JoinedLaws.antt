@@ -76,11 +76,13 @@ module _ {k : Kind} {kind : ℕ} {xs ys : List Text} (e : Extremes k kind xs ys)
   chosen-both {largest} {wanted} {r} {v} {w} same m n p q c =
       let x : xs ≡ v ∷ [] = one-value xs m (e .left-one) ∙ ap (λ (v : Text). v ∷ []) (sym p) in
       let y : ys ≡ w ∷ [] = one-value ys n (e .right-one) ∙ ap (λ (v : Text). v ∷ []) (sym q) in
+      let all-v = whole-part v in
+      let all-w = whole-part w in
       c k (e .number) (e .ordered)
-      (ap (inSpace k) (whole-part v ∙ p) ∙ one-in-space k xs m (e .left-one) (e .left-values))
-      (ap (inSpace k) (whole-part w ∙ q) ∙ one-in-space k ys n (e .right-one) (e .right-values))
+      (ap (inSpace k) (all-v ∙ p) ∙ one-in-space k xs m (e .left-one) (e .left-values))
+      (ap (inSpace k) (all-w ∙ q) ∙ one-in-space k ys n (e .right-one) (e .right-values))
       ∙ ap₂ (λ (a b : List Text). take 1 (union (extremeOrder largest k) a b))
-      (ap (λ (a : Text). a ∷ []) (whole-part v) ∙ sym x) (ap (λ (a : Text). a ∷ []) (whole-part w) ∙ sym y)
+      (ap (λ (a : Text). a ∷ []) all-v ∙ sym x) (ap (λ (a : Text). a ∷ []) all-w ∙ sym y)
       ∙ ap (λ (b : Bool). take 1 (union (extremeOrder b k) xs ys)) same
 
 -- ---- the set of a place
@@ -138,20 +140,22 @@ module _ (ty : EventType) (p : ℕ) (xs ys : List Text) where
       go every = union-left-nil texts []
       go (least O) = ap (take 1) (union-left-nil O [])
 
+  one-of-both : (O : Order Text) → 1 ≤ length xs + length ys → length (take 1 (union O xs ys)) ≡ 1
+  one-of-both O h = take-one (union O xs ys) (union-some O xs ys h)
+
   joined-some : 1 ≤ length xs + length ys → 1 ≤ length (joinedSet ty p xs ys)
   unfolding joinCell held
   joined-some h = go (typeView ty .choice p)
     where
       go : (c : Choice) → 1 ≤ length (held (joinCell false c (holds xs) (holds ys)))
       go every = union-some texts xs ys h
-      go (least O) = omega (arith, take-one (union O xs ys) (union-some O xs ys h))
+      go (least O) = omega (arith, one-of-both O h)
 
   -- a place of strategy min or max has one value then
   joined-one : 1 ≤ length xs + length ys → isExtremeAt ty p ≡ true → 1 ≡ length (joinedSet ty p xs ys)
   joined-one h x =
       let e = extreme-at ty p x in
-      let O = extremeOrder (isMax (e .what)) (e .what .kind) in
-      sym (ap length (joined-extreme e) ∙ take-one (union O xs ys) (union-some O xs ys h))
+      sym (ap length (joined-extreme e) ∙ one-of-both (extremeOrder (isMax (e .what)) (e .what .kind)) h)
 
 -- ---- whether one of two places has objects
 
@@ -272,15 +276,16 @@ module _
 
   pub before-there : (at + 1 ≤ r .next) × (r .next + (length (number (m + n - r .shared)) - 1) ≤ length l₁)
   before-there =
-      let o = union-wrote (q .are) .wrote in
-      let k = ap (λ (i : ℕ). length (number i)) (values-count (q .are) (q .some) (union-wrote (q .are))) in
+      let u = union-wrote (q .are) in
+      let o = u .wrote in
+      let k = ap (λ (i : ℕ). length (number i)) (values-count (q .are) (q .some) u) in
       (omega (arith, o .after), omega (arith, o .after, wrote-length o, k, counted-parts q))
 
   pub union-written :
       {l₂ : List ℕ} {next : ℕ} →
       ((z bytes : List ℕ) → Wrote z (at + 1) bytes l₁ (r .next) → Wrote z at (number (m + n - r .shared) ++ bytes) l₂ next) →
       (xs ys : List Text) → ValuesAre a m b n xs ys → Wrote l at (setBytes (union texts xs ys)) l₂ next
-  union-written before xs ys w = values-wrote w (q .some) _ (values-count w (q .some) (union-wrote w)) (before l _ (union-wrote w .wrote))
+  union-written before xs ys w = let u = union-wrote w in values-wrote w (q .some) _ (values-count w (q .some) u) (before l _ (u .wrote))
 
 -- ---- writing a place
 
@@ -391,6 +396,9 @@ module _
     values : (h : PlaceIs count ps p a x b y) → ValuesAre u (x .count) v (y .count) (h .xs) (h .ys)
     values h = place-values (r .some) h u v (left (h .xs) (h .left)) (right (h .ys) (h .right))
 
+    all-there : (h : PlaceIs count ps p a x b y) → setBytes (union texts (h .xs) (h .ys)) ≡ setBytes (joinedSet (h .type) p (h .xs) (h .ys))
+    all-there h = place-union (r .some) h (extreme-so e h)
+
     pub values-there : ValuesRoom u (x .count) v (y .count) at size
     values-there =
         let h = r .place in
@@ -399,14 +407,14 @@ module _
           ys = h .ys;
           are = values h;
           some = omega (arith, have-some a x b y (h .xs) (h .ys) (h .left) (h .right) (r .some), h .left .count, h .right .count);
-          room = omega (arith, r .room, ap length (place-union (r .some) h (extreme-so e h)));
+          room = omega (arith, r .room, ap length (all-there h));
         }
 
     pub all-wrote :
         {l l₁ : List ℕ} {next : ℕ} →
         ((xs ys : List Text) → ValuesAre u (x .count) v (y .count) xs ys → Wrote l at (setBytes (union texts xs ys)) l₁ next) →
         (h : PlaceIs count ps p a x b y) → Wrote l at (setBytes (joinedSet (h .type) p (h .xs) (h .ys))) l₁ next
-    all-wrote w h = wrote-as (place-union (r .some) h (extreme-so e h)) (w (h .xs) (h .ys) (values h))
+    all-wrote w h = wrote-as (all-there h) (w (h .xs) (h .ys) (values h))
 
 pub to-go-same : {l₀ whole l l′ xs : List ℕ} {at p p′ : ℕ} → ToGo l₀ at whole l p xs → l′ ≡ l → p′ ≡ p → ToGo l₀ at whole l′ p′ xs
 to-go-same g e f = rw (e, f) g

@@ -59,15 +59,19 @@ module _
   rightOne = getD (k .right .headed .snapshots) j noSnapshot
 
   fitting : leftOne .version < 2 ^ 64 → leftOne .version ≡ rightOne .version → Fitting (k .left .type) leftOne rightOne
-  fitting z h = record {
-    left-fits = taken-fits (left-taken k) i l;
-    right-fits = subst (λ (t : EventType). snapshotFits t rightOne ≡ true) (sym (same-type k)) (taken-fits (right-taken k) j m);
-    left-values = taken-values (left-taken k) i l;
-    right-values = subst (λ (t : EventType). snapshotValues t rightOne ≡ true) (sym (same-type k)) (taken-values (right-taken k) j m);
-    same = h;
-    below = z;
-    ordered = λ p q x y. extreme-ordered (isVersioned (k .left .type)) q (kept k .fits p q x) y;
-  }
+  fitting z h =
+      let left = left-taken k in
+      let right = right-taken k in
+      let one-type = sym (same-type k) in
+      record {
+        left-fits = taken-fits left i l;
+        right-fits = subst (λ (t : EventType). snapshotFits t rightOne ≡ true) one-type (taken-fits right j m);
+        left-values = taken-values left i l;
+        right-values = subst (λ (t : EventType). snapshotValues t rightOne ≡ true) one-type (taken-values right j m);
+        same = h;
+        below = z;
+        ordered = λ p q x y. extreme-ordered (isVersioned (k .left .type)) q (kept k .fits p q x) y;
+      }
 
   -- two snapshots of one version, each read from some bytes
   pub known-meet :

@@ -246,7 +246,7 @@ merge-next ty x xs y ys hx hy =
     three (numbers .cmp (x .version) (y .version))
     (λ l. less l (less-of (x .version) (y .version) l))
     (λ e. same (numbers .same (x .version) (y .version) e))
-    (λ g. more (more-turn numbers (x .version) (y .version) g) (less-of (y .version) (x .version) (more-turn numbers (x .version) (y .version) g)))
+    (λ g. let turned = more-turn numbers (x .version) (y .version) g in more turned (less-of (y .version) (x .version) turned))
   where
     less :
         numbers .cmp (x .version) (y .version) ≡ Ordering·lt → x .version < y .version →
@@ -316,10 +316,10 @@ known-heads k inside p q =
 -- ---- a combined dossier: its head, how many snapshots it has, and these
 
 module _ {table a b : List ℕ} {t : TypeIndex} {ps : List ℕ} (k : Known table a b t ps) where
-  abbrev wholeHead : List ℕ
+  abbrev pub wholeHead : List ℕ
   wholeHead = dossierHeadBytes (bothHeads (k .left .headed .head) (k .right .headed .head))
 
-  abbrev wholeSnapshots : List ℕ
+  abbrev pub wholeSnapshots : List ℕ
   wholeSnapshots = flatten (map snapshotBytes (combined (k .left) (k .right) .snapshots))
 
   abbrev whole : List ℕ
@@ -405,12 +405,14 @@ module _
         (x y : ℕ) → x ≡ stepBy v w → y ≡ stepBy w v → mergedBytes i j ≡ nextBytes i j ++ mergedBytes (i + x) (j + y)
     unfolding flatten
     merged-next x y p q =
+        let left-is = left-version i l in
+        let right-is = right-version j m in
         ap (λ (ss : List Snapshot). flatten (map snapshotBytes ss))
         (merge-at (c .known .left .type) lefts rights i j (omega (arith, c .left-read .count)) (omega (arith, c .right-read .count)) (left-rising i)
         (right-rising j)
         ∙ ap₂ (λ (u v : ℕ). nextSnapshot (c .known .left .type) leftOne rightOne ∷ mergedOf (c .known .left .type) (drop (i + u) lefts) (drop (j + v) rights))
-        (sym (p ∙ ap₂ stepBy (left-version i l) (right-version j m)))
-        (sym (q ∙ ap₂ stepBy (right-version j m) (left-version i l))))
+        (sym (p ∙ ap₂ stepBy left-is right-is))
+        (sym (q ∙ ap₂ stepBy right-is left-is)))
 
     pub next-left : v < w → part a (getD (d .starts) i 0) (getD (d .ends) i 0) ≡ nextBytes i j
     next-left h =

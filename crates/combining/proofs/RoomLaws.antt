@@ -133,7 +133,8 @@ unfolding snapshotBytes objects flatten
 snapshots-size versioned [] h n = omega arith
 snapshots-size versioned (z ∷ ss) h n =
     let sets = map held (z .cells) in
-    let most : objectCount sets ≤ 256 = omega (arith, held-objects (z .cells)) in
+    let counted = held-objects (z .cells) in
+    let most : objectCount sets ≤ 256 = omega arith in
     simp length-append
     (omega (
       arith,
@@ -141,7 +142,7 @@ snapshots-size versioned (z ∷ ss) h n =
       number-bounds (bitNumber (map presenceBit sets)),
       number-bounds (bitNumber (map differBit (z .cells))),
       sets-size sets (h .0 .short) (each-within 256 sets most),
-      held-objects (z .cells),
+      counted,
       length-map (z .cells) held,
       h .0 .few,
       snapshots-size versioned ss (h .1) (omega arith),
@@ -197,11 +198,12 @@ module _ (table r s : List ℕ) (types : Table) (a b : TypedDossier) (t : tableO
       let each : isVersioned (a .type) ≡ true → All (λ (z : Snapshot). sizes (z .cells) ≤ 32) ss =
       λ v. member-all (λ (z : Snapshot). sizes (z .cells) ≤ 32) ss (λ z i. all-member (SmallIn (a .type)) ss together-small z i .objects v) in
       let most : objects ss ≤ 256 = truth (isVersioned (a .type)) (λ v. versioned-objects ss (each v) versions) unversioned in
+      let head = taken-written x .head in
       simp length-append
       (omega (
         arith,
         dossier-head-size (headedAs (a .headed) (combined a b) .head)
-            (record { type = taken-written x .head .type; source = taken-written x .head .source; parents = parents-written }) (taken-name x table t),
+            (record { type = head .type; source = head .source; parents = parents-written }) (taken-name x table t),
         number-bounds (length ss),
         snapshots-size (isVersioned (a .type)) ss together-small most,
       ))

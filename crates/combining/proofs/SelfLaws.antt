@@ -78,9 +78,10 @@ module _ (ty : EventType) (x : Snapshot) (w : SnapshotWritten x) (fits : snapsho
   cells-self : joinSnapshots (typeView ty) x x .cells ≡ x .cells
   unfolding typeView eventView places cellAt
   cells-self =
-      join-map (typeView ty) x x (snapshot-cells x w) (snapshot-cells x w)
+      let long = snapshot-cells x w in
+      join-map (typeView ty) x x long long
       ∙ map-same _ (cellAt x) (upTo 32) (λ k m. cell-self k)
-      ∙ map-getD (x .cells) (holds []) 32 (snapshot-cells x w)
+      ∙ map-getD (x .cells) (holds []) 32 long
 
   snapshot-self : joinSnapshots (typeView ty) x x ≡ x
   unfolding joinSnapshots

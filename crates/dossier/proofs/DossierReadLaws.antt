@@ -28,7 +28,7 @@ use Rattle.packed.specs.declared.read.NumberAt.{NumberAt}
 use Rattle.packed.specs.declared.read.NumberAt.the-variants.{Number, NoNumber}
 use Rattle.packed.proofs.FieldLaws.{number-got, number-fail, got-bounds}
 use Rattle.values.specs.declared.versions.EventVersion.{EventVersion}
-use Rattle.ontology.proofs.RunLaws.{prepend, prepend-nil, prepend-one, times-by}
+use Rattle.ontology.proofs.RunLaws.{prepend, prepend-nil, prepend-one, times-left}
 use Rattle.event.specs.Head.{Head}
 use Rattle.event.specs.EventLayout.{bitNumber}
 use Rattle.event.specs.code.EventIndex.{SetsAre}
@@ -227,15 +227,9 @@ sofar-none s rows n at h l =
     }
 
 module _ {p : Parse (List Snapshot)} {s rows : List ℕ} {r : SnapshotsRead} {n next j size : ℕ} (w : Sofar p s rows r n next j size) where
-  one-more : j < n → suc (n - (j + 1)) ≡ n - j
-  one-more h = omega arith
-
   module _ (h : j < n) where
     stopped : readSnapshot (drop next s) ≡ fail → p ≡ fail
-    stopped e =
-        w .rest
-        ∙ ap (λ (m : ℕ). prepend (w .xs) (times readSnapshot m (drop next s))) (sym (one-more h))
-        ∙ ap (prepend (w .xs)) (times-by readSnapshot (n - (j + 1)) (drop next s) e)
+    stopped e = w .rest ∙ ap (prepend (w .xs)) (times-left readSnapshot n j (drop next s) h e)
 
     -- the next snapshot is none, and so are all
     pub sofar-bad : (rows′ : List ℕ) → readSnapshot (drop next s) ≡ fail → SnapshotsSay p s rows′ r
@@ -328,8 +322,7 @@ module _ {p : Parse (List Snapshot)} {s rows : List ℕ} {r : SnapshotsRead} {n 
         below = omega arith;
         rest =
             w .rest
-            ∙ ap (λ (m : ℕ). prepend (w .xs) (times readSnapshot m (drop next s))) (sym (one-more h))
-            ∙ ap (prepend (w .xs)) (times-by readSnapshot (n - (j + 1)) (drop next s) (k .stands .is))
+            ∙ ap (prepend (w .xs)) (times-left readSnapshot n j (drop next s) h (k .stands .is))
             ∙ prepend-one (w .xs) it (times readSnapshot (n - (j + 1)) (drop end s));
         within = k .stands .within;
         each = below-more (λ (m : ℕ). SnapshotAt s (getD all m noSnapshot) (getD (with-one .starts) m 0) (getD (with-one .ends) m 0)) j each-old each-last;

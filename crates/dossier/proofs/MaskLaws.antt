@@ -454,15 +454,17 @@ CellsFit m count differ objects ats r =
 
 pub counts-none : (count differ objects : ℕ) (ats : List ℕ) → CountsDown count differ objects ats 0 0 objects count
 unfolding bitNumber
-counts-none count differ objects ats = record {
-  inside = omega arith;
-  present-low = pow-pos (32 - count);
-  several-low = pow-pos (32 - count);
-  from = λ u cs y o.
-      let e = drop-of-length-le (take count cs) {i = count} (omega (arith, length-take count cs)) in
-      let parts = ap sizes (sym (take-append-drop count cs)) ∙ sizes-append (take count cs) (drop count cs) in
-      record { there = rw e; many = rw e; rest = o ∙ parts };
-}
+counts-none count differ objects ats =
+    let low = pow-pos (32 - count) in
+    record {
+      inside = omega arith;
+      present-low = low;
+      several-low = low;
+      from = λ u cs y o.
+          let e = drop-of-length-le (take count cs) {i = count} (omega (arith, length-take count cs)) in
+          let parts = ap sizes (sym (take-append-drop count cs)) ∙ sizes-append (take count cs) (drop count cs) in
+          record { there = rw e; many = rw e; rest = o ∙ parts };
+    }
 
 module _
     {count differ objects : ℕ} {ats : List ℕ} {present several left k : ℕ} (w : CountsDown count differ objects ats present several left k)

@@ -63,14 +63,18 @@ module _ (s : List ℕ) where
 
   -- its count is read where its head ends
   module _ (end : ℕ) (w : HeadEnds s end) where
-    count-there : {n : ℕ} (c : CountStands s n) → suchThat (isWithin 1 8) readNumber (drop end s) ≡ got n (c .after-count)
-    count-there c = ap (suchThat (isWithin 1 8) readNumber) (sym (w .rest (c .head) (c .after-head) (c .headed))) ∙ c .counted
+    count-there :
+        (h : Headed) (e : dossierOf standard s ≡ some h) →
+        suchThat (isWithin 1 8) readNumber (drop end s) ≡ got (length (h .snapshots)) (count-stands s h e .after-count)
+    count-there h e =
+        let c = count-stands s h e in
+        ap (suchThat (isWithin 1 8) readNumber) (sym (w .rest (c .head) (c .after-head) (c .headed))) ∙ c .counted
 
     pub as-counted : (n at : ℕ) → Got (suchThat (isWithin 1 8) readNumber (drop end s)) s end n at → Counted n
-    as-counted n at c h e = let both = sym (count-there (count-stands s h e)) ∙ c .is in cc both
+    as-counted n at c h e = let both = sym (count-there h e) ∙ c .is in cc both
 
     pub counted-none : (n : ℕ) → suchThat (isWithin 1 8) readNumber (drop end s) ≡ fail → Counted n
-    counted-none n bad h e = fail-got (sym bad ∙ count-there (count-stands s h e))
+    counted-none n bad h e = fail-got (sym bad ∙ count-there h e)
 
   -- ---- its rows
 

@@ -92,9 +92,9 @@ record EventGot (o : Option Event) (event ats : List ℕ) (x : EventIndex) : Typ
   is : o ≡ some what
   stands : EventIs event what x ats
 
-event-got : (o : Option Event) (event ats : List ℕ) (x : EventIndex) → EventReads o event ats x → x .ok ≡ true → EventGot o event ats x
+event-got : (o : Option Event) (event ats : List ℕ) (x : EventIndex) → EventReads o event ats x → not (x .ok) ≡ false → EventGot o event ats x
 unfolding EventReads
-event-got none event ats x w h = never (cc)
+event-got none event ats x w h = let read : x .ok ≡ true = not-false _ h in never (cc)
 event-got (some e) event ats x w h = record { what = e; is = refl; stands = w .1 }
 
 module _ (event ats ps : List ℕ) (t : TableRead) (x : EventIndex) where
@@ -107,10 +107,13 @@ module _ (event ats ps : List ℕ) (t : TableRead) (x : EventIndex) where
   pub ask-table : not (t .ok) ≡ true → Questioned event ats ps t x 2
   ask-table h table name counts says names reads = refused-by 2 table counts (rw (table-refused table name ps t says (not-true _ h)))
 
+  table-there : (table : List ℕ) (name : Text) → TableSays (tableOf table) table name ps t → not (t .ok) ≡ false → TableGot table name ps t
+  table-there table name says h = table-got table name ps t says (not-false _ h)
+
   pub ask-read : not (t .ok) ≡ false → not (x .ok) ≡ true → Questioned event ats ps t x 3
   unfolding eventAsked
   ask-read h k table name counts says names reads =
-      let g = table-got table name ps t says (not-false _ h) in
+      let g = table-there table name says h in
       refused-by 3 table counts (rw (g .is, event-absent (eventOf counts event) event ats x reads (not-true _ k)))
 
   -- what the table has of the event's type
@@ -122,8 +125,8 @@ module _ (event ats ps : List ℕ) (t : TableRead) (x : EventIndex) where
   pub ask-type : not (t .ok) ≡ false → not (x .ok) ≡ false → not (t .found) ≡ true → Questioned event ats ps t x 4
   unfolding eventAsked
   ask-type h k l table name counts says names reads =
-      let g = table-got table name ps t says (not-false _ h) in
-      let e = event-got (eventOf counts event) event ats x reads (not-false _ k) in
+      let g = table-there table name says h in
+      let e = event-got (eventOf counts event) event ats x reads k in
       refused-by 4 table counts (rw (g .is, e .is, type-absent _ table ps t (type-says counts g names e) (not-true _ l)))
 
   -- the event and its type
@@ -146,8 +149,8 @@ module _ (event ats ps : List ℕ) (t : TableRead) (x : EventIndex) where
       (table : List ℕ) (name : Text) (counts : Counts) → TableSays (tableOf table) table name ps t →
       ((e : Event) → eventOf counts event ≡ some e → name ≡ e .head .type) → EventReads (eventOf counts event) event ats x → Met table counts
   met h k l table name counts says names reads =
-      let g = table-got table name ps t says (not-false _ h) in
-      let e = event-got (eventOf counts event) event ats x reads (not-false _ k) in
+      let g = table-there table name says h in
+      let e = event-got (eventOf counts event) event ats x reads k in
       let y = type-found _ table ps t (type-says counts g names e) (not-false _ l) in
       record {
         type = y .what;

@@ -130,10 +130,11 @@ pub sets-read : (xs : List (List Text)) (r : List ℕ) → All SetWritten xs →
 unfolding readSets bitNumber setsBytes flatten
 sets-read [] r w = refl
 sets-read (x ∷ xs) r w =
+    let small = presence-small x in
     rw (
       append-assoc (setBytes x) (flatten (map setBytes xs)) r,
-      low-bit (presenceBit x) (bitNumber (map presenceBit xs)) (presence-small x),
-      high-bits (presenceBit x) (bitNumber (map presenceBit xs)) (presence-small x),
+      low-bit (presenceBit x) (bitNumber (map presenceBit xs)) small,
+      high-bits (presenceBit x) (bitNumber (map presenceBit xs)) small,
       set-read x (flatten (map setBytes xs) ++ r) (w .0),
       sets-read xs r (w .1),
     )

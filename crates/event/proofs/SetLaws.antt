@@ -63,13 +63,16 @@ module _ (p : Layout Text) where
   times-stop k n t e = rw e
 
   -- for a count that is not 0
+  times-suc : {B : Type 0} (k : List Text → Layout B) (n : ℕ) (t : List ℕ) → 0 < n → andThen (times p n t) k ≡ andThen (times p (suc (n - 1)) t) k
+  times-suc k n t h = ap (λ (m : ℕ). andThen (times p m t) k) (sym (suc-of n h))
+
   times-next :
       {B : Type 0} (k : List Text → Layout B) (n : ℕ) (t r : List ℕ) (v : Text) → 0 < n → p t ≡ got v r →
       andThen (times p n t) k ≡ andThen (times p (n - 1) r) (λ ws. k (v ∷ ws))
-  times-next k n t r v h e = ap (λ (m : ℕ). andThen (times p m t) k) (sym (suc-of n h)) ∙ times-step k (n - 1) t r v e
+  times-next k n t r v h e = times-suc k n t h ∙ times-step k (n - 1) t r v e
 
   times-bad : {B : Type 0} (k : List Text → Layout B) (n : ℕ) (t : List ℕ) → 0 < n → p t ≡ fail → andThen (times p n t) k ≡ fail
-  times-bad k n t h e = ap (λ (m : ℕ). andThen (times p m t) k) (sym (suc-of n h)) ∙ times-stop k (n - 1) t e
+  times-bad k n t h e = times-suc k n t h ∙ times-stop k (n - 1) t e
 
   pub risen-bad : (count : ℕ) (t : List ℕ) → 0 < count → p t ≡ fail → risen p count t ≡ fail
   unfolding risen
@@ -252,12 +255,13 @@ module _ (s : List ℕ) (at : ℕ) {count start : ℕ} {r : NumberAt} (told : r 
 
       pub set-found : SetStops (readSet (drop at s)) s (record { start = start; end = to; count = count })
       set-found =
+          let read = rising-all w h in
           let p = stretch s (flatten (map text vs)) start to (n .within) (w .within) (values .0) in
-          let whole = stretch s (setBytes vs) at to there (w .within) (nonempty-was (drop at s) vs (drop to s) (rising-all w h) .bytes) in
+          let whole = stretch s (setBytes vs) at to there (w .within) (nonempty-was (drop at s) vs (drop to s) read .bytes) in
           let begin : start - countSize count ≡ at = omega (arith, size, n .after) in
           record {
             what = vs;
-            is = rising-all w h;
+            is = read;
             stands = record {
               bytes = p .0;
               count = sym (values .1);
@@ -309,12 +313,15 @@ place-clear bit s at h k =
 
 -- ---- the sets of all places
 
--- so many more places
+-- place k and those after it
 sets-step :
-    (n presence : ℕ) (t : List ℕ) {p : Parse (List Text)} → readPlace (presence % 2) t ≡ p →
-    readSets (suc n) presence t ≡ andThen p (λ x r. andThen (readSets n (presence / 2) r) (λ xs u. got (x ∷ xs) u))
+    (k presence : ℕ) (t : List ℕ) → k < 32 → {p : Parse (List Text)} → readPlace (presence % 2) t ≡ p →
+    readSets (32 - k) presence t ≡ andThen p (λ x r. andThen (readSets (32 - (k + 1)) (presence / 2) r) (λ xs u. got (x ∷ xs) u))
 unfolding readSets
-sets-step n presence t e = ap (λ (p : Parse (List Text)). andThen p (λ x r. andThen (readSets n (presence / 2) r) (λ xs u. got (x ∷ xs) u))) e
+sets-step k presence t h e =
+    let others = 32 - (k + 1) in
+    let one-more : 32 - k ≡ suc others = omega arith in
+    rw one-more (ap (λ (p : Parse (List Text)). andThen p (λ x r. andThen (readSets others (presence / 2) r) (λ xs u. got (x ∷ xs) u))) e)
 
 -- where no bit is left, no place has objects
 sets-clear : (n : ℕ) (t : List ℕ) → readSets n 0 t ≡ got (replicate n []) t
@@ -413,14 +420,8 @@ sofar-none {s} {bits} {at} h l = record {
 }
 
 module _ {p : Parse (List (List Text))} {s ats : List ℕ} {bits next objects k : ℕ} (w : Sofar p s ats bits next objects k) where
-  one-more : k < 32 → suc (32 - (k + 1)) ≡ 32 - k
-  one-more h = omega arith
-
   pub sofar-bad : k < 32 → readPlace (bits % 2) (drop next s) ≡ fail → p ≡ fail
-  sofar-bad h e =
-      w .rest
-      ∙ ap (λ (n : ℕ). prepend (w .xs) (readSets n bits (drop next s))) (sym (one-more h))
-      ∙ ap (prepend (w .xs)) (sets-step (32 - (k + 1)) bits (drop next s) e)
+  sofar-bad h e = w .rest ∙ ap (prepend (w .xs)) (sets-step k bits (drop next s) h e)
 
   module _ {x : SetAt} {r : SetRead} (h : k < 32) (told : SetReads (readPlace (bits % 2) (drop next s)) s r) (is : r ≡ Found x) where
     t : SetStops (readPlace (bits % 2) (drop next s)) s x
@@ -459,8 +460,7 @@ module _ {p : Parse (List (List Text))} {s ats : List ℕ} {bits next objects k 
       few = omega arith;
       rest =
           w .rest
-          ∙ ap (λ (n : ℕ). prepend (w .xs) (readSets n bits (drop next s))) (sym (one-more h))
-          ∙ ap (prepend (w .xs)) (sets-step (32 - (k + 1)) bits (drop next s) (t .is))
+          ∙ ap (prepend (w .xs)) (sets-step k bits (drop next s) h (t .is))
           ∙ prepend-one (w .xs) (t .what) (readSets (32 - (k + 1)) (bits / 2) (drop (x .end) s));
       within = t .stands .within;
       summed = omega (arith, w .summed, t .stands .count, objects-append (w .xs) (t .what ∷ []), objects-one (t .what));
@@ -546,13 +546,15 @@ module _ {old ats : List ℕ} {place k : ℕ} (w : Cleared old ats place k) wher
     next-clear i a l false e = let ne = eqb-false i k e in set-other ats k noSet i ne ∙ w .clear i a (omega (arith, ne))
 
     pub cleared-more : Cleared old next-ats place (k + 1)
-    cleared-more = record {
-      long = three-long ats k 0 0 0 ∙ w .long;
-      all = three-long ats k 0 0 0 ∙ w .all;
-      from = omega (arith, w .from);
-      kept = λ i l. set-other ats k noSet i (λ e. absurd (omega (arith, w .from))) ∙ w .kept i l;
-      clear = λ i a l. next-clear i a l (eqb i k) refl;
-    }
+    cleared-more =
+        let same = three-long ats k 0 0 0 in
+        record {
+          long = same ∙ w .long;
+          all = same ∙ w .all;
+          from = omega (arith, w .from);
+          kept = λ i l. set-other ats k noSet i (λ e. absurd (omega (arith, w .from))) ∙ w .kept i l;
+          clear = λ i a l. next-clear i a l (eqb i k) refl;
+        }
 
 -- ---- the text at an index
 

@@ -62,7 +62,8 @@ pub present-cons :
 unfolding presentBytes bitNumber setsBytes flatten
 present-cons x y xs ys p q =
     let bits = bitNumber (map presenceBit ys) in
-    rw (low-bit (presenceBit y) bits (presence-small y), high-bits (presenceBit y) bits (presence-small y)) (ap₂ (λ (a b : List ℕ). a ++ b) p q)
+    let small = presence-small y in
+    rw (low-bit (presenceBit y) bits small, high-bits (presenceBit y) bits small) (ap₂ (λ (a b : List ℕ). a ++ b) p q)
 
 -- all sets
 place-own : (x : List Text) → placeBytes (presenceBit x) x ≡ setBytes x

@@ -175,12 +175,16 @@ module _ {count : ℕ} {ps : List ℕ} {objects : ℕ} {ats : List ℕ} {left ma
     place-inside : {event : List ℕ} {xs : List (List Text)} → SetsAre event xs ats → k < length xs
     place-inside is = omega (arith, inside, is .long)
 
+    objects-here :
+        {event : List ℕ} {xs : List (List Text)} → SetsAre event xs ats → objectCount (drop k xs) ≡ length (getD xs k []) + objectCount (drop (k + 1) xs)
+    objects-here {xs} is = objects-step k xs (place-inside is)
+
     property-read : {s : List ℕ} {q : Property} → PropertyIs s q (propertyIn ps k) → PropertyIs s q p
     property-read {s} {q} is = subst (PropertyIs s q) (sym property) is
 
     pub shape-few : left < v .count → Shaped count ps objects ats (λ t x. false ≡ eventShape t x)
     shape-few l table event t x are is n =
-        absurd (omega (arith, w .shape table event t x are is n .objects, objects-step k (x .sets) (place-inside is), set-count is))
+        absurd (omega (arith, w .shape table event t x are is n .objects, objects-here is, set-count is))
 
     -- the set fits as is answered
     module _ {fits : Bool} (asked : (s : List ℕ) (q : Property) (vs : List Text) → PropertyIs s q p → v .count ≡ length vs → fits ≡ setFits q vs) where
@@ -222,7 +226,7 @@ module _ {count : ℕ} {ps : List ℕ} {objects : ℕ} {ats : List ℕ} {left ma
         shape = λ table event t x are is o. record {
           each = fit-next asked table event t x are is o ∙ ap (λ (b : Bool). b && fitFrom t x (k + 1)) (not-false fits e);
           count = omega (arith, matches-next table event t x are is o);
-          objects = omega (arith, w .shape table event t x are is o .objects, objects-step k (x .sets) (place-inside is), set-count is);
+          objects = omega (arith, w .shape table event t x are is o .objects, objects-here is, set-count is);
         };
       }
 

@@ -79,14 +79,9 @@ text-short {table} {event} a =
     (event-match (a .type) (a .e) (w .shape), hash-short table event (o .what) (record { type = a .type; event = a .e }) (o .is) (o .asked))
 
 abbrev pub hashable : {table event ps ats : List ℕ} {r : EventAsked} → Accepted wide table event ps ats r → Hashable table event (r .type) ps (r .event) ats
-hashable a = record {
-  type = a .type;
-  event = a .e;
-  typed = a .type-is;
-  read = a .event-is;
-  few = text-short a .0;
-  short = text-short a .1;
-}
+hashable a =
+    let (few, short) = text-short a in
+    record { type = a .type; event = a .e; typed = a .type-is; read = a .event-is; few = few; short = short }
 
 -- ---- the questions
 

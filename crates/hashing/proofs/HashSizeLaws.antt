@@ -26,9 +26,10 @@ module _ (O : Order Text) where
   insert-size a [] = (refl, length-append a [])
   insert-size a (b ∷ xs) =
       let h = insert-size a xs in
+      let whole = length-append a (b ++ flatten xs) in
       three (O .cmp a b)
-      (λ l. rw l (refl, length-append a (b ++ flatten xs)))
-      (λ e. rw e (refl, length-append a (b ++ flatten xs)))
+      (λ l. rw l (refl, whole))
+      (λ e. rw e (refl, whole))
       (λ g. rw g (ap suc (h .0), simp length-append (omega arith)))
 
   pub sorted-length : (xs : List Text) → length (sorted O xs) ≡ length xs

@@ -127,23 +127,23 @@ module _ (t : TypeView) (d : Dossier) where
   opening-free h = rw h
 
 module _ {Event : Type 0} (t : View Event) (es : List Event) where
-  sets-at : ℕ → ℕ → List (List Text)
-  sets-at v p = map (λ e. t .event .set e p) (ofVersion t v es)
+  setsAt : ℕ → ℕ → List (List Text)
+  setsAt v p = map (λ e. t .event .set e p) (ofVersion t v es)
 
-  at-agreed : t .type .versioned ≡ true → (v p : ℕ) → cellOf t (ofVersion t v es) p ≡ agreed (sets-at v p)
-  unfolding cellOf cell sets-at
-  at-agreed u v p = ap (λ (b : Bool). cell b (t .type .choice p) (sets-at v p)) u
+  at-agreed : t .type .versioned ≡ true → (v p : ℕ) → cellOf t (ofVersion t v es) p ≡ agreed (setsAt v p)
+  unfolding cellOf cell setsAt
+  at-agreed u v p = ap (λ (b : Bool). cell b (t .type .choice p) (setsAt v p)) u
 
   mark-versioned : (v p : ℕ) → cellOf t (ofVersion t v es) p ≡ differs → t .type .versioned ≡ true
-  unfolding cellOf sets-at
+  unfolding cellOf setsAt
   mark-versioned v p h = go (t .type .versioned) refl (t .type .choice p) h
     where
-      go : (b : Bool) → t .type .versioned ≡ b → (c : Choice) → cell (t .type .versioned) c (sets-at v p) ≡ differs → t .type .versioned ≡ true
+      go : (b : Bool) → t .type .versioned ≡ b → (c : Choice) → cell (t .type .versioned) c (setsAt v p) ≡ differs → t .type .versioned ≡ true
       go true u c h = u
-      go false u c h = never (not-unversioned c (sets-at v p) (ap (λ (b : Bool). cell b c (sets-at v p)) (sym u) ∙ h))
+      go false u c h = never (not-unversioned c (setsAt v p) (ap (λ (b : Bool). cell b c (setsAt v p)) (sym u) ∙ h))
 
   clash-of : (v p : ℕ) → p < t .type .width → cellOf t (ofVersion t v es) p ≡ differs → Clash t es v p
-  unfolding ofVersion sets-at
+  unfolding ofVersion setsAt
   clash-of v p m h =
       let f : Event → List Text = λ e. t .event .set e p in
       let u : t .type .versioned ≡ true = mark-versioned v p h in
@@ -165,7 +165,7 @@ module _ {Event : Type 0} (t : View Event) (es : List Event) where
       }
 
   of-clash : (v p : ℕ) → Clash t es v p → List·Memᴰ (ruleAt t es v) (rule t es .snapshots) × (cellAt (ruleAt t es v) p ≡ differs)
-  unfolding rule ofVersion sets-at
+  unfolding rule ofVersion setsAt
   of-clash v p k =
       let f : Event → List Text = λ e. t .event .set e p in (
         Memᴰ·map (ruleAt t es) (canon-in numbers (map (t .event .version) es) v (Memᴰ·cast (sym (k .oneVersion)) (Memᴰ·map (t .event .version) (k .oneIn)))),
@@ -182,7 +182,8 @@ module _ {Event : Type 0} (t : View Event) (es : List Event) where
   unfolding rule ruleAt snapshot
   mark-clash s p m n h =
       let (v, k, q) = Memᴰ·of-map (ruleAt t es) (canon numbers (map (t .event .version) es)) m in
-      rw (← q) (clash-of v p (in-places (t .type) p .1 n) (sym (cell-at-rule t es v p (in-places (t .type) p .1 n)) ∙ (rw (← q) at h)))
+      let inside = in-places (t .type) p .1 n in
+      rw (← q) (clash-of v p inside (sym (cell-at-rule t es v p inside) ∙ (rw (← q) at h)))
 
   -- the conflict named is a clash, and no clash comes before it
   named : (v p : ℕ) → conflict (places (t .type)) (rule t es .snapshots) ≡ differsAt v p → FirstClash t es v p

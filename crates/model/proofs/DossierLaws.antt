@@ -164,5 +164,6 @@ module _
         cells : map (cellOf t (ofVersion t (t .event .version e) (e ∷ []))) (places (t .type)) ≡ map (λ p. holds (t .event .set e p)) (places (t .type))
         cells =
             rw (numbers .self (t .event .version e)) (map-same (cellOf t (e ∷ [])) (λ p. holds (t .event .set e p)) (places (t .type))
-            (λ p m. cell-one (t .type .versioned) (t .type .choice p) (t .event .set e p) (up p (in-places (t .type) p .1 m))
-            (few p (in-places (t .type) p .1 m))))
+            (λ p m.
+            let inside = in-places (t .type) p .1 m in
+            cell-one (t .type .versioned) (t .type .choice p) (t .event .set e p) (up p inside) (few p inside)))

@@ -96,10 +96,11 @@ module _ {E K : Type 0} (O : Order K) (key : E → K) where
   by-look [] (y ∷ ys) hx hy h = cc (h (key y), look-head y ys)
   by-look (x ∷ xs) [] hx hy h = cc (h (key x), look-head x xs)
   by-look (x ∷ xs) (y ∷ ys) hx hy h =
+      let first = look-head x xs in
       three (O .cmp (key x) (key y))
-      (λ l. let q : none ≡ some x = cc (h (key x), look-head x xs) in cc)
+      (λ l. let q : none ≡ some x = cc (h (key x), first) in cc)
       (λ e.
-      let q : x ≡ y = cc (h (key x), look-head x xs) in
+      let q : x ≡ y = cc (h (key x), first) in
       let t : xs ≡ ys = by-look xs ys (hx .1) (hy .1) (look-tail x y xs ys hx hy (O .same _ _ e) h) in
       cc)
       (λ g. cc (h (key y), look-head y ys, O .turn (key x) (key y)))
@@ -142,9 +143,11 @@ module _ {E K : Type 0} (O : Order K) (key : E → K) where
           (λ g2. rw (l, g2)))
           (λ s. rw (s, keeps e x (O .same _ _ s), ← O .same (key e) (key x) s)
           (three (O .cmp k (key e)) (λ l2. rw l2) (λ s2. rw s2) (λ g2. rw g2)))
-          (λ g. three (O .cmp k (key x))
-          (λ l2. rw (g, l2, O .step k (key x) (key e) l2 (more-turn O _ _ g)))
-          (λ s2. let q : O .cmp k (key e) ≡ Ordering·lt = rw (O .same k (key x) s2) (more-turn O _ _ g) in rw (g, s2, q))
+          (λ g.
+          let turned = more-turn O (key e) (key x) g in
+          three (O .cmp k (key x))
+          (λ l2. rw (g, l2, O .step k (key x) (key e) l2 turned))
+          (λ s2. let q : O .cmp k (key e) ≡ Ordering·lt = rw (O .same k (key x) s2) turned in rw (g, s2, q))
           (λ g2. rw (g, g2) (look-put k e xs)))
 
       pub look-merge : (k : K) (xs ys : List E) → Rising O key xs → look O key k (merge O key join xs ys) ≡ both join (look O key k xs) (look O key k ys)
@@ -196,4 +199,4 @@ module _ {E K : Type 0} (O : Order K) (key : E → K) where
           three (O .cmp (key x) (key y))
           (λ l. rw l (merge-left x xs (y ∷ ys) (hx .0) (l, above-trans (key x) (key y) ys l (hy .0))))
           (λ s. rw s (merge-meet x xs y ys (hx .0) (O .same _ _ s)))
-          (λ g. rw g (merge-right (x ∷ xs) y ys (more-turn O _ _ g, above-trans (key y) (key x) xs (more-turn O _ _ g) (hx .0))))
+          (λ g. let turned = more-turn O (key x) (key y) g in rw g (merge-right (x ∷ xs) y ys (turned, above-trans (key y) (key x) xs turned (hx .0))))

@@ -84,10 +84,12 @@ module _ {Event : Type 0} (t : View Event) where
     fewer-objects : t .type .versioned ≡ false → objects (rule t es .snapshots) ≤ objects (rule t fs .snapshots)
     unfolding rule ruleAt snapshot ofVersion
     fewer-objects u =
-        rw (objects-map (ruleAt t es) (canon numbers (map (t .event .version) es)), objects-map (ruleAt t fs) (canon numbers (map (t .event .version) fs)))
+        let few = map (t .event .version) es in
+        let many = map (t .event .version) fs in
+        rw (objects-map (ruleAt t es) (canon numbers few), objects-map (ruleAt t fs) (canon numbers many))
         (total-within numbers (λ v. sizes (ruleAt t es v .cells)) (λ v. sizes (ruleAt t fs v .cells))
         (λ v. sizes-within (places (t .type)) (ofVersion t v es) (ofVersion t v fs) u (only-within numbers (t .event .version) v es fs h))
-        (canon numbers (map (t .event .version) fs)) (canon numbers (map (t .event .version) es)) (ups-canon numbers _) (ups-canon numbers _) versions-within)
+        (canon numbers many) (canon numbers few) (ups-canon numbers many) (ups-canon numbers few) versions-within)
 
 -- every amount is no larger and every limit no smaller
 module _ (t : TypeView) (l m : Limits) (vs : l .versions ≤ m .versions) (ps : l .parents ≤ m .parents) (os : l .objects ≤ m .objects) where

@@ -57,13 +57,14 @@ module _ {A K : Type 0} (O : Order K) (f : A → K) where
   pub only-append : (k : K) (xs ys : List A) → only O f k (xs ++ ys) ≡ only O f k xs ++ only O f k ys
   unfolding only
   only-append k [] ys = refl
-  only-append k (x ∷ xs) ys = three (O .cmp k (f x)) (λ l. rw l (only-append k xs ys)) (λ s. rw (s, only-append k xs ys)) (λ g. rw g (only-append k xs ys))
+  only-append k (x ∷ xs) ys = let others = only-append k xs ys in three (O .cmp k (f x)) (λ l. rw l others) (λ s. rw (s, others)) (λ g. rw g others)
 
   pub only-in : (k : K) (xs : List A) (a : A) → List·Memᴰ a xs → f a ≡ k → List·Memᴰ a (only O f k xs)
   unfolding only
   only-in k (x ∷ xs) a (List·Memᴰ·head q) e = let r : O .cmp k (f x) ≡ Ordering·eq = cc (O .self k) in rw r (List·Memᴰ·head q)
   only-in k (x ∷ xs) a (List·Memᴰ·tail m) e =
-      three (O .cmp k (f x)) (λ l. rw l (only-in k xs a m e)) (λ s. rw s (List·Memᴰ·tail (only-in k xs a m e))) (λ g. rw g (only-in k xs a m e))
+      let there = only-in k xs a m e in
+      three (O .cmp k (f x)) (λ l. rw l there) (λ s. rw s (List·Memᴰ·tail there)) (λ g. rw g there)
 
   pub only-of : (k : K) (xs : List A) (a : A) → List·Memᴰ a (only O f k xs) → List·Memᴰ a xs × (f a ≡ k)
   unfolding only

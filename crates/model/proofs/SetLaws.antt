@@ -55,10 +55,11 @@ module _ {K : Type 0} (O : Order K) where
   pub put-there : (e : K) (xs : List K) (a : K) → List·Memᴰ a xs → List·Memᴰ a (put O itself first e xs)
   unfolding put
   put-there e (x ∷ xs) a m =
+      let either = List·Memᴰ·cases-cons m in
       three (O .cmp e x)
       (λ l. rw l (List·Memᴰ·tail m))
-      (λ s. rw s (⊎-elim (λ q. List·Memᴰ·head (q ∙ sym (O .same e x s))) (λ n. List·Memᴰ·tail n) (List·Memᴰ·cases-cons m)))
-      (λ g. rw g (⊎-elim (λ q. List·Memᴰ·head q) (λ n. List·Memᴰ·tail (put-there e xs a n)) (List·Memᴰ·cases-cons m)))
+      (λ s. rw s (⊎-elim (λ q. List·Memᴰ·head (q ∙ sym (O .same e x s))) (λ n. List·Memᴰ·tail n) either))
+      (λ g. rw g (⊎-elim (λ q. List·Memᴰ·head q) (λ n. List·Memᴰ·tail (put-there e xs a n)) either))
 
   pub of-put : (e : K) (xs : List K) (a : K) → List·Memᴰ a (put O itself first e xs) → List·Memᴰ a (e ∷ xs)
   unfolding put
@@ -163,10 +164,11 @@ module _ {K : Type 0} (O : Order K) where
       let u : f x ≤ g y = rw q (le y) in
       omega arith)
       (λ w.
+      let turned = more-turn O x y w in
       let t : f x + total f xs ≤ total g ys = total-within f g le ys (x ∷ xs) (hy .1) hx
       (drop-member y (x ∷ xs) ys h (λ a m. ⊎-elim
-      (λ q. rw q (more-turn O x y w))
-      (λ n. O .step y x a (more-turn O x y w) (above-member O itself x xs a (hx .0) n))
+      (λ q. rw q turned)
+      (λ n. O .step y x a turned (above-member O itself x xs a (hx .0) n))
       (List·Memᴰ·cases-cons m))) in
       omega arith)
 

@@ -86,8 +86,8 @@ module _ {A : Type 0} (O : Order A) where
   unfolding Ascends insert
   insert-ascends a [] h = (tt, tt)
   insert-ascends a (b ∷ xs) h = three (O .cmp a b)
-      (λ l. rw l ((upto-less a b l, upto-all a b xs (upto-less a b l) (h .0)), h))
-      (λ e. rw e ((upto-same a b e, upto-all a b xs (upto-same a b e) (h .0)), h))
+      (λ l. let upto = upto-less a b l in rw l ((upto, upto-all a b xs upto (h .0)), h))
+      (λ e. let upto = upto-same a b e in rw e ((upto, upto-all a b xs upto (h .0)), h))
       (λ g. rw g (insert-all (Upto b) a xs (upto-less b a (more-turn O a b g)) (h .0), insert-ascends a xs (h .1)))
 
   pub sorted-ascends : (xs : List A) → Ascends (sorted O xs)

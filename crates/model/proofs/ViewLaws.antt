@@ -20,10 +20,9 @@ module _ {A B : Type 0} (f : A → B) (v : View B) where
   only-through : (n : ℕ) (xs : List A) → map f (only numbers (λ x. v .event .version (f x)) n xs) ≡ only numbers (v .event .version) n (map f xs)
   unfolding only
   only-through n [] = refl
-  only-through n (x ∷ xs) = three (numbers .cmp n (v .event .version (f x)))
-      (λ l. rw l (only-through n xs))
-      (λ s. rw (s, only-through n xs))
-      (λ g. rw g (only-through n xs))
+  only-through n (x ∷ xs) =
+      let others = only-through n xs in
+      three (numbers .cmp n (v .event .version (f x))) (λ l. rw l others) (λ s. rw (s, others)) (λ g. rw g others)
 
   cell-through : (xs : List A) (p : ℕ) → cellOf read xs p ≡ cellOf v (map f xs) p
   unfolding cellOf

@@ -198,5 +198,6 @@ pub batch-answer :
     Each S (firstEvents at n) → ((k : ℕ) → Room (checked k)) → ((k : ℕ) → Room (combined k)) →
     answer c (batch at checked combined n) ≡ limited l (t .type) (c .encode) (rule t (firstEvents at n))
 batch-answer l t {Room} {S} c at checked combined n h f g =
-    way l t c (batch at checked combined n) (rw (batch-events at checked combined n) h) (batch-room at checked combined Room f g n)
-    ∙ ap (λ (es : List _). limited l (t .type) (c .encode) (rule t es)) (batch-events at checked combined n)
+    let all = batch-events at checked combined n in
+    way l t c (batch at checked combined n) (rw all h) (batch-room at checked combined Room f g n)
+    ∙ ap (λ (es : List _). limited l (t .type) (c .encode) (rule t es)) all

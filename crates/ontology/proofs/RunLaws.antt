@@ -4,7 +4,7 @@ use mathlib.Core.Logic.{_⊎_, inl, inr}
 use mathlib.Core.Bool.{Bool, true, false, cond}
 use mathlib.Core.Option.{none, some}
 use mathlib.Core.List.{List, [], _∷_, _++_, append-assoc}
-use Prim.Native.Nat.{ℕ, zero, suc, _-_, _≤_, _<_}
+use Prim.Native.Nat.{ℕ, zero, suc, _+_, _-_, _≤_, _<_}
 use native.Mathlib.Omega.{arith}
 use lib.ListN.{length, getElem?}
 use Rattle.model.proofs.Cases.{never}
@@ -30,10 +30,16 @@ prepend-one vs v (got ws t) = ap (λ (l : List _). got l t) (sym (append-assoc v
 
 module _ {A : Type 0} (p : Layout A) where
   -- one more: its reading, and then the others
-  pub times-by :
+  times-by :
       (n : ℕ) (s : List ℕ) {q : Parse A} → p s ≡ q → times p (suc n) s ≡ andThen q (λ a r. andThen (times p n r) (λ xs u. got (a ∷ xs) u))
   unfolding times
   times-by n s e = ap (λ (q : Parse A). andThen q (λ a r. andThen (times p n r) (λ xs u. got (a ∷ xs) u))) e
+
+  -- the same where j of n are read
+  pub times-left :
+      (n j : ℕ) (s : List ℕ) → j < n → {q : Parse A} → p s ≡ q →
+      times p (n - j) s ≡ andThen q (λ a r. andThen (times p (n - (j + 1)) r) (λ xs u. got (a ∷ xs) u))
+  times-left n j s h e = let one-more : n - j ≡ suc (n - (j + 1)) = omega arith in ap (λ (k : ℕ). times p k s) one-more ∙ times-by (n - (j + 1)) s e
 
   times-one : (n : ℕ) (s : List ℕ) (a : A) (t : List ℕ) → p s ≡ got a t → times p (suc n) s ≡ prepend (a ∷ []) (times p n t)
   times-one n s a t e = times-by n s e ∙ go (times p n t)
@@ -42,11 +48,14 @@ module _ {A : Type 0} (p : Layout A) where
       go fail = refl
       go (got xs u) = refl
 
+  not-none : (n : ℕ) (s : List ℕ) → 0 < n → times p n s ≡ times p (suc (n - 1)) s
+  not-none n s h = ap (λ (k : ℕ). times p k s) (let z : n ≡ suc (n - 1) = omega arith in z)
+
   times-more : (n : ℕ) (s : List ℕ) (a : A) (t : List ℕ) → 0 < n → p s ≡ got a t → times p n s ≡ prepend (a ∷ []) (times p (n - 1) t)
-  times-more n s a t h e = ap (λ (k : ℕ). times p k s) (let z : n ≡ suc (n - 1) = omega arith in z) ∙ times-one (n - 1) s a t e
+  times-more n s a t h e = not-none n s h ∙ times-one (n - 1) s a t e
 
   times-stop : (n : ℕ) (s : List ℕ) → 0 < n → p s ≡ fail → times p n s ≡ fail
-  times-stop n s h e = ap (λ (k : ℕ). times p k s) (let z : n ≡ suc (n - 1) = omega arith in z) ∙ times-by (n - 1) s e
+  times-stop n s h e = not-none n s h ∙ times-by (n - 1) s e
 
   pub times-end : (n : ℕ) (s : List ℕ) → n ≡ 0 → times p n s ≡ got [] s
   unfolding times

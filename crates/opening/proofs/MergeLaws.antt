@@ -520,10 +520,13 @@ module _
         first : n - 1 ≡ 0
         first = omega arith
 
+        only : getD sets-here 0 [] ≡ getD sets-here (n - 1) []
+        only = ap (λ (i : ℕ). getD sets-here i []) (sym first)
+
         by : (a b : Bool) → r .replaces ≡ a → r .extreme ≡ b → SetIs s merged-here x
         by true b e f = stands-last (omega arith) c e
-        by false true e f = last-cell (omega arith) c (only-least e f ∙ ap (λ (i : ℕ). getD sets-here i []) (sym first))
-        by false false e f = last-cell (omega arith) c (only-union e f ∙ ap (λ (i : ℕ). getD sets-here i []) (sym first))
+        by false true e f = last-cell (omega arith) c (only-least e f ∙ only)
+        by false false e f = last-cell (omega arith) c (only-union e f ∙ only)
 
   pub stands-chosen : {x : SetAt} → r .replaces ≡ false → r .extreme ≡ true →
       ((ss : List Snapshot) (k : Kind) → CellsStand s ss rows → length ss ≡ n → Chooses k (r .kind) → ((j : ℕ) → j < n → Lone k (getD (column ss p) j [])) →

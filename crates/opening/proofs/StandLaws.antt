@@ -49,13 +49,14 @@ module _ (l : List ℕ) (at : ℕ) (x : SetAt) where
       let start : at ≡ at + 1 → ⊥ = λ e. omega arith in
       let start₂ : at ≡ at + 2 → ⊥ = λ e. omega arith in
       let end₂ : at + 1 ≡ at + 2 → ⊥ = λ e. omega arith in
+      let long₁ = length-set l at (x .start) in
       rw (
         getD-set-other l₂ (at + 2) at (x .count) 0 start₂,
         getD-set-other l₁ (at + 1) at (x .end) 0 start,
         getD-set-same l at (x .start) 0 (omega arith),
         getD-set-other l₂ (at + 2) (at + 1) (x .count) 0 end₂,
-        getD-set-same l₁ (at + 1) (x .end) 0 (omega (arith, length-set l at (x .start))),
-        getD-set-same l₂ (at + 2) (x .count) 0 (omega (arith, length-set l₁ (at + 1) (x .end), length-set l at (x .start))),
+        getD-set-same l₁ (at + 1) (x .end) 0 (omega (arith, long₁)),
+        getD-set-same l₂ (at + 2) (x .count) 0 (omega (arith, length-set l₁ (at + 1) (x .end), long₁)),
       )
 
   -- a number elsewhere
@@ -165,9 +166,10 @@ module _ (s : List ℕ) (h : Headed) (d : DossierIndex) (rows : List ℕ) (w : D
       let x = getD (h .snapshots) j noSnapshot in
       let read = w .snapshots .each j l .is in
       let written = snapshot-was (drop (getD (d .starts) j 0) s) x (drop (getD (d .ends) j 0) s) read .1 in
+      let here = held-at (x .cells) p in
       record {
-        is = set-read (sym (row-set rows p j k)) (rw (← held-at (x .cells) p) (v .each j l .each p k));
-        rises = rw (← held-at (x .cells) p) (all-at SetWritten [] empty-written (map held (x .cells)) (written .sets .each) p .rises);
+        is = set-read (sym (row-set rows p j k)) (rw (← here) (v .each j l .each p k));
+        rises = rw (← here) (all-at SetWritten [] empty-written (map held (x .cells)) (written .sets .each) p .rises);
       }
 
   -- the rows of a dossier that was read are its cells

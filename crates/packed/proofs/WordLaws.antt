@@ -120,8 +120,10 @@ module _ {a b : List ℕ} {n i : ℕ} (w : Alike a b n i) where
       let in-b = w .shorter .1 in
       let within = w .within in
       let ends = w .shorter .2 in
-      let a-ends : length a ≤ length b → length a ≤ i = λ k. ⊎-elim (λ (x : length a ≤ n). omega arith) (λ (x : length b ≤ n). omega arith) ends in
-      let b-ends : length b ≤ length a → length b ≤ i = λ k. ⊎-elim (λ (x : length a ≤ n). omega arith) (λ (x : length b ≤ n). omega arith) ends in
+      let within-both : (m : ℕ) → m ≤ length a → m ≤ length b → m ≤ i = λ m p q.
+      ⊎-elim (λ (x : length a ≤ n). omega arith) (λ (x : length b ≤ n). omega arith) ends in
+      let a-ends : length a ≤ length b → length a ≤ i = λ k. within-both (length a) (omega arith) k in
+      let b-ends : length b ≤ length a → length b ≤ i = λ k. within-both (length b) k (omega arith) in
       e ∙ ap orderNumber (sym (order-from i (omega arith) ∙
       three (compare (length a) (length b))
       (λ l. let m = compare-lt (length a) (length b) l in order-first a b i (a-ends (omega arith)) (omega arith) ∙ sym l)

@@ -78,6 +78,11 @@ hex-gone {l₀} {whole} {l} {at} s i a b h x y g =
 
 -- ---- a refusal
 
+wrote-five :
+    {l a b c d e A B C D E : List ℕ} {p q r s z : ℕ} → Wrote l 0 A a p → Wrote a p B b q → Wrote b q C c r → Wrote c r D d s → Wrote d s E e z →
+    Wrote l 0 (A ++ (B ++ (C ++ (D ++ E)))) e z
+wrote-five v w x y u = wrote-then v (wrote-then w (wrote-then x (wrote-then y u)))
+
 module _ (n i : ℕ) where
   refused-is : refusedLine n i ≡ (114 ∷ 101 ∷ 102 ∷ 117 ∷ 115 ∷ 101 ∷ 100 ∷ 32 ∷ []) ++ (inDecimal n ++ ((32 ∷ []) ++ (inDecimal i ++ (10 ∷ []))))
   unfolding refusedLine ascii
@@ -90,7 +95,7 @@ module _ (n i : ℕ) where
       {l a b c d e : List ℕ} {p q r s z : ℕ} → Wrote l 0 (114 ∷ 101 ∷ 102 ∷ 117 ∷ 115 ∷ 101 ∷ 100 ∷ 32 ∷ []) a p → Wrote a p (inDecimal n) b q →
       Wrote b q (32 ∷ []) c r → Wrote c r (inDecimal i) d s → Wrote d s (10 ∷ []) e z →
       Wrote l 0 (refusedLine n i) e z
-  wrote-refused v w x y u = rw refused-is (wrote-then v (wrote-then w (wrote-then x (wrote-then y u))))
+  wrote-refused v w x y u = rw refused-is (wrote-five v w x y u)
 
   pub refused-short : length (refusedLine n i) ≤ 50
   refused-short = omega (arith, refused-length, decimal-length n, decimal-length i)
@@ -141,7 +146,7 @@ module _ {table ps : List ℕ} {place : ℕ} (p : PlaceNamed table ps place) whe
       {l a b c e f : List ℕ} {q r s x z : ℕ} (v : ℕ) → Wrote l 0 (99 ∷ 111 ∷ 110 ∷ 102 ∷ 108 ∷ 105 ∷ 99 ∷ 116 ∷ 32 ∷ []) a q →
       Wrote a q (inDecimal v) b r → Wrote b r (32 ∷ []) c s →
       Wrote c s (nameAt (p .type) place) e x → Wrote e x (10 ∷ []) f z → Wrote l 0 (conflictLine (p .type) v place) f z
-  wrote-conflict v g w x y u = rw (conflict-is v) (wrote-then g (wrote-then w (wrote-then x (wrote-then y u))))
+  wrote-conflict v g w x y u = rw (conflict-is v) (wrote-five g w x y u)
 
   pub wrote-overfull :
       {l a b c : List ℕ} {q r s : ℕ} → Wrote l 0 (111 ∷ 118 ∷ 101 ∷ 114 ∷ 102 ∷ 117 ∷ 108 ∷ 108 ∷ 32 ∷ []) a q →

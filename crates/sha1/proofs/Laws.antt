@@ -119,13 +119,14 @@ module _ {p : List ℕ} {i : ℕ} {m : List ℕ} {k : ℕ} (c : Filled p i m k) 
   pub filled-more : k < 64 → {v : ℕ} → v ≡ getD p (64 * i + k) 0 → Filled p i (set m k v) (k + 1)
   filled-more h {v} e =
       let long : k < length (block p i) = omega (arith, length-block p i room) in
+      let next = add-one k in
       record {
         within = omega arith;
         long = simp length-set (c .long);
         bytes =
-            ap (λ (n : ℕ). take n (set m k v)) (add-one k) ∙ take-suc-set m k v (omega (arith, c .long))
+            ap (λ (n : ℕ). take n (set m k v)) next ∙ take-suc-set m k v (omega (arith, c .long))
             ∙ ap₂ (λ (l : List ℕ) (x : ℕ). l ++ (x ∷ [])) (c .bytes) (e ∙ sym (block-at p i k h)) ∙ sym (take-suc (block p i) k 0 long)
-            ∙ ap (λ (n : ℕ). take n (block p i)) (sym (add-one k));
+            ∙ ap (λ (n : ℕ). take n (block p i)) (sym next);
       }
 
   pub filled-all : 64 ≤ k → m ≡ block p i
@@ -137,8 +138,8 @@ module _ {p : List ℕ} {i : ℕ} {m : List ℕ} {k : ℕ} (c : Filled p i m k) 
 schedule-more : (m w : List ℕ) (t v : ℕ) → t < length w → take t w ≡ schedule m t → v ≡ W m (schedule m t) t → take (t + 1) (set w t v) ≡ schedule m (t + 1)
 unfolding schedule
 schedule-more m w t v h e ev =
-    ap (λ (n : ℕ). take n (set w t v)) (add-one t) ∙ take-suc-set w t v h ∙ ap₂ (λ (l : List ℕ) (x : ℕ). l ++ (x ∷ [])) e ev
-    ∙ ap (schedule m) (sym (add-one t))
+    let next = add-one t in
+    ap (λ (n : ℕ). take n (set w t v)) next ∙ take-suc-set w t v h ∙ ap₂ (λ (l : List ℕ) (x : ℕ). l ++ (x ∷ [])) e ev ∙ ap (schedule m) (sym next)
 
 pub length-schedule : (m : List ℕ) (n : ℕ) → length (schedule m n) ≡ n
 unfolding schedule

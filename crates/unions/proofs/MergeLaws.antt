@@ -317,9 +317,10 @@ module _ (s : List ℕ) (best : Told) (ats : List ℕ) (j end : ℕ) where
       right = λ t. w;
       more = λ ends n xss v h e b.
           let r : SetRun s (getD ats j 0) end (getD xss j []) = rw e at (v .each j h) in
+          let none-yet = value-none s best f in
           least-first s ats ends n xss v j h best b q p
-          (rw (value-none s best f, run-least (getD xss j []) r) (ap (take 1) (union-left-nil texts (first-text ∷ []))))
-          (low-none first-text (flatten (take j xss)) (sym (b .least) ∙ value-none s best f))
+          (rw (none-yet, run-least (getD xss j []) r) (ap (take 1) (union-left-nil texts (first-text ∷ []))))
+          (low-none first-text (flatten (take j xss)) (sym (b .least) ∙ none-yet))
           long
           (rw e (first-passed (getD xss j []) r));
     }

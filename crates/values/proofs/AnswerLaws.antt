@@ -2,9 +2,10 @@
 -- Assumes nothing.
 use mathlib.Core.Path.{_≡_, refl, sym, _∙_}
 use mathlib.Core.Bool.{Bool, true, false, _&&_, _||_}
+use mathlib.Core.List.{[]}
 use Prim.Native.Nat.{ℕ, _+_, _≤_, _<_}
 use native.Mathlib.Omega.{arith}
-use lib.ListN.{length, drop}
+use lib.ListN.{length, drop, drop-of-length-le}
 use Rattle.model.specs.Order.{Text}
 
 -- ---- a question that a call answers decides, or the rest does
@@ -37,3 +38,7 @@ module _ {p : Text → Bool} {v : Text} {i : ℕ} (r : Rest p v i) where
 
   pub rest-told : {t : Bool} → p (drop i v) ≡ t → t ≡ p v
   rest-told e = sym (r .same ∙ e)
+
+  -- at the end nothing is left to ask
+  pub rest-end : length v ≤ i → p [] ≡ p v
+  rest-end h = rest-told (rw (drop-of-length-le v h))

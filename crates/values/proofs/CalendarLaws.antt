@@ -121,10 +121,8 @@ form-text (f ∷ form) (b ∷ v) h = go (eqb f 48) refl h (form-text form v)
         hasForm (f ∷ form) (b ∷ v) ≡ equal texts (b ∷ v) (f ∷ form)
     go true e q ih = cc
     go false e q ih =
-        three (compare b f)
-        (λ l. rw (e, nat-turn b f, l))
-        (λ s. rw (e, nat-turn b f, s) (ih q))
-        (λ g. rw (e, nat-turn b f, g))
+        let turned = nat-turn b f in
+        three (compare b f) (λ l. rw (e, turned, l)) (λ s. rw (e, turned, s) (ih q)) (λ g. rw (e, turned, g))
 
 pub form-told : (form v : List ℕ) {t : Bool} → plain form ≡ true → t ≡ hasForm form v → t ≡ equal texts v form
 form-told form v h told = told ∙ form-text form v h
@@ -168,10 +166,9 @@ zeros-digits (f ∷ form) (b ∷ v) h e =
 
 plain-text : (form v : List ℕ) → plain form ≡ true → hasForm form v ≡ true → v ≡ form
 unfolding equal texts
-plain-text form v h e = three (texts .cmp v form)
-    (λ l. cc (form-text form v h))
-    (λ s. texts .same v form s)
-    (λ g. cc (form-text form v h))
+plain-text form v h e =
+    let told = form-text form v h in
+    three (texts .cmp v form) (λ l. cc told) (λ s. texts .same v form s) (λ g. cc told)
 
 -- ---- two texts of one form
 

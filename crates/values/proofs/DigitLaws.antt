@@ -226,9 +226,12 @@ pub wrote-last : (l : List ℕ) (at n : ℕ) → n < 10 → Wrote l at (inDecima
 wrote-last l at n h = rw (decimal-last n h) (stored l at (48 + n))
 
 module _ (n : ℕ) (g : 10 ≤ n) (h : n < 2 ^ 64) where
+  tenth-then : inDecimal n ≡ inDecimal (n / 10) ++ ((48 + n % 10) ∷ [])
+  tenth-then = decimal-more n g (below-twenty n h)
+
   -- a tenth has a digit less
   tenth-length : length (inDecimal n) ≡ length (inDecimal (n / 10)) + 1
-  tenth-length = ap length (decimal-more n g (below-twenty n h)) ∙ length-append (inDecimal (n / 10)) ((48 + n % 10) ∷ [])
+  tenth-length = ap length tenth-then ∙ length-append (inDecimal (n / 10)) ((48 + n % 10) ∷ [])
 
   pub tenth-fits : (l : List ℕ) (at : ℕ) → at + length (inDecimal n) ≤ length l → at + length (inDecimal (n / 10)) ≤ length l
   tenth-fits l at room = omega (arith, tenth-length)
@@ -238,4 +241,4 @@ module _ (n : ℕ) (g : 10 ≤ n) (h : n < 2 ^ 64) where
     digit-fits room = omega (arith, tenth-length, w .after, wrote-length w)
 
     pub wrote-more : Wrote l at (inDecimal n) (set m next (48 + n % 10)) (next + 1)
-    wrote-more = rw (decimal-more n g (below-twenty n h)) (wrote-then w (stored m next (48 + n % 10)))
+    wrote-more = rw tenth-then (wrote-then w (stored m next (48 + n % 10)))

@@ -142,8 +142,11 @@ module _ (v : Text) where
     whole-is e is = rw (sym told ∙ e) is
 
   module _ {t : Bool} (told : t ≡ withFraction v) where
+    fraction-bytes : not t ≡ false → length v ≡ 27
+    fraction-bytes e = fraction-length v (sym told ∙ not-false t e)
+
     pub fraction-long : not t ≡ false → 20 ≤ length v
-    fraction-long e = omega (arith, fraction-length v (sym told ∙ not-false t e))
+    fraction-long e = omega (arith, fraction-bytes e)
 
     module _ (n : length v ≡ 20 → ⊥) where
       not-whole : wholeSecond v ≡ false
@@ -156,7 +159,7 @@ module _ (v : Text) where
 
       module _ (e : not t ≡ false) {f : ℕ} (is : (length v ≡ 20) ⊎ (26 ≤ length v) → f ≡ microsecond v) where
         number : microsecond v ≡ f
-        number = let l = fraction-length v (sym told ∙ not-false t e) in sym (is (inr (omega arith)))
+        number = let l = fraction-bytes e in sym (is (inr (omega arith)))
 
         pub fraction-zero : f ≤ 0 → ltb 0 f ≡ isDatetime v
         unfolding isDatetime

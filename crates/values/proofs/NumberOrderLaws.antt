@@ -118,15 +118,17 @@ split-fixed :
     (after : ℕ) (m w p : Text) → m ≡ w ++ p → unscaled after m ≡ numeral (w ++ drop 1 p) → isNatural w ≡ true → isFraction after p ≡ true → Fixed after m
 unfolding isFraction
 split-fixed after m w [] t u n e = let z : _≡_ {A = ℕ} 0 1 = cc in absurd (omega arith)
-split-fixed after m w (b ∷ f) t u n e = record {
-  whole = w;
-  fraction = f;
-  text = t ∙ ap (λ (c : ℕ). w ++ c ∷ f) (eqb-true b 46 (and-left (eqb b 46) _ (and-left (eqb b 46 && eqb (length f) after) _ e)));
-  natural = n;
-  long = eqb-true (length f) after (and-right (eqb b 46) _ (and-left (eqb b 46 && eqb (length f) after) _ e));
-  digits = and-right (eqb b 46 && eqb (length f) after) _ e;
-  number = u;
-}
+split-fixed after m w (b ∷ f) t u n e =
+    let pointed = and-left (eqb b 46 && eqb (length f) after) _ e in
+    record {
+      whole = w;
+      fraction = f;
+      text = t ∙ ap (λ (c : ℕ). w ++ c ∷ f) (eqb-true b 46 (and-left (eqb b 46) _ pointed));
+      natural = n;
+      long = eqb-true (length f) after (and-right (eqb b 46) _ pointed);
+      digits = and-right (eqb b 46 && eqb (length f) after) _ e;
+      number = u;
+    }
 
 pub fixed : (total after : ℕ) (m : Text) → isMagnitude total after m ≡ true → Fixed after m
 unfolding isMagnitude unscaled wholePart pointPart
@@ -145,12 +147,15 @@ point-order [] f (b ∷ u) g e = absurd (omega arith)
 point-order (a ∷ w) f [] g e = absurd (omega arith)
 point-order (a ∷ w) f (b ∷ u) g e = ap (λ (o : Ordering). pick (compare a b) Ordering·lt o Ordering·gt) (point-order w f u g (omega arith))
 
+all-digits : (w f : Text) → isNatural w ≡ true → areDigits f ≡ true → areDigits (w ++ f) ≡ true
+all-digits w f n d = digits-append w f (natural-digits w n) d
+
 whole-longer :
     (w f u g : Text) → isNatural w ≡ true → isNatural u ≡ true → areDigits f ≡ true → areDigits g ≡ true → length f ≡ length g → length w < length u →
     numeral (w ++ f) < numeral (u ++ g)
 whole-longer w f [] g n p d s e h = absurd (omega arith)
 whole-longer w f (b ∷ u) g n p d s e h =
-    longer-larger (w ++ f) b (u ++ g) (digits-append w f (natural-digits w n) d) (digits-append (b ∷ u) g (natural-digits (b ∷ u) p) s)
+    longer-larger (w ++ f) b (u ++ g) (all-digits w f n d) (all-digits (b ∷ u) g p s)
     (natural-first b u p (omega (arith, natural-nonempty w n)))
     (omega (arith, length-append w f, length-append u g))
 
@@ -164,7 +169,7 @@ point-size-order w f u g n p d s e =
     (λ l. let h = compare-lt (length w) (length u) l in
     lt-compare (numeral (w ++ f)) (numeral (u ++ g)) (whole-longer w f u g n p d s e h) ∙ sym (size-less (w ++ 46 ∷ f) (u ++ 46 ∷ g) (omega arith)))
     (λ q. let h = nat-same (length w) (length u) q in
-    digits-order (w ++ f) (u ++ g) (digits-append w f (natural-digits w n) d) (digits-append u g (natural-digits u p) s)
+    digits-order (w ++ f) (u ++ g) (all-digits w f n d) (all-digits u g p s)
     (omega (arith, length-append w f, length-append u g))
     ∙ point-order w f u g h ∙ sym (size-alike (w ++ 46 ∷ f) (u ++ 46 ∷ g) (omega arith)))
     (λ l. let h = compare-gt (length w) (length u) l in
@@ -186,8 +191,10 @@ nonzero-after n [] = go (ltb 0 n)
 nonzero-after n (b ∷ v) =
     nonzero-after (10 * n + (b - 48)) v
     ∙ ⊎-elim (λ (h : 0 < n). rw (lt-ltb 0 n h, lt-ltb 0 (10 * n + (b - 48)) (omega arith)))
-    (λ (h : n ≤ 0). ⊎-elim (λ (k : 48 < b). rw (le-ltb 0 n h, lt-ltb 48 b k, lt-ltb 0 (10 * n + (b - 48)) (omega arith)))
-    (λ (k : b ≤ 48). rw (le-ltb 0 n h, le-ltb 48 b k, le-ltb 0 (10 * n + (b - 48)) (omega arith)))
+    (λ (h : n ≤ 0).
+    let zero = le-ltb 0 n h in
+    ⊎-elim (λ (k : 48 < b). rw (zero, lt-ltb 48 b k, lt-ltb 0 (10 * n + (b - 48)) (omega arith)))
+    (λ (k : b ≤ 48). rw (zero, le-ltb 48 b k, le-ltb 0 (10 * n + (b - 48)) (omega arith)))
     (lt-or-ge 48 b))
     (lt-or-ge 0 n)
 
@@ -239,9 +246,11 @@ signed-numbers :
     (width : ℕ) (a b : Text) → isSigned width a ≡ true → isSigned width b ≡ true →
     integerCmp (withSign a (numeral (magnitude a))) (withSign b (numeral (magnitude b))) ≡ signedOrder a b
 signed-numbers width a b p q =
+    let in-a = signed-natural width a p in
+    let in-b = signed-natural width b q in
     signed-order a b (numeral (magnitude a)) (numeral (magnitude b)) (signed-nonzero width a p) (signed-nonzero width b q)
-    (natural-order (magnitude a) (magnitude b) (signed-natural width a p) (signed-natural width b q))
-    (natural-order (magnitude b) (magnitude a) (signed-natural width b q) (signed-natural width a p))
+    (natural-order (magnitude a) (magnitude b) in-a in-b)
+    (natural-order (magnitude b) (magnitude a) in-b in-a)
 
 pub decimal-fixed : (total after : ℕ) (sign : Bool) (v : Text) → isDecimal total after sign v ≡ true → Fixed after (magnitude v)
 unfolding isDecimal isMagnitude

@@ -6,7 +6,7 @@ use mathlib.Core.List.{List, [], _∷_}
 use Prim.Native.Nat.{ℕ, _+_, _-_, _*_, _^_, _≤_, _<_}
 use native.Mathlib.Omega.{arith}
 use lib.Dec.{ltb, leb, eqb, isLe}
-use lib.ListN.{length, getD, take, drop, drop-of-length-le, length-drop}
+use lib.ListN.{length, getD, take, drop, length-drop}
 use lib.Seq.{length-take-le}
 use borrow.Author.Tests.{lt-ltb, le-ltb, le-leb, lt-leb, eq-eqb, leb-true, eqb-true}
 use Rattle.model.specs.Order.{Text}
@@ -17,7 +17,7 @@ use Rattle.packed.proofs.ReadLaws.{drop-next, to-end}
 use Rattle.values.specs.Decimal.{isDigit, areDigits, numeral, isNatural, isNegative, magnitude}
 use Rattle.values.specs.Spaces.{isWidth, isSigned, wholePart, pointPart, isFraction, unscaled, isMagnitude, isDecimal}
 use Rattle.values.specs.code.NumberAnswer.{sizeOrder, hasNonzero}
-use Rattle.values.proofs.AnswerLaws.{Rest, rest-next, rest-told}
+use Rattle.values.proofs.AnswerLaws.{Rest, rest-next, rest-told, rest-end}
 use Rattle.values.proofs.NumeralLaws.{digit-least, digits-head, natural-digits, natural-first, natural-nonempty, natural-order}
 use Rattle.values.proofs.NumberOrderLaws.{negative-cons, positive-magnitude, numeral-nonzero, fixed, fixed-nonzero}
 
@@ -38,7 +38,7 @@ module _ {v : Text} {i : ℕ} (r : Rest areDigits v i) where
 
   pub digits-end : length v ≤ i → true ≡ areDigits v
   unfolding areDigits
-  digits-end h = rest-told r (rw (drop-of-length-le v h))
+  digits-end h = rest-end r h
 
 module _ {v : Text} {i : ℕ} (r : Rest hasNonzero v i) where
   pub nonzero-found : i < length v → 48 < getD v i 0 → true ≡ hasNonzero v
@@ -51,7 +51,7 @@ module _ {v : Text} {i : ℕ} (r : Rest hasNonzero v i) where
 
   pub nonzero-end : length v ≤ i → false ≡ hasNonzero v
   unfolding hasNonzero
-  nonzero-end h = rest-told r (rw (drop-of-length-le v h))
+  nonzero-end h = rest-end r h
 
 -- ---- the first byte
 

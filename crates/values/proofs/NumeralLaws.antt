@@ -95,22 +95,26 @@ order-after m n [] [] p q e = three (compare m n) (λ l. rw l) (λ s. rw s) (λ 
 order-after m n [] (b ∷ y) p q e = absurd (omega arith)
 order-after m n (a ∷ x) [] p q e = absurd (omega arith)
 order-after m n (a ∷ x) (b ∷ y) p q e =
-    let la = digit-least a (digits-head a x p) in
-    let ma = digit-most a (digits-head a x p) in
-    let lb = digit-least b (digits-head b y q) in
-    let mb = digit-most b (digits-head b y q) in
+    let da = digits-head a x p in
+    let la = digit-least a da in
+    let ma = digit-most a da in
+    let db = digits-head b y q in
+    let lb = digit-least b db in
+    let mb = digit-most b db in
     let i : ℕ = 10 * m + (a - 48) in
     let j : ℕ = 10 * n + (b - 48) in
+    let less = lt-compare i j in
+    let more = gt-compare i j in
     order-after i j x y (digits-tail a x p) (digits-tail b y q) (omega arith)
     ∙ three (compare m n)
-    (λ l. let h = compare-lt m n l in rw (l, lt-compare i j (omega arith)))
+    (λ l. let h = compare-lt m n l in rw (l, less (omega arith)))
     (λ s. let h = nat-same m n s in
     rw s
     (three (compare a b)
-    (λ l. let k = compare-lt a b l in rw (l, lt-compare i j (omega arith)))
+    (λ l. let k = compare-lt a b l in rw (l, less (omega arith)))
     (λ t. let k = nat-same a b t in rw (t, eq-compare i j (omega arith)))
-    (λ g. let k = compare-gt a b g in rw (g, gt-compare i j (omega arith)))))
-    (λ g. let h = compare-gt m n g in rw (g, gt-compare i j (omega arith)))
+    (λ g. let k = compare-gt a b g in rw (g, more (omega arith)))))
+    (λ g. let h = compare-gt m n g in rw (g, more (omega arith)))
 
 -- for digit texts of equal length numeral order is byte order
 pub digits-order : (x y : Text) → areDigits x ≡ true → areDigits y ≡ true → length x ≡ length y → compare (numeral x) (numeral y) ≡ texts .cmp x y

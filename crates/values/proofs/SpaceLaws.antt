@@ -8,7 +8,7 @@ use mathlib.Core.List.{[], _∷_}
 use Prim.Native.Nat.{ℕ, _+_, _*_, _<_, _≤_, Ordering, Ordering·lt, Ordering·eq, Ordering·gt}
 use native.Mathlib.Omega.{arith}
 use lib.Dec.{leb, eqb}
-use lib.ListN.{length, getD, take, drop, drop-of-length-le}
+use lib.ListN.{length, getD, take, drop}
 use borrow.Author.Tests.{le-leb, leb-true, lt-leb, eq-eqb, ne-eqb, not-true, not-false}
 use Rattle.model.specs.Order.{Text, texts, equal, pick, reversed}
 use Rattle.model.specs.Keyed.{put, merge}
@@ -25,7 +25,7 @@ use Rattle.values.specs.ValueOrder.{isOrdered, valueNumber, valueOrder, 
 use Rattle.values.specs.code.KindNumbers.{kindOf, isOrderedNumber, sizeParameter, afterParameter, signParameter}
 use Rattle.model.proofs.Cases.{and-false, and-true}
 use Rattle.values.specs.code.LowBytes.{AllLow}
-use Rattle.values.proofs.AnswerLaws.{Rest, rest-next, rest-told}
+use Rattle.values.proofs.AnswerLaws.{Rest, rest-next, rest-told, rest-end}
 use Rattle.values.proofs.UnicodeLaws.{low-utf8}
 use Rattle.values.proofs.NumeralLaws.{and-right}
 use Rattle.values.proofs.NumberOrderLaws.{equal-number-equal-bytes}
@@ -49,7 +49,7 @@ module _ (n : ℕ) {v : Text} {i : ℕ} (r : Rest areHexDigits v i) where
 
   pub hex-end : length v ≤ i → length v ≡ n → true ≡ eqb (length v) n && areHexDigits v
   unfolding areHexDigits
-  hex-end h e = rw (eq-eqb (length v) n e) (rest-told r (rw (drop-of-length-le v h)))
+  hex-end h e = rw (eq-eqb (length v) n e) (rest-end r h)
 
 -- ---- kinds by their numbers
 

@@ -218,10 +218,11 @@ module _ (table : List ℕ) (types : Table) (isTable : tableOf table ≡ some ty
   unfolding openedAnswer
   merged-text-is out es ss s r h m f o =
       let n : Has es = (s, m) in
-      let ms = ap (opening (typeView t)) (sym (rule-bytes t es)) ∙ o in
+      let ruled = rule-bytes t es in
+      let ms = ap (opening (typeView t)) (sym ruled) ∙ o in
       let g = gathered es n h f in
       let e = mergedEvent (headed (t .name) uri (rule (view t) (map eventAt es))) ss in
-      ap (λ (x : Dossier). textOf out (openedAnswer (headed (t .name) uri x) (merged ss))) (rule-bytes t es)
+      ap (λ (x : Dossier). textOf out (openedAnswer (headed (t .name) uri x) (merged ss))) ruled
       ∙ (of-asked out (eventBytes e) e r (merged-asked t uri (eventAt d) (map eventAt es) g ss ms types type-at)
       ∙ ap gives (merged-text t uri (eventAt d) (map eventAt es) g ss ms (c .source) ∙ sym (same-text s (h s m))))
 

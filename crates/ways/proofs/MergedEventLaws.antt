@@ -67,22 +67,26 @@ module _
     unfolding mergedSets places typeView eventView
     sets-long = ap (λ (x : List (List Text)). length x) (sym sets-are) ∙ (length-map (places (typeView t)) (mergedAt (typeView t) ruled) ∙ length-upTo 32)
 
+    set-from : (p : ℕ) → getD ss p [] ≡ getD (mergedSets (typeView t) ruled) p []
+    set-from p = ap (λ (x : List (List Text)). getD x p []) (sym sets-are)
+
     set-is : (p : ℕ) → p < 32 → getD ss p [] ≡ mergedAt (typeView t) ruled p
     unfolding typeView eventView
-    set-is p l = ap (λ (x : List (List Text)). getD x p []) (sym sets-are) ∙ merged-sets-at (typeView t) ruled p l
+    set-is p l = set-from p ∙ merged-sets-at (typeView t) ruled p l
 
     vacant : (p : ℕ) → p < 32 → getElem? (t .properties) p ≡ none → getD ss p [] ≡ []
     unfolding typeView eventView
     vacant p l c =
-        ap (λ (x : List (List Text)). getD x p []) (sym sets-are)
-        ∙ merged-match (view t) es p l [] (choice-none t p c .0) (choice-none t p c .1) tt (g .one) (λ e i. g .fit e i .vacant p c)
+        let chosen = choice-none t p c in
+        set-from p ∙ merged-match (view t) es p l [] (chosen .0) (chosen .1) tt (g .one) (λ e i. g .fit e i .vacant p c)
 
     alike : MatchAlike (t .properties) ss (d .sets)
     unfolding typeView eventView
     alike p q at x =
-        ap (λ (y : List (List Text)). getD y p []) (sym sets-are)
-        ∙ merged-match (view t) es p (place-in t (g .kept) p q at) (setAt d p) (choice-match t p q at x .0) (choice-match t p q at x .1)
-        (set-rises t d (g .model) p) (g .one) (λ e i. g .alike e i p q at x)
+        let chosen = choice-match t p q at x in
+        set-from p
+        ∙ merged-match (view t) es p (place-in t (g .kept) p q at) (setAt d p) (chosen .0) (chosen .1) (set-rises t d (g .model) p) (g .one)
+        (λ e i. g .alike e i p q at x)
 
     same-length : length ss ≡ length (d .sets)
     same-length = sets-long ∙ sym (g .model .written .sets .long)
@@ -92,15 +96,16 @@ module _
     fit-at p q at =
         let l = place-in t (g .kept) p q at in
         let s = getD ss p [] in
+        let from = sym (set-is p l) in
         let (free, full, is) = opening-merged (typeView t) ruled ss o in
         and-eq-true-iff (q .optional || leb 1 (length s)) (q .multivalued || leb (length s) 1) .1 (
           truth (q .optional)
               (λ c. rw c)
               (λ c. rw c (le-leb 1 (length s) (has-length s
-              (subst Has (sym (set-is p l)) (merged-some (view t) es p l free (g .one) (λ e i. fits-some q (setAt e p) (g .fit e i .fits p q at) c)))))),
+              (subst Has from (merged-some (view t) es p l free (g .one) (λ e i. fits-some q (setAt e p) (g .fit e i .fits p q at) c)))))),
           truth (q .multivalued)
               (λ c. rw c)
-              (λ c. rw c (le-leb (length s) 1 (subst (λ (x : List Text). length x ≤ 1) (sym (set-is p l))
+              (λ c. rw c (le-leb (length s) 1 (subst (λ (x : List Text). length x ≤ 1) from
               (merged-single (typeView t) ruled full p l (single-at t p q at ∙ ap not c))))),
         )
 

@@ -145,10 +145,14 @@ module _ (t : EventType) (uri : Text) (d : Event) (es : List Event) (g : Gathere
     unfolding isVacant isMark held
     presence = cell-each isPresent isVacant (t .properties) z mandatory (λ p l o. rw (vacant-cell p (omega (arith, all-cells)) o))
 
+    versioned-objects : isVersioned t ≡ true → sizes (z .cells) ≤ 32
+    unfolding typeView eventView
+    versioned-objects u = snapshot-objects (view t) es z m u 32 (few-objects t es (g .fit))
+
     most-objects : sizes (z .cells) ≤ 256
     unfolding typeView eventView standard
     most-objects = truth (isVersioned t)
-        (λ u. omega (arith, snapshot-objects (view t) es z m u 32 (few-objects t es (g .fit))))
+        (λ u. omega (arith, versioned-objects u))
         (λ u. let (x, y, w) = fits-bounds standard (typeView t) ruled (g .inside) in omega (arith, w u, sizes-in (ruled .snapshots) z m))
 
     has-version : isVersioned t ≡ true → cellAt z (t .mark - 1) ≡ holds (inDecimal (z .version) ∷ [])
@@ -161,7 +165,7 @@ module _ (t : EventType) (uri : Text) (d : Event) (es : List Event) (g : Gathere
     versioned-shape : isVersioned t ≡ true → versionedSnapshot t z ≡ true
     unfolding versionedSnapshot holdsVersion typeView eventView
     versioned-shape u =
-        let few = le-leb (sizes (z .cells)) 32 (snapshot-objects (view t) es z m u 32 (few-objects t es (g .fit))) in
+        let few = le-leb (sizes (z .cells)) 32 (versioned-objects u) in
         rw (few, cell-each isLoneIfSingle (λ c. true) (t .properties) z (λ p q at. single p q at u) (λ p l o. refl), has-version u)
         (equal-true sets (inDecimal (z .version) ∷ []) (inDecimal (z .version) ∷ []) .1 refl)
 
@@ -231,14 +235,16 @@ module _ (t : EventType) (uri : Text) (d : Event) (es : List Event) (g : Gathere
     }
 
     snapshot-written : SnapshotWritten z
-    snapshot-written = record {
-      version = let (e, i, v) = version-of in subst (λ (x : ℕ). x < 2 ^ 64) v (version-below t e (g .kept) (g .fit e i));
-      sets = record {
-        long = length-map (z .cells) held ∙ all-cells;
-        each = at-all SetWritten [] (map held (z .cells)) (λ p l. rw (held-at z p) (held-written p (omega (arith, length-map (z .cells) held, all-cells))));
-      };
-      small = held-small;
-    }
+    snapshot-written =
+        let long = length-map (z .cells) held in
+        record {
+          version = let (e, i, v) = version-of in subst (λ (x : ℕ). x < 2 ^ 64) v (version-below t e (g .kept) (g .fit e i));
+          sets = record {
+            long = long ∙ all-cells;
+            each = at-all SetWritten [] (map held (z .cells)) (λ p l. rw (held-at z p) (held-written p (omega (arith, long, all-cells))));
+          };
+          small = held-small;
+        }
 
   -- ---- the dossier
 
