@@ -10,15 +10,15 @@ use Rattle.sha1.proofs.compress.Tie as tie
 returns : tie.Need-returns
 unfolding compressed rounds
 returns c =
-    let at-80 = c .before in
-    let written-80 = at-80 .before .before in
-    let at-60 = written-80 .before .before in
-    let written-60 = at-60 .before .before in
-    let at-40 = written-60 .before .before in
-    let written-40 = at-40 .before .before in
-    let at-20 = written-40 .before .before in
-    let written-20 = at-20 .before .before in
-    let written-16 = written-20 .before .before in
+    let at-80 : tie.After-twenty4 = search in
+    let written-80 : tie.After-extend4 = search in
+    let at-60 : tie.After-twenty3 = search in
+    let written-60 : tie.After-extend3 = search in
+    let at-40 : tie.After-twenty2 = search in
+    let written-40 : tie.After-extend2 = search in
+    let at-20 : tie.After-twenty = search in
+    let written-20 : tie.After-extend = search in
+    let written-16 : tie.After-block-words = search in
     let a = written-16 .before .before .before .args in
     let m = a .m .now in
     let s = wordsOf (a .s) in

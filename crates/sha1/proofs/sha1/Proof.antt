@@ -23,11 +23,11 @@ to-start c = c .before .before .before .before
 
 loop-holds : tie.Need-loop-holds Inv-loop μ-loop
 unfolding H0
-loop-holds c = hashed-none _ _
+loop-holds c = search hashed-none
 
 returns : tie.Need-returns Inv-loop μ-loop
 returns c =
-    let l = c .before .before in
+    let l : tie.At-loop Inv-loop μ-loop = search in
     hashed-all (l .loop .inv) (omega arith) (omega (arith, length-padded (l .before .before .before .args .message .now))) (c .digest-of .ensures)
 
 pub sha1-spec : {M : Type 1} → statement M

@@ -39,13 +39,8 @@ to-accepted c = c .before .before .before .before
 
 ask-one-requires : tie.Need-ask-one-requires Inv-loop μ-loop
 ask-one-requires c κs =
-    let read = c .before .before in
+    let read : tie.After-read-event Inv-loop μ-loop = search in
     ((to-start (read .before .before) .pre .0 .says, search needs, search needs), read .read-event .ensures)
-
-returns : tie.Need-returns Inv-loop μ-loop
-returns c =
-    let asked = c .before .before in
-    first-refuses (to-part asked .event-part .ensures) (asked .ask-one .ensures) (c .before .if1 .taken) _ _ _ (c .answer .ensures)
 
 loop-holds : tie.Need-loop-holds Inv-loop μ-loop
 loop-holds c =
@@ -55,17 +50,9 @@ loop-holds c =
 
 ask-one-requires-2 : tie.Need-ask-one-requires-2 Inv-loop μ-loop
 ask-one-requires-2 c κs =
-    let read = c .before .before in
+    let read : tie.After-read-event2 Inv-loop μ-loop = search in
     let p = to-begin (to-turn (read .before .before .before)) .pre in
     ((p .0 .says, p .1, search needs), read .read-event2 .ensures)
-
-returns-2 : tie.Need-returns-2 Inv-loop μ-loop
-returns-2 c =
-    let asked = c .before .before in
-    let part = to-part2 asked in
-    let more = part .before in
-    next-refuses (to-turn more .loop .inv .2) (more .if2 .taken) (part .event-part2 .ensures) (asked .ask-one2 .ensures) (c .before .if3 .taken)
-    _ (c .answer2 .ensures)
 
 events-agree-requires : tie.Need-events-agree-requires Inv-loop μ-loop
 events-agree-requires c κs =
@@ -86,16 +73,6 @@ loop-again c =
           (c .before .events-agree .ensures) (c .first-apart .ensures),
     )
 
-returns-3 : tie.Need-returns-3 Inv-loop μ-loop
-returns-3 c =
-    let past = c .before .before in
-    none-refuses (past .before .before .loop .inv .2) (past .if2 .left) _ (c .before .if4 .taken) (c .answer3 .ensures .0)
-
-returns-4 : tie.Need-returns-4 Inv-loop μ-loop
-returns-4 c =
-    let past = c .before .before in
-    apart-refuses (past .before .before .loop .inv .2) (past .if2 .left) _ (c .before .if4 .left) (c .answer4 .ensures)
-
 pub ask-events-spec : {M : Type 1} → statement M
 ask-events-spec =
     tie.close
@@ -105,17 +82,17 @@ ask-events-spec =
     (λ c κs. search needs) (λ c. search needs) (λ c κs. search needs) (λ c. search needs)
     ask-one-requires
     (λ c κs. search needs)
-    returns
+    (λ c. search first-refuses)
     loop-holds
     (λ c κs. search needs) (λ c. search needs) (λ c κs. search needs) (λ c. search needs)
     ask-one-requires-2
     (λ c κs. search needs)
-    returns-2
+    (λ c. search next-refuses)
     (λ c. search needs) (λ c. search needs)
     events-agree-requires
     (λ c κs. search needs) (λ c. search needs) (λ c. search needs)
     loop-again
     (λ c κs. search needs)
-    returns-3
+    (λ c. search none-refuses)
     (λ c κs. search needs)
-    returns-4)
+    (λ c. search apart-refuses))

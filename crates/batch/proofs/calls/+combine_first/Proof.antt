@@ -64,9 +64,6 @@ module _ {t : ℕ} where
   abbrev to-start : At lts.After-combine-first t → At lts.Start t
   to-start c = more-to-start (to-more c)
 
-  abbrev refused-to-combined : At lts.After-enum-told t → At lts.After-combine-first t
-  refused-to-combined c = c .before .before .before .before .before .before .before .before .before .before
-
   abbrev to-reply : At lts.After-event-part2 t → At lts.After-others t
   to-reply c = c .before .before
 
@@ -75,9 +72,6 @@ module _ {t : ℕ} where
 
   abbrev to-taken : At lts.After-add-event-arg4 t → At lts.After-event-part2 t
   to-taken c = c .before .before .before .before
-
-  abbrev to-checked : At lts.After-slice-known6 t → At lts.After-check-known t
-  to-checked c = c .before .before .before .before
 
   abbrev to-added : At lts.After-slice-known13 t → At lts.After-add-event t
   to-added c = c .before .before .before .before .before .before
@@ -115,28 +109,10 @@ module _ {t : ℕ} where
       let start = one-to-start taken in
       (first-known (first-of start) (taken .event-part .ensures), search needs, search needs)
 
-  returns : At lts.Need-returns t
-  returns c =
-      let e = to-checked c .check-known .ensures in
-      let taken = to-checked c .before .before .before in
-      let start = one-to-start taken in
-      one-combined (first-of start) (start .pre .1 .0 .0) (taken .before .if1 .taken) (a-room start) (taken .event-part .ensures) (e .0) (e .1)
-
   combine-first-requires : At lts.Need-combine-first-requires t
   combine-first-requires c κs =
-      let more = c .before .before .before in
-      (search needs, (search needs, (search needs, fewer (first-of (more-to-start (more .before))))))
-
-  returns-2 : At lts.Need-returns-2 t
-  returns-2 c =
-      let combined = refused-to-combined c in
-      refused-combined (first-of (to-start combined)) (two (to-more combined)) (combined .combine-first .ensures) (c .enum-told .given .1)
-
-  slice-reshare-prefix-add-event : At lts.Need-slice-reshare-prefix-add-event t
-  slice-reshare-prefix-add-event c = done-within (to-combined c .combine-first .ensures) (to-reply c .others .given .1)
-
-  slice-aggregate-add-event : At lts.Need-slice-aggregate-add-event t
-  slice-aggregate-add-event c = done-long (to-combined (c .before) .combine-first .ensures) (to-reply (c .before) .others .given .1)
+      let more : At lts.Else1 t = search in
+      (search needs, (search needs, (search needs, fewer (first-of (more-to-start more)))))
 
   add-event-requires : At lts.Need-add-event-requires t
   add-event-requires c κs =
@@ -162,15 +138,15 @@ pub +combine-first-spec : {M : Type 1} → statement M
     (λ c κs. search needs)
     check-known-requires
     (λ c. search needs) (λ c. search needs)
-    returns
+    (λ c. search one-combined)
     (λ c. search needs)
     combine-first-requires
     (λ c. search needs) (λ c. search needs) (λ c. search needs) (λ c. search needs) (λ c. search needs)
     (λ c. search needs)
-    returns-2
+    (λ c. search refused-combined)
     (λ c. search needs) (λ c κs. search needs)
-    slice-reshare-prefix-add-event
-    slice-aggregate-add-event
+    (λ c. search done-within)
+    (λ c. search done-long)
     add-event-requires
     (λ c. search needs) (λ c. search needs) (λ c. search needs) (λ c. search needs)
     returns-3

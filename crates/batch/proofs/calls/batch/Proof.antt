@@ -102,7 +102,7 @@ returns-2 c =
 
 returns-3 : tie.Need-returns-3
 returns-3 c =
-    let known = c .before .before in
+    let known : tie.Else2 = search in
     let b = to-batch (known .before .before .before) in
     no-frame _ _ _ _ (room b) (got known) (unframed _ _ (b .read-batch .ensures) (not-true _ (c .if3 .taken)))
 
@@ -123,8 +123,8 @@ ask-events-requires c κs =
 
 returns-4 : tie.Need-returns-4
 returns-4 c =
-    let asked = c .before .before in
-    let f = asked .before .before in
+    let asked : tie.After-ask-events = search in
+    let f : tie.Else3 = search in
     let t = got (f .before .before) in
     refused-events _ _ _ _ (room (to-batch (to-read f))) t (frame f)
     (refusal-was _ _ _ _ _ _ _ (asked .ask-events .ensures _ _ (t .is) (frame f .stands)) (c .if4 .taken))

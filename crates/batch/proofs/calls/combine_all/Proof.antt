@@ -74,8 +74,8 @@ check-known-requires c κs =
 
 returns : tie.Need-returns
 returns c =
-    let checked = c .before .before .before in
-    let taken = checked .before .before .before in
+    let checked : tie.After-check-known = search in
+    let taken : tie.After-event-part = search in
     let start = one-to-start taken in
     let w = first-of start in
     all-taken (checked .check-known .result)
@@ -84,19 +84,13 @@ returns c =
 
 combine-first-requires : tie.Need-combine-first-requires
 combine-first-requires c κs =
-    let more = c .before .before .before in
-    (search needs, (search needs, fewer (first-of (more-to-start (more .before)))))
+    let more : tie.Else1 = search in
+    (search needs, (search needs, fewer (first-of (more-to-start more))))
 
 returns-2 : tie.Need-returns-2
 returns-2 c =
     let combined = refused-to-combined c in
     all-taken _ (all-refused (first-of (to-start combined)) (two (to-more combined)) (combined .combine-first .ensures) (c .enum-told .given .1))
-
-slice-reshare-prefix-add-event : tie.Need-slice-reshare-prefix-add-event
-slice-reshare-prefix-add-event c = done-within (to-combined c .combine-first .ensures) (to-reply c .others .given .1)
-
-slice-aggregate-add-event : tie.Need-slice-aggregate-add-event
-slice-aggregate-add-event c = done-long (to-combined (c .before) .combine-first .ensures) (to-reply (c .before) .others .given .1)
 
 add-event-requires : tie.Need-add-event-requires
 add-event-requires c κs =
@@ -130,8 +124,8 @@ combine-all-spec =
     (λ c. search needs) (λ c. search needs) (λ c. search needs) (λ c. search needs) (λ c. search needs)
     returns-2
     (λ c. search needs) (λ c κs. search needs)
-    slice-reshare-prefix-add-event
-    slice-aggregate-add-event
+    (λ c. search done-within)
+    (λ c. search done-long)
     (λ c. search needs)
     add-event-requires
     (λ c. search needs) (λ c. search needs) (λ c. search needs) (λ c. search needs)

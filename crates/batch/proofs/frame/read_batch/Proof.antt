@@ -27,7 +27,7 @@ returns-2 c = count-none (counted (c .before .before .before)) (c .before .if1 .
 
 returns-3 : tie.Need-returns-3
 returns-3 c =
-    let some = c .before .before in
+    let some : tie.Else1 = search in
     count-large (counted (some .before .before)) (c .before .if2 .taken) _ (c .no-batch3 .ensures .0)
 
 read-texts-requires : tie.Need-read-texts-requires
@@ -35,8 +35,8 @@ read-texts-requires c κs = (counted (c .before .before .before) .within, c .bef
 
 returns-4 : tie.Need-returns-4
 returns-4 c =
-    let few = c .before in
-    let some = few .before in
+    let few : tie.Else2 = search in
+    let some : tie.Else1 = search in
     count-read (counted (some .before .before)) (some .if1 .left) (few .if2 .left) _ (c .read-texts .ensures)
 
 pub read-batch-spec : {M : Type 1} → statement M

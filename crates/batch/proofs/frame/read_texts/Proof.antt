@@ -16,28 +16,18 @@ Inv-loop batch at count x₀ next₀ i₀ x next i = Passed (times readText coun
 abbrev μ-loop : tie.MeasureT-loop
 μ-loop batch at count x₀ next₀ i₀ x next i = count - i
 
-loop-holds : tie.Need-loop-holds Inv-loop μ-loop
-loop-holds c =
-    let p = c .before .before .pre in
-    passed-none (p .0) (p .2) (c .no-batch .ensures .1) (c .no-batch .ensures .2)
-
 returns : tie.Need-returns Inv-loop μ-loop
 returns c =
-    let read = c .before .before .before in
-    let turn = read .before in
+    let read : tie.After-read-text Inv-loop μ-loop = search in
+    let turn : tie.In-loop Inv-loop μ-loop = search in
     passed-bad (turn .before .loop .inv) (turn .loop-test .taken) (sym (read .read-text .ensures) ∙ c .before .enum-told .given .1)
     _ (c .no-batch2 .ensures .0)
 
 loop-again : tie.Need-loop-again Inv-loop μ-loop
 loop-again c =
-    let read = c .before .before .before in
-    let turn = read .before in
+    let read : tie.After-read-text Inv-loop μ-loop = search in
+    let turn : tie.In-loop Inv-loop μ-loop = search in
     passed-more (turn .before .loop .inv) (turn .loop-test .taken) (sym (read .read-text .ensures) ∙ c .before .start .given .1)
-
-returns-2 : tie.Need-returns-2 Inv-loop μ-loop
-returns-2 c =
-    let all = c .before in
-    passed-all (all .loop .inv) (c .loop-test .left) (all .before .before .before .pre .1)
 
 pub read-texts-spec : {M : Type 1} → statement M
 read-texts-spec =
@@ -46,10 +36,10 @@ read-texts-spec =
     Inv-loop
     μ-loop
     (λ c κs. search needs)
-    loop-holds
+    (λ c. search passed-none)
     (λ c κs. search needs) (λ c. search needs) (λ c. search needs) (λ c κs. search needs)
     returns
     (λ c. search needs) (λ c. search needs) (λ c. search needs) (λ c. search needs) (λ c. search needs)
     (λ c. search needs)
     loop-again
-    returns-2)
+    (λ c. search passed-all))

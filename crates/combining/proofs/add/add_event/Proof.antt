@@ -5,6 +5,7 @@ use borrow.Author.Tests.{not-true, not-false}
 use native.Mathlib.Omega.{arith}
 use mathlib.Core.Path.{_≡_, sym, _∙_}
 use mathlib.Core.List.{List}
+use mathlib.Core.Bool.{true}
 use Prim.Native.Nat.{ℕ, _^_, _<_}
 use lib.ListN.{length}
 use denote.Ref.{now}
@@ -80,10 +81,14 @@ read-for c =
       placed = c .place-of .ensures;
     }
 
+-- no limit is passed
+inside : (c : tie.Else1) → c .before .added-fits .result ≡ true
+inside c = not-false _ (c .if1 .left)
+
 -- ---- the needs
 
 version-of-requires : tie.Need-version-of-requires
-version-of-requires c κs = let s : tie.Start = search in search (sets-long, checkable, known-checked (s .pre .0 .0 .new))
+version-of-requires c κs = let s : tie.Start = search in search (checkable, known-checked (s .pre .0 .0 .new))
 
 returns : tie.Need-returns
 returns c =
@@ -119,7 +124,7 @@ write-added-requires c κs =
       sets-long (x-to-read (to-x at)),
       p .0 .1,
       p .0 .2,
-      added-there (read-for at) (p .0 .0) (asked .added-fits .ensures) (not-false _ (fitted .if1 .left)) (p .1 .0) (p .1 .1),
+      added-there (read-for at) (p .0 .0) (asked .added-fits .ensures) (inside fitted) (p .1 .0) (p .1 .1),
     )
 
 returns-3 : tie.Need-returns-3
@@ -129,11 +134,11 @@ returns-3 c =
     let asked = fitted .before in
     let r = read-for (to-place asked) in
     let room = asked-to-start asked .pre .1 .1 in
-    let inside = not-false _ (fitted .if1 .left) in (
+    let yes-all = inside fitted in (
       λ a.
           let h = is-adding r a in
           let fits = asked .added-fits .ensures _ h in
-          combine-done _ _ _ _ room (a .both) fits inside _ _ (wrote .write-added .ensures .0 _ h (version-known r a) (sym fits ∙ inside)),
+          combine-done _ _ _ _ room (a .both) fits yes-all _ _ (wrote .write-added .ensures .0 _ h (version-known r a) (sym fits ∙ yes-all)),
       λ a n z. wrote .write-added .ensures .1 _ (is-adding r a) (version-known r a),
     )
 

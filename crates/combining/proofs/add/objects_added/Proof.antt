@@ -19,13 +19,13 @@ read-snapshot-requires c κs =
 
 returns : tie.Need-returns
 returns c = λ u ty left right rest typed un meet e objects sets.
-    let read = c .before .before .before in
+    let read : tie.After-read-snapshot = search in
     absurd (to-start (read .before) .pre .1 .1 (snapshot-refused _ _ _ (c .enum-told .given .1) (read .read-snapshot .ensures)))
 
 returns-2 : tie.Need-returns-2
 returns-2 c = λ u ty left right rest typed un meet e objects sets.
-    let at-x = c .before .before .before in
-    let read = at-x .before .before .before in
+    let at-x : tie.After-x = search in
+    let read : tie.After-read-snapshot = search in
     let is = read-is (snapshot-read (at-x .x .given .1) (read .read-snapshot .ensures)) e in
     c .objects-fit .ensures u ty left right typed un meet (is .objects) objects (is .sets) sets
 

@@ -1,7 +1,8 @@
 -- `add::write_added` meets its contract: the head with the parents of both, how many snapshots there are, and these are written one after the other. They are
 -- the bytes of the dossier with the event, and the measures are those of its snapshots.
 use borrow.Author.Needs.{needs}
-use Rattle.combining.proofs.AddLaws.{heads-within, place-there, number-within, with-there, added-wrote, measured-with}
+use denote.Ref.{now}
+use Rattle.combining.proofs.AddLaws.{HasPlace, heads-within, place-there, number-within, with-there, added-wrote, measured-with}
 use Rattle.combining.proofs.add.write_added.Statement.{statement}
 use Rattle.combining.proofs.add.write_added.Tie as tie
 
@@ -22,6 +23,11 @@ to-number c = c .before .before .before .before
 abbrev to-with : tie.After-slice-known8 → tie.After-write-with
 to-with c = c .before .before .before .before
 
+-- ---- the facts
+
+placed : (c : tie.Start) → HasPlace (now (c .args .measures)) (c .args .p)
+placed c = place-there (c .pre .3)
+
 -- ---- the needs
 
 write-with-requires : tie.Need-write-with-requires
@@ -34,10 +40,10 @@ write-with-requires c κs =
 
 returns : tie.Need-returns
 returns c =
-    let put = c .before .before in
+    let put : tie.After-put-snapshot = search in
     let wrote = to-with (put .before .before) in
     let written = to-number (wrote .before) in
-    let counted = written .before in
+    let counted : tie.After-count-with = search in
     let heads = count-to-heads counted in (
       added-wrote (heads .write-heads .ensures) (counted .count-with .ensures) (to-start (heads .before) .pre .3) (written .write-number .ensures)
           (wrote .write-with .ensures .0),
@@ -50,9 +56,9 @@ write-added-spec =
     (tie.spec
     (λ c κs. search heads-within)
     (λ c. search needs)
-    (λ c κs. let s : tie.Start = search in place-there (s .pre .3) .0)
+    (λ c κs. placed (search) .0)
     (λ c κs. search number-within)
     write-with-requires
-    (λ c κs. let s : tie.Start = search in search (place-there (s .pre .3)))
+    (λ c κs. search (placed (search)))
     (λ c. search needs) (λ c. search needs) (λ c. search needs)
     returns)

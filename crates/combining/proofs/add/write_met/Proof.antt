@@ -49,9 +49,8 @@ returns-2 c = λ h.
 
 write-agreed-requires : tie.Need-write-agreed-requires
 write-agreed-requires c κs =
-    let at : tie.After-x = search in
-    let p = x-to-start at .pre in
-    (search needs, p .0, agreed-room (met-room (stops at) (p .2)) search)
+    let p = x-to-start (search) .pre in
+    (search needs, p .0, search (agreed-room, met-room (stops search) (p .2)))
 
 returns-3 : tie.Need-returns-3
 returns-3 c = λ h. agreed-wrote (h .typed) (met-shared (stops search) h) (c .before .before .write-agreed .ensures) search

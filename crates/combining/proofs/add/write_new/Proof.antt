@@ -36,7 +36,7 @@ stands-within c = ends-within (met-to-start c .pre .2 .in-some)
 
 returns : tie.Need-returns
 returns c = λ table m x h n.
-    let wrote = c .before .before in
+    let wrote : tie.After-write-alone = search in
     wrote-as (sym (new-alone-bytes h (not-true _ (wrote .before .before .if1 .taken)) _ n)) (wrote .write-alone .ensures _ (h .read))
 
 returns-2 : tie.Need-returns-2

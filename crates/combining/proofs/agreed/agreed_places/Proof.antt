@@ -35,10 +35,10 @@ loop-holds c = (refl, refl, λ ty x y v w u. places-none _ _ _ _ _ _ ty x y v w 
 
 loop-again : tie.Need-loop-again Inv-loop μ-loop
 loop-again c =
-    let kept = c .before in
-    let right = kept .before in
-    let left = right .before in
-    let turn = left .before in
+    let kept : tie.After-is-kept Inv-loop μ-loop = search in
+    let right : tie.After-set-at2 Inv-loop μ-loop = search in
+    let left : tie.After-set-at Inv-loop μ-loop = search in
+    let turn : tie.In-loop Inv-loop μ-loop = search in
     let l = turn .before .loop in (
       simp length-set (l .inv .0),
       simp length-set (l .inv .1),

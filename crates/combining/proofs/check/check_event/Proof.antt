@@ -9,6 +9,7 @@ use lib.ListN.{length}
 use denote.Ref.{now}
 use Rattle.replies.specs.Capacities.{dossierCapacity}
 use Rattle.event.specs.EventLayout.{narrow}
+use Rattle.event.specs.Event.{versionOf}
 use Rattle.event.specs.code.EventIndex.{eventQuestions, EventAsked, asked, EventAnswers}
 use Rattle.event.proofs.AskLaws.{accepted-is, refused-is}
 use Rattle.combining.proofs.CheckLaws.{Checked, asked-checked, checkable, lone-room, check-small, check-refused, check-done}
@@ -25,6 +26,9 @@ to-table c = c .before .before .before
 
 abbrev to-event : tie.After-ask-event → tie.After-read-event
 to-event c = c .before .before .before .before
+
+abbrev to-taken : tie.After-version-of → tie.Else2
+to-taken c = search
 
 abbrev to-if1 : tie.After-ask-event → tie.Else1
 to-if1 c = to-table (to-event c) .before .before .before
@@ -46,9 +50,6 @@ module _ (c : tie.After-ask-event) where
   abbrev sets : List ℕ
   sets = to-event c .read-event .last .1 .1 .0
 
-  sets-long : length sets ≡ 96
-  sets-long = search needs
-
   -- the number, the type and the event
   abbrev answer : EventAsked
   answer = asked (c .ask-event .result) (to-table (to-event c) .read-table .result .index) (to-event c .read-event .result)
@@ -63,19 +64,15 @@ module _ (c : tie.After-ask-event) where
 abbrev event-taken : (c : tie.Else2) → let a = c .before in Checked (table a) (event a) (answer a .type) (answer a .event) (sets a)
 event-taken c = asked-checked (accepted-is narrow _ _ _ _ _ (answered (c .before)) (c .if2 .left))
 
--- ---- the needs
+version-had : (c : tie.After-version-of) → let a = event-taken (to-taken c) in c .version-of .result .0 ≡ versionOf (a .type) (a .e)
+version-had c = c .version-of .ensures (checkable (event-taken (to-taken c)))
 
-write-lone-requires : tie.Need-write-lone-requires
-write-lone-requires c κs =
-    let a = event-taken search in
-    let v : tie.After-version-of = search in
-    search (sets-long, lone-room a, v .version-of .ensures (checkable a), room (to-if1 search))
+-- ---- the needs
 
 returns-3 : tie.Need-returns-3
 returns-3 c =
     let a = event-taken search in
-    let v : tie.After-version-of = search in
-    check-done _ _ _ a _ _ _ (room (to-if1 search)) (v .version-of .ensures (checkable a)) (c .before .before .write-lone .ensures .0 _ (a .read))
+    check-done _ _ _ a _ _ _ (room (to-if1 search)) (version-had search) (c .before .before .write-lone .ensures .0 _ (a .read))
 
 pub check-event-spec : {M : Type 1} → statement M
 check-event-spec =
@@ -86,8 +83,8 @@ check-event-spec =
     (λ c κs. search needs) (λ c. search needs) (λ c. search needs) (λ c κs. search needs)
     (λ c. check-refused _ _ _ _ (room (to-if1 search)) (refused-is narrow _ _ _ _ _ (answered search) search))
     (λ c. search needs)
-    (λ c κs. search (sets-long, checkable (event-taken search)))
+    (λ c κs. search (checkable (event-taken search)))
     (λ c. search needs)
-    write-lone-requires
+    (λ c κs. search (lone-room (event-taken search), version-had, room (to-if1 search)))
     (λ c. search needs)
     returns-3)

@@ -4,8 +4,8 @@ use borrow.Author.Needs.{needs}
 use mathlib.Core.Path.{_≡_}
 use mathlib.Core.List.{List}
 use Prim.Native.Nat.{ℕ}
-use lib.ListN.{length}
 use denote.Ref.{now}
+use Rattle.event.specs.Event.{versionOf}
 use Rattle.combining.proofs.CheckLaws.{Checked, known-checked, checkable, lone-room, lone-measured, check-done}
 use Rattle.combining.proofs.check.check_known.Statement.{statement}
 use Rattle.combining.proofs.check.check_known.Tie as tie
@@ -28,31 +28,25 @@ module _ (c : tie.After-read-event) where
   abbrev sets : List ℕ
   sets = c .read-event .last .1 .1 .0
 
-  sets-long : length sets ≡ 96
-  sets-long = search needs
-
   -- it is accepted, as it is known to be
   abbrev event-taken : let a = to-start c .args in Checked (now (a .table)) (now (a .event)) (a .t) (c .read-event .result) sets
   event-taken = known-checked (to-start c .pre .0) (c .read-event .ensures)
 
--- ---- the needs
+version-had : (c : tie.After-version-of) → let a = event-taken (to-read c) in c .version-of .result .0 ≡ versionOf (a .type) (a .e)
+version-had c = c .version-of .ensures (checkable (event-taken (to-read c)))
 
-write-lone-requires : tie.Need-write-lone-requires
-write-lone-requires c κs =
-    let a = event-taken search in
-    let v : tie.After-version-of = search in
-    search (sets-long, lone-room a, v .version-of .ensures (checkable a))
+-- ---- the needs
 
 returns : tie.Need-returns
 returns c =
-    let measured = c .before .before in
+    let measured : tie.After-measure-one = search in
     let written = to-written (measured .before .before) in
-    let v = written .before .before .before in
+    let v : tie.After-version-of = search in
     let a = event-taken (to-read v) in (
-      check-done _ _ _ a _ _ _ (to-start (to-read v) .pre .2) (v .version-of .ensures (checkable a)) (written .write-lone .ensures .0 _ (a .read)),
+      check-done _ _ _ a _ _ _ (to-start (to-read v) .pre .2) (version-had v) (written .write-lone .ensures .0 _ (a .read)),
       λ k.
-          let a = known-checked k (to-read v .read-event .ensures) in
-          lone-measured a _ (v .version-of .ensures (checkable a)) (written .write-lone .ensures .1 _ (a .read) .1) (measured .measure-one .ensures),
+          let b = known-checked k (to-read v .read-event .ensures) in
+          lone-measured b _ (v .version-of .ensures (checkable b)) (written .write-lone .ensures .1 _ (b .read) .1) (measured .measure-one .ensures),
     )
 
 pub check-known-spec : {M : Type 1} → statement M
@@ -60,9 +54,9 @@ check-known-spec =
     tie.close
     (tie.spec
     (λ c. search needs) (λ c κs. search needs) (λ c. search needs)
-    (λ c κs. search (sets-long, checkable (event-taken search)))
+    (λ c κs. search (checkable (event-taken search)))
     (λ c. search needs)
-    write-lone-requires
+    (λ c κs. search (lone-room (event-taken search), version-had))
     (λ c. let w : tie.After-write-lone = search in w .write-lone .ensures .1 _ (event-taken (search) .read) .0)
     (λ c κs. search needs) (λ c. search needs) (λ c. search needs)
     returns)

@@ -1,7 +1,7 @@
 -- `check::version_of` meets its contract: an event of a type with no mark has version 0, and of any other the one value at the mark is its version in decimal.
 use mathlib.Core.Path.{_≡_, _∙_}
 use mathlib.Core.List.{[]}
-use Prim.Native.Nat.{_-_}
+use Prim.Native.Nat.{_-_, _≤_}
 use lib.ListN.{getD}
 use denote.Ref.{now}
 use Rattle.event.specs.Event.{setAt}
@@ -23,6 +23,9 @@ to-marked c = c .before .before .before
 
 -- ---- the facts
 
+low : (c : tie.Else1) → let mark = to-start c .args .t .mark in (1 ≤ mark) × (mark ≤ 32)
+low c = mark-low (to-start c .pre .1) (c .if1 .left)
+
 -- the value that is read is the first one at the mark
 marked-value :
     (c : tie.After-value-in) → let a = to-start (to-marked c) .args in
@@ -36,9 +39,7 @@ marked-value c h =
 -- ---- the needs
 
 set-at-requires : tie.Need-set-at-requires
-set-at-requires c κs =
-    let low = mark-low (to-start c .pre .1) (c .if1 .left) in
-    (search needs, omega (arith, low .0, low .1))
+set-at-requires c κs = (search needs, omega (arith, low c))
 
 numeral-of-requires : tie.Need-numeral-of-requires
 numeral-of-requires c κs =
@@ -54,7 +55,7 @@ version-of-spec =
     tie.close
     (tie.spec
     (λ c. λ h. search (no-version h))
-    (λ c. mark-low (to-start c .pre .1) (c .if1 .left) .0)
+    (λ c. low c .0)
     set-at-requires
     (λ c κs. search needs) (λ c κs. search needs)
     numeral-of-requires

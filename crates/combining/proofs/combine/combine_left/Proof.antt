@@ -12,13 +12,13 @@ to-start c = c .before .before .before .before .before .before
 
 combine-with-requires : tie.Need-combine-with-requires
 combine-with-requires c κs =
-    let few = c .before .before .before in
+    let few : tie.Then1 = search in
     let p = to-start (few .before) .pre in
     (p .0, one-row _ _ (few .before .snapshot-count .ensures) (few .if1 .taken), p .1)
 
 combine-with-requires-2 : tie.Need-combine-with-requires-2
 combine-with-requires-2 c κs =
-    let several = c .before .before .before in
+    let several : tie.Else1 = search in
     let p = to-start (several .before) .pre in
     (p .0, all-rows _, p .1)
 

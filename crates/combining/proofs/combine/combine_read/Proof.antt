@@ -2,8 +2,12 @@
 -- call answers (`combine-done`), for which there is room since no limit is passed.
 use borrow.Author.Needs.{needs}
 use borrow.Author.Tests.{not-true, not-false}
-use mathlib.Core.Path.{sym, _∙_}
+use mathlib.Core.Path.{_≡_, sym, _∙_}
+use mathlib.Core.Bool.{true}
 use native.Mathlib.Omega.{arith}
+use Rattle.model.specs.Limits.{standard, fits}
+use Rattle.event.specs.Event.{typeView}
+use Rattle.combining.specs.CombineCall.{combined}
 use Rattle.combining.proofs.CombineLaws.{combine-full, combine-room, combine-done}
 use Rattle.combining.proofs.combine.combine_read.Statement.{statement}
 use Rattle.combining.proofs.combine.combine_read.Tie as tie
@@ -16,33 +20,48 @@ to-start c = c .before .before .before .before .before .before .before
 abbrev asked-to-start : tie.After-limits-fit → tie.Start
 asked-to-start c = to-start (c .before)
 
+-- ---- the facts
+
+answered :
+    (c : tie.After-limits-fit) → let k = asked-to-start c .pre .1 .known in
+    c .limits-fit .result ≡ fits standard (typeView (k .left .type)) (combined (k .left) (k .right))
+answered c = c .limits-fit .ensures _ (asked-to-start c .pre .1)
+
+-- no limit is passed
+inside : (c : tie.Else1) → c .before .limits-fit .result ≡ true
+inside c = not-false _ (c .if1 .left)
+
 -- ---- the needs
 
 returns : tie.Need-returns
 returns c =
     let asked = c .before in
     let ((_, _, _, room), both) = asked-to-start asked .pre in
-    combine-full _ _ _ _ room (both .known) (asked .limits-fit .ensures _ both) (not-true _ (c .if1 .taken))
+    combine-full _ _ _ _ room (both .known) (answered asked) (not-true _ (c .if1 .taken))
 
 write-combined-requires : tie.Need-write-combined-requires
 write-combined-requires c κs =
     let asked = c .before .before in
     let ((left, right, long, room), both) = asked-to-start asked .pre in
-    let fits = asked .limits-fit .ensures in
-    let yes-all = not-false _ (c .before .if1 .left) in (
+    let yes-all = inside (c .before) in (
       left,
       right,
       long,
-      record { table = _; both = both; inside = λ u h. sym (fits u h) ∙ yes-all; room = combine-room (both .known) (fits _ both) yes-all _ room },
+      record {
+        table = _;
+        both = both;
+        inside = λ u h. sym (asked .limits-fit .ensures u h) ∙ yes-all;
+        room = combine-room (both .known) (answered asked) yes-all _ room;
+      },
     )
 
 returns-2 : tie.Need-returns-2
 returns-2 c =
-    let wrote = c .before .before in
-    let fitted = wrote .before .before in
-    let asked = fitted .before in
+    let wrote : tie.After-write-combined = search in
+    let fitted : tie.Else1 = search in
+    let asked : tie.After-limits-fit = search in
     let ((_, _, _, room), both) = asked-to-start asked .pre in
-    combine-done _ _ _ _ room (both .known) (asked .limits-fit .ensures _ both) (not-false _ (fitted .if1 .left)) _ _ (wrote .write-combined .ensures _ both)
+    combine-done _ _ _ _ room (both .known) (answered asked) (inside fitted) _ _ (wrote .write-combined .ensures _ both)
 
 pub combine-read-spec : {M : Type 1} → statement M
 combine-read-spec =

@@ -38,8 +38,8 @@ returns-2 c = λ kind xs ys v w e. chosen-left e _ (sym (w .count) ∙ c .if2 .t
 
 returns-3 : tie.Need-returns-3
 returns-3 c = λ kind xs ys v w e.
-    let max = c .before in
-    let both = max .before in
+    let max : tie.After-is-max = search in
+    let both : tie.Else2 = search in
     let values = to-values (both .before) in
     chosen-both e (max .is-max .ensures) (λ z. both .before .before .if1 .left (v .count ∙ z)) (λ z. both .if2 .left (w .count ∙ z))
     (left-value values v) (right-value values w) (c .choose .ensures)

@@ -66,10 +66,10 @@ parts c = let q = to-start c .pre .3 in joined-parts (room-joins q) (c .joined-p
 
 write-place-requires : tie.Need-write-place-requires Inv-loop μ-loop
 write-place-requires c κs =
-    let right = c .before in
-    let left = right .before in
-    let turn = left .before in
-    let at-loop = turn .before .before in
+    let right : tie.After-set-at2 Inv-loop μ-loop = search in
+    let left : tie.After-set-at Inv-loop μ-loop = search in
+    let turn : tie.Then1 Inv-loop μ-loop = search in
+    let at-loop : tie.At-loop Inv-loop μ-loop = search in
     let found = places at-loop in
     let n = room-joins (to-start found .pre .3) in
     let room = sets-room (parts found) (version at-loop .write-number .ensures) (presence at-loop .before .number-of .ensures)

@@ -9,9 +9,9 @@ use Rattle.combining.proofs.joined.write_place.Tie as tie
 
 returns-2 : tie.Need-returns-2
 returns-2 c =
-    let values = c .before .before in
-    let right = values .before .before in
-    let plain = right .before .before in
+    let values : tie.After-write-values = search in
+    let right : tie.After-set-part2 = search in
+    let plain : tie.Else1 = search in
     let start : tie.Start = search in
     all-wrote (plain .before .is-extreme-at .ensures) (plain .if1 .left) (right .before .set-part .ensures) (right .set-part2 .ensures) (start .pre .1)
     (values .write-values .ensures)

@@ -26,9 +26,9 @@ returns-2 c = λ u ty xs ys w v z p q few.
 
 returns-3 : tie.Need-returns-3
 returns-3 c = λ u ty xs ys w v z p q few.
-    let left = c .before .before in
-    let plain = left .before in
-    let asked = plain .before in
+    let left : tie.After-set-part = search in
+    let plain : tie.Else1 = search in
+    let asked : tie.After-is-extreme-at = search in
     c .count-union .ensures xs ys (left .set-part .ensures xs v) (c .before .set-part2 .ensures ys z) p q
     ∙ place-every ty (to-start asked .args .k) xs ys (asked .is-extreme-at .ensures) w (plain .if1 .left)
 

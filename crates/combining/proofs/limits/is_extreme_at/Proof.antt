@@ -10,8 +10,8 @@ returns c = λ u ty w. let a = c .before .before .args in extreme-past u ty (a .
 
 returns-2 : tie.Need-returns-2
 returns-2 c = λ u ty w.
-    let read = c .before in
-    let inside = read .before in
+    let read : tie.After-property-at = search in
+    let inside : tie.Else1 = search in
     let a = inside .before .before .args in
     c .is-extreme .ensures ∙ sym (extreme-here u ty (a .count) (now (a .properties)) (a .k) w (read .property-at .ensures) (inside .if1 .left))
 

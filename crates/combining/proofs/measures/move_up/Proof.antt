@@ -40,9 +40,9 @@ loop-holds c =
 
 loop-again : tie.Need-loop-again Inv-loop μ-loop
 loop-again c =
-    let put = c .before .before in
-    let read = put .before .before in
-    let turn = read .before .before in
+    let put : tie.After-put-measure Inv-loop μ-loop = search in
+    let read : tie.After-measure-at Inv-loop μ-loop = search in
+    let turn : tie.In-loop Inv-loop μ-loop = search in
     let (is, _, below, moved) = turn .before .loop .inv in
     let (here, (others, _)) = put .put-measure .ensures in (
       is,

@@ -46,9 +46,9 @@ add-before c =
 
 loop-again : tie.Need-loop-again Inv-loop μ-loop
 loop-again c =
-    let higher = c .before in
+    let higher : tie.Else2 Inv-loop μ-loop = search in
     let read : tie.After-measure-at Inv-loop μ-loop = search in
-    let turn = read .before in
+    let turn : tie.In-loop Inv-loop μ-loop = search in
     let l = turn .before .loop in
     let below : read .measure-at .result .version .0 < to-start (turn .before) .args .version .0 =
     omega (arith, higher .before .before .before .if1 .left, higher .if2 .left) in

@@ -22,9 +22,9 @@ put-measure-requires c κs =
 
 returns : tie.Need-returns
 returns c = λ ss s w v z.
-    let put = c .before .before in
-    let met = put .before .before in
-    let start = met .before .before in
+    let put : tie.After-put-measure = search in
+    let met : tie.Then1 = search in
+    let start : tie.Start = search in
     let (here, (others, count)) = put .put-measure .ensures in
     let q = met .if1 .taken in
     put-met _ ss w _ s v z (start .args .p) _ _ here others count q (start .pre .1 .0 q) refl
@@ -38,16 +38,16 @@ move-up-requires c κs =
 put-measure-requires-2 : tie.Need-put-measure-requires-2
 put-measure-requires-2 c κs =
     let moved = to-moved c in
-    let unmet = moved .before .before in
+    let unmet : tie.Else1 = search in
     let ((long, _, within), (_, has)) = unmet .before .before .pre in
     (moved .move-up .kept .0 ∙ long, omega (arith, within, has (unmet .if1 .left)))
 
 returns-2 : tie.Need-returns-2
 returns-2 c = λ ss s w v z.
-    let put = c .before .before in
+    let put : tie.After-put-measure2 = search in
     let moved = to-moved (put .before) in
-    let unmet = moved .before .before in
-    let start = unmet .before .before in
+    let unmet : tie.Else1 = search in
+    let start : tie.Start = search in
     let (here, (others, count)) = put .put-measure2 .ensures in
     let q = unmet .if1 .left in
     let ((_, _, within), (_, has)) = start .pre in

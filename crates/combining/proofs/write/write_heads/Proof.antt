@@ -24,19 +24,19 @@ part-write-dossier-head-end c =
 
 write-dossier-head-requires : tie.Need-write-dossier-head-requires
 write-dossier-head-requires c κs =
-    let source = c .before .before .before in
+    let source : tie.After-text-part2 = search in
     let made = to-union (c .before .before) in
-    let parents = made .before in
+    let parents : tie.After-hashes = search in
     parts-there (parents .before .before .hashes-part .ensures) (parents .before .hashes-part2 .ensures) (made .write-hash-union .ensures)
     (source .before .text-part .ensures) (source .text-part2 .ensures) (to-start parents .pre)
 
 returns : tie.Need-returns
 returns c =
-    let written = c .before .before in
-    let at = written .before .before .before in
-    let source = at .before in
+    let written : tie.After-write-dossier-head = search in
+    let at : tie.After-hashes3 = search in
+    let source : tie.After-text-part2 = search in
     let made = to-union at in
-    let parents = made .before in
+    let parents : tie.After-hashes = search in
     heads-wrote (parents .before .before .hashes-part .ensures) (parents .before .hashes-part2 .ensures) (made .write-hash-union .ensures)
     (source .before .text-part .ensures) (source .text-part2 .ensures) (written .write-dossier-head .ensures)
 

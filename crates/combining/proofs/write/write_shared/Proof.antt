@@ -24,7 +24,7 @@ alike c = sym (c .before .same .ensures) ∙ c .if1 .taken
 
 returns : tie.Need-returns
 returns c = λ u ty x y w s p q.
-    let copied = c .before .before in
+    let copied : tie.After-copy = search in
     wrote-as (same-written (s .meet) p q (alike (copied .before .before))) (copied .copy .ensures)
 
 pub write-shared-spec : {M : Type 1} → statement M

@@ -67,8 +67,8 @@ write-shared-requires c κs =
 
 loop-again-3 : tie.Need-loop-again-3 Inv-loop μ-loop
 loop-again-3 c =
-    let shared = c .before .before in
-    let parts = shared .before .before in
+    let shared : tie.After-write-shared Inv-loop μ-loop = search in
+    let parts : tie.After-part-of2 Inv-loop μ-loop = search in
     let one = parts-to-one parts in
     turn-both (turn (one-turn one)) (one .before .before .before .if2 .left) (one .if3 .left) (parts .before .before .before .part-of .ensures)
     (parts .part-of2 .ensures) (shared .write-shared .ensures)

@@ -6,7 +6,7 @@ use Rattle.dossier.proofs.dossiers.snapshot_count.Tie as tie
 
 returns : tie.Need-returns
 returns c =
-    let at-number = c .before .before .before in
+    let at-number : tie.After-read-within = search in
     as-counted _ _ (at-number .before .dossier-head-end .ensures) _ _ (number-got (c .before .number .given .1) (at-number .read-within .ensures))
 
 returns-2 : tie.Need-returns-2

@@ -7,12 +7,12 @@ use Rattle.dossier.proofs.head.read_dossier_head.Tie as tie
 
 returns : tie.Need-returns
 unfolding readDossierHead standard
-returns c = head-refused _ (c .enum-told .given .1) (c .before .before .read-head .ensures)
+returns c = search head-refused
 
 returns-2 : tie.Need-returns-2
 unfolding readDossierHead standard
 returns-2 c =
-    let told = c .before .before in
+    let told : tie.After-head = search in
     let w = head-reads (told .head .given .1) (told .before .before .read-head .ensures) in
     record { what = w .what; is = w .is; stands = w .stands }
 

@@ -15,8 +15,8 @@ values :
     (λ ty xs y. valuesNumber (c .sets-in-space .result) ≡ snapshotNumber ty xs y)
 unfolding snapshotValues
 values c u ty xs y m w b g x i =
-    let fits = c .before .before .before in
-    let like = c .before in
+    let fits : tie.Else1 = search in
+    let like : tie.Else2 = search in
     number-values ty xs y (fits .before .snapshot-fits .ensures u ty y m w b i) (not-false _ (fits .if1 .left))
     (like .before .is-match-same .ensures u ty xs _ w x (i .sets)) (not-false _ (like .if2 .left))
     (c .sets-in-space .ensures u ty _ w g (i .sets))

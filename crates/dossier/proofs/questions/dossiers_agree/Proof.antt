@@ -10,7 +10,7 @@ returns c u ty tz h g w x y l r e = agree-heads ty tz h g (c .before .heads-agre
 
 returns-2 : tie.Need-returns-2
 returns-2 c u ty tz h g w x y l r e =
-    let agreed = c .before .before .before in
+    let agreed : tie.Else1 = search in
     let heads = agreed .before .heads-agree .ensures _ _ (x .head) (y .head) in
     let matches = c .is-match-same .ensures u ty _ _ w (first-sets _ h _ x _ l) (first-sets _ g _ y _ r) in
     agree-match ty tz h g heads (not-false _ (agreed .if1 .left)) (in-count _ h _ x 0 (x .one)) (in-count _ g _ y 0 (y .one)) e matches

@@ -31,7 +31,7 @@ module _ (c : tie.In-loop Inv-loop μ-loop) where
 -- ---- the needs
 
 shared-slice-read-n : tie.Need-shared-slice-read-n Inv-loop μ-loop
-shared-slice-read-n c = let turn = c .before in omega (arith, few turn, turn .loop-test .taken, turn .before .before .before .pre .1)
+shared-slice-read-n c = let turn : tie.In-loop Inv-loop μ-loop = search in omega (arith, few turn, turn .loop-test .taken, turn .before .before .before .pre .1)
 
 pub cells-fit-spec : {M : Type 1} → statement M
 cells-fit-spec =
@@ -51,8 +51,8 @@ cells-fit-spec =
     (λ c. omega (arith, present-room (c .before .before .before), bit-low _ (c .bit .ensures)))
     (λ c. omega (arith, several-room (c .before .before .before)))
     (λ c κs. search needs)
-    (λ c. let bit = c .before in omega (arith, several-room (bit .before .before .before), bit-low _ (c .bit2 .ensures)))
-    (λ c. let bit = c .before in omega (arith, bit .before .before .before .loop-test .taken))
+    (λ c. omega (arith, several-room (search), bit-low _ (c .bit2 .ensures)))
+    (λ c. let turn : tie.In-loop Inv-loop μ-loop = search in omega (arith, turn .loop-test .taken))
     (λ c. search counts-more)
     (λ c. search counts-over)
     (λ c κs. search needs)

@@ -18,7 +18,7 @@ returns c s q vs ws w x y = place-free s q _ w _ (told-no (c .before .is-match .
 
 returns-2 : tie.Need-returns-2
 returns-2 c s q vs ws w x y =
-    let held = c .before .before .before in
+    let held : tie.Else1 = search in
     c .same .ensures
     ∙ ap₂ (equal texts) (c .before .before .set-part .ensures vs x) (c .before .set-part2 .ensures ws y)
     ∙ flat-equal vs ws (set-short _ vs _ x (to-start held .good .1 .0 .0))

@@ -26,7 +26,7 @@ returns c g h x y = both-no _ (told-no (names (c .before) x y) (c .if1 .taken))
 
 returns-2 : tie.Need-returns-2
 returns-2 c g h x y =
-    let asked = c .before .before .before in
+    let asked : tie.Else1 = search in
     both-yes (told-yes (names (asked .before) x y) (asked .if1 .left))
     (c .same2 .ensures ∙ ap₂ (equal texts) (c .before .before .text-part3 .ensures _ (x .uri)) (c .before .text-part4 .ensures _ (y .uri)))
 

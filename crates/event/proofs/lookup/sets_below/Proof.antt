@@ -4,9 +4,6 @@ use Rattle.event.proofs.LookupLaws.{shifted, positive, below-small}
 use Rattle.event.proofs.lookup.sets_below.Statement.{statement}
 use Rattle.event.proofs.lookup.sets_below.Tie as tie
 
-rem-result : tie.Need-rem-result
-rem-result c = positive (c .args .place) (c .pre)
-
 cast-result : tie.Need-cast-result
 cast-result c = omega (arith, below-small (c .args .presence) (c .args .place) (c .pre))
 
@@ -14,4 +11,4 @@ returns : tie.Need-returns
 returns c = rw (shifted (c .args .place) (c .pre))
 
 pub sets-below-spec : {M : Type 1} → statement M
-sets-below-spec = tie.close (tie.spec (λ c. search needs) rem-result cast-result returns)
+sets-below-spec = tie.close (tie.spec (λ c. search needs) (λ c. search positive) cast-result returns)

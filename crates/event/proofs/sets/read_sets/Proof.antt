@@ -22,8 +22,8 @@ inside c = omega (arith, c .loop-test .taken, c .before .loop .inv .ats-long)
 
 returns-2 : tie.Need-returns-2 Inv-loop μ-loop
 returns-2 c =
-    let cleared = c .before .before in
-    let left-loop = cleared .before .before in
+    let cleared : tie.After-clear-from Inv-loop μ-loop = search in
+    let left-loop : tie.Left-loop Inv-loop μ-loop = search in
     let ended = ⊎-elim (λ x. inr (ltb-false _ _ (x .1 .left))) (λ x. inl (x .left)) (left-loop .loop-test .came) in
     sofar-found (left-loop .before .loop .inv) ended _ (cleared .clear-from .ensures .0) (cleared .clear-from .ensures .1)
 

@@ -29,8 +29,8 @@ copy-part-requires c κs = let start : tie.Start Inv-loop μ-loop = search in ru
 
 returns : tie.Need-returns Inv-loop μ-loop
 returns c =
-    let copied = c .before .before in
-    let left-loop = copied .before .before in
+    let copied : tie.After-copy-part Inv-loop μ-loop = search in
+    let left-loop : tie.Left-loop Inv-loop μ-loop = search in
     let over = ⊎-elim (λ x. inr (ltb-false _ _ (x .1 .left))) (λ y. inl (y .left)) (left-loop .loop-test .came) in
     runs-last (left-loop .before .loop .inv) over (copied .copy-part .ensures)
 

@@ -19,9 +19,6 @@ within c = let t = to-text c .hash-text in text-within _ _ _ _ (t .result) (t .e
 
 -- ---- the needs
 
-returns : tie.Need-returns
-returns c = hash-small _ _ _ (c .if1 .taken)
-
 write-digest-requires : tie.Need-write-digest-requires
 write-digest-requires c κs =
     let told : tie.After-n = search in
@@ -43,7 +40,7 @@ pub hash-spec : {M : Type 1} → statement M
 hash-spec =
     tie.close
     (tie.spec
-    returns
+    (λ c. search hash-small)
     (λ c. search needs) (λ c κs. search needs) (λ c. search needs) (λ c. search needs) (λ c. search needs)
     (λ c. omega (arith, within (search)))
     write-digest-requires

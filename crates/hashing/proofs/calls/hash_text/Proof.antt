@@ -56,9 +56,6 @@ accepted c = accepted-is wide _ _ _ _ _ (answered (c .before)) (c .if2 .left)
 
 -- ---- the needs
 
-returns : tie.Need-returns
-returns c = text-small _ _ _ (c .if1 .taken)
-
 returns-2 : tie.Need-returns-2
 returns-2 c = text-refused _ _ _ _ (omega arith) (refused-is wide _ _ _ _ _ (answered (c .before)) (c .if2 .taken))
 
@@ -74,7 +71,7 @@ pub hash-text-spec : {M : Type 1} → statement M
 hash-text-spec =
     tie.close
     (tie.spec
-    returns
+    (λ c. search text-small)
     (λ c κs. search needs) (λ c. search needs) (λ c κs. search needs) (λ c. search needs)
     (λ c κs. search needs) (λ c. search needs) (λ c. search needs) (λ c κs. search needs)
     returns-2

@@ -21,14 +21,11 @@ few c = c .pre .0 .are .few
 
 -- ---- the needs
 
-loop-holds : tie.Need-loop-holds Inv-loop μ-loop
-loop-holds c = let s : tie.Start Inv-loop μ-loop = search in gathered-start (s .pre .3)
-
 gather-set-requires : tie.Need-gather-set-requires Inv-loop μ-loop
 gather-set-requires c κs =
     let s : tie.Start Inv-loop μ-loop = search in
-    let chosen = c .before .before in
-    let taken = chosen .before .before in
+    let chosen : tie.Then1 Inv-loop μ-loop = search in
+    let taken : tie.After-property-at Inv-loop μ-loop = search in
     let l = taken .before .before .loop in
     let (order, within, room) =
     set-ready (s .pre .0) (taken .before .loop-test .taken) (l .inv .so-far (s .pre .0)) (taken .property-at .ensures)
@@ -37,7 +34,7 @@ gather-set-requires c κs =
 
 loop-again : tie.Need-loop-again Inv-loop μ-loop
 loop-again c =
-    let taken = c .before .before in
+    let taken : tie.After-property-at Inv-loop μ-loop = search in
     let l = taken .before .before .loop in
     let inside = taken .before .loop-test .taken in
     let told = sym (c .before .is-match .ensures) in
@@ -56,7 +53,7 @@ gather-spec =
     (tie.spec
     Inv-loop
     μ-loop
-    loop-holds
+    (λ c. search gathered-start)
     (λ c κs. omega (arith, few (search)))
     (λ c κs. search needs)
     (λ c κs. omega (arith, few (search)))

@@ -38,9 +38,6 @@ stops c = text-stops _ _ _ _ (sym (c .before .before .read-text .ensures) ∙ c 
 
 -- ---- the needs
 
-loop-holds : tie.Need-loop-holds Inv-loop μ-loop
-loop-holds c = let s : tie.Start Inv-loop μ-loop = search in set-start (s .pre .4) (s .pre .0) (s .pre .3)
-
 returns : tie.Need-returns Inv-loop μ-loop
 returns c =
     let turn : tie.In-loop Inv-loop μ-loop = search in
@@ -68,7 +65,7 @@ gather-set-spec =
     (tie.spec
     Inv-loop
     μ-loop
-    loop-holds
+    (λ c. search set-start)
     (λ c κs. search needs) (λ c. search needs) (λ c. search needs) (λ c. search needs)
     returns
     insert-string-requires

@@ -3,10 +3,7 @@ use Rattle.packed.proofs.WriteLaws.{wrote-then}
 use Rattle.hashing.proofs.objects.write_next.Statement.{statement}
 use Rattle.hashing.proofs.objects.write_next.Tie as tie
 
-returns : tie.Need-returns
-returns c = let separated : tie.After-copy = search in wrote-then (separated .copy .ensures) (c .before .before .write-object .ensures)
-
 pub write-next-spec : {M : Type 1} → statement M
 write-next-spec =
     tie.close
-    (tie.spec (λ c. search needs) (λ c κs. search needs) (λ c κs. search needs) (λ c. search needs) returns)
+    (tie.spec (λ c. search needs) (λ c κs. search needs) (λ c κs. search needs) (λ c. search needs) (λ c. search wrote-then))

@@ -14,12 +14,6 @@ fits :
     a .at + length (part (now (a .table)) (a .x .first) (a .x .colon)) + 1 + length (part (now (a .event)) (a .x .second) (a .x .end)) ≤ length (now (a .out))
 fits c = omega (arith, string-parts (now (c .args .table)) (now (c .args .event)) (c .args .x))
 
-returns : tie.Need-returns
-returns c =
-    let name : tie.After-copy-part = search in
-    let colon : tie.After-copy = search in
-    wrote-string _ _ _ (name .copy-part .ensures) (colon .copy .ensures) (c .before .before .copy-part2 .ensures)
-
 pub write-object-spec : {M : Type 1} → statement M
 write-object-spec =
     tie.close
@@ -29,4 +23,4 @@ write-object-spec =
     (λ c κs. omega (arith, fits (search)))
     (λ c κs. omega (arith, fits (search)))
     (λ c. search needs)
-    returns)
+    (λ c. search wrote-string))

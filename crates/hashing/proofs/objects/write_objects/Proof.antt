@@ -15,9 +15,6 @@ abbrev μ-loop : tie.MeasureT-loop
 
 -- ---- the needs
 
-returns : tie.Need-returns Inv-loop μ-loop
-returns c = wrote-none _ _ _ _ _ _ (c .if1 .taken)
-
 write-object-requires : tie.Need-write-object-requires Inv-loop μ-loop
 write-object-requires c κs =
     let s : tie.Start Inv-loop μ-loop = search in
@@ -58,7 +55,7 @@ write-objects-spec =
     (tie.spec
     Inv-loop
     μ-loop
-    returns
+    (λ c. search wrote-none)
     (λ c κs. search needs)
     write-object-requires
     loop-holds

@@ -11,10 +11,7 @@ use Rattle.hashing.proofs.text.write_line.Tie as tie
 fits : (c : tie.Start) → c .args .at + length (part (now (c .args .s)) (c .args .from) (c .args .to)) + 1 ≤ length (now (c .args .out))
 fits c = omega (arith, simp length-append at (c .pre .2))
 
-returns : tie.Need-returns
-returns c = let line : tie.After-copy-part = search in wrote-then (line .copy-part .ensures) (c .before .before .copy .ensures)
-
 pub write-line-spec : {M : Type 1} → statement M
 write-line-spec =
     tie.close
-    (tie.spec (λ c κs. omega (arith, fits (search))) (λ c. search needs) (λ c κs. omega (arith, fits (search))) (λ c. search needs) returns)
+    (tie.spec (λ c κs. omega (arith, fits (search))) (λ c. search needs) (λ c κs. omega (arith, fits (search))) (λ c. search needs) (λ c. search wrote-then))

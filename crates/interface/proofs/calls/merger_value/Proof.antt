@@ -64,12 +64,12 @@ sub-result c = found-value (c .before .start .given .1) (found (c .before .befor
 
 returns-2 : tie.Need-returns-2
 returns-2 c =
-    let f = c .before .before .before in
+    let f : tie.After-find-value = search in
     value-packed (accepted (f .before .before)) _ _ (c .before .start .given .1) (found f)
 
 returns-3 : tie.Need-returns-3
 returns-3 c =
-    let f = c .before .before in
+    let f : tie.After-find-value = search in
     value-absent (accepted (f .before .before)) _ _ (c .enum-told .given .1) (found f)
 
 pub merger-value-spec : {M : Type 1} → statement M

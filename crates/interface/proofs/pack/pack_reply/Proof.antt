@@ -3,16 +3,10 @@ use Rattle.interface.proofs.PackingLaws.{reply-done, reply-refused}
 use Rattle.interface.proofs.pack.pack_reply.Statement.{statement}
 use Rattle.interface.proofs.pack.pack_reply.Tie as tie
 
-returns : tie.Need-returns
-returns c = reply-done (c .before .before .r .given .1) (c .low-bits .ensures)
-
-returns-2 : tie.Need-returns-2
-returns-2 c = reply-refused (c .before .before .r2 .given .1) (c .pack-refusal .ensures)
-
 pub pack-reply-spec : {M : Type 1} → statement M
 pack-reply-spec =
     tie.close
     (tie.spec
     (λ c. search needs) (λ c κs. search needs) (λ c. search needs) (λ c κs. search needs)
-    returns
-    returns-2)
+    (λ c. search reply-done)
+    (λ c. search reply-refused))

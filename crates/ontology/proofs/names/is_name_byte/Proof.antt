@@ -5,11 +5,6 @@ use borrow.Author.Needs.{needs}
 use Rattle.ontology.proofs.names.is_name_byte.Statement.{statement}
 use Rattle.ontology.proofs.names.is_name_byte.Tie as tie
 
-returns-6 : tie.Need-returns-6
-returns-6 c =
-    let asked : tie.Else1 = search in
-    byte-high _ (omega arith) (asked .before .is-letter .ensures) (asked .if1 .left)
-
 pub is-name-byte-spec : {M : Type 1} → statement M
 is-name-byte-spec =
     tie.close
@@ -20,4 +15,4 @@ is-name-byte-spec =
     (λ c. byte-digit _ (omega arith) (omega arith))
     (λ c. byte-below _ (omega arith))
     (λ c. byte-between _ (omega arith) (omega arith))
-    returns-6)
+    (λ c. search byte-high))

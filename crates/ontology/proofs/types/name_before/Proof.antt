@@ -23,7 +23,7 @@ shared-slice-read-y c = let both = c .before .before in omega (arith, some-secon
 
 returns : tie.Need-returns
 returns c =
-    let both = c .before .before .before in
+    let both : tie.Then2 = search in
     let p = to-start both .pre in
     first-decides _ _ _ _ _ (both .before .if1 .taken) (p .1) (some-second both) (p .3) (c .if3 .taken)
 

@@ -9,8 +9,8 @@ returns c = λ o. replies-conflict o (c .before .before .before .find-conflict .
 
 returns-2 : tie.Need-returns-2
 returns-2 c =
-    let merged = c .before .before in
-    let told = merged .before .before in
+    let merged : tie.After-open-merged = search in
+    let told : tie.After-enum-told = search in
     λ o. merged .open-merged .ensures o (without-conflict o (told .before .before .find-conflict .ensures) (told .enum-told .given .1))
 
 pub open-asked-spec : {M : Type 1} → statement M

@@ -21,24 +21,21 @@ room c = c .if1 .left
 
 -- ---- the needs
 
-returns : tie.Need-returns
-returns c = open-small _ _ _ (c .if1 .taken)
-
 open-with-requires : tie.Need-open-with-requires
 open-with-requires c κs =
-    let few = c .before .before in
+    let few : tie.Then2 = search in
     (one-row _ _ (few .before .snapshot-count .ensures) (few .if2 .taken), room (few .before .before))
 
 open-with-requires-2 : tie.Need-open-with-requires-2
 open-with-requires-2 c κs =
-    let several = c .before .before in
+    let several : tie.Else2 = search in
     (all-rows _, room (several .before .before))
 
 pub open-dossier-spec : {M : Type 1} → statement M
 open-dossier-spec =
     tie.close
     (tie.spec
-    returns
+    (λ c. search open-small)
     (λ c κs. search needs) (λ c. search needs)
     open-with-requires
     (λ c. search needs) (λ c. search needs) (λ c. search needs)

@@ -1,6 +1,5 @@
 -- The invariant (`RunsTo`) is that the runs before this one are those of the cells: each turn puts one more, or is past the last snapshot.
 use borrow.Author.Needs.{needs}
-use mathlib.Core.Path.{refl}
 use mathlib.Core.Logic.{⊎-elim}
 use Prim.Native.Nat.{_-_}
 use Rattle.opening.proofs.StandLaws.{RunsTo, runs-none, runs-more, runs-past, runs-all}
@@ -13,16 +12,10 @@ Inv-loop rows place n r₀ j₀ r j = RunsTo rows place n r j
 abbrev μ-loop : tie.MeasureT-loop
 μ-loop rows place n r₀ j₀ r j = 8 - j
 
-loop-holds : tie.Need-loop-holds Inv-loop μ-loop
-loop-holds c = runs-none refl refl
-
 loop-again : tie.Need-loop-again Inv-loop μ-loop
 loop-again c =
     let inv = c .before .before .loop .inv in
     ⊎-elim (λ x. runs-more inv (c .before .loop-test .taken) (x .1 .ensures) (x .2)) (λ y. runs-past inv (y .0 .left) (y .1)) (c .if1 .came)
-
-returns : tie.Need-returns Inv-loop μ-loop
-returns c = runs-all (c .before .loop .inv) (c .loop-test .left) (c .before .before .before .pre .1)
 
 pub runs-of-spec : {M : Type 1} → statement M
 runs-of-spec =
@@ -30,8 +23,8 @@ runs-of-spec =
     (tie.spec
     Inv-loop
     μ-loop
-    loop-holds
+    (λ c. search runs-none)
     (λ c κs. search needs) (λ c. search needs) (λ c. search needs) (λ c. search needs) (λ c. search needs)
     (λ c. search needs) (λ c. search needs)
     loop-again
-    returns)
+    (λ c. search runs-all))

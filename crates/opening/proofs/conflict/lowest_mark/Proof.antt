@@ -13,14 +13,8 @@ Inv-loop differ bits₀ k₀ bits k = MarksFrom differ bits k
 abbrev μ-loop : tie.MeasureT-loop
 μ-loop differ bits₀ k₀ bits k = 32 - k
 
-loop-holds : tie.Need-loop-holds Inv-loop μ-loop
-loop-holds c = marks-start
-
 returns : tie.Need-returns Inv-loop μ-loop
 returns c = let turn = c .before .before in mark-found (turn .before .loop .inv) (turn .loop-test .taken) (c .if2 .taken)
-
-loop-again : tie.Need-loop-again Inv-loop μ-loop
-loop-again c = let turn = c .before .before in marks-next (turn .before .loop .inv) (turn .loop-test .taken) (c .if2 .left)
 
 -- no bit is left
 returns-2 : tie.Need-returns-2 Inv-loop μ-loop
@@ -36,9 +30,9 @@ lowest-mark-spec =
     (tie.spec
     Inv-loop
     μ-loop
-    loop-holds
+    (λ c. marks-start)
     returns
     (λ c. search needs) (λ c. search needs)
-    loop-again
+    (λ c. search marks-next)
     returns-2
     returns-3)

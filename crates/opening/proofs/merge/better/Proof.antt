@@ -32,12 +32,6 @@ chosen c =
 
 -- ---- the needs
 
-returns : tie.Need-returns
-returns c = better-none (c .before .before .before .args .largest) (c .if1 .taken)
-
-returns-2 : tie.Need-returns-2
-returns-2 c = let full = c .before .before in better-only (full .before .before .before .args .largest) (c .if2 .taken)
-
 returns-3 : tie.Need-returns-3
 returns-3 c = chosen (c .before) .0 (c .if3 .taken)
 
@@ -48,8 +42,8 @@ pub better-spec : {M : Type 1} → statement M
 better-spec =
     tie.close
     (tie.spec
-    returns
-    returns-2
+    (λ c. search better-none)
+    (λ c. search better-only)
     (λ c κs. search needs) (λ c κs. search needs) (λ c κs. search needs) (λ c κs. search needs)
     (λ c κs. search needs) (λ c κs. search needs)
     returns-3

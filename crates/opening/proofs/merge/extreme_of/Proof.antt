@@ -19,9 +19,6 @@ loop-again c =
     let turn = c .before .before in
     (search needs, chosen-next (turn .before .loop .inv .1) (turn .loop-test .taken) (c .before .cell-at2 .ensures) (c .better .ensures))
 
-returns : tie.Need-returns Inv-loop μ-loop
-returns c = chosen-last (c .before .loop .inv .1) (c .loop-test .left)
-
 pub extreme-of-spec : {M : Type 1} → statement M
 extreme-of-spec =
     tie.close
@@ -32,4 +29,4 @@ extreme-of-spec =
     loop-holds
     (λ c κs. search needs) (λ c κs. search needs) (λ c. search needs) (λ c. search needs)
     loop-again
-    returns)
+    (λ c. search chosen-last))

@@ -4,7 +4,6 @@ use borrow.Author.Needs.{needs}
 use borrow.Author.Tests.{not-true, not-false}
 use mathlib.Core.Logic.{⊎-elim}
 use Prim.Native.Nat.{_-_}
-use native.Mathlib.Omega.{arith}
 use Rattle.opening.proofs.MergeLaws.{UnionTo, union-one, union-taken, union-kept, union-same, union-differs, union-all}
 use Rattle.opening.proofs.merge.only_set.Statement.{statement}
 use Rattle.opening.proofs.merge.only_set.Tie as tie
@@ -25,13 +24,10 @@ to-this c = c .before .before
 
 -- ---- the needs
 
-loop-holds : tie.Need-loop-holds Inv-loop μ-loop
-loop-holds c = let p = c .before .before .before .pre in union-one (p .2) (p .1) (omega arith) (c .cell-at .ensures)
-
 returns : tie.Need-returns Inv-loop μ-loop
 returns c =
-    let second = c .before .before in
-    let first = second .before in
+    let second : tie.After-set-part2 Inv-loop μ-loop = search in
+    let first : tie.After-set-part Inv-loop μ-loop = search in
     let both = to-both (first .before) in
     let this = to-this both in
     union-differs (this .before .before .loop .inv) (this .before .loop-test .taken) (this .cell-at2 .ensures) (first .set-part .ensures)
@@ -39,7 +35,7 @@ returns c =
 
 loop-again : tie.Need-loop-again Inv-loop μ-loop
 loop-again c =
-    let this = c .before .before in
+    let this : tie.After-cell-at2 Inv-loop μ-loop = search in
     let inv = this .before .before .loop .inv in
     let more = this .before .loop-test .taken in
     let is = this .cell-at2 .ensures in
@@ -50,9 +46,6 @@ loop-again c =
     (λ z. union-kept inv more is (z .0 .left) (z .1)))
     (c .if1 .came)
 
-returns-2 : tie.Need-returns-2 Inv-loop μ-loop
-returns-2 c = union-all (c .before .loop .inv) (c .loop-test .left)
-
 pub only-set-spec : {M : Type 1} → statement M
 only-set-spec =
     tie.close
@@ -60,9 +53,9 @@ only-set-spec =
     Inv-loop
     μ-loop
     (λ c κs. search needs)
-    loop-holds
+    (λ c. search union-one)
     (λ c κs. search needs) (λ c κs. search needs) (λ c κs. search needs) (λ c κs. search needs)
     returns
     (λ c. search needs) (λ c. search needs)
     loop-again
-    returns-2)
+    (λ c. search union-all))

@@ -12,28 +12,17 @@ Inv-loop s rows n count mark properties plan₀ p₀ plan p = PlansTo s rows n c
 abbrev μ-loop : tie.MeasureT-loop
 μ-loop s rows n count mark properties plan₀ p₀ plan p = count - p
 
--- ---- the places
-
-abbrev to-start : tie.After-slice-known Inv-loop μ-loop → tie.Start Inv-loop μ-loop
-to-start c = c .before .before .before .before
-
 -- ---- the needs
-
-loop-holds : tie.Need-loop-holds Inv-loop μ-loop
-loop-holds c = let p = to-start c .pre in plans-none (p .0 .5) (p .1)
 
 loop-again : tie.Need-loop-again Inv-loop μ-loop
 loop-again c =
-    let put = c .before .before in
-    let merged = put .before in
-    let ruled = merged .before .before in
-    let property = ruled .before in
-    let turn = property .before in
+    let put : tie.After-put-place Inv-loop μ-loop = search in
+    let merged : tie.After-merged-at Inv-loop μ-loop = search in
+    let ruled : tie.After-rule-of Inv-loop μ-loop = search in
+    let property : tie.After-property-at Inv-loop μ-loop = search in
+    let turn : tie.In-loop Inv-loop μ-loop = search in
     plans-next (turn .before .loop .inv) (merged .merged-at .result) (turn .loop-test .taken) (property .property-at .ensures) (ruled .rule-of .ensures)
     (merged .merged-at .ensures) (put .put-place .ensures)
-
-returns : tie.Need-returns Inv-loop μ-loop
-returns c = plans-all (c .before .loop .inv) (c .loop-test .left)
 
 pub plan-sets-spec : {M : Type 1} → statement M
 plan-sets-spec =
@@ -41,9 +30,9 @@ plan-sets-spec =
     (tie.spec
     Inv-loop
     μ-loop
-    loop-holds
+    (λ c. search plans-none)
     (λ c κs. search needs) (λ c κs. search needs) (λ c. search needs) (λ c κs. search needs)
     (λ c κs. search needs) (λ c. search needs) (λ c. search needs)
     loop-again
     (λ c. search needs)
-    returns)
+    (λ c. search plans-all))

@@ -1,8 +1,6 @@
 -- The bits are filled one by one (`FilledTo`), each by whether the plan counts a value, and so their number is the presence number (`presence-is`).
 use borrow.Author.Needs.{needs}
-use mathlib.Core.Path.{refl}
 use Prim.Native.Nat.{_+_, _-_, _*_}
-use native.Mathlib.Omega.{arith}
 use lib.Dec.{ltb}
 use lib.ListN.{getD}
 use Rattle.event.proofs.BitLaws.{FilledTo, filled-none, filled-more}
@@ -16,15 +14,6 @@ Inv-loop plan present₀ p₀ present p = FilledTo (λ i. ltb 0 (getD plan (4 * 
 abbrev μ-loop : tie.MeasureT-loop
 μ-loop plan present₀ p₀ present p = 32 - p
 
-loop-holds : tie.Need-loop-holds Inv-loop μ-loop
-loop-holds c = filled-none refl
-
-array-write-present : tie.Need-array-write-present Inv-loop μ-loop
-array-write-present c = omega (arith, c .before .loop-test .taken, c .before .before .loop .inv .long)
-
-loop-again : tie.Need-loop-again Inv-loop μ-loop
-loop-again c = filled-more (c .before .before .loop .inv) (c .before .loop-test .taken) refl
-
 returns : tie.Need-returns Inv-loop μ-loop
 returns c = λ s ty d w. presence-is w (c .before .before .loop .inv) (c .before .loop-test .left) (c .number-of .ensures)
 
@@ -34,9 +23,9 @@ presence-of-spec =
     (tie.spec
     Inv-loop
     μ-loop
-    loop-holds
+    (λ c. search filled-none)
     (λ c. search needs) (λ c. search needs) (λ c. search needs) (λ c. search needs) (λ c. search needs)
     (λ c. search needs) (λ c. search needs)
-    loop-again
+    (λ c. search filled-more)
     (λ c κs. search needs)
     returns)

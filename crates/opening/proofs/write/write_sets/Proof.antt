@@ -23,21 +23,11 @@ to-start c = begin-to-start (c .before)
 
 -- ---- the needs
 
-loop-holds : tie.Need-loop-holds Inv-loop μ-loop
-loop-holds c = sets-begin (begin-to-start c .pre .0 .3)
-
 write-joined-requires : tie.Need-write-joined-requires Inv-loop μ-loop
 write-joined-requires c κs =
-    let turn = c .before .before .before in
+    let turn : tie.In-loop Inv-loop μ-loop = search in
     let q = to-start (turn .before) .pre .1 in
     (search needs, search needs, search needs, joined-room (turn .before .loop .inv) (turn .loop-test .taken) q (c .before .if1 .taken))
-
-write-set-requires : tie.Need-write-set-requires Inv-loop μ-loop
-write-set-requires c κs =
-    let found = c .before in
-    let turn = found .before .before .before in
-    let q = to-start (turn .before) .pre .1 in
-    standing-room (turn .before .loop .inv) (turn .loop-test .taken) q (found .set-from .ensures) (found .before .if1 .left)
 
 loop-again : tie.Need-loop-again Inv-loop μ-loop
 loop-again c =
@@ -52,21 +42,18 @@ loop-again c =
 same-length : tie.Need-same-length Inv-loop μ-loop
 same-length c = c .before .loop .inv .is (to-start (c .before) .pre .1) .long
 
-returns : tie.Need-returns Inv-loop μ-loop
-returns c = sets-done (c .before .loop .inv) (c .loop-test .left)
-
 pub write-sets-spec : {M : Type 1} → statement M
 write-sets-spec =
     tie.close
     (tie.spec
     Inv-loop
     μ-loop
-    loop-holds
+    (λ c. search sets-begin)
     (λ c. search needs) (λ c. search needs) (λ c. search needs) (λ c. search needs)
     write-joined-requires
     (λ c. search needs) (λ c κs. search needs)
-    write-set-requires
+    (λ c κs. search standing-room)
     (λ c. search needs) (λ c. search needs)
     loop-again
     same-length
-    returns)
+    (λ c. search sets-done))

@@ -24,18 +24,13 @@ turn-words c = words-at _ _ 8 (omega arith) (omega (arith, c .before .before .lo
 -- the last words begin at the loop's place or before it, so the bytes before them are the same
 last-words :
     (c : tie.After-word4 Inv-loop μ-loop) →
-    let end = c .before .before .before in
+    let end : tie.At-loop Inv-loop μ-loop = search in
     WordsAt (end .loop .inv) (end .before .before .smaller .result - 8) 8 (c .before .word3 .result) (c .word4 .result)
 last-words c =
-    let out = c .before .before in
+    let out : tie.After-loop Inv-loop μ-loop = search in
     words-at _ _ 8 (out .loop-test .left) (omega (arith, out .before .before .if1 .left)) (c .before .word3 .ensures) (c .word4 .ensures)
 
 -- ---- the needs
-
-loop-holds : tie.Need-loop-holds Inv-loop μ-loop
-loop-holds c =
-    let known = c .before .before in
-    alike-none (known .before .shared-slice-known .given) (known .shared-slice-known2 .given) (c .before .smaller .ensures)
 
 returns-2 : tie.Need-returns-2 Inv-loop μ-loop
 returns-2 c = word-less (turn-words (c .before .before)) (c .if3 .taken)
@@ -62,7 +57,7 @@ order-number-spec =
     Inv-loop
     μ-loop
     (λ c κs. search needs) (λ c κs. search needs) (λ c. search needs)
-    loop-holds
+    (λ c. search alike-none)
     (λ c κs. search needs) (λ c κs. search needs)
     returns-2
     returns-3

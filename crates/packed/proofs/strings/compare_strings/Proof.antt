@@ -32,12 +32,6 @@ bytes c =
 
 -- ---- the needs
 
-loop-holds : tie.Need-loop-holds Inv-loop μ-loop
-loop-holds c = compares-all (c .before .string-size .ensures) (c .string-size2 .ensures)
-
-returns : tie.Need-returns Inv-loop μ-loop
-returns c = second-ends (c .before .before .loop .inv) (omega arith) (omega arith)
-
 returns-2 : tie.Need-returns-2 Inv-loop μ-loop
 returns-2 c = byte-less (bytes (c .before)) (c .if2 .taken)
 
@@ -47,12 +41,6 @@ returns-3 c = byte-more (bytes (c .before .before)) (c .if3 .taken)
 loop-again : tie.Need-loop-again Inv-loop μ-loop
 loop-again c = byte-same (bytes (c .before .before)) (c .before .if2 .left) (c .if3 .left)
 
-returns-4 : tie.Need-returns-4 Inv-loop μ-loop
-returns-4 c = first-ends (c .before .before .loop .inv) (omega arith) (omega arith)
-
-returns-5 : tie.Need-returns-5 Inv-loop μ-loop
-returns-5 c = both-end (c .before .before .loop .inv) (omega arith) (omega arith)
-
 pub compare-strings-spec : {M : Type 1} → statement M
 compare-strings-spec =
     tie.close
@@ -60,12 +48,12 @@ compare-strings-spec =
     Inv-loop
     μ-loop
     (λ c κs. search needs) (λ c κs. search needs)
-    loop-holds
-    returns
+    (λ c. search compares-all)
+    (λ c. search second-ends)
     (λ c κs. search needs) (λ c κs. search needs)
     returns-2
     returns-3
     (λ c. search needs) (λ c. search needs)
     loop-again
-    returns-4
-    returns-5)
+    (λ c. search first-ends)
+    (λ c. search both-end))

@@ -16,7 +16,7 @@ abbrev μ-loop : tie.MeasureT-loop
 
 asked :
     (c : tie.After-is-after Inv-loop μ-loop) →
-    let turn = c .before .before .before in
+    let turn : tie.In-loop Inv-loop μ-loop = search in
     Asked (turn .before .loop .inv) (c .before .string-at .result) (c .is-after .result)
 asked c = record {
   some = c .before .before .before .loop-test .taken;
@@ -26,9 +26,6 @@ asked c = record {
 
 -- ---- the needs
 
-loop-holds : tie.Need-loop-holds Inv-loop μ-loop
-loop-holds c = let p = c .before .before .before .pre in placing-none (p .0) (p .1) (p .2) (p .3)
-
 is-after-requires : tie.Need-is-after-requires Inv-loop μ-loop
 is-after-requires c κs =
     let turn = c .before .before in
@@ -37,21 +34,15 @@ is-after-requires c κs =
 
 returns : tie.Need-returns Inv-loop μ-loop
 returns c =
-    let put = c .before .before in
-    let chosen = put .before .before in
+    let put : tie.After-put-string Inv-loop μ-loop = search in
+    let chosen : tie.Then1 Inv-loop μ-loop = search in
     placed-after (asked (chosen .before)) (chosen .if1 .taken) (put .put-string .ensures)
 
 loop-again : tie.Need-loop-again Inv-loop μ-loop
 loop-again c =
-    let put = c .before .before in
-    let chosen = put .before .before in
+    let put : tie.After-put-string2 Inv-loop μ-loop = search in
+    let chosen : tie.Else1 Inv-loop μ-loop = search in
     placing-more (asked (chosen .before)) (chosen .if1 .left) (omega (arith, c .before .strings2 .given)) (put .put-string2 .ensures)
-
-returns-2 : tie.Need-returns-2 Inv-loop μ-loop
-returns-2 c =
-    let put = c .before .before in
-    let out = put .before .before in
-    placed-first (out .before .loop .inv) (out .loop-test .left) (put .put-string3 .ensures)
 
 pub insert-string-spec : {M : Type 1} → statement M
 insert-string-spec =
@@ -59,7 +50,7 @@ insert-string-spec =
     (tie.spec
     Inv-loop
     μ-loop
-    loop-holds
+    (λ c. search placing-none)
     (λ c. search needs) (λ c κs. search needs)
     is-after-requires
     (λ c κs. search needs) (λ c. search needs)
@@ -67,4 +58,4 @@ insert-string-spec =
     (λ c κs. search needs) (λ c. search needs) (λ c. search needs)
     loop-again
     (λ c κs. search needs) (λ c. search needs)
-    returns-2)
+    (λ c. search placed-first))

@@ -5,9 +5,6 @@ use borrow.Author.Needs.{needs}
 use Rattle.packed.proofs.strings.put_string.Statement.{statement}
 use Rattle.packed.proofs.strings.put_string.Tie as tie
 
-returns : tie.Need-returns
-returns c = string-put (c .args .strings .now) (c .args .k) (c .args .x) (c .pre .1) (c .pre .0)
-
 pub put-string-spec : {M : Type 1} → statement M
 put-string-spec =
     tie.close
@@ -20,4 +17,4 @@ put-string-spec =
     (λ c. search needs) (λ c. search needs) (λ c. search needs)
     (λ c. simp length-set (omega arith))
     (λ c. search needs)
-    returns)
+    (λ c. search string-put))

@@ -22,7 +22,7 @@ inside c = omega (arith, string-length _ _ _ (c .pre .0), c .pre .0, c .pre .1)
 -- ---- the needs
 
 returns : tie.Need-returns
-returns c = let test = c .before .before in sym (string-first _ _ _ (test .before .before .pre .0) _ (test .if1 .taken))
+returns c = let test : tie.Then1 = search in sym (string-first _ _ _ (test .before .before .pre .0) _ (test .if1 .taken))
 
 returns-2 : tie.Need-returns-2
 returns-2 c = sym (string-colon _ _ _ (c .before .before .before .pre .0) _ (c .if2 .taken))

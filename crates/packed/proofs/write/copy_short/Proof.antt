@@ -16,20 +16,17 @@ abbrev μ-loop : tie.MeasureT-loop
 
 -- ---- the needs
 
-loop-holds : tie.Need-loop-holds Inv-loop μ-loop
-loop-holds c = copied-none
-
 loop-again : tie.Need-loop-again Inv-loop μ-loop
 loop-again c =
-    let put = c .before .before in
-    let turn = put .before .before .before in
+    let put : tie.After-copy-eight Inv-loop μ-loop = search in
+    let turn : tie.At-loop Inv-loop μ-loop = search in
     copied-more (turn .loop .i) 8 (turn .loop .inv) (omega arith) (omega arith) (omega arith) (put .copy-eight .ensures)
 
 returns : tie.Need-returns Inv-loop μ-loop
 returns c =
-    let put = c .before .before in
-    let out = put .before .before in
-    let end = out .before in
+    let put : tie.After-copy-eight2 Inv-loop μ-loop = search in
+    let out : tie.After-loop Inv-loop μ-loop = search in
+    let end : tie.At-loop Inv-loop μ-loop = search in
     let last = copied-more _ 8 (end .loop .inv) (out .loop-test .left) (omega arith) (omega arith) (put .copy-eight2 .ensures) in
     copied-all last (omega arith) (omega arith)
 
@@ -40,7 +37,7 @@ copy-short-spec =
     Inv-loop
     μ-loop
     (λ c. search needs)
-    loop-holds
+    (λ c. copied-none)
     (λ c. search needs) (λ c κs. search needs) (λ c. search needs) (λ c. search needs)
     loop-again
     (λ c. search needs) (λ c κs. search needs) (λ c. search needs) (λ c. search needs)

@@ -3,8 +3,11 @@
 use borrow.Author.Needs.{needs}
 use native.Mathlib.Omega.{arith}
 use mathlib.Core.Path.{sym, _∙_}
+use Prim.Native.Nat.{_≤_}
+use lib.ListN.{length}
 use denote.Ref.{now}
 use Rattle.packed.proofs.ReadLaws.{TextStops, text-stops, text-none}
+use Rattle.report.specs.Report.{refusedLine}
 use Rattle.report.proofs.LineLaws.{refused-short}
 use Rattle.report.proofs.ReportLaws.{report-small, report-long, report-unread, report-parts}
 use Rattle.report.proofs.calls.report.Statement.{statement}
@@ -17,17 +20,15 @@ entry c = search
 
 -- ---- the facts
 
+-- the line of an input that is not framed right
+refusal-short : length (refusedLine 9 0) ≤ 50
+refusal-short = refused-short 9 0
+
 -- where the table stands
 stops : (c : tie.After-start) → TextStops (now (entry c .args .input)) 0 (c .start .given .0 .0) (c .start .given .0 .1 .0)
 stops c = text-stops _ _ _ _ (sym (c .before .before .read-text .ensures) ∙ c .start .given .1)
 
 -- ---- the needs
-
-returns : tie.Need-returns
-returns c = report-small _ _ (c .if1 .taken)
-
-returns-2 : tie.Need-returns-2
-returns-2 c = report-long _ _ (omega arith) (omega arith) (c .before .before .write-refused .ensures)
 
 returns-3 : tie.Need-returns-3
 returns-3 c =
@@ -43,12 +44,12 @@ pub report-spec : {M : Type 1} → statement M
 report-spec =
     tie.close
     (tie.spec
-    returns
-    (λ c κs. omega (arith, refused-short 9 0))
+    (λ c. search report-small)
+    (λ c κs. omega (arith, refusal-short))
     (λ c. search needs)
-    returns-2
+    (λ c. search report-long)
     (λ c κs. search needs) (λ c. search needs) (λ c. search needs)
-    (λ c κs. omega (arith, refused-short 9 0))
+    (λ c κs. omega (arith, refusal-short))
     (λ c. search needs)
     returns-3
     (λ c. omega (arith, stops (search)))

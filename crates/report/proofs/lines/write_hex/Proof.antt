@@ -32,7 +32,7 @@ loop-holds c = (omega arith, hex-start _ _ _)
 
 loop-again : tie.Need-loop-again Inv-loop μ-loop
 loop-again c =
-    let turn = c .before .before .before in
+    let turn : tie.In-loop Inv-loop μ-loop = search in
     (omega arith, hex-gone _ _ _ _ (turn .loop-test .taken) (c .before .hex-digit .ensures) (c .hex-digit2 .ensures) (turn .before .loop .inv .1))
 
 returns : tie.Need-returns Inv-loop μ-loop

@@ -20,14 +20,6 @@ module _ (c : tie.Start) where
   fits : c .args .at + length name + 2 + length value ≤ length (now (c .args .out))
   fits = omega (arith, value-length name value)
 
-returns : tie.Need-returns
-returns c =
-    let name : tie.After-write-name = search in
-    let colon : tie.After-copy = search in
-    let value : tie.After-copy-part = search in
-    let end : tie.After-write-end = search in
-    wrote-value _ _ (name .write-name .ensures) (colon .copy .ensures) (value .copy-part .ensures) (end .write-end .ensures)
-
 pub write-value-spec : {M : Type 1} → statement M
 write-value-spec =
     tie.close
@@ -38,4 +30,4 @@ write-value-spec =
     (λ c κs. omega (arith, fits (search)))
     (λ c κs. omega (arith, fits (search)))
     (λ c. search needs)
-    returns)
+    (λ c. search wrote-value))

@@ -31,9 +31,6 @@ head c = heads-some (c .before .end .given .1) (c .before .before .before .head-
 
 -- ---- the needs
 
-loop-holds : tie.Need-loop-holds Inv-loop μ-loop
-loop-holds c = one-none (c .before .pre)
-
 returns : tie.Need-returns Inv-loop μ-loop
 returns c = let asked = c .before .before in one-all (asked .before .loop .inv) (heads-none (c .enum-told .given .1) (asked .head-at .ensures))
 
@@ -49,7 +46,7 @@ count-rest-spec =
     (tie.spec
     Inv-loop
     μ-loop
-    loop-holds
+    (λ c. search one-none)
     (λ c κs. search needs) (λ c. search needs) (λ c. search needs)
     returns
     (λ c. search needs)

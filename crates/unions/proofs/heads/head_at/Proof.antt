@@ -15,9 +15,6 @@ returns c = no-hash (hashes (c .before)) (omega arith)
 returns-2 : tie.Need-returns-2
 returns-2 c = no-hash (hashes (c .before .before)) (omega arith)
 
-returns-3 : tie.Need-returns-3
-returns-3 c = texts-head _ _ _ (c .before .enum-told .given .1) (c .read-text .ensures)
-
 returns-4 : tie.Need-returns-4
 returns-4 c = hash-head (hashes (c .before .before)) (omega arith)
 
@@ -30,5 +27,5 @@ head-at-spec =
     (λ c. search needs)
     returns-2
     (λ c. search needs)
-    returns-3
+    (λ c. search texts-head)
     returns-4)

@@ -11,9 +11,6 @@ Inv-loop from to₀ j₀ to j = Copied to₀ 0 from j to
 abbrev μ-loop : tie.MeasureT-loop
 μ-loop from to₀ j₀ to j = 8 - j
 
-loop-holds : tie.Need-loop-holds Inv-loop μ-loop
-loop-holds c = copied-none
-
 loop-again : tie.Need-loop-again Inv-loop μ-loop
 loop-again c = copied-byte (c .before .before .loop .inv) (omega arith) (omega arith)
 
@@ -26,7 +23,7 @@ copy-eight-spec =
     (tie.spec
     Inv-loop
     μ-loop
-    loop-holds
+    (λ c. copied-none)
     (λ c. search needs) (λ c. search needs) (λ c. search needs) (λ c. search needs) (λ c. search needs)
     (λ c. search needs)
     loop-again

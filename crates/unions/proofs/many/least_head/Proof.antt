@@ -19,12 +19,9 @@ loop-holds c = (search needs, sofar-none refl (c .before .before .copy-eight .en
 
 loop-again : tie.Need-loop-again Inv-loop μ-loop
 loop-again c =
-    let asked = c .before .before in
-    let turn = asked .before .before .before in
+    let asked : tie.After-lesser Inv-loop μ-loop = search in
+    let turn : tie.In-loop Inv-loop μ-loop = search in
     (search needs, sofar-on (turn .before .loop .inv .1) (turn .loop-test .taken) (asked .lesser .ensures))
-
-returns : tie.Need-returns Inv-loop μ-loop
-returns c = sofar-all (c .before .loop .inv .1) (c .loop-test .left)
 
 pub least-head-spec : {M : Type 1} → statement M
 least-head-spec =
@@ -37,4 +34,4 @@ least-head-spec =
     (λ c. search needs) (λ c. search needs) (λ c κs. search needs) (λ c. search needs) (λ c. search needs)
     loop-again
     (λ c. search needs)
-    returns)
+    (λ c. search sofar-all))

@@ -4,6 +4,8 @@ use borrow.Author.Needs.{needs}
 use borrow.Author.Tests.{not-true, not-false}
 use native.Mathlib.Omega.{arith}
 use Prim.Native.Nat.{_^_, _<_}
+use mathlib.Core.Path.{_≡_}
+use mathlib.Core.Bool.{true}
 use lib.ListN.{length}
 use Rattle.unions.specs.code.Merging.{told}
 use Rattle.unions.proofs.RunLaws.{heads-some, heads-none}
@@ -35,7 +37,7 @@ head :
     HeadOf (s .s .now) (told (s .best) (s .after .now)) (s .at .now) (s .j) (s .end) (found .0) (found .1 .0)
 head c =
     let pre = of-head c .pre in
-    let found = c .before .before in
+    let found : tie.After-p = search in
     record {
       short = short (to-known (to-some c .before));
       some = to-some c .if1 .left;
@@ -46,8 +48,11 @@ head c =
       head = heads-some (found .p .given .1) (found .before .before .head-at .ensures);
     }
 
+found-before : (c : tie.Else2) → of-head (c .before) .args .best .found ≡ true
+found-before c = not-false _ (c .if2 .left)
+
 compared : (c : tie.After-order-parts) → Compared (head (c .before .before)) (c .order-parts .result)
-compared c = record { found = not-false _ (c .before .if2 .left); order = c .order-parts .ensures }
+compared c = record { found = found-before (c .before); order = c .order-parts .ensures }
 
 -- ---- the needs
 
@@ -56,7 +61,7 @@ returns c = let pre = to-known (c .before) .before .pre in answer-end (pre .1 .0
 
 returns-2 : tie.Need-returns-2
 returns-2 c =
-    let asked = c .before .before in
+    let asked : tie.After-head-at = search in
     let known = to-known (asked .before .before) in
     let pre = known .before .pre in
     answer-no-head (pre .1 .0) (pre .1 .1) (short known) (heads-none (c .enum-told .given .1) (asked .head-at .ensures))
@@ -65,12 +70,12 @@ returns-3 : tie.Need-returns-3
 returns-3 c = first-answer (head (c .before)) (not-true _ (c .if2 .taken))
 
 order-parts-requires : tie.Need-order-parts-requires
-order-parts-requires c κs = least-inside (head (c .before)) (not-false _ (c .if2 .left))
+order-parts-requires c κs = least-inside (head (c .before)) (found-before c)
 
 returns-4 : tie.Need-returns-4
 returns-4 c =
-    let copied = c .before .before in
-    let arm = copied .before .before in
+    let copied : tie.After-copy-eight = search in
+    let arm : tie.At-match2-keys1 = search in
     less-answer (compared (arm .before)) (omega (arith, arm .match2 .keys1)) (copied .copy-eight .ensures)
 
 returns-5 : tie.Need-returns-5

@@ -31,13 +31,10 @@ next c = steps-next (c .before .x .given .1) (c .before .before .before .next-of
 
 -- ---- the needs
 
-loop-holds : tie.Need-loop-holds Inv-loop μ-loop
-loop-holds c = counting-none
-
 returns : tie.Need-returns Inv-loop μ-loop
 returns c =
-    let told = c .before .before in
-    let stopped = told .before .before in
+    let told : tie.After-enum-told Inv-loop μ-loop = search in
+    let stopped : tie.After-next-of Inv-loop μ-loop = search in
     counting-all (stopped .before .loop .inv) (steps-alone (told .enum-told .given .1) (stopped .next-of .ensures)) (c .before .count-rest .ensures .1)
     (c .count-rest2 .ensures .1)
 
@@ -56,7 +53,7 @@ count-runs-spec =
     (tie.spec
     Inv-loop
     μ-loop
-    loop-holds
+    (λ c. counting-none)
     (λ c κs. search needs) (λ c. search needs) (λ c. search needs) (λ c κs. search needs) (λ c. search needs)
     (λ c κs. search needs) (λ c. search needs)
     returns

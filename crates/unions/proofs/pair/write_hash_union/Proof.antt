@@ -5,15 +5,7 @@ use Rattle.unions.proofs.RunLaws.{hash-run, hashes-room, hashes-wrote}
 use Rattle.unions.proofs.pair.write_hash_union.Statement.{statement}
 use Rattle.unions.proofs.pair.write_hash_union.Tie as tie
 
--- ---- the places
-
-abbrev to-start : tie.After-write-runs-arg → tie.Start
-to-start c = c .before .before .before .before
-
 -- ---- the needs
-
-write-runs-requires : tie.Need-write-runs-requires
-write-runs-requires c κs = hashes-room (to-start c .pre)
 
 returns : tie.Need-returns
 returns c =
@@ -21,4 +13,4 @@ returns c =
     λ xs ys rx ry ex ey kx ky. hashes-wrote (union texts xs ys) (runs .ensures xs ys (hash-run _ xs rx ex kx) (hash-run _ ys ry ey ky) .wrote)
 
 pub write-hash-union-spec : {M : Type 1} → statement M
-write-hash-union-spec = tie.close (tie.spec write-runs-requires (λ c. search needs) returns)
+write-hash-union-spec = tie.close (tie.spec (λ c κs. search hashes-room) (λ c. search needs) returns)

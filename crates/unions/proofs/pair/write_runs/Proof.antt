@@ -81,16 +81,13 @@ more c = let compared = c .before .before in more-step _ (heads (to-q compared))
 
 -- ---- the needs
 
-loop-holds : tie.Need-loop-holds Inv-loop μ-loop
-loop-holds c = joining-none (c .before .before .before .pre)
-
 copy-part-requires : tie.Need-copy-part-requires Inv-loop μ-loop
 copy-part-requires c κs = right-rest (none-to-loop (c .before) .loop .inv) (no-left (c .before))
 
 returns : tie.Need-returns Inv-loop μ-loop
 returns c =
-    let copied = c .before .before in
-    let none = copied .before .before in
+    let copied : tie.After-copy-part Inv-loop μ-loop = search in
+    let none : tie.After-enum-told Inv-loop μ-loop = search in
     right-wrote (none-to-loop none .loop .inv) (no-left none) (copied .copy-part .ensures)
 
 copy-part-requires-2 : tie.Need-copy-part-requires-2 Inv-loop μ-loop
@@ -98,8 +95,8 @@ copy-part-requires-2 c κs = left-rest (p-to-loop (none-to-p (c .before)) .loop 
 
 returns-2 : tie.Need-returns-2 Inv-loop μ-loop
 returns-2 c =
-    let copied = c .before .before in
-    let none = copied .before .before in
+    let copied : tie.After-copy-part2 Inv-loop μ-loop = search in
+    let none : tie.After-enum-told2 Inv-loop μ-loop = search in
     left-wrote (p-to-loop (none-to-p none) .loop .inv) (no-right none) (copied .copy-part2 .ensures)
 
 order-parts-requires : tie.Need-order-parts-requires Inv-loop μ-loop
@@ -138,7 +135,7 @@ write-runs-spec =
     (tie.spec
     Inv-loop
     μ-loop
-    loop-holds
+    (λ c. search joining-none)
     (λ c κs. search needs) (λ c. search needs) (λ c. search needs)
     copy-part-requires
     (λ c. search needs)

@@ -4,15 +4,7 @@ use Rattle.unions.proofs.RunLaws.{text-run, texts-room, texts-wrote}
 use Rattle.unions.proofs.pair.write_union.Statement.{statement}
 use Rattle.unions.proofs.pair.write_union.Tie as tie
 
--- ---- the places
-
-abbrev to-start : tie.After-write-runs-arg → tie.Start
-to-start c = c .before .before .before .before
-
 -- ---- the needs
-
-write-runs-requires : tie.Need-write-runs-requires
-write-runs-requires c κs = texts-room (omega arith) (omega arith) (to-start c .pre)
 
 returns : tie.Need-returns
 returns c =
@@ -20,4 +12,4 @@ returns c =
     λ xs ys rx ry kx ky. texts-wrote (runs .ensures xs ys (text-run _ xs (omega arith) rx kx) (text-run _ ys (omega arith) ry ky))
 
 pub write-union-spec : {M : Type 1} → statement M
-write-union-spec = tie.close (tie.spec write-runs-requires (λ c. search needs) returns)
+write-union-spec = tie.close (tie.spec (λ c κs. search texts-room) (λ c. search needs) returns)

@@ -8,17 +8,12 @@ use Rattle.values.proofs.calendar.is_day.Tie as tie
 abbrev to-last : tie.Then4 → tie.After-days-in
 to-last c = c .before .before .before .before
 
--- ---- the needs
-
-returns : tie.Need-returns
-returns c = search (le-leb, to-last c .days-in .ensures)
-
 pub is-day-spec : {M : Type 1} → statement M
 is-day-spec =
     tie.close
     (tie.spec
     (λ c κs. search needs)
-    returns
+    (λ c. search (le-leb, to-last c .days-in .ensures))
     (λ c. search (le-leb, lt-leb))
     (λ c. search (le-leb, lt-leb))
     (λ c. search (le-leb, lt-leb))

@@ -12,9 +12,6 @@ Inv-loop v all₀ i₀ all i = Joined v all i
 abbrev μ-loop : tie.MeasureT-loop
 μ-loop v all₀ i₀ all i = length v - i
 
-loop-again : tie.Need-loop-again Inv-loop μ-loop
-loop-again c = search joined-more
-
 pub all-bits-spec : {M : Type 1} → statement M
 all-bits-spec =
     tie.close
@@ -23,5 +20,5 @@ all-bits-spec =
     μ-loop
     (λ c. joined-none _ _)
     (λ c. search needs) (λ c. search needs) (λ c. search needs)
-    loop-again
+    (λ c. search joined-more)
     (λ c. search joined-all))

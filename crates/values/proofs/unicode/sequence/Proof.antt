@@ -33,7 +33,7 @@ add-n c = omega (arith, small c, leb-false)
 
 returns-3 : tie.Need-returns-3 Inv-loop μ-loop
 returns-3 c =
-    let ended = c .before .before .before in (
+    let ended : tie.After-loop Inv-loop μ-loop = search in (
       omega arith,
       sequence-is (ended .before .loop .inv) _ (ended .loop-test .left) (c .before .before .if4 .taken) (c .before .is-scalar .ensures) (c .if5 .taken),
     )
