@@ -129,7 +129,8 @@ module _ (ts : Table) (a : Typed) (i apart : ℕ) where
       go (refusedAt n j) = refl
       go (accepted bs) = apart-step apart i (eventsAgree a b) (agreeWith a (suc i) bs) h
 
-  refused-step : (s : List ℕ) (ss : List (List ℕ)) (n : ℕ) → eventAsked narrow ts s ≡ questions.refused n → goingOn ts a i apart (s ∷ ss) ≡ refusedAt n i
+  refused-step :
+      (s : List ℕ) (ss : List (List ℕ)) (n : ℕ) → eventAsked narrow ts s ≡ questions.refused n → goingOn ts a i apart (s ∷ ss) ≡ refusedAt n i
   unfolding goingOn eventsAsked
   refused-step s ss n e = rw e
 
@@ -139,7 +140,8 @@ module _ (ts : Table) (a : Typed) (i apart : ℕ) where
         goingOn ts a i apart (drop i ss) ≡ goingOn ts a (i + 1) (firstApart apart (eventsAgree a b) i) (drop (i + 1) ss)
     next-accepted b h l e = rw (add-one i, drop-cons ss i [] l) (accepted-step (getD ss i []) (drop (suc i) ss) b h e)
 
-    next-refused : (n : ℕ) → i < length ss → eventAsked narrow ts (getD ss i []) ≡ questions.refused n → goingOn ts a i apart (drop i ss) ≡ refusedAt n i
+    next-refused :
+        (n : ℕ) → i < length ss → eventAsked narrow ts (getD ss i []) ≡ questions.refused n → goingOn ts a i apart (drop i ss) ≡ refusedAt n i
     next-refused n l e = rw (drop-cons ss i [] l) (refused-step (getD ss i []) (drop (suc i) ss) n e)
 
 drop-past : (ss : List (List ℕ)) (i : ℕ) → length ss ≤ i → drop i ss ≡ []
@@ -185,7 +187,8 @@ pub record GoesOn
     (table batch : List ℕ) (x : BatchIndex) (head left : List ℕ) (d : EventIndex) (t : TypeIndex) (ps : List ℕ) (i apart : ℕ) : Type 0 where
   pub first : Typed
   pub taken :
-      (ts : Table) (ss : List (List ℕ)) → tableOf table ≡ some ts → BatchIs batch ss x → eventAsked narrow ts (getD ss 0 []) ≡ questions.accepted first
+      (ts : Table) (ss : List (List ℕ)) → tableOf table ≡ some ts → BatchIs batch ss x →
+      eventAsked narrow ts (getD ss 0 []) ≡ questions.accepted first
   pub event : EventIs head (first .event) d left
   pub typed : TypeIs table (first .type) t ps
   pub few : x .count ≤ 16
@@ -201,7 +204,8 @@ module _ {table batch s ats : List ℕ} {x : BatchIndex} {n : ℕ} {e : EventInd
   first-asked q h ts ss tb b = asked-of table ts tb s _ q (is ss b (omega (arith, b .one, b .count))) h
 
   pub first-refuses :
-      (n ≡ 0 → ⊥) → (t : TypeIndex) (ps : List ℕ) (r : EventsAsked) → (r .number ≡ n) × (r .position ≡ 0) → AnswersEvents table batch x t ps r
+      (n ≡ 0 → ⊥) → (t : TypeIndex) (ps : List ℕ) (r : EventsAsked) → (r .number ≡ n) × (r .position ≡ 0) →
+      AnswersEvents table batch x t ps r
   first-refuses ne t ps r answer ts ss tb b =
       let refused = first-asked _ (refused-is narrow _ _ _ _ _ (w .answers) ne) ts ss tb b in
       refusal-is table ts ss _ t ps n 0 r (first-refused ts ss n (omega (arith, b .one, b .count)) refused) answer (omega (arith, ne))

@@ -3,7 +3,8 @@ use mathlib.Core.Path.{_≡_, refl, sym, ap, ap₂, _∙_, subst}
 use mathlib.Core.Logic.{⊎-elim}
 use mathlib.Core.Bool.{Bool, true, false, cond, _&&_, and-eq-true-iff}
 use mathlib.Core.Option.{Option, none, some}
-use mathlib.Core.List.{List, [], _∷_, _++_, map, List·Memᴰ, List·Memᴰ·head, List·Memᴰ·tail, List·Memᴰ·cases-cons, List·Memᴰ·not-nil, List·Memᴰ·eq-of-singleton}
+use mathlib.Core.List.{List, [], _∷_, _++_, map, List·Memᴰ}
+use mathlib.Core.List.{List·Memᴰ·head, List·Memᴰ·tail, List·Memᴰ·cases-cons, List·Memᴰ·not-nil, List·Memᴰ·eq-of-singleton}
 use mathlib.Core.List.{Memᴰ·append-left, Memᴰ·append-right}
 use Prim.Native.Nat.{ℕ, zero, suc, _+_, _-_, _≤_}
 use native.Mathlib.Omega.{arith}
@@ -165,7 +166,8 @@ known ts (s ∷ ss) e = asked (eventAsked narrow ts s) refl
           first = s;
           model = self;
           each = λ r m. ⊎-elim (λ (q : r ≡ s). subst (λ (x : List ℕ). Colliding ts (a .type) (a .event .head .source) s x) (sym q) self)
-              (λ (n : List·Memᴰ r ss). let (b, k, w) = asked-member ts 1 ss bs f r n in colliding ts s r a b h k (agree-alike a b (agreed-member a 1 bs g b w)))
+              (λ (n : List·Memᴰ r ss). let (b, k, w) = asked-member ts 1 ss bs f r n in colliding ts s r a b h k
+              (agree-alike a b (agreed-member a 1 bs g b w)))
               (List·Memᴰ·cases-cons m);
         }
 
@@ -317,7 +319,8 @@ module _ (table : List ℕ) (ts : Table) (isTable : tableOf table ≡ some ts) (
       go true e = rw e
       go false e = rw e
 
-  inside-of : (es : List (List ℕ)) (x : List ℕ) → answerFor (ruled es) ≡ gives x → (fits standard (typeView t) (rules es) ≡ true) × (x ≡ bytes es)
+  inside-of :
+      (es : List (List ℕ)) (x : List ℕ) → answerFor (ruled es) ≡ gives x → (fits standard (typeView t) (rules es) ≡ true) × (x ≡ bytes es)
   unfolding answerFor limited
   inside-of es x e = go (fits standard (typeView t) (rules es)) refl
     where
@@ -330,7 +333,9 @@ module _ (table : List ℕ) (ts : Table) (isTable : tableOf table ≡ some ts) (
   unfolding answerFor limited
   refused-more es fs n w e = go (fits standard (typeView t) (rules es)) refl (fits standard (typeView t) (rules fs)) refl
     where
-      go : (a : Bool) → fits standard (typeView t) (rules es) ≡ a → (b : Bool) → fits standard (typeView t) (rules fs) ≡ b → answerFor (ruled fs) ≡ refuses n
+      go :
+          (a : Bool) → fits standard (typeView t) (rules es) ≡ a → (b : Bool) → fits standard (typeView t) (rules fs) ≡ b →
+          answerFor (ruled fs) ≡ refuses n
       go true f b g = never (cc)
       go false f true g = let z = sym f ∙ fits-within standard (byteView t) es fs w g in never (cc)
       go false f false g = cc
@@ -384,7 +389,8 @@ module _ (table : List ℕ) (ts : Table) (isTable : tableOf table ≡ some ts) (
       (n : ℕ) (s out after : List ℕ) (r : reply.Reply) → n ≡ 1 → 1 ≤ length ss → HasRoom out → s ≡ getD ss 0 [] →
       replies r after ≡ checkCall table s out → replies r after ≡ outcome (combinedAnswer ts (take n ss)) out
   check-one n s out after r o l h q e =
-      e ∙ (ap (λ (y : List ℕ). checkCall table y out) q ∙ (check-first out l h ∙ ap (λ (m : ℕ). outcome (combinedAnswer ts (take m ss)) out) (sym o)))
+      e ∙ (ap (λ (y : List ℕ). checkCall table y out) q
+      ∙ (check-first out l h ∙ ap (λ (m : ℕ). outcome (combinedAnswer ts (take m ss)) out) (sym o)))
 
   -- a dossier of some of these events
   abbrev dossierOf : List (List ℕ) → TypedDossier
@@ -424,7 +430,8 @@ module _ (table : List ℕ) (ts : Table) (isTable : tableOf table ≡ some ts) (
       go true e = let z : d ≡ ruledDossier (s ∷ es) = cc in ap (λ (x : TypedDossier). x .headed .snapshots) z
       go false e = never (cc)
 
-  first-measured : (es : List (List ℕ)) (r : reply.Reply) (m : List ℕ) → Has es → Each S es → Measured (rules es .snapshots) m → MeasuredFirst ts es r m
+  first-measured :
+      (es : List (List ℕ)) (r : reply.Reply) (m : List ℕ) → Has es → Each S es → Measured (rules es .snapshots) m → MeasuredFirst ts es r m
   unfolding MeasuredFirst
   first-measured es (variant.Done z) m n h w = λ d e. subst (λ (xs : List Snapshot). Measured xs m) (sym (given-snapshots es d n h e)) w
   first-measured es (variant.Refused z) m n h w = tt
@@ -438,7 +445,8 @@ module _ (table : List ℕ) (ts : Table) (isTable : tableOf table ≡ some ts) (
 
   -- the first event alone
   one-measured :
-      (s : List ℕ) (x : TypeIndex) (ps : List ℕ) (r : reply.Reply) (m : List ℕ) → 1 ≤ length ss → s ≡ getD ss 0 [] → FirstTyped table ts ss x ps →
+      (s : List ℕ) (x : TypeIndex) (ps : List ℕ) (r : reply.Reply) (m : List ℕ) → 1 ≤ length ss → s ≡ getD ss 0 [] →
+      FirstTyped table ts ss x ps →
       ((e : KnownEvent table s x) → Measured (eventDossier (e .event) .snapshots) m) → MeasuredFirst ts (take 1 ss) r m
   one-measured s x ps r m l q f w =
       let one = getD ss 0 [] in
@@ -914,7 +922,8 @@ module _ (rooms : Rooms) (table batch out : List ℕ) where
 
 -- A batch whose questions 1, 2, 9 and 3 to 7 are answered yes
 module _ (rooms : Rooms) (table batch out : List ℕ) (ts : Table) (ss : List (List ℕ))
-    (room : haveRoom rooms ≡ true) (isTable : tableOf table ≡ some ts) (isBatch : batchOf batch ≡ some ss) (agreed : eventsTogether ts ss ≡ accepted tt) where
+    (room : haveRoom rooms ≡ true) (isTable : tableOf table ≡ some ts) (isBatch : batchOf batch ≡ some ss)
+    (agreed : eventsTogether ts ss ≡ accepted tt) where
   abbrev these : Known ts ss
   these = known ts ss agreed
 

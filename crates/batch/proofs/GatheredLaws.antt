@@ -91,7 +91,9 @@ unfolding eventsAsked
 all-typed ts i [] xs e = let z : [] ≡ xs = cc in subst (All (TypedOf ts)) z tt
 all-typed ts i (s ∷ ss) xs e = go (eventAsked narrow ts s) refl (eventsAsked ts (suc i) ss) (all-typed ts (suc i) ss) e
   where
-    go : (q : Asked Typed) → eventAsked narrow ts s ≡ q → (p : AskedAt (List Typed)) → ((ys : List Typed) → p ≡ accepted ys → All (TypedOf ts) ys) →
+    go :
+        (q : Asked Typed) → eventAsked narrow ts s ≡ q → (p : AskedAt (List Typed)) →
+        ((ys : List Typed) → p ≡ accepted ys → All (TypedOf ts) ys) →
         (at i q >>= λ a. p >>= λ bs. accepted (a ∷ bs)) ≡ accepted xs → All (TypedOf ts) xs
     go (questions.refused n) h p k e = never (cc)
     go (questions.accepted a) h (refusedAt n j) k e = never (cc)
@@ -138,7 +140,8 @@ module _ (ts : Table) (a : Typed) (x : TypedOf ts a) where
 
 -- the events of a batch, which are accepted one by one
 module _ (table : List ℕ) (d : TypedDossier) where
-  pub typed-gathers : (ts : Table) → tableOf table ≡ some ts → (xs : List Typed) → All (TypedOf ts) xs → together standard xs ≡ accepted d → Gathers table d
+  pub typed-gathers :
+      (ts : Table) → tableOf table ≡ some ts → (xs : List Typed) → All (TypedOf ts) xs → together standard xs ≡ accepted d → Gathers table d
   unfolding together batchDossier
   typed-gathers ts isTable [] w h = never (cc)
   typed-gathers ts isTable (a ∷ bs) w h =
@@ -170,11 +173,15 @@ module _ (table : List ℕ) (d : TypedDossier) where
       accepted-same : (m n : TypedDossier) → accepted m ≡ accepted n → m ≡ n
       accepted-same m n h = cc
 
-      weaker : (P : Event → Type 0) → ((b : Typed) → Like a b → P (b .event)) → (xs : List Typed) → All (Like a) xs → All (λ (b : Typed). P (b .event)) xs
+      weaker :
+          (P : Event → Type 0) → ((b : Typed) → Like a b → P (b .event)) → (xs : List Typed) → All (Like a) xs →
+          All (λ (b : Typed). P (b .event)) xs
       weaker P k [] l = tt
       weaker P k (b ∷ xs) l = (k b (l .0), weaker P k xs (l .1))
 
-      each : (P : Event → Type 0) → ((b : Typed) → Like a b → P (b .event)) → All (Like a) (a ∷ bs) → Each P (map (λ (b : Typed). b .event) (a ∷ bs))
+      each :
+          (P : Event → Type 0) → ((b : Typed) → Like a b → P (b .event)) → All (Like a) (a ∷ bs) →
+          Each P (map (λ (b : Typed). b .event) (a ∷ bs))
       each P k l = all-member P (map (λ (b : Typed). b .event) (a ∷ bs)) (all-map P (λ (b : Typed). b .event) (a ∷ bs) (weaker P k (a ∷ bs) l))
 
 -- a batch that is accepted, question by question

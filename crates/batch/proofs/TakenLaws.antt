@@ -49,7 +49,8 @@ pub accepts : {A : Type 0} {P : A → Type 0} {a : A} → P a → Asks P (questi
 accepts h = record { answers = h }
 
 pub asks-then :
-    {A B : Type 0} {P : A → Type 0} {R : B → Type 0} {q : Asked A} {k : A → Asked B} → Asks P q → ((a : A) → P a → Asks R (k a)) → Asks R (questions._>>=_ q k)
+    {A B : Type 0} {P : A → Type 0} {R : B → Type 0} {q : Asked A} {k : A → Asked B} → Asks P q → ((a : A) → P a → Asks R (k a)) →
+    Asks R (questions._>>=_ q k)
 asks-then {q = questions.refused n} h f = record { answers = h .answers }
 asks-then {q = questions.accepted a} h f = f a (h .answers)
 
@@ -58,7 +59,8 @@ asks-more {q = questions.refused n} f h = record { answers = h .answers }
 asks-more {q = questions.accepted a} f h = record { answers = f a (h .answers) }
 
 pub asks-next :
-    {A B : Type 0} {P : A → Type 0} {R : B → Type 0} {q : Asked A} {k : Asked B} → Asks P q → ((a : A) → P a → Asks R k) → Asks R (questions._>>_ q k)
+    {A B : Type 0} {P : A → Type 0} {R : B → Type 0} {q : Asked A} {k : Asked B} → Asks P q → ((a : A) → P a → Asks R k) →
+    Asks R (questions._>>_ q k)
 asks-next {q = questions.refused n} h f = record { answers = h .answers }
 asks-next {q = questions.accepted a} h f = f a (h .answers)
 
@@ -91,7 +93,8 @@ accepts-at : {A : Type 0} {P : A → Type 0} {a : A} → P a → AsksAt P (accep
 accepts-at h = record { answers = h }
 
 asks-then-at :
-    {A B : Type 0} {P : A → Type 0} {R : B → Type 0} {q : AskedAt A} {k : A → AskedAt B} → AsksAt P q → ((a : A) → P a → AsksAt R (k a)) → AsksAt R (q >>= k)
+    {A B : Type 0} {P : A → Type 0} {R : B → Type 0} {q : AskedAt A} {k : A → AskedAt B} → AsksAt P q → ((a : A) → P a → AsksAt R (k a)) →
+    AsksAt R (q >>= k)
 asks-then-at {q = refusedAt n i} h f = record { answers = h .answers }
 asks-then-at {q = accepted a} h f = f a (h .answers)
 

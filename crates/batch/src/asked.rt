@@ -83,7 +83,8 @@ fn ask_one(
     e: EventIndex,
     sets: &[usize],
 ) -> u8
-    requires { ⌜ TableSays (tableOf (now table)) (now table) (now name) (now properties) read × (length (now properties) ≡ 96) × (length (now sets) ≡ 96) ⌝ }
+    requires { ⌜ TableSays (tableOf (now table)) (now table) (now name) (now properties) read × (length (now properties) ≡ 96)
+        × (length (now sets) ≡ 96) ⌝ }
     requires { ⌜ EventReads (eventOf narrow (now event)) (now event) (now sets) e ⌝ }
     ensures { λ r. ⌜ OneAnswers (now (table .entry)) (now (event .entry)) (now (sets .entry)) r e ⌝ }
 {

@@ -481,7 +481,8 @@ module _
 
   pub measured-with :
       {version size : ℕ} {r : List ℕ} → version ≡ event-version → length (snapshotBytes (newSnapshot h)) ≡ size →
-      ((zs : List Snapshot) (z : Snapshot) → Measured zs m → z .version ≡ version → length (snapshotBytes z) ≡ size → Measured (withSnapshot zs p z) r) →
+      ((zs : List Snapshot) (z : Snapshot) → Measured zs m → z .version ≡ version → length (snapshotBytes z) ≡ size →
+      Measured (withSnapshot zs p z) r) →
       Measured whole r
   measured-with {r = r} n s says =
       subst (λ (zs : List Snapshot). Measured zs r) (sym whole-with) (says ss (newSnapshot h) (h .added .measured) (new-version ∙ sym n) s)
@@ -597,7 +598,8 @@ module _
 -- ---- writing the snapshots with that one among them
 
 module _
-    {sofar event : List ℕ} {e : EventIndex} {ats : List ℕ} {body : ℕ} {p : Place} {version : EventVersion} {t : TypeIndex} {ps : List ℕ} {apart at : ℕ} where
+    {sofar event : List ℕ} {e : EventIndex} {ats : List ℕ} {body : ℕ} {p : Place} {version : EventVersion} {t : TypeIndex} {ps : List ℕ}
+    {apart at : ℕ} where
   pub lower-there :
       {size : ℕ} → WithRoom sofar event e ats body p version t ps apart at size →
       (body ≤ body + p .before) × (body + p .before ≤ length sofar) × (at + length (part sofar body (body + p .before)) ≤ size)

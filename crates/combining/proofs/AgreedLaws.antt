@@ -295,7 +295,8 @@ module _
   unfolding snapshotBytes joinSnapshots
   parts =
       ap₂ (λ (v p : ℕ). number v ++ number p ++ number differ ++ kept) (w .shared .number) (w .present)
-      ∙ ap₂ (λ (n : ℕ) (l : List ℕ). number (left .version) ++ number (bitNumber (map presenceBit (map held cells))) ++ number n ++ l) (w .marked) kept-is
+      ∙ ap₂ (λ (n : ℕ) (l : List ℕ). number (left .version) ++ number (bitNumber (map presenceBit (map held cells))) ++ number n ++ l)
+      (w .marked) kept-is
 
   pub both-parts : {l : List ℕ} (at : ℕ) → at + length joined-bytes ≤ length l → PartsRoom l at (version .0) presence differ kept
   both-parts {l} at room = record { room = subst (λ (z : List ℕ). at + length z ≤ length l) (sym parts) room }

@@ -252,7 +252,8 @@ module _ (table event out : List ℕ) where
   check-refused n h e = rw (asked-of table event (length out) (refused n) h e)
 
   pub check-done :
-      {t : TypeIndex} {x : EventIndex} {ats : List ℕ} (a : Checked table event t x ats) (new : List ℕ) (n version : ℕ) → dossierCapacity ≤ length out →
+      {t : TypeIndex} {x : EventIndex} {ats : List ℕ} (a : Checked table event t x ats) (new : List ℕ) (n version : ℕ) →
+      dossierCapacity ≤ length out →
       version ≡ versionOf (a .type) (a .e) → Wrote out 0 (loneBytes (a .e) version) new n → replies (Done n) new ≡ checkCall table event out
   unfolding checkCall checkAnswer
   check-done a new n version h q w₀ =

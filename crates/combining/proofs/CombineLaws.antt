@@ -83,7 +83,8 @@ module _
 -- what `ask_dossier` answers
 abbrev Asks : List ℕ → DossierIndex → TableRead → List ℕ → ℕ → Type 0
 Asks s d read ps r =
-    (table : List ℕ) (ts : Table) → tableOf table ≡ some ts → ((h : Headed) → DossierIs s h d → TypeSays (typeNamed (h .head .type) ts) table ps read) →
+    (table : List ℕ) (ts : Table) → tableOf table ≡ some ts →
+    ((h : Headed) → DossierIs s h d → TypeSays (typeNamed (h .head .type) ts) table ps read) →
     DossierAnswers (dossierAsked standard ts s) table (read .index) ps r
 
 above-none : (n : ℕ) → (n ≡ 0 → ⊥) → 0 < n
@@ -200,7 +201,8 @@ module _ (table left right out : List ℕ) where
 
     pub combine-apart :
         {d e : DossierIndex} {xs ys : List ℕ} {t : TypeIndex} {ps : List ℕ} (h : BothTaken table left d xs right e ys t ps) {r : Bool} →
-        r ≡ dossiersAgree (h .left-taken .what) (h .right-taken .what) → r ≡ false → combineReplies (Refused 7) out ≡ combineCall standard table left right out
+        r ≡ dossiersAgree (h .left-taken .what) (h .right-taken .what) → r ≡ false →
+        combineReplies (Refused 7) out ≡ combineCall standard table left right out
     unfolding combineCall combineAnswer combineAsked
     combine-apart h p n =
         let q = sym p ∙ n in
@@ -224,7 +226,8 @@ module _ (table left right out : List ℕ) where
           let q = sym p ∙ y in
           rw (has-room dossierCapacity (length out) room, k .is, k .left-asked, k .right-asked, k .agree, q)
 
-      pub combine-done : r ≡ true → (new : List ℕ) (n : ℕ) → Wrote out 0 whole new n → combineReplies (Done n) new ≡ combineCall standard table left right out
+      pub combine-done :
+          r ≡ true → (new : List ℕ) (n : ℕ) → Wrote out 0 whole new n → combineReplies (Done n) new ≡ combineCall standard table left right out
       unfolding combineCall combineAnswer
       combine-done y new n w =
           let s : 0 + length whole ≤ length out = omega (arith, combine-room k p y (length out) room) in
@@ -235,7 +238,8 @@ module _ (table left right out : List ℕ) where
 -- ---- both dossiers and the table are read
 
 pub record Opened
-    (table a : List ℕ) (d : DossierIndex) (left b : List ℕ) (e : DossierIndex) (right : List ℕ) (name : Text) (read : TableRead) (ps : List ℕ) : Type 0 where
+    (table a : List ℕ) (d : DossierIndex) (left b : List ℕ) (e : DossierIndex) (right : List ℕ) (name : Text) (read : TableRead)
+    (ps : List ℕ) : Type 0 where
   pub left-read : DossierReads (dossierOf standard a) a left d
   pub right-read : DossierReads (dossierOf standard b) b right e
   -- each snapshot has its row
@@ -260,7 +264,8 @@ module _
     left-number = numbered table a known d name (o .left-named) ps read (o .table-read) first asks
 
     pub left-refused :
-        (first ≡ 0 → ⊥) → (out : List ℕ) → dossierCapacity ≤ length out → combineReplies (Refused first) out ≡ combineCall standard table a b out
+        (first ≡ 0 → ⊥) → (out : List ℕ) → dossierCapacity ≤ length out →
+        combineReplies (Refused first) out ≡ combineCall standard table a b out
     left-refused n out room = combine-left table a b out room known first (refused-by (known .types) a d left (o .left-read) first left-number n)
 
     abbrev left-taken : first ≡ 0 → Taken (known .types) a d left
@@ -272,7 +277,8 @@ module _
       right-number = says (known .types) (known .is)
 
       pub right-refused :
-          (second ≡ 0 → ⊥) → (out : List ℕ) → dossierCapacity ≤ length out → combineReplies (Refused second) out ≡ combineCall standard table a b out
+          (second ≡ 0 → ⊥) → (out : List ℕ) → dossierCapacity ≤ length out →
+          combineReplies (Refused second) out ≡ combineCall standard table a b out
       right-refused n out room =
           combine-right table a b out room known (left-taken yes-left) second (refused-by (known .types) b e right (o .right-read) second right-number n)
 

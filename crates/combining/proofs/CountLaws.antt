@@ -76,7 +76,9 @@ module _ (xs ys : List ℕ) (i j count : ℕ) (w : VersionsLeft xs ys i j count)
       ∙ ap (λ (zs : List ℕ). count + length zs) (union-left-nil numbers (drop j ys))
       ∙ ap (λ (n : ℕ). count + n) (length-drop j ys))
 
-  module _ (l : i < length xs) (m : j < length ys) (i′ j′ : ℕ) (p : Passed (getD xs i 0) (getD ys j 0) i i′) (q : Passed (getD ys j 0) (getD xs i 0) j j′) where
+  module _
+      (l : i < length xs) (m : j < length ys) (i′ j′ : ℕ) (p : Passed (getD xs i 0) (getD ys j 0) i i′)
+      (q : Passed (getD ys j 0) (getD xs i 0) j j′) where
     abbrev Next : Type 0
     Next = length (union numbers (drop i xs) (drop j ys)) ≡ 1 + length (union numbers (drop i′ xs) (drop j′ ys))
 

@@ -175,7 +175,8 @@ module _ {table a b : List ℕ} {t : TypeIndex} {ps : List ℕ} (k : Known table
   -- `parents_fit` answers n of the parents
   module _
       {n : Bool} {s u : List ℕ} {v w : SetAt}
-      (says : (gs hs : List Text) → HashesAre s gs v → HashesAre u hs w → Hashes gs → Hashes hs → rising texts gs ≡ true → rising texts hs ≡ true →
+      (says : (gs hs : List Text) → HashesAre s gs v → HashesAre u hs w → Hashes gs → Hashes hs → rising texts gs ≡ true →
+      rising texts hs ≡ true →
       n ≡ leb (length (union texts gs hs)) 32)
       (left-are : HashesAre s (k .left .headed .head .parents) v) (right-are : HashesAre u (k .right .headed .head .parents) w) where
     then-parents : asked ≡ (n && fewVersions)

@@ -50,7 +50,8 @@ module _ (ty : EventType) where
 
   -- it comes before those of higher versions
   unmet-merged :
-      (ss : List Snapshot) (i : ℕ) (y : Snapshot) → Rises ss → i ≤ length ss → ((j : ℕ) → j < i → getD ss j noSnapshot .version < y .version) →
+      (ss : List Snapshot) (i : ℕ) (y : Snapshot) → Rises ss → i ≤ length ss →
+      ((j : ℕ) → j < i → getD ss j noSnapshot .version < y .version) →
       (i < length ss → y .version < getD ss i noSnapshot .version) → mergedWith ss y ≡ take i ss ++ (y ∷ drop i ss)
   unfolding merge
   unmet-merged [] zero y r l lower higher = refl
@@ -114,7 +115,8 @@ unfolding flatten
 bytes-with ss p x = bytes-append (take (p .index) ss) (x ∷ drop (lowerOrSame p) ss)
 
 pub length-with :
-    (ss : List Snapshot) (i j : ℕ) (x : Snapshot) → i ≤ length ss → j ≤ length ss → length (take i ss ++ (x ∷ drop j ss)) ≡ i + suc (length ss - j)
+    (ss : List Snapshot) (i j : ℕ) (x : Snapshot) → i ≤ length ss → j ≤ length ss →
+    length (take i ss ++ (x ∷ drop j ss)) ≡ i + suc (length ss - j)
 length-with ss i j x l m = length-append (take i ss) (x ∷ drop j ss) ∙ omega (arith, length-take-le i ss l, length-drop j ss)
 
 pub written-at : (zs : List Snapshot) → All SnapshotWritten zs → (i : ℕ) → i < length zs → SnapshotWritten (getD zs i noSnapshot)

@@ -68,7 +68,8 @@ module _ {k : Kind} {kind : ℕ} {xs ys : List Text} (e : Extremes k kind xs ys)
       sym (ap (take 1) (ap₂ (union O) x (no-value ys n) ∙ union-right-nil O (v ∷ []) (rising-ups O (v ∷ []) .0 refl)))
 
   pub chosen-both :
-      {largest wanted : Bool} {r v w : Text} → largest ≡ wanted → (length xs ≡ 0 → ⊥) → (length ys ≡ 0 → ⊥) → v ≡ getD xs 0 [] → w ≡ getD ys 0 [] →
+      {largest wanted : Bool} {r v w : Text} → largest ≡ wanted → (length xs ≡ 0 → ⊥) → (length ys ≡ 0 → ⊥) → v ≡ getD xs 0 [] →
+      w ≡ getD ys 0 [] →
       ((k : Kind) → kindNumber k ≡ kind → isOrdered k ≡ true →
       inSpace k (take (length v - 0) (drop 0 v)) ≡ true → inSpace k (take (length w - 0) (drop 0 w)) ≡ true →
       r ∷ [] ≡ take 1 (union (extremeOrder largest k) (take (length v - 0) (drop 0 v) ∷ []) (take (length w - 0) (drop 0 w) ∷ []))) →
@@ -291,7 +292,8 @@ module _
 
 -- what the chosen value asks
 module _
-    {count : ℕ} {ps : List ℕ} {p : ℕ} {a : List ℕ} {x : SetAt} {b : List ℕ} {y : SetAt} (some : haveObjects x y ≡ true) (h : PlaceIs count ps p a x b y) where
+    {count : ℕ} {ps : List ℕ} {p : ℕ} {a : List ℕ} {x : SetAt} {b : List ℕ} {y : SetAt} (some : haveObjects x y ≡ true)
+    (h : PlaceIs count ps p a x b y) where
   module _ (e : isExtremeAt (h .type) p ≡ true) where
     abbrev here : ExtremeAt (h .type) p
     here = extreme-at (h .type) p e
@@ -325,7 +327,8 @@ module _
         ∙ sym (joined-extreme (h .type) p (h .xs) (h .ys) here))
 
   -- elsewhere the union is all of the set
-  place-values : (u v : List ℕ) → u ≡ flatten (map text (h .xs)) → v ≡ flatten (map text (h .ys)) → ValuesAre u (x .count) v (y .count) (h .xs) (h .ys)
+  place-values :
+      (u v : List ℕ) → u ≡ flatten (map text (h .xs)) → v ≡ flatten (map text (h .ys)) → ValuesAre u (x .count) v (y .count) (h .xs) (h .ys)
   place-values u v l r = record {
     left = l;
     right = r;
@@ -344,7 +347,8 @@ module _
   whole-bytes : setBytes whole ≡ number (length whole) ++ flatten (map text whole)
   whole-bytes = some-bytes a x b y (h .xs) (h .ys) (h .left) (h .right) (h .type) p some
 
-  place-room : (n at size : ℕ) → n ≡ length whole → at + length (setBytes whole) ≤ size → at + length (number n) + length (flatten (map text whole)) ≤ size
+  place-room :
+      (n at size : ℕ) → n ≡ length whole → at + length (setBytes whole) ≤ size → at + length (number n) + length (flatten (map text whole)) ≤ size
   place-room n at size e k = set-room n whole at size e (subst (λ (z : List ℕ). at + length z ≤ size) whole-bytes k)
 
   place-wrote : {l l₁ l₂ : List ℕ} {at b next : ℕ} (n : ℕ) → n ≡ length whole →
@@ -416,7 +420,8 @@ module _
         (h : PlaceIs count ps p a x b y) → Wrote l at (setBytes (joinedSet (h .type) p (h .xs) (h .ys))) l₁ next
     all-wrote w h = wrote-as (all-there h) (w (h .xs) (h .ys) (values h))
 
-pub to-go-same : {l₀ whole l l′ xs : List ℕ} {at p p′ : ℕ} → ToGo l₀ at whole l p xs → l′ ≡ l → p′ ≡ p → ToGo l₀ at whole l′ p′ xs
+pub to-go-same :
+    {l₀ whole l l′ xs : List ℕ} {at p p′ : ℕ} → ToGo l₀ at whole l p xs → l′ ≡ l → p′ ≡ p → ToGo l₀ at whole l′ p′ xs
 to-go-same g e f = rw (e, f) g
 
 -- ---- the places that have objects
@@ -486,7 +491,8 @@ module _ {table a b : List ℕ} {count : ℕ} {ps i j : List ℕ} {ty : EventTyp
   objects-none : NoObjectsFrom count i j
   objects-none = record {
     each = λ p l m.
-        ap₂ (λ (a b : ℕ). ltb 0 a || ltb 0 b) (h .left .each p m .count ∙ ap length (left-none p l)) (h .right .each p m .count ∙ ap length (right-none p l));
+        ap₂ (λ (a b : ℕ). ltb 0 a || ltb 0 b) (h .left .each p m .count ∙ ap length (left-none p l))
+        (h .right .each p m .count ∙ ap length (right-none p l));
   }
 
   none-bytes : (n k : ℕ) → count ≤ k → setsBytes (map joined (upFrom k n)) ≡ []
@@ -534,7 +540,8 @@ module _ {table a b : List ℕ} {count : ℕ} {ps i j : List ℕ} {ty : EventTyp
   unfolding typeView eventView places
   joined-cells =
       join-map (typeView ty) x y (cells-long a x i (h .left)) (cells-long b y j (h .right))
-      ∙ map-same (λ p. joinCell (isVersioned ty) (typeView ty .choice p) (cellAt x p) (cellAt y p)) (λ p. holds (joined p)) (upTo 32) (λ p m. joined-cell p)
+      ∙ map-same (λ p. joinCell (isVersioned ty) (typeView ty .choice p) (cellAt x p) (cellAt y p)) (λ p. holds (joined p)) (upTo 32)
+      (λ p m. joined-cell p)
 
   joined-version : joinSnapshots (typeView ty) x y .version ≡ 0
   unfolding joinSnapshots
@@ -578,7 +585,8 @@ module _ {table a b : List ℕ} {count : ℕ} {ps i j : List ℕ} {ty : EventTyp
     -- a place that has objects, with its room, where the places before it are written
     pub place-next :
         {l₀ l : List ℕ} {at p : ℕ} {v z : SetAt} (k : ℕ) → v ≡ setIn i k → z ≡ setIn j k → k < 32 → getD present k false ≡ true →
-        ToGo l₀ at (setsFrom ty x y 0) l p (setsFrom ty x y k) → at + length (setsFrom ty x y 0) ≤ length l₀ → PlaceRoom count ps k a v b z p (length l)
+        ToGo l₀ at (setsFrom ty x y 0) l p (setsFrom ty x y k) → at + length (setsFrom ty x y 0) ≤ length l₀ →
+        PlaceRoom count ps k a v b z p (length l)
     place-next k c d l e g r = record {
       low = l;
       some = ap₂ haveObjects c d ∙ sym (w .each k l) ∙ e;

@@ -126,7 +126,8 @@ module _ {s : List ℕ} {x : EventIndex} {n : ℕ} (sized : n ≡ length (number
       alone-there w = record { event = r .event; read = r .read; room = body-room rooms (head-wrote (r .read)) refl w }
 
     pub lone-wrote :
-        (version : ℕ) {l₂ l₃ : List ℕ} {b c : ℕ} → Wrote l₁ a (number 1) l₂ b → ((e : Event) → EventIs s e x ats → Wrote l₂ b (aloneBytes e version) l₃ c) →
+        (version : ℕ) {l₂ l₃ : List ℕ} {b c : ℕ} → Wrote l₁ a (number 1) l₂ b →
+        ((e : Event) → EventIs s e x ats → Wrote l₂ b (aloneBytes e version) l₃ c) →
         (e : Event) → EventIs s e x ats → Wrote l 0 (loneBytes e version) l₃ c
     unfolding loneBytes
     lone-wrote version p q e w = wrote-then (head-wrote w) (wrote-then p (q e w))

@@ -55,7 +55,8 @@ module _ (m : List ℕ) (k : ℕ) (x : Measure) where
 
   kept : (i : ℕ) → (i ≡ 2 * k + 1 → ⊥) → (i ≡ 2 * k + 2 → ⊥) → getD (putTwo m k x) i 0 ≡ getD m i 0
   kept i p q =
-      getD-set-other one (2 * k + 2) i (x .size) 0 (λ e. q (omega (arith, e))) ∙ getD-set-other m (2 * k + 1) i (x .version .0) 0 (λ e. p (omega (arith, e)))
+      getD-set-other one (2 * k + 2) i (x .size) 0 (λ e. q (omega (arith, e)))
+      ∙ getD-set-other m (2 * k + 1) i (x .version .0) 0 (λ e. p (omega (arith, e)))
 
   pub put-others : (j : ℕ) → (j ≡ k → ⊥) → measureIn (putTwo m k x) j ≡ measureIn m j
   put-others j n =
@@ -84,7 +85,8 @@ is-measure x s v z = λ i. record { version = record { 0 = sym v i }; size = sym
 -- ---- one snapshot
 
 pub measured-one :
-    (m : List ℕ) (x : Measure) (s : Snapshot) → countIn m ≡ 1 → measureIn m 0 ≡ x → s .version ≡ x .version .0 → length (snapshotBytes s) ≡ x .size →
+    (m : List ℕ) (x : Measure) (s : Snapshot) → countIn m ≡ 1 → measureIn m 0 ≡ x → s .version ≡ x .version .0 →
+    length (snapshotBytes s) ≡ x .size →
     Measured (s ∷ []) m
 measured-one m x s count here v z = record { count = count; few = omega arith; each = first }
   where

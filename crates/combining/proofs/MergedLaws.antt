@@ -142,7 +142,8 @@ bytes-none ss i l = ap (λ (z : List Snapshot). flatten (map snapshotBytes z)) (
 
 module _ (s : List ℕ) (xs : List Snapshot) (starts ends : List ℕ) (versions : List EventVersion) (w : SnapshotsAre s xs starts ends versions) where
   -- from the start of one on they stand one after the other; n others follow it
-  run-from : (n i last : ℕ) → i + suc n ≡ length xs → last + 1 ≡ length xs → drop (getD starts i 0) s ≡ bytesFrom xs i ++ drop (getD ends last 0) s
+  run-from :
+      (n i last : ℕ) → i + suc n ≡ length xs → last + 1 ≡ length xs → drop (getD starts i 0) s ≡ bytesFrom xs i ++ drop (getD ends last 0) s
   run-from zero i last e f =
       let a = w .each i (omega arith) in
       let k : i ≡ last = omega arith in
@@ -410,7 +411,8 @@ module _
         ap (λ (ss : List Snapshot). flatten (map snapshotBytes ss))
         (merge-at (c .known .left .type) lefts rights i j (omega (arith, c .left-read .count)) (omega (arith, c .right-read .count)) (left-rising i)
         (right-rising j)
-        ∙ ap₂ (λ (u v : ℕ). nextSnapshot (c .known .left .type) leftOne rightOne ∷ mergedOf (c .known .left .type) (drop (i + u) lefts) (drop (j + v) rights))
+        ∙ ap₂ (λ (u v : ℕ). nextSnapshot (c .known .left .type) leftOne rightOne ∷ mergedOf (c .known .left .type) (drop (i + u) lefts)
+        (drop (j + v) rights))
         (sym (p ∙ ap₂ stepBy left-is right-is))
         (sym (q ∙ ap₂ stepBy right-is left-is)))
 
@@ -549,7 +551,8 @@ module _
   -- and their union is made
   module _
       {l₁ : List ℕ} {n : ℕ}
-      (made : (xs ys : List Text) → p ≡ flatten xs → q ≡ flatten ys → Hashes xs → Hashes ys → rising texts xs ≡ true → rising texts ys ≡ true →
+      (made : (xs ys : List Text) → p ≡ flatten xs → q ≡ flatten ys → Hashes xs → Hashes ys → rising texts xs ≡ true →
+      rising texts ys ≡ true →
       Wrote (replicate 640 0) 0 (flatten (union texts xs ys)) l₁ n) where
     hashes : {g h : Head} → HeadsAre a x b y g h → (n ≤ length l₁) × (part l₁ 0 n ≡ flatten (union texts (g .parents) (h .parents)))
     hashes w =
@@ -561,7 +564,8 @@ module _
 
     -- `text_part` lends the name of the type and the source
     module _
-        {name source : List ℕ} (named : (v : Text) → TextIs a v (x .name) → name ≡ v) (sourced : (v : Text) → TextIs a v (x .source) → source ≡ v) where
+        {name source : List ℕ} (named : (v : Text) → TextIs a v (x .name) → name ≡ v)
+        (sourced : (v : Text) → TextIs a v (x .source) → source ≡ v) where
       parts : {g h : Head} → HeadsAre a x b y g h → HeadParts name source (part l₁ 0 n) (bothHeads g h)
       parts w = record { type = named _ (w .left .name); uri = sourced _ (w .left .uri); parents = hashes w .1; each = w .both-each }
 

@@ -134,7 +134,8 @@ module _
   place-every e = count-every ty k xs ys (sym (says u ty w) ∙ e)
 
   pub place-right :
-      r ≡ true → {n : ℕ} → length xs ≡ 0 → n ≡ length ys → (isExtremeAt ty k ≡ true → (length xs ≤ 1) × (length ys ≤ 1)) → n ≡ together ty k xs ys
+      r ≡ true → {n : ℕ} → length xs ≡ 0 → n ≡ length ys → (isExtremeAt ty k ≡ true → (length xs ≤ 1) × (length ys ≤ 1)) →
+      n ≡ together ty k xs ys
   place-right e {n} empty f few = let h = sym (says u ty w) ∙ e in count-right ty k xs ys h n empty f (few h .1)
 
   pub place-one : r ≡ true → (length xs ≡ 0 → ⊥) → 1 ≡ together ty k xs ys

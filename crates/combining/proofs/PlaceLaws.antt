@@ -71,7 +71,8 @@ vacant-cell (holds []) h = refl
 vacant-cell (holds (v ∷ vs)) h = absurd (omega (arith, eqb-true (suc (length vs)) 0 h))
 vacant-cell differs h = never (cc)
 
-fits-vacant : (ty : EventType) (x : Snapshot) → snapshotFits ty x ≡ true → {count : ℕ} → count ≡ length (ty .properties) → VacantFrom count (x .cells)
+fits-vacant :
+    (ty : EventType) (x : Snapshot) → snapshotFits ty x ≡ true → {count : ℕ} → count ≡ length (ty .properties) → VacantFrom count (x .cells)
 unfolding placeFits
 fits-vacant ty x f e = record {
   each = λ p h.
@@ -135,7 +136,8 @@ module _ {f : ℕ → Bool} {bits : List Bool} {k : ℕ} (w : FilledOnly f bits 
   only-all n p h = ⊎-elim (λ (l : p < k). w .filled .each p l) (λ (l : k ≤ p). w .clear p l h ∙ sym (n p l h)) (lt-or-ge p k)
 
 pub only-list :
-    {bits l : List Bool} {k : ℕ} → length l ≡ 32 → FilledOnly (λ p. getD l p false) bits k → ((p : ℕ) → k ≤ p → p < 32 → getD l p false ≡ false) → bits ≡ l
+    {bits l : List Bool} {k : ℕ} → length l ≡ 32 → FilledOnly (λ p. getD l p false) bits k →
+    ((p : ℕ) → k ≤ p → p < 32 → getD l p false ≡ false) → bits ≡ l
 only-list {bits} {l} long w n =
     sym (map-getD bits false 32 (w .filled .long))
     ∙ map-same (λ p. getD bits p false) (λ p. getD l p false) (upTo 32) (λ p m. only-all w n p (in-upTo 32 p .1 m))

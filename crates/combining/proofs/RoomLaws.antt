@@ -91,7 +91,8 @@ module _ (t : TypeView) where
   cells-few (p ∷ ps) (c ∷ cs) [] = omega arith
   cells-few (p ∷ ps) (c ∷ cs) (d ∷ ds) = omega (arith, cells-few ps cs ds)
 
-  cells-short : (ps : List ℕ) (cs ds : List Cell) → ValuesShort (map held cs) → ValuesShort (map held ds) → ValuesShort (map held (joinCells t ps cs ds))
+  cells-short :
+      (ps : List ℕ) (cs ds : List Cell) → ValuesShort (map held cs) → ValuesShort (map held ds) → ValuesShort (map held (joinCells t ps cs ds))
   unfolding joinCells
   cells-short [] cs ds h g = tt
   cells-short (p ∷ ps) [] ds h g = tt
@@ -105,7 +106,8 @@ module _ (t : TypeView) where
   cells-sizes v (p ∷ ps) (c ∷ cs) [] = omega arith
   cells-sizes v (p ∷ ps) (c ∷ cs) (d ∷ ds) = rw v (omega (arith, size-joined (t .choice p) c d, cells-sizes v ps cs ds))
 
-  snapshots-joined : (a b : Snapshot) → Small (t .versioned) (a .cells) → Small (t .versioned) (b .cells) → Small (t .versioned) (joinSnapshots t a b .cells)
+  snapshots-joined :
+      (a b : Snapshot) → Small (t .versioned) (a .cells) → Small (t .versioned) (b .cells) → Small (t .versioned) (joinSnapshots t a b .cells)
   unfolding joinSnapshots
   snapshots-joined a b h g = record {
     few = omega (arith, h .few, cells-few (places t) (a .cells) (b .cells));
@@ -160,7 +162,8 @@ taken-small {types} {s} {a} w =
       objects = λ v. all-member (λ (z : Snapshot). sizes (z .cells) ≤ 32) ss (taken-sizes w v) z i;
     }
 
-module _ (table r s : List ℕ) (types : Table) (a b : TypedDossier) (t : tableOf table ≡ some types) (x : DossierTaken types r a) (y : DossierTaken types s b)
+module _
+    (table r s : List ℕ) (types : Table) (a b : TypedDossier) (t : tableOf table ≡ some types) (x : DossierTaken types r a) (y : DossierTaken types s b)
     (agree : dossiersAgree a b ≡ true) (f : fits standard (typeView (a .type)) (combined a b) ≡ true) where
   same-type : a .type ≡ b .type
   unfolding dossiersAgree

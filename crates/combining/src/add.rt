@@ -343,7 +343,8 @@ pub fn add_event<'a>(
     requires { ⌜ (dossierCapacity ≤ length (now lone)) × (dossierCapacity ≤ length (now out)) ⌝ }
     ensures { λ r. ⌜ ((h : Addable (now (table .entry)) (now (sofar .entry)) (now (measures .entry)) (now (event .entry)) t (now (properties .entry)))
         → replies r (now (out .exit)) ≡ combineCall standard (now (table .entry)) (now (sofar .entry)) (h .lone) (now (out .entry))) ⌝ }
-    ensures measured { λ r. ⌜ ((h : Addable (now (table .entry)) (now (sofar .entry)) (now (measures .entry)) (now (event .entry)) t (now (properties .entry)))
+    ensures measured { λ r. ⌜
+        ((h : Addable (now (table .entry)) (now (sofar .entry)) (now (measures .entry)) (now (event .entry)) t (now (properties .entry)))
         (n : ℕ) → r ≡ Done n → Measured (combined (h .both .left) (h .both .right) .snapshots) (now (measures .exit))) ⌝ }
 {
     let mut sets = [0usize; 96];

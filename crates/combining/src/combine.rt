@@ -45,7 +45,8 @@ fn combine_read<'a>(
     requires { ⌜ (96 * d .count ≤ length (now left)) × (96 * e .count ≤ length (now right)) × (length (now properties) ≡ 96)
         × (dossierCapacity ≤ length (now out)) ⌝ }
     requires { ⌜ Combinable (now table) (now a) d (now left) (now b) e (now right) t (now properties) ⌝ }
-    ensures { λ r. ⌜ combineReplies r (now (out .exit)) ≡ combineCall standard (now (table .entry)) (now (a .entry)) (now (b .entry)) (now (out .entry)) ⌝ }
+    ensures { λ r. ⌜ combineReplies r (now (out .exit))
+        ≡ combineCall standard (now (table .entry)) (now (a .entry)) (now (b .entry)) (now (out .entry)) ⌝ }
 {
     if !limits_fit(a, d, left, b, e, right, t, properties) {
         return Combined::Refused(8);
@@ -63,7 +64,8 @@ fn ask_other(
     read: TableRead,
     properties: &[usize],
 ) -> u8
-    requires { ⌜ (96 * d .count ≤ length (now rows)) × (length (now properties) ≡ 96) × DossierReads (dossierOf standard (now s)) (now s) (now rows) d ⌝ }
+    requires { ⌜ (96 * d .count ≤ length (now rows)) × (length (now properties) ≡ 96)
+        × DossierReads (dossierOf standard (now s)) (now s) (now rows) d ⌝ }
     requires { ⌜ (read .ok ≡ true) × TableSays (tableOf (now table)) (now table) (now name) (now properties) read ⌝ }
     ensures { λ r. ⌜ ((ts : Table) → tableOf (now (table .entry)) ≡ some ts → NumberIs (dossierAsked standard ts (now (s .entry))) r) ⌝ }
 {
@@ -86,7 +88,8 @@ fn combine_with<'a>(
     out: &mut [u8],
 ) -> Combined
     requires { ⌜ HasRows (now a) (length (now left)) × HasRows (now b) (length (now right)) × (dossierCapacity ≤ length (now out)) ⌝ }
-    ensures { λ r. ⌜ combineReplies r (now (out .exit)) ≡ combineCall standard (now (table .entry)) (now (a .entry)) (now (b .entry)) (now (out .entry)) ⌝ }
+    ensures { λ r. ⌜ combineReplies r (now (out .exit))
+        ≡ combineCall standard (now (table .entry)) (now (a .entry)) (now (b .entry)) (now (out .entry)) ⌝ }
 {
     let d = read_dossier(a, left);
     let e = read_dossier(b, right);
@@ -120,7 +123,8 @@ fn combine_left<'a>(
     out: &mut [u8],
 ) -> Combined
     requires { ⌜ HasRows (now a) (length (now left)) × (dossierCapacity ≤ length (now out)) ⌝ }
-    ensures { λ r. ⌜ combineReplies r (now (out .exit)) ≡ combineCall standard (now (table .entry)) (now (a .entry)) (now (b .entry)) (now (out .entry)) ⌝ }
+    ensures { λ r. ⌜ combineReplies r (now (out .exit))
+        ≡ combineCall standard (now (table .entry)) (now (a .entry)) (now (b .entry)) (now (out .entry)) ⌝ }
 {
     if snapshot_count(b) <= 1 {
         let mut one = [0usize; 96];
@@ -132,7 +136,8 @@ fn combine_left<'a>(
 
 // Two dossiers together, written at the front of `out`. The rows of the left one are lent as those of the right one are.
 pub fn combine<'a>(table: &[u8], a: &'a [u8], b: &'a [u8], out: &mut [u8]) -> Combined
-    ensures { λ r. ⌜ combineReplies r (now (out .exit)) ≡ combineCall standard (now (table .entry)) (now (a .entry)) (now (b .entry)) (now (out .entry)) ⌝ }
+    ensures { λ r. ⌜ combineReplies r (now (out .exit))
+        ≡ combineCall standard (now (table .entry)) (now (a .entry)) (now (b .entry)) (now (out .entry)) ⌝ }
 {
     if out.len() < DOSSIER_CAPACITY {
         return Combined::Refused(1);

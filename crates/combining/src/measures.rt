@@ -48,7 +48,8 @@ fn put_measure(measures: &mut [usize], k: usize, x: Measure)
 // The measures of one snapshot.
 pub fn measure_one(measures: &mut [usize], x: Measure)
     requires { ⌜ length (now measures) ≡ 17 ⌝ }
-    ensures { λ _. ⌜ ((s : Snapshot) → s .version ≡ x .version .0 → length (snapshotBytes s) ≡ x .size → Measured (s ∷ []) (now (measures .exit))) ⌝ }
+    ensures { λ _. ⌜ ((s : Snapshot) → s .version ≡ x .version .0 → length (snapshotBytes s) ≡ x .size
+        → Measured (s ∷ []) (now (measures .exit))) ⌝ }
 {
     measures[0] = 1;
     put_measure(measures, 0, x);

@@ -170,7 +170,8 @@ pub fn write_combined<'a>(
         × CombinedRoom (now a) d (now left) (now b) e (now right) t (now properties) (length (now out)) ⌝ }
     ensures { λ r. ⌜ ((table : List ℕ)
         (h : Combinable table (now (a .entry)) d (now (left .entry)) (now (b .entry)) e (now (right .entry)) t (now (properties .entry)))
-        → Wrote (now (out .entry)) 0 (dossierBytes (headedAs (h .known .left .headed) (combined (h .known .left) (h .known .right)))) (now (out .exit)) r) ⌝ }
+        → Wrote (now (out .entry)) 0 (dossierBytes (headedAs (h .known .left .headed) (combined (h .known .left) (h .known .right))))
+        (now (out .exit)) r) ⌝ }
 {
     let v = d.versions;
     let w = e.versions;

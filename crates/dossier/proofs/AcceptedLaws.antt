@@ -49,7 +49,8 @@ dossier-taken types s a h =
 pub one-type :
     {types : Table} {r s : List ℕ} {a b : TypedDossier} → DossierTaken types r a → DossierTaken types s b →
     a .headed .head .type ≡ b .headed .head .type → a .type ≡ b .type
-one-type {types} {r} {s} {a} {b} x y e = let q : some (a .type) ≡ some (b .type) = sym (x .typed) ∙ ap (λ (n : Text). typeNamed n types) e ∙ y .typed in cc
+one-type {types} {r} {s} {a} {b} x y e =
+    let q : some (a .type) ≡ some (b .type) = sym (x .typed) ∙ ap (λ (n : Text). typeNamed n types) e ∙ y .typed in cc
 
 -- ---- what the caller of `ask_dossier` has
 

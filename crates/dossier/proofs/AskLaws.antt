@@ -108,7 +108,8 @@ module _ (t : EventType) (s : Snapshot) where
   by-place v e a b w =
       mix (cellsPresent t s) (asked (ofVersion v)) (asked isUnmarkedMatch) (matchesFew t s) a b
       ∙ ap₂ (λ (x y : Bool). x && matchesFew t s && y) (three-tests v (t .properties) (s .cells)) w
-      ∙ ap (λ (v : Bool). eachCell (cellFits v) isVacant (t .properties) (s .cells) && matchesFew t s && cond v (datedFits s (t .mark)) (plainFits s)) (sym e)
+      ∙ ap (λ (v : Bool). eachCell (cellFits v) isVacant (t .properties) (s .cells) && matchesFew t s && cond v (datedFits s (t .mark))
+      (plainFits s)) (sym e)
 
   fits-versioned : isVersioned t ≡ true → ((cellsPresent t s && versionedSnapshot t s) && matchFits t s) ≡ snapshotFits t s
   unfolding versionedSnapshot matchFits
@@ -192,7 +193,8 @@ valuesNumber right = shapeNumber true right
 
 -- what holds of any snapshot y that stands as the numbers say, beside the sets xs of the first one
 abbrev pub Shaped :
-    List ℕ → List ℕ → List ℕ → SnapshotNumbers → ShapeMasks → ℕ → ℕ → List ℕ → (EventType → List (List Text) → Snapshot → Type 0) → Type 0
+    List ℕ → List ℕ → List ℕ → SnapshotNumbers → ShapeMasks → ℕ → ℕ → List ℕ →
+    (EventType → List (List Text) → Snapshot → Type 0) → Type 0
 Shaped s first row x m mark count ps P =
     (u : List ℕ) (ty : EventType) (xs : List (List Text)) (y : Snapshot) → mark ≡ ty .mark → PropertiesAre u (ty .properties) count ps →
     MasksAre (isVersioned ty) (ty .properties) m → KindsAre ty → SetsAre s xs first → SnapshotIs s y x row → P ty xs y
@@ -292,7 +294,8 @@ kept n number {r} h o = go (eqb n 6) h
     go true e = inr e
     go false e = ⊎-elim (λ (z : number ≡ 0). inl (e ∙ z)) (λ (z : number ≡ 6). inr (e ∙ z)) o
 
-from-end : (t : EventType) (ss : List Snapshot) (number j : ℕ) → length ss ≤ j → (number ≡ 0) ⊎ (number ≡ 6) → number ≡ numberFrom t ss number j
+from-end :
+    (t : EventType) (ss : List Snapshot) (number j : ℕ) → length ss ≤ j → (number ≡ 0) ⊎ (number ≡ 6) → number ≡ numberFrom t ss number j
 unfolding eachSnapshot shapeNumber
 from-end t ss number j l o =
     let d = drop-of-length-le ss l in
@@ -343,7 +346,8 @@ module _ (s : List ℕ) (h : Headed) (d : DossierIndex) (w : DossierIs s h d) wh
   first-sets rows r = r .each 0 (omega (arith, w .one, w .count))
 
   by-lone :
-      (u : List ℕ) (ty : EventType) (t : TypeIndex) (ps : List ℕ) → TypeIs u ty t ps → {r b : Bool} → r ≡ (ltb 0 (t .mark) || eqb (d .count) 1) → r ≡ b →
+      (u : List ℕ) (ty : EventType) (t : TypeIndex) (ps : List ℕ) → TypeIs u ty t ps → {r b : Bool} → r ≡ (ltb 0 (t .mark) || eqb (d .count) 1) →
+      r ≡ b →
       dossierNumber ty (h .snapshots) ≡ shapeNumber (b && allFit ty (h .snapshots) (h .snapshots)) (eachSnapshot (snapshotValues ty) (h .snapshots))
   by-lone u ty t ps v e f =
       let lone = e ∙ ap₂ (λ (m n : ℕ). ltb 0 m || eqb n 1) (v .mark) (w .count) in
@@ -355,7 +359,8 @@ module _ (s : List ℕ) (h : Headed) (d : DossierIndex) (w : DossierIs s h d) wh
 -- what holds of the type and of the snapshots of any dossier that stands as the numbers say
 abbrev pub Each : List ℕ → DossierIndex → List ℕ → TypeIndex → List ℕ → (EventType → List Snapshot → Type 0) → Type 0
 Each s d rows t ps P =
-    (u : List ℕ) (ty : EventType) (h : Headed) → TypeIs u ty t ps → KindsAre ty → DossierIs s h d → RowsAre s (h .snapshots) rows → P ty (h .snapshots)
+    (u : List ℕ) (ty : EventType) (h : Headed) → TypeIs u ty t ps → KindsAre ty → DossierIs s h d → RowsAre s (h .snapshots) rows →
+    P ty (h .snapshots)
 
 -- the number of all snapshots, by the number of those before j
 pub record NumberFrom (s : List ℕ) (d : DossierIndex) (rows : List ℕ) (t : TypeIndex) (ps : List ℕ) (number j : ℕ) : Type 0 where

@@ -225,7 +225,9 @@ body-is limits n s t u r ss a b c up e = (
   record { one = omega arith; within = omega arith; few = omega arith; snapshots = c .2; rises = up },
 )
 
-pub body-was : (limits : Limits) (s : List ℕ) (ss : List Snapshot) (r : List ℕ) → readBody limits s ≡ got ss r → (s ≡ bodyBytes ss ++ r) × BodyWritten limits ss
+pub body-was :
+    (limits : Limits) (s : List ℕ) (ss : List Snapshot) (r : List ℕ) → readBody limits s ≡ got ss r →
+    (s ≡ bodyBytes ss ++ r) × BodyWritten limits ss
 unfolding readBody
 body-was limits s ss r e =
     let within = isWithin 1 (limits .versions) in

@@ -13,7 +13,8 @@ use Rattle.dossier.specs.DossierHead.{readDossierHead, dossierHeadBytes}
 abbrev pub DossierHeadWritten : Limits → Head → Type 0
 DossierHeadWritten limits h = HeadWritten (limits .parents) h
 
-pub dossier-head-read : (limits : Limits) (h : Head) (r : List ℕ) → DossierHeadWritten limits h → readDossierHead limits (dossierHeadBytes h ++ r) ≡ got h r
+pub dossier-head-read :
+    (limits : Limits) (h : Head) (r : List ℕ) → DossierHeadWritten limits h → readDossierHead limits (dossierHeadBytes h ++ r) ≡ got h r
 unfolding readDossierHead dossierHeadBytes
 dossier-head-read limits h r w = head-read (limits .parents) h r w
 

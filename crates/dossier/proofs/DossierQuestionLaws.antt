@@ -76,7 +76,8 @@ match-sets ps ss ts l = (there ps ss ts l, back ps ss ts l)
 
 -- a dossier of which the questions are answered yes
 pub dossier-accepted :
-    (limits : Limits) (table : Table) (s : List ℕ) (t : EventType) (h : Headed) → dossierOf limits s ≡ some h → typeNamed (h .head .type) table ≡ some t →
+    (limits : Limits) (table : Table) (s : List ℕ) (t : EventType) (h : Headed) → dossierOf limits s ≡ some h →
+    typeNamed (h .head .type) table ≡ some t →
     dossierShape limits t (h .snapshots) ≡ true → eachSnapshot (snapshotValues t) (h .snapshots) ≡ true →
     dossierAsked limits table s ≡ accepted (record { type = t; headed = h })
 unfolding dossierAsked
@@ -103,7 +104,8 @@ dossier-match t [] ms l h = absurd (omega arith)
 dossier-match t (z ∷ zs) ms l h = h z (List·Memᴰ·head refl)
 
 pub match-alike :
-    (t : EventType) (zs : List Snapshot) (ms : List (List Text)) → ((z : Snapshot) → List·Memᴰ z zs → snapshotMatch t z ≡ ms) → matchAlike t zs ≡ true
+    (t : EventType) (zs : List Snapshot) (ms : List (List Text)) → ((z : Snapshot) → List·Memᴰ z zs → snapshotMatch t z ≡ ms) →
+    matchAlike t zs ≡ true
 unfolding matchAlike
 match-alike t [] ms h = refl
 match-alike t (z ∷ zs) ms h = snapshot-each _ zs

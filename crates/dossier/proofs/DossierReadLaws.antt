@@ -7,7 +7,8 @@ use mathlib.Core.List.{List, [], _∷_, _++_, append-nil, map, map-id}
 use Prim.Native.Nat.{ℕ, suc, _+_, _-_, _*_, _≤_, _<_}
 use native.Mathlib.Omega.{arith}
 use native.Mathlib.Numerals.{add-one}
-use lib.ListN.{length, take, drop, getD, set, replicate, length-append, length-drop, take-append-drop, length-map, length-set, List·getD-append, List·getD-map}
+use lib.ListN.{length, take, drop, getD, set, replicate, length-append}
+use lib.ListN.{length-drop, take-append-drop, length-map, length-set, List·getD-append, List·getD-map}
 use lib.Seq.{drop-cons, drop-length, getD-at, getD-set-same, getD-set-other, getD-take, length-take-le, take-suc-set, take-at, drop-at, take-append-le}
 use lib.Seq.{drop-append-le}
 use borrow.Author.Count.{below-more}
@@ -200,7 +201,8 @@ noneRead =
     record { ok = false; next = 0; starts = none; ends = none; versions = replicate 8 noVersion; differs = none; objects = none }
 
 pub sofar-none :
-    (s rows : List ℕ) (n at : ℕ) → at ≤ length s → 96 * n ≤ length rows → Sofar (times readSnapshot n (drop at s)) s rows noneRead n at 0 (length rows)
+    (s rows : List ℕ) (n at : ℕ) → at ≤ length s → 96 * n ≤ length rows →
+    Sofar (times readSnapshot n (drop at s)) s rows noneRead n at 0 (length rows)
 sofar-none s rows n at h l =
     let z : n - 0 ≡ n = omega arith in
     record {
@@ -349,7 +351,8 @@ module _ {p : Parse (List Snapshot)} {s rows : List ℕ} {r : SnapshotsRead} {n 
     unfolding times
     all-read =
         let z : n - j ≡ 0 = omega arith in
-        w .rest ∙ ap (λ (m : ℕ). prepend (w .xs) (times readSnapshot m (drop next s))) z ∙ ap (λ (l : List Snapshot). got l (drop next s)) (append-nil (w .xs))
+        w .rest ∙ ap (λ (m : ℕ). prepend (w .xs) (times readSnapshot m (drop next s))) z
+        ∙ ap (λ (l : List Snapshot). got l (drop next s)) (append-nil (w .xs))
 
     -- what is noted of all snapshots
     noted : (ns : List ℕ) (f : Snapshot → ℕ) → map (λ (k : ℕ). k) (take j ns) ≡ map f (w .xs) → take (length (w .xs)) ns ≡ map f (w .xs)
@@ -380,7 +383,8 @@ pub snapshot-read :
     r ≡ Found x next → SnapshotReads s at ats r → SnapshotStops s at x next ats
 snapshot-read {s} {at} {ats} h w = subst (SnapshotReads s at ats) h w
 
-pub snapshot-refused : (s : List ℕ) (at : ℕ) (ats : List ℕ) {r : SnapshotRead} → r ≡ NoSnapshot → SnapshotReads s at ats r → readSnapshot (drop at s) ≡ fail
+pub snapshot-refused :
+    (s : List ℕ) (at : ℕ) (ats : List ℕ) {r : SnapshotRead} → r ≡ NoSnapshot → SnapshotReads s at ats r → readSnapshot (drop at s) ≡ fail
 snapshot-refused s at ats h w = subst (SnapshotReads s at ats) h w
 
 -- ---- the whole
@@ -438,7 +442,8 @@ head-reads {p} {s} h w = subst (DossierHeadReads p s) h w
 pub head-refused : {p : Parse Head} (s : List ℕ) {r : DossierHeadRead} → r ≡ read.NoHead → DossierHeadReads p s r → p ≡ fail
 head-refused {p} s h w = subst (DossierHeadReads p s) h w
 
-pub head-none : (s : List ℕ) {r : DossierHeadRead} → r ≡ read.NoHead → DossierHeadReads (readDossierHead standard s) s r → dossierOf standard s ≡ none
+pub head-none :
+    (s : List ℕ) {r : DossierHeadRead} → r ≡ read.NoHead → DossierHeadReads (readDossierHead standard s) s r → dossierOf standard s ≡ none
 head-none s e w = let bad = head-refused s e w in no-dossier s (head-first s ∙ rw bad)
 
 -- the head x and the number n of snapshots are read, which stand from `at` on

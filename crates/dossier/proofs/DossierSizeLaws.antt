@@ -109,7 +109,8 @@ snapshots-short t (s ∷ ss) h v =
     let b = and-parts (snapshotValues t s) (eachSnapshot (snapshotValues t) ss) v in
     (fit-short t (map held (s .cells)) (cells-beyond isPresent (t .properties) (s .cells) (a .0)) (b .0), snapshots-short t ss (a .1) (b .1))
 
-pub versioned-sizes : (t : EventType) (ss : List Snapshot) → eachSnapshot (versionedSnapshot t) ss ≡ true → All (λ (s : Snapshot). sizes (s .cells) ≤ 32) ss
+pub versioned-sizes :
+    (t : EventType) (ss : List Snapshot) → eachSnapshot (versionedSnapshot t) ss ≡ true → All (λ (s : Snapshot). sizes (s .cells) ≤ 32) ss
 unfolding eachSnapshot versionedSnapshot
 versioned-sizes t [] h = tt
 versioned-sizes t (s ∷ ss) h =

@@ -127,7 +127,8 @@ module _ (m l u p s d : Bool) (A M L U P S D : ℕ) where
   abbrev above : ShapeMasks
   above = record { all = A; mandatory = M; lone = L; unmarked = U }
 
-  covered : eqb (bitAnd (bitOr (bitOf p + 2 * P) (bitOf d + 2 * D)) (bitOf m + 2 * M)) (bitOf m + 2 * M) ≡ ((not m || (p || d)) && eqb (bitAnd (bitOr P D) M) M)
+  covered :
+      eqb (bitAnd (bitOr (bitOf p + 2 * P) (bitOf d + 2 * D)) (bitOf m + 2 * M)) (bitOf m + 2 * M) ≡ ((not m || (p || d)) && eqb (bitAnd (bitOr P D) M) M)
   covered =
       ap (λ (n : ℕ). eqb (bitAnd n (bitOf m + 2 * M)) (bitOf m + 2 * M)) (or-bits p d P D)
       ∙ ap (λ (n : ℕ). eqb n (bitOf m + 2 * M)) (and-bits (p || d) m (bitOr P D) M)

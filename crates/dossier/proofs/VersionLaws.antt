@@ -48,7 +48,8 @@ holds-held v (holds s) = refl
 holds-held v differs = sym (equal-false sets [] (inDecimal v ∷ []) .1 (λ e. absurd (omega (arith, ap length e))))
 
 pub holds-here :
-    (y : Snapshot) (version mark : ℕ) → version ≡ y .version → {r : Bool} → r ≡ equal sets (held (cellAt y (mark - 1))) (inDecimal version ∷ []) →
+    (y : Snapshot) (version mark : ℕ) → version ≡ y .version → {r : Bool} →
+    r ≡ equal sets (held (cellAt y (mark - 1))) (inDecimal version ∷ []) →
     r ≡ holdsVersion (y .version) (cellAt y (mark - 1))
 holds-here y version mark v e =
     e ∙ ap (λ (n : ℕ). equal sets (held (cellAt y (mark - 1))) (inDecimal n ∷ [])) v ∙ sym (holds-held (y .version) (cellAt y (mark - 1)))
@@ -76,7 +77,8 @@ plainFits y = eqb (y .version) 0 && leb (sizes (y .cells)) 256
 abbrev pub datedFits : Snapshot → ℕ → Bool
 datedFits y mark = leb (sizes (y .cells)) 32 && holdsVersion (y .version) (cellAt y (mark - 1))
 
-module _ {s : List ℕ} {y : Snapshot} {x : SnapshotNumbers} {ats : List ℕ} (w : SnapshotIs s y x ats) {mark : ℕ} (ty : EventType) (m : mark ≡ ty .mark) where
+module _
+    {s : List ℕ} {y : Snapshot} {x : SnapshotNumbers} {ats : List ℕ} (w : SnapshotIs s y x ats) {mark : ℕ} (ty : EventType) (m : mark ≡ ty .mark) where
   plain : mark ≡ 0 → versionFits ty y ≡ plainFits y
   unfolding versionFits
   plain h = ap (λ (n : ℕ). cond (ltb 0 n) (datedFits y (ty .mark)) (plainFits y)) (sym m ∙ h)

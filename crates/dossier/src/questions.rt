@@ -84,8 +84,8 @@ fn ask_snapshots(
     properties: &[usize],
 ) -> u8
     requires { ⌜ (t .count ≤ 32) × (d .count ≤ 8) × (96 * d .count ≤ length (now rows)) × (length (now properties) ≡ 96) ⌝ }
-    ensures { λ r. ⌜ ((u : List ℕ) (ty : EventType) (h : Headed) → TypeIs u ty t (now (properties .entry)) → KindsAre ty → DossierIs (now (s .entry)) h d
-        → RowsAre (now (s .entry)) (h .snapshots) (now (rows .entry))
+    ensures { λ r. ⌜ ((u : List ℕ) (ty : EventType) (h : Headed) → TypeIs u ty t (now (properties .entry)) → KindsAre ty
+        → DossierIs (now (s .entry)) h d → RowsAre (now (s .entry)) (h .snapshots) (now (rows .entry))
         → r ≡ shapeNumber (dossierShape standard ty (h .snapshots)) (eachSnapshot (snapshotValues ty) (h .snapshots))) ⌝ }
 {
     if !is_lone(t.mark, d.count) {

@@ -171,7 +171,8 @@ fn holds_version(s: &[u8], sets: &[usize], version: EventVersion, mark: usize) -
 
 fn fits_by_version(s: &[u8], sets: &[usize], x: SnapshotNumbers, mark: usize) -> bool
     requires { ⌜ length (now sets) ≡ 96 ⌝ }
-    ensures { λ r. ⌜ ((y : Snapshot) (ty : EventType) → mark ≡ ty .mark → SnapshotIs (now (s .entry)) y x (now (sets .entry)) → r ≡ versionFits ty y) ⌝ }
+    ensures { λ r. ⌜ ((y : Snapshot) (ty : EventType) → mark ≡ ty .mark → SnapshotIs (now (s .entry)) y x (now (sets .entry))
+        → r ≡ versionFits ty y) ⌝ }
 {
     let version = x.version;
     if mark == 0 {
@@ -197,7 +198,8 @@ pub fn snapshot_fits(
     properties: &[usize],
 ) -> bool
     requires { ⌜ (count ≤ 32) × (length (now sets) ≡ 96) × (length (now properties) ≡ 96) ⌝ }
-    ensures { λ r. ⌜ ((u : List ℕ) (ty : EventType) (y : Snapshot) → mark ≡ ty .mark → PropertiesAre u (ty .properties) count (now (properties .entry))
+    ensures { λ r. ⌜ ((u : List ℕ) (ty : EventType) (y : Snapshot) → mark ≡ ty .mark
+        → PropertiesAre u (ty .properties) count (now (properties .entry))
         → MasksAre (isVersioned ty) (ty .properties) m → SnapshotIs (now (s .entry)) y x (now (sets .entry)) → r ≡ snapshotFits ty y) ⌝ }
 {
     if !cells_fit(m, count, x.differ, x.objects, sets) {

@@ -55,7 +55,8 @@ name-there counts s e h =
     let p = parentsBytes (e .head .parents) in
     let n = number (bitNumber (map presenceBit (e .sets))) in
     let x = setsBytes (e .sets) in
-    let b : s ≡ t ++ (u ++ (p ++ (n ++ x))) = w .0 ∙ append-assoc (t ++ u ++ p) n x ∙ append-assoc (t ++ u) p (n ++ x) ∙ append-assoc t u (p ++ (n ++ x)) in
+    let b : s ≡ t ++ (u ++ (p ++ (n ++ x))) = w .0 ∙ append-assoc (t ++ u ++ p) n x ∙ append-assoc (t ++ u) p (n ++ x)
+    ∙ append-assoc t u (p ++ (n ++ x)) in
     (u ++ (p ++ (n ++ x)), ap readText b ∙ text-read (e .head .type) (u ++ (p ++ (n ++ x))) (w .1 .head .type))
 
 module _ (counts : Counts) (s : List ℕ) (e : Event) (is-event : eventOf counts s ≡ some e) {r : TextAt} (told : r ≡ textAt s 0) where
@@ -118,7 +119,8 @@ module _ (event ats ps : List ℕ) (t : TableRead) (x : EventIndex) where
 
   -- what the table has of the event's type
   type-says :
-      (counts : Counts) {table : List ℕ} {name : Text} (g : TableGot table name ps t) → ((e : Event) → eventOf counts event ≡ some e → name ≡ e .head .type) →
+      (counts : Counts) {table : List ℕ} {name : Text} (g : TableGot table name ps t) →
+      ((e : Event) → eventOf counts event ≡ some e → name ≡ e .head .type) →
       (e : EventGot (eventOf counts event) event ats x) → TypeSays (typeNamed (e .what .head .type) (g .what)) table ps t
   type-says counts {table} g names e = subst (λ (n : Text). TypeSays (typeNamed n (g .what)) table ps t) (names (e .what) (e .is)) (g .says)
 
@@ -281,10 +283,12 @@ module _ (counts : Counts) (table event : List ℕ) (a : Typed) (taken : eventQu
 -- ---- the value call
 
 -- what is known of the value's place in the arm of a `match`
-pub found-value : {s : List ℕ} {e : Event} {place index a z : ℕ} {r : ValueAt} → r ≡ Value a z → ValueFound s e place index r → ValueStands s e place index a z
+pub found-value :
+    {s : List ℕ} {e : Event} {place index a z : ℕ} {r : ValueAt} → r ≡ Value a z → ValueFound s e place index r → ValueStands s e place index a z
 found-value {s} {e} {place} {index} h w = subst (ValueFound s e place index) h w
 
-pub found-none : (s : List ℕ) (e : Event) (place index : ℕ) {r : ValueAt} → r ≡ NoValue → ValueFound s e place index r → getElem? (setAt e place) index ≡ none
+pub found-none :
+    (s : List ℕ) (e : Event) (place index : ℕ) {r : ValueAt} → r ≡ NoValue → ValueFound s e place index r → getElem? (setAt e place) index ≡ none
 found-none s e place index h w = subst (ValueFound s e place index) h w
 
 abbrev pub nothing : Part
@@ -300,7 +304,8 @@ module _ (table event : List ℕ) (place index : ℕ) where
     unfolding valueCall askedPart partOf
     value-missing h = ap (askedPart place index) (a .is) ∙ ap (partOf (a .e) place index) h
 
-    pub value-is : (s z : ℕ) → ValueStands event (a .e) place index s z → valueCall table event place index ≡ record { bytes = part event s z; start = s }
+    pub value-is :
+        (s z : ℕ) → ValueStands event (a .e) place index s z → valueCall table event place index ≡ record { bytes = part event s z; start = s }
     unfolding valueCall askedPart partOf
     value-is s z v =
         ap (askedPart place index) (a .is) ∙ ap (partOf (a .e) place index) (v .some)

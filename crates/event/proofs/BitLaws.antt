@@ -83,7 +83,8 @@ pub record FilledTo (f : ℕ → Bool) (bits : List Bool) (k : ℕ) : Type 0 whe
 pub filled-none : {f : ℕ → Bool} {bits : List Bool} → length bits ≡ 32 → FilledTo f bits 0
 filled-none {f} {bits} h = record { long = h; each = below-none (λ (p : ℕ). getD bits p false ≡ f p) }
 
-pub filled-more : {f : ℕ → Bool} {bits : List Bool} {k : ℕ} {b : Bool} → FilledTo f bits k → k < 32 → b ≡ f k → FilledTo f (set bits k b) (k + 1)
+pub filled-more :
+    {f : ℕ → Bool} {bits : List Bool} {k : ℕ} {b : Bool} → FilledTo f bits k → k < 32 → b ≡ f k → FilledTo f (set bits k b) (k + 1)
 filled-more {f} {bits} {k} {b} w h e = record {
   long = length-set bits k b ∙ w .long;
   each =

@@ -126,7 +126,8 @@ high-bits b n h = omega arith
 pub half-small : (places n : ℕ) → n < 2 ^ suc places → n / 2 < 2 ^ places
 half-small places n h = let e = pow-succ' 2 places in omega arith
 
-pub sets-read : (xs : List (List Text)) (r : List ℕ) → All SetWritten xs → readSets (length xs) (bitNumber (map presenceBit xs)) (setsBytes xs ++ r) ≡ got xs r
+pub sets-read :
+    (xs : List (List Text)) (r : List ℕ) → All SetWritten xs → readSets (length xs) (bitNumber (map presenceBit xs)) (setsBytes xs ++ r) ≡ got xs r
 unfolding readSets bitNumber setsBytes flatten
 sets-read [] r w = refl
 sets-read (x ∷ xs) r w =

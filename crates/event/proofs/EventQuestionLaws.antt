@@ -175,7 +175,8 @@ event-fits table s t e a =
           (λ (l : p < length (e .sets)). empty-set (setAt e p) (each-place-past setFits isEmpty (t .properties) (e .sets) shape p l n))
           (λ (l : length (e .sets) ≤ p). List·getD-eq-default (e .sets) [] l)
           (lt-or-ge p (length (e .sets)));
-      values = λ p q n. in-space (q .kind) (setAt e p) (each-place-at (λ p s. areInSpace (p .kind) s) (λ s. true) (t .properties) (e .sets) (a .values) p q n);
+      values =
+          λ p q n. in-space (q .kind) (setAt e p) (each-place-at (λ p s. areInSpace (p .kind) s) (λ s. true) (t .properties) (e .sets) (a .values) p q n);
       matches = event-match t e (a .shape);
     }
 
@@ -239,7 +240,9 @@ module _ (t : EventType) (p : ℕ) where
         go false e h = never (cc (choice-every q e))
 
 -- a place at which the rule chooses has at most one value in each event
-pub least-few : (t : EventType) (e : Event) → TypeKept t → EventFits t e → (p : ℕ) (O : Order Text) → typeView t .choice p ≡ least O → length (setAt e p) ≤ 1
+pub least-few :
+    (t : EventType) (e : Event) → TypeKept t → EventFits t e → (p : ℕ) (O : Order Text) → typeView t .choice p ≡ least O →
+    length (setAt e p) ≤ 1
 least-few t e k a p O h =
     found (getElem? (t .properties) p)
     (λ q n. fits-single q (setAt e p) (a .fits p q n) (extreme-single (isVersioned t) q (k .fits p q n) (least-extreme t p q n O h)))

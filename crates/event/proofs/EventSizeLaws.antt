@@ -115,7 +115,9 @@ pub fit-short : (t : EventType) (xs : List (List Text)) → Beyond (t .propertie
 unfolding valuesFit eachPlace
 fit-short t xs b h = go (t .properties) xs b h
   where
-    go : (ps : List Property) (xs : List (List Text)) → Beyond ps xs → eachPlace (λ p s. areInSpace (p .kind) s) (λ s. true) ps xs ≡ true → ValuesShort xs
+    go :
+        (ps : List Property) (xs : List (List Text)) → Beyond ps xs → eachPlace (λ p s. areInSpace (p .kind) s) (λ s. true) ps xs ≡ true →
+        ValuesShort xs
     go [] xs b h = empty-short xs b
     go (p ∷ ps) [] b h = tt
     go (p ∷ ps) (x ∷ xs) b h = let a = and-parts (areInSpace (p .kind) x) _ h in (space-short (p .kind) x (a .0), go ps xs b (a .1))

@@ -33,7 +33,8 @@ pub record HeadWritten (most : ℕ) (h : Head) : Type 0 where
   pub parents : ParentsWritten most (h .parents)
 
 -- a layout whose value passes a test, read
-pub such-that : {A : Type 0} (t : A → Bool) (p : Layout A) (s : List ℕ) (a : A) (r : List ℕ) → p s ≡ got a r → t a ≡ true → suchThat t p s ≡ got a r
+pub such-that :
+    {A : Type 0} (t : A → Bool) (p : Layout A) (s : List ℕ) (a : A) (r : List ℕ) → p s ≡ got a r → t a ≡ true → suchThat t p s ≡ got a r
 such-that t p s a r e h = rw (e, h)
 
 pub source-length : (v : Text) → isSource v ≡ true → (1 ≤ length v) × (length v ≤ 120)
@@ -66,7 +67,8 @@ parents-read most hs r w =
 
 parents-are :
     (most n : ℕ) (s t u r : List ℕ) (ys hs : List Text) → (s ≡ number n ++ t) × (n < 2 ^ 64) → n ≤ most →
-    (t ≡ flatten (map (λ (h : Text). h) ys) ++ u) × (length ys ≡ n) × All (λ (h : Text). length h ≡ 20) ys → rising texts ys ≡ true → ys ≡ hs →
+    (t ≡ flatten (map (λ (h : Text). h) ys) ++ u) × (length ys ≡ n) × All (λ (h : Text). length h ≡ 20) ys → rising texts ys ≡ true →
+    ys ≡ hs →
     u ≡ r → (s ≡ parentsBytes hs ++ r) × ParentsWritten most hs
 unfolding parentsBytes
 parents-are most n s t u r ys hs a l b up e f =
@@ -75,7 +77,8 @@ parents-are most n s t u r ys hs a l b up e f =
       record { within = omega arith; few = omega arith; each = b .2; rises = up },
     )
 
-pub parents-was : (most : ℕ) (s : List ℕ) (hs : List Text) (r : List ℕ) → readParents most s ≡ got hs r → (s ≡ parentsBytes hs ++ r) × ParentsWritten most hs
+pub parents-was :
+    (most : ℕ) (s : List ℕ) (hs : List Text) (r : List ℕ) → readParents most s ≡ got hs r → (s ≡ parentsBytes hs ++ r) × ParentsWritten most hs
 unfolding readParents
 parents-was most s hs r e =
     let c = andThen-got (suchThat (λ (n : ℕ). leb n most) readNumber s) _ hs r e in
@@ -103,7 +106,9 @@ head-read most h r w =
       parents-read most (h .parents) r (w .parents),
     )
 
-head-bytes : (s t u r : List ℕ) (h : Head) → s ≡ text (h .type) ++ t → t ≡ text (h .source) ++ u → u ≡ parentsBytes (h .parents) ++ r → s ≡ headBytes h ++ r
+head-bytes :
+    (s t u r : List ℕ) (h : Head) → s ≡ text (h .type) ++ t → t ≡ text (h .source) ++ u → u ≡ parentsBytes (h .parents) ++ r →
+    s ≡ headBytes h ++ r
 unfolding headBytes
 head-bytes s t u r h a b c =
     a
@@ -126,7 +131,9 @@ head-was most s h r e =
     (head-bytes s (c .left) (d .left) (f .left) g (x .0) (y .0) (z .0))
     (record { type = x .1; source = n .test; parents = z .1 })
   where
-    go : (g : Head) (left : List ℕ) → got g left ≡ got h r → s ≡ headBytes g ++ left → HeadWritten most g → (s ≡ headBytes h ++ r) × HeadWritten most h
+    go :
+        (g : Head) (left : List ℕ) → got g left ≡ got h r → s ≡ headBytes g ++ left → HeadWritten most g →
+        (s ≡ headBytes h ++ r) × HeadWritten most h
     go g left e b w =
         let f : g ≡ h = cc in
         let k : left ≡ r = cc in (
@@ -152,7 +159,8 @@ module _ {name source hashes : List ℕ} (h : Head) (w : HeadParts name source h
   head-count = omega (arith, ap length (w .parents), hashes-size (h .parents) (w .each))
 
   -- how long the parts are together
-  parts-length : (n : ℕ) → n ≡ length hashes / 20 → length (headBytes h) ≡ length (text name) + length (text source) + length (number n) + length hashes
+  parts-length :
+      (n : ℕ) → n ≡ length hashes / 20 → length (headBytes h) ≡ length (text name) + length (text source) + length (number n) + length hashes
   parts-length n e =
       let name-same = ap (λ (v : Text). length (text v)) (w .type) in
       let source-same = ap (λ (v : Text). length (text v)) (w .uri) in

@@ -88,7 +88,9 @@ module _ {s : List ℕ} {at count pos left : ℕ} (w : TextsTo s at count pos le
       here (v ∷ vs) r b k l = absurd (omega arith)
 
   module _ (small : length s < 2 ^ 64) (h : 0 < left) where
-    first-text : (v : Text) (vs : List Text) (r : List ℕ) → drop pos s ≡ flatten (map text (v ∷ vs)) ++ r → drop pos s ≡ text v ++ (flatten (map text vs) ++ r)
+    first-text :
+        (v : Text) (vs : List Text) (r : List ℕ) → drop pos s ≡ flatten (map text (v ∷ vs)) ++ r →
+        drop pos s ≡ text v ++ (flatten (map text vs) ++ r)
     unfolding flatten
     first-text v vs r b = b ∙ append-assoc (text v) (flatten (map text vs)) r
 
@@ -177,7 +179,8 @@ module _ {s : List ℕ} {at count pos left : ℕ} (w : SetsTo s at count pos lef
     sets-bad e = w .on pos λ xs r b k l.
         absurd (number-there s small pos k (length (first xs r b l .vs)) _ (next-few xs r b l) (here xs r b l) e)
 
-    pub sets-more : {n start to : ℕ} {o : NumberAt} → o ≡ numberAt s pos → o ≡ Number n start → TextsSkipped s start n to → SetsTo s at count to (left - 1)
+    pub sets-more :
+        {n start to : ℕ} {o : NumberAt} → o ≡ numberAt s pos → o ≡ Number n start → TextsSkipped s start n to → SetsTo s at count to (left - 1)
     unfolding values others
     sets-more {n} {start} {to} told is skip = record {
       on = λ end f. w .on end λ xs r b k l.
@@ -348,7 +351,8 @@ module _
         let f : x .«after_presence» ≡ length (headBytes (e .head)) + length (number (x .presence)) =
         sym (length-take-le (x .«after_presence») s (is .within)) ∙ ap length (is .front)
         ∙ length-append (headBytes (e .head)) (number (x .presence)) in
-        let g : length (number (x .presence)) ≡ length (number (bitNumber (map presenceBit (e .sets)))) = ap (λ (n : ℕ). length (number n)) (is .presence) in
+        let g : length (number (x .presence)) ≡ length (number (bitNumber (map presenceBit (e .sets)))) = ap (λ (n : ℕ). length (number n))
+        (is .presence) in
         record {
           some = element (setAt e place) index [] inside ∙ ap some (sym (b .0));
           start = simp length-append (omega (arith, b .1, passed .far, counted .far, skipped .far, f, g));

@@ -54,7 +54,8 @@ flat-same (v ∷ vs) (w ∷ ws) h e =
     let b : flatten (map text vs) ≡ flatten (map text ws) = cc in
     ap₂ {C = List Text} (λ x xs. x ∷ xs) a (flat-same vs ws (omega (arith, flat-more v vs)) b)
 
-pub flat-equal : (vs ws : List Text) → length (flatten (map text vs)) < 2 ^ 64 → equal texts (flatten (map text vs)) (flatten (map text ws)) ≡ equal sets vs ws
+pub flat-equal :
+    (vs ws : List Text) → length (flatten (map text vs)) < 2 ^ 64 → equal texts (flatten (map text vs)) (flatten (map text ws)) ≡ equal sets vs ws
 flat-equal vs ws h =
     bool-iff (equal texts (flatten (map text vs)) (flatten (map text ws))) (equal sets vs ws)
     (λ e. equal-true sets vs ws .1 (flat-same vs ws h (equal-true texts (flatten (map text vs)) (flatten (map text ws)) .0 e)))
@@ -134,9 +135,11 @@ module _ (s : List ℕ) (ty : EventType) (n : ℕ) (ps : List ℕ) (w : Properti
 -- ---- the same, of the numbers of a type and of two events
 
 -- so much is known of them
-abbrev Matched : ℕ → List ℕ → List ℕ → List ℕ → List ℕ → List ℕ → (EventType → List (List Text) → List (List Text) → Type 0) → Type 0
+abbrev Matched :
+    ℕ → List ℕ → List ℕ → List ℕ → List ℕ → List ℕ → (EventType → List (List Text) → List (List Text) → Type 0) → Type 0
 Matched count ps a ats b bts f =
-    (s : List ℕ) (ty : EventType) (xs ys : List (List Text)) → PropertiesAre s (ty .properties) count ps → SetsAre a xs ats → SetsAre b ys bts → f ty xs ys
+    (s : List ℕ) (ty : EventType) (xs ys : List (List Text)) → PropertiesAre s (ty .properties) count ps → SetsAre a xs ats →
+    SetsAre b ys bts → f ty xs ys
 
 -- the match sets are the same if those from place k on are
 pub record SameTo (count : ℕ) (ps a ats b bts : List ℕ) (k : ℕ) : Type 0 where

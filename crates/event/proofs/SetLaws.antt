@@ -564,7 +564,8 @@ record Next (vs : List Text) (v : Text) (r : List ℕ) : Type 0 where
   all : vs ≡ v ∷ more
   bytes : r ≡ flatten (map text more)
 
-next : (t : List ℕ) (v : Text) (r : List ℕ) (vs : List Text) → length t < 2 ^ 64 → readText t ≡ got v r → t ≡ flatten (map text vs) → Next vs v r
+next :
+    (t : List ℕ) (v : Text) (r : List ℕ) (vs : List Text) → length t < 2 ^ 64 → readText t ≡ got v r → t ≡ flatten (map text vs) → Next vs v r
 unfolding flatten
 next t v r [] l h e =
     let w = text-was t v r h .0 in

@@ -85,7 +85,8 @@ module _ {s : List ℕ} {x : SetAt} {start : ℕ} (e : start ≡ x .start - coun
   copy-room p = (omega (arith, e, p .is .order), p .is .within, omega (arith, p .room, ap length (whole-set (p .values) (p .is))))
 
   pub copied-set :
-      {l l₁ : List ℕ} {at next : ℕ} → Wrote l at (part s start (x .end)) l₁ next → (vs : List Text) → SetIs s vs x → Wrote l at (setBytes vs) l₁ next
+      {l l₁ : List ℕ} {at next : ℕ} → Wrote l at (part s start (x .end)) l₁ next → (vs : List Text) → SetIs s vs x →
+      Wrote l at (setBytes vs) l₁ next
   copied-set w vs is = wrote-as (whole-set vs is) w
 
 -- ---- runs
@@ -175,7 +176,10 @@ module _ {s ats l₀ : List ℕ} {at presence : ℕ} {l : List ℕ} {r : Run} {b
       each = λ xs are.
           let none : presentBytes bits (drop k xs) ≡ presentBytes (bits / 2) (drop (k + 1) xs) = step xs are ∙ rw (ne-eqb (bits % 2) 1 e) in
           let o = w .each xs are in
-          record { run = o .run; to-write = subst (λ (z : List ℕ). ToGo l₀ at (presentBytes presence xs) l (r .to) (runBytes s r ++ z)) none (o .to-write) };
+          record {
+            run = o .run;
+            to-write = subst (λ (z : List ℕ). ToGo l₀ at (presentBytes presence xs) l (r .to) (runBytes s r ++ z)) none (o .to-write);
+          };
     }
 
     pub runs-more :

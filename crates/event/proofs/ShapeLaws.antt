@@ -72,7 +72,8 @@ none-past (x ∷ xs) (suc i) e = omega (arith, none-past xs i e)
 pub place-said :
     {A : Type 0} (s : List ℕ) (t : EventType) (n : ℕ) (ps : List ℕ) (k : ℕ) (b : A) (f : Property → A) (a : A) →
     PropertiesAre s (t .properties) n ps → ltb k n ≡ true →
-    ((q : Property) → getElem? (t .properties) k ≡ some q → PropertyIs s q (propertyIn ps k) → a ≡ f q) → a ≡ atPlace b f (getElem? (t .properties) k)
+    ((q : Property) → getElem? (t .properties) k ≡ some q → PropertyIs s q (propertyIn ps k) → a ≡ f q) →
+    a ≡ atPlace b f (getElem? (t .properties) k)
 unfolding atPlace
 place-said s t n ps k b f a w h g = go (getElem? (t .properties) k) refl
   where
@@ -176,7 +177,8 @@ module _ {count : ℕ} {ps : List ℕ} {objects : ℕ} {ats : List ℕ} {left ma
     place-inside is = omega (arith, inside, is .long)
 
     objects-here :
-        {event : List ℕ} {xs : List (List Text)} → SetsAre event xs ats → objectCount (drop k xs) ≡ length (getD xs k []) + objectCount (drop (k + 1) xs)
+        {event : List ℕ} {xs : List (List Text)} → SetsAre event xs ats →
+        objectCount (drop k xs) ≡ length (getD xs k []) + objectCount (drop (k + 1) xs)
     objects-here {xs} is = objects-step k xs (place-inside is)
 
     property-read : {s : List ℕ} {q : Property} → PropertyIs s q (propertyIn ps k) → PropertyIs s q p
@@ -187,7 +189,8 @@ module _ {count : ℕ} {ps : List ℕ} {objects : ℕ} {ats : List ℕ} {left ma
         absurd (omega (arith, w .shape table event t x are is n .objects, objects-here is, set-count is))
 
     -- the set fits as is answered
-    module _ {fits : Bool} (asked : (s : List ℕ) (q : Property) (vs : List Text) → PropertyIs s q p → v .count ≡ length vs → fits ≡ setFits q vs) where
+    module _
+        {fits : Bool} (asked : (s : List ℕ) (q : Property) (vs : List Text) → PropertyIs s q p → v .count ≡ length vs → fits ≡ setFits q vs) where
       fit-next : Shaped count ps objects ats (λ t x. fitFrom t x 0 ≡ (fits && fitFrom t x (k + 1)))
       fit-next table event t x are is n =
           let vs = getD (x .sets) k [] in

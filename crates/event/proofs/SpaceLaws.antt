@@ -120,7 +120,8 @@ place-space table y n ps k vs r w kinds h f =
 
 -- the kind of a property that was taken from the numbers
 kind-read :
-    {p q : PropertyAt} {a : Kind} → p ≡ q → kindOf (q .kind) (q .size) (q .after) (q .sign) ≡ some a → kindOf (p .kind) (p .size) (p .after) (p .sign) ≡ some a
+    {p q : PropertyAt} {a : Kind} → p ≡ q → kindOf (q .kind) (q .size) (q .after) (q .sign) ≡ some a →
+    kindOf (p .kind) (p .size) (p .after) (p .sign) ≡ some a
 kind-read {p} {q} e is = ap (λ (x : PropertyAt). kindOf (x .kind) (x .size) (x .after) (x .sign)) e ∙ is
 
 -- where there is no property, nothing is asked

@@ -70,7 +70,8 @@ part-between x v r =
     rw (n, drop-append-seam x (v ++ r)) (take-append-seam v r)
 
 -- a value's part stands in its event
-value-there : (e : Event) (place index : ℕ) (v : Text) → getElem? (setAt e place) index ≡ some v → StandsIn (eventBytes e) (partOf e place index (some v))
+value-there :
+    (e : Event) (place index : ℕ) (v : Text) → getElem? (setAt e place) index ≡ some v → StandsIn (eventBytes e) (partOf e place index (some v))
 unfolding partOf
 value-there e place index v h =
     let (r, q) = value-between e place index v h in

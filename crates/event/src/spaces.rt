@@ -63,8 +63,8 @@ fn are_in_space(v: &[u8], kind: u8, size: u8, after: u8, sign: u8) -> bool
 // Whether each value of the sets is in its property's space. A place without a property is asked nothing.
 pub fn sets_in_space(s: &[u8], sets: &[usize], count: usize, properties: &[usize]) -> bool
     requires { ⌜ (length (now sets) ≡ 96) × (length (now properties) ≡ 96) ⌝ }
-    ensures { λ r. ⌜ ((u : List ℕ) (ty : EventType) (xs : List (List Text)) → PropertiesAre u (ty .properties) count (now (properties .entry)) → KindsAre ty
-        → SetsAre (now (s .entry)) xs (now (sets .entry)) → r ≡ valuesFit ty xs) ⌝ }
+    ensures { λ r. ⌜ ((u : List ℕ) (ty : EventType) (xs : List (List Text)) → PropertiesAre u (ty .properties) count (now (properties .entry))
+        → KindsAre ty → SetsAre (now (s .entry)) xs (now (sets .entry)) → r ≡ valuesFit ty xs) ⌝ }
 {
     let mut k: usize = 0;
     while k < 32 && k < count {

@@ -78,7 +78,8 @@ text-short {table} {event} a =
     let w = event-accepted wide (o .what) event (a .type) (a .e) (o .asked) in
     (event-match (a .type) (a .e) (w .shape), hash-short table event (o .what) (record { type = a .type; event = a .e }) (o .is) (o .asked))
 
-abbrev pub hashable : {table event ps ats : List ℕ} {r : EventAsked} → Accepted wide table event ps ats r → Hashable table event (r .type) ps (r .event) ats
+abbrev pub hashable :
+    {table event ps ats : List ℕ} {r : EventAsked} → Accepted wide table event ps ats r → Hashable table event (r .type) ps (r .event) ats
 hashable a =
     let (few, short) = text-short a in
     record { type = a .type; event = a .e; typed = a .type-is; read = a .event-is; few = few; short = short }
@@ -117,7 +118,8 @@ module _ (table event out : List ℕ) where
   text-small h = rw (asked-small table event hashTextCapacity (length out) h)
 
   pub text-refused :
-      (n : ℕ) → hashTextCapacity ≤ length out → eventQuestions wide table event ≡ refused n → replies (Refused n) out ≡ hashTextCall table event out
+      (n : ℕ) → hashTextCapacity ≤ length out → eventQuestions wide table event ≡ refused n →
+      replies (Refused n) out ≡ hashTextCall table event out
   unfolding hashTextCall hashTextAnswer
   text-refused n h e = rw (asked-refused table event hashTextCapacity (length out) n h e)
 

@@ -67,7 +67,8 @@ module _ {event : List ℕ} {rest : List Text} {at left : ℕ} {tail : List ℕ}
       go [] l = refl
       go (v ∷ us) l = absurd (omega arith)
 
-  bytes-of : (v : Text) (us : List Text) → drop at event ≡ flatten (map text (v ∷ us)) ++ tail → drop at event ≡ text v ++ (flatten (map text us) ++ tail)
+  bytes-of :
+      (v : Text) (us : List Text) → drop at event ≡ flatten (map text (v ∷ us)) ++ tail → drop at event ≡ text v ++ (flatten (map text us) ++ tail)
   unfolding flatten
   bytes-of v us b = b ∙ append-assoc (text v) (flatten (map text us)) tail
 
@@ -155,7 +156,8 @@ module _
         subst (λ (us : List Text). Gathered table event xs n ys m (named table name colon us)) (sym all) (w .have)
 
 -- The first n of `objects` are the first `count` of `objects₀` with the values of a set but for `left` of them, which stand at `at`
-pub record GatheringTo (table event : List ℕ) (name colon : ℕ) (objects₀ : List ℕ) (count at₀ left₀ : ℕ) (objects : List ℕ) (n at left : ℕ) : Type 0 where
+pub record GatheringTo
+    (table event : List ℕ) (name colon : ℕ) (objects₀ : List ℕ) (count at₀ left₀ : ℕ) (objects : List ℕ) (n at left : ℕ) : Type 0 where
   pub size : length objects ≡ 128
   pub fit : StringsFit table event (stringsIn objects) n
   pub few : n + left ≤ 32
@@ -327,7 +329,8 @@ module _ {table event : List ℕ} where
     pub gathered-all :
         count ≤ place →
         StringsFit table event (stringsIn objects) n
-        × ((h : Gatherable table event count ps ats) → stringsOf table event (stringsIn objects) n ≡ sorted texts (objectStrings (h .properties) (h .sets)))
+        × ((h : Gatherable table event count ps ats) →
+        stringsOf table event (stringsIn objects) n ≡ sorted texts (objectStrings (h .properties) (h .sets)))
     unfolding objectStrings
     gathered-all past = (
       g .fit,

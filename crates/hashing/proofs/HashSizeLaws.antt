@@ -21,7 +21,8 @@ use Rattle.hashing.specs.HashText.{objectString, objectStrings, separate
 -- ---- sorting keeps the number of texts and of their bytes
 
 module _ (O : Order Text) where
-  insert-size : (a : Text) (xs : List Text) → (length (insert O a xs) ≡ suc (length xs)) × (length (flatten (insert O a xs)) ≡ length a + length (flatten xs))
+  insert-size :
+      (a : Text) (xs : List Text) → (length (insert O a xs) ≡ suc (length xs)) × (length (flatten (insert O a xs)) ≡ length a + length (flatten xs))
   unfolding insert flatten
   insert-size a [] = (refl, length-append a [])
   insert-size a (b ∷ xs) =

@@ -123,5 +123,6 @@ module _ {table event : List ℕ} (numbers : List ℕ) {count : ℕ} (fits : Str
       following-start h = record { room = omega (arith, first-length, w .after, wrote-length w); go = to-go }
 
       pub wrote-all :
-          {out : List ℕ} {next : ℕ} (i : ℕ) → Following table event numbers count l₁ b out next i → count ≤ i → Wrote l at (separated strings) out next
+          {out : List ℕ} {next : ℕ} (i : ℕ) → Following table event numbers count l₁ b out next i → count ≤ i →
+          Wrote l at (separated strings) out next
       wrote-all i g h = rw strings-first (wrote-then w (all-gone (g .go) (strings-last i h)))

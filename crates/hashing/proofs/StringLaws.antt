@@ -81,7 +81,8 @@ apart-append (x ∷ xs) ys h k l = (all-append (λ y. x ≡ y → ⊥) xs ys (h 
 
 -- what is so of every string of a name is so of a set's strings
 named-all :
-    (P : Text → Type 0) (b : Bool) (name : Text) (s : List Text) → ((v : Text) → P (objectString name v)) → All P (cond b (map (objectString name) s) [])
+    (P : Text → Type 0) (b : Bool) (name : Text) (s : List Text) → ((v : Text) → P (objectString name v)) →
+    All P (cond b (map (objectString name) s) [])
 named-all P false name s h = tt
 named-all P true name s h = go s
   where

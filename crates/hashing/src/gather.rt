@@ -69,7 +69,8 @@ pub fn gather(
         × (length (now objects) ≡ 128) ⌝ }
     ensures fit { λ r. ⌜ StringsFit (now (table .entry)) (now (event .entry)) (stringsIn (now (objects .exit))) r ⌝ }
     ensures { λ r. ⌜ ((h : Gatherable (now (table .entry)) (now (event .entry)) count (now (properties .entry)) (now (sets .entry)))
-        → stringsOf (now (table .entry)) (now (event .entry)) (stringsIn (now (objects .exit))) r ≡ sorted texts (objectStrings (h .properties) (h .sets))) ⌝ }
+        → stringsOf (now (table .entry)) (now (event .entry)) (stringsIn (now (objects .exit))) r
+        ≡ sorted texts (objectStrings (h .properties) (h .sets))) ⌝ }
 {
     let mut n: usize = 0;
     let mut place: usize = 0;

@@ -39,7 +39,8 @@ pub fn write_objects(
     at: usize,
 ) -> usize
     requires { ⌜ StringsFit (now table) (now event) (stringsIn (now objects)) count
-        × (at + length (separated (stringsOf (now table) (now event) (stringsIn (now objects)) count)) ≤ length (now out)) × (length (now objects) ≡ 128) ⌝ }
+        × (at + length (separated (stringsOf (now table) (now event) (stringsIn (now objects)) count)) ≤ length (now out))
+        × (length (now objects) ≡ 128) ⌝ }
     ensures { λ r. ⌜ Wrote (now (out .entry)) at (separated (stringsOf (now (table .entry)) (now (event .entry)) (stringsIn (now (objects .entry))) count))
         (now (out .exit)) r ⌝ }
 {

@@ -66,7 +66,8 @@ combined-refused h e = in-arm (λ r. packed (combineReplied r)) h e
 
 -- ---- the arms of what opening finds
 
-pub found-conflict : {f : Finding} {v : EventVersion} {p k : ℕ} → f ≡ Conflict v p → k ≡ low p → 144115188075855872 + k ≡ packedFinding (findingOf f)
+pub found-conflict :
+    {f : Finding} {v : EventVersion} {p k : ℕ} → f ≡ Conflict v p → k ≡ low p → 144115188075855872 + k ≡ packedFinding (findingOf f)
 unfolding packedFinding kinded
 found-conflict h e = in-arm (λ f. packedFinding (findingOf f)) h (ap (λ (k : ℕ). 144115188075855872 + k) e)
 
@@ -102,7 +103,8 @@ pub version-merged : {r : Opened} {n : ℕ} (old : ℕ) → r ≡ Merged n → o
 unfolding versionAfter
 version-merged old h = in-arm (λ r. versionAfter (openReplied r) old) h refl
 
-pub version-found : {r : Opened} {f : Finding} {k : ℕ} (old : ℕ) → r ≡ Found f → k ≡ versionOr (findingOf f) old → k ≡ versionAfter (openReplied r) old
+pub version-found :
+    {r : Opened} {f : Finding} {k : ℕ} (old : ℕ) → r ≡ Found f → k ≡ versionOr (findingOf f) old → k ≡ versionAfter (openReplied r) old
 unfolding versionAfter
 version-found old h e = in-arm (λ r. versionAfter (openReplied r) old) h e
 
@@ -132,7 +134,8 @@ unfolding tableReplied
 answered-accepted h e w = e ∙ ap packed (ap tableReplied (sym h) ∙ w)
 
 pub answered-refused :
-    {n k : ℕ} {r : TableReply} {o : answers.Reply} → r ≡ table.Refused k → n ≡ packed (answers.Reply.refused k) → tableReplied r ≡ o → n ≡ packed o
+    {n k : ℕ} {r : TableReply} {o : answers.Reply} → r ≡ table.Refused k → n ≡ packed (answers.Reply.refused k) → tableReplied r ≡ o →
+    n ≡ packed o
 unfolding tableReplied
 answered-refused h e w = e ∙ ap packed (ap tableReplied (sym h) ∙ w)
 

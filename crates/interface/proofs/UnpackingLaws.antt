@@ -64,7 +64,9 @@ reply-read kind k (Reply.found (overfullAt p)) reply t =
 reply-read kind k (Reply.refused n) reply t = read-refusal n 0 reply t
 reply-read kind k (Reply.refusedAt n i) reply t = read-refusal n i reply t
 
-call-told : {A : Type 0} (kind : ℕ) → kind < 2 → {size : ℕ} {reply : A → Reply} → ((a : A) → Bounded size (reply a)) → size < 2 ^ 32 → CallTold kind reply
+call-told :
+    {A : Type 0} (kind : ℕ) → kind < 2 → {size : ℕ} {reply : A → Reply} → ((a : A) → Bounded size (reply a)) → size < 2 ^ 32 →
+    CallTold kind reply
 call-told {A} kind k {size} {reply} h l = record { tells = told; same = λ a b e. sym (read a) ∙ ap (λ (n : ℕ). readAs (kindOf n) n) e ∙ read b }
   where
     told : (a : A) → Tells kind (reply a) (packedAs kind (reply a))

@@ -94,6 +94,7 @@ pub record Told : Type 0 where
   pub hashText : CallTold 0 (λ ((table, event, old) : List ℕ × List ℕ × List ℕ). hashTextCall table event old .reply)
   pub hash : CallTold 0 (λ ((table, event, old) : List ℕ × List ℕ × List ℕ). hashCall table event old .reply)
   -- "gets the value's own bytes in the caller's event": its number tells where they stand
-  pub value : (table event : List ℕ) (place index : ℕ) → PartTold event (valueCall table event place index) (packedPart (valueCall table event place index))
+  pub value :
+      (table event : List ℕ) (place index : ℕ) → PartTold event (valueCall table event place index) (packedPart (valueCall table event place index))
   pub batch : CallTold 0 (λ ((rooms, table, batch, old) : Rooms × List ℕ × List ℕ × List ℕ). batchCall standard rooms table batch old .reply)
   pub report : CallTold 0 (λ ((input, old) : List ℕ × List ℕ). reportCall input old .reply)

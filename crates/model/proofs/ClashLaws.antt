@@ -4,7 +4,8 @@ use mathlib.Core.Path.{_≡_, refl, sym, _∙_, ap}
 use mathlib.Core.Logic.{inl, inr, ⊎-elim, _↔_}
 use mathlib.Core.Bool.{Bool, true, false}
 use mathlib.Core.Option.{Option, none, some}
-use mathlib.Core.List.{List, [], _∷_, map, List·Memᴰ, List·Memᴰ·head, List·Memᴰ·tail, List·Memᴰ·cases-cons, List·Memᴰ·not-nil, Memᴰ·map, Memᴰ·of-map, Memᴰ·cast}
+use mathlib.Core.List.{List, [], _∷_, map, List·Memᴰ, List·Memᴰ·head}
+use mathlib.Core.List.{List·Memᴰ·tail, List·Memᴰ·cases-cons, List·Memᴰ·not-nil, Memᴰ·map, Memᴰ·of-map, Memᴰ·cast}
 use Prim.Native.Nat.{ℕ, _≤_, _<_}
 use native.Mathlib.Omega.{arith}
 use Rattle.model.specs.Order.{Text, numbers}
@@ -12,7 +13,8 @@ use Rattle.model.specs.Keyed.{Rising}
 use Rattle.model.specs.Sets.{Ups, itself, canon}
 use Rattle.model.specs.Rule.{Cell, holds, differs, Choice, TypeView, View, places, Snapshot, Dossier, agreed, cell, ofVersion, cellOf, snapshot, ruleAt}
 use Rattle.model.specs.Rule.{rule}
-use Rattle.model.specs.Opening.{finds, lowest, cellAt, isMark, Conflict, noConflict, differsAt, marked, orLater, conflict, conflictAt, overfullAt, merged}
+use Rattle.model.specs.Opening.{finds, lowest, cellAt, isMark, Conflict, noConflict, differsAt}
+use Rattle.model.specs.Opening.{marked, orLater, conflict, conflictAt, overfullAt, merged}
 use Rattle.model.specs.Opening.{firstOf, overfull, mergedSets, opening}
 use Rattle.model.specs.Clashes.{Clash, NotBefore, FirstClash, NoClash}
 use Rattle.model.proofs.Cases.{never, truth, found}
@@ -98,7 +100,9 @@ module _ (ps : List ℕ) (up : Ups numbers ps) where
             (List·Memᴰ·cases-cons n),
       ))
 
-  pub conflict-none : (ss : List Snapshot) → conflict ps ss ≡ noConflict → (r : Snapshot) (q : ℕ) → List·Memᴰ r ss → List·Memᴰ q ps → cellAt r q ≡ differs → ⊥
+  pub conflict-none :
+      (ss : List Snapshot) → conflict ps ss ≡ noConflict → (r : Snapshot) (q : ℕ) → List·Memᴰ r ss → List·Memᴰ q ps →
+      cellAt r q ≡ differs → ⊥
   unfolding conflict orLater marked
   conflict-none [] h r q m n k = List·Memᴰ·not-nil m
   conflict-none (s ∷ ss) h r q m n k =
@@ -168,7 +172,8 @@ module _ {Event : Type 0} (t : View Event) (es : List Event) where
   unfolding rule ofVersion setsAt
   of-clash v p k =
       let f : Event → List Text = λ e. t .event .set e p in (
-        Memᴰ·map (ruleAt t es) (canon-in numbers (map (t .event .version) es) v (Memᴰ·cast (sym (k .oneVersion)) (Memᴰ·map (t .event .version) (k .oneIn)))),
+        Memᴰ·map (ruleAt t es) (canon-in numbers (map (t .event .version) es) v
+            (Memᴰ·cast (sym (k .oneVersion)) (Memᴰ·map (t .event .version) (k .oneIn)))),
         cell-at-rule t es v p (k .place)
             ∙ (at-agreed (k .versioned) v p
             ∙ differs-agreed (map f (ofVersion t v es)) (f (k .one)) (f (k .other))
@@ -178,7 +183,9 @@ module _ {Event : Type 0} (t : View Event) (es : List Event) where
       )
 
   -- a mark of the rule's snapshots is a clash
-  mark-clash : (s : Snapshot) (p : ℕ) → List·Memᴰ s (rule t es .snapshots) → List·Memᴰ p (places (t .type)) → cellAt s p ≡ differs → Clash t es (s .version) p
+  mark-clash :
+      (s : Snapshot) (p : ℕ) → List·Memᴰ s (rule t es .snapshots) → List·Memᴰ p (places (t .type)) → cellAt s p ≡ differs →
+      Clash t es (s .version) p
   unfolding rule ruleAt snapshot
   mark-clash s p m n h =
       let (v, k, q) = Memᴰ·of-map (ruleAt t es) (canon numbers (map (t .event .version) es)) m in

@@ -14,7 +14,8 @@ use Rattle.model.specs.Opening.{cellAt}
 use Rattle.model.proofs.WayClaims.{Each, Has}
 use Rattle.model.proofs.Cases.{never}
 use Rattle.model.proofs.SetLaws.{ups-canon, canon-ups, canon-in, canon-of}
-use Rattle.model.proofs.ValidLaws.{agreed-holds, agreed-all, held-value, held-rises, held-some, held-least, not-unversioned, alike, cell-one, in-places}
+use Rattle.model.proofs.ValidLaws.{agreed-holds, agreed-all, held-value, held-rises, held-some}
+use Rattle.model.proofs.ValidLaws.{held-least, not-unversioned, alike, cell-one, in-places}
 use Rattle.model.proofs.ValidLaws.{cell-at-snapshot, sizes-held}
 
 module _ {Event : Type 0} (t : View Event) (es : List Event) where
@@ -37,7 +38,8 @@ module _ {Event : Type 0} (t : View Event) (es : List Event) where
 
   module _ (z : Snapshot) (m : List·Memᴰ z (rule t es .snapshots)) where
     -- a snapshot is that of some events, all of its version
-    pub snapshot-events : (fs : List Event) × Has fs × Each (λ e. List·Memᴰ e es × (t .event .version e ≡ z .version)) fs × (z ≡ snapshot t (z .version) fs)
+    pub snapshot-events :
+        (fs : List Event) × Has fs × Each (λ e. List·Memᴰ e es × (t .event .version e ≡ z .version)) fs × (z ≡ snapshot t (z .version) fs)
     unfolding rule ruleAt snapshot ofVersion
     snapshot-events =
         let (v, n, q) = Memᴰ·of-map (ruleAt t es) (canon numbers (map (t .event .version) es)) m in
@@ -65,7 +67,8 @@ module _ {Event : Type 0} (t : View Event) (es : List Event) where
     module _ (p : ℕ) (lt : p < t .type .width) where
       -- the cell of a place, from the sets that the snapshot's events have there
       cell-sets :
-          (ss : List (List Text)) × Has ss × Each (λ s. (e : Event) × List·Memᴰ e es × (t .event .version e ≡ z .version) × (t .event .set e p ≡ s))
+          (ss : List (List Text)) × Has ss × Each (λ s. (e : Event) × List·Memᴰ e es × (t .event .version e ≡ z .version)
+          × (t .event .set e p ≡ s))
           ss × (cellAt z p ≡ cell (t .type .versioned) (t .type .choice p) ss)
       unfolding cellOf
       cell-sets =
@@ -119,7 +122,8 @@ module _ {Event : Type 0} (t : View Event) (es : List Event) where
           let (ss, n, h, q) = cell-sets in
           never (not-unversioned (t .type .choice p) ss (cell-by ss u q c))
 
-      pub cell-least : (O : Order Text) (s : List Text) → t .type .versioned ≡ false → t .type .choice p ≡ least O → cellAt z p ≡ holds s → length s ≤ 1
+      pub cell-least :
+          (O : Order Text) (s : List Text) → t .type .versioned ≡ false → t .type .choice p ≡ least O → cellAt z p ≡ holds s → length s ≤ 1
       cell-least O s u o c =
           let (ss, n, h, q) = cell-sets in
           held-least O ss s (ap (λ (x : Choice). cell false x ss) (sym o) ∙ (cell-by ss u q c))
@@ -128,7 +132,8 @@ module _ {Event : Type 0} (t : View Event) (es : List Event) where
       pub match-cells : (s : List Text) → t .type .choice p ≡ every → Ups texts s → Each (λ e. t .event .set e p ≡ s) es → cellAt z p ≡ holds s
       match-cells s o u g =
           let (ss, n, h, q) = cell-sets in
-          q ∙ (ap (λ (x : Choice). cell (t .type .versioned) x ss) o ∙ alike (t .type .versioned) ss s u n (λ x k. let (e, me, v, r) = h x k in sym r ∙ g e me))
+          q ∙ (ap (λ (x : Choice). cell (t .type .versioned) x ss) o
+          ∙ alike (t .type .versioned) ss s u n (λ x k. let (e, me, v, r) = h x k in sym r ∙ g e me))
 
       -- a versioned place whose set the version decides, as the version property, has it: "its version property unmarked and, byte for byte, its
       -- version in decimal"

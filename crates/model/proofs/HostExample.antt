@@ -10,7 +10,8 @@ use Rattle.model.specs.Sets.{Same, canon, union, smallest, only, itself,
 use Rattle.model.specs.Rule.{holds, Choice, every, least, View, places, Dossier, allAre, agreed, cell, joinCell, ofVersion, cellOf, snapshot, ruleAt}
 use Rattle.model.specs.Rule.{rule, joinCells, joinSnapshots, combine, size, sizes, objects}
 use Rattle.model.specs.Limits.{Limits, fits, standard}
-use Rattle.model.specs.Opening.{finds, lowest, cellAt, isMark, held, marked, orLater, conflict, column, lastOf, mergedSet, Opened, conflictAt, overfullAt}
+use Rattle.model.specs.Opening.{finds, lowest, cellAt, isMark, held, marked, orLater}
+use Rattle.model.specs.Opening.{conflict, column, lastOf, mergedSet, Opened, conflictAt, overfullAt}
 use Rattle.model.specs.Opening.{merged, firstOf, mergedAt, mergedSets, overfull, opening}
 use Rattle.model.specs.Ways.{Way, leaf, node, Reply, wrote, next, calls, limited}
 use Rattle.model.proofs.RuleLaws.{rule-same}
@@ -84,7 +85,9 @@ abbrev c : Text
 c = 99 ∷ []
 
 abbrev early : Text
-early = 50 ∷ 48 ∷ 50 ∷ 52 ∷ 45 ∷ 48 ∷ 51 ∷ 45 ∷ 48 ∷ 49 ∷ 84 ∷ 48 ∷ 57 ∷ 58 ∷ 48 ∷ 48 ∷ 58 ∷ 48 ∷ 48 ∷ 46 ∷ 53 ∷ 48 ∷ 48 ∷ 48 ∷ 48 ∷ 48 ∷ 90 ∷ []
+early =
+    50 ∷ 48 ∷ 50 ∷ 52 ∷ 45 ∷ 48 ∷ 51 ∷ 45 ∷ 48 ∷ 49 ∷ 84 ∷ 48 ∷ 57 ∷ 58 ∷ 48 ∷ 48 ∷ 58 ∷ 48 ∷ 48 ∷ 46 ∷ 53 ∷ 48 ∷ 48
+    ∷ 48 ∷ 48 ∷ 48 ∷ 90 ∷ []
 
 abbrev late : Text
 late = 50 ∷ 48 ∷ 50 ∷ 52 ∷ 45 ∷ 48 ∷ 51 ∷ 45 ∷ 48 ∷ 49 ∷ 84 ∷ 49 ∷ 48 ∷ 58 ∷ 48 ∷ 48 ∷ 58 ∷ 48 ∷ 48 ∷ 90 ∷ []
@@ -157,7 +160,10 @@ two-ways = refl
 plain-three : answered plain (node true (leaf true e4) (node true (leaf true e1) (leaf true e2))) ≡ wrote (record {
   parents = [];
   snapshots =
-      record { version = 0; cells = holds (h1 ∷ []) ∷ holds (two ∷ []) ∷ holds (early ∷ late ∷ []) ∷ holds (down ∷ up ∷ []) ∷ holds (a ∷ b ∷ []) ∷ [] } ∷ [];
+      record {
+        version = 0;
+        cells = holds (h1 ∷ []) ∷ holds (two ∷ []) ∷ holds (early ∷ late ∷ []) ∷ holds (down ∷ up ∷ []) ∷ holds (a ∷ b ∷ []) ∷ [];
+      } ∷ [];
 })
 unfolding answered
 plain-three = refl

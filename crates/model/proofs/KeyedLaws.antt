@@ -80,7 +80,8 @@ module _ {E K : Type 0} (O : Order K) (key : E → K) where
   member-look (x ∷ xs) a h (List·Memᴰ·tail m) = rw (less-turn O (key x) (key a) (above-member (key x) xs a (h .0) m)) (member-look xs a (h .1) m)
 
   look-tail :
-      (x y : E) (xs ys : List E) → Rising O key (x ∷ xs) → Rising O key (y ∷ ys) → key x ≡ key y → ((k : K) → look O key k (x ∷ xs) ≡ look O key k (y ∷ ys)) →
+      (x y : E) (xs ys : List E) → Rising O key (x ∷ xs) → Rising O key (y ∷ ys) → key x ≡ key y →
+      ((k : K) → look O key k (x ∷ xs) ≡ look O key k (y ∷ ys)) →
       (k : K) → look O key k xs ≡ look O key k ys
   unfolding look
   look-tail x y xs ys hx hy e h k =
@@ -176,7 +177,8 @@ module _ {E K : Type 0} (O : Order K) (key : E → K) where
       merge-right [] y ys h = refl
       merge-right (x ∷ xs) y ys h = rw (merge-right xs y ys (h .1), less-turn O (key y) (key x) (h .0))
 
-      pub merge-left : (x : E) (xs ys : List E) → Above O key (key x) xs → Above O key (key x) ys → merge O key join (x ∷ xs) ys ≡ x ∷ merge O key join xs ys
+      pub merge-left :
+          (x : E) (xs ys : List E) → Above O key (key x) xs → Above O key (key x) ys → merge O key join (x ∷ xs) ys ≡ x ∷ merge O key join xs ys
       unfolding merge
       merge-left x xs ys h g = put-below x (merge O key join xs ys) (above-merge (key x) xs ys h g)
 

@@ -56,7 +56,8 @@ objects-map f [] = refl
 objects-map f (v ∷ vs) = rw (objects-map f vs)
 
 module _ {Event : Type 0} (t : View Event) where
-  sizes-within : (ps : List ℕ) (es fs : List Event) → t .type .versioned ≡ false → Within es fs → sizes (map (cellOf t es) ps) ≤ sizes (map (cellOf t fs) ps)
+  sizes-within :
+      (ps : List ℕ) (es fs : List Event) → t .type .versioned ≡ false → Within es fs → sizes (map (cellOf t es) ps) ≤ sizes (map (cellOf t fs) ps)
   unfolding sizes cellOf
   sizes-within [] es fs u h = zero-le
   sizes-within (p ∷ ps) es fs u h =

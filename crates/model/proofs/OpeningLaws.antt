@@ -3,7 +3,8 @@ use mathlib.Core.Path.{_≡_, refl, sym, _∙_, ap}
 use mathlib.Core.Logic.{_⊎_, inl, inr, ⊎-elim, _↔_}
 use mathlib.Core.Bool.{Bool, true, false, _&&_}
 use mathlib.Core.Option.{Option, none, some}
-use mathlib.Core.List.{List, [], _∷_, map, flatten, List·Memᴰ, List·Memᴰ·head, List·Memᴰ·tail, List·Memᴰ·not-nil, List·Memᴰ·eq-of-singleton, Memᴰ·map}
+use mathlib.Core.List.{List, [], _∷_, map, flatten, List·Memᴰ}
+use mathlib.Core.List.{List·Memᴰ·head, List·Memᴰ·tail, List·Memᴰ·not-nil, List·Memᴰ·eq-of-singleton, Memᴰ·map}
 use mathlib.Core.List.{Memᴰ·of-map}
 use Prim.Native.Nat.{ℕ, _≤_, _<_}
 use lib.ListN.{length, getD}
@@ -13,7 +14,8 @@ use native.Mathlib.Omega.{arith}
 use Rattle.model.specs.Order.{Order, Text, texts}
 use Rattle.model.specs.Sets.{Within, Ups, canon, smallest}
 use Rattle.model.specs.Rule.{Cell, holds, differs, Choice, every, least, TypeView, View, places, Snapshot, Dossier, cellOf, snapshot, rule}
-use Rattle.model.specs.Opening.{finds, cellAt, held, Conflict, noConflict, differsAt, conflict, column, lastOf, mergedSet, conflictAt, overfullAt, merged}
+use Rattle.model.specs.Opening.{finds, cellAt, held, Conflict, noConflict, differsAt, conflict}
+use Rattle.model.specs.Opening.{column, lastOf, mergedSet, conflictAt, overfullAt, merged}
 use Rattle.model.specs.Opening.{firstOf, mergedAt, mergedSets, overfull, opening}
 use Rattle.model.specs.Clashes.{NoClash}
 use Rattle.model.proofs.WayClaims.{Each, Has}
@@ -54,7 +56,8 @@ merged-has false every ss n h = let (a, m) = h (n .0) (n .1) in (a, canon-in tex
 merged-has false (least O) ss n h =
     let (a, m) = h (n .0) (n .1) in has-first (canon O (flatten ss)) (a, canon-in O (flatten ss) a (flatten-in ss (n .0) a (n .1) m))
 
-merged-alone : (r : Bool) (c : Choice) (s : List Text) → Ups texts s → ((O : Order Text) → c ≡ least O → length s ≤ 1) → mergedSet r c (s ∷ []) ≡ s
+merged-alone :
+    (r : Bool) (c : Choice) (s : List Text) → Ups texts s → ((O : Order Text) → c ≡ least O → length s ≤ 1) → mergedSet r c (s ∷ []) ≡ s
 unfolding mergedSet
 merged-alone true c s u h = unfold lastOf in refl
 merged-alone false every s u h = canon-alike (s ∷ []) s u (s, List·Memᴰ·head refl) (λ a m. List·Memᴰ·eq-of-singleton m)
@@ -80,7 +83,8 @@ module _ (t : TypeView) where
         go noConflict (some p) e f = let q : finds (overfullAt p) ≡ merged ss = rw (e, f) at h in never (cc)
         go noConflict none e f = let q : merged (mergedSets t d) ≡ merged ss = rw (e, f) at h in (e, f, cc)
 
-    pub opening-overfull : (p : ℕ) → (opening t d ≡ finds (overfullAt p)) ↔ ((conflict (places t) (d .snapshots) ≡ noConflict) × (overfull t d ≡ some p))
+    pub opening-overfull :
+        (p : ℕ) → (opening t d ≡ finds (overfullAt p)) ↔ ((conflict (places t) (d .snapshots) ≡ noConflict) × (overfull t d ≡ some p))
     unfolding opening firstOf
     opening-overfull p = (λ h. go (conflict (places t) (d .snapshots)) (overfull t d) refl refl h, λ h. rw (h .0, h .1))
       where
@@ -117,7 +121,8 @@ module _ {Event : Type 0} (t : View Event) where
         go z n q (holds r) e = inr (z, n, e ∙ ap holds (sym (ap held e) ∙ q))
 
     -- a value of a merged set is a value of some event
-    pub merged-value : (a : Text) → List·Memᴰ a (mergedAt (t .type) (rule t es) p) → (e : Event) × List·Memᴰ e es × List·Memᴰ a (t .event .set e p)
+    pub merged-value :
+        (a : Text) → List·Memᴰ a (mergedAt (t .type) (rule t es) p) → (e : Event) × List·Memᴰ e es × List·Memᴰ a (t .event .set e p)
     unfolding mergedAt
     merged-value a m =
         let sets = column (rule t es .snapshots) p in
@@ -154,7 +159,8 @@ module _ {Event : Type 0} (t : View Event) where
 
     -- a match property, or any place at which all events have one set that is not replaced, keeps that set
     pub merged-match :
-        (s : List Text) → t .type .choice p ≡ every → t .type .replaces p ≡ false → Ups texts s → Has es → Each (λ e. t .event .set e p ≡ s) es →
+        (s : List Text) → t .type .choice p ≡ every → t .type .replaces p ≡ false → Ups texts s → Has es →
+        Each (λ e. t .event .set e p ≡ s) es →
         getD (mergedSets (t .type) (rule t es)) p [] ≡ s
     unfolding mergedAt mergedSet column held
     merged-match s c r u n h =
@@ -190,7 +196,8 @@ module _ {Event : Type 0} (t : View Event) where
 
       no-clash : NoClash t (e ∷ [])
       no-clash v p k =
-          k .unequalSets (ap (λ (x : Event). t .event .set x p) (List·Memᴰ·eq-of-singleton (k .oneIn) ∙ sym (List·Memᴰ·eq-of-singleton (k .otherIn))))
+          k .unequalSets (ap (λ (x : Event). t .event .set x p)
+          (List·Memᴰ·eq-of-singleton (k .oneIn) ∙ sym (List·Memᴰ·eq-of-singleton (k .otherIn))))
 
       -- it has no conflict, and no place is overfull
       pub opening-one :

@@ -1,7 +1,8 @@
 -- What `map`, `flatten` and `only` keep of `++` and of the members, and what stands where in the numbers below a bound (`upTo`).
 use mathlib.Core.Path.{_≡_, refl, sym, _∙_, ap, ap₂}
 use mathlib.Core.Logic.{⊎-elim, _↔_}
-use mathlib.Core.List.{List, [], _∷_, _++_, map, flatten, append-assoc, List·Memᴰ, List·Memᴰ·head, List·Memᴰ·tail, List·Memᴰ·cases-cons, List·Memᴰ·not-nil}
+use mathlib.Core.List.{List, [], _∷_, _++_, map, flatten}
+use mathlib.Core.List.{append-assoc, List·Memᴰ, List·Memᴰ·head, List·Memᴰ·tail, List·Memᴰ·cases-cons, List·Memᴰ·not-nil}
 use mathlib.Core.List.{List·Memᴰ·append-cases, Memᴰ·append-left, Memᴰ·append-right, Memᴰ·cast, Memᴰ·map, Memᴰ·of-map}
 use Prim.Native.Nat.{ℕ, zero, suc, _+_, _≤_, _<_, Ordering·eq}
 use lib.ListN.{length, getD}
@@ -70,7 +71,8 @@ module _ {A K : Type 0} (O : Order K) (f : A → K) where
   unfolding only
   only-of k [] a m = absurd (List·Memᴰ·not-nil m)
   only-of k (x ∷ xs) a m =
-      let go : List·Memᴰ a (only O f k xs) → List·Memᴰ a (x ∷ xs) × (f a ≡ k) = λ n. let r = only-of k xs a n in (List·Memᴰ·tail (r .0), r .1) in
+      let go : List·Memᴰ a (only O f k xs) → List·Memᴰ a (x ∷ xs) × (f a ≡ k) =
+      λ n. let r = only-of k xs a n in (List·Memᴰ·tail (r .0), r .1) in
       three (O .cmp k (f x))
       (λ l. go (rw l at m))
       (λ s. ⊎-elim (λ q. (List·Memᴰ·head q, cc (O .same k (f x) s))) go (List·Memᴰ·cases-cons (rw s at m)))

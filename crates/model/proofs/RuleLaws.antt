@@ -3,7 +3,8 @@ use mathlib.Core.Path.{_≡_, refl, sym, _∙_, ap}
 use mathlib.Core.Logic.{⊎-elim}
 use mathlib.Core.Bool.{Bool, true, false, cond, _&&_}
 use mathlib.Core.Option.{Option, none, some}
-use mathlib.Core.List.{List, [], _∷_, _++_, map, flatten, append-nil, List·Memᴰ, List·Memᴰ·head, List·Memᴰ·tail, List·Memᴰ·cases-cons, List·Memᴰ·not-nil}
+use mathlib.Core.List.{List, [], _∷_, _++_, map, flatten}
+use mathlib.Core.List.{append-nil, List·Memᴰ, List·Memᴰ·head, List·Memᴰ·tail, List·Memᴰ·cases-cons, List·Memᴰ·not-nil}
 use Prim.Native.Nat.{ℕ}
 use Rattle.model.specs.Order.{Text, numbers, texts, sets, equal}
 use Rattle.model.proofs.Cases.{three, never}
@@ -21,7 +22,8 @@ unfolding allAre equal
 all-are-append s [] ts = refl
 all-are-append s (t ∷ ss) ts = three (sets .cmp s t) (λ l. rw l) (λ q. rw q (all-are-append s ss ts)) (λ g. rw g)
 
-agreed-append : (c : Choice) (s t : List Text) (ss ts : List (List Text)) → agreed ((s ∷ ss) ++ (t ∷ ts)) ≡ joinCell true c (agreed (s ∷ ss)) (agreed (t ∷ ts))
+agreed-append :
+    (c : Choice) (s t : List Text) (ss ts : List (List Text)) → agreed ((s ∷ ss) ++ (t ∷ ts)) ≡ joinCell true c (agreed (s ∷ ss)) (agreed (t ∷ ts))
 unfolding agreed joinCell allAre equal
 agreed-append c s t ss ts = rw (all-are-append s ss (t ∷ ts)) (go (allAre s ss) (allAre t ts) refl)
   where
@@ -66,7 +68,8 @@ agreed-same (s ∷ ss) (t ∷ ts) h = go (allAre s ss) (allAre t ts) refl refl
   where
     agree : (s t : List Text) (ss ts : List (List Text)) → Within (t ∷ ts) (s ∷ ss) → allAre s ss ≡ true → (t ≡ s) × (allAre t ts ≡ true)
     agree s t ss ts h e =
-        let f : (a : List Text) → List·Memᴰ a (t ∷ ts) → a ≡ s = λ a m. ⊎-elim (λ r. r) (all-are-member s ss e a) (List·Memᴰ·cases-cons (h a m)) in
+        let f : (a : List Text) → List·Memᴰ a (t ∷ ts) → a ≡ s =
+        λ a m. ⊎-elim (λ r. r) (all-are-member s ss e a) (List·Memᴰ·cases-cons (h a m)) in
         let q : t ≡ s = f t (List·Memᴰ·head refl) in
         (q, member-all-are t ts (λ a m. f a (List·Memᴰ·tail m) ∙ sym q))
 
@@ -82,7 +85,8 @@ cell-same false every ss ts h = rw (canon-same texts (flatten ss) (flatten ts) (
 cell-same false (least O) ss ts h = rw (canon-same O (flatten ss) (flatten ts) (flatten-within ss ts (h .0), flatten-within ts ss (h .1)))
 
 module _ (t : TypeView) where
-  pub join-cells-map : (ps : List ℕ) (f g : ℕ → Cell) → joinCells t ps (map f ps) (map g ps) ≡ map (λ p. joinCell (t .versioned) (t .choice p) (f p) (g p)) ps
+  pub join-cells-map :
+      (ps : List ℕ) (f g : ℕ → Cell) → joinCells t ps (map f ps) (map g ps) ≡ map (λ p. joinCell (t .versioned) (t .choice p) (f p) (g p)) ps
   unfolding joinCells
   join-cells-map [] f g = refl
   join-cells-map (p ∷ ps) f g = rw (join-cells-map ps f g)
@@ -104,7 +108,9 @@ module _ {Event : Type 0} (t : View Event) where
             ∙ map-same _ (cellOf t ((e ∷ es) ++ (f ∷ fs))) (places (t .type)) (λ p m. at-place p)) i;
       }
     where
-      at-place : (p : ℕ) → joinCell (t .type .versioned) (t .type .choice p) (cellOf t (e ∷ es) p) (cellOf t (f ∷ fs) p) ≡ cellOf t ((e ∷ es) ++ (f ∷ fs)) p
+      at-place :
+          (p : ℕ) →
+          joinCell (t .type .versioned) (t .type .choice p) (cellOf t (e ∷ es) p) (cellOf t (f ∷ fs) p) ≡ cellOf t ((e ∷ es) ++ (f ∷ fs)) p
       at-place p =
           rw (map-append (λ (x : Event). t .event .set x p) es (f ∷ fs))
           (sym (cell-append (t .type .versioned) (t .type .choice p) (t .event .set e p) (t .event .set f p)
@@ -128,7 +134,11 @@ module _ {Event : Type 0} (t : View Event) where
       rw (look-put numbers (λ a. a) (λ a b. a) (λ a b q. refl) v (t .event .version e) (canon numbers (map (t .event .version) es)), look-versions v es)
       (three (numbers .cmp v (t .event .version e))
       (λ l. rw l)
-      (λ s. rw (s, joined-keep (λ (a b : ℕ). a) (λ a b. refl) (t .event .version e) (occurs v (ofVersion t v es)), ← numbers .same v (t .event .version e) s))
+      (λ s. rw (
+        s,
+        joined-keep (λ (a b : ℕ). a) (λ a b. refl) (t .event .version e) (occurs v (ofVersion t v es)),
+        ← numbers .same v (t .event .version e) s,
+      ))
       (λ g. rw g))
 
   look-snapshots : (v : ℕ) (es : List Event) → look numbers (λ s. s .version) v (rule t es .snapshots) ≡ snapshot? v (ofVersion t v es)
@@ -161,7 +171,8 @@ module _ {Event : Type 0} (t : View Event) where
           (flatten (map (t .event .parents) (es ++ fs)))
       parents-append = rw (union-canon texts, map-append (t .event .parents) es fs, flatten-append)
 
-      snapshots-append : merge numbers (λ s. s .version) (joinSnapshots (t .type)) (rule t es .snapshots) (rule t fs .snapshots) ≡ rule t (es ++ fs) .snapshots
+      snapshots-append :
+          merge numbers (λ s. s .version) (joinSnapshots (t .type)) (rule t es .snapshots) (rule t fs .snapshots) ≡ rule t (es ++ fs) .snapshots
       snapshots-append = by-look numbers (λ s. s .version) _ _
           (rising-merge numbers (λ s. s .version) (joinSnapshots (t .type)) join-keeps (rule t es .snapshots) (rule t fs .snapshots) (rising-snapshots fs))
           (rising-snapshots (es ++ fs))

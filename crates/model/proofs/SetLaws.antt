@@ -3,7 +3,8 @@ use mathlib.Core.Path.{_≡_, refl, sym, _∙_, ap}
 use mathlib.Core.Logic.{_⊎_, inl, inr, ⊎-elim, _↔_}
 use mathlib.Core.Bool.{true}
 use mathlib.Core.Option.{Option, none, some}
-use mathlib.Core.List.{List, [], _∷_, _++_, map, List·Memᴰ, List·Memᴰ·head, List·Memᴰ·tail, List·Memᴰ·cases-cons, List·Memᴰ·not-nil, List·Memᴰ·append-cases}
+use mathlib.Core.List.{List, [], _∷_, _++_, map, List·Memᴰ}
+use mathlib.Core.List.{List·Memᴰ·head, List·Memᴰ·tail, List·Memᴰ·cases-cons, List·Memᴰ·not-nil, List·Memᴰ·append-cases}
 use mathlib.Core.List.{Memᴰ·append-left, Memᴰ·append-right, Memᴰ·cast}
 use Prim.Native.Nat.{ℕ, suc, _+_, Ordering·lt, _≤_, zero-le}
 use lib.ListN.{length, take}
@@ -83,7 +84,8 @@ module _ {K : Type 0} (O : Order K) where
   pub canon-of : (xs : List K) → Within (canon O xs) xs
   unfolding canon
   canon-of [] a m = m
-  canon-of (x ∷ xs) a m = ⊎-elim (λ q. List·Memᴰ·head q) (λ n. List·Memᴰ·tail (canon-of xs a n)) (List·Memᴰ·cases-cons (of-put x (canon O xs) a m))
+  canon-of (x ∷ xs) a m =
+      ⊎-elim (λ q. List·Memᴰ·head q) (λ n. List·Memᴰ·tail (canon-of xs a n)) (List·Memᴰ·cases-cons (of-put x (canon O xs) a m))
 
   pub union-in : (xs ys : List K) → Within (xs ++ ys) (union O xs ys)
   unfolding union merge
@@ -96,7 +98,8 @@ module _ {K : Type 0} (O : Order K) where
   pub union-of : (xs ys : List K) → Within (union O xs ys) (xs ++ ys)
   unfolding union merge
   union-of [] ys a m = m
-  union-of (x ∷ xs) ys a m = ⊎-elim (λ q. List·Memᴰ·head q) (λ n. List·Memᴰ·tail (union-of xs ys a n)) (List·Memᴰ·cases-cons (of-put x (union O xs ys) a m))
+  union-of (x ∷ xs) ys a m =
+      ⊎-elim (λ q. List·Memᴰ·head q) (λ n. List·Memᴰ·tail (union-of xs ys a n)) (List·Memᴰ·cases-cons (of-put x (union O xs ys) a m))
 
   pub ups-union : (xs ys : List K) → Ups O ys → Ups O (union O xs ys)
   unfolding union
@@ -146,7 +149,8 @@ module _ {K : Type 0} (O : Order K) where
   total f (x ∷ xs) = f x + total f xs
 
   -- a sum over a set within another, of numbers no larger, is no larger
-  pub total-within : (f g : K → ℕ) → ((k : K) → f k ≤ g k) → (ys xs : List K) → Ups O ys → Ups O xs → Within xs ys → total f xs ≤ total g ys
+  pub total-within :
+      (f g : K → ℕ) → ((k : K) → f k ≤ g k) → (ys xs : List K) → Ups O ys → Ups O xs → Within xs ys → total f xs ≤ total g ys
   unfolding total
   total-within f g le [] [] hy hx h = zero-le
   total-within f g le [] (x ∷ xs) hy hx h = absurd (List·Memᴰ·not-nil (h x (List·Memᴰ·head refl)))
@@ -205,7 +209,8 @@ module _ {K : Type 0} (O : Order K) where
   take-put e [] = refl
   take-put e (x ∷ xs) = three (O .cmp e x) (λ l. rw l) (λ s. rw s) (λ g. rw g)
 
-  take-put-put : (x y : K) (zs : List K) → O .cmp x y ≡ Ordering·lt → take 1 (put O itself first x (put O itself first y zs)) ≡ take 1 (put O itself first x zs)
+  take-put-put :
+      (x y : K) (zs : List K) → O .cmp x y ≡ Ordering·lt → take 1 (put O itself first x (put O itself first y zs)) ≡ take 1 (put O itself first x zs)
   unfolding put
   take-put-put x y [] h = rw h
   take-put-put x y (z ∷ zs) h =
@@ -232,7 +237,9 @@ module _ {K : Type 0} (O : Order K) where
   smallest-append xs ys = take-union (canon O xs) (canon O ys) (ups-canon xs) ∙ ap (take 1) (union-canon xs ys)
 
   -- what the smallest is: a member, and no member is below it; nothing for no member
-  pub smallest-member : (xs ms : List K) (m : K) → smallest O xs ≡ m ∷ ms → List·Memᴰ m xs × ((a : K) → List·Memᴰ a xs → (m ≡ a) ⊎ (O .cmp m a ≡ Ordering·lt))
+  pub smallest-member :
+      (xs ms : List K) (m : K) → smallest O xs ≡ m ∷ ms →
+      List·Memᴰ m xs × ((a : K) → List·Memᴰ a xs → (m ≡ a) ⊎ (O .cmp m a ≡ Ordering·lt))
   unfolding smallest
   smallest-member xs ms m h = go (canon O xs) refl
     where
@@ -243,7 +250,8 @@ module _ {K : Type 0} (O : Order K) where
           let r : m ≡ x = cc in
           let u : Ups O (x ∷ c) = rw e at (ups-canon xs) in (
             canon-of xs m (rw e (List·Memᴰ·head r)),
-            λ a n. ⊎-elim (λ k. inl (r ∙ sym k)) (λ k. inr (rw r (above-member O itself x c a (u .0) k))) (List·Memᴰ·cases-cons (rw e at (canon-in xs a n))),
+            λ a n. ⊎-elim (λ k. inl (r ∙ sym k)) (λ k. inr (rw r (above-member O itself x c a (u .0) k)))
+                (List·Memᴰ·cases-cons (rw e at (canon-in xs a n))),
           )
 
   -- of two values the smaller, as a program chooses

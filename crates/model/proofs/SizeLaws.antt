@@ -31,7 +31,9 @@ merged-length false every ss = length-canon texts (flatten ss)
 merged-length false (least O) ss = simp length-take (omega (arith, length-canon O (flatten ss)))
 
 -- sums over places, as lengths of what is brought together there
-flat-less : {A : Type 0} (f g : ℕ → List A) (ps : List ℕ) → ((p : ℕ) → length (f p) ≤ length (g p)) → length (flatten (map f ps)) ≤ length (flatten (map g ps))
+flat-less :
+    {A : Type 0} (f g : ℕ → List A) (ps : List ℕ) → ((p : ℕ) → length (f p) ≤ length (g p)) →
+    length (flatten (map f ps)) ≤ length (flatten (map g ps))
 unfolding flatten
 flat-less f g [] h = zero-le
 flat-less f g (p ∷ ps) h = simp length-append (omega (arith, h p, flat-less f g ps h))
@@ -66,7 +68,8 @@ columns-objects n [] h = flat-none (upTo n)
 columns-objects n (s ∷ ss) h =
     flat-add (λ p. held (cellAt s p)) (λ p. flatten (column ss p)) (upTo n)
     ∙ ap₂ (λ (a b : ℕ). a + b) (flat-sizes (cellAt s) (upTo n)
-    ∙ unfold cellAt in (ap sizes (map-getD (s .cells) (holds []) n (h s (List·Memᴰ·head refl))))) (columns-objects n ss (λ z m. h z (List·Memᴰ·tail m)))
+    ∙ unfold cellAt in (ap sizes (map-getD (s .cells) (holds []) n (h s (List·Memᴰ·head refl)))))
+    (columns-objects n ss (λ z m. h z (List·Memᴰ·tail m)))
 
 -- a snapshot has no more objects than its dossier
 pub sizes-in : (ss : List Snapshot) (z : Snapshot) → List·Memᴰ z ss → sizes (z .cells) ≤ objects ss
@@ -80,7 +83,8 @@ objects-most n [] h = zero-le
 objects-most n (s ∷ ss) h = rw (suc-mul (length ss) n) (omega (arith, h s (List·Memᴰ·head refl), objects-most n ss (λ z m. h z (List·Memᴰ·tail m))))
 
 module _ (t : TypeView) where
-  pub merged-objects : (d : Dossier) → Each (λ s. length (s .cells) ≡ t .width) (d .snapshots) → length (flatten (mergedSets t d)) ≤ objects (d .snapshots)
+  pub merged-objects :
+      (d : Dossier) → Each (λ s. length (s .cells) ≡ t .width) (d .snapshots) → length (flatten (mergedSets t d)) ≤ objects (d .snapshots)
   unfolding mergedSets mergedAt places
   merged-objects d h =
       omega (

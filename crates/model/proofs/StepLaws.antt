@@ -29,7 +29,8 @@ module _ {K : Type 0} (O : Order K) where
   union-step x xs y ys hx hy = merge-step O itself first (λ a b e. refl) x xs y ys hx hy
 
   -- the smallest, with one more set after the others
-  pub smallest-snoc : (ss : List (List K)) (s : List K) → smallest O (flatten (ss ++ (s ∷ []))) ≡ take 1 (union O (smallest O (flatten ss)) (smallest O s))
+  pub smallest-snoc :
+      (ss : List (List K)) (s : List K) → smallest O (flatten (ss ++ (s ∷ []))) ≡ take 1 (union O (smallest O (flatten ss)) (smallest O s))
   unfolding flatten
   smallest-snoc ss s = rw (flatten-append ss (s ∷ []), append-nil s) (sym (smallest-append O (flatten ss) s))
 

@@ -24,13 +24,15 @@ unequal : (s : List Text) (ss : List (List Text)) → allAre s ss ≡ false → 
 unfolding allAre equal
 unequal s [] h = never (cc)
 unequal s (b ∷ ss) h =
-    let here : sets .cmp s b ≢ Ordering·eq → (c : List Text) × List·Memᴰ c (b ∷ ss) × (s ≢ c) = λ n. (b, List·Memᴰ·head refl, λ q. n (rw q (sets .self b))) in
+    let here : sets .cmp s b ≢ Ordering·eq → (c : List Text) × List·Memᴰ c (b ∷ ss) × (s ≢ c) =
+    λ n. (b, List·Memᴰ·head refl, λ q. n (rw q (sets .self b))) in
     three (sets .cmp s b)
     (λ l. here (λ e. never (cc)))
     (λ q. let (c, m, n) = unequal s ss (rw q at h) in (c, List·Memᴰ·tail m, n))
     (λ g. here (λ e. never (cc)))
 
-pub agreed-differs : (ss : List (List Text)) → agreed ss ≡ differs → (a : List Text) × (b : List Text) × List·Memᴰ a ss × List·Memᴰ b ss × (a ≢ b)
+pub agreed-differs :
+    (ss : List (List Text)) → agreed ss ≡ differs → (a : List Text) × (b : List Text) × List·Memᴰ a ss × List·Memᴰ b ss × (a ≢ b)
 unfolding agreed
 agreed-differs [] h = never (cc)
 agreed-differs (s ∷ ss) h = go (allAre s ss) refl
@@ -84,7 +86,8 @@ holds-same r s e = cc
 pub held-value : (b : Bool) (c : Choice) (ss : List (List Text)) (s : List Text) → cell b c ss ≡ holds s → Within s (flatten ss)
 unfolding cell smallest flatten
 held-value true c [] s h a m = unfold agreed in (rw (← holds-same [] s h) at m)
-held-value true c (r ∷ ss) s h a m = flatten-in (r ∷ ss) r a (List·Memᴰ·head refl) (rw (← agreed-holds (r ∷ ss) s h r (List·Memᴰ·head refl)) at m)
+held-value true c (r ∷ ss) s h a m =
+    flatten-in (r ∷ ss) r a (List·Memᴰ·head refl) (rw (← agreed-holds (r ∷ ss) s h r (List·Memᴰ·head refl)) at m)
 held-value false every ss s h a m = canon-of texts (flatten ss) a (rw (← holds-same (canon texts (flatten ss)) s h) at m)
 held-value false (least O) ss s h a m =
     canon-of O (flatten ss) a (take-of (canon O (flatten ss)) a (rw (← holds-same (take 1 (canon O (flatten ss))) s h) at m))
@@ -125,7 +128,8 @@ alike true ss s u n h = agreed-all ss s n h
 alike false ss s u n h = ap holds (canon-alike ss s u n h)
 
 -- the cell of one event's set is that set
-pub cell-one : (b : Bool) (c : Choice) (s : List Text) → Ups texts s → ((O : Order Text) → c ≡ least O → length s ≤ 1) → cell b c (s ∷ []) ≡ holds s
+pub cell-one :
+    (b : Bool) (c : Choice) (s : List Text) → Ups texts s → ((O : Order Text) → c ≡ least O → length s ≤ 1) → cell b c (s ∷ []) ≡ holds s
 unfolding cell agreed allAre
 cell-one true c s u h = refl
 cell-one false every s u h = alike false (s ∷ []) s u (s, List·Memᴰ·head refl) (λ a m. List·Memᴰ·eq-of-singleton m)
@@ -198,11 +202,13 @@ module _ {Event : Type 0} (t : View Event) where
       versions = by-members numbers (canon numbers (map (t .event .version) (e ∷ es))) (v ∷ []) (ups-canon numbers _) (tt, tt) (
         (λ a m. let (d, n, q) = Memᴰ·of-map (t .event .version) (e ∷ es) (canon-of numbers (map (t .event .version) (e ∷ es)) a m) in List·Memᴰ·head
             (sym q ∙ h d n)),
-        (λ a m. canon-in numbers (map (t .event .version) (e ∷ es)) a (List·Memᴰ·head (List·Memᴰ·eq-of-singleton m ∙ sym (h e (List·Memᴰ·head refl))))),
+        (λ a m. canon-in numbers (map (t .event .version) (e ∷ es)) a
+            (List·Memᴰ·head (List·Memᴰ·eq-of-singleton m ∙ sym (h e (List·Memᴰ·head refl))))),
       )
 
   -- a versioned snapshot has no more objects than any event of it
-  pub sizes-held : t .type .versioned ≡ true → (e : Event) (es : List Event) → List·Memᴰ e es → (ps : List ℕ) → sizes (map (cellOf t es) ps) ≤ count t e ps
+  pub sizes-held :
+      t .type .versioned ≡ true → (e : Event) (es : List Event) → List·Memᴰ e es → (ps : List ℕ) → sizes (map (cellOf t es) ps) ≤ count t e ps
   unfolding sizes count cellOf cell
   sizes-held u e es m [] = zero-le
   sizes-held u e es m (p ∷ ps) =

@@ -44,10 +44,12 @@ module _ {A B : Type 0} (f : A → B) (v : View B) where
   }
     where
       snapshots :
-          map (ruleAt read xs) (canon numbers (map (read .event .version) xs)) ≡ map (ruleAt v (map f xs)) (canon numbers (map (v .event .version) (map f xs)))
+          map (ruleAt read xs) (canon numbers (map (read .event .version) xs)) ≡ map (ruleAt v (map f xs))
+          (canon numbers (map (v .event .version) (map f xs)))
       snapshots =
           map-same (ruleAt read xs) (ruleAt v (map f xs)) (canon numbers (map (read .event .version) xs)) (λ n m. at-through xs n)
           ∙ ap (λ (ns : List ℕ). map (ruleAt v (map f xs)) (canon numbers ns)) (map-through (v .event .version) xs)
 
   pub combine-through : (xs ys : List A) → combine (v .type) (rule read xs) (rule read ys) ≡ combine (v .type) (rule v (map f xs)) (rule v (map f ys))
-  combine-through xs ys = rule-append read xs ys ∙ (rule-through (xs ++ ys) ∙ (ap (rule v) (map-append f xs ys) ∙ sym (rule-append v (map f xs) (map f ys))))
+  combine-through xs ys =
+      rule-append read xs ys ∙ (rule-through (xs ++ ys) ∙ (ap (rule v) (map-append f xs ys) ∙ sym (rule-append v (map f xs) (map f ys))))

@@ -2,7 +2,8 @@
 use mathlib.Core.Path.{_≡_, refl, sym, _∙_, ap}
 use mathlib.Core.Logic.{⊎-elim}
 use mathlib.Core.Bool.{Bool, true, false}
-use mathlib.Core.List.{List, [], _∷_, _++_, map, List·Memᴰ·head, List·Memᴰ·tail, List·Memᴰ·cases-cons, List·Memᴰ·eq-of-singleton, List·Memᴰ·append-cases}
+use mathlib.Core.List.{List, [], _∷_, _++_, map}
+use mathlib.Core.List.{List·Memᴰ·head, List·Memᴰ·tail, List·Memᴰ·cases-cons, List·Memᴰ·eq-of-singleton, List·Memᴰ·append-cases}
 use mathlib.Core.List.{Memᴰ·append-left, Memᴰ·append-right}
 use Prim.Native.Nat.{ℕ, zero, suc, _+_}
 use native.Mathlib.Nat.{zero-add}
@@ -118,10 +119,13 @@ module _
       pub demand3 : Demand3 c distinct w
       demand3 = record {
         result = set-answer;
-        refused =
-            (λ e. limited-said l (t .type) (c .encode) (rule t (eventSet distinct w)) 8 (sym set-answer ∙ e) .0, λ e. set-answer ∙ unfold limited in (rw e));
+        refused = (
+          λ e. limited-said l (t .type) (c .encode) (rule t (eventSet distinct w)) 8 (sym set-answer ∙ e) .0,
+          λ e. set-answer ∙ unfold limited in (rw e),
+        );
         onlyEight = λ n e. limited-said l (t .type) (c .encode) (rule t (events w)) n (sym (way w h room) ∙ e) .1;
-        however = λ x r s. way w h room ∙ (ap (limited l (t .type) (c .encode)) (rule-same t (events w) (events x) s) ∙ sym (way x (λ e m. h e (s .1 e m)) r));
+        however =
+            λ x r s. way w h room ∙ (ap (limited l (t .type) (c .encode)) (rule-same t (events w) (events x) s) ∙ sym (way x (λ e m. h e (s .1 e m)) r));
         opened = opens-to;
         conflicts =
             λ b d r e v p. (

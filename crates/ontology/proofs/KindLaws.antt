@@ -23,7 +23,8 @@ use Rattle.ontology.specs.code.TypeIndex.{HasOne, parameterFits, KindIs,
 use Rattle.ontology.proofs.OnwardLaws.{Onward, on-first, on-got, on-not, on-passed, on-found}
 
 -- what is known of a call's answer in the arm of a `match`
-pub kind-got : {p : Parse Kind} {s : List ℕ} {at : ℕ} {r : KindRead} {n a b c e : ℕ} → r ≡ OfKind n a b c e → KindReads p s at r → KindStops p s at n a b c e
+pub kind-got :
+    {p : Parse Kind} {s : List ℕ} {at : ℕ} {r : KindRead} {n a b c e : ℕ} → r ≡ OfKind n a b c e → KindReads p s at r → KindStops p s at n a b c e
 kind-got {p} {s} {at} h w = subst (KindReads p s at) h w
 
 pub kind-fail : {p : Parse Kind} (s : List ℕ) (at : ℕ) {r : KindRead} → r ≡ NoKind → KindReads p s at r → p ≡ fail

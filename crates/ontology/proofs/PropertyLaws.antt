@@ -147,7 +147,8 @@ pub name-left : {s : List ℕ} {at start end : ℕ} → NameStops (suchThat (isN
 name-left g = record { order = g .order; left = on-first (suchThat (isNameWithin 32) readText) after-name property-layout (g .stops) }
 
 pub kind-left :
-    {s : List ℕ} {at start end kind size after sign e : ℕ} → NameLeft s at start end → KindStops (readKind (drop end s)) s end kind size after sign e →
+    {s : List ℕ} {at start end kind size after sign e : ℕ} → NameLeft s at start end →
+    KindStops (readKind (drop end s)) s end kind size after sign e →
     KindLeft s at start end kind size after sign e
 kind-left {s} {at} {start} {end} g k = record {
   name = g;

@@ -24,7 +24,8 @@ pub prepend-two : {A : Type 0} (xs ys : List A) (p : Parse (List A)) → prepend
 prepend-two xs ys fail = refl
 prepend-two xs ys (got ws t) = ap (λ (l : List _). got l t) (sym (append-assoc xs ys ws))
 
-pub prepend-one : {A : Type 0} (vs : List A) (v : A) (p : Parse (List A)) → prepend vs (andThen p (λ ws t. got (v ∷ ws) t)) ≡ prepend (vs ++ (v ∷ [])) p
+pub prepend-one :
+    {A : Type 0} (vs : List A) (v : A) (p : Parse (List A)) → prepend vs (andThen p (λ ws t. got (v ∷ ws) t)) ≡ prepend (vs ++ (v ∷ [])) p
 prepend-one vs v fail = refl
 prepend-one vs v (got ws t) = ap (λ (l : List _). got l t) (sym (append-assoc vs (v ∷ []) ws))
 
@@ -102,7 +103,8 @@ module _ {A : Type 0} (p : Layout A) (t : List A → Bool) (n : ℕ) (s : List �
 
   module _ (a : A) (r : List ℕ) (h : 0 < n) (e : p s ≡ got a r) where
     -- the test of those after the first is what is left of the whole test
-    pub such-more : (u : List A → Bool) → ((xs : List A) → t (a ∷ xs) ≡ u xs) → suchThat t (times p n) s ≡ prepend (a ∷ []) (suchThat u (times p (n - 1)) r)
+    pub such-more :
+        (u : List A → Bool) → ((xs : List A) → t (a ∷ xs) ≡ u xs) → suchThat t (times p n) s ≡ prepend (a ∷ []) (suchThat u (times p (n - 1)) r)
     such-more u k =
         tested (times-more p n s a r h e)
         ∙ go (times p (n - 1) r)
@@ -112,7 +114,9 @@ module _ {A : Type 0} (p : Layout A) (t : List A → Bool) (n : ℕ) (s : List �
         test true xs v = refl
         test false xs v = refl
 
-        go : (q : Parse (List A)) → andThen (prepend (a ∷ []) q) (λ xs. foundIf (t xs) xs) ≡ prepend (a ∷ []) (andThen q (λ xs. foundIf (t (a ∷ xs)) xs))
+        go :
+            (q : Parse (List A)) →
+            andThen (prepend (a ∷ []) q) (λ xs. foundIf (t xs) xs) ≡ prepend (a ∷ []) (andThen q (λ xs. foundIf (t (a ∷ xs)) xs))
         go fail = refl
         go (got xs v) = test (t (a ∷ xs)) xs v
 

@@ -111,7 +111,8 @@ kind-is z k n s t r a b e =
 -- a kind of one parameter
 module _ (make : ℕ → Kind) (same : (w : ℕ) → parameterBytes (make w) ≡ number w) where
   one-was :
-      (n : ℕ) (s : List ℕ) (k : Kind) (r : List ℕ) → ((w : ℕ) → n ≡ kindNumber (make w)) → (readNumber >>= λ w. found (make w)) s ≡ got k r →
+      (n : ℕ) (s : List ℕ) (k : Kind) (r : List ℕ) → ((w : ℕ) → n ≡ kindNumber (make w)) →
+      (readNumber >>= λ w. found (make w)) s ≡ got k r →
       (n ≡ kindNumber k) × (s ≡ parameterBytes k ++ r)
   one-was n s k r a e =
       let c = andThen-got (readNumber s) _ k r e in
@@ -189,7 +190,8 @@ strategy-read match r = rw (number-read (strategyNumber match) r (omega arith))
 strategy-read set r = rw (number-read (strategyNumber set) r (omega arith))
 strategy-read any r = rw (number-read (strategyNumber any) r (omega arith))
 
-strategy-is : (z y : Strategy) (n : ℕ) (t r : List ℕ) → n ≡ strategyNumber z → got z t ≡ got y r → number n ++ t ≡ number (strategyNumber y) ++ r
+strategy-is :
+    (z y : Strategy) (n : ℕ) (t r : List ℕ) → n ≡ strategyNumber z → got z t ≡ got y r → number n ++ t ≡ number (strategyNumber y) ++ r
 strategy-is z y n t r h e =
     let a : z ≡ y = cc in
     let b : t ≡ r = cc in
@@ -237,7 +239,8 @@ property-read p r w =
 
 property-is :
     (s t u v x y r : List ℕ) (name : Text) (kind : Kind) (optional multivalued : Bool) (strategy : Strategy) (p : Property) →
-    s ≡ text name ++ t → t ≡ kindBytes kind ++ u → u ≡ flagBytes optional ++ v → v ≡ flagBytes multivalued ++ x → x ≡ number (strategyNumber strategy) ++ y →
+    s ≡ text name ++ t → t ≡ kindBytes kind ++ u → u ≡ flagBytes optional ++ v → v ≡ flagBytes multivalued ++ x →
+    x ≡ number (strategyNumber strategy) ++ y →
     isNameWithin 32 name ≡ true → isKind kind ≡ true →
     record { name = name; kind = kind; optional = optional; multivalued = multivalued; strategy = strategy } ≡ p → y ≡ r →
     (s ≡ propertyBytes p ++ r) × PropertyWritten p

@@ -63,7 +63,9 @@ module _
     pub type-ends : r .index .end ≤ length s
     type-ends = good .stops .ends
 
-type-not : (p : Parse EventType) (s : List ℕ) (at : ℕ) (keep : Bool) (ps : List ℕ) (r : TypeRead) → TypeReads p s at keep ps r → r .ok ≡ false → p ≡ fail
+type-not :
+    (p : Parse EventType) (s : List ℕ) (at : ℕ) (keep : Bool) (ps : List ℕ) (r : TypeRead) → TypeReads p s at keep ps r → r .ok ≡ false →
+    p ≡ fail
 unfolding TypeReads
 type-not fail s at keep ps r k h = refl
 type-not (got t u) s at keep ps r k h = never (cc (k .right))
@@ -119,7 +121,8 @@ pub table-none : (s : List ℕ) → suchThat (isWithin 1 16) readNumber (drop 0 
 unfolding readTable
 table-none s e = rw e
 
-pub table-from : (s : List ℕ) {n next : ℕ} → Got (suchThat (isWithin 1 16) readNumber (drop 0 s)) s 0 n next → readTable s ≡ typesFrom [] n (drop next s)
+pub table-from :
+    (s : List ℕ) {n next : ℕ} → Got (suchThat (isWithin 1 16) readNumber (drop 0 s)) s 0 n next → readTable s ≡ typesFrom [] n (drop next s)
 unfolding readTable
 table-from s {n} {next} g =
     ap (λ (p : Parse ℕ). andThen p (λ count r. andThen (times readRuled count r) (λ ts. foundIf (namesRise (map nameOf ts)) ts))) (g .is)
@@ -184,7 +187,8 @@ module _ {s : List ℕ} {name : Text} {ps : List ℕ} {r : TableRead} {left at s
 
       pub listed-more :
           {q : TableRead} → not b ≡ false → q .ok ≡ r .ok →
-          ((ts : List EventType) (u : EventType) (ns : List ℕ) → TypeSays (typeNamed name ts) s ns r → (r .found ≡ false → TypeIs s u (t .index) ns) →
+          ((ts : List EventType) (u : EventType) (ns : List ℕ) → TypeSays (typeNamed name ts) s ns r →
+          (r .found ≡ false → TypeIs s u (t .index) ns) →
           TypeSays (typeNamed name (ts ++ (u ∷ []))) s ns q) →
           (not (r .found) ≡ false → ps′ ≡ ps) → Listed s name ps′ q (left - 1) (t .next) (t .index .start) (t .index .end)
       listed-more n o kept stay = record {
@@ -199,7 +203,8 @@ module _ {s : List ℕ} {name : Text} {ps : List ℕ} {r : TableRead} {left at s
         ends = g .stops .ends;
         unset = o ∙ w .unset;
         says =
-            kept (w .before) (g .what) ps′ (says-stay (typeNamed name (w .before)) s ps ps′ r (w .says) (λ e. stay (ap not e))) (λ e. g .stops .is (ap not e));
+            kept (w .before) (g .what) ps′ (says-stay (typeNamed name (w .before)) s ps ps′ r (w .says) (λ e. stay (ap not e)))
+            (λ e. g .stops .is (ap not e));
       }
 
   listed-all : left ≤ 0 → readTable s ≡ got (w .before) (drop at s)
@@ -268,7 +273,8 @@ module _ (n : Text) (ts : List EventType) (t : EventType) (s ps : List ℕ) (r :
 
   -- x is the next type, whose name stands in the bytes
   module _
-      (x : TypeIndex) (h : r .found ≡ false) (is : r .found ≡ false → TypeIs s t x ps) {e : Bool} (told : e ≡ equal texts n (part s (x .start) (x .end)))
+      (x : TypeIndex) (h : r .found ≡ false) (is : r .found ≡ false → TypeIs s t x ps) {e : Bool}
+      (told : e ≡ equal texts n (part s (x .start) (x .end)))
     where
       now-named : {b : Bool} → e ≡ b → typeNamed n (ts ++ (t ∷ [])) ≡ cond b (some t) none
       now-named e = named-none n ts t (none-yet h) ∙ ap (λ (b : Bool). cond b (some t) none) (ap (equal texts n) (sym (is h .name)) ∙ sym told ∙ e)

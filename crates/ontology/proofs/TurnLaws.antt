@@ -154,7 +154,8 @@ in-turn versioned mark last (q ∷ qs) =
     ∙ spread (precedes last (q .name)) (strategyFits versioned q) (not (eqb mark 1) || canBeMarked q) (fitInTurn versioned (mark - 1) (q .name) qs)
     (leb (mark - 1) (length qs)) (rising texts (q .name ∷ map nameOf qs)) (allFit versioned qs) (markRule (mark - 1) qs)
     (in-turn versioned (mark - 1) (q .name) qs)
-    ∙ sym (ap₂ (λ (a b : Bool). a && (strategyFits versioned q && allFit versioned qs) && b) (rise-step last (q .name) (map nameOf qs)) (mark-step mark q qs))
+    ∙ sym (ap₂ (λ (a b : Bool). a && (strategyFits versioned q && allFit versioned qs) && b) (rise-step last (q .name) (map nameOf qs))
+    (mark-step mark q qs))
 
 pub rules-in-turn :
     (mark n : ℕ) (s : List ℕ) (qs : List Property) (r : List ℕ) → times readProperty n s ≡ got qs r →

@@ -76,7 +76,8 @@ rules-hold t e =
     }
 
 rules-are :
-    (name : Text) (definition mark : ℕ) (qs : List Property) → isNameWithin 64 name ≡ true → 1 ≤ definition → 1 ≤ length qs → length qs ≤ 32 →
+    (name : Text) (definition mark : ℕ) (qs : List Property) → isNameWithin 64 name ≡ true → 1 ≤ definition → 1 ≤ length qs →
+    length qs ≤ 32 →
     typeRules (typeOf name definition mark qs) ≡ propertyRules mark qs
 unfolding typeRules propertyRules
 rules-are name definition mark qs h k l m = rw (h, le-leb 1 definition k, le-leb 1 (length qs) l, le-leb (length qs) 32 m)
@@ -122,7 +123,8 @@ type-was s t r e =
     }
 
 -- a layout of types fails where no type of it meets the rules
-type-fail : (s : List ℕ) → ((t : EventType) (r : List ℕ) → TypeWas s t r → RulesHold t → _≡_ {A = ℕ} 0 1) → suchThat typeRules readType s ≡ fail
+type-fail :
+    (s : List ℕ) → ((t : EventType) (r : List ℕ) → TypeWas s t r → RulesHold t → _≡_ {A = ℕ} 0 1) → suchThat typeRules readType s ≡ fail
 type-fail s never = go (suchThat typeRules readType s) refl
   where
     go : (p : Parse EventType) → suchThat typeRules readType s ≡ p → p ≡ fail
@@ -134,7 +136,8 @@ type-fail s never = go (suchThat typeRules readType s) refl
 
 -- two tests, one after the other
 two-tests :
-    {A B : Type 0} (a b : Bool) (f : A → B) (x : A) (r : List ℕ) → cond (a && b) (got (f x) r) fail ≡ andThen (cond a (got x r) fail) (λ y. foundIf b (f y))
+    {A B : Type 0} (a b : Bool) (f : A → B) (x : A) (r : List ℕ) →
+    cond (a && b) (got (f x) r) fail ≡ andThen (cond a (got x r) fail) (λ y. foundIf b (f y))
 two-tests true b f x r = refl
 two-tests false b f x r = refl
 
@@ -279,7 +282,8 @@ pub record Placed (keep : Bool) (k : ℕ) (x : PropertyAt) (xs ys : List ℕ) : 
 
 module _ {keep : Bool} {k : ℕ} {x : PropertyAt} {xs ys : List ℕ} where
   pub placed :
-      keep ≡ true → {zs : List ℕ} → ys ≡ zs → propertyIn zs k ≡ x → ((i : ℕ) → (i ≡ k → ⊥) → propertyIn zs i ≡ propertyIn xs i) → length zs ≡ 96 →
+      keep ≡ true → {zs : List ℕ} → ys ≡ zs → propertyIn zs k ≡ x →
+      ((i : ℕ) → (i ≡ k → ⊥) → propertyIn zs i ≡ propertyIn xs i) → length zs ≡ 96 →
       Placed keep k x xs ys
   placed o {zs} e here others size =
       subst (Placed keep k x xs) (sym e) (record { here = λ a. here; others = λ a. others; stay = λ a. never (cc); size = size })
@@ -338,7 +342,8 @@ module _
       after m v n = prepend (w .before ++ (t .what ∷ [])) (fittingFrom (ltb 0 mark) m v n (drop e s))
 
       pub filled-more :
-          {b : Bool} {ys : List ℕ} → Fits b → not b ≡ false → Placed keep k x xs ys → Filled p s at mark keep xs₀ ys e (x .start) (x .end) (k + 1) count
+          {b : Bool} {ys : List ℕ} → Fits b → not b ≡ false → Placed keep k x xs ys →
+          Filled p s at mark keep xs₀ ys e (x .start) (x .end) (k + 1) count
       filled-more {b} {ys} f o d = record {
         before = w .before ++ (t .what ∷ []);
         long = length-append (w .before) (t .what ∷ []) ∙ ap (λ (n : ℕ). n + 1) (w .long);
@@ -362,7 +367,8 @@ module _
         where
           one :
               keep ≡ true → (i : ℕ) (q : Property) →
-              ((i < length (w .before)) × (getElem? (w .before) i ≡ some q)) ⊎ ((i ≡ length (w .before)) × (t .what ≡ q)) → PropertyIs s q (propertyIn ys i)
+              ((i < length (w .before)) × (getElem? (w .before) i ≡ some q)) ⊎ ((i ≡ length (w .before)) × (t .what ≡ q)) →
+              PropertyIs s q (propertyIn ys i)
           one o i q (inl a) =
               let ne : i ≡ k → ⊥ = λ b. omega (arith, a .0, w .long) in
               subst (PropertyIs s q) (sym (d .others o i ne)) (w .each o i q (a .1))
@@ -384,11 +390,14 @@ properties-fail p s at n keep xs e w = subst (PropertiesSay p s at n keep xs) e 
 
 -- ---- the type
 
-pub type-none : (p : Parse EventType) (s : List ℕ) (at : ℕ) (keep : Bool) (ps : List ℕ) (r : TypeRead) → p ≡ fail → r .ok ≡ false → TypeReads p s at keep ps r
+pub type-none :
+    (p : Parse EventType) (s : List ℕ) (at : ℕ) (keep : Bool) (ps : List ℕ) (r : TypeRead) → p ≡ fail → r .ok ≡ false →
+    TypeReads p s at keep ps r
 unfolding TypeReads
 type-none p s at keep ps r e h = rw e h
 
-module _ {s : List ℕ} {at start end : ℕ} {definition : DefinitionVersion} {mark count next : ℕ} (w : HeadStops s at start end definition mark count next) where
+module _
+    {s : List ℕ} {at start end : ℕ} {definition : DefinitionVersion} {mark count next : ℕ} (w : HeadStops s at start end definition mark count next) where
   -- the type, by what its properties come to
   type-by :
       {q : Parse (List Property)} → readFitting mark count (drop next s) ≡ q →

@@ -215,7 +215,8 @@ fn read_properties(
 // Where the properties are not kept, the numbers stay as they were.
 pub fn read_type(table: &[u8], at: usize, keep: bool, properties: &mut [usize]) -> TypeRead
     requires { ⌜ length (now properties) ≡ 96 ⌝ }
-    ensures reads { λ r. ⌜ TypeReads (suchThat typeRules readType (drop at (now (table .entry)))) (now (table .entry)) at keep (now (properties .exit)) r ⌝ }
+    ensures reads { λ r. ⌜ TypeReads (suchThat typeRules readType (drop at (now (table .entry))))
+        (now (table .entry)) at keep (now (properties .exit)) r ⌝ }
     ensures stay { λ _. ⌜ (keep ≡ false → now (properties .exit) ≡ now (properties .entry)) ⌝ }
 {
     let mut r = TypeRead {

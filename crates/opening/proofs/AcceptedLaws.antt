@@ -65,14 +65,16 @@ vacant-held : (c : Cell) → isVacant c ≡ true → held c ≡ []
 unfolding isVacant
 vacant-held c h = no-value (held c) (eqb-true (length (held c)) 0 (and-parts (not (isMark c)) (eqb (length (held c)) 0) h .1))
 
-column-none : (ss : List Snapshot) (p : ℕ) → ((j : ℕ) → j < length ss → held (cellAt (getD ss j noSnapshot) p) ≡ []) → flatten (column ss p) ≡ []
+column-none :
+    (ss : List Snapshot) (p : ℕ) → ((j : ℕ) → j < length ss → held (cellAt (getD ss j noSnapshot) p) ≡ []) → flatten (column ss p) ≡ []
 unfolding column flatten
 column-none [] p h = refl
 column-none (s ∷ ss) p h = rw (h 0 (omega arith)) (column-none ss p (λ j l. h (suc j) (omega arith)))
 
 -- ---- min and max
 
-lone-cell : (v : Bool) (q : Property) (c : Cell) → cellFits v q c ≡ true → q .multivalued ≡ false → (isMin q || isMax q) ≡ true → length (held c) ≤ 1
+lone-cell :
+    (v : Bool) (q : Property) (c : Cell) → cellFits v q c ≡ true → q .multivalued ≡ false → (isMin q || isMax q) ≡ true → length (held c) ≤ 1
 unfolding cellFits isLoneIfSingle isLoneIfExtreme isLone
 lone-cell v q c h m e =
     leb-true (length (held c)) 1 (go v (and-parts (isPresent q c) _ (and-parts (isPresent q c && _) (isUnmarkedMatch q c) h .0) .1))
@@ -117,13 +119,15 @@ module _ (s : List ℕ) (d : DossierIndex) (rows : List ℕ) (t : TypeIndex) (ps
       let each = eachCell (cellFits (isVersioned t)) isVacant (t .properties) (z .cells) in
       and-parts each _ (and-parts (each && _) (versionFits t z) (taken-fits taken j l) .0) .0
 
-  vacant-there : (p : ℕ) → getElem? (o .type .properties) p ≡ none → (j : ℕ) → j < length snapshots → held (cellAt (getD snapshots j noSnapshot) p) ≡ []
+  vacant-there :
+      (p : ℕ) → getElem? (o .type .properties) p ≡ none → (j : ℕ) → j < length snapshots → held (cellAt (getD snapshots j noSnapshot) p) ≡ []
   unfolding cellAt isVacant isMark held
   vacant-there p e j l =
       vacant-held (getD (getD snapshots j noSnapshot .cells) p (holds []))
       (vacant-at (cellFits (isVersioned (o .type))) isVacant (o .type .properties) (getD snapshots j noSnapshot .cells) (fits-at j l) refl p e)
 
-  module _ (p : ℕ) (q : Property) (e : getElem? (o .type .properties) p ≡ some q) (x : (isMin q || isMax q) ≡ true) (j : ℕ) (l : j < length snapshots) where
+  module _
+      (p : ℕ) (q : Property) (e : getElem? (o .type .properties) p ≡ some q) (x : (isMin q || isMax q) ≡ true) (j : ℕ) (l : j < length snapshots) where
     one-there : length (held (cellAt (getD snapshots j noSnapshot) p)) ≤ 1
     unfolding cellAt
     one-there =

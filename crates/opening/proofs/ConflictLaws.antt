@@ -163,7 +163,9 @@ module _ (ps : List ℕ) where
     unfolding conflict
     conflict-later e = conflict-split ∙ later (getD ss j noSnapshot .version) (marked ps (getD ss j noSnapshot)) (conflict ps (drop (j + 1) ss)) (sym e)
 
-    conflict-here : (r : Conflict) → conflictOf r ≡ conflict ps (getD ss j noSnapshot ∷ []) → (r ≡ NoConflict → ⊥) → conflictOf r ≡ conflict ps (drop j ss)
+    conflict-here :
+        (r : Conflict) → conflictOf r ≡ conflict ps (getD ss j noSnapshot ∷ []) → (r ≡ NoConflict → ⊥) →
+        conflictOf r ≡ conflict ps (drop j ss)
     unfolding conflict
     conflict-here (Differs v p) e n =
         sooner (getD ss j noSnapshot .version) (v .0) p (marked ps (getD ss j noSnapshot)) (conflict ps (drop (j + 1) ss)) e ∙ sym conflict-split
@@ -187,7 +189,8 @@ module _ {d : DossierIndex} {j : ℕ} (c : ConflictFrom d j) where
       (e : (x : Snapshot) → getD (d .versions) j noVersion .0 ≡ x .version → getD (d .differs) j 0 ≡ bitNumber (map differBit (x .cells)) →
       conflictOf r ≡ conflict (upTo 32) (x ∷ [])) where
     pub conflict-found :
-        {v : EventVersion} {p : ℕ} → r ≡ Differs v p → (s : List ℕ) (h : Headed) → DossierIs s h d → conflictOf r ≡ conflict (upTo 32) (h .snapshots)
+        {v : EventVersion} {p : ℕ} → r ≡ Differs v p → (s : List ℕ) (h : Headed) → DossierIs s h d →
+        conflictOf r ≡ conflict (upTo 32) (h .snapshots)
     conflict-found f s h w =
         let k = in-count s h d w j l in
         conflict-here (upTo 32) (h .snapshots) j k r (e _ (version-at s h d w j k) (differ-at s h d w j k)) (conflict-not r f) ∙ sym (c .is s h w)

@@ -84,7 +84,8 @@ column-versions (x ∷ ss) p h =
     ap₂ (λ (a : List Text) (b : List (List Text)). a ∷ b) (h 0 (omega arith)) (column-versions ss p (λ j l. h (suc j) (omega arith)))
 
 pub last-largest :
-    (ss : List Snapshot) (p j : ℕ) → Ups numbers (map versionIn ss) → All (λ (v : ℕ). v < 10 ^ 20) (map versionIn ss) → HoldsOwn ss p → length ss ≡ suc j →
+    (ss : List Snapshot) (p j : ℕ) → Ups numbers (map versionIn ss) → All (λ (v : ℕ). v < 10 ^ 20) (map versionIn ss) → HoldsOwn ss p →
+    length ss ≡ suc j →
     smallest largestFirst (flatten (column ss p)) ≡ getD (column ss p) j []
 last-largest ss p j u h own e =
     ap (λ (xss : List (List Text)). smallest largestFirst (flatten xss)) (column-versions ss p own)
@@ -99,13 +100,16 @@ unfolding holdsVersion held
 holds-own v (holds s) h = equal-true sets s (versionSet v) .0 h
 holds-own v differs h = never (cc)
 
-pub fits-own : (t : EventType) (x : Snapshot) → isVersioned t ≡ true → versionFits t x ≡ true → held (cellAt x (t .mark - 1)) ≡ versionSet (x .version)
+pub fits-own :
+    (t : EventType) (x : Snapshot) → isVersioned t ≡ true → versionFits t x ≡ true → held (cellAt x (t .mark - 1)) ≡ versionSet (x .version)
 unfolding versionFits
 fits-own t x v h =
     holds-own (x .version) (cellAt x (t .mark - 1))
     (and-parts (leb (sizes (x .cells)) 32) (holdsVersion (x .version) (cellAt x (t .mark - 1))) (rw v at h) .1)
 
-pub marked-max : (t : EventType) (q : Property) → typeRules t ≡ true → isVersioned t ≡ true → getElem? (t .properties) (t .mark - 1) ≡ some q → isMax q ≡ true
+pub marked-max :
+    (t : EventType) (q : Property) → typeRules t ≡ true → isVersioned t ≡ true → getElem? (t .properties) (t .mark - 1) ≡ some q →
+    isMax q ≡ true
 unfolding typeRules markFits canBeMarked
 marked-max t q h v e =
     let marks = markFits (getElem? (t .properties) (t .mark - 1)) in

@@ -4,7 +4,8 @@ use mathlib.Core.Logic.{⊎-elim}
 use mathlib.Core.Bool.{Bool, true, false, cond, not, _||_}
 use mathlib.Core.Option.{Option, none, some}
 use mathlib.Core.List.{List, [], _∷_, _++_, map, flatten, append-nil}
-use mathlib.Core.List.{List·Memᴰ, List·Memᴰ·head, List·Memᴰ·cases-cons, List·Memᴰ·not-nil, List·Memᴰ·append-cases, Memᴰ·append-left, Memᴰ·append-right}
+use mathlib.Core.List.{List·Memᴰ, List·Memᴰ·head, List·Memᴰ·cases-cons, List·Memᴰ·not-nil}
+use mathlib.Core.List.{List·Memᴰ·append-cases, Memᴰ·append-left, Memᴰ·append-right}
 use Prim.Native.Nat.{ℕ, zero, suc, _+_, _-_, _^_, _≤_, _<_, Ordering}
 use native.Mathlib.Omega.{arith}
 use native.Mathlib.Numerals.{add-one}
@@ -98,12 +99,14 @@ module _ {s : List ℕ} {kind : ℕ} (largest : Bool) {a b : SetAt} where
   pub better-none : a .count ≡ 0 → Better s kind largest a b b
   better-none e k vs ws ch p q v w =
       let z : vs ≡ [] = no-value vs (omega (arith, p .count)) in
-      subst (λ (l : List Text). SetIs s l b) (sym (ap (λ (l : List Text). take 1 (union (extremeOrder largest k) l ws)) z ∙ union-lone-none k largest ws w)) q
+      subst (λ (l : List Text). SetIs s l b) (sym (ap (λ (l : List Text). take 1 (union (extremeOrder largest k) l ws)) z
+      ∙ union-lone-none k largest ws w)) q
 
   pub better-only : b .count ≡ 0 → Better s kind largest a b a
   better-only e k vs ws ch p q v w =
       let z : ws ≡ [] = no-value ws (omega (arith, q .count)) in
-      subst (λ (l : List Text). SetIs s l a) (sym (ap (λ (l : List Text). take 1 (union (extremeOrder largest k) vs l)) z ∙ union-none-lone k largest vs v)) p
+      subst (λ (l : List Text). SetIs s l a) (sym (ap (λ (l : List Text). take 1 (union (extremeOrder largest k) vs l)) z
+      ∙ union-none-lone k largest vs v)) p
 
 -- the first is chosen, or the second
 abbrev pub BetterBy : List ℕ → ℕ → Bool → SetAt → SetAt → Bool → Type 0
@@ -177,14 +180,16 @@ module _ (s : List ℕ) (k : Kind) (largest : Bool) (xss : List (List Text)) whe
       ∙ ap (λ (vs : List Text). take 1 (union O (smallest O (flatten (take j xss))) vs)) (lone-smallest k largest (getD xss j []) l) in
       record { is = rw e w; lone = rw e (lone-union k largest (smallest O (flatten (take j xss))) (getD xss j []) (c .lone) l) }
 
-  chosen-all : (j : ℕ) (best : SetAt) → length xss ≤ j → Chosen s k largest xss best j → SetIs s (smallest (extremeOrder largest k) (flatten xss)) best
+  chosen-all :
+      (j : ℕ) (best : SetAt) → length xss ≤ j → Chosen s k largest xss best j → SetIs s (smallest (extremeOrder largest k) (flatten xss)) best
   chosen-all j best h c = let e = take-all j xss h in rw e at (c .is)
 
 -- so of any n snapshots whose cells the code has
 pub record ChosenTo (s rows : List ℕ) (place n kind : ℕ) (largest : Bool) (best : SetAt) (j : ℕ) : Type 0 where
   pub inside : place < 32
   pub is :
-      (ss : List Snapshot) (k : Kind) → CellsStand s ss rows → length ss ≡ n → Chooses k kind → ((i : ℕ) → i < n → Lone k (getD (column ss place) i [])) →
+      (ss : List Snapshot) (k : Kind) → CellsStand s ss rows → length ss ≡ n → Chooses k kind →
+      ((i : ℕ) → i < n → Lone k (getD (column ss place) i [])) →
       Chosen s k largest (column ss place) best j
 
 pub chosen-one :
@@ -288,7 +293,8 @@ unfolding flatten
 union-more xss j h u =
     ap (λ (n : ℕ). canon texts (flatten (take n xss))) (add-one j)
     ∙ ap (λ (yss : List (List Text)). canon texts (flatten yss)) (take-suc xss j [] h)
-    ∙ ap (canon texts) (flatten-append (take j xss) (getD xss j [] ∷ []) ∙ ap (λ (l : List Text). flatten (take j xss) ++ l) (append-nil (getD xss j [])))
+    ∙ ap (canon texts) (flatten-append (take j xss) (getD xss j [] ∷ [])
+    ∙ ap (λ (l : List Text). flatten (take j xss) ++ l) (append-nil (getD xss j [])))
     ∙ sym (union-canon texts (flatten (take j xss)) (getD xss j []))
     ∙ ap (union texts (canon texts (flatten (take j xss)))) (canon-ups texts (getD xss j []) u)
 
@@ -317,7 +323,8 @@ lone-within m (v ∷ vs) u any h =
 
 -- two sets that are not empty and differ have two values at least
 differ-several :
-    (vs ws us : List Text) → Ups texts vs → Ups texts ws → (vs ≡ [] → ⊥) → (ws ≡ [] → ⊥) → Within vs us → Within ws us → (vs ≡ ws → ⊥) →
+    (vs ws us : List Text) → Ups texts vs → Ups texts ws → (vs ≡ [] → ⊥) → (ws ≡ [] → ⊥) → Within vs us → Within ws us →
+    (vs ≡ ws → ⊥) →
     2 ≤ length us
 differ-several vs ws [] a b c d h k ne = absurd (none vs c h)
   where
@@ -418,7 +425,8 @@ pub record UnionTo (s rows : List ℕ) (place n : ℕ) (only : SetAt) (j : ℕ) 
   pub is : (ss : List Snapshot) → CellsStand s ss rows → length ss ≡ n → SetIs s (unionTo (column ss place) j) only
 
 pub union-one :
-    {s rows : List ℕ} {place n : ℕ} {x : SetAt} → 1 ≤ n → place < 32 → length s < 2 ^ 64 → x ≡ cellIn rows place 0 → UnionTo s rows place n x 1
+    {s rows : List ℕ} {place n : ℕ} {x : SetAt} → 1 ≤ n → place < 32 → length s < 2 ^ 64 → x ≡ cellIn rows place 0 →
+    UnionTo s rows place n x 1
 union-one {place = place} h p l e = record {
   below = h;
   inside = p;
@@ -446,7 +454,8 @@ module _ {s rows : List ℕ} {place n : ℕ} {only : SetAt} {j : ℕ} (g : Union
         }
 
     union-with :
-        {now y : SetAt} → now ≡ y → ((ss : List Snapshot) → CellsStand s ss rows → length ss ≡ n → SetIs s (unionTo (column ss place) (j + 1)) y) →
+        {now y : SetAt} → now ≡ y →
+        ((ss : List Snapshot) → CellsStand s ss rows → length ss ≡ n → SetIs s (unionTo (column ss place) (j + 1)) y) →
         UnionTo s rows place n now (j + 1)
     union-with f is = rw f (record { below = omega arith; inside = g .inside; short = g .short; is = is })
 
@@ -529,7 +538,8 @@ module _
         by false false e f = last-cell (omega arith) c (only-union e f ∙ only)
 
   pub stands-chosen : {x : SetAt} → r .replaces ≡ false → r .extreme ≡ true →
-      ((ss : List Snapshot) (k : Kind) → CellsStand s ss rows → length ss ≡ n → Chooses k (r .kind) → ((j : ℕ) → j < n → Lone k (getD (column ss p) j [])) →
+      ((ss : List Snapshot) (k : Kind) → CellsStand s ss rows → length ss ≡ n → Chooses k (r .kind) →
+      ((j : ℕ) → j < n → Lone k (getD (column ss p) j [])) →
       SetIs s (smallest (extremeOrder (r .largest) k) (flatten (column ss p))) x) →
       SetIs s merged-here x
   stands-chosen {x} e g h =

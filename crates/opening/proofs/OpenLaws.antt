@@ -65,7 +65,8 @@ module _ {s : List ℕ} {d : DossierIndex} {rows : List ℕ} {t : TypeIndex} {ps
   -- r is the conflict that was found
   module _ {r : found.Conflict} (finds : (u : List ℕ) (h : Headed) → DossierIs u h d → conflictOf r ≡ conflict (upTo 32) (h .snapshots)) where
     pub replies-conflict :
-        {v : EventVersion} {p : ℕ} → r ≡ Differs v p → (out : List ℕ) → openReplies (Found (Conflict v p)) out ≡ outcome (openedAnswer (o .headed) opens) out
+        {v : EventVersion} {p : ℕ} → r ≡ Differs v p → (out : List ℕ) →
+        openReplies (Found (Conflict v p)) out ≡ outcome (openedAnswer (o .headed) opens) out
     unfolding openedAnswer opening firstOf places typeView eventView
     replies-conflict e out =
         ap (λ (c : model.Conflict).
@@ -114,7 +115,8 @@ module _ {s : List ℕ} {d : DossierIndex} {rows : List ℕ} {t : TypeIndex} {ps
           ≡ outcome (openedAnswer (o .headed) opens) out
       answered-as e out = sym (ap (λ (x : model.Opened). outcome (openedAnswer (o .headed) x) out) (opens-as e))
 
-      pub replies-overfull : {p : ℕ} → r ≡ Place p → (out : List ℕ) → openReplies (Found (Overfull p)) out ≡ outcome (openedAnswer (o .headed) opens) out
+      pub replies-overfull :
+          {p : ℕ} → r ≡ Place p → (out : List ℕ) → openReplies (Found (Overfull p)) out ≡ outcome (openedAnswer (o .headed) opens) out
       unfolding openedAnswer firstOf
       replies-overfull e out = answered-as e out
 
@@ -147,7 +149,8 @@ pub record Accepted (table s : List ℕ) (d : DossierIndex) (rows : List ℕ) (t
 module _
     {table s : List ℕ} {name : Text} {ps : List ℕ} {read : TableRead} {d : DossierIndex} (r : ℕ) (t : TableGot table name ps read)
     (named : (h : Headed) → DossierIs s h d → name ≡ h .head .type)
-    (asks : (u : List ℕ) (ts : Table) → tableOf u ≡ some ts → ((h : Headed) → DossierIs s h d → TypeSays (typeNamed (h .head .type) ts) u ps read) →
+    (asks : (u : List ℕ) (ts : Table) → tableOf u ≡ some ts →
+    ((h : Headed) → DossierIs s h d → TypeSays (typeNamed (h .head .type) ts) u ps read) →
     DossierAnswers (dossierAsked standard ts s) u (read .index) ps r) where
   answered : DossierAnswers (dossierAsked standard (t .what) s) table (read .index) ps r
   answered = asks table (t .what) (t .is) (λ h w. subst (λ (n : Text). TypeSays (typeNamed n (t .what)) table ps read) (named h w) (t .says))

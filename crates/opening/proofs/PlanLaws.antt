@@ -97,8 +97,13 @@ plan-put s plan p (Stands x) vs xss l h w =
     let long : length l₁ ≡ 128 = put-length plan (4 * p) x ∙ l in
     let flag : getD (set l₁ (4 * p + 3) 0) (4 * p + 3) 0 ≡ 0 = getD-set-same l₁ (4 * p + 3) 0 0 (omega arith) in
     let is : setFrom (set l₁ (4 * p + 3) 0) (4 * p) ≡ x =
-    set-kept l₁ (set l₁ (4 * p + 3) 0) (4 * p) (λ i a b. getD-set-other l₁ (4 * p + 3) i 0 0 (λ e. omega arith)) ∙ set-put plan (4 * p) x (omega arith) in
-    record { joins = λ e. absurd (omega (arith, flag, e)); stands = λ n. rw is w; counts = tells-same (count-of (set l₁ (4 * p + 3) 0) (4 * p) is ∙ w .count) }
+    set-kept l₁ (set l₁ (4 * p + 3) 0) (4 * p) (λ i a b. getD-set-other l₁ (4 * p + 3) i 0 0 (λ e. omega arith))
+    ∙ set-put plan (4 * p) x (omega arith) in
+    record {
+      joins = λ e. absurd (omega (arith, flag, e));
+      stands = λ n. rw is w;
+      counts = tells-same (count-of (set l₁ (4 * p + 3) 0) (4 * p) is ∙ w .count);
+    }
 plan-put s plan p Joins vs xss l h w =
     let l₁ = set plan (4 * p + 2) 2 in
     let long : length l₁ ≡ 128 = length-set plan (4 * p + 2) 2 ∙ l in
@@ -160,14 +165,16 @@ pub record PlansTo (s rows : List ℕ) (n count mark : ℕ) (ps plan : List ℕ)
       PlannedTo s plan ty d p
 
 pub plans-none :
-    {s rows ps plan : List ℕ} {n count mark : ℕ} → length plan ≡ 128 → ((i : ℕ) → i < 128 → getD plan i 0 ≡ 0) → PlansTo s rows n count mark ps plan 0
+    {s rows ps plan : List ℕ} {n count mark : ℕ} → length plan ≡ 128 → ((i : ℕ) → i < 128 → getD plan i 0 ≡ 0) →
+    PlansTo s rows n count mark ps plan 0
 plans-none l z = record { long = l; is = λ u ty d w k m. planned-none _ _ ty d z }
 
 module _ {s rows ps plan : List ℕ} {n count mark p : ℕ} (g : PlansTo s rows n count mark ps plan p) where
   pub plans-next :
       {q : PropertyAt} {r : PlaceRule} (x : PlaceMerged) {new : List ℕ} → p < count → q ≡ propertyIn ps p →
       ((u : List ℕ) (v : Property) → PropertyIs u v q → RuleOf v r) →
-      ((t : EventType) (d : Dossier) → Mergeable s rows n t d → RuleIs (getElem? (t .properties) p) r → (eqb (p + 1) mark ≡ true → p + 1 ≡ t .mark) →
+      ((t : EventType) (d : Dossier) → Mergeable s rows n t d → RuleIs (getElem? (t .properties) p) r →
+      (eqb (p + 1) mark ≡ true → p + 1 ≡ t .mark) →
       PlaceIs s (mergedAt (typeView t) d p) (column (d .snapshots) p) x) →
       new ≡ withPlace plan p x → PlansTo s rows n count mark ps new (p + 1)
   plans-next x h same rule merged e = record {
@@ -178,7 +185,8 @@ module _ {s rows ps plan : List ℕ} {n count mark p : ℕ} (g : PlansTo s rows 
   }
 
   pub plans-all :
-      count ≤ p → (u : List ℕ) (ty : EventType) (d : Dossier) → PropertiesAre u (ty .properties) count ps → mark ≡ ty .mark → Mergeable s rows n ty d →
+      count ≤ p → (u : List ℕ) (ty : EventType) (d : Dossier) → PropertiesAre u (ty .properties) count ps → mark ≡ ty .mark →
+      Mergeable s rows n ty d →
       PlanIs s plan ty d
   plans-all h u ty d w k m = planned-all s plan ty d p (λ i l. merged-vacant s rows u n ty count ps d i w m (omega arith)) (g .is u ty d w k m)
 

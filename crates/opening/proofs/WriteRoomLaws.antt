@@ -205,7 +205,8 @@ module _ {s : List ℕ} {d : DossierIndex} {rows : List ℕ} {count : ℕ} {plan
       {name source hashes l l₁ : List ℕ} {at presence : ℕ} (e : length l ≡ size)
       (parts : (h : Head) → HeadIs s h (d .head) → HeadParts name source hashes h)
       (writes : (h : Head) → HeadParts name source hashes h → Wrote l 0 (headBytes h) l₁ at)
-      (present : (u : List ℕ) (ty : EventType) (x : Dossier) → PlanIs u plan ty x → presence ≡ bitNumber (map presenceBit (mergedSets (typeView ty) x))) where
+      (present : (u : List ℕ) (ty : EventType) (x : Dossier) → PlanIs u plan ty x →
+      presence ≡ bitNumber (map presenceBit (mergedSets (typeView ty) x))) where
     pub head-written : Wrote l 0 head l₁ at
     head-written = writes (w .headed .head) (parts (w .headed .head) (w .is .head))
 

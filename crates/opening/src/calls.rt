@@ -42,7 +42,8 @@ fn open_merged(
     requires { ⌜ Openable (now s) d (now rows) t (now properties) ⌝ }
     ensures { λ r. ⌜ ((o : Openable (now (s .entry)) d (now (rows .entry)) t (now (properties .entry)))
         → conflict (upTo 32) (o .headed .snapshots) ≡ noConflict
-        → openReplies r (now (out .exit)) ≡ outcome (openedAnswer (o .headed) (opening (typeView (o .type)) (modelOf (o .headed)))) (now (out .entry))) ⌝ }
+        → openReplies r (now (out .exit))
+        ≡ outcome (openedAnswer (o .headed) (opening (typeView (o .type)) (modelOf (o .headed)))) (now (out .entry))) ⌝ }
 {
     let mut plan = [0usize; 128];
     plan_sets(s, rows, d.count, t.count, t.mark, properties, &mut plan);
@@ -64,7 +65,8 @@ fn open_asked(
     requires { ⌜ (96 * d .count ≤ length (now rows)) × (length (now properties) ≡ 96) × (dossierCapacity ≤ length (now out)) ⌝ }
     requires { ⌜ Openable (now s) d (now rows) t (now properties) ⌝ }
     ensures { λ r. ⌜ ((o : Openable (now (s .entry)) d (now (rows .entry)) t (now (properties .entry)))
-        → openReplies r (now (out .exit)) ≡ outcome (openedAnswer (o .headed) (opening (typeView (o .type)) (modelOf (o .headed)))) (now (out .entry))) ⌝ }
+        → openReplies r (now (out .exit))
+        ≡ outcome (openedAnswer (o .headed) (opening (typeView (o .type)) (modelOf (o .headed)))) (now (out .entry))) ⌝ }
 {
     match find_conflict(d) {
         Conflict::Differs(version, place) => Opened::Found(Finding::Conflict(version, place)),

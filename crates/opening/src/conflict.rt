@@ -27,7 +27,8 @@ pub enum Conflict {
 
 // The lowest place whose differ bit is set. Most numbers have no bit set, and where none is left no place is looked at.
 fn lowest_mark(differ: u64) -> Lowest
-    ensures { λ r. ⌜ ((cs : List Cell) → differ ≡ bitNumber (map differBit cs) → lowestOf r ≡ lowest (λ p. isMark (getD cs p (holds []))) (upTo 32)) ⌝ }
+    ensures { λ r. ⌜ ((cs : List Cell) → differ ≡ bitNumber (map differBit cs)
+        → lowestOf r ≡ lowest (λ p. isMark (getD cs p (holds []))) (upTo 32)) ⌝ }
 {
     let mut bits = differ;
     let mut k: usize = 0;
@@ -43,7 +44,8 @@ fn lowest_mark(differ: u64) -> Lowest
 
 // The conflict of a snapshot, from its version and its differ number.
 fn snapshot_conflict(version: EventVersion, differ: u64) -> Conflict
-    ensures { λ r. ⌜ ((x : Snapshot) → version .0 ≡ x .version → differ ≡ bitNumber (map differBit (x .cells)) → conflictOf r ≡ conflict (upTo 32) (x ∷ [])) ⌝ }
+    ensures { λ r. ⌜ ((x : Snapshot) → version .0 ≡ x .version → differ ≡ bitNumber (map differBit (x .cells))
+        → conflictOf r ≡ conflict (upTo 32) (x ∷ [])) ⌝ }
 {
     match lowest_mark(differ) {
         Lowest::Place(place) => Conflict::Differs(version, place),

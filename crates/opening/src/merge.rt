@@ -149,7 +149,8 @@ pub fn plan_sets(
     properties: &[usize],
     plan: &mut [usize],
 )
-    requires { ⌜ (count ≤ 32) × (1 ≤ n) × (n ≤ 8) × (96 * n ≤ length (now rows)) × (length (now properties) ≡ 96) × (length (now plan) ≡ 128) ⌝ }
+    requires { ⌜ (count ≤ 32) × (1 ≤ n) × (n ≤ 8) × (96 * n ≤ length (now rows)) × (length (now properties) ≡ 96)
+        × (length (now plan) ≡ 128) ⌝ }
     requires { ⌜ ((i : ℕ) → i < 128 → getD (now plan) i 0 ≡ 0) ⌝ }
     ensures { λ r. ⌜ ((u : List ℕ) (ty : EventType) (d : Dossier) → PropertiesAre u (ty .properties) count (now (properties .entry))
         → mark ≡ ty .mark → Mergeable (now (s .entry)) (now (rows .entry)) n ty d → PlanIs (now (s .entry)) (now (plan .exit)) ty d) ⌝ }

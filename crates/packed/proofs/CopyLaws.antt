@@ -43,7 +43,8 @@ module _ {l s : List ℕ} {at : ℕ} where
       let again = take (i - j) (drop j s) in
       let more = take n (drop j s) in
       let from : j + (i - j) ≡ i = omega arith in
-      let was : l₁ ≡ sets before (at + j) again = c .bytes ∙ ap (λ (k : ℕ). sets l at (take k s)) (sym from) ∙ in-two l s at j (i - j) (omega arith) in
+      let was : l₁ ≡ sets before (at + j) again =
+      c .bytes ∙ ap (λ (k : ℕ). sets l at (take k s)) (sym from) ∙ in-two l s at j (i - j) (omega arith) in
       let left = length-drop j s in
       let short : length again ≡ i - j = length-take-le (i - j) (drop j s) (omega arith) in
       let long : length more ≡ n = length-take-le n (drop j s) (omega arith) in

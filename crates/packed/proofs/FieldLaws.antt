@@ -44,7 +44,9 @@ module _ {A B : Type 0} (k : A → Layout B) where
   then-fail {p} {s} {at} {a} {e} g h = ap (λ (q : Parse A). andThen q k) (g .is) ∙ h
 
   -- the last layout reads nothing more
-  pub then-found : {p : Parse A} {s : List ℕ} {at : ℕ} {a : A} {e : ℕ} {b : B} → Got p s at a e → k a (drop e s) ≡ got b (drop e s) → Got (andThen p k) s at b e
+  pub then-found :
+      {p : Parse A} {s : List ℕ} {at : ℕ} {a : A} {e : ℕ} {b : B} → Got p s at a e → k a (drop e s) ≡ got b (drop e s) →
+      Got (andThen p k) s at b e
   then-found {p} {s} {at} {a} {e} {b} g h = record {
     is = ap (λ (q : Parse A). andThen q k) (g .is) ∙ h;
     after = g .after;
@@ -94,7 +96,8 @@ pub within-bounds : (least most n : ℕ) → isWithin least most n ≡ true → 
 within-bounds least most n e = let b = and-parts (leb least n) (leb n most) e in (leb-true least n (b .0), leb-true n most (b .1))
 
 pub got-bounds :
-    {s : List ℕ} {at n next : ℕ} (least most : ℕ) → Got (suchThat (isWithin least most) readNumber (drop at s)) s at n next → (least ≤ n) × (n ≤ most)
+    {s : List ℕ} {at n next : ℕ} (least most : ℕ) → Got (suchThat (isWithin least most) readNumber (drop at s)) s at n next →
+    (least ≤ n) × (n ≤ most)
 got-bounds {s} {at} {n} {next} least most g = within-bounds least most n (such-was (isWithin least most) readNumber s at g .1)
 
 -- the steps of reading one, each for a return of `read_within`: r is the answer for the number

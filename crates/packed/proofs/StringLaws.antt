@@ -72,7 +72,8 @@ pub record ComparesFrom (a b : List ℕ) (x y : StringAt) (n m i : ℕ) : Type 0
   pub within : i ≤ n
   pub is : texts .cmp (stringOf a b x) (stringOf a b y) ≡ texts .cmp (drop i (stringOf a b x)) (drop i (stringOf a b y))
 
-pub compares-all : {a b : List ℕ} {x y : StringAt} {n m : ℕ} → n ≡ length (stringOf a b x) → m ≡ length (stringOf a b y) → ComparesFrom a b x y n m 0
+pub compares-all :
+    {a b : List ℕ} {x y : StringAt} {n m : ℕ} → n ≡ length (stringOf a b x) → m ≡ length (stringOf a b y) → ComparesFrom a b x y n m 0
 compares-all e f = record { first = e; second = f; within = omega arith; is = refl }
 
 module _ {a b : List ℕ} {x y : StringAt} {n m i : ℕ} (w : ComparesFrom a b x y n m i) where

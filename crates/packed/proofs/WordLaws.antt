@@ -98,7 +98,8 @@ pub record Alike (a b : List ℕ) (n i : ℕ) : Type 0 where
   pub within : i ≤ n
   pub same : take i a ≡ take i b
 
-pub alike-none : {a b : List ℕ} {n : ℕ} → Known a → Known b → (n ≤ length a) × (n ≤ length b) × ((length a ≤ n) ⊎ (length b ≤ n)) → Alike a b n 0
+pub alike-none :
+    {a b : List ℕ} {n : ℕ} → Known a → Known b → (n ≤ length a) × (n ≤ length b) × ((length a ≤ n) ⊎ (length b ≤ n)) → Alike a b n 0
 alike-none {a} {b} p q h = record { a-bytes = known-bytes a p; b-bytes = known-bytes b q; shorter = h; within = omega arith; same = refl }
 
 pub alike-as : {a b : List ℕ} {n i j : ℕ} → i ≡ j → Alike a b n j → Alike a b n i
@@ -208,7 +209,8 @@ module _ {a b : List ℕ} {n i : ℕ} (w : Alike a b n i) (h : i < n) where
 pub eight :
     (s : List ℕ) (at : ℕ) → at + 8 ≤ length s →
     take 8 (drop at s)
-    ≡ getD s at 0 ∷ getD s (at + 1) 0 ∷ getD s (at + 2) 0 ∷ getD s (at + 3) 0 ∷ getD s (at + 4) 0 ∷ getD s (at + 5) 0 ∷ getD s (at + 6) 0 ∷ getD s
+    ≡ getD s at 0 ∷ getD s (at + 1) 0 ∷ getD s (at + 2) 0 ∷ getD s (at + 3) 0 ∷ getD s (at + 4) 0 ∷ getD s (at + 5) 0 ∷ getD s
+    (at + 6) 0 ∷ getD s
     (at + 7) 0 ∷ []
 eight s at h =
     rw (
@@ -222,7 +224,9 @@ eight s at h =
       first-byte s (at + 7) (at + 8) 0 (omega arith) (omega arith),
     )
 
-pub four : (s : List ℕ) (at : ℕ) → at + 4 ≤ length s → take 4 (drop at s) ≡ getD s at 0 ∷ getD s (at + 1) 0 ∷ getD s (at + 2) 0 ∷ getD s (at + 3) 0 ∷ []
+pub four :
+    (s : List ℕ) (at : ℕ) → at + 4 ≤ length s →
+    take 4 (drop at s) ≡ getD s at 0 ∷ getD s (at + 1) 0 ∷ getD s (at + 2) 0 ∷ getD s (at + 3) 0 ∷ []
 four s at h =
     rw (
       first-byte s at (at + 1) 3 (omega arith) refl,

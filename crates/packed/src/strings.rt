@@ -94,7 +94,8 @@ fn compare_strings(a: &[u8], b: &[u8], x: StringAt, y: StringAt) -> Ordering
 
 fn is_after(a: &[u8], b: &[u8], x: StringAt, y: StringAt) -> bool
     requires { ⌜ StringFits (now a) (now b) x × StringFits (now a) (now b) y ⌝ }
-    ensures { λ r. ⌜ r ≡ pick (texts .cmp (stringOf (now (a .entry)) (now (b .entry)) x) (stringOf (now (a .entry)) (now (b .entry)) y)) false false true ⌝ }
+    ensures { λ r. ⌜ r ≡ pick (texts .cmp (stringOf (now (a .entry)) (now (b .entry)) x) (stringOf (now (a .entry)) (now (b .entry)) y))
+        false false true ⌝ }
 {
     match compare_strings(a, b, x, y) {
         Ordering::Less => false,
@@ -106,7 +107,8 @@ fn is_after(a: &[u8], b: &[u8], x: StringAt, y: StringAt) -> bool
 // The first `count` places have strings, sorted. Strings come nearly sorted, so the place of the one to insert is looked for from the end; the strings after
 // it move up on the way.
 pub fn insert_string(a: &[u8], b: &[u8], strings: &mut [usize], count: usize, x: StringAt)
-    requires { ⌜ StringsFit (now a) (now b) (stringsIn (now strings)) count × StringFits (now a) (now b) x × (count < 32) × (length (now strings) ≡ 128) ⌝ }
+    requires { ⌜ StringsFit (now a) (now b) (stringsIn (now strings)) count × StringFits (now a) (now b) x × (count < 32)
+        × (length (now strings) ≡ 128) ⌝ }
     ensures { λ _. ⌜ Inserted (now (a .entry)) (now (b .entry)) (stringsIn (now (strings .entry))) count x (stringsIn (now (strings .exit))) ⌝ }
 {
     let mut k = count;

@@ -54,7 +54,9 @@ pub hex-end : (s : List ℕ) (i : ℕ) → length s ≤ i → hexOf (drop i s) �
 unfolding hexOf
 hex-end s i h = ap hexOf (drop-of-length-le s h)
 
-hex-step : (s : List ℕ) (i : ℕ) → i < length s → hexOf (drop i s) ≡ (hexDigit (getD s i 0 / 16) ∷ hexDigit (getD s i 0 % 16) ∷ []) ++ hexOf (drop (i + 1) s)
+hex-step :
+    (s : List ℕ) (i : ℕ) → i < length s →
+    hexOf (drop i s) ≡ (hexDigit (getD s i 0 / 16) ∷ hexDigit (getD s i 0 % 16) ∷ []) ++ hexOf (drop (i + 1) s)
 unfolding hexOf
 hex-step s i h = ap hexOf (drop-next s i h)
 
@@ -68,12 +70,14 @@ hex-start l at s = subst (λ (p : ℕ). ToGo l at (hexOf s) l p (hexOf s)) (noth
     nothing n = omega arith
 
 pub hex-gone :
-    {l₀ whole l : List ℕ} {at : ℕ} (s : List ℕ) (i a b : ℕ) → i < length s → a ≡ hexDigit (getD s i 0 / 16) → b ≡ hexDigit (getD s i 0 % 16) →
+    {l₀ whole l : List ℕ} {at : ℕ} (s : List ℕ) (i a b : ℕ) → i < length s → a ≡ hexDigit (getD s i 0 / 16) →
+    b ≡ hexDigit (getD s i 0 % 16) →
     ToGo l₀ at whole l (at + 2 * i) (hexOf (drop i s)) →
     ToGo l₀ at whole (set (set l (at + 2 * i) a) (at + 2 * i + 1) b) (at + 2 * (i + 1)) (hexOf (drop (i + 1) s))
 hex-gone {l₀} {whole} {l} {at} s i a b h x y g =
     gone (hexDigit (getD s i 0 / 16) ∷ hexDigit (getD s i 0 % 16) ∷ []) (hexOf (drop (i + 1) s)) g (hex-step s i h)
-    (subst (Wrote l (at + 2 * i) (hexDigit (getD s i 0 / 16) ∷ hexDigit (getD s i 0 % 16) ∷ []) (set (set l (at + 2 * i) a) (at + 2 * i + 1) b)) (hex-next at i)
+    (subst (Wrote l (at + 2 * i) (hexDigit (getD s i 0 / 16) ∷ hexDigit (getD s i 0 % 16) ∷ []) (set (set l (at + 2 * i) a) (at + 2 * i + 1) b))
+    (hex-next at i)
     (rw (← x, ← y) (wrote-then (stored l (at + 2 * i) a) (stored (set l (at + 2 * i) a) (at + 2 * i + 1) b))))
 
 -- ---- a refusal
@@ -84,7 +88,8 @@ wrote-five :
 wrote-five v w x y u = wrote-then v (wrote-then w (wrote-then x (wrote-then y u)))
 
 module _ (n i : ℕ) where
-  refused-is : refusedLine n i ≡ (114 ∷ 101 ∷ 102 ∷ 117 ∷ 115 ∷ 101 ∷ 100 ∷ 32 ∷ []) ++ (inDecimal n ++ ((32 ∷ []) ++ (inDecimal i ++ (10 ∷ []))))
+  refused-is :
+      refusedLine n i ≡ (114 ∷ 101 ∷ 102 ∷ 117 ∷ 115 ∷ 101 ∷ 100 ∷ 32 ∷ []) ++ (inDecimal n ++ ((32 ∷ []) ++ (inDecimal i ++ (10 ∷ []))))
   unfolding refusedLine ascii
   refused-is = simp append-assoc
 
@@ -92,7 +97,8 @@ module _ (n i : ℕ) where
   refused-length = ap length refused-is ∙ simp length-append (omega arith)
 
   pub wrote-refused :
-      {l a b c d e : List ℕ} {p q r s z : ℕ} → Wrote l 0 (114 ∷ 101 ∷ 102 ∷ 117 ∷ 115 ∷ 101 ∷ 100 ∷ 32 ∷ []) a p → Wrote a p (inDecimal n) b q →
+      {l a b c d e : List ℕ} {p q r s z : ℕ} → Wrote l 0 (114 ∷ 101 ∷ 102 ∷ 117 ∷ 115 ∷ 101 ∷ 100 ∷ 32 ∷ []) a p →
+      Wrote a p (inDecimal n) b q →
       Wrote b q (32 ∷ []) c r → Wrote c r (inDecimal i) d s → Wrote d s (10 ∷ []) e z →
       Wrote l 0 (refusedLine n i) e z
   wrote-refused v w x y u = rw refused-is (wrote-five v w x y u)
@@ -127,7 +133,8 @@ module _ {table ps : List ℕ} {place : ℕ} (p : PlaceNamed table ps place) whe
     conflict-length = ap length conflict-is ∙ simp length-append (omega arith)
 
   -- `overfull serial`
-  overfull-is : overfullLine (p .type) place ≡ (111 ∷ 118 ∷ 101 ∷ 114 ∷ 102 ∷ 117 ∷ 108 ∷ 108 ∷ 32 ∷ []) ++ (nameAt (p .type) place ++ (10 ∷ []))
+  overfull-is :
+      overfullLine (p .type) place ≡ (111 ∷ 118 ∷ 101 ∷ 114 ∷ 102 ∷ 117 ∷ 108 ∷ 108 ∷ 32 ∷ []) ++ (nameAt (p .type) place ++ (10 ∷ []))
   unfolding overfullLine ascii
   overfull-is = simp append-assoc
 
@@ -210,7 +217,8 @@ pub value-length : (name v : Text) → length (valueLine name v) ≡ length name
 value-length name v = simp length-append (omega arith)
 
 pub wrote-value :
-    {l a b c d : List ℕ} {at p q r s : ℕ} (name v : Text) → Wrote l at name a p → Wrote a p (58 ∷ []) b q → Wrote b q v c r → Wrote c r (10 ∷ []) d s →
+    {l a b c d : List ℕ} {at p q r s : ℕ} (name v : Text) → Wrote l at name a p → Wrote a p (58 ∷ []) b q → Wrote b q v c r →
+    Wrote c r (10 ∷ []) d s →
     Wrote l at (valueLine name v) d s
 wrote-value name v w x y z = rw (append-assoc name (58 ∷ v) (10 ∷ [])) (wrote-then w (wrote-then x (wrote-then y z)))
 
@@ -324,11 +332,13 @@ module _ (t : EventType) (e : Event) (hash : List ℕ) where
   hashed-length = ap length hashed-is ∙ simp length-append (omega (arith, hex-length hash))
 
   pub wrote-hashed :
-      {l a b c d f g h : List ℕ} {p q r s u v z n : ℕ} → n ≡ objectCount (e .sets) → Wrote l 0 (109 ∷ 101 ∷ 114 ∷ 103 ∷ 101 ∷ 100 ∷ 32 ∷ []) a p →
+      {l a b c d f g h : List ℕ} {p q r s u v z n : ℕ} → n ≡ objectCount (e .sets) →
+      Wrote l 0 (109 ∷ 101 ∷ 114 ∷ 103 ∷ 101 ∷ 100 ∷ 32 ∷ []) a p →
       Wrote a p (inDecimal n) b q → Wrote b q (10 ∷ []) c r → Wrote c r objectsOf d s →
       Wrote d s (104 ∷ 97 ∷ 115 ∷ 104 ∷ 32 ∷ []) f u → Wrote f u (hexOf hash) g v → Wrote g v (10 ∷ []) h z →
       Wrote l 0 (hashedLines t e hash) h z
-  wrote-hashed k w₁ w₂ w₃ w₄ w₅ w₆ w₇ = rw (hashed-is, ← k) (wrote-then w₁ (wrote-then w₂ (wrote-then w₃ (wrote-then w₄ (wrote-then w₅ (wrote-then w₆ w₇))))))
+  wrote-hashed k w₁ w₂ w₃ w₄ w₅ w₆ w₇ =
+      rw (hashed-is, ← k) (wrote-then w₁ (wrote-then w₂ (wrote-then w₃ (wrote-then w₄ (wrote-then w₅ (wrote-then w₆ w₇))))))
 
 abbrev pub objects-room :
     {table ps bytes ats hash : List ℕ} {count : ℕ} {e : EventIndex} {room at room₁ : ℕ} (l : LinesRoom table count ps bytes e ats hash room) →

@@ -64,7 +64,8 @@ use Rattle.ways.proofs.RuleQuestionLaws.{Gathered, rule-asked}
 use Rattle.ways.proofs.MergedEventLaws.{merged-asked}
 use Rattle.batch.specs.Batch.{AskedAt, refusedAt, accepted, at, batchAsked, batchGiven, Rooms, haveRoom, batchAnswer, batchCall}
 use Rattle.batch.proofs.GatheredLaws.{ruledHead, batch-gathers}
-use Rattle.report.specs.Report.{hashedLines, mergedLines, findingLine, openedLines, refusedLine, askedLines, framedLines, mostInput, report, reportAnswer}
+use Rattle.report.specs.Report.{hashedLines, mergedLines, findingLine, openedLines, refusedLine}
+use Rattle.report.specs.Report.{askedLines, framedLines, mostInput, report, reportAnswer}
 use Rattle.report.specs.Report.{reportCall}
 use Rattle.report.specs.code.ReportIndex.{NumbersOf, PlaceNamed, LinesRoom, MergedAsked, opens, HasProperty, DossierOpens}
 use Rattle.report.proofs.LineLaws.{refused-short}
@@ -74,7 +75,8 @@ use Rattle.report.proofs.ReportSizeLaws.{merged-short, finding-short}
 
 module _ {table bytes : List ℕ} {t : EventType} {e : Event} {room : ℕ} (m : MergedAsked table bytes t e room) where
   -- the call hash gives its hash
-  pub digest-is : (r : Reply) (old new : List ℕ) → length old ≡ hashCapacity → replies r new ≡ hashCall table bytes old → new ≡ sha1Of (eventText t e)
+  pub digest-is :
+      (r : Reply) (old new : List ℕ) → length old ≡ hashCapacity → replies r new ≡ hashCall table bytes old → new ≡ sha1Of (eventText t e)
   digest-is r old new l h =
       let all : length old ≤ length (sha1Of (eventText t e)) = omega (arith, l, length-sha1Of (eventText t e)) in
       ap (λ (o : Outcome). o .bytes) (h ∙ hashed)
@@ -115,7 +117,8 @@ properties-read table bytes rows name ps i r w n s types d e a =
     let q = dossier-taken types bytes d a in
     let is : DossierIs bytes (d .headed) i = subst (λ (m : Option Headed). DossierReads m bytes rows i) (q .read) w .1 in
     let named : typeNamed name types ≡ some (d .type) = ap (λ (v : Text). typeNamed v types) (n (d .headed) is) ∙ q .typed in
-    let typed : TypeIs table (d .type) (r .index) ps = subst (λ (m : Option EventType). TypeSays m table ps r) named (type-says table name ps r types e s) .1 in
+    let typed : TypeIs table (d .type) (r .index) ps =
+    subst (λ (m : Option EventType). TypeSays m table ps r) named (type-says table name ps r types e s) .1 in
     subst (λ (n : ℕ). PropertiesAre table (d .type .properties) n ps) (typed .are .count) (typed .are)
 
 -- ---- a dossier that is opened
@@ -324,7 +327,8 @@ module _ (table events : List ℕ) {out new : List ℕ} {n : ℕ} where
       Wrote out 0 (askedLines (batchAsked standard table events)) new n
   lines-of e w = subst (λ (a : AskedAt TypedDossier). Wrote out 0 (askedLines a) new n) (sym e) w
 
-  pub done-lines : (d : TypedDossier) → batchAsked standard table events ≡ accepted d → Wrote out 0 (openedLines (d .type) (d .headed) (opens d)) new n →
+  pub done-lines :
+      (d : TypedDossier) → batchAsked standard table events ≡ accepted d → Wrote out 0 (openedLines (d .type) (d .headed) (opens d)) new n →
       Wrote out 0 (askedLines (batchAsked standard table events)) new n
   unfolding askedLines
   done-lines d e w = lines-of e w

@@ -37,7 +37,8 @@ pub names-short :
     Named (t .properties)
 names-short table types t name e h i q k = name-length 32 (q .name) (properties-rules table name types t e h i q k .name) .1
 
-values-size : (name : Text) (vs : List Text) → length name ≤ 32 → All (λ (v : Text). length v ≤ 120) vs → length (valueLines name vs) ≤ 154 * length vs
+values-size :
+    (name : Text) (vs : List Text) → length name ≤ 32 → All (λ (v : Text). length v ≤ 120) vs → length (valueLines name vs) ≤ 154 * length vs
 unfolding valueLines flatten
 values-size name [] h w = omega arith
 values-size name (v ∷ vs) h w = simp length-append (omega (arith, h, w .0, values-size name vs h (w .1)))
@@ -55,7 +56,8 @@ objects-size (p ∷ ps) (s ∷ ss) n w =
     )
 
 module _ (table : List ℕ) (types : Table) (isTable : tableOf table ≡ some types) (t : EventType) where
-  pub merged-short : (s : List ℕ) (e : Event) → eventAsked wide types s ≡ accepted (record { type = t; event = e }) → length (mergedLines t e) ≤ reportCapacity
+  pub merged-short :
+      (s : List ℕ) (e : Event) → eventAsked wide types s ≡ accepted (record { type = t; event = e }) → length (mergedLines t e) ≤ reportCapacity
   unfolding wide
   merged-short s e a =
       let w = event-accepted wide types s t e a in

@@ -15,7 +15,8 @@ use Rattle.report.specs.Report.{refusedLine, mostInput, reportCall}
 -- an input of the report that is read: "at most 65,536 bytes ..: table as a text, then a batch"
 abbrev pub InputReads : List ℕ → Type 0
 InputReads input =
-    (length input ≤ mostInput) × (table : List ℕ) × (batch : List ℕ) × (readText input ≡ got table batch) × Reads (tableOf table) × BatchReads batch
+    (length input ≤ mostInput) × (table : List ℕ) × (batch : List ℕ) × (readText input ≡ got table batch) × Reads (tableOf table)
+    × BatchReads batch
 
 -- lines that name a refusal: "Else one line: .. `refused 7 1` (number, position)"
 abbrev pub Refusal : List ℕ → Type 0

@@ -92,7 +92,8 @@ pub block-in : (m : List ℕ) (i : ℕ) → 64 * i + 64 ≤ length m → take (6
 unfolding block padded front
 block-in m i h =
     ap (λ (n : ℕ). take n (drop (64 * i) m)) (add-sub-cancel-left (64 * i) 64)
-    ∙ sym (within (front m) (bigEndian 8 (8 * length m)) (64 * i) (omega (arith, length-front m)) ∙ within m (0x80 ∷ replicate (zeros (length m)) 0) (64 * i) h)
+    ∙ sym (within (front m) (bigEndian 8 (8 * length m)) (64 * i) (omega (arith, length-front m))
+    ∙ within m (0x80 ∷ replicate (zeros (length m)) 0) (64 * i) h)
 
 -- a block is taken into the hash value as it is made
 pub compressed-of : (s : HashValue) {b m : List ℕ} {r : HashValue} → r ≡ compressed b s → b ≡ m → r ≡ compressed m s
@@ -135,11 +136,14 @@ module _ {p : List ℕ} {i : ℕ} {m : List ℕ} {k : ℕ} (c : Filled p i m k) 
       sym (take-all 64 m (omega (arith, c .long))) ∙ rw end at (c .bytes) ∙ take-all 64 (block p i) (omega (arith, length-block p i room))
 
 -- a schedule whose first t words are written, with word t stored
-schedule-more : (m w : List ℕ) (t v : ℕ) → t < length w → take t w ≡ schedule m t → v ≡ W m (schedule m t) t → take (t + 1) (set w t v) ≡ schedule m (t + 1)
+schedule-more :
+    (m w : List ℕ) (t v : ℕ) → t < length w → take t w ≡ schedule m t → v ≡ W m (schedule m t) t →
+    take (t + 1) (set w t v) ≡ schedule m (t + 1)
 unfolding schedule
 schedule-more m w t v h e ev =
     let next = add-one t in
-    ap (λ (n : ℕ). take n (set w t v)) next ∙ take-suc-set w t v h ∙ ap₂ (λ (l : List ℕ) (x : ℕ). l ++ (x ∷ [])) e ev ∙ ap (schedule m) (sym next)
+    ap (λ (n : ℕ). take n (set w t v)) next ∙ take-suc-set w t v h ∙ ap₂ (λ (l : List ℕ) (x : ℕ). l ++ (x ∷ [])) e ev
+    ∙ ap (schedule m) (sym next)
 
 pub length-schedule : (m : List ℕ) (n : ℕ) → length (schedule m n) ≡ n
 unfolding schedule
@@ -252,7 +256,8 @@ module _ {w : List ℕ} {from : ℕ} {s r : HashValue} {t : ℕ} (c : Rounded w 
       }
 
   pub rounded-all :
-      from + 20 ≤ t → (ws : List ℕ) (h : HashValue) → take (from + 20) w ≡ take (from + 20) ws → s ≡ rounds ws from h → r ≡ rounds ws (from + 20) h
+      from + 20 ≤ t → (ws : List ℕ) (h : HashValue) → take (from + 20) w ≡ take (from + 20) ws → s ≡ rounds ws from h →
+      r ≡ rounds ws (from + 20) h
   rounded-all l ws h words e = let end : t ≡ from + 20 = omega (arith, c .within) in c .same ws h words e ∙ ap (λ (n : ℕ). rounds ws n h) end
 
 hash-more : (p : List ℕ) (i : ℕ) → compressed (block p i) (hash p i) ≡ hash p (i + 1)

@@ -143,7 +143,8 @@ fn block_words(m: &[u8], w: &mut [u32; 80])
 // Continues the message schedule from word `from` to word `to`: what held its words below `from` now holds those below `to`.
 fn extend(w: &mut [u32; 80], from: usize, to: usize)
     requires { ⌜ (16 ≤ from) × (from ≤ to) × (to ≤ 80) × (length (now w) ≡ 80) ⌝ }
-    ensures { λ _. ⌜ (length (now (w .exit)) ≡ 80) × ((m : List ℕ) → take from (now (w .entry)) ≡ schedule m from → take to (now (w .exit)) ≡ schedule m to) ⌝ }
+    ensures { λ _. ⌜ (length (now (w .exit)) ≡ 80) × ((m : List ℕ) → take from (now (w .entry)) ≡ schedule m from
+        → take to (now (w .exit)) ≡ schedule m to) ⌝ }
 {
     let mut t = from;
     while t < to {

@@ -48,12 +48,14 @@ asks-tabled table f = asks-then (asks-one 2 (omega arith, omega arith) (tableOf 
 
 -- after question 1
 pub asks-table :
-    {A : Type 0} {P : A → Type 0} (least room : ℕ) (table : List ℕ) {k : Table → Asked A} → ((ts : Table) → tableOf table ≡ some ts → Asks P (k ts)) →
+    {A : Type 0} {P : A → Type 0} (least room : ℕ) (table : List ℕ) {k : Table → Asked A} →
+    ((ts : Table) → tableOf table ≡ some ts → Asks P (k ts)) →
     Asks P (questions._>>_ (hasRoom least room) (questions._>>=_ (ask 2 (tableOf table)) k))
 asks-table least room table f =
     asks-next (asks-whether 1 (omega arith, omega arith) (leb least room)) λ u room. asks-tabled table f
 
-asks-hash : (least room : ℕ) (table event : List ℕ) → Asks (λ m. Reads (tableOf table) × Reads (eventOf wide event)) (hashTextAsked least room table event)
+asks-hash :
+    (least room : ℕ) (table event : List ℕ) → Asks (λ m. Reads (tableOf table) × Reads (eventOf wide event)) (hashTextAsked least room table event)
 unfolding hashTextAsked
 asks-hash least room table event = asks-table least room table λ ts isTable. asks-then (asks-event wide ts event) λ a read. accepts ((ts, isTable), read)
 

@@ -85,7 +85,8 @@ module _ (table : List ℕ) (w : Way (List ℕ) (List ℕ)) (g : Given table w) 
   opens-to d out e r = whole .dossier .opened out d r e
 
   texts-of :
-      (d out : List ℕ) (n : ℕ) → wayAnswer table w ≡ wrote d → HasRoom out → replyOf (openAnswer standard (length out) table d) ≡ answers.Reply.done n →
+      (d out : List ℕ) (n : ℕ) → wayAnswer table w ≡ wrote d → HasRoom out →
+      replyOf (openAnswer standard (length out) table d) ≡ answers.Reply.done n →
       (text : List ℕ) → hashTextCapacity ≤ length text → (s : List ℕ) → List·Memᴰ s (events w) →
       (hashTextCall table s text ≡ outcome (gives (eventText t (eventAt s))) text)
       × (hashTextCall table (take n (laid (openAnswer standard (length out) table d) out)) text ≡ hashTextCall table s text)
@@ -116,7 +117,8 @@ module _ (table : List ℕ) (w : Way (List ℕ) (List ℕ)) (g : Given table w) 
     hashed = texts-of;
   }
 
-module _ (table event : List ℕ) (types : Table) (a : Typed) (isTable : tableOf table ≡ some types) (taken : eventAsked narrow types event ≡ accepted a) where
+module _
+    (table event : List ℕ) (types : Table) (a : Typed) (isTable : tableOf table ≡ some types) (taken : eventAsked narrow types event ≡ accepted a) where
   abbrev kind : EventType
   kind = a .type
 

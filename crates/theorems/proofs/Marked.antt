@@ -11,7 +11,8 @@ use Rattle.theorems.specs.Marked.{hosts, e1, Marked}
 use Rattle.theorems.proofs.Computing.{computing}
 
 -- an output that is large enough changes no answer
-any-room : (table event : List ℕ) (room : ℕ) → hashTextCapacity ≤ room → hashTextAnswer room table event ≡ hashTextAnswer hashTextCapacity table event
+any-room :
+    (table event : List ℕ) (room : ℕ) → hashTextCapacity ≤ room → hashTextAnswer room table event ≡ hashTextAnswer hashTextCapacity table event
 unfolding hashTextAnswer hashTextAsked
 any-room table event room h = rw (has-room hashTextCapacity room h)
 

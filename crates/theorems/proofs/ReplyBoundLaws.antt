@@ -75,7 +75,8 @@ checked-short table event ts a t h =
     alone : together standard (a ∷ []) ≡ accepted (record { type = a .type; headed = batchDossier a [] })
     alone = unfold together agreeWith in (rw inside)
 
-bounded-batch : {P : TypedDossier → Type 0} (room : Bool) (table batch : List ℕ) (q : AskedAt TypedDossier) → batchAsked standard table batch ≡ q → AsksAt P q →
+bounded-batch :
+    {P : TypedDossier → Type 0} (room : Bool) (table batch : List ℕ) (q : AskedAt TypedDossier) → batchAsked standard table batch ≡ q → AsksAt P q →
     Bounded dossierCapacity (replyOf (batchGiven (at 0 (ensure 1 room) >> q)))
 unfolding Bounded batchGiven
 bounded-batch false table batch q e h = ((omega arith, omega arith), omega arith)
@@ -137,6 +138,7 @@ replies-bounded = record {
   opens = λ table dossier old.
       bounded-opening table (asks-table dossierCapacity (length old) table λ ts t. asks-more (λ a w. (dossier, ts, t, w)) (asked-dossier ts dossier));
   hashText = λ table event old. bounded-answer (hashed-short hashTextCapacity (length old) table event);
-  hash = λ table event old. bounded-answer (asks-then (hashed-short hashCapacity (length old) table event) λ m short. accepts (omega (arith, length-sha1Of m)));
+  hash =
+      λ table event old. bounded-answer (asks-then (hashed-short hashCapacity (length old) table event) λ m short. accepts (omega (arith, length-sha1Of m)));
   batch = λ rooms table batch old. bounded-batch (haveRoom rooms) table batch (batchAsked standard table batch) refl (asks-batch table batch);
 }

@@ -26,7 +26,8 @@ use Rattle.opening.proofs.SizeLaws.{merged-room}
 -- ---- an accepted dossier
 
 pub dossier-short :
-    (table s : List ℕ) (types : Table) (a : TypedDossier) → tableOf table ≡ some types → dossierAsked standard types s ≡ accepted a → length s ≤ dossierCapacity
+    (table s : List ℕ) (types : Table) (a : TypedDossier) → tableOf table ≡ some types → dossierAsked standard types s ≡ accepted a →
+    length s ≤ dossierCapacity
 dossier-short table s types a t h =
     let w = dossier-taken types s a h in
     omega (

@@ -152,5 +152,6 @@ pub record Marked : Type 0 where
   pub too-few-digits : checkAnswer dossierCapacity ones (of (ascii "\u{4}\u{1}\u{3}0.5")) ≡ refuses 6
   pub decimal-minus-zero : checkAnswer dossierCapacity ones (of (ascii "\u{4}\u{1}\u{5}-0.00")) ≡ refuses 6
   -- "2000-02-29 is a day, 1900-02-29 isn't."
-  pub leap-day : checkAnswer dossierCapacity ones (of (ascii "\u{1}\u{1}\u{14}2000-02-29T00:00:00Z")) ≡ taken (1 ∷ []) (ascii "\u{1}\u{14}2000-02-29T00:00:00Z")
+  pub leap-day :
+      checkAnswer dossierCapacity ones (of (ascii "\u{1}\u{1}\u{14}2000-02-29T00:00:00Z")) ≡ taken (1 ∷ []) (ascii "\u{1}\u{14}2000-02-29T00:00:00Z")
   pub no-leap-day : checkAnswer dossierCapacity ones (of (ascii "\u{1}\u{1}\u{14}1900-02-29T00:00:00Z")) ≡ refuses 6

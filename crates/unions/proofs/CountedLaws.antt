@@ -23,7 +23,8 @@ store-before l i (v ∷ vs) k a h =
     store-before (set l i v) (suc i) vs k a (omega arith) ∙ ap (λ (m : List ℕ). sets m (suc i) vs) (set-comm l i k v a (λ e. omega (arith, e)))
 
 -- two runs of stores, the later one before the earlier one
-stores-before : (l : List ℕ) (i : ℕ) (xs : List ℕ) (j : ℕ) (ys : List ℕ) → i + length xs ≤ j → sets (sets l j ys) i xs ≡ sets (sets l i xs) j ys
+stores-before :
+    (l : List ℕ) (i : ℕ) (xs : List ℕ) (j : ℕ) (ys : List ℕ) → i + length xs ≤ j → sets (sets l j ys) i xs ≡ sets (sets l i xs) j ys
 stores-before l i [] j ys h = refl
 stores-before l i (x ∷ xs) j ys h =
     ap (λ (m : List ℕ). sets m (suc i) xs) (store-before l j ys i x (omega (arith, h))) ∙ stores-before (set l i x) (suc i) xs j ys (omega (arith, h))
@@ -47,7 +48,8 @@ module _ {l : List ℕ} {to by : ℕ} where
   pub moved-none : MovedFrom l to by to l
   moved-none = let e : to - to ≡ 0 = omega arith in moved-by (ap (λ (n : ℕ). sets l (to + by) (take n (drop to l))) (sym e))
 
-  one-more : (k : ℕ) (l′ : List ℕ) → k < to → to ≤ length l → MovedFrom l to by (k + 1) l′ → MovedFrom l to by k (set l′ (k + by) (getD l′ k 0))
+  one-more :
+      (k : ℕ) (l′ : List ℕ) → k < to → to ≤ length l → MovedFrom l to by (k + 1) l′ → MovedFrom l to by k (set l′ (k + by) (getD l′ k 0))
   one-more k l′ h b m =
       let after = part l (k + 1) to in
       let a = getD l k 0 in
@@ -98,7 +100,8 @@ part-wrote {l} {bytes} {l′} {at} {end} h w =
 -- the bytes have moved up by `more`, the head is written over where they began, and nothing is left of where they stood
 pub wrote-before :
     {l bytes l₁ l₂ head l₃ : List ℕ} {at end more next : ℕ} →
-    length head ≡ more + 1 → end ≤ length l → Wrote l (at + 1) bytes l₁ end → MovedFrom l₁ end more (at + 1) l₂ → Wrote l₂ at head l₃ next →
+    length head ≡ more + 1 → end ≤ length l → Wrote l (at + 1) bytes l₁ end → MovedFrom l₁ end more (at + 1) l₂ →
+    Wrote l₂ at head l₃ next →
     Wrote l at (head ++ bytes) l₃ (end + more)
 wrote-before {l} {bytes} {l₁} {l₂} {head} {l₃} {at} {end} {more} k h w m v =
     let e : at + 1 + more ≡ at + length head = omega arith in

@@ -2,7 +2,8 @@
 use mathlib.Core.Path.{_≡_, refl, sym, ap, ap₂, _∙_, subst}
 use mathlib.Core.Logic.{_⊎_, inl, inr, ⊎-elim}
 use mathlib.Core.Bool.{Bool, true, false, cond}
-use mathlib.Core.List.{List, [], _∷_, _++_, append-assoc, map, flatten, List·Memᴰ, List·Memᴰ·head, List·Memᴰ·tail, List·Memᴰ·cases-cons, List·Memᴰ·not-nil}
+use mathlib.Core.List.{List, [], _∷_, _++_, append-assoc, map}
+use mathlib.Core.List.{flatten, List·Memᴰ, List·Memᴰ·head, List·Memᴰ·tail, List·Memᴰ·cases-cons, List·Memᴰ·not-nil}
 use mathlib.Core.List.{List·Memᴰ·append-cases, Memᴰ·append-left, Memᴰ·append-right, Memᴰ·cast}
 use Prim.Native.Nat.{ℕ, zero, suc, _+_, _^_, _≤_, _<_, Ordering, Ordering·lt, Ordering·eq, Ordering·gt}
 use native.Mathlib.Omega.{arith}
@@ -76,7 +77,8 @@ member-flat m (xs ∷ xss) a n = ⊎-elim
     (List·Memᴰ·append-cases (passed m xs) n)
 
 above-flat :
-    (m : Text) (xss : List (List Text)) → All (Ups texts) xss → ((a : Text) → List·Memᴰ a (flatten xss) → (m ≡ a) ⊎ (texts .cmp m a ≡ Ordering·lt)) →
+    (m : Text) (xss : List (List Text)) → All (Ups texts) xss →
+    ((a : Text) → List·Memᴰ a (flatten xss) → (m ≡ a) ⊎ (texts .cmp m a ≡ Ordering·lt)) →
     (a : Text) → List·Memᴰ a (flatten (map (passed m) xss)) → texts .cmp m a ≡ Ordering·lt
 unfolding flatten
 above-flat m [] h low a n = absurd (List·Memᴰ·not-nil n)
@@ -89,9 +91,11 @@ above-all : (m : Text) (ys : List Text) → ((a : Text) → List·Memᴰ a ys �
 above-all m [] h = tt
 above-all m (y ∷ ys) h = (h y (List·Memᴰ·head refl), above-all m ys (λ a n. h a (List·Memᴰ·tail n)))
 
-canon-above : (m : Text) (zs : List Text) → ((a : Text) → List·Memᴰ a zs → texts .cmp m a ≡ Ordering·lt) → canon texts (m ∷ zs) ≡ m ∷ canon texts zs
+canon-above :
+    (m : Text) (zs : List Text) → ((a : Text) → List·Memᴰ a zs → texts .cmp m a ≡ Ordering·lt) → canon texts (m ∷ zs) ≡ m ∷ canon texts zs
 unfolding canon merge
-canon-above m zs h = merge-left texts itself first (λ a b e. refl) m [] (canon texts zs) tt (above-all m (canon texts zs) (λ a n. h a (canon-of texts zs a n)))
+canon-above m zs h =
+    merge-left texts itself first (λ a b e. refl) m [] (canon texts zs) tt (above-all m (canon texts zs) (λ a n. h a (canon-of texts zs a n)))
 
 pub canon-least :
     (xss : List (List Text)) (m : Text) → All (Ups texts) xss → smallest texts (flatten xss) ≡ m ∷ [] →
@@ -421,7 +425,8 @@ module _ {s : List ℕ} {best : Told} {ats : List ℕ} {j end p q : ℕ} (w : He
 
 module _ {s : List ℕ} {best : Told} {ats : List ℕ} {j end p q r : ℕ} {w : HeadOf s best ats j end p q} (v : Compared w r) where
   pub less-answer :
-      r ≡ 0 → {l : List ℕ} → l ≡ ats → Answer s best ats j end (record { found = true; start = getD ats j 0; value = p; end = q; after = set l j q })
+      r ≡ 0 → {l : List ℕ} → l ≡ ats →
+      Answer s best ats j end (record { found = true; start = getD ats j 0; value = p; end = q; after = set l j q })
   less-answer e {l} g =
       taken w l g
       (lesser-less s best ats j end (w .short) (w .some) p q (w .head) (v .found) (w .in-ats) (sym (number-less _ (v .order) e)))
@@ -544,7 +549,9 @@ module _ {s ats ends : List ℕ} {n : ℕ} {l₀ l : List ℕ} {all : List Text}
         let rest = canon texts (flatten (map (passed (leastText s r)) (g .xss))) in
         write-room form.Texts (leastText s r) rest (part s (r .start) (r .end)) h head-bytes (merging-first g w f .go)
 
-    least-wrote : {l₁ : List ℕ} {p₁ : ℕ} → Wrote l p (part s (r .start) (r .end)) l₁ p₁ → Merging s (r .after) ends n (Written l₀ at all l₁ p₁ (count + 1))
+    least-wrote :
+        {l₁ : List ℕ} {p₁ : ℕ} → Wrote l p (part s (r .start) (r .end)) l₁ p₁ →
+        Merging s (r .after) ends n (Written l₀ at all l₁ p₁ (count + 1))
     unfolding written
     least-wrote {l₁} {p₁} o = merging-on g w (Written l₀ at all l₁ p₁ (count + 1)) f (λ zs h. record {
       go = write-next form.Texts (leastText s r) zs (part s (r .start) (r .end)) o head-bytes (h .go);

@@ -262,7 +262,8 @@ module _ {f : Form} {a : List ℕ} {i : ℕ} {b : List ℕ} {j p x q y : ℕ} (h
     pub step-more : 2 ≤ r → StepIs f a i b j (part b j y) 1 i y
     step-more e = by-more (h .left) (h .right) (sym (number-more _ o e))
 
-pub stepped : {f : Form} {a : List ℕ} {i : ℕ} {b : List ℕ} {j : ℕ} {head : List ℕ} {n x y : ℕ} → StepIs f a i b j head n x y → Stepped f a i b j x y
+pub stepped :
+    {f : Form} {a : List ℕ} {i : ℕ} {b : List ℕ} {j : ℕ} {head : List ℕ} {n x y : ℕ} → StepIs f a i b j head n x y → Stepped f a i b j x y
 stepped {head = head} {n = n} w = record { head = head; n = n; step = w }
 
 -- what is known of a step in the arm of a `match`
@@ -370,10 +371,13 @@ pub record ToJoin (f : Form) (l₀ : List ℕ) (at : ℕ) (xs ys : List Text) (l
 
 module _ (f : Form) (a : List ℕ) (i : ℕ) (b : List ℕ) (j : ℕ) (l₀ : List ℕ) (at : ℕ) (xs ys : List Text) (l : List ℕ) (p shared : ℕ)
     (g : Going f (drop i a) (drop j b) (ToJoin f l₀ at xs ys l p shared)) where
-  head-room : {head : List ℕ} {n x y : ℕ} → StepIs f a i b j head n x y → at + length (run f (union texts xs ys)) ≤ length l₀ → p + length head ≤ length l
+  head-room :
+      {head : List ℕ} {n x y : ℕ} → StepIs f a i b j head n x y → at + length (run f (union texts xs ys)) ≤ length l₀ →
+      p + length head ≤ length l
   head-room {head} w h = going-on a i b j g (λ m zs. p + length head ≤ length l) w (λ v m zs e k. write-room f v zs head h e (k .writes)) .so
 
-  head-wrote : {head l₁ : List ℕ} {n x y p₁ shared₁ : ℕ} → StepIs f a i b j head n x y → shared + n ≡ shared₁ + 1 → Wrote l p head l₁ p₁ →
+  head-wrote :
+      {head l₁ : List ℕ} {n x y p₁ shared₁ : ℕ} → StepIs f a i b j head n x y → shared + n ≡ shared₁ + 1 → Wrote l p head l₁ p₁ →
       Going f (drop x a) (drop y b) (ToJoin f l₀ at xs ys l₁ p₁ shared₁)
   head-wrote {head} {l₁} {n} {x} {y} {p₁} {shared₁} w c o = going-on a i b j g (ToJoin f l₀ at xs ys l₁ p₁ shared₁) w
       (λ v m zs e k. record { writes = write-next f v zs head o e (k .writes); counts = omega (arith, k .counts) })
@@ -484,7 +488,8 @@ module _ {f : Form} {a b out₀ : List ℕ} {at : ℕ} {out : List ℕ} {i j nex
     left-fits = (omega (arith, v .on), v .step .within, step-room w (v .step))
 
     pub left-on :
-        {out₁ : List ℕ} {p₁ shared₁ : ℕ} → shared + n ≡ shared₁ + 1 → Wrote out next (part a i x) out₁ p₁ → Joining f a b out₀ at out₁ x y p₁ shared₁
+        {out₁ : List ℕ} {p₁ shared₁ : ℕ} → shared + n ≡ shared₁ + 1 → Wrote out next (part a i x) out₁ p₁ →
+        Joining f a b out₀ at out₁ x y p₁ shared₁
     left-on c o = step-on w (v .step) c (omega (arith, v .on, v .most, w .few)) o
 
   module _ {y : ℕ} (v : RightStep w y) where

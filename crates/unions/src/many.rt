@@ -113,7 +113,8 @@ pub fn write_merged(
     requires { ⌜ (n ≤ 8) × MergedRoom (now s) starts ends n at (length (now out)) ⌝ }
     ensures writes { λ r. ⌜ ((xss : List (List Text)) → SetRuns (now (s .entry)) starts ends n xss
         → Wrote (now (out .entry)) at (flatten (map text (canon texts (flatten xss)))) (now (out .exit)) (r .next)) ⌝ }
-    ensures counts { λ r. ⌜ ((xss : List (List Text)) → SetRuns (now (s .entry)) starts ends n xss → r .count ≡ length (canon texts (flatten xss))) ⌝ }
+    ensures counts { λ r. ⌜ ((xss : List (List Text)) → SetRuns (now (s .entry)) starts ends n xss
+        → r .count ≡ length (canon texts (flatten xss))) ⌝ }
 {
     let mut left = starts;
     let to = ends;

@@ -63,15 +63,15 @@ fn count_runs(form: Form, a: &[u8], b: &[u8]) -> usize
 }
 
 pub fn count_union(a: &[u8], b: &[u8]) -> usize
-    ensures { λ r. ⌜ ((xs ys : List Text) → now (a .entry) ≡ flatten (map text xs) → now (b .entry) ≡ flatten (map text ys) → rising texts xs ≡ true
-        → rising texts ys ≡ true → r ≡ length (union texts xs ys)) ⌝ }
+    ensures { λ r. ⌜ ((xs ys : List Text) → now (a .entry) ≡ flatten (map text xs) → now (b .entry) ≡ flatten (map text ys)
+        → rising texts xs ≡ true → rising texts ys ≡ true → r ≡ length (union texts xs ys)) ⌝ }
 {
     count_runs(Form::Texts, a, b)
 }
 
 pub fn count_hash_union(a: &[u8], b: &[u8]) -> usize
-    ensures { λ r. ⌜ ((xs ys : List Text) → now (a .entry) ≡ flatten xs → now (b .entry) ≡ flatten ys → Hashes xs → Hashes ys → rising texts xs ≡ true
-        → rising texts ys ≡ true → r ≡ length (union texts xs ys)) ⌝ }
+    ensures { λ r. ⌜ ((xs ys : List Text) → now (a .entry) ≡ flatten xs → now (b .entry) ≡ flatten ys → Hashes xs → Hashes ys
+        → rising texts xs ≡ true → rising texts ys ≡ true → r ≡ length (union texts xs ys)) ⌝ }
 {
     count_runs(Form::Hashes, a, b)
 }
@@ -121,7 +121,8 @@ fn write_runs(form: Form, a: &[u8], b: &[u8], out: &mut [u8], at: usize) -> Join
 // Each writer writes from position `at` on, and answers the position after what it wrote.
 pub fn write_union(a: &[u8], b: &[u8], out: &mut [u8], at: usize) -> Joined
     requires { ⌜ TextsRoom (now a) (now b) at (length (now out)) ⌝ }
-    ensures { λ r. ⌜ ((xs ys : List Text) → now (a .entry) ≡ flatten (map text xs) → now (b .entry) ≡ flatten (map text ys) → rising texts xs ≡ true
+    ensures { λ r. ⌜ ((xs ys : List Text) → now (a .entry) ≡ flatten (map text xs) → now (b .entry) ≡ flatten (map text ys)
+        → rising texts xs ≡ true
         → rising texts ys ≡ true → WroteUnion (now (out .entry)) at (flatten (map text (union texts xs ys))) (now (out .exit)) xs ys r) ⌝ }
 {
     write_runs(Form::Texts, a, b, out, at)
@@ -129,8 +130,8 @@ pub fn write_union(a: &[u8], b: &[u8], out: &mut [u8], at: usize) -> Joined
 
 pub fn write_hash_union(a: &[u8], b: &[u8], out: &mut [u8], at: usize) -> usize
     requires { ⌜ HashesRoom (now a) (now b) at (length (now out)) ⌝ }
-    ensures { λ r. ⌜ ((xs ys : List Text) → now (a .entry) ≡ flatten xs → now (b .entry) ≡ flatten ys → Hashes xs → Hashes ys → rising texts xs ≡ true
-        → rising texts ys ≡ true → Wrote (now (out .entry)) at (flatten (union texts xs ys)) (now (out .exit)) r) ⌝ }
+    ensures { λ r. ⌜ ((xs ys : List Text) → now (a .entry) ≡ flatten xs → now (b .entry) ≡ flatten ys → Hashes xs → Hashes ys
+        → rising texts xs ≡ true → rising texts ys ≡ true → Wrote (now (out .entry)) at (flatten (union texts xs ys)) (now (out .exit)) r) ⌝ }
 {
     let joined = write_runs(Form::Hashes, a, b, out, at);
     joined.next

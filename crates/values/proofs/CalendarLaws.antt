@@ -42,7 +42,8 @@ after-two n v at h = rw (drop-next v at (omega arith), drop-next v (at + 1) (ome
 
 -- two digits more
 pub field-more :
-    (v : List ℕ) (at n : ℕ) {a b : ℕ} → at + n + 2 ≤ length v → a ≡ field v at n → b ≡ field v (at + n) 2 → 100 * a + b ≡ field v at (n + 2)
+    (v : List ℕ) (at n : ℕ) {a b : ℕ} → at + n + 2 ≤ length v → a ≡ field v at n → b ≡ field v (at + n) 2 →
+    100 * a + b ≡ field v at (n + 2)
 unfolding field numeral
 field-more v at n h p q =
     rw (p, q)
@@ -175,7 +176,8 @@ plain-text form v h e =
 module _ (form a b : List ℕ) (p : hasForm form a ≡ true) (q : hasForm form b ≡ true) where
   glue : (at n : ℕ) → take n (drop at a) ≡ take n (drop at b) → drop (at + n) a ≡ drop (at + n) b → drop at a ≡ drop at b
   glue at n e r =
-      sym (take-append-drop n (drop at a)) ∙ ap₂ (λ (x y : List ℕ). x ++ y) e (drop-drop n at a ∙ r ∙ sym (drop-drop n at b)) ∙ take-append-drop n (drop at b)
+      sym (take-append-drop n (drop at a)) ∙ ap₂ (λ (x y : List ℕ). x ++ y) e (drop-drop n at a ∙ r ∙ sym (drop-drop n at b))
+      ∙ take-append-drop n (drop at b)
 
   -- they agree where the form has no 0
   pub same-mark : (at n : ℕ) → plain (take n (drop at form)) ≡ true → drop (at + n) a ≡ drop (at + n) b → drop at a ≡ drop at b
@@ -185,7 +187,9 @@ module _ (form a b : List ℕ) (p : hasForm form a ≡ true) (q : hasForm form b
       ∙ sym (plain-text (take n (drop at form)) (take n (drop at b)) h (form-part at n form b q)))
 
   -- digits are the same where their numbers are
-  pub same-field : (at n : ℕ) → zeros (take n (drop at form)) ≡ true → field a at n ≡ field b at n → drop (at + n) a ≡ drop (at + n) b → drop at a ≡ drop at b
+  pub same-field :
+      (at n : ℕ) → zeros (take n (drop at form)) ≡ true → field a at n ≡ field b at n → drop (at + n) a ≡ drop (at + n) b →
+      drop at a ≡ drop at b
   unfolding field
   same-field at n h e =
       let x = form-part at n form a p in

@@ -241,7 +241,9 @@ pair-apart : (t u h k : ℕ) → h < 100 → k < 100 → t * 100 + h ≡ u * 100
 pair-apart t u h k p q e = (omega arith, omega arith)
 
 module _ (a b : Text) (p : isDatetime a ≡ true) (q : isDatetime b ≡ true) where
-  same-fields : (rest : Text) → hasForm (head ++ rest) a ≡ true → hasForm (head ++ rest) b ≡ true → stampOf a ≡ stampOf b → drop 19 a ≡ drop 19 b → a ≡ b
+  same-fields :
+      (rest : Text) → hasForm (head ++ rest) a ≡ true → hasForm (head ++ rest) b ≡ true → stampOf a ≡ stampOf b → drop 19 a ≡ drop 19 b →
+      a ≡ b
   same-fields rest x y e =
       let s = moment a p in
       let t = moment b q in

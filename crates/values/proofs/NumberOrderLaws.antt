@@ -88,7 +88,8 @@ signed-order a b m n h k o p = go (isNegative a) (isNegative b) refl refl
         (s t : Bool) → isNegative a ≡ s → isNegative b ≡ t →
         integerCmp (cond (isNegative a) (minus m) (from m)) (cond (isNegative b) (minus n) (from n)) ≡ signedOrder a b
     go true true e f = rw (e, f)
-        (minus-minus m n (h e) (k f) ∙ p ∙ sym (size-minus (magnitude b) (magnitude a)) ∙ ap₂ sizeOrder (sym (negative-cons b f)) (sym (negative-cons a e)))
+        (minus-minus m n (h e) (k f) ∙ p ∙ sym (size-minus (magnitude b) (magnitude a))
+        ∙ ap₂ sizeOrder (sym (negative-cons b f)) (sym (negative-cons a e)))
     go true false e f = rw (e, f) (minus-from m n (h e))
     go false true e f = rw (e, f) (from-minus m n (k f))
     go false false e f = rw (e, f) (o ∙ ap₂ sizeOrder (positive-magnitude a e) (positive-magnitude b f))
@@ -115,7 +116,8 @@ pub record Fixed (after : ℕ) (m : Text) : Type 0 where
   pub number : unscaled after m ≡ numeral (whole ++ fraction)
 
 split-fixed :
-    (after : ℕ) (m w p : Text) → m ≡ w ++ p → unscaled after m ≡ numeral (w ++ drop 1 p) → isNatural w ≡ true → isFraction after p ≡ true → Fixed after m
+    (after : ℕ) (m w p : Text) → m ≡ w ++ p → unscaled after m ≡ numeral (w ++ drop 1 p) → isNatural w ≡ true → isFraction after p ≡ true →
+    Fixed after m
 unfolding isFraction
 split-fixed after m w [] t u n e = let z : _≡_ {A = ℕ} 0 1 = cc in absurd (omega arith)
 split-fixed after m w (b ∷ f) t u n e =
@@ -151,7 +153,8 @@ all-digits : (w f : Text) → isNatural w ≡ true → areDigits f ≡ true → 
 all-digits w f n d = digits-append w f (natural-digits w n) d
 
 whole-longer :
-    (w f u g : Text) → isNatural w ≡ true → isNatural u ≡ true → areDigits f ≡ true → areDigits g ≡ true → length f ≡ length g → length w < length u →
+    (w f u g : Text) → isNatural w ≡ true → isNatural u ≡ true → areDigits f ≡ true → areDigits g ≡ true → length f ≡ length g →
+    length w < length u →
     numeral (w ++ f) < numeral (u ++ g)
 whole-longer w f [] g n p d s e h = absurd (omega arith)
 whole-longer w f (b ∷ u) g n p d s e h =
@@ -226,7 +229,8 @@ unsigned-below width v e = ltb-true (numeral v) (2 ^ (8 * width)) (and-right (is
 pub in-decimal-sequence : (v : Text) → isUnsigned 8 v ≡ true → inDecimal (numeral v) ≡ v
 in-decimal-sequence v e = let h = unsigned-below 8 v e in in-decimal-numeral v (unsigned-natural 8 v e) (omega arith)
 
-unsigned-numbers : (width : ℕ) (a b : Text) → isUnsigned width a ≡ true → isUnsigned width b ≡ true → compare (numeral a) (numeral b) ≡ signedOrder a b
+unsigned-numbers :
+    (width : ℕ) (a b : Text) → isUnsigned width a ≡ true → isUnsigned width b ≡ true → compare (numeral a) (numeral b) ≡ signedOrder a b
 unsigned-numbers width a b p q =
     let h = unsigned-natural width a p in
     let k = unsigned-natural width b q in
@@ -256,7 +260,8 @@ pub decimal-fixed : (total after : ℕ) (sign : Bool) (v : Text) → isDecimal t
 unfolding isDecimal isMagnitude
 decimal-fixed total after sign v e = fixed total after (magnitude v) (and-left (isMagnitude total after (magnitude v)) _ e)
 
-decimal-nonzero : (total after : ℕ) (sign : Bool) (v : Text) → isDecimal total after sign v ≡ true → isNegative v ≡ true → 0 < unscaled after (magnitude v)
+decimal-nonzero :
+    (total after : ℕ) (sign : Bool) (v : Text) → isDecimal total after sign v ≡ true → isNegative v ≡ true → 0 < unscaled after (magnitude v)
 unfolding isDecimal isMagnitude
 decimal-nonzero total after sign v e n =
     let q = rw n at (and-right (isMagnitude total after (magnitude v)) _ e) in

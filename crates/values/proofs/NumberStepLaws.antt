@@ -85,7 +85,8 @@ negative-first (b ∷ v) h = refl
 
 -- ---- widths
 
-pub width-eight : {w : ℕ} → (((Unit {0} × (w ≡ 1 → ⊥)) × (w ≡ 2 → ⊥)) × (w ≡ 3 → ⊥)) × (w ≡ 4 → ⊥) → isWidth w ≡ true → w ≡ 8
+pub width-eight :
+    {w : ℕ} → (((Unit {0} × (w ≡ 1 → ⊥)) × (w ≡ 2 → ⊥)) × (w ≡ 3 → ⊥)) × (w ≡ 4 → ⊥) → isWidth w ≡ true → w ≡ 8
 unfolding isWidth
 width-eight {w} other e = go (leb 1 w) (leb w 4) (eqb w 8) refl refl refl e
   where

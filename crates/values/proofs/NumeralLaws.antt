@@ -117,7 +117,8 @@ order-after m n (a ∷ x) (b ∷ y) p q e =
     (λ g. let h = compare-gt m n g in rw (g, more (omega arith)))
 
 -- for digit texts of equal length numeral order is byte order
-pub digits-order : (x y : Text) → areDigits x ≡ true → areDigits y ≡ true → length x ≡ length y → compare (numeral x) (numeral y) ≡ texts .cmp x y
+pub digits-order :
+    (x y : Text) → areDigits x ≡ true → areDigits y ≡ true → length x ≡ length y → compare (numeral x) (numeral y) ≡ texts .cmp x y
 unfolding numeral texts lists
 digits-order x y p q e = order-after 0 0 x y p q e
 
@@ -135,7 +136,9 @@ more-after n x (b ∷ y) h p q e =
     (lt-or-ge (length x) (suc (length y)))
 
 -- more digits, of which the first is not 0, write a larger number
-pub longer-larger : (x : Text) (b : ℕ) (y : Text) → areDigits x ≡ true → areDigits (b ∷ y) ≡ true → 48 < b → length x ≤ length y → numeral x < numeral (b ∷ y)
+pub longer-larger :
+    (x : Text) (b : ℕ) (y : Text) → areDigits x ≡ true → areDigits (b ∷ y) ≡ true → 48 < b → length x ≤ length y →
+    numeral x < numeral (b ∷ y)
 unfolding numeral numeralAfter
 longer-larger x b y p q h e = more-after (10 * 0 + (b - 48)) x y (omega arith) p (digits-tail b y q) e
 

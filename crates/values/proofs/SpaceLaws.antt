@@ -73,7 +73,8 @@ Answers kind size after sign v r = (k : Kind) → kindOf kind size after sign �
 module _ (kind size after sign : ℕ) (v : Text) {r : Bool} where
   -- one that is right of a kind that they name is right of each kind that they name
   answered :
-      (n : ℕ) (j : Kind) → kind ≡ n → kindOf n size after sign ≡ some j → (isKind j ≡ true → r ≡ isOfKind j v) → Answers kind size after sign v r
+      (n : ℕ) (j : Kind) → kind ≡ n → kindOf n size after sign ≡ some j → (isKind j ≡ true → r ≡ isOfKind j v) →
+      Answers kind size after sign v r
   answered n j e p h k q w =
       let s : j ≡ k = cc in
       subst (λ (x : Kind). isKind x ≡ true → r ≡ isOfKind x v) s h w

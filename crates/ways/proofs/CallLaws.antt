@@ -71,7 +71,9 @@ pub record Colliding (types : Table) (t : EventType) (uri : Text) (d s : List �
   pub source : eventAt s .head .source ≡ uri
   pub alike : SameMatch t (eventAt s) (eventAt d)
 
-module _ (table : List ℕ) (types : Table) (isTable : tableOf table ≡ some types) (t : EventType) (uri : Text) (d : List ℕ) (c : Colliding types t uri d d) where
+module _
+    (table : List ℕ) (types : Table) (isTable : tableOf table ≡ some types) (t : EventType) (uri : Text) (d : List ℕ)
+    (c : Colliding types t uri d d) where
   abbrev pub S : List ℕ → Type 0
   S s = Colliding types t uri d s
 
@@ -212,7 +214,8 @@ module _ (table : List ℕ) (types : Table) (isTable : tableOf table ≡ some ty
       hash-same t (eventAt s) (eventAt d) (k .source ∙ sym (c .source)) (a .written .sets .long ∙ sym (b .written .sets .long)) (k .alike)
 
   pub merged-text-is :
-      (out : List ℕ) (es : List (List ℕ)) (ss : List (List Text)) (s : List ℕ) → hashTextCapacity ≤ length out → Each S es → List·Memᴰ s es → Inside es →
+      (out : List ℕ) (es : List (List ℕ)) (ss : List (List Text)) (s : List ℕ) → hashTextCapacity ≤ length out → Each S es → List·Memᴰ s es →
+      Inside es →
       opening (typeView t) (ruleOf es) ≡ merged ss →
       textOf out (shownAs t uri (ruleOf es) (merged ss)) ≡ gives (eventText t (eventAt s))
   unfolding openedAnswer

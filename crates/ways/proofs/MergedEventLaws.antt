@@ -37,7 +37,8 @@ use Rattle.ways.proofs.RuleQuestionLaws.{has-length, few-objects, Gathe
 
 -- ---- the hash text is that of source, type and match sets
 
-object-strings : (ps : List Property) (ss ts : List (List Text)) → length ss ≡ length ts → MatchAlike ps ss ts → objectStrings ps ss ≡ objectStrings ps ts
+object-strings :
+    (ps : List Property) (ss ts : List (List Text)) → length ss ≡ length ts → MatchAlike ps ss ts → objectStrings ps ss ≡ objectStrings ps ts
 unfolding objectStrings
 object-strings [] ss ts l h = refl
 object-strings (x ∷ ps) [] [] l h = refl
@@ -49,7 +50,8 @@ object-strings (x ∷ ps) (s ∷ ss) (t ∷ ts) l h =
     (object-strings ps ss ts (omega arith) (λ p q e y. h (suc p) q e y))
 
 pub hash-same :
-    (t : EventType) (e f : Event) → e .head .source ≡ f .head .source → length (e .sets) ≡ length (f .sets) → SameMatch t e f → eventText t e ≡ eventText t f
+    (t : EventType) (e f : Event) → e .head .source ≡ f .head .source → length (e .sets) ≡ length (f .sets) → SameMatch t e f →
+    eventText t e ≡ eventText t f
 unfolding hashText
 hash-same t e f b l m = rw (b, object-strings (t .properties) (e .sets) (f .sets) l m)
 

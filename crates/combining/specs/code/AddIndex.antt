@@ -124,7 +124,8 @@ metWith ty ss p y = cond (p .meets) (joinSnapshots (typeView ty) (getD ss (p .in
 
 -- a snapshot that stands in `sofar` from `start` up to `end`, and that of an event, which has its version
 pub record Met
-    (version : EventVersion) (sofar : List ℕ) (start end : ℕ) (event : List ℕ) (e : EventIndex) (ats : List ℕ) (t : TypeIndex) (ps : List ℕ) : Type 0 where
+    (version : EventVersion) (sofar : List ℕ) (start end : ℕ) (event : List ℕ) (e : EventIndex) (ats : List ℕ) (t : TypeIndex)
+    (ps : List ℕ) : Type 0 where
   pub table : List ℕ
   pub type : EventType
   pub typed : TypeIs table type t ps

@@ -188,7 +188,8 @@ pub record Skipped (s : List ℕ) (at : ℕ) (x r : List ℕ) (to : ℕ) : Type 
 -- what is answered for `count` texts at `at`: where they stand and r follows them, `to` is where r starts
 abbrev pub TextsSkipped : List ℕ → ℕ → ℕ → ℕ → Type 0
 TextsSkipped s at count to =
-    (vs : List Text) (r : List ℕ) → drop at s ≡ flatten (map text vs) ++ r → at ≤ length s → count ≡ length vs → Skipped s at (flatten (map text vs)) r to
+    (vs : List Text) (r : List ℕ) → drop at s ≡ flatten (map text vs) ++ r → at ≤ length s → count ≡ length vs →
+    Skipped s at (flatten (map text vs)) r to
 
 -- the same for the sets of `count` places with objects
 abbrev pub SetsSkipped : List ℕ → ℕ → ℕ → ℕ → Type 0

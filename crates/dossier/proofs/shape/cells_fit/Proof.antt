@@ -31,7 +31,8 @@ module _ (c : tie.In-loop Inv-loop μ-loop) where
 -- ---- the needs
 
 shared-slice-read-n : tie.Need-shared-slice-read-n Inv-loop μ-loop
-shared-slice-read-n c = let turn : tie.In-loop Inv-loop μ-loop = search in omega (arith, few turn, turn .loop-test .taken, turn .before .before .before .pre .1)
+shared-slice-read-n c =
+    let turn : tie.In-loop Inv-loop μ-loop = search in omega (arith, few turn, turn .loop-test .taken, turn .before .before .before .pre .1)
 
 pub cells-fit-spec : {M : Type 1} → statement M
 cells-fit-spec =

@@ -11,7 +11,8 @@ use Rattle.event.proofs.sets.read_sets.Statement.{statement}
 use Rattle.event.proofs.sets.read_sets.Tie as tie
 
 abbrev Inv-loop : tie.InvT-loop
-Inv-loop s at presence known sets₀ bits₀ next₀ objects₀ k₀ sets bits next objects k = Sofar (readSets 32 presence (drop at s)) s sets bits next objects k
+Inv-loop s at presence known sets₀ bits₀ next₀ objects₀ k₀ sets bits next objects k =
+    Sofar (readSets 32 presence (drop at s)) s sets bits next objects k
 
 abbrev μ-loop : tie.MeasureT-loop
 μ-loop s at presence known sets₀ bits₀ next₀ objects₀ k₀ sets bits next objects k = 32 - k

@@ -14,4 +14,5 @@ fits c = omega (arith, simp length-append at (c .pre .2))
 pub write-line-spec : {M : Type 1} → statement M
 write-line-spec =
     tie.close
-    (tie.spec (λ c κs. omega (arith, fits (search))) (λ c. search needs) (λ c κs. omega (arith, fits (search))) (λ c. search needs) (λ c. search wrote-then))
+    (tie.spec (λ c κs. omega (arith, fits (search))) (λ c. search needs) (λ c κs. omega (arith, fits (search))) (λ c. search needs)
+    (λ c. search wrote-then))

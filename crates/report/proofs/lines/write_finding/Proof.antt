@@ -24,4 +24,5 @@ returns-2 c = λ p. let arm : tie.After-f2 = search in found-overfull _ p (arm .
 pub write-finding-spec : {M : Type 1} → statement M
 write-finding-spec =
     tie.close
-    (tie.spec (λ c. search needs) write-conflict-requires (λ c. search needs) write-overfull-requires (λ c. search needs) returns (λ c. search needs) returns-2)
+    (tie.spec (λ c. search needs) write-conflict-requires (λ c. search needs) write-overfull-requires (λ c. search needs) returns
+    (λ c. search needs) returns-2)
