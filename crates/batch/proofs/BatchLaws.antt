@@ -16,7 +16,7 @@ use borrow.Author.Tests.{leb-true}
 use Rattle.model.specs.Order.{Text}
 use Rattle.model.specs.Sets.{Within}
 use Rattle.model.specs.Rule.{Snapshot, Dossier, rule, combine}
-use Rattle.model.specs.Limits.{standard, fits}
+use Rattle.model.specs.Limits.{Limits, isPermitted, Permitted, fits}
 use Rattle.model.specs.Ways as ways
 use Rattle.model.specs.Ways.{wrote, said, limited}
 use Rattle.model.proofs.WayClaims.{Each, Has, firstEvents}
@@ -27,6 +27,7 @@ use Rattle.model.proofs.WayLaws.{upto-list, batch-answer}
 use Rattle.replies.specs.Questions as questions
 use Rattle.replies.specs.Answers as answers
 use Rattle.replies.specs.Questions.{Asked, ensure}
+use Rattle.replies.proofs.RangeLaws.{in-range, out-of-range}
 use Rattle.replies.specs.Capacities.{dossierCapacity}
 use Rattle.replies.specs.Answers.{Answer, gives, refuses, refusesAt, replyOf, laid, answer, Outcome, outcome}
 use Rattle.replies.specs.Replies.{replied, replies, batchReplied, batchReplies}
@@ -49,7 +50,7 @@ use Rattle.dossier.specs.DossierQuestions.{TypedDossier, dossierAsked, dossiers
 use Rattle.dossier.proofs.DossierQuestionLaws.{match-sets, agree-exact}
 use Rattle.combining.specs.CheckCall.{eventDossier, checkAsked, checkAnswer, checkCall}
 use Rattle.combining.specs.code.CheckIndex.{KnownEvent}
-use Rattle.combining.specs.code.AddIndex.{Measured, Addable}
+use Rattle.combining.specs.code.AddIndex.{Measured, Addable, AddableUnder}
 use Rattle.combining.specs.CombineCall.{combined, combineAsked, combineAnswer, combineCall}
 use Rattle.ways.specs.ByteWays.{eventOr, eventAt, byteView, dossierReturned, returned, wayAnswer, HasRoom, SameMatch}
 use Rattle.ways.proofs.RuleQuestionLaws.{has-length}
@@ -197,9 +198,10 @@ check-for : (table s out : List ℕ) → checkCall table s out ≡ outcome (answ
 unfolding checkCall checkAnswer
 check-for table s out = ap (λ (a : Answer). outcome a out) (answer-for (checkAsked (length out) table s) out)
 
-combine-for : (table x y out : List ℕ) → combineCall standard table x y out ≡ outcome (answerFor (returned (combineCall standard table x y out))) out
+combine-for : (limits : Limits) (table x y out : List ℕ) →
+    combineCall limits table x y out ≡ outcome (answerFor (returned (combineCall limits table x y out))) out
 unfolding combineCall combineAnswer
-combine-for table x y out = ap (λ (a : Answer). outcome a out) (answer-for (combineAsked standard (length out) table x y) out)
+combine-for limits table x y out = ap (λ (a : Answer). outcome a out) (answer-for (combineAsked limits (length out) table x y) out)
 
 -- what was in the buffer before does not matter
 any-buffer : (a : Answer) (x y : List ℕ) → returned (outcome a x) ≡ returned (outcome a y)
@@ -228,16 +230,19 @@ accepted-same e = cc
 
 -- The event s can be added to the dossier `sofar` of which the code has the measures m, and that gives the dossier of the events es
 record Adds
-    (table sofar m s : List ℕ) (t : TypeIndex) (ps : List ℕ) (ts : Table) (es : List (List ℕ)) : Type 0 where
-  addable : Addable table sofar m s t ps
-  joined : (out : List ℕ) → HasRoom out → combineCall standard table sofar (addable .lone) out ≡ outcome (combinedAnswer ts es) out
+    (limits : Limits) (table sofar m s : List ℕ) (t : TypeIndex) (ps : List ℕ) (ts : Table) (es : List (List ℕ)) : Type 0 where
+  addable : AddableUnder limits table sofar m s t ps
+  joined : (out : List ℕ) → HasRoom out → combineCall limits table sofar (addable .added .lone) out ≡ outcome (combinedAnswer limits ts es) out
   measured :
       (r : reply.Reply) (p : List ℕ) →
-      ((z : ℕ) → r ≡ variant.Done z → Measured (combined (addable .both .left) (addable .both .right) .snapshots) p) → MeasuredFirst ts es r p
+      ((z : ℕ) → r ≡ variant.Done z → Measured (combined (addable .added .both .left) (addable .added .both .right) .snapshots) p) →
+      MeasuredFirst limits ts es r p
 
 -- ---- combining such events
 
-module _ (table : List ℕ) (ts : Table) (isTable : tableOf table ≡ some ts) (ss : List (List ℕ)) (k : Known ts ss) where
+module _
+    (limits : Limits) (permitted : Permitted limits) (table : List ℕ) (ts : Table) (isTable : tableOf table ≡ some ts) (ss : List (List ℕ))
+    (k : Known ts ss) where
   abbrev t : EventType
   t = k .type
 
@@ -245,14 +250,14 @@ module _ (table : List ℕ) (ts : Table) (isTable : tableOf table ≡ some ts) (
   S s = Colliding ts t (k .source) (k .first) s
 
   abbrev rules : List (List ℕ) → Dossier
-  rules es = ruleOf table ts isTable t (k .source) (k .first) (k .model) es
+  rules es = ruleOf limits permitted table ts isTable t (k .source) (k .first) (k .model) es
 
   abbrev bytes : List (List ℕ) → List ℕ
-  bytes es = bytesOf table ts isTable t (k .source) (k .first) (k .model) es
+  bytes es = bytesOf limits permitted table ts isTable t (k .source) (k .first) (k .model) es
 
   -- the answer of the rule over some of them
   abbrev ruled : List (List ℕ) → ways.Reply (List ℕ)
-  ruled es = limited standard (typeView t) (λ d. dossierBytes (headed (t .name) (k .source) d)) (rules es)
+  ruled es = limited limits (typeView t) (λ d. dossierBytes (headed (t .name) (k .source) d)) (rules es)
 
   -- its dossier
   abbrev ruledDossier : List (List ℕ) → TypedDossier
@@ -293,51 +298,51 @@ module _ (table : List ℕ) (ts : Table) (isTable : tableOf table ≡ some ts) (
       headed (fitting s h .named i) (h .source i) ((ap (rule (view t)) (events-of (s ∷ es)) ∙ sym (rule-bytes t (s ∷ es))) i)
 
   last-question : (s : List ℕ) (es : List (List ℕ)) → Each S (s ∷ es) →
-      together standard (map typed (s ∷ es))
-      ≡ (at 0 (ensure 8 (fits standard (typeView t) (modelOf (batchDossier (typed s) (map typed es)))))
+      together limits (map typed (s ∷ es))
+      ≡ (at 0 (ensure 8 (fits limits (typeView t) (modelOf (batchDossier (typed s) (map typed es)))))
       >> accepted (record { type = t; headed = batchDossier (typed s) (map typed es) }))
   unfolding together
   last-question s es h = rw (all-agree s (h s (List·Memᴰ·head refl)) 1 es (λ r m. h r (List·Memᴰ·tail m)))
 
   all-together : (s : List ℕ) (es : List (List ℕ)) → Each S (s ∷ es) →
-      (eventsAsked ts 0 (s ∷ es) >>= together standard)
-      ≡ (at 0 (ensure 8 (fits standard (typeView t) (rules (s ∷ es)))) >> accepted (ruledDossier (s ∷ es)))
+      (eventsAsked ts 0 (s ∷ es) >>= together limits)
+      ≡ (at 0 (ensure 8 (fits limits (typeView t) (rules (s ∷ es)))) >> accepted (ruledDossier (s ∷ es)))
   all-together s es h =
       let first = h s (List·Memᴰ·head refl) in
       let d = the-dossier s es first in
-      ap (λ (q : AskedAt (List Typed)). q >>= together standard) (all-asked 0 (s ∷ es) h)
+      ap (λ (q : AskedAt (List Typed)). q >>= together limits) (all-asked 0 (s ∷ es) h)
       ∙ (last-question s es h
-      ∙ ap (λ (x : Headed). at 0 (ensure 8 (fits standard (typeView t) (modelOf x))) >> accepted (record { type = t; headed = x })) d)
+      ∙ ap (λ (x : Headed). at 0 (ensure 8 (fits limits (typeView t) (modelOf x))) >> accepted (record { type = t; headed = x })) d)
 
-  pub combined-is : (es : List (List ℕ)) → Has es → Each S es → combinedAnswer ts es ≡ answerFor (ruled es)
+  pub combined-is : (es : List (List ℕ)) → Has es → Each S es → combinedAnswer limits ts es ≡ answerFor (ruled es)
   unfolding combinedAnswer combinedGiven answerFor limited
   combined-is [] n h = absurd (List·Memᴰ·not-nil (n .1))
-  combined-is (s ∷ es) n h = ap combinedGiven (all-together s es h) ∙ go (fits standard (typeView t) (rules (s ∷ es))) refl
+  combined-is (s ∷ es) n h = ap combinedGiven (all-together s es h) ∙ go (fits limits (typeView t) (rules (s ∷ es))) refl
     where
-      go : (b : Bool) → fits standard (typeView t) (rules (s ∷ es)) ≡ b →
+      go : (b : Bool) → fits limits (typeView t) (rules (s ∷ es)) ≡ b →
           combinedGiven (at 0 (ensure 8 b) >> accepted (ruledDossier (s ∷ es))) ≡ answerFor (ruled (s ∷ es))
       go true e = rw e
       go false e = rw e
 
   inside-of :
-      (es : List (List ℕ)) (x : List ℕ) → answerFor (ruled es) ≡ gives x → (fits standard (typeView t) (rules es) ≡ true) × (x ≡ bytes es)
+      (es : List (List ℕ)) (x : List ℕ) → answerFor (ruled es) ≡ gives x → (fits limits (typeView t) (rules es) ≡ true) × (x ≡ bytes es)
   unfolding answerFor limited
-  inside-of es x e = go (fits standard (typeView t) (rules es)) refl
+  inside-of es x e = go (fits limits (typeView t) (rules es)) refl
     where
-      go : (b : Bool) → fits standard (typeView t) (rules es) ≡ b → (fits standard (typeView t) (rules es) ≡ true) × (x ≡ bytes es)
+      go : (b : Bool) → fits limits (typeView t) (rules es) ≡ b → (fits limits (typeView t) (rules es) ≡ true) × (x ≡ bytes es)
       go true f = (f, cc)
       go false f = never (cc)
 
   -- a part of the events that is refused refuses all
   refused-more : (es fs : List (List ℕ)) (n : ℕ) → Within es fs → answerFor (ruled es) ≡ refuses n → answerFor (ruled fs) ≡ refuses n
   unfolding answerFor limited
-  refused-more es fs n w e = go (fits standard (typeView t) (rules es)) refl (fits standard (typeView t) (rules fs)) refl
+  refused-more es fs n w e = go (fits limits (typeView t) (rules es)) refl (fits limits (typeView t) (rules fs)) refl
     where
       go :
-          (a : Bool) → fits standard (typeView t) (rules es) ≡ a → (b : Bool) → fits standard (typeView t) (rules fs) ≡ b →
+          (a : Bool) → fits limits (typeView t) (rules es) ≡ a → (b : Bool) → fits limits (typeView t) (rules fs) ≡ b →
           answerFor (ruled fs) ≡ refuses n
       go true f b g = never (cc)
-      go false f true g = let z = sym f ∙ fits-within standard (byteView t) es fs w g in never (cc)
+      go false f true g = let z = sym f ∙ fits-within limits (byteView t) es fs w g in never (cc)
       go false f false g = cc
 
   -- ---- the first n of them
@@ -362,35 +367,36 @@ module _ (table : List ℕ) (ts : Table) (isTable : tableOf table ≡ some ts) (
       first-each n (getD ss (n - 1) []) (subst (λ (xs : List (List ℕ)). List·Memᴰ (getD ss (n - 1) []) xs) (sym (first-last n h l))
       (Memᴰ·append-right (take (n - 1) ss) (List·Memᴰ·head refl)))
 
-  first-is : (n : ℕ) → 1 ≤ n → n ≤ length ss → combinedAnswer ts (take n ss) ≡ answerFor (ruled (take n ss))
+  first-is : (n : ℕ) → 1 ≤ n → n ≤ length ss → combinedAnswer limits ts (take n ss) ≡ answerFor (ruled (take n ss))
   first-is n h l = combined-is (take n ss) (first-has ss n h l) (first-each n)
 
   checked-for : (s out : List ℕ) → S s → HasRoom out → returned (checkCall table s out) ≡ wrote (bytes (s ∷ []))
-  checked-for s out h r = checked-one table ts isTable t (k .source) (k .first) (k .model) out s r h
+  checked-for s out h r = checked-one limits permitted table ts isTable t (k .source) (k .first) (k .model) out s r h
 
   one-is : (s : List ℕ) → S s → ruled (s ∷ []) ≡ wrote (bytes (s ∷ []))
   unfolding limited
-  one-is s h = rw (one-fits table ts isTable t (k .source) (k .first) (k .model) s h)
+  one-is s h = rw (one-fits limits permitted table ts isTable t (k .source) (k .first) (k .model) s h)
 
   one-each : (s : List ℕ) → S s → Each S (s ∷ [])
   one-each s h r m = subst S (sym (List·Memᴰ·eq-of-singleton m)) h
 
   -- the dossier of the first event
-  check-first : (out : List ℕ) → 1 ≤ length ss → HasRoom out → checkCall table (getD ss 0 []) out ≡ outcome (combinedAnswer ts (take 1 ss)) out
+  check-first : (out : List ℕ) → 1 ≤ length ss → HasRoom out →
+      checkCall table (getD ss 0 []) out ≡ outcome (combinedAnswer limits ts (take 1 ss)) out
   check-first out l r =
       let h : S (getD ss 0 []) = last-is 1 (omega arith) l in
       let e : take 1 ss ≡ getD ss 0 [] ∷ [] = first-last 1 (omega arith) l in
       check-for table (getD ss 0 []) out
       ∙ ap (λ (a : Answer). outcome a out)
       (ap answerFor (checked-for (getD ss 0 []) out h r ∙ sym (one-is (getD ss 0 []) h))
-      ∙ sym (ap (combinedAnswer ts) e ∙ combined-is (getD ss 0 [] ∷ []) (getD ss 0 [], List·Memᴰ·head refl) (one-each (getD ss 0 []) h)))
+      ∙ sym (ap (combinedAnswer limits ts) e ∙ combined-is (getD ss 0 [] ∷ []) (getD ss 0 [], List·Memᴰ·head refl) (one-each (getD ss 0 []) h)))
 
   check-one :
       (n : ℕ) (s out after : List ℕ) (r : reply.Reply) → n ≡ 1 → 1 ≤ length ss → HasRoom out → s ≡ getD ss 0 [] →
-      replies r after ≡ checkCall table s out → replies r after ≡ outcome (combinedAnswer ts (take n ss)) out
+      replies r after ≡ checkCall table s out → replies r after ≡ outcome (combinedAnswer limits ts (take n ss)) out
   check-one n s out after r o l h q e =
       e ∙ (ap (λ (y : List ℕ). checkCall table y out) q
-      ∙ (check-first out l h ∙ ap (λ (m : ℕ). outcome (combinedAnswer ts (take m ss)) out) (sym o)))
+      ∙ (check-first out l h ∙ ap (λ (m : ℕ). outcome (combinedAnswer limits ts (take m ss)) out) (sym o)))
 
   -- a dossier of some of these events
   abbrev dossierOf : List (List ℕ) → TypedDossier
@@ -421,24 +427,24 @@ module _ (table : List ℕ) (ts : Table) (isTable : tableOf table ≡ some ts) (
 
   -- where they are accepted together, their dossier has the snapshots of the rule over them
   given-snapshots :
-      (es : List (List ℕ)) (d : TypedDossier) → Has es → Each S es → (eventsAsked ts 0 es >>= together standard) ≡ accepted d →
+      (es : List (List ℕ)) (d : TypedDossier) → Has es → Each S es → (eventsAsked ts 0 es >>= together limits) ≡ accepted d →
       d .headed .snapshots ≡ rules es .snapshots
   given-snapshots [] d n h e = absurd (List·Memᴰ·not-nil (n .1))
-  given-snapshots (s ∷ es) d n h e = go (fits standard (typeView t) (rules (s ∷ es))) (sym (all-together s es h) ∙ e)
+  given-snapshots (s ∷ es) d n h e = go (fits limits (typeView t) (rules (s ∷ es))) (sym (all-together s es h) ∙ e)
     where
       go : (b : Bool) → (at 0 (ensure 8 b) >> accepted (ruledDossier (s ∷ es))) ≡ accepted d → d .headed .snapshots ≡ rules (s ∷ es) .snapshots
       go true e = let z : d ≡ ruledDossier (s ∷ es) = cc in ap (λ (x : TypedDossier). x .headed .snapshots) z
       go false e = never (cc)
 
   first-measured :
-      (es : List (List ℕ)) (r : reply.Reply) (m : List ℕ) → Has es → Each S es → Measured (rules es .snapshots) m → MeasuredFirst ts es r m
+      (es : List (List ℕ)) (r : reply.Reply) (m : List ℕ) → Has es → Each S es → Measured (rules es .snapshots) m → MeasuredFirst limits ts es r m
   unfolding MeasuredFirst
   first-measured es (variant.Done z) m n h w = λ d e. subst (λ (xs : List Snapshot). Measured xs m) (sym (given-snapshots es d n h e)) w
   first-measured es (variant.Refused z) m n h w = tt
 
   rule-measured :
-      (es : List (List ℕ)) (z : ℕ) (m : List ℕ) → Has es → Each S es → fits standard (typeView t) (rules es) ≡ true →
-      MeasuredFirst ts es (variant.Done z) m → Measured (rules es .snapshots) m
+      (es : List (List ℕ)) (z : ℕ) (m : List ℕ) → Has es → Each S es → fits limits (typeView t) (rules es) ≡ true →
+      MeasuredFirst limits ts es (variant.Done z) m → Measured (rules es .snapshots) m
   unfolding MeasuredFirst
   rule-measured [] z m n h f w = absurd (List·Memᴰ·not-nil (n .1))
   rule-measured (s ∷ es) z m n h f w = w (ruledDossier (s ∷ es)) (rw (all-together s es h, f))
@@ -447,7 +453,7 @@ module _ (table : List ℕ) (ts : Table) (isTable : tableOf table ≡ some ts) (
   one-measured :
       (s : List ℕ) (x : TypeIndex) (ps : List ℕ) (r : reply.Reply) (m : List ℕ) → 1 ≤ length ss → s ≡ getD ss 0 [] →
       FirstTyped table ts ss x ps →
-      ((e : KnownEvent table s x) → Measured (eventDossier (e .event) .snapshots) m) → MeasuredFirst ts (take 1 ss) r m
+      ((e : KnownEvent table s x) → Measured (eventDossier (e .event) .snapshots) m) → MeasuredFirst limits ts (take 1 ss) r m
   one-measured s x ps r m l q f w =
       let one = getD ss 0 [] in
       let h : S one = last-is 1 (omega arith) l in
@@ -459,7 +465,7 @@ module _ (table : List ℕ) (ts : Table) (isTable : tableOf table ≡ some ts) (
 
   -- the n-th event s, and the dossier `sofar` of those before it, of which the code has the measures m
   module _ (n size : ℕ) (s sofar m : List ℕ) (x : TypeIndex) (ps : List ℕ) (h : 2 ≤ n) (l : n ≤ length ss) (q : s ≡ getD ss (n - 1) [])
-      (c : combinedAnswer ts (take (n - 1) ss) ≡ gives sofar) (w : MeasuredFirst ts (take (n - 1) ss) (variant.Done size) m)
+      (c : combinedAnswer limits ts (take (n - 1) ss) ≡ gives sofar) (w : MeasuredFirst limits ts (take (n - 1) ss) (variant.Done size) m)
       (f : FirstTyped table ts ss x ps) where
     abbrev others : List (List ℕ)
     others = take (n - 1) ss
@@ -479,11 +485,11 @@ module _ (table : List ℕ) (ts : Table) (isTable : tableOf table ≡ some ts) (
     others-each : Each S others
     others-each = first-each (n - 1)
 
-    others-are : (fits standard (typeView t) (rules others) ≡ true) × (sofar ≡ bytes others)
+    others-are : (fits limits (typeView t) (rules others) ≡ true) × (sofar ≡ bytes others)
     others-are = inside-of others sofar (sym (first-is (n - 1) (omega arith) (omega arith)) ∙ c)
 
-    last-fits : fits standard (typeView t) (rules (last ∷ [])) ≡ true
-    last-fits = one-fits table ts isTable t (k .source) (k .first) (k .model) last last-in
+    last-fits : fits limits (typeView t) (rules (last ∷ [])) ≡ true
+    last-fits = one-fits limits permitted table ts isTable t (k .source) (k .first) (k .model) last last-in
 
     all-joined : combine (typeView t) (rules others) (rules (last ∷ [])) ≡ rules (take n ss)
     all-joined = rule-append (byteView t) others (last ∷ []) ∙ ap (rule (byteView t)) (sym (first-last n (omega arith) l))
@@ -492,22 +498,24 @@ module _ (table : List ℕ) (ts : Table) (isTable : tableOf table ≡ some ts) (
     unfolding dossiersAgree
     both-agree =
         let ms = matchSets (t .properties) (eventAt (k .first) .sets) in
-        let left = same-match table ts isTable t (k .source) (k .first) (k .model) others has-others others-each (others-are .0) in
-        let right = same-match table ts isTable t (k .source) (k .first) (k .model) (last ∷ []) has-last (one-each last last-in) last-fits in
+        let left = same-match limits permitted table ts isTable t (k .source) (k .first) (k .model) others has-others others-each (others-are .0) in
+        let right = same-match limits permitted table ts isTable t (k .source) (k .first) (k .model) (last ∷ []) has-last (one-each last last-in) last-fits in
         rw (left, right) (agree-exact (t .name) (k .source) ms (t .name) (k .source) ms .1 (refl, refl, refl))
 
-    abbrev addable : Addable table sofar m s x ps
-    addable = record {
+    abbrev adds-last : Addable table sofar m s x ps
+    adds-last = record {
       new = nth-known n s x ps (omega arith) l q f;
       lone = bytes (last ∷ []);
       both = record {
+        limits = limits;
+        permitted = permitted;
         types = ts;
         is = isTable;
         left = dossierOf others;
         right = dossierOf (last ∷ []);
-        left-asked = ap (dossierAsked standard ts) (others-are .1)
-            ∙ asked table ts isTable t (k .source) (k .first) (k .model) others has-others others-each (others-are .0);
-        right-asked = asked table ts isTable t (k .source) (k .first) (k .model) (last ∷ []) has-last (one-each last last-in) last-fits;
+        left-asked = ap (dossierAsked limits ts) (others-are .1)
+            ∙ asked limits permitted table ts isTable t (k .source) (k .first) (k .model) others has-others others-each (others-are .0);
+        right-asked = asked limits permitted table ts isTable t (k .source) (k .first) (k .model) (last ∷ []) has-last (one-each last last-in) last-fits;
         agree = both-agree;
         typed = first-type x ps (omega arith) f;
       };
@@ -517,15 +525,16 @@ module _ (table : List ℕ) (ts : Table) (isTable : tableOf table ≡ some ts) (
           (rule-measured others size m has-others others-each (others-are .0) w);
     }
 
-    add-next : (out : List ℕ) → HasRoom out → combineCall standard table sofar (bytes (last ∷ [])) out ≡ outcome (combinedAnswer ts (take n ss)) out
+    add-next : (out : List ℕ) → HasRoom out → combineCall limits table sofar (bytes (last ∷ [])) out ≡ outcome
+        (combinedAnswer limits ts (take n ss)) out
     add-next out o =
         let both =
-        two-joined table ts isTable t (k .source) (k .first) (k .model) out others (last ∷ []) o has-others has-last others-each
+        two-joined limits permitted table ts isTable t (k .source) (k .first) (k .model) out others (last ∷ []) o has-others has-last others-each
         (one-each last last-in) (others-are .0) last-fits in
-        let all : returned (combineCall standard table (bytes others) (bytes (last ∷ [])) out) ≡ ruled (take n ss) =
-        both ∙ ap (limited standard (typeView t) (λ d. dossierBytes (headed (t .name) (k .source) d))) all-joined in
+        let all : returned (combineCall limits table (bytes others) (bytes (last ∷ [])) out) ≡ ruled (take n ss) =
+        both ∙ ap (limited limits (typeView t) (λ d. dossierBytes (headed (t .name) (k .source) d))) all-joined in
         rw (others-are .1)
-        (combine-for table (bytes others) (bytes (last ∷ [])) out
+        (combine-for limits table (bytes others) (bytes (last ∷ [])) out
         ∙ ap (λ (a : Answer). outcome a out) (ap answerFor all ∙ sym (first-is n (omega arith) l)))
 
     both-joined : combined (dossierOf others) (dossierOf (last ∷ [])) ≡ rules (take n ss)
@@ -535,30 +544,30 @@ module _ (table : List ℕ) (ts : Table) (isTable : tableOf table ≡ some ts) (
     next-measured :
         (r : reply.Reply) (p : List ℕ) →
         ((z : ℕ) → r ≡ variant.Done z → Measured (combined (dossierOf others) (dossierOf (last ∷ [])) .snapshots) p) →
-        MeasuredFirst ts (take n ss) r p
+        MeasuredFirst limits ts (take n ss) r p
     unfolding MeasuredFirst
     next-measured (variant.Done z) p g =
         first-measured (take n ss) (variant.Done z) p (first-has ss n (omega arith) l) (first-each n)
         (subst (λ (d : Dossier). Measured (d .snapshots) p) both-joined (g z refl))
     next-measured (variant.Refused z) p g = tt
 
-    nth-adds : Adds table sofar m s x ps ts (take n ss)
-    nth-adds = record { addable = addable; joined = add-next; measured = next-measured }
+    nth-adds : Adds limits table sofar m s x ps ts (take n ss)
+    nth-adds = record { addable = record { added = adds-last; under = refl }; joined = add-next; measured = next-measured }
 
   -- what the first n came to
   module _ (n : ℕ) (h : 1 ≤ n) (l : n ≤ length ss) (r : reply.Reply) (after old : List ℕ)
-      (e : dossierReturned (replied r) after ≡ returned (outcome (combinedAnswer ts (take n ss)) old)) where
+      (e : dossierReturned (replied r) after ≡ returned (outcome (combinedAnswer limits ts (take n ss)) old)) where
     as-ruled : dossierReturned (replied r) after ≡ returned (outcome (answerFor (ruled (take n ss))) old)
     as-ruled = e ∙ ap (λ (a : Answer). returned (outcome a old)) (first-is n h l)
 
     replies-ruled : {y : reply.Reply} → r ≡ y → dossierReturned (replied y) after ≡ returned (outcome (answerFor (ruled (take n ss))) old)
     replies-ruled f = ap (λ (y : reply.Reply). dossierReturned (replied y) after) (sym f) ∙ as-ruled
 
-    first-done : (m : ℕ) → r ≡ variant.Done m → combinedAnswer ts (take n ss) ≡ gives (take m after)
+    first-done : (m : ℕ) → r ≡ variant.Done m → combinedAnswer limits ts (take n ss) ≡ gives (take m after)
     first-done m f = first-is n h l ∙ for-done (ruled (take n ss)) m after old (replies-ruled f)
 
     -- so are more of them
-    more-refused : (i m : ℕ) → i ≡ n + 1 → i ≤ length ss → r ≡ variant.Refused m → combinedAnswer ts (take i ss) ≡ refuses m
+    more-refused : (i m : ℕ) → i ≡ n + 1 → i ≤ length ss → r ≡ variant.Refused m → combinedAnswer limits ts (take i ss) ≡ refuses m
     more-refused i m q g f =
         let s = replies-ruled f in
         let j : i - 1 ≡ n = omega arith in
@@ -568,7 +577,8 @@ module _ (table : List ℕ) (ts : Table) (isTable : tableOf table ≡ some ts) (
         first-is i (omega arith) g ∙ refused-more (take n ss) (take i ss) m w (for-refused (ruled (take n ss)) m old s)
 
     stopped :
-        (i m : ℕ) (z : List ℕ) → i ≡ n + 1 → i ≤ length ss → r ≡ variant.Refused m → replies r z ≡ outcome (combinedAnswer ts (take i ss)) z
+        (i m : ℕ) (z : List ℕ) → i ≡ n + 1 → i ≤ length ss → r ≡ variant.Refused m →
+        replies r z ≡ outcome (combinedAnswer limits ts (take i ss)) z
     stopped i m z q g f =
         ap (λ (x : reply.Reply). replies x z) f ∙ ap (λ (a : Answer). outcome a z) (sym (more-refused i m q g f))
 
@@ -589,23 +599,27 @@ check-within : (r : reply.Reply) (after table s out : List ℕ) → replies r af
 unfolding checkCall
 check-within r after table s out e = call-within r after out (checkAnswer (length out) table s) e
 
-combine-within : (r : reply.Reply) (after table x y out : List ℕ) → replies r after ≡ combineCall standard table x y out → DoneWithin r after
+combine-within :
+    (limits : Limits) (r : reply.Reply) (after table x y out : List ℕ) → replies r after ≡ combineCall limits table x y out → DoneWithin r after
 unfolding combineCall
-combine-within r after table x y out e = call-within r after out (combineAnswer standard (length out) table x y) e
+combine-within limits r after table x y out e = call-within r after out (combineAnswer limits (length out) table x y) e
 
 refused-within : (r : reply.Reply) (s : List ℕ) (n : ℕ) → r ≡ variant.Refused n → DoneWithin r s
 unfolding DoneWithin
 refused-within r s n e = subst (λ (y : reply.Reply). DoneWithin y s) (sym e) tt
 
-refused-measured : (ts : Table) (es : List (List ℕ)) (r : reply.Reply) (m : List ℕ) (n : ℕ) → r ≡ variant.Refused n → MeasuredFirst ts es r m
+refused-measured :
+    (limits : Limits) (ts : Table) (es : List (List ℕ)) (r : reply.Reply) (m : List ℕ) (n : ℕ) → r ≡ variant.Refused n →
+    MeasuredFirst limits ts es r m
 unfolding MeasuredFirst
-refused-measured ts es r m n e = subst (λ (y : reply.Reply). MeasuredFirst ts es y m) (sym e) tt
+refused-measured limits ts es r m n e = subst (λ (y : reply.Reply). MeasuredFirst limits ts es y m) (sym e) tt
 
 -- ---- what the code knows of the first n events
 
 -- what was written is inside the buffer
 module _
-    {table batch : List ℕ} {x : BatchIndex} {n size : ℕ} {r : reply.Reply} {m after old : List ℕ} (w : CombinedFirst table batch x n r m after old)
+    {limits : Limits} {table batch : List ℕ} {x : BatchIndex} {n size : ℕ} {r : reply.Reply} {m after old : List ℕ}
+    (w : CombinedFirst limits table batch x n r m after old)
     (done : r ≡ variant.Done size) where
   pub done-within : size ≤ length after
   unfolding DoneWithin
@@ -615,20 +629,24 @@ module _
   done-long = sym (length-take-le size after done-within)
 
 -- r is the answer of combining the first n events, in a buffer that had the bytes `old` and has `after`
-pub record AnswersFirst (table batch : List ℕ) (x : BatchIndex) (n : ℕ) (r : reply.Reply) (after old : List ℕ) : Type 0 where
+pub record AnswersFirst (limits : Limits) (table batch : List ℕ) (x : BatchIndex) (n : ℕ) (r : reply.Reply) (after old : List ℕ) : Type 0 where
   pub is :
-      (ts : Table) (ss : List (List ℕ)) → Agreed table batch x ts ss → n ≤ length ss → replies r after ≡ outcome (combinedAnswer ts (take n ss)) old
+      (ts : Table) (ss : List (List ℕ)) → Agreed table batch x ts ss → n ≤ length ss →
+      replies r after ≡ outcome (combinedAnswer limits ts (take n ss)) old
 
-module _ {table batch : List ℕ} {x : BatchIndex} {t : TypeIndex} {ps : List ℕ} {n : ℕ} (w : FirstOf table batch x t ps n) where
-  pub fewer : FirstOf table batch x t ps (n - 1)
-  fewer = record { types = w .types; events = w .events; agreed = w .agreed; typed = w .typed; within = omega (arith, w .within) }
+pub fewer :
+    {table batch : List ℕ} {x : BatchIndex} {t : TypeIndex} {ps : List ℕ} {n : ℕ} → FirstOf table batch x t ps n → FirstOf table batch x t ps (n - 1)
+fewer w = record { types = w .types; events = w .events; agreed = w .agreed; typed = w .typed; within = omega (arith, w .within) }
 
+module _
+    {limits : Limits} (permitted : Permitted limits) {table batch : List ℕ} {x : BatchIndex} {t : TypeIndex} {ps : List ℕ} {n : ℕ}
+    (w : FirstOf table batch x t ps n) where
   -- the first event was accepted, with the type t
   pub first-known : {s : List ℕ} → IsEvent batch x 0 s → KnownEvent table s t
   first-known {s} is =
       let g = w .agreed in
       let one : 1 ≤ length (w .events) = omega (arith, g .isBatch .one, g .isBatch .count) in
-      nth-known table (w .types) (g .isTable) (w .events) (known (w .types) (w .events) (g .agreed)) 1 s t ps (omega arith) one
+      nth-known limits permitted table (w .types) (g .isTable) (w .events) (known (w .types) (w .events) (g .agreed)) 1 s t ps (omega arith) one
       (is (w .events) (g .isBatch) (omega arith)) (w .typed)
 
   -- the table and the batch have one reading, so that under any the type is that of the first event
@@ -649,84 +667,89 @@ module _ {table batch : List ℕ} {x : BatchIndex} {t : TypeIndex} {ps : List �
   module _
       {s after old : List ℕ} {r : reply.Reply} (some : 1 ≤ n) (few : n ≤ 1) (room : HasRoom old) (is : IsEvent batch x 0 s)
       (e : replies r after ≡ checkCall table s old) where
-    pub one-checked : AnswersFirst table batch x n r after old
+    pub one-checked : AnswersFirst limits table batch x n r after old
     one-checked = record {
       is = λ ts ss g l.
-          check-one table ts (g .isTable) ss (known ts ss (g .agreed)) n s old after r (omega arith) (omega arith) room (is ss (g .isBatch) (omega arith)) e;
+          check-one limits permitted table ts (g .isTable) ss (known ts ss (g .agreed)) n s old after r (omega arith) (omega arith) room
+          (is ss (g .isBatch) (omega arith)) e;
     }
 
     pub one-combined :
-        {m : List ℕ} → ((k : KnownEvent table s t) → Measured (eventDossier (k .event) .snapshots) m) → CombinedFirst table batch x n r m after old
+        {m : List ℕ} → ((k : KnownEvent table s t) → Measured (eventDossier (k .event) .snapshots) m) →
+        CombinedFirst limits table batch x n r m after old
     one-combined {m} f =
         let one : 1 ≡ n = omega arith in
         record {
           within = check-within r after table s old e;
           first = λ ts ss g l. ap (λ (o : Outcome). returned o) (one-checked .is ts ss g l);
           measured = λ ts ss g l.
-              subst (λ (i : ℕ). MeasuredFirst ts (take i ss) r m) one
-              (one-measured table ts (g .isTable) ss (known ts ss (g .agreed)) s t ps r m (omega arith) (is ss (g .isBatch) (omega arith))
+              subst (λ (i : ℕ). MeasuredFirst limits ts (take i ss) r m) one
+              (one-measured limits permitted table ts (g .isTable) ss (known ts ss (g .agreed)) s t ps r m (omega arith) (is ss (g .isBatch) (omega arith))
               (first-typed ts ss g) f);
         }
 
   -- those before the n-th, combined
-  module _ {r : reply.Reply} {m after old : List ℕ} (two : 2 ≤ n) (others : CombinedFirst table batch x (n - 1) r m after old) where
+  module _ {r : reply.Reply} {m after old : List ℕ} (two : 2 ≤ n) (others : CombinedFirst limits table batch x (n - 1) r m after old) where
     -- a refusal of these is one of all
-    pub all-refused : {z : ℕ} {out : List ℕ} → r ≡ variant.Refused z → AnswersFirst table batch x n r out out
+    pub all-refused : {z : ℕ} {out : List ℕ} → r ≡ variant.Refused z → AnswersFirst limits table batch x n r out out
     all-refused {z} {out} e = record {
       is = λ ts ss g l.
-          stopped table ts (g .isTable) ss (known ts ss (g .agreed)) (n - 1) (omega arith) (omega arith) r after old
+          stopped limits permitted table ts (g .isTable) ss (known ts ss (g .agreed)) (n - 1) (omega arith) (omega arith) r after old
           (others .first ts ss g (omega arith)) n z out (omega arith) l e;
     }
 
-    pub refused-combined : {z : ℕ} {out old′ : List ℕ} → r ≡ variant.Refused z → CombinedFirst table batch x n r m out old′
+    pub refused-combined : {z : ℕ} {out old′ : List ℕ} → r ≡ variant.Refused z → CombinedFirst limits table batch x n r m out old′
     refused-combined {z} {out} {old′} e = record {
       within = refused-within r out z e;
       first = λ ts ss g l.
-          ap (λ (o : Outcome). returned o) (all-refused e .is ts ss g l) ∙ any-buffer (combinedAnswer ts (take n ss)) out old′;
-      measured = λ ts ss g l. refused-measured ts (take n ss) r m z e;
+          ap (λ (o : Outcome). returned o) (all-refused e .is ts ss g l) ∙ any-buffer (combinedAnswer limits ts (take n ss)) out old′;
+      measured = λ ts ss g l. refused-measured limits ts (take n ss) r m z e;
     }
 
     -- to their dossier the n-th, s, is added
     module _ {size : ℕ} {s : List ℕ} (done : r ≡ variant.Done size) (is : IsEvent batch x (n - 1) s) where
       last-adds :
-          (ts : Table) (ss : List (List ℕ)) → Agreed table batch x ts ss → n ≤ length ss → Adds table (take size after) m s t ps ts (take n ss)
+          (ts : Table) (ss : List (List ℕ)) → Agreed table batch x ts ss → n ≤ length ss → Adds limits table (take size after) m s t ps ts (take n ss)
       last-adds ts ss g l =
           let these = known ts ss (g .agreed) in
           let given =
-          first-done table ts (g .isTable) ss these (n - 1) (omega arith) (omega arith) r after old (others .first ts ss g (omega arith)) size done in
-          let measured = subst (λ (y : reply.Reply). MeasuredFirst ts (take (n - 1) ss) y m) done (others .measured ts ss g (omega arith)) in
-          nth-adds table ts (g .isTable) ss these n size s (take size after) m t ps two l (is ss (g .isBatch) (omega arith)) given measured
+          first-done limits permitted table ts (g .isTable) ss these (n - 1) (omega arith) (omega arith) r after old
+          (others .first ts ss g (omega arith)) size done in
+          let measured = subst (λ (y : reply.Reply). MeasuredFirst limits ts (take (n - 1) ss) y m) done (others .measured ts ss g (omega arith)) in
+          nth-adds limits permitted table ts (g .isTable) ss these n size s (take size after) m t ps two l (is ss (g .isBatch) (omega arith)) given measured
           (first-typed ts ss g)
 
-      pub last-addable : Addable table (take size after) m s t ps
+      pub last-addable : AddableUnder limits table (take size after) m s t ps
       last-addable = last-adds (w .types) (w .events) (w .agreed) (w .within) .addable
 
       -- what that answered
       module _
           {r′ : reply.Reply} {after′ : List ℕ} (out : List ℕ) (room : HasRoom out)
-          (e : (h : Addable table (take size after) m s t ps) → replies r′ after′ ≡ combineCall standard table (take size after) (h .lone) out) where
-        pub last-added : AnswersFirst table batch x n r′ after′ out
+          (e : (h : AddableUnder limits table (take size after) m s t ps) →
+          replies r′ after′ ≡ combineCall limits table (take size after) (h .added .lone) out) where
+        pub last-added : AnswersFirst limits table batch x n r′ after′ out
         last-added = record { is = λ ts ss g l. let a = last-adds ts ss g l in e (a .addable) ∙ a .joined out room }
 
         pub last-combined :
             {m′ old′ : List ℕ} →
-            ((h : Addable table (take size after) m s t ps) (z : ℕ) → r′ ≡ variant.Done z →
-            Measured (combined (h .both .left) (h .both .right) .snapshots) m′) →
-            CombinedFirst table batch x n r′ m′ after′ old′
+            ((h : AddableUnder limits table (take size after) m s t ps) (z : ℕ) → r′ ≡ variant.Done z →
+            Measured (combined (h .added .both .left) (h .added .both .right) .snapshots) m′) →
+            CombinedFirst limits table batch x n r′ m′ after′ old′
         last-combined {m′} {old′} f = record {
-          within = combine-within r′ after′ table (take size after) (last-addable .lone) out (e last-addable);
+          within = combine-within limits r′ after′ table (take size after) (last-addable .added .lone) out (e last-addable);
           first = λ ts ss g l.
-              ap (λ (o : Outcome). returned o) (last-added .is ts ss g l) ∙ any-buffer (combinedAnswer ts (take n ss)) out old′;
+              ap (λ (o : Outcome). returned o) (last-added .is ts ss g l) ∙ any-buffer (combinedAnswer limits ts (take n ss)) out old′;
           measured = λ ts ss g l. let a = last-adds ts ss g l in a .measured r′ m′ (f (a .addable));
         }
 
 -- as many events as the index has are all
 pub all-taken :
-    {table batch : List ℕ} {x : BatchIndex} (r : reply.Reply) {after old : List ℕ} → AnswersFirst table batch x (x .count) r after old →
-    (ts : Table) (ss : List (List ℕ)) → Agreed table batch x ts ss → replies r after ≡ outcome (combinedAnswer ts ss) old
-all-taken {x = x} r {old = old} e ts ss g =
+    {limits : Limits} {table batch : List ℕ} {x : BatchIndex} (r : reply.Reply) {after old : List ℕ} →
+    AnswersFirst limits table batch x (x .count) r after old →
+    (ts : Table) (ss : List (List ℕ)) → Agreed table batch x ts ss → replies r after ≡ outcome (combinedAnswer limits ts ss) old
+all-taken {limits} {x = x} r {old = old} e ts ss g =
     let n = g .isBatch .count in
-    e .is ts ss g (omega (arith, n)) ∙ ap (λ (xs : List (List ℕ)). outcome (combinedAnswer ts xs) old) (take-all (x .count) ss (omega (arith, n)))
+    e .is ts ss g (omega (arith, n)) ∙ ap (λ (xs : List (List ℕ)). outcome (combinedAnswer limits ts xs) old) (take-all (x .count) ss (omega (arith, n)))
 
 -- ---- the whole batch
 
@@ -765,12 +788,13 @@ placed-limited true x = refl
 placed-limited false x = refl
 
 -- question 8 is the last
-abbrev all-given : Table → List (List ℕ) → AskedAt TypedDossier
-all-given ts ss = eventsAsked ts 0 ss >>= together standard
+abbrev all-given : Limits → Table → List (List ℕ) → AskedAt TypedDossier
+all-given limits ts ss = eventsAsked ts 0 ss >>= together limits
 
-given-placed : (ts : Table) (ss : List (List ℕ)) → eventsTogether ts ss ≡ accepted tt → batchGiven (all-given ts ss) ≡ placed (combinedAnswer ts ss)
+given-placed : (limits : Limits) (ts : Table) (ss : List (List ℕ)) → eventsTogether ts ss ≡ accepted tt →
+    batchGiven (all-given limits ts ss) ≡ placed (combinedAnswer limits ts ss)
 unfolding eventsTogether eventsAgreed combinedAnswer together batchGiven combinedGiven placed
-given-placed ts ss e = go (eventsAsked ts 0 ss) e
+given-placed limits ts ss e = go (eventsAsked ts 0 ss) e
   where
     eight : (b : Bool) (d : TypedDossier) → batchGiven (at 0 (ensure 8 b) >> accepted d) ≡ placed (combinedGiven (at 0 (ensure 8 b) >> accepted d))
     eight true d = refl
@@ -784,22 +808,23 @@ given-placed ts ss e = go (eventsAsked ts 0 ss) e
 
     go :
         (q : AskedAt (List Typed)) → (q >>= eventsAgreed) ≡ accepted tt →
-        batchGiven (q >>= together standard) ≡ placed (combinedGiven (q >>= together standard))
+        batchGiven (q >>= together limits) ≡ placed (combinedGiven (q >>= together limits))
     go (refusedAt n i) e = never (cc)
     go (accepted []) e = never (cc)
     go (accepted (a ∷ bs)) e =
         let d : TypedDossier = record { type = a .type; headed = batchDossier a bs } in
-        let inside = fits standard (typeView (a .type)) (modelOf (batchDossier a bs)) in
+        let inside = fits limits (typeView (a .type)) (modelOf (batchDossier a bs)) in
         seven (agreeWith a 1 bs) (at 0 (ensure 8 inside) >> accepted d) e (eight inside d)
 
-given-refused : (ts : Table) (ss : List (List ℕ)) (n i : ℕ) → eventsTogether ts ss ≡ refusedAt n i → batchGiven (all-given ts ss) ≡ refusesAt n i
+given-refused : (limits : Limits) (ts : Table) (ss : List (List ℕ)) (n i : ℕ) → eventsTogether ts ss ≡ refusedAt n i →
+    batchGiven (all-given limits ts ss) ≡ refusesAt n i
 unfolding eventsTogether eventsAgreed together batchGiven
-given-refused ts ss n i e = go (eventsAsked ts 0 ss) e
+given-refused limits ts ss n i e = go (eventsAsked ts 0 ss) e
   where
     seven : (q : AskedAt (Unit {0})) (k : AskedAt TypedDossier) → q ≡ refusedAt n i → batchGiven (q >> k) ≡ refusesAt n i
     seven q k e = rw e
 
-    go : (q : AskedAt (List Typed)) → (q >>= eventsAgreed) ≡ refusedAt n i → batchGiven (q >>= together standard) ≡ refusesAt n i
+    go : (q : AskedAt (List Typed)) → (q >>= eventsAgreed) ≡ refusedAt n i → batchGiven (q >>= together limits) ≡ refusesAt n i
     go (refusedAt m j) e = cc
     go (accepted []) e = cc
     go (accepted (a ∷ bs)) e = seven (agreeWith a 1 bs) _ e
@@ -877,51 +902,59 @@ agreed-first t f r w h =
 
 -- the questions in their order, up to those of the events
 all-asked-is :
-    (rooms : Rooms) (table batch : List ℕ) → haveRoom rooms ≡ true → (ts : Table) → tableOf table ≡ some ts → (ss : List (List ℕ)) →
-    batchOf batch ≡ some ss → batchAnswer standard rooms table batch ≡ batchGiven (all-given ts ss)
+    {limits : Limits} → Permitted limits → (rooms : Rooms) (table batch : List ℕ) → haveRoom rooms ≡ true → (ts : Table) →
+    tableOf table ≡ some ts → (ss : List (List ℕ)) →
+    batchOf batch ≡ some ss → batchAnswer limits rooms table batch ≡ batchGiven (all-given limits ts ss)
 unfolding batchAnswer batchAsked
-all-asked-is rooms table batch room ts t ss f = rw (room, t, f)
+all-asked-is {limits} permitted rooms table batch room ts t ss f = rw (in-range limits permitted, room, t, f)
 
 call-is :
-    (rooms : Rooms) (table batch out : List ℕ) (a : Answer) → batchAnswer standard rooms table batch ≡ a →
-    batchCall standard rooms table batch out ≡ outcome a out
+    (limits : Limits) (rooms : Rooms) (table batch out : List ℕ) (a : Answer) → batchAnswer limits rooms table batch ≡ a →
+    batchCall limits rooms table batch out ≡ outcome a out
 unfolding batchCall
-call-is rooms table batch out a e = ap (λ (b : Answer). outcome b out) e
+call-is limits rooms table batch out a e = ap (λ (b : Answer). outcome b out) e
 
-module _ (rooms : Rooms) (table batch out : List ℕ) where
-  pub no-room : haveRoom rooms ≡ false → outcome (refusesAt 1 0) out ≡ batchCall standard rooms table batch out
+pub no-limits :
+    (limits : Limits) (rooms : Rooms) (table batch out : List ℕ) → isPermitted limits ≡ false →
+    outcome (refusesAt 18 0) out ≡ batchCall limits rooms table batch out
+unfolding batchAnswer batchGiven
+no-limits limits rooms table batch out h = sym (call-is limits rooms table batch out (refusesAt 18 0) (rw (out-of-range limits h)))
+
+module _ {limits : Limits} (permitted : Permitted limits) (rooms : Rooms) (table batch out : List ℕ) where
+  pub no-room : haveRoom rooms ≡ false → outcome (refusesAt 1 0) out ≡ batchCall limits rooms table batch out
   unfolding batchAnswer batchGiven
-  no-room h = sym (call-is rooms table batch out (refusesAt 1 0) (rw h))
+  no-room h = sym (call-is limits rooms table batch out (refusesAt 1 0) (rw (in-range limits permitted, h)))
 
   module _ (room : haveRoom rooms ≡ true) where
-    pub no-table : tableOf table ≡ none → outcome (refusesAt 2 0) out ≡ batchCall standard rooms table batch out
+    pub no-table : tableOf table ≡ none → outcome (refusesAt 2 0) out ≡ batchCall limits rooms table batch out
     unfolding batchAnswer batchAsked batchGiven
-    no-table h = sym (call-is rooms table batch out (refusesAt 2 0) (rw (room, h)))
+    no-table h = sym (call-is limits rooms table batch out (refusesAt 2 0) (rw (in-range limits permitted, room, h)))
 
     module _ {name : Text} {ps : List ℕ} {read : TableRead} (t : TableGot table name ps read) where
-      pub no-frame : batchOf batch ≡ none → outcome (refusesAt 9 0) out ≡ batchCall standard rooms table batch out
+      pub no-frame : batchOf batch ≡ none → outcome (refusesAt 9 0) out ≡ batchCall limits rooms table batch out
       unfolding batchAnswer batchAsked batchGiven
-      no-frame h = sym (call-is rooms table batch out (refusesAt 9 0) (rw (room, t .is, h)))
+      no-frame h = sym (call-is limits rooms table batch out (refusesAt 9 0) (rw (in-range limits permitted, room, t .is, h)))
 
       module _ {x : BatchIndex} (f : Framed batch x) where
-        asked-is : (a : Answer) → batchGiven (all-given (t .what) (f .what)) ≡ a → batchCall standard rooms table batch out ≡ outcome a out
-        asked-is a e = call-is rooms table batch out a (all-asked-is rooms table batch room (t .what) (t .is) (f .what) (f .is) ∙ e)
+        asked-is : (a : Answer) → batchGiven (all-given limits (t .what) (f .what)) ≡ a → batchCall limits rooms table batch out ≡ outcome a out
+        asked-is a e = call-is limits rooms table batch out a (all-asked-is permitted rooms table batch room (t .what) (t .is) (f .what) (f .is) ∙ e)
 
         pub refused-events :
-            {n i : ℕ} → eventsTogether (t .what) (f .what) ≡ refusedAt n i → outcome (refusesAt n i) out ≡ batchCall standard rooms table batch out
-        refused-events e = sym (asked-is (refusesAt _ _) (given-refused (t .what) (f .what) _ _ e))
+            {n i : ℕ} → eventsTogether (t .what) (f .what) ≡ refusedAt n i → outcome (refusesAt n i) out ≡ batchCall limits rooms table batch out
+        refused-events e = sym (asked-is (refusesAt _ _) (given-refused limits (t .what) (f .what) _ _ e))
 
         pub combined-events :
             eventsTogether (t .what) (f .what) ≡ accepted tt → (b : BatchReply) (r : reply.Reply) {after : List ℕ} →
-            batchReplied b ≡ atFirst (replied r) → replies r after ≡ outcome (combinedAnswer (t .what) (f .what)) out →
-            batchReplies b after ≡ batchCall standard rooms table batch out
+            batchReplied b ≡ atFirst (replied r) → replies r after ≡ outcome (combinedAnswer limits (t .what) (f .what)) out →
+            batchReplies b after ≡ batchCall limits rooms table batch out
         combined-events agreed b r e all =
-            placed-replies b r _ out _ e all ∙ sym (asked-is (placed (combinedAnswer (t .what) (f .what))) (given-placed (t .what) (f .what) agreed))
+            placed-replies b r _ out _ e all ∙ sym
+            (asked-is (placed (combinedAnswer limits (t .what) (f .what))) (given-placed limits (t .what) (f .what) agreed))
 
 -- ---- the batch gives the rule over its events
 
--- A batch whose questions 1, 2, 9 and 3 to 7 are answered yes
-module _ (rooms : Rooms) (table batch out : List ℕ) (ts : Table) (ss : List (List ℕ))
+-- A batch whose questions 18, 1, 2, 9 and 3 to 7 are answered yes
+module _ (limits : Limits) (permitted : Permitted limits) (rooms : Rooms) (table batch out : List ℕ) (ts : Table) (ss : List (List ℕ))
     (room : haveRoom rooms ≡ true) (isTable : tableOf table ≡ some ts) (isBatch : batchOf batch ≡ some ss)
     (agreed : eventsTogether ts ss ≡ accepted tt) where
   abbrev these : Known ts ss
@@ -937,38 +970,38 @@ module _ (rooms : Rooms) (table batch out : List ℕ) (ts : Table) (ss : List (L
   abbrev pub batchRule : Dossier
   batchRule = rule (byteView batchType) ss
 
-  all-combined : batchAnswer standard rooms table batch
-      ≡ placed (answerFor (limited standard (typeView batchType) (λ d. dossierBytes (headed (batchType .name) batchSource d)) batchRule))
+  all-combined : batchAnswer limits rooms table batch
+      ≡ placed (answerFor (limited limits (typeView batchType) (λ d. dossierBytes (headed (batchType .name) batchSource d)) batchRule))
   all-combined =
-      all-asked-is rooms table batch room ts isTable ss isBatch
-      ∙ (given-placed ts ss agreed
-      ∙ ap placed (combined-is table ts isTable ss these ss (known-has ts ss agreed) (these .each)))
+      all-asked-is permitted rooms table batch room ts isTable ss isBatch
+      ∙ (given-placed limits ts ss agreed
+      ∙ ap placed (combined-is limits permitted table ts isTable ss these ss (known-has ts ss agreed) (these .each)))
 
   -- "Is the rule .. (of a batch: over all its events) inside the limits? 8": it gives the bytes of the rule over all its events, or is refused with 8
   -- and the position 0
   pub batch-rule :
-      batchCall standard rooms table batch out
+      batchCall limits rooms table batch out
       ≡ outcome
-      (cond (fits standard (typeView batchType) batchRule) (gives (dossierBytes (headed (batchType .name) batchSource batchRule))) (refusesAt 8 0)) out
+      (cond (fits limits (typeView batchType) batchRule) (gives (dossierBytes (headed (batchType .name) batchSource batchRule))) (refusesAt 8 0)) out
   unfolding limited
   batch-rule =
       let bytes = dossierBytes (headed (batchType .name) batchSource batchRule) in
-      call-is rooms table batch out _ (all-combined ∙ placed-limited (fits standard (typeView batchType) batchRule) bytes)
+      call-is limits rooms table batch out _ (all-combined ∙ placed-limited (fits limits (typeView batchType) batchRule) bytes)
 
   -- "A batch gives one dossier: all its events but the last are combined first, then the last is added." It answers what that way answers, on any
   -- buffers with room
   pub batch-way : (checked combined : ℕ → List ℕ) → ((i : ℕ) → HasRoom (checked i)) → ((i : ℕ) → HasRoom (combined i)) →
-      batchCall standard rooms table batch out
-      ≡ outcome (placed (answerFor (wayAnswer table (ways.batch (λ i. getD ss i []) checked combined (length ss - 1))))) out
+      batchCall limits rooms table batch out
+      ≡ outcome (placed (answerFor (wayAnswer limits table (ways.batch (λ i. getD ss i []) checked combined (length ss - 1))))) out
   unfolding wayAnswer byte-calls
   batch-way checked combined f g =
       let n = length ss - 1 in
       let long : length ss ≡ suc n = omega (arith, has-length ss (known-has ts ss agreed)) in
       let all : firstEvents (λ i. getD ss i []) n ≡ ss = upto-list ss [] n long in
-      let c = byte-calls table ts isTable batchType batchSource (these .first) (these .model) in
-      let way = batch-answer standard (byteView batchType) c (λ i. getD ss i []) checked combined n (rw all (these .each)) f g in
-      call-is rooms table batch out _
+      let c = byte-calls limits permitted table ts isTable batchType batchSource (these .first) (these .model) in
+      let way = batch-answer limits (byteView batchType) c (λ i. getD ss i []) checked combined n (rw all (these .each)) f g in
+      call-is limits rooms table batch out _
       (all-combined
       ∙ ap (λ (w : ways.Reply (List ℕ)). placed (answerFor w))
       (sym (way ∙ ap (λ (es : List (List ℕ)).
-      limited standard (typeView batchType) (λ d. dossierBytes (headed (batchType .name) batchSource d)) (rule (byteView batchType) es)) all)))
+      limited limits (typeView batchType) (λ d. dossierBytes (headed (batchType .name) batchSource d)) (rule (byteView batchType) es)) all)))

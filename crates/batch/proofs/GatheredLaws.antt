@@ -6,7 +6,7 @@ use mathlib.Core.List.{List, [], _∷_, map, List·Memᴰ·head}
 use Prim.Native.Nat.{ℕ, suc}
 use Rattle.model.specs.Order.{Text}
 use Rattle.model.specs.Rule.{rule}
-use Rattle.model.specs.Limits.{standard, fits}
+use Rattle.model.specs.Limits.{Limits, Permitted, fits}
 use Rattle.model.proofs.Cases.{never}
 use Rattle.model.proofs.WayClaims.{Each}
 use Rattle.packed.proofs.LayoutLaws.{All}
@@ -32,11 +32,11 @@ use Rattle.batch.specs.Batch.{batchAsked}
 -- ---- the questions in their order
 
 module _ {A B : Type 0} where
-  at-then : (m : AskedAt A) (k : A → AskedAt B) (b : B) → (m >>= k) ≡ accepted b → (a : A) × (m ≡ accepted a) × (k a ≡ accepted b)
+  pub at-then : (m : AskedAt A) (k : A → AskedAt B) (b : B) → (m >>= k) ≡ accepted b → (a : A) × (m ≡ accepted a) × (k a ≡ accepted b)
   at-then (refusedAt n i) k b h = never (cc)
   at-then (accepted a) k b h = (a, refl, h)
 
-  at-next : (m : AskedAt A) (k : AskedAt B) (b : B) → (m >> k) ≡ accepted b → (a : A) × (m ≡ accepted a) × (k ≡ accepted b)
+  pub at-next : (m : AskedAt A) (k : AskedAt B) (b : B) → (m >> k) ≡ accepted b → (a : A) × (m ≡ accepted a) × (k ≡ accepted b)
   at-next (refusedAt n i) k b h = never (cc)
   at-next (accepted a) k b h = (a, refl, h)
 
@@ -44,7 +44,7 @@ at-accepted : {A : Type 0} (i : ℕ) (m : Asked A) (a : A) → at i m ≡ accept
 at-accepted i (questions.refused n) a h = never (cc)
 at-accepted i (questions.accepted b) a h = cc
 
-at-ensured : (i n : ℕ) (b : Bool) (u : Unit {0}) → at i (ensure n b) ≡ accepted u → b ≡ true
+pub at-ensured : (i n : ℕ) (b : Bool) (u : Unit {0}) → at i (ensure n b) ≡ accepted u → b ≡ true
 at-ensured i n true u h = refl
 at-ensured i n false u h = never (cc)
 
@@ -55,22 +55,22 @@ abbrev pub ruledHead : EventType → Text → List Event → Headed
 ruledHead t uri es = headed (t .name) uri (rule (view t) es)
 
 -- d is the rule over gathered events of a type of the table
-pub record Gathers (table : List ℕ) (d : TypedDossier) : Type 0 where
+pub record Gathers (limits : Limits) (table : List ℕ) (d : TypedDossier) : Type 0 where
   pub types : Table
   pub tabled : tableOf table ≡ some types
   pub named : typeNamed (d .type .name) types ≡ some (d .type)
   pub source : Text
   pub model : Event
   pub events : List Event
-  pub gathered : Gathered (d .type) source model events
+  pub gathered : Gathered limits (d .type) source model events
   pub is : d .headed ≡ ruledHead (d .type) source events
 
 -- questions 3 to 6 of its bytes
-pub gathers-asked : {table : List ℕ} {d : TypedDossier} (g : Gathers table d) →
-    dossierAsked standard (g .types) (dossierBytes (d .headed)) ≡ questions.accepted d
-gathers-asked {table} {d} g =
+pub gathers-asked : {limits : Limits} {table : List ℕ} {d : TypedDossier} (g : Gathers limits table d) →
+    dossierAsked limits (g .types) (dossierBytes (d .headed)) ≡ questions.accepted d
+gathers-asked {limits} {table} {d} g =
     let asked = rule-asked (d .type) (g .source) (g .model) (g .events) (g .gathered) (g .types) (g .named) in
-    ap (λ (h : Headed). dossierAsked standard (g .types) (dossierBytes h)) (g .is)
+    ap (λ (h : Headed). dossierAsked limits (g .types) (dossierBytes h)) (g .is)
     ∙ (asked ∙ ap (λ (h : Headed). questions.accepted (record { type = d .type; headed = h })) (sym (g .is)))
 
 -- ---- the events of a batch that is accepted
@@ -139,19 +139,19 @@ module _ (ts : Table) (a : Typed) (x : TypedOf ts a) where
       }
 
 -- the events of a batch, which are accepted one by one
-module _ (table : List ℕ) (d : TypedDossier) where
+module _ (limits : Limits) (permitted : Permitted limits) (table : List ℕ) (d : TypedDossier) where
   pub typed-gathers :
-      (ts : Table) → tableOf table ≡ some ts → (xs : List Typed) → All (TypedOf ts) xs → together standard xs ≡ accepted d → Gathers table d
+      (ts : Table) → tableOf table ≡ some ts → (xs : List Typed) → All (TypedOf ts) xs → together limits xs ≡ accepted d → Gathers limits table d
   unfolding together batchDossier
   typed-gathers ts isTable [] w h = never (cc)
   typed-gathers ts isTable (a ∷ bs) w h =
       let (u, x, y) = at-next (agreeWith a 1 bs) _ d h in
-      let (v, z, q) = at-next (at 0 (ensure 8 (fits standard (typeView (a .type)) (modelOf (batchDossier a bs))))) _ d y in
+      let (v, z, q) = at-next (at 0 (ensure 8 (fits limits (typeView (a .type)) (modelOf (batchDossier a bs))))) _ d y in
       let agree = all-with (TypedOf ts) (λ (b : Typed). eventsAgree a b ≡ true) (Like a) (like-other ts a (w .0)) bs (w .1) (all-agree a 1 bs u x) in
       let likes : All (Like a) (a ∷ bs) = (like-self ts a (w .0), agree) in
       let self = fits-self ts a (w .0) in
       let named : typeNamed (a .type .name) ts ≡ some (a .type) = ap (λ (n : Text). typeNamed n ts) (sym (self .named)) ∙ named-self ts a (w .0) in
-      subst (Gathers table) (accepted-same (record { type = a .type; headed = batchDossier a bs }) d q) (record {
+      subst (Gathers limits table) (accepted-same (record { type = a .type; headed = batchDossier a bs }) d q) (record {
         types = ts;
         tabled = isTable;
         named = named;
@@ -165,7 +165,8 @@ module _ (table : List ℕ) (d : TypedDossier) where
           model = self;
           alike = each (λ e. SameMatch (a .type) e (a .event)) (λ b l. l .alike) likes;
           from = each (λ e. e .head .source ≡ a .event .head .source) (λ b l. l .from) likes;
-          inside = at-ensured 0 8 (fits standard (typeView (a .type)) (modelOf (batchDossier a bs))) v z;
+          permitted = permitted;
+          inside = at-ensured 0 8 (fits limits (typeView (a .type)) (modelOf (batchDossier a bs))) v z;
         };
         is = λ i. headed (self .named i) (a .event .head .source) (modelOf (batchDossier a bs));
       })
@@ -185,10 +186,12 @@ module _ (table : List ℕ) (d : TypedDossier) where
       each P k l = all-member P (map (λ (b : Typed). b .event) (a ∷ bs)) (all-map P (λ (b : Typed). b .event) (a ∷ bs) (weaker P k (a ∷ bs) l))
 
 -- a batch that is accepted, question by question
-pub batch-gathers : (table batch : List ℕ) (d : TypedDossier) → batchAsked standard table batch ≡ accepted d → Gathers table d
+pub batch-gathers :
+    (limits : Limits) → Permitted limits → (table batch : List ℕ) (d : TypedDossier) → batchAsked limits table batch ≡ accepted d →
+    Gathers limits table d
 unfolding batchAsked
-batch-gathers table batch d e =
+batch-gathers limits permitted table batch d e =
     let (ts, x, y) = at-then (at 0 (ask 2 (tableOf table))) _ d e in
     let (ss, z, q) = at-then (at 0 (ask 9 (batchOf batch))) _ d y in
     let (xs, k, l) = at-then (eventsAsked ts 0 ss) _ d q in
-    typed-gathers table d ts (ask-some 2 (tableOf table) ts (at-accepted 0 (ask 2 (tableOf table)) ts x)) xs (all-typed ts 0 ss xs k) l
+    typed-gathers limits permitted table d ts (ask-some 2 (tableOf table) ts (at-accepted 0 (ask 2 (tableOf table)) ts x)) xs (all-typed ts 0 ss xs k) l

@@ -10,7 +10,7 @@ use lib.ListN.{length, drop}
 use lib.Dec.{leb}
 use lib.Seq.{drop-append-seam}
 use borrow.Author.Tests.{leb-true}
-use Rattle.model.specs.Limits.{standard, fits}
+use Rattle.model.specs.Limits.{Limits, fits}
 use Rattle.model.proofs.Cases.{and-parts}
 use Rattle.packed.specs.Parse.{suchThat, times}
 use Rattle.packed.specs.Packed.{readNumber, text, readText, isWithin}
@@ -117,12 +117,12 @@ asks-agree a i [] l = accepts-at tt
 asks-agree a i (b ∷ bs) l =
     asks-next-at (asks-at i (omega arith) (asks-whether 7 (omega arith, omega arith) (eventsAgree a b))) (asks-agree a (suc i) bs (omega arith))
 
-asks-together : {P : Type 0} (xs : List Typed) → length xs ≤ 16 → P → AsksAt (λ d. P) (together standard xs)
+asks-together : {P : Type 0} (limits : Limits) (xs : List Typed) → length xs ≤ 16 → P → AsksAt (λ d. P) (together limits xs)
 unfolding together
-asks-together [] l h = record { answers = ((omega arith, omega arith), omega arith) }
-asks-together (a ∷ bs) l h =
+asks-together limits [] l h = record { answers = ((omega arith, omega arith), omega arith) }
+asks-together limits (a ∷ bs) l h =
     asks-next-at (asks-agree a 1 bs (omega arith))
-    (asks-next-at (asks-all (asks-whether 8 (omega arith, omega arith) (fits standard (typeView (a .type)) (modelOf (batchDossier a bs))))) (accepts-at h))
+    (asks-next-at (asks-all (asks-whether 8 (omega arith, omega arith) (fits limits (typeView (a .type)) (modelOf (batchDossier a bs))))) (accepts-at h))
 
 -- "A batch is a count 1 to 16"
 batch-few : (batch : List ℕ) (ss : List (List ℕ)) → batchOf batch ≡ some ss → length ss ≤ 16
@@ -136,17 +136,17 @@ batch-few batch ss e =
       leb-true (c .value) 16 (and-parts (leb 1 (c .value)) (leb (c .value) 16) (n .test) .1),
     )
 
-pub asks-batch : (table batch : List ℕ) → AsksAt (λ d. Reads (tableOf table) × BatchReads batch) (batchAsked standard table batch)
+pub asks-batch : (limits : Limits) (table batch : List ℕ) → AsksAt (λ d. Reads (tableOf table) × BatchReads batch) (batchAsked limits table batch)
 unfolding batchAsked
-asks-batch table batch =
+asks-batch limits table batch =
     asks-then-at (asks-all (asks-one 2 (omega arith, omega arith) (tableOf table))) λ ts isTable.
     asks-then-at (asks-all (asks-one 9 (omega arith, omega arith) (batchOf batch))) λ ss isBatch.
     let few = batch-few batch ss isBatch in
     asks-then-at (asks-events ts 0 ss (omega arith)) λ xs reads.
-    asks-together xs (omega (arith, reads .0)) ((ts, isTable), (ss, isBatch, reads .1))
+    asks-together limits xs (omega (arith, reads .0)) ((ts, isTable), (ss, isBatch, reads .1))
 
 -- ---- what a call gives
 
-pub takes-given : {P : Type 0} (x old : List ℕ) → P → Takes P (outcome (gives x) old) old
+pub takes-given : {N : ℕ → Type 0} {P : Type 0} (x old : List ℕ) → P → Takes N P (outcome (gives x) old) old
 unfolding TakesIn
 takes-given x old h = record { replied = (h, drop-append-seam x (drop (length x) old)) }

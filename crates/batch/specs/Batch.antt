@@ -1,5 +1,6 @@
 -- Document 01: the batch. "A batch asks 3 to 6 of each event in turn, then 7 of each against the first, then 8 of all; its refusal has the event's position
--- from 0 (0 for 1, 2, 8, 9)."
+-- from 0 (0 for 1, 2, 8, 9)." Document 02, Q-13: the limits are a parameter of it; "18 for a parameter outside its range, before everything else, in a batch
+-- with position 0".
 use Prim.Native.Nat.{ℕ, suc}
 use mathlib.Core.Bool.{Bool, _&&_}
 use mathlib.Core.Option.{Option}
@@ -13,6 +14,7 @@ use Rattle.packed.specs.Packed.{readNumber, readText, isWithin}
 use Rattle.replies.specs.Questions as asked
 use Rattle.replies.specs.Questions.{Asked, ask, ensure}
 use Rattle.replies.specs.Capacities.{dossierCapacity}
+use Rattle.replies.specs.ChosenLimits.{inRange}
 use Rattle.replies.specs.Answers.{Answer, gives, refusesAt, Outcome, outcome}
 use Rattle.ontology.specs.Table.{Table}
 use Rattle.ontology.specs.TableLayout.{tableOf}
@@ -77,7 +79,7 @@ together limits (a ∷ bs) = do
   at 0 (ensure 8 (fits limits (typeView (a .type)) (modelOf (batchDossier a bs))))
   accepted (record { type = a .type; headed = batchDossier a bs })
 
--- the questions after the first
+-- the questions after 18 and 1
 unfoldable pub batchAsked : Limits → List ℕ → List ℕ → AskedAt TypedDossier
 batchAsked limits table batch = do
   ts ← at 0 (ask 2 (tableOf table))
@@ -101,7 +103,10 @@ unfoldable pub haveRoom : Rooms → Bool
 haveRoom r = leb dossierCapacity (r .output) && leb dossierCapacity (r .first) && leb dossierCapacity (r .second) && leb dossierCapacity (r .third)
 
 unfoldable pub batchAnswer : Limits → Rooms → List ℕ → List ℕ → Answer
-batchAnswer limits rooms table batch = batchGiven (at 0 (ensure 1 (haveRoom rooms)) >> batchAsked limits table batch)
+batchAnswer limits rooms table batch = batchGiven do
+  at 0 (inRange limits)
+  at 0 (ensure 1 (haveRoom rooms))
+  batchAsked limits table batch
 
 -- The call with its output; "Scratch may hold anything after a batch", so that of the scratch buffers only the sizes are in the equation
 unfoldable pub batchCall : Limits → Rooms → List ℕ → List ℕ → List ℕ → Outcome

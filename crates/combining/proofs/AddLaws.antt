@@ -14,7 +14,7 @@ use Rattle.model.specs.Keyed.{merge}
 use Rattle.model.specs.Rule.{Snapshot, joinSnapshots, sizes}
 use Rattle.model.specs.Opening.{held}
 use Rattle.model.specs.Sets.{upTo}
-use Rattle.model.specs.Limits.{standard, fits}
+use Rattle.model.specs.Limits.{Limits, Permitted, fits}
 use Rattle.model.proofs.Cases.{never}
 use Rattle.model.proofs.LimitLaws.{fits-bounds}
 use Rattle.packed.specs.Parse.{All, fail, got}
@@ -46,8 +46,8 @@ use Rattle.dossier.proofs.DossierHeadLaws.{dossier-head-read}
 use Rattle.dossier.proofs.DossierLayoutLaws.{DossierWritten, dossier-was}
 use Rattle.dossier.proofs.DossierSizeLaws.{held-objects}
 use Rattle.combining.specs.CombineCall.{combined}
-use Rattle.combining.specs.code.AddIndex.{bytesOf, Splits, lowerOrSame, withSnapshot, Adding, alone, metWith, Met, newSnapshot, Inside}
-use Rattle.combining.specs.code.AddIndex.{countIn, Addable, Measured, MeasuredIn, AddingAt, MetRoom, NewRoom, WithRoom, AddedRoom, addedBytes}
+use Rattle.combining.specs.code.AddIndex.{bytesOf, Splits, lowerOrSame, withSnapshot, Adding, alone, metWith, Met, newSnapshot, AddedInside, addedBytes}
+use Rattle.combining.specs.code.AddIndex.{countIn, Addable, AddableUnder, Measured, MeasuredIn, AddingAt, MetRoom, NewRoom, WithRoom, AddedRoom}
 use Rattle.combining.specs.code.CheckIndex.{Checkable, aloneBytes, loneBytes, AloneRoom}
 use Rattle.combining.specs.code.CombineIndex.{Known, Meet, Shared}
 use Rattle.combining.specs.code.WriteIndex.{SharedRoom, HeadsAre, HeadsRoom, bothHeads}
@@ -157,16 +157,19 @@ module _ {table sofar m event : List ℕ} {t : TypeIndex} {ps : List ℕ} (a : A
   abbrev pub dossier : Headed
   dossier = a .both .left .headed
 
-  is-dossier : (sofar ≡ dossierBytes dossier) × DossierWritten standard dossier
-  is-dossier = dossier-was standard sofar dossier (left-taken (a .both) .read)
+  is-dossier : (sofar ≡ dossierBytes dossier) × DossierWritten (a .both .limits) dossier
+  is-dossier = dossier-was (a .both .limits) sofar dossier (left-taken (a .both) .read)
 
   -- its head, and what follows it
-  head-is : readDossierHead standard sofar ≡ got (dossier .head) (bodyBytes (dossier .snapshots))
+  head-is : readDossierHead (a .both .limits) sofar ≡ got (dossier .head) (bodyBytes (dossier .snapshots))
   unfolding dossierBytes
-  head-is = ap (readDossierHead standard) (is-dossier .0) ∙ dossier-head-read standard (dossier .head) (bodyBytes (dossier .snapshots)) (is-dossier .1 .head)
+  head-is =
+      let limits = a .both .limits in
+      ap (readDossierHead limits) (is-dossier .0) ∙ dossier-head-read limits (dossier .head) (bodyBytes (dossier .snapshots)) (is-dossier .1 .head)
 
-  pub has-head : readDossierHead standard sofar ≡ fail → ⊥
-  has-head z = let both = sym head-is ∙ z in never (cc)
+  -- under the same limits
+  pub has-head : {limits : Limits} → a .both .limits ≡ limits → readDossierHead limits sofar ≡ fail → ⊥
+  has-head u z = let both = sym head-is ∙ ap (λ (l : Limits). readDossierHead l sofar) u ∙ z in never (cc)
 
   pub measured-in : MeasuredIn sofar m
   unfolding dossierBytes bodyBytes
@@ -191,10 +194,12 @@ module _ {table sofar m event : List ℕ} {t : TypeIndex} {ps : List ℕ} (a : A
       Splits (dossier .snapshots) (versionOf (a .new .event .type) (a .new .event .event)) p
   split-at {p = p} n says = subst (λ (v : ℕ). Splits (dossier .snapshots) v p) n (says (dossier .snapshots) (a .measured))
 
-  module _ {x : HeadAt} {end : ℕ} (w : DossierHeadStops (readDossierHead standard sofar) sofar x end) where
+  module _
+      {limits : Limits} (u : a .both .limits ≡ limits) {x : HeadAt} {end : ℕ} (w : DossierHeadStops (readDossierHead limits sofar) sofar x end) where
     pub follows : (w .what ≡ dossier .head) × (drop end sofar ≡ bodyBytes (dossier .snapshots))
     follows =
-        let both : got (w .what) (drop end sofar) ≡ got (dossier .head) (bodyBytes (dossier .snapshots)) = sym (w .is) ∙ head-is in
+        let both : got (w .what) (drop end sofar) ≡ got (dossier .head) (bodyBytes (dossier .snapshots)) =
+        sym (w .is) ∙ ap (λ (l : Limits). readDossierHead l sofar) (sym u) ∙ head-is in
         (cc, cc)
 
     -- the count of snapshots is one byte, and these follow it
@@ -458,18 +463,17 @@ module _
       go true q = ap (λ (b : Bool). cond b (countIn m) (countIn m + 1)) q ∙ h .added .measured .count ∙ sym (many-met q)
       go false q = ap (λ (b : Bool). cond b (countIn m) (countIn m + 1)) q ∙ ap (λ (i : ℕ). i + 1) (h .added .measured .count) ∙ sym (many-unmet q)
 
-  added-heads : Inside h → HeadsAre sofar x event (e .head) (k .left .headed .head) (k .right .headed .head)
+  added-heads : AddedInside h → HeadsAre sofar x event (e .head) (k .left .headed .head) (k .right .headed .head)
   added-heads inside = known-heads k inside (h .head) right-head-is
 
-  has-place : Inside h → HasPlace m p
-  unfolding standard
+  has-place : AddedInside h → HasPlace m p
   has-place inside =
       let c = h .added .measured .count in
-      let versions = fits-bounds standard (typeView ty) (combined (k .left) (k .right)) inside .1 in (
+      let versions = fits-bounds (inside .limits) (typeView ty) (combined (k .left) (k .right)) (inside .is) .1 in (
         omega (arith, c, h .added .measured .few),
         omega (arith, c, h .splits .within),
         λ q. omega (arith, c, h .splits .met q .0),
-        λ q. omega (arith, c, many-unmet q, versions),
+        λ q. omega (arith, c, many-unmet q, versions, inside .permitted .few-versions),
       )
 
   new-version : newSnapshot h .version ≡ event-version
@@ -515,31 +519,36 @@ module _
 
   -- ---- question 8
 
-  abbrev asked : Bool
-  asked = fits standard (typeView ty) (combined (k .left) (k .right))
+  module _ {limits : Limits} (u : k .limits ≡ limits) where
+    abbrev asked : Bool
+    asked = fits limits (typeView ty) (combined (k .left) (k .right))
 
-  -- where the event's version is met, there are no more snapshots than the dossier has
-  pub met-to-objects : ToVersions k → p .meets ≡ true → ToObjects k
-  met-to-objects go-on q = to-objects k go-on (sym (many-met q)) (h .added .measured .few)
+    -- the dossier was taken under these limits
+    few-before : length ss ≤ limits .versions
+    few-before = subst (λ (l : Limits). length ss ≤ l .versions) u (left-written k .body .within)
 
-  -- one snapshot more, of a versioned type
-  pub fits-unmet : ToVersions k → p .meets ≡ false → ltb (countIn m) 8 ≡ asked
-  fits-unmet go-on q = ⊎-elim below above (lt-or-ge (countIn m) 8)
-    where
-      many : countIn m + 1 ≡ length whole
-      many = ap (λ (i : ℕ). i + 1) (h .added .measured .count) ∙ sym (many-unmet q)
+    -- where the event's version is met, there are no more snapshots than the dossier has
+    pub met-to-objects : ToVersions k limits → p .meets ≡ true → ToObjects k limits
+    met-to-objects go-on q = to-objects k limits go-on (sym (many-met q)) few-before
 
-      marked : 0 < t .mark
-      marked = ⊎-elim (λ (v : 0 < t .mark). v) (λ (un : t .mark ≤ 0). absurd (unlike (sym (always-met un) ∙ q))) (lt-or-ge 0 (t .mark))
-        where
-          unlike : true ≡ false → ⊥
-          unlike z = never (cc)
+    -- one snapshot more, of a versioned type
+    pub fits-unmet : ToVersions k limits → p .meets ≡ false → ltb (countIn m) (limits .versions) ≡ asked
+    fits-unmet go-on q = ⊎-elim below above (lt-or-ge (countIn m) (limits .versions))
+      where
+        many : countIn m + 1 ≡ length whole
+        many = ap (λ (i : ℕ). i + 1) (h .added .measured .count) ∙ sym (many-unmet q)
 
-      below : countIn m < 8 → ltb (countIn m) 8 ≡ asked
-      below l = lt-ltb (countIn m) 8 l ∙ fits-versioned k (to-objects k go-on many (omega arith)) marked
+        marked : 0 < t .mark
+        marked = ⊎-elim (λ (v : 0 < t .mark). v) (λ (un : t .mark ≤ 0). absurd (unlike (sym (always-met un) ∙ q))) (lt-or-ge 0 (t .mark))
+          where
+            unlike : true ≡ false → ⊥
+            unlike z = never (cc)
 
-      above : 8 ≤ countIn m → ltb (countIn m) 8 ≡ asked
-      above l = le-ltb (countIn m) 8 l ∙ fits-versions k go-on many (omega arith)
+        below : countIn m < limits .versions → ltb (countIn m) (limits .versions) ≡ asked
+        below l = lt-ltb (countIn m) (limits .versions) l ∙ fits-versioned k limits (to-objects k limits go-on many (omega arith)) marked
+
+        above : limits .versions ≤ countIn m → ltb (countIn m) (limits .versions) ≡ asked
+        above l = le-ltb (countIn m) (limits .versions) l ∙ fits-versions k limits go-on many (omega arith)
 
   module _ (un : t .mark ≤ 0) where
     abbrev first : Snapshot
@@ -560,15 +569,15 @@ module _
 
     -- what counting the objects of both says is what the question asks
     pub first-joined :
-        {r : Bool} →
+        (most : ℕ) {r : Bool} →
         ((u : List ℕ) (tz : EventType) (a b : Snapshot) (rest : List ℕ) → PropertiesAre u (tz .properties) (t .count) ps → isVersioned tz ≡ false →
         Meet tz a b → readSnapshot (drop body sofar) ≡ got a rest → e .objects ≡ sizes (b .cells) → SetsAre event (map held (b .cells)) ats →
-        r ≡ leb (sizes (joinSnapshots (typeView tz) a b .cells)) 256) →
-        r ≡ leb (sizes (joinSnapshots (typeView ty) first (getD (k .right .headed .snapshots) 0 noSnapshot) .cells)) 256
-    first-joined says =
+        r ≡ leb (sizes (joinSnapshots (typeView tz) a b .cells)) most) →
+        r ≡ leb (sizes (joinSnapshots (typeView ty) first (getD (k .right .headed .snapshots) 0 noSnapshot) .cells)) most
+    first-joined most says =
         says table ty first y _ (k .typed .are) (unversioned k un)
         (subst (λ (i : ℕ). Meet ty (getD ss i noSnapshot) y) (first-place un .0) (met-meet (always-met un))) first-read y-objects (y-cells .sets)
-        ∙ ap (λ (zs : List Snapshot). leb (sizes (joinSnapshots (typeView ty) first (getD zs 0 noSnapshot) .cells)) 256) (sym right-snapshots)
+        ∙ ap (λ (zs : List Snapshot). leb (sizes (joinSnapshots (typeView ty) first (getD zs 0 noSnapshot) .cells)) most) (sym right-snapshots)
 
 -- ---- writing the snapshot of the event's version
 
@@ -645,33 +654,33 @@ module _
     is = r .in-some .is
 
     whole-short : length (addedBytes is) ≤ size
-    whole-short = omega (arith, combined-room (is .added .both) (r .inside _ is), r .room)
+    whole-short = omega (arith, combined-room (is .added .both) (r .inside), r .room)
 
     pub heads-within : HeadsRoom sofar x event (e .head) size
     heads-within = record {
       left = _;
       right = _;
-      are = added-heads is (r .inside _ is);
+      are = added-heads is (r .inside);
       room = omega (arith, whole-short, whole-length (is .added .both));
     }
 
     pub place-there : HasPlace m p
-    place-there = has-place is (r .inside _ is)
+    place-there = has-place is (r .inside)
 
   -- what `write_heads` leaves, and what `count_with` answers
   module _
       {l l₁ : List ℕ} {a n : ℕ} (heads : WritesHeads sofar x event (e .head) l l₁ a)
       (counts : n ≡ cond (p .meets) (countIn m) (countIn m + 1)) (r : AddedRoom sofar m event e ats x body p version t ps apart (length l)) where
     head-wrote :
-        {table : List ℕ} (h : Adding table sofar m event e ats x body p t ps) → let k = h .added .both in
+        {table : List ℕ} (h : Adding table sofar m event e ats x body p t ps) → AddedInside h → let k = h .added .both in
         Wrote l 0 (dossierHeadBytes (bothHeads (k .left .headed .head) (k .right .headed .head))) l₁ a
-    head-wrote h = heads _ _ (added-heads h (r .inside _ h))
+    head-wrote h inside = heads _ _ (added-heads h inside)
 
     rooms : let k = is r .added .both in WholeRoom l (wholeHead k) (length (combined (k .left) (k .right) .snapshots)) (wholeSnapshots k)
     rooms = whole-room (is r .added .both) (whole-short r)
 
     pub number-within : a + length (number n) ≤ length l₁
-    number-within = count-room rooms (head-wrote (is r)) (counted (is r) counts)
+    number-within = count-room rooms (head-wrote (is r) (r .inside)) (counted (is r) counts)
 
     module _ {l₂ : List ℕ} {b : ℕ} (number-wrote : Wrote l₁ a (number n) l₂ b) where
       pub with-there : WithRoom sofar event e ats body p version t ps apart b (length l₂)
@@ -679,7 +688,7 @@ module _
         in-some = record { table = _; measures = _; head = _; is = is r };
         number = r .number;
         scratch = r .scratch;
-        room = body-room rooms (head-wrote (is r)) (counted (is r) counts) number-wrote;
+        room = body-room rooms (head-wrote (is r) (r .inside)) (counted (is r) counts) number-wrote;
       }
 
       pub added-wrote :
@@ -688,39 +697,51 @@ module _
           version .0 ≡ versionOf (h .added .new .event .type) (h .added .new .event .event) →
           Wrote l₂ b (bytesOf (combined (h .added .both .left) (h .added .both .right) .snapshots)) l₃ c) →
           (table : List ℕ) (h : Adding table sofar m event e ats x body p t ps) →
-          version .0 ≡ versionOf (h .added .new .event .type) (h .added .new .event .event) → Inside h → Wrote l 0 (addedBytes h) l₃ c
-      added-wrote wrote table h v inside = whole-wrote (h .added .both) (counted h counts) (head-wrote h) number-wrote (wrote table m x h v)
+          version .0 ≡ versionOf (h .added .new .event .type) (h .added .new .event .event) → AddedInside h → Wrote l 0 (addedBytes h) l₃ c
+      added-wrote wrote table h v inside = whole-wrote (h .added .both) (counted h counts) (head-wrote h inside) number-wrote (wrote table m x h v)
 
 -- ---- an event is added
 
 -- the event and the head of the dossier are read, and the event's snapshot has its place
 pub record ReadFor
-    (sofar m event : List ℕ) (e : EventIndex) (ats : List ℕ) (x : HeadAt) (end : ℕ) (p : Place) (t : TypeIndex) (version : EventVersion) : Type 0 where
+    (limits : Limits) (sofar m event : List ℕ) (e : EventIndex) (ats : List ℕ) (x : HeadAt) (end : ℕ) (p : Place) (t : TypeIndex)
+    (version : EventVersion) : Type 0 where
   pub reads : EventReads (eventOf narrow event) event ats e
   pub versioned : (h : Checkable event t ats) → version .0 ≡ versionOf (h .type) (h .event)
-  pub stops : DossierHeadStops (readDossierHead standard sofar) sofar x end
+  pub stops : DossierHeadStops (readDossierHead limits sofar) sofar x end
   pub placed : (zs : List Snapshot) → Measured zs m → Splits zs (version .0) p
 
 module _
-    {sofar m event : List ℕ} {e : EventIndex} {ats : List ℕ} {x : HeadAt} {end : ℕ} {p : Place} {t : TypeIndex} {version : EventVersion}
-    (r : ReadFor sofar m event e ats x end p t version) {table ps : List ℕ} (a : Addable table sofar m event t ps) where
+    {limits : Limits} {sofar m event : List ℕ} {e : EventIndex} {ats : List ℕ} {x : HeadAt} {end : ℕ} {p : Place} {t : TypeIndex}
+    {version : EventVersion} (r : ReadFor limits sofar m event e ats x end p t version) {table ps : List ℕ}
+    (h : AddableUnder limits table sofar m event t ps) where
+  abbrev a : Addable table sofar m event t ps
+  a = h .added
+
   pub version-known : version .0 ≡ versionOf (a .new .event .type) (a .new .event .event)
   version-known = r .versioned (checkable (known-checked (a .new) (r .reads)))
 
   abbrev pub is-adding : Adding table sofar m event e ats x (end + 1) p t ps
-  is-adding = adding a (r .stops) (known-read (a .new) (r .reads) .1) (split-at a version-known (r .placed))
+  is-adding = adding a (h .under) (r .stops) (known-read (a .new) (r .reads) .1) (split-at a version-known (r .placed))
+
+  pub permitted : Permitted limits
+  permitted = subst Permitted (h .under) (a .both .permitted)
 
   -- `added_fits` answers yes
-  pub added-there :
+  pub added-inside :
       {fitting : Bool} →
-      ((z : List ℕ) (h : Adding z sofar m event e ats x (end + 1) p t ps) →
-      fitting ≡ fits standard (typeView (h .added .both .left .type)) (combined (h .added .both .left) (h .added .both .right))) →
-      fitting ≡ true → {apart size : ℕ} → dossierCapacity ≤ apart → dossierCapacity ≤ size →
+      ((z : List ℕ) (y : Adding z sofar m event e ats x (end + 1) p t ps) → y .added .both .limits ≡ limits →
+      fitting ≡ fits limits (typeView (y .added .both .left .type)) (combined (y .added .both .left) (y .added .both .right))) →
+      fitting ≡ true → AddedInside is-adding
+  added-inside says true-is = record { limits = limits; permitted = permitted; is = sym (says _ is-adding (h .under)) ∙ true-is }
+
+  pub added-there :
+      AddedInside is-adding → {apart size : ℕ} → dossierCapacity ≤ apart → dossierCapacity ≤ size →
       AddedRoom sofar m event e ats x (end + 1) p version t ps apart size
-  added-there says inside scratch room = record {
+  added-there inside scratch room = record {
     in-some = record { table = _; is = is-adding };
     number = version-known;
     scratch = scratch;
     room = room;
-    inside = λ z h. sym (says z h) ∙ inside;
+    inside = inside;
   }

@@ -12,7 +12,7 @@ use Rattle.model.proofs.Cases.{three, or-part}
 use Rattle.model.specs.Keyed.{put, merge}
 use Rattle.model.specs.Sets.{itself, first, union}
 use Rattle.model.specs.Rule.{Snapshot, joinSnapshots, Dossier, combine, sizes, objects}
-use Rattle.model.specs.Limits.{standard, fits}
+use Rattle.model.specs.Limits.{Limits, fits}
 use Rattle.model.specs.Opening.{held}
 use Rattle.packed.proofs.LayoutLaws.{All}
 use Rattle.ontology.specs.Table.{EventType, Table, isVersioned}
@@ -60,10 +60,12 @@ snapshots a = a .headed .snapshots
 abbrev versions : List Snapshot → List ℕ
 versions xs = map versionIn xs
 
-fits-parts : (ty : EventType) (d : Dossier) →
-    fits standard (typeView ty) d ≡ (leb (length (d .parents)) 32 && (leb (length (d .snapshots)) 8 && (isVersioned ty || leb (objects (d .snapshots)) 256)))
-unfolding fits standard typeView eventView
-fits-parts ty d = refl
+fits-parts : (limits : Limits) (ty : EventType) (d : Dossier) →
+    fits limits (typeView ty) d
+    ≡ (leb (length (d .parents)) (limits .parents)
+    && (leb (length (d .snapshots)) (limits .versions) && (isVersioned ty || leb (objects (d .snapshots)) (limits .objects))))
+unfolding fits typeView eventView
+fits-parts limits ty d = refl
 
 all-hashes : (hs : List Text) → All (λ (h : Text). length h ≡ 20) hs → Hashes hs
 all-hashes [] w i l = absurd (omega arith)
@@ -71,13 +73,17 @@ all-hashes (h ∷ hs) w zero l = w .0
 all-hashes (h ∷ hs) w (suc i) l = all-hashes hs (w .1) i (omega arith)
 
 -- two runs of few parents have few together
-pub parents-few : (gs hs : List Text) (m n : ℕ) → m ≡ length gs → n ≡ length hs → m + n ≤ 32 → true ≡ leb (length (union texts gs hs)) 32
-parents-few gs hs m n p q h = sym (le-leb (length (union texts gs hs)) 32 (omega (arith, union-few texts gs hs)))
+pub parents-few :
+    (gs hs : List Text) (m n most : ℕ) → m ≡ length gs → n ≡ length hs → m + n ≤ most → true ≡ leb (length (union texts gs hs)) most
+parents-few gs hs m n most p q h = sym (le-leb (length (union texts gs hs)) most (omega (arith, union-few texts gs hs)))
 
 -- ---- an unversioned dossier has one snapshot, of version 0
 
-one-snapshot : {types : Table} {s : List ℕ} {a : TypedDossier} → DossierTaken types s a → isVersioned (a .type) ≡ false → length (snapshots a) ≡ 1
-one-snapshot {types} {s} {a} w un = eqb-true (length (snapshots a)) 1 (or-part (isVersioned (a .type)) (eqb (length (snapshots a)) 1) (taken-lone w) un)
+one-snapshot :
+    {limits : Limits} {types : Table} {s : List ℕ} {a : TypedDossier} → DossierTaken limits types s a → isVersioned (a .type) ≡ false →
+    length (snapshots a) ≡ 1
+one-snapshot {limits} {types} {s} {a} w un = eqb-true (length (snapshots a)) 1
+    (or-part (isVersioned (a .type)) (eqb (length (snapshots a)) 1) (taken-lone w) un)
 
 alone : (ss : List Snapshot) → length ss ≡ 1 → ss ≡ getD ss 0 noSnapshot ∷ []
 alone [] h = absurd (omega arith)
@@ -99,10 +105,10 @@ module _ {table a b : List ℕ} {t : TypeIndex} {ps : List ℕ} (k : Known table
   abbrev whole : Dossier
   whole = combined (k .left) (k .right)
 
-  pub left-written : DossierWritten standard (k .left .headed)
+  pub left-written : DossierWritten (k .limits) (k .left .headed)
   left-written = taken-written (left-taken k)
 
-  pub right-written : DossierWritten standard (k .right .headed)
+  pub right-written : DossierWritten (k .limits) (k .right .headed)
   right-written = taken-written (right-taken k)
 
   -- the parents of each are hashes and rise
@@ -142,8 +148,8 @@ module _ {table a b : List ℕ} {t : TypeIndex} {ps : List ℕ} (k : Known table
 
     pub same-version : x .version ≡ y .version
     same-version =
-        version-none ty x (taken-fits (left-taken k) 0 (omega (arith, left-one))) unversioned
-        ∙ sym (version-none (k .right .type) y (taken-fits (right-taken k) 0 (omega (arith, right-one))) right-unversioned)
+        version-none (k .limits) ty x (taken-fits (left-taken k) 0 (omega (arith, left-one))) unversioned
+        ∙ sym (version-none (k .limits) (k .right .type) y (taken-fits (right-taken k) 0 (omega (arith, right-one))) right-unversioned)
 
     whole-objects : objects (whole .snapshots) ≡ sizes (joinSnapshots (typeView ty) x y .cells)
     unfolding objects
@@ -155,60 +161,63 @@ module _ {table a b : List ℕ} {t : TypeIndex} {ps : List ℕ} (k : Known table
 
   -- ---- the answers
 
-  abbrev asked : Bool
-  asked = fits standard (typeView ty) whole
+  module _ (limits : Limits) where
+    abbrev asked : Bool
+    asked = fits limits (typeView ty) whole
 
-  -- of few enough objects; and of few enough versions besides
-  abbrev fewObjects : Bool
-  fewObjects = isVersioned ty || leb (objects (whole .snapshots)) 256
+    -- of few enough objects; and of few enough versions besides
+    abbrev fewObjects : Bool
+    fewObjects = isVersioned ty || leb (objects (whole .snapshots)) (limits .objects)
 
-  abbrev fewVersions : Bool
-  fewVersions = leb (length (whole .snapshots)) 8 && fewObjects
+    abbrev fewVersions : Bool
+    fewVersions = leb (length (whole .snapshots)) (limits .versions) && fewObjects
 
-  -- the whole answer is that of going on: with the versions once the parents are few enough, with the objects once the versions are
-  abbrev pub ToVersions : Type 0
-  ToVersions = asked ≡ fewVersions
+    -- the whole answer is that of going on: with the versions once the parents are few enough, with the objects once the versions are
+    abbrev pub ToVersions : Type 0
+    ToVersions = asked ≡ fewVersions
 
-  abbrev pub ToObjects : Type 0
-  ToObjects = asked ≡ fewObjects
+    abbrev pub ToObjects : Type 0
+    ToObjects = asked ≡ fewObjects
 
-  -- `parents_fit` answers n of the parents
-  module _
-      {n : Bool} {s u : List ℕ} {v w : SetAt}
-      (says : (gs hs : List Text) → HashesAre s gs v → HashesAre u hs w → Hashes gs → Hashes hs → rising texts gs ≡ true →
-      rising texts hs ≡ true →
-      n ≡ leb (length (union texts gs hs)) 32)
-      (left-are : HashesAre s (k .left .headed .head .parents) v) (right-are : HashesAre u (k .right .headed .head .parents) w) where
-    then-parents : asked ≡ (n && fewVersions)
-    then-parents =
-        let p = says _ _ left-are right-are (left-hashes .0) (right-hashes .0) (left-hashes .1) (right-hashes .1) in
-        fits-parts ty whole ∙ ap (λ (z : Bool). z && fewVersions) (ap (λ (hs : List Text). leb (length hs) 32) whole-parents ∙ sym p)
+    -- `parents_fit` answers n of the parents
+    module _
+        {n : Bool} {s u : List ℕ} {v w : SetAt}
+        (says : (gs hs : List Text) → HashesAre s gs v → HashesAre u hs w → Hashes gs → Hashes hs → rising texts gs ≡ true →
+        rising texts hs ≡ true →
+        n ≡ leb (length (union texts gs hs)) (limits .parents))
+        (left-are : HashesAre s (k .left .headed .head .parents) v) (right-are : HashesAre u (k .right .headed .head .parents) w) where
+      then-parents : asked ≡ (n && fewVersions)
+      then-parents =
+          let p = says _ _ left-are right-are (left-hashes .0) (right-hashes .0) (left-hashes .1) (right-hashes .1) in
+          fits-parts limits ty whole ∙ ap (λ (z : Bool). z && fewVersions)
+          (ap (λ (hs : List Text). leb (length hs) (limits .parents)) whole-parents ∙ sym p)
 
-    pub fits-parents : n ≡ false → false ≡ asked
-    fits-parents l = sym (then-parents ∙ rw l)
+      pub fits-parents : n ≡ false → false ≡ asked
+      fits-parents l = sym (then-parents ∙ rw l)
 
-    pub to-versions : n ≡ true → ToVersions
-    to-versions l = then-parents ∙ rw l
+      pub to-versions : n ≡ true → ToVersions
+      to-versions l = then-parents ∙ rw l
 
-  -- there are m versions
-  module _ (go-on : ToVersions) {m : ℕ} (q : m ≡ length (whole .snapshots)) where
-    pub fits-versions : 8 < m → false ≡ asked
-    fits-versions h = sym (go-on ∙ ap (λ (z : Bool). z && fewObjects) (lt-leb (length (whole .snapshots)) 8 (omega (arith, q))))
+    -- there are m versions
+    module _ (go-on : ToVersions) {m : ℕ} (q : m ≡ length (whole .snapshots)) where
+      pub fits-versions : limits .versions < m → false ≡ asked
+      fits-versions h = sym (go-on ∙ ap (λ (z : Bool). z && fewObjects) (lt-leb (length (whole .snapshots)) (limits .versions) (omega (arith, q))))
 
-    pub to-objects : m ≤ 8 → ToObjects
-    to-objects h = go-on ∙ ap (λ (z : Bool). z && fewObjects) (le-leb (length (whole .snapshots)) 8 (omega (arith, q)))
+      pub to-objects : m ≤ limits .versions → ToObjects
+      to-objects h = go-on ∙ ap (λ (z : Bool). z && fewObjects) (le-leb (length (whole .snapshots)) (limits .versions) (omega (arith, q)))
 
-  module _ (go-on : ToObjects) where
-    pub fits-versioned : 0 < t .mark → true ≡ asked
-    fits-versioned v =
-        sym (go-on ∙ ap (λ (z : Bool). z || leb (objects (whole .snapshots)) 256) (lt-ltb 0 (ty .mark) (omega (arith, k .typed .mark))))
+    module _ (go-on : ToObjects) where
+      pub fits-versioned : 0 < t .mark → true ≡ asked
+      fits-versioned v =
+          sym (go-on ∙ ap (λ (z : Bool). z || leb (objects (whole .snapshots)) (limits .objects)) (lt-ltb 0 (ty .mark) (omega (arith, k .typed .mark))))
 
-    pub fits-objects : (un : t .mark ≤ 0) {r : Bool} → r ≡ leb (sizes (joinSnapshots (typeView ty) (x un) (y un) .cells)) 256 → r ≡ asked
-    fits-objects un r =
-        r
-        ∙ sym (go-on
-        ∙ ap (λ (z : Bool). z || leb (objects (whole .snapshots)) 256) (unversioned un)
-        ∙ ap (λ (z : ℕ). leb z 256) (whole-objects un))
+      pub fits-objects : (un : t .mark ≤ 0) {r : Bool} → r ≡ leb (sizes (joinSnapshots (typeView ty) (x un) (y un) .cells)) (limits .objects) →
+          r ≡ asked
+      fits-objects un r =
+          r
+          ∙ sym (go-on
+          ∙ ap (λ (z : Bool). z || leb (objects (whole .snapshots)) (limits .objects)) (unversioned un)
+          ∙ ap (λ (z : ℕ). leb z (limits .objects)) (whole-objects un))
 
 -- ---- and both are read
 
@@ -253,12 +262,12 @@ module _
   pub versions-counted : {n : ℕ} → CountsVersions d e n → n ≡ length (combined (c .known .left) (c .known .right) .snapshots)
   versions-counted says = says left-rises right-rises ∙ whole-versions
 
-  module _ (go-on : ToVersions (c .known)) {n : ℕ} (says : CountsVersions d e n) where
-    pub versions-over : 8 < n → false ≡ fits standard (typeView (c .known .left .type)) (combined (c .known .left) (c .known .right))
-    versions-over = fits-versions (c .known) go-on (versions-counted says)
+  module _ (limits : Limits) (go-on : ToVersions (c .known) limits) {n : ℕ} (says : CountsVersions d e n) where
+    pub versions-over : limits .versions < n → false ≡ fits limits (typeView (c .known .left .type)) (combined (c .known .left) (c .known .right))
+    versions-over = fits-versions (c .known) limits go-on (versions-counted says)
 
-    pub versions-few : n ≤ 8 → ToObjects (c .known)
-    versions-few = to-objects (c .known) go-on (versions-counted says)
+    pub versions-few : n ≤ limits .versions → ToObjects (c .known) limits
+    versions-few = to-objects (c .known) limits go-on (versions-counted says)
 
   -- two first snapshots of an unversioned type, which `objects_fit` is asked of
   module _ (un : t .mark ≤ 0) where
@@ -272,13 +281,13 @@ module _
     first-meet = meet c 0 0 (omega (arith, left-one (c .known) un)) (omega (arith, right-one (c .known) un)) (same-version (c .known) un)
 
     pub firsts-counted :
-        {r : Bool} →
+        (most : ℕ) {r : Bool} →
         ((u : List ℕ) (tz : EventType) (g h : Snapshot) → PropertiesAre u (tz .properties) (t .count) ps → isVersioned tz ≡ false → Meet tz g h →
         getD (d .objects) 0 0 ≡ sizes (g .cells) → getD (e .objects) 0 0 ≡ sizes (h .cells) →
         SetsAre a (map held (g .cells)) (rowOf left 0) → SetsAre b (map held (h .cells)) (rowOf right 0) →
-        r ≡ leb (sizes (joinSnapshots (typeView tz) g h .cells)) 256) →
-        r ≡ leb (sizes (joinSnapshots (typeView (c .known .left .type)) left-first right-first .cells)) 256
-    firsts-counted says =
+        r ≡ leb (sizes (joinSnapshots (typeView tz) g h .cells)) most) →
+        r ≡ leb (sizes (joinSnapshots (typeView (c .known .left .type)) left-first right-first .cells)) most
+    firsts-counted most says =
         let v = snapshot-stands a (c .known .left .headed) d (c .left-read) left (c .left-rows) 0 (omega (arith, c .left-read .one)) in
         let w = snapshot-stands b (c .known .right .headed) e (c .right-read) right (c .right-rows) 0 (omega (arith, c .right-read .one)) in
         says table (c .known .left .type) left-first right-first (c .known .typed .are) (unversioned (c .known) un) first-meet

@@ -545,7 +545,7 @@ module _ {table a b : List ℕ} {count : ℕ} {ps i j : List ℕ} {ty : EventTyp
 
   joined-version : joinSnapshots (typeView ty) x y .version ≡ 0
   unfolding joinSnapshots
-  joined-version = version-none ty x (f .left-fits) (h .unversioned)
+  joined-version = version-none (f .limits) ty x (f .left-fits) (h .unversioned)
 
   -- `joined_places` answers `present`
   module _ {present : List Bool} (says : NoObjectsFrom count i j → PresentAre i j present) where

@@ -7,6 +7,7 @@ use lib.ListN.{length, getD}
 use Rattle.model.specs.Order.{numbers}
 use Rattle.model.specs.Keyed.{Rising}
 use Rattle.model.specs.Rule.{Snapshot}
+use Rattle.model.specs.Limits.{Limits}
 use Rattle.model.proofs.KeyedLaws.{rising-keys}
 use Rattle.model.proofs.SetLaws.{rising-ups}
 use Rattle.packed.specs.Parse.{got}
@@ -27,16 +28,17 @@ abbrev pub versionIn : Snapshot → ℕ
 versionIn s = s .version
 
 -- the versions of the snapshots rise
-pub taken-rises : {types : Table} {s : List ℕ} {a : TypedDossier} → DossierTaken types s a → Rising numbers versionIn (a .headed .snapshots)
-taken-rises {types} {s} {a} w =
+pub taken-rises :
+    {limits : Limits} {types : Table} {s : List ℕ} {a : TypedDossier} → DossierTaken limits types s a → Rising numbers versionIn (a .headed .snapshots)
+taken-rises {limits} {types} {s} {a} w =
     let ss = a .headed .snapshots in rising-keys numbers versionIn ss .1 (rising-ups numbers (map versionIn ss) .0 (taken-written w .body .rises))
 
 module _ {table a b : List ℕ} {t : TypeIndex} {ps : List ℕ} (k : Known table a b t ps) where
-  pub left-taken : DossierTaken (k .types) a (k .left)
-  left-taken = dossier-taken (k .types) a (k .left) (k .left-asked)
+  pub left-taken : DossierTaken (k .limits) (k .types) a (k .left)
+  left-taken = dossier-taken (k .limits) (k .types) a (k .left) (k .left-asked)
 
-  pub right-taken : DossierTaken (k .types) b (k .right)
-  right-taken = dossier-taken (k .types) b (k .right) (k .right-asked)
+  pub right-taken : DossierTaken (k .limits) (k .types) b (k .right)
+  right-taken = dossier-taken (k .limits) (k .types) b (k .right) (k .right-asked)
 
   -- the types have one name, and so they are one
   pub same-type : k .left .type ≡ k .right .type
@@ -64,8 +66,9 @@ module _
       let right = right-taken k in
       let one-type = sym (same-type k) in
       record {
+        limits = k .limits;
         left-fits = taken-fits left i l;
-        right-fits = subst (λ (t : EventType). snapshotFits t rightOne ≡ true) one-type (taken-fits right j m);
+        right-fits = subst (λ (t : EventType). snapshotFits (k .limits) t rightOne ≡ true) one-type (taken-fits right j m);
         left-values = taken-values left i l;
         right-values = subst (λ (t : EventType). snapshotValues t rightOne ≡ true) one-type (taken-values right j m);
         same = h;

@@ -15,7 +15,6 @@ use Rattle.model.specs.Sets.{union}
 use Rattle.model.specs.Rule.{Snapshot, joinSnapshots, combine}
 use Rattle.model.proofs.OrderLaws.{less-of, less-cmp, less-turn, more-turn, equal-true}
 use Rattle.model.proofs.KeyedLaws.{merge-left, merge-right, merge-meet, merge-nil, above-trans}
-use Rattle.model.specs.Limits.{fits, standard}
 use Rattle.model.specs.Opening.{held}
 use Rattle.packed.specs.Packed.{number, part}
 use Rattle.packed.specs.code.Written.{Wrote, ToGo}
@@ -41,7 +40,7 @@ use Rattle.dossier.proofs.VersionLaws.{cells-are}
 use Rattle.dossier.specs.DossierHead.{dossierHeadBytes}
 use Rattle.combining.proofs.RoomLaws.{combined-parents}
 use Rattle.combining.specs.CombineCall.{headedAs, combined}
-use Rattle.combining.specs.code.CombineIndex.{Known, Combinable, Meet, Shared, AgreedRoom, JoinedRoom}
+use Rattle.combining.specs.code.CombineIndex.{Known, Combinable, Inside, Meet, Shared, AgreedRoom, JoinedRoom}
 use Rattle.combining.specs.code.WriteIndex.{SharedRoom, bytesFrom, HeadsAre, bothHeads, HeadsRoom, SnapshotsRoom, CombinedRoom}
 use Rattle.combining.proofs.MeetLaws.{versionIn, taken-rises, left-taken, right-taken, meet}
 use Rattle.combining.proofs.CountLaws.{versionAt, version-at}
@@ -296,7 +295,7 @@ merge-at ty xs ys i j l m hx hy =
 
 pub known-heads :
     {table a b : List ℕ} {t : TypeIndex} {ps : List ℕ} (k : Known table a b t ps) →
-    fits standard (typeView (k .left .type)) (combined (k .left) (k .right)) ≡ true → {r s : List ℕ} {x y : HeadAt} →
+    Inside (k .left .type) (combined (k .left) (k .right)) → {r s : List ℕ} {x y : HeadAt} →
     HeadIs r (k .left .headed .head) x → HeadIs s (k .right .headed .head) y → HeadsAre r x s y (k .left .headed .head) (k .right .headed .head)
 unfolding combined combine
 known-heads k inside p q =
@@ -467,7 +466,7 @@ module _
   rightHead = c .known .right .headed .head
 
   heads-are :
-      fits standard (typeView (c .known .left .type)) (combined (c .known .left) (c .known .right)) ≡ true →
+      Inside (c .known .left .type) (combined (c .known .left) (c .known .right)) →
       HeadsAre a (d .head) b (e .head) leftHead rightHead
   heads-are inside = known-heads (c .known) inside (c .left-read .head) (c .right-read .head)
 

@@ -15,6 +15,7 @@ use Rattle.model.proofs.Cases.{three, truth, never, and-parts}
 use Rattle.model.specs.Keyed.{put, merge}
 use Rattle.model.specs.Sets.{itself, first, union}
 use Rattle.model.specs.Rule.{Cell, holds, differs, Choice, every, least, TypeView, places, Snapshot, joinCell, joinCells, joinSnapshots, size, sizes}
+use Rattle.model.specs.Limits.{Limits}
 use Rattle.model.specs.Opening.{cellAt, isMark, held}
 use Rattle.model.proofs.StepLaws.{join-at}
 use Rattle.model.proofs.SizeLaws.{held-size}
@@ -158,11 +159,11 @@ cells-few t (p ∷ ps) [] ds = omega arith
 cells-few t (p ∷ ps) (c ∷ cs) [] = omega arith
 cells-few t (p ∷ ps) (c ∷ cs) (d ∷ ds) = omega (arith, cell-few (t .versioned) (t .choice p) c d, cells-few t ps cs ds)
 
-pub objects-few : (t : TypeView) (x y : Snapshot) (m n : ℕ) → m ≡ sizes (x .cells) → n ≡ sizes (y .cells) → m + n ≤ 256 →
-    true ≡ leb (sizes (joinSnapshots t x y .cells)) 256
+pub objects-few : (t : TypeView) (x y : Snapshot) (m n most : ℕ) → m ≡ sizes (x .cells) → n ≡ sizes (y .cells) → m + n ≤ most →
+    true ≡ leb (sizes (joinSnapshots t x y .cells)) most
 unfolding joinSnapshots
-objects-few t x y m n p q h =
-    sym (le-leb (sizes (joinCells t (places t) (x .cells) (y .cells))) 256 (omega (arith, cells-few t (places t) (x .cells) (y .cells))))
+objects-few t x y m n most p q h =
+    sym (le-leb (sizes (joinCells t (places t) (x .cells) (y .cells))) most (omega (arith, cells-few t (places t) (x .cells) (y .cells))))
 
 -- ---- the cells of an unversioned snapshot of which question 5 is answered yes
 
@@ -194,12 +195,14 @@ place-says (some q) c h =
     let d = and-parts (not (isMark c)) (isLoneIfExtreme q c) b in
     (d .0, lone-so (isMin q || isMax q) (length (held c)) (d .1))
 
-module _ (ty : EventType) (x : Snapshot) (w : SnapshotWritten x) (un : isVersioned ty ≡ false) (fits : snapshotFits ty x ≡ true) (k : ℕ) where
+module _
+    (limits : Limits) (ty : EventType) (x : Snapshot) (w : SnapshotWritten x) (un : isVersioned ty ≡ false) (fits : snapshotFits limits ty x ≡ true)
+    (k : ℕ) where
   abbrev cell : Cell
   cell = getD (x .cells) k (holds [])
 
   fits-here : placeFits false (getElem? (ty .properties) k) cell ≡ true
-  fits-here = subst (λ (f : Bool). placeFits f (getElem? (ty .properties) k) cell ≡ true) un (place-fits ty x fits k)
+  fits-here = subst (λ (f : Bool). placeFits f (getElem? (ty .properties) k) cell ≡ true) un (place-fits limits ty x fits k)
 
   pub plain-cell : PlainCell ty k cell
   unfolding isExtremeAt
@@ -252,10 +255,10 @@ module _ {table a b : List ℕ} {count : ℕ} {ps i j : List ℕ} {ty : EventTyp
   right-written = snapshot-was (h .meet .right-bytes) y (h .meet .right-rest) (h .meet .right-read) .1
 
   pub left-cell : (k : ℕ) → PlainCell ty k (getD (x .cells) k (holds []))
-  left-cell = plain-cell ty x left-written (h .unversioned) (h .meet .fitting .left-fits)
+  left-cell = plain-cell (h .meet .fitting .limits) ty x left-written (h .unversioned) (h .meet .fitting .left-fits)
 
   pub right-cell : (k : ℕ) → PlainCell ty k (getD (y .cells) k (holds []))
-  right-cell = plain-cell ty y right-written (h .unversioned) (h .meet .fitting .right-fits)
+  right-cell = plain-cell (h .meet .fitting .limits) ty y right-written (h .unversioned) (h .meet .fitting .right-fits)
 
   abbrev joined : List Cell
   joined = joinSnapshots (typeView ty) x y .cells

@@ -15,6 +15,7 @@ use Rattle.model.specs.Order.{sets}
 use Rattle.model.specs.Keyed.{merge}
 use Rattle.model.specs.Sets.{union, upTo}
 use Rattle.model.specs.Rule.{Choice, every, least, Cell, holds, differs, joinCell, places, Snapshot, joinSnapshots}
+use Rattle.model.specs.Limits.{Limits}
 use Rattle.model.specs.Opening.{held, isMark, cellAt}
 use Rattle.model.proofs.Cases.{never, and-parts}
 use Rattle.model.proofs.OrderLaws.{equal-true}
@@ -47,12 +48,12 @@ fits-at f (q ∷ ps) [] h (suc p) = fits-at f ps [] (and-parts (cellFits f q (ho
 fits-at f (q ∷ ps) (c ∷ cs) h zero = and-parts (cellFits f q c) _ h .0
 fits-at f (q ∷ ps) (c ∷ cs) h (suc p) = fits-at f ps cs (and-parts (cellFits f q c) _ h .1) p
 
-module _ (ty : EventType) (x : Snapshot) (f : snapshotFits ty x ≡ true) where
-  fits-parts : (eachCell (cellFits (isVersioned ty)) isVacant (ty .properties) (x .cells) ≡ true) × (versionFits ty x ≡ true)
+module _ (limits : Limits) (ty : EventType) (x : Snapshot) (f : snapshotFits limits ty x ≡ true) where
+  fits-parts : (eachCell (cellFits (isVersioned ty)) isVacant (ty .properties) (x .cells) ≡ true) × (versionFits limits ty x ≡ true)
   unfolding snapshotFits
   fits-parts =
       let cells = eachCell (cellFits (isVersioned ty)) isVacant (ty .properties) (x .cells) in
-      let (a, b) = and-parts (cells && leb (matchCount (ty .properties) (map held (x .cells))) 32) (versionFits ty x) f in
+      let (a, b) = and-parts (cells && leb (matchCount (ty .properties) (map held (x .cells))) 32) (versionFits limits ty x) f in
       (and-parts cells _ a .0, b)
 
   -- an unversioned one has version 0
@@ -72,21 +73,22 @@ vacant-cell (holds (v ∷ vs)) h = absurd (omega (arith, eqb-true (suc (length v
 vacant-cell differs h = never (cc)
 
 fits-vacant :
-    (ty : EventType) (x : Snapshot) → snapshotFits ty x ≡ true → {count : ℕ} → count ≡ length (ty .properties) → VacantFrom count (x .cells)
+    (limits : Limits) (ty : EventType) (x : Snapshot) → snapshotFits limits ty x ≡ true → {count : ℕ} → count ≡ length (ty .properties) →
+    VacantFrom count (x .cells)
 unfolding placeFits
-fits-vacant ty x f e = record {
+fits-vacant limits ty x f e = record {
   each = λ p h.
       let c = getD (x .cells) p (holds []) in
       let none-here = no-element (ty .properties) p (omega (arith, e)) in
-      vacant-cell c (subst (λ (o : Option Property). placeFits (isVersioned ty) o c ≡ true) none-here (place-fits ty x f p));
+      vacant-cell c (subst (λ (o : Option Property). placeFits (isVersioned ty) o c ≡ true) none-here (place-fits limits ty x f p));
 }
 
 module _ {ty : EventType} {x y : Snapshot} (f : Fitting ty x y) {count : ℕ} (e : count ≡ length (ty .properties)) where
   pub left-vacant : VacantFrom count (x .cells)
-  left-vacant = fits-vacant ty x (f .left-fits) e
+  left-vacant = fits-vacant (f .limits) ty x (f .left-fits) e
 
   pub right-vacant : VacantFrom count (y .cells)
-  right-vacant = fits-vacant ty y (f .right-fits) e
+  right-vacant = fits-vacant (f .limits) ty y (f .right-fits) e
 
 -- two vacant cells together are vacant
 vacant-joined : (v : Bool) (ch : Choice) → joinCell v ch (holds []) (holds []) ≡ holds []

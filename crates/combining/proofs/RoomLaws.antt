@@ -11,7 +11,7 @@ use Rattle.model.specs.Keyed.{put, merge}
 use Rattle.model.specs.Sets.{Within, union}
 use Rattle.model.specs.Rule.{Cell, holds, differs, Choice, every, least, TypeView, places, Snapshot, joinCell, joinCells, joinSnapshots, combine, size, sizes}
 use Rattle.model.specs.Rule.{objects}
-use Rattle.model.specs.Limits.{standard, fits}
+use Rattle.model.specs.Limits.{Limits}
 use Rattle.model.specs.Opening.{held}
 use Rattle.model.proofs.Cases.{three, truth}
 use Rattle.model.proofs.SetLaws.{rising-ups, ups-union, union-of}
@@ -36,7 +36,7 @@ use Rattle.dossier.proofs.DossierQuestionLaws.{agree-exact}
 use Rattle.dossier.proofs.AcceptedLaws.{DossierTaken, one-type, taken-written, taken-name, taken-short, taken-sizes}
 use Rattle.dossier.proofs.DossierHeadLaws.{dossier-head-size}
 use Rattle.combining.specs.CombineCall.{headedAs, combined}
-use Rattle.combining.specs.code.CombineIndex.{Known}
+use Rattle.combining.specs.code.CombineIndex.{Known, Inside}
 use Rattle.combining.proofs.MeetLaws.{left-taken, right-taken}
 
 -- ---- sets with values of at most 120 bytes
@@ -153,8 +153,9 @@ snapshots-size versioned (z ∷ ss) h n =
 abbrev SmallIn : EventType → Snapshot → Type 0
 SmallIn t z = Small (isVersioned t) (z .cells)
 
-taken-small : {types : Table} {s : List ℕ} {a : TypedDossier} → DossierTaken types s a → All (SmallIn (a .type)) (a .headed .snapshots)
-taken-small {types} {s} {a} w =
+taken-small :
+    {limits : Limits} {types : Table} {s : List ℕ} {a : TypedDossier} → DossierTaken limits types s a → All (SmallIn (a .type)) (a .headed .snapshots)
+taken-small {limits} {types} {s} {a} w =
     let ss = a .headed .snapshots in
     member-all (SmallIn (a .type)) ss λ z i. record {
       few = omega (arith, snapshot-cells z (all-member SnapshotWritten ss (taken-written w .body .snapshots) z i));
@@ -163,8 +164,8 @@ taken-small {types} {s} {a} w =
     }
 
 module _
-    (table r s : List ℕ) (types : Table) (a b : TypedDossier) (t : tableOf table ≡ some types) (x : DossierTaken types r a) (y : DossierTaken types s b)
-    (agree : dossiersAgree a b ≡ true) (f : fits standard (typeView (a .type)) (combined a b) ≡ true) where
+    {limits : Limits} (table r s : List ℕ) (types : Table) (a b : TypedDossier) (t : tableOf table ≡ some types)
+    (x : DossierTaken limits types r a) (y : DossierTaken limits types s b) (agree : dossiersAgree a b ≡ true) (f : Inside (a .type) (combined a b)) where
   same-type : a .type ≡ b .type
   unfolding dossiersAgree
   same-type = one-type x y (agree-exact _ _ _ _ _ _ .0 agree .0)
@@ -178,14 +179,15 @@ module _
       (subst (λ (u : EventType). All (SmallIn u) (b .headed .snapshots)) (sym same-type) (taken-small y))
 
   pub parents-written : ParentsWritten 32 (combined a b .parents)
-  unfolding combined combine standard
+  unfolding combined combine
   parents-written =
       let ps = a .headed .head .parents in
       let qs = b .headed .head .parents in
       let p = taken-written x .head .parents in
       let q = taken-written y .head .parents in
       let hash : Text → Type 0 = λ h. length h ≡ 20 in
-      let within = fits-bounds standard (typeView (a .type)) (combined a b) f .0 in record {
+      let within : length (union texts ps qs) ≤ 32 =
+      omega (arith, fits-bounds (f .limits) (typeView (a .type)) (combined a b) (f .is) .0, f .permitted .few-parents) in record {
         within = within;
         few = omega (arith, within);
         each = all-within hash (union texts ps qs) (ps ++ qs) (union-of texts ps qs) (all-append hash ps qs (p .each) (q .each));
@@ -194,13 +196,15 @@ module _
 
   -- 827 + 10 + 8 * 94 + 256 * 121 = 32,565
   pub combined-short : length (dossierBytes (headedAs (a .headed) (combined a b))) ≤ dossierCapacity
-  unfolding dossierBytes bodyBytes standard typeView eventView
+  unfolding dossierBytes bodyBytes typeView eventView
   combined-short =
       let ss = combined a b .snapshots in
-      let (parents, versions, unversioned) = fits-bounds standard (typeView (a .type)) (combined a b) f in
+      let (parents, versions, unversioned) = fits-bounds (f .limits) (typeView (a .type)) (combined a b) (f .is) in
+      let few : length ss ≤ 8 = omega (arith, versions, f .permitted .few-versions) in
       let each : isVersioned (a .type) ≡ true → All (λ (z : Snapshot). sizes (z .cells) ≤ 32) ss =
       λ v. member-all (λ (z : Snapshot). sizes (z .cells) ≤ 32) ss (λ z i. all-member (SmallIn (a .type)) ss together-small z i .objects v) in
-      let most : objects ss ≤ 256 = truth (isVersioned (a .type)) (λ v. versioned-objects ss (each v) versions) unversioned in
+      let most : objects ss ≤ 256 = truth (isVersioned (a .type)) (λ v. versioned-objects ss (each v) few)
+      (λ u. omega (arith, unversioned u, f .permitted .few-objects)) in
       let head = taken-written x .head in
       simp length-append
       (omega (
@@ -214,7 +218,7 @@ module _
 -- the same of two dossiers of which questions 2 to 7 are answered yes
 module _
     {table a b : List ℕ} {t : TypeIndex} {ps : List ℕ} (k : Known table a b t ps)
-    (f : fits standard (typeView (k .left .type)) (combined (k .left) (k .right)) ≡ true) where
+    (f : Inside (k .left .type) (combined (k .left) (k .right))) where
   pub combined-room : length (dossierBytes (headedAs (k .left .headed) (combined (k .left) (k .right)))) ≤ dossierCapacity
   combined-room = combined-short table a b (k .types) (k .left) (k .right) (k .is) (left-taken k) (right-taken k) (k .agree) f
 

@@ -9,6 +9,7 @@ use Rattle.model.specs.Order.{Order, Text, texts, sets}
 use Rattle.model.specs.Keyed.{merge}
 use Rattle.model.specs.Sets.{itself, first, Ups, union, upTo}
 use Rattle.model.specs.Rule.{Choice, Cell, holds, differs, joinCell, places, Snapshot, joinSnapshots}
+use Rattle.model.specs.Limits.{Limits}
 use Rattle.model.specs.Opening.{held, cellAt}
 use Rattle.model.proofs.Cases.{truth}
 use Rattle.model.proofs.OrderLaws.{equal-true}
@@ -66,14 +67,14 @@ module _ (ty : EventType) (k : ℕ) where
 
 -- ---- a snapshot
 
-module _ (ty : EventType) (x : Snapshot) (w : SnapshotWritten x) (fits : snapshotFits ty x ≡ true) where
+module _ (limits : Limits) (ty : EventType) (x : Snapshot) (w : SnapshotWritten x) (fits : snapshotFits limits ty x ≡ true) where
   cell-self : (k : ℕ) → joinCell (isVersioned ty) (typeView ty .choice k) (cellAt x k) (cellAt x k) ≡ cellAt x k
   unfolding cellAt
   cell-self k =
       let c = getD (x .cells) k (holds []) in
       truth (isVersioned ty)
       (λ v. ap (λ (b : Bool). joinCell b (typeView ty .choice k) c c) v ∙ agreed-self (typeView ty .choice k) c)
-      (λ u. ap (λ (b : Bool). joinCell b (typeView ty .choice k) c c) u ∙ joined-self ty k c (plain-cell ty x w u fits k))
+      (λ u. ap (λ (b : Bool). joinCell b (typeView ty .choice k) c c) u ∙ joined-self ty k c (plain-cell limits ty x w u fits k))
 
   cells-self : joinSnapshots (typeView ty) x x .cells ≡ x .cells
   unfolding typeView eventView places cellAt
@@ -103,4 +104,4 @@ module _ {ty : EventType} {x y : Snapshot} (m : Meet ty x y) where
       cc
 
   pub same-joined : snapshotBytes x ≡ snapshotBytes y → joinSnapshots (typeView ty) x y ≡ x
-  same-joined e = ap (joinSnapshots (typeView ty) x) (sym (one-snapshot e)) ∙ snapshot-self ty x left-written (m .fitting .left-fits)
+  same-joined e = ap (joinSnapshots (typeView ty) x) (sym (one-snapshot e)) ∙ snapshot-self (m .fitting .limits) ty x left-written (m .fitting .left-fits)

@@ -1,4 +1,4 @@
--- Document 01: the call combine. "Combining gives the rule over both sides together".
+-- Document 01: the call combine. "Combining gives the rule over both sides together". Document 02, Q-13: the limits are a parameter of it.
 use Prim.Native.Nat.{ℕ}
 use mathlib.Core.List.{List}
 use lib.ListN.{length}
@@ -6,6 +6,7 @@ use Rattle.model.specs.Rule.{Dossier, combine}
 use Rattle.model.specs.Limits.{Limits, fits}
 use Rattle.replies.specs.Questions.{Asked, accepted, _>>=_, _>>_, ask, ensure}
 use Rattle.replies.specs.Capacities.{dossierCapacity, hasRoom}
+use Rattle.replies.specs.ChosenLimits.{inRange}
 use Rattle.replies.specs.Answers.{Answer, answer, Outcome, outcome}
 use Rattle.ontology.specs.TableLayout.{tableOf}
 use Rattle.event.specs.Event.{typeView}
@@ -19,9 +20,10 @@ headedAs h d = headed (h .head .type) (h .head .source) d
 unfoldable pub combined : TypedDossier → TypedDossier → Dossier
 combined a b = combine (typeView (a .type)) (modelOf (a .headed)) (modelOf (b .headed))
 
--- "The first input is asked 3 to 6, then the second."
+-- "18 for a parameter outside its range, before everything else"; "The first input is asked 3 to 6, then the second."
 unfoldable pub combineAsked : Limits → ℕ → List ℕ → List ℕ → List ℕ → Asked (List ℕ)
 combineAsked limits room table left right = do
+  inRange limits
   hasRoom dossierCapacity room
   ts ← ask 2 (tableOf table)
   a ← dossierAsked limits ts left

@@ -6,11 +6,12 @@ ghost use mathlib.Core.List.{List, map};
 ghost use lib.ListN.{length, drop};
 ghost use lib.Dec.{leb};
 ghost use Rattle.model.specs.Rule.{Snapshot, joinSnapshots, sizes};
-ghost use Rattle.model.specs.Limits.{standard, fits};
+ghost use Rattle.model.specs.Limits.{fits};
 ghost use Rattle.model.specs.Opening.{held};
 ghost use Rattle.packed.specs.Parse.{fail, got};
 ghost use Rattle.packed.specs.code.Written.{Wrote};
 ghost use Rattle.replies.specs.Capacities.{dossierCapacity};
+ghost use Rattle.replies.specs.ChosenLimits.{limitsOf};
 ghost use Rattle.replies.specs.Replies.{replies};
 ghost use Rattle.replies.specs.declared.reply.Reply.the-variants.{Done};
 ghost use Rattle.ontology.specs.Table.{EventType, isVersioned};
@@ -21,8 +22,8 @@ ghost use Rattle.event.specs.declared.head.HeadAt.{HeadAt};
 ghost use Rattle.dossier.specs.DossierBody.{readSnapshot, snapshotBytes};
 ghost use Rattle.combining.specs.CombineCall.{combined, combineCall};
 ghost use Rattle.combining.specs.code.CombineIndex.{Meet};
-ghost use Rattle.combining.specs.code.AddIndex.{bytesOf, Measured, Addable, Adding, AddingIn, Met, MetRoom, newSnapshot, NewRoom, WithRoom};
-ghost use Rattle.combining.specs.code.AddIndex.{Inside, addedBytes, AddedRoom};
+ghost use Rattle.combining.specs.code.AddIndex.{bytesOf, Measured, AddableUnder, Adding, AddingIn, Met, MetRoom, newSnapshot, NewRoom, WithRoom};
+ghost use Rattle.combining.specs.code.AddIndex.{AddedInside, addedBytes, AddedRoom};
 use crate::agreed::write_agreed;
 use crate::check::version_of;
 use crate::check::write_alone;
@@ -48,6 +49,7 @@ use packed::read::part_of;
 use packed::write::copy;
 use packed::write::copy_part;
 use packed::write::write_number;
+use replies::limits::Limits;
 use replies::reply::Reply;
 use values::versions::EventVersion;
 
@@ -64,6 +66,7 @@ fn objects_added(
     event: &[u8],
     e: EventIndex,
     sets: &[usize],
+    most: usize,
     t: TypeIndex,
     properties: &[usize],
 ) -> bool
@@ -73,7 +76,7 @@ fn objects_added(
         → PropertiesAre u (ty .properties) (t .count) (now (properties .entry)) → isVersioned ty ≡ false → Meet ty left right
         → readSnapshot (drop at (now (sofar .entry))) ≡ got left rest → e .objects ≡ sizes (right .cells)
         → SetsAre (now (event .entry)) (map held (right .cells)) (now (sets .entry))
-        → r ≡ leb (sizes (joinSnapshots (typeView ty) left right .cells)) 256) ⌝ }
+        → r ≡ leb (sizes (joinSnapshots (typeView ty) left right .cells)) most) ⌝ }
 {
     let mut row = [0usize; 96];
     let SnapshotRead::Found(x, _) = read_snapshot(sofar, at, true, &mut row) else {
@@ -86,6 +89,7 @@ fn objects_added(
         event,
         sets,
         e.objects,
+        most,
         t.count,
         properties,
     )
@@ -93,6 +97,7 @@ fn objects_added(
 
 // Question 8 of a dossier and an event.
 fn added_fits(
+    limits: Limits,
     sofar: &[u8],
     x: HeadAt,
     body: usize,
@@ -108,19 +113,20 @@ fn added_fits(
     requires { ⌜ AddingIn (now sofar) (now measures) (now event) e (now sets) x body p t (now properties) ⌝ }
     ensures { λ r. ⌜ ((table : List ℕ)
         (h : Adding table (now (sofar .entry)) (now (measures .entry)) (now (event .entry)) e (now (sets .entry)) x body p t (now (properties .entry)))
-        → r ≡ fits standard (typeView (h .added .both .left .type)) (combined (h .added .both .left) (h .added .both .right))) ⌝ }
+        → h .added .both .limits ≡ limitsOf limits → r ≡ fits (limitsOf limits) (typeView (h .added .both .left .type))
+        (combined (h .added .both .left) (h .added .both .right))) ⌝ }
 {
     let y = e.head;
-    if !parents_fit(sofar, x.parents, event, y.parents) {
+    if !parents_fit(sofar, x.parents, event, y.parents, limits.parents) {
         return false;
     }
     if !p.meets {
-        return measures[0] < 8;
+        return measures[0] < limits.versions;
     }
     if 0 < t.mark {
         return true;
     }
-    objects_added(sofar, body, event, e, sets, t, properties)
+    objects_added(sofar, body, event, e, sets, limits.objects, t, properties)
 }
 
 // Writes the event's snapshot together with the one of its version, which stands in `sofar` from `start` up to `end`. It is made apart first, since the two are
@@ -291,7 +297,7 @@ fn write_added<'a>(
         × AddedRoom (now sofar) (now measures) (now event) e (now sets) x body p version t (now properties) (length (now lone)) (length (now out)) ⌝ }
     ensures { λ r. ⌜ ((table : List ℕ)
         (h : Adding table (now (sofar .entry)) (now (measures .entry)) (now (event .entry)) e (now (sets .entry)) x body p t (now (properties .entry)))
-        → version .0 ≡ versionOf (h .added .new .event .type) (h .added .new .event .event) → Inside h
+        → version .0 ≡ versionOf (h .added .new .event .type) (h .added .new .event .event) → AddedInside h
         → Wrote (now (out .entry)) 0 (addedBytes h) (now (out .exit)) r) ⌝ }
     ensures measured { λ _. ⌜ ((table : List ℕ)
         (h : Adding table (now (sofar .entry)) (now (measures .entry)) (now (event .entry)) e (now (sets .entry)) x body p t (now (properties .entry)))
@@ -329,6 +335,7 @@ fn write_added<'a>(
 // An event that is known to be accepted, added to a dossier of which questions 2 to 7 are known to be answered yes, and which is known by its measures; they
 // are those of the new dossier then.
 pub fn add_event<'a>(
+    limits: Limits,
     table: &[u8],
     sofar: &'a [u8],
     measures: &mut [usize],
@@ -338,25 +345,39 @@ pub fn add_event<'a>(
     lone: &mut [u8],
     out: &mut [u8],
 ) -> Reply
-    requires { ⌜ Addable (now table) (now sofar) (now measures) (now event) t (now properties)
+    requires { ⌜ AddableUnder (limitsOf limits) (now table) (now sofar) (now measures) (now event) t (now properties)
         × (length (now properties) ≡ 96) × (length (now measures) ≡ 17) ⌝ }
     requires { ⌜ (dossierCapacity ≤ length (now lone)) × (dossierCapacity ≤ length (now out)) ⌝ }
-    ensures { λ r. ⌜ ((h : Addable (now (table .entry)) (now (sofar .entry)) (now (measures .entry)) (now (event .entry)) t (now (properties .entry)))
-        → replies r (now (out .exit)) ≡ combineCall standard (now (table .entry)) (now (sofar .entry)) (h .lone) (now (out .entry))) ⌝ }
+    ensures { λ r. ⌜
+        ((h : AddableUnder (limitsOf limits) (now (table .entry)) (now (sofar .entry)) (now (measures .entry)) (now (event .entry)) t (now (properties .entry)))
+        → replies r (now (out .exit))
+        ≡ combineCall (limitsOf limits) (now (table .entry)) (now (sofar .entry)) (h .added .lone) (now (out .entry))) ⌝ }
     ensures measured { λ r. ⌜
-        ((h : Addable (now (table .entry)) (now (sofar .entry)) (now (measures .entry)) (now (event .entry)) t (now (properties .entry)))
-        (n : ℕ) → r ≡ Done n → Measured (combined (h .both .left) (h .both .right) .snapshots) (now (measures .exit))) ⌝ }
+        ((h : AddableUnder (limitsOf limits) (now (table .entry)) (now (sofar .entry)) (now (measures .entry)) (now (event .entry)) t (now (properties .entry)))
+        (n : ℕ) → r ≡ Done n → Measured (combined (h .added .both .left) (h .added .both .right) .snapshots) (now (measures .exit))) ⌝ }
 {
     let mut sets = [0usize; 96];
     let e = read_event(event, EventCounts::Narrow, &mut sets);
     let version = version_of(event, t, &sets);
-    let DossierHeadRead::Head(x, after_head) = read_dossier_head(sofar) else {
+    let DossierHeadRead::Head(x, after_head) = read_dossier_head(sofar, limits) else {
         return Reply::Refused(3);
     };
     // the count of snapshots is one byte
     let body = after_head + 1;
     let p = place_of(sofar, measures, version);
-    if !added_fits(sofar, x, body, measures, p, event, e, &sets, t, properties) {
+    if !added_fits(
+        limits,
+        sofar,
+        x,
+        body,
+        measures,
+        p,
+        event,
+        e,
+        &sets,
+        t,
+        properties,
+    ) {
         return Reply::Refused(8);
     }
     Reply::Done(write_added(

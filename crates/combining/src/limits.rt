@@ -7,8 +7,9 @@ ghost use lib.ListN.{length, take};
 ghost use Rattle.model.specs.Order.{Text, texts, numbers, rising};
 ghost use Rattle.model.specs.Sets.{union};
 ghost use Rattle.model.specs.Rule.{holds, joinCell, Snapshot, joinSnapshots, sizes};
-ghost use Rattle.model.specs.Limits.{standard, fits};
+ghost use Rattle.model.specs.Limits.{fits};
 ghost use Rattle.model.specs.Opening.{held};
+ghost use Rattle.replies.specs.ChosenLimits.{limitsOf};
 ghost use Rattle.ontology.specs.Table.{EventType, isVersioned};
 ghost use Rattle.ontology.specs.code.TypeIndex.{PropertiesAre};
 ghost use Rattle.event.specs.Event.{typeView};
@@ -25,6 +26,7 @@ use event::sets::set_part;
 use ontology::properties::is_extreme;
 use ontology::properties::property_at;
 use ontology::types::TypeIndex;
+use replies::limits::Limits;
 use unions::pair::count_hash_union;
 use unions::pair::count_union;
 use values::versions::EventVersion;
@@ -91,8 +93,8 @@ fn count_place(
     count_union(set_part(a, x), set_part(b, y))
 }
 
-// Whether two unversioned snapshots of m and n objects have at most 256 when they are joined. They have no more than m and n together, so they are
-// counted only where that is above 256. A place past the type's properties has none.
+// Whether two unversioned snapshots of m and n objects have at most `most` when they are joined. They have no more than m and n together, so they are
+// counted only where that is above it. A place past the type's properties has none.
 pub fn objects_fit(
     a: &[u8],
     x: &[usize],
@@ -100,6 +102,7 @@ pub fn objects_fit(
     b: &[u8],
     y: &[usize],
     n: usize,
+    most: usize,
     count: usize,
     properties: &[usize],
 ) -> bool
@@ -108,12 +111,12 @@ pub fn objects_fit(
         → PropertiesAre u (ty .properties) count (now (properties .entry)) → isVersioned ty ≡ false → Meet ty left right
         → m ≡ sizes (left .cells) → n ≡ sizes (right .cells)
         → SetsAre (now (a .entry)) (map held (left .cells)) (now (x .entry)) → SetsAre (now (b .entry)) (map held (right .cells)) (now (y .entry))
-        → r ≡ leb (sizes (joinSnapshots (typeView ty) left right .cells)) 256) ⌝ }
+        → r ≡ leb (sizes (joinSnapshots (typeView ty) left right .cells)) most) ⌝ }
 {
-    if m <= 256 && n <= 256 - m {
+    if m <= most && n <= most - m {
         return true;
     }
-    let mut room: usize = 256;
+    let mut room = most;
     let mut k: usize = 0;
     while k < count {
         let here = count_place(count, properties, k, a, set_at(x, k), b, set_at(y, k));
@@ -126,19 +129,20 @@ pub fn objects_fit(
     true
 }
 
-// Whether two sides have at most 32 parents together. They are counted only where those of each, added up, are more.
-pub fn parents_fit(a: &[u8], x: SetAt, b: &[u8], y: SetAt) -> bool
+// Whether two sides have at most `most` parents together. They are counted only where those of each, added up, are more.
+pub fn parents_fit(a: &[u8], x: SetAt, b: &[u8], y: SetAt, most: usize) -> bool
     ensures { λ r. ⌜ ((gs hs : List Text) → HashesAre (now (a .entry)) gs x → HashesAre (now (b .entry)) hs y → Hashes gs → Hashes hs
-        → rising texts gs ≡ true → rising texts hs ≡ true → r ≡ leb (length (union texts gs hs)) 32) ⌝ }
+        → rising texts gs ≡ true → rising texts hs ≡ true → r ≡ leb (length (union texts gs hs)) most) ⌝ }
 {
-    if x.count <= 32 && y.count <= 32 - x.count {
+    if x.count <= most && y.count <= most - x.count {
         return true;
     }
-    count_hash_union(hashes_part(a, x), hashes_part(b, y)) <= 32
+    count_hash_union(hashes_part(a, x), hashes_part(b, y)) <= most
 }
 
-// Question 8: 32 parents, 8 versions, and 256 objects of an unversioned type.
+// Question 8: parents, versions, and objects of an unversioned type.
 pub fn limits_fit(
+    limits: Limits,
     a: &[u8],
     d: DossierIndex,
     left: &[usize],
@@ -152,16 +156,16 @@ pub fn limits_fit(
     requires { ⌜ (96 ≤ length (now left)) × (96 ≤ length (now right)) × (length (now properties) ≡ 96) ⌝ }
     ensures { λ r. ⌜ ((table : List ℕ)
         (h : Combinable table (now (a .entry)) d (now (left .entry)) (now (b .entry)) e (now (right .entry)) t (now (properties .entry)))
-        → r ≡ fits standard (typeView (h .known .left .type)) (combined (h .known .left) (h .known .right))) ⌝ }
+        → r ≡ fits (limitsOf limits) (typeView (h .known .left .type)) (combined (h .known .left) (h .known .right))) ⌝ }
 {
     let x = d.head;
     let y = e.head;
-    if !parents_fit(a, x.parents, b, y.parents) {
+    if !parents_fit(a, x.parents, b, y.parents, limits.parents) {
         return false;
     }
     let v = d.versions;
     let w = e.versions;
-    if 8 < count_versions(v, d.count, w, e.count) {
+    if limits.versions < count_versions(v, d.count, w, e.count) {
         return false;
     }
     if 0 < t.mark {
@@ -169,5 +173,15 @@ pub fn limits_fit(
     }
     let m = d.objects[0];
     let n = e.objects[0];
-    objects_fit(a, &left[0..96], m, b, &right[0..96], n, t.count, properties)
+    objects_fit(
+        a,
+        &left[0..96],
+        m,
+        b,
+        &right[0..96],
+        n,
+        limits.objects,
+        t.count,
+        properties,
+    )
 }

@@ -9,7 +9,7 @@ use lib.Dec.{eqb}
 use lib.ListN.{length, getD}
 use Rattle.model.specs.Order.{Text}
 use Rattle.model.specs.Rule.{Snapshot, sizes, objects}
-use Rattle.model.specs.Limits.{standard}
+use Rattle.model.specs.Limits.{Limits, Permitted}
 use Rattle.model.specs.Opening.{held}
 use Rattle.model.proofs.Cases.{and-parts, never}
 use Rattle.packed.proofs.LayoutLaws.{All}
@@ -29,78 +29,80 @@ use Rattle.dossier.proofs.DossierLayoutLaws.{DossierWritten, dossier-wa
 use Rattle.dossier.proofs.DossierSizeLaws.{snapshots-short, versioned-sizes, shape-parts, shape-objects}
 use Rattle.dossier.proofs.AskLaws.{allFit, alikeTo, fitsWith, shape-is}
 
-pub record DossierTaken (types : Table) (s : List ℕ) (a : TypedDossier) : Type 0 where
-  pub read : dossierOf standard s ≡ some (a .headed)
+pub record DossierTaken (limits : Limits) (types : Table) (s : List ℕ) (a : TypedDossier) : Type 0 where
+  pub read : dossierOf limits s ≡ some (a .headed)
   pub typed : typeNamed (a .headed .head .type) types ≡ some (a .type)
-  pub shape : dossierShape standard (a .type) (a .headed .snapshots) ≡ true
+  pub shape : dossierShape limits (a .type) (a .headed .snapshots) ≡ true
   pub values : eachSnapshot (snapshotValues (a .type)) (a .headed .snapshots) ≡ true
 
-pub dossier-taken : (types : Table) (s : List ℕ) (a : TypedDossier) → dossierAsked standard types s ≡ accepted a → DossierTaken types s a
+pub dossier-taken :
+    (limits : Limits) (types : Table) (s : List ℕ) (a : TypedDossier) → dossierAsked limits types s ≡ accepted a → DossierTaken limits types s a
 unfolding dossierAsked
-dossier-taken types s a h =
-    let (d, r, k) = asked-then (ask 3 (dossierOf standard s)) _ _ h in
+dossier-taken limits types s a h =
+    let (d, r, k) = asked-then (ask 3 (dossierOf limits s)) _ _ h in
     let (t, y, l) = asked-then (ask 4 (typeNamed (d .head .type) types)) _ _ k in
-    let (b, m) = ensured 5 (dossierShape standard t (d .snapshots)) _ _ l in
+    let (b, m) = ensured 5 (dossierShape limits t (d .snapshots)) _ _ l in
     let (c, n) = ensured 6 (eachSnapshot (snapshotValues t) (d .snapshots)) _ _ m in
-    subst (DossierTaken types s) (accepted-same (record { type = t; headed = d }) a n)
-    (record { read = ask-some 3 (dossierOf standard s) d r; typed = ask-some 4 (typeNamed (d .head .type) types) t y; shape = b; values = c })
+    subst (DossierTaken limits types s) (accepted-same (record { type = t; headed = d }) a n)
+    (record { read = ask-some 3 (dossierOf limits s) d r; typed = ask-some 4 (typeNamed (d .head .type) types) t y; shape = b; values = c })
 
 -- two dossiers whose types have one name have one type
 pub one-type :
-    {types : Table} {r s : List ℕ} {a b : TypedDossier} → DossierTaken types r a → DossierTaken types s b →
+    {limits : Limits} {types : Table} {r s : List ℕ} {a b : TypedDossier} → DossierTaken limits types r a → DossierTaken limits types s b →
     a .headed .head .type ≡ b .headed .head .type → a .type ≡ b .type
-one-type {types} {r} {s} {a} {b} x y e =
+one-type {limits} {types} {r} {s} {a} {b} x y e =
     let q : some (a .type) ≡ some (b .type) = sym (x .typed) ∙ ap (λ (n : Text). typeNamed n types) e ∙ y .typed in cc
 
 -- ---- what the caller of `ask_dossier` has
 
 -- questions 5 and 6
-abbrev later : Headed → EventType → Asked TypedDossier
-later h t =
-    ensure 5 (dossierShape standard t (h .snapshots))
+abbrev later : Limits → Headed → EventType → Asked TypedDossier
+later limits h t =
+    ensure 5 (dossierShape limits t (h .snapshots))
     >> (ensure 6 (eachSnapshot (snapshotValues t) (h .snapshots)) >> accepted (record { type = t; headed = h }))
 
 -- no question has the number 0
-asked-number : (types : Table) (s : List ℕ) → dossierAsked standard types s ≡ refused 0 → ⊥
+asked-number : (limits : Limits) (types : Table) (s : List ℕ) → dossierAsked limits types s ≡ refused 0 → ⊥
 unfolding dossierAsked
-asked-number types s e = at-layout (dossierOf standard s) e
+asked-number limits types s e = at-layout (dossierOf limits s) e
   where
     at-shape : (a : TypedDossier) (x y : Bool) → (ensure 5 x >> (ensure 6 y >> accepted a)) ≡ refused 0 → ⊥
     at-shape a false y e = never (cc)
     at-shape a true false e = never (cc)
     at-shape a true true e = never (cc)
 
-    at-type : (h : Headed) (o : Option EventType) → (ask 4 o >>= later h) ≡ refused 0 → ⊥
+    at-type : (h : Headed) (o : Option EventType) → (ask 4 o >>= later limits h) ≡ refused 0 → ⊥
     at-type h none e = never (cc)
     at-type h (some t) e =
-        at-shape (record { type = t; headed = h }) (dossierShape standard t (h .snapshots)) (eachSnapshot (snapshotValues t) (h .snapshots)) e
+        at-shape (record { type = t; headed = h }) (dossierShape limits t (h .snapshots)) (eachSnapshot (snapshotValues t) (h .snapshots)) e
 
-    at-layout : (o : Option Headed) → (ask 3 o >>= λ h. (ask 4 (typeNamed (h .head .type) types) >>= later h)) ≡ refused 0 → ⊥
+    at-layout : (o : Option Headed) → (ask 3 o >>= λ h. (ask 4 (typeNamed (h .head .type) types) >>= later limits h)) ≡ refused 0 → ⊥
     at-layout none e = never (cc)
     at-layout (some h) e = at-type h (typeNamed (h .head .type) types) e
 
 -- all are answered yes, and the indexes are of the dossier and its type
-pub record Answered (types : Table) (table s : List ℕ) (t : TypeIndex) (ps : List ℕ) : Type 0 where
+pub record Answered (limits : Limits) (types : Table) (table s : List ℕ) (t : TypeIndex) (ps : List ℕ) : Type 0 where
   pub what : TypedDossier
-  pub asked : dossierAsked standard types s ≡ accepted what
+  pub asked : dossierAsked limits types s ≡ accepted what
   pub typed : TypeIs table (what .type) t ps
 
 module _
-    (types : Table) (table s : List ℕ) (t : TypeIndex) (ps : List ℕ) (r : ℕ) (w : DossierAnswers (dossierAsked standard types s) table t ps r) where
-  pub asked-refused : (r ≡ 0 → ⊥) → dossierAsked standard types s ≡ refused r
+    (limits : Limits) (types : Table) (table s : List ℕ) (t : TypeIndex) (ps : List ℕ) (r : ℕ)
+    (w : DossierAnswers (dossierAsked limits types s) table t ps r) where
+  pub asked-refused : (r ≡ 0 → ⊥) → dossierAsked limits types s ≡ refused r
   unfolding DossierAnswers
-  asked-refused h = go (dossierAsked standard types s) w
+  asked-refused h = go (dossierAsked limits types s) w
     where
       go : (q : Asked TypedDossier) → DossierAnswers q table t ps r → q ≡ refused r
       go (refused n) w = ap refused (sym w)
       go (accepted a) w = absurd (h (w .0))
 
-  pub asked-accepted : r ≡ 0 → Answered types table s t ps
+  pub asked-accepted : r ≡ 0 → Answered limits types table s t ps
   unfolding DossierAnswers
-  asked-accepted h = go (dossierAsked standard types s) refl w
+  asked-accepted h = go (dossierAsked limits types s) refl w
     where
-      go : (q : Asked TypedDossier) → dossierAsked standard types s ≡ q → DossierAnswers q table t ps r → Answered types table s t ps
-      go (refused n) e w = absurd (asked-number types s (e ∙ ap refused (sym w ∙ h)))
+      go : (q : Asked TypedDossier) → dossierAsked limits types s ≡ q → DossierAnswers q table t ps r → Answered limits types table s t ps
+      go (refused n) e w = absurd (asked-number limits types s (e ∙ ap refused (sym w ∙ h)))
       go (accepted a) e w = record { what = a; asked = e; typed = w .1 }
 
 -- ---- one of its snapshots, and all of them
@@ -112,12 +114,12 @@ each-at f [] h i l = absurd (omega arith)
 each-at f (s ∷ ss) h zero l = and-parts (f s) (eachSnapshot f ss) h .0
 each-at f (s ∷ ss) h (suc i) l = each-at f ss (and-parts (f s) (eachSnapshot f ss) h .1) i (omega arith)
 
-module _ {types : Table} {s : List ℕ} {a : TypedDossier} (w : DossierTaken types s a) where
+module _ {limits : Limits} {types : Table} {s : List ℕ} {a : TypedDossier} (w : DossierTaken limits types s a) where
   abbrev snapshots : List Snapshot
   snapshots = a .headed .snapshots
 
-  pub taken-written : DossierWritten standard (a .headed)
-  taken-written = dossier-was standard s (a .headed) (w .read) .1
+  pub taken-written : DossierWritten limits (a .headed)
+  taken-written = dossier-was limits s (a .headed) (w .read) .1
 
   -- the type keeps the rules of its table
   pub taken-kept : (table : List ℕ) → tableOf table ≡ some types → TypeKept (a .type)
@@ -127,10 +129,10 @@ module _ {types : Table} {s : List ℕ} {a : TypedDossier} (w : DossierTaken typ
   taken-name table e = subst (λ (v : Text). length v ≤ 64) (named-at (a .headed .head .type) types (a .type) (w .typed) .2) (taken-kept table e .short)
 
   -- question 5, of how many there are and of each
-  shape-whole : ((isVersioned (a .type) || eqb (length snapshots) 1) ≡ true) × (allFit (a .type) snapshots snapshots ≡ true)
+  shape-whole : ((isVersioned (a .type) || eqb (length snapshots) 1) ≡ true) × (allFit limits (a .type) snapshots snapshots ≡ true)
   shape-whole =
-      and-parts (isVersioned (a .type) || eqb (length snapshots) 1) (allFit (a .type) snapshots snapshots)
-      (sym (shape-is (a .type) snapshots) ∙ w .shape)
+      and-parts (isVersioned (a .type) || eqb (length snapshots) 1) (allFit limits (a .type) snapshots snapshots)
+      (sym (shape-is limits (a .type) snapshots) ∙ w .shape)
 
   pub taken-lone : (isVersioned (a .type) || eqb (length snapshots) 1) ≡ true
   taken-lone = shape-whole .0
@@ -139,22 +141,21 @@ module _ {types : Table} {s : List ℕ} {a : TypedDossier} (w : DossierTaken typ
     abbrev one : Snapshot
     one = getD snapshots i noSnapshot
 
-    pub taken-fits : snapshotFits (a .type) one ≡ true
+    pub taken-fits : snapshotFits limits (a .type) one ≡ true
     taken-fits =
-        and-parts (snapshotFits (a .type) one) (alikeTo (a .type) (getD snapshots 0 noSnapshot) one)
-        (each-at (fitsWith (a .type) (getD snapshots 0 noSnapshot)) snapshots (shape-whole .1) i l) .0
+        and-parts (snapshotFits limits (a .type) one) (alikeTo (a .type) (getD snapshots 0 noSnapshot) one)
+        (each-at (fitsWith limits (a .type) (getD snapshots 0 noSnapshot)) snapshots (shape-whole .1) i l) .0
 
     pub taken-values : snapshotValues (a .type) one ≡ true
     taken-values = each-at (snapshotValues (a .type)) snapshots (w .values) i l
 
   -- ---- sizes
 
-  pub taken-objects : objects snapshots ≤ 256
-  unfolding standard
-  taken-objects = shape-objects (a .type) snapshots (w .shape) (taken-written .body .within)
+  pub taken-objects : Permitted limits → objects snapshots ≤ 256
+  taken-objects permitted = shape-objects permitted (a .type) snapshots (w .shape) (taken-written .body .within)
 
   pub taken-short : All (λ (z : Snapshot). ValuesShort (map held (z .cells))) snapshots
-  taken-short = snapshots-short (a .type) snapshots (shape-parts (a .type) snapshots (w .shape) .0) (w .values)
+  taken-short = snapshots-short (a .type) snapshots (shape-parts limits (a .type) snapshots (w .shape) .0) (w .values)
 
   pub taken-sizes : isVersioned (a .type) ≡ true → All (λ (z : Snapshot). sizes (z .cells) ≤ 32) snapshots
-  taken-sizes v = versioned-sizes (a .type) snapshots (rw v at (shape-parts (a .type) snapshots (w .shape) .1))
+  taken-sizes v = versioned-sizes (a .type) snapshots (rw v at (shape-parts limits (a .type) snapshots (w .shape) .1))

@@ -9,7 +9,7 @@ use lib.ListN.{length, getD}
 use Rattle.model.specs.Order.{texts, sets, lists, equal}
 use Rattle.model.proofs.OrderLaws.{equal-true}
 use Rattle.model.specs.Rule.{Snapshot}
-use Rattle.model.specs.Limits.{standard}
+use Rattle.model.specs.Limits.{Limits}
 use Rattle.model.proofs.Cases.{and-parts}
 use Rattle.replies.specs.Questions.{accepted, _>>_, ensure}
 use Rattle.ontology.specs.Table.{EventType, Table, typeNamed}
@@ -46,26 +46,27 @@ dossier-no (some h) s rows d w e = let z : _≡_ {A = ℕ} 0 1 = cc (w .0) in ab
 
 -- the dossier that was read stands as its index says
 pub reads-is :
-    (s rows : List ℕ) (d : DossierIndex) (h : Headed) → DossierReads (dossierOf standard s) s rows d → dossierOf standard s ≡ some h →
+    (limits : Limits) (s rows : List ℕ) (d : DossierIndex) (h : Headed) → DossierReads (dossierOf limits s) s rows d → dossierOf limits s ≡ some h →
     DossierIs s h d × RowsAre s (h .snapshots) rows
 unfolding DossierReads
-reads-is s rows d h w e = let r = subst (λ (o : Option Headed). DossierReads o s rows d) e w in (r .1, r .2)
+reads-is limits s rows d h w e = let r = subst (λ (o : Option Headed). DossierReads o s rows d) e w in (r .1, r .2)
 
 -- a dossier has 8 snapshots at most
 pub reads-few : (o : Option Headed) (s rows : List ℕ) (d : DossierIndex) → DossierReads o s rows d → d .ok ≡ true → d .count ≤ 8
 reads-few o s rows d w h = dossier-known o s rows d w h .stands .few
 
-module _ (table : List ℕ) (ts : Table) (s rows : List ℕ) (d : DossierIndex) (w : DossierReads (dossierOf standard s) s rows d) where
-  pub answer-layout : d .ok ≡ false → (k : TypeIndex) (ps : List ℕ) → DossierAnswers (dossierAsked standard ts s) table k ps 3
+module _
+    (limits : Limits) (table : List ℕ) (ts : Table) (s rows : List ℕ) (d : DossierIndex) (w : DossierReads (dossierOf limits s) s rows d) where
+  pub answer-layout : d .ok ≡ false → (k : TypeIndex) (ps : List ℕ) → DossierAnswers (dossierAsked limits ts s) table k ps 3
   unfolding dossierAsked DossierAnswers
-  answer-layout h k ps = let e : dossierOf standard s ≡ none = dossier-no (dossierOf standard s) s rows d w h in rw e refl
+  answer-layout h k ps = let e : dossierOf limits s ≡ none = dossier-no (dossierOf limits s) s rows d w h in rw e refl
 
   module _ (ok : d .ok ≡ true) where
-    it : Known (dossierOf standard s) s rows d
-    it = dossier-known (dossierOf standard s) s rows d w ok
+    it : Known (dossierOf limits s) s rows d
+    it = dossier-known (dossierOf limits s) s rows d w ok
 
     module _ (ps : List ℕ) (read : TableRead) (says : (h : Headed) → DossierIs s h d → TypeSays (typeNamed (h .head .type) ts) table ps read) where
-      pub answer-type : read .found ≡ false → (k : TypeIndex) → DossierAnswers (dossierAsked standard ts s) table k ps 4
+      pub answer-type : read .found ≡ false → (k : TypeIndex) → DossierAnswers (dossierAsked limits ts s) table k ps 4
       unfolding dossierAsked DossierAnswers
       answer-type h k =
           let absent = type-absent (typeNamed (it .what .head .type) ts) table ps read (says (it .what) (it .stands)) h in
@@ -77,12 +78,12 @@ module _ (table : List ℕ) (ts : Table) (s rows : List ℕ) (d : DossierIndex) 
         type = type-found (typeNamed (it .what .head .type) ts) table ps read (says (it .what) (it .stands)) f
 
         pub answer-rest :
-            (n : ℕ) → Each s d rows (read .index) ps (λ ty ss. n ≡ dossierNumber ty ss) →
-            DossierAnswers (dossierAsked standard ts s) table (read .index) ps n
+            (n : ℕ) → Each s d rows (read .index) ps (λ ty ss. n ≡ dossierNumber limits ty ss) →
+            DossierAnswers (dossierAsked limits ts s) table (read .index) ps n
         unfolding dossierAsked DossierAnswers shapeNumber
         answer-rest n a =
             rw (it .is, type .is)
-            (go (dossierShape standard (type .what) (it .what .snapshots)) (eachSnapshot (snapshotValues (type .what)) (it .what .snapshots))
+            (go (dossierShape limits (type .what) (it .what .snapshots)) (eachSnapshot (snapshotValues (type .what)) (it .what .snapshots))
             (a table (type .what) (it .what) (type .stands) (table-kinds table ts (it .what .head .type) (type .what) e (type .is)) (it .stands) (it .in-rows)))
           where
             go :

@@ -13,7 +13,7 @@ use borrow.Author.Tests.{not-true}
 use Rattle.model.specs.Order.{Text, sets, lists, equal}
 use Rattle.model.proofs.OrderLaws.{equal-true}
 use Rattle.model.specs.Rule.{Cell, holds, Snapshot, sizes}
-use Rattle.model.specs.Limits.{standard}
+use Rattle.model.specs.Limits.{Limits}
 use Rattle.model.specs.Opening.{held, isMark, cellAt}
 use Rattle.model.proofs.Cases.{and-false, and-true}
 use Rattle.values.specs.declared.versions.EventVersion.{EventVersion}
@@ -96,28 +96,28 @@ three-tests v ps cs =
 
 -- ---- one snapshot
 
-module _ (t : EventType) (s : Snapshot) where
+module _ (limits : Limits) (t : EventType) (s : Snapshot) where
   abbrev asked : (Property → Cell → Bool) → Bool
   asked f = eachOf f (t .properties) (s .cells)
 
   -- a and b are what is asked of the version and of all objects
   by-place :
-      (v : Bool) → isVersioned t ≡ v → (a b : Bool) → (a && b) ≡ cond v (datedFits s (t .mark)) (plainFits s) →
-      ((cellsPresent t s && ((a && asked (ofVersion v)) && b)) && (asked isUnmarkedMatch && matchesFew t s)) ≡ snapshotFits t s
+      (v : Bool) → isVersioned t ≡ v → (a b : Bool) → (a && b) ≡ cond v (datedFits s (t .mark)) (plainFits limits s) →
+      ((cellsPresent t s && ((a && asked (ofVersion v)) && b)) && (asked isUnmarkedMatch && matchesFew t s)) ≡ snapshotFits limits t s
   unfolding snapshotFits versionFits
   by-place v e a b w =
       mix (cellsPresent t s) (asked (ofVersion v)) (asked isUnmarkedMatch) (matchesFew t s) a b
       ∙ ap₂ (λ (x y : Bool). x && matchesFew t s && y) (three-tests v (t .properties) (s .cells)) w
       ∙ ap (λ (v : Bool). eachCell (cellFits v) isVacant (t .properties) (s .cells) && matchesFew t s && cond v (datedFits s (t .mark))
-      (plainFits s)) (sym e)
+      (plainFits limits s)) (sym e)
 
-  fits-versioned : isVersioned t ≡ true → ((cellsPresent t s && versionedSnapshot t s) && matchFits t s) ≡ snapshotFits t s
+  fits-versioned : isVersioned t ≡ true → ((cellsPresent t s && versionedSnapshot t s) && matchFits t s) ≡ snapshotFits limits t s
   unfolding versionedSnapshot matchFits
   fits-versioned e = by-place true e (leb (sizes (s .cells)) 32) (holdsVersion (s .version) (cellAt s (t .mark - 1))) refl
 
-  fits-plain : isVersioned t ≡ false → ((cellsPresent t s && unversionedSnapshot standard t s) && matchFits t s) ≡ snapshotFits t s
-  unfolding unversionedSnapshot matchFits standard
-  fits-plain e = by-place false e (eqb (s .version) 0) (leb (sizes (s .cells)) 256) refl
+  fits-plain : isVersioned t ≡ false → ((cellsPresent t s && unversionedSnapshot limits t s) && matchFits t s) ≡ snapshotFits limits t s
+  unfolding unversionedSnapshot matchFits
+  fits-plain e = by-place false e (eqb (s .version) 0) (leb (sizes (s .cells)) (limits .objects)) refl
 
 -- ---- all snapshots
 
@@ -141,40 +141,40 @@ alike t [] = refl
 alike t (s ∷ ss) = sym (ap (λ (b : Bool). b && eachSnapshot (alikeTo t s) ss) (equal-true (lists sets) (snapshotMatch t s) (snapshotMatch t s) .1 refl))
 
 -- all that question 5 asks of a snapshot, given the first one
-abbrev pub fitsWith : EventType → Snapshot → Snapshot → Bool
-fitsWith t a s = snapshotFits t s && alikeTo t a s
+abbrev pub fitsWith : Limits → EventType → Snapshot → Snapshot → Bool
+fitsWith limits t a s = snapshotFits limits t s && alikeTo t a s
 
-module _ (t : EventType) (ss : List Snapshot) where
+module _ (limits : Limits) (t : EventType) (ss : List Snapshot) where
   abbrev allPresent : Bool
   allPresent = eachSnapshot (cellsPresent t) ss
 
   -- each snapshot fits by itself, and has the match sets of the first
   abbrev pub allFit : List Snapshot → Bool
-  allFit xs = eachSnapshot (fitsWith t (getD ss 0 noSnapshot)) xs
+  allFit xs = eachSnapshot (fitsWith limits t (getD ss 0 noSnapshot)) xs
 
   together :
-      (f : Snapshot → Bool) → ((s : Snapshot) → ((cellsPresent t s && f s) && matchFits t s) ≡ snapshotFits t s) →
+      (f : Snapshot → Bool) → ((s : Snapshot) → ((cellsPresent t s && f s) && matchFits t s) ≡ snapshotFits limits t s) →
       (((allPresent && eachSnapshot f ss) && eachSnapshot (matchFits t) ss) && matchAlike t ss) ≡ allFit ss
   together f h =
       let both : Snapshot → Bool = λ s. cellsPresent t s && f s in
       ap (λ (b : Bool). (b && eachSnapshot (matchFits t) ss) && matchAlike t ss) (each-both (cellsPresent t) f ss)
       ∙ ap (λ (b : Bool). b && matchAlike t ss)
-      (each-both both (matchFits t) ss ∙ each-same (λ (s : Snapshot). both s && matchFits t s) (snapshotFits t) ss h)
-      ∙ ap (λ (b : Bool). eachSnapshot (snapshotFits t) ss && b) (alike t ss)
-      ∙ each-both (snapshotFits t) (alikeTo t (getD ss 0 noSnapshot)) ss
+      (each-both both (matchFits t) ss ∙ each-same (λ (s : Snapshot). both s && matchFits t s) (snapshotFits limits t) ss h)
+      ∙ ap (λ (b : Bool). eachSnapshot (snapshotFits limits t) ss && b) (alike t ss)
+      ∙ each-both (snapshotFits limits t) (alikeTo t (getD ss 0 noSnapshot)) ss
 
   by-version :
       (v : Bool) → isVersioned t ≡ v →
-      (((allPresent && cond v (eachSnapshot (versionedSnapshot t) ss) (unversionedShape standard t ss)) && eachSnapshot (matchFits t) ss)
+      (((allPresent && cond v (eachSnapshot (versionedSnapshot t) ss) (unversionedShape limits t ss)) && eachSnapshot (matchFits t) ss)
       && matchAlike t ss)
       ≡ ((v || eqb (length ss) 1) && allFit ss)
   unfolding unversionedShape
-  by-version true e = together (versionedSnapshot t) (λ s. fits-versioned t s e)
+  by-version true e = together (versionedSnapshot t) (λ s. fits-versioned limits t s e)
   by-version false e =
-      and-out (eqb (length ss) 1) allPresent (eachSnapshot (unversionedSnapshot standard t) ss) (eachSnapshot (matchFits t) ss) (matchAlike t ss)
-      ∙ ap (λ (b : Bool). eqb (length ss) 1 && b) (together (unversionedSnapshot standard t) (λ s. fits-plain t s e))
+      and-out (eqb (length ss) 1) allPresent (eachSnapshot (unversionedSnapshot limits t) ss) (eachSnapshot (matchFits t) ss) (matchAlike t ss)
+      ∙ ap (λ (b : Bool). eqb (length ss) 1 && b) (together (unversionedSnapshot limits t) (λ s. fits-plain limits t s e))
 
-  pub shape-is : dossierShape standard t ss ≡ ((isVersioned t || eqb (length ss) 1) && eachSnapshot (fitsWith t (getD ss 0 noSnapshot)) ss)
+  pub shape-is : dossierShape limits t ss ≡ ((isVersioned t || eqb (length ss) 1) && eachSnapshot (fitsWith limits t (getD ss 0 noSnapshot)) ss)
   unfolding dossierShape
   shape-is = by-version (isVersioned t) refl
 
@@ -184,8 +184,8 @@ module _ (t : EventType) (ss : List Snapshot) where
 abbrev matchLike : EventType → List (List Text) → Snapshot → Bool
 matchLike ty xs y = equal (lists sets) (matchSets (ty .properties) xs) (snapshotMatch ty y)
 
-abbrev pub snapshotNumber : EventType → List (List Text) → Snapshot → ℕ
-snapshotNumber ty xs y = shapeNumber (snapshotFits ty y && matchLike ty xs y) (snapshotValues ty y)
+abbrev pub snapshotNumber : Limits → EventType → List (List Text) → Snapshot → ℕ
+snapshotNumber limits ty xs y = shapeNumber (snapshotFits limits ty y && matchLike ty xs y) (snapshotValues ty y)
 
 -- and where its shape is right
 abbrev pub valuesNumber : Bool → ℕ
@@ -199,21 +199,21 @@ Shaped s first row x m mark count ps P =
     (u : List ℕ) (ty : EventType) (xs : List (List Text)) (y : Snapshot) → mark ≡ ty .mark → PropertiesAre u (ty .properties) count ps →
     MasksAre (isVersioned ty) (ty .properties) m → KindsAre ty → SetsAre s xs first → SnapshotIs s y x row → P ty xs y
 
-module _ (ty : EventType) (xs : List (List Text)) (y : Snapshot) where
-  pub number-shape : {r : Bool} → not r ≡ true → r ≡ snapshotFits ty y → 5 ≡ snapshotNumber ty xs y
+module _ (limits : Limits) (ty : EventType) (xs : List (List Text)) (y : Snapshot) where
+  pub number-shape : {r : Bool} → not r ≡ true → r ≡ snapshotFits limits ty y → 5 ≡ snapshotNumber limits ty xs y
   unfolding shapeNumber
   number-shape {r} h e = sym (ap (λ (b : Bool). shapeNumber (b && matchLike ty xs y) (snapshotValues ty y)) (sym e ∙ not-true r h))
 
-  pub number-match : {r : Bool} → not r ≡ true → r ≡ matchLike ty xs y → 5 ≡ snapshotNumber ty xs y
+  pub number-match : {r : Bool} → not r ≡ true → r ≡ matchLike ty xs y → 5 ≡ snapshotNumber limits ty xs y
   unfolding shapeNumber
   number-match {r} h e =
-      sym (ap (λ (b : Bool). shapeNumber (snapshotFits ty y && b) (snapshotValues ty y)) (sym e ∙ not-true r h)
-      ∙ ap (λ (b : Bool). shapeNumber b (snapshotValues ty y)) (and-false (snapshotFits ty y)))
+      sym (ap (λ (b : Bool). shapeNumber (snapshotFits limits ty y && b) (snapshotValues ty y)) (sym e ∙ not-true r h)
+      ∙ ap (λ (b : Bool). shapeNumber b (snapshotValues ty y)) (and-false (snapshotFits limits ty y)))
 
   -- where neither refuses, the values decide
   pub number-values :
-      {a b r : Bool} → a ≡ snapshotFits ty y → a ≡ true → b ≡ matchLike ty xs y → b ≡ true → r ≡ snapshotValues ty y →
-      valuesNumber r ≡ snapshotNumber ty xs y
+      {a b r : Bool} → a ≡ snapshotFits limits ty y → a ≡ true → b ≡ matchLike ty xs y → b ≡ true → r ≡ snapshotValues ty y →
+      valuesNumber r ≡ snapshotNumber limits ty xs y
   number-values e h g k n =
       sym (ap₂ (λ (a b : Bool). shapeNumber (a && b) (snapshotValues ty y)) (sym e ∙ h) (sym g ∙ k) ∙ ap valuesNumber (sym n))
 
@@ -234,32 +234,32 @@ five true false e = absurd (omega arith)
 five true true e = absurd (omega arith)
 
 -- the number of snapshot j, and of all of them
-abbrev pub numberOf : EventType → List Snapshot → ℕ → ℕ
-numberOf t ss j = shapeNumber (fitsWith t (getD ss 0 noSnapshot) (getD ss j noSnapshot)) (snapshotValues t (getD ss j noSnapshot))
+abbrev pub numberOf : Limits → EventType → List Snapshot → ℕ → ℕ
+numberOf limits t ss j = shapeNumber (fitsWith limits t (getD ss 0 noSnapshot) (getD ss j noSnapshot)) (snapshotValues t (getD ss j noSnapshot))
 
-abbrev pub dossierNumber : EventType → List Snapshot → ℕ
-dossierNumber t ss = shapeNumber (dossierShape standard t ss) (eachSnapshot (snapshotValues t) ss)
+abbrev pub dossierNumber : Limits → EventType → List Snapshot → ℕ
+dossierNumber limits t ss = shapeNumber (dossierShape limits t ss) (eachSnapshot (snapshotValues t) ss)
 
 -- what the numbers so far and the snapshots from j on come to
-abbrev numberFrom : EventType → List Snapshot → ℕ → ℕ → ℕ
-numberFrom t ss number j = shapeNumber (allFit t ss (drop j ss)) (eqb number 0 && eachSnapshot (snapshotValues t) (drop j ss))
+abbrev numberFrom : Limits → EventType → List Snapshot → ℕ → ℕ → ℕ
+numberFrom limits t ss number j = shapeNumber (allFit limits t ss (drop j ss)) (eqb number 0 && eachSnapshot (snapshotValues t) (drop j ss))
 
-module _ (t : EventType) (ss : List Snapshot) (number j : ℕ) (l : j < length ss) where
+module _ (limits : Limits) (t : EventType) (ss : List Snapshot) (number j : ℕ) (l : j < length ss) where
   abbrev one : Snapshot
   one = getD ss j noSnapshot
 
   abbrev fitting : Snapshot → Bool
-  fitting = fitsWith t (getD ss 0 noSnapshot)
+  fitting = fitsWith limits t (getD ss 0 noSnapshot)
 
   step : (f : Snapshot → Bool) → eachSnapshot f (drop j ss) ≡ (f one && eachSnapshot f (drop (j + 1) ss))
   unfolding eachSnapshot
   step f = rw (drop-cons ss j noSnapshot l, add-one)
 
-  fit-step : {b : Bool} → fitting one ≡ b → allFit t ss (drop j ss) ≡ (b && allFit t ss (drop (j + 1) ss))
-  fit-step e = step fitting ∙ ap (λ (x : Bool). x && allFit t ss (drop (j + 1) ss)) e
+  fit-step : {b : Bool} → fitting one ≡ b → allFit limits t ss (drop j ss) ≡ (b && allFit limits t ss (drop (j + 1) ss))
+  fit-step e = step fitting ∙ ap (λ (x : Bool). x && allFit limits t ss (drop (j + 1) ss)) e
 
-  module _ (n : ℕ) (e : n ≡ numberOf t ss j) where
-    from-five : n ≡ 5 → 5 ≡ numberFrom t ss number j
+  module _ (n : ℕ) (e : n ≡ numberOf limits t ss j) where
+    from-five : n ≡ 5 → 5 ≡ numberFrom limits t ss number j
     unfolding shapeNumber
     from-five h =
         sym (ap (λ (a : Bool). shapeNumber a (eqb number 0 && eachSnapshot (snapshotValues t) (drop j ss)))
@@ -279,12 +279,12 @@ module _ (t : EventType) (ss : List Snapshot) (number j : ℕ) (l : j < length s
       none true x = refl
       none false x = and-false (eqb number 0)
 
-      from-more : {r : ℕ} → r ≡ cond (eqb n 6) 6 number → numberFrom t ss number j ≡ numberFrom t ss r (j + 1)
+      from-more : {r : ℕ} → r ≡ cond (eqb n 6) 6 number → numberFrom limits t ss number j ≡ numberFrom limits t ss r (j + 1)
       from-more {r} h =
           let g = fits (fitting one) (snapshotValues t one) e in
           let rest = eachSnapshot (snapshotValues t) (drop (j + 1) ss) in
           ap₂ (λ (x y : Bool). shapeNumber x (eqb number 0 && y)) (fit-step (g .0)) (step (snapshotValues t))
-          ∙ ap (shapeNumber (allFit t ss (drop (j + 1) ss)))
+          ∙ ap (shapeNumber (allFit limits t ss (drop (j + 1) ss)))
           (none (snapshotValues t one) rest ∙ ap (λ (m : ℕ). eqb m 0 && rest) (sym (h ∙ g .1)))
 
 kept : (n number : ℕ) {r : ℕ} → r ≡ cond (eqb n 6) 6 number → (number ≡ 0) ⊎ (number ≡ 6) → (r ≡ 0) ⊎ (r ≡ 6)
@@ -295,9 +295,10 @@ kept n number {r} h o = go (eqb n 6) h
     go false e = ⊎-elim (λ (z : number ≡ 0). inl (e ∙ z)) (λ (z : number ≡ 6). inr (e ∙ z)) o
 
 from-end :
-    (t : EventType) (ss : List Snapshot) (number j : ℕ) → length ss ≤ j → (number ≡ 0) ⊎ (number ≡ 6) → number ≡ numberFrom t ss number j
+    (limits : Limits) (t : EventType) (ss : List Snapshot) (number j : ℕ) → length ss ≤ j → (number ≡ 0) ⊎ (number ≡ 6) →
+    number ≡ numberFrom limits t ss number j
 unfolding eachSnapshot shapeNumber
-from-end t ss number j l o =
+from-end limits t ss number j l o =
     let d = drop-of-length-le ss l in
     ⊎-elim (λ (z : number ≡ 0). rw (z, d)) (λ (z : number ≡ 6). rw (z, d)) o
 
@@ -346,13 +347,15 @@ module _ (s : List ℕ) (h : Headed) (d : DossierIndex) (w : DossierIs s h d) wh
   first-sets rows r = r .each 0 (omega (arith, w .one, w .count))
 
   by-lone :
-      (u : List ℕ) (ty : EventType) (t : TypeIndex) (ps : List ℕ) → TypeIs u ty t ps → {r b : Bool} → r ≡ (ltb 0 (t .mark) || eqb (d .count) 1) →
+      (limits : Limits) (u : List ℕ) (ty : EventType) (t : TypeIndex) (ps : List ℕ) → TypeIs u ty t ps → {r b : Bool} →
+      r ≡ (ltb 0 (t .mark) || eqb (d .count) 1) →
       r ≡ b →
-      dossierNumber ty (h .snapshots) ≡ shapeNumber (b && allFit ty (h .snapshots) (h .snapshots)) (eachSnapshot (snapshotValues ty) (h .snapshots))
-  by-lone u ty t ps v e f =
+      dossierNumber limits ty (h .snapshots) ≡ shapeNumber (b && allFit limits ty (h .snapshots) (h .snapshots))
+      (eachSnapshot (snapshotValues ty) (h .snapshots))
+  by-lone limits u ty t ps v e f =
       let lone = e ∙ ap₂ (λ (m n : ℕ). ltb 0 m || eqb n 1) (v .mark) (w .count) in
       ap (λ (b : Bool). shapeNumber b (eachSnapshot (snapshotValues ty) (h .snapshots)))
-      (shape-is ty (h .snapshots) ∙ ap (λ (b : Bool). b && allFit ty (h .snapshots) (h .snapshots)) (sym lone ∙ f))
+      (shape-is limits ty (h .snapshots) ∙ ap (λ (b : Bool). b && allFit limits ty (h .snapshots) (h .snapshots)) (sym lone ∙ f))
 
 -- ---- questions 5 and 6 of a dossier
 
@@ -363,33 +366,37 @@ Each s d rows t ps P =
     P ty (h .snapshots)
 
 -- the number of all snapshots, by the number of those before j
-pub record NumberFrom (s : List ℕ) (d : DossierIndex) (rows : List ℕ) (t : TypeIndex) (ps : List ℕ) (number j : ℕ) : Type 0 where
-  pub is : Each s d rows t ps (λ ty ss. dossierNumber ty ss ≡ numberFrom ty ss number j)
+pub record NumberFrom (limits : Limits) (s : List ℕ) (d : DossierIndex) (rows : List ℕ) (t : TypeIndex) (ps : List ℕ) (number j : ℕ) : Type 0 where
+  pub is : Each s d rows t ps (λ ty ss. dossierNumber limits ty ss ≡ numberFrom limits ty ss number j)
   pub either : (number ≡ 0) ⊎ (number ≡ 6)
 
-module _ (s : List ℕ) (d : DossierIndex) (rows : List ℕ) (t : TypeIndex) (ps : List ℕ) {r : Bool} (e : r ≡ (ltb 0 (t .mark) || eqb (d .count) 1)) where
-  pub not-lone : r ≡ false → Each s d rows t ps (λ ty ss. 5 ≡ dossierNumber ty ss)
+module _
+    (limits : Limits) (s : List ℕ) (d : DossierIndex) (rows : List ℕ) (t : TypeIndex) (ps : List ℕ) {r : Bool}
+    (e : r ≡ (ltb 0 (t .mark) || eqb (d .count) 1)) where
+  pub not-lone : r ≡ false → Each s d rows t ps (λ ty ss. 5 ≡ dossierNumber limits ty ss)
   unfolding shapeNumber
-  not-lone f u ty h w g x y = sym (by-lone s h d x u ty t ps w e f)
+  not-lone f u ty h w g x y = sym (by-lone s h d x limits u ty t ps w e f)
 
-  pub is-lone : r ≡ true → NumberFrom s d rows t ps 0 0
-  is-lone f = record { is = λ u ty h w g x y. by-lone s h d x u ty t ps w e f; either = inl refl }
+  pub is-lone : r ≡ true → NumberFrom limits s d rows t ps 0 0
+  is-lone f = record { is = λ u ty h w g x y. by-lone s h d x limits u ty t ps w e f; either = inl refl }
 
-module _ {s : List ℕ} {d : DossierIndex} {rows : List ℕ} {t : TypeIndex} {ps : List ℕ} {number j : ℕ} (l : NumberFrom s d rows t ps number j) where
-  pub number-end : d .count ≤ j → Each s d rows t ps (λ ty ss. number ≡ dossierNumber ty ss)
+module _
+    {limits : Limits} {s : List ℕ} {d : DossierIndex} {rows : List ℕ} {t : TypeIndex} {ps : List ℕ} {number j : ℕ}
+    (l : NumberFrom limits s d rows t ps number j) where
+  pub number-end : d .count ≤ j → Each s d rows t ps (λ ty ss. number ≡ dossierNumber limits ty ss)
   number-end past u ty h w g x y =
-      from-end ty (h .snapshots) number j (past-count s h d x j past) (l .either) ∙ sym (l .is u ty h w g x y)
+      from-end limits ty (h .snapshots) number j (past-count s h d x j past) (l .either) ∙ sym (l .is u ty h w g x y)
 
   -- by the number n of snapshot j
-  module _ (k : j < d .count) {n : ℕ} (here : Each s d rows t ps (λ ty ss. n ≡ numberOf ty ss j)) where
-    pub number-five : n ≡ 5 → Each s d rows t ps (λ ty ss. 5 ≡ dossierNumber ty ss)
+  module _ (k : j < d .count) {n : ℕ} (here : Each s d rows t ps (λ ty ss. n ≡ numberOf limits ty ss j)) where
+    pub number-five : n ≡ 5 → Each s d rows t ps (λ ty ss. 5 ≡ dossierNumber limits ty ss)
     number-five f u ty h w g x y =
-        from-five ty (h .snapshots) number j (in-count s h d x j k) n (here u ty h w g x y) f ∙ sym (l .is u ty h w g x y)
+        from-five limits ty (h .snapshots) number j (in-count s h d x j k) n (here u ty h w g x y) f ∙ sym (l .is u ty h w g x y)
 
-    pub number-more : (n ≡ 5 → ⊥) → {r : ℕ} → r ≡ cond (eqb n 6) 6 number → NumberFrom s d rows t ps r (j + 1)
+    pub number-more : (n ≡ 5 → ⊥) → {r : ℕ} → r ≡ cond (eqb n 6) 6 number → NumberFrom limits s d rows t ps r (j + 1)
     number-more ne e = record {
       is = λ u ty h w g x y.
-          l .is u ty h w g x y ∙ from-more ty (h .snapshots) number j (in-count s h d x j k) n (here u ty h w g x y) ne e;
+          l .is u ty h w g x y ∙ from-more limits ty (h .snapshots) number j (in-count s h d x j k) n (here u ty h w g x y) ne e;
       either = kept n number e (l .either);
     }
 

@@ -2,6 +2,7 @@
 use mathlib.Core.Path.{_≡_}
 use mathlib.Core.List.{List, _++_}
 use Prim.Native.Nat.{ℕ, _≤_}
+use native.Mathlib.Omega.{arith}
 use lib.ListN.{length}
 use Rattle.model.specs.Limits.{Limits}
 use Rattle.packed.specs.Parse.{got}
@@ -23,6 +24,14 @@ pub dossier-head-was :
     (s ≡ dossierHeadBytes h ++ r) × DossierHeadWritten limits h
 unfolding readDossierHead dossierHeadBytes
 dossier-head-was limits s h r e = head-was (limits .parents) s h r e
+
+-- a head that has room for more parents than it has to
+pub head-more : {m n : ℕ} → m ≤ n → (h : Head) → HeadWritten m h → HeadWritten n h
+head-more l h w = record {
+  type = w .type;
+  source = w .source;
+  parents = record { within = omega (arith, w .parents .within); few = w .parents .few; each = w .parents .each; rises = w .parents .rises };
+}
 
 -- the head of a dossier of at most 32 parents
 pub dossier-head-size : (h : Head) → HeadWritten 32 h → length (h .type) ≤ 64 → length (dossierHeadBytes h) ≤ 827

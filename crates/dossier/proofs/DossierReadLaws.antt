@@ -18,7 +18,7 @@ use Rattle.model.proofs.Cases.{three}
 use Rattle.model.proofs.OrderLaws.{less-of, less-cmp}
 use Rattle.model.specs.Rule.{Snapshot, sizes}
 use Rattle.model.specs.Opening.{held}
-use Rattle.model.specs.Limits.{standard}
+use Rattle.model.specs.Limits.{Limits, Permitted}
 use Rattle.model.proofs.PartLaws.{map-append}
 use Rattle.packed.specs.Parse.{Parse, fail, got, Layout, andThen, _>>=_, foundIf, suchThat, times, whole, found}
 use Rattle.packed.specs.Packed.{readNumber, isWithin}
@@ -415,23 +415,23 @@ risen ss = foundIf (rising numbers (map (λ (s : Snapshot). s .version) ss)) ss
 abbrev counted : ℕ → Layout (List Snapshot)
 counted count = times readSnapshot count >>= risen
 
-abbrev pub numbered : Layout ℕ
-numbered = suchThat (isWithin 1 8) readNumber
+abbrev pub numbered : Limits → Layout ℕ
+numbered limits = suchThat (isWithin 1 (limits .versions)) readNumber
 
-head-first : (s : List ℕ) → readDossier standard s ≡ andThen (readDossierHead standard s) (λ h. (numbered >>= counted) >>= under h)
-unfolding readDossier readBody standard
-head-first s = refl
+head-first : (limits : Limits) (s : List ℕ) → readDossier limits s ≡ andThen (readDossierHead limits s) (λ h. (numbered limits >>= counted) >>= under h)
+unfolding readDossier readBody
+head-first limits s = refl
 
 -- what is answered where the bytes are no dossier
 pub refused :
-    (s rows : List ℕ) (size : ℕ) (i : DossierIndex) → dossierOf standard s ≡ none → (i .ok ≡ false) × (i .count ≡ 0) →
-    DossierReads (dossierOf standard s) s rows i × (96 * i .count ≤ size)
+    (limits : Limits) (s rows : List ℕ) (size : ℕ) (i : DossierIndex) → dossierOf limits s ≡ none → (i .ok ≡ false) × (i .count ≡ 0) →
+    DossierReads (dossierOf limits s) s rows i × (96 * i .count ≤ size)
 unfolding DossierReads
-refused s rows size i e h = (rw e (h .0), omega (arith, h .1))
+refused limits s rows size i e h = (rw e (h .0), omega (arith, h .1))
 
-no-dossier : (s : List ℕ) → readDossier standard s ≡ fail → dossierOf standard s ≡ none
+no-dossier : (limits : Limits) (s : List ℕ) → readDossier limits s ≡ fail → dossierOf limits s ≡ none
 unfolding dossierOf
-no-dossier s e = rw e
+no-dossier limits s e = rw e
 
 -- what is known of the head's answer in the arm of a `match`
 pub head-reads :
@@ -443,54 +443,56 @@ pub head-refused : {p : Parse Head} (s : List ℕ) {r : DossierHeadRead} → r �
 head-refused {p} s h w = subst (DossierHeadReads p s) h w
 
 pub head-none :
-    (s : List ℕ) {r : DossierHeadRead} → r ≡ read.NoHead → DossierHeadReads (readDossierHead standard s) s r → dossierOf standard s ≡ none
-head-none s e w = let bad = head-refused s e w in no-dossier s (head-first s ∙ rw bad)
+    (limits : Limits) (s : List ℕ) {r : DossierHeadRead} → r ≡ read.NoHead → DossierHeadReads (readDossierHead limits s) s r →
+    dossierOf limits s ≡ none
+head-none limits s e w = let bad = head-refused s e w in no-dossier limits s (head-first limits s ∙ rw bad)
 
 -- the head x and the number n of snapshots are read, which stand from `at` on
-pub record HeadCount (s : List ℕ) (x : HeadAt) (n at : ℕ) : Type 0 where
+pub record HeadCount (limits : Limits) (s : List ℕ) (x : HeadAt) (n at : ℕ) : Type 0 where
   pub end : ℕ
-  pub head : DossierHeadStops (readDossierHead standard s) s x end
-  pub count : Got (numbered (drop end s)) s end n at
+  pub head : DossierHeadStops (readDossierHead limits s) s x end
+  pub count : Got (numbered limits (drop end s)) s end n at
   pub one : 1 ≤ n
   pub few : n ≤ 8
 
-module _ {s : List ℕ} {x : HeadAt} {end : ℕ} (w : DossierHeadStops (readDossierHead standard s) s x end) where
-  head-step : readDossier standard s ≡ andThen (andThen (numbered (drop end s)) counted) (under (w .what))
-  head-step = head-first s ∙ rw (w .is)
+module _ (limits : Limits) {s : List ℕ} {x : HeadAt} {end : ℕ} (w : DossierHeadStops (readDossierHead limits s) s x end) where
+  head-step : readDossier limits s ≡ andThen (andThen (numbered limits (drop end s)) counted) (under (w .what))
+  head-step = head-first limits s ∙ rw (w .is)
 
 -- the number of snapshots, by what the readers of the head and of the number answer
 module _
-    (s : List ℕ) {r : DossierHeadRead} {x : HeadAt} {end : ℕ} (e : r ≡ read.Head x end) (w : DossierHeadReads (readDossierHead standard s) s r)
-    {q : NumberAt} (v : NumberReads (numbered (drop end s)) s end q)
+    (limits : Limits) (s : List ℕ) {r : DossierHeadRead} {x : HeadAt} {end : ℕ} (e : r ≡ read.Head x end)
+    (w : DossierHeadReads (readDossierHead limits s) s r)
+    {q : NumberAt} (v : NumberReads (numbered limits (drop end s)) s end q)
   where
-    pub count-none : q ≡ NoNumber → dossierOf standard s ≡ none
+    pub count-none : q ≡ NoNumber → dossierOf limits s ≡ none
     count-none k =
         let head = head-reads e w in
-        no-dossier s (head-step head ∙ ap (λ (p : Parse ℕ). andThen (andThen p counted) (under (head .what))) (number-fail s end k v))
+        no-dossier limits s (head-step limits head ∙ ap (λ (p : Parse ℕ). andThen (andThen p counted) (under (head .what))) (number-fail s end k v))
 
-    pub count-read : {n at : ℕ} → q ≡ Number n at → HeadCount s x n at
-    count-read k =
+    pub count-read : Permitted limits → {n at : ℕ} → q ≡ Number n at → HeadCount limits s x n at
+    count-read permitted k =
         let count = number-got k v in
-        let bounds = got-bounds 1 8 count in
-        record { end = end; head = head-reads e w; count = count; one = bounds .0; few = bounds .1 }
+        let bounds = got-bounds 1 (limits .versions) count in
+        record { end = end; head = head-reads e w; count = count; one = bounds .0; few = omega (arith, bounds .1, permitted .few-versions) }
 
 -- the snapshots are read too, as r says
-pub record SnapshotsFound (s : List ℕ) (x : HeadAt) (n : ℕ) (rows : List ℕ) (r : SnapshotsRead) : Type 0 where
+pub record SnapshotsFound (limits : Limits) (s : List ℕ) (x : HeadAt) (n : ℕ) (rows : List ℕ) (r : SnapshotsRead) : Type 0 where
   pub at : ℕ
-  pub counted : HeadCount s x n at
+  pub counted : HeadCount limits s x n at
   pub all : AllFound (times readSnapshot n (drop at s)) s rows r
 
-module _ {s : List ℕ} {x : HeadAt} {n at : ℕ} (w : HeadCount s x n at) where
-  count-step : readDossier standard s ≡ andThen (andThen (times readSnapshot n (drop at s)) risen) (under (w .head .what))
-  count-step = head-step (w .head) ∙ ap (λ (p : Parse ℕ). andThen (andThen p counted) (under (w .head .what))) (w .count .is)
+module _ {limits : Limits} {s : List ℕ} {x : HeadAt} {n at : ℕ} (w : HeadCount limits s x n at) where
+  count-step : readDossier limits s ≡ andThen (andThen (times readSnapshot n (drop at s)) risen) (under (w .head .what))
+  count-step = head-step limits (w .head) ∙ ap (λ (p : Parse ℕ). andThen (andThen p counted) (under (w .head .what))) (w .count .is)
 
   module _ (rows : List ℕ) (r : SnapshotsRead) (v : SnapshotsSay (times readSnapshot n (drop at s)) s rows r) where
-    pub snapshots-none : r .ok ≡ false → dossierOf standard s ≡ none
+    pub snapshots-none : r .ok ≡ false → dossierOf limits s ≡ none
     snapshots-none bad =
         let e = snapshots-refused (times readSnapshot n (drop at s)) s rows r v bad in
-        no-dossier s (count-step ∙ ap (λ (p : Parse (List Snapshot)). andThen (andThen p risen) (under (w .head .what))) e)
+        no-dossier limits s (count-step ∙ ap (λ (p : Parse (List Snapshot)). andThen (andThen p risen) (under (w .head .what))) e)
 
-    pub snapshots-read : r .ok ≡ true → SnapshotsFound s x n rows r
+    pub snapshots-read : r .ok ≡ true → SnapshotsFound limits s x n rows r
     snapshots-read ok = record { at = at; counted = w; all = snapshots-found (times readSnapshot n (drop at s)) s rows r v ok }
 
 -- the index of a dossier
@@ -507,7 +509,7 @@ indexOf x n r = record {
 }
 
 -- what is left to ask: whether they end with the bytes, and whether their versions rise
-module _ {s : List ℕ} {x : HeadAt} {n : ℕ} {rows : List ℕ} {r : SnapshotsRead} (w : SnapshotsFound s x n rows r) where
+module _ {limits : Limits} {s : List ℕ} {x : HeadAt} {n : ℕ} {rows : List ℕ} {r : SnapshotsRead} (w : SnapshotsFound limits s x n rows r) where
   abbrev top : Head
   top = w .counted .head .what
 
@@ -517,10 +519,10 @@ module _ {s : List ℕ} {x : HeadAt} {n : ℕ} {rows : List ℕ} {r : SnapshotsR
   abbrev read-there : Headed
   read-there = record { head = top; snapshots = these }
 
-  last-step : readDossier standard s ≡ andThen (risen these (drop (r .next) s)) (under top)
+  last-step : readDossier limits s ≡ andThen (risen these (drop (r .next) s)) (under top)
   last-step = count-step (w .counted) ∙ rw (w .all .is)
 
-  pub not-whole : (r .next ≡ length s → ⊥) → dossierOf standard s ≡ none
+  pub not-whole : (r .next ≡ length s → ⊥) → dossierOf limits s ≡ none
   unfolding dossierOf
   not-whole ne =
       let l : r .next < length s = omega (arith, w .all .stop .within, ne) in
@@ -538,8 +540,8 @@ module _ {s : List ℕ} {x : HeadAt} {n : ℕ} {rows : List ℕ} {r : SnapshotsR
     rises : {d : Bool} → b ≡ d → rising numbers (map (λ (s : Snapshot). s .version) these) ≡ d
     rises e = ap (rising numbers) (sym (w .all .stop .are .numbers) ∙ ap (λ (k : ℕ). versionNumbers (take k (r .versions))) many) ∙ sym a ∙ e
 
-    pub not-rising : b ≡ false → dossierOf standard s ≡ none
-    not-rising e = no-dossier s (last-step ∙ rw (rises e))
+    pub not-rising : b ≡ false → dossierOf limits s ≡ none
+    not-rising e = no-dossier limits s (last-step ∙ rw (rises e))
 
     stands : DossierIs s read-there (indexOf x n r)
     stands = record {
@@ -554,10 +556,10 @@ module _ {s : List ℕ} {x : HeadAt} {n : ℕ} {rows : List ℕ} {r : SnapshotsR
 
     pub dossier-found :
         b ≡ true → r .next ≡ length s →
-        DossierReads (dossierOf standard s) s rows (indexOf x n r)
+        DossierReads (dossierOf limits s) s rows (indexOf x n r)
     unfolding DossierReads dossierOf
     dossier-found e z =
-        let g : readDossier standard s ≡ got read-there [] =
+        let g : readDossier limits s ≡ got read-there [] =
         last-step
         ∙ ap (λ (b : Bool). andThen (foundIf b these (drop (r .next) s)) (under top)) (rises e)
         ∙ ap (got read-there) (ap (λ (k : ℕ). drop k s) z ∙ drop-length s) in

@@ -8,7 +8,7 @@ use lib.Dec.{leb, eqb}
 use lib.ListN.{length, length-append}
 use borrow.Author.Tests.{leb-true, eqb-true}
 use Rattle.model.specs.Rule.{Cell, holds, differs, Snapshot, size, sizes, objects}
-use Rattle.model.specs.Limits.{standard}
+use Rattle.model.specs.Limits.{Limits, Permitted}
 use Rattle.model.specs.Opening.{held, isMark}
 use Rattle.model.proofs.Cases.{and-parts}
 use Rattle.packed.proofs.LayoutLaws.{All, number-bounds, number-length-1, number-length-5}
@@ -19,7 +19,7 @@ use Rattle.event.specs.EventLayout.{presenceBit, bitNumber}
 use Rattle.event.specs.EventQuestions.{isEmpty}
 use Rattle.event.proofs.EventLayoutLaws.{presence-below}
 use Rattle.event.proofs.EventSizeLaws.{ValuesShort, Beyond, fit-short, sets-size}
-use Rattle.dossier.proofs.DossierHeadLaws.{dossier-head-size}
+use Rattle.dossier.proofs.DossierHeadLaws.{head-more, dossier-head-size}
 use Rattle.dossier.specs.DossierLayout.{Headed, dossierBytes}
 use Rattle.dossier.specs.DossierBody.{differBit, snapshotBytes, bodyBytes}
 use Rattle.dossier.specs.DossierQuestions.{eachCell, eachSnapshot, isVacant, isPresent, isLoneIfExtreme, unversionedSnapshot, unversionedShape}
@@ -66,15 +66,15 @@ snapshots-size (s ∷ ss) w v = simp length-append (omega (arith, snapshot-size 
 
 -- 827 + 1 + 8 * 84 + 256 * 121 = 32,476
 pub dossier-size :
-    (h : Headed) → DossierWritten standard h → All ShortValues (h .snapshots) →
+    {limits : Limits} → Permitted limits → (h : Headed) → DossierWritten limits h → All ShortValues (h .snapshots) →
     length (h .head .type) ≤ 64 → objects (h .snapshots) ≤ 256 → length (dossierBytes h) ≤ dossierCapacity
-unfolding standard dossierBytes bodyBytes
-dossier-size h w v t o =
-    let n : length (h .snapshots) ≤ 8 = w .body .within in
+unfolding dossierBytes bodyBytes
+dossier-size permitted h w v t o =
+    let n : length (h .snapshots) ≤ 8 = omega (arith, w .body .within, permitted .few-versions) in
     simp length-append
     (omega (
       arith,
-      dossier-head-size (h .head) (w .head) t,
+      dossier-head-size (h .head) (head-more (permitted .few-parents) (h .head) (w .head)) t,
       number-length-1 (length (h .snapshots)) (omega arith),
       snapshots-size (h .snapshots) (w .body .snapshots) v,
     ))
@@ -118,38 +118,40 @@ versioned-sizes t (s ∷ ss) h =
     let b = and-parts (leb (sizes (s .cells)) 32 && _) _ (a .0) in
     (leb-true (sizes (s .cells)) 32 (and-parts (leb (sizes (s .cells)) 32) _ (b .0) .0), versioned-sizes t ss (a .1))
 
-unversioned-objects : (t : EventType) (ss : List Snapshot) → unversionedShape standard t ss ≡ true → objects ss ≤ 256
-unfolding unversionedShape unversionedSnapshot eachSnapshot standard objects
-unversioned-objects t [] h = omega arith
-unversioned-objects t (s ∷ []) h =
-    let a = and-parts (unversionedSnapshot standard t s) true h in
+unversioned-objects :
+    (limits : Limits) (t : EventType) (ss : List Snapshot) → unversionedShape limits t ss ≡ true → objects ss ≤ limits .objects
+unfolding unversionedShape unversionedSnapshot eachSnapshot objects
+unversioned-objects limits t [] h = omega arith
+unversioned-objects limits t (s ∷ []) h =
+    let a = and-parts (unversionedSnapshot limits t s) true h in
     let cells = eachCell (λ p c. not (isMark c) && isLoneIfExtreme p c) (λ c. true) (t .properties) (s .cells) in
-    let b = and-parts (eqb (s .version) 0 && cells) (leb (sizes (s .cells)) 256) (a .0) in
-    omega (arith, leb-true (sizes (s .cells)) 256 (b .1))
-unversioned-objects t (s ∷ r ∷ ss) h =
+    let b = and-parts (eqb (s .version) 0 && cells) (leb (sizes (s .cells)) (limits .objects)) (a .0) in
+    omega (arith, leb-true (sizes (s .cells)) (limits .objects) (b .1))
+unversioned-objects limits t (s ∷ r ∷ ss) h =
     let a = and-parts (eqb (length (s ∷ r ∷ ss)) 1) _ h in
     absurd (omega (arith, eqb-true (length (s ∷ r ∷ ss)) 1 (a .0)))
 
 -- the parts of question 5
 pub shape-parts :
-    (t : EventType) (ss : List Snapshot) → dossierShape standard t ss ≡ true →
+    (limits : Limits) (t : EventType) (ss : List Snapshot) → dossierShape limits t ss ≡ true →
     (eachSnapshot (cellsPresent t) ss ≡ true)
-    × (cond (isVersioned t) (eachSnapshot (versionedSnapshot t) ss) (unversionedShape standard t ss) ≡ true)
+    × (cond (isVersioned t) (eachSnapshot (versionedSnapshot t) ss) (unversionedShape limits t ss) ≡ true)
 unfolding dossierShape
-shape-parts t ss h = and-parts _ _ (and-parts _ (eachSnapshot (matchFits t) ss) (and-parts _ (matchAlike t ss) h .0) .0)
+shape-parts limits t ss h = and-parts _ _ (and-parts _ (eachSnapshot (matchFits t) ss) (and-parts _ (matchAlike t ss) h .0) .0)
 
-pub shape-objects : (t : EventType) (ss : List Snapshot) → dossierShape standard t ss ≡ true → length ss ≤ 8 → objects ss ≤ 256
-shape-objects t ss h n = go (isVersioned t) (shape-parts t ss h .1)
+pub shape-objects :
+    {limits : Limits} → Permitted limits → (t : EventType) (ss : List Snapshot) → dossierShape limits t ss ≡ true →
+    length ss ≤ limits .versions → objects ss ≤ 256
+shape-objects {limits} permitted t ss h n = go (isVersioned t) (shape-parts limits t ss h .1)
   where
-    go : (b : Bool) → cond b (eachSnapshot (versionedSnapshot t) ss) (unversionedShape standard t ss) ≡ true → objects ss ≤ 256
-    go true h = versioned-objects ss (versioned-sizes t ss h) n
-    go false h = unversioned-objects t ss h
+    go : (b : Bool) → cond b (eachSnapshot (versionedSnapshot t) ss) (unversionedShape limits t ss) ≡ true → objects ss ≤ 256
+    go true h = versioned-objects ss (versioned-sizes t ss h) (omega (arith, permitted .few-versions))
+    go false h = omega (arith, unversioned-objects limits t ss h, permitted .few-objects)
 
 -- a dossier of which questions 3, 5 and 6 are answered yes
 pub dossier-fits :
-    (t : EventType) (h : Headed) → DossierWritten standard h → dossierShape standard t (h .snapshots) ≡ true →
+    {limits : Limits} → Permitted limits → (t : EventType) (h : Headed) → DossierWritten limits h → dossierShape limits t (h .snapshots) ≡ true →
     eachSnapshot (snapshotValues t) (h .snapshots) ≡ true → length (h .head .type) ≤ 64 → length (dossierBytes h) ≤ dossierCapacity
-unfolding standard
-dossier-fits t h w q v n =
+dossier-fits {limits} permitted t h w q v n =
     let ss = h .snapshots in
-    dossier-size h w (snapshots-short t ss (shape-parts t ss q .0) v) n (shape-objects t ss q (w .body .within))
+    dossier-size permitted h w (snapshots-short t ss (shape-parts limits t ss q .0) v) n (shape-objects permitted t ss q (w .body .within))

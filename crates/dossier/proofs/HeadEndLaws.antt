@@ -8,7 +8,7 @@ use lib.ListN.{length, drop, length-append, length-drop}
 use lib.Seq.{drop-at, drop-drop}
 use borrow.Author.Tests.{leb-true}
 use Rattle.model.specs.Order.{Text, texts, rising}
-use Rattle.model.specs.Limits.{standard}
+use Rattle.model.specs.Limits.{Limits, Permitted}
 use Rattle.model.proofs.Cases.{never}
 use Rattle.packed.specs.Parse.{Parse, fail, got, suchThat, times}
 use Rattle.packed.specs.Packed.{readNumber, readText, readBytes, isWithin}
@@ -44,7 +44,7 @@ hashes-passed n t hs r e =
     }
 
 -- name, source and hashes of a head before t
-pub record Passed (s t : List ℕ) : Type 0 where
+pub record Passed (limits : Limits) (s t : List ℕ) : Type 0 where
   pub name : Text
   pub after-name : List ℕ
   pub named : readText s ≡ got name after-name
@@ -54,17 +54,17 @@ pub record Passed (s t : List ℕ) : Type 0 where
   pub count : ℕ
   pub after-count : List ℕ
   pub counted : readNumber after-source ≡ got count after-count
-  pub few : count ≤ 32
+  pub few : count ≤ limits .parents
   pub hashes : HashesPassed count after-count t
 
-passed : (s : List ℕ) (h : Head) (t : List ℕ) → readDossierHead standard s ≡ got h t → Passed s t
-unfolding readDossierHead readHead readParents standard
-passed s h t e =
+passed : (limits : Limits) (s : List ℕ) (h : Head) (t : List ℕ) → readDossierHead limits s ≡ got h t → Passed limits s t
+unfolding readDossierHead readHead readParents
+passed limits s h t e =
     let name = andThen-got (readText s) _ h t e in
     let source = andThen-got (suchThat isSource readText (name .left)) _ h t (name .second) in
-    let parents = andThen-got (readParents 32 (source .left)) _ h t (source .second) in
-    let count = andThen-got (suchThat (λ (n : ℕ). leb n 32) readNumber (source .left)) _ (parents .value) (parents .left) (parents .first) in
-    let number = suchThat-got (λ (n : ℕ). leb n 32) readNumber (source .left) (count .value) (count .left) (count .first) in
+    let parents = andThen-got (readParents (limits .parents) (source .left)) _ h t (source .second) in
+    let count = andThen-got (suchThat (λ (n : ℕ). leb n (limits .parents)) readNumber (source .left)) _ (parents .value) (parents .left) (parents .first) in
+    let number = suchThat-got (λ (n : ℕ). leb n (limits .parents)) readNumber (source .left) (count .value) (count .left) (count .first) in
     let hashes = andThen-got (times (readBytes 20) (count .value) (count .left)) _ (parents .value) (parents .left) (count .second) in
     let kept = foundIf-got (rising texts (hashes .value)) (hashes .value) (hashes .left) (parents .value) (parents .left) (hashes .second) in
     let last : parents .left ≡ t = cc (parents .second) in
@@ -78,7 +78,7 @@ passed s h t e =
       count = count .value;
       after-count = count .left;
       counted = number .was;
-      few = leb-true (count .value) 32 (number .test);
+      few = leb-true (count .value) (limits .parents) (number .test);
       hashes =
           subst (HashesPassed (count .value) (count .left)) (kept .rest ∙ last)
           (hashes-passed (count .value) (count .left) (hashes .value) (hashes .left) (hashes .first));
@@ -91,66 +91,65 @@ left-same : {A : Type 0} {a b : A} {t u : List ℕ} → got a t ≡ got b u → 
 left-same e = cc e
 
 -- the end of a head that was read and checked
-pub ends-read : (s : List ℕ) (x : HeadAt) (end : ℕ) → DossierHeadStops (readDossierHead standard s) s x end → HeadEnds s end
-ends-read s x end w = record { rest = λ h t e. left-same (sym e ∙ w .is) }
+pub ends-read :
+    (limits : Limits) (s : List ℕ) (x : HeadAt) (end : ℕ) → DossierHeadStops (readDossierHead limits s) s x end → HeadEnds limits s end
+ends-read limits s x end w = record { rest = λ h t e. left-same (sym e ∙ w .is) }
 
 -- whatever refutes a head that is read
-no-head : (s : List ℕ) → ((t : List ℕ) → Passed s t → _≡_ {A = ℕ} 0 1) → (end : ℕ) → HeadEnds s end
-no-head s bad end = record { rest = λ h t e. never (bad t (passed s h t e)) }
+no-head : (limits : Limits) (s : List ℕ) → ((t : List ℕ) → Passed limits s t → _≡_ {A = ℕ} 0 1) → (end : ℕ) → HeadEnds limits s end
+no-head limits s bad end = record { rest = λ h t e. never (bad t (passed limits s h t e)) }
 
 never-both : {A : Type 0} {p : Parse A} {a : A} {t : List ℕ} → p ≡ fail → p ≡ got a t → _≡_ {A = ℕ} 0 1
 never-both e f = cc
 
-abbrev parents : List ℕ → ℕ → Parse ℕ
-parents s at = suchThat (isWithin 0 32) readNumber (drop at s)
+abbrev parents : Limits → List ℕ → ℕ → Parse ℕ
+parents limits s at = suchThat (isWithin 0 (limits .parents)) readNumber (drop at s)
 
 -- Each part of a head starts where the one before it ends, as the readers answer. Where one reads nothing, no head is read, so that any position will do.
-module _ (s : List ℕ) {r₁ : TextAt} (h₁ : r₁ ≡ textAt s 0) where
-  pub no-name : r₁ ≡ text.NoText → (end : ℕ) → HeadEnds s end
-  no-name q = no-head s (λ t w. never-both (text-none s 0 (sym h₁ ∙ q)) (w .named))
+module _ (limits : Limits) (s : List ℕ) {r₁ : TextAt} (h₁ : r₁ ≡ textAt s 0) where
+  pub no-name : r₁ ≡ text.NoText → (end : ℕ) → HeadEnds limits s end
+  no-name q = no-head limits s (λ t w. never-both (text-none s 0 (sym h₁ ∙ q)) (w .named))
 
   module _ {name name-end : ℕ} (e₁ : r₁ ≡ text.Text name name-end) {r₂ : TextAt} (h₂ : r₂ ≡ textAt s name-end) where
-    source-there : (t : List ℕ) (w : Passed s t) → readText (drop name-end s) ≡ got (w .source) (w .after-source)
+    source-there : (t : List ℕ) (w : Passed limits s t) → readText (drop name-end s) ≡ got (w .source) (w .after-source)
     source-there t w =
         let at = left-same (sym (w .named) ∙ text-stops s 0 name name-end (sym h₁ ∙ e₁) .is) in
         ap readText (sym at) ∙ w .sourced
 
-    pub no-source : r₂ ≡ text.NoText → (end : ℕ) → HeadEnds s end
-    no-source q = no-head s (λ t w. never-both (text-none s name-end (sym h₂ ∙ q)) (source-there t w))
+    pub no-source : r₂ ≡ text.NoText → (end : ℕ) → HeadEnds limits s end
+    no-source q = no-head limits s (λ t w. never-both (text-none s name-end (sym h₂ ∙ q)) (source-there t w))
 
     module _ {source at : ℕ} (e₂ : r₂ ≡ text.Text source at) where
-      number-there : (t : List ℕ) (w : Passed s t) → readNumber (drop at s) ≡ got (w .count) (w .after-count)
+      number-there : (t : List ℕ) (w : Passed limits s t) → readNumber (drop at s) ≡ got (w .count) (w .after-count)
       number-there t w =
           let there = left-same (sym (source-there t w) ∙ text-stops s name-end source at (sym h₂ ∙ e₂) .is) in
           ap readNumber (sym there) ∙ w .counted
 
-      module _ {r₃ : NumberAt} (h₃ : NumberReads (parents s at) s at r₃) where
-        pub no-count : r₃ ≡ NoNumber → (end : ℕ) → HeadEnds s end
-        no-count q = no-head s (λ t w.
-            such-never (isWithin 0 32) readNumber s at (number-fail s at q h₃) (number-there t w) (is-within 0 32 (w .count) (omega arith) (w .few)))
+      module _ {r₃ : NumberAt} (h₃ : NumberReads (parents limits s at) s at r₃) where
+        pub no-count : r₃ ≡ NoNumber → (end : ℕ) → HeadEnds limits s end
+        no-count q = no-head limits s (λ t w.
+            such-never (isWithin 0 (limits .parents)) readNumber s at (number-fail s at q h₃) (number-there t w)
+            (is-within 0 (limits .parents) (w .count) (omega arith) (w .few)))
 
         -- n hashes follow from e on
         module _ {n e : ℕ} (e₃ : r₃ ≡ Number n e) where
-          count : Got (parents s at) s at n e
+          count : Got (parents limits s at) s at n e
           count = number-got e₃ h₃
 
-          pub hashes-few : n ≤ 32
-          hashes-few = got-bounds 0 32 count .1
+          pub hashes-few : Permitted limits → n ≤ 32
+          hashes-few permitted = omega (arith, got-bounds 0 (limits .parents) count .1, permitted .few-parents)
 
-          pub hashes-within : e ≤ length s
-          hashes-within = count .within
+          same : (t : List ℕ) (w : Passed limits s t) → got (w .count) (w .after-count) ≡ got n (drop e s)
+          same t w = sym (number-there t w) ∙ such-was (isWithin 0 (limits .parents)) readNumber s at count .0 .is
 
-          same : (t : List ℕ) (w : Passed s t) → got (w .count) (w .after-count) ≡ got n (drop e s)
-          same t w = sym (number-there t w) ∙ such-was (isWithin 0 32) readNumber s at count .0 .is
-
-          hashes-there : (t : List ℕ) → Passed s t → HashesPassed n (drop e s) t
+          hashes-there : (t : List ℕ) → Passed limits s t → HashesPassed n (drop e s) t
           hashes-there t w =
               let number : w .count ≡ n = cc (same t w) in
               subst (λ (k : ℕ). HashesPassed k (drop e s) t) number
               (subst (λ (l : List ℕ). HashesPassed (w .count) l t) (left-same (same t w)) (w .hashes))
 
-          pub ends-short : (end : ℕ) → length s - e < 20 * n → HeadEnds s end
-          ends-short end less = record { rest = λ h t q. absurd (omega (arith, hashes-there t (passed s h t q) .within, length-drop e s)) }
+          pub ends-short : (end : ℕ) → length s - e < 20 * n → HeadEnds limits s end
+          ends-short end less = record { rest = λ h t q. absurd (omega (arith, hashes-there t (passed limits s h t q) .within, length-drop e s)) }
 
-          pub ends-here : HeadEnds s (e + 20 * n)
-          ends-here = record { rest = λ h t q. hashes-there t (passed s h t q) .rest ∙ drop-drop (20 * n) e s }
+          pub ends-here : HeadEnds limits s (e + 20 * n)
+          ends-here = record { rest = λ h t q. hashes-there t (passed limits s h t q) .rest ∙ drop-drop (20 * n) e s }

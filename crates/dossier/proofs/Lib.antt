@@ -14,3 +14,4 @@ pub mod AskLaws
 pub mod AnswerLaws
 pub mod DossierQuestionLaws
 pub mod AcceptedLaws
+pub mod LargerLaws

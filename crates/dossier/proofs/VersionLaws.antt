@@ -11,6 +11,7 @@ use Rattle.model.specs.Order.{Text, texts, sets, lists, lex, equal}
 use Rattle.model.proofs.Cases.{three, and-false}
 use Rattle.model.proofs.OrderLaws.{equal-false}
 use Rattle.model.specs.Rule.{Cell, holds, differs, Snapshot, sizes}
+use Rattle.model.specs.Limits.{Limits}
 use Rattle.model.specs.Opening.{held, cellAt}
 use Rattle.values.specs.Decimal.{inDecimal}
 use Rattle.ontology.specs.Table.{EventType, isVersioned}
@@ -71,38 +72,40 @@ module _ (s : List ℕ) (y : Snapshot) (ats : List ℕ) (w : SetsAre s (map held
   holds-set o h = subst (λ (vs : List Text). SetIs s vs (setIn ats (mark - 1))) (held-at (y .cells) (mark - 1)) (w .each (mark - 1) (omega arith))
 
 -- what is asked of a snapshot by the type's mark: with none, and with one
-abbrev pub plainFits : Snapshot → Bool
-plainFits y = eqb (y .version) 0 && leb (sizes (y .cells)) 256
+abbrev pub plainFits : Limits → Snapshot → Bool
+plainFits limits y = eqb (y .version) 0 && leb (sizes (y .cells)) (limits .objects)
 
 abbrev pub datedFits : Snapshot → ℕ → Bool
 datedFits y mark = leb (sizes (y .cells)) 32 && holdsVersion (y .version) (cellAt y (mark - 1))
 
 module _
-    {s : List ℕ} {y : Snapshot} {x : SnapshotNumbers} {ats : List ℕ} (w : SnapshotIs s y x ats) {mark : ℕ} (ty : EventType) (m : mark ≡ ty .mark) where
-  plain : mark ≡ 0 → versionFits ty y ≡ plainFits y
+    (limits : Limits) {s : List ℕ} {y : Snapshot} {x : SnapshotNumbers} {ats : List ℕ} (w : SnapshotIs s y x ats) {mark : ℕ} (ty : EventType)
+    (m : mark ≡ ty .mark) where
+  plain : mark ≡ 0 → versionFits limits ty y ≡ plainFits limits y
   unfolding versionFits
-  plain h = ap (λ (n : ℕ). cond (ltb 0 n) (datedFits y (ty .mark)) (plainFits y)) (sym m ∙ h)
+  plain h = ap (λ (n : ℕ). cond (ltb 0 n) (datedFits y (ty .mark)) (plainFits limits y)) (sym m ∙ h)
 
-  dated : (mark ≡ 0 → ⊥) → versionFits ty y ≡ datedFits y mark
+  dated : (mark ≡ 0 → ⊥) → versionFits limits ty y ≡ datedFits y mark
   unfolding versionFits
   dated h =
-      ap (λ (n : ℕ). cond (ltb 0 n) (datedFits y n) (plainFits y)) (sym m)
-      ∙ ap (λ (b : Bool). cond b (datedFits y mark) (plainFits y)) (lt-ltb 0 mark (omega (arith, h)))
+      ap (λ (n : ℕ). cond (ltb 0 n) (datedFits y n) (plainFits limits y)) (sym m)
+      ∙ ap (λ (b : Bool). cond b (datedFits y mark) (plainFits limits y)) (lt-ltb 0 mark (omega (arith, h)))
 
-  pub plain-not : mark ≡ 0 → (x .version .0 ≡ 0 → ⊥) → false ≡ versionFits ty y
-  plain-not h ne = sym (plain h ∙ ap (λ (b : Bool). b && leb (sizes (y .cells)) 256) (ne-eqb (y .version) 0 (λ e. ne (w .version ∙ e))))
+  pub plain-not : mark ≡ 0 → (x .version .0 ≡ 0 → ⊥) → false ≡ versionFits limits ty y
+  plain-not h ne = sym (plain h ∙ ap (λ (b : Bool). b && leb (sizes (y .cells)) (limits .objects)) (ne-eqb (y .version) 0 (λ e. ne (w .version ∙ e))))
 
-  pub plain-so : mark ≡ 0 → x .version .0 ≡ 0 → leb (x .objects) 256 ≡ versionFits ty y
-  plain-so h e = sym (plain h ∙ ap₂ (λ (b : Bool) (n : ℕ). b && leb n 256) (eq-eqb (y .version) 0 (sym (w .version) ∙ e)) (sym (w .objects)))
+  pub plain-so : mark ≡ 0 → x .version .0 ≡ 0 → leb (x .objects) (limits .objects) ≡ versionFits limits ty y
+  plain-so h e = sym (plain h ∙ ap₂ (λ (b : Bool) (n : ℕ). b && leb n (limits .objects)) (eq-eqb (y .version) 0 (sym (w .version) ∙ e))
+      (sym (w .objects)))
 
   module _ (h : mark ≡ 0 → ⊥) where
-    by-objects : {b : Bool} → leb (sizes (y .cells)) 32 ≡ b → versionFits ty y ≡ (b && holdsVersion (y .version) (cellAt y (mark - 1)))
+    by-objects : {b : Bool} → leb (sizes (y .cells)) 32 ≡ b → versionFits limits ty y ≡ (b && holdsVersion (y .version) (cellAt y (mark - 1)))
     by-objects e = dated h ∙ ap (λ (b : Bool). b && holdsVersion (y .version) (cellAt y (mark - 1))) e
 
-    pub dated-large : 32 < x .objects → false ≡ versionFits ty y
+    pub dated-large : 32 < x .objects → false ≡ versionFits limits ty y
     dated-large k = sym (by-objects (lt-leb (sizes (y .cells)) 32 (omega (arith, w .objects))))
 
-    pub dated-so : x .objects ≤ 32 → {r : Bool} → r ≡ holdsVersion (y .version) (cellAt y (mark - 1)) → r ≡ versionFits ty y
+    pub dated-so : x .objects ≤ 32 → {r : Bool} → r ≡ holdsVersion (y .version) (cellAt y (mark - 1)) → r ≡ versionFits limits ty y
     dated-so k e = e ∙ sym (by-objects (le-leb (sizes (y .cells)) 32 (omega (arith, w .objects))))
 
 -- ---- one snapshot
@@ -122,21 +125,22 @@ cellsFit ty y = eachCell (cellFits (isVersioned ty)) isVacant (ty .properties) (
 abbrev pub matchesFew : EventType → Snapshot → Bool
 matchesFew ty y = leb (matchCount (ty .properties) (map held (y .cells))) 32
 
-module _ (ty : EventType) (y : Snapshot) where
-  pub fits-cells : {a : Bool} → not a ≡ true → a ≡ cellsFit ty y → false ≡ snapshotFits ty y
+module _ (limits : Limits) (ty : EventType) (y : Snapshot) where
+  pub fits-cells : {a : Bool} → not a ≡ true → a ≡ cellsFit ty y → false ≡ snapshotFits limits ty y
   unfolding snapshotFits
-  fits-cells {a} f e = sym (ap (λ (b : Bool). b && matchesFew ty y && versionFits ty y) (sym e ∙ not-true a f))
+  fits-cells {a} f e = sym (ap (λ (b : Bool). b && matchesFew ty y && versionFits limits ty y) (sym e ∙ not-true a f))
 
-  pub fits-match : {a : Bool} → not a ≡ true → a ≡ matchesFew ty y → false ≡ snapshotFits ty y
+  pub fits-match : {a : Bool} → not a ≡ true → a ≡ matchesFew ty y → false ≡ snapshotFits limits ty y
   unfolding snapshotFits
   fits-match {a} f e =
-      sym (ap (λ (b : Bool). cellsFit ty y && b && versionFits ty y) (sym e ∙ not-true a f)
-      ∙ ap (λ (b : Bool). b && versionFits ty y) (and-false (cellsFit ty y)))
+      sym (ap (λ (b : Bool). cellsFit ty y && b && versionFits limits ty y) (sym e ∙ not-true a f)
+      ∙ ap (λ (b : Bool). b && versionFits limits ty y) (and-false (cellsFit ty y)))
 
-  pub fits-all : {a r : Bool} → not a ≡ false → a ≡ cellsFit ty y → matchesFew ty y ≡ true → r ≡ versionFits ty y → r ≡ snapshotFits ty y
+  pub fits-all : {a r : Bool} → not a ≡ false → a ≡ cellsFit ty y → matchesFew ty y ≡ true → r ≡ versionFits limits ty y →
+      r ≡ snapshotFits limits ty y
   unfolding snapshotFits
-  fits-all {a} f e g k = k ∙ sym (ap₂ (λ (a b : Bool). a && b && versionFits ty y) (sym e ∙ not-false a f) g)
+  fits-all {a} f e g k = k ∙ sym (ap₂ (λ (a b : Bool). a && b && versionFits limits ty y) (sym e ∙ not-false a f) g)
 
-  -- where there are few objects, there are few match objects
-  pub match-within : {objects : ℕ} → objects ≡ sizes (y .cells) → objects ≤ 32 → matchesFew ty y ≡ true
-  match-within e h = le-leb (matchCount (ty .properties) (map held (y .cells))) 32 (omega (arith, e, match-few (ty .properties) (y .cells)))
+-- where there are few objects, there are few match objects
+pub match-within : (ty : EventType) (y : Snapshot) {objects : ℕ} → objects ≡ sizes (y .cells) → objects ≤ 32 → matchesFew ty y ≡ true
+match-within ty y e h = le-leb (matchCount (ty .properties) (map held (y .cells))) 32 (omega (arith, e, match-few (ty .properties) (y .cells)))

@@ -37,7 +37,7 @@ readSnapshot = do
   sets ← readSets 32 presence
   foundIf (areSmall sets) (record { version = version; cells = cellsOf differ sets })
 
--- "snapshot count 1 to 8, snapshots by rising event version"
+-- "snapshot count 1 to 8, snapshots by rising event version"; Q-13: "the reading of dossiers (3 for versions ..)", so as many as the limits allow
 unfoldable pub readBody : Limits → Layout (List Snapshot)
 readBody limits = do
   count ← suchThat (isWithin 1 (limits .versions)) readNumber

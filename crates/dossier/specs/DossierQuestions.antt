@@ -47,7 +47,8 @@ isLoneIfSingle p c = p .multivalued || isLone c
 unfoldable pub isLoneIfExtreme : Property → Cell → Bool
 isLoneIfExtreme p c = not (isMin p || isMax p) || isLone c
 
--- "has an unversioned one a single snapshot, version 0, no mark, at most 256 objects, min and max single"
+-- "has an unversioned one a single snapshot, version 0, no mark, at most 256 objects, min and max single"; Q-13: "the reading of dossiers (.. 5 for objects)",
+-- so as many objects as the limit allows
 unfoldable pub unversionedSnapshot : Limits → EventType → Snapshot → Bool
 unversionedSnapshot limits t s =
     eqb (s .version) 0 && eachCell (λ p c. not (isMark c) && isLoneIfExtreme p c) (λ c. true) (t .properties) (s .cells)

@@ -4,8 +4,9 @@ ghost use mathlib.Core.Option.{some};
 ghost use Prim.Native.Nat.{_*_, _≤_};
 ghost use lib.ListN.{length, take, drop};
 ghost use Rattle.model.specs.Order.{numbers, rising};
-ghost use Rattle.model.specs.Limits.{standard};
+ghost use Rattle.model.specs.Limits.{Permitted};
 ghost use Rattle.packed.specs.Parse.{times};
+ghost use Rattle.replies.specs.ChosenLimits.{limitsOf};
 ghost use Rattle.dossier.specs.DossierLayout.{Headed, dossierOf};
 ghost use Rattle.dossier.specs.DossierBody.{readSnapshot};
 ghost use Rattle.dossier.specs.code.DossierIndex.{versionNumbers, SnapshotsSay, HasRows, DossierReads};
@@ -18,9 +19,11 @@ use event::head::HeadAt;
 use event::head::no_head;
 use packed::read::NumberAt;
 use packed::read::read_within;
+use replies::limits::Limits;
 use values::versions::EventVersion;
 
-// Where each of the snapshots stands, its version, its differ number and how many objects it has; and the position after the last.
+// Where each of the snapshots stands, its version, its differ number and how many objects it has; and the position after the last. There is room for as many
+// as the largest limits allow.
 pub struct SnapshotsRead {
     pub ok: bool,
     pub next: usize,
@@ -115,25 +118,31 @@ fn no_dossier() -> DossierIndex
 }
 
 // How many snapshots a dossier has, so that its rows can be lent before it is read; some number where the bytes are no dossier, and 0 where none stands there.
-pub fn snapshot_count(s: &[u8]) -> usize
-    ensures { λ r. ⌜ ((h : Headed) → dossierOf standard (now (s .entry)) ≡ some h → length (h .snapshots) ≡ r) ⌝ }
+pub fn snapshot_count(s: &[u8], limits: Limits) -> usize
+    requires { ⌜ Permitted (limitsOf limits) ⌝ }
+    ensures { λ r. ⌜ ((h : Headed) → dossierOf (limitsOf limits) (now (s .entry)) ≡ some h → length (h .snapshots) ≡ r) ⌝ }
 {
-    match read_within(s, dossier_head_end(s), 1, 8) {
+    match read_within(s, dossier_head_end(s, limits), 1, limits.versions as u64) {
         NumberAt::Number(number, _) => number as usize,
         NumberAt::NoNumber => 0,
     }
 }
 
 // The index of a dossier that the bytes are, to their exact end.
-pub fn read_dossier(s: &[u8], rows: &mut [usize]) -> DossierIndex
-    requires { ⌜ HasRows (now s) (length (now rows)) ⌝ }
-    ensures { λ r. ⌜ DossierReads (dossierOf standard (now (s .entry))) (now (s .entry)) (now (rows .exit)) r ⌝ }
+pub fn read_dossier(s: &[u8], limits: Limits, rows: &mut [usize]) -> DossierIndex
+    requires { ⌜ Permitted (limitsOf limits) × HasRows (limitsOf limits) (now s) (length (now rows)) ⌝ }
+    ensures { λ r. ⌜ DossierReads (dossierOf (limitsOf limits) (now (s .entry))) (now (s .entry)) (now (rows .exit)) r ⌝ }
     ensures within { λ r. ⌜ 96 * r .count ≤ length (now (rows .entry)) ⌝ }
 {
-    let DossierHeadRead::Head(head, after_head) = read_dossier_head(s) else {
+    let DossierHeadRead::Head(head, after_head) = read_dossier_head(s, limits) else {
         return no_dossier();
     };
-    let NumberAt::Number(number, after_count) = read_within(s, after_head, 1, 8) else {
+    let NumberAt::Number(number, after_count) = read_within(
+        s,
+        after_head,
+        1,
+        limits.versions as u64,
+    ) else {
         return no_dossier();
     };
     let count = number as usize;

@@ -1,6 +1,7 @@
 // The head of a dossier. What a dossier begins with is known here alone.
 ghost use lib.ListN.{length};
-ghost use Rattle.model.specs.Limits.{standard};
+ghost use Rattle.model.specs.Limits.{Permitted};
+ghost use Rattle.replies.specs.ChosenLimits.{limitsOf};
 ghost use Rattle.packed.specs.code.Written.{Wrote};
 ghost use Rattle.event.specs.Head.{Head};
 ghost use Rattle.event.specs.code.EventIndex.{HeadParts};
@@ -14,6 +15,7 @@ use packed::read::NumberAt;
 use packed::read::TextAt;
 use packed::read::read_text;
 use packed::read::read_within;
+use replies::limits::Limits;
 
 // Where the head's parts stand, and the position after it.
 pub enum DossierHeadRead {
@@ -21,10 +23,10 @@ pub enum DossierHeadRead {
     NoHead,
 }
 
-pub fn read_dossier_head(s: &[u8]) -> DossierHeadRead
-    ensures { λ r. ⌜ DossierHeadReads (readDossierHead standard (now (s .entry))) (now (s .entry)) r ⌝ }
+pub fn read_dossier_head(s: &[u8], limits: Limits) -> DossierHeadRead
+    ensures { λ r. ⌜ DossierHeadReads (readDossierHead (limitsOf limits) (now (s .entry))) (now (s .entry)) r ⌝ }
 {
-    let HeadRead::Head(head) = read_head(s, 32) else {
+    let HeadRead::Head(head) = read_head(s, limits.parents) else {
         return DossierHeadRead::NoHead;
     };
     let parents = head.parents;
@@ -32,8 +34,9 @@ pub fn read_dossier_head(s: &[u8]) -> DossierHeadRead
 }
 
 // Where a dossier's head ends; some position where there is none. Only what tells this is read, since all is read and checked with the dossier.
-pub fn dossier_head_end(s: &[u8]) -> usize
-    ensures { λ r. ⌜ HeadEnds (now (s .entry)) r ⌝ }
+pub fn dossier_head_end(s: &[u8], limits: Limits) -> usize
+    requires { ⌜ Permitted (limitsOf limits) ⌝ }
+    ensures { λ r. ⌜ HeadEnds (limitsOf limits) (now (s .entry)) r ⌝ }
 {
     let TextAt::Text(_, name_end) = read_text(s, 0) else {
         return 0;
@@ -41,7 +44,8 @@ pub fn dossier_head_end(s: &[u8]) -> usize
     let TextAt::Text(_, source_end) = read_text(s, name_end) else {
         return 0;
     };
-    let NumberAt::Number(number, after_count) = read_within(s, source_end, 0, 32) else {
+    let NumberAt::Number(number, after_count) = read_within(s, source_end, 0, limits.parents as u64)
+    else {
         return 0;
     };
     let size = 20 * number as usize;

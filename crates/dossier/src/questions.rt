@@ -7,7 +7,7 @@ ghost use lib.ListN.{length};
 ghost use lib.Dec.{ltb, eqb};
 ghost use Rattle.model.specs.Order.{Text, sets, lists, equal};
 ghost use Rattle.model.specs.Rule.{Snapshot};
-ghost use Rattle.model.specs.Limits.{standard};
+ghost use Rattle.replies.specs.ChosenLimits.{limitsOf};
 ghost use Rattle.ontology.specs.Table.{EventType, Table, isVersioned, typeNamed};
 ghost use Rattle.ontology.specs.TableLayout.{tableOf};
 ghost use Rattle.ontology.specs.code.TypeIndex.{PropertiesAre, TypeIs, TypeSays};
@@ -27,6 +27,7 @@ use event::head::text_part;
 use event::spaces::sets_in_space;
 use ontology::tables::TableRead;
 use ontology::types::TypeIndex;
+use replies::limits::Limits;
 
 // The number of the first question of 5 and 6 that a snapshot is refused by, or 0. All snapshots have the match sets of the first.
 fn ask_snapshot(
@@ -36,6 +37,7 @@ fn ask_snapshot(
     x: SnapshotNumbers,
     m: ShapeMasks,
     mark: usize,
+    limits: Limits,
     count: usize,
     properties: &[usize],
 ) -> u8
@@ -43,9 +45,10 @@ fn ask_snapshot(
     ensures { λ r. ⌜ ((u : List ℕ) (ty : EventType) (xs : List (List Text)) (y : Snapshot) → mark ≡ ty .mark
         → PropertiesAre u (ty .properties) count (now (properties .entry)) → MasksAre (isVersioned ty) (ty .properties) m → KindsAre ty
         → SetsAre (now (s .entry)) xs (now (first .entry)) → SnapshotIs (now (s .entry)) y x (now (row .entry))
-        → r ≡ shapeNumber (snapshotFits ty y && equal (lists sets) (matchSets (ty .properties) xs) (snapshotMatch ty y)) (snapshotValues ty y)) ⌝ }
+        → r ≡ shapeNumber (snapshotFits (limitsOf limits) ty y && equal (lists sets) (matchSets (ty .properties) xs) (snapshotMatch ty y))
+        (snapshotValues ty y)) ⌝ }
 {
-    if !snapshot_fits(s, row, x, m, mark, count, properties) {
+    if !snapshot_fits(s, row, x, m, mark, limits, count, properties) {
         return 5;
     }
     if !is_match_same(count, properties, s, first, s, row) {
@@ -78,6 +81,7 @@ fn is_lone(mark: usize, count: usize) -> bool
 // Questions 5 and 6 of a dossier's snapshots.
 fn ask_snapshots(
     s: &[u8],
+    limits: Limits,
     d: DossierIndex,
     rows: &[usize],
     t: TypeIndex,
@@ -86,7 +90,7 @@ fn ask_snapshots(
     requires { ⌜ (t .count ≤ 32) × (d .count ≤ 8) × (96 * d .count ≤ length (now rows)) × (length (now properties) ≡ 96) ⌝ }
     ensures { λ r. ⌜ ((u : List ℕ) (ty : EventType) (h : Headed) → TypeIs u ty t (now (properties .entry)) → KindsAre ty
         → DossierIs (now (s .entry)) h d → RowsAre (now (s .entry)) (h .snapshots) (now (rows .entry))
-        → r ≡ shapeNumber (dossierShape standard ty (h .snapshots)) (eachSnapshot (snapshotValues ty) (h .snapshots))) ⌝ }
+        → r ≡ shapeNumber (dossierShape (limitsOf limits) ty (h .snapshots)) (eachSnapshot (snapshotValues ty) (h .snapshots))) ⌝ }
 {
     if !is_lone(t.mark, d.count) {
         return 5;
@@ -108,6 +112,7 @@ fn ask_snapshots(
             x,
             m,
             t.mark,
+            limits,
             t.count,
             properties,
         );
@@ -133,16 +138,17 @@ pub fn type_name(s: &[u8], d: DossierIndex) -> &[u8]
 // read once for all dossiers of that type.
 pub fn ask_dossier(
     s: &[u8],
+    limits: Limits,
     d: DossierIndex,
     rows: &[usize],
     read: TableRead,
     properties: &[usize],
 ) -> u8
     requires { ⌜ (96 * d .count ≤ length (now rows)) × (length (now properties) ≡ 96) ⌝ }
-    requires { ⌜ DossierReads (dossierOf standard (now s)) (now s) (now rows) d × (read .found ≡ true → read .index .count ≤ 32) ⌝ }
+    requires { ⌜ DossierReads (dossierOf (limitsOf limits) (now s)) (now s) (now rows) d × (read .found ≡ true → read .index .count ≤ 32) ⌝ }
     ensures { λ r. ⌜ ((table : List ℕ) (ts : Table) → tableOf table ≡ some ts
         → ((h : Headed) → DossierIs (now (s .entry)) h d → TypeSays (typeNamed (h .head .type) ts) table (now (properties .entry)) read)
-        → DossierAnswers (dossierAsked standard ts (now (s .entry))) table (read .index) (now (properties .entry)) r) ⌝ }
+        → DossierAnswers (dossierAsked (limitsOf limits) ts (now (s .entry))) table (read .index) (now (properties .entry)) r) ⌝ }
 {
     if !d.ok {
         return 3;
@@ -150,7 +156,7 @@ pub fn ask_dossier(
     if !read.found {
         return 4;
     }
-    ask_snapshots(s, d, rows, read.index, properties)
+    ask_snapshots(s, limits, d, rows, read.index, properties)
 }
 
 // Question 7: whether two dossiers agree in type, source and match sets. The match sets of a dossier are those of its first snapshot.

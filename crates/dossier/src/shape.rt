@@ -8,6 +8,7 @@ ghost use Rattle.model.specs.Order.{Text, sets, equal};
 ghost use Rattle.model.specs.Rule.{Cell, Snapshot, sizes};
 ghost use Rattle.model.specs.Opening.{held, cellAt};
 ghost use Rattle.values.specs.Decimal.{inDecimal};
+ghost use Rattle.replies.specs.ChosenLimits.{limitsOf};
 ghost use Rattle.ontology.specs.Table.{Property, EventType, isVersioned};
 ghost use Rattle.ontology.specs.code.TypeIndex.{PropertiesAre, hasExtreme, hasMatch};
 ghost use Rattle.event.specs.EventQuestions.{matchCount};
@@ -24,6 +25,7 @@ use ontology::properties::PropertyAt;
 use ontology::properties::is_extreme;
 use ontology::properties::is_match;
 use ontology::properties::property_at;
+use replies::limits::Limits;
 use values::numerals::is_in_decimal;
 use values::versions::EventVersion;
 
@@ -169,17 +171,23 @@ fn holds_version(s: &[u8], sets: &[usize], version: EventVersion, mark: usize) -
     is_version(s, set_at(sets, mark - 1), version)
 }
 
-fn fits_by_version(s: &[u8], sets: &[usize], x: SnapshotNumbers, mark: usize) -> bool
+fn fits_by_version(
+    s: &[u8],
+    sets: &[usize],
+    x: SnapshotNumbers,
+    mark: usize,
+    limits: Limits,
+) -> bool
     requires { ⌜ length (now sets) ≡ 96 ⌝ }
     ensures { λ r. ⌜ ((y : Snapshot) (ty : EventType) → mark ≡ ty .mark → SnapshotIs (now (s .entry)) y x (now (sets .entry))
-        → r ≡ versionFits ty y) ⌝ }
+        → r ≡ versionFits (limitsOf limits) ty y) ⌝ }
 {
     let version = x.version;
     if mark == 0 {
         if version.0 != 0 {
             return false;
         }
-        return x.objects <= 256;
+        return x.objects <= limits.objects;
     }
     if 32 < x.objects {
         return false;
@@ -194,13 +202,15 @@ pub fn snapshot_fits(
     x: SnapshotNumbers,
     m: ShapeMasks,
     mark: usize,
+    limits: Limits,
     count: usize,
     properties: &[usize],
 ) -> bool
     requires { ⌜ (count ≤ 32) × (length (now sets) ≡ 96) × (length (now properties) ≡ 96) ⌝ }
     ensures { λ r. ⌜ ((u : List ℕ) (ty : EventType) (y : Snapshot) → mark ≡ ty .mark
         → PropertiesAre u (ty .properties) count (now (properties .entry))
-        → MasksAre (isVersioned ty) (ty .properties) m → SnapshotIs (now (s .entry)) y x (now (sets .entry)) → r ≡ snapshotFits ty y) ⌝ }
+        → MasksAre (isVersioned ty) (ty .properties) m → SnapshotIs (now (s .entry)) y x (now (sets .entry)) →
+        r ≡ snapshotFits (limitsOf limits) ty y) ⌝ }
 {
     if !cells_fit(m, count, x.differ, x.objects, sets) {
         return false;
@@ -210,5 +220,5 @@ pub fn snapshot_fits(
             return false;
         }
     }
-    fits_by_version(s, sets, x, mark)
+    fits_by_version(s, sets, x, mark, limits)
 }

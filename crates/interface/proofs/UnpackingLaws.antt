@@ -1,5 +1,6 @@
 -- What the macros of include/merger.h give back: of the value call its whole answer, of every other call its reply.
 use mathlib.Core.Path.{_≡_, refl, sym, ap, ap₂, _∙_}
+use mathlib.Core.Logic.{⊎-elim}
 use mathlib.Core.List.{List}
 use Prim.Native.Nat.{ℕ, zero, suc, _+_, _/_, _%_, _^_, _≤_, _<_}
 use native.Mathlib.Omega.{arith}
@@ -10,7 +11,7 @@ use Rattle.replies.specs.Answers.{Reply}
 use Rattle.replies.specs.Capacities.{dossierCapacity}
 use Rattle.event.specs.Value.{Part, StandsIn, valueCall}
 use Rattle.event.proofs.ValueLaws.{value-stands-in, value-ends}
-use Rattle.batch.specs.Taken.{Bounded}
+use Rattle.batch.specs.Taken.{IsNumber, IsNumberOr18, Bounded}
 use Rattle.report.proofs.ReportDemandLaws.{report-bounded}
 use Rattle.theorems.proofs.ReplyBoundLaws.{replies-bounded}
 use Rattle.interface.specs.Packing.{kinded, packedRefusal, packedFinding, packedAs, versionOr, versionAfter, packedPart}
@@ -28,13 +29,25 @@ unfolding placeOf packedFinding kinded
 finding-tells (conflictAt v p) h = (omega arith, omega arith)
 finding-tells (overfullAt p) h = (omega arith, omega arith)
 
+-- numbers that have eight bits
+abbrev Small : (ℕ → Type 0) → Type 0
+Small Number = (n : ℕ) → Number n → n < 2 ^ 8
+
+small : Small IsNumber
+small n h = omega (arith, h .1)
+
+small-or-18 : Small IsNumberOr18
+small-or-18 n h = ⊎-elim (small n) (λ (e : n ≡ 18). omega (arith, e)) h
+
 -- A reply whose numbers are bounded is told in full.
-reply-tells : (kind size : ℕ) → size < 2 ^ 32 → (r : Reply) → Bounded size r → Tells kind r (packedAs kind r)
+reply-tells :
+    {Number : ℕ → Type 0} → Small Number → (kind size : ℕ) → size < 2 ^ 32 → (r : Reply) → Bounded Number size r →
+    Tells kind r (packedAs kind r)
 unfolding Bounded packedAs kinded
-reply-tells kind size l (Reply.done n) h = (omega arith, omega arith)
-reply-tells kind size l (Reply.found f) h = finding-tells f (omega (arith, h))
-reply-tells kind size l (Reply.refused n) h = refusal-tells n 0 (omega (arith, h .1)) (omega arith)
-reply-tells kind size l (Reply.refusedAt n i) h = refusal-tells n i (omega (arith, h .0 .1)) (omega (arith, h .1))
+reply-tells few kind size l (Reply.done n) h = (omega arith, omega arith)
+reply-tells few kind size l (Reply.found f) h = finding-tells f (omega (arith, h))
+reply-tells few kind size l (Reply.refused n) h = refusal-tells n 0 (few n h) (omega arith)
+reply-tells few kind size l (Reply.refusedAt n i) h = refusal-tells n i (few n (h .0)) (omega (arith, h .1))
 
 -- what a program reads from a number of this kind by the macros; the event version of a conflict is not in the number
 unfoldable readAs : ℕ → ℕ → Reply
@@ -65,18 +78,18 @@ reply-read kind k (Reply.refused n) reply t = read-refusal n 0 reply t
 reply-read kind k (Reply.refusedAt n i) reply t = read-refusal n i reply t
 
 call-told :
-    {A : Type 0} (kind : ℕ) → kind < 2 → {size : ℕ} {reply : A → Reply} → ((a : A) → Bounded size (reply a)) → size < 2 ^ 32 →
-    CallTold kind reply
-call-told {A} kind k {size} {reply} h l = record { tells = told; same = λ a b e. sym (read a) ∙ ap (λ (n : ℕ). readAs (kindOf n) n) e ∙ read b }
+    {Number : ℕ → Type 0} → Small Number → {A : Type 0} (kind : ℕ) → kind < 2 → {size : ℕ} {reply : A → Reply} →
+    ((a : A) → Bounded Number size (reply a)) → size < 2 ^ 32 → CallTold kind reply
+call-told few {A} kind k {size} {reply} h l = record { tells = told; same = λ a b e. sym (read a) ∙ ap (λ (n : ℕ). readAs (kindOf n) n) e ∙ read b }
   where
     told : (a : A) → Tells kind (reply a) (packedAs kind (reply a))
-    told a = reply-tells kind size l (reply a) (h a)
+    told a = reply-tells few kind size l (reply a) (h a)
 
     read : (a : A) → readAs (kindOf (packedAs kind (reply a))) (packedAs kind (reply a)) ≡ inNumber (reply a)
     read a = reply-read kind k (reply a) (packedAs kind (reply a)) (told a)
 
-done-told : {A : Type 0} {size : ℕ} {reply : A → Reply} → ((a : A) → Bounded size (reply a)) → size < 2 ^ 32 → CallTold 0 reply
-done-told h l = call-told 0 (omega arith) h l
+done-told : {A : Type 0} {size : ℕ} {reply : A → Reply} → ((a : A) → Bounded IsNumber size (reply a)) → size < 2 ^ 32 → CallTold 0 reply
+done-told h l = call-told small 0 (omega arith) h l
 
 -- ---- the part of an event that has a value
 
@@ -109,12 +122,13 @@ replies-told =
     let b = replies-bounded in record {
       table = done-told (b .table) (omega arith);
       check = done-told (λ (table, event, old). b .check table event old) (omega arith);
-      combine = done-told (λ (table, left, right, old). b .combine table left right old) (omega arith);
-      opens = call-told 1 (omega arith) (λ (table, dossier, old). b .opens table dossier old) (omega arith);
-      version = λ table dossier old v p before e. ap (λ (r : Reply). versionAfter r before) e;
+      combine =
+          call-told small-or-18 0 (omega arith) (λ (limits, table, left, right, old). b .combine limits table left right old) (omega arith);
+      opens = call-told small-or-18 1 (omega arith) (λ (limits, table, dossier, old). b .opens limits table dossier old) (omega arith);
+      version = λ limits table dossier old v p before e. ap (λ (r : Reply). versionAfter r before) e;
       hashText = done-told (λ (table, event, old). b .hashText table event old) (omega arith);
       hash = done-told (λ (table, event, old). b .hash table event old) (omega arith);
       value = value-told;
-      batch = done-told (λ (rooms, table, batch, old). b .batch rooms table batch old) (omega arith);
+      batch = call-told small-or-18 0 (omega arith) (λ (limits, rooms, table, batch, old). b .batch limits rooms table batch old) (omega arith);
       report = done-told (λ (input, old). report-bounded .report input old) (omega arith);
     }

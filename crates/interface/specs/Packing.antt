@@ -1,9 +1,14 @@
--- How a reply is handed to C: one number of 64 bits. Bits 56 to 63 tell what it is, the others have its numbers.
+-- How a reply is handed to C: one number of 64 bits. Bits 56 to 63 tell what it is, the others have its numbers. Limits are handed over as three numbers.
 use Prim.Native.Nat.{ℕ, _+_, _*_, _^_, _%_}
 use lib.ListN.{length}
+use Rattle.model.specs.Limits.{Limits}
 use Rattle.model.specs.Opening.{Finding, conflictAt, overfullAt}
 use Rattle.replies.specs.Answers.{Reply}
 use Rattle.event.specs.Value.{Part}
+
+-- The limits of a call, as C hands them over
+abbrev pub chosen : ℕ → ℕ → ℕ → Limits
+chosen versions parents objects = record { versions = versions; parents = parents; objects = objects }
 
 -- 0 done, 1 merged, 2 conflict, 3 overfull, 4 refused
 unfoldable pub kinded : ℕ → ℕ → ℕ

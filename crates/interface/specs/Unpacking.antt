@@ -3,7 +3,7 @@ use Prim.Native.Nat.{ℕ, _+_, _/_, _%_, _^_, _≤_}
 use mathlib.Core.Path.{_≡_}
 use mathlib.Core.List.{List}
 use lib.ListN.{length}
-use Rattle.model.specs.Limits.{standard}
+use Rattle.model.specs.Limits.{Limits}
 use Rattle.model.specs.Opening.{Finding, conflictAt, overfullAt}
 use Rattle.packed.specs.Packed.{part}
 use Rattle.replies.specs.Answers.{Reply}
@@ -86,15 +86,18 @@ pub record PartTold (event : List ℕ) (x : Part) (reply : ℕ) : Type 0 where
 pub record Told : Type 0 where
   pub table : CallTold 0 tableCall
   pub check : CallTold 0 (λ ((table, event, old) : List ℕ × List ℕ × List ℕ). checkCall table event old .reply)
-  pub combine : CallTold 0 (λ ((table, left, right, old) : List ℕ × List ℕ × List ℕ × List ℕ). combineCall standard table left right old .reply)
-  pub opens : CallTold 1 (λ ((table, dossier, old) : List ℕ × List ℕ × List ℕ). openCall standard table dossier old .reply)
+  pub combine : CallTold 0 (λ ((limits, table, left, right, old) : Limits × List ℕ × List ℕ × List ℕ × List ℕ).
+      combineCall limits table left right old .reply)
+  pub opens : CallTold 1 (λ ((limits, table, dossier, old) : Limits × List ℕ × List ℕ × List ℕ). openCall limits table dossier old .reply)
   -- the event version of a conflict is what the caller's version is set to
-  pub version : (table dossier old : List ℕ) (v p before : ℕ) → openCall standard table dossier old .reply ≡ Reply.found (conflictAt v p) →
-      versionAfter (openCall standard table dossier old .reply) before ≡ v
+  pub version : (limits : Limits) (table dossier old : List ℕ) (v p before : ℕ) →
+      openCall limits table dossier old .reply ≡ Reply.found (conflictAt v p) →
+      versionAfter (openCall limits table dossier old .reply) before ≡ v
   pub hashText : CallTold 0 (λ ((table, event, old) : List ℕ × List ℕ × List ℕ). hashTextCall table event old .reply)
   pub hash : CallTold 0 (λ ((table, event, old) : List ℕ × List ℕ × List ℕ). hashCall table event old .reply)
   -- "gets the value's own bytes in the caller's event": its number tells where they stand
   pub value :
       (table event : List ℕ) (place index : ℕ) → PartTold event (valueCall table event place index) (packedPart (valueCall table event place index))
-  pub batch : CallTold 0 (λ ((rooms, table, batch, old) : Rooms × List ℕ × List ℕ × List ℕ). batchCall standard rooms table batch old .reply)
+  pub batch : CallTold 0 (λ ((limits, rooms, table, batch, old) : Limits × Rooms × List ℕ × List ℕ × List ℕ).
+      batchCall limits rooms table batch old .reply)
   pub report : CallTold 0 (λ ((input, old) : List ℕ × List ℕ). reportCall input old .reply)

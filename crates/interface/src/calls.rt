@@ -1,7 +1,6 @@
 // Each call as C sees it. What it asks and answers is said in include/merger.h.
 ghost use mathlib.Core.Path.{_≡_};
 ghost use lib.ListN.{length};
-ghost use Rattle.model.specs.Limits.{standard};
 ghost use Rattle.replies.specs.Replies.{findingOf, openReplied};
 ghost use Rattle.ontology.specs.TableCall.{tableCall};
 ghost use Rattle.event.specs.Value.{valueCall};
@@ -11,7 +10,7 @@ ghost use Rattle.combining.specs.CombineCall.{combineCall};
 ghost use Rattle.opening.specs.OpenCall.{openCall};
 ghost use Rattle.batch.specs.Batch.{batchCall};
 ghost use Rattle.report.specs.Report.{reportCall};
-ghost use Rattle.interface.specs.Packing.{packed, packedOpened, versionOr, versionAfter, packedPart};
+ghost use Rattle.interface.specs.Packing.{chosen, packed, packedOpened, versionOr, versionAfter, packedPart};
 use crate::pack::pack_batch;
 use crate::pack::pack_combined;
 use crate::pack::pack_opened;
@@ -30,6 +29,7 @@ use hashing::calls::hash_text;
 use ontology::tables::check_table;
 use ontology::tables::read_table;
 use opening::calls::open_dossier;
+use replies::limits::Limits;
 use replies::reply::Finding;
 use replies::reply::Opened;
 use replies::reply::Reply;
@@ -56,15 +56,30 @@ pub extern "C" fn merger_check_event(table: &[u8], event: &[u8], out: &mut [u8])
 
 #[no_mangle]
 pub extern "C" fn merger_combine<'a>(
+    versions: usize,
+    parents: usize,
+    objects: usize,
     table: &[u8],
     left: &'a [u8],
     right: &'a [u8],
     out: &mut [u8],
 ) -> u64
-    ensures { λ r. ⌜ r ≡ packed (combineCall standard (now (table .entry)) (now (left .entry)) (now (right .entry)) (now (out .entry)) .reply) ⌝ }
-    ensures { λ _. ⌜ now (out .exit) ≡ combineCall standard (now (table .entry)) (now (left .entry)) (now (right .entry)) (now (out .entry)) .bytes ⌝ }
+    ensures { λ r. ⌜ r ≡ packed (combineCall (chosen versions parents objects)
+        (now (table .entry)) (now (left .entry)) (now (right .entry)) (now (out .entry)) .reply) ⌝ }
+    ensures { λ _. ⌜ now (out .exit) ≡ combineCall (chosen versions parents objects)
+        (now (table .entry)) (now (left .entry)) (now (right .entry)) (now (out .entry)) .bytes ⌝ }
 {
-    pack_combined(combine(table, left, right, out))
+    pack_combined(combine(
+        Limits {
+            versions,
+            parents,
+            objects,
+        },
+        table,
+        left,
+        right,
+        out,
+    ))
 }
 
 // The event version of what opening finds, or what was there before.
@@ -90,17 +105,27 @@ fn conflict_version(r: Opened, old: u64) -> u64
 
 #[no_mangle]
 pub extern "C" fn merger_open(
+    versions: usize,
+    parents: usize,
+    objects: usize,
     table: &[u8],
     dossier: &[u8],
     out: &mut [u8],
     version: &mut u64,
 ) -> u64
-    ensures { λ r. ⌜ r ≡ packedOpened (openCall standard (now (table .entry)) (now (dossier .entry)) (now (out .entry)) .reply) ⌝ }
-    ensures { λ _. ⌜ now (out .exit) ≡ openCall standard (now (table .entry)) (now (dossier .entry)) (now (out .entry)) .bytes ⌝ }
-    ensures { λ _. ⌜ now (version .exit) ≡ versionAfter (openCall standard (now (table .entry)) (now (dossier .entry)) (now (out .entry)) .reply)
-        (now (version .entry)) ⌝ }
+    ensures { λ r. ⌜ r ≡ packedOpened (openCall (chosen versions parents objects)
+        (now (table .entry)) (now (dossier .entry)) (now (out .entry)) .reply) ⌝ }
+    ensures { λ _. ⌜ now (out .exit) ≡ openCall (chosen versions parents objects)
+        (now (table .entry)) (now (dossier .entry)) (now (out .entry)) .bytes ⌝ }
+    ensures { λ _. ⌜ now (version .exit) ≡ versionAfter (openCall (chosen versions parents objects)
+        (now (table .entry)) (now (dossier .entry)) (now (out .entry)) .reply) (now (version .entry)) ⌝ }
 {
-    let r = open_dossier(table, dossier, out);
+    let limits = Limits {
+        versions,
+        parents,
+        objects,
+    };
+    let r = open_dossier(limits, table, dossier, out);
     *version = conflict_version(r, *version);
     pack_opened(r)
 }
@@ -144,6 +169,9 @@ pub extern "C" fn merger_hash(table: &[u8], event: &[u8], out: &mut [u8]) -> u64
 
 #[no_mangle]
 pub extern "C" fn merger_batch(
+    versions: usize,
+    parents: usize,
+    objects: usize,
     table: &[u8],
     events: &[u8],
     out: &mut [u8],
@@ -151,14 +179,26 @@ pub extern "C" fn merger_batch(
     b: &mut [u8],
     c: &mut [u8],
 ) -> u64
-    ensures { λ r. ⌜ r ≡ packed (batchCall standard
+    ensures { λ r. ⌜ r ≡ packed (batchCall (chosen versions parents objects)
         (record { output = length (now (out .entry)); first = length (now (a .entry)); second = length (now (b .entry)); third = length (now (c .entry)) })
         (now (table .entry)) (now (events .entry)) (now (out .entry)) .reply) ⌝ }
-    ensures { λ _. ⌜ now (out .exit) ≡ batchCall standard
+    ensures { λ _. ⌜ now (out .exit) ≡ batchCall (chosen versions parents objects)
         (record { output = length (now (out .entry)); first = length (now (a .entry)); second = length (now (b .entry)); third = length (now (c .entry)) })
         (now (table .entry)) (now (events .entry)) (now (out .entry)) .bytes ⌝ }
 {
-    pack_batch(batch(table, events, out, a, b, c))
+    pack_batch(batch(
+        Limits {
+            versions,
+            parents,
+            objects,
+        },
+        table,
+        events,
+        out,
+        a,
+        b,
+        c,
+    ))
 }
 
 #[no_mangle]

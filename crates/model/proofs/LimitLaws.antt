@@ -1,5 +1,5 @@
 -- A set of events that passes a limit passes it with more events too (`fits-within`) and under smaller limits (`fits-larger`); one event passes none
--- (`fits-one`).
+-- (`fits-one`). What is permitted is within its bounds (`permitted`).
 use mathlib.Core.Path.{_≡_, refl, ap}
 use mathlib.Core.Bool.{Bool, true, false, _||_}
 use mathlib.Core.List.{List, [], _∷_, map, flatten, append-nil, List·Memᴰ·eq-of-singleton}
@@ -13,12 +13,44 @@ use Rattle.model.specs.Sets.{Within, canon, smallest}
 use Rattle.model.specs.Rule.{allAre, agreed, Choice, every, least, TypeView, View, places, Snapshot, Dossier, cell, ofVersion, cellOf, snapshot, ruleAt}
 use Rattle.model.specs.Rule.{rule, size, sizes, objects}
 use Rattle.model.proofs.PartLaws.{count, map-within, flatten-within, only-within}
-use Rattle.model.specs.Limits.{Limits, fits}
+use Rattle.model.specs.Limits.{Limits, isPermitted, Permitted, NoLarger, fits}
 use Rattle.model.proofs.Cases.{and-parts, or-part}
 use Rattle.model.proofs.SetLaws.{ups-canon, canon-in, canon-of, total, total-within, length-canon-within, length-canon}
 use Rattle.model.proofs.ValidLaws.{one-snapshot}
 
--- the limits as bounds
+-- ---- what is permitted
+
+pub permitted : (l : Limits) → isPermitted l ≡ true → Permitted l
+unfolding isPermitted
+permitted l h =
+    let (a, o) = and-parts _ (leb (l .objects) 256) h in
+    let (b, n) = and-parts _ (leb 32 (l .objects)) a in
+    let (c, q) = and-parts _ (leb (l .parents) 32) b in
+    let (d, p) = and-parts _ (leb 8 (l .parents)) c in
+    let (u, v) = and-parts _ (leb (l .versions) 8) d in
+    record {
+      some-versions = leb-true _ _ u;
+      few-versions = leb-true _ _ v;
+      some-parents = leb-true _ _ p;
+      few-parents = leb-true _ _ q;
+      some-objects = leb-true _ _ n;
+      few-objects = leb-true _ _ o;
+    }
+
+pub is-permitted : (l : Limits) → Permitted l → isPermitted l ≡ true
+unfolding isPermitted
+is-permitted l h =
+    rw (
+      le-leb _ _ (h .some-versions),
+      le-leb _ _ (h .few-versions),
+      le-leb _ _ (h .some-parents),
+      le-leb _ _ (h .few-parents),
+      le-leb _ _ (h .some-objects),
+      le-leb _ _ (h .few-objects),
+    )
+
+-- ---- the limits as bounds
+
 module _ (l : Limits) (t : TypeView) (d : Dossier) where
   pub fits-bounds :
       fits l t d ≡ true → (length (d .parents) ≤ l .parents) × (length (d .snapshots) ≤ l .versions)
@@ -92,15 +124,18 @@ module _ {Event : Type 0} (t : View Event) where
         (λ v. sizes-within (places (t .type)) (ofVersion t v es) (ofVersion t v fs) u (only-within numbers (t .event .version) v es fs h))
         (canon numbers many) (canon numbers few) (ups-canon numbers many) (ups-canon numbers few) versions-within)
 
+no-larger : (l : Limits) → NoLarger l l
+no-larger l = record { versions = omega arith; parents = omega arith; objects = omega arith }
+
 -- every amount is no larger and every limit no smaller
-module _ (t : TypeView) (l m : Limits) (vs : l .versions ≤ m .versions) (ps : l .parents ≤ m .parents) (os : l .objects ≤ m .objects) where
+module _ (t : TypeView) {l m : Limits} (w : NoLarger l m) where
   fits-less :
       (d e : Dossier) → length (e .parents) ≤ length (d .parents) → length (e .snapshots) ≤ length (d .snapshots) →
       (t .versioned ≡ false → objects (e .snapshots) ≤ objects (d .snapshots)) →
       fits l t d ≡ true → fits m t e ≡ true
   fits-less d e a b c h =
       let (x, y, z) = fits-bounds l t d h in
-      bounds-fit m t e (omega arith) (omega arith) (λ u. omega (arith, c u, z u))
+      bounds-fit m t e (omega (arith, w .parents)) (omega (arith, w .versions)) (λ u. omega (arith, c u, z u, w .objects))
 
   -- larger limits accept what smaller ones accept
   pub fits-larger : (d : Dossier) → fits l t d ≡ true → fits m t d ≡ true
@@ -110,7 +145,7 @@ module _ {Event : Type 0} (l : Limits) (t : View Event) where
   -- with fewer events no limit is passed that was not passed before
   pub fits-within : (es fs : List Event) → Within es fs → fits l (t .type) (rule t fs) ≡ true → fits l (t .type) (rule t es) ≡ true
   fits-within es fs h =
-      fits-less (t .type) l l (omega arith) (omega arith) (omega arith) (rule t fs) (rule t es) (fewer-parents t es fs h) (fewer-snapshots t es fs h)
+      fits-less (t .type) (no-larger l) (rule t fs) (rule t es) (fewer-parents t es fs h) (fewer-snapshots t es fs h)
       (fewer-objects t es fs h)
 
 -- one event is inside the limits

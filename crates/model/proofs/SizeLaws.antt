@@ -97,9 +97,9 @@ module _ (t : TypeView) where
 module _ {Event : Type 0} (t : View Event) where
   -- "a merged event: packed event form with up to .. 256 objects": 8 versions of at most 32 objects, or 256 objects of an unversioned type
   pub merged-limit :
-      (l : Limits) (n : ℕ) (es : List Event) → fits l (t .type) (rule t es) ≡ true → l .versions * n ≤ l .objects →
-      Each (λ e. count t e (places (t .type)) ≤ n) es → length (flatten (mergedSets (t .type) (rule t es))) ≤ l .objects
-  merged-limit l n es f k h =
+      (l : Limits) (n most : ℕ) (es : List Event) → fits l (t .type) (rule t es) ≡ true → l .versions * n ≤ most → l .objects ≤ most →
+      Each (λ e. count t e (places (t .type)) ≤ n) es → length (flatten (mergedSets (t .type) (rule t es))) ≤ most
+  merged-limit l n most es f k o h =
       let (a, b, c) = fits-bounds l (t .type) (rule t es) f in
       let m : length (flatten (mergedSets (t .type) (rule t es))) ≤ objects (rule t es .snapshots) = merged-objects (t .type) (rule t es)
       (λ z i. cells-length t es z i) in

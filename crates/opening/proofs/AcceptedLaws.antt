@@ -98,16 +98,16 @@ module _ (s : List ℕ) (d : DossierIndex) (rows : List ℕ) (t : TypeIndex) (ps
   abbrev snapshots : List Snapshot
   snapshots = o .headed .snapshots
 
-  pub taken : DossierTaken (o .types) s (record { type = o .type; headed = o .headed })
-  taken = dossier-taken (o .types) s (record { type = o .type; headed = o .headed }) (o .asked)
+  pub taken : DossierTaken (o .limits) (o .types) s (record { type = o .type; headed = o .headed })
+  taken = dossier-taken (o .limits) (o .types) s (record { type = o .type; headed = o .headed }) (o .asked)
 
-  versions-fit : (j : ℕ) → j < length snapshots → versionFits (o .type) (getD snapshots j noSnapshot) ≡ true
+  versions-fit : (j : ℕ) → j < length snapshots → versionFits (o .limits) (o .type) (getD snapshots j noSnapshot) ≡ true
   unfolding snapshotFits
   versions-fit j l =
       let t = o .type in
       let z = getD snapshots j noSnapshot in
       let each = eachCell (cellFits (isVersioned t)) isVacant (t .properties) (z .cells) in
-      and-parts (each && leb (matchCount (t .properties) (map held (z .cells))) 32) (versionFits t z) (taken-fits taken j l) .1
+      and-parts (each && leb (matchCount (t .properties) (map held (z .cells))) 32) (versionFits (o .limits) t z) (taken-fits taken j l) .1
 
   fits-at :
       (j : ℕ) → j < length snapshots →
@@ -117,7 +117,7 @@ module _ (s : List ℕ) (d : DossierIndex) (rows : List ℕ) (t : TypeIndex) (ps
       let t = o .type in
       let z = getD snapshots j noSnapshot in
       let each = eachCell (cellFits (isVersioned t)) isVacant (t .properties) (z .cells) in
-      and-parts each _ (and-parts (each && _) (versionFits t z) (taken-fits taken j l) .0) .0
+      and-parts each _ (and-parts (each && _) (versionFits (o .limits) t z) (taken-fits taken j l) .0) .0
 
   vacant-there :
       (p : ℕ) → getElem? (o .type .properties) p ≡ none → (j : ℕ) → j < length snapshots → held (cellAt (getD snapshots j noSnapshot) p) ≡ []
@@ -163,7 +163,7 @@ module _ (s : List ℕ) (d : DossierIndex) (rows : List ℕ) (t : TypeIndex) (ps
         merged-largest (o .type) (modelOf (o .headed)) (o .type .mark - 1) (mark .property) (mark .at) is-max
         ∙ ap (λ (k : Kind). smallest (extremeOrder true k) (flatten (column snapshots (o .type .mark - 1)))) (mark .can .kind)
         ∙ last-largest snapshots (o .type .mark - 1) (d .count - 1) versions-rise (versions-low snapshots (taken-written taken .body .snapshots))
-        (λ j l. fits-own (o .type) (getD snapshots j noSnapshot) v (versions-fit j l)) last
+        (λ j l. fits-own (o .limits) (o .type) (getD snapshots j noSnapshot) v (versions-fit j l)) last
 
   marked-there :
       (p : ℕ) → p + 1 ≡ o .type .mark → mergedAt (typeView (o .type)) (modelOf (o .headed)) p ≡ getD (column snapshots p) (d .count - 1) []

@@ -11,6 +11,7 @@ use Rattle.model.specs.Order.{Text, Order, sets, numbers, ranked, rankCmp, inte
 use Rattle.model.specs.Keyed.{Above, put}
 use Rattle.model.specs.Sets.{Ups, itself, canon, union, smallest}
 use Rattle.model.specs.Rule.{Cell, holds, differs, Snapshot, sizes}
+use Rattle.model.specs.Limits.{Limits}
 use Rattle.model.specs.Opening.{held, cellAt, column}
 use Rattle.model.proofs.Cases.{never, and-parts, where-so}
 use Rattle.model.proofs.OrderLaws.{equal-true}
@@ -101,9 +102,10 @@ holds-own v (holds s) h = equal-true sets s (versionSet v) .0 h
 holds-own v differs h = never (cc)
 
 pub fits-own :
-    (t : EventType) (x : Snapshot) → isVersioned t ≡ true → versionFits t x ≡ true → held (cellAt x (t .mark - 1)) ≡ versionSet (x .version)
+    (limits : Limits) (t : EventType) (x : Snapshot) → isVersioned t ≡ true → versionFits limits t x ≡ true →
+    held (cellAt x (t .mark - 1)) ≡ versionSet (x .version)
 unfolding versionFits
-fits-own t x v h =
+fits-own limits t x v h =
     holds-own (x .version) (cellAt x (t .mark - 1))
     (and-parts (leb (sizes (x .cells)) 32) (holdsVersion (x .version) (cellAt x (t .mark - 1))) (rw v at h) .1)
 

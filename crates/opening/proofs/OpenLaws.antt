@@ -1,6 +1,6 @@
 -- The laws of the call open.
-use mathlib.Core.Path.{_≡_, sym, ap, ap₂, _∙_, subst}
-use mathlib.Core.Bool.{true}
+use mathlib.Core.Path.{_≡_, refl, sym, ap, ap₂, _∙_, subst}
+use mathlib.Core.Bool.{false, true}
 use mathlib.Core.Option.{Option, none, some}
 use mathlib.Core.List.{List, _++_}
 use Prim.Native.Nat.{ℕ, _+_, _≤_, _<_}
@@ -9,7 +9,7 @@ use lib.ListN.{length, drop}
 use Rattle.model.specs.Order.{Text}
 use Rattle.model.specs.Sets.{upTo}
 use Rattle.model.specs.Rule.{places, Dossier}
-use Rattle.model.specs.Limits.{standard}
+use Rattle.model.specs.Limits.{Limits, isPermitted, Permitted}
 use Rattle.model.specs.Opening as model
 use Rattle.model.specs.Opening.{mergedSets, overfull, conflict, noConflict, firstOf, opening}
 use Rattle.model.proofs.ClashLaws.{opening-free}
@@ -19,6 +19,7 @@ use Rattle.values.specs.declared.versions.EventVersion.{EventVersion}
 use Rattle.replies.specs.Answers.{outcome}
 use Rattle.replies.specs.Capacities.{dossierCapacity}
 use Rattle.replies.proofs.CapacityLaws.{has-room, too-small}
+use Rattle.replies.proofs.RangeLaws.{in-range, out-of-range}
 use Rattle.replies.specs.Replies.{openReplies}
 use Rattle.replies.specs.declared.reply.Opened.the-variants.{Merged, Found, Refused}
 use Rattle.replies.specs.declared.reply.Finding.the-variants.{Conflict, Overfull}
@@ -140,27 +141,31 @@ found-low w h = found-few (typeNamed _ (w .what)) _ _ _ (w .says) h
 
 -- ---- the questions of the dossier
 
--- a dossier that is accepted can be opened, by the types of this table
-pub record Accepted (table s : List ℕ) (d : DossierIndex) (rows : List ℕ) (t : TypeIndex) (ps : List ℕ) : Type 0 where
+-- a dossier that is accepted under these limits can be opened, by the types of this table
+pub record Accepted (limits : Limits) (table s : List ℕ) (d : DossierIndex) (rows : List ℕ) (t : TypeIndex) (ps : List ℕ) : Type 0 where
   pub openable : Openable s d rows t ps
   pub from : tableOf table ≡ some (openable .types)
+  pub under : openable .limits ≡ limits
 
 -- the table was read for the name of the dossier's type, and r is what asking answers
 module _
-    {table s : List ℕ} {name : Text} {ps : List ℕ} {read : TableRead} {d : DossierIndex} (r : ℕ) (t : TableGot table name ps read)
+    {limits : Limits} (permitted : Permitted limits) {table s : List ℕ} {name : Text} {ps : List ℕ} {read : TableRead} {d : DossierIndex} (r : ℕ)
+    (t : TableGot table name ps read)
     (named : (h : Headed) → DossierIs s h d → name ≡ h .head .type)
     (asks : (u : List ℕ) (ts : Table) → tableOf u ≡ some ts →
     ((h : Headed) → DossierIs s h d → TypeSays (typeNamed (h .head .type) ts) u ps read) →
-    DossierAnswers (dossierAsked standard ts s) u (read .index) ps r) where
-  answered : DossierAnswers (dossierAsked standard (t .what) s) table (read .index) ps r
+    DossierAnswers (dossierAsked limits ts s) u (read .index) ps r) where
+  answered : DossierAnswers (dossierAsked limits (t .what) s) table (read .index) ps r
   answered = asks table (t .what) (t .is) (λ h w. subst (λ (n : Text). TypeSays (typeNamed n (t .what)) table ps read) (named h w) (t .says))
 
-  pub asked-open : {rows : List ℕ} → DossierReads (dossierOf standard s) s rows d → r ≡ 0 → Accepted table s d rows (read .index) ps
+  pub asked-open : {rows : List ℕ} → DossierReads (dossierOf limits s) s rows d → r ≡ 0 → Accepted limits table s d rows (read .index) ps
   asked-open {rows} v h =
-      let a = asked-accepted (t .what) table s (read .index) ps r answered h in
-      let stands = reads-is s rows d (a .what .headed) v (dossier-taken (t .what) s (a .what) (a .asked) .read) in
+      let a = asked-accepted limits (t .what) table s (read .index) ps r answered h in
+      let stands = reads-is limits s rows d (a .what .headed) v (dossier-taken limits (t .what) s (a .what) (a .asked) .read) in
       record {
         openable = record {
+          limits = limits;
+          permitted = permitted;
           table = table;
           types = t .what;
           type = a .what .type;
@@ -172,28 +177,36 @@ module _
           stand = stands .1;
         };
         from = t .is;
+        under = refl;
       }
 
-  pub open-refused : {out : List ℕ} → dossierCapacity ≤ length out → (r ≡ 0 → ⊥) → openReplies (Refused r) out ≡ openCall standard table s out
+  pub open-refused : {out : List ℕ} → dossierCapacity ≤ length out → (r ≡ 0 → ⊥) → openReplies (Refused r) out ≡ openCall limits table s out
   unfolding openCall openAnswer askedOpening
   open-refused {out} h ne =
-      rw (has-room dossierCapacity (length out) h, t .is, asked-refused (t .what) table s (read .index) ps r answered ne)
+      rw (in-range limits permitted, has-room dossierCapacity (length out) h, t .is, asked-refused limits (t .what) table s (read .index) ps r answered ne)
 
 -- ---- the call
 
-module _ (table s out : List ℕ) where
-  pub open-small : length out < dossierCapacity → openReplies (Refused 1) out ≡ openCall standard table s out
+pub open-unpermitted : (limits : Limits) (table s out : List ℕ) → isPermitted limits ≡ false →
+    openReplies (Refused 18) out ≡ openCall limits table s out
+unfolding openCall openAnswer askedOpening
+open-unpermitted limits table s out h = rw (out-of-range limits h)
+
+module _ {limits : Limits} (permitted : Permitted limits) (table s out : List ℕ) where
+  pub open-small : length out < dossierCapacity → openReplies (Refused 1) out ≡ openCall limits table s out
   unfolding openCall openAnswer askedOpening
-  open-small h = rw (too-small dossierCapacity (length out) h)
+  open-small h = rw (in-range limits permitted, too-small dossierCapacity (length out) h)
 
   module _ (h : dossierCapacity ≤ length out) where
-    pub open-table : tableOf table ≡ none → openReplies (Refused 2) out ≡ openCall standard table s out
+    pub open-table : tableOf table ≡ none → openReplies (Refused 2) out ≡ openCall limits table s out
     unfolding openCall openAnswer askedOpening
-    open-table e = rw (has-room dossierCapacity (length out) h, e)
+    open-table e = rw (in-range limits permitted, has-room dossierCapacity (length out) h, e)
 
     pub open-done :
-        {d : DossierIndex} {rows : List ℕ} {t : TypeIndex} {ps : List ℕ} (a : Accepted table s d rows t ps) →
+        {d : DossierIndex} {rows : List ℕ} {t : TypeIndex} {ps : List ℕ} (a : Accepted limits table s d rows t ps) →
         outcome (openedAnswer (a .openable .headed) (opening (typeView (a .openable .type)) (modelOf (a .openable .headed)))) out
-        ≡ openCall standard table s out
+        ≡ openCall limits table s out
     unfolding openCall openAnswer askedOpening
-    open-done a = rw (has-room dossierCapacity (length out) h, a .from, a .openable .asked)
+    open-done a =
+        let asked = ap (λ (l : Limits). dossierAsked l (a .openable .types) s) (sym (a .under)) ∙ a .openable .asked in
+        rw (in-range limits permitted, has-room dossierCapacity (length out) h, a .from, asked)

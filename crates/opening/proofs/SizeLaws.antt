@@ -9,7 +9,7 @@ use lib.ListN.{length, length-append, length-map}
 use Rattle.model.specs.Order.{Text, texts}
 use Rattle.model.specs.Sets.{canon, smallest}
 use Rattle.model.specs.Rule.{Choice, every, least, TypeView, places, Snapshot, Dossier}
-use Rattle.model.specs.Limits.{standard}
+use Rattle.model.specs.Limits.{Limits, Permitted}
 use Rattle.model.specs.Opening.{held, cellAt, column, lastOf, mergedSet, mergedAt, mergedSets}
 use Rattle.model.proofs.SetLaws.{canon-of}
 use Rattle.model.proofs.ValidLaws.{take-of}
@@ -34,6 +34,7 @@ use Rattle.dossier.proofs.AcceptedLaws.{DossierTaken, taken-written, taken-name
 use Rattle.opening.specs.OpenCall.{mergedEvent}
 use Rattle.ontology.specs.declared.types.TypeIndex.{TypeIndex}
 use Rattle.opening.specs.code.OpenIndex.{Openable}
+use Rattle.dossier.proofs.DossierHeadLaws.{head-more}
 use Rattle.opening.proofs.AcceptedLaws.{taken}
 
 -- ---- the values of a merged set are values of its column
@@ -82,7 +83,9 @@ event-short h ss w t n o v =
 
 -- ---- the merged event of an accepted dossier
 
-module _ (table s : List ℕ) (types : Table) (a : TypedDossier) (t : tableOf table ≡ some types) (w : DossierTaken types s a) where
+module _
+    {limits : Limits} (permitted : Permitted limits) (table s : List ℕ) (types : Table) (a : TypedDossier) (t : tableOf table ≡ some types)
+    (w : DossierTaken limits types s a) where
   abbrev d : Dossier
   d = modelOf (a .headed)
 
@@ -108,14 +111,16 @@ module _ (table s : List ℕ) (types : Table) (a : TypedDossier) (t : tableOf ta
         arith,
         flat-objects (mergedSets v d),
         merged-objects v d (λ z i. snapshot-cells z (all-member SnapshotWritten (d .snapshots) (taken-written w .body .snapshots) z i)),
-        taken-objects w,
+        taken-objects w permitted,
       )
 
   pub merged-room : length (eventBytes (mergedEvent (a .headed) (mergedSets v d))) ≤ dossierCapacity
-  unfolding standard
-  merged-room = event-short (a .headed) (mergedSets v d) (taken-written w .head) (taken-name w table t) sets-long sets-few sets-short
+  merged-room =
+      event-short (a .headed) (mergedSets v d) (head-more (permitted .few-parents) (a .headed .head) (taken-written w .head))
+      (taken-name w table t) sets-long sets-few sets-short
 
 -- the same of a dossier that is opened
 pub merged-size : (s : List ℕ) (d : DossierIndex) (rows : List ℕ) (t : TypeIndex) (ps : List ℕ) (o : Openable s d rows t ps) →
     length (eventBytes (mergedEvent (o .headed) (mergedSets (typeView (o .type)) (modelOf (o .headed))))) ≤ dossierCapacity
-merged-size s d rows t ps o = merged-room (o .table) s (o .types) (record { type = o .type; headed = o .headed }) (o .read) (taken s d rows t ps o)
+merged-size s d rows t ps o =
+    merged-room (o .permitted) (o .table) s (o .types) (record { type = o .type; headed = o .headed }) (o .read) (taken s d rows t ps o)

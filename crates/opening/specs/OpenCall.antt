@@ -1,4 +1,4 @@
--- Document 01: the call open.
+-- Document 01: the call open. Document 02, Q-13: the limits are a parameter of it.
 use Prim.Native.Nat.{ℕ}
 use mathlib.Core.List.{List}
 use lib.ListN.{length}
@@ -7,6 +7,7 @@ use Rattle.model.specs.Limits.{Limits}
 use Rattle.model.specs.Opening.{Opened, finds, merged, opening}
 use Rattle.replies.specs.Questions.{Asked, refused, accepted, _>>=_, _>>_, ask}
 use Rattle.replies.specs.Capacities.{dossierCapacity, hasRoom}
+use Rattle.replies.specs.ChosenLimits.{inRange}
 use Rattle.replies.specs.Answers.{Answer, gives, refuses, Outcome, outcome}
 use Rattle.ontology.specs.TableLayout.{tableOf}
 use Rattle.event.specs.Event.{Event, typeView}
@@ -28,6 +29,7 @@ askedOpening (accepted a) = openedAnswer (a .headed) (opening (typeView (a .type
 
 unfoldable pub openAnswer : Limits → ℕ → List ℕ → List ℕ → Answer
 openAnswer limits room table dossier = askedOpening do
+  inRange limits
   hasRoom dossierCapacity room
   ts ← ask 2 (tableOf table)
   dossierAsked limits ts dossier

@@ -1,11 +1,12 @@
 ghost use Prim.Native.Nat.{_*_, _≤_};
 ghost use mathlib.Core.Path.{_≡_};
 ghost use lib.ListN.{length};
-ghost use Rattle.model.specs.Limits.{standard};
+ghost use Rattle.model.specs.Limits.{Permitted};
 ghost use Rattle.model.specs.Sets.{upTo};
 ghost use Rattle.model.specs.Opening.{noConflict, conflict, opening};
 ghost use Rattle.replies.specs.Answers.{outcome};
 ghost use Rattle.replies.specs.Capacities.{dossierCapacity};
+ghost use Rattle.replies.specs.ChosenLimits.{limitsOf};
 ghost use Rattle.replies.specs.Replies.{openReplies};
 ghost use Rattle.event.specs.Event.{typeView};
 ghost use Rattle.dossier.specs.DossierLayout.{modelOf};
@@ -26,6 +27,8 @@ use dossier::questions::type_name;
 use ontology::tables::read_table;
 use ontology::types::TypeIndex;
 use replies::capacities::DOSSIER_CAPACITY;
+use replies::limits::Limits;
+use replies::limits::is_permitted;
 use replies::reply::Finding;
 use replies::reply::Opened;
 
@@ -75,17 +78,23 @@ fn open_asked(
 }
 
 // Questions 2 to 6 of a dossier whose rows are lent, and what it opens as.
-fn open_with(table: &[u8], dossier: &[u8], rows: &mut [usize], out: &mut [u8]) -> Opened
-    requires { ⌜ HasRows (now dossier) (length (now rows)) × (dossierCapacity ≤ length (now out)) ⌝ }
-    ensures { λ r. ⌜ openReplies r (now (out .exit)) ≡ openCall standard (now (table .entry)) (now (dossier .entry)) (now (out .entry)) ⌝ }
+fn open_with(
+    limits: Limits,
+    table: &[u8],
+    dossier: &[u8],
+    rows: &mut [usize],
+    out: &mut [u8],
+) -> Opened
+    requires { ⌜ Permitted (limitsOf limits) × HasRows (limitsOf limits) (now dossier) (length (now rows)) × (dossierCapacity ≤ length (now out)) ⌝ }
+    ensures { λ r. ⌜ openReplies r (now (out .exit)) ≡ openCall (limitsOf limits) (now (table .entry)) (now (dossier .entry)) (now (out .entry)) ⌝ }
 {
-    let d = read_dossier(dossier, rows);
+    let d = read_dossier(dossier, limits, rows);
     let mut properties = [0usize; 96];
     let read = read_table(table, type_name(dossier, d), &mut properties);
     if !read.ok {
         return Opened::Refused(2);
     }
-    let number = ask_dossier(dossier, d, rows, read, &properties);
+    let number = ask_dossier(dossier, limits, d, rows, read, &properties);
     if number != 0 {
         return Opened::Refused(number);
     }
@@ -95,16 +104,20 @@ fn open_with(table: &[u8], dossier: &[u8], rows: &mut [usize], out: &mut [u8]) -
 
 // The merged event of a dossier, written at the front of `out`. The rows of one snapshot are lent, or of as many as there can be, since clearing them all takes
 // longer than reading the count.
-pub fn open_dossier(table: &[u8], dossier: &[u8], out: &mut [u8]) -> Opened
-    ensures { λ r. ⌜ openReplies r (now (out .exit)) ≡ openCall standard (now (table .entry)) (now (dossier .entry)) (now (out .entry)) ⌝ }
+pub fn open_dossier(limits: Limits, table: &[u8], dossier: &[u8], out: &mut [u8]) -> Opened
+    ensures { λ r. ⌜ openReplies r (now (out .exit)) ≡ openCall (limitsOf limits) (now (table .entry)) (now (dossier .entry)) (now (out .entry)) ⌝ }
 {
+    let permitted = is_permitted(limits);
+    if !permitted {
+        return Opened::Refused(18);
+    }
     if out.len() < DOSSIER_CAPACITY {
         return Opened::Refused(1);
     }
-    if snapshot_count(dossier) <= 1 {
+    if snapshot_count(dossier, limits) <= 1 {
         let mut one = [0usize; 96];
-        return open_with(table, dossier, &mut one, out);
+        return open_with(limits, table, dossier, &mut one, out);
     }
     let mut all = [0usize; 768];
-    open_with(table, dossier, &mut all, out)
+    open_with(limits, table, dossier, &mut all, out)
 }

@@ -2,6 +2,7 @@
 use crate::fields::bytes;
 use crate::fields::read_count;
 use crate::fields::read_field;
+use crate::fields::read_limits;
 use crate::lines;
 use crate::outputs::output;
 use crate::outputs::write_batch;
@@ -18,6 +19,7 @@ use ontology::tables::check_table;
 use opening::calls::open_dossier;
 use packed::read::NumberAt;
 use packed::read::read_number;
+use replies::limits::Limits;
 use replies::reply::Reply;
 use replies::reply::TableReply;
 use report::calls::report;
@@ -62,9 +64,9 @@ fn call_one(call: u64, table: &[u8], input: &[u8], out: &mut [u8]) -> Reply {
     }
 }
 
-fn write_one(call: u64, table: &[u8], input: &[u8], out: &mut [u8]) {
-    if call == 4 {
-        let r = open_dossier(table, input, out);
+fn write_one(call: u64, limits: Limits, table: &[u8], input: &[u8], out: &mut [u8]) {
+    if call == 4 || call == 11 {
+        let r = open_dossier(limits, table, input, out);
         write_opened(r, out);
         return;
     }
@@ -72,12 +74,14 @@ fn write_one(call: u64, table: &[u8], input: &[u8], out: &mut [u8]) {
     write_reply(r, out);
 }
 
-// 2, check an event, 4, open, 6, hash text, and 7, hash: the size of the output, the table, and the event or dossier.
+// 2, check an event, 4, open, 6, hash text, and 7, hash: the size of the output, the table, and the event or dossier. 11, open within limits: the limits
+// before these.
 fn replay_one(call: u64, script: &[u8], at: usize) -> usize {
-    let size = read_count(script, at);
+    let chosen = read_limits(call, script, at);
+    let size = read_count(script, chosen.end);
     let table = read_field(script, size.end);
     let input = read_field(script, table.end);
-    if !(size.ok && table.ok && input.ok) {
+    if !(chosen.ok && size.ok && table.ok && input.ok) {
         return 0;
     }
     let n = size.n;
@@ -87,6 +91,7 @@ fn replay_one(call: u64, script: &[u8], at: usize) -> usize {
     }
     write_one(
         call,
+        chosen.limits,
         bytes(script, table),
         bytes(script, input),
         &mut out[0..n],
@@ -94,18 +99,25 @@ fn replay_one(call: u64, script: &[u8], at: usize) -> usize {
     input.end
 }
 
-fn write_combine<'a>(table: &[u8], left: &'a [u8], right: &'a [u8], out: &mut [u8]) {
-    let r = combine(table, left, right, out);
+fn write_combine<'a>(
+    limits: Limits,
+    table: &[u8],
+    left: &'a [u8],
+    right: &'a [u8],
+    out: &mut [u8],
+) {
+    let r = combine(limits, table, left, right, out);
     write_combined(r, out);
 }
 
-// 3, combine: the size of the output, the table, and the two dossiers.
-fn replay_combine(script: &[u8], at: usize) -> usize {
-    let size = read_count(script, at);
+// 3, combine: the size of the output, the table, and the two dossiers. 10, combine within limits: the limits before these.
+fn replay_combine(call: u64, script: &[u8], at: usize) -> usize {
+    let chosen = read_limits(call, script, at);
+    let size = read_count(script, chosen.end);
     let table = read_field(script, size.end);
     let left = read_field(script, table.end);
     let right = read_field(script, left.end);
-    if !(size.ok && table.ok && left.ok && right.ok) {
+    if !(chosen.ok && size.ok && table.ok && left.ok && right.ok) {
         return 0;
     }
     let n = size.n;
@@ -114,6 +126,7 @@ fn replay_combine(script: &[u8], at: usize) -> usize {
         return 0;
     }
     write_combine(
+        chosen.limits,
         bytes(script, table),
         bytes(script, left),
         bytes(script, right),
@@ -123,6 +136,7 @@ fn replay_combine(script: &[u8], at: usize) -> usize {
 }
 
 fn call_batch(
+    limits: Limits,
     table: &[u8],
     events: &[u8],
     out: &mut [u8],
@@ -130,12 +144,20 @@ fn call_batch(
     b: &mut [u8],
     c: &mut [u8],
 ) {
-    let r = batch(table, events, out, a, b, c);
+    let r = batch(limits, table, events, out, a, b, c);
     write_batch(r, out);
 }
 
 // A batch with its scratch buffers, of these sizes.
-fn replay_sized(table: &[u8], events: &[u8], out: &mut [u8], x: usize, y: usize, z: usize) {
+fn replay_sized(
+    limits: Limits,
+    table: &[u8],
+    events: &[u8],
+    out: &mut [u8],
+    x: usize,
+    y: usize,
+    z: usize,
+) {
     let mut a = output();
     let mut b = output();
     let mut c = output();
@@ -148,18 +170,27 @@ fn replay_sized(table: &[u8], events: &[u8], out: &mut [u8], x: usize, y: usize,
     if c.len() < z {
         return;
     }
-    call_batch(table, events, out, &mut a[0..x], &mut b[0..y], &mut c[0..z]);
+    call_batch(
+        limits,
+        table,
+        events,
+        out,
+        &mut a[0..x],
+        &mut b[0..y],
+        &mut c[0..z],
+    );
 }
 
-// 8, batch: the sizes of the output and of the three scratch buffers, the table, and the batch.
-fn replay_batch(script: &[u8], at: usize) -> usize {
-    let size = read_count(script, at);
+// 8, batch: the sizes of the output and of the three scratch buffers, the table, and the batch. 12, batch within limits: the limits before these.
+fn replay_batch(call: u64, script: &[u8], at: usize) -> usize {
+    let chosen = read_limits(call, script, at);
+    let size = read_count(script, chosen.end);
     let x = read_count(script, size.end);
     let y = read_count(script, x.end);
     let z = read_count(script, y.end);
     let table = read_field(script, z.end);
     let events = read_field(script, table.end);
-    if !(size.ok && x.ok && y.ok && z.ok && table.ok && events.ok) {
+    if !(chosen.ok && size.ok && x.ok && y.ok && z.ok && table.ok && events.ok) {
         return 0;
     }
     let n = size.n;
@@ -168,6 +199,7 @@ fn replay_batch(script: &[u8], at: usize) -> usize {
         return 0;
     }
     replay_sized(
+        chosen.limits,
         bytes(script, table),
         bytes(script, events),
         &mut out[0..n],
@@ -201,10 +233,10 @@ pub fn replay_case(script: &[u8], at: usize) -> usize {
     };
     let end = match call {
         1 => replay_table(script, next),
-        3 => replay_combine(script, next),
+        3 | 10 => replay_combine(call, script, next),
         5 => replay_value(script, next),
-        2 | 4 | 6 | 7 => replay_one(call, script, next),
-        8 => replay_batch(script, next),
+        2 | 4 | 6 | 7 | 11 => replay_one(call, script, next),
+        8 | 12 => replay_batch(call, script, next),
         9 => replay_report(script, next),
         _ => 0,
     };

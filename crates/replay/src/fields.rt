@@ -3,6 +3,8 @@ use packed::read::NumberAt;
 use packed::read::TextAt;
 use packed::read::read_number;
 use packed::read::read_text;
+use replies::limits::Limits;
+use replies::limits::standard_limits;
 
 // A text of the script.
 pub struct Field {
@@ -55,5 +57,35 @@ pub fn read_count(script: &[u8], at: usize) -> Count {
             n: 0,
             end: 0,
         },
+    }
+}
+
+// The limits of a call, and the position after them.
+pub struct Chosen {
+    pub ok: bool,
+    pub limits: Limits,
+    pub end: usize,
+}
+
+// Calls 10 to 12 begin with event versions, parents and objects; 3, 4 and 8 have the same fields after them, and document 01's limits.
+pub fn read_limits(call: u64, script: &[u8], at: usize) -> Chosen {
+    if call < 10 {
+        return Chosen {
+            ok: true,
+            limits: standard_limits(),
+            end: at,
+        };
+    }
+    let versions = read_count(script, at);
+    let parents = read_count(script, versions.end);
+    let objects = read_count(script, parents.end);
+    Chosen {
+        ok: versions.ok && parents.ok && objects.ok,
+        limits: Limits {
+            versions: versions.n,
+            parents: parents.n,
+            objects: objects.n,
+        },
+        end: objects.end,
     }
 }

@@ -1,2 +1,3 @@
 pub mod QuestionLaws
 pub mod CapacityLaws
+pub mod RangeLaws

@@ -1,4 +1,5 @@
 pub mod Questions
 pub mod Capacities
+pub mod ChosenLimits
 pub mod Answers
 pub mod Replies

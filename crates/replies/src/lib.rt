@@ -1,3 +1,4 @@
-// What the calls reply, and the least sizes of their outputs.
+// What the calls reply, the least sizes of their outputs, and the limits that they take.
 pub mod capacities;
+pub mod limits;
 pub mod reply;

@@ -9,6 +9,7 @@ use lib.ListN.{length, drop}
 use lib.Dec.{leb}
 use lib.Seq.{take-append-seam}
 use borrow.Author.Tests.{leb-true}
+use Rattle.model.specs.Limits.{standard}
 use Rattle.model.proofs.Cases.{truth}
 use Rattle.packed.specs.Parse.{Parse, fail, got}
 use Rattle.packed.specs.Packed.{readText}
@@ -16,7 +17,7 @@ use Rattle.replies.specs.Capacities.{reportCapacity}
 use Rattle.replies.specs.Answers.{gives, refuses, replyOf, outcome}
 use Rattle.dossier.specs.DossierQuestions.{TypedDossier}
 use Rattle.batch.specs.Batch.{AskedAt, refusedAt, accepted}
-use Rattle.batch.specs.Taken.{TakesIn, Takes, Bounded}
+use Rattle.batch.specs.Taken.{IsNumber, TakesIn, Takes, Bounded}
 use Rattle.batch.proofs.TakenLaws.{AsksAt, asks-batch, takes-given}
 use Rattle.report.specs.Report.{refusedLine, askedLines, framedLines, mostInput, report, reportAnswer, reportCall}
 use Rattle.report.specs.ReportDemand1.{InputReads, Refusal, PrintsRefusal, ReportDemand1, ReportBounded}
@@ -38,10 +39,10 @@ input-told input = truth (leb (length input) mostInput)
 
     framed : length input ≤ mostInput → (p : Parse (List ℕ)) → readText input ≡ p → InputReads input ⊎ Refusal (framedLines p)
     framed l fail e = inr unread
-    framed l (got table batch) e = ⊎-elim (λ r. inl (l, table, batch, e, r .0, r .1)) inr (asked (asks-batch table batch))
+    framed l (got table batch) e = ⊎-elim (λ r. inl (l, table, batch, e, r .0, r .1)) inr (asked (asks-batch standard table batch))
 
 takes-report : {P : Type 0} (b : Bool) (x old : List ℕ) → P ⊎ Refusal x →
-    Takes (P ⊎ PrintsRefusal (outcome (cond b (gives x) (refuses 1)) old)) (outcome (cond b (gives x) (refuses 1)) old) old
+    Takes IsNumber (P ⊎ PrintsRefusal (outcome (cond b (gives x) (refuses 1)) old)) (outcome (cond b (gives x) (refuses 1)) old) old
 unfolding TakesIn
 takes-report true x old h = takes-given x old (⊎-elim inl (λ r. inr (x, (refl, take-append-seam x (drop (length x) old)), r)) h)
 takes-report false x old h = record { replied = ((omega arith, omega arith), refl) }
@@ -50,7 +51,7 @@ pub report-demand1 : ReportDemand1
 unfolding reportCall reportAnswer
 report-demand1 = record { report = λ input old. takes-report (leb reportCapacity (length old)) (report input) old (input-told input) }
 
-bounded-report : (b : Bool) (input : List ℕ) → Bounded reportCapacity (replyOf (cond b (gives (report input)) (refuses 1)))
+bounded-report : (b : Bool) (input : List ℕ) → Bounded IsNumber reportCapacity (replyOf (cond b (gives (report input)) (refuses 1)))
 unfolding Bounded
 bounded-report true input = report-short input
 bounded-report false input = (omega arith, omega arith)

@@ -11,10 +11,11 @@ use lib.Seq.{take-append-seam, take-all}
 use borrow.Author.Tests.{le-leb, lt-leb}
 use Rattle.model.specs.Order.{Text}
 use Rattle.model.specs.Rule.{places, rule}
-use Rattle.model.specs.Limits.{standard, fits}
+use Rattle.model.specs.Limits.{Limits, standard, isPermitted, Permitted, fits}
 use Rattle.model.specs.Opening as model
 use Rattle.model.specs.Opening.{conflictAt, overfullAt, placeOf, finds, merged, overfull, mergedAt}
 use Rattle.model.proofs.Cases.{never}
+use Rattle.model.proofs.LimitLaws.{permitted}
 use Rattle.model.proofs.RuleLaws.{rising-snapshots}
 use Rattle.model.proofs.ValidLaws.{in-places, ups-places}
 use Rattle.model.proofs.ClashLaws.{lowest-found, conflict-found, opening-conflict}
@@ -36,6 +37,7 @@ use Rattle.replies.specs.declared.reply.Opened.{Opened}
 use Rattle.replies.specs.declared.reply.Opened.the-variants as opened
 use Rattle.replies.specs.Capacities.{dossierCapacity, hashCapacity, reportCapacity}
 use Rattle.replies.proofs.CapacityLaws.{has-room}
+use Rattle.replies.proofs.RangeLaws.{in-range}
 use Rattle.replies.specs.declared.reply.BatchReply.{BatchReply}
 use Rattle.replies.specs.declared.reply.BatchReply.the-variants as batch
 use Rattle.ontology.specs.Table.{Property, EventType, Table, isSingle, typeNamed, atPlace}
@@ -106,16 +108,26 @@ module _ {table bytes : List ℕ} {t : EventType} {e : Event} {room : ℕ} (m : 
       Wrote out 0 (mergedLines t e) new n
   lines-merged {hash} {out} {new} {n} h w = subst (λ (x : List ℕ). Wrote out 0 (hashedLines t e x) new n) h w
 
+-- ---- document 01's limits, which the report has
+
+standard-permitted : Permitted standard
+standard-permitted = permitted standard (unfold isPermitted standard in refl)
+
+pub permitted-as : {l : Limits} → l ≡ standard → Permitted l
+permitted-as e = subst Permitted (sym e) standard-permitted
+
 -- ---- the properties of a dossier's type
 
 pub properties-read :
-    (table bytes rows name ps : List ℕ) (i : DossierIndex) (r : TableRead) → DossierReads (dossierOf standard bytes) bytes rows i →
+    (limits : Limits) → limits ≡ standard → (table bytes rows name ps : List ℕ) (i : DossierIndex) (r : TableRead) →
+    DossierReads (dossierOf limits bytes) bytes rows i →
     ((h : Headed) → DossierIs bytes h i → name ≡ h .head .type) → TableSays (tableOf table) table name ps r → (types : Table) (d : TypedDossier) →
     tableOf table ≡ some types → dossierAsked standard types bytes ≡ questions.accepted d → NumbersOf table (d .type) ps
 unfolding DossierReads TypeSays
-properties-read table bytes rows name ps i r w n s types d e a =
-    let q = dossier-taken types bytes d a in
-    let is : DossierIs bytes (d .headed) i = subst (λ (m : Option Headed). DossierReads m bytes rows i) (q .read) w .1 in
+properties-read limits u table bytes rows name ps i r w n s types d e a =
+    let q = dossier-taken standard types bytes d a in
+    let read : dossierOf limits bytes ≡ some (d .headed) = ap (λ (l : Limits). dossierOf l bytes) u ∙ q .read in
+    let is : DossierIs bytes (d .headed) i = subst (λ (m : Option Headed). DossierReads m bytes rows i) read w .1 in
     let named : typeNamed name types ≡ some (d .type) = ap (λ (v : Text). typeNamed v types) (n (d .headed) is) ∙ q .typed in
     let typed : TypeIs table (d .type) (r .index) ps =
     subst (λ (m : Option EventType). TypeSays m table ps r) named (type-says table name ps r types e s) .1 in
@@ -126,7 +138,7 @@ properties-read table bytes rows name ps i r w n s types d e a =
 opened-call : (table bytes old : List ℕ) {d : TypedDossier} {room : ℕ} → DossierOpens table bytes d room → dossierCapacity ≤ length old →
     openCall standard table bytes old ≡ outcome (openedAnswer (d .headed) (opens d)) old
 unfolding openCall openAnswer askedOpening
-opened-call table bytes old w h = rw (has-room dossierCapacity (length old) h, w .tabled, w .asked)
+opened-call table bytes old w h = rw (in-range standard standard-permitted, has-room dossierCapacity (length old) h, w .tabled, w .asked)
 
 -- the dossier opens as the event whose bytes are the first n of `new`
 pub record OpensMerged (d : TypedDossier) (new : List ℕ) (n : ℕ) : Type 0 where
@@ -139,9 +151,9 @@ front : (x y : List ℕ) (n : ℕ) (new : List ℕ) → n ≡ length x → new �
 front x y n new h e = (ap₂ (λ (k : ℕ) (l : List ℕ). take k l) h e ∙ take-append-seam x y, omega (arith, h, ap length e, length-append x y))
 
 module _ (table bytes old new : List ℕ) {d : TypedDossier} {room : ℕ} (w : DossierOpens table bytes d room) (big : dossierCapacity ≤ length old)
-    (r : Opened) (e : openReplies r new ≡ openCall standard table bytes old) where
+    (r : Opened) {limits : Limits} (u : limits ≡ standard) (e : openReplies r new ≡ openCall limits table bytes old) where
   told : {x : Opened} → r ≡ x → openReplies x new ≡ outcome (openedAnswer (d .headed) (opens d)) old
-  told q = ap (λ (x : Opened). openReplies x new) (sym q) ∙ e ∙ opened-call table bytes old w big
+  told q = ap (λ (x : Opened). openReplies x new) (sym q) ∙ e ∙ ap (λ (l : Limits). openCall l table bytes old) u ∙ opened-call table bytes old w big
 
   pub opened-merged : {n : ℕ} → r ≡ opened.Merged n → OpensMerged d new n
   unfolding openedAnswer
@@ -207,7 +219,7 @@ module _ {table bytes : List ℕ} {d : TypedDossier} {room : ℕ} (w : DossierOp
 
 -- ---- the rule over gathered events
 
-module _ (t : EventType) (uri : Text) (f : Event) (es : List Event) (g : Gathered t uri f es) where
+module _ (t : EventType) (uri : Text) (f : Event) (es : List Event) (g : Gathered standard t uri f es) where
   abbrev ruled : TypedDossier
   ruled = record { type = t; headed = ruledHead t uri es }
 
@@ -269,7 +281,7 @@ module _ (t : EventType) (uri : Text) (f : Event) (es : List Event) (g : Gathere
 batch-opens : (table batch : List ℕ) (d : TypedDossier) → batchAsked standard table batch ≡ accepted d → (room : ℕ) → reportCapacity ≤ room →
     DossierOpens table (dossierBytes (d .headed)) d room
 batch-opens table batch d e room h =
-    let g = batch-gathers table batch d e in
+    let g = batch-gathers standard standard-permitted table batch d e in
     let is : record { type = d .type; headed = ruledHead (d .type) (g .source) (g .events) } ≡ d = λ i. record { type = d .type; headed = sym (g .is) i } in
     subst (λ (k : TypedDossier). DossierOpens table (dossierBytes (k .headed)) k room) is
     (rule-opens (d .type) (g .source) (g .model) (g .events) (g .gathered) table (g .types) (g .tabled) (g .named) room h)
@@ -291,10 +303,15 @@ unfolding haveRoom
 rooms-have r (h, i, j, k) =
     rw (le-leb dossierCapacity (r .output) h, le-leb dossierCapacity (r .first) i, le-leb dossierCapacity (r .second) j, le-leb dossierCapacity (r .third) k)
 
-module _ (table events old new : List ℕ) (rooms : Rooms) (r : BatchReply) (e : batchReplies r new ≡ batchCall standard rooms table events old)
-    (have : Roomy rooms) where
+module _
+    (table events old new : List ℕ) (rooms : Rooms) (r : BatchReply) {limits : Limits} (u : limits ≡ standard)
+    (e : batchReplies r new ≡ batchCall limits rooms table events old) (have : Roomy rooms) where
   batch-told : {x : BatchReply} → r ≡ x → batchReplies x new ≡ outcome (batchGiven (batchAsked standard table events)) old
-  batch-told q = ap (λ (x : BatchReply). batchReplies x new) (sym q) ∙ e ∙ unfold batchCall batchAnswer in (rw (rooms-have rooms have))
+  batch-told q =
+      ap (λ (x : BatchReply). batchReplies x new) (sym q)
+      ∙ e
+      ∙ ap (λ (l : Limits). batchCall l rooms table events old) u
+      ∙ unfold batchCall batchAnswer in (rw (in-range standard standard-permitted, rooms-have rooms have))
 
   pub batch-done : {n : ℕ} → r ≡ batch.Done n → BatchDone table events new n
   unfolding batchGiven

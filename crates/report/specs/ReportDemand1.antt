@@ -29,8 +29,8 @@ PrintsRefusal o = (lines : List ℕ) × ((o .reply ≡ Reply.done (length lines)
 -- An input of the report that is "outside document 01's layouts .. gets a number from 1 to 9" in the line that it prints; the call itself is refused only for
 -- its output's size.
 pub record ReportDemand1 : Type 0 where
-  pub report : (input old : List ℕ) → Takes (InputReads input ⊎ PrintsRefusal (reportCall input old)) (reportCall input old) old
+  pub report : (input old : List ℕ) → Takes IsNumber (InputReads input ⊎ PrintsRefusal (reportCall input old)) (reportCall input old) old
 
 -- The numbers of the report's reply, whatever bytes it is handed and whatever its output has: it gives no more bytes than question 1 asks room for.
 pub record ReportBounded : Type 0 where
-  pub report : (input old : List ℕ) → Bounded reportCapacity (reportCall input old .reply)
+  pub report : (input old : List ℕ) → Bounded IsNumber reportCapacity (reportCall input old .reply)

@@ -30,6 +30,7 @@ use packed::read::read_text;
 use replies::capacities::DOSSIER_CAPACITY;
 use replies::capacities::HASH_CAPACITY;
 use replies::capacities::REPORT_CAPACITY;
+use replies::limits::standard_limits;
 use replies::reply::BatchReply;
 use replies::reply::Opened;
 use replies::reply::Reply;
@@ -68,7 +69,7 @@ fn properties_of(table: &[u8], dossier: &[u8], properties: &mut [usize])
         → NumbersOf (now (table .entry)) (d .type) (now (properties .exit))) ⌝ }
 {
     let mut rows = [0usize; 768];
-    let d = read_dossier(dossier, &mut rows);
+    let d = read_dossier(dossier, standard_limits(), &mut rows);
     read_table(table, type_name(dossier, d), properties);
 }
 
@@ -78,7 +79,7 @@ fn report_opened(table: &[u8], dossier: &[u8], opened: &mut [u8], out: &mut [u8]
     ensures { λ r. ⌜ ((d : TypedDossier) → DossierOpens (now (table .entry)) (now (dossier .entry)) d (length (now (out .entry)))
         → Wrote (now (out .entry)) 0 (openedLines (d .type) (d .headed) (opens d)) (now (out .exit)) r) ⌝ }
 {
-    match open_dossier(table, dossier, opened) {
+    match open_dossier(standard_limits(), table, dossier, opened) {
         Opened::Merged(n) => report_merged(table, &opened[..n], out),
         Opened::Found(f) => {
             let mut properties = [0usize; 96];
@@ -98,7 +99,15 @@ fn report_batch(table: &[u8], events: &[u8], out: &mut [u8]) -> usize
     let mut a = room();
     let mut b = room();
     let mut c = room();
-    match batch(table, events, &mut dossier, &mut a, &mut b, &mut c) {
+    match batch(
+        standard_limits(),
+        table,
+        events,
+        &mut dossier,
+        &mut a,
+        &mut b,
+        &mut c,
+    ) {
         BatchReply::Done(n) => report_opened(table, &dossier[..n], &mut a, out),
         BatchReply::Refused(n, position) => write_refused(n, position, out),
     }

@@ -47,7 +47,7 @@ unfolding order.numbers order.integerCmp order.integers order.equal order.rising
     sorting.insert sorting.sorted
     rule.places rule.allAre rule.agreed rule.cell rule.ofVersion rule.cellOf rule.snapshot rule.ruleAt rule.rule rule.joinCell rule.joinCells
     rule.joinSnapshots rule.combine rule.size rule.sizes rule.objects
-    limits.standard limits.fits
+    limits.standard limits.isPermitted limits.fits
     opening.lowest opening.cellAt opening.isMark opening.held opening.marked opening.orLater opening.conflict opening.column opening.lastOf
     opening.mergedSet opening.firstOf opening.mergedAt opening.mergedSets opening.overfull opening.opening
     ways.events ways.buffers ways.eventSet ways.next ways.calls ways.limited ways.batch

@@ -11,7 +11,7 @@ use Rattle.model.specs.Order.{Text, texts}
 use Rattle.model.specs.Keyed.{put}
 use Rattle.model.specs.Sets.{canon}
 use Rattle.model.specs.Rule.{places, Dossier, rule}
-use Rattle.model.specs.Limits.{standard}
+use Rattle.model.specs.Limits.{Limits, Permitted}
 use Rattle.model.specs.Opening.{Opened, finds, conflictAt, merged, opening}
 use Rattle.model.specs.Ways.{Way, leaf, wrote, events, buffers, eventSet, calls, limited}
 use Rattle.model.proofs.Cases.{never}
@@ -64,7 +64,7 @@ unfolding openedAnswer
 gives-merged h (finds f) x e = never (cc)
 gives-merged h (merged ss) x e = (ss, refl)
 
-module _ (table : List ℕ) (w : Way (List ℕ) (List ℕ)) (g : Given table w) where
+module _ (limits : Limits) (permitted : Permitted limits) (table : List ℕ) (w : Way (List ℕ) (List ℕ)) (g : Given table w) where
   abbrev t : EventType
   t = g .type
 
@@ -76,29 +76,29 @@ module _ (table : List ℕ) (w : Way (List ℕ) (List ℕ)) (g : Given table w) 
   colliding s m = record { taken = g .isAccepted s m; source = g .sameSource s m; alike = g .sameMatch s first m (has-event w .1) }
 
   -- the model's theorem, of these calls
-  whole : WholeDemand3 _ (byte-texts table (g .types) (g .isTable) t (g .source) first (colliding first (has-event w .1))) texts w
-  whole = model.whole-demand3 standard (byteView t) _ texts w colliding (g .haveRoom) _
+  whole : WholeDemand3 _ (byte-texts limits permitted table (g .types) (g .isTable) t (g .source) first (colliding first (has-event w .1))) texts w
+  whole = model.whole-demand3 limits (byteView t) _ texts w colliding (g .haveRoom) _
 
-  opens-to : (d out : List ℕ) → wayAnswer table w ≡ wrote d → HasRoom out →
-      openAnswer standard (length out) table d ≡ openedAnswer (wayDossier table w g) (opening (typeView t) (wayRule table w g))
+  opens-to : (d out : List ℕ) → wayAnswer limits table w ≡ wrote d → HasRoom out →
+      openAnswer limits (length out) table d ≡ openedAnswer (wayDossier table w g) (opening (typeView t) (wayRule table w g))
   unfolding wayAnswer byte-calls
   opens-to d out e r = whole .dossier .opened out d r e
 
   texts-of :
-      (d out : List ℕ) (n : ℕ) → wayAnswer table w ≡ wrote d → HasRoom out →
-      replyOf (openAnswer standard (length out) table d) ≡ answers.Reply.done n →
+      (d out : List ℕ) (n : ℕ) → wayAnswer limits table w ≡ wrote d → HasRoom out →
+      replyOf (openAnswer limits (length out) table d) ≡ answers.Reply.done n →
       (text : List ℕ) → hashTextCapacity ≤ length text → (s : List ℕ) → List·Memᴰ s (events w) →
       (hashTextCall table s text ≡ outcome (gives (eventText t (eventAt s))) text)
-      × (hashTextCall table (take n (laid (openAnswer standard (length out) table d) out)) text ≡ hashTextCall table s text)
+      × (hashTextCall table (take n (laid (openAnswer limits (length out) table d) out)) text ≡ hashTextCall table s text)
   unfolding wayAnswer byte-calls byte-texts hashTextCall
   texts-of d out n e r o text l s m =
-      let (x, a, b) = done-gives (openAnswer standard (length out) table d) n out o in
+      let (x, a, b) = done-gives (openAnswer limits (length out) table d) n out o in
       let (ss, q) = gives-merged (wayDossier table w g) (opening (typeView t) (wayRule table w g)) x (sym (opens-to d out e r) ∙ a) in
       let (ofMerged, ofEvent) = whole .hashes out text d ss s r l e q m in
       let y : hashTextAnswer (length text) table x ≡ gives (eventText t (eventAt s)) = rw a at ofMerged in
       (ap (λ (z : Answer). outcome z text) ofEvent, rw b (ap (λ (z : Answer). outcome z text) (y ∙ sym ofEvent)))
 
-  pub demand3 : Demand3 table w g
+  pub demand3 : Demand3 table w g limits
   unfolding wayAnswer byte-calls limited openCall openedAnswer
   demand3 = record {
     result = whole .dossier .result;
@@ -107,18 +107,19 @@ module _ (table : List ℕ) (w : Way (List ℕ) (List ℕ)) (g : Given table w) 
     however = whole .dossier .however;
     opened = λ d out e r. ap (λ (a : Answer). outcome a out) (opens-to d out e r);
     conflicts = λ d out e r v p.
-        let told = reply-conflict (openAnswer standard (length out) table d) v p in
+        let told = reply-conflict (openAnswer limits (length out) table d) v p in
         let k = whole .dossier .conflicts out d r e v p in
         (λ h. k .0 (told .0 h), λ h. told .1 (k .1 h));
     agrees = λ d out e r.
-        let told = reply-conflict (openAnswer standard (length out) table d) in
+        let told = reply-conflict (openAnswer limits (length out) table d) in
         let k = whole .dossier .agrees out d r e in
         (λ h. k .0 (λ v p q. h v p (told v p .1 q)), λ h v p q. k .1 h v p (told v p .0 q));
     hashed = texts-of;
   }
 
 module _
-    (table event : List ℕ) (types : Table) (a : Typed) (isTable : tableOf table ≡ some types) (taken : eventAsked narrow types event ≡ accepted a) where
+    (limits : Limits) (permitted : Permitted limits) (table event : List ℕ) (types : Table) (a : Typed) (isTable : tableOf table ≡ some types)
+    (taken : eventAsked narrow types event ≡ accepted a) where
   abbrev kind : EventType
   kind = a .type
 
@@ -183,9 +184,10 @@ module _
 
   opens-alone :
       (d out old : List ℕ) → HasRoom out → HasRoom old → returned (checkCall table event out) ≡ wrote d →
-      openCall standard table d old ≡ outcome (gives event) old
+      openCall limits table d old ≡ outcome (gives event) old
   unfolding wayAnswer calls events eventSet canon put alone
-  opens-alone d out old r o e = demand3 table (leaf out event) (alone out r) .opened d old e o ∙ ap (λ (x : Answer). outcome x old) alone-gives
+  opens-alone d out old r o e =
+      demand3 limits permitted table (leaf out event) (alone out r) .opened d old e o ∙ ap (λ (x : Answer). outcome x old) alone-gives
 
 -- a call that returned a dossier was answered yes to its questions
 returned-accepted : (q : Asked (List ℕ)) (out d : List ℕ) → returned (outcome (answer q) out) ≡ wrote d → (x : List ℕ) × (q ≡ accepted x)
@@ -205,9 +207,9 @@ check-accepted table event out d e =
     (types, a, ask-some 2 (tableOf table) types isTable, taken)
 
 -- "A dossier of one event opens as that event, byte for byte."
-pub opens-as-itself : (table event : List ℕ) → OpensAsItself table event
-opens-as-itself table event = record {
+pub opens-as-itself : (limits : Limits) → Permitted limits → (table event : List ℕ) → OpensAsItself limits table event
+opens-as-itself limits permitted table event = record {
   opens = λ d out old r o e.
       let (types, a, isTable, taken) = check-accepted table event out d e in
-      opens-alone table event types a isTable taken d out old r o e;
+      opens-alone limits permitted table event types a isTable taken d out old r o e;
 }

@@ -4,3 +4,4 @@ pub mod Demand1Laws
 pub mod DemandLaws
 pub mod ReplySizeLaws
 pub mod ReplyBoundLaws
+pub mod LargerLaws

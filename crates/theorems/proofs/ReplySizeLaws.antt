@@ -6,7 +6,7 @@ use Prim.Native.Nat.{ℕ, _≤_}
 use native.Mathlib.Omega.{arith}
 use lib.ListN.{length}
 use Rattle.model.specs.Order.{Text}
-use Rattle.model.specs.Limits.{standard}
+use Rattle.model.specs.Limits.{Limits, Permitted}
 use Rattle.model.specs.Opening.{merged, opening}
 use Rattle.model.proofs.OpeningLaws.{opening-merged}
 use Rattle.replies.specs.Capacities.{dossierCapacity}
@@ -26,22 +26,24 @@ use Rattle.opening.proofs.SizeLaws.{merged-room}
 -- ---- an accepted dossier
 
 pub dossier-short :
-    (table s : List ℕ) (types : Table) (a : TypedDossier) → tableOf table ≡ some types → dossierAsked standard types s ≡ accepted a →
+    {limits : Limits} → Permitted limits → (table s : List ℕ) (types : Table) (a : TypedDossier) → tableOf table ≡ some types →
+    dossierAsked limits types s ≡ accepted a →
     length s ≤ dossierCapacity
-dossier-short table s types a t h =
-    let w = dossier-taken types s a h in
+dossier-short {limits} permitted table s types a t h =
+    let w = dossier-taken limits types s a h in
     omega (
       arith,
-      ap length (dossier-was standard s (a .headed) (w .read) .0),
-      dossier-fits (a .type) (a .headed) (taken-written w) (w .shape) (w .values) (taken-name w table t),
+      ap length (dossier-was limits s (a .headed) (w .read) .0),
+      dossier-fits permitted (a .type) (a .headed) (taken-written w) (w .shape) (w .values) (taken-name w table t),
     )
 
 -- ---- a merged event
 
 pub merged-short :
-    (table s : List ℕ) (types : Table) (a : TypedDossier) → tableOf table ≡ some types → DossierTaken types s a → (ss : List (List Text)) →
+    {limits : Limits} → Permitted limits → (table s : List ℕ) (types : Table) (a : TypedDossier) → tableOf table ≡ some types →
+    DossierTaken limits types s a → (ss : List (List Text)) →
     opening (typeView (a .type)) (modelOf (a .headed)) ≡ merged ss → length (eventBytes (mergedEvent (a .headed) ss)) ≤ dossierCapacity
-merged-short table s types a t w ss o =
+merged-short permitted table s types a t w ss o =
     subst (λ (x : List (List Text)). length (eventBytes (mergedEvent (a .headed) x)) ≤ dossierCapacity)
     (opening-merged (typeView (a .type)) (modelOf (a .headed)) ss o .2)
-    (merged-room table s types a t w)
+    (merged-room permitted table s types a t w)

@@ -9,7 +9,7 @@ use lib.ListN.{length, drop}
 use lib.Seq.{take-append-seam}
 use Rattle.model.specs.Order.{Text}
 use Rattle.model.specs.Rule.{Dossier, rule, combine}
-use Rattle.model.specs.Limits.{standard, fits}
+use Rattle.model.specs.Limits.{Limits, Permitted, fits}
 use Rattle.model.specs.Opening.{Opened, finds, conflictAt, merged, opening}
 use Rattle.model.specs.Ways.{wrote, said, limited}
 use Rattle.model.proofs.WayClaims.{Each, Has, Calls, HashCalls}
@@ -20,6 +20,7 @@ use Rattle.replies.specs.Capacities.{dossierCapacity, hashTextCapacity}
 use Rattle.replies.specs.Questions.{accepted, ensure, _>>_}
 use Rattle.replies.specs.Answers.{Answer, gives, refuses, refusesAt, outcome, answer}
 use Rattle.replies.proofs.CapacityLaws.{has-room}
+use Rattle.replies.proofs.RangeLaws.{in-range}
 use Rattle.ontology.specs.Table.{EventType, Table, typeNamed}
 use Rattle.ontology.specs.TableLayout.{tableOf}
 use Rattle.ontology.proofs.TableLaws.{table-type}
@@ -72,8 +73,8 @@ pub record Colliding (types : Table) (t : EventType) (uri : Text) (d s : List �
   pub alike : SameMatch t (eventAt s) (eventAt d)
 
 module _
-    (table : List ℕ) (types : Table) (isTable : tableOf table ≡ some types) (t : EventType) (uri : Text) (d : List ℕ)
-    (c : Colliding types t uri d d) where
+    (limits : Limits) (permitted : Permitted limits) (table : List ℕ) (types : Table) (isTable : tableOf table ≡ some types) (t : EventType)
+    (uri : Text) (d : List ℕ) (c : Colliding types t uri d d) where
   abbrev pub S : List ℕ → Type 0
   S s = Colliding types t uri d s
 
@@ -85,7 +86,7 @@ module _
   bytesOf es = dossierBytes (headed (t .name) uri (ruleOf es))
 
   abbrev pub Inside : List (List ℕ) → Type 0
-  Inside es = fits standard (typeView t) (ruleOf es) ≡ true
+  Inside es = fits limits (typeView t) (ruleOf es) ≡ true
 
   accepted-at : (s : List ℕ) → S s → EventAccepted narrow types s t (eventAt s)
   accepted-at s h = event-accepted narrow types s t (eventAt s) (h .taken)
@@ -105,7 +106,7 @@ module _
     of-bytes P x e m = let (s, i, q) = Memᴰ·of-map eventAt es m in subst P q (x s (h s i))
 
     module _ (f : Inside es) where
-      gathered : Gathered t uri (eventAt d) these
+      gathered : Gathered limits t uri (eventAt d) these
       gathered = record {
         kept = table-type table types isTable (t .name) t type-at;
         one = (eventAt (n .0), Memᴰ·map eventAt (n .1));
@@ -113,12 +114,13 @@ module _
         model = fits-at d c;
         alike = of-bytes (λ e. SameMatch t e (eventAt d)) (λ s k. k .alike);
         from = of-bytes (λ e. e .head .source ≡ uri) (λ s k. k .source);
-        inside = ap (fits standard (typeView t)) (sym (rule-bytes t es)) ∙ f;
+        permitted = permitted;
+        inside = ap (fits limits (typeView t)) (sym (rule-bytes t es)) ∙ f;
       }
 
-      pub asked : dossierAsked standard types (bytesOf es) ≡ accepted (record { type = t; headed = headed (t .name) uri (rule (view t) these) })
+      pub asked : dossierAsked limits types (bytesOf es) ≡ accepted (record { type = t; headed = headed (t .name) uri (rule (view t) these) })
       asked =
-          ap (λ (x : Dossier). dossierAsked standard types (dossierBytes (headed (t .name) uri x))) (rule-bytes t es)
+          ap (λ (x : Dossier). dossierAsked limits types (dossierBytes (headed (t .name) uri x))) (rule-bytes t es)
           ∙ rule-asked t uri (eventAt d) these gathered types type-at
 
       pub same-match : dossierMatch t (rule (view t) these .snapshots) ≡ matchSets (t .properties) (eventAt d .sets)
@@ -126,10 +128,10 @@ module _
 
       -- "Opened, the dossier answers what 01's opening says of the rule's bytes."
       pub opens-as : (room : ℕ) → dossierCapacity ≤ room →
-          openAnswer standard room table (bytesOf es) ≡ shownAs t uri (ruleOf es) (opening (typeView t) (ruleOf es))
+          openAnswer limits room table (bytesOf es) ≡ shownAs t uri (ruleOf es) (opening (typeView t) (ruleOf es))
       unfolding openAnswer askedOpening
       opens-as room r =
-          rw (has-room dossierCapacity room r, isTable, asked)
+          rw (in-range limits permitted, has-room dossierCapacity room r, isTable, asked)
           (sym (ap (λ (x : Dossier). openedAnswer (headed (t .name) uri x) (opening (typeView t) x)) (rule-bytes t es)))
 
   -- question 8, and what it leaves
@@ -144,21 +146,23 @@ module _
       (returned-gives _ out ∙ ap wrote (ap dossierBytes (λ i. headed (fits-at s k .named i) (k .source i) (sym (rule-bytes t (s ∷ [])) i))))
 
   pub one-fits : (s : List ℕ) → S s → Inside (s ∷ [])
-  unfolding standard narrow typeView eventView
+  unfolding narrow typeView eventView
   one-fits s k =
       let w = fits-at s k .written in
       let few = count-objects t (eventAt s) (w .sets .long) in
-      ap (fits standard (typeView t)) (rule-bytes t (s ∷ []))
-      ∙ fits-one (view t) (eventAt s) standard (omega arith) (omega (arith, w .head .parents .within)) (omega (arith, few, w .objects))
+      ap (fits limits (typeView t)) (rule-bytes t (s ∷ []))
+      ∙ fits-one (view t) (eventAt s) limits (permitted .some-versions) (omega (arith, w .head .parents .within, permitted .some-parents))
+      (omega (arith, few, w .objects, permitted .some-objects))
 
   pub two-joined :
       (out : List ℕ) (es fs : List (List ℕ)) → HasRoom out → Has es → Has fs → Each S es → Each S fs → Inside es → Inside fs →
-      returned (combineCall standard table (bytesOf es) (bytesOf fs) out)
-      ≡ limited standard (typeView t) (λ x. dossierBytes (headed (t .name) uri x)) (combine (typeView t) (ruleOf es) (ruleOf fs))
+      returned (combineCall limits table (bytesOf es) (bytesOf fs) out)
+      ≡ limited limits (typeView t) (λ x. dossierBytes (headed (t .name) uri x)) (combine (typeView t) (ruleOf es) (ruleOf fs))
   unfolding combineCall combineAnswer combineAsked combined limited dossiersAgree
   two-joined out es fs r n o h g p q =
       let ms = matchSets (t .properties) (eventAt d .sets) in
       rw (
+        in-range limits permitted,
         has-room dossierCapacity (length out) r,
         isTable,
         asked es n h p,
@@ -168,15 +172,15 @@ module _
         agree-exact (t .name) uri ms (t .name) uri ms .1 (refl, refl, refl),
       )
       (let x = combine (typeView t) (rule (view t) (map eventAt es)) (rule (view t) (map eventAt fs)) in
-      eight (fits standard (typeView t) x) (dossierBytes (headed (t .name) uri x)) out
-      ∙ sym (ap (limited standard (typeView t) (λ y. dossierBytes (headed (t .name) uri y))) (combine-bytes t es fs)))
+      eight (fits limits (typeView t) x) (dossierBytes (headed (t .name) uri x)) out
+      ∙ sym (ap (limited limits (typeView t) (λ y. dossierBytes (headed (t .name) uri y))) (combine-bytes t es fs)))
 
-  unfoldable pub byte-calls : Calls standard (byteView t) (List ℕ) (List ℕ) Answer HasRoom S
+  unfoldable pub byte-calls : Calls limits (byteView t) (List ℕ) (List ℕ) Answer HasRoom S
   byte-calls = record {
     encode = λ x. dossierBytes (headed (t .name) uri x);
     check = λ out s. returned (checkCall table s out);
-    join = λ out x y. returned (combineCall standard table x y out);
-    opens = λ out x. openAnswer standard (length out) table x;
+    join = λ out x y. returned (combineCall limits table x y out);
+    opens = λ out x. openAnswer limits (length out) table x;
     shown = shownAs t uri;
     one = checked-one;
     fit = one-fits;

@@ -10,7 +10,7 @@ use lib.ListN.{length, getD, getElem?, length-map}
 use borrow.Author.Tests.{le-leb}
 use Rattle.model.specs.Order.{Text, texts}
 use Rattle.model.specs.Rule.{places, Dossier, rule}
-use Rattle.model.specs.Limits.{standard}
+use Rattle.model.specs.Limits.{Limits}
 use Rattle.model.specs.Opening.{merged, mergedAt, mergedSets, opening}
 use Rattle.model.proofs.WayClaims.{Has}
 use Rattle.model.proofs.Cases.{truth}
@@ -30,6 +30,7 @@ use Rattle.event.proofs.EventQuestionLaws.{all-member, member-all, all-at, at-a
 use Rattle.event.proofs.EventQuestionLaws.{set-rises, choice-none, choice-match, single-at, flat-objects, accepted-event}
 use Rattle.event.proofs.EventSizeLaws.{each-within}
 use Rattle.dossier.specs.DossierLayout.{headed}
+use Rattle.dossier.proofs.DossierHeadLaws.{head-more}
 use Rattle.hashing.specs.HashText.{objectString, objectStrings, hashText, eventText}
 use Rattle.opening.specs.OpenCall.{mergedEvent}
 use Rattle.ways.specs.ByteWays.{SameMatch}
@@ -56,7 +57,7 @@ unfolding hashText
 hash-same t e f b l m = rw (b, object-strings (t .properties) (e .sets) (f .sets) l m)
 
 module _
-    (t : EventType) (uri : Text) (d : Event) (es : List Event) (g : Gathered t uri d es) (ss : List (List Text))
+    {limits : Limits} (t : EventType) (uri : Text) (d : Event) (es : List Event) (g : Gathered limits t uri d es) (ss : List (List Text))
     (o : opening (typeView t) (rule (view t) es) ≡ merged ss)
   where
     abbrev ruled : Dossier
@@ -116,13 +117,13 @@ module _
     value-of p l v i = merged-value (view t) es p l v (rw (set-is p l) at i)
 
     objects-few : objectCount ss ≤ 256
-    unfolding standard
     objects-few =
         omega (
           arith,
           flat-objects ss,
           ap (λ (x : List (List Text)). length (flatten x)) sets-are,
-          merged-limit (view t) standard 32 es (g .inside) (omega arith) (few-objects t es (g .fit)),
+          merged-limit (view t) limits 32 256 es (g .inside) (omega (arith, g .permitted .few-versions)) (g .permitted .few-objects)
+              (few-objects t es (g .fit)),
         )
 
     set-written-at : (p : ℕ) → p < 32 → SetWritten (getD ss p [])
@@ -141,11 +142,11 @@ module _
     merged-written : EventWritten wide opened
     unfolding wide mergedEvent
     merged-written = record {
-      head = record {
+      head = head-more (g .permitted .few-parents) (opened .head) (record {
         type = omega (arith, g .kept .short);
         source = subst (λ (u : Text). isSource u ≡ true) (g .from (g .one .0) (g .one .1)) (g .fit (g .one .0) (g .one .1) .written .head .source);
         parents = parents-written t uri d es g;
-      };
+      });
       sets = record { long = sets-long; each = at-all SetWritten [] ss (λ p l. set-written-at p (omega (arith, sets-long))) };
       objects = objects-few;
     }

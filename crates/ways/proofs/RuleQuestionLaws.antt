@@ -10,7 +10,7 @@ use borrow.Author.Tests.{le-leb, eq-eqb}
 use Rattle.model.specs.Order.{Text, numbers, texts, sets}
 use Rattle.model.specs.Rule.{Cell, holds, differs, places, Snapshot, Dossier, rule, sizes}
 use Rattle.model.proofs.PartLaws.{count}
-use Rattle.model.specs.Limits.{standard, fits}
+use Rattle.model.specs.Limits.{Limits, Permitted, fits}
 use Rattle.model.specs.Opening.{held, isMark, cellAt}
 use Rattle.model.proofs.WayClaims.{Each, Has}
 use Rattle.model.proofs.Cases.{truth}
@@ -74,16 +74,17 @@ unfolding narrow
 few-objects t es a e m = omega (arith, count-objects t e (a e m .written .sets .long), a e m .written .objects)
 
 -- Accepted events of one type and source, with the match values of the event d, and inside the limits
-pub record Gathered (t : EventType) (uri : Text) (d : Event) (es : List Event) : Type 0 where
+pub record Gathered (limits : Limits) (t : EventType) (uri : Text) (d : Event) (es : List Event) : Type 0 where
   pub kept : TypeKept t
   pub one : Has es
   pub fit : Each (EventFits t) es
   pub model : EventFits t d
   pub alike : Each (λ e. SameMatch t e d) es
   pub from : Each (λ e. e .head .source ≡ uri) es
-  pub inside : fits standard (typeView t) (rule (view t) es) ≡ true
+  pub permitted : Permitted limits
+  pub inside : fits limits (typeView t) (rule (view t) es) ≡ true
 
-module _ (t : EventType) (uri : Text) (d : Event) (es : List Event) (g : Gathered t uri d es) where
+module _ {limits : Limits} (t : EventType) (uri : Text) (d : Event) (es : List Event) (g : Gathered limits t uri d es) where
   abbrev ruled : Dossier
   ruled = rule (view t) es
 
@@ -149,11 +150,14 @@ module _ (t : EventType) (uri : Text) (d : Event) (es : List Event) (g : Gathere
     unfolding typeView eventView
     versioned-objects u = snapshot-objects (view t) es z m u 32 (few-objects t es (g .fit))
 
+    unversioned-objects : isVersioned t ≡ false → sizes (z .cells) ≤ limits .objects
+    unfolding typeView eventView
+    unversioned-objects u = let (x, y, w) = fits-bounds limits (typeView t) ruled (g .inside) in omega (arith, w u, sizes-in (ruled .snapshots) z m)
+
     most-objects : sizes (z .cells) ≤ 256
-    unfolding typeView eventView standard
     most-objects = truth (isVersioned t)
         (λ u. omega (arith, versioned-objects u))
-        (λ u. let (x, y, w) = fits-bounds standard (typeView t) ruled (g .inside) in omega (arith, w u, sizes-in (ruled .snapshots) z m))
+        (λ u. omega (arith, unversioned-objects u, g .permitted .few-objects))
 
     has-version : isVersioned t ≡ true → cellAt z (t .mark - 1) ≡ holds (inDecimal (z .version) ∷ [])
     unfolding typeView eventView
@@ -173,13 +177,13 @@ module _ (t : EventType) (uri : Text) (d : Event) (es : List Event) (g : Gathere
     unfolding typeView eventView
     version-of = let (fs, h, c, q) = snapshot-events (view t) es z m in (h .0, c (h .0) (h .1) .0, c (h .0) (h .1) .1)
 
-    unversioned-snapshot : isVersioned t ≡ false → unversionedSnapshot standard t z ≡ true
-    unfolding unversionedSnapshot standard
+    unversioned-snapshot : isVersioned t ≡ false → unversionedSnapshot limits t z ≡ true
+    unfolding unversionedSnapshot
     unversioned-snapshot u =
         let (e, i, v) = version-of in
         let cells = cell-each (λ q c. not (isMark c) && isLoneIfExtreme q c) (λ c. true) (t .properties) z (λ p q at. unmarked p q at u) (λ p l o. refl) in
         rw (eq-eqb (z .version) 0 (sym v ∙ version-none t e u), cells)
-        (le-leb (sizes (z .cells)) 256 most-objects)
+        (le-leb (sizes (z .cells)) (limits .objects) (unversioned-objects u))
 
     alike-sets : MatchAlike (t .properties) (map held (z .cells)) (d .sets)
     unfolding held
@@ -249,7 +253,7 @@ module _ (t : EventType) (uri : Text) (d : Event) (es : List Event) (g : Gathere
   -- ---- the dossier
 
   -- question 5
-  rule-shape : dossierShape standard t (ruled .snapshots) ≡ true
+  rule-shape : dossierShape limits t (ruled .snapshots) ≡ true
   unfolding dossierShape unversionedShape
   rule-shape =
       rw (
@@ -259,11 +263,11 @@ module _ (t : EventType) (uri : Text) (d : Event) (es : List Event) (g : Gathere
       )
       (match-alike t (ruled .snapshots) (matchSets (t .properties) (d .sets)) snapshot-match)
     where
-      kinds : cond (isVersioned t) (eachSnapshot (versionedSnapshot t) (ruled .snapshots)) (unversionedShape standard t (ruled .snapshots)) ≡ true
+      kinds : cond (isVersioned t) (eachSnapshot (versionedSnapshot t) (ruled .snapshots)) (unversionedShape limits t (ruled .snapshots)) ≡ true
       kinds = truth (isVersioned t)
           (λ u. rw u (snapshot-each (versionedSnapshot t) (ruled .snapshots) (λ z m. versioned-shape z m u)))
           (λ u. rw (u, eq-eqb (length (ruled .snapshots)) 1 (one-alone t es (g .one) u))
-          (snapshot-each (unversionedSnapshot standard t) (ruled .snapshots) (λ z m. unversioned-snapshot z m u)))
+          (snapshot-each (unversionedSnapshot limits t) (ruled .snapshots) (λ z m. unversioned-snapshot z m u)))
 
   -- question 6
   rule-values : eachSnapshot (snapshotValues t) (ruled .snapshots) ≡ true
@@ -279,22 +283,21 @@ module _ (t : EventType) (uri : Text) (d : Event) (es : List Event) (g : Gathere
   abbrev ruled-head : Headed
   ruled-head = headed (t .name) uri ruled
 
-  pub parents-written : ParentsWritten 32 (ruled .parents)
-  unfolding standard typeView eventView
+  pub parents-written : ParentsWritten (limits .parents) (ruled .parents)
+  unfolding typeView eventView
   parents-written =
-      let (x, y, w) = fits-bounds standard (typeView t) ruled (g .inside) in record {
+      let (x, y, w) = fits-bounds limits (typeView t) ruled (g .inside) in record {
         within = x;
-        few = omega arith;
+        few = omega (arith, g .permitted .few-parents);
         each = member-all (λ (h : Text). length h ≡ 20) (ruled .parents) (λ h i.
             let (e, j, r) = parent-of (view t) es h i in
             all-member (λ (x : Text). length x ≡ 20) (e .head .parents) (g .fit e j .written .head .parents .each) h r);
         rises = rising-ups texts (ruled .parents) .1 (parents-rise (view t) es);
       }
 
-  rule-written : DossierWritten standard ruled-head
-  unfolding standard
+  rule-written : DossierWritten limits ruled-head
   rule-written =
-      let (x, y, w) = fits-bounds standard (typeView t) ruled (g .inside) in record {
+      let (x, y, w) = fits-bounds limits (typeView t) ruled (g .inside) in record {
         head = record {
           type = omega (arith, g .kept .short);
           source = subst (λ (u : Text). isSource u ≡ true) (g .from (g .one .0) (g .one .1)) (g .fit (g .one .0) (g .one .1) .written .head .source);
@@ -303,7 +306,7 @@ module _ (t : EventType) (uri : Text) (d : Event) (es : List Event) (g : Gathere
         body = record {
           one = some-snapshot;
           within = y;
-          few = omega arith;
+          few = omega (arith, g .permitted .few-versions);
           snapshots = member-all SnapshotWritten (ruled .snapshots) snapshot-written;
           rises = rising-ups numbers (map (λ (z : Snapshot). z .version) (ruled .snapshots)) .1
               (rising-keys numbers (λ (z : Snapshot). z .version) (ruled .snapshots) .0 (rising-snapshots (view t) es));
@@ -313,6 +316,6 @@ module _ (t : EventType) (uri : Text) (d : Event) (es : List Event) (g : Gathere
   -- questions 3 to 6 of the rule's bytes
   pub rule-asked :
       (table : Table) → typeNamed (t .name) table ≡ some t →
-      dossierAsked standard table (dossierBytes ruled-head) ≡ accepted (record { type = t; headed = ruled-head })
+      dossierAsked limits table (dossierBytes ruled-head) ≡ accepted (record { type = t; headed = ruled-head })
   rule-asked table y =
-      dossier-accepted standard table (dossierBytes ruled-head) t ruled-head (dossier-read standard ruled-head rule-written) y rule-shape rule-values
+      dossier-accepted limits table (dossierBytes ruled-head) t ruled-head (dossier-read limits ruled-head rule-written) y rule-shape rule-values

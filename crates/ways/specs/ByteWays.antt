@@ -6,7 +6,7 @@ use mathlib.Core.Option.{Option, none, some}
 use mathlib.Core.List.{List, [], List·Memᴰ}
 use lib.ListN.{length, take, getElem?}
 use Rattle.model.specs.Rule.{View, through}
-use Rattle.model.specs.Limits.{standard}
+use Rattle.model.specs.Limits.{Limits}
 use Rattle.model.specs.Ways as ways
 use Rattle.model.specs.Ways.{Way, wrote, said, buffers, calls}
 use Rattle.replies.specs.Capacities.{dossierCapacity}
@@ -39,9 +39,10 @@ dossierReturned (Reply.found f) bytes = said 0
 abbrev pub returned : Outcome → ways.Reply (List ℕ)
 returned o = dossierReturned (o .reply) (o .bytes)
 
--- "A leaf checks one accepted event. Any other call combines the dossiers that its two sides returned": each call by its own equation, on its own buffer
-unfoldable pub wayAnswer : List ℕ → Way (List ℕ) (List ℕ) → ways.Reply (List ℕ)
-wayAnswer table = calls (λ out s. returned (checkCall table s out)) (λ out a b. returned (combineCall standard table a b out))
+-- "A leaf checks one accepted event. Any other call combines the dossiers that its two sides returned": each call by its own equation, on its own buffer;
+-- document 02, Q-13: "any permitted choice that a whole way keeps"
+unfoldable pub wayAnswer : Limits → List ℕ → Way (List ℕ) (List ℕ) → ways.Reply (List ℕ)
+wayAnswer limits table = calls (λ out s. returned (checkCall table s out)) (λ out a b. returned (combineCall limits table a b out))
 
 -- "buffers that pass 01's question 1"
 abbrev pub HasRoom : List ℕ → Type 0

@@ -6,7 +6,7 @@ use mathlib.Core.Option.{Option, none, some}
 use mathlib.Core.List.{List, [], _∷_}
 use lib.ListN.{length, take, getD}
 use lib.Dec.{eqb}
-use Rattle.model.specs.Limits.{standard}
+use Rattle.model.specs.Limits.{Limits}
 use Rattle.model.specs.Order.{Text}
 use Rattle.packed.specs.Packed.{part}
 use Rattle.replies.specs.Questions as questions
@@ -90,8 +90,8 @@ unfoldable pub combinedGiven : AskedAt TypedDossier → Answer
 combinedGiven (refusedAt n i) = refuses n
 combinedGiven (accepted d) = gives (dossierBytes (d .headed))
 
-unfoldable pub combinedAnswer : Table → List (List ℕ) → Answer
-combinedAnswer ts ss = combinedGiven (eventsAsked ts 0 ss >>= together standard)
+unfoldable pub combinedAnswer : Limits → Table → List (List ℕ) → Answer
+combinedAnswer limits ts ss = combinedGiven (eventsAsked ts 0 ss >>= together limits)
 
 -- the table and the batch of the events ss, of which questions 3 to 7 are answered yes
 pub record Agreed (table batch : List ℕ) (x : BatchIndex) (ts : Table) (ss : List (List ℕ)) : Type 0 where
@@ -108,9 +108,10 @@ pub record FirstOf (table batch : List ℕ) (x : BatchIndex) (t : TypeIndex) (ps
   pub within : n ≤ length events
 
 -- where the events ss were combined, m are the measures of their dossier
-unfoldable pub MeasuredFirst : Table → List (List ℕ) → reply.Reply → List ℕ → Type 0
-MeasuredFirst ts ss (replied.Done n) m = (d : TypedDossier) → (eventsAsked ts 0 ss >>= together standard) ≡ accepted d → Measured (d .headed .snapshots) m
-MeasuredFirst ts ss (replied.Refused n) m = Unit {0}
+unfoldable pub MeasuredFirst : Limits → Table → List (List ℕ) → reply.Reply → List ℕ → Type 0
+MeasuredFirst limits ts ss (replied.Done n) m = (d : TypedDossier) → (eventsAsked ts 0 ss >>= together limits) ≡ accepted d →
+    Measured (d .headed .snapshots) m
+MeasuredFirst limits ts ss (replied.Refused n) m = Unit {0}
 
 -- what a call says that it wrote is inside its buffer
 unfoldable pub DoneWithin : reply.Reply → List ℕ → Type 0
@@ -118,12 +119,12 @@ DoneWithin (replied.Done n) s = n ≤ length s
 DoneWithin (replied.Refused n) s = Unit {0}
 
 -- r and m are what combining the first n events answers, in a buffer that had the bytes `old` and has `after`
-pub record CombinedFirst (table batch : List ℕ) (x : BatchIndex) (n : ℕ) (r : reply.Reply) (m after old : List ℕ) : Type 0 where
+pub record CombinedFirst (limits : Limits) (table batch : List ℕ) (x : BatchIndex) (n : ℕ) (r : reply.Reply) (m after old : List ℕ) : Type 0 where
   pub within : DoneWithin r after
   pub first :
       (ts : Table) (ss : List (List ℕ)) → Agreed table batch x ts ss → n ≤ length ss →
-      dossierReturned (replies.replied r) after ≡ returned (outcome (combinedAnswer ts (take n ss)) old)
-  pub measured : (ts : Table) (ss : List (List ℕ)) → Agreed table batch x ts ss → n ≤ length ss → MeasuredFirst ts (take n ss) r m
+      dossierReturned (replies.replied r) after ≡ returned (outcome (combinedAnswer limits ts (take n ss)) old)
+  pub measured : (ts : Table) (ss : List (List ℕ)) → Agreed table batch x ts ss → n ≤ length ss → MeasuredFirst limits ts (take n ss) r m
 
 -- a refusal of the whole batch has the position 0
 abbrev pub atFirst : answers.Reply → answers.Reply

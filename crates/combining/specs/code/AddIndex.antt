@@ -6,7 +6,7 @@ use mathlib.Core.List.{List, _∷_, _++_, map, flatten}
 use lib.ListN.{length, take, drop, getD}
 use Rattle.model.specs.Sets.{upTo}
 use Rattle.model.specs.Rule.{holds, Snapshot, joinSnapshots}
-use Rattle.model.specs.Limits.{standard, fits}
+use Rattle.model.specs.Limits.{Limits}
 use Rattle.values.specs.declared.versions.EventVersion.{EventVersion}
 use Rattle.replies.specs.Capacities.{dossierCapacity}
 use Rattle.ontology.specs.Table.{EventType}
@@ -23,7 +23,7 @@ use Rattle.dossier.specs.code.DossierIndex.{noSnapshot, SnapshotAt, CellsAre}
 use Rattle.combining.specs.CheckCall.{eventDossier}
 use Rattle.combining.specs.CombineCall.{combined, headedAs}
 use Rattle.combining.specs.code.CheckIndex.{KnownEvent, aloneBytes}
-use Rattle.combining.specs.code.CombineIndex.{Known, Meet}
+use Rattle.combining.specs.code.CombineIndex.{Known, Inside, Meet}
 use Rattle.combining.specs.declared.measures.Measure.{Measure}
 use Rattle.combining.specs.declared.measures.Place.{Place}
 
@@ -87,6 +87,11 @@ pub record Addable (table sofar m event : List ℕ) (t : TypeIndex) (ps : List �
   pub type-is : both .right .type ≡ new .event .type
   pub headed-is : both .right .headed ≡ eventDossier (new .event)
   pub measured : Measured (both .left .headed .snapshots) m
+
+-- the same under these limits
+pub record AddableUnder (limits : Limits) (table sofar m event : List ℕ) (t : TypeIndex) (ps : List ℕ) : Type 0 where
+  pub added : Addable table sofar m event t ps
+  pub under : added .both .limits ≡ limits
 
 -- and the event is read; the head of the dossier is read, and its snapshots begin at `body`; the event's snapshot has the place p among them
 pub record Adding
@@ -175,8 +180,8 @@ module _
     {table sofar m event : List ℕ} {e : EventIndex} {ats : List ℕ} {x : HeadAt} {body : ℕ} {p : Place}
     {t : TypeIndex} {ps : List ℕ} (h : Adding table sofar m event e ats x body p t ps) where
   -- question 8 is answered yes
-  abbrev pub Inside : Type 0
-  Inside = fits standard (typeView (h .added .both .left .type)) (combined (h .added .both .left) (h .added .both .right)) ≡ true
+  abbrev pub AddedInside : Type 0
+  AddedInside = Inside (h .added .both .left .type) (combined (h .added .both .left) (h .added .both .right))
 
   -- the bytes of the dossier with the event
   abbrev pub addedBytes : List ℕ
@@ -190,4 +195,4 @@ pub record AddedRoom
   pub number : version .0 ≡ versionOf (in-some .is .added .new .event .type) (in-some .is .added .new .event .event)
   pub scratch : dossierCapacity ≤ apart
   pub room : dossierCapacity ≤ size
-  pub inside : (table : List ℕ) (h : Adding table sofar m event e ats x body p t ps) → Inside h
+  pub inside : AddedInside (in-some .is)

@@ -5,8 +5,8 @@ use mathlib.Core.Bool.{Bool, true, false, _||_}
 use mathlib.Core.Option.{some}
 use mathlib.Core.List.{List, [], map}
 use lib.ListN.{length, getD, getElem?}
-use Rattle.model.specs.Rule.{Cell, holds, Snapshot, joinSnapshots}
-use Rattle.model.specs.Limits.{standard}
+use Rattle.model.specs.Rule.{Cell, holds, Snapshot, Dossier, joinSnapshots}
+use Rattle.model.specs.Limits.{Limits, Permitted, fits}
 use Rattle.model.specs.Opening.{held}
 use Rattle.packed.specs.Parse.{got}
 use Rattle.values.specs.ValueOrder.{isOrdered}
@@ -28,14 +28,16 @@ unfoldable pub NumberIs : Asked TypedDossier → ℕ → Type 0
 NumberIs (refused n) r = (r ≡ n) × (0 < r)
 NumberIs (accepted a) r = r ≡ 0
 
--- questions 2 to 7 are answered yes
+-- questions 2 to 7 are answered yes, under some limits
 pub record Known (table a b : List ℕ) (t : TypeIndex) (ps : List ℕ) : Type 0 where
+  pub limits : Limits
+  pub permitted : Permitted limits
   pub types : Table
   pub is : tableOf table ≡ some types
   pub left : TypedDossier
   pub right : TypedDossier
-  pub left-asked : dossierAsked standard types a ≡ accepted left
-  pub right-asked : dossierAsked standard types b ≡ accepted right
+  pub left-asked : dossierAsked limits types a ≡ accepted left
+  pub right-asked : dossierAsked limits types b ≡ accepted right
   pub agree : dossiersAgree left right ≡ true
   pub typed : TypeIs table (left .type) t ps
 
@@ -48,6 +50,19 @@ pub record Combinable
   pub left-rows : RowsAre a (known .left .headed .snapshots) left
   pub right-rows : RowsAre b (known .right .headed .snapshots) right
 
+-- question 8 is answered yes of a dossier, under some limits
+pub record Inside (type : EventType) (whole : Dossier) : Type 0 where
+  pub limits : Limits
+  pub permitted : Permitted limits
+  pub is : fits limits (typeView type) whole ≡ true
+
+-- two dossiers that are combined, under these limits
+pub record CombinableUnder
+    (limits : Limits) (table a : List ℕ) (d : DossierIndex) (left b : List ℕ) (e : DossierIndex) (right : List ℕ) (t : TypeIndex)
+    (ps : List ℕ) : Type 0 where
+  pub both : Combinable table a d left b e right t ps
+  pub under : both .known .limits ≡ limits
+
 -- strategy min or max at a place
 unfoldable pub isExtremeAt : EventType → ℕ → Bool
 isExtremeAt t p = atPlace false (λ (q : Property). isMin q || isMax q) (getElem? (t .properties) p)
@@ -56,10 +71,11 @@ isExtremeAt t p = atPlace false (λ (q : Property). isMin q || isMax q) (getElem
 pub record VacantFrom (count : ℕ) (cs : List Cell) : Type 0 where
   pub each : (p : ℕ) → count ≤ p → getD cs p (holds []) ≡ holds []
 
--- two snapshots of one version and one type, of each of which questions 5 and 6 are answered yes
+-- two snapshots of one version and one type, of each of which questions 5 and 6 are answered yes, under some limits
 pub record Fitting (type : EventType) (left right : Snapshot) : Type 0 where
-  pub left-fits : snapshotFits type left ≡ true
-  pub right-fits : snapshotFits type right ≡ true
+  pub limits : Limits
+  pub left-fits : snapshotFits limits type left ≡ true
+  pub right-fits : snapshotFits limits type right ≡ true
   pub left-values : snapshotValues type left ≡ true
   pub right-values : snapshotValues type right ≡ true
   pub same : left .version ≡ right .version

@@ -7,7 +7,6 @@ use lib.ListN.{length, drop}
 use Rattle.model.specs.Order.{texts, rising, Text}
 use Rattle.model.specs.Sets.{union}
 use Rattle.model.specs.Rule.{Snapshot, joinSnapshots}
-use Rattle.model.specs.Limits.{standard, fits}
 use Rattle.packed.specs.Parse.{All}
 use Rattle.values.specs.declared.versions.EventVersion.{EventVersion}
 use Rattle.ontology.specs.Table.{EventType}
@@ -24,7 +23,7 @@ use Rattle.dossier.specs.code.DossierIndex.{DossierIs}
 use Rattle.dossier.specs.declared.dossiers.DossierIndex.{DossierIndex}
 use Rattle.dossier.specs.DossierHead.{dossierHeadBytes}
 use Rattle.combining.specs.CombineCall.{combined, headedAs}
-use Rattle.combining.specs.code.CombineIndex.{Combinable, Shared}
+use Rattle.combining.specs.code.CombineIndex.{Combinable, Inside, Shared}
 
 -- what two snapshots of one version are together, which have the bytes p and q, has its room in an output of `size` bytes
 pub record SharedRoom
@@ -85,6 +84,5 @@ pub record CombinedRoom
   pub table : List ℕ
   pub both : Combinable table a d left b e right t ps
   pub inside :
-      (u : List ℕ) (h : Combinable u a d left b e right t ps) →
-      fits standard (typeView (h .known .left .type)) (combined (h .known .left) (h .known .right)) ≡ true
+      (u : List ℕ) (h : Combinable u a d left b e right t ps) → Inside (h .known .left .type) (combined (h .known .left) (h .known .right))
   pub room : length (dossierBytes (headedAs (both .known .left .headed) (combined (both .known .left) (both .known .right)))) ≤ size

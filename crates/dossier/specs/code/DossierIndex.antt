@@ -8,7 +8,7 @@ use lib.ListN.{length, take, drop, getD}
 use lib.Bits.{bitAnd, bitOr}
 use lib.Dec.{leb, eqb}
 use Rattle.model.specs.Rule.{Cell, Snapshot, sizes}
-use Rattle.model.specs.Limits.{standard}
+use Rattle.model.specs.Limits.{Limits}
 use Rattle.model.specs.Opening.{held, isMark, cellAt}
 use Rattle.packed.specs.Parse.{Parse, fail, got, Layout, _>>=_, foundIf}
 use Rattle.packed.specs.Packed.{part}
@@ -133,8 +133,8 @@ DossierHeadReads p s (read.Head x end) = DossierHeadStops p s x end
 DossierHeadReads p s read.NoHead = p ≡ fail
 
 -- where the bytes begin with a head, it ends at `end`
-pub record HeadEnds (s : List ℕ) (end : ℕ) : Type 0 where
-  pub rest : (h : Head) (t : List ℕ) → readDossierHead standard s ≡ got h t → t ≡ drop end s
+pub record HeadEnds (limits : Limits) (s : List ℕ) (end : ℕ) : Type 0 where
+  pub rest : (h : Head) (t : List ℕ) → readDossierHead limits s ≡ got h t → t ≡ drop end s
 
 -- the head of these parts has its room in an output of `size` bytes
 pub record DossierHeadRoom (name source hashes : List ℕ) (size : ℕ) : Type 0 where
@@ -155,8 +155,8 @@ pub record DossierIs (s : List ℕ) (h : Headed) (i : DossierIndex) : Type 0 whe
   pub objects : take (length (h .snapshots)) (i .objects) ≡ map (λ (x : Snapshot). sizes (x .cells)) (h .snapshots)
 
 -- in n numbers there is a row for each snapshot of the dossier that the bytes are, where they are one
-pub record HasRows (s : List ℕ) (n : ℕ) : Type 0 where
-  pub enough : (h : Headed) → dossierOf standard s ≡ some h → 96 * length (h .snapshots) ≤ n
+pub record HasRows (limits : Limits) (s : List ℕ) (n : ℕ) : Type 0 where
+  pub enough : (h : Headed) → dossierOf limits s ≡ some h → 96 * length (h .snapshots) ≤ n
 
 -- what the reader of a dossier answers, and leaves in the rows
 unfoldable pub DossierReads : Option Headed → List ℕ → List ℕ → DossierIndex → Type 0
@@ -176,16 +176,17 @@ cellFits versioned p c =
     isPresent p c && cond versioned (isLoneIfSingle p c) (not (isMark c) && isLoneIfExtreme p c) && isUnmarkedMatch p c
 
 -- what is asked of a versioned snapshot and of an unversioned one, besides its cells
-unfoldable pub versionFits : EventType → Snapshot → Bool
-versionFits t s =
-    cond (isVersioned t) (leb (sizes (s .cells)) 32 && holdsVersion (s .version) (cellAt s (t .mark - 1))) (eqb (s .version) 0 && leb (sizes (s .cells)) 256)
+unfoldable pub versionFits : Limits → EventType → Snapshot → Bool
+versionFits limits t s =
+    cond (isVersioned t) (leb (sizes (s .cells)) 32 && holdsVersion (s .version) (cellAt s (t .mark - 1)))
+    (eqb (s .version) 0 && leb (sizes (s .cells)) (limits .objects))
 
 -- all that is asked of a snapshot alone
-unfoldable pub snapshotFits : EventType → Snapshot → Bool
-snapshotFits t s =
+unfoldable pub snapshotFits : Limits → EventType → Snapshot → Bool
+snapshotFits limits t s =
     eachCell (cellFits (isVersioned t)) isVacant (t .properties) (s .cells)
     && leb (matchCount (t .properties) (map held (s .cells))) 32
-    && versionFits t s
+    && versionFits limits t s
 
 -- the number of the first of questions 5 and 6 that is answered no, or 0
 unfoldable pub shapeNumber : Bool → Bool → ℕ

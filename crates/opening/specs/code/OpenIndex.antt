@@ -7,7 +7,7 @@ use mathlib.Core.List.{List, [], flatten}
 use lib.ListN.{length, getD, getElem?}
 use Rattle.model.specs.Order.{Text, texts, rising}
 use Rattle.model.specs.Rule.{Snapshot, Dossier}
-use Rattle.model.specs.Limits.{standard}
+use Rattle.model.specs.Limits.{Limits, Permitted}
 use Rattle.model.specs.Opening as model
 use Rattle.model.specs.Opening.{held, cellAt, column, mergedAt}
 use Rattle.values.specs.Spaces.{Kind, kindNumber}
@@ -91,15 +91,17 @@ pub record Mergeable (s rows : List ℕ) (n : ℕ) (t : EventType) (d : Dossier)
       Lone (q .kind) (getD (column (d .snapshots) p) j [])
   pub marked : (p : ℕ) → p + 1 ≡ t .mark → mergedAt (typeView t) d p ≡ getD (column (d .snapshots) p) (n - 1) []
 
--- d is the index of a dossier that was asked its questions; the rows are those of its snapshots, t is the index of its type, and ps the numbers of the type's
--- properties
+-- d is the index of a dossier that was asked its questions, under some limits; the rows are those of its snapshots, t is the index of its type, and ps the
+-- numbers of the type's properties
 pub record Openable (s : List ℕ) (d : DossierIndex) (rows : List ℕ) (t : TypeIndex) (ps : List ℕ) : Type 0 where
+  pub limits : Limits
+  pub permitted : Permitted limits
   pub table : List ℕ
   pub types : Table
   pub type : EventType
   pub headed : Headed
   pub read : tableOf table ≡ some types
-  pub asked : dossierAsked standard types s ≡ accepted (record { type = type; headed = headed })
+  pub asked : dossierAsked limits types s ≡ accepted (record { type = type; headed = headed })
   pub typed : TypeIs table type t ps
   pub is : DossierIs s headed d
   pub stand : RowsAre s (headed .snapshots) rows

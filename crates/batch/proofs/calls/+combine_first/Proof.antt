@@ -9,7 +9,9 @@ use denote.Ref.{now}
 use borrow.Author.Needs.{needs}
 use borrow.Fn.Kinds.{In, Out}
 use borrow.Fn.PlainCycle.{Measures, is, falls, and}
+use Rattle.model.specs.Limits.{Permitted}
 use Rattle.replies.specs.Capacities.{dossierCapacity}
+use Rattle.replies.specs.ChosenLimits.{limitsOf}
 use Rattle.combining.proofs.add.add_event.Reads as add-event-reads
 use Rattle.combining.proofs.check.check_known.Reads as check-known-reads
 use Rattle.batch.specs.code.BatchIndex.{FirstOf}
@@ -22,7 +24,7 @@ use Rattle.batch.proofs.calls.+combine_first.{statement}
 use Rattle.batch.proofs.calls.+combine_first.Tie.{close}
 
 abbrev μ-combine-first : Measures 7 ps ℕ
-μ-combine-first κs a = a .1 .1 .1 .1 .1 .0
+μ-combine-first κs a = a .1 .1 .1 .1 .1 .1 .0
 
 abbrev exactly : ℕ → In 7 ps
 exactly t = and 7 ps (is 7 ps μ-combine-first t) combine-first.Pre
@@ -86,19 +88,22 @@ module _ {t : ℕ} where
     a-room : dossierCapacity ≤ length (now (c .args .a))
     a-room = c .pre .1 .1 .0 .0
 
+    allowed : Permitted (limitsOf (c .args .limits))
+    allowed = c .pre .1 .0 .0
+
   two : (c : At lts.Else1 t) → 2 ≤ more-to-start c .args .n
   two c = omega (arith, c .if1 .left)
 
   -- what the measures and two of the buffers have then
   module _ (c : At lts.After-combine-first t) where
-    measures-long : length (c .combine-first .last .1 .1 .1 .1 .1 .1 .0) ≡ 17
-    measures-long = c .combine-first .kept .1 .1 .1 .1 .1 .1 .0 ∙ to-start c .pre .1 .0 .3
+    measures-long : length (c .combine-first .last .1 .1 .1 .1 .1 .1 .1 .0) ≡ 17
+    measures-long = c .combine-first .kept .1 .1 .1 .1 .1 .1 .1 .0 ∙ to-start c .pre .1 .0 .4
 
-    lone-room : dossierCapacity ≤ length (c .combine-first .last .1 .1 .1 .1 .1 .1 .1 .1 .0)
-    lone-room = omega (arith, c .combine-first .kept .1 .1 .1 .1 .1 .1 .1 .1 .0, to-start c .pre .1 .1 .0 .2)
+    lone-room : dossierCapacity ≤ length (c .combine-first .last .1 .1 .1 .1 .1 .1 .1 .1 .1 .0)
+    lone-room = omega (arith, c .combine-first .kept .1 .1 .1 .1 .1 .1 .1 .1 .1 .0, to-start c .pre .1 .1 .0 .2)
 
-    out-room : dossierCapacity ≤ length (c .combine-first .last .1 .1 .1 .1 .1 .1 .1 .1 .1 .0)
-    out-room = omega (arith, c .combine-first .kept .1 .1 .1 .1 .1 .1 .1 .1 .1 .0, a-room (to-start c))
+    out-room : dossierCapacity ≤ length (c .combine-first .last .1 .1 .1 .1 .1 .1 .1 .1 .1 .1 .0)
+    out-room = omega (arith, c .combine-first .kept .1 .1 .1 .1 .1 .1 .1 .1 .1 .1 .0, a-room (to-start c))
 
 -- ---- the needs
 
@@ -107,7 +112,7 @@ module _ {t : ℕ} where
   check-known-requires c κs =
       let taken = c .before .before in
       let start = one-to-start taken in
-      (first-known (first-of start) (taken .event-part .ensures), search needs, search needs)
+      (first-known (allowed start) (first-of start) (taken .event-part .ensures), search needs, search needs)
 
   combine-first-requires : At lts.Need-combine-first-requires t
   combine-first-requires c κs =
@@ -119,16 +124,17 @@ module _ {t : ℕ} where
       let taken = to-taken c in
       let combined = to-combined taken in
       let start = to-start combined in
-      let addable = last-addable (first-of start) (two (to-more combined)) (combined .combine-first .ensures)
+      let addable = last-addable (allowed start) (first-of start) (two (to-more combined)) (combined .combine-first .ensures)
       (to-reply taken .others .given .1) (taken .event-part2 .ensures) in
-      ((addable, start .pre .1 .0 .2, measures-long combined), (lone-room combined, out-room combined))
+      ((addable, start .pre .1 .0 .3, measures-long combined), (lone-room combined, out-room combined))
 
   returns-3 : At lts.Need-returns-3 t
   returns-3 c =
       let e = to-added c .add-event .ensures in
       let taken = to-taken (to-added c .before) in
       let combined = to-combined taken in
-      last-combined (first-of (to-start combined)) (two (to-more combined)) (combined .combine-first .ensures) (to-reply taken .others .given .1)
+      last-combined (allowed (to-start combined)) (first-of (to-start combined)) (two (to-more combined)) (combined .combine-first .ensures)
+      (to-reply taken .others .given .1)
       (taken .event-part2 .ensures) _ (out-room combined) (e .0) (e .1)
 
 pub +combine-first-spec : {M : Type 1} → statement M

@@ -7,7 +7,9 @@ use mathlib.Core.Path.{_≡_}
 use lib.ListN.{length}
 use denote.Ref.{now}
 use borrow.Author.Needs.{needs}
+use Rattle.model.specs.Limits.{Permitted}
 use Rattle.replies.specs.Capacities.{dossierCapacity}
+use Rattle.replies.specs.ChosenLimits.{limitsOf}
 use Rattle.batch.specs.code.BatchIndex.{FirstOf}
 use Rattle.batch.proofs.BatchLaws.{done-within, done-long, fewer, first-known, one-checked, all-refused, last-addable, last-added, all-taken}
 use Rattle.batch.proofs.calls.combine_all.Statement.{statement}
@@ -51,18 +53,21 @@ module _ (c : tie.Start) where
   first-of = c .pre .1 .1
 
   out-room : dossierCapacity ≤ length (now (c .args .out))
-  out-room = c .pre .0 .1
+  out-room = c .pre .0 .2
+
+  allowed : Permitted (limitsOf (c .args .limits))
+  allowed = c .pre .0 .0
 
 two : (c : tie.Else1) → 2 ≤ more-to-start c .args .x .count
 two c = omega (arith, c .if1 .left)
 
 -- what the measures and the second buffer have then
 module _ (c : tie.After-combine-first) where
-  measures-long : length (c .combine-first .last .1 .1 .1 .1 .1 .1 .0) ≡ 17
+  measures-long : length (c .combine-first .last .1 .1 .1 .1 .1 .1 .1 .0) ≡ 17
   measures-long = search needs
 
-  lone-room : dossierCapacity ≤ length (c .combine-first .last .1 .1 .1 .1 .1 .1 .1 .1 .0)
-  lone-room = omega (arith, c .combine-first .kept .1 .1 .1 .1 .1 .1 .1 .1 .0, to-start c .pre .1 .0 .1)
+  lone-room : dossierCapacity ≤ length (c .combine-first .last .1 .1 .1 .1 .1 .1 .1 .1 .1 .0)
+  lone-room = omega (arith, c .combine-first .kept .1 .1 .1 .1 .1 .1 .1 .1 .1 .0, to-start c .pre .1 .0 .1)
 
 -- ---- the needs
 
@@ -70,7 +75,7 @@ check-known-requires : tie.Need-check-known-requires
 check-known-requires c κs =
     let taken = c .before .before in
     let start = one-to-start taken in
-    (first-known (first-of start) (taken .event-part .ensures), search needs, search needs)
+    (first-known (allowed start) (first-of start) (taken .event-part .ensures), search needs, search needs)
 
 returns : tie.Need-returns
 returns c =
@@ -79,7 +84,7 @@ returns c =
     let start = one-to-start taken in
     let w = first-of start in
     all-taken (checked .check-known .result)
-    (one-checked w (w .agreed .isBatch .one) (taken .before .if1 .taken) (out-room start) (taken .event-part .ensures)
+    (one-checked (allowed start) w (w .agreed .isBatch .one) (taken .before .if1 .taken) (out-room start) (taken .event-part .ensures)
     (checked .check-known .ensures .0))
 
 combine-first-requires : tie.Need-combine-first-requires
@@ -90,14 +95,15 @@ combine-first-requires c κs =
 returns-2 : tie.Need-returns-2
 returns-2 c =
     let combined = refused-to-combined c in
-    all-taken _ (all-refused (first-of (to-start combined)) (two (to-more combined)) (combined .combine-first .ensures) (c .enum-told .given .1))
+    all-taken _ (all-refused (allowed (to-start combined)) (first-of (to-start combined)) (two (to-more combined)) (combined .combine-first .ensures)
+    (c .enum-told .given .1))
 
 add-event-requires : tie.Need-add-event-requires
 add-event-requires c κs =
     let taken = to-taken c in
     let combined = to-combined taken in
     let start = to-start combined in
-    let addable = last-addable (first-of start) (two (to-more combined)) (combined .combine-first .ensures)
+    let addable = last-addable (allowed start) (first-of start) (two (to-more combined)) (combined .combine-first .ensures)
     (to-reply taken .others .given .1) (taken .event-part2 .ensures) in
     ((addable, search needs, measures-long combined), (lone-room combined, out-room start))
 
@@ -108,7 +114,8 @@ returns-3 c =
     let combined = to-combined taken in
     let start = to-start combined in
     all-taken (added .add-event .result)
-    (last-added (first-of start) (two (to-more combined)) (combined .combine-first .ensures) (to-reply taken .others .given .1) (taken .event-part2 .ensures)
+    (last-added (allowed start) (first-of start) (two (to-more combined)) (combined .combine-first .ensures) (to-reply taken .others .given .1)
+    (taken .event-part2 .ensures)
     _ (out-room start) (added .add-event .ensures .0))
 
 pub combine-all-spec : {M : Type 1} → statement M

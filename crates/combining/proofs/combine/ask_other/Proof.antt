@@ -43,7 +43,7 @@ read-before c = says-same _ _ _ _ _ (c .before .same .ensures) (c .if1 .taken) (
 
 returns : tie.Need-returns
 returns c = λ ts e.
-    numbered _ _ (record { types = ts; is = e }) _ _ (c .before .before .before .type-name .ensures) _ _ (read-before (c .before)) _ (c .ask-dossier .ensures)
+    numbered _ _ _ (record { types = ts; is = e }) _ _ (c .before .before .before .type-name .ensures) _ _ (read-before (c .before)) _ (c .ask-dossier .ensures)
 
 ask-dossier-requires-2 : tie.Need-ask-dossier-requires-2
 ask-dossier-requires-2 c κs =
@@ -55,7 +55,7 @@ ask-dossier-requires-2 c κs =
 returns-2 : tie.Need-returns-2
 returns-2 c = λ ts e.
     let read = c .before .before .before in
-    numbered _ _ (record { types = ts; is = e }) _ _ (to-named read .type-name .ensures) _ _ (read .read-table .ensures) _ (c .ask-dossier2 .ensures)
+    numbered _ _ _ (record { types = ts; is = e }) _ _ (to-named read .type-name .ensures) _ _ (read .read-table .ensures) _ (c .ask-dossier2 .ensures)
 
 pub ask-other-spec : {M : Type 1} → statement M
 ask-other-spec =

@@ -14,13 +14,13 @@ combine-with-requires : tie.Need-combine-with-requires
 combine-with-requires c κs =
     let few : tie.Then1 = search in
     let p = to-start (few .before) .pre in
-    (p .0, one-row _ _ (few .before .snapshot-count .ensures) (few .if1 .taken), p .1)
+    ((p .0, p .2), (p .1, one-row _ _ _ (few .before .snapshot-count .ensures) (few .if1 .taken)))
 
 combine-with-requires-2 : tie.Need-combine-with-requires-2
 combine-with-requires-2 c κs =
     let several : tie.Else1 = search in
     let p = to-start (several .before) .pre in
-    (p .0, all-rows _, p .1)
+    ((p .0, p .2), (p .1, all-rows _ _ (p .0)))
 
 pub combine-left-spec : {M : Type 1} → statement M
 combine-left-spec =

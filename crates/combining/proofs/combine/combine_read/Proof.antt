@@ -2,13 +2,12 @@
 -- call answers (`combine-done`), for which there is room since no limit is passed.
 use borrow.Author.Needs.{needs}
 use borrow.Author.Tests.{not-true, not-false}
-use mathlib.Core.Path.{_≡_, sym, _∙_}
+use mathlib.Core.Path.{_≡_, subst}
 use mathlib.Core.Bool.{true}
 use native.Mathlib.Omega.{arith}
-use Rattle.model.specs.Limits.{standard, fits}
-use Rattle.event.specs.Event.{typeView}
-use Rattle.combining.specs.CombineCall.{combined}
-use Rattle.combining.proofs.CombineLaws.{combine-full, combine-room, combine-done}
+use Rattle.model.specs.Limits.{Permitted}
+use Rattle.replies.specs.ChosenLimits.{limitsOf}
+use Rattle.combining.proofs.CombineLaws.{Within, combine-inside, combine-full, combine-room, combine-done}
 use Rattle.combining.proofs.combine.combine_read.Statement.{statement}
 use Rattle.combining.proofs.combine.combine_read.Tie as tie
 
@@ -23,9 +22,12 @@ asked-to-start c = to-start (c .before)
 -- ---- the facts
 
 answered :
-    (c : tie.After-limits-fit) → let k = asked-to-start c .pre .1 .known in
-    c .limits-fit .result ≡ fits standard (typeView (k .left .type)) (combined (k .left) (k .right))
-answered c = c .limits-fit .ensures _ (asked-to-start c .pre .1)
+    (c : tie.After-limits-fit) → let s = asked-to-start c in
+    c .limits-fit .result ≡ Within (limitsOf (s .args .limits)) (s .pre .1 .both .known)
+answered c = c .limits-fit .ensures _ (asked-to-start c .pre .1 .both)
+
+permitted : (c : tie.Start) → Permitted (limitsOf (c .args .limits))
+permitted c = let h = c .pre .1 in subst Permitted (h .under) (h .both .known .permitted)
 
 -- no limit is passed
 inside : (c : tie.Else1) → c .before .limits-fit .result ≡ true
@@ -36,22 +38,23 @@ inside c = not-false _ (c .if1 .left)
 returns : tie.Need-returns
 returns c =
     let asked = c .before in
-    let ((_, _, _, room), both) = asked-to-start asked .pre in
-    combine-full _ _ _ _ room (both .known) (answered asked) (not-true _ (c .if1 .taken))
+    let ((_, _, _, room), h) = asked-to-start asked .pre in
+    combine-full (permitted (asked-to-start asked)) _ _ _ _ room (h .both .known) (h .under) (answered asked) (not-true _ (c .if1 .taken))
 
 write-combined-requires : tie.Need-write-combined-requires
 write-combined-requires c κs =
     let asked = c .before .before in
-    let ((left, right, long, room), both) = asked-to-start asked .pre in
+    let ok = permitted (asked-to-start asked) in
+    let ((left, right, long, room), h) = asked-to-start asked .pre in
     let yes-all = inside (c .before) in (
       left,
       right,
       long,
       record {
         table = _;
-        both = both;
-        inside = λ u h. sym (asked .limits-fit .ensures u h) ∙ yes-all;
-        room = combine-room (both .known) (answered asked) yes-all _ room;
+        both = h .both;
+        inside = λ u z. combine-inside ok (z .known) (asked .limits-fit .ensures u z) yes-all;
+        room = combine-room (h .both .known) (combine-inside ok (h .both .known) (answered asked) yes-all) _ room;
       },
     )
 
@@ -60,8 +63,9 @@ returns-2 c =
     let wrote : tie.After-write-combined = search in
     let fitted : tie.Else1 = search in
     let asked : tie.After-limits-fit = search in
-    let ((_, _, _, room), both) = asked-to-start asked .pre in
-    combine-done _ _ _ _ room (both .known) (answered asked) (inside fitted) _ _ (wrote .write-combined .ensures _ both)
+    let ((_, _, _, room), h) = asked-to-start asked .pre in
+    combine-done (permitted (asked-to-start asked)) _ _ _ _ room (h .both .known) (h .under) (answered asked) (inside fitted) _ _
+    (wrote .write-combined .ensures _ (h .both))
 
 pub combine-read-spec : {M : Type 1} → statement M
 combine-read-spec =

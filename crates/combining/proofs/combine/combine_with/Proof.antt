@@ -9,7 +9,9 @@ use Prim.Native.Nat.{ℕ, _≤_}
 use native.Mathlib.Omega.{arith}
 use lib.ListN.{length}
 use denote.Ref.{now}
+use Rattle.model.specs.Limits.{Permitted}
 use Rattle.replies.specs.Capacities.{dossierCapacity}
+use Rattle.replies.specs.ChosenLimits.{limitsOf}
 use Rattle.ontology.specs.declared.tables.TableRead.{TableRead}
 use Rattle.dossier.specs.declared.dossiers.DossierIndex.{DossierIndex}
 use Rattle.combining.proofs.CombineLaws.{Opened, few-properties, left-refused, right-refused, BothTaken, both-taken, agree-is, combinable}
@@ -41,10 +43,10 @@ module _ (c : tie.After-read-table) where
   e = to-dossiers c .read-dossier2 .result
 
   abbrev left-rows : List ℕ
-  left-rows = to-left-read c .read-dossier .last .1 .0
+  left-rows = to-left-read c .read-dossier .last .1 .1 .0
 
   abbrev right-rows : List ℕ
-  right-rows = to-dossiers c .read-dossier2 .last .1 .0
+  right-rows = to-dossiers c .read-dossier2 .last .1 .1 .0
 
   abbrev read : TableRead
   read = c .read-table .result
@@ -54,7 +56,10 @@ module _ (c : tie.After-read-table) where
   properties = c .read-table .last .1 .1 .0
 
   room : dossierCapacity ≤ length (now (to-start c .args .out))
-  room = to-start c .pre .2
+  room = to-start c .pre .0 .1
+
+  allowed : Permitted (limitsOf (to-start c .args .limits))
+  allowed = to-start c .pre .0 .0
 
   left-same : length left-rows ≡ length (now (to-start c .args .left))
   left-same = search needs
@@ -64,7 +69,8 @@ module _ (c : tie.After-read-table) where
 
   opened :
       let a = to-start c .args in
-      Opened (now (a .table)) (now (a .a)) d left-rows (now (a .b)) e right-rows (now (c .before .before .type-name .result)) read properties
+      Opened (limitsOf (a .limits)) (now (a .table)) (now (a .a)) d left-rows (now (a .b)) e right-rows
+      (now (c .before .before .type-name .result)) read properties
   opened = record {
     left-read = to-left-read c .read-dossier .ensures .0;
     right-read = to-dossiers c .read-dossier2 .ensures .0;
@@ -83,7 +89,7 @@ ok c = not-false _ (c .if1 .left)
 both :
     (c : tie.Else3) → let t = to-table c in
     let a = to-start t .args in
-    BothTaken (now (a .table)) (now (a .a)) (d t) (left-rows t) (now (a .b)) (e t) (right-rows t) (read t .index) (properties t)
+    BothTaken (limitsOf (a .limits)) (now (a .table)) (now (a .a)) (d t) (left-rows t) (now (a .b)) (e t) (right-rows t) (read t .index) (properties t)
 both c = search (both-taken (opened (to-table c)) (ok search))
 
 -- ---- the needs
@@ -104,24 +110,24 @@ combine-with-spec =
     (λ c κs. refl)
     (λ c. search left-same)
     (λ c. search right-same)
-    (λ c. let t : tie.After-read-table = search in search (combine-untabled, room t, opened t, not-true))
+    (λ c. let t : tie.After-read-table = search in search (combine-untabled, allowed t, room t, opened t, not-true))
     (λ c. search needs)
     (λ c κs. let t : tie.After-read-table = search in search (opened t, few-properties, ok))
     (λ c. search left-same)
     (λ c. search right-same)
-    (λ c. let t : tie.After-read-table = search in search (left-refused (opened t) (ok search), room t))
+    (λ c. let t : tie.After-read-table = search in search (left-refused (opened t) (ok search), allowed t, room t))
     (λ c. search needs)
     (λ c κs. let t : tie.After-read-table = search in search (opened t, ok search))
     (λ c. search left-same)
     (λ c. search right-same)
-    (λ c. let t : tie.After-read-table = search in search (right-refused (opened t) (ok search), room t))
+    (λ c. let t : tie.After-read-table = search in search (right-refused (opened t) (ok search), allowed t, room t))
     (λ c. search needs)
     dossiers-agree-requires
     (λ c. search left-same)
     (λ c. search right-same)
-    (λ c. let t : tie.After-read-table = search in let b = both search in search (combine-apart, agree-is b, b, room t, not-true))
+    (λ c. let t : tie.After-read-table = search in let b = both search in search (combine-apart, agree-is b, b, allowed t, room t, not-true))
     (λ c. search needs)
-    (λ c κs. let t : tie.After-read-table = search in search (opened t, room t, combinable (both search), not-false))
+    (λ c κs. let t : tie.After-read-table = search in search (opened t, room t, combinable (both search), allowed t, not-false))
     (λ c. search left-same)
     (λ c. search right-same)
     (λ c. search needs) (λ c. search needs))

@@ -5,6 +5,7 @@ use borrow.Author.Tests.{not-true, not-false}
 use mathlib.Core.List.{List}
 use Prim.Native.Nat.{ℕ}
 use denote.Ref.{now}
+use Rattle.replies.specs.ChosenLimits.{limitsOf}
 use Rattle.combining.specs.code.CombineIndex.{Combinable}
 use Rattle.combining.proofs.FitLaws.{ToVersions, ToObjects, fits-parents, to-versions, versions-over, versions-few}
 use Rattle.combining.proofs.FitLaws.{fits-versioned, fits-objects, firsts-counted}
@@ -20,8 +21,11 @@ to-start c = c .before .before .before .before .before .before .before .before
 abbrev to-parents : tie.After-count-versions → tie.Else1
 to-parents c = c .before .before .before
 
+abbrev to-counted : tie.Else2 → tie.After-count-versions
+to-counted c = search
+
 abbrev versions-to-start : tie.Else2 → tie.Start
-versions-to-start c = to-start (to-parents (c .before) .before)
+versions-to-start c = to-start (to-parents (to-counted c) .before)
 
 -- ---- the facts
 
@@ -30,29 +34,32 @@ module _ (c : tie.Start) (table : List ℕ) where
   abbrev Two : Type 0
   Two =
       let a = c .args in
-      Combinable table (now (a .a)) (a .t2) (now (a .left)) (now (a .b)) (a .t5) (now (a .right)) (a .t) (now (a .properties))
+      Combinable table (now (a .a)) (a .t3) (now (a .left)) (now (a .b)) (a .t6) (now (a .right)) (a .t) (now (a .properties))
 
-few-parents : (c : tie.Else1) {table : List ℕ} (h : Two (to-start (c .before)) table) → ToVersions (h .known)
+few-parents :
+    (c : tie.Else1) {table : List ℕ} (h : Two (to-start (c .before)) table) → ToVersions (h .known) (limitsOf (to-start (c .before) .args .limits))
 few-parents c h =
-    to-versions (h .known) (c .before .parents-fit .ensures) (h .left-read .head .hashes) (h .right-read .head .hashes) (not-false _ (c .if1 .left))
+    to-versions (h .known) _ (c .before .parents-fit .ensures) (h .left-read .head .hashes) (h .right-read .head .hashes) (not-false _ (c .if1 .left))
 
-few-versions : (c : tie.Else2) {table : List ℕ} (h : Two (versions-to-start c) table) → ToObjects (h .known)
-few-versions c h = let counted = c .before in versions-few h (few-parents (to-parents counted) h) (counted .count-versions .ensures) (c .if2 .left)
+few-versions :
+    (c : tie.Else2) {table : List ℕ} (h : Two (versions-to-start c) table) → ToObjects (h .known) (limitsOf (versions-to-start c .args .limits))
+few-versions c h = let counted = to-counted c in versions-few h _ (few-parents (to-parents counted) h) (counted .count-versions .ensures) (c .if2 .left)
 
 -- ---- the needs
 
 returns : tie.Need-returns
 returns c = λ table h.
-    fits-parents (h .known) (c .before .parents-fit .ensures) (h .left-read .head .hashes) (h .right-read .head .hashes) (not-true _ (c .if1 .taken))
+    fits-parents (h .known) _ (c .before .parents-fit .ensures) (h .left-read .head .hashes) (h .right-read .head .hashes) (not-true _ (c .if1 .taken))
 
 returns-2 : tie.Need-returns-2
-returns-2 c = λ table h. search (versions-over h (few-parents (search) h), c .before .count-versions .ensures)
+returns-2 c = λ table h. let counted : tie.After-count-versions = search in
+    search (versions-over h _ (few-parents (search) h), counted .count-versions .ensures)
 
 returns-3 : tie.Need-returns-3
-returns-3 c = λ table h. fits-versioned (h .known) (few-versions (search) h) search
+returns-3 c = λ table h. fits-versioned (h .known) _ (few-versions (search) h) search
 
 returns-4 : tie.Need-returns-4
-returns-4 c = λ table h. fits-objects (h .known) (few-versions (search) h) (search) (firsts-counted h (search) (c .objects-fit .ensures))
+returns-4 c = λ table h. fits-objects (h .known) _ (few-versions (search) h) (search) (firsts-counted h (search) _ (c .objects-fit .ensures))
 
 pub limits-fit-spec : {M : Type 1} → statement M
 limits-fit-spec =

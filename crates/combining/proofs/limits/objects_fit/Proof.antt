@@ -1,4 +1,4 @@
--- `limits::objects_fit` meets its contract. Two snapshots have no more objects together than each has by itself, added up. Where that is above 256 they are
+-- `limits::objects_fit` meets its contract. Two snapshots have no more objects together than each has by itself, added up. Where that is above `most` they are
 -- counted place by place: whether all fit is whether those from this place on fit in the room that is left. From `count` on there are none.
 use borrow.Author.Needs.{needs}
 use borrow.Author.Tests.{leb-true}
@@ -16,12 +16,12 @@ use Rattle.combining.proofs.limits.objects_fit.Statement.{statement}
 use Rattle.combining.proofs.limits.objects_fit.Tie as tie
 
 abbrev Inv-loop : tie.InvT-loop
-Inv-loop a x m b y n count ps room₀ k₀ room k =
+Inv-loop a x m b y n most count ps room₀ k₀ room k =
     (u : List ℕ) (ty : EventType) (left right : Snapshot) → Joins u a b count ps x y ty left right →
-    leb (sizes (joinSnapshots (typeView ty) left right .cells)) 256 ≡ leb (sizes (drop k (joinSnapshots (typeView ty) left right .cells))) room
+    leb (sizes (joinSnapshots (typeView ty) left right .cells)) most ≡ leb (sizes (drop k (joinSnapshots (typeView ty) left right .cells))) room
 
 abbrev μ-loop : tie.MeasureT-loop
-μ-loop a x m b y n count ps room₀ k₀ room k = count - k
+μ-loop a x m b y n most count ps room₀ k₀ room k = count - k
 
 -- ---- the places
 
@@ -42,7 +42,7 @@ inside c = omega (arith, c .loop-test .taken, to-start (c .before) .pre .0)
 returns : tie.Need-returns Inv-loop μ-loop
 returns c = λ u ty left right w un m o p v z.
     let a = if1-to-start (c .before) .args in
-    objects-few (typeView ty) left right _ _ o p (omega (arith, c .before .if1 .taken, leb-true (a .n) (256 - a .m) (c .if2 .taken)))
+    objects-few (typeView ty) left right _ _ _ o p (omega (arith, c .before .if1 .taken, leb-true (a .n) (a .most - a .m) (c .if2 .taken)))
 
 returns-2 : tie.Need-returns-2 Inv-loop μ-loop
 returns-2 c = λ u ty left right w un m o p v z.

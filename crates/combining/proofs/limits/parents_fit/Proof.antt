@@ -19,13 +19,14 @@ returns : tie.Need-returns
 returns c = λ gs hs g h eg eh rg rh.
     let below = c .before .before .before in
     let a = to-start below .args in
-    parents-few gs hs _ _ (g .count) (h .count) (omega (arith, below .if1 .taken, leb-true (a .y .count) (32 - a .x .count) (c .if2 .taken)))
+    parents-few gs hs _ _ _ (g .count) (h .count) (omega (arith, below .if1 .taken, leb-true (a .y .count) (a .most - a .x .count) (c .if2 .taken)))
 
 returns-2 : tie.Need-returns-2
 returns-2 c = λ gs hs g h eg eh rg rh.
     let x = c .before .before .hashes-part .ensures gs g in
     let y = c .before .hashes-part2 .ensures hs h in
-    ap (λ (n : ℕ). leb n 32) (c .count-hash-union .ensures gs hs x y eg eh rg rh)
+    let start : tie.Start = search in
+    ap (λ (n : ℕ). leb n (start .args .most)) (c .count-hash-union .ensures gs hs x y eg eh rg rh)
 
 pub parents-fit-spec : {M : Type 1} → statement M
 parents-fit-spec =

@@ -5,6 +5,8 @@ use borrow.Author.Tests.{not-true, not-false}
 use mathlib.Core.List.{List}
 use Prim.Native.Nat.{ℕ}
 use native.Mathlib.Omega.{arith}
+use Rattle.model.specs.Limits.{Limits}
+use Rattle.replies.specs.ChosenLimits.{limitsOf}
 use Rattle.dossier.proofs.DossierReadLaws.{HeadCount, SnapshotsFound, head-none, count-none, count-read, snapshots-none, snapshots-read}
 use Rattle.dossier.proofs.DossierReadLaws.{refused, not-whole, not-rising, dossier-found}
 use Rattle.dossier.proofs.RowLaws.{rows-short}
@@ -20,6 +22,9 @@ module _ (c : tie.After-known-told2) where
   abbrev head : tie.After-head
   head = search
 
+  abbrev chosen : Limits
+  chosen = limitsOf (start .args .limits)
+
   abbrev bytes : List ℕ
   bytes = start .args .s .now
 
@@ -28,12 +33,13 @@ module _ (c : tie.After-known-told2) where
 
 -- ---- the facts
 
-counted : (c : tie.After-known-told2) → HeadCount (bytes c) (head c .head .given .0 .0) (number c) (c .before .number .given .0 .1 .0)
+counted : (c : tie.After-known-told2) → HeadCount (chosen c) (bytes c) (head c .head .given .0 .0) (number c) (c .before .number .given .0 .1 .0)
 counted c = search count-read
 
 all :
     (c : tie.Else2) → let told : tie.After-known-told2 = search in let call : tie.After-read-snapshots = search in
-    SnapshotsFound (bytes told) (head told .head .given .0 .0) (number told) (call .read-snapshots .last .1 .1 .1 .0) (call .read-snapshots .result)
+    SnapshotsFound (chosen told) (bytes told) (head told .head .given .0 .0) (number told) (call .read-snapshots .last .1 .1 .1 .0)
+    (call .read-snapshots .result)
 all c =
     let told : tie.After-known-told2 = search in
     let call : tie.After-read-snapshots = search in
@@ -42,16 +48,16 @@ all c =
 -- ---- the needs
 
 returns-4 : tie.Need-returns-4
-returns-4 c = let told : tie.After-known-told2 = search in refused _ _ _ _ (search (snapshots-none, counted told, not-true)) (c .no-dossier4 .ensures)
+returns-4 c = let told : tie.After-known-told2 = search in refused _ _ _ _ _ (search (snapshots-none, counted told, not-true)) (c .no-dossier4 .ensures)
 
 returns-5 : tie.Need-returns-5
-returns-5 c = refused _ _ _ _ (search (not-whole, all (c .before .before .before))) (c .no-dossier5 .ensures)
+returns-5 c = refused _ _ _ _ _ (search (not-whole, all (c .before .before .before))) (c .no-dossier5 .ensures)
 
 versions-rise-requires : tie.Need-versions-rise-requires
 versions-rise-requires c κs = let told : tie.After-known-told2 = search in counted told .few
 
 returns-6 : tie.Need-returns-6
-returns-6 c = let read : tie.Else2 = search in refused _ _ _ _ (search (not-rising, all read, not-true)) (c .no-dossier6 .ensures)
+returns-6 c = let read : tie.Else2 = search in refused _ _ _ _ _ (search (not-rising, all read, not-true)) (c .no-dossier6 .ensures)
 
 returns-7 : tie.Need-returns-7
 returns-7 c = let read : tie.Else2 = search in search (dossier-found, all read, not-false)
@@ -61,12 +67,12 @@ read-dossier-spec =
     tie.close
     (tie.spec
     (λ c κs. search needs) (λ c. search needs) (λ c. search needs) (λ c κs. search needs)
-    (λ c. refused _ _ _ _ (search head-none) (c .no-dossier .ensures))
+    (λ c. refused _ _ _ _ _ (search head-none) (c .no-dossier .ensures))
     (λ c κs. search needs) (λ c. search needs) (λ c. search needs) (λ c κs. search needs)
-    (λ c. refused _ _ _ _ (search count-none) (c .no-dossier2 .ensures))
+    (λ c. refused _ _ _ _ _ (search count-none) (c .no-dossier2 .ensures))
     (λ c. omega (arith, counted c .few))
     (λ c κs. search needs)
-    (λ c. refused _ _ _ _ (search (rows-short, counted (c .before .before))) (c .no-dossier3 .ensures))
+    (λ c. refused _ _ _ _ _ (let told : tie.After-known-told2 = search in search (rows-short, counted told, start told .pre .1)) (c .no-dossier3 .ensures))
     (λ c κs. let n = counted (c .before .before) in (n .count .within, n .one, n .few, c .before .if1 .left))
     (λ c κs. search needs) (λ c. search needs)
     returns-4

@@ -3,7 +3,8 @@
 use borrow.Author.Needs.{needs}
 use Prim.Native.Nat.{_≤_}
 use native.Mathlib.Omega.{arith}
-use Rattle.dossier.proofs.HeadEndLaws.{no-name, no-source, no-count, hashes-few, hashes-within, ends-short, ends-here}
+use Rattle.packed.proofs.FieldLaws.{number-got}
+use Rattle.dossier.proofs.HeadEndLaws.{no-name, no-source, no-count, hashes-few, ends-short, ends-here}
 use Rattle.dossier.proofs.head.dossier_head_end.Statement.{statement}
 use Rattle.dossier.proofs.head.dossier_head_end.Tie as tie
 
@@ -18,7 +19,10 @@ dossier-head-end-spec =
     (λ c κs. search needs) (λ c. search needs) (λ c. search needs)
     (λ c. search no-count)
     (λ c. let few : c .before .number .given .0 .0 ≤ 32 = search hashes-few in omega (arith, few))
-    (λ c. search hashes-within)
+    (λ c.
+    let read : tie.After-read-within = search in
+    let number : tie.After-number = search in
+    number-got (number .number .given .1) (read .read-within .ensures) .within)
     (λ c. search ends-short)
     (λ c. search needs)
     (λ c. search ends-here))

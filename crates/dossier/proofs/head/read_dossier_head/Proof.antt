@@ -1,16 +1,15 @@
 use borrow.Author.Needs.{needs}
-use Rattle.model.specs.Limits.{standard}
 use Rattle.event.proofs.HeadLaws.{head-reads, head-refused}
 use Rattle.dossier.specs.DossierHead.{readDossierHead}
 use Rattle.dossier.proofs.head.read_dossier_head.Statement.{statement}
 use Rattle.dossier.proofs.head.read_dossier_head.Tie as tie
 
 returns : tie.Need-returns
-unfolding readDossierHead standard
+unfolding readDossierHead
 returns c = search head-refused
 
 returns-2 : tie.Need-returns-2
-unfolding readDossierHead standard
+unfolding readDossierHead
 returns-2 c =
     let told : tie.After-head = search in
     let w = head-reads (told .head .given .1) (told .before .before .read-head .ensures) in

@@ -2,6 +2,7 @@
 use borrow.Author.Needs.{needs}
 use borrow.Author.Tests.{not-false}
 use mathlib.Core.Path.{_≡_, _∙_}
+use Rattle.replies.specs.ChosenLimits.{limitsOf}
 use Rattle.dossier.specs.DossierQuestions.{snapshotValues}
 use Rattle.dossier.proofs.AskLaws.{Shaped, snapshotNumber, valuesNumber, number-shape, number-match, number-values, values-right, values-wrong}
 use Rattle.dossier.proofs.questions.ask_snapshot.Statement.{statement}
@@ -12,12 +13,12 @@ use Rattle.dossier.proofs.questions.ask_snapshot.Tie as tie
 values :
     (c : tie.After-sets-in-space) → let start : tie.Start = search in let a = start .args in
     Shaped (a .s .now) (a .first .now) (a .row .now) (a .x) (a .m) (a .mark) (a .count) (a .properties .now)
-    (λ ty xs y. valuesNumber (c .sets-in-space .result) ≡ snapshotNumber ty xs y)
+    (λ ty xs y. valuesNumber (c .sets-in-space .result) ≡ snapshotNumber (limitsOf (a .limits)) ty xs y)
 unfolding snapshotValues
 values c u ty xs y m w b g x i =
     let fits : tie.Else1 = search in
     let like : tie.Else2 = search in
-    number-values ty xs y (fits .before .snapshot-fits .ensures u ty y m w b i) (not-false _ (fits .if1 .left))
+    number-values _ ty xs y (fits .before .snapshot-fits .ensures u ty y m w b i) (not-false _ (fits .if1 .left))
     (like .before .is-match-same .ensures u ty xs _ w x (i .sets)) (not-false _ (like .if2 .left))
     (c .sets-in-space .ensures u ty _ w g (i .sets))
 
@@ -36,7 +37,7 @@ ask-snapshot-spec =
     (λ c κs. search needs)
     (λ c. search (number-shape, c .before .snapshot-fits .ensures))
     (λ c κs. search needs)
-    (λ c u ty xs y m w b g x i. number-match ty xs y (c .if2 .taken) (c .before .is-match-same .ensures u ty xs _ w x (i .sets)))
+    (λ c u ty xs y m w b g x i. number-match _ ty xs y (c .if2 .taken) (c .before .is-match-same .ensures u ty xs _ w x (i .sets)))
     (λ c κs. search needs)
     returns-3
     returns-4)

@@ -5,16 +5,17 @@ use borrow.Author.Tests.{not-true, not-false}
 use native.Mathlib.Omega.{arith}
 use Prim.Native.Nat.{_-_, _≤_}
 use mathlib.Core.Path.{_≡_}
+use Rattle.replies.specs.ChosenLimits.{limitsOf}
 use Rattle.dossier.proofs.AskLaws.{Each, NumberFrom, numberOf, not-lone, is-lone, number-five, number-more, number-end}
 use Rattle.dossier.proofs.AskLaws.{masks-typed, snapshot-stands, first-sets}
 use Rattle.dossier.proofs.questions.ask_snapshots.Statement.{statement}
 use Rattle.dossier.proofs.questions.ask_snapshots.Tie as tie
 
 abbrev Inv-loop : tie.InvT-loop
-Inv-loop s rows t properties d m number₀ j₀ number j = NumberFrom s d rows t properties number j
+Inv-loop s limits rows t properties d m number₀ j₀ number j = NumberFrom (limitsOf limits) s d rows t properties number j
 
 abbrev μ-loop : tie.MeasureT-loop
-μ-loop s rows t properties d m number₀ j₀ number j = d .count - j
+μ-loop s limits rows t properties d m number₀ j₀ number j = d .count - j
 
 -- ---- the places
 
@@ -33,7 +34,8 @@ low c = omega (arith, c .loop-test .taken, to-start c .pre .1)
 -- the number of a snapshot
 number :
     (c : tie.After-ask-snapshot Inv-loop μ-loop) → let turn = to-turn c in let a = to-start turn .args in
-    Each (a .s .now) (a .t2) (a .rows .now) (a .t) (a .properties .now) (λ ty ss. c .ask-snapshot .result ≡ numberOf ty ss (turn .before .loop .j))
+    Each (a .s .now) (a .t3) (a .rows .now) (a .t) (a .properties .now)
+    (λ ty ss. c .ask-snapshot .result ≡ numberOf (limitsOf (a .limits)) ty ss (turn .before .loop .j))
 number c u ty h w g x r =
     let turn = to-turn c in
     let masks = masks-typed w (turn .before .before .masks-of .ensures u _ (w .are)) in

@@ -36,7 +36,7 @@ snapshot-fits-spec =
     (λ c κs. search needs)
     (λ c. search (fits-cells, cells (c .before)))
     (λ c κs. search needs)
-    (λ c u ty y m w b v. fits-match ty y (c .if3 .taken) (c .before .is-match-small .ensures u _ (ty .properties) _ w (v .sets)))
+    (λ c u ty y m w b v. fits-match _ ty y (c .if3 .taken) (c .before .is-match-small .ensures u _ (ty .properties) _ w (v .sets)))
     (λ c κs. search needs)
     (λ c.
     let asked : tie.After-cells-fit = search in

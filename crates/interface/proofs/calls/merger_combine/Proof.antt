@@ -4,7 +4,7 @@ use Rattle.interface.proofs.calls.merger_combine.Statement.{statement}
 use Rattle.interface.proofs.calls.merger_combine.Tie as tie
 
 returns : tie.Need-returns
-returns c = answered (c .pack-combined .ensures) (c .before .before .before .combine .ensures)
+returns c = let call : tie.After-combine = search in answered (c .pack-combined .ensures) (call .combine .ensures)
 
 pub merger-combine-spec : {M : Type 1} → statement M
 merger-combine-spec =

@@ -8,7 +8,9 @@ use native.Mathlib.Omega.{arith}
 use denote.Ref.{now}
 use lib.ListN.{length}
 use borrow.Author.Tests.{not-true, not-false}
+use Rattle.model.specs.Limits.{Permitted}
 use Rattle.replies.specs.Capacities.{dossierCapacity}
+use Rattle.replies.specs.ChosenLimits.{limitsOf}
 use Rattle.ontology.proofs.TypeIndexLaws.{TableGot, table-refused, table-got}
 use Rattle.opening.proofs.OpenLaws.{found-low, open-table, open-refused, open-done, Accepted, asked-open}
 use Rattle.opening.proofs.calls.open_with.Statement.{statement}
@@ -44,7 +46,7 @@ module _ (c : tie.After-read-dossier) where
   dossier = now (to-start c .args .dossier)
 
   abbrev rows : List ℕ
-  rows = c .read-dossier .last .1 .0
+  rows = c .read-dossier .last .1 .1 .0
 
 module _ (c : tie.After-read-table) where
   abbrev name : List ℕ
@@ -56,7 +58,10 @@ module _ (c : tie.After-read-table) where
 -- ---- the facts
 
 room : (c : tie.After-read-dossier) → dossierCapacity ≤ length (now (to-start c .args .out))
-room c = to-start c .pre .1
+room c = to-start c .pre .2
+
+allowed : (c : tie.After-read-dossier) → Permitted (limitsOf (to-start c .args .limits))
+allowed c = to-start c .pre .0
 
 -- each snapshot has its row
 same-rows : (c : tie.After-read-dossier) → length (rows c) ≡ length (now (to-start c .args .rows))
@@ -72,12 +77,14 @@ got c = table-got _ _ _ _ (to-table c .read-table .ensures) (not-false _ (c .if1
 
 accepted :
     (c : tie.Else2) → let asked = c .before in let at-table = to-table (to-taken asked) in let read = to-read at-table in
-    Accepted (table read) (dossier read) (read .read-dossier .result) (rows read) (at-table .read-table .result .index) (properties at-table)
+    Accepted (limitsOf (to-start read .args .limits)) (table read) (dossier read) (read .read-dossier .result) (rows read)
+    (at-table .read-table .result .index) (properties at-table)
 accepted c =
     let asked = c .before in
     let taken = to-taken asked in
     let at-table = to-table taken in
-    asked-open _ (got taken) (at-table .before .before .type-name .ensures) (asked .ask-dossier .ensures) (to-read at-table .read-dossier .ensures .0)
+    asked-open (allowed (to-read at-table)) _ (got taken) (at-table .before .before .type-name .ensures) (asked .ask-dossier .ensures)
+    (to-read at-table .read-dossier .ensures .0)
     (c .if2 .left)
 
 -- ---- the needs
@@ -85,7 +92,7 @@ accepted c =
 returns : tie.Need-returns
 returns c =
     let at-table = c .before .before .before in
-    open-table _ _ _ (room (to-read at-table)) (table-refused _ _ _ _ (at-table .read-table .ensures) (not-true _ (c .if1 .taken)))
+    open-table (allowed (to-read at-table)) _ _ _ (room (to-read at-table)) (table-refused _ _ _ _ (at-table .read-table .ensures) (not-true _ (c .if1 .taken)))
 
 ask-dossier-requires : tie.Need-ask-dossier-requires
 ask-dossier-requires c κs =
@@ -98,7 +105,8 @@ returns-2 c =
     let asked = c .before in
     let taken = to-taken asked in
     let at-table = to-table taken in
-    open-refused _ (got taken) (at-table .before .before .type-name .ensures) (asked .ask-dossier .ensures) (room (to-read at-table)) (c .if2 .taken)
+    open-refused (allowed (to-read at-table)) _ (got taken) (at-table .before .before .type-name .ensures) (asked .ask-dossier .ensures)
+    (room (to-read at-table)) (c .if2 .taken)
 
 open-asked-requires : tie.Need-open-asked-requires
 open-asked-requires c κs =
@@ -110,7 +118,7 @@ returns-3 : tie.Need-returns-3
 returns-3 c =
     let opened = c .before .before in
     let done = to-accepted (opened .before) in
-    opened .open-asked .ensures (accepted done .openable) ∙ open-done _ _ _ (room (done-to-read done)) (accepted done)
+    opened .open-asked .ensures (accepted done .openable) ∙ open-done (allowed (done-to-read done)) _ _ _ (room (done-to-read done)) (accepted done)
 
 pub open-with-spec : {M : Type 1} → statement M
 open-with-spec =

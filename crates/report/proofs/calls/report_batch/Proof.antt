@@ -23,8 +23,11 @@ start c = search
 done :
     (c : tie.After-n) →
     let b = to-batch c in
-    BatchDone (now (start b .args .table)) (now (start b .args .events)) (b .batch .last .1 .1 .0) (c .n .given .0 .0)
-done c = let b = to-batch c .batch in batch-done _ _ _ _ _ (b .result) (b .ensures) (omega arith) (c .n .given .1)
+    BatchDone (now (start b .args .table)) (now (start b .args .events)) (b .batch .last .1 .1 .1 .0) (c .n .given .0 .0)
+done c =
+    let b = to-batch c .batch in
+    let chosen : tie.After-standard-limits = search in
+    batch-done _ _ _ _ _ (b .result) (chosen .standard-limits .ensures) (b .ensures) (omega arith) (c .n .given .1)
 
 -- ---- the needs
 
@@ -46,14 +49,17 @@ returns-2 c =
     let told : tie.After-n2 = search in
     let call : tie.After-batch = search in
     let b = call .batch in
-    refused-lines _ _ _ _ (batch-refused _ _ _ _ _ (b .result) (b .ensures) (omega arith) (told .n2 .given .1)) (c .before .before .write-refused .ensures)
+    let chosen : tie.After-standard-limits = search in
+    refused-lines _ _ _ _
+    (batch-refused _ _ _ _ _ (b .result) (chosen .standard-limits .ensures) (b .ensures) (omega arith) (told .n2 .given .1))
+    (c .before .before .write-refused .ensures)
 
 pub report-batch-spec : {M : Type 1} → statement M
 report-batch-spec =
     tie.close
     (tie.spec
     (λ c κs. search needs) (λ c κs. search needs) (λ c κs. search needs) (λ c κs. search needs)
-    (λ c. search needs) (λ c. search needs) (λ c. search needs) (λ c. search needs) (λ c κs. search needs)
+    (λ c κs. search needs) (λ c. search needs) (λ c. search needs) (λ c. search needs) (λ c. search needs) (λ c κs. search needs)
     (λ c. search needs)
     (λ c. done (search) .within)
     (λ c. sym (length-take-le _ _ (done (search) .within)))

@@ -6,7 +6,9 @@ use Prim.Native.Nat.{_≤_}
 use lib.ListN.{length}
 use lib.Seq.{length-take-le}
 use denote.Ref.{now}
+use Rattle.model.specs.Limits.{standard}
 use Rattle.model.specs.Opening.{finds}
+use Rattle.replies.specs.ChosenLimits.{limitsOf}
 use Rattle.replies.specs.Replies.{findingOf}
 use Rattle.dossier.specs.DossierQuestions.{TypedDossier}
 use Rattle.report.specs.code.ReportIndex.{FindingNamed, opens, DossierOpens}
@@ -35,6 +37,10 @@ to-found c = search
 
 -- ---- the facts
 
+-- the limits are document 01's
+at-standard : (c : tie.After-open-dossier) → let chosen : tie.After-standard-limits = search in limitsOf (chosen .standard-limits .result) ≡ standard
+at-standard c = let chosen : tie.After-standard-limits = search in chosen .standard-limits .ensures
+
 -- the dossier d is what the call was given
 abbrev Given : tie.After-open-dossier → TypedDossier → Type 0
 Given c d = let a = start c .args in DossierOpens (now (a .table)) (now (a .dossier)) d (length (now (a .out)))
@@ -42,14 +48,14 @@ Given c d = let a = start c .args in DossierOpens (now (a .table)) (now (a .doss
 abbrev given : (c : tie.After-open-dossier) → Given c (start c .pre .0)
 given c = start c .pre .1
 
-merges : (c : tie.After-n) {d : TypedDossier} → Given (of-merged c) d → OpensMerged d (of-merged c .open-dossier .last .1 .1 .0) (c .n .given .0 .0)
-merges c w = let o = of-merged c .open-dossier in opened-merged _ _ _ _ w (search) (o .result) (o .ensures) (c .n .given .1)
+merges : (c : tie.After-n) {d : TypedDossier} → Given (of-merged c) d → OpensMerged d (of-merged c .open-dossier .last .1 .1 .1 .0) (c .n .given .0 .0)
+merges c w = let o = of-merged c .open-dossier in opened-merged _ _ _ _ w (search) (o .result) (at-standard (search)) (o .ensures) (c .n .given .1)
 
 finding : (c : tie.After-f) {d : TypedDossier} → Given (of-found c) d → opens d ≡ finds (findingOf (c .f .given .0 .0))
-finding c w = let o = of-found c .open-dossier in opened-found _ _ _ _ w (search) (o .result) (o .ensures) (c .f .given .1)
+finding c w = let o = of-found c .open-dossier in opened-found _ _ _ _ w (search) (o .result) (at-standard (search)) (o .ensures) (c .f .given .1)
 
 never-refused : (c : tie.After-n2) {d : TypedDossier} → Given (of-refused c) d → ⊥
-never-refused c w = let o = of-refused c .open-dossier in opened-refused _ _ _ _ w (search) (o .result) (o .ensures) (c .n2 .given .1)
+never-refused c w = let o = of-refused c .open-dossier in opened-refused _ _ _ _ w (search) (o .result) (at-standard (search)) (o .ensures) (c .n2 .given .1)
 
 -- what the writer of the finding is given
 abbrev named :
@@ -57,7 +63,7 @@ abbrev named :
     FindingNamed (now (start (of-found (to-found c)) .args .table)) (c .properties-of .last .1 .1 .0) (to-found c .f .given .0 .0)
 named c w = finding-place w (finding (to-found c) w) (c .properties-of .ensures _ _ (w .tabled) (w .asked))
 
-within : (c : tie.After-n) → c .n .given .0 .0 ≤ length (of-merged c .open-dossier .last .1 .1 .0)
+within : (c : tie.After-n) → c .n .given .0 .0 ≤ length (of-merged c .open-dossier .last .1 .1 .1 .0)
 within c = merges c (given (of-merged c)) .within
 
 -- ---- the needs
@@ -97,7 +103,7 @@ pub report-opened-spec : {M : Type 1} → statement M
 report-opened-spec =
     tie.close
     (tie.spec
-    (λ c κs. search needs) (λ c. search needs)
+    (λ c κs. search needs) (λ c κs. search needs) (λ c. search needs)
     (λ c. within (search))
     (λ c. sym (length-take-le _ _ (within (search))))
     report-merged-requires
