@@ -8,6 +8,11 @@
  * Buffers. A buffer is a pointer and a length. The pointer is not null, even where the length is
  * 0; inputs are only read; an output or scratch buffer overlaps no other buffer of the call.
  *
+ * Limits. An installation chooses how much a dossier may have, and gives it to combine, open and
+ * batch: event versions, parents and, of an unversioned type, objects. A dossier that has more is
+ * refused, with 3 for event versions and parents and with 5 for objects; events that together have
+ * more are refused with 8. The largest choice is the profile's, which the report has.
+ *
  * Replies. A reply is a number whose top byte is its kind; the macros below take it apart.
  *
  *   kind               bits 0 and up
@@ -24,9 +29,10 @@
  *   3  an input breaks its layout     8  the events pass a limit
  *   4  the table has no such type     9  the batch or standard input is not framed right
  *   5  presence, counts or marks do not fit the type
+ *  18  a limit is outside its range
  *
- * They are asked in this order, but for 9, which is asked after 2; a standard input without a
- * table is refused with 9 before.
+ * They are asked in this order, but for 18, which is asked before everything else, and 9, which is
+ * asked after 2; a standard input without a table is refused with 9 before.
  *
  * What stays. A refused call leaves its output unchanged, and so do conflict and overfull. A call
  * that is done leaves the bytes past the returned length unchanged. */
@@ -52,6 +58,11 @@ extern "C" {
 #define MERGER_HASH_ROOM 20
 #define MERGER_REPORT_ROOM 65536
 
+/* The profile's limits, which are the largest that can be chosen. */
+#define MERGER_VERSIONS 8
+#define MERGER_PARENTS 32
+#define MERGER_OBJECTS 256
+
 #define MERGER_KIND(reply) ((unsigned)((uint64_t)(reply) >> 56))
 #define MERGER_LENGTH(reply) ((size_t)((uint64_t)(reply) & 0xFFFFFFFF))
 #define MERGER_PLACE(reply) ((size_t)((uint64_t)(reply) & 0xFFFFFFFF))
@@ -72,10 +83,12 @@ uint64_t merger_check_event(const uint8_t *table, size_t table_len,
                             uint8_t *out, size_t out_len);
 
 /* What is the dossier of the events of both dossiers together?
- * Answers done and writes it, or refused with 1 to 8. The left dossier is asked questions 3 to 6
- * before the right one.
+ * Answers done and writes it, or refused with 18 or 1 to 8. The left dossier is asked questions 3
+ * to 6 before the right one.
+ * versions, parents, objects: the limits, 1 to 8, 8 to 32 and 32 to 256.
  * out: at least 32,768 bytes. Unchanged when refused, and past the length when done. */
-uint64_t merger_combine(const uint8_t *table, size_t table_len,
+uint64_t merger_combine(size_t versions, size_t parents, size_t objects,
+                        const uint8_t *table, size_t table_len,
                         const uint8_t *left, size_t left_len,
                         const uint8_t *right, size_t right_len,
                         uint8_t *out, size_t out_len);
@@ -83,10 +96,12 @@ uint64_t merger_combine(const uint8_t *table, size_t table_len,
 /* What do the events of the dossier merge to?
  * Answers merged and writes the merged event; or conflict, with the lowest event version whose
  * events differ, written to *version, and the first place in which they do; or overfull, with the
- * lowest single-valued place that would get more than one object; or refused with 1 to 6.
+ * lowest single-valued place that would get more than one object; or refused with 18 or 1 to 6.
+ * versions, parents, objects: the limits, 1 to 8, 8 to 32 and 32 to 256.
  * out: at least 32,768 bytes. Unchanged but for merged, and then past the length.
  * version: not null. Unchanged but for conflict. */
-uint64_t merger_open(const uint8_t *table, size_t table_len,
+uint64_t merger_open(size_t versions, size_t parents, size_t objects,
+                     const uint8_t *table, size_t table_len,
                      const uint8_t *dossier, size_t dossier_len,
                      uint8_t *out, size_t out_len,
                      uint64_t *version);
@@ -115,11 +130,13 @@ uint64_t merger_hash(const uint8_t *table, size_t table_len,
                      uint8_t *out, size_t out_len);
 
 /* What is the dossier of all events of the batch together?
- * Answers done and writes it, or refused with 1 to 9 and the position of the refused event (0 for
- * 1, 2, 8 and 9).
+ * Answers done and writes it, or refused with 18 or 1 to 9 and the position of the refused event (0
+ * for 18, 1, 2, 8 and 9).
+ * versions, parents, objects: the limits, 1 to 8, 8 to 32 and 32 to 256.
  * out: at least 32,768 bytes. Unchanged when refused, and past the length when done.
  * a, b, c: scratch, at least 32,768 bytes each; they may hold anything before and after. */
-uint64_t merger_batch(const uint8_t *table, size_t table_len,
+uint64_t merger_batch(size_t versions, size_t parents, size_t objects,
+                      const uint8_t *table, size_t table_len,
                       const uint8_t *batch, size_t batch_len,
                       uint8_t *out, size_t out_len,
                       uint8_t *a, size_t a_len,

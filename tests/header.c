@@ -6,6 +6,7 @@
 #include <string.h>
 
 #define BYTES(text) (const uint8_t *)(text), sizeof(text) - 1
+#define PROFILE MERGER_VERSIONS, MERGER_PARENTS, MERGER_OBJECTS
 #define UNWRITTEN 77
 
 static const char TABLE[] =
@@ -46,17 +47,19 @@ static void expect(int holds, const char *what) {
 
 static void expect_conflict(size_t left_len, size_t right_len) {
     uint64_t version = UNWRITTEN;
-    uint64_t reply = merger_combine(BYTES(TABLE), left, left_len, right, right_len,
+    uint64_t reply = merger_combine(PROFILE, BYTES(TABLE), left, left_len, right, right_len,
                                     both, sizeof both);
     expect(MERGER_KIND(reply) == MERGER_DONE, "E1 and E4 combine");
-    reply = merger_open(BYTES(TABLE), both, MERGER_LENGTH(reply), event, sizeof event, &version);
+    reply = merger_open(PROFILE, BYTES(TABLE), both, MERGER_LENGTH(reply), event, sizeof event,
+                        &version);
     expect(MERGER_KIND(reply) == MERGER_CONFLICT, "E1 and E4 are in conflict");
     expect(version == 1 && MERGER_PLACE(reply) == 3, "the conflict is 1 state");
 }
 
 static void expect_itself(size_t left_len) {
     uint64_t version = UNWRITTEN;
-    uint64_t reply = merger_open(BYTES(TABLE), left, left_len, event, sizeof event, &version);
+    uint64_t reply = merger_open(PROFILE, BYTES(TABLE), left, left_len, event, sizeof event,
+                                 &version);
     expect(MERGER_KIND(reply) == MERGER_MERGED, "E1 opens as a merged event");
     expect(MERGER_LENGTH(reply) == sizeof E1 - 1 && memcmp(event, E1, sizeof E1 - 1) == 0,
            "E1 opens as itself");
@@ -65,15 +68,15 @@ static void expect_itself(size_t left_len) {
 
 static void expect_unwritten_version(void) {
     uint64_t version = UNWRITTEN;
-    uint64_t reply = merger_batch(BYTES(PART_TABLE), BYTES(PARTS), both, sizeof both,
+    uint64_t reply = merger_batch(PROFILE, BYTES(PART_TABLE), BYTES(PARTS), both, sizeof both,
                                   left, sizeof left, right, sizeof right, event, sizeof event);
     expect(MERGER_KIND(reply) == MERGER_DONE, "two parts are a batch");
-    reply = merger_open(BYTES(PART_TABLE), both, MERGER_LENGTH(reply), event, sizeof event,
-                        &version);
+    reply = merger_open(PROFILE, BYTES(PART_TABLE), both, MERGER_LENGTH(reply),
+                        event, sizeof event, &version);
     expect(MERGER_KIND(reply) == MERGER_OVERFULL && MERGER_PLACE(reply) == 0,
            "two serials are overfull");
     expect(version == UNWRITTEN, "overfull leaves the version");
-    reply = merger_open(BYTES(PART_TABLE), BYTES("x"), event, sizeof event, &version);
+    reply = merger_open(PROFILE, BYTES(PART_TABLE), BYTES("x"), event, sizeof event, &version);
     expect(MERGER_KIND(reply) == MERGER_REFUSED && MERGER_NUMBER(reply) == 3, "3: no dossier");
     expect(version == UNWRITTEN, "refused leaves the version");
 }
@@ -88,12 +91,42 @@ static void expect_value(void) {
 static void expect_refusals(void) {
     uint64_t reply = merger_check_table(BYTES("\0"));
     expect(MERGER_KIND(reply) == MERGER_REFUSED && MERGER_NUMBER(reply) == 2, "2: no table");
-    reply = merger_batch(BYTES(PART_TABLE), BYTES("\2" PART "1" "\1x"), both, sizeof both,
-                         left, sizeof left, right, sizeof right, event, sizeof event);
+    reply = merger_batch(PROFILE, BYTES(PART_TABLE), BYTES("\2" PART "1" "\1x"),
+                         both, sizeof both, left, sizeof left, right, sizeof right,
+                         event, sizeof event);
     expect(MERGER_KIND(reply) == MERGER_REFUSED && MERGER_NUMBER(reply) == 3
                && MERGER_POSITION(reply) == 1, "3 1: the second is no event");
     reply = merger_report(BYTES("\1"), lines, sizeof lines);
     expect(MERGER_LENGTH(reply) == 12 && memcmp(lines, "refused 9 0\n", 12) == 0, "9: no table");
+}
+
+static void expect_18(uint64_t reply, const char *what) {
+    expect(MERGER_KIND(reply) == MERGER_REFUSED && MERGER_NUMBER(reply) == 18
+               && MERGER_POSITION(reply) == 0, what);
+}
+
+/* Each call has a limit outside its range and an output that is too small: 18 comes before 1. */
+static void expect_limits_in_range(void) {
+    uint64_t version = UNWRITTEN;
+    uint8_t small[1] = {UNWRITTEN};
+    expect_18(merger_combine(0, MERGER_PARENTS, MERGER_OBJECTS, BYTES(TABLE), BYTES("x"),
+                             BYTES("x"), small, sizeof small), "18 of combine: no event version");
+    expect_18(merger_open(MERGER_VERSIONS, MERGER_PARENTS + 1, MERGER_OBJECTS, BYTES(TABLE),
+                          BYTES("x"), small, sizeof small, &version), "18 of open: 33 parents");
+    expect_18(merger_batch(MERGER_VERSIONS, MERGER_PARENTS, 31, BYTES(TABLE), BYTES("x"),
+                           small, sizeof small, left, sizeof left, right, sizeof right,
+                           event, sizeof event), "18 of batch: 31 objects");
+    expect(small[0] == UNWRITTEN && version == UNWRITTEN, "18 leaves the output and the version");
+}
+
+/* E1 alone keeps to the least limits; with an output that is too small it is refused with 1. */
+static void expect_least_limits(size_t left_len) {
+    uint64_t version = UNWRITTEN;
+    uint64_t reply = merger_open(1, 8, 32, BYTES(TABLE), left, left_len, event, sizeof event,
+                                 &version);
+    expect(MERGER_KIND(reply) == MERGER_MERGED, "the least limits are in their ranges");
+    reply = merger_open(1, 8, 32, BYTES(TABLE), left, left_len, event, sizeof event - 1, &version);
+    expect(MERGER_KIND(reply) == MERGER_REFUSED && MERGER_NUMBER(reply) == 1, "1: a small output");
 }
 
 static void expect_hash(void) {
@@ -112,6 +145,8 @@ int main(void) {
            "E1 and E4 are accepted");
     expect_conflict(MERGER_LENGTH(first), MERGER_LENGTH(fourth));
     expect_itself(MERGER_LENGTH(first));
+    expect_least_limits(MERGER_LENGTH(first));
+    expect_limits_in_range();
     expect_unwritten_version();
     expect_value();
     expect_hash();

@@ -2,6 +2,7 @@
 
 use crate::workload::{host, host_dossier, port_dossier, table};
 use independent::calls::{self, Opening, DOSSIER_ROOM, HASH_ROOM, HASH_TEXT_ROOM};
+use independent::limits::Limits;
 use independent::packed::put_batch;
 use independent::question;
 use merger::Opened;
@@ -79,10 +80,14 @@ fn combine(name: &'static str, [left, right]: [Vec<u8>; 2]) -> Row {
     Row {
         name,
         room: DOSSIER_ROOM,
-        archive: Box::new(move |out| merger::combine(&table, &left, &right, out).unwrap().len()),
+        archive: Box::new(move |out| {
+            let limits = merger::Limits::default();
+            let dossier = merger::combine(limits, &table, &left, &right, out);
+            dossier.unwrap().len()
+        }),
         independent: Box::new(move |out| {
             let (table, left, right) = &inputs;
-            calls::combine(table, left, right, out).unwrap()
+            calls::combine(Limits::PROFILE, table, left, right, out).unwrap()
         }),
         copied: Some(copied),
     }
@@ -92,20 +97,26 @@ fn combine(name: &'static str, [left, right]: [Vec<u8>; 2]) -> Row {
 fn open(name: &'static str, [left, right]: [Vec<u8>; 2]) -> Row {
     let table = table();
     let mut dossier = vec![0; DOSSIER_ROOM];
-    let length = calls::combine(&table, &left, &right, &mut dossier).unwrap();
-    dossier.truncate(length);
+    let length = calls::combine(Limits::PROFILE, &table, &left, &right, &mut dossier);
+    dossier.truncate(length.unwrap());
     let copied = [&table[..], &dossier].concat();
     let inputs = (table.clone(), dossier.clone());
     Row {
         name,
         room: DOSSIER_ROOM,
-        archive: Box::new(move |out| match merger::open(&table, &dossier, out) {
-            Ok(Opened::Merged(event)) => event.len(),
-            other => panic!("{other:?}"),
+        archive: Box::new(move |out| {
+            let limits = merger::Limits::default();
+            match merger::open(limits, &table, &dossier, out) {
+                Ok(Opened::Merged(event)) => event.len(),
+                other => panic!("{other:?}"),
+            }
         }),
-        independent: Box::new(move |out| match calls::open(&inputs.0, &inputs.1, out) {
-            Ok(Opening::Merged(length)) => length,
-            other => panic!("{other:?}"),
+        independent: Box::new(move |out| {
+            let (table, dossier) = &inputs;
+            match calls::open(Limits::PROFILE, table, dossier, out) {
+                Ok(Opening::Merged(length)) => length,
+                other => panic!("{other:?}"),
+            }
         }),
         copied: Some(copied),
     }
@@ -125,11 +136,14 @@ fn batch_of_16() -> Row {
         room: DOSSIER_ROOM,
         archive: Box::new(move |out| {
             let scratch = own.each_mut().map(Vec::as_mut_slice);
-            merger::batch(&table, &frames, out, scratch).unwrap().len()
+            let limits = merger::Limits::default();
+            let dossier = merger::batch(limits, &table, &frames, out, scratch);
+            dossier.unwrap().len()
         }),
         independent: Box::new(move |out| {
             let scratch = other.each_mut().map(Vec::as_mut_slice);
-            calls::batch(&inputs.0, &inputs.1, out, scratch).unwrap()
+            let (table, frames) = &inputs;
+            calls::batch(Limits::PROFILE, table, frames, out, scratch).unwrap()
         }),
         copied: None,
     }

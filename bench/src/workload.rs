@@ -1,6 +1,7 @@
 //! What is timed: hosts, which are versioned, and ports, which are not.
 
 use independent::calls::{self, DOSSIER_ROOM};
+use independent::limits::Limits;
 use independent::packed::{put_batch, put_count, put_text};
 
 /// Objects of a set, as text.
@@ -123,7 +124,7 @@ fn dossier(events: Vec<Vec<u8>>) -> Vec<u8> {
     let scratch = scratch.each_mut().map(Vec::as_mut_slice);
     let mut batch = Vec::new();
     put_batch(&mut batch, &events);
-    let length = calls::batch(&table(), &batch, &mut out, scratch);
+    let length = calls::batch(Limits::PROFILE, &table(), &batch, &mut out, scratch);
     out.truncate(length.expect("a dossier"));
     out
 }

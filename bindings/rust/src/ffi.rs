@@ -3,7 +3,7 @@
 //! Each call is safe for the same reason: pointers and lengths are those of slices, so they are
 //! valid and not null; what a call writes to is lent to it alone, so it overlaps nothing.
 
-use crate::{Question, Refusal};
+use crate::{Limits, Question, Refusal};
 use std::ops::Range;
 
 extern "C" {
@@ -17,6 +17,9 @@ extern "C" {
         out_len: usize,
     ) -> u64;
     fn merger_combine(
+        versions: usize,
+        parents: usize,
+        objects: usize,
         table: *const u8,
         table_len: usize,
         left: *const u8,
@@ -27,6 +30,9 @@ extern "C" {
         out_len: usize,
     ) -> u64;
     fn merger_open(
+        versions: usize,
+        parents: usize,
+        objects: usize,
         table: *const u8,
         table_len: usize,
         dossier: *const u8,
@@ -60,6 +66,9 @@ extern "C" {
         out_len: usize,
     ) -> u64;
     fn merger_batch(
+        versions: usize,
+        parents: usize,
+        objects: usize,
         table: *const u8,
         table_len: usize,
         batch: *const u8,
@@ -110,10 +119,13 @@ pub fn hash(table: &[u8], event: &[u8], out: &mut [u8]) -> Reply {
     on_one_input(merger_hash, table, event, out)
 }
 
-pub fn combine(table: &[u8], left: &[u8], right: &[u8], out: &mut [u8]) -> Reply {
+pub fn combine(limits: Limits, table: &[u8], left: &[u8], right: &[u8], out: &mut [u8]) -> Reply {
     // SAFETY: as the module says.
     Reply::unpack(unsafe {
         merger_combine(
+            limits.versions,
+            limits.parents,
+            limits.objects,
             table.as_ptr(),
             table.len(),
             left.as_ptr(),
@@ -127,11 +139,14 @@ pub fn combine(table: &[u8], left: &[u8], right: &[u8], out: &mut [u8]) -> Reply
 }
 
 /// The reply, and the event version where that is a conflict.
-pub fn open(table: &[u8], dossier: &[u8], out: &mut [u8]) -> (Reply, u64) {
+pub fn open(limits: Limits, table: &[u8], dossier: &[u8], out: &mut [u8]) -> (Reply, u64) {
     let mut version = 0;
     // SAFETY: as the module says.
     let reply = unsafe {
         merger_open(
+            limits.versions,
+            limits.parents,
+            limits.objects,
             table.as_ptr(),
             table.len(),
             dossier.as_ptr(),
@@ -161,11 +176,20 @@ pub fn value(table: &[u8], event: &[u8], place: usize, index: usize) -> Range<us
     start..start + bits(reply, 0, 28)
 }
 
-pub fn batch(table: &[u8], batch: &[u8], out: &mut [u8], scratch: [&mut [u8]; 3]) -> Reply {
+pub fn batch(
+    limits: Limits,
+    table: &[u8],
+    batch: &[u8],
+    out: &mut [u8],
+    scratch: [&mut [u8]; 3],
+) -> Reply {
     let [a, b, c] = scratch;
     // SAFETY: as the module says.
     Reply::unpack(unsafe {
         merger_batch(
+            limits.versions,
+            limits.parents,
+            limits.objects,
             table.as_ptr(),
             table.len(),
             batch.as_ptr(),
@@ -225,9 +249,9 @@ impl Reply {
 }
 
 fn question(number: usize) -> Question {
-    let place = number.checked_sub(1);
-    let found = place.and_then(|place| Question::ALL.get(place));
-    *found.unwrap_or_else(|| not_the_merger(&format!("the refusal {number}")))
+    let mut all = Question::ALL.into_iter();
+    let found = all.find(|question| usize::from(question.number()) == number);
+    found.unwrap_or_else(|| not_the_merger(&format!("the refusal {number}")))
 }
 
 /// Ends the program on a reply that the interface does not have for the call.

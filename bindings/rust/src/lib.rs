@@ -7,14 +7,15 @@
 //!
 //! ```no_run
 //! # let (table, first, second) = ([0u8; 0], [0u8; 0], [0u8; 0]);
-//! use merger::{check_event, combine, open, Opened, DOSSIER_ROOM};
+//! use merger::{check_event, combine, open, Limits, Opened, DOSSIER_ROOM};
 //!
+//! let limits = Limits::default();
 //! let [mut left, mut right] = [[0; DOSSIER_ROOM]; 2];
 //! let [mut both, mut event] = [[0; DOSSIER_ROOM]; 2];
 //! let left = check_event(&table, &first, &mut left)?;
 //! let right = check_event(&table, &second, &mut right)?;
-//! let both = combine(&table, left, right, &mut both)?;
-//! match open(&table, both, &mut event)? {
+//! let both = combine(limits, &table, left, right, &mut both)?;
+//! match open(limits, &table, both, &mut event)? {
 //!     Opened::Merged(event) => println!("{} bytes", event.len()),
 //!     Opened::Conflict { version, place } => println!("conflict {version} {place}"),
 //!     Opened::Overfull { place } => println!("overfull {place}"),
@@ -39,6 +40,28 @@ pub const HASH_TEXT_ROOM: usize = 8_192;
 pub const HASH_ROOM: usize = 20;
 /// The least room for a report.
 pub const REPORT_ROOM: usize = 65_536;
+
+/// How much a dossier may have. Each installation chooses; the default is the profile's, which is
+/// the most that can be chosen.
+#[derive(Clone, Copy, Debug, PartialEq, Eq)]
+pub struct Limits {
+    /// Event versions, 1 to 8.
+    pub versions: usize,
+    /// Parents, 8 to 32.
+    pub parents: usize,
+    /// Objects of an unversioned type, 32 to 256.
+    pub objects: usize,
+}
+
+impl Default for Limits {
+    fn default() -> Self {
+        Limits {
+            versions: 8,
+            parents: 32,
+            objects: 256,
+        }
+    }
+}
 
 /// What a dossier opens as. Places count the properties of the type from 0.
 #[derive(Clone, Copy, Debug, PartialEq, Eq)]
@@ -71,23 +94,29 @@ pub fn check_event<'o>(table: &[u8], event: &[u8], out: &'o mut [u8]) -> Result<
 /// Gives the dossier of the events of two dossiers together.
 ///
 /// # Errors
-/// The first of questions 1 to 8 whose answer is no; the left dossier is asked first.
+/// The first of questions 18 and 1 to 8 whose answer is no; the left dossier is asked first.
 pub fn combine<'o>(
+    limits: Limits,
     table: &[u8],
     left: &[u8],
     right: &[u8],
     out: &'o mut [u8],
 ) -> Result<&'o [u8], Refusal> {
-    let length = ffi::combine(table, left, right, out).length()?;
+    let length = ffi::combine(limits, table, left, right, out).length()?;
     Ok(&out[..length])
 }
 
 /// Opens a dossier. Only a merged event is written.
 ///
 /// # Errors
-/// The first of questions 1 to 6 whose answer is no.
-pub fn open<'o>(table: &[u8], dossier: &[u8], out: &'o mut [u8]) -> Result<Opened<'o>, Refusal> {
-    let (reply, version) = ffi::open(table, dossier, out);
+/// The first of questions 18 and 1 to 6 whose answer is no.
+pub fn open<'o>(
+    limits: Limits,
+    table: &[u8],
+    dossier: &[u8],
+    out: &'o mut [u8],
+) -> Result<Opened<'o>, Refusal> {
+    let (reply, version) = ffi::open(limits, table, dossier, out);
     match reply {
         Reply::Merged { length } => Ok(Opened::Merged(&out[..length])),
         Reply::Conflict { place } => Ok(Opened::Conflict { version, place }),
@@ -126,14 +155,16 @@ pub fn hash<'o>(table: &[u8], event: &[u8], out: &'o mut [u8]) -> Result<&'o [u8
 /// Gives the dossier of all events of a batch together.
 ///
 /// # Errors
-/// The first question whose answer is no, with the position of the event that it was asked of.
+/// The first question whose answer is no, with the position of the event that it was asked of;
+/// question 18 comes before all others.
 pub fn batch<'o>(
+    limits: Limits,
     table: &[u8],
     batch: &[u8],
     out: &'o mut [u8],
     scratch: [&mut [u8]; 3],
 ) -> Result<&'o [u8], Refusal> {
-    let length = ffi::batch(table, batch, out, scratch).length()?;
+    let length = ffi::batch(limits, table, batch, out, scratch).length()?;
     Ok(&out[..length])
 }
 

@@ -15,11 +15,12 @@ pub enum Question {
     Collision,
     Limits,
     Frame,
+    Parameters = 18,
 }
 
 impl Question {
-    /// By number, from 1.
-    pub const ALL: [Question; 9] = [
+    /// By rising number.
+    pub const ALL: [Question; 10] = [
         Question::Room,
         Question::Table,
         Question::Layout,
@@ -29,6 +30,7 @@ impl Question {
         Question::Collision,
         Question::Limits,
         Question::Frame,
+        Question::Parameters,
     ];
 
     pub fn number(self) -> u8 {
@@ -48,6 +50,10 @@ impl fmt::Display for Question {
             Question::Collision => "do the inputs agree in type, source URI and match sets?",
             Question::Limits => "are the events together inside the limits?",
             Question::Frame => "does the batch frame read to its exact end?",
+            Question::Parameters => {
+                "are the limits in their ranges, 1 to 8 event versions, 8 to 32 parents and \
+                 32 to 256 objects?"
+            }
         })
     }
 }

@@ -1,9 +1,10 @@
-//! The profile's host example, and the other examples beside it, through the calls.
+//! The profile's host example, the other examples beside it, and limits at their edges, through the
+//! calls.
 
 mod pack;
 
 use merger::{
-    batch, check_event, check_table, combine, hash, hash_text, open, report, value, Opened,
+    batch, check_event, check_table, combine, hash, hash_text, open, report, value, Limits, Opened,
     Question, Refusal, DOSSIER_ROOM, HASH_ROOM, HASH_TEXT_ROOM, REPORT_ROOM,
 };
 use pack::{
@@ -76,14 +77,18 @@ enum Answer {
 
 /// Checks the events, combines the dossiers from the left, and opens the last one.
 fn merge(table: &[u8], events: &[&Vec<u8>]) -> Result<Answer, Refusal> {
+    merge_within(Limits::default(), table, events)
+}
+
+fn merge_within(limits: Limits, table: &[u8], events: &[&Vec<u8>]) -> Result<Answer, Refusal> {
     let (first, others) = events.split_first().expect("an event");
     let mut dossier = checked(table, first)?;
     for event in others {
         let mut out = vec![0xEE; DOSSIER_ROOM];
         let other = checked(table, event)?;
-        dossier = combine(table, &dossier, &other, &mut out)?.to_vec();
+        dossier = combine(limits, table, &dossier, &other, &mut out)?.to_vec();
     }
-    opened(table, &dossier)
+    opened(limits, table, &dossier)
 }
 
 fn checked(table: &[u8], event: &[u8]) -> Result<Vec<u8>, Refusal> {
@@ -91,13 +96,20 @@ fn checked(table: &[u8], event: &[u8]) -> Result<Vec<u8>, Refusal> {
     check_event(table, event, &mut out).map(<[u8]>::to_vec)
 }
 
-fn opened(table: &[u8], dossier: &[u8]) -> Result<Answer, Refusal> {
+fn opened(limits: Limits, table: &[u8], dossier: &[u8]) -> Result<Answer, Refusal> {
     let mut out = vec![0xEE; DOSSIER_ROOM];
-    Ok(match open(table, dossier, &mut out)? {
+    Ok(match open(limits, table, dossier, &mut out)? {
         Opened::Merged(event) => Answer::Merged(event.to_vec()),
         Opened::Conflict { version, place } => Answer::Conflict(version, place),
         Opened::Overfull { place } => Answer::Overfull(place),
     })
+}
+
+fn batched(limits: Limits, table: &[u8], events: &[&Vec<u8>]) -> Result<Vec<u8>, Refusal> {
+    let mut out = vec![0xEE; DOSSIER_ROOM];
+    let mut scratch = [(); 3].map(|()| vec![0xEE; DOSSIER_ROOM]);
+    let scratch = scratch.each_mut().map(Vec::as_mut_slice);
+    batch(limits, table, &pack::batch(events), &mut out, scratch).map(<[u8]>::to_vec)
 }
 
 fn refused(question: Question) -> Refusal {
@@ -164,12 +176,11 @@ fn a_batch_gives_the_dossier_of_its_events() {
         table,
         events: [e1, e2, ..],
     } = host();
-    let frames = pack::batch(&[&e1, &e2, &e2]);
-    let mut out = vec![0xEE; DOSSIER_ROOM];
-    let mut scratch = [(); 3].map(|()| vec![0xEE; DOSSIER_ROOM]);
-    let scratch = scratch.each_mut().map(Vec::as_mut_slice);
-    let dossier = batch(&table, &frames, &mut out, scratch).unwrap();
-    assert_eq!(opened(&table, dossier), Ok(Answer::Merged(merged_host())));
+    let dossier = batched(Limits::default(), &table, &[&e1, &e2, &e2]).unwrap();
+    assert_eq!(
+        opened(Limits::default(), &table, &dossier),
+        Ok(Answer::Merged(merged_host()))
+    );
 }
 
 #[test]
@@ -317,4 +328,84 @@ fn a_refusal_of_a_batch_names_the_position() {
         refusal.to_string(),
         "refused, no to question 4: has the table the input's type? (position 1, from 0)"
     );
+}
+
+#[test]
+fn limits_outside_their_ranges_are_refused_before_all_else() {
+    let Host {
+        table,
+        events: [e1, ..],
+    } = host();
+    let refusal = Err(refused(Question::Parameters));
+    for limits in outside() {
+        let mut small = [0xEE];
+        assert_eq!(combine(limits, &table, &e1, &e1, &mut small), refusal);
+        assert_eq!(
+            open(limits, &table, &e1, &mut small).map(|_| &[][..]),
+            refusal
+        );
+        assert_eq!(small, [0xEE]);
+        assert_eq!(batched(limits, &table, &[]), refusal.map(<[u8]>::to_vec));
+    }
+    assert_eq!(
+        refused(Question::Parameters).to_string(),
+        "refused, no to question 18: are the limits in their ranges, 1 to 8 event versions, \
+         8 to 32 parents and 32 to 256 objects?"
+    );
+}
+
+/// Limits of which one is outside its range, by one.
+fn outside() -> Vec<Limits> {
+    let profile = Limits::default();
+    let versions = [0, 9].map(|versions| Limits {
+        versions,
+        ..profile
+    });
+    let parents = [7, 33].map(|parents| Limits { parents, ..profile });
+    let objects = [31, 257].map(|objects| Limits { objects, ..profile });
+    [versions, parents, objects].concat()
+}
+
+#[test]
+fn a_limit_of_event_versions_is_kept() {
+    let Host {
+        table,
+        events: [e1, e2, ..],
+    } = host();
+    let [one, two] = [1, 2].map(|versions| Limits {
+        versions,
+        ..Limits::default()
+    });
+    let both = batched(Limits::default(), &table, &[&e1, &e2]).unwrap();
+    assert_eq!(batched(two, &table, &[&e1, &e2]), Ok(both.clone()));
+    assert_eq!(
+        opened(two, &table, &both),
+        Ok(Answer::Merged(merged_host()))
+    );
+    let passed = refused(Question::Limits);
+    assert_eq!(batched(one, &table, &[&e1, &e2]), Err(passed));
+    assert_eq!(merge_within(one, &table, &[&e1, &e2]), Err(passed));
+    assert_eq!(opened(one, &table, &both), Err(refused(Question::Layout)));
+}
+
+#[test]
+fn a_limit_of_objects_is_kept() {
+    let notes = Property {
+        multivalued: true,
+        ..single("notes", STRING_20, ADD)
+    };
+    let table = table("log", 0, &[notes]);
+    let all: Vec<_> = (10..43).map(|note| note.to_string()).collect();
+    let all: Vec<_> = all.iter().map(String::as_str).collect();
+    let [first, second] = [&all[..20], &all[20..]].map(|notes| event("log", &[notes]));
+    let [less, enough] = [32, 33].map(|objects| Limits {
+        objects,
+        ..Limits::default()
+    });
+    let both = batched(Limits::default(), &table, &[&first, &second]).unwrap();
+    let merged = Ok(Answer::Merged(event("log", &[&all])));
+    assert_eq!(merge_within(enough, &table, &[&first, &second]), merged);
+    let passed = refused(Question::Limits);
+    assert_eq!(merge_within(less, &table, &[&first, &second]), Err(passed));
+    assert_eq!(opened(less, &table, &both), Err(refused(Question::Shape)));
 }

@@ -4,7 +4,8 @@ use crate::proved::Proved;
 use crate::random::Random;
 use crate::summary::Summary;
 use independent::case::Case;
-use independent::script::{hex, line, Independent, Outcome};
+use independent::limits::Limits;
+use independent::script::{hex, line, Independent, Outcome, Reply};
 use std::fmt;
 use std::panic::catch_unwind;
 
@@ -49,7 +50,8 @@ impl Comparison {
                 "bytes in or around the output differ"
             }
             (Ok(expected), _) => {
-                self.summary.count(case, &expected);
+                let is_for_chosen = is_for_chosen(case, &expected, old);
+                self.summary.count(case, &expected, is_for_chosen);
                 return Ok(expected);
             }
         };
@@ -65,6 +67,16 @@ impl Comparison {
         let start = sum % (NOISE - length);
         &self.noise[start..start + length]
     }
+}
+
+/// Is the case refused for the limits chosen in it: would the profile's give another reply?
+fn is_for_chosen(case: &Case, outcome: &Outcome, old: &[u8]) -> bool {
+    let is_refused = matches!(outcome.reply, Reply::Refused { .. });
+    if !is_refused || case.limits() == Limits::PROFILE {
+        return false;
+    }
+    let by_profile = Outcome::of(&Independent, &case.clone().within(None), old);
+    by_profile.reply != outcome.reply
 }
 
 impl Difference {

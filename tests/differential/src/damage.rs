@@ -5,6 +5,7 @@ use crate::random::Random;
 use crate::value::spoil;
 use independent::dossier::Dossier;
 use independent::event::{Counts, Event, Head, Sets};
+use independent::limits::Limits;
 use std::collections::BTreeSet;
 
 /// A copy with a byte flipped, cut, inserted or the like.
@@ -43,7 +44,7 @@ pub fn damage_event(random: &mut Random, bytes: &[u8], edges: &[Edges]) -> Vec<u
 
 /// A copy of a packed dossier with a field changed, or damaged as bytes. `edges` are by place.
 pub fn damage_dossier(random: &mut Random, bytes: &[u8], edges: &[Edges]) -> Vec<u8> {
-    let read = Dossier::read(bytes).filter(|_| !random.one_in(3));
+    let read = Dossier::read(Limits::PROFILE, bytes).filter(|_| !random.one_in(3));
     let Some(dossier) = read else {
         return damage_bytes(random, bytes);
     };

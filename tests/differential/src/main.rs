@@ -9,6 +9,7 @@ mod damage;
 mod draft;
 mod edge;
 mod family;
+mod limits;
 mod proved;
 mod random;
 mod round;

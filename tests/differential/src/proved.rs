@@ -3,20 +3,21 @@
 use crate::random::Random;
 use independent::case::Case;
 use independent::script::{range_in, Merger, Reply};
-use merger::{Opened, Refusal};
+use merger::{Limits, Opened, Refusal};
 
 pub struct Proved;
 
 impl Merger for Proved {
     fn call(&self, case: &Case, out: &mut [u8]) -> Reply {
         use Case::*;
+        let limits = limits_of(case);
         match case {
             CheckTable { table } => done(merger::check_table(table).map(|()| &[][..])),
             CheckEvent { table, event, .. } => done(merger::check_event(table, event, out)),
             Combine {
                 table, left, right, ..
-            } => done(merger::combine(table, left, right, out)),
-            Open { table, dossier, .. } => opened(merger::open(table, dossier, out)),
+            } => done(merger::combine(limits, table, left, right, out)),
+            Open { table, dossier, .. } => opened(merger::open(limits, table, dossier, out)),
             Value {
                 table,
                 event,
@@ -36,7 +37,7 @@ impl Merger for Proved {
             } => {
                 let mut buffers = scratch.map(Scratch::new);
                 let scratch = buffers.each_mut().map(Scratch::lend);
-                let reply = done(merger::batch(table, batch, out, scratch));
+                let reply = done(merger::batch(limits, table, batch, out, scratch));
                 buffers.iter().for_each(Scratch::check);
                 reply
             }
@@ -70,6 +71,15 @@ impl Scratch {
         let end = self.bytes.len() - MARGIN;
         let margins = |bytes: &[u8]| [&bytes[..MARGIN], &bytes[end..]].concat();
         assert_eq!(margins(&self.bytes), margins(&self.noise), "beside scratch");
+    }
+}
+
+fn limits_of(case: &Case) -> Limits {
+    let limits = case.limits();
+    Limits {
+        versions: limits.versions,
+        parents: limits.parents,
+        objects: limits.objects,
     }
 }
 

@@ -3,9 +3,11 @@
 use crate::compare::{Comparison, Difference};
 use crate::damage::{damage_bytes, damage_dossier, damage_event};
 use crate::family::Family;
+use crate::limits::{broken_limits, limits_around, random_limits};
 use crate::random::Random;
 use independent::calls::{DOSSIER_ROOM, HASH_ROOM, HASH_TEXT_ROOM};
 use independent::case::{Case, MOST_ROOM};
+use independent::limits::Limits;
 use independent::packed::{put_batch, put_text};
 use independent::script::{Outcome, Reply};
 
@@ -16,6 +18,8 @@ const MOST_KEPT: usize = 40;
 
 pub struct Round<'r> {
     family: Family,
+    /// What each tree and the batch of its events keep to; the profile's where none are chosen.
+    limits: Option<Limits>,
     random: &'r mut Random,
     comparison: &'r mut Comparison,
     /// Packed events: of the family, damaged and merged ones.
@@ -27,8 +31,13 @@ impl<'r> Round<'r> {
     pub fn new(random: &'r mut Random, comparison: &'r mut Comparison) -> Self {
         let family = Family::random(random);
         let events = (0..16).map(|_| family.event(random).write()).collect();
+        let limits = match random.below(4) {
+            0 => None,
+            _ => Some(random_limits(random)),
+        };
         Round {
             family,
+            limits,
             random,
             comparison,
             events,
@@ -42,6 +51,8 @@ impl<'r> Round<'r> {
         }
         for _ in 0..FREE_CALLS {
             let case = self.free_case();
+            let limits = self.free_limits(&case);
+            let case = case.within(limits);
             let outcome = self.comparison.run(&case)?;
             self.keep(&case, &outcome);
         }
@@ -60,6 +71,7 @@ impl<'r> Round<'r> {
         let mut batch = Vec::new();
         put_batch(&mut batch, &events);
         let batch = Case::Batch {
+            chosen: self.limits,
             room: DOSSIER_ROOM,
             scratch: [DOSSIER_ROOM; 3],
             table: self.family.table.clone(),
@@ -91,6 +103,7 @@ impl<'r> Round<'r> {
             let left = self.random.draw(&mut outcomes);
             let right = self.random.draw(&mut outcomes);
             let case = Case::Combine {
+                chosen: self.limits,
                 room: DOSSIER_ROOM,
                 table: self.family.table.clone(),
                 left: left.written().to_vec(),
@@ -137,12 +150,14 @@ impl<'r> Round<'r> {
                 event: self.event(),
             },
             3..=6 => Case::Combine {
+                chosen: None,
                 room: self.room(DOSSIER_ROOM),
                 table: self.table(),
                 left: self.dossier(),
                 right: self.dossier(),
             },
             7..=9 => Case::Open {
+                chosen: None,
                 room: self.room(DOSSIER_ROOM),
                 table: self.table(),
                 dossier: self.dossier(),
@@ -170,6 +185,7 @@ impl<'r> Round<'r> {
                 event: self.event(),
             },
             14 => Case::Batch {
+                chosen: None,
                 room: self.room(DOSSIER_ROOM),
                 scratch: [DOSSIER_ROOM; 3].map(|least| self.room(least)),
                 table: self.table(),
@@ -178,6 +194,22 @@ impl<'r> Round<'r> {
             _ => Case::Report {
                 input: self.input(),
             },
+        }
+    }
+
+    /// Not always those of the trees: a dossier made within larger limits passes smaller ones.
+    fn free_limits(&mut self, case: &Case) -> Option<Limits> {
+        let dossier = match case {
+            Case::Open { dossier, .. } => Some(dossier),
+            Case::Combine { left, right, .. } => Some(*self.random.pick(&[left, right])),
+            _ => None,
+        };
+        match self.random.below(16) {
+            0 => Some(broken_limits(self.random)),
+            1..=4 => Some(random_limits(self.random)),
+            5..=8 => limits_around(self.random, dossier?),
+            9..=11 => None,
+            _ => self.limits,
         }
     }
 

@@ -3,6 +3,7 @@
 
 use crate::dossier::Dossier;
 use crate::event::{Counts, Event};
+use crate::limits::Limits;
 use crate::opening::{self, Opened};
 use crate::packed::Reader;
 use crate::question::{Question, Refusal};
@@ -39,22 +40,35 @@ pub fn check_event(table: &[u8], event: &[u8], out: &mut [u8]) -> Result<usize, 
 }
 
 /// Writes the dossier of the events of two dossiers.
-pub fn combine(table: &[u8], left: &[u8], right: &[u8], out: &mut [u8]) -> Result<usize, Refusal> {
+pub fn combine(
+    limits: Limits,
+    table: &[u8],
+    left: &[u8],
+    right: &[u8],
+    out: &mut [u8],
+) -> Result<usize, Refusal> {
+    ask_parameters(limits)?;
     ask_room(out, DOSSIER_ROOM)?;
     let table = read_table(table)?;
-    let (event_type, left) = Dossier::accept(&table, left)?;
-    let (_, right) = Dossier::accept(&table, right)?;
+    let (event_type, left) = Dossier::accept(limits, &table, left)?;
+    let (_, right) = Dossier::accept(limits, &table, right)?;
     Question::Collision.ask(left.collides(event_type, &right))?;
     let both = rule::combine(event_type, left, right);
-    Question::Limits.ask(rule::is_within_limits(event_type, &both))?;
+    Question::Limits.ask(rule::is_within(limits, event_type, &both))?;
     Ok(put(out, &both.write()))
 }
 
 /// Writes the merged event of a dossier that has no conflict and is not overfull.
-pub fn open(table: &[u8], dossier: &[u8], out: &mut [u8]) -> Result<Opening, Refusal> {
+pub fn open(
+    limits: Limits,
+    table: &[u8],
+    dossier: &[u8],
+    out: &mut [u8],
+) -> Result<Opening, Refusal> {
+    ask_parameters(limits)?;
     ask_room(out, DOSSIER_ROOM)?;
     let table = read_table(table)?;
-    let (event_type, dossier) = Dossier::accept(&table, dossier)?;
+    let (event_type, dossier) = Dossier::accept(limits, &table, dossier)?;
     Ok(match opening::open(event_type, dossier) {
         Opened::Merged(event) => Opening::Merged(put(out, &event.write())),
         Opened::Conflict { version, place } => Opening::Conflict { version, place },
@@ -86,17 +100,19 @@ pub fn hash(table: &[u8], event: &[u8], out: &mut [u8]) -> Result<usize, Refusal
 
 /// Writes the dossier of a batch of events. The scratch buffers are only asked for their room.
 pub fn batch(
+    limits: Limits,
     table: &[u8],
     batch: &[u8],
     out: &mut [u8],
     scratch: [&mut [u8]; 3],
 ) -> Result<usize, Refusal> {
+    ask_parameters(limits)?;
     ask_room(out, DOSSIER_ROOM)?;
     for buffer in scratch {
         ask_room(buffer, DOSSIER_ROOM)?;
     }
     let table = read_table(table)?;
-    let (_, dossier) = merge(&table, batch)?;
+    let (_, dossier) = merge(limits, &table, batch)?;
     Ok(put(out, &dossier.write()))
 }
 
@@ -108,6 +124,7 @@ pub fn report(input: &[u8], out: &mut [u8]) -> Result<usize, Refusal> {
 
 /// The dossier of all events of a batch: the rule itself, however a caller would combine them.
 pub fn merge<'t, 'a>(
+    limits: Limits,
     table: &'t Table<'t>,
     batch: &'a [u8],
 ) -> Result<(&'t EventType<'t>, Dossier<'a>), Refusal> {
@@ -125,7 +142,7 @@ pub fn merge<'t, 'a>(
         asked.map_err(|question| question.at(position))?;
     }
     let dossier = rule::rule(event_type, &events);
-    Question::Limits.ask(rule::is_within_limits(event_type, &dossier))?;
+    Question::Limits.ask(rule::is_within(limits, event_type, &dossier))?;
     Ok((event_type, dossier))
 }
 
@@ -138,6 +155,10 @@ fn read_frames(batch: &[u8]) -> Option<Vec<&[u8]>> {
 
 fn read_table(table: &[u8]) -> Result<Table<'_>, Question> {
     Table::read(table).ok_or(Question::Table)
+}
+
+fn ask_parameters(limits: Limits) -> Result<(), Question> {
+    Question::Parameters.ask(limits.is_permitted())
 }
 
 fn ask_room(buffer: &[u8], least: usize) -> Result<(), Question> {

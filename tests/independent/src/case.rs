@@ -1,12 +1,14 @@
 //! Cases: calls with their inputs, as scripts have them.
 
 use crate::calls::REPORT_ROOM;
+use crate::limits::Limits;
 use crate::packed::{put_count, put_number, put_text, Reader};
 
 /// The largest buffer that a script may ask for.
 pub const MOST_ROOM: usize = 40_960;
 
-/// A call with its inputs and the sizes of its buffers.
+/// A call with its inputs and the sizes of its buffers. The limits of a call that takes some are
+/// chosen in the script, or they are the profile's.
 #[derive(Clone, Debug, PartialEq, Eq)]
 pub enum Case {
     CheckTable {
@@ -18,12 +20,14 @@ pub enum Case {
         event: Vec<u8>,
     },
     Combine {
+        chosen: Option<Limits>,
         room: usize,
         table: Vec<u8>,
         left: Vec<u8>,
         right: Vec<u8>,
     },
     Open {
+        chosen: Option<Limits>,
         room: usize,
         table: Vec<u8>,
         dossier: Vec<u8>,
@@ -45,6 +49,7 @@ pub enum Case {
         event: Vec<u8>,
     },
     Batch {
+        chosen: Option<Limits>,
         room: usize,
         scratch: [usize; 3],
         table: Vec<u8>,
@@ -57,7 +62,12 @@ pub enum Case {
 
 impl Case {
     pub fn read(reader: &mut Reader) -> Option<Case> {
-        Some(match reader.number()? {
+        let call = reader.number()?;
+        let chosen = match call {
+            10..=12 => Some(limits(reader)?),
+            _ => None,
+        };
+        Some(match call {
             1 => Case::CheckTable {
                 table: bytes(reader)?,
             },
@@ -66,22 +76,24 @@ impl Case {
                 table: bytes(reader)?,
                 event: bytes(reader)?,
             },
-            3 => Case::Combine {
+            3 | 10 => Case::Combine {
+                chosen,
                 room: room(reader)?,
                 table: bytes(reader)?,
                 left: bytes(reader)?,
                 right: bytes(reader)?,
             },
-            4 => Case::Open {
+            4 | 11 => Case::Open {
+                chosen,
                 room: room(reader)?,
                 table: bytes(reader)?,
                 dossier: bytes(reader)?,
             },
-            call => return Case::read_later(call, reader),
+            call => return Case::read_later(call, chosen, reader),
         })
     }
 
-    fn read_later(call: u64, reader: &mut Reader) -> Option<Case> {
+    fn read_later(call: u64, chosen: Option<Limits>, reader: &mut Reader) -> Option<Case> {
         Some(match call {
             5 => Case::Value {
                 table: bytes(reader)?,
@@ -99,7 +111,8 @@ impl Case {
                 table: bytes(reader)?,
                 event: bytes(reader)?,
             },
-            8 => Case::Batch {
+            8 | 12 => Case::Batch {
+                chosen,
                 room: room(reader)?,
                 scratch: [room(reader)?, room(reader)?, room(reader)?],
                 table: bytes(reader)?,
@@ -116,6 +129,11 @@ impl Case {
     pub fn write(&self) -> Vec<u8> {
         let mut out = Vec::new();
         put_number(&mut out, self.number());
+        if let Some(limits) = self.chosen() {
+            put_count(&mut out, limits.versions);
+            put_count(&mut out, limits.parents);
+            put_count(&mut out, limits.objects);
+        }
         for size in self.sizes() {
             put_count(&mut out, size);
         }
@@ -134,14 +152,42 @@ impl Case {
         match self {
             Case::CheckTable { .. } => 1,
             Case::CheckEvent { .. } => 2,
-            Case::Combine { .. } => 3,
-            Case::Open { .. } => 4,
+            Case::Combine { chosen: None, .. } => 3,
+            Case::Open { chosen: None, .. } => 4,
             Case::Value { .. } => 5,
             Case::HashText { .. } => 6,
             Case::Hash { .. } => 7,
-            Case::Batch { .. } => 8,
+            Case::Batch { chosen: None, .. } => 8,
             Case::Report { .. } => 9,
+            Case::Combine { .. } => 10,
+            Case::Open { .. } => 11,
+            Case::Batch { .. } => 12,
         }
+    }
+
+    /// The same case with these limits, where its call takes limits.
+    pub fn within(mut self, limits: Option<Limits>) -> Case {
+        if let Case::Combine { chosen, .. }
+        | Case::Open { chosen, .. }
+        | Case::Batch { chosen, .. } = &mut self
+        {
+            *chosen = limits;
+        }
+        self
+    }
+
+    fn chosen(&self) -> Option<Limits> {
+        match self {
+            Case::Combine { chosen, .. }
+            | Case::Open { chosen, .. }
+            | Case::Batch { chosen, .. } => *chosen,
+            _ => None,
+        }
+    }
+
+    /// The limits that the call is given.
+    pub fn limits(&self) -> Limits {
+        self.chosen().unwrap_or(Limits::PROFILE)
     }
 
     /// The buffer sizes that the case has as fields.
@@ -186,6 +232,19 @@ impl Case {
             _ => self.sizes()[0],
         }
     }
+}
+
+fn limits(reader: &mut Reader) -> Option<Limits> {
+    Some(Limits {
+        versions: limit(reader)?,
+        parents: limit(reader)?,
+        objects: limit(reader)?,
+    })
+}
+
+/// Any number: whether it is in its range is the call's question.
+fn limit(reader: &mut Reader) -> Option<usize> {
+    reader.count(0..=usize::MAX)
 }
 
 fn bytes(reader: &mut Reader) -> Option<Vec<u8>> {

@@ -1,6 +1,7 @@
 //! Dossiers: what is kept of colliding events.
 
 use crate::event::{objects, put_sets, read_sets, Head, Sets};
+use crate::limits::Limits;
 use crate::packed::{put_count, put_number, put_places, Reader};
 use crate::question::Question;
 use crate::table::{EventType, Strategy, Table};
@@ -21,10 +22,10 @@ pub struct Snapshot<'a> {
 }
 
 impl<'a> Dossier<'a> {
-    pub fn read(bytes: &'a [u8]) -> Option<Self> {
+    pub fn read(limits: Limits, bytes: &'a [u8]) -> Option<Self> {
         let mut reader = Reader::new(bytes);
-        let head = Head::read(&mut reader, 32)?;
-        let count = reader.count(1..=8)?;
+        let head = Head::read(&mut reader, limits.parents)?;
+        let count = reader.count(1..=limits.versions)?;
         let mut snapshots = BTreeMap::new();
         for _ in 0..count {
             let version = reader.number()?;
@@ -39,23 +40,24 @@ impl<'a> Dossier<'a> {
 
     /// Questions 3 to 6.
     pub fn accept<'t>(
+        limits: Limits,
         table: &'t Table<'t>,
         bytes: &'a [u8],
     ) -> Result<(&'t EventType<'t>, Self), Question> {
-        let dossier = Dossier::read(bytes).ok_or(Question::Layout)?;
+        let dossier = Dossier::read(limits, bytes).ok_or(Question::Layout)?;
         let event_type = table.find(dossier.head.type_name).ok_or(Question::Type)?;
-        Question::Shape.ask(dossier.has_shape(event_type))?;
+        Question::Shape.ask(dossier.has_shape(limits, event_type))?;
         let mut snapshots = dossier.snapshots.values();
         Question::Values.ask(snapshots.all(|each| event_type.has_values(&each.sets)))?;
         Ok((event_type, dossier))
     }
 
-    fn has_shape(&self, event_type: &EventType) -> bool {
+    fn has_shape(&self, limits: Limits, event_type: &EventType) -> bool {
         let mut snapshots = self.snapshots.values();
         snapshots.all(|each| event_type.has_properties(&each.places()))
             && match event_type.mark {
                 Some(mark) => self.is_versioned(event_type, mark),
-                None => self.is_unversioned(event_type),
+                None => self.is_unversioned(limits, event_type),
             }
             && self.has_match_sets(event_type)
     }
@@ -70,11 +72,11 @@ impl<'a> Dossier<'a> {
     }
 
     /// Single-valued properties may have more objects here: opening calls those overfull.
-    fn is_unversioned(&self, event_type: &EventType) -> bool {
+    fn is_unversioned(&self, limits: Limits, event_type: &EventType) -> bool {
         self.snapshots.len() == 1
             && self.snapshots.get(&0).is_some_and(|snapshot| {
                 snapshot.differ.is_empty()
-                    && objects(&snapshot.sets) <= 256
+                    && objects(&snapshot.sets) <= limits.objects
                     && event_type.has_single(&snapshot.sets, |property| {
                         matches!(property.strategy, Strategy::Min | Strategy::Max)
                     })

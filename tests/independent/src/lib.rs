@@ -7,6 +7,7 @@ pub mod calls;
 pub mod case;
 pub mod dossier;
 pub mod event;
+pub mod limits;
 pub mod opening;
 pub mod packed;
 pub mod question;

@@ -12,6 +12,7 @@ pub enum Question {
     Collision = 7,
     Limits = 8,
     Frame = 9,
+    Parameters = 18,
 }
 
 /// Why a call was refused, and in a batch at which event.

@@ -2,6 +2,7 @@
 
 use crate::calls::merge;
 use crate::event::{objects, Event};
+use crate::limits::Limits;
 use crate::opening::{open, Opened};
 use crate::packed::Reader;
 use crate::question::{Question, Refusal};
@@ -28,7 +29,7 @@ pub fn report(input: &[u8]) -> Vec<u8> {
 fn print(input: &[u8], lines: &mut Vec<u8>) -> Result<std::io::Result<()>, Refusal> {
     let (table, batch) = split(input).ok_or(Question::Frame)?;
     let table = Table::read(table).ok_or(Question::Table)?;
-    let (event_type, dossier) = merge(&table, batch)?;
+    let (event_type, dossier) = merge(Limits::PROFILE, &table, batch)?;
     let name = |place: usize| String::from_utf8_lossy(event_type.properties[place].name);
     Ok(match open(event_type, dossier) {
         Opened::Merged(event) => print_merged(event_type, &event, lines),

@@ -2,6 +2,7 @@
 
 use crate::dossier::{Dossier, Snapshot};
 use crate::event::{objects, Event, Sets};
+use crate::limits::Limits;
 use crate::packed::Set;
 use crate::table::{EventType, Property, Strategy};
 use std::collections::btree_map::Entry;
@@ -124,9 +125,10 @@ impl Snapshot<'_> {
 }
 
 /// Do the events of this dossier pass none of the limits?
-pub fn is_within_limits(event_type: &EventType, dossier: &Dossier) -> bool {
+pub fn is_within(limits: Limits, event_type: &EventType, dossier: &Dossier) -> bool {
     let mut snapshots = dossier.snapshots.values();
-    dossier.snapshots.len() <= 8
-        && dossier.head.parents.len() <= 32
-        && (event_type.mark.is_some() || snapshots.all(|each| objects(&each.sets) <= 256))
+    dossier.snapshots.len() <= limits.versions
+        && dossier.head.parents.len() <= limits.parents
+        && (event_type.mark.is_some()
+            || snapshots.all(|each| objects(&each.sets) <= limits.objects))
 }

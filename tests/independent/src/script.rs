@@ -42,13 +42,14 @@ pub struct Independent;
 impl Merger for Independent {
     fn call(&self, case: &Case, out: &mut [u8]) -> Reply {
         use Case::*;
+        let limits = case.limits();
         match case {
             CheckTable { table } => done(calls::check_table(table).map(|()| 0)),
             CheckEvent { table, event, .. } => done(calls::check_event(table, event, out)),
             Combine {
                 table, left, right, ..
-            } => done(calls::combine(table, left, right, out)),
-            Open { table, dossier, .. } => opening(calls::open(table, dossier, out)),
+            } => done(calls::combine(limits, table, left, right, out)),
+            Open { table, dossier, .. } => opening(calls::open(limits, table, dossier, out)),
             Value {
                 table,
                 event,
@@ -68,7 +69,7 @@ impl Merger for Independent {
             } => {
                 let mut buffers = scratch.map(|room| vec![0; room]);
                 let scratch = buffers.each_mut().map(Vec::as_mut_slice);
-                done(calls::batch(table, batch, out, scratch))
+                done(calls::batch(limits, table, batch, out, scratch))
             }
             Report { input } => done(calls::report(input, out)),
         }

@@ -1,16 +1,8 @@
 //! Events and dossiers with as many objects, parents and snapshots as they may have, and one more.
 
-use super::{combine, event_cases, open, property, table_of, unversioned, versioned, SOURCE, TYPE};
-use crate::draft::{ADD, MATCH};
+use super::content::{tables, Content, MARK, SMALL};
+use super::{combine, event_cases, open};
 use independent::case::Case;
-use independent::dossier::{Dossier, Snapshot};
-use independent::event::{Event, Head, Sets};
-use std::ops::Range;
-
-/// Two properties that add, and two that match.
-const STRATEGIES: [(&str, u64); 4] = [("a", ADD), ("b", ADD), ("m", MATCH), ("n", MATCH)];
-/// The place of the property behind these.
-const MARK: usize = STRATEGIES.len();
 
 /// How many objects each property has.
 const OBJECTS: [[usize; MARK]; 19] = [
@@ -35,28 +27,9 @@ const OBJECTS: [[usize; MARK]; 19] = [
     [224, 0, 33, 0],
 ];
 
-/// What stands in an event or a dossier: parents and objects by number.
-#[derive(Clone)]
-struct Content {
-    parents: Range<usize>,
-    versions: Range<usize>,
-    objects: [Range<usize>; MARK],
-}
-
-const SMALL: Content = Content {
-    parents: 0..0,
-    versions: 0..1,
-    objects: [0..1, 0..0, 0..1, 0..0],
-};
-
 pub fn cases() -> impl Iterator<Item = Case> {
-    let cases = [unversioned, versioned].map(|of| {
-        let properties =
-            STRATEGIES.map(|(name, strategy)| property(name, &[8, 4], [1, 1, strategy]));
-        let event_type = of(properties.to_vec());
-        let is_versioned = event_type.mark > 0;
-        let table = table_of(event_type).pack();
-        let alone = contents().flat_map(|content| content.cases(&table, is_versioned));
+    let cases = tables().map(|(table, is_versioned)| {
+        let alone = contents().flat_map(|content| content_cases(&content, &table, is_versioned));
         let pairs = halves().flat_map(|halves| {
             let [left, right] = halves.map(|half| half.dossier(is_versioned));
             [
@@ -67,6 +40,15 @@ pub fn cases() -> impl Iterator<Item = Case> {
         alone.chain(pairs).collect::<Vec<_>>()
     });
     cases.into_iter().flatten()
+}
+
+fn content_cases(content: &Content, table: &[u8], is_versioned: bool) -> Vec<Case> {
+    let dossier = content.dossier(is_versioned);
+    let alone = [open(table, &dossier), combine(table, &dossier, &dossier)];
+    event_cases(table, &content.event(is_versioned))
+        .into_iter()
+        .chain(alone)
+        .collect()
 }
 
 fn contents() -> impl Iterator<Item = Content> {
@@ -105,73 +87,4 @@ fn halves() -> impl Iterator<Item = [Content; 2]> {
         .chain(two_sets)
         .chain(parents)
         .chain(versions)
-}
-
-impl Content {
-    fn cases(&self, table: &[u8], is_versioned: bool) -> Vec<Case> {
-        let dossier = self.dossier(is_versioned);
-        let alone = [open(table, &dossier), combine(table, &dossier, &dossier)];
-        let names = Names::new();
-        let event = Event {
-            head: self.head(&names),
-            sets: self.sets(&names, is_versioned.then_some(0)),
-        };
-        event_cases(table, &event)
-            .into_iter()
-            .chain(alone)
-            .collect()
-    }
-
-    fn dossier(&self, is_versioned: bool) -> Vec<u8> {
-        let names = Names::new();
-        let snapshots = self.versions.clone().map(|version| {
-            let snapshot = Snapshot {
-                sets: self.sets(&names, is_versioned.then_some(version)),
-                ..Snapshot::default()
-            };
-            (version as u64, snapshot)
-        });
-        let head = self.head(&names);
-        let snapshots = snapshots.collect();
-        Dossier { head, snapshots }.write()
-    }
-
-    fn head<'n>(&self, names: &'n Names) -> Head<'n> {
-        let parents = names.parents[self.parents.clone()].iter();
-        Head {
-            type_name: TYPE.as_bytes(),
-            source: SOURCE.as_bytes(),
-            parents: parents.map(Vec::as_slice).collect(),
-        }
-    }
-
-    fn sets<'n>(&self, names: &'n Names, version: Option<usize>) -> Sets<'n> {
-        let drawn = self.objects.iter().enumerate().map(|(place, numbers)| {
-            let values = names.values[numbers.clone()].iter();
-            (place, values.map(String::as_bytes).collect())
-        });
-        let mut sets: Sets = drawn.collect();
-        sets.retain(|_, set| !set.is_empty());
-        if let Some(version) = version {
-            sets.insert(MARK, [names.versions[version].as_bytes()].into());
-        }
-        sets
-    }
-}
-
-/// The bytes behind the numbers of a content.
-struct Names {
-    parents: Vec<Vec<u8>>,
-    values: Vec<String>,
-    versions: Vec<String>,
-}
-
-impl Names {
-    fn new() -> Self {
-        Names {
-            parents: (0..33).map(|number| vec![number; 20]).collect(),
-            values: (0..257).map(|number| format!("{number:03}")).collect(),
-            versions: (0..9).map(|number| number.to_string()).collect(),
-        }
-    }
 }

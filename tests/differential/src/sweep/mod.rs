@@ -1,14 +1,15 @@
 //! Cases at the limits of the profile, which random choice would hardly meet: all of them, in
 //! order, before the made-up calls.
 
+mod content;
 mod counts;
+mod limits;
 mod tables;
 mod values;
 
 use crate::draft::{PropertyDraft, TableDraft, TypeDraft, MAX, SEQUENCE};
 use independent::calls::{DOSSIER_ROOM, HASH_ROOM, HASH_TEXT_ROOM};
 use independent::case::Case;
-use independent::event::Event;
 
 const TYPE: &str = "t";
 const SOURCE: &str = "/";
@@ -17,7 +18,9 @@ pub fn cases() -> Vec<Case> {
     let tables = tables::all().map(|table| Case::CheckTable {
         table: table.pack(),
     });
-    let inputs = values::cases().chain(counts::cases());
+    let inputs = values::cases()
+        .chain(counts::cases())
+        .chain(limits::cases());
     tables.chain(inputs).collect()
 }
 
@@ -61,8 +64,8 @@ fn property(
 }
 
 /// The calls that take one event.
-fn event_cases(table: &[u8], event: &Event) -> [Case; 4] {
-    let (table, event) = (table.to_vec(), event.write());
+fn event_cases(table: &[u8], event: &[u8]) -> [Case; 4] {
+    let (table, event) = (table.to_vec(), event.to_vec());
     [
         Case::CheckEvent {
             room: DOSSIER_ROOM,
@@ -90,6 +93,7 @@ fn event_cases(table: &[u8], event: &Event) -> [Case; 4] {
 
 fn open(table: &[u8], dossier: &[u8]) -> Case {
     Case::Open {
+        chosen: None,
         room: DOSSIER_ROOM,
         table: table.to_vec(),
         dossier: dossier.to_vec(),
@@ -98,9 +102,20 @@ fn open(table: &[u8], dossier: &[u8]) -> Case {
 
 fn combine(table: &[u8], left: &[u8], right: &[u8]) -> Case {
     Case::Combine {
+        chosen: None,
         room: DOSSIER_ROOM,
         table: table.to_vec(),
         left: left.to_vec(),
         right: right.to_vec(),
+    }
+}
+
+fn batch(table: &[u8], batch: &[u8]) -> Case {
+    Case::Batch {
+        chosen: None,
+        room: DOSSIER_ROOM,
+        scratch: [DOSSIER_ROOM; 3],
+        table: table.to_vec(),
+        batch: batch.to_vec(),
     }
 }

@@ -1,10 +1,9 @@
 //! Each kind's edge values, alone and in pairs.
 
-use super::{combine, event_cases, open, property, table_of, unversioned, SOURCE, TYPE};
+use super::{batch, combine, event_cases, open, property, table_of, unversioned, SOURCE, TYPE};
 use crate::draft::{ADD, MATCH, MAX, MIN};
 use crate::edge::{Edges, KINDS};
 use crate::value::is_ordered;
-use independent::calls::DOSSIER_ROOM;
 use independent::case::Case;
 use independent::dossier::{Dossier, Snapshot};
 use independent::event::{Event, Head, Sets};
@@ -35,7 +34,7 @@ fn alone(table: &[u8], edges: &Edges) -> Vec<Case> {
     let values = edges.inside.iter().chain(&edges.outside);
     let cases = values.flat_map(|value| {
         let opened = open(table, &dossier(value));
-        event_cases(table, &event(value))
+        event_cases(table, &event(value).write())
             .into_iter()
             .chain([opened])
     });
@@ -49,15 +48,15 @@ fn pairs(table: &[u8], edges: &Edges) -> Vec<Case> {
         .iter()
         .flat_map(|left| good.iter().map(move |right| [left, right]));
     let cases = pairs.flat_map(|[left, right]| {
-        let mut batch = Vec::new();
-        put_batch(&mut batch, &[left, right].map(|value| event(value).write()));
-        let together = Case::Batch {
-            room: DOSSIER_ROOM,
-            scratch: [DOSSIER_ROOM; 3],
-            table: table.to_vec(),
-            batch,
-        };
-        [together, combine(table, &dossier(left), &dossier(right))]
+        let mut events = Vec::new();
+        put_batch(
+            &mut events,
+            &[left, right].map(|value| event(value).write()),
+        );
+        [
+            batch(table, &events),
+            combine(table, &dossier(left), &dossier(right)),
+        ]
     });
     cases.collect()
 }
