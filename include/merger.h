@@ -3,7 +3,7 @@
  *
  * Every call is proved to stay in the buffers that it is lent, to end, and to answer what the
  * profile says, for good and bad input alike. It keeps no state and takes nothing from a heap. The
- * report takes about 160 KB of stack, and no other call more than about 20 KB.
+ * report takes about 160 KB of stack, and no other call more than about 21 KB.
  *
  * Buffers. A buffer is a pointer and a length. The pointer is not null, even where the length is
  * 0; inputs are only read; an output or scratch buffer overlaps no other buffer of the call.
