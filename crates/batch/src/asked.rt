@@ -18,7 +18,7 @@ use ontology::tables::{TableRead, read_table};
 use packed::order::same;
 
 // The number of a question that is answered no and the position of its event; 0 where all are answered yes.
-#[derive(Drop)]
+#[derive(Clone, Copy)]
 pub struct EventsAsked {
     pub number: u8,
     pub position: usize,

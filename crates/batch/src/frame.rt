@@ -7,7 +7,7 @@ ghost use Rattle.batch.specs.code.BatchIndex.{BatchIs, BatchReads};
 use packed::read::{NumberAt, TextAt, part_of, read_number, read_text};
 
 // Where the events of a batch stand, each from its start up to its end.
-#[derive(Drop)]
+#[derive(Clone, Copy)]
 pub struct BatchIndex {
     pub ok: bool,
     pub count: usize,

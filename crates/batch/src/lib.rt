@@ -1,4 +1,6 @@
 // The call batch.
+#![tactic(auto)]
+
 pub mod asked;
 pub mod calls;
 pub mod frame;

@@ -111,6 +111,7 @@ union-some : (O : Order Text) (xs ys : List Text) → 1 ≤ length xs + length y
 union-some O xs ys h = some_in (xs ++ ys) (omega (arith, length-append xs ys)) (union-in O xs ys)
   where
     member : (m : List Text) (a : Text) → Memᴰ a m → 1 ≤ length m
+    member [] a x' = elim x' [ ]
     member (b ∷ m) a (Memᴰ.head q) = omega arith
     member (b ∷ m) a (Memᴰ.tail n) = omega arith
 

@@ -39,7 +39,7 @@ use replies::reply::Reply;
 use values::versions::EventVersion;
 
 // Where the snapshots that were written end, and how many bytes the one of the event's version has.
-#[derive(Drop)]
+#[derive(Clone, Copy)]
 struct SnapshotWritten {
     next: usize,
     size: usize,

@@ -18,7 +18,7 @@ use packed::write::write_number;
 use values::versions::EventVersion;
 
 // The places of a joined snapshot that have objects, and those that are marked.
-#[derive(Drop)]
+#[derive(Clone, Copy)]
 pub struct Places {
     pub present: [bool; 32],
     pub marked: [bool; 32],

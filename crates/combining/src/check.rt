@@ -35,7 +35,7 @@ pub fn version_of(event: &[u8], t: TypeIndex, sets: &[usize]) -> EventVersion
 }
 
 // Where the only snapshot of a dossier stands in its bytes, of which it is the end.
-#[derive(Drop)]
+#[derive(Clone, Copy)]
 struct LoneAt {
     start: usize,
     end: usize,

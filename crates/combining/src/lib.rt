@@ -1,4 +1,6 @@
 // The calls that give a dossier: check an event, and combine; and an event added to a dossier.
+#![tactic(auto)]
+
 pub mod add;
 pub mod agreed;
 pub mod check;

@@ -7,7 +7,7 @@ use values::versions::EventVersion;
 
 // The measures of a dossier are lent as 17 numbers: how many snapshots it has, and two for each of them, its version and how many bytes it has. By these the
 // snapshots are found in its bytes, and it need not be read again.
-#[derive(Drop)]
+#[derive(Clone, Copy)]
 pub struct Measure {
     pub version: EventVersion,
     pub size: usize,
@@ -15,7 +15,7 @@ pub struct Measure {
 
 // Where the snapshot of a version stands among those of a dossier, or would stand: how many are of lower versions, how many bytes these have, whether one is
 // of this version, and how many bytes that one has.
-#[derive(Drop)]
+#[derive(Clone, Copy)]
 pub struct Place {
     pub index: usize,
     pub before: usize,

@@ -17,7 +17,7 @@ use values::versions::EventVersion;
 
 // Where each of the snapshots stands, its version, its differ number and how many objects it has; and the position after the last. There is room for as many
 // as the largest limits allow.
-#[derive(Drop)]
+#[derive(Clone, Copy)]
 pub struct SnapshotsRead {
     pub ok: bool,
     pub next: usize,
@@ -30,7 +30,7 @@ pub struct SnapshotsRead {
 
 // Where each thing of a dossier stands: its head, and the start and the end of each of its `count` snapshots, with their versions, their differ numbers and
 // how many objects they have. Where their sets stand is lent beside it: rows of 96 numbers, one for each snapshot.
-#[derive(Drop)]
+#[derive(Clone, Copy)]
 pub struct DossierIndex {
     pub ok: bool,
     pub head: HeadAt,

@@ -13,7 +13,7 @@ use packed::read::{NumberAt, TextAt, read_text, read_within};
 use replies::limits::Limits;
 
 // Where the head's parts stand, and the position after it.
-#[derive(Drop)]
+#[derive(Clone, Copy)]
 pub enum DossierHeadRead {
     Head(HeadAt, usize),
     NoHead,

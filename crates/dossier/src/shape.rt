@@ -21,7 +21,7 @@ use values::versions::EventVersion;
 
 // What question 5 asks of the places of a snapshot, a bit for each place, the first by the lowest: which places have a property, which have to be present or
 // marked, which have at most one object, and which are not marked. They are the same for all snapshots of a dossier.
-#[derive(Drop)]
+#[derive(Clone, Copy)]
 pub struct ShapeMasks {
     pub all: u64,
     pub mandatory: u64,

@@ -10,7 +10,7 @@ use packed::read::{NumberAt, read_number};
 use values::versions::EventVersion;
 
 // A snapshot's version, its differ number, and how many objects it has. Where its sets stand is lent beside them, as 96 numbers.
-#[derive(Drop)]
+#[derive(Clone, Copy)]
 pub struct SnapshotNumbers {
     pub version: EventVersion,
     pub differ: u64,
@@ -18,14 +18,14 @@ pub struct SnapshotNumbers {
 }
 
 // The numbers of a snapshot, and the position after it.
-#[derive(Drop)]
+#[derive(Clone, Copy)]
 pub enum SnapshotRead {
     Found(SnapshotNumbers, usize),
     NoSnapshot,
 }
 
 // The numbers that a snapshot begins with, and the position after them.
-#[derive(Drop)]
+#[derive(Clone, Copy)]
 enum NumbersAt {
     Numbers {
         version: EventVersion,

@@ -37,6 +37,7 @@ use Rattle.event.proofs.EventSizeLaws.{event-match}
 
 module _ {A : Type 0} (ok : A → Type 0) where
   pub all-member : (xs : List A) → All ok xs → (a : A) → Memᴰ a xs → ok a
+  all-member [] h a x'' = elim x'' [ ]
   all-member (x ∷ xs) h a (mathlib.Core.List.Memᴰ.head q) = rw q h.0
   all-member (x ∷ xs) h a (mathlib.Core.List.Memᴰ.tail m) = all-member xs h.1 a m
 
@@ -91,6 +92,7 @@ module _ (f : Property → List Text → Bool) (g : List Text → Bool) where
 
 pub in-space : (k : Kind) (s : List Text) → are_in_space k s ≡ true → (v : Text) → Memᴰ v s → in_space k v ≡ true
 unfolding are_in_space
+in-space k [] h v x'' = elim x'' [ ]
 in-space k (x ∷ s) h v (mathlib.Core.List.Memᴰ.head q) = rw q ((and-eq-true_iff (in_space k x) _).0 h).0
 in-space k (x ∷ s) h v (mathlib.Core.List.Memᴰ.tail m) = in-space k s ((and-eq-true_iff (in_space k x) _).0 h).1 v m
 

@@ -11,27 +11,27 @@ use packed::read::{NumberAt, TextAt, part_of, read_number, read_text};
 use packed::write::{copy, write_number, write_text};
 
 // Where a text's own bytes stand.
-#[derive(Drop)]
+#[derive(Clone, Copy)]
 pub struct PartAt {
     pub start: usize,
     pub end: usize,
 }
 
-#[derive(Drop)]
+#[derive(Clone, Copy)]
 pub enum ParentsRead {
     Parents(SetAt),
     NoParents,
 }
 
 // Type name, source and parents, with which an event and a dossier begin.
-#[derive(Drop)]
+#[derive(Clone, Copy)]
 pub struct HeadAt {
     pub name: PartAt,
     pub source: PartAt,
     pub parents: SetAt,
 }
 
-#[derive(Drop)]
+#[derive(Clone, Copy)]
 pub enum HeadRead {
     Head(HeadAt),
     NoHead,

@@ -1,4 +1,6 @@
 // A packed event, read where it stands into an index of positions, and the questions asked of it.
+#![tactic(auto)]
+
 pub mod agree;
 pub mod ask;
 pub mod bits;

@@ -8,7 +8,7 @@ use crate::sets::set_at;
 use packed::read::{NumberAt, TextAt, read_number, read_text};
 
 // Where a value's own bytes stand.
-#[derive(Drop)]
+#[derive(Clone, Copy)]
 pub enum ValueAt {
     Value(usize, usize),
     NoValue,

@@ -7,7 +7,7 @@ use crate::sets::{SetsRead, read_sets};
 use packed::read::{NumberAt, read_number};
 
 // Where each thing of an event stands. Where its sets stand is lent beside it, as 96 numbers.
-#[derive(Drop)]
+#[derive(Clone, Copy)]
 pub struct EventIndex {
     pub ok: bool,
     pub head: HeadAt,
@@ -29,7 +29,7 @@ pub fn no_event() -> EventIndex
 }
 
 // The counts that an event is read within: its own, or the wider ones of a merged event.
-#[derive(Drop)]
+#[derive(Clone, Copy)]
 pub enum EventCounts {
     Narrow,
     Wide,

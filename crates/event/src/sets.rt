@@ -10,21 +10,21 @@ use packed::order::is_before;
 use packed::read::{NumberAt, TextAt, part_of, read_number, read_text};
 
 // Where the values of a place stand: their texts, one after the other, without the count. A place without objects has an empty stretch.
-#[derive(Drop)]
+#[derive(Clone, Copy)]
 pub struct SetAt {
     pub start: usize,
     pub end: usize,
     pub count: usize,
 }
 
-#[derive(Drop)]
+#[derive(Clone, Copy)]
 pub enum SetRead {
     Found(SetAt),
     NoSet,
 }
 
 // The position after the sets of all places, and how many objects they have together.
-#[derive(Drop)]
+#[derive(Clone, Copy)]
 pub enum SetsRead {
     Sets { next: usize, objects: usize },
     NoSets,

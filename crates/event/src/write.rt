@@ -9,7 +9,7 @@ use crate::sets::{SetAt, set_at};
 use packed::write::{copy_part, number_size};
 
 // Sets that stand one after the other, from where the first begins with its count up to where the last ends; and where they are to be copied.
-#[derive(Drop)]
+#[derive(Clone, Copy)]
 pub struct Run {
     pub start: usize,
     pub end: usize,

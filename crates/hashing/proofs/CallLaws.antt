@@ -32,8 +32,8 @@ use Rattle.event.proofs.EventLayoutLaws.{event-was}
 use Rattle.event.proofs.EventSizeLaws.{event-match}
 use Rattle.event.proofs.EventQuestionLaws.{event-accepted}
 use Rattle.event.proofs.AskLaws.{Accepted}
-use Rattle.sha1.specs.Fips.{sha1_of}
-use Rattle.sha1.proofs.Laws.{length-sha1_of}
+use Rattle.fips180.specs.Fips.{sha1_of}
+use Rattle.fips180.proofs.Laws.{length-sha1_of}
 use Rattle.hashing.specs.HashText.{event_text}
 use Rattle.hashing.specs.HashCalls.{hash_text_asked, hash_text_answer, hash_answer, hash_text_call, hash_call}
 use Rattle.hashing.specs.code.HashIndex.{Hashable}

@@ -6,7 +6,7 @@ use Rattle.replies.specs.Capacities.{hash_text_capacity, hash_capacity, has_room
 use Rattle.ontology.specs.TableLayout.{table_of}
 use Rattle.event.specs.EventLayout.{wide}
 use Rattle.event.specs.EventQuestions.{event_asked}
-use Rattle.sha1.specs.Fips.{sha1_of}
+use Rattle.fips180.specs.Fips.{sha1_of}
 use Rattle.hashing.specs.HashText.{event_text}
 
 -- the hash text of an event under a table, after the questions that both calls ask; `least` is the output's least size, `room` its size

@@ -8,7 +8,7 @@ use event::read::{EventCounts, read_event};
 use ontology::tables::read_table;
 use replies::capacities::{HASH_CAPACITY, HASH_TEXT_CAPACITY};
 use replies::reply::Reply;
-use sha1::write_digest;
+use fips180::write_digest;
 
 // The hash text of an event, written at the front of `out`.
 pub fn hash_text(table: &[u8], event: &[u8], out: &mut [u8]) -> Reply

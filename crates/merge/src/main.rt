@@ -1,9 +1,14 @@
 // Merges the events on its standard input, which is a table as a text and then a batch, and writes what they are together.
-ghost use Rattle.std.specs.Prelude.{◌≡◌, length};
+#![tactic(auto)]
 
-use libc::{STDIN_FILENO, STDOUT_FILENO};
+ghost use Rattle.report.specs.Report.{report};
+ghost use Rattle.std.specs.Io.KnownBytes.{Appends};
+ghost use Rattle.std.specs.Prelude.{◌≡◌, ◌≤◌, IfOk, OnOk, length};
+
 use replies::reply::Reply;
 use report::calls::report;
+use std::io;
+use std::io::{Read, Write};
 
 // One byte more than the longest input, so that a longer one shows. The contract says the length alone, so that no proof holds the bytes.
 fn input_buffer() -> [u8; 65537]
@@ -12,17 +17,41 @@ fn input_buffer() -> [u8; 65537]
     [0; 65537]
 }
 
-fn print_report(input: &[u8]) {
-    let mut out = io::large_buffer();
-    if let Reply::Done(n) = report(input, &mut out) {
-        if n <= out.len() {
-            io::write_all(STDOUT_FILENO, &out[0..n]);
+// Room for any report. The contract says the length alone, as above.
+fn report_buffer() -> [u8; 65536]
+    ensures { 65536 ≡ length result }
+{
+    [0; 65536]
+}
+
+// Reads until the buffer is full or the input ends, and returns how many bytes it put at the start.
+fn read_full(input: &mut impl Read, buf: &mut [u8]) -> io::Result<usize>
+    ensures { IfOk result (λ n. n ≤ length buf.new) }
+{
+    let mut done: usize = 0;
+    while done < buf.len() {
+        let n = input.read(&mut buf[done..])?;
+        if n == 0 {
+            break;
         }
+        done += n;
+    }
+    Ok(done)
+}
+
+// Writes what `input` comes to, each time the same, and no byte beside it.
+fn print_report<W: Write>(writer: &mut W, input: &[u8]) -> io::Result<()>
+    ensures { OnOk result (Appends (W.contents writer.old) (W.contents writer.new) (report input.now)) }
+{
+    let mut out = report_buffer();
+    match report(input, &mut out) {
+        Reply::Done(n) => writer.write_all(&out[..n]),
+        Reply::Refused(_) => Ok(()),
     }
 }
 
-fn main() {
+fn main(rt: HostRuntime) -> io::Result<()> {
     let mut input = input_buffer();
-    let n = io::read_full(STDIN_FILENO, &mut input);
-    print_report(&input[..n]);
+    let n = read_full(&mut rt.reader(), &mut input)?;
+    print_report(&mut io::writer(&rt), &input[..n])
 }

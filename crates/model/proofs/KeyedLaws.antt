@@ -71,11 +71,13 @@ module _ {E K : Type 0} (O : Order K) (key : E → K) where
       (λ g. let r : Memᴰ a xs × (key a ≡ k) = look-member k xs a (rw g at h) in (mathlib.Core.List.Memᴰ.tail r.0, r.1))
 
   pub above-member : (k : K) (xs : List E) (a : E) → Above O key k xs → Memᴰ a xs → O.cmp k (key a) ≡ Ordering.lt
+  above-member k [] a h x'' = elim x'' [ ]
   above-member k (x ∷ xs) a h (mathlib.Core.List.Memᴰ.head e) = rw e h.0
   above-member k (x ∷ xs) a h (mathlib.Core.List.Memᴰ.tail m) = above-member k xs a h.1 m
 
   pub member-look : (xs : List E) (a : E) → Rising O key xs → Memᴰ a xs → look O key (key a) xs ≡ some a
   unfolding look
+  member-look [] a h x'' = elim x'' [ ]
   member-look (x ∷ xs) a h (mathlib.Core.List.Memᴰ.head e) = rw (e, O.self (key x))
   member-look (x ∷ xs) a h (mathlib.Core.List.Memᴰ.tail m) = rw (less-turn O (key x) (key a) (above-member (key x) xs a h.0 m)) (member-look xs a h.1 m)
 

@@ -40,6 +40,7 @@ module _ {A : Type 0} where
 
   pub flatten-in : (xs : List (List A)) (x : List A) (a : A) → Memᴰ x xs → Memᴰ a x → Memᴰ a (flatten xs)
   unfolding flatten
+  flatten-in [] x a x4 m = elim x4 [ ]
   flatten-in (y ∷ xs) x a (mathlib.Core.List.Memᴰ.head q) m = mathlib.Core.List.Memᴰ.append_left (flatten xs) (rw q at m)
   flatten-in (y ∷ xs) x a (mathlib.Core.List.Memᴰ.tail n) m = mathlib.Core.List.Memᴰ.append_right y (flatten-in xs x a n m)
 
@@ -63,6 +64,7 @@ module _ {A K : Type 0} (O : Order K) (f : A → K) where
   pub only-in : (k : K) (xs : List A) (a : A) → Memᴰ a xs → f a ≡ k → Memᴰ a (only O f k xs)
   unfolding only
   only-in k (x ∷ xs) a (mathlib.Core.List.Memᴰ.head q) e = let r : O.cmp k (f x) ≡ Ordering.eq = cc (O.self k) in rw r (mathlib.Core.List.Memᴰ.head q)
+  only-in k [] a x'' e = elim x'' [ ]
   only-in k (x ∷ xs) a (mathlib.Core.List.Memᴰ.tail m) e =
       let there = only-in k xs a m e in
       three (O.cmp k (f x)) (λ l. rw l there) (λ s. rw s (mathlib.Core.List.Memᴰ.tail there)) (λ g. rw g there)

@@ -32,8 +32,8 @@ agreed-append c s t ss ts = rw (all-are-append s ss (t ∷ ts)) (go (all_are s s
         (x y : Bool) → all_are t ts ≡ y →
         cond (x && all_are s (t ∷ ts)) (holds s) differs ≡ join_cell true c (cond x (holds s) differs) (cond y (holds t) differs)
     go false y e = refl
-    go true false e = three (sets.cmp s t) (λ l. rw l) (λ q. rw (q, sets.same s t q, e)) (λ g. rw g)
-    go true true e = three (sets.cmp s t) (λ l. rw l) (λ q. let r : s ≡ t = sets.same s t q in rw (q, r, e)) (λ g. rw g)
+    go true false e = three (sets.cmp s t) (λ l. rw l) (λ q. let f : all_are s ts ≡ false = rw (sets.same s t q) e in rw (q, f)) (λ g. rw g)
+    go true true e = three (sets.cmp s t) (λ l. rw l) (λ q. let f : all_are s ts ≡ true = rw (sets.same s t q) e in rw (q, f)) (λ g. rw g)
 
 -- the cell of two lists of sets together
 cell-append :

@@ -54,6 +54,7 @@ module _ {K : Type 0} (O : Order K) where
 
   pub put-there : (e : K) (xs : List K) (a : K) → Memᴰ a xs → Memᴰ a (put O itself first e xs)
   unfolding put
+  put-there e [] a m = elim m [ ]
   put-there e (x ∷ xs) a m =
       let either = mathlib.Core.List.Memᴰ.cases_cons m in
       three (O.cmp e x)

@@ -74,6 +74,7 @@ columns-objects n (s ∷ ss) h =
 -- a snapshot has no more objects than its dossier
 pub sizes-in : (ss : List Snapshot) (z : Snapshot) → Memᴰ z ss → sizes z.cells ≤ objects ss
 unfolding objects
+sizes-in [] z x' = elim x' [ ]
 sizes-in (s ∷ ss) z (Memᴰ.head e) = rw e (omega arith)
 sizes-in (s ∷ ss) z (Memᴰ.tail m) = omega (arith, sizes-in ss z m)
 

@@ -5,7 +5,7 @@ ghost use Rattle.ontology.specs.code.TypeIndex.{FlagReads};
 use packed::read::{NumberAt, read_within};
 
 // A flag and the position after it.
-#[derive(Drop)]
+#[derive(Clone, Copy)]
 pub enum FlagAt {
     Flag(bool, usize),
     NoFlag,

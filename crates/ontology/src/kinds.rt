@@ -10,7 +10,7 @@ use packed::read::{NumberAt, read_number};
 use values::kinds::{BOOLEAN, CURRENCY, DECIMAL, HEX, SIGNED, STRING, UNSIGNED};
 
 // A kind's number and its parameters, those that it has not as 0, and the position after them.
-#[derive(Drop)]
+#[derive(Clone, Copy)]
 pub enum KindRead {
     OfKind {
         kind: u8,

@@ -27,7 +27,7 @@ pub const SET: u8 = 6;
 pub const ANY: u8 = 7;
 
 // A property of a type: where its name stands in the table, and its numbers.
-#[derive(Drop)]
+#[derive(Clone, Copy)]
 pub struct PropertyAt {
     pub start: usize,
     pub end: usize,
@@ -41,7 +41,7 @@ pub struct PropertyAt {
 }
 
 // A property and the position after it.
-#[derive(Drop)]
+#[derive(Clone, Copy)]
 pub enum PropertyRead {
     Property(PropertyAt, usize),
     NoProperty,

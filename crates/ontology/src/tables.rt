@@ -11,7 +11,7 @@ use packed::read::{NumberAt, read_within};
 use replies::reply::TableReply;
 
 // Whether a table meets every rule, whether it has the type that was named, and the index of that type.
-#[derive(Drop)]
+#[derive(Clone, Copy)]
 pub struct TableRead {
     pub ok: bool,
     pub found: bool,

@@ -18,7 +18,7 @@ use values::versions::DefinitionVersion;
 
 // A type: where its name stands in the table, its definition version, its event-version mark, and how many properties it has. These are lent beside it, as 96
 // numbers, three for each.
-#[derive(Drop)]
+#[derive(Clone, Copy)]
 pub struct TypeIndex {
     pub start: usize,
     pub end: usize,
@@ -28,7 +28,7 @@ pub struct TypeIndex {
 }
 
 // A type that meets its rules, and the position after it.
-#[derive(Drop)]
+#[derive(Clone, Copy)]
 pub struct TypeRead {
     pub ok: bool,
     pub next: usize,
@@ -36,14 +36,14 @@ pub struct TypeRead {
 }
 
 // The position after the properties of a type.
-#[derive(Drop)]
+#[derive(Clone, Copy)]
 enum PropertiesRead {
     Properties(usize),
     NoProperties,
 }
 
 // What stands before a type's properties, and the position after it.
-#[derive(Drop)]
+#[derive(Clone, Copy)]
 enum HeadRead {
     Head {
         start: usize,

@@ -8,7 +8,7 @@ ghost use Rattle.opening.specs.code.OpenIndex.{CellsStand};
 use event::sets::SetAt;
 
 // Eight runs of a dossier: where each starts, and where it ends.
-#[derive(Drop)]
+#[derive(Clone, Copy)]
 pub struct Runs {
     pub starts: [usize; 8],
     pub ends: [usize; 8],

@@ -12,14 +12,14 @@ use dossier::dossiers::DossierIndex;
 use values::versions::EventVersion;
 
 // The lowest place that something is so of, if any.
-#[derive(Drop)]
+#[derive(Clone, Copy)]
 pub enum Lowest {
     Place(usize),
     NoPlace,
 }
 
 // A conflict, at an event version and a place, if any.
-#[derive(Drop)]
+#[derive(Clone, Copy)]
 pub enum Conflict {
     Differs(EventVersion, usize),
     NoConflict,

@@ -1,4 +1,6 @@
 // A dossier opened: the conflict that it names, an overfull place, or the merged event.
+#![tactic(auto)]
+
 pub mod calls;
 pub mod cells;
 pub mod conflict;

@@ -62,7 +62,7 @@ fn extreme_of(s: &[u8], rows: &[usize], place: usize, n: usize, kind: u8, larges
 }
 
 // Where a merged set stands: it is the set of one of the snapshots; or it is a union of sets that differ, and is to be made.
-#[derive(Drop)]
+#[derive(Clone, Copy)]
 pub enum PlaceMerged {
     Stands(SetAt),
     Joins,

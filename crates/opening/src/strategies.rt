@@ -6,7 +6,7 @@ ghost use Rattle.opening.specs.code.OpenIndex.{RuleOf};
 use ontology::properties::{PropertyAt, is_extreme, is_max, is_replace};
 
 // How the sets of a place are merged: the last one, the smallest or the largest value by the order of a kind, or the union.
-#[derive(Drop)]
+#[derive(Clone, Copy)]
 pub struct PlaceRule {
     pub replaces: bool,
     pub extreme: bool,

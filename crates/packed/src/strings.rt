@@ -7,7 +7,7 @@ use crate::order::Ordering;
 
 // Where a string's first part stands in one slice, and its second part, after a colon, in another. A plain string is one whose first part is empty: all
 // such strings have their colon in front, and are in the order of their second parts. A string is never put together in memory to be compared.
-#[derive(Drop)]
+#[derive(Clone, Copy)]
 pub struct StringAt {
     pub first: usize,
     pub colon: usize,

@@ -3,7 +3,7 @@ use packed::read::{NumberAt, TextAt, read_number, read_text};
 use replies::limits::{Limits, standard_limits};
 
 // A text of the script.
-#[derive(Drop)]
+#[derive(Clone, Copy)]
 pub struct Field {
     pub ok: bool,
     pub start: usize,
@@ -36,7 +36,7 @@ pub fn bytes(script: &[u8], f: Field) -> &[u8] {
 }
 
 // A number of the script that counts something, and the position after it.
-#[derive(Drop)]
+#[derive(Clone, Copy)]
 pub struct Count {
     pub ok: bool,
     pub n: usize,
@@ -59,7 +59,7 @@ pub fn read_count(script: &[u8], at: usize) -> Count {
 }
 
 // The limits of a call, and the position after them.
-#[derive(Drop)]
+#[derive(Clone, Copy)]
 pub struct Chosen {
     pub ok: bool,
     pub limits: Limits,

@@ -1,20 +1,12 @@
 // What the program writes.
 ghost use Rattle.std.specs.Prelude.{◌≤◌, min, ◌≡◌, length};
 
-use libc::STDOUT_FILENO;
-
-pub fn write(s: &[u8]) {
-    io::write_all(STDOUT_FILENO, s);
-}
-
-pub fn write_number(n: u64) {
-    io::print_decimal(STDOUT_FILENO, n);
-}
+use std::io;
+use std::io::Write;
 
 // `refused N`
-pub fn write_refusal(n: u8) {
-    write(b"refused ");
-    write_number(n as u64);
+pub fn write_refusal(writer: &mut impl Write, n: u8) -> io::Result<()> {
+    write!(writer, "refused {n}")
 }
 
 fn digit(n: u8) -> u8 {
@@ -23,18 +15,15 @@ fn digit(n: u8) -> u8 {
 }
 
 // Two digits a byte, of at most 512 bytes: they go by way of a buffer, so that a long answer takes few calls.
-fn write_some(s: &[u8])
+fn write_some(writer: &mut impl Write, s: &[u8]) -> io::Result<()>
     requires { length s.now ≤ 512 }
 {
     let mut digits = [0u8; 1024];
-    let mut i: usize = 0;
-    while i < s.len() {
+    for i in 0..s.len() {
         digits[2 * i] = digit(s[i] / 16);
         digits[2 * i + 1] = digit(s[i]);
-        i += 1;
     }
-    let n = 2 * i;
-    io::write_all(STDOUT_FILENO, &digits[0..n]);
+    writer.write_all(&digits[..2 * s.len()])
 }
 
 fn at_most_512(n: usize) -> usize
@@ -43,11 +32,12 @@ fn at_most_512(n: usize) -> usize
     if n < 512 { n } else { 512 }
 }
 
-pub fn write_hex(s: &[u8]) {
+pub fn write_hex(writer: &mut impl Write, s: &[u8]) -> io::Result<()> {
     let mut at: usize = 0;
     while at < s.len() {
         let end = at + at_most_512(s.len() - at);
-        write_some(&s[at..end]);
+        write_some(writer, &s[at..end])?;
         at = end;
     }
+    Ok(())
 }

@@ -1,12 +1,17 @@
 // Replays scripts of calls, whose names are its arguments, and writes a line for each case: what the call replied, and the bytes that it gave in hexadecimal.
 // A script is a run of cases to its end. Each output is filled with EE before its call, and a line ends with ` dirty` where a byte that must keep its old
 // value lost it.
+#![tactic(auto)]
+
 mod cases;
 mod fields;
 mod lines;
 mod outputs;
 
-ghost use Rattle.std.specs.Prelude.{◌≡◌, length};
+ghost use Rattle.std.specs.Prelude.{◌≡◌, ◌≤◌, IfOk, length};
+
+use std::io::{BufWriter, Read, Write};
+use std::{env, fs, io};
 
 // The longest script. The contract says the length alone, so that no proof holds the bytes.
 fn script_buffer() -> [u8; 524288]
@@ -15,41 +20,51 @@ fn script_buffer() -> [u8; 524288]
     [0; 524288]
 }
 
-fn replay(script: &[u8]) {
+// Reads until the buffer is full or the file ends, and returns how many bytes it put at the start.
+fn read_full(file: &mut impl Read, buf: &mut [u8]) -> io::Result<usize>
+    ensures { IfOk result (λ n. n ≤ length buf.new) }
+{
+    let mut done: usize = 0;
+    while done < buf.len() {
+        let n = file.read(&mut buf[done..])?;
+        if n == 0 {
+            break;
+        }
+        done += n;
+    }
+    Ok(done)
+}
+
+fn replay(writer: &mut impl Write, script: &[u8]) -> io::Result<()> {
     let mut at: usize = 0;
     while at < script.len() {
-        let next = cases::replay_case(script, at);
+        let next = cases::replay_case(writer, script, at)?;
         if next <= at {
-            lines::write(b"the script has no case here\n");
-            return;
+            return writeln!(writer, "the script has no case here");
         }
         at = next;
     }
+    Ok(())
 }
 
-fn replay_file(name: &[u8]) {
-    let fd = os::open_read(name);
-    if fd < 0 {
-        os::fail(name);
-        return;
-    }
+fn replay_file(writer: &mut impl Write, file: &mut impl Read) -> io::Result<()> {
     let mut script = script_buffer();
-    let n = io::read_full(fd, &mut script);
-    replay(&script[..n]);
-    libc::close(fd);
+    let n = read_full(file, &mut script)?;
+    replay(writer, &script[..n])
 }
 
-fn replay_argument(i: usize) {
-    let mut name = io::buffer();
-    let n = os::arg(i, &mut name);
-    replay_file(&name[..n]);
-}
-
-fn main() {
-    let count = os::arg_count();
-    let mut i: usize = 1;
-    while i < count {
-        replay_argument(i);
-        i += 1;
+// A file that cannot be opened is named on standard error, and the next is replayed.
+fn replay_argument(rt: &HostRuntime, writer: &mut impl Write, name: &str) -> io::Result<()> {
+    match fs::open(rt, name) {
+        Ok(mut file) => replay_file(writer, &mut file),
+        Err(error) => eprintln!(rt; "{name}: {error}"),
     }
+}
+
+fn main(rt: HostRuntime) -> io::Result<()> {
+    let mut writer = BufWriter::new(rt.alloc(), io::writer(&rt))?;
+    for name in env::args(&rt)?.skip(1) {
+        replay_argument(&rt, &mut writer, name.as_str())?;
+    }
+    writer.flush()
 }

@@ -3,6 +3,8 @@ ghost use Rattle.std.specs.Prelude.{◌≡◌, length};
 
 use crate::lines;
 use replies::reply::{BatchReply, Combined, Finding, Opened, Reply};
+use std::io;
+use std::io::Write;
 
 // The largest output, filled with EE. The contract says the length alone, so that no proof holds the bytes.
 pub fn output() -> [u8; 40960]
@@ -11,110 +13,98 @@ pub fn output() -> [u8; 40960]
     [0xee; 40960]
 }
 
+// Room for any report. The contract says the length alone, as above.
+pub fn report_buffer() -> [u8; 65536]
+    ensures { 65536 ≡ length result }
+{
+    [0; 65536]
+}
+
 // Every byte of the output from a position on has its old value.
 fn is_kept(out: &[u8], from: usize) -> bool {
-    let mut i = from;
-    while i < out.len() {
+    for i in from..out.len() {
         if out[i] != 0xee {
             return false;
         }
-        i += 1;
     }
     true
 }
 
-fn write_kept(out: &[u8], from: usize) {
+fn write_kept(writer: &mut impl Write, out: &[u8], from: usize) -> io::Result<()> {
     if !is_kept(out, from) {
-        lines::write(b" dirty");
+        write!(writer, " dirty")?;
     }
+    Ok(())
 }
 
 // The bytes that a call gave, and whether it left the others.
-fn write_given(n: usize, out: &[u8]) {
+fn write_given(writer: &mut impl Write, n: usize, out: &[u8]) -> io::Result<()> {
     if n <= out.len() {
-        lines::write_hex(&out[0..n]);
+        lines::write_hex(writer, &out[0..n])?;
     }
-    write_kept(out, n);
+    write_kept(writer, out, n)
 }
 
-fn write_ok(n: usize, out: &[u8]) {
-    lines::write(b"ok ");
-    write_given(n, out);
+fn write_ok(writer: &mut impl Write, n: usize, out: &[u8]) -> io::Result<()> {
+    write!(writer, "ok ")?;
+    write_given(writer, n, out)
 }
 
-fn write_refused(n: u8, out: &[u8]) {
-    lines::write_refusal(n);
-    write_kept(out, 0);
+fn write_refused(writer: &mut impl Write, n: u8, out: &[u8]) -> io::Result<()> {
+    lines::write_refusal(writer, n)?;
+    write_kept(writer, out, 0)
 }
 
 // `ok HEX` or `refused N`
-pub fn write_reply(r: Reply, out: &[u8]) {
+pub fn write_reply(writer: &mut impl Write, r: Reply, out: &[u8]) -> io::Result<()> {
     match r {
-        Reply::Done(n) => {
-            write_ok(n, out);
-        }
-        Reply::Refused(n) => {
-            write_refused(n, out);
-        }
+        Reply::Done(n) => write_ok(writer, n, out),
+        Reply::Refused(n) => write_refused(writer, n, out),
     }
 }
 
 // `ok HEX` or `refused N`
-pub fn write_combined(r: Combined, out: &[u8]) {
+pub fn write_combined(writer: &mut impl Write, r: Combined, out: &[u8]) -> io::Result<()> {
     match r {
-        Combined::Done(n) => {
-            write_ok(n, out);
-        }
-        Combined::Refused(n) => {
-            write_refused(n, out);
-        }
+        Combined::Done(n) => write_ok(writer, n, out),
+        Combined::Refused(n) => write_refused(writer, n, out),
     }
 }
 
 // `conflict VERSION PLACE` or `overfull PLACE`
-fn write_finding(f: Finding, out: &[u8]) {
+fn write_finding(writer: &mut impl Write, f: Finding, out: &[u8]) -> io::Result<()> {
     match f {
         Finding::Conflict(version, place) => {
-            lines::write(b"conflict ");
-            lines::write_number(version.0);
-            lines::write(b" ");
-            lines::write_number(place as u64);
+            let version = version.0;
+            write!(writer, "conflict {version} {place}")?;
         }
         Finding::Overfull(place) => {
-            lines::write(b"overfull ");
-            lines::write_number(place as u64);
+            write!(writer, "overfull {place}")?;
         }
     }
-    write_kept(out, 0);
+    write_kept(writer, out, 0)
 }
 
 // `merged HEX`, what was found, or `refused N`
-pub fn write_opened(r: Opened, out: &[u8]) {
+pub fn write_opened(writer: &mut impl Write, r: Opened, out: &[u8]) -> io::Result<()> {
     match r {
         Opened::Merged(n) => {
-            lines::write(b"merged ");
-            write_given(n, out);
+            write!(writer, "merged ")?;
+            write_given(writer, n, out)
         }
-        Opened::Found(f) => {
-            write_finding(f, out);
-        }
-        Opened::Refused(n) => {
-            write_refused(n, out);
-        }
+        Opened::Found(f) => write_finding(writer, f, out),
+        Opened::Refused(n) => write_refused(writer, n, out),
     }
 }
 
 // `ok HEX` or `refused N POSITION`
-pub fn write_batch(r: BatchReply, out: &[u8]) {
+pub fn write_batch(writer: &mut impl Write, r: BatchReply, out: &[u8]) -> io::Result<()> {
     match r {
-        BatchReply::Done(n) => {
-            write_ok(n, out);
-        }
+        BatchReply::Done(n) => write_ok(writer, n, out),
         BatchReply::Refused(n, position) => {
-            lines::write_refusal(n);
-            lines::write(b" ");
-            lines::write_number(position as u64);
-            write_kept(out, 0);
+            lines::write_refusal(writer, n)?;
+            write!(writer, " {position}")?;
+            write_kept(writer, out, 0)
         }
     }
 }

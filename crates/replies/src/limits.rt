@@ -4,7 +4,7 @@ ghost use Rattle.model.specs.Limits.{standard, is_permitted};
 ghost use Rattle.replies.specs.ChosenLimits.{limits_of};
 
 // How many event versions, parents, and objects of an unversioned type a dossier has at most.
-#[derive(Drop)]
+#[derive(Clone, Copy)]
 pub struct Limits {
     pub versions: usize,
     pub parents: usize,

@@ -57,8 +57,8 @@ use Rattle.dossier.specs.DossierQuestions.{TypedDossier, dossier_asked}
 use Rattle.dossier.specs.code.DossierIndex.{DossierIs, DossierReads}
 use Rattle.dossier.specs.declared.dossiers.DossierIndex.{DossierIndex}
 use Rattle.dossier.proofs.AcceptedLaws.{dossier-taken}
-use Rattle.sha1.specs.Fips.{sha1_of}
-use Rattle.sha1.proofs.Laws.{length-sha1_of}
+use Rattle.fips180.specs.Fips.{sha1_of}
+use Rattle.fips180.proofs.Laws.{length-sha1_of}
 use Rattle.hashing.specs.HashText.{event_text}
 use Rattle.hashing.specs.HashCalls.{hash_text_asked, hash_answer, hash_call}
 use Rattle.opening.specs.OpenCall.{merged_event, opened_answer, asked_opening, open_answer, open_call}

@@ -21,8 +21,8 @@ use Rattle.event.specs.EventQuestions.{event_asked}
 use Rattle.event.proofs.EventLayoutLaws.{event-was}
 use Rattle.event.proofs.EventQuestionLaws.{event-accepted}
 use Rattle.event.proofs.EventSizeLaws.{ValuesShort, event-short}
-use Rattle.sha1.specs.Fips.{sha1_of}
-use Rattle.sha1.proofs.Laws.{length-sha1_of}
+use Rattle.fips180.specs.Fips.{sha1_of}
+use Rattle.fips180.proofs.Laws.{length-sha1_of}
 use Rattle.hashing.specs.HashText.{event_text}
 use Rattle.report.specs.Report.{value_lines, object_lines, merged_lines, conflict_line, overfull_line, finding_line}
 use Rattle.report.proofs.LineLaws.{hashed_length}

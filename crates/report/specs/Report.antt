@@ -15,7 +15,7 @@ use Rattle.ontology.specs.Table.{Property, EventType, name_at}
 use Rattle.event.specs.Event.{Event, type_view, object_count}
 use Rattle.dossier.specs.DossierLayout.{Headed, model_of}
 use Rattle.dossier.specs.DossierQuestions.{TypedDossier}
-use Rattle.sha1.specs.Fips.{sha1_of}
+use Rattle.fips180.specs.Fips.{sha1_of}
 use Rattle.hashing.specs.HashText.{object_string, event_text}
 use Rattle.opening.specs.OpenCall.{merged_event}
 use Rattle.batch.specs.Batch.{AskedAt, refused_at, accepted, batch_asked}

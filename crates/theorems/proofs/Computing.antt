@@ -29,7 +29,7 @@ use Rattle.dossier.specs.DossierHead as dossier-head
 use Rattle.dossier.specs.DossierBody as dossier-body
 use Rattle.dossier.specs.DossierLayout as dossier-layout
 use Rattle.dossier.specs.DossierQuestions as dossier-questions
-use Rattle.sha1.specs.Fips as fips
+use Rattle.fips180.specs.Fips as fips
 use Rattle.hashing.specs.HashText as hash-text
 use Rattle.hashing.specs.HashCalls as hash-calls
 use Rattle.hashing.specs.ReadHashText as read-hash-text

@@ -28,7 +28,7 @@ use Rattle.event.proofs.EventQuestionLaws.{count-objects}
 use Rattle.dossier.specs.DossierLayout.{dossier_bytes, model_of}
 use Rattle.dossier.specs.DossierQuestions.{TypedDossier, dossier_asked, dossiers_agree}
 use Rattle.dossier.proofs.AcceptedLaws.{DossierTaken, dossier-taken}
-use Rattle.sha1.proofs.Laws.{length-sha1_of}
+use Rattle.fips180.proofs.Laws.{length-sha1_of}
 use Rattle.hashing.proofs.CallLaws.{hash-short}
 use Rattle.hashing.specs.HashCalls.{hash_text_asked, hash_text_answer, hash_text_call, hash_answer, hash_call}
 use Rattle.combining.specs.CheckCall.{event_dossier, check_asked, check_answer, check_call}

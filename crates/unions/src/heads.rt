@@ -5,7 +5,7 @@ ghost use Rattle.unions.specs.code.Runs.{Run, Heads};
 use packed::read::{TextAt, read_text};
 
 // What a run has its values as: texts, or hashes of 20 bytes.
-#[derive(Drop)]
+#[derive(Clone, Copy)]
 pub enum Form {
     Texts,
     Hashes,

@@ -12,7 +12,7 @@ use packed::read::TextAt;
 use packed::write::copy_part;
 
 // The least of the values that stand first in some runs, if any: where its text starts, and where its own bytes start and end.
-#[derive(Drop)]
+#[derive(Clone, Copy)]
 struct Least {
     found: bool,
     start: usize,
@@ -92,7 +92,7 @@ fn least_head(s: &[u8], at: &[usize], ends: &[usize], n: usize, after: &mut [usi
 }
 
 // The position after what was written, and how many values that is.
-#[derive(Drop)]
+#[derive(Clone, Copy)]
 pub struct Merged {
     pub next: usize,
     pub count: usize,

@@ -12,14 +12,14 @@ use packed::read::TextAt;
 use packed::write::copy_part;
 
 // Where both sides go on after the next value of a union; or one side alone is left.
-#[derive(Drop)]
+#[derive(Clone, Copy)]
 enum Step {
     Next(usize, usize),
     Alone,
 }
 
 // Where a union that was written ends, and how many values both sides have.
-#[derive(Drop)]
+#[derive(Clone, Copy)]
 pub struct Joined {
     pub next: usize,
     pub shared: usize,

@@ -1,6 +1,6 @@
 // "An event version and a definition version count different things and are never compared."
-#[derive(Drop)]
+#[derive(Clone, Copy)]
 pub struct EventVersion(pub u64);
 
-#[derive(Drop)]
+#[derive(Clone, Copy)]
 pub struct DefinitionVersion(pub u64);

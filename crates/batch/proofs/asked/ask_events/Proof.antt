@@ -8,77 +8,77 @@ use Rattle.batch.proofs.AskedLaws.{GoesOn, first-refuses, goes_first, next-refus
 use Rattle.batch.proofs.asked.ask_events.Statement.{statement}
 use Rattle.batch.proofs.asked.ask_events.Tie as tie
 
-abbrev invariant-loop : tie.invariant-loop
-invariant-loop table batch x name read properties head left right₀ d first t apart₀ i₀ right apart i =
+abbrev invariant-loop-i : tie.invariant-loop-i
+invariant-loop-i table batch x name read properties head left right₀ d first t apart₀ i₀ right apart i =
     (length left ≡ 96) × (length right ≡ 96) × GoesOn table batch x head left d read.index properties i apart
 
-abbrev decreases-loop : tie.decreases-loop
-decreases-loop table batch x name read properties head left right₀ d first t apart₀ i₀ right apart i = x.count - i
+abbrev decreases-loop-i : tie.decreases-loop-i
+decreases-loop-i table batch x name read properties head left right₀ d first t apart₀ i₀ right apart i = x.count - i
 
 -- ---- the places
 
-abbrev to_start : tie.After-event-part invariant-loop decreases-loop → tie.Start invariant-loop decreases-loop
-to_start c = c.before.before.before.before.before
+abbrev to_start : tie.After-event_part-head invariant-loop-i decreases-loop-i → tie.Start invariant-loop-i decreases-loop-i
+to_start c = (search)
 
-abbrev to_part : tie.After-ask-one invariant-loop decreases-loop → tie.After-event-part invariant-loop decreases-loop
-to_part c = c.before.before.before.before.before
+abbrev to_part : tie.After-ask_one-first invariant-loop-i decreases-loop-i → tie.After-event_part-head invariant-loop-i decreases-loop-i
+to_part c = (search)
 
-abbrev to-begin : tie.At-loop invariant-loop decreases-loop → tie.Start invariant-loop decreases-loop
-to-begin c = to_start (to_part c.before.before.before)
+abbrev to-begin : tie.At-loop-i invariant-loop-i decreases-loop-i → tie.Start invariant-loop-i decreases-loop-i
+to-begin c = to_start (to_part (search))
 
-abbrev to-turn : tie.Then2 invariant-loop decreases-loop → tie.At-loop invariant-loop decreases-loop
-to-turn c = c.before.before
+abbrev to-turn : tie.In-loop-i invariant-loop-i decreases-loop-i → tie.At-loop-i invariant-loop-i decreases-loop-i
+to-turn c = (search)
 
-abbrev to-part2 : tie.After-ask-one2 invariant-loop decreases-loop → tie.After-event-part2 invariant-loop decreases-loop
-to-part2 c = c.before.before.before.before.before
+abbrev to-part2 : tie.After-ask_one-asked invariant-loop-i decreases-loop-i → tie.After-event_part-event invariant-loop-i decreases-loop-i
+to-part2 c = (search)
 
-abbrev to-accepted : tie.After-first-apart invariant-loop decreases-loop → tie.Else3 invariant-loop decreases-loop
-to-accepted c = c.before.before.before.before
+abbrev to-accepted : tie.After-first_apart-apart invariant-loop-i decreases-loop-i → tie.Else-asked-ne0 invariant-loop-i decreases-loop-i
+to-accepted c = (search)
 
 -- ---- the needs
 
-ask-one-requires : tie.Need-ask-one-requires invariant-loop decreases-loop
+ask-one-requires : tie.Need-ask_one-first-requires invariant-loop-i decreases-loop-i
 ask-one-requires c κs =
-    let read : tie.After-read-event invariant-loop decreases-loop = search in
-    (((to_start read.before.before).pre.0.says, search rules, search rules), read.read-event.ensures)
+    let read : tie.After-read_event-d invariant-loop-i decreases-loop-i = search in
+    (((to_start (search)).requires.0.says, search rules, search rules), read.read_event-d.ensures)
 
-loop-holds : tie.Need-loop-init invariant-loop decreases-loop
+loop-holds : tie.Need-loop-i-init invariant-loop-i decreases-loop-i
 loop-holds c =
-    let asked = c.before.before in
-    let part = to_part asked in
-    (search rules, search rules, goes_first part.event-part.ensures asked.ask-one.ensures (to_start part).pre.0 c.before.if1.false)
+    let asked = c in
+    let part = to_part (search) in
+    (search rules, search rules, goes_first part.event_part-head.ensures asked.ask_one-first.ensures (to_start part).requires.0 c.if-first-ne0.false)
 
-ask-one-requires-2 : tie.Need-ask-one-requires-2 invariant-loop decreases-loop
+ask-one-requires-2 : tie.Need-ask_one-asked-requires invariant-loop-i decreases-loop-i
 ask-one-requires-2 c κs =
-    let read : tie.After-read-event2 invariant-loop decreases-loop = search in
-    let p = (to-begin (to-turn read.before.before.before)).pre in
-    ((p.0.says, p.1, search rules), read.read-event2.ensures)
+    let read : tie.After-read_event-e invariant-loop-i decreases-loop-i = search in
+    let p = (to-begin (to-turn (search))).requires in
+    ((p.0.says, p.1, search rules), read.read_event-e.ensures)
 
-events-agree-requires : tie.Need-events-agree-requires invariant-loop decreases-loop
+events-agree-requires : tie.Need-events_agree-requires invariant-loop-i decreases-loop-i
 events-agree-requires c κs =
-    let turn = to-turn (to-part2 c.before.before.before).before in
-    let inv = turn.loop.inv in
-    (inv.2.typed.are.few, (to-begin turn).pre.1, inv.0, search rules)
+    let turn = to-turn (to-part2 (search)).before in
+    let inv = turn.loop-i.invariant in
+    (inv.2.typed.are.few, (to-begin turn).requires.1, inv.0, search rules)
 
-loop-again : tie.Need-loop-preserved invariant-loop decreases-loop
+loop-again : tie.Need-loop-i-preserved invariant-loop-i decreases-loop-i
 loop-again c =
     let accepted = to-accepted c in
-    let asked = accepted.before in
-    let part = to-part2 asked in
-    let more = part.before in
-    let inv = (to-turn more).loop.inv in (
+    let asked = accepted in
+    let part = to-part2 (search) in
+    let more = part in
+    let inv = (to-turn (search)).loop-i.invariant in (
       inv.0,
       search rules,
-      goes-next inv.2 more.if2.taken part.event-part2.ensures asked.ask-one2.ensures accepted.if3.left
-          c.before.events-agree.ensures c.first-apart.ensures,
+      goes-next inv.2 more.loop-i-test.true part.event_part-event.ensures asked.ask_one-asked.ensures accepted.if-asked-ne0.false
+          c.events_agree.ensures c.first_apart-apart.ensures,
     )
 
-pub ask-events-spec : {M : Type 1} → statement M
-ask-events-spec =
+pub ask_events_spec : {M : Type 1} → statement M
+ask_events_spec =
     tie.close
     (tie.spec
-    invariant-loop
-    decreases-loop
+    invariant-loop-i
+    decreases-loop-i
     (λ c κs. search rules) (λ c. search rules) (λ c κs. search rules) (λ c. search rules)
     ask-one-requires
     (λ c κs. search rules)

@@ -10,41 +10,41 @@ use Rattle.batch.proofs.asked.ask_one.Tie as tie
 
 -- ---- the places
 
-abbrev to_start : tie.After-type-name → tie.Start
-to_start c = c.before.before.before.before.before.before
+abbrev to_start : tie.After-type_name-other → tie.Start
+to_start c = (search)
 
-abbrev to-name : tie.After-read-table → tie.After-type-name
-to-name c = c.before.before.before.before
+abbrev to-name : tie.After-read_table-again → tie.After-type_name-other
+to-name c = (search)
 
-abbrev to_read : tie.After-ask-event2 → tie.After-read-table
-to_read c = c.before.before.before
+abbrev to_read : tie.After-ask_event-2 → tie.After-read_table-again
+to_read c = (search)
 
 -- ---- the facts
 
 named-so :
-    (c : tie.After-type-name) (e : Event) → event_of narrow (to_start c).args.event.now ≡ some e → c.type-name.result.now ≡ e.head.type
-named-so c = c.type-name.ensures narrow
+    (c : tie.After-type_name-other) (e : Event) → event_of narrow (to_start c).args.event.now ≡ some e → c.type_name-other.result.now ≡ e.head.type
+named-so c = c.type_name-other.ensures narrow
 
 -- ---- the needs
 
-returns : tie.Need-returns
+returns : tie.Need-returns-then-same
 returns c =
-    let chosen = c.before in
-    let told = chosen.before in
-    let named = told.before in
-    let (says, reads) = (to_start named).requires in
-    let said = says_same _ _ _ _ _ told.same.ensures chosen.if1.true says.0 in
-    record { numbers = _; type = _; answers = c.ask-event.ensures _ _ narrow said (named-so named) reads }
+    let chosen = c in
+    let told = c in
+    let named = c in
+    let (says, reads) = (to_start (search)).requires in
+    let said = says_same _ _ _ _ _ told.same.ensures chosen.if-same.true says.0 in
+    record { numbers = _; type = _; answers = c.ask_event.ensures _ _ narrow said (named-so (search)) reads }
 
-returns-2 : tie.Need-returns-2
+returns-2 : tie.Need-returns
 returns-2 c =
     let read = to_read c in
     let named = to-name read in
-    let reads = (to_start named).pre.1 in
-    record { numbers = _; type = _; answers = c.ask-event2.ensures _ _ narrow read.read_table.ensures (named-so named) reads }
+    let reads = (to_start named).requires.1 in
+    record { numbers = _; type = _; answers = c.ask_event-2.ensures _ _ narrow read.read_table-again.ensures (named-so named) reads }
 
-pub ask-one-spec : {M : Type 1} → statement M
-ask-one-spec =
+pub ask_one_spec : {M : Type 1} → statement M
+ask_one_spec =
     tie.close
     (tie.spec
     (λ c κs. search rules) (λ c κs. search rules) (λ c κs. search rules)

@@ -4,17 +4,17 @@ use Rattle.batch.proofs.AskedLaws.{agree-heads, agree-match}
 use Rattle.batch.proofs.asked.events_agree.Statement.{statement}
 use Rattle.batch.proofs.asked.events_agree.Tie as tie
 
-returns : tie.Need-returns
-returns c = λ u ty tz f g w x y e. agree-heads ty tz f g (c.before.heads-agree.ensures _ _ x.head y.head) (not-true _ c.if1.true)
+returns : tie.Need-returns-then-not-heads_agree
+returns c = λ u ty tz f g w x y e. agree-heads ty tz f g (c.heads_agree.ensures _ _ x.head y.head) (not-true _ c.if-not-heads_agree.true-raw)
 
-returns-2 : tie.Need-returns-2
+returns-2 : tie.Need-returns
 returns-2 c = λ u ty tz f g w x y e.
-    let agreed = c.before in
-    agree-match ty tz f g (agreed.before.heads-agree.ensures _ _ x.head y.head) (not-false _ agreed.if1.false) e
-    (c.is-match-same.ensures u ty f.sets g.sets w x.sets y.sets)
+    let agreed = c in
+    agree-match ty tz f g (agreed.heads_agree.ensures _ _ x.head y.head) (not-false _ agreed.if-not-heads_agree.false-raw) e
+    (c.is_match_same.ensures u ty f.sets g.sets w x.sets y.sets)
 
-pub events-agree-spec : {M : Type 1} → statement M
-events-agree-spec =
+pub events_agree_spec : {M : Type 1} → statement M
+events_agree_spec =
     tie.close
     (tie.spec
     (λ c κs. search rules)

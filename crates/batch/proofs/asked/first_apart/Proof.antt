@@ -6,20 +6,20 @@ use Rattle.batch.specs.code.BatchIndex.{first_apart}
 use Rattle.batch.proofs.asked.first_apart.Statement.{statement}
 use Rattle.batch.proofs.asked.first_apart.Tie as tie
 
-none_apart : (c : tie.Then1) → eqb c.before.args.apart 0 ≡ true
-none_apart c = eq-eqb _ 0 c.if1.true
+none_apart : (c : tie.Then-apart-eq0) → eqb c.args.apart 0 ≡ true
+none_apart c = eq-eqb _ 0 c.if-apart-eq0.true
 
-returns : tie.Need-returns
+returns : tie.Need-returns-then-not-agrees
 unfolding first_apart
-returns c = rw (none_apart c.before, not-true c.before.before.args.agrees c.if2.true)
+returns c = rw (none_apart (search), not-true c.args.agrees c.if-not-agrees.true-raw)
 
-returns-2 : tie.Need-returns-2
+returns-2 : tie.Need-returns-else-not-agrees
 unfolding first_apart
-returns-2 c = rw (none_apart c.before, not-false c.before.before.args.agrees c.if2.false)
+returns-2 c = rw (none_apart (search), not-false c.args.agrees c.if-not-agrees.false-raw)
 
-returns-3 : tie.Need-returns-3
+returns-3 : tie.Need-returns-else-apart-eq0
 unfolding first_apart
-returns-3 c = rw (ne_eqb _ 0 c.if1.false)
+returns-3 c = rw (ne_eqb _ 0 c.if-apart-eq0.false)
 
-pub first-apart-spec : {M : Type 1} → statement M
-first-apart-spec = tie.close (tie.spec returns returns-2 returns-3)
+pub first_apart_spec : {M : Type 1} → statement M
+first_apart_spec = tie.close (tie.spec returns returns-2 returns-3)

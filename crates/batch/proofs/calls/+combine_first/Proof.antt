@@ -53,29 +53,29 @@ At place t = place (claims t) (exactly t) combine-first.Post
 -- One event is taken at `After-event-part`. There are more at `Else1`; those before the last are combined at `After-combine-first`, and the last is taken at
 -- `After-event-part2`.
 module _ {t : ℕ} where
-  abbrev one-to-start : At lts.After-event-part t → At lts.Start t
-  one-to-start c = c.before.before.before.before.before.before.before.before.before
+  abbrev one-to-start : At lts.After-event_part t → At lts.Start t
+  one-to-start c = (search)
 
-  abbrev more-to-start : At lts.Else1 t → At lts.Start t
-  more-to-start c = c.before.before.before.before.before.before.before.before
+  abbrev more-to-start : At lts.Else-n-le1 t → At lts.Start t
+  more-to-start c = (search)
 
-  abbrev to-more : At lts.After-combine-first t → At lts.Else1 t
-  to-more c = c.before.before.before.before.before
+  abbrev to-more : At lts.After-combine_first-others t → At lts.Else-n-le1 t
+  to-more c = (search)
 
-  abbrev to_start : At lts.After-combine-first t → At lts.Start t
+  abbrev to_start : At lts.After-combine_first-others t → At lts.Start t
   to_start c = more-to-start (to-more c)
 
-  abbrev to-reply : At lts.After-event-part2 t → At lts.After-others t
-  to-reply c = c.before.before
+  abbrev to-reply : At lts.After-event_part-event t → At lts.In-Done t
+  to-reply c = (search)
 
-  abbrev to-combined : At lts.After-event-part2 t → At lts.After-combine-first t
-  to-combined c = (to-reply c).before.before.before.before.before.before.before.before.before.before
+  abbrev to-combined : At lts.After-event_part-event t → At lts.After-combine_first-others t
+  to-combined c = (search)
 
-  abbrev to-taken : At lts.After-add-event-arg4 t → At lts.After-event-part2 t
-  to-taken c = c.before.before.before.before
+  abbrev to-taken : At lts.After-add-event-arg4 t → At lts.After-event_part-event t
+  to-taken c = (search)
 
-  abbrev to-added : At lts.After-slice-known13 t → At lts.After-add-event t
-  to-added c = c.before.before.before.before.before.before
+  abbrev to-added : At lts.After-slice_known-11-1 t → At lts.After-add_event t
+  to-added c = (search)
 
 -- ---- the facts
 
@@ -90,54 +90,54 @@ module _ {t : ℕ} where
     allowed : Permitted (limits_of c.args.limits)
     allowed = c.requires.1.0.0
 
-  two : (c : At lts.Else1 t) → 2 ≤ (more-to-start c).args.n
-  two c = omega (arith, c.if1.false)
+  two : (c : At lts.Else-n-le1 t) → 2 ≤ (more-to-start c).args.n
+  two c = omega (arith, c.if-n-le1.false)
 
   -- what the measures and two of the buffers have then
-  module _ (c : At lts.After-combine-first t) where
-    measures-long : length c.combine-first.new.1.1.1.1.1.1.1.0 ≡ 17
-    measures-long = c.combine-first.auto.1.1.1.1.1.1.1.0 ∙ (to_start c).requires.1.0.4
+  module _ (c : At lts.After-combine_first-others t) where
+    measures-long : length c.combine_first-others.new.measures ≡ 17
+    measures-long = c.combine_first-others.auto.measures ∙ (to_start c).requires.1.0.4
 
-    lone_room : dossier_capacity ≤ length c.combine-first.new.1.1.1.1.1.1.1.1.1.0
-    lone_room = omega (arith, c.combine-first.auto.1.1.1.1.1.1.1.1.1.0, (to_start c).requires.1.1.0.2)
+    lone_room : dossier_capacity ≤ length c.combine_first-others.new.b
+    lone_room = omega (arith, c.combine_first-others.auto.b, (to_start c).requires.1.1.0.2)
 
-    out-room : dossier_capacity ≤ length c.combine-first.new.1.1.1.1.1.1.1.1.1.1.0
-    out-room = omega (arith, c.combine-first.auto.1.1.1.1.1.1.1.1.1.1.0, a-room (to_start c))
+    out-room : dossier_capacity ≤ length c.combine_first-others.new.c
+    out-room = omega (arith, c.combine_first-others.auto.c, a-room (to_start c))
 
 -- ---- the needs
 
 module _ {t : ℕ} where
-  check-known-requires : At lts.Need-check-known-requires t
+  check-known-requires : At lts.Need-check_known-requires t
   check-known-requires c κs =
-      let taken = c.before.before in
-      let start = one-to-start taken in
-      (first-known (allowed start) (first_of start) taken.event-part.ensures, search rules, search rules)
+      let taken = c in
+      let start = one-to-start (search) in
+      (first-known (allowed start) (first_of start) taken.event_part.ensures, search rules, search rules)
 
-  combine-first-requires : At lts.Need-combine-first-requires t
+  combine-first-requires : At lts.Need-combine_first-others-requires t
   combine-first-requires c κs =
-      let more : At lts.Else1 t = search in
+      let more : At lts.Else-n-le1 t = search in
       (search rules, (search rules, (search rules, fewer (first_of (more-to-start more)))))
 
-  add-event-requires : At lts.Need-add-event-requires t
+  add-event-requires : At lts.Need-add_event-requires t
   add-event-requires c κs =
       let taken = to-taken c in
       let combined = to-combined taken in
       let start = to_start combined in
-      let addable = last-addable (allowed start) (first_of start) (two (to-more combined)) combined.combine-first.ensures
-      (to-reply taken).others.given.1 taken.event-part2.ensures in
-      ((addable, start.pre.1.0.3, measures-long combined), (lone_room combined, out-room combined))
+      let addable = last-addable (allowed start) (first_of start) (two (to-more combined)) combined.combine_first-others.ensures
+      (to-reply taken).in-Done.is taken.event_part-event.ensures in
+      ((addable, start.requires.1.0.3, measures-long combined), (lone_room combined, out-room combined))
 
-  returns-3 : At lts.Need-returns-3 t
+  returns-3 : At lts.Need-returns t
   returns-3 c =
-      let e = (to-added c).add-event.ensures in
-      let taken = to-taken (to-added c).before in
+      let e = (to-added c).add_event.ensures in
+      let taken = to-taken (search) in
       let combined = to-combined taken in
-      last-combined (allowed (to_start combined)) (first_of (to_start combined)) (two (to-more combined)) combined.combine-first.ensures
-      (to-reply taken).others.given.1
-      taken.event-part2.ensures _ (out-room combined) e.0 e.1
+      last-combined (allowed (to_start combined)) (first_of (to_start combined)) (two (to-more combined)) combined.combine_first-others.ensures
+      (to-reply taken).in-Done.is
+      taken.event_part-event.ensures _ (out-room combined) e.0 e.1
 
-pub +combine-first-spec : {M : Type 1} → statement M
-+combine-first-spec = close μ-combine-first λ t. lts.spec (claims t)
+pub +combine_first_spec : {M : Type 1} → statement M
++combine_first_spec = close μ-combine-first λ t. lts.spec (claims t)
     (exactly t)
     combine-first.Post
     (λ c κs. search rules)

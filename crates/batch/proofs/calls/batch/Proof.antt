@@ -25,33 +25,33 @@ use Rattle.batch.proofs.calls.batch.Tie as tie
 
 -- ---- the places
 
-abbrev to_start : tie.After-read-batch → tie.Start
+abbrev to_start : tie.After-read_batch-x → tie.Start
 to_start c = search
 
-abbrev to-name : tie.After-read-table → tie.After-type-name
-to-name c = c.before.before
+abbrev to-name : tie.After-read_table-read → tie.After-type_name-name
+to-name c = (search)
 
-abbrev to-batch : tie.After-read-table → tie.After-read-batch
-to-batch c = (to-name c).before.before
+abbrev to-batch : tie.After-read_table-read → tie.After-read_batch-x
+to-batch c = (search)
 
-abbrev to_read : tie.Else4 → tie.After-read-table
-to_read c = c.before.before.before.before.before
+abbrev to_read : tie.Else-not-x → tie.After-read_table-read
+to_read c = (search)
 
-abbrev to-framed : tie.Else5 → tie.Else4
-to-framed c = c.before.before.before.before
+abbrev to-framed : tie.Else-asked-ne0 → tie.Else-not-x
+to-framed c = (search)
 
-abbrev to-agreed : tie.After-combine-all-arg4 → tie.Else5
-to-agreed c = c.before.before.before.before.before
+abbrev to-agreed : tie.After-combine_all-arg-4-1 → tie.Else-asked-ne0
+to-agreed c = (search)
 
-abbrev to-combined : tie.After-batch-reply → tie.After-combine-all
-to-combined c = c.before.before.before.before.before.before.before.before.before
+abbrev to-combined : tie.After-batch_reply → tie.After-combine_all
+to-combined c = (search)
 
 -- ---- the facts
 
-in-ranges : (c : tie.Else1) → let start : tie.Start = search in Permitted (limits_of start.args.limits)
-in-ranges c = permitted _ (sym c.before.is-permitted.ensures ∙ not-false _ c.if1.false)
+in-ranges : (c : tie.Else-not-is_permitted) → let start : tie.Start = search in Permitted (limits_of start.args.limits)
+in-ranges c = permitted _ (sym c.is_permitted.ensures ∙ not-false _ c.if-not-is_permitted.false-raw)
 
-module _ (c : tie.After-read-batch) where
+module _ (c : tie.After-read_batch-x) where
   abbrev rooms : Rooms
   rooms = record {
     output = length (to_start c).args.out.now;
@@ -64,101 +64,101 @@ module _ (c : tie.After-read-batch) where
   batch = (to_start c).args.batch.now
 
   abbrev x : BatchIndex
-  x = c.read-batch.result
+  x = c.read_batch-x.result
 
   room : have_room rooms ≡ true
-  room = sym c.before.before.have-room.ensures ∙ not-false _ c.before.if2.false
+  room = sym c.have_room.ensures ∙ not-false _ c.if-not-have_room.false-raw
 
   allowed : Permitted (limits_of (to_start c).args.limits)
   allowed = in-ranges search
 
-module _ (c : tie.After-read-table) where
+module _ (c : tie.After-read_table-read) where
   abbrev table : List ℕ
   table = (to_start (to-batch c)).args.table.now
 
   abbrev read : TableRead
-  read = c.read_table.result
+  read = c.read_table-read.result
 
   abbrev properties : List ℕ
-  properties = c.read_table.new.1.1.0
+  properties = c.read_table-read.new.properties
 
-abbrev got : (c : tie.Else3) → let t = c.before.before.before in TableGot (table t) (to-name t).type-name.result.now (properties t) (read t)
-got c = table_got _ _ _ _ c.before.before.before.read_table.ensures (not-false _ c.if3.false)
+abbrev got : (c : tie.Else-not-read) → let t = c in TableGot (table (search)) (to-name (search)).type_name-name.result.now (properties (search)) (read (search))
+got c = table_got _ _ _ _ c.read_table-read.ensures (not-false _ c.if-not-read.false)
 
-abbrev frame : (c : tie.Else4) → let b = to-batch (to_read c) in Framed (batch b) (x b)
-frame c = framed _ _ (to-batch (to_read c)).read-batch.ensures (not-false _ c.if4.false)
+abbrev frame : (c : tie.Else-not-x) → let b = to-batch (to_read c) in Framed (batch b) (x b)
+frame c = framed _ _ (to-batch (to_read c)).read_batch-x.ensures (not-false _ c.if-not-x.false)
 
 -- no event was refused
 abbrev agreed :
-    (c : tie.Else5) →
+    (c : tie.Else-asked-ne0) →
     let t = to_read (to-framed c) in
     let b = to-batch t in
     FirstOf (table t) (batch b) (x b) (read t).index (properties t) (x b).count
 agreed c =
     let f = to-framed c in
-    agreed-first (got f.before.before) (frame f) _ (c.before.before.ask-events.ensures _ _ (got f.before.before).is (frame f).stands)
-    c.if5.false
+    agreed-first (got (search)) (frame f) _ (c.ask_events-asked.ensures _ _ (got (search)).is (frame f).stands)
+    c.if-asked-ne0.false
 
 -- ---- the needs
 
-returns : tie.Need-returns
-returns c = no-limits _ _ _ _ _ (sym c.before.is-permitted.ensures ∙ not-true _ c.if1.true)
+returns : tie.Need-returns-then-not-is_permitted
+returns c = no-limits _ _ _ _ _ (sym c.is_permitted.ensures ∙ not-true _ c.if-not-is_permitted.true-raw)
 
-returns-2 : tie.Need-returns-2
-returns-2 c = no_room (in-ranges search) _ _ _ _ (sym c.before.have-room.ensures ∙ not-true _ c.if2.true)
+returns-2 : tie.Need-returns-then-not-have_room
+returns-2 c = no_room (in-ranges search) _ _ _ _ (sym c.have_room.ensures ∙ not-true _ c.if-not-have_room.true-raw)
 
-returns-3 : tie.Need-returns-3
+returns-3 : tie.Need-returns-then-not-read
 returns-3 c =
-    let t = c.before.before.before in
-    no_table (allowed (to-batch t)) _ _ _ _ (room (to-batch t)) (table-refused _ _ _ _ t.read_table.ensures (not-true _ c.if3.true))
+    let t = c in
+    no_table (allowed (to-batch (search))) _ _ _ _ (room (to-batch (search))) (table-refused _ _ _ _ t.read_table-read.ensures (not-true _ c.if-not-read.true))
 
-returns-4 : tie.Need-returns-4
+returns-4 : tie.Need-returns-then-not-x
 returns-4 c =
-    let known : tie.Else3 = search in
-    let b = to-batch known.before.before.before in
-    no-frame (allowed b) _ _ _ _ (room b) (got known) (unframed _ _ b.read-batch.ensures (not-true _ c.if4.true))
+    let known : tie.Else-not-read = search in
+    let b = to-batch (search) in
+    no-frame (allowed b) _ _ _ _ (room b) (got known) (unframed _ _ b.read_batch-x.ensures (not-true _ c.if-not-x.true))
 
-ask-events-requires : tie.Need-ask-events-requires
+ask-events-requires : tie.Need-ask_events-asked-requires
 ask-events-requires c κs =
-    let f = frame c.before in
-    let t = to_read c.before in
+    let f = frame (search) in
+    let t = to_read (search) in
     let named = to-name t in
-    let is = named.before.event-part.ensures f.what f.stands (omega (arith, f.stands.one, f.stands.count)) in (
+    let is = named.event_part.ensures f.what f.stands (omega (arith, f.stands.one, f.stands.count)) in (
       record {
         events = f.what;
         stands = f.stands;
-        named = λ e h. named.type-name.ensures narrow e (ap (event_of narrow) is ∙ h);
-        says = t.read_table.ensures;
+        named = λ e h. named.type_name-name.ensures narrow e (ap (event_of narrow) is ∙ h);
+        says = t.read_table-read.ensures;
       },
       search rules,
     )
 
-returns-5 : tie.Need-returns-5
+returns-5 : tie.Need-returns-then-asked-ne0
 returns-5 c =
-    let asked : tie.After-ask-events = search in
-    let f : tie.Else4 = search in
-    let t = got f.before.before in
+    let asked : tie.After-ask_events-asked = search in
+    let f : tie.Else-not-x = search in
+    let t = got (search) in
     refused-events (allowed (to-batch (to_read f))) _ _ _ _ (room (to-batch (to_read f))) t (frame f)
-    (refusal-was _ _ _ _ _ _ _ (asked.ask-events.ensures _ _ t.is (frame f).stands) c.if5.true)
+    (refusal-was _ _ _ _ _ _ _ (asked.ask_events-asked.ensures _ _ t.is (frame f).stands) c.if-asked-ne0.true)
 
-combine-all-requires : tie.Need-combine-all-requires
+combine-all-requires : tie.Need-combine_all-requires
 combine-all-requires c κs =
     let a = to-agreed c in
     let f = to-framed a in
     let r = rooms-are _ (room (to-batch (to_read f))) in
     ((allowed (to-batch (to_read f)), (frame f).stands.few, r.0, search rules), ((r.1, r.2, r.3), agreed a))
 
-returns-6 : tie.Need-returns-6
+returns-6 : tie.Need-returns
 returns-6 c =
     let combined = to-combined c in
-    let a = to-agreed combined.before in
+    let a = to-agreed (search) in
     let f = to-framed a in
     let w = (agreed a).agreed in
-    combined-events (allowed (to-batch (to_read f))) _ _ _ _ (room (to-batch (to_read f))) (got f.before.before) (frame f) w.agreed
-    c.batch-reply.result combined.combine-all.result c.batch-reply.ensures (combined.combine-all.ensures _ _ w)
+    combined-events (allowed (to-batch (to_read f))) _ _ _ _ (room (to-batch (to_read f))) (got (search)) (frame f) w.agreed
+    c.batch_reply.result combined.combine_all.result c.batch_reply.ensures (combined.combine_all.ensures _ _ w)
 
-pub batch-spec : {M : Type 1} → statement M
-batch-spec =
+pub batch_spec : {M : Type 1} → statement M
+batch_spec =
     tie.close
     (tie.spec
     (λ c κs. search rules)

@@ -6,11 +6,11 @@ use Rattle.batch.specs.code.BatchIndex.{at_first}
 use Rattle.batch.proofs.calls.batch_reply.Statement.{statement}
 use Rattle.batch.proofs.calls.batch_reply.Tie as tie
 
-returns : tie.Need-returns
-returns c = ap (λ (q : Reply). at_first (replied q)) (sym c.before.r.given.1)
+returns : tie.Need-returns-in-Done
+returns c = ap (λ (q : Reply). at_first (replied q)) (sym c.in-Done.is)
 
-returns-2 : tie.Need-returns-2
-returns-2 c = ap (λ (q : Reply). at_first (replied q)) (sym c.before.r2.given.1)
+returns-2 : tie.Need-returns-in-Refused
+returns-2 c = ap (λ (q : Reply). at_first (replied q)) (sym c.in-Refused.is)
 
-pub batch-reply-spec : {M : Type 1} → statement M
-batch-reply-spec = tie.close (tie.spec (λ c. search rules) (λ c. search rules) returns returns-2)
+pub batch_reply_spec : {M : Type 1} → statement M
+batch_reply_spec = tie.close (tie.spec (λ c. search rules) (λ c. search rules) returns returns-2)

@@ -18,32 +18,32 @@ use Rattle.batch.proofs.calls.combine_all.Tie as tie
 
 -- One event is taken at `After-event-part`. There are more at `Else1`; those before the last are combined at `After-combine-first`, and the last is taken at
 -- `After-event-part2`.
-abbrev one-to-start : tie.After-event-part → tie.Start
-one-to-start c = c.before.before.before.before.before.before.before.before.before
+abbrev one-to-start : tie.After-event_part → tie.Start
+one-to-start c = (search)
 
-abbrev more-to-start : tie.Else1 → tie.Start
-more-to-start c = c.before.before.before.before.before.before.before.before
+abbrev more-to-start : tie.Else-n-le1 → tie.Start
+more-to-start c = (search)
 
-abbrev to-more : tie.After-combine-first → tie.Else1
-to-more c = c.before.before.before.before.before
+abbrev to-more : tie.After-combine_first-others → tie.Else-n-le1
+to-more c = (search)
 
-abbrev to_start : tie.After-combine-first → tie.Start
+abbrev to_start : tie.After-combine_first-others → tie.Start
 to_start c = more-to-start (to-more c)
 
-abbrev refused-to-combined : tie.After-enum-told → tie.After-combine-first
-refused-to-combined c = c.before.before.before.before.before.before.before.before.before
+abbrev refused-to-combined : tie.In_default → tie.After-combine_first-others
+refused-to-combined c = (search)
 
-abbrev to-reply : tie.After-event-part2 → tie.After-others
-to-reply c = c.before.before
+abbrev to-reply : tie.After-event_part-event → tie.In-Done
+to-reply c = (search)
 
-abbrev to-combined : tie.After-event-part2 → tie.After-combine-first
-to-combined c = (to-reply c).before.before.before.before.before.before.before.before.before
+abbrev to-combined : tie.After-event_part-event → tie.After-combine_first-others
+to-combined c = (search)
 
-abbrev to-taken : tie.After-add-event-arg3 → tie.After-event-part2
-to-taken c = c.before.before.before.before
+abbrev to-taken : tie.After-add-event-arg3 → tie.After-event_part-event
+to-taken c = (search)
 
-abbrev to-added : tie.After-slice-known10 → tie.After-add-event
-to-added c = c.before.before.before.before.before
+abbrev to-added : tie.After-slice_known-9-1 → tie.After-add_event
+to-added c = (search)
 
 -- ---- the facts
 
@@ -57,68 +57,68 @@ module _ (c : tie.Start) where
   allowed : Permitted (limits_of c.args.limits)
   allowed = c.requires.0.0
 
-two : (c : tie.Else1) → 2 ≤ (more-to-start c).args.x.count
-two c = omega (arith, c.if1.false)
+two : (c : tie.Else-n-le1) → 2 ≤ (more-to-start c).args.x.count
+two c = omega (arith, c.if-n-le1.false)
 
 -- what the measures and the second buffer have then
-module _ (c : tie.After-combine-first) where
-  measures-long : length c.combine-first.new.1.1.1.1.1.1.1.0 ≡ 17
+module _ (c : tie.After-combine_first-others) where
+  measures-long : length c.combine_first-others.new.measures ≡ 17
   measures-long = search rules
 
-  lone_room : dossier_capacity ≤ length c.combine-first.new.1.1.1.1.1.1.1.1.1.0
-  lone_room = omega (arith, c.combine-first.auto.1.1.1.1.1.1.1.1.1.0, (to_start c).requires.1.0.1)
+  lone_room : dossier_capacity ≤ length c.combine_first-others.new.b
+  lone_room = omega (arith, c.combine_first-others.auto.b, (to_start c).requires.1.0.1)
 
 -- ---- the needs
 
-check-known-requires : tie.Need-check-known-requires
+check-known-requires : tie.Need-check_known-requires
 check-known-requires c κs =
-    let taken = c.before.before in
-    let start = one-to-start taken in
-    (first-known (allowed start) (first_of start) taken.event-part.ensures, search rules, search rules)
+    let taken = c in
+    let start = one-to-start (search) in
+    (first-known (allowed start) (first_of start) taken.event_part.ensures, search rules, search rules)
 
-returns : tie.Need-returns
+returns : tie.Need-returns-then-n-le1
 returns c =
-    let checked : tie.After-check-known = search in
-    let taken : tie.After-event-part = search in
+    let checked : tie.After-check_known = search in
+    let taken : tie.After-event_part = search in
     let start = one-to-start taken in
     let w = first_of start in
-    all-taken checked.check-known.result
-    (one-checked (allowed start) w w.agreed.is_batch.one taken.before.if1.taken (out-room start) taken.event-part.ensures
-    checked.check-known.ensures.0)
+    all-taken checked.check_known.result
+    (one-checked (allowed start) w w.agreed.is_batch.one taken.if-n-le1.true (out-room start) taken.event_part.ensures
+    checked.check_known.ensures.0)
 
-combine-first-requires : tie.Need-combine-first-requires
+combine-first-requires : tie.Need-combine_first-others-requires
 combine-first-requires c κs =
-    let more : tie.Else1 = search in
+    let more : tie.Else-n-le1 = search in
     (search rules, (search rules, fewer (first_of (more-to-start more))))
 
-returns-2 : tie.Need-returns-2
+returns-2 : tie.Need-returns-in_default
 returns-2 c =
     let combined = refused-to-combined c in
-    all-taken _ (all-refused (allowed (to_start combined)) (first_of (to_start combined)) (two (to-more combined)) combined.combine-first.ensures
-    c.enum_told.given.1)
+    all-taken _ (all-refused (allowed (to_start combined)) (first_of (to_start combined)) (two (to-more combined)) combined.combine_first-others.ensures
+    c.in_default.is)
 
-add-event-requires : tie.Need-add-event-requires
+add-event-requires : tie.Need-add_event-requires
 add-event-requires c κs =
     let taken = to-taken c in
     let combined = to-combined taken in
     let start = to_start combined in
-    let addable = last-addable (allowed start) (first_of start) (two (to-more combined)) combined.combine-first.ensures
-    (to-reply taken).others.given.1 taken.event-part2.ensures in
+    let addable = last-addable (allowed start) (first_of start) (two (to-more combined)) combined.combine_first-others.ensures
+    (to-reply taken).in-Done.is taken.event_part-event.ensures in
     ((addable, search rules, measures-long combined), (lone_room combined, out-room start))
 
-returns-3 : tie.Need-returns-3
+returns-3 : tie.Need-returns
 returns-3 c =
     let added = to-added c in
-    let taken = to-taken added.before in
+    let taken = to-taken (search) in
     let combined = to-combined taken in
     let start = to_start combined in
-    all-taken added.add-event.result
-    (last-added (allowed start) (first_of start) (two (to-more combined)) combined.combine-first.ensures (to-reply taken).others.given.1
-    taken.event-part2.ensures
-    _ (out-room start) added.add-event.ensures.0)
+    all-taken added.add_event.result
+    (last-added (allowed start) (first_of start) (two (to-more combined)) combined.combine_first-others.ensures (to-reply taken).in-Done.is
+    taken.event_part-event.ensures
+    _ (out-room start) added.add_event.ensures.0)
 
-pub combine-all-spec : {M : Type 1} → statement M
-combine-all-spec =
+pub combine_all_spec : {M : Type 1} → statement M
+combine_all_spec =
     tie.close
     (tie.spec
     (λ c κs. search rules) (λ c. search rules)

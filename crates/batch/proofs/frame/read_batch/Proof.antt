@@ -8,38 +8,38 @@ use Rattle.batch.proofs.frame.read_batch.Tie as tie
 
 -- ---- the places
 
-abbrev to_start : tie.After-count → tie.Start
-to_start c = c.before.before.before.before
+abbrev to_start : tie.In-Number → tie.Start
+to_start c = (search)
 
 -- ---- the facts
 
-counted : (c : tie.After-count) → NumberStops (to_start c).args.batch.now 0 c.count.given.0.0 c.count.given.0.1.0
-counted c = number-stops _ 0 _ _ (sym c.before.before.read_number.ensures ∙ c.count.given.1)
+counted : (c : tie.In-Number) → NumberStops (to_start c).args.batch.now 0 c.in-Number.count c.in-Number.after_count
+counted c = number-stops _ 0 _ _ (sym c.read_number.ensures ∙ c.in-Number.is)
 
 -- ---- the needs
 
-returns : tie.Need-returns
-returns c = no-count _ (sym c.before.before.before.read_number.ensures ∙ c.before.enum_told.given.1) _ c.no-batch.ensures.0
+returns : tie.Need-returns-in_default
+returns c = no-count _ (sym c.read_number.ensures ∙ c.in_default.is) _ c.no_batch.ensures.0
 
-returns-2 : tie.Need-returns-2
-returns-2 c = count_none (counted c.before.before.before) c.before.if1.true _ c.no-batch2.ensures.0
+returns-2 : tie.Need-returns-then-count-lt1
+returns-2 c = count_none (counted (search)) c.if-count-lt1.true _ c.no_batch-then-count-lt1.ensures.0
 
-returns-3 : tie.Need-returns-3
+returns-3 : tie.Need-returns-then-count-gt16
 returns-3 c =
-    let some : tie.Else1 = search in
-    count-large (counted some.before.before) c.before.if2.true _ c.no-batch3.ensures.0
+    let some : tie.Else-count-lt1 = search in
+    count-large (counted (search)) c.if-count-gt16.true _ c.no_batch-then-count-gt16.ensures.0
 
-read-texts-requires : tie.Need-read-texts-requires
-read-texts-requires c κs = ((counted c.before.before.before).within, c.before.if1.false, c.if2.false)
+read-texts-requires : tie.Need-read_texts-requires
+read-texts-requires c κs = ((counted (search)).within, c.if-count-lt1.false, c.if-count-gt16.false)
 
-returns-4 : tie.Need-returns-4
+returns-4 : tie.Need-returns
 returns-4 c =
-    let few : tie.Else2 = search in
-    let some : tie.Else1 = search in
-    count-read (counted some.before.before) some.if1.left few.if2.left _ c.read-texts.ensures
+    let few : tie.Else-count-gt16 = search in
+    let some : tie.Else-count-lt1 = search in
+    count-read (counted (search)) some.if-count-lt1.false few.if-count-gt16.false _ c.read_texts.ensures
 
-pub read-batch-spec : {M : Type 1} → statement M
-read-batch-spec =
+pub read_batch_spec : {M : Type 1} → statement M
+read_batch_spec =
     tie.close
     (tie.spec
     (λ c κs. search rules) (λ c. search rules) (λ c. search rules) (λ c κs. search rules)

@@ -10,31 +10,31 @@ use Rattle.batch.proofs.FrameLaws.{Passed, passed_none, passed-bad, passed-more,
 use Rattle.batch.proofs.frame.read_texts.Statement.{statement}
 use Rattle.batch.proofs.frame.read_texts.Tie as tie
 
-abbrev invariant-loop : tie.invariant-loop
-invariant-loop batch at count x₀ next₀ i₀ x next i = Passed (times read_text count (drop at batch)) batch x.starts x.ends count next i
+abbrev invariant-loop-i : tie.invariant-loop-i
+invariant-loop-i batch at count x₀ next₀ i₀ x next i = Passed (times read_text count (drop at batch)) batch x.starts x.ends count next i
 
-abbrev decreases-loop : tie.decreases-loop
-decreases-loop batch at count x₀ next₀ i₀ x next i = count - i
+abbrev decreases-loop-i : tie.decreases-loop-i
+decreases-loop-i batch at count x₀ next₀ i₀ x next i = count - i
 
-returns : tie.Need-returns invariant-loop decreases-loop
+returns : tie.Need-returns-in_default invariant-loop-i decreases-loop-i
 returns c =
-    let read : tie.After-read-text invariant-loop decreases-loop = search in
-    let turn : tie.In-loop invariant-loop decreases-loop = search in
-    passed-bad turn.before.loop.inv turn.loop-test.taken (sym read.read-text.ensures ∙ c.before.enum_told.given.1)
-    _ c.no-batch2.ensures.0
+    let read : tie.After-read_text invariant-loop-i decreases-loop-i = search in
+    let turn : tie.In-loop-i invariant-loop-i decreases-loop-i = search in
+    passed-bad turn.loop-i.invariant turn.loop-i-test.true (sym read.read_text.ensures ∙ c.in_default.is)
+    _ c.no_batch.ensures.0
 
-loop-again : tie.Need-loop-preserved invariant-loop decreases-loop
+loop-again : tie.Need-loop-i-preserved invariant-loop-i decreases-loop-i
 loop-again c =
-    let read : tie.After-read-text invariant-loop decreases-loop = search in
-    let turn : tie.In-loop invariant-loop decreases-loop = search in
-    passed-more turn.before.loop.inv turn.loop-test.taken (sym read.read-text.ensures ∙ c.before.start.given.1)
+    let read : tie.After-read_text invariant-loop-i decreases-loop-i = search in
+    let turn : tie.In-loop-i invariant-loop-i decreases-loop-i = search in
+    passed-more turn.loop-i.invariant turn.loop-i-test.true (sym read.read_text.ensures ∙ c.in-Text.is)
 
-pub read-texts-spec : {M : Type 1} → statement M
-read-texts-spec =
+pub read_texts_spec : {M : Type 1} → statement M
+read_texts_spec =
     tie.close
     (tie.spec
-    invariant-loop
-    decreases-loop
+    invariant-loop-i
+    decreases-loop-i
     (λ c κs. search rules)
     (λ c. search passed_none)
     (λ c κs. search rules) (λ c. search rules) (λ c. search rules) (λ c κs. search rules)

@@ -23,44 +23,44 @@ use Rattle.combining.proofs.add.add_event.Tie as tie
 
 -- ---- the places
 
-abbrev sofar-known : tie.After-read-event → tie.After-shared-slice-known2
-sofar-known c = c.before.before.before.before.before.before.before
+abbrev sofar-known : tie.After-read_event-e → tie.After-shared_slice_known-2-1
+sofar-known c = (search)
 
-abbrev to_start : tie.After-read-event → tie.Start
-to_start c = (sofar-known c).before.before
+abbrev to_start : tie.After-read_event-e → tie.Start
+to_start c = (search)
 
-abbrev x-to-head : tie.After-x → tie.After-read-dossier-head
-x-to-head c = c.before.before
+abbrev x-to-head : tie.In-Head → tie.After-read_dossier_head
+x-to-head c = (search)
 
-abbrev x-to-read : tie.After-x → tie.After-read-event
-x-to-read c = (x-to-head c).before.before.before.before
+abbrev x-to-read : tie.In-Head → tie.After-read_event-e
+x-to-read c = (search)
 
-abbrev to-x : tie.After-place-of → tie.After-x
-to-x c = c.before.before.before
+abbrev to-x : tie.After-place_of-p → tie.In-Head
+to-x c = (search)
 
-abbrev to-place : tie.After-added-fits → tie.After-place-of
-to-place c = c.before.before.before
+abbrev to-place : tie.After-added_fits → tie.After-place_of-p
+to-place c = (search)
 
-abbrev asked-to-start : tie.After-added-fits → tie.Start
+abbrev asked-to-start : tie.After-added_fits → tie.Start
 asked-to-start c = to_start (x-to-read (to-x (to-place c)))
 
-abbrev to-fitted : tie.After-write-added-arg3 → tie.Else1
-to-fitted c = c.before.before.before.before
+abbrev to-fitted : tie.After-write_added-arg-3-1 → tie.Else-not-added_fits
+to-fitted c = (search)
 
-abbrev to-written : tie.After-slice-known6 → tie.After-write-added
-to-written c = c.before.before.before.before.before.before
+abbrev to-written : tie.After-slice_known-6-1 → tie.After-write_added
+to-written c = (search)
 
 -- ---- the facts
 
 -- no slice has 2^64 bytes
-sofar-short : (c : tie.After-shared-slice-known2) → length c.before.before.args.sofar.now < 2 ^ 64
+sofar-short : (c : tie.After-shared_slice_known-2-1) → length c.args.sofar.now < 2 ^ 64
 sofar-short c = omega arith
 
 -- the numbers of the event's sets
-abbrev sets : tie.After-read-event → List ℕ
-sets c = c.read-event.new.1.1.0
+abbrev sets : tie.After-read_event-e → List ℕ
+sets c = c.read_event-e.new.sets
 
-sets-long : (c : tie.After-read-event) → length (sets c) ≡ 96
+sets-long : (c : tie.After-read_event-e) → length (sets c) ≡ 96
 sets-long c = search rules
 
 abbrev chosen : tie.Start → Limits
@@ -68,96 +68,96 @@ chosen c = limits_of c.args.limits
 
 -- the head of the dossier
 head :
-    (c : tie.After-x) → let start = to_start (x-to-read c) in let sofar = start.args.sofar.now in
-    DossierHeadStops (read_dossier_head (chosen start) sofar) sofar c.x.given.0.0 c.x.given.0.1.0
-head c = head-reads c.x.given.1 (x-to-head c).read-dossier-head.ensures
+    (c : tie.In-Head) → let start = to_start (x-to-read c) in let sofar = start.args.sofar.now in
+    DossierHeadStops (read_dossier_head (chosen start) sofar) sofar c.in-Head.x c.in-Head.after_head
+head c = head-reads c.in-Head.is (x-to-head c).read_dossier_head.ensures
 
 read-for :
-    (c : tie.After-place-of) → let x = to-x c in let read = x-to-read x in let a = (to_start read).args in
-    ReadFor (limits_of a.limits) a.sofar.now a.measures.now a.event.now read.read-event.result (sets read) x.x.given.0.0
-    x.x.given.0.1.0
-    c.place_of.result a.t (x-to-head x).before.version_of.result
+    (c : tie.After-place_of-p) → let x = to-x c in let read = x-to-read x in let a = (to_start read).args in
+    ReadFor (limits_of a.limits) a.sofar.now a.measures.now a.event.now read.read_event-e.result (sets read) x.in-Head.x
+    x.in-Head.after_head
+    c.place_of-p.result a.t (x-to-head x).version_of-version.result
 read-for c =
     let x = to-x c in
     record {
-      reads = (x-to-read x).read-event.ensures;
-      versioned = (x-to-head x).before.version_of.ensures;
+      reads = (x-to-read x).read_event-e.ensures;
+      versioned = (x-to-head x).version_of-version.ensures;
       stops = head x;
-      placed = c.place_of.ensures;
+      placed = c.place_of-p.ensures;
     }
 
 -- no limit is passed
-inside : (c : tie.Else1) → c.before.added-fits.result ≡ true
-inside c = not-false _ c.if1.false
+inside : (c : tie.Else-not-added_fits) → c.added_fits.result ≡ true
+inside c = not-false _ c.if-not-added_fits.false-raw
 
 -- ---- the needs
 
-version-of-requires : tie.Need-version-of-requires
-version-of-requires c κs = let s : tie.Start = search in search (checkable, known-checked s.pre.0.0.added.new)
+version-of-requires : tie.Need-version_of-version-requires
+version-of-requires c κs = let s : tie.Start = search in search (checkable, known-checked s.requires.0.0.added.new)
 
-returns : tie.Need-returns
+returns : tie.Need-returns-in_default
 returns c =
-    let refused = head-refused _ c.enum_told.given.1 c.before.before.read-dossier-head.ensures in
+    let refused = head-refused _ c.in_default.is c.read_dossier_head.ensures in
     (λ a. absurd (has-head a.added a.under refused), λ a n z. absurd (has-head a.added a.under refused))
 
-add_body : tie.Need-overflow-add-body
+add_body : tie.Need-overflow_add-body
 add_body c =
-    let x = c.before in
-    let read = x-to-read x in
-    let a = (to_start read).pre.0.0 in
-    omega (arith, (body-begins a.added a.under (head x)).0, sofar-short (sofar-known read))
+    let x = c in
+    let read = x-to-read (search) in
+    let a = (to_start read).requires.0.0 in
+    omega (arith, (body-begins a.added a.under (head (search))).0, sofar-short (sofar-known read))
 
-added-fits-requires : tie.Need-added-fits-requires
+added-fits-requires : tie.Need-added_fits-requires
 added-fits-requires c κs =
-    let at = c.before.before in
-    let read = x-to-read (to-x at) in
-    let p = (to_start read).pre.0 in
-    ((sets-long read, p.1, p.2), record { table = _; is = is-adding (read-for at) p.0 })
+    let at = c in
+    let read = x-to-read (to-x (search)) in
+    let p = (to_start read).requires.0 in
+    ((sets-long read, p.1, p.2), record { table = _; is = is-adding (read-for (search)) p.0 })
 
-returns-2 : tie.Need-returns-2
+returns-2 : tie.Need-returns-then-not-added_fits
 returns-2 c =
-    let asked = c.before in
-    let room = (asked-to-start asked).requires.1.1 in
-    let full = not-true _ c.if1.true in
-    let r = read-for (to-place asked) in (
+    let asked = c in
+    let room = (asked-to-start (search)).requires.1.1 in
+    let full = not-true _ c.if-not-added_fits.true-raw in
+    let r = read-for (to-place (search)) in (
       λ a.
-          let fits = asked.added-fits.ensures _ (is-adding r a) a.under in
+          let fits = asked.added_fits.ensures _ (is-adding r a) a.under in
           combine-full (permitted r a) _ _ _ _ room a.added.both a.under fits full,
       λ a n z. never (cc),
     )
 
-write-added-requires : tie.Need-write-added-requires
+write-added-requires : tie.Need-write_added-requires
 write-added-requires c κs =
     let fitted = to-fitted c in
-    let asked = fitted.before in
-    let at = to-place asked in
-    let p = (asked-to-start asked).pre in
+    let asked = fitted in
+    let at = to-place (search) in
+    let p = (asked-to-start (search)).requires in
     let r = read-for at in
     let a = p.0.0 in (
       sets-long (x-to-read (to-x at)),
       p.0.1,
       p.0.2,
-      added-there r a (added-inside r a asked.added-fits.ensures (inside fitted)) p.1.0 p.1.1,
+      added-there r a (added-inside r a asked.added_fits.ensures (inside fitted)) p.1.0 p.1.1,
     )
 
-returns-3 : tie.Need-returns-3
+returns-3 : tie.Need-returns
 returns-3 c =
     let wrote = to-written c in
-    let fitted = to-fitted wrote.before in
-    let asked = fitted.before in
-    let r = read-for (to-place asked) in
-    let room = (asked-to-start asked).pre.1.1 in
+    let fitted = to-fitted (search) in
+    let asked = fitted in
+    let r = read-for (to-place (search)) in
+    let room = (asked-to-start (search)).requires.1.1 in
     let yes-all = inside fitted in (
       λ a.
           let h = is-adding r a in
-          let fits = asked.added-fits.ensures _ h a.under in
-          let written = wrote.write-added.ensures.0 _ h (version-known r a) (added-inside r a asked.added-fits.ensures yes-all) in
+          let fits = asked.added_fits.ensures _ h a.under in
+          let written = wrote.write_added.ensures.0 _ h (version-known r a) (added-inside r a asked.added_fits.ensures yes-all) in
           combine-done (permitted r a) _ _ _ _ room a.added.both a.under fits yes-all _ _ written,
-      λ a n z. wrote.write-added.ensures.1 _ (is-adding r a) (version-known r a),
+      λ a n z. wrote.write_added.ensures.1 _ (is-adding r a) (version-known r a),
     )
 
-pub add-event-spec : {M : Type 1} → statement M
-add-event-spec =
+pub add_event_spec : {M : Type 1} → statement M
+add_event_spec =
     tie.close
     (tie.spec
     (λ c. search rules) (λ c κs. search rules) (λ c. search rules)
@@ -165,7 +165,7 @@ add-event-spec =
     (λ c κs. search rules) (λ c. search rules) (λ c. search rules)
     returns
     add_body
-    (λ c κs. let x : tie.After-x = search in let p = (to_start (x-to-read x)).requires.0 in (measured-in p.0.added, p.2))
+    (λ c κs. let x : tie.In-Head = search in let p = (to_start (x-to-read x)).requires.0 in (measured-in p.0.added, p.2))
     (λ c. search rules)
     added-fits-requires
     (λ c. search rules)

@@ -7,20 +7,20 @@ use Rattle.combining.proofs.add.write_added.Tie as tie
 
 -- ---- the places
 
-abbrev to_start : tie.After-write-heads-arg → tie.Start
-to_start c = c.before.before.before.before.before.before.before.before.before
+abbrev to_start : tie.After-write_heads-arg-1 → tie.Start
+to_start c = (search)
 
-abbrev to_heads : tie.After-slice-known5 → tie.After-write-heads
-to_heads c = c.before.before.before.before
+abbrev to_heads : tie.After-slice_known-5-1 → tie.After-write_heads-after_head
+to_heads c = (search)
 
-abbrev count-to-heads : tie.After-count-with → tie.After-write-heads
-count-to-heads c = to_heads c.before
+abbrev count-to-heads : tie.After-count_with → tie.After-write_heads-after_head
+count-to-heads c = to_heads (search)
 
-abbrev to_number : tie.After-write-with-arg2 → tie.After-write-number
-to_number c = c.before.before.before.before
+abbrev to_number : tie.After-write_with-arg-2-1 → tie.After-write_number-at
+to_number c = (search)
 
-abbrev to-with : tie.After-slice-known8 → tie.After-write-with
-to-with c = c.before.before.before.before
+abbrev to-with : tie.After-slice_known-8-1 → tie.After-write_with-w
+to-with c = (search)
 
 -- ---- the facts
 
@@ -29,28 +29,28 @@ placed c = place-there c.requires.3
 
 -- ---- the needs
 
-write-with-requires : tie.Need-write-with-requires
+write-with-requires : tie.Need-write_with-w-requires
 write-with-requires c κs =
     let written = to_number c in
-    let counted = written.before in
-    let heads = count-to-heads counted in
-    let p = (to_start heads.before).requires in
-    (p.0, p.1, with-there heads.write-heads.ensures counted.count-with.ensures p.3 written.write-number.ensures)
+    let counted = written in
+    let heads = count-to-heads (search) in
+    let p = (to_start (search)).requires in
+    (p.0, p.1, with-there heads.write_heads-after_head.ensures counted.count_with.ensures p.3 written.write_number-at.ensures)
 
 returns : tie.Need-returns
 returns c =
-    let put : tie.After-put-snapshot = search in
-    let wrote = to-with put.before.before in
-    let written = to_number wrote.before in
-    let counted : tie.After-count-with = search in
+    let put : tie.After-put_snapshot = search in
+    let wrote = to-with (search) in
+    let written = to_number (search) in
+    let counted : tie.After-count_with = search in
     let heads = count-to-heads counted in (
-      added-wrote heads.write-heads.ensures counted.count-with.ensures (to_start heads.before).requires.3 written.write-number.ensures
-          wrote.write-with.ensures.0,
-      λ table h n. measured-with h n (wrote.write-with.ensures.1 table _ _ h n) put.put-snapshot.ensures,
+      added-wrote heads.write_heads-after_head.ensures counted.count_with.ensures (to_start (search)).requires.3 written.write_number-at.ensures
+          wrote.write_with-w.ensures.0,
+      λ table h n. measured-with h n (wrote.write_with-w.ensures.1 table _ _ h n) put.put_snapshot.ensures,
     )
 
-pub write-added-spec : {M : Type 1} → statement M
-write-added-spec =
+pub write_added_spec : {M : Type 1} → statement M
+write_added_spec =
     tie.close
     (tie.spec
     (λ c κs. search heads-within)

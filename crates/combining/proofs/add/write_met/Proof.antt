@@ -12,59 +12,56 @@ use Rattle.combining.proofs.add.write_met.Tie as tie
 
 -- ---- the places
 
-abbrev to_start : tie.After-part-of → tie.Start
-to_start c = c.before.before.before.before.before.before.before
+abbrev to_start : tie.After-part_of-met → tie.Start
+to_start c = (search)
 
-abbrev alone-to-start : tie.After-write-alone → tie.Start
-alone-to-start c = to_start c.before.before
-
-abbrev to-alone : tie.After-same-arg → tie.After-write-alone
-to-alone c = c.before.before.before
+abbrev alone-to-start : tie.After-write_alone-size → tie.Start
+alone-to-start c = to_start (search)
 
 -- the two differ
-abbrev row-to-start : tie.After-row → tie.Start
-row-to-start c = alone-to-start (to-alone c.before.before.before)
+abbrev row-to-start : tie.After-row-1 → tie.Start
+row-to-start c = (search)
 
-abbrev x-to-read : tie.After-x → tie.After-read-snapshot
-x-to-read c = c.before.before.before
+abbrev x-to-read : tie.In-Found → tie.After-read_snapshot
+x-to-read c = (search)
 
-abbrev x-to-start : tie.After-x → tie.Start
-x-to-start c = row-to-start (x-to-read c).before
+abbrev x-to-start : tie.In-Found → tie.Start
+x-to-start c = row-to-start (search)
 
 -- ---- the facts
 
 -- the one that stands in `sofar` is read
 stops :
-    (c : tie.After-x) → let a = (x-to-start c).args in
-    SnapshotStops a.sofar.now a.start c.x.given.0.0 c.x.given.0.1.0 (x-to-read c).read-snapshot.new.1.1.1.0
-stops c = snapshot-read c.x.given.1 (x-to-read c).read-snapshot.ensures
+    (c : tie.In-Found) → let a = (x-to-start c).args in
+    SnapshotStops a.sofar.now a.start c.in-Found.x c.in-Found.field-1 (x-to-read c).read_snapshot.new.sets
+stops c = snapshot-read c.in-Found.is (x-to-read c).read_snapshot.ensures
 
 -- ---- the needs
 
-returns-2 : tie.Need-returns-2
+returns-2 : tie.Need-returns-in_default
 returns-2 c = λ h.
-    let read = c.before.before.before in
-    absurd ((met-promised h).1 (snapshot-refused _ _ _ c.enum_told.given.1 read.read-snapshot.ensures))
+    let read = c in
+    absurd ((met-promised h).1 (snapshot-refused _ _ _ c.in_default.is read.read_snapshot.ensures))
 
-write-agreed-requires : tie.Need-write-agreed-requires
+write-agreed-requires : tie.Need-write_agreed-requires
 write-agreed-requires c κs =
     let p = (x-to-start (search)).requires in
     (search rules, p.0, search (agreed-room, met-room (stops search) p.2))
 
-returns-3 : tie.Need-returns-3
-returns-3 c = λ h. agreed-wrote h.typed (met-shared (stops search) h) c.before.before.write-agreed.ensures search
+returns-3 : tie.Need-returns-then-t-gt0
+returns-3 c = λ h. agreed-wrote h.typed (met-shared (stops search) h) c.write_agreed.ensures search
 
-write-joined-requires : tie.Need-write-joined-requires
+write-joined-requires : tie.Need-write_joined-requires
 write-joined-requires c κs =
-    let at : tie.After-x = search in
-    let p = (x-to-start at).pre in
+    let at : tie.In-Found = search in
+    let p = (x-to-start at).requires in
     (search rules, p.0, p.1, joined-room (met-room (stops at) p.2) search)
 
-returns-4 : tie.Need-returns-4
-returns-4 c = λ h. joined-wrote h.typed (met-shared (stops search) h) c.before.before.write-joined.ensures search
+returns-4 : tie.Need-returns
+returns-4 c = λ h. joined-wrote h.typed (met-shared (stops search) h) c.write_joined.ensures search
 
-pub write-met-spec : {M : Type 1} → statement M
-write-met-spec =
+pub write_met_spec : {M : Type 1} → statement M
+write_met_spec =
     tie.close
     (tie.spec
     (λ c κs. search rules)
@@ -76,7 +73,7 @@ write-met-spec =
     (λ c. search rules) (λ c. search rules)
     (λ c. search both-copied)
     (λ c. search rules)
-    (λ c κs. let s : tie.Start = search in search (met-promised s.pre.2.met))
+    (λ c κs. let s : tie.Start = search in search (met-promised s.requires.2.met))
     (λ c. search rules) (λ c. search rules) (λ c. search rules)
     returns-2
     (λ c. search rules)

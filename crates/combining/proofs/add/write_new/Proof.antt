@@ -13,39 +13,39 @@ use Rattle.combining.proofs.add.write_new.Tie as tie
 
 -- ---- the places
 
-abbrev to_start : tie.After-struct-known → tie.Start
-to_start c = c.before.before.before.before.before.before.before
+abbrev to_start : tie.After-struct_known-1 → tie.Start
+to_start c = (search)
 
-abbrev met-to-start : tie.Else1 → tie.Start
-met-to-start c = to_start c.before
+abbrev met-to-start : tie.Else-not-p → tie.Start
+met-to-start c = to_start (search)
 
-abbrev to-met : tie.After-write-met-arg2 → tie.Else1
-to-met c = c.before.before.before.before
+abbrev to-met : tie.After-write_met-arg-2-1 → tie.Else-not-p
+to-met c = (search)
 
-abbrev written : tie.After-slice-known5 → tie.After-write-met
-written c = c.before.before.before.before
+abbrev written : tie.After-slice_known-4-1 → tie.After-write_met
+written c = (search)
 
 -- ---- the facts
 
 -- the snapshot of the event's version stands in the dossier
-stands-within : (c : tie.Else1) → let a = (met-to-start c).args in a.body + a.p.before + a.p.size ≤ length a.sofar.now
+stands-within : (c : tie.Else-not-p) → let a = (met-to-start c).args in a.body + a.p.before + a.p.size ≤ length a.sofar.now
 stands-within c = ends-within (met-to-start c).requires.2.in_some
 
 -- ---- the needs
 
-returns : tie.Need-returns
+returns : tie.Need-returns-then-not-p
 returns c = λ table m x h n.
-    let wrote : tie.After-write-alone = search in
-    wrote_as (sym (new-alone-bytes h (not-true _ wrote.before.before.if1.taken) _ n)) (wrote.write_alone.ensures _ h.read)
+    let wrote : tie.After-write_alone = search in
+    wrote_as (sym (new-alone-bytes h (not-true _ wrote.if-not-p.true) _ n)) (wrote.write_alone.ensures _ h.read)
 
-returns-2 : tie.Need-returns-2
+returns-2 : tie.Need-returns
 returns-2 c = λ table m x h n.
     let wrote = written c in
-    let q = not-false _ (to-met wrote.before).if1.false in
-    wrote_as (ap snapshot_bytes (sym (new-met h q))) (wrote.write-met.ensures (met-both h q _ n))
+    let q = not-false _ (to-met (search)).if-not-p.false in
+    wrote_as (ap snapshot_bytes (sym (new-met h q))) (wrote.write_met.ensures (met-both h q _ n))
 
-pub write-new-spec : {M : Type 1} → statement M
-write-new-spec =
+pub write_new_spec : {M : Type 1} → statement M
+write_new_spec =
     tie.close
     (tie.spec
     (λ c κs. search (alone-there, not-true))

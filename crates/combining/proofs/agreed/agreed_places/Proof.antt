@@ -12,51 +12,51 @@ use borrow.Author.Rules.{rules}
 use Rattle.combining.proofs.agreed.agreed_places.Statement.{statement}
 use Rattle.combining.proofs.agreed.agreed_places.Tie as tie
 
-abbrev invariant-loop : tie.invariant-loop
-invariant-loop a x m b y n count p₀ left₀ right₀ k₀ p left right k =
+abbrev invariant-loop-k : tie.invariant-loop-k
+invariant-loop-k a x m b y n count p₀ left₀ right₀ k₀ p left right k =
     (length p.present ≡ 32)
     × (length p.marked ≡ 32)
     × ((ty : EventType) (v w : Snapshot) → is_versioned ty ≡ true → CellsAre a v.cells m x → CellsAre b w.cells n y →
     PlacesSofar ty v w p.present p.marked left right k)
 
-abbrev decreases-loop : tie.decreases-loop
-decreases-loop a x m b y n count p₀ left₀ right₀ k₀ p left right k = count - k
+abbrev decreases-loop-k : tie.decreases-loop-k
+decreases-loop-k a x m b y n count p₀ left₀ right₀ k₀ p left right k = count - k
 
 -- ---- the facts
 
 -- a place of the loop is one of the 32
-inside : (c : tie.In-loop invariant-loop decreases-loop) → c.before.loop.k < 32
+inside : (c : tie.In-loop-k invariant-loop-k decreases-loop-k) → c.loop-k.k < 32
 inside c = search rules
 
 -- ---- the needs
 
-loop-holds : tie.Need-loop-init invariant-loop decreases-loop
+loop-holds : tie.Need-loop-k-init invariant-loop-k decreases-loop-k
 loop-holds c = (refl, refl, λ ty x y v w u. places-none _ _ _ _ _ _ ty x y v w u)
 
-loop-again : tie.Need-loop-preserved invariant-loop decreases-loop
+loop-again : tie.Need-loop-k-preserved invariant-loop-k decreases-loop-k
 loop-again c =
-    let kept : tie.After-is-kept invariant-loop decreases-loop = search in
-    let right : tie.After-set-at2 invariant-loop decreases-loop = search in
-    let left : tie.After-set-at invariant-loop decreases-loop = search in
-    let turn : tie.In-loop invariant-loop decreases-loop = search in
-    let l = turn.before.loop in (
-      simp length-set l.inv.0,
-      simp length-set l.inv.1,
-      λ ty x y v w u. places-next v w u (inside turn) (l.inv.2 ty x y v w u) left.set_at.ensures right.set-at2.ensures
-          kept.is-kept.ensures c.has-objects.ensures,
+    let kept : tie.After-is_kept-kept invariant-loop-k decreases-loop-k = search in
+    let right : tie.After-set_at-w invariant-loop-k decreases-loop-k = search in
+    let left : tie.After-set_at-v invariant-loop-k decreases-loop-k = search in
+    let turn : tie.In-loop-k invariant-loop-k decreases-loop-k = search in
+    let l = turn.loop-k in (
+      simp length-set l.invariant.0,
+      simp length-set l.invariant.1,
+      λ ty x y v w u. places-next v w u (inside turn) (l.invariant.2 ty x y v w u) left.set_at-v.ensures right.set_at-w.ensures
+          kept.is_kept-kept.ensures c.has_objects.ensures,
     )
 
-returns : tie.Need-returns invariant-loop decreases-loop
+returns : tie.Need-returns invariant-loop-k decreases-loop-k
 returns c = λ ty x y v w u p q.
-    let l = c.before.loop in
-    places-all _ _ _ _ _ _ ty x y v w u _ _ _ l.k p q c.loop-test.false (l.invariant.2 ty x y v w u)
+    let l = c.loop-k in
+    places-all _ _ _ _ _ _ ty x y v w u _ _ _ l.k p q c.loop-k-test.false (l.invariant.2 ty x y v w u)
 
-pub agreed-places-spec : {M : Type 1} → statement M
-agreed-places-spec =
+pub agreed_places_spec : {M : Type 1} → statement M
+agreed_places_spec =
     tie.close
     (tie.spec
-    invariant-loop
-    decreases-loop
+    invariant-loop-k
+    decreases-loop-k
     loop-holds
     (λ c κs. search (rules, inside))
     (λ c κs. search (rules, inside))

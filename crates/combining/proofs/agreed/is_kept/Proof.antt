@@ -13,38 +13,38 @@ use Rattle.combining.proofs.agreed.is_kept.Tie as tie
 
 -- ---- the places
 
-abbrev to_clear : tie.Else2 → tie.Else1
-to_clear c = c.before.before.before
+abbrev to_clear : tie.Else-v-w → tie.Else-marks-ne0
+to_clear c = (search)
 
-abbrev to-counts : tie.After-set-part2 → tie.Else2
-to-counts c = c.before.before.before.before
+abbrev to-counts : tie.After-set_part-2 → tie.Else-v-w
+to-counts c = (search)
 
 -- ---- the needs
 
-returns : tie.Need-returns
-returns c = λ x y m u v. agreed-marked x y _ m c.if1.true
+returns : tie.Need-returns-then-marks-ne0
+returns c = λ x y m u v. agreed-marked x y _ m c.if-marks-ne0.true
 
-returns-2 : tie.Need-returns-2
+returns-2 : tie.Need-returns-then-v-w
 returns-2 c = λ x y m u v.
-    agreed-counts x y _ m c.before.before.before.if1.false (λ e. c.if2.true (u.count ∙ e ∙ sym v.count))
+    agreed-counts x y _ m c.if-marks-ne0.false (λ e. c.if-v-w.true (u.count ∙ e ∙ sym v.count))
 
-returns-3 : tie.Need-returns-3
+returns-3 : tie.Need-returns-then-v-eq0
 returns-3 c = λ x y m u v.
-    let counts = c.before.before in
-    let none : length (held y) ≡ 0 = omega (arith, v.count, counts.if2.false, c.if3.true) in
-    agreed-empty x y _ m (to_clear counts).if1.false (sym u.count ∙ c.if3.true) none
+    let counts = c in
+    let none : length (held y) ≡ 0 = omega (arith, v.count, counts.if-v-w.false, c.if-v-eq0.true) in
+    agreed-empty x y _ m (to_clear (search)).if-marks-ne0.false (sym u.count ∙ c.if-v-eq0.true) none
 
-returns-4 : tie.Need-returns-4
+returns-4 : tie.Need-returns
 returns-4 c = λ x y m u v.
-    let right = c.before in
-    let clear = to_clear (to-counts right) in
+    let right = c in
+    let clear = to_clear (to-counts (search)) in
     c.same.ensures
-    ∙ ap₂ (equal texts) (right.before.set-part.ensures _ u) (right.set-part2.ensures _ v)
-    ∙ flat-equal (held x) (held y) (set-short _ (held x) _ u clear.before.before.before.good.0.0)
-    ∙ agreed-sets x y _ m clear.if1.left
+    ∙ ap₂ (equal texts) (right.set_part.ensures _ u) (right.set_part-2.ensures _ v)
+    ∙ flat-equal (held x) (held y) (set-short _ (held x) _ u clear.well_formed.0.0)
+    ∙ agreed-sets x y _ m clear.if-marks-ne0.false
 
-pub is-kept-spec : {M : Type 1} → statement M
-is-kept-spec =
+pub is_kept_spec : {M : Type 1} → statement M
+is_kept_spec =
     tie.close
     (tie.spec
     returns

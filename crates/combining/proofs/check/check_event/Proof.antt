@@ -17,28 +17,28 @@ use Rattle.combining.proofs.check.check_event.Tie as tie
 
 -- ---- the places
 
-abbrev to_start : tie.Else1 → tie.Start
-to_start c = c.before.before.before.before
+abbrev to_start : tie.Else-out-lt-DOSSIER_CAPACITY → tie.Start
+to_start c = (search)
 
-abbrev to-table : tie.After-read-event → tie.After-read-table
-to-table c = c.before.before.before
+abbrev to-table : tie.After-read_event-e → tie.After-read_table-read
+to-table c = (search)
 
-abbrev to-event : tie.After-ask-event → tie.After-read-event
-to-event c = c.before.before.before.before
+abbrev to-event : tie.After-ask_event-number → tie.After-read_event-e
+to-event c = (search)
 
-abbrev to-taken : tie.After-version-of → tie.Else2
+abbrev to-taken : tie.After-version_of-version → tie.Else-number-ne0
 to-taken c = search
 
-abbrev to-if1 : tie.After-ask-event → tie.Else1
-to-if1 c = (to-table (to-event c)).before.before.before
+abbrev to-if1 : tie.After-ask_event-number → tie.Else-out-lt-DOSSIER_CAPACITY
+to-if1 c = (search)
 
 -- ---- the questions are asked
 
 -- the output is large enough
-room : (c : tie.Else1) → dossier_capacity ≤ length (to_start c).args.out.now
-room c = omega (arith, c.if1.false)
+room : (c : tie.Else-out-lt-DOSSIER_CAPACITY) → dossier_capacity ≤ length (to_start c).args.out.now
+room c = omega (arith, c.if-out-lt-DOSSIER_CAPACITY.false)
 
-module _ (c : tie.After-ask-event) where
+module _ (c : tie.After-ask_event-number) where
   abbrev event : List ℕ
   event = (to_start (to-if1 c)).args.event.now
 
@@ -47,37 +47,37 @@ module _ (c : tie.After-ask-event) where
 
   -- the numbers of the event's sets
   abbrev sets : List ℕ
-  sets = (to-event c).read-event.new.1.1.0
+  sets = (to-event c).read_event-e.new.sets
 
   -- the number, the type and the event
   abbrev answer : EventAsked
-  answer = asked c.ask-event.result (to-table (to-event c)).read_table.result.index (to-event c).read-event.result
+  answer = asked c.ask_event-number.result (to-table (to-event c)).read_table-read.result.index (to-event c).read_event-e.result
 
-  answered : EventAnswers (event_questions narrow table event) table event (to-table (to-event c)).read_table.new.1.1.0 sets answer
+  answered : EventAnswers (event_questions narrow table event) table event (to-table (to-event c)).read_table-read.new.properties sets answer
   answered =
       let read = to-event c in
       let tabled = to-table read in
-      c.ask-event.ensures _ _ narrow tabled.read_table.ensures (tabled.before.before.type-name.ensures narrow) read.read-event.ensures
+      c.ask_event-number.ensures _ _ narrow tabled.read_table-read.ensures (tabled.type_name.ensures narrow) read.read_event-e.ensures
 
 -- the event is accepted
-abbrev event-taken : (c : tie.Else2) → let a = c.before in Checked (table a) (event a) (answer a).type (answer a).event (sets a)
-event-taken c = asked-checked (accepted-is narrow _ _ _ _ _ (answered c.before) c.if2.false)
+abbrev event-taken : (c : tie.Else-number-ne0) → let a = c in Checked (table (search)) (event (search)) (answer (search)).type (answer (search)).event (sets (search))
+event-taken c = asked-checked (accepted-is narrow _ _ _ _ _ (answered (search)) c.if-number-ne0.false)
 
-version-had : (c : tie.After-version-of) → let a = event-taken (to-taken c) in c.version_of.result.0 ≡ version_of a.type a.e
-version-had c = c.version_of.ensures (checkable (event-taken (to-taken c)))
+version-had : (c : tie.After-version_of-version) → let a = event-taken (to-taken c) in c.version_of-version.result.0 ≡ version_of a.type a.e
+version-had c = c.version_of-version.ensures (checkable (event-taken (to-taken c)))
 
 -- ---- the needs
 
-returns-3 : tie.Need-returns-3
+returns-3 : tie.Need-returns
 returns-3 c =
     let a = event-taken search in
-    check_done _ _ _ a _ _ _ (room (to-if1 search)) (version-had search) (c.before.before.write-lone.ensures.0 _ a.read)
+    check_done _ _ _ a _ _ _ (room (to-if1 search)) (version-had search) (c.write_lone-lone.ensures.0 _ a.read)
 
-pub check-event-spec : {M : Type 1} → statement M
-check-event-spec =
+pub check_event_spec : {M : Type 1} → statement M
+check_event_spec =
     tie.close
     (tie.spec
-    (λ c. check-small _ _ _ c.if1.true)
+    (λ c. check-small _ _ _ c.if-out-lt-DOSSIER_CAPACITY.true)
     (λ c κs. search rules) (λ c. search rules) (λ c κs. search rules) (λ c. search rules)
     (λ c κs. search rules) (λ c. search rules) (λ c. search rules) (λ c κs. search rules)
     (λ c. check-refused _ _ _ _ (room (to-if1 search)) (refused-is narrow _ _ _ _ _ (answered search) search))

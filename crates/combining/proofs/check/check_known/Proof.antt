@@ -11,51 +11,51 @@ use Rattle.combining.proofs.check.check_known.Tie as tie
 
 -- ---- the places
 
-abbrev to_start : tie.After-read-event → tie.Start
-to_start c = c.before.before.before.before.before.before
+abbrev to_start : tie.After-read_event-known → tie.Start
+to_start c = (search)
 
-abbrev to_read : tie.After-version-of → tie.After-read-event
-to_read c = c.before.before.before
+abbrev to_read : tie.After-version_of-version → tie.After-read_event-known
+to_read c = (search)
 
-abbrev to-written : tie.After-struct-known → tie.After-write-lone
-to-written c = c.before.before.before
+abbrev to-written : tie.After-struct_known-1 → tie.After-write_lone-lone
+to-written c = (search)
 
 -- ---- the event is read
 
-module _ (c : tie.After-read-event) where
+module _ (c : tie.After-read_event-known) where
   -- the numbers of its sets
   abbrev sets : List ℕ
-  sets = c.read-event.new.1.1.0
+  sets = c.read_event-known.new.sets
 
   -- it is accepted, as it is known to be
-  abbrev event-taken : let a = (to_start c).args in Checked a.table.now a.event.now a.t c.read-event.result sets
-  event-taken = known-checked (to_start c).requires.0 c.read-event.ensures
+  abbrev event-taken : let a = (to_start c).args in Checked a.table.now a.event.now a.t c.read_event-known.result sets
+  event-taken = known-checked (to_start c).requires.0 c.read_event-known.ensures
 
-version-had : (c : tie.After-version-of) → let a = event-taken (to_read c) in c.version_of.result.0 ≡ version_of a.type a.e
-version-had c = c.version_of.ensures (checkable (event-taken (to_read c)))
+version-had : (c : tie.After-version_of-version) → let a = event-taken (to_read c) in c.version_of-version.result.0 ≡ version_of a.type a.e
+version-had c = c.version_of-version.ensures (checkable (event-taken (to_read c)))
 
 -- ---- the needs
 
 returns : tie.Need-returns
 returns c =
-    let measured : tie.After-measure-one = search in
-    let written = to-written measured.before.before in
-    let v : tie.After-version-of = search in
+    let measured : tie.After-measure_one = search in
+    let written = to-written (search) in
+    let v : tie.After-version_of-version = search in
     let a = event-taken (to_read v) in (
-      check_done _ _ _ a _ _ _ (to_start (to_read v)).requires.2 (version-had v) (written.write-lone.ensures.0 _ a.read),
+      check_done _ _ _ a _ _ _ (to_start (to_read v)).requires.2 (version-had v) (written.write_lone-lone.ensures.0 _ a.read),
       λ k.
-          let b = known-checked k (to_read v).read-event.ensures in
-          lone-measured b _ (v.version_of.ensures (checkable b)) (written.write-lone.ensures.1 _ b.read).1 measured.measure-one.ensures,
+          let b = known-checked k (to_read v).read_event-known.ensures in
+          lone-measured b _ (v.version_of-version.ensures (checkable b)) (written.write_lone-lone.ensures.1 _ b.read).1 measured.measure_one.ensures,
     )
 
-pub check-known-spec : {M : Type 1} → statement M
-check-known-spec =
+pub check_known_spec : {M : Type 1} → statement M
+check_known_spec =
     tie.close
     (tie.spec
     (λ c. search rules) (λ c κs. search rules) (λ c. search rules)
     (λ c κs. search (checkable (event-taken search)))
     (λ c. search rules)
     (λ c κs. search (lone_room (event-taken search), version-had))
-    (λ c. let w : tie.After-write-lone = search in (w.write-lone.ensures.1 _ (event-taken (search)).read).0)
+    (λ c. let w : tie.After-write_lone-lone = search in (w.write_lone-lone.ensures.1 _ (event-taken (search)).read).0)
     (λ c κs. search rules) (λ c. search rules) (λ c. search rules)
     returns)

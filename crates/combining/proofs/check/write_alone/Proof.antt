@@ -17,18 +17,18 @@ parts c = record { room = c.requires.1.room }
 
 -- ---- the needs
 
-write-sets-requires : tie.Need-write-sets-requires
+write-sets-requires : tie.Need-write_sets-requires
 write-sets-requires c κs =
-    let d : tie.After-write-number3 = search in
-    let p : tie.After-write-number2 = search in
-    let v : tie.After-write-number = search in
+    let d : tie.After-write_number-after_differ = search in
+    let p : tie.After-write_number-after_presence = search in
+    let v : tie.After-write_number-after_version = search in
     let s : tie.Start = search in
-    let is = s.pre.1.read in
-    let room = sets-room (parts s) v.write-number.ensures is.presence p.write-number2.ensures refl d.write-number3.ensures (sets-are is) in
-    (s.pre.0, record { values = s.pre.1.event.sets; are = is.sets; room = room })
+    let is = s.requires.1.read in
+    let room = sets-room (parts s) v.write_number-after_version.ensures is.presence p.write_number-after_presence.ensures refl d.write_number-after_differ.ensures (sets-are is) in
+    (s.requires.0, record { values = s.requires.1.event.sets; are = is.sets; room = room })
 
-pub write-alone-spec : {M : Type 1} → statement M
-write-alone-spec =
+pub write_alone_spec : {M : Type 1} → statement M
+write_alone_spec =
     tie.close
     (tie.spec
     (λ c κs. version-room (parts search))
@@ -36,4 +36,4 @@ write-alone-spec =
     (λ c κs. search (differ-room (parts search)))
     write-sets-requires
     (λ c. search rules)
-    (λ c. λ e is. search (wrote-alone is, c.before.before.write-sets.ensures _ is.sets)))
+    (λ c. λ e is. search (wrote-alone is, c.write_sets.ensures _ is.sets)))

@@ -7,19 +7,19 @@ use Rattle.combining.proofs.check.write_lone.Tie as tie
 
 -- ---- the places
 
-abbrev to_start : tie.After-number-size → tie.Start
-to_start c = c.before.before.before.before
+abbrev to_start : tie.After-number_size → tie.Start
+to_start c = (search)
 
 -- ---- the needs
 
-copy-part-requires : tie.Need-copy-part-requires
-copy-part-requires c κs = let sized = c.before.before in head-there sized.number_size.ensures (to_start sized).requires.1
+copy-part-requires : tie.Need-copy_part-after_head-requires
+copy-part-requires c κs = let sized = c in head-there sized.number_size.ensures (to_start (search)).requires.1
 
 returns : tie.Need-returns
-returns c = let w = c.before.before.write_alone.ensures in (search (lone-wrote, w), λ e is. wrote-size (w e is))
+returns c = let w = c.write_alone-end.ensures in (search (lone-wrote, w), λ e is. wrote-size (w e is))
 
-pub write-lone-spec : {M : Type 1} → statement M
-write-lone-spec =
+pub write_lone_spec : {M : Type 1} → statement M
+write_lone_spec =
     tie.close
     (tie.spec
     (λ c κs. search rules)

@@ -13,62 +13,62 @@ use Rattle.combining.proofs.combine.combine_read.Tie as tie
 
 -- ---- the places
 
-abbrev to_start : tie.After-slice-known → tie.Start
-to_start c = c.before.before.before.before.before.before.before
+abbrev to_start : tie.After-slice_known-1 → tie.Start
+to_start c = (search)
 
-abbrev asked-to-start : tie.After-limits-fit → tie.Start
-asked-to-start c = to_start c.before
+abbrev asked-to-start : tie.After-limits_fit → tie.Start
+asked-to-start c = to_start (search)
 
 -- ---- the facts
 
 answered :
-    (c : tie.After-limits-fit) → let s = asked-to-start c in
-    c.limits-fit.result ≡ Within (limits_of s.args.limits) s.pre.1.both.known
-answered c = c.limits-fit.ensures _ (asked-to-start c).requires.1.both
+    (c : tie.After-limits_fit) → let s = asked-to-start c in
+    c.limits_fit.result ≡ Within (limits_of s.args.limits) s.requires.1.both.known
+answered c = c.limits_fit.ensures _ (asked-to-start c).requires.1.both
 
 permitted : (c : tie.Start) → Permitted (limits_of c.args.limits)
 permitted c = let h = c.requires.1 in subst Permitted h.under h.both.known.permitted
 
 -- no limit is passed
-inside : (c : tie.Else1) → c.before.limits-fit.result ≡ true
-inside c = not-false _ c.if1.false
+inside : (c : tie.Else-not-limits_fit) → c.limits_fit.result ≡ true
+inside c = not-false _ c.if-not-limits_fit.false-raw
 
 -- ---- the needs
 
-returns : tie.Need-returns
+returns : tie.Need-returns-then-not-limits_fit
 returns c =
-    let asked = c.before in
-    let ((_, _, _, room), h) = (asked-to-start asked).requires in
-    combine-full (permitted (asked-to-start asked)) _ _ _ _ room h.both.known h.under (answered asked) (not-true _ c.if1.true)
+    let asked = c in
+    let ((_, _, _, room), h) = (asked-to-start (search)).requires in
+    combine-full (permitted (asked-to-start (search))) _ _ _ _ room h.both.known h.under (answered (search)) (not-true _ c.if-not-limits_fit.true-raw)
 
-write-combined-requires : tie.Need-write-combined-requires
+write-combined-requires : tie.Need-write_combined-requires
 write-combined-requires c κs =
-    let asked = c.before.before in
-    let ok = permitted (asked-to-start asked) in
-    let ((left, right, long, room), h) = (asked-to-start asked).requires in
-    let yes-all = inside c.before in (
+    let asked = c in
+    let ok = permitted (asked-to-start (search)) in
+    let ((left, right, long, room), h) = (asked-to-start (search)).requires in
+    let yes-all = inside (search) in (
       left,
       right,
       long,
       record {
         table = _;
         both = h.both;
-        inside = λ u z. combine-inside ok z.known (asked.limits-fit.ensures u z) yes-all;
-        room = combine-room h.both.known (combine-inside ok h.both.known (answered asked) yes-all) _ room;
+        inside = λ u z. combine-inside ok z.known (asked.limits_fit.ensures u z) yes-all;
+        room = combine-room h.both.known (combine-inside ok h.both.known (answered (search)) yes-all) _ room;
       },
     )
 
-returns-2 : tie.Need-returns-2
+returns-2 : tie.Need-returns
 returns-2 c =
-    let wrote : tie.After-write-combined = search in
-    let fitted : tie.Else1 = search in
-    let asked : tie.After-limits-fit = search in
-    let ((_, _, _, room), h) = (asked-to-start asked).pre in
+    let wrote : tie.After-write_combined = search in
+    let fitted : tie.Else-not-limits_fit = search in
+    let asked : tie.After-limits_fit = search in
+    let ((_, _, _, room), h) = (asked-to-start asked).requires in
     combine-done (permitted (asked-to-start asked)) _ _ _ _ room h.both.known h.under (answered asked) (inside fitted) _ _
-    (wrote.write-combined.ensures _ h.both)
+    (wrote.write_combined.ensures _ h.both)
 
-pub combine-read-spec : {M : Type 1} → statement M
-combine-read-spec =
+pub combine_read_spec : {M : Type 1} → statement M
+combine_read_spec =
     tie.close
     (tie.spec
     (λ c κs. search (rules, arith))

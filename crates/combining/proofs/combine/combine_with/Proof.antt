@@ -20,39 +20,39 @@ use Rattle.combining.proofs.combine.combine_with.Tie as tie
 
 -- ---- the places
 
-abbrev to-dossiers : tie.After-read-table → tie.After-read-dossier2
+abbrev to-dossiers : tie.After-read_table-read → tie.After-read_dossier-e
 to-dossiers c = search
 
-abbrev to-left-read : tie.After-read-table → tie.After-read-dossier
+abbrev to-left-read : tie.After-read_table-read → tie.After-read_dossier-d
 to-left-read c = search
 
-abbrev to_start : tie.After-read-table → tie.Start
-to_start c = (to-left-read c).before.before.before.before.before.before.before.before
+abbrev to_start : tie.After-read_table-read → tie.Start
+to_start c = (search)
 
-abbrev to-table : tie.Else3 → tie.After-read-table
+abbrev to-table : tie.Else-second-ne0 → tie.After-read_table-read
 to-table c = search
 
 -- ---- the dossiers and the table are read
 
-module _ (c : tie.After-read-table) where
+module _ (c : tie.After-read_table-read) where
   abbrev d : DossierIndex
-  d = (to-left-read c).read-dossier.result
+  d = (to-left-read c).read_dossier-d.result
 
   abbrev e : DossierIndex
-  e = (to-dossiers c).read-dossier2.result
+  e = (to-dossiers c).read_dossier-e.result
 
   abbrev left-rows : List ℕ
-  left-rows = (to-left-read c).read-dossier.new.1.1.0
+  left-rows = (to-left-read c).read_dossier-d.new.rows
 
   abbrev right-rows : List ℕ
-  right-rows = (to-dossiers c).read-dossier2.new.1.1.0
+  right-rows = (to-dossiers c).read_dossier-e.new.rows
 
   abbrev read : TableRead
-  read = c.read_table.result
+  read = c.read_table-read.result
 
   -- the numbers of the type's properties
   abbrev properties : List ℕ
-  properties = c.read_table.new.1.1.0
+  properties = c.read_table-read.new.properties
 
   room : dossier_capacity ≤ length (to_start c).args.out.now
   room = (to_start c).requires.0.1
@@ -69,64 +69,64 @@ module _ (c : tie.After-read-table) where
   opened :
       let a = (to_start c).args in
       Opened (limits_of a.limits) a.table.now a.a.now d left-rows a.b.now e right-rows
-      c.before.before.type-name.result.now read properties
+      c.type_name-name.result.now read properties
   opened = record {
-    left-read = (to-left-read c).read-dossier.ensures.0;
-    right-read = (to-dossiers c).read-dossier2.ensures.0;
-    left-inside = omega (arith, left-same, (to-left-read c).read-dossier.ensures.1);
-    right-inside = omega (arith, right-same, (to-dossiers c).read-dossier2.ensures.1);
-    left-named = c.before.before.type-name.ensures;
-    table-read = c.read_table.ensures;
+    left-read = (to-left-read c).read_dossier-d.ensures.0;
+    right-read = (to-dossiers c).read_dossier-e.ensures.0;
+    left-inside = omega (arith, left-same, (to-left-read c).read_dossier-d.ensures.1);
+    right-inside = omega (arith, right-same, (to-dossiers c).read_dossier-e.ensures.1);
+    left-named = c.type_name-name.ensures;
+    table-read = c.read_table-read.ensures;
     long = search rules;
   }
 
-ok : (c : tie.Else1) → c.before.before.before.read_table.result.ok ≡ true
-ok c = not-false _ c.if1.false
+ok : (c : tie.Else-not-read) → c.read_table-read.result.ok ≡ true
+ok c = not-false _ c.if-not-read.false
 
 -- ---- both dossiers are taken
 
 both :
-    (c : tie.Else3) → let t = to-table c in
+    (c : tie.Else-second-ne0) → let t = to-table c in
     let a = (to_start t).args in
     BothTaken (limits_of a.limits) a.table.now a.a.now (d t) (left-rows t) a.b.now (e t) (right-rows t) (read t).index (properties t)
 both c = search (both-taken (opened (to-table c)) (ok search))
 
 -- ---- the needs
 
-dossiers-agree-requires : tie.Need-dossiers-agree-requires
+dossiers-agree-requires : tie.Need-dossiers_agree-requires
 dossiers-agree-requires c κs =
-    let t : tie.After-read-table = search in
+    let t : tie.After-read_table-read = search in
     let o = opened t in
     let b = both search in
     -- a dossier has a snapshot, so its first row is there
     (b.typed.are.few, omega (arith, o.left-inside, b.left-taken.stands.one), omega (arith, o.right-inside, b.right-taken.stands.one), o.long)
 
-pub combine-with-spec : {M : Type 1} → statement M
-combine-with-spec =
+pub combine_with_spec : {M : Type 1} → statement M
+combine_with_spec =
     tie.close
     (tie.spec
     (λ c κs. search rules) (λ c κs. search rules) (λ c κs. search rules) (λ c. search rules)
     (λ c κs. refl)
     (λ c. search left-same)
     (λ c. search right-same)
-    (λ c. let t : tie.After-read-table = search in search (combine-untabled, allowed t, room t, opened t, not-true))
+    (λ c. let t : tie.After-read_table-read = search in search (combine-untabled, allowed t, room t, opened t, not-true))
     (λ c. search rules)
-    (λ c κs. let t : tie.After-read-table = search in search (opened t, few-properties, ok))
+    (λ c κs. let t : tie.After-read_table-read = search in search (opened t, few-properties, ok))
     (λ c. search left-same)
     (λ c. search right-same)
-    (λ c. let t : tie.After-read-table = search in search (left-refused (opened t) (ok search), allowed t, room t))
+    (λ c. let t : tie.After-read_table-read = search in search (left-refused (opened t) (ok search), allowed t, room t))
     (λ c. search rules)
-    (λ c κs. let t : tie.After-read-table = search in search (opened t, ok search))
+    (λ c κs. let t : tie.After-read_table-read = search in search (opened t, ok search))
     (λ c. search left-same)
     (λ c. search right-same)
-    (λ c. let t : tie.After-read-table = search in search (right-refused (opened t) (ok search), allowed t, room t))
+    (λ c. let t : tie.After-read_table-read = search in search (right-refused (opened t) (ok search), allowed t, room t))
     (λ c. search rules)
     dossiers-agree-requires
     (λ c. search left-same)
     (λ c. search right-same)
-    (λ c. let t : tie.After-read-table = search in let b = both search in search (combine-apart, agree-is b, b, allowed t, room t, not-true))
+    (λ c. let t : tie.After-read_table-read = search in let b = both search in search (combine-apart, agree-is b, b, allowed t, room t, not-true))
     (λ c. search rules)
-    (λ c κs. let t : tie.After-read-table = search in search (opened t, room t, combinable (both search), allowed t, not-false))
+    (λ c κs. let t : tie.After-read_table-read = search in search (opened t, room t, combinable (both search), allowed t, not-false))
     (λ c. search left-same)
     (λ c. search right-same)
     (λ c. search rules) (λ c. search rules))

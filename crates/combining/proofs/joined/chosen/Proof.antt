@@ -12,39 +12,39 @@ use Rattle.combining.proofs.joined.chosen.Tie as tie
 
 -- ---- the places
 
-abbrev to_start : tie.After-value-in2 → tie.Start
-to_start c = c.before.before.before.before.before.before
+abbrev to_start : tie.After-value_in-w → tie.Start
+to_start c = (search)
 
-abbrev to_values : tie.After-struct-known2 → tie.After-value-in2
-to_values c = c.before.before.before
+abbrev to_values : tie.After-struct_known-2-1 → tie.After-value_in-w
+to_values c = (search)
 
 -- ---- the values of the two places
 
-module _ (c : tie.After-value-in2) {vs : List Text} where
-  left-value : SetIs (to_start c).args.a.now vs (to_start c).args.x → c.before.before.value_in.result.now ≡ get_or vs 0 []
-  left-value w = c.before.before.value_in.ensures vs (c.before.before.before.set-part.ensures vs w)
+module _ (c : tie.After-value_in-w) {vs : List Text} where
+  left-value : SetIs (to_start c).args.a.now vs (to_start c).args.x → c.value_in-v.result.now ≡ get_or vs 0 []
+  left-value w = c.value_in-v.ensures vs (c.set_part.ensures vs w)
 
-  right-value : SetIs (to_start c).args.b.now vs (to_start c).args.y → c.value-in2.result.now ≡ get_or vs 0 []
-  right-value w = c.value-in2.ensures vs (c.before.set-part2.ensures vs w)
+  right-value : SetIs (to_start c).args.b.now vs (to_start c).args.y → c.value_in-w.result.now ≡ get_or vs 0 []
+  right-value w = c.value_in-w.ensures vs (c.set_part-2.ensures vs w)
 
 -- ---- the needs
 
-returns : tie.Need-returns
-returns c = λ kind xs ys v w e. chosen-right e _ (sym v.count ∙ c.if1.true) (right-value c.before.before w)
+returns : tie.Need-returns-then-x-eq0
+returns c = λ kind xs ys v w e. chosen-right e _ (sym v.count ∙ c.if-x-eq0.true) (right-value (search) w)
 
-returns-2 : tie.Need-returns-2
-returns-2 c = λ kind xs ys v w e. chosen-left e _ (sym w.count ∙ c.if2.true) (left-value (to_values c.before) v)
+returns-2 : tie.Need-returns-then-y-eq0
+returns-2 c = λ kind xs ys v w e. chosen-left e _ (sym w.count ∙ c.if-y-eq0.true) (left-value (to_values (search)) v)
 
-returns-3 : tie.Need-returns-3
+returns-3 : tie.Need-returns
 returns-3 c = λ kind xs ys v w e.
-    let max : tie.After-is-max = search in
-    let both : tie.Else2 = search in
-    let values = to_values both.before in
-    chosen-both e max.is-max.ensures (λ z. both.before.before.if1.left (v.count ∙ z)) (λ z. both.if2.left (w.count ∙ z))
+    let max : tie.After-is_max = search in
+    let both : tie.Else-y-eq0 = search in
+    let values = to_values (search) in
+    chosen-both e max.is_max.ensures (λ z. both.if-x-eq0.false (v.count ∙ z)) (λ z. both.if-y-eq0.false (w.count ∙ z))
     (left-value values v) (right-value values w) c.choose.ensures
 
-pub chosen-spec : {M : Type 1} → statement M
-chosen-spec =
+pub chosen_spec : {M : Type 1} → statement M
+chosen_spec =
     tie.close
     (tie.spec
     (λ c κs. search rules) (λ c κs. search rules) (λ c κs. search rules) (λ c κs. search rules)

@@ -2,5 +2,5 @@ use borrow.Author.Tests.{lt-ltb, le-ltb}
 use Rattle.combining.proofs.joined.have_objects.Statement.{statement}
 use Rattle.combining.proofs.joined.have_objects.Tie as tie
 
-pub have-objects-spec : {M : Type 1} → statement M
-have-objects-spec = tie.close (tie.spec (λ c. rw (lt-ltb _ _ c.if1.true)) (λ c. rw (le-ltb _ _ c.before.if1.false)))
+pub have_objects_spec : {M : Type 1} → statement M
+have_objects_spec = tie.close (tie.spec (λ c. rw (lt-ltb _ _ c.if-x-gt0.true)) (λ c. rw (le-ltb _ _ c.if-x-gt0.false)))

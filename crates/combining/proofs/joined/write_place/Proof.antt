@@ -7,17 +7,17 @@ use Rattle.combining.proofs.joined.write_place.Tie as tie
 
 -- ---- the needs
 
-returns-2 : tie.Need-returns-2
+returns-2 : tie.Need-returns
 returns-2 c =
-    let values : tie.After-write-values = search in
-    let right : tie.After-set-part2 = search in
-    let plain : tie.Else1 = search in
+    let values : tie.After-write_values = search in
+    let right : tie.After-set_part-2 = search in
+    let plain : tie.Else-is_extreme_at = search in
     let start : tie.Start = search in
-    all-wrote plain.before.is-extreme-at.ensures plain.if1.left right.before.set-part.ensures right.set-part2.ensures start.pre.1
-    values.write-values.ensures
+    all-wrote plain.is_extreme_at.ensures plain.if-is_extreme_at.false right.set_part.ensures right.set_part-2.ensures start.requires.1
+    values.write_values.ensures
 
-pub write-place-spec : {M : Type 1} → statement M
-write-place-spec =
+pub write_place_spec : {M : Type 1} → statement M
+write_place_spec =
     tie.close
     (tie.spec
     (λ c κs. search rules)

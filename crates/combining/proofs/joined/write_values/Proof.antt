@@ -8,39 +8,39 @@ use Rattle.combining.proofs.joined.write_values.Tie as tie
 
 -- ---- the places
 
-abbrev to_start : tie.After-write-union-arg → tie.Start
-to_start c = c.before.before.before.before
+abbrev to_start : tie.After-write_union-arg-1 → tie.Start
+to_start c = (search)
 
-abbrev counted-union : tie.After-write-before-arg → tie.After-write-union
-counted-union c = c.before.before.before
+abbrev counted-union : tie.After-write_before-arg-1 → tie.After-write_union-joined
+counted-union c = (search)
 
-abbrev to-union : tie.After-struct-known → tie.After-write-union
-to-union c = counted-union c.before
+abbrev to-union : tie.After-struct_known-1 → tie.After-write_union-joined
+to-union c = counted-union (search)
 
 -- ---- the needs
 
-add-write-before : tie.Need-overflow-add-write-before
-add-write-before c = omega (arith, values-few (to_start (counted-union c).before).requires.are)
+add-write-before : tie.Need-overflow_add-m
+add-write-before c = omega (arith, values-few (to_start (search)).requires.are)
 
-sub-write-before : tie.Need-overflow-sub-write-before
-sub-write-before c = let u = to-union c in shared-within u.write-union.ensures (to_start u.before).requires
+sub-write-before : tie.Need-overflow_sub-m
+sub-write-before c = let u = to-union c in shared-within u.write_union-joined.ensures (to_start (search)).requires
 
-write-before-requires : tie.Need-write-before-requires
-write-before-requires c κs = let u = to-union c in before-there u.write-union.ensures (to_start u.before).requires
+write-before-requires : tie.Need-write_before-requires
+write-before-requires c κs = let u = to-union c in before-there u.write_union-joined.ensures (to_start (search)).requires
 
-same_length : tie.Need-same-length
+same_length : tie.Need-shape_of-out
 same_length c =
-    let before = c.before.before in
-    before.write-before.auto.0 ∙ (to-union before.before).write-union.auto.1.1.0
+    let before = c in
+    before.write_before.auto.out ∙ (to-union (search)).write_union-joined.auto.out
 
 returns : tie.Need-returns
 returns c =
-    let before = c.before.before in
-    let u = to-union before.before in
-    union-written u.write-union.ensures (to_start u.before).requires before.write-before.ensures
+    let before = c in
+    let u = to-union (search) in
+    union-written u.write_union-joined.ensures (to_start (search)).requires before.write_before.ensures
 
-pub write-values-spec : {M : Type 1} → statement M
-write-values-spec =
+pub write_values_spec : {M : Type 1} → statement M
+write_values_spec =
     tie.close
     (tie.spec
     (λ c. omega (arith, at-within (to_start c).requires))

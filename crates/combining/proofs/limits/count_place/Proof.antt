@@ -7,33 +7,33 @@ use Rattle.combining.proofs.limits.count_place.Tie as tie
 
 -- ---- the places
 
-abbrev to_start : tie.After-is-extreme-at → tie.Start
-to_start c = c.before.before.before.before
+abbrev to_start : tie.After-is_extreme_at → tie.Start
+to_start c = (search)
 
 -- ---- the needs
 
-returns : tie.Need-returns
+returns : tie.Need-returns-then-x-eq0
 returns c = λ u ty xs ys w v z p q few.
-    let extreme = c.before.before in
-    let asked = extreme.before in
-    place-right ty (to_start asked).args.k xs ys asked.is-extreme-at.ensures w extreme.if1.true (sym v.count ∙ c.if2.true) z.count few
+    let extreme = c in
+    let asked = c in
+    place-right ty (to_start (search)).args.k xs ys asked.is_extreme_at.ensures w extreme.if-is_extreme_at.true (sym v.count ∙ c.if-x-eq0.true) z.count few
 
-returns-2 : tie.Need-returns-2
+returns-2 : tie.Need-returns-then-is_extreme_at
 returns-2 c = λ u ty xs ys w v z p q few.
-    let extreme = c.before.before in
-    let asked = extreme.before in
-    place-one ty (to_start asked).args.k xs ys asked.is-extreme-at.ensures w extreme.if1.true (λ e. c.if2.false (v.count ∙ e))
+    let extreme = c in
+    let asked = c in
+    place-one ty (to_start (search)).args.k xs ys asked.is_extreme_at.ensures w extreme.if-is_extreme_at.true (λ e. c.if-x-eq0.false (v.count ∙ e))
 
-returns-3 : tie.Need-returns-3
+returns-3 : tie.Need-returns
 returns-3 c = λ u ty xs ys w v z p q few.
-    let left : tie.After-set-part = search in
-    let plain : tie.Else1 = search in
-    let asked : tie.After-is-extreme-at = search in
-    c.count-union.ensures xs ys (left.set-part.ensures xs v) (c.before.set-part2.ensures ys z) p q
-    ∙ place-every ty (to_start asked).args.k xs ys asked.is-extreme-at.ensures w plain.if1.left
+    let left : tie.After-set_part = search in
+    let plain : tie.Else-is_extreme_at = search in
+    let asked : tie.After-is_extreme_at = search in
+    c.count_union.ensures xs ys (left.set_part.ensures xs v) (c.set_part-2.ensures ys z) p q
+    ∙ place-every ty (to_start asked).args.k xs ys asked.is_extreme_at.ensures w plain.if-is_extreme_at.false
 
-pub count-place-spec : {M : Type 1} → statement M
-count-place-spec =
+pub count_place_spec : {M : Type 1} → statement M
+count_place_spec =
     tie.close
     (tie.spec
     (λ c κs. search rules)

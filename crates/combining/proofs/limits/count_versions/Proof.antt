@@ -7,46 +7,46 @@ use Rattle.combining.proofs.CountLaws.{Passed, version_at, Counting, counting-no
 use Rattle.combining.proofs.limits.count_versions.Statement.{statement}
 use Rattle.combining.proofs.limits.count_versions.Tie as tie
 
-abbrev invariant-loop : tie.invariant-loop
-invariant-loop m n v w i₀ j₀ count₀ i j count = Counting m n v w i j count
+abbrev invariant-loop-i : tie.invariant-loop-i
+invariant-loop-i m n v w i₀ j₀ count₀ i j count = Counting m n v w i j count
 
-abbrev decreases-loop : tie.decreases-loop
-decreases-loop m n v w i₀ j₀ count₀ i j count = (m - i) + (n - j)
+abbrev decreases-loop-i : tie.decreases-loop-i
+decreases-loop-i m n v w i₀ j₀ count₀ i j count = (m - i) + (n - j)
 
 -- ---- the places
 
 -- both sides have a version left
-abbrev to-turn : tie.After-struct-known2 invariant-loop decreases-loop → tie.Else1 invariant-loop decreases-loop
-to-turn c = c.before.before.before.before
+abbrev to-turn : tie.After-struct_known-in-loop-i-1 invariant-loop-i decreases-loop-i → tie.Else-n-j invariant-loop-i decreases-loop-i
+to-turn c = (search)
 
-abbrev left-joined : tie.Joined3 invariant-loop decreases-loop → tie.Joined2 invariant-loop decreases-loop
-left-joined c = c.before.before.before
+abbrev left-joined : tie.Joined-b-a invariant-loop-i decreases-loop-i → tie.Joined-a-b invariant-loop-i decreases-loop-i
+left-joined c = (search)
 
-abbrev turn : tie.Joined3 invariant-loop decreases-loop → tie.Else1 invariant-loop decreases-loop
-turn c = to-turn (left-joined c).before
+abbrev turn : tie.Joined-b-a invariant-loop-i decreases-loop-i → tie.Else-n-j invariant-loop-i decreases-loop-i
+turn c = to-turn (search)
 
 -- ---- where each side goes on
 
-module _ (c : tie.Joined3 invariant-loop decreases-loop) where
-  abbrev at-loop : tie.At-loop invariant-loop decreases-loop
-  at-loop = (turn c).before.before
+module _ (c : tie.Joined-b-a invariant-loop-i decreases-loop-i) where
+  abbrev at-loop : tie.At-loop-i invariant-loop-i decreases-loop-i
+  at-loop = (search)
 
   left_passed :
-      let a = at-loop.before.args in let l = at-loop.loop in
-      Passed (version_at a.t1 l.i) (version_at a.t3 l.j) l.i (left-joined c).if2.i
-  left_passed = ⊎_elim (λ w. inl (w.0.taken, w.1)) (λ w. inr (w.0.left, w.1)) (left-joined c).if2.branch
+      let a = at-loop.args in let l = at-loop.loop-i in
+      Passed (version_at a.v l.i) (version_at a.w l.j) l.i (left-joined c).if-a-b.i
+  left_passed = ⊎_elim (λ w. inl (w.if-a-b.true, w.i-is)) (λ w. inr (w.if-a-b.false, w.i-is)) (left-joined c).if-a-b.branch-raw
 
   right-passed :
-      let a = at-loop.before.args in let l = at-loop.loop in
-      Passed (version_at a.t3 l.j) (version_at a.t1 l.i) l.j c.if3.j
-  right-passed = ⊎_elim (λ w. inl (w.0.taken, w.1)) (λ w. inr (w.0.left, w.1)) c.if3.branch
+      let a = at-loop.args in let l = at-loop.loop-i in
+      Passed (version_at a.w l.j) (version_at a.v l.i) l.j c.if-b-a.j
+  right-passed = ⊎_elim (λ w. inl (w.if-b-a.true, w.j-is)) (λ w. inr (w.if-b-a.false, w.j-is)) c.if-b-a.branch-raw
 
-pub count-versions-spec : {M : Type 1} → statement M
-count-versions-spec =
+pub count_versions_spec : {M : Type 1} → statement M
+count_versions_spec =
     tie.close
     (tie.spec
-    invariant-loop
-    decreases-loop
+    invariant-loop-i
+    decreases-loop-i
     (λ c. search (counting-none, rules))
     (λ c. search rules) (λ c. search rules)
     (λ c. search counting-left)

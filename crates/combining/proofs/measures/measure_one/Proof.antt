@@ -9,8 +9,8 @@ use Rattle.combining.proofs.measures.measure_one.Tie as tie
 
 -- ---- the places
 
-abbrev to_start : tie.After-put-measure → tie.Start
-to_start c = c.before.before.before
+abbrev to_start : tie.After-put_measure → tie.Start
+to_start c = (search)
 
 -- ---- the facts
 
@@ -20,20 +20,20 @@ counted-long c = length-set c.args.measures.now 0 1 ∙ c.requires
 
 -- ---- the needs
 
-put-measure-requires : tie.Need-put-measure-requires
-put-measure-requires c κs = (counted-long c.before.before, omega arith)
+put-measure-requires : tie.Need-put_measure-requires
+put-measure-requires c κs = (counted-long (search), omega arith)
 
-same_length : tie.Need-same-length
+same_length : tie.Need-shape_of-measures
 same_length c =
-    let s = to_start c.before.before in
-    omega (arith, counted-long s, s.pre)
+    let s = to_start (search) in
+    omega (arith, counted-long s, s.requires)
 
 returns : tie.Need-returns
 returns c = λ s v z.
-    let put = c.before.before in
-    let (here, (_, count)) = put.put-measure.ensures in
-    let start = to_start put in
-    measured-one _ _ s (count ∙ count-here start.args.measures.now 1 start.pre) here v z
+    let put = c in
+    let (here, (_, count)) = put.put_measure.ensures in
+    let start = to_start (search) in
+    measured-one _ _ s (count ∙ count-here start.args.measures.now 1 start.requires) here v z
 
-pub measure-one-spec : {M : Type 1} → statement M
-measure-one-spec = tie.close (tie.spec (λ c. search rules) put-measure-requires same_length returns)
+pub measure_one_spec : {M : Type 1} → statement M
+measure_one_spec = tie.close (tie.spec (λ c. search rules) put-measure-requires same_length returns)

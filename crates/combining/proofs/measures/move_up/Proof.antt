@@ -10,58 +10,58 @@ use Rattle.combining.proofs.MeasureLaws.{Moved, none-moved, moved-next, moved_up
 use Rattle.combining.proofs.measures.move_up.Statement.{statement}
 use Rattle.combining.proofs.measures.move_up.Tie as tie
 
-abbrev invariant-loop : tie.invariant-loop
-invariant-loop measures₀ index count k₀ measures k = (count ≡ count_in measures₀) × (index ≤ k) × (k ≤ count) × Moved measures₀ k measures
+abbrev invariant-loop-k : tie.invariant-loop-k
+invariant-loop-k measures₀ index count k₀ measures k = (count ≡ count_in measures₀) × (index ≤ k) × (k ≤ count) × Moved measures₀ k measures
 
-abbrev decreases-loop : tie.decreases-loop
-decreases-loop measures₀ index count k₀ measures k = k
+abbrev decreases-loop-k : tie.decreases-loop-k
+decreases-loop-k measures₀ index count k₀ measures k = k
 
 -- ---- the places
 
-abbrev to_start : tie.At-loop invariant-loop decreases-loop → tie.Start invariant-loop decreases-loop
-to_start c = c.before.before.before
+abbrev to_start : tie.At-loop-k invariant-loop-k decreases-loop-k → tie.Start invariant-loop-k decreases-loop-k
+to_start c = (search)
 
 -- ---- the facts
 
 -- a turn is at a place of a measure
-low : (c : tie.In-loop invariant-loop decreases-loop) → (0 < c.before.loop.k) × (c.before.loop.k < 8)
+low : (c : tie.In-loop-k invariant-loop-k decreases-loop-k) → (0 < c.loop-k.k) × (c.loop-k.k < 8)
 low c =
-    let (is, _, below, _) = c.before.loop.invariant in
-    let few = (to_start c.before).pre.2 in
-    (omega (arith, c.loop-test.true), omega (arith, is, below, few))
+    let (is, _, below, _) = c.loop-k.invariant in
+    let few = (to_start (search)).requires.2 in
+    (omega (arith, c.loop-k-test.true), omega (arith, is, below, few))
 
 -- ---- the needs
 
-loop-holds : tie.Need-loop-init invariant-loop decreases-loop
+loop-holds : tie.Need-loop-k-init invariant-loop-k decreases-loop-k
 loop-holds c =
-    let start = c.before.before in
+    let start = c in
     (refl, start.requires.1, omega arith, none-moved start.args.measures.now start.requires.0)
 
-loop-again : tie.Need-loop-preserved invariant-loop decreases-loop
+loop-again : tie.Need-loop-k-preserved invariant-loop-k decreases-loop-k
 loop-again c =
-    let put : tie.After-put-measure invariant-loop decreases-loop = search in
-    let read : tie.After-measure-at invariant-loop decreases-loop = search in
-    let turn : tie.In-loop invariant-loop decreases-loop = search in
-    let (is, _, below, moved) = turn.before.loop.inv in
-    let (here, (others, _)) = put.put-measure.ensures in (
+    let put : tie.After-put_measure invariant-loop-k decreases-loop-k = search in
+    let read : tie.After-measure_at-x invariant-loop-k decreases-loop-k = search in
+    let turn : tie.In-loop-k invariant-loop-k decreases-loop-k = search in
+    let (is, _, below, moved) = turn.loop-k.invariant in
+    let (here, (others, _)) = put.put_measure.ensures in (
       is,
-      omega (arith, turn.loop-test.taken),
+      omega (arith, turn.loop-k-test.true),
       omega (arith, below),
-      moved-next _ _ _ _ moved (low turn).0 put.put-measure.kept.0 (here ∙ read.measure-at.ensures) others,
+      moved-next _ _ _ _ moved (low turn).0 put.put_measure.auto.measures (here ∙ read.measure_at-x.ensures) others,
     )
 
-same_length : tie.Need-same-length invariant-loop decreases-loop
+same_length : tie.Need-shape_of-measures invariant-loop-k decreases-loop-k
 same_length c =
-    let l = c.before.loop in
-    let start = to_start c.before in
-    omega (arith, length-set l.measures 0 (count_in start.args.measures.now + 1), l.invariant.3.long, start.pre.0)
+    let l = c.loop-k in
+    let start = to_start (search) in
+    omega (arith, length-set l.measures 0 (count_in start.args.measures.now + 1), l.invariant.3.long, start.requires.0)
 
 pub move_up_spec : {M : Type 1} → statement M
 move_up_spec =
     tie.close
     (tie.spec
-    invariant-loop
-    decreases-loop
+    invariant-loop-k
+    decreases-loop-k
     (λ c. search rules)
     loop-holds
     (λ c. search rules)
@@ -70,6 +70,6 @@ move_up_spec =
     (λ c. search rules) (λ c. search rules)
     loop-again
     (λ c. search rules)
-    (λ c. omega (arith, c.before.loop.invariant.3.long))
+    (λ c. omega (arith, c.loop-k.invariant.3.long))
     same_length
     (λ c. search moved_up))

@@ -10,55 +10,55 @@ use Rattle.combining.proofs.MeasureLaws.{PassedIn, none_passed, passed-low, pass
 use Rattle.combining.proofs.measures.place_of.Statement.{statement}
 use Rattle.combining.proofs.measures.place_of.Tie as tie
 
-abbrev invariant-loop : tie.invariant-loop
-invariant-loop s measures version count before₀ k₀ before k = (count ≡ count_in measures) × PassedIn measures version.0 before k
+abbrev invariant-loop-k : tie.invariant-loop-k
+invariant-loop-k s measures version count before₀ k₀ before k = (count ≡ count_in measures) × PassedIn measures version.0 before k
 
-abbrev decreases-loop : tie.decreases-loop
-decreases-loop s measures version count before₀ k₀ before k = count - k
+abbrev decreases-loop-k : tie.decreases-loop-k
+decreases-loop-k s measures version count before₀ k₀ before k = count - k
 
 -- ---- the places
 
-abbrev to_start : tie.At-loop invariant-loop decreases-loop → tie.Start invariant-loop decreases-loop
-to_start c = c.before.before.before.before
+abbrev to_start : tie.At-loop-k invariant-loop-k decreases-loop-k → tie.Start invariant-loop-k decreases-loop-k
+to_start c = (search)
 
 -- ---- the facts
 
 -- the measures up to the count are among the numbers
-low : (c : tie.At-loop invariant-loop decreases-loop) → let m = (to_start c).args.measures.now in (c.loop.k ≤ count_in m) × (count_in m ≤ 8)
-low c = passed-low c.loop.invariant.1 (to_start c).requires.0
+low : (c : tie.At-loop-k invariant-loop-k decreases-loop-k) → let m = (to_start c).args.measures.now in (c.loop-k.k ≤ count_in m) × (count_in m ≤ 8)
+low c = passed-low c.loop-k.invariant.1 (to_start c).requires.0
 
 -- there is a next snapshot
-next : (c : tie.In-loop invariant-loop decreases-loop) → c.before.loop.k < count_in (to_start c.before).args.measures.now
-next c = omega (arith, c.before.loop.invariant.0, c.loop-test.true)
+next : (c : tie.In-loop-k invariant-loop-k decreases-loop-k) → c.loop-k.k < count_in (to_start (search)).args.measures.now
+next c = omega (arith, c.loop-k.invariant.0, c.loop-k-test.true)
 
 -- ---- the needs
 
-measure-at-requires : tie.Need-measure-at-requires invariant-loop decreases-loop
-measure-at-requires c κs = ((to_start c.before).pre.1, omega (arith, next c, low c.before))
+measure-at-requires : tie.Need-measure_at-x-requires invariant-loop-k decreases-loop-k
+measure-at-requires c κs = ((to_start (search)).requires.1, omega (arith, next c, low (search)))
 
-add-before : tie.Need-overflow-add-before invariant-loop decreases-loop
+add-before : tie.Need-overflow_add-before invariant-loop-k decreases-loop-k
 add-before c =
-    let read : tie.After-measure-at invariant-loop decreases-loop = search in
-    let turn = read.before in
-    let start = to_start turn.before in
-    omega (arith, passed-fits turn.before.loop.inv.1 (next turn) read.measure-at.ensures start.pre.0, start.good.0)
+    let read : tie.After-measure_at-x invariant-loop-k decreases-loop-k = search in
+    let turn = read in
+    let start = to_start (search) in
+    omega (arith, passed-fits turn.loop-k.invariant.1 (next (search)) read.measure_at-x.ensures start.requires.0, start.well_formed.0)
 
-loop-again : tie.Need-loop-preserved invariant-loop decreases-loop
+loop-again : tie.Need-loop-k-preserved invariant-loop-k decreases-loop-k
 loop-again c =
-    let higher : tie.Else2 invariant-loop decreases-loop = search in
-    let read : tie.After-measure-at invariant-loop decreases-loop = search in
-    let turn : tie.In-loop invariant-loop decreases-loop = search in
-    let l = turn.before.loop in
-    let below : read.measure-at.result.version.0 < (to_start turn.before).args.version.0 =
-    omega (arith, higher.before.before.before.if1.left, higher.if2.left) in
-    (l.inv.0, passed-next l.inv.1 (next turn) read.measure-at.ensures below)
+    let higher : tie.Else-version-here-2 invariant-loop-k decreases-loop-k = search in
+    let read : tie.After-measure_at-x invariant-loop-k decreases-loop-k = search in
+    let turn : tie.In-loop-k invariant-loop-k decreases-loop-k = search in
+    let l = turn.loop-k in
+    let below : read.measure_at-x.result.version.0 < (to_start (search)).args.version.0 =
+    omega (arith, higher.if-version-here.false, higher.if-version-here-2.false) in
+    (l.invariant.0, passed-next l.invariant.1 (next turn) read.measure_at-x.ensures below)
 
-pub place-of-spec : {M : Type 1} → statement M
-place-of-spec =
+pub place_of_spec : {M : Type 1} → statement M
+place_of_spec =
     tie.close
     (tie.spec
-    invariant-loop
-    decreases-loop
+    invariant-loop-k
+    decreases-loop-k
     (λ c. search rules)
     (λ c. (refl, none_passed))
     measure-at-requires

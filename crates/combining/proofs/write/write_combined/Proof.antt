@@ -7,16 +7,16 @@ use Rattle.combining.proofs.write.write_combined.Tie as tie
 
 -- ---- the needs
 
-write-snapshots-requires : tie.Need-write-snapshots-requires
+write-snapshots-requires : tie.Need-write_snapshots-requires
 write-snapshots-requires c κs =
-    let written : tie.After-write-number = search in
-    let heads : tie.After-write-heads = search in
+    let written : tie.After-write_number-after_count = search in
+    let heads : tie.After-write_heads-after_head = search in
     let start : tie.Start = search in
-    let p = start.pre in
-    (p.0, p.1, p.2, snapshots-there heads.write-heads.ensures written.before.count-versions.ensures p.3 written.write-number.ensures)
+    let p = start.requires in
+    (p.0, p.1, p.2, snapshots-there heads.write_heads-after_head.ensures written.count_versions.ensures p.3 written.write_number-after_count.ensures)
 
-pub write-combined-spec : {M : Type 1} → statement M
-write-combined-spec =
+pub write_combined_spec : {M : Type 1} → statement M
+write_combined_spec =
     tie.close
     (tie.spec
     (λ c κs. search heads-there)

@@ -7,41 +7,41 @@ use Rattle.combining.proofs.write.write_heads.Tie as tie
 
 -- ---- the places
 
-abbrev to_start : tie.After-hashes → tie.Start
-to_start c = c.before.before.before.before.before.before
+abbrev to_start : tie.After-hashes-1 → tie.Start
+to_start c = (search)
 
-abbrev to-union : tie.After-hashes3 → tie.After-write-hash-union
-to-union c = c.before.before.before.before
+abbrev to-union : tie.After-hashes-2-1 → tie.After-write_hash_union-size
+to-union c = (search)
 
 -- ---- the needs
 
-part-write-dossier-head-end : tie.Need-slice-bounds-write-dossier-head-end
+part-write-dossier-head-end : tie.Need-slice_bounds-write_dossier_head-end
 part-write-dossier-head-end c =
-    let made = to-union c in
-    let parents = made.before in
-    union-within parents.before.before.hashes-part.ensures parents.before.hashes-part2.ensures made.write-hash-union.ensures
-    (to_start parents).pre
+    let made = to-union (search) in
+    let parents = made in
+    union-within parents.hashes_part.ensures parents.hashes_part-2.ensures made.write_hash_union-size.ensures
+    (to_start (search)).requires
 
-write-dossier-head-requires : tie.Need-write-dossier-head-requires
+write-dossier-head-requires : tie.Need-write_dossier_head-requires
 write-dossier-head-requires c κs =
-    let source : tie.After-text-part2 = search in
-    let made = to-union c.before.before in
-    let parents : tie.After-hashes = search in
-    parts-there parents.before.before.hashes-part.ensures parents.before.hashes-part2.ensures made.write-hash-union.ensures
-    source.before.text-part.ensures source.text-part2.ensures (to_start parents).pre
+    let source : tie.After-text_part-source = search in
+    let made = to-union (search) in
+    let parents : tie.After-hashes-1 = search in
+    parts-there parents.hashes_part.ensures parents.hashes_part-2.ensures made.write_hash_union-size.ensures
+    source.text_part-name.ensures source.text_part-source.ensures (to_start parents).requires
 
 returns : tie.Need-returns
 returns c =
-    let written : tie.After-write-dossier-head = search in
-    let at : tie.After-hashes3 = search in
-    let source : tie.After-text-part2 = search in
+    let written : tie.After-write_dossier_head = search in
+    let at : tie.After-hashes-2-1 = search in
+    let source : tie.After-text_part-source = search in
     let made = to-union at in
-    let parents : tie.After-hashes = search in
-    heads-wrote parents.before.before.hashes-part.ensures parents.before.hashes-part2.ensures made.write-hash-union.ensures
-    source.before.text-part.ensures source.text-part2.ensures written.write-dossier-head.ensures
+    let parents : tie.After-hashes-1 = search in
+    heads-wrote parents.hashes_part.ensures parents.hashes_part-2.ensures made.write_hash_union-size.ensures
+    source.text_part-name.ensures source.text_part-source.ensures written.write_dossier_head.ensures
 
-pub write-heads-spec : {M : Type 1} → statement M
-write-heads-spec =
+pub write_heads_spec : {M : Type 1} → statement M
+write_heads_spec =
     tie.close
     (tie.spec
     (λ c κs. search rules) (λ c κs. search rules) (λ c. search rules)

@@ -6,27 +6,27 @@ use Rattle.combining.proofs.write.write_rest.Tie as tie
 
 -- ---- the places
 
-abbrev to-left : tie.After-copy-part-arg → tie.Else1
-to-left c = c.before.before.before
+abbrev to-left : tie.After-copy_part-arg-1 → tie.Else-d-i
+to-left c = (search)
 
 -- ---- the needs
 
-returns : tie.Need-returns
-returns c = λ h w. nothing-wrote (rest-none _ _ h w _ c.if1.true)
+returns : tie.Need-returns-then-d-i
+returns c = λ h w. nothing-wrote (rest-none _ _ h w _ c.if-d-i.true)
 
-copy-part-requires : tie.Need-copy-part-requires
+copy-part-requires : tie.Need-copy_part-requires
 copy-part-requires c κs =
     let left = to-left c in
-    let p = left.before.before.before.pre in
-    rest-there _ _ p.what p.is _ left.if1.left _ _ p.room
+    let p = left.requires in
+    rest-there _ _ p.what p.is _ left.if-d-i.false _ _ p.room
 
-returns-2 : tie.Need-returns-2
+returns-2 : tie.Need-returns
 returns-2 c = λ h w.
-    let copied = c.before.before in
-    wrote_as (rest_part _ _ h w _ (to-left copied.before).if1.false) copied.copy-part.ensures
+    let copied = c in
+    wrote_as (rest_part _ _ h w _ (to-left (search)).if-d-i.false) copied.copy_part.ensures
 
-pub write-rest-spec : {M : Type 1} → statement M
-write-rest-spec =
+pub write_rest_spec : {M : Type 1} → statement M
+write_rest_spec =
     tie.close
     (tie.spec
     returns

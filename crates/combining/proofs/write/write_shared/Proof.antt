@@ -12,22 +12,22 @@ use Rattle.combining.proofs.write.write_shared.Tie as tie
 -- ---- the places
 
 abbrev to_start : tie.After-same → tie.Start
-to_start c = c.before.before.before.before.before.before.before.before.before
+to_start c = (search)
 
 -- ---- the facts
 
-alike : (c : tie.Then1) → let a = (to_start c.before).args in equal texts a.left.now a.right.now ≡ true
-alike c = sym c.before.same.ensures ∙ c.if1.true
+alike : (c : tie.Then-same) → let a = (to_start (search)).args in equal texts a.left.now a.right.now ≡ true
+alike c = sym c.same.ensures ∙ c.if-same.true
 
 -- ---- the needs
 
-returns : tie.Need-returns
+returns : tie.Need-returns-then-same
 returns c = λ u ty x y w s p q.
     let copied : tie.After-copy = search in
-    wrote_as (same-written s.meet p q (alike copied.before.before)) copied.copy.ensures
+    wrote_as (same-written s.meet p q (alike (search))) copied.copy.ensures
 
-pub write-shared-spec : {M : Type 1} → statement M
-write-shared-spec =
+pub write_shared_spec : {M : Type 1} → statement M
+write_shared_spec =
     tie.close
     (tie.spec
     (λ c κs. search rules)
@@ -36,7 +36,7 @@ write-shared-spec =
     returns
     (λ c κs. search agreed-room)
     (λ c. search rules)
-    (λ c. λ u ty x y w s p q. agreed-wrote w s c.before.before.write-agreed.ensures search)
+    (λ c. λ u ty x y w s p q. agreed-wrote w s c.write_agreed.ensures search)
     (λ c κs. search joined-room)
     (λ c. search rules)
-    (λ c. λ u ty x y w s p q. joined-wrote w s c.before.before.write-joined.ensures search))
+    (λ c. λ u ty x y w s p q. joined-wrote w s c.write_joined.ensures search))

@@ -10,74 +10,74 @@ use Rattle.combining.proofs.TurnLaws.{left-copied, right-copied, turn-left, turn
 use Rattle.combining.proofs.write.write_snapshots.Statement.{statement}
 use Rattle.combining.proofs.write.write_snapshots.Tie as tie
 
-abbrev invariant-loop : tie.invariant-loop
-invariant-loop a left b right t ps out₀ at d e i₀ j₀ next₀ out i j next = Merging a left b right t ps out₀ at d e out i j next
+abbrev invariant-loop-i : tie.invariant-loop-i
+invariant-loop-i a left b right t ps out₀ at d e i₀ j₀ next₀ out i j next = Merging a left b right t ps out₀ at d e out i j next
 
-abbrev decreases-loop : tie.decreases-loop
-decreases-loop a left b right t ps out₀ at d e i₀ j₀ next₀ out i j next = d.count + e.count - (i + j)
+abbrev decreases-loop-i : tie.decreases-loop-i
+decreases-loop-i a left b right t ps out₀ at d e i₀ j₀ next₀ out i j next = d.count + e.count - (i + j)
 
 -- ---- the places
 
-abbrev to_start : tie.At-loop invariant-loop decreases-loop → tie.Start invariant-loop decreases-loop
-to_start c = c.before.before.before.before.before.before.before
+abbrev to_start : tie.At-loop-i invariant-loop-i decreases-loop-i → tie.Start invariant-loop-i decreases-loop-i
+to_start c = (search)
 
 -- the versions of the two that are left are read
-abbrev to-turn : tie.After-struct-known2 invariant-loop decreases-loop → tie.Else1 invariant-loop decreases-loop
-to-turn c = c.before.before.before.before
+abbrev to-turn : tie.After-struct_known-in-loop-i-1 invariant-loop-i decreases-loop-i → tie.Else-e-j invariant-loop-i decreases-loop-i
+to-turn c = (search)
 
-abbrev other-turn : tie.After-struct-known4 invariant-loop decreases-loop → tie.Else1 invariant-loop decreases-loop
-other-turn c = to-turn c.before.before.before
+abbrev other-turn : tie.After-struct_known-else-v-w-2-1 invariant-loop-i decreases-loop-i → tie.Else-e-j invariant-loop-i decreases-loop-i
+other-turn c = to-turn (search)
 
 -- both are of one version
-abbrev one-turn : tie.Else3 invariant-loop decreases-loop → tie.Else1 invariant-loop decreases-loop
-one-turn c = other-turn c.before
+abbrev one-turn : tie.Else-w-v invariant-loop-i decreases-loop-i → tie.Else-e-j invariant-loop-i decreases-loop-i
+one-turn c = other-turn (search)
 
-abbrev parts-to-one : tie.After-part-of2 invariant-loop decreases-loop → tie.Else3 invariant-loop decreases-loop
-parts-to-one c = c.before.before.before.before.before.before.before.before.before.before
+abbrev parts-to-one : tie.After-part_of-else-w-v invariant-loop-i decreases-loop-i → tie.Else-w-v invariant-loop-i decreases-loop-i
+parts-to-one c = (search)
 
 -- ---- a snapshot of each side is left
 
-module _ (c : tie.Else1 invariant-loop decreases-loop) where
-  abbrev start : tie.Start invariant-loop decreases-loop
-  start = to_start c.before.before
+module _ (c : tie.Else-e-j invariant-loop-i decreases-loop-i) where
+  abbrev start : tie.Start invariant-loop-i decreases-loop-i
+  start = to_start (search)
 
   turn :
       let a = start.args in
-      let l = c.before.before.loop in
-      Turn a.a.now a.left.now a.b.now a.right.now a.t a.properties.now a.out.now a.at a.t2 a.t5
+      let l = c.loop-i in
+      Turn a.a.now a.left.now a.b.now a.right.now a.t a.properties.now a.out.now a.at a.d a.e
       l.out l.i l.j l.next
   turn = search turn_at
 
   -- their rows are there
-  left-row : 96 * c.before.before.loop.i + 96 ≤ length start.args.left.now
-  left-row = omega (arith, start.pre.0, turn.left_in)
+  left-row : 96 * c.loop-i.i + 96 ≤ length start.args.left.now
+  left-row = omega (arith, start.requires.0, turn.left_in)
 
-  right-row : 96 * c.before.before.loop.j + 96 ≤ length start.args.right.now
-  right-row = omega (arith, start.pre.1, turn.right-in)
+  right-row : 96 * c.loop-i.j + 96 ≤ length start.args.right.now
+  right-row = omega (arith, start.requires.1, turn.right-in)
 
 -- ---- the needs
 
-write-shared-requires : tie.Need-write-shared-requires invariant-loop decreases-loop
+write-shared-requires : tie.Need-write_shared-next-requires invariant-loop-i decreases-loop-i
 write-shared-requires c κs =
-    let one : tie.Else3 invariant-loop decreases-loop = search in
+    let one : tie.Else-w-v invariant-loop-i decreases-loop-i = search in
     let at = one-turn one in
-    let not_left = one.before.before.before.if2.left in
-    (row-long _ _ (left-row at), row-long _ _ (right-row at), search rules, search (shared-there (turn at) not_left one.if3.left))
+    let not_left = one.if-v-w.false in
+    (row-long _ _ (left-row at), row-long _ _ (right-row at), search rules, search (shared-there (turn at) not_left one.if-w-v.false))
 
-loop-again-3 : tie.Need-loop-preserved-3 invariant-loop decreases-loop
+loop-again-3 : tie.Need-loop-i-preserved invariant-loop-i decreases-loop-i
 loop-again-3 c =
-    let shared : tie.After-write-shared invariant-loop decreases-loop = search in
-    let parts : tie.After-part-of2 invariant-loop decreases-loop = search in
+    let shared : tie.After-write_shared-next invariant-loop-i decreases-loop-i = search in
+    let parts : tie.After-part_of-else-w-v invariant-loop-i decreases-loop-i = search in
     let one = parts-to-one parts in
-    turn-both (turn (one-turn one)) one.before.before.before.if2.left one.if3.left parts.before.before.before.part_of.ensures
-    parts.part-of2.ensures shared.write-shared.ensures
+    turn-both (turn (one-turn one)) one.if-v-w.false one.if-w-v.false parts.part_of.ensures
+    parts.part_of-else-w-v.ensures shared.write_shared-next.ensures
 
-pub write-snapshots-spec : {M : Type 1} → statement M
-write-snapshots-spec =
+pub write_snapshots_spec : {M : Type 1} → statement M
+write_snapshots_spec =
     tie.close
     (tie.spec
-    invariant-loop
-    decreases-loop
+    invariant-loop-i
+    decreases-loop-i
     (λ c. merging-none)
     (λ c κs. search left-rest)
     (λ c. search rules)

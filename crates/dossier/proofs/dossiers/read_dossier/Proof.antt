@@ -15,11 +15,11 @@ use Rattle.dossier.proofs.dossiers.read_dossier.Tie as tie
 
 -- ---- the values
 
-module _ (c : tie.After-known-told2) where
+module _ (c : tie.In-Number) where
   abbrev start : tie.Start
   start = search
 
-  abbrev head : tie.After-head
+  abbrev head : tie.In-Head
   head = search
 
   abbrev chosen : Limits
@@ -29,51 +29,51 @@ module _ (c : tie.After-known-told2) where
   bytes = start.args.s.now
 
   abbrev number : ℕ
-  number = c.before.number.given.0.0
+  number = c.in-Number.number
 
 -- ---- the facts
 
-counted : (c : tie.After-known-told2) → HeadCount (chosen c) (bytes c) (head c).head.given.0.0 (number c) c.before.number.given.0.1.0
+counted : (c : tie.In-Number) → HeadCount (chosen c) (bytes c) (head c).in-Head.head (number c) c.in-Number.after_count
 counted c = search count-read
 
 all :
-    (c : tie.Else2) → let told : tie.After-known-told2 = search in let call : tie.After-read-snapshots = search in
-    SnapshotsFound (chosen told) (bytes told) (head told).head.given.0.0 (number told) call.read-snapshots.last.1.1.1.0
-    call.read-snapshots.result
+    (c : tie.Else-not-all) → let told : tie.In-Number = search in let call : tie.After-read_snapshots-all = search in
+    SnapshotsFound (chosen told) (bytes told) (head told).in-Head.head (number told) call.read_snapshots-all.new.rows
+    call.read_snapshots-all.result
 all c =
-    let told : tie.After-known-told2 = search in
-    let call : tie.After-read-snapshots = search in
-    snapshots-read (counted told) _ _ call.read-snapshots.ensures (not-false _ c.if2.false)
+    let told : tie.In-Number = search in
+    let call : tie.After-read_snapshots-all = search in
+    snapshots-read (counted told) _ _ call.read_snapshots-all.ensures (not-false _ c.if-not-all.false)
 
 -- ---- the needs
 
-returns-4 : tie.Need-returns-4
-returns-4 c = let told : tie.After-known-told2 = search in refused _ _ _ _ _ (search (snapshots-none, counted told, not-true)) c.no-dossier4.ensures
+returns-4 : tie.Need-returns-then-not-all
+returns-4 c = let told : tie.In-Number = search in refused _ _ _ _ _ (search (snapshots-none, counted told, not-true)) c.no_dossier-then-not-all.ensures
 
-returns-5 : tie.Need-returns-5
-returns-5 c = refused _ _ _ _ _ (search (not-whole, all c.before.before.before)) c.no-dossier5.ensures
+returns-5 : tie.Need-returns-then-all-s
+returns-5 c = refused _ _ _ _ _ (search (not-whole, all (search))) c.no_dossier-then-all-s.ensures
 
-versions-rise-requires : tie.Need-versions-rise-requires
-versions-rise-requires c κs = let told : tie.After-known-told2 = search in (counted told).few
+versions-rise-requires : tie.Need-versions_rise-requires
+versions-rise-requires c κs = let told : tie.In-Number = search in (counted told).few
 
-returns-6 : tie.Need-returns-6
-returns-6 c = let read : tie.Else2 = search in refused _ _ _ _ _ (search (not-rising, all read, not-true)) c.no-dossier6.ensures
+returns-6 : tie.Need-returns-then-not-versions_rise
+returns-6 c = let read : tie.Else-not-all = search in refused _ _ _ _ _ (search (not-rising, all read, not-true)) c.no_dossier-then-not-versions_rise.ensures
 
-returns-7 : tie.Need-returns-7
-returns-7 c = let read : tie.Else2 = search in search (dossier-found, all read, not-false)
+returns-7 : tie.Need-returns
+returns-7 c = let read : tie.Else-not-all = search in search (dossier-found, all read, not-false)
 
-pub read-dossier-spec : {M : Type 1} → statement M
-read-dossier-spec =
+pub read_dossier_spec : {M : Type 1} → statement M
+read_dossier_spec =
     tie.close
     (tie.spec
     (λ c κs. search rules) (λ c. search rules) (λ c. search rules) (λ c κs. search rules)
-    (λ c. refused _ _ _ _ _ (search head-none) c.no-dossier.ensures)
+    (λ c. refused _ _ _ _ _ (search head-none) c.no_dossier.ensures)
     (λ c κs. search rules) (λ c. search rules) (λ c. search rules) (λ c κs. search rules)
-    (λ c. refused _ _ _ _ _ (search count_none) c.no-dossier2.ensures)
+    (λ c. refused _ _ _ _ _ (search count_none) c.no_dossier-in_default-read_within.ensures)
     (λ c. omega (arith, (counted c).few))
     (λ c κs. search rules)
-    (λ c. refused _ _ _ _ _ (let told : tie.After-known-told2 = search in search (rows_short, counted told, (start told).pre.1)) c.no-dossier3.ensures)
-    (λ c κs. let n = counted c.before.before in (n.count.within, n.one, n.few, c.before.if1.false))
+    (λ c. refused _ _ _ _ _ (let told : tie.In-Number = search in search (rows_short, counted told, (start told).requires.1)) c.no_dossier-then-rows-count.ensures)
+    (λ c κs. let n = counted (search) in (n.count.within, n.one, n.few, c.if-rows-count.false))
     (λ c κs. search rules) (λ c. search rules)
     returns-4
     (λ c κs. search rules) (λ c. search rules)

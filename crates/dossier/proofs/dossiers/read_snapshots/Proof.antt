@@ -9,23 +9,23 @@ use Rattle.dossier.proofs.DossierReadLaws.{Sofar, sofar-none, sofar-bad, sofar-m
 use Rattle.dossier.proofs.dossiers.read_snapshots.Statement.{statement}
 use Rattle.dossier.proofs.dossiers.read_snapshots.Tie as tie
 
-abbrev invariant-loop : tie.invariant-loop
-invariant-loop s at count rows₀ r₀ next₀ j₀ rows r next j = Sofar (times read_snapshot count (drop at s)) s rows r count next j (length rows₀)
+abbrev invariant-loop-j : tie.invariant-loop-j
+invariant-loop-j s at count rows₀ r₀ next₀ j₀ rows r next j = Sofar (times read_snapshot count (drop at s)) s rows r count next j (length rows₀)
 
-abbrev decreases-loop : tie.decreases-loop
-decreases-loop s at count rows₀ r₀ next₀ j₀ rows r next j = count - j
+abbrev decreases-loop-j : tie.decreases-loop-j
+decreases-loop-j s at count rows₀ r₀ next₀ j₀ rows r next j = count - j
 
 -- ---- the needs
 
-read-snapshot-requires : tie.Need-read-snapshot-requires invariant-loop decreases-loop
-read-snapshot-requires c κs = (c.before.before.loop.invariant.within, search rules, λ known. never (cc known))
+read-snapshot-requires : tie.Need-read_snapshot-requires invariant-loop-j decreases-loop-j
+read-snapshot-requires c κs = (c.loop-j.invariant.within, search rules, λ known. never (cc known))
 
-pub read-snapshots-spec : {M : Type 1} → statement M
-read-snapshots-spec =
+pub read_snapshots_spec : {M : Type 1} → statement M
+read_snapshots_spec =
     tie.close
     (tie.spec
-    invariant-loop
-    decreases-loop
+    invariant-loop-j
+    decreases-loop-j
     (λ c. search sofar-none)
     (λ c. search rules) (λ c. search rules) (λ c. search rules) (λ c. search rules) (λ c. search rules)
     (λ c. search rules) (λ c. search rules)

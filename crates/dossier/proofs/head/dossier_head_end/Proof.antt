@@ -8,8 +8,8 @@ use Rattle.dossier.proofs.HeadEndLaws.{no_name, no_source, no-count, hashes-few,
 use Rattle.dossier.proofs.head.dossier_head_end.Statement.{statement}
 use Rattle.dossier.proofs.head.dossier_head_end.Tie as tie
 
-pub dossier-head-end-spec : {M : Type 1} → statement M
-dossier-head-end-spec =
+pub dossier_head_end_spec : {M : Type 1} → statement M
+dossier_head_end_spec =
     tie.close
     (tie.spec
     (λ c κs. search rules) (λ c. search rules) (λ c. search rules)
@@ -18,11 +18,11 @@ dossier-head-end-spec =
     (λ c. search no_source)
     (λ c κs. search rules) (λ c. search rules) (λ c. search rules)
     (λ c. search no-count)
-    (λ c. let few : c.before.number.given.0.0 ≤ 32 = search hashes-few in omega (arith, few))
+    (λ c. let few : c.in-Number.number ≤ 32 = search hashes-few in omega (arith, few))
     (λ c.
-    let read : tie.After-read-within = search in
-    let number : tie.After-number = search in
-    (number-got number.number.given.1 read.read-within.ensures).within)
+    let read : tie.After-read_within = search in
+    let number : tie.In-Number = search in
+    (number-got number.in-Number.is read.read_within.ensures).within)
     (λ c. search ends-short)
     (λ c. search rules)
     (λ c. search ends-here))

@@ -6,12 +6,12 @@ use Rattle.dossier.proofs.head.write_dossier_head.Tie as tie
 
 -- ---- the places
 
-abbrev to_start : tie.After-write-head-arg → tie.Start
-to_start c = c.before.before.before.before.before
+abbrev to_start : tie.After-write_head-arg-1 → tie.Start
+to_start c = (search)
 
 -- ---- the needs
 
-write-head-requires : tie.Need-write-head-requires
+write-head-requires : tie.Need-write_head-requires
 unfolding dossier_head_bytes
 write-head-requires c κs =
     let p = (to_start c).requires in
@@ -19,7 +19,7 @@ write-head-requires c κs =
 
 returns : tie.Need-returns
 unfolding dossier_head_bytes
-returns c = c.before.before.write-head.ensures
+returns c = c.write_head.ensures
 
-pub write-dossier-head-spec : {M : Type 1} → statement M
-write-dossier-head-spec = tie.close (tie.spec write-head-requires (λ c. search rules) returns)
+pub write_dossier_head_spec : {M : Type 1} → statement M
+write_dossier_head_spec = tie.close (tie.spec write-head-requires (λ c. search rules) returns)

@@ -11,33 +11,33 @@ use Rattle.dossier.proofs.questions.ask_snapshot.Tie as tie
 -- ---- the facts
 
 values :
-    (c : tie.After-sets-in-space) → let start : tie.Start = search in let a = start.args in
+    (c : tie.After-sets_in_space) → let start : tie.Start = search in let a = start.args in
     Shaped a.s.now a.first.now a.row.now a.x a.m a.mark a.count a.properties.now
-    (λ ty xs y. values_number c.sets-in-space.result ≡ snapshot_number (limits_of a.limits) ty xs y)
+    (λ ty xs y. values_number c.sets_in_space.result ≡ snapshot_number (limits_of a.limits) ty xs y)
 unfolding snapshot_values
 values c u ty xs y m w b g x i =
-    let fits : tie.Else1 = search in
-    let like : tie.Else2 = search in
-    number-values _ ty xs y (fits.before.snapshot-fits.ensures u ty y m w b i) (not-false _ fits.if1.left)
-    (like.before.is-match-same.ensures u ty xs _ w x i.sets) (not-false _ like.if2.left)
-    (c.sets-in-space.ensures u ty _ w g i.sets)
+    let fits : tie.Else-not-snapshot_fits = search in
+    let like : tie.Else-not-is_match_same = search in
+    number-values _ ty xs y (fits.snapshot_fits.ensures u ty y m w b i) (not-false _ fits.if-not-snapshot_fits.false-raw)
+    (like.is_match_same.ensures u ty xs _ w x i.sets) (not-false _ like.if-not-is_match_same.false-raw)
+    (c.sets_in_space.ensures u ty _ w g i.sets)
 
 -- ---- the needs
 
-returns-3 : tie.Need-returns-3
-returns-3 c u ty xs y m w b g x i = values-right c.if3.true ∙ values c.before u ty xs y m w b g x i
+returns-3 : tie.Need-returns-then-sets_in_space
+returns-3 c u ty xs y m w b g x i = values-right c.if-sets_in_space.true ∙ values (search) u ty xs y m w b g x i
 
-returns-4 : tie.Need-returns-4
-returns-4 c u ty xs y m w b g x i = values-wrong c.if3.false ∙ values c.before u ty xs y m w b g x i
+returns-4 : tie.Need-returns-else-sets_in_space
+returns-4 c u ty xs y m w b g x i = values-wrong c.if-sets_in_space.false ∙ values (search) u ty xs y m w b g x i
 
-pub ask-snapshot-spec : {M : Type 1} → statement M
-ask-snapshot-spec =
+pub ask_snapshot_spec : {M : Type 1} → statement M
+ask_snapshot_spec =
     tie.close
     (tie.spec
     (λ c κs. search rules)
-    (λ c. search (number-shape, c.before.snapshot-fits.ensures))
+    (λ c. search (number-shape, c.snapshot_fits.ensures))
     (λ c κs. search rules)
-    (λ c u ty xs y m w b g x i. number-match _ ty xs y c.if2.true (c.before.is-match-same.ensures u ty xs _ w x i.sets))
+    (λ c u ty xs y m w b g x i. number-match _ ty xs y c.if-not-is_match_same.true-raw (c.is_match_same.ensures u ty xs _ w x i.sets))
     (λ c κs. search rules)
     returns-3
     returns-4)

@@ -3,13 +3,13 @@ use mathlib.Core.Path.{sym, ap}
 use Rattle.dossier.proofs.shape.bit.Statement.{statement}
 use Rattle.dossier.proofs.shape.bit.Tie as tie
 
-returns : tie.Need-returns
+returns : tie.Need-returns-then-flag
 unfolding bit_of
-returns c = sym (ap bit_of c.if1.true)
+returns c = sym (ap bit_of c.if-flag.true)
 
-returns-2 : tie.Need-returns-2
+returns-2 : tie.Need-returns-else-flag
 unfolding bit_of
-returns-2 c = sym (ap bit_of c.if1.false)
+returns-2 c = sym (ap bit_of c.if-flag.false)
 
-pub bit-spec : {M : Type 1} → statement M
-bit-spec = tie.close (tie.spec returns returns-2)
+pub bit_spec : {M : Type 1} → statement M
+bit_spec = tie.close (tie.spec returns returns-2)

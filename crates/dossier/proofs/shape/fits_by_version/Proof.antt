@@ -5,28 +5,28 @@ use Rattle.dossier.proofs.shape.fits_by_version.Tie as tie
 
 -- ---- the places
 
-abbrev to_start : tie.Else1 → tie.Start
-to_start c = c.before.before.before.before
+abbrev to_start : tie.Else-mark-eq0 → tie.Start
+to_start c = (search)
 
 -- ---- the needs
 
-returns : tie.Need-returns
-returns c y ty m w = plain-not _ w ty m c.before.before.if1.true c.if2.true
+returns : tie.Need-returns-then-version-ne0
+returns c y ty m w = plain-not _ w ty m c.if-mark-eq0.true c.if-version-ne0.true
 
-returns-2 : tie.Need-returns-2
+returns-2 : tie.Need-returns-then-mark-eq0
 returns-2 c y ty m w =
-    let plain : tie.Then1 = search in
-    let none : tie.Else2 = search in
-    plain-so _ w ty m plain.if1.taken none.if2.left
+    let plain : tie.Then-mark-eq0 = search in
+    let none : tie.Else-version-ne0 = search in
+    plain-so _ w ty m plain.if-mark-eq0.true none.if-version-ne0.false
 
-returns-3 : tie.Need-returns-3
-returns-3 c y ty m w = dated-large _ w ty m c.before.before.if1.false c.if3.true
+returns-3 : tie.Need-returns-then-x-gt32
+returns-3 c y ty m w = dated-large _ w ty m c.if-mark-eq0.false c.if-x-gt32.true
 
-holds-version-requires : tie.Need-holds-version-requires
-holds-version-requires c κs = let dated = c.before.before in (omega (arith, dated.if1.false), (to_start dated).requires)
+holds-version-requires : tie.Need-holds_version-requires
+holds-version-requires c κs = let dated = c in (omega (arith, dated.if-mark-eq0.false), (to_start (search)).requires)
 
-returns-4 : tie.Need-returns-4
-returns-4 c y ty m w = dated-so _ w ty m c.before.before.before.if1.false c.before.if3.false (c.holds-version.ensures y w.version w.sets)
+returns-4 : tie.Need-returns
+returns-4 c y ty m w = dated-so _ w ty m c.if-mark-eq0.false c.if-x-gt32.false (c.holds_version.ensures y w.version w.sets)
 
-pub fits-by-version-spec : {M : Type 1} → statement M
-fits-by-version-spec = tie.close (tie.spec returns returns-2 returns-3 holds-version-requires returns-4)
+pub fits_by_version_spec : {M : Type 1} → statement M
+fits_by_version_spec = tie.close (tie.spec returns returns-2 returns-3 holds-version-requires returns-4)

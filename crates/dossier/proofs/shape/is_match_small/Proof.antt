@@ -5,18 +5,18 @@ use Rattle.dossier.proofs.CellLaws.{MatchesLeft, matches-none, matches-over, mat
 use Rattle.dossier.proofs.shape.is_match_small.Statement.{statement}
 use Rattle.dossier.proofs.shape.is_match_small.Tie as tie
 
-abbrev invariant-loop : tie.invariant-loop
-invariant-loop count properties sets left₀ k₀ left k = MatchesLeft count properties sets left k
+abbrev invariant-loop-k : tie.invariant-loop-k
+invariant-loop-k count properties sets left₀ k₀ left k = MatchesLeft count properties sets left k
 
-abbrev decreases-loop : tie.decreases-loop
-decreases-loop count properties sets left₀ k₀ left k = count - k
+abbrev decreases-loop-k : tie.decreases-loop-k
+decreases-loop-k count properties sets left₀ k₀ left k = count - k
 
-pub is-match-small-spec : {M : Type 1} → statement M
-is-match-small-spec =
+pub is_match_small_spec : {M : Type 1} → statement M
+is_match_small_spec =
     tie.close
     (tie.spec
-    invariant-loop
-    decreases-loop
+    invariant-loop-k
+    decreases-loop-k
     (λ c. search matches-none)
     (λ c κs. search rules) (λ c κs. search rules) (λ c κs. search rules)
     (λ c. search matches-over)

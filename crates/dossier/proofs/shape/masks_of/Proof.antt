@@ -7,60 +7,60 @@ use Rattle.dossier.proofs.MaskLaws.{MasksDown, MasksRoom, masks-none, masks-room
 use Rattle.dossier.proofs.shape.masks_of.Statement.{statement}
 use Rattle.dossier.proofs.shape.masks_of.Tie as tie
 
-abbrev invariant-loop : tie.invariant-loop
-invariant-loop versioned count properties m₀ k₀ m k = MasksDown versioned count properties m k
+abbrev invariant-loop-k : tie.invariant-loop-k
+invariant-loop-k versioned count properties m₀ k₀ m k = MasksDown versioned count properties m k
 
-abbrev decreases-loop : tie.decreases-loop
-decreases-loop versioned count properties m₀ k₀ m k = k
+abbrev decreases-loop-k : tie.decreases-loop-k
+decreases-loop-k versioned count properties m₀ k₀ m k = k
 
 -- ---- the places
 
-abbrev to_start : tie.In-loop invariant-loop decreases-loop → tie.Start invariant-loop decreases-loop
+abbrev to_start : tie.In-loop-k invariant-loop-k decreases-loop-k → tie.Start invariant-loop-k decreases-loop-k
 to_start c = search
 
-abbrev from-bit : tie.After-bit invariant-loop decreases-loop → tie.In-loop invariant-loop decreases-loop
+abbrev from-bit : tie.After-bit invariant-loop-k decreases-loop-k → tie.In-loop-k invariant-loop-k decreases-loop-k
 from-bit c = search
 
-abbrev from-bit2 : tie.After-bit2 invariant-loop decreases-loop → tie.In-loop invariant-loop decreases-loop
+abbrev from-bit2 : tie.After-bit-in-loop-k invariant-loop-k decreases-loop-k → tie.In-loop-k invariant-loop-k decreases-loop-k
 from-bit2 c = search
 
-abbrev from-bit3 : tie.After-bit3 invariant-loop decreases-loop → tie.In-loop invariant-loop decreases-loop
+abbrev from-bit3 : tie.After-bit-in-loop-k-2 invariant-loop-k decreases-loop-k → tie.In-loop-k invariant-loop-k decreases-loop-k
 from-bit3 c = search
 
 -- ---- a turn
 
-module _ (c : tie.In-loop invariant-loop decreases-loop) where
-  few : c.before.loop.k ≤ 32
-  few = omega (arith, c.before.loop.invariant.inside, (to_start c).requires.0)
+module _ (c : tie.In-loop-k invariant-loop-k decreases-loop-k) where
+  few : c.loop-k.k ≤ 32
+  few = omega (arith, c.loop-k.invariant.inside, (to_start c).requires.0)
 
-  room : MasksRoom c.before.loop.m
-  room = masks-room c.before.loop.invariant.low c.loop-test.true
+  room : MasksRoom c.loop-k.m
+  room = masks-room c.loop-k.invariant.low c.loop-k-test.true
 
 -- ---- the needs
 
-property-at-requires : tie.Need-property-at-requires invariant-loop decreases-loop
-property-at-requires c κs = ((to_start c).requires.1, omega (arith, c.loop-test.true, few c))
+property-at-requires : tie.Need-property_at-p-requires invariant-loop-k decreases-loop-k
+property-at-requires c κs = ((to_start c).requires.1, omega (arith, c.loop-k-test.true, few c))
 
-pub masks-of-spec : {M : Type 1} → statement M
-masks-of-spec =
+pub masks_of_spec : {M : Type 1} → statement M
+masks_of_spec =
     tie.close
     (tie.spec
-    invariant-loop
-    decreases-loop
+    invariant-loop-k
+    decreases-loop-k
     (λ c. search masks-none)
     (λ c. search rules)
     property-at-requires
-    (λ c. omega (arith, (room c.before.before).all))
-    (λ c. omega (arith, (room c.before.before).all))
-    (λ c. omega (arith, (room c.before.before.before).mandatory))
+    (λ c. omega (arith, (room (search)).all))
+    (λ c. omega (arith, (room (search)).all))
+    (λ c. omega (arith, (room (search)).mandatory))
     (λ c κs. search rules)
     (λ c. omega (arith, (room (from-bit c)).mandatory, bit-low _ c.bit.ensures))
-    (λ c. omega (arith, (room (from-bit c.before)).lone))
+    (λ c. omega (arith, (room (from-bit (search))).lone))
     (λ c κs. search rules) (λ c κs. search rules)
-    (λ c. omega (arith, (room (from-bit2 c)).lone, bit-low _ c.bit2.ensures))
-    (λ c. omega (arith, (room (from-bit2 c.before)).unmarked))
+    (λ c. omega (arith, (room (from-bit2 c)).lone, bit-low _ c.bit-in-loop-k.ensures))
+    (λ c. omega (arith, (room (from-bit2 (search))).unmarked))
     (λ c κs. search rules) (λ c κs. search rules)
-    (λ c. omega (arith, (room (from-bit3 c)).unmarked, bit-low _ c.bit3.ensures))
-    (λ c. omega (arith, (from-bit3 c).loop-test.true))
+    (λ c. omega (arith, (room (from-bit3 c)).unmarked, bit-low _ c.bit-in-loop-k-2.ensures))
+    (λ c. omega (arith, (from-bit3 c).loop-k-test.true))
     (λ c. search masks-more)
     (λ c. search masks-all))

@@ -11,33 +11,34 @@ use Rattle.dossier.proofs.shape.snapshot_fits.Tie as tie
 
 -- ---- the places
 
-abbrev to_start : tie.After-cells-fit → tie.Start
-to_start c = c.before.before.before.before
+abbrev to_start : tie.After-cells_fit → tie.Start
+to_start c = (search)
 
 -- ---- the facts
 
 cells :
-    (c : tie.After-cells-fit) → let a = (to_start c).args in
+    (c : tie.After-cells_fit) → let a = (to_start c).args in
     Fitting a.s.now a.sets.now a.x a.m a.mark a.count a.properties.now (λ ty y. c.cells_fit.result ≡ cells_fit ty y)
 cells c u ty y m w b v = c.cells_fit.ensures _ ty.properties y.cells _ w.count b (cells_are _ y _ _ v) v.objects
 
 -- by asking, or since there are few objects
 matches :
-    (c : tie.Joined2) → let a = (to_start c.before.before.before).args in
+    (c : tie.Joined-x-gt32) → let a = (to_start (search)).args in
     Fitting a.s.now a.sets.now a.x a.m a.mark a.count a.properties.now (λ ty y. matches_few ty y ≡ true)
 matches c u ty y m w b v =
-    ⊎_elim (λ t. sym (t.1.ensures u _ ty.properties _ w v.sets) ∙ not-false _ t.2.left) (λ t. match-within ty y v.objects t.left)
-    c.if2.branch
+    ⊎_elim (λ t. sym (t.is_match_small.ensures u _ ty.properties _ w v.sets) ∙ not-false _ t.if-not-is_match_small.false-raw)
+    (λ t. match-within ty y v.objects t.if-x-gt32.false)
+    c.if-x-gt32.branch-raw
 
-pub snapshot-fits-spec : {M : Type 1} → statement M
-snapshot-fits-spec =
+pub snapshot_fits_spec : {M : Type 1} → statement M
+snapshot_fits_spec =
     tie.close
     (tie.spec
     (λ c κs. search rules)
-    (λ c. search (fits-cells, cells c.before))
+    (λ c. search (fits-cells, cells (search)))
     (λ c κs. search rules)
-    (λ c u ty y m w b v. fits-match _ ty y c.if3.true (c.before.is-match-small.ensures u _ ty.properties _ w v.sets))
+    (λ c u ty y m w b v. fits-match _ ty y c.if-not-is_match_small.true-raw (c.is_match_small.ensures u _ ty.properties _ w v.sets))
     (λ c κs. search rules)
     (λ c.
-    let asked : tie.After-cells-fit = search in
-    search (fits_all, cells asked, matches c.before, c.fits-by-version.ensures)))
+    let asked : tie.After-cells_fit = search in
+    search (fits_all, cells asked, matches (search), c.fits_by_version.ensures)))

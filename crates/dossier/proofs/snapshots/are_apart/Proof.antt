@@ -7,23 +7,23 @@ use Rattle.dossier.proofs.SnapshotLaws.{apart-bad, apart-step, apart-end, apart-
 use Rattle.dossier.proofs.snapshots.are_apart.Statement.{statement}
 use Rattle.dossier.proofs.snapshots.are_apart.Tie as tie
 
-abbrev invariant-loop : tie.invariant-loop
-invariant-loop presence differ m₀ n₀ left₀ m n left = apart 32 presence differ ≡ apart left m n
+abbrev invariant-loop-left : tie.invariant-loop-left
+invariant-loop-left presence differ m₀ n₀ left₀ m n left = apart 32 presence differ ≡ apart left m n
 
-abbrev decreases-loop : tie.decreases-loop
-decreases-loop presence differ m₀ n₀ left₀ m n left = left
+abbrev decreases-loop-left : tie.decreases-loop-left
+decreases-loop-left presence differ m₀ n₀ left₀ m n left = left
 
-pub are-apart-spec : {M : Type 1} → statement M
-are-apart-spec =
+pub are_apart_spec : {M : Type 1} → statement M
+are_apart_spec =
     tie.close
     (tie.spec
-    invariant-loop
-    decreases-loop
+    invariant-loop-left
+    decreases-loop-left
     (λ c. refl)
     (λ c. search rules)
     (λ c. search apart-bad)
     (λ c. search rules)
-    (λ c. omega (arith, c.before.before.loop-test.true))
+    (λ c. omega (arith, c.loop-left-test.true))
     (λ c. search apart-step)
     (λ c. search apart-clear)
     (λ c. search apart-end))

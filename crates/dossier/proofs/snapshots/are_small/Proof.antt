@@ -6,23 +6,23 @@ use Rattle.dossier.proofs.SnapshotLaws.{SmallTo, small-none, small-few, small-ov
 use Rattle.dossier.proofs.snapshots.are_small.Statement.{statement}
 use Rattle.dossier.proofs.snapshots.are_small.Tie as tie
 
-abbrev invariant-loop : tie.invariant-loop
-invariant-loop sets objects k₀ k = SmallTo sets k
+abbrev invariant-loop-k : tie.invariant-loop-k
+invariant-loop-k sets objects k₀ k = SmallTo sets k
 
-abbrev decreases-loop : tie.decreases-loop
-decreases-loop sets objects k₀ k = 32 - k
+abbrev decreases-loop-k : tie.decreases-loop-k
+decreases-loop-k sets objects k₀ k = 32 - k
 
-pub are-small-spec : {M : Type 1} → statement M
-are-small-spec =
+pub are_small_spec : {M : Type 1} → statement M
+are_small_spec =
     tie.close
     (tie.spec
-    invariant-loop
-    decreases-loop
+    invariant-loop-k
+    decreases-loop-k
     (λ c. search small-few)
     (λ c. search small-none)
     (λ c κs. search rules)
     (λ c. search small-over)
     (λ c. search rules)
-    (λ c. omega (arith, c.before.before.before.loop-test.true))
+    (λ c. omega (arith, c.loop-k-test.true))
     (λ c. search small-more)
     (λ c. search small_all))

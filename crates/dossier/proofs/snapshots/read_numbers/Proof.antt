@@ -5,8 +5,8 @@ use Rattle.dossier.proofs.SnapshotLaws.{no-version, no-presence, presence-large,
 use Rattle.dossier.proofs.snapshots.read_numbers.Statement.{statement}
 use Rattle.dossier.proofs.snapshots.read_numbers.Tie as tie
 
-pub read-numbers-spec : {M : Type 1} → statement M
-read-numbers-spec =
+pub read_numbers_spec : {M : Type 1} → statement M
+read_numbers_spec =
     tie.close
     (tie.spec
     (λ c κs. search rules) (λ c. search rules) (λ c. search rules)

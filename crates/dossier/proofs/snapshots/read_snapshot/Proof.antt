@@ -5,18 +5,18 @@ use Rattle.dossier.proofs.SnapshotLaws.{numbers-read, numbers-refused, no-sets, 
 use Rattle.dossier.proofs.snapshots.read_snapshot.Statement.{statement}
 use Rattle.dossier.proofs.snapshots.read_snapshot.Tie as tie
 
-pub read-snapshot-spec : {M : Type 1} → statement M
-read-snapshot-spec =
+pub read_snapshot_spec : {M : Type 1} → statement M
+read_snapshot_spec =
     tie.close
     (tie.spec
     (λ c κs. search rules) (λ c. search rules) (λ c. search rules)
     (λ c. search numbers-refused)
     (λ c κs.
     let start : tie.Start = search in
-    let call : tie.After-read-numbers = search in
-    let told = c.before.before.version.given.1 in
-    let numbers = numbers-read _ _ told call.read-numbers.ensures in
-    (numbers.within, start.pre.1, sets-promised _ _ told call.read-numbers.ensures start.pre.2))
+    let call : tie.After-read_numbers = search in
+    let told = c.in-Numbers.is in
+    let numbers = numbers-read _ _ told call.read_numbers.ensures in
+    (numbers.within, start.requires.1, sets-promised _ _ told call.read_numbers.ensures start.requires.2))
     (λ c. search rules) (λ c. search rules) (λ c. search rules)
     (λ c. search no-sets)
     (λ c κs. search rules) (λ c. search rules)

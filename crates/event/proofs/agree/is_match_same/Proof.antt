@@ -6,18 +6,18 @@ use borrow.Author.Rules.{rules}
 use Rattle.event.proofs.agree.is_match_same.Statement.{statement}
 use Rattle.event.proofs.agree.is_match_same.Tie as tie
 
-abbrev invariant-loop : tie.invariant-loop
-invariant-loop count properties a x b y k₀ k = SameTo count properties a x b y k
+abbrev invariant-loop-k : tie.invariant-loop-k
+invariant-loop-k count properties a x b y k₀ k = SameTo count properties a x b y k
 
-abbrev decreases-loop : tie.decreases-loop
-decreases-loop count properties a x b y k₀ k = count - k
+abbrev decreases-loop-k : tie.decreases-loop-k
+decreases-loop-k count properties a x b y k₀ k = count - k
 
-pub is-match-same-spec : {M : Type 1} → statement M
-is-match-same-spec =
+pub is_match_same_spec : {M : Type 1} → statement M
+is_match_same_spec =
     tie.close
     (tie.spec
-    invariant-loop
-    decreases-loop
+    invariant-loop-k
+    decreases-loop-k
     (λ c. same_none)
     (λ c κs. search arith)
     (λ c κs. search arith)

@@ -8,22 +8,22 @@ use Rattle.event.proofs.agree.place_same.Tie as tie
 
 -- ---- the places
 
-abbrev to_start : tie.Else1 → tie.Start
-to_start c = c.before.before.before.before
+abbrev to_start : tie.Else-not-is_match → tie.Start
+to_start c = (search)
 
 -- ---- the needs
 
-returns : tie.Need-returns
-returns c s q vs ws w x y = place-free s q _ w _ (told-no c.before.is-match.ensures c.if1.true)
+returns : tie.Need-returns-then-not-is_match
+returns c s q vs ws w x y = place-free s q _ w _ (told-no c.is_match.ensures c.if-not-is_match.true-raw)
 
-returns-2 : tie.Need-returns-2
+returns-2 : tie.Need-returns
 returns-2 c s q vs ws w x y =
-    let held : tie.Else1 = search in
+    let held : tie.Else-not-is_match = search in
     c.same.ensures
-    ∙ ap₂ (equal texts) (c.before.before.set-part.ensures vs x) (c.before.set-part2.ensures ws y)
-    ∙ flat-equal vs ws (set-short _ vs _ x (to_start held).good.1.0.0)
-    ∙ place-held s q _ w _ (told-yes held.before.is-match.ensures held.if1.left)
+    ∙ ap₂ (equal texts) (c.set_part.ensures vs x) (c.set_part-2.ensures ws y)
+    ∙ flat-equal vs ws (set-short _ vs _ x (to_start held).well_formed.1.0.0)
+    ∙ place-held s q _ w _ (told-yes held.is_match.ensures held.if-not-is_match.false-raw)
 
-pub place-same-spec : {M : Type 1} → statement M
-place-same-spec =
+pub place_same_spec : {M : Type 1} → statement M
+place_same_spec =
     tie.close (tie.spec (λ c κs. search rules) returns (λ c κs. search rules) (λ c κs. search rules) (λ c κs. search rules) returns-2)

@@ -4,8 +4,8 @@ use Rattle.event.proofs.AskLaws.{ask-table, ask-read, ask-type, ask-shape, ask-v
 use Rattle.event.proofs.ask.ask_event.Statement.{statement}
 use Rattle.event.proofs.ask.ask_event.Tie as tie
 
-pub ask-event-spec : {M : Type 1} → statement M
-ask-event-spec =
+pub ask_event_spec : {M : Type 1} → statement M
+ask_event_spec =
     tie.close
     (tie.spec
     (λ c. search ask-table)

@@ -5,8 +5,8 @@ use Rattle.event.proofs.AskLaws.{no-name-there, name-part}
 use Rattle.event.proofs.ask.type_name.Statement.{statement}
 use Rattle.event.proofs.ask.type_name.Tie as tie
 
-pub type-name-spec : {M : Type 1} → statement M
-type-name-spec =
+pub type_name_spec : {M : Type 1} → statement M
+type_name_spec =
     tie.close
     (tie.spec
     (λ c κs. search rules) (λ c. search rules) (λ c. search rules) (λ c. search rules) (λ c. search rules)

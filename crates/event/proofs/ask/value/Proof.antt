@@ -9,23 +9,23 @@ use Rattle.event.proofs.ask.value.Tie as tie
 
 -- ---- the places
 
-abbrev to-event : tie.After-ask-event → tie.After-read-event
+abbrev to-event : tie.After-ask_event-number → tie.After-read_event-e
 to-event c = search
 
-abbrev to_start : tie.After-read-event → tie.Start
+abbrev to_start : tie.After-read_event-e → tie.Start
 to_start c = search
 
 -- ---- the facts
 
-answered : (c : tie.After-ask-event) → let read = (to-event c).read-event in let a = (to_start (to-event c)).args in
-    Answered a.table.now a.event.now read.last.1.1.0 read.result c.ask-event.result
+answered : (c : tie.After-ask_event-number) → let read = (to-event c).read_event-e in let a = (to_start (to-event c)).args in
+    Answered a.table.now a.event.now read.new.sets read.result c.ask_event-number.result
 answered c =
-    let name : tie.After-type-name = search in
-    let table : tie.After-read-table = search in
-    answered-by _ _ _ _ _ _ _ _ table.read_table.ensures name.type-name.ensures (to-event c).read-event.ensures c.ask-event.ensures
+    let name : tie.After-type_name = search in
+    let table : tie.After-read_table-read = search in
+    answered-by _ _ _ _ _ _ _ _ table.read_table-read.ensures name.type_name.ensures (to-event c).read_event-e.ensures c.ask_event-number.ensures
 
-inside : (c : tie.After-start) → let x = c.start.given.0 in let a = (to_start (search)).args in (x.0 ≤ x.1.0) × (x.1.0 ≤ length a.event.now)
-inside c = lent-inside (answered (search)) _ _ (search) _ c.before.before.find-value.ensures c.start.given.1
+inside : (c : tie.In-Value) → let a = (to_start (search)).args in (c.in-Value.start ≤ c.in-Value.end) × (c.in-Value.end ≤ length a.event.now)
+inside c = lent-inside (answered (search)) _ _ (search) _ c.find_value.ensures c.in-Value.is
 
 pub value_spec : {M : Type 1} → statement M
 value_spec =
@@ -36,9 +36,9 @@ value_spec =
     (λ c. search rules) (λ c. search rules)
     (λ c. search (lent-refused, answered (search)))
     (λ c. search rules) (λ c κs. search rules) (λ c. search rules)
-    (λ c. (inside c.before).0)
-    (λ c. (inside c.before).0)
-    (λ c. (inside c.before).1)
+    (λ c. (inside (search)).0)
+    (λ c. (inside (search)).0)
+    (λ c. (inside (search)).1)
     (λ c. search rules) (λ c. search rules) (λ c. search rules) (λ c. search rules)
     (λ c. search (lent_found, answered (search)))
     (λ c. search (lent-missing, answered (search))))

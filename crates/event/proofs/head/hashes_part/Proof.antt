@@ -7,5 +7,5 @@ use Rattle.event.proofs.head.hashes_part.Tie as tie
 returns : tie.Need-returns
 returns c = λ v w. c.part_of.ensures (omega (arith, w.size)) w.within ∙ w.bytes
 
-pub hashes-part-spec : {M : Type 1} → statement M
-hashes-part-spec = tie.close (tie.spec (λ c κs. search rules) returns)
+pub hashes_part_spec : {M : Type 1} → statement M
+hashes_part_spec = tie.close (tie.spec (λ c κs. search rules) returns)

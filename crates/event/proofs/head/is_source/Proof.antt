@@ -7,18 +7,18 @@ use Rattle.event.proofs.HeadLaws.{SourceTo, source-none, source-many, source_fir
 use Rattle.event.proofs.head.is_source.Statement.{statement}
 use Rattle.event.proofs.head.is_source.Tie as tie
 
-abbrev invariant-loop : tie.invariant-loop
-invariant-loop v i₀ i = SourceTo v i
+abbrev invariant-loop-i : tie.invariant-loop-i
+invariant-loop-i v i₀ i = SourceTo v i
 
-abbrev decreases-loop : tie.decreases-loop
-decreases-loop v i₀ i = length v - i
+abbrev decreases-loop-i : tie.decreases-loop-i
+decreases-loop-i v i₀ i = length v - i
 
-pub is-source-spec : {M : Type 1} → statement M
-is-source-spec =
+pub is_source_spec : {M : Type 1} → statement M
+is_source_spec =
     tie.close
     (tie.spec
-    invariant-loop
-    decreases-loop
+    invariant-loop-i
+    decreases-loop-i
     (λ c. search source-none)
     (λ c. search source-many)
     (λ c. search source_first)

@@ -6,8 +6,8 @@ use Rattle.event.proofs.HeadLaws.{no_name, no_source, source-not, parents-not, h
 use Rattle.event.proofs.head.read_head.Statement.{statement}
 use Rattle.event.proofs.head.read_head.Tie as tie
 
-pub read-head-spec : {M : Type 1} → statement M
-read-head-spec =
+pub read_head_spec : {M : Type 1} → statement M
+read_head_spec =
     tie.close
     (tie.spec
     (λ c κs. search rules) (λ c. search rules) (λ c. search rules)

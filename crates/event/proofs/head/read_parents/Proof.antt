@@ -11,23 +11,23 @@ use Rattle.event.proofs.HeadLaws.{parents-none, parents-many, parents-zero, pare
 use Rattle.event.proofs.head.read_parents.Statement.{statement}
 use Rattle.event.proofs.head.read_parents.Tie as tie
 
-abbrev invariant-loop : tie.invariant-loop
-invariant-loop s at most number after-count count from₀ to₀ left₀ from to left = RisingTo (read_bytes 20) (read_parents most (drop at s)) s from to left
+abbrev invariant-loop-left : tie.invariant-loop-left
+invariant-loop-left s at most number after-count count from₀ to₀ left₀ from to left = RisingTo (read_bytes 20) (read_parents most (drop at s)) s from to left
 
-abbrev decreases-loop : tie.decreases-loop
-decreases-loop s at most number after-count count from₀ to₀ left₀ from to left = left
+abbrev decreases-loop-left : tie.decreases-loop-left
+decreases-loop-left s at most number after-count count from₀ to₀ left₀ from to left = left
 
-loop-again : tie.Need-loop-preserved invariant-loop decreases-loop
+loop-again : tie.Need-loop-left-preserved invariant-loop-left decreases-loop-left
 loop-again c =
-    let turn : tie.In-loop invariant-loop decreases-loop = search in
-    hash-more turn.before.loop.inv turn.loop-test.taken (search) c.before.is-before.ensures c.if5.false
+    let turn : tie.In-loop-left invariant-loop-left decreases-loop-left = search in
+    hash-more turn.loop-left.invariant turn.loop-left-test.true (search) c.is_before.ensures c.if-not-is_before.false-raw
 
-pub read-parents-spec : {M : Type 1} → statement M
-read-parents-spec =
+pub read_parents_spec : {M : Type 1} → statement M
+read_parents_spec =
     tie.close
     (tie.spec
-    invariant-loop
-    decreases-loop
+    invariant-loop-left
+    decreases-loop-left
     (λ c κs. search rules) (λ c. search rules) (λ c. search rules)
     (λ c. search (parents-none, number-not))
     (λ c. search parents-many)

@@ -6,5 +6,5 @@ use Rattle.event.proofs.head.text_part.Tie as tie
 returns : tie.Need-returns
 returns c = λ v w. c.part_of.ensures w.order w.within ∙ w.bytes
 
-pub text-part-spec : {M : Type 1} → statement M
-text-part-spec = tie.close (tie.spec (λ c κs. search rules) returns)
+pub text_part_spec : {M : Type 1} → statement M
+text_part_spec = tie.close (tie.spec (λ c κs. search rules) returns)

@@ -4,8 +4,8 @@ use Rattle.event.proofs.HeadLayoutLaws.{room-name, room-source, room-count, room
 use Rattle.event.proofs.head.write_head.Statement.{statement}
 use Rattle.event.proofs.head.write_head.Tie as tie
 
-pub write-head-spec : {M : Type 1} → statement M
-write-head-spec =
+pub write_head_spec : {M : Type 1} → statement M
+write_head_spec =
     tie.close
     (tie.spec
     (λ c κs. search room-name)

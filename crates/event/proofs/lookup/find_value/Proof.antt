@@ -6,8 +6,8 @@ use Rattle.event.proofs.LookupLaws.{no_place, no_index, value-no-count, value-no
 use Rattle.event.proofs.lookup.find_value.Statement.{statement}
 use Rattle.event.proofs.lookup.find_value.Tie as tie
 
-pub find-value-spec : {M : Type 1} → statement M
-find-value-spec =
+pub find_value_spec : {M : Type 1} → statement M
+find_value_spec =
     tie.close
     (tie.spec
     (λ c. search no_place)

@@ -6,18 +6,18 @@ use Rattle.event.proofs.LookupLaws.{SetsTo, sets-none, sets-bad, sets_more, sets
 use Rattle.event.proofs.lookup.skip_sets.Statement.{statement}
 use Rattle.event.proofs.lookup.skip_sets.Tie as tie
 
-abbrev invariant-loop : tie.invariant-loop
-invariant-loop s at count pos₀ left₀ pos left = SetsTo s at count pos left
+abbrev invariant-loop-left : tie.invariant-loop-left
+invariant-loop-left s at count pos₀ left₀ pos left = SetsTo s at count pos left
 
-abbrev decreases-loop : tie.decreases-loop
-decreases-loop s at count pos₀ left₀ pos left = left
+abbrev decreases-loop-left : tie.decreases-loop-left
+decreases-loop-left s at count pos₀ left₀ pos left = left
 
-pub skip-sets-spec : {M : Type 1} → statement M
-skip-sets-spec =
+pub skip_sets_spec : {M : Type 1} → statement M
+skip_sets_spec =
     tie.close
     (tie.spec
-    invariant-loop
-    decreases-loop
+    invariant-loop-left
+    decreases-loop-left
     (λ c. sets-none)
     (λ c κs. search rules) (λ c. search rules) (λ c. search rules)
     (λ c. search (sets-bad, number-not, arith))

@@ -6,18 +6,18 @@ use Rattle.event.proofs.LookupLaws.{TextsTo, texts-none, texts-bad, texts-more, 
 use Rattle.event.proofs.lookup.skip_texts.Statement.{statement}
 use Rattle.event.proofs.lookup.skip_texts.Tie as tie
 
-abbrev invariant-loop : tie.invariant-loop
-invariant-loop s at count pos₀ left₀ pos left = TextsTo s at count pos left
+abbrev invariant-loop-left : tie.invariant-loop-left
+invariant-loop-left s at count pos₀ left₀ pos left = TextsTo s at count pos left
 
-abbrev decreases-loop : tie.decreases-loop
-decreases-loop s at count pos₀ left₀ pos left = left
+abbrev decreases-loop-left : tie.decreases-loop-left
+decreases-loop-left s at count pos₀ left₀ pos left = left
 
-pub skip-texts-spec : {M : Type 1} → statement M
-skip-texts-spec =
+pub skip_texts_spec : {M : Type 1} → statement M
+skip_texts_spec =
     tie.close
     (tie.spec
-    invariant-loop
-    decreases-loop
+    invariant-loop-left
+    decreases-loop-left
     (λ c. texts-none)
     (λ c κs. search rules) (λ c. search rules) (λ c. search rules)
     (λ c. search (texts-bad, text-not, arith))

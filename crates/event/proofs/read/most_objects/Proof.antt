@@ -6,13 +6,13 @@ use Rattle.event.specs.declared.read.EventCounts.{EventCounts}
 use Rattle.event.proofs.read.most_objects.Statement.{statement}
 use Rattle.event.proofs.read.most_objects.Tie as tie
 
-returns : tie.Need-returns
+returns : tie.Need-returns-in-Narrow
 unfolding narrow wide
-returns c = sym (ap (λ (x : EventCounts). (counts_of x).objects) c.enum_told.given.1)
+returns c = sym (ap (λ (x : EventCounts). (counts_of x).objects) c.in-Narrow.is)
 
-returns-2 : tie.Need-returns-2
+returns-2 : tie.Need-returns-in-Wide
 unfolding narrow wide
-returns-2 c = sym (ap (λ (x : EventCounts). (counts_of x).objects) c.enum-told2.given.1)
+returns-2 c = sym (ap (λ (x : EventCounts). (counts_of x).objects) c.in-Wide.is)
 
-pub most-objects-spec : {M : Type 1} → statement M
-most-objects-spec = tie.close (tie.spec (λ c. search rules) (λ c. search rules) returns returns-2)
+pub most_objects_spec : {M : Type 1} → statement M
+most_objects_spec = tie.close (tie.spec (λ c. search rules) (λ c. search rules) returns returns-2)

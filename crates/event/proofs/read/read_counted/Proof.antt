@@ -11,20 +11,19 @@ use Rattle.event.proofs.read.read_counted.Tie as tie
 
 -- ---- the places
 
-abbrev to-head : tie.Else1 → tie.After-head
+abbrev to-head : tie.Else-presence-ge4294967296 → tie.In-Head
 to-head c = search
 
-abbrev to_start : tie.After-head → tie.Start
+abbrev to_start : tie.In-Head → tie.Start
 to_start c = search
 
 -- ---- the facts
 
-body : (c : tie.Else1) → let h = to-head c in let a = (to_start h).args in let n = c.before.before.presence.given.0 in
-    BodyAt (counts a.most-parents a.most-objects) a.s.now h.head.given.0.0 n.0 n.1.0
+body : (c : tie.Else-presence-ge4294967296) → let h = to-head c in let a = (to_start h).args in BodyAt (counts a.most_parents a.most_objects) a.s.now h.in-Head.head c.in-Number.presence c.in-Number.after_presence
 body c = search body_at
 
-pub read-counted-spec : {M : Type 1} → statement M
-read-counted-spec =
+pub read_counted_spec : {M : Type 1} → statement M
+read_counted_spec =
     tie.close
     (tie.spec
     (λ c κs. search rules) (λ c. search rules) (λ c. search rules) (λ c κs. search rules)

@@ -3,8 +3,8 @@ use Rattle.event.proofs.EventReadLaws.{with-counts}
 use Rattle.event.proofs.read.read_event.Statement.{statement}
 use Rattle.event.proofs.read.read_event.Tie as tie
 
-pub read-event-spec : {M : Type 1} → statement M
-read-event-spec =
+pub read_event_spec : {M : Type 1} → statement M
+read_event_spec =
     tie.close
     (tie.spec
     (λ c κs. search rules) (λ c κs. search rules) (λ c κs. search rules) (λ c. search rules)

@@ -7,22 +7,22 @@ use Rattle.event.proofs.SetLaws.{Cleared, cleared-none, cleared_more, cleared-al
 use Rattle.event.proofs.sets.clear_from.Statement.{statement}
 use Rattle.event.proofs.sets.clear_from.Tie as tie
 
-abbrev invariant-loop : tie.invariant-loop
-invariant-loop sets₀ place k₀ sets k = Cleared sets₀ sets place k
+abbrev invariant-loop-k : tie.invariant-loop-k
+invariant-loop-k sets₀ place k₀ sets k = Cleared sets₀ sets place k
 
-abbrev decreases-loop : tie.decreases-loop
-decreases-loop sets₀ place k₀ sets k = 32 - k
+abbrev decreases-loop-k : tie.decreases-loop-k
+decreases-loop-k sets₀ place k₀ sets k = 32 - k
 
 -- the three numbers of the place
-inside : (c : tie.In-loop invariant-loop decreases-loop) → 3 * c.before.loop.k + 2 < length c.before.loop.sets
-inside c = omega (arith, c.loop-test.true, c.before.loop.invariant.all)
+inside : (c : tie.In-loop-k invariant-loop-k decreases-loop-k) → 3 * c.loop-k.k + 2 < length c.loop-k.sets
+inside c = omega (arith, c.loop-k-test.true, c.loop-k.invariant.all)
 
-pub clear-from-spec : {M : Type 1} → statement M
-clear-from-spec =
+pub clear_from_spec : {M : Type 1} → statement M
+clear_from_spec =
     tie.close
     (tie.spec
-    invariant-loop
-    decreases-loop
+    invariant-loop-k
+    decreases-loop-k
     (λ c. cleared-none c.requires)
     (λ c. search rules) (λ c. search rules) (λ c. search rules) (λ c. search rules) (λ c. search rules)
     (λ c. search rules)
@@ -31,5 +31,5 @@ clear-from-spec =
     (λ c. simp length-set (inside c))
     (λ c. search rules) (λ c. search rules)
     (λ c. search cleared_more)
-    (λ c. c.before.loop.invariant.long)
-    (λ c. cleared-all c.before.loop.invariant c.loop-test.false))
+    (λ c. c.loop-k.invariant.long)
+    (λ c. cleared-all c.loop-k.invariant c.loop-k-test.false))

@@ -3,8 +3,8 @@ use mathlib.Core.Path.{sym}
 use Rattle.event.proofs.sets.comes_after.Statement.{statement}
 use Rattle.event.proofs.sets.comes_after.Tie as tie
 
-returns : tie.Need-returns
-returns c = sym (c.before.before.requires.1 c.if1.true)
+returns : tie.Need-returns-then-known
+returns c = sym (c.requires.1 c.if-known.true)
 
-pub comes-after-spec : {M : Type 1} → statement M
-comes-after-spec = tie.close (tie.spec returns (λ c κs. search rules) (λ c. search rules))
+pub comes_after_spec : {M : Type 1} → statement M
+comes_after_spec = tie.close (tie.spec returns (λ c κs. search rules) (λ c. search rules))

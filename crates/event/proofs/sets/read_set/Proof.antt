@@ -9,18 +9,18 @@ use Rattle.event.proofs.SetLaws.{set-none, set-zero, set-bad, set_first, set_fou
 use Rattle.event.proofs.sets.read_set.Statement.{statement}
 use Rattle.event.proofs.sets.read_set.Tie as tie
 
-abbrev invariant-loop : tie.invariant-loop
-invariant-loop s at known count after-count first first-end from₀ to₀ left₀ from to left = RisingTo read_text (read_set (drop at s)) s from to left
+abbrev invariant-loop-left : tie.invariant-loop-left
+invariant-loop-left s at known count after-count first first-end from₀ to₀ left₀ from to left = RisingTo read_text (read_set (drop at s)) s from to left
 
-abbrev decreases-loop : tie.decreases-loop
-decreases-loop s at known count after-count first first-end from₀ to₀ left₀ from to left = left
+abbrev decreases-loop-left : tie.decreases-loop-left
+decreases-loop-left s at known count after-count first first-end from₀ to₀ left₀ from to left = left
 
-pub read-set-spec : {M : Type 1} → statement M
-read-set-spec =
+pub read_set_spec : {M : Type 1} → statement M
+read_set_spec =
     tie.close
     (tie.spec
-    invariant-loop
-    decreases-loop
+    invariant-loop-left
+    decreases-loop-left
     (λ c κs. search rules) (λ c. search rules) (λ c. search rules)
     (λ c. search (set-none, number-not))
     (λ c. search set-zero)

@@ -10,30 +10,30 @@ use Rattle.event.proofs.SetLaws.{Sofar, sofar-none, sofar-bad, sofar-more, sofar
 use Rattle.event.proofs.sets.read_sets.Statement.{statement}
 use Rattle.event.proofs.sets.read_sets.Tie as tie
 
-abbrev invariant-loop : tie.invariant-loop
-invariant-loop s at presence known sets₀ bits₀ next₀ objects₀ k₀ sets bits next objects k =
+abbrev invariant-loop-k : tie.invariant-loop-k
+invariant-loop-k s at presence known sets₀ bits₀ next₀ objects₀ k₀ sets bits next objects k =
     Sofar (read_sets 32 presence (drop at s)) s sets bits next objects k
 
-abbrev decreases-loop : tie.decreases-loop
-decreases-loop s at presence known sets₀ bits₀ next₀ objects₀ k₀ sets bits next objects k = 32 - k
+abbrev decreases-loop-k : tie.decreases-loop-k
+decreases-loop-k s at presence known sets₀ bits₀ next₀ objects₀ k₀ sets bits next objects k = 32 - k
 
 -- the three numbers of the place
-inside : (c : tie.In-loop invariant-loop decreases-loop) → let l = c.before.loop in 3 * l.k + 2 < length l.sets
-inside c = omega (arith, c.loop-test.true, c.before.loop.invariant.ats-long)
+inside : (c : tie.In-loop-k invariant-loop-k decreases-loop-k) → let l = c.loop-k in 3 * l.k + 2 < length l.sets
+inside c = omega (arith, c.loop-k-test.true, c.loop-k.invariant.ats-long)
 
-returns-2 : tie.Need-returns-2 invariant-loop decreases-loop
+returns-2 : tie.Need-returns invariant-loop-k decreases-loop-k
 returns-2 c =
-    let cleared : tie.After-clear-from invariant-loop decreases-loop = search in
-    let left-loop : tie.Left-loop invariant-loop decreases-loop = search in
-    let ended = ⊎_elim (λ x. inr (ltb-false _ _ x.1.left)) (λ x. inl x.left) left-loop.loop-test.came in
-    sofar-found left-loop.before.loop.inv ended _ cleared.clear-from.ensures.0 cleared.clear-from.ensures.1
+    let cleared : tie.After-clear_from invariant-loop-k decreases-loop-k = search in
+    let left-loop : tie.Left-loop-k invariant-loop-k decreases-loop-k = search in
+    let ended = ⊎_elim (λ x. inr (ltb-false _ _ x.if-bits-gt0.false-raw)) (λ x. inl x.loop-k-test.false) left-loop.loop-k-test.branch-raw in
+    sofar-found left-loop.loop-k.invariant ended _ cleared.clear_from.ensures.0 cleared.clear_from.ensures.1
 
-pub read-sets-spec : {M : Type 1} → statement M
-read-sets-spec =
+pub read_sets_spec : {M : Type 1} → statement M
+read_sets_spec =
     tie.close
     (tie.spec
-    invariant-loop
-    decreases-loop
+    invariant-loop-k
+    decreases-loop-k
     (λ c. search sofar-none)
     (λ c κs. (search rules, search sofar-promised))
     (λ c. search rules) (λ c. search rules) (λ c. search rules)

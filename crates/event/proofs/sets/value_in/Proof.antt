@@ -6,18 +6,18 @@ use Rattle.event.proofs.SetLaws.{WalkedTo, walks-none, walks-bad, walks_more, wa
 use Rattle.event.proofs.sets.value_in.Statement.{statement}
 use Rattle.event.proofs.sets.value_in.Tie as tie
 
-abbrev invariant-loop : tie.invariant-loop
-invariant-loop s index at₀ left₀ at left = WalkedTo s index at left
+abbrev invariant-loop-left : tie.invariant-loop-left
+invariant-loop-left s index at₀ left₀ at left = WalkedTo s index at left
 
-abbrev decreases-loop : tie.decreases-loop
-decreases-loop s index at₀ left₀ at left = left
+abbrev decreases-loop-left : tie.decreases-loop-left
+decreases-loop-left s index at₀ left₀ at left = left
 
-pub value-in-spec : {M : Type 1} → statement M
-value-in-spec =
+pub value_in_spec : {M : Type 1} → statement M
+value_in_spec =
     tie.close
     (tie.spec
-    invariant-loop
-    decreases-loop
+    invariant-loop-left
+    decreases-loop-left
     (λ c. walks-none)
     (λ c κs. search rules) (λ c. search rules) (λ c. search rules) (λ c. search rules) (λ c. search rules)
     (λ c. search rules)

@@ -8,21 +8,21 @@ use borrow.Author.Rules.{rules}
 use Rattle.event.proofs.shape.shape_ok.Statement.{statement}
 use Rattle.event.proofs.shape.shape_ok.Tie as tie
 
-abbrev invariant-loop : tie.invariant-loop
-invariant-loop count properties objects sets left₀ matches₀ k₀ left matches k = ShapeTo count properties objects sets left matches k
+abbrev invariant-loop-k : tie.invariant-loop-k
+invariant-loop-k count properties objects sets left₀ matches₀ k₀ left matches k = ShapeTo count properties objects sets left matches k
 
-abbrev decreases-loop : tie.decreases-loop
-decreases-loop count properties objects sets left₀ matches₀ k₀ left matches k = 32 - k
+abbrev decreases-loop-k : tie.decreases-loop-k
+decreases-loop-k count properties objects sets left₀ matches₀ k₀ left matches k = 32 - k
 
-returns-4 : tie.Need-returns-4 invariant-loop decreases-loop
-returns-4 c = shape-end c.before.loop.invariant (⊎_elim (λ a. inl (ltb-false _ _ a.1.left)) (λ a. inr a.left) c.loop-test.branch)
+returns-4 : tie.Need-returns invariant-loop-k decreases-loop-k
+returns-4 c = shape-end c.loop-k.invariant (⊎_elim (λ a. inl (ltb-false _ _ a.if-k-count.false-raw)) (λ a. inr a.loop-k-test.false) c.loop-k-test.branch-raw)
 
-pub shape-ok-spec : {M : Type 1} → statement M
-shape-ok-spec =
+pub shape_ok_spec : {M : Type 1} → statement M
+shape_ok_spec =
     tie.close
     (tie.spec
-    invariant-loop
-    decreases-loop
+    invariant-loop-k
+    decreases-loop-k
     (λ c. shape-none)
     (λ c κs. search arith)
     (λ c κs. search arith)

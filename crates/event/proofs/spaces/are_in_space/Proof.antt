@@ -14,43 +14,42 @@ use Rattle.event.proofs.SpaceLaws.{SpaceTo, KindHere, space-none, space-end, spa
 use Rattle.event.proofs.spaces.are_in_space.Statement.{statement}
 use Rattle.event.proofs.spaces.are_in_space.Tie as tie
 
-abbrev invariant-loop : tie.invariant-loop
-invariant-loop v kind size after sign at₀ at = SpaceTo (KindHere kind size after sign) v at
+abbrev invariant-loop-at : tie.invariant-loop-at
+invariant-loop-at v kind size after sign at₀ at = SpaceTo (KindHere kind size after sign) v at
 
-abbrev decreases-loop : tie.decreases-loop
-decreases-loop v kind size after sign at₀ at = length v - at
+abbrev decreases-loop-at : tie.decreases-loop-at
+decreases-loop-at v kind size after sign at₀ at = length v - at
 
 -- ---- the places
 
-abbrev to-text : tie.After-in-space invariant-loop decreases-loop → tie.After-value invariant-loop decreases-loop
+abbrev to-text : tie.After-in_space invariant-loop-at decreases-loop-at → tie.In-Text invariant-loop-at decreases-loop-at
 to-text c = search
 
-abbrev to-loop : tie.After-in-space invariant-loop decreases-loop → tie.At-loop invariant-loop decreases-loop
+abbrev to-loop : tie.After-in_space invariant-loop-at decreases-loop-at → tie.At-loop-at invariant-loop-at decreases-loop-at
 to-loop c = search
 
-abbrev to_start : tie.At-loop invariant-loop decreases-loop → tie.Start invariant-loop decreases-loop
+abbrev to_start : tie.At-loop-at invariant-loop-at decreases-loop-at → tie.Start invariant-loop-at decreases-loop-at
 to_start c = search
 
 -- ---- the facts
 
 -- the answer on the next text
-asked : (c : tie.After-in-space invariant-loop decreases-loop) → let l = to-loop c in let a = (to_start l).args in let x = (to-text c).value.given.0 in
-    (k : Kind) → KindHere a.kind a.size a.after a.sign k → c.in-space.result ≡ in_space k (part a.v.now x.0 x.1.0)
-asked c k q = c.in-space.ensures k q.0 q.1
+asked : (c : tie.After-in_space invariant-loop-at decreases-loop-at) → let l = to-loop c in let a = (to_start l).args in (k : Kind) → KindHere a.kind a.size a.after a.sign k → c.in_space.result ≡ in_space k (part a.v.now (to-text c).in-Text.value (to-text c).in-Text.end)
+asked c k q = c.in_space.ensures k q.0 q.1
 
 -- ---- the needs
 
-returns : tie.Need-returns invariant-loop decreases-loop
+returns : tie.Need-returns-then-is_plain invariant-loop-at decreases-loop-at
 returns c k vs h i e =
-    let told = c.before.before.is_plain.ensures c.before.if1.true in
-    c.are-short.ensures vs told.1 e ∙ ap (λ (x : Kind). are_in_space x vs) (is-string-kind _ _ _ _ k told.0 h)
+    let told = c.is_plain.ensures c.if-is_plain.true in
+    c.are_short.ensures vs told.1 e ∙ ap (λ (x : Kind). are_in_space x vs) (is-string-kind _ _ _ _ k told.0 h)
 
-pub are-in-space-spec : {M : Type 1} → statement M
-are-in-space-spec =
+pub are_in_space_spec : {M : Type 1} → statement M
+are_in_space_spec =
     tie.close
     (tie.spec
-    invariant-loop
-    decreases-loop
+    invariant-loop-at
+    decreases-loop-at
     (λ c κs. search rules) (λ c κs. search rules)
     returns
     (λ c. space-none)
@@ -60,7 +59,7 @@ are-in-space-spec =
     (λ c. search text-order)
     (λ c. search text-within)
     (λ c κs. search rules)
-    (λ c. search (space-not, asked c.before, arith))
+    (λ c. search (space-not, asked (search), arith))
     (λ c. search text-less)
-    (λ c. search (space-more, asked c.before, arith))
+    (λ c. search (space-more, asked (search), arith))
     (λ c. search space-end))

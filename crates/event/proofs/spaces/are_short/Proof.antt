@@ -12,18 +12,18 @@ use Rattle.event.proofs.SpaceLaws.{SpaceTo, space-none, space-end, space-bad, sp
 use Rattle.event.proofs.spaces.are_short.Statement.{statement}
 use Rattle.event.proofs.spaces.are_short.Tie as tie
 
-abbrev invariant-loop : tie.invariant-loop
-invariant-loop v most at₀ at = SpaceTo (λ (k : Kind). (k ≡ string most) × AllLow v) v at
+abbrev invariant-loop-at : tie.invariant-loop-at
+invariant-loop-at v most at₀ at = SpaceTo (λ (k : Kind). (k ≡ string most) × AllLow v) v at
 
-abbrev decreases-loop : tie.decreases-loop
-decreases-loop v most at₀ at = length v - at
+abbrev decreases-loop-at : tie.decreases-loop-at
+decreases-loop-at v most at₀ at = length v - at
 
-pub are-short-spec : {M : Type 1} → statement M
-are-short-spec =
+pub are_short_spec : {M : Type 1} → statement M
+are_short_spec =
     tie.close
     (tie.spec
-    invariant-loop
-    decreases-loop
+    invariant-loop-at
+    decreases-loop-at
     (λ c. space-none)
     (λ c κs. search rules) (λ c. search rules) (λ c. search rules)
     (λ c. search (space-bad, arith))

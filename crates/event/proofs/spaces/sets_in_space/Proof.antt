@@ -6,40 +6,40 @@ use borrow.Author.Rules.{rules}
 use Rattle.event.proofs.spaces.sets_in_space.Statement.{statement}
 use Rattle.event.proofs.spaces.sets_in_space.Tie as tie
 
-abbrev invariant-loop : tie.invariant-loop
-invariant-loop s sets count properties k₀ k = FitTo s sets count properties k
+abbrev invariant-loop-k : tie.invariant-loop-k
+invariant-loop-k s sets count properties k₀ k = FitTo s sets count properties k
 
-abbrev decreases-loop : tie.decreases-loop
-decreases-loop s sets count properties k₀ k = 32 - k
+abbrev decreases-loop-k : tie.decreases-loop-k
+decreases-loop-k s sets count properties k₀ k = 32 - k
 
 -- ---- the places
 
-abbrev to-loop : tie.After-are-in-space invariant-loop decreases-loop → tie.At-loop invariant-loop decreases-loop
+abbrev to-loop : tie.After-are_in_space invariant-loop-k decreases-loop-k → tie.At-loop-k invariant-loop-k decreases-loop-k
 to-loop c = search
 
-abbrev to_start : tie.At-loop invariant-loop decreases-loop → tie.Start invariant-loop decreases-loop
+abbrev to_start : tie.At-loop-k invariant-loop-k decreases-loop-k → tie.Start invariant-loop-k decreases-loop-k
 to_start c = search
 
 -- ---- the facts
 
-answered : (c : tie.After-are-in-space invariant-loop decreases-loop) → let l = to-loop c in let a = (to_start l).args in
-    FitAt a.s.now a.sets.now a.count a.properties.now l.loop.k c.are-in-space.result
+answered : (c : tie.After-are_in_space invariant-loop-k decreases-loop-k) → let l = to-loop c in let a = (to_start l).args in
+    FitAt a.s.now a.sets.now a.count a.properties.now l.loop-k.k c.are_in_space.result
 answered c =
-    let set = c.before.before in
-    fit_at (search) (search) set.before.property-at.ensures set.set_at.ensures c.before.set-part.ensures c.are-in-space.ensures
+    let set = c in
+    fit_at (search) (search) set.property_at-p.ensures set.set_at.ensures c.set_part.ensures c.are_in_space.ensures
 
-pub sets-in-space-spec : {M : Type 1} → statement M
-sets-in-space-spec =
+pub sets_in_space_spec : {M : Type 1} → statement M
+sets_in_space_spec =
     tie.close
     (tie.spec
-    invariant-loop
-    decreases-loop
+    invariant-loop-k
+    decreases-loop-k
     (λ c. fit_none)
     (λ c κs. search arith)
     (λ c κs. search arith)
     (λ c κs. search rules) (λ c κs. search rules)
-    (λ c. search (fit-not, answered c.before))
+    (λ c. search (fit-not, answered (search)))
     (λ c. search rules) (λ c. search rules)
-    (λ c. search (fit-more, answered c.before))
+    (λ c. search (fit-more, answered (search)))
     (λ c. search fit-past)
     (λ c. search fit_all))

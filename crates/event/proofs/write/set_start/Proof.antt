@@ -8,27 +8,27 @@ use Rattle.event.proofs.write.set_start.Tie as tie
 
 -- ---- the places
 
-abbrev to_start : tie.Else1 → tie.Start
-to_start c = c.before.before
+abbrev to_start : tie.Else-x-eq0 → tie.Start
+to_start c = (search)
 
-abbrev to-else : tie.After-number-size → tie.Else1
-to-else c = c.before
+abbrev to-else : tie.After-number_size → tie.Else-x-eq0
+to-else c = (search)
 
 -- ---- the facts
 
-counted : (c : tie.After-number-size) → count_size (to_start (to-else c)).args.x.count ≡ c.number_size.result
-counted c = some-count _ (to-else c).if1.false ∙ sym c.number_size.ensures
+counted : (c : tie.After-number_size) → count_size (to_start (to-else c)).args.x.count ≡ c.number_size.result
+counted c = some-count _ (to-else c).if-x-eq0.false ∙ sym c.number_size.ensures
 
 -- ---- the needs
 
-returns : tie.Need-returns
-returns c = omega (arith, no-count _ c.if1.true)
+returns : tie.Need-returns-then-x-eq0
+returns c = omega (arith, no-count _ c.if-x-eq0.true)
 
-sub-result : tie.Need-overflow-sub-result
-sub-result c = omega (arith, (to_start (to-else c.before)).requires, counted c.before)
+sub-result : tie.Need-overflow_sub-result
+sub-result c = omega (arith, (to_start (to-else (search))).requires, counted (search))
 
-returns-2 : tie.Need-returns-2
-returns-2 c = omega (arith, counted c.before)
+returns-2 : tie.Need-returns
+returns-2 c = omega (arith, counted (search))
 
-pub set-start-spec : {M : Type 1} → statement M
-set-start-spec = tie.close (tie.spec returns (λ c κs. search rules) sub-result returns-2)
+pub set_start_spec : {M : Type 1} → statement M
+set_start_spec = tie.close (tie.spec returns (λ c κs. search rules) sub-result returns-2)

@@ -8,38 +8,38 @@ use Rattle.event.proofs.SetWriteLaws.{RunsTo, runs_none, runs_same, runs_copy, r
 use Rattle.event.proofs.write.write_sets.Statement.{statement}
 use Rattle.event.proofs.write.write_sets.Tie as tie
 
-abbrev invariant-loop : tie.invariant-loop
-invariant-loop s sets presence out₀ at run₀ bits₀ k₀ out run bits k = RunsTo s sets out₀ at presence out run bits k
+abbrev invariant-loop-k : tie.invariant-loop-k
+invariant-loop-k s sets presence out₀ at run₀ bits₀ k₀ out run bits k = RunsTo s sets out₀ at presence out run bits k
 
-abbrev decreases-loop : tie.decreases-loop
-decreases-loop s sets presence out₀ at run₀ bits₀ k₀ out run bits k = 32 - k
+abbrev decreases-loop-k : tie.decreases-loop-k
+decreases-loop-k s sets presence out₀ at run₀ bits₀ k₀ out run bits k = 32 - k
 
-loop-again : tie.Need-loop-preserved invariant-loop decreases-loop
+loop-again : tie.Need-loop-k-preserved invariant-loop-k decreases-loop-k
 loop-again c =
-    let turn = c.before.before in
-    let inv = turn.before.loop.invariant in
-    let inside = turn.loop-test.true in
+    let turn = c in
+    let inv = turn.loop-k.invariant in
+    let inside = turn.loop-k-test.true in
     ⊎_elim
-    (λ x. runs_same (runs-more inv inside x.0.taken x.1.ensures x.3.ensures) x.6 x.7)
-    (λ y. runs_same (runs-over inv inside y.0.left) y.1 y.2)
-    c.if2.branch
+    (λ x. runs_same (runs-more inv inside x.if-bits-eq1.true x.set_at.ensures x.with_set-run.ensures) x.out-is x.run-is)
+    (λ y. runs_same (runs-over inv inside y.if-bits-eq1.false) y.out-is y.run-is)
+    c.if-bits-eq1.branch-raw
 
-copy-part-requires : tie.Need-copy-part-requires invariant-loop decreases-loop
-copy-part-requires c κs = let start : tie.Start invariant-loop decreases-loop = search in runs_copy c.before.before.loop.invariant start.pre.1
+copy-part-requires : tie.Need-copy_part-requires invariant-loop-k decreases-loop-k
+copy-part-requires c κs = let start : tie.Start invariant-loop-k decreases-loop-k = search in runs_copy c.loop-k.invariant start.requires.1
 
-returns : tie.Need-returns invariant-loop decreases-loop
+returns : tie.Need-returns invariant-loop-k decreases-loop-k
 returns c =
-    let copied : tie.After-copy-part invariant-loop decreases-loop = search in
-    let left-loop : tie.Left-loop invariant-loop decreases-loop = search in
-    let over = ⊎_elim (λ x. inr (ltb-false _ _ x.1.left)) (λ y. inl y.left) left-loop.loop-test.came in
-    runs_last left-loop.before.loop.inv over copied.copy-part.ensures
+    let copied : tie.After-copy_part invariant-loop-k decreases-loop-k = search in
+    let left-loop : tie.Left-loop-k invariant-loop-k decreases-loop-k = search in
+    let over = ⊎_elim (λ x. inr (ltb-false _ _ x.if-bits-gt0.false-raw)) (λ y. inl y.loop-k-test.false) left-loop.loop-k-test.branch-raw in
+    runs_last left-loop.loop-k.invariant over copied.copy_part.ensures
 
-pub write-sets-spec : {M : Type 1} → statement M
-write-sets-spec =
+pub write_sets_spec : {M : Type 1} → statement M
+write_sets_spec =
     tie.close
     (tie.spec
-    invariant-loop
-    decreases-loop
+    invariant-loop-k
+    decreases-loop-k
     (λ c. runs_none)
     (λ c κs. search arith)
     (λ c κs. search runs-room)

@@ -9,35 +9,35 @@ use Rattle.hashing.proofs.calls.hash.Tie as tie
 
 -- ---- the places
 
-abbrev to-text : tie.After-n → tie.After-hash-text
+abbrev to-text : tie.In-Done → tie.After-hash_text
 to-text c = search
 
 -- ---- the facts
 
-within : (c : tie.After-n) → c.n.given.0.0 ≤ length (to-text c).hash-text.new.1.1.0
-within c = let t = (to-text c).hash-text in text-within _ _ _ _ t.result t.ensures c.n.given.1
+within : (c : tie.In-Done) → c.in-Done.n ≤ length (to-text c).hash_text.new.out
+within c = let t = (to-text c).hash_text in text-within _ _ _ _ t.result t.ensures c.in-Done.is
 
 -- ---- the needs
 
-write-digest-requires : tie.Need-write-digest-requires
+write-digest-requires : tie.Need-write_digest-requires
 write-digest-requires c κs =
-    let told : tie.After-n = search in
-    omega (arith, within told, text-length (to-text told).hash-text.last.1.1.0 told.n.given.0.0 (within told))
+    let told : tie.In-Done = search in
+    omega (arith, within told, text-length (to-text told).hash_text.new.out told.in-Done.n (within told))
 
-returns-2 : tie.Need-returns-2
+returns-2 : tie.Need-returns-in-Done
 returns-2 c =
-    let told : tie.After-n = search in
-    let t = (to-text told).hash-text in
-    hash-done _ _ _ _ t.result t.ensures _ (omega arith) (omega arith) told.n.given.1 c.before.before.write-digest.ensures
+    let told : tie.In-Done = search in
+    let t = (to-text told).hash_text in
+    hash-done _ _ _ _ t.result t.ensures _ (omega arith) (omega arith) told.in-Done.is c.write_digest.ensures
 
-returns-3 : tie.Need-returns-3
+returns-3 : tie.Need-returns-in-Refused
 returns-3 c =
-    let call : tie.After-hash-text = search in
-    let t = call.hash-text in
-    hash-refused _ _ _ _ t.result t.ensures _ (omega arith) (omega arith) c.before.number.given.1
+    let call : tie.After-hash_text = search in
+    let t = call.hash_text in
+    hash-refused _ _ _ _ t.result t.ensures _ (omega arith) (omega arith) c.in-Refused.is
 
-pub hash-spec : {M : Type 1} → statement M
-hash-spec =
+pub hash_spec : {M : Type 1} → statement M
+hash_spec =
     tie.close
     (tie.spec
     (λ c. search hash-small)

@@ -13,18 +13,18 @@ use Rattle.hashing.proofs.calls.hash_text.Tie as tie
 
 -- ---- the places
 
-abbrev start : tie.After-ask-event → tie.Start
+abbrev start : tie.After-ask_event-number → tie.Start
 start c = search
 
-abbrev to-table : tie.After-ask-event → tie.After-read-table
+abbrev to-table : tie.After-ask_event-number → tie.After-read_table-read
 to-table c = search
 
-abbrev to-event : tie.After-ask-event → tie.After-read-event
+abbrev to-event : tie.After-ask_event-number → tie.After-read_event-e
 to-event c = search
 
 -- ---- the values
 
-module _ (c : tie.After-ask-event) where
+module _ (c : tie.After-ask_event-number) where
   abbrev table : List ℕ
   table = (start c).args.table.now
 
@@ -33,41 +33,41 @@ module _ (c : tie.After-ask-event) where
 
   -- the numbers of the type's properties
   abbrev ps : List ℕ
-  ps = (to-table c).read_table.new.1.1.0
+  ps = (to-table c).read_table-read.new.properties
 
   -- where the event's sets stand
   abbrev ats : List ℕ
-  ats = (to-event c).read-event.new.1.1.0
+  ats = (to-event c).read_event-e.new.sets
 
   -- the number, the type and the event
   abbrev answer : EventAsked
-  answer = asked c.ask-event.result (to-table c).read_table.result.index (to-event c).read-event.result
+  answer = asked c.ask_event-number.result (to-table c).read_table-read.result.index (to-event c).read_event-e.result
 
   -- ---- the facts
 
   answered : EventAnswers (event_questions wide table event) table event ps ats answer
   answered =
-      let name : tie.After-type-name = search in
-      c.ask-event.ensures _ _ wide (to-table c).read_table.ensures (name.type-name.ensures wide) (to-event c).read-event.ensures
+      let name : tie.After-type_name = search in
+      c.ask_event-number.ensures _ _ wide (to-table c).read_table-read.ensures (name.type_name.ensures wide) (to-event c).read_event-e.ensures
 
-abbrev accepted : (c : tie.Else2) → let a = c.before in Accepted wide (table a) (event a) (ps a) (ats a) (answer a)
-accepted c = accepted-is wide _ _ _ _ _ (answered c.before) c.if2.false
+abbrev accepted : (c : tie.Else-number-ne0) → let a = c in Accepted wide (table (search)) (event (search)) (ps (search)) (ats (search)) (answer (search))
+accepted c = accepted-is wide _ _ _ _ _ (answered (search)) c.if-number-ne0.false
 
 -- ---- the needs
 
-returns-2 : tie.Need-returns-2
-returns-2 c = text-refused _ _ _ _ (omega arith) (refused-is wide _ _ _ _ _ (answered c.before) c.if2.true)
+returns-2 : tie.Need-returns-then-number-ne0
+returns-2 c = text-refused _ _ _ _ (omega arith) (refused-is wide _ _ _ _ _ (answered (search)) c.if-number-ne0.true)
 
-write-hash-text-requires : tie.Need-write-hash-text-requires
+write-hash-text-requires : tie.Need-write_hash_text-requires
 write-hash-text-requires c κs = (hashable (accepted (search)), omega arith, search rules, search rules)
 
-returns-3 : tie.Need-returns-3
+returns-3 : tie.Need-returns
 returns-3 c =
     let a = accepted (search) in
-    text-done _ a (omega arith) (c.before.before.write-hash-text.ensures (hashable a))
+    text-done _ a (omega arith) (c.write_hash_text.ensures (hashable a))
 
-pub hash-text-spec : {M : Type 1} → statement M
-hash-text-spec =
+pub hash_text_spec : {M : Type 1} → statement M
+hash_text_spec =
     tie.close
     (tie.spec
     (λ c. search text-small)

@@ -8,51 +8,51 @@ use Rattle.hashing.proofs.GatherLaws.{GatheredTo, gathered-start, gathered-same,
 use Rattle.hashing.proofs.gather.gather.Statement.{statement}
 use Rattle.hashing.proofs.gather.gather.Tie as tie
 
-abbrev invariant-loop : tie.invariant-loop
-invariant-loop table event count properties sets objects₀ n₀ place₀ objects n place = GatheredTo table event count properties sets objects n place
+abbrev invariant-loop-place : tie.invariant-loop-place
+invariant-loop-place table event count properties sets objects₀ n₀ place₀ objects n place = GatheredTo table event count properties sets objects n place
 
-abbrev decreases-loop : tie.decreases-loop
-decreases-loop table event count properties sets objects₀ n₀ place₀ objects n place = count - place
+abbrev decreases-loop-place : tie.decreases-loop-place
+decreases-loop-place table event count properties sets objects₀ n₀ place₀ objects n place = count - place
 
 -- ---- the facts
 
-few : (c : tie.Start invariant-loop decreases-loop) → c.args.count ≤ 32
+few : (c : tie.Start invariant-loop-place decreases-loop-place) → c.args.count ≤ 32
 few c = c.requires.0.are.few
 
 -- ---- the needs
 
-gather-set-requires : tie.Need-gather-set-requires invariant-loop decreases-loop
+gather-set-requires : tie.Need-gather_set-n-requires invariant-loop-place decreases-loop-place
 gather-set-requires c κs =
-    let s : tie.Start invariant-loop decreases-loop = search in
-    let chosen : tie.Then1 invariant-loop decreases-loop = search in
-    let taken : tie.After-property-at invariant-loop decreases-loop = search in
-    let l = taken.before.before.loop in
+    let s : tie.Start invariant-loop-place decreases-loop-place = search in
+    let chosen : tie.Then-is_match invariant-loop-place decreases-loop-place = search in
+    let taken : tie.After-property_at-p invariant-loop-place decreases-loop-place = search in
+    let l = taken.loop-place in
     let (order, within, room) =
-    set-ready s.pre.0 taken.before.loop-test.taken (l.inv.so_far s.pre.0) taken.property-at.ensures
-    (sym chosen.before.is-match.ensures ∙ chosen.if1.taken) c.before.set_at.ensures in
-    (l.inv.fit, order, within, room, l.inv.size)
+    set-ready s.requires.0 taken.loop-place-test.true (l.invariant.so_far s.requires.0) taken.property_at-p.ensures
+    (sym chosen.is_match.ensures ∙ chosen.if-is_match.true) c.set_at.ensures in
+    (l.invariant.fit, order, within, room, l.invariant.size)
 
-loop-again : tie.Need-loop-preserved invariant-loop decreases-loop
+loop-again : tie.Need-loop-place-preserved invariant-loop-place decreases-loop-place
 loop-again c =
-    let taken : tie.After-property-at invariant-loop decreases-loop = search in
-    let l = taken.before.before.loop in
-    let inside = taken.before.loop-test.taken in
-    let told = sym c.before.is-match.ensures in
-    let p = taken.property-at.ensures in
+    let taken : tie.After-property_at-p invariant-loop-place decreases-loop-place = search in
+    let l = taken.loop-place in
+    let inside = taken.loop-place-test.true in
+    let told = sym c.is_match.ensures in
+    let p = taken.property_at-p.ensures in
     ⊎_elim
-    (λ d. gathered-same d.6 d.7 (gathered-match l.inv inside p (told ∙ d.0.taken) d.1.ensures d.4.given d.3.ensures))
-    (λ d. gathered-same d.1 d.2 (gathered-other l.inv inside p (told ∙ d.0.left)))
-    c.if1.branch
+    (λ d. gathered-same d.objects-is d.n-is (gathered-match l.invariant inside p (told ∙ d.if-is_match.true) d.set_at.ensures d.objects-1.given d.gather_set-n.ensures))
+    (λ d. gathered-same d.objects-is d.n-is (gathered-other l.invariant inside p (told ∙ d.if-is_match.false)))
+    c.if-is_match.branch-raw
 
-returns : tie.Need-returns invariant-loop decreases-loop
-returns c = gathered-all c.before.loop.invariant (omega arith)
+returns : tie.Need-returns invariant-loop-place decreases-loop-place
+returns c = gathered-all c.loop-place.invariant (omega arith)
 
-pub gather-spec : {M : Type 1} → statement M
-gather-spec =
+pub gather_spec : {M : Type 1} → statement M
+gather_spec =
     tie.close
     (tie.spec
-    invariant-loop
-    decreases-loop
+    invariant-loop-place
+    decreases-loop-place
     (λ c. search gathered-start)
     (λ c κs. omega (arith, few (search)))
     (λ c κs. search rules)

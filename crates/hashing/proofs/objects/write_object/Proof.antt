@@ -13,12 +13,11 @@ fits :
     a.at + length (part a.table.now a.x.first a.x.colon) + 1 + length (part a.event.now a.x.second a.x.end) ≤ length a.out.now
 fits c = omega (arith, string-parts c.args.table.now c.args.event.now c.args.x)
 
-pub write-object-spec : {M : Type 1} → statement M
-write-object-spec =
+pub write_object_spec : {M : Type 1} → statement M
+write_object_spec =
     tie.close
     (tie.spec
     (λ c κs. omega (arith, fits (search)))
-    (λ c. search rules)
     (λ c κs. omega (arith, fits (search)))
     (λ c κs. omega (arith, fits (search)))
     (λ c. search rules)

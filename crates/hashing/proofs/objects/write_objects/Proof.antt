@@ -7,54 +7,54 @@ use Rattle.hashing.proofs.ObjectLaws.{Following, wrote_none, first-ready, follow
 use Rattle.hashing.proofs.objects.write_objects.Statement.{statement}
 use Rattle.hashing.proofs.objects.write_objects.Tie as tie
 
-abbrev invariant-loop : tie.invariant-loop
-invariant-loop table event objects count out₀ at next₀ i₀ out next i = Following table event objects count out₀ next₀ out next i
+abbrev invariant-loop-i : tie.invariant-loop-i
+invariant-loop-i table event objects count out₀ at next₀ i₀ out next i = Following table event objects count out₀ next₀ out next i
 
-abbrev decreases-loop : tie.decreases-loop
-decreases-loop table event objects count out₀ at next₀ i₀ out next i = count - i
+abbrev decreases-loop-i : tie.decreases-loop-i
+decreases-loop-i table event objects count out₀ at next₀ i₀ out next i = count - i
 
 -- ---- the needs
 
-write-object-requires : tie.Need-write-object-requires invariant-loop decreases-loop
+write-object-requires : tie.Need-write_object-next-requires invariant-loop-i decreases-loop-i
 write-object-requires c κs =
-    let s : tie.Start invariant-loop decreases-loop = search in
-    first-ready _ s.pre.0 c.before.string-at.ensures (omega arith) _ _ s.pre.1
+    let s : tie.Start invariant-loop-i decreases-loop-i = search in
+    first-ready _ s.requires.0 c.string_at-first.ensures (omega arith) _ _ s.requires.1
 
-loop-holds : tie.Need-loop-init invariant-loop decreases-loop
+loop-holds : tie.Need-loop-i-init invariant-loop-i decreases-loop-i
 loop-holds c =
-    let s : tie.Start invariant-loop decreases-loop = search in
-    let first : tie.After-string-at invariant-loop decreases-loop = search in
-    let written : tie.After-write-object invariant-loop decreases-loop = search in
-    following-start _ s.pre.0 first.string-at.ensures (omega arith) written.write-object.ensures s.pre.1
+    let s : tie.Start invariant-loop-i decreases-loop-i = search in
+    let first : tie.After-string_at-first invariant-loop-i decreases-loop-i = search in
+    let written : tie.After-write_object-next invariant-loop-i decreases-loop-i = search in
+    following-start _ s.requires.0 first.string_at-first.ensures (omega arith) written.write_object-next.ensures s.requires.1
 
-write-next-requires : tie.Need-write-next-requires invariant-loop decreases-loop
+write-next-requires : tie.Need-write_next-next-requires invariant-loop-i decreases-loop-i
 write-next-requires c κs =
-    let s : tie.Start invariant-loop decreases-loop = search in
-    let taken = c.before in
-    let l = taken.before.before.loop in
-    next-ready _ s.pre.0 l.i taken.string-at2.ensures taken.before.loop-test.true l.invariant
+    let s : tie.Start invariant-loop-i decreases-loop-i = search in
+    let taken = c in
+    let l = taken.loop-i in
+    next-ready _ s.requires.0 l.i taken.string_at-x.ensures taken.loop-i-test.true l.invariant
 
-loop-again : tie.Need-loop-preserved invariant-loop decreases-loop
+loop-again : tie.Need-loop-i-preserved invariant-loop-i decreases-loop-i
 loop-again c =
-    let s : tie.Start invariant-loop decreases-loop = search in
-    let taken : tie.After-string-at2 invariant-loop decreases-loop = search in
-    let l = taken.before.before.loop in
-    next-gone _ s.pre.0 l.i taken.string-at2.ensures taken.before.loop-test.taken l.inv c.before.before.write-next.ensures
+    let s : tie.Start invariant-loop-i decreases-loop-i = search in
+    let taken : tie.After-string_at-x invariant-loop-i decreases-loop-i = search in
+    let l = taken.loop-i in
+    next-gone _ s.requires.0 l.i taken.string_at-x.ensures taken.loop-i-test.true l.invariant c.write_next-next.ensures
 
-returns-2 : tie.Need-returns-2 invariant-loop decreases-loop
+returns-2 : tie.Need-returns invariant-loop-i decreases-loop-i
 returns-2 c =
-    let s : tie.Start invariant-loop decreases-loop = search in
-    let first : tie.After-string-at invariant-loop decreases-loop = search in
-    let written : tie.After-write-object invariant-loop decreases-loop = search in
-    let l = c.before.loop in
-    wrote-all _ s.pre.0 first.string-at.ensures (omega arith) written.write-object.ensures l.i l.invariant (omega arith)
+    let s : tie.Start invariant-loop-i decreases-loop-i = search in
+    let first : tie.After-string_at-first invariant-loop-i decreases-loop-i = search in
+    let written : tie.After-write_object-next invariant-loop-i decreases-loop-i = search in
+    let l = c.loop-i in
+    wrote-all _ s.requires.0 first.string_at-first.ensures (omega arith) written.write_object-next.ensures l.i l.invariant (omega arith)
 
-pub write-objects-spec : {M : Type 1} → statement M
-write-objects-spec =
+pub write_objects_spec : {M : Type 1} → statement M
+write_objects_spec =
     tie.close
     (tie.spec
-    invariant-loop
-    decreases-loop
+    invariant-loop-i
+    decreases-loop-i
     (λ c. search wrote_none)
     (λ c κs. search rules)
     write-object-requires

@@ -12,51 +12,51 @@ use Rattle.hashing.proofs.text.write_hash_text.Tie as tie
 
 -- ---- the places
 
-abbrev start : tie.After-gather → tie.Start
+abbrev start : tie.After-gather-count → tie.Start
 start c = search
 
 -- ---- the facts
 
 fits :
-    (c : tie.After-gather) →
+    (c : tie.After-gather-count) →
     let a = (start c).args in
     length (source_line a.event.now a.e) + length (name_line a.table.now a.t)
-    + length (separated (strings_of a.table.now a.event.now (strings_in c.gather.new.1.1.1.1.1.0) c.gather.result))
+    + length (separated (strings_of a.table.now a.event.now (strings_in c.gather-count.new.objects) c.gather-count.result))
     ≤ length a.out.now
 fits c =
     let h = (start c).requires.0 in
-    omega (arith, parts-room h _ _ (c.gather.ensures.1 (gatherable h)))
+    omega (arith, parts-room h _ _ (c.gather-count.ensures.1 (gatherable h)))
 
 -- ---- the needs
 
-gather-requires : tie.Need-gather-requires
-gather-requires c κs = let s : tie.Start = search in (gatherable s.pre.0, search rules, search rules, search rules)
+gather-requires : tie.Need-gather-count-requires
+gather-requires c κs = let s : tie.Start = search in (gatherable s.requires.0, search rules, search rules, search rules)
 
-write-line-requires : tie.Need-write-line-requires
+write-line-requires : tie.Need-write_line-after_source-requires
 write-line-requires c κs =
     let s : tie.Start = search in
-    omega (arith, s.pre.0.read.head.uri, fits (search))
+    omega (arith, s.requires.0.read.head.uri, fits (search))
 
-write-line-requires-2 : tie.Need-write-line-requires-2
+write-line-requires-2 : tie.Need-write_line-after_name-requires
 write-line-requires-2 c κs =
     let s : tie.Start = search in
-    omega (arith, s.pre.0.typed, fits (search))
+    omega (arith, s.requires.0.typed, fits (search))
 
-write-objects-requires : tie.Need-write-objects-requires
+write-objects-requires : tie.Need-write_objects-requires
 write-objects-requires c κs =
-    let gathered : tie.After-gather = search in
-    (gathered.gather.ensures.0, omega (arith, fits (search)), search rules)
+    let gathered : tie.After-gather-count = search in
+    (gathered.gather-count.ensures.0, omega (arith, fits (search)), search rules)
 
 returns : tie.Need-returns
 returns c = λ h.
-    let gathered : tie.After-gather = search in
-    let source : tie.After-write-line = search in
-    let name : tie.After-write-line2 = search in
-    wrote-hash-text h _ _ (gathered.gather.ensures.1 (gatherable h)) source.write-line.ensures name.write-line2.ensures
-    c.before.before.write-objects.ensures
+    let gathered : tie.After-gather-count = search in
+    let source : tie.After-write_line-after_source = search in
+    let name : tie.After-write_line-after_name = search in
+    wrote-hash-text h _ _ (gathered.gather-count.ensures.1 (gatherable h)) source.write_line-after_source.ensures name.write_line-after_name.ensures
+    c.write_objects.ensures
 
-pub write-hash-text-spec : {M : Type 1} → statement M
-write-hash-text-spec =
+pub write_hash_text_spec : {M : Type 1} → statement M
+write_hash_text_spec =
     tie.close
     (tie.spec
     (λ c. search rules)

@@ -10,8 +10,11 @@ use Rattle.hashing.proofs.text.write_line.Tie as tie
 fits : (c : tie.Start) → c.args.at + length (part c.args.s.now c.args.from c.args.to) + 1 ≤ length c.args.out.now
 fits c = omega (arith, simp length-append at c.requires.2)
 
-pub write-line-spec : {M : Type 1} → statement M
-write-line-spec =
+pub write_line_spec : {M : Type 1} → statement M
+write_line_spec =
     tie.close
-    (tie.spec (λ c κs. omega (arith, fits (search))) (λ c. search rules) (λ c κs. omega (arith, fits (search))) (λ c. search rules)
+    (tie.spec
+    (λ c κs. omega (arith, fits (search)))
+    (λ c κs. omega (arith, fits (search)))
+    (λ c. search rules)
     (λ c. search wrote_then))

@@ -3,8 +3,8 @@ use Rattle.interface.proofs.PackingLaws.{version-merged, version-found, version-
 use Rattle.interface.proofs.calls.conflict_version.Statement.{statement}
 use Rattle.interface.proofs.calls.conflict_version.Tie as tie
 
-pub conflict-version-spec : {M : Type 1} → statement M
-conflict-version-spec =
+pub conflict_version_spec : {M : Type 1} → statement M
+conflict_version_spec =
     tie.close
     (tie.spec
     (λ c. search rules) (λ c. search rules) (λ c κs. search rules) (λ c. search rules)

@@ -4,8 +4,8 @@ use Rattle.interface.proofs.calls.merger_check_event.Statement.{statement}
 use Rattle.interface.proofs.calls.merger_check_event.Tie as tie
 
 returns : tie.Need-returns
-returns c = answered c.pack-reply.ensures c.before.before.before.check-event.ensures
+returns c = answered c.pack_reply.ensures c.check_event.ensures
 
-pub merger-check-event-spec : {M : Type 1} → statement M
-merger-check-event-spec =
+pub merger_check_event_spec : {M : Type 1} → statement M
+merger_check_event_spec =
     tie.close (tie.spec (λ c κs. search rules) (λ c κs. search rules) (λ c. search rules) returns)

@@ -4,10 +4,10 @@ use Rattle.interface.proofs.calls.merger_hash.Statement.{statement}
 use Rattle.interface.proofs.calls.merger_hash.Tie as tie
 
 returns : tie.Need-returns
-returns c = answered c.pack-reply.ensures c.before.before.before.hash.ensures
+returns c = answered c.pack_reply.ensures c.hash.ensures
 
-pub merger-hash-spec : {M : Type 1} → statement M
-merger-hash-spec =
+pub merger_hash_spec : {M : Type 1} → statement M
+merger_hash_spec =
     tie.close
     (tie.spec
     (λ c κs. search rules) (λ c κs. search rules) (λ c. search rules)

@@ -4,8 +4,8 @@ use Rattle.interface.proofs.calls.merger_hash_text.Statement.{statement}
 use Rattle.interface.proofs.calls.merger_hash_text.Tie as tie
 
 returns : tie.Need-returns
-returns c = answered c.pack-reply.ensures c.before.before.before.hash-text.ensures
+returns c = answered c.pack_reply.ensures c.hash_text.ensures
 
-pub merger-hash-text-spec : {M : Type 1} → statement M
-merger-hash-text-spec =
+pub merger_hash_text_spec : {M : Type 1} → statement M
+merger_hash_text_spec =
     tie.close (tie.spec (λ c κs. search rules) (λ c κs. search rules) (λ c. search rules) returns)

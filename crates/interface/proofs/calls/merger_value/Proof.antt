@@ -10,18 +10,18 @@ use Rattle.interface.proofs.calls.merger_value.Tie as tie
 
 -- ---- the places
 
-abbrev to_start : tie.After-read-table → tie.Start
-to_start c = c.before.before.before.before.before
+abbrev to_start : tie.After-read_table-read → tie.Start
+to_start c = (search)
 
-abbrev to-event : tie.After-ask-event → tie.After-read-event
-to-event c = c.before.before.before.before
+abbrev to-event : tie.After-ask_event-number → tie.After-read_event-e
+to-event c = (search)
 
-abbrev to-table : tie.After-ask-event → tie.After-read-table
-to-table c = (to-event c).before.before.before
+abbrev to-table : tie.After-ask_event-number → tie.After-read_table-read
+to-table c = (search)
 
 -- ---- the facts
 
-module _ (c : tie.After-ask-event) where
+module _ (c : tie.After-ask_event-number) where
   abbrev table : List ℕ
   table = (to_start (to-table c)).args.table.now
 
@@ -30,50 +30,50 @@ module _ (c : tie.After-ask-event) where
 
   -- the numbers of the type's properties
   abbrev ps : List ℕ
-  ps = (to-table c).read_table.new.1.1.0
+  ps = (to-table c).read_table-read.new.properties
 
   -- where the event's sets stand
   abbrev ats : List ℕ
-  ats = (to-event c).read-event.new.1.1.0
+  ats = (to-event c).read_event-e.new.sets
 
   -- the number, the type and the event
   abbrev answer : EventAsked
-  answer = asked c.ask-event.result (to-table c).read_table.result.index (to-event c).read-event.result
+  answer = asked c.ask_event-number.result (to-table c).read_table-read.result.index (to-event c).read_event-e.result
 
   answered : Answers table event ps ats answer
   answered =
-      c.ask-event.ensures _ _ _ (to-table c).read_table.ensures ((to-table c).before.before.type-name.ensures _) (to-event c).read-event.ensures
+      c.ask_event-number.ensures _ _ _ (to-table c).read_table-read.ensures ((to-table c).type_name.ensures _) (to-event c).read_event-e.ensures
 
-abbrev accepted : (c : tie.Else1) → let d = c.before in Taken (table d) (event d) (ps d) (ats d) (answer d)
-accepted c = accepted-is _ _ _ _ _ _ (answered c.before) c.if1.false
+abbrev accepted : (c : tie.Else-number-ne0) → let d = c in Taken (table (search)) (event (search)) (ps (search)) (ats (search)) (answer (search))
+accepted c = accepted-is _ _ _ _ _ _ (answered (search)) c.if-number-ne0.false
 
 found :
-    (c : tie.After-find-value) →
-    let taken = c.before.before in
-    let a = (to_start (to-table taken.before)).args in
-    ValueFound a.event.now (accepted taken).e a.place a.index c.find-value.result
-found c = let taken = accepted c.before.before in c.find-value.ensures taken.e taken.event-is
+    (c : tie.After-find_value) →
+    let taken = c in
+    let a = (to_start (to-table (search))).args in
+    ValueFound a.event.now (accepted (search)).e a.place a.index c.find_value.result
+found c = let taken = accepted (search) in c.find_value.ensures taken.e taken.event-is
 
 -- ---- the needs
 
-returns : tie.Need-returns
-returns c = value-unasked _ _ _ _ _ _ _ (answered c.before) c.if1.true
+returns : tie.Need-returns-then-number-ne0
+returns c = value-unasked _ _ _ _ _ _ _ (answered (search)) c.if-number-ne0.true
 
-sub-result : tie.Need-overflow-sub-result
-sub-result c = (found-value c.before.start.given.1 (found c.before.before.before)).order
+sub-result : tie.Need-overflow_sub-result
+sub-result c = (found-value c.in-Value.is (found (search))).order
 
-returns-2 : tie.Need-returns-2
+returns-2 : tie.Need-returns-in-Value
 returns-2 c =
-    let f : tie.After-find-value = search in
-    value-packed (accepted f.before.before) _ _ c.before.start.given.1 (found f)
+    let f : tie.After-find_value = search in
+    value-packed (accepted (search)) _ _ c.in-Value.is (found f)
 
-returns-3 : tie.Need-returns-3
+returns-3 : tie.Need-returns-in-NoValue
 returns-3 c =
-    let f : tie.After-find-value = search in
-    value-absent (accepted f.before.before) _ _ c.enum_told.given.1 (found f)
+    let f : tie.After-find_value = search in
+    value-absent (accepted (search)) _ _ c.in-NoValue.is (found f)
 
-pub merger-value-spec : {M : Type 1} → statement M
-merger-value-spec =
+pub merger_value_spec : {M : Type 1} → statement M
+merger_value_spec =
     tie.close
     (tie.spec
     (λ c κs. search rules) (λ c. search rules) (λ c κs. search rules) (λ c. search rules)

@@ -3,8 +3,8 @@ use Rattle.interface.proofs.PackingLaws.{found-conflict, found-overfull}
 use Rattle.interface.proofs.pack.pack_finding.Statement.{statement}
 use Rattle.interface.proofs.pack.pack_finding.Tie as tie
 
-pub pack-finding-spec : {M : Type 1} → statement M
-pack-finding-spec =
+pub pack_finding_spec : {M : Type 1} → statement M
+pack_finding_spec =
     tie.close
     (tie.spec
     (λ c. search rules) (λ c κs. search rules) (λ c. search rules) (λ c. search rules) (λ c κs. search rules) (λ c. search rules)

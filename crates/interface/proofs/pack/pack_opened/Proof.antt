@@ -3,8 +3,8 @@ use Rattle.interface.proofs.PackingLaws.{opened-merged, opened-found, opened-ref
 use Rattle.interface.proofs.pack.pack_opened.Statement.{statement}
 use Rattle.interface.proofs.pack.pack_opened.Tie as tie
 
-pub pack-opened-spec : {M : Type 1} → statement M
-pack-opened-spec =
+pub pack_opened_spec : {M : Type 1} → statement M
+pack_opened_spec =
     tie.close
     (tie.spec
     (λ c. search rules) (λ c κs. search rules) (λ c. search rules) (λ c. search rules) (λ c κs. search rules)

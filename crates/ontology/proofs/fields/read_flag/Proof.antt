@@ -4,8 +4,8 @@ use borrow.Author.Rules.{rules}
 use Rattle.ontology.proofs.fields.read_flag.Statement.{statement}
 use Rattle.ontology.proofs.fields.read_flag.Tie as tie
 
-pub read-flag-spec : {M : Type 1} → statement M
-read-flag-spec =
+pub read_flag_spec : {M : Type 1} → statement M
+read_flag_spec =
     tie.close
     (tie.spec
     (λ c κs. search rules) (λ c. search rules) (λ c. search rules)

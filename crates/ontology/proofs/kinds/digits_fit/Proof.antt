@@ -3,8 +3,8 @@ use borrow.Author.Rules.{rules}
 use Rattle.ontology.proofs.kinds.digits_fit.Statement.{statement}
 use Rattle.ontology.proofs.kinds.digits_fit.Tie as tie
 
-pub digits-fit-spec : {M : Type 1} → statement M
-digits-fit-spec =
+pub digits_fit_spec : {M : Type 1} → statement M
+digits_fit_spec =
     tie.close
     (tie.spec
     (λ c. search digits-few)

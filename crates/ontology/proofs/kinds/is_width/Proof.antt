@@ -3,8 +3,8 @@ use native.Mathlib.Omega.{arith}
 use Rattle.ontology.proofs.kinds.is_width.Statement.{statement}
 use Rattle.ontology.proofs.kinds.is_width.Tie as tie
 
-pub is-width-spec : {M : Type 1} → statement M
-is-width-spec =
+pub is_width_spec : {M : Type 1} → statement M
+is_width_spec =
     tie.close
     (tie.spec
     (λ c. search width-eight)

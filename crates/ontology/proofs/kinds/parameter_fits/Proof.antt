@@ -3,8 +3,8 @@ use borrow.Author.Rules.{rules}
 use Rattle.ontology.proofs.kinds.parameter_fits.Statement.{statement}
 use Rattle.ontology.proofs.kinds.parameter_fits.Tie as tie
 
-pub parameter-fits-spec : {M : Type 1} → statement M
-parameter-fits-spec =
+pub parameter_fits_spec : {M : Type 1} → statement M
+parameter_fits_spec =
     tie.close
     (tie.spec
     (λ c κs. search rules)

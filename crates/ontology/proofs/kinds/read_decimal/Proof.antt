@@ -14,40 +14,39 @@ use Rattle.ontology.proofs.kinds.read_decimal.Tie as tie
 
 -- ---- the places
 
-abbrev to_start : tie.After-known-told → tie.Start
+abbrev to_start : tie.In-Number → tie.Start
 to_start c = search
 
-abbrev to-total : tie.After-known-told2 → tie.After-known-told
+abbrev to-total : tie.In-Number-read_number → tie.In-Number
 to-total c = search
 
-abbrev to-point : tie.After-known-told3 → tie.After-known-told2
+abbrev to-point : tie.In-Flag → tie.In-Number-read_number
 to-point c = search
 
 -- ---- the facts
 
 total :
-    (c : tie.After-known-told) →
+    (c : tie.In-Number) →
     let a = (to_start c).args in
-    TotalLeft a.s.now a.at c.before.total.given.0.0 c.before.total.given.0.1.0
+    TotalLeft a.s.now a.at c.in-Number.total c.in-Number.after_total
 total c = search (total_left, any-got)
 
 point :
-    (c : tie.After-known-told2) →
+    (c : tie.In-Number-read_number) →
     let a = (to_start (to-total c)).args in
-    PointLeft a.s.now a.at (to-total c).before.total.given.0.0 c.before.after.given.0.0 c.before.after.given.0.1.0
-point c = on-got read_number _ (total (search)) (any-got c.before.after.given.1 (search))
+    PointLeft a.s.now a.at (to-total c).in-Number.total c.in-Number-read_number.after c.in-Number-read_number.after_point
+point c = on-got read_number _ (total (search)) (any-got c.in-Number-read_number.is (search))
 
 tested :
-    (c : tie.After-digits-fit) →
-    let d = to-point c.before in
+    (c : tie.After-digits_fit) →
+    let d = to-point (search) in
     let a = (to_start (to-total d)).args in
-    let sign = c.before.before.sign.given.0 in
-    KindTested a.s.now a.at decimal_number (to-total d).before.total.given.0.0 d.before.after.given.0.0 (bool_byte sign.0) sign.1.0
-    c.digits-fit.result
-tested c = decimal-tested (point (search)) (flag-got c.before.before.sign.given.1 (search)) (search)
+    KindTested a.s.now a.at decimal_number (to-total d).in-Number.total d.in-Number-read_number.after (bool_byte c.in-Flag.sign) c.in-Flag.next
+    c.digits_fit.result
+tested c = decimal-tested (point (search)) (flag-got c.in-Flag.is (search)) (search)
 
-pub read-decimal-spec : {M : Type 1} → statement M
-read-decimal-spec =
+pub read_decimal_spec : {M : Type 1} → statement M
+read_decimal_spec =
     tie.close
     (tie.spec
     (λ c κs. search rules) (λ c. search rules) (λ c. search rules)

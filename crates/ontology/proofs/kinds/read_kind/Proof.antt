@@ -13,25 +13,25 @@ use Rattle.ontology.proofs.kinds.read_kind.Tie as tie
 
 -- ---- the places
 
-abbrev to_start : tie.After-known-told → tie.Start
+abbrev to_start : tie.In-Number → tie.Start
 to_start c = search
 
 -- ---- the facts
 
 numbered :
-    (c : tie.After-known-told) →
+    (c : tie.In-Number) →
     let a = (to_start c).args in
-    Got (read_number (drop a.at a.s.now)) a.s.now a.at c.before.n.given.0.0 c.before.n.given.0.1.0
-numbered c = any-got c.before.n.given.1 c.before.before.before.read_number.ensures
+    Got (read_number (drop a.at a.s.now)) a.s.now a.at c.in-Number.n c.in-Number.next
+numbered c = any-got c.in-Number.is c.read_number.ensures
 
-pub read-kind-spec : {M : Type 1} → statement M
-read-kind-spec =
+pub read_kind_spec : {M : Type 1} → statement M
+read_kind_spec =
     tie.close
     (tie.spec
     (λ c κs. search rules) (λ c. search rules) (λ c. search rules)
     (λ c. search (kind-none, any-fail))
     (λ c. search rules)
-    (λ c. kind-above (numbered c.before) (omega arith))
+    (λ c. kind-above (numbered (search)) (omega arith))
     (λ c. search rules)
     (λ c κs. inl refl)
     (λ c κs. inr (inl refl))

@@ -8,25 +8,24 @@ use Rattle.ontology.proofs.kinds.read_parameter.Tie as tie
 
 -- ---- the places
 
-abbrev to_start : tie.After-read-number → tie.Start
-to_start c = c.before.before
+abbrev to_start : tie.After-read_number → tie.Start
+to_start c = (search)
 
-abbrev to_read : tie.After-parameter-fits → tie.After-read-number
-to_read c = c.before.before.before.before
+abbrev to_read : tie.After-parameter_fits → tie.After-read_number
+to_read c = (search)
 
 -- ---- the facts
 
 tested :
-    (c : tie.After-parameter-fits) →
+    (c : tie.After-parameter_fits) →
     let a = (to_start (to_read c)).args in
-    let n = c.before.before.n.given.0 in
-    KindTested a.s.now a.at a.kind n.0 0 0 n.1.0 c.parameter-fits.result
+    KindTested a.s.now a.at a.kind c.in-Number.n 0 0 c.in-Number.next c.parameter_fits.result
 tested c =
     let read = to_read c in
-    one-tested (to_start read).pre (any-got c.before.before.n.given.1 read.read_number.ensures) c.parameter-fits.ensures
+    one-tested (to_start read).requires (any-got c.in-Number.is read.read_number.ensures) c.parameter_fits.ensures
 
-pub read-parameter-spec : {M : Type 1} → statement M
-read-parameter-spec =
+pub read_parameter_spec : {M : Type 1} → statement M
+read_parameter_spec =
     tie.close
     (tie.spec
     (λ c κs. search rules) (λ c. search rules) (λ c. search rules)

@@ -4,8 +4,8 @@ use native.Mathlib.Omega.{arith}
 use Rattle.ontology.proofs.names.is_letter.Statement.{statement}
 use Rattle.ontology.proofs.names.is_letter.Tie as tie
 
-pub is-letter-spec : {M : Type 1} → statement M
-is-letter-spec =
+pub is_letter_spec : {M : Type 1} → statement M
+is_letter_spec =
     tie.close
     (tie.spec
     (λ c. sym (letter-is _ (omega arith) (omega arith)))

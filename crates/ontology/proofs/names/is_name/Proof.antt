@@ -6,18 +6,18 @@ use borrow.Author.Rules.{rules}
 use Rattle.ontology.proofs.names.is_name.Statement.{statement}
 use Rattle.ontology.proofs.names.is_name.Tie as tie
 
-abbrev invariant-loop : tie.invariant-loop
-invariant-loop v most i₀ i = NameFrom most v i
+abbrev invariant-loop-i : tie.invariant-loop-i
+invariant-loop-i v most i₀ i = NameFrom most v i
 
-abbrev decreases-loop : tie.decreases-loop
-decreases-loop v most i₀ i = length v - i
+abbrev decreases-loop-i : tie.decreases-loop-i
+decreases-loop-i v most i₀ i = length v - i
 
-pub is-name-spec : {M : Type 1} → statement M
-is-name-spec =
+pub is_name_spec : {M : Type 1} → statement M
+is_name_spec =
     tie.close
     (tie.spec
-    invariant-loop
-    decreases-loop
+    invariant-loop-i
+    decreases-loop-i
     (λ c. search name-none)
     (λ c. search name-long)
     (λ c. search rules) (λ c κs. search rules)

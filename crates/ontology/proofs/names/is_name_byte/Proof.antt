@@ -5,8 +5,8 @@ use borrow.Author.Rules.{rules}
 use Rattle.ontology.proofs.names.is_name_byte.Statement.{statement}
 use Rattle.ontology.proofs.names.is_name_byte.Tie as tie
 
-pub is-name-byte-spec : {M : Type 1} → statement M
-is-name-byte-spec =
+pub is_name_byte_spec : {M : Type 1} → statement M
+is_name_byte_spec =
     tie.close
     (tie.spec
     (λ c κs. search rules)

@@ -6,14 +6,13 @@ use Rattle.ontology.proofs.names.read_name.Statement.{statement}
 use Rattle.ontology.proofs.names.read_name.Tie as tie
 
 text :
-    (c : tie.After-known-told) →
+    (c : tie.In-Text) →
     let start : tie.Start = search in
-    let t = c.before.start.given.0 in
-    TextStops start.args.s.now start.args.at t.0 t.1.0
+    TextStops start.args.s.now start.args.at c.in-Text.start c.in-Text.end
 text c = search text-read
 
-pub read-name-spec : {M : Type 1} → statement M
-read-name-spec =
+pub read_name_spec : {M : Type 1} → statement M
+read_name_spec =
     tie.close
     (tie.spec
     (λ c κs. search rules) (λ c. search rules) (λ c. search rules)

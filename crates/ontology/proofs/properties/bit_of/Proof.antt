@@ -3,13 +3,13 @@ use mathlib.Core.Path.{sym, ap}
 use Rattle.ontology.proofs.properties.bit_of.Statement.{statement}
 use Rattle.ontology.proofs.properties.bit_of.Tie as tie
 
-returns : tie.Need-returns
+returns : tie.Need-returns-then-flag
 unfolding bit_of
-returns c = sym (ap bit_of c.if1.true)
+returns c = sym (ap bit_of c.if-flag.true)
 
-returns-2 : tie.Need-returns-2
+returns-2 : tie.Need-returns-else-flag
 unfolding bit_of
-returns-2 c = sym (ap bit_of c.if1.false)
+returns-2 c = sym (ap bit_of c.if-flag.false)
 
-pub bit-of-spec : {M : Type 1} → statement M
-bit-of-spec = tie.close (tie.spec returns returns-2)
+pub bit_of_spec : {M : Type 1} → statement M
+bit_of_spec = tie.close (tie.spec returns returns-2)

@@ -8,28 +8,28 @@ use Rattle.ontology.proofs.properties.code_of.Tie as tie
 
 -- ---- the facts
 
-optional : (c : tie.After-bit-of) → c.bit-of.result ≤ 1
-optional c = bit-read _ c.bit-of.ensures
+optional : (c : tie.After-bit_of) → c.bit_of.result ≤ 1
+optional c = bit-read _ c.bit_of.ensures
 
-multivalued : (c : tie.After-bit-of2) → c.bit-of2.result ≤ 1
-multivalued c = bit-read _ c.bit-of2.ensures
+multivalued : (c : tie.After-bit_of-2) → c.bit_of-2.result ≤ 1
+multivalued c = bit-read _ c.bit_of-2.ensures
 
 -- ---- the needs
 
-mul-result-5 : tie.Need-overflow-mul-result-5
+mul-result-5 : tie.Need-overflow_mul-result-5
 mul-result-5 c = omega (arith, optional c)
 
-add-result-5 : tie.Need-overflow-add-result-5
+add-result-5 : tie.Need-overflow_add-result-5
 add-result-5 c = omega (arith, optional c)
 
-mul-result-6 : tie.Need-overflow-mul-result-6
+mul-result-6 : tie.Need-overflow_mul-result-6
 mul-result-6 c = omega (arith, multivalued c)
 
-add-result-6 : tie.Need-overflow-add-result-6
-add-result-6 c = omega (arith, optional c.before, multivalued c)
+add-result-6 : tie.Need-overflow_add-result-6
+add-result-6 c = omega (arith, optional (search), multivalued c)
 
-pub code-of-spec : {M : Type 1} → statement M
-code-of-spec =
+pub code_of_spec : {M : Type 1} → statement M
+code_of_spec =
     tie.close
     (tie.spec
     (λ c. search rules) (λ c. search rules) (λ c. search rules) (λ c. search rules) (λ c. search rules)

@@ -13,56 +13,53 @@ use Rattle.ontology.proofs.properties.read_property.Tie as tie
 
 -- ---- the places
 
-abbrev to_start : tie.After-known-told → tie.Start
+abbrev to_start : tie.In-Text → tie.Start
 to_start c = search
 
-abbrev to-name : tie.After-known-told2 → tie.After-known-told
+abbrev to-name : tie.In-OfKind → tie.In-Text
 to-name c = search
 
-abbrev to-kind : tie.After-known-told3 → tie.After-known-told2
+abbrev to-kind : tie.In-Flag → tie.In-OfKind
 to-kind c = search
 
-abbrev to-optional : tie.After-known-told4 → tie.After-known-told3
+abbrev to-optional : tie.In-Flag-read_flag → tie.In-Flag
 to-optional c = search
 
-abbrev to-flags : tie.After-known-told5 → tie.After-known-told4
+abbrev to-flags : tie.In-Number → tie.In-Flag-read_flag
 to-flags c = search
 
 -- ---- the facts: what is left after each field
 
 named :
-    (c : tie.After-known-told) →
+    (c : tie.In-Text) →
     let a = (to_start c).args in
-    NameLeft a.table.now a.at c.before.start.given.0.0 c.before.start.given.0.1.0
+    NameLeft a.table.now a.at c.in-Text.start c.in-Text.end
 named c = search (name-left, name-got)
 
 kinded :
-    (c : tie.After-known-told2) →
+    (c : tie.In-OfKind) →
     let a = (to_start (to-name c)).args in
-    let name = (to-name c).before.start.given.0 in
-    let k = c.before.kind.given.0 in
-    KindLeft a.table.now a.at name.0 name.1.0 k.0 k.1.0 k.1.1.0 k.1.1.1.0 k.1.1.1.1.0
+    KindLeft a.table.now a.at (to-name c).in-Text.start (to-name c).in-Text.end c.in-OfKind.kind c.in-OfKind.size c.in-OfKind.after c.in-OfKind.sign c.in-OfKind.after_kind
 kinded c = kind-left (named (search)) (search kind-got)
 
-optional : (c : tie.After-known-told3) → OptionalLeft (kinded (to-kind c)) c.before.optional.given.0.0 c.before.optional.given.0.1.0
+optional : (c : tie.In-Flag) → OptionalLeft (kinded (to-kind c)) c.in-Flag.optional c.in-Flag.after_optional
 optional c = on-got read_flag _ (kinded (search)).left (search flag-got)
 
 flags :
-    (c : tie.After-known-told4) →
+    (c : tie.In-Flag-read_flag) →
     let o = to-optional c in
-    let m = c.before.multivalued.given.0 in
-    FlagsLeft (kinded (to-kind o)) o.before.optional.given.0.0 m.0 m.1.0
+    FlagsLeft (kinded (to-kind o)) o.in-Flag.optional c.in-Flag-read_flag.multivalued c.in-Flag-read_flag.after_multivalued
 flags c = on-got read_flag _ (optional (search)) (search flag-got)
 
 strategy :
-    (c : tie.After-known-told5) →
+    (c : tie.In-Number) →
     let flagged = to-flags c in
     let table = (to_start (to-name (to-kind (to-optional flagged)))).args.table.now in
-    StrategyStops table flagged.before.multivalued.given.0.1.0 c.before.strategy.given.0.0 c.before.strategy.given.0.1.0
+    StrategyStops table flagged.in-Flag-read_flag.after_multivalued c.in-Number.strategy c.in-Number.after_strategy
 strategy c = search (strategy-got, number-got)
 
-pub read-property-spec : {M : Type 1} → statement M
-read-property-spec =
+pub read_property_spec : {M : Type 1} → statement M
+read_property_spec =
     tie.close
     (tie.spec
     (λ c κs. search rules) (λ c. search rules) (λ c. search rules)

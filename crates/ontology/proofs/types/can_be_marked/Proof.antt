@@ -3,8 +3,8 @@ use borrow.Author.Rules.{rules}
 use Rattle.ontology.proofs.types.can_be_marked.Statement.{statement}
 use Rattle.ontology.proofs.types.can_be_marked.Tie as tie
 
-pub can-be-marked-spec : {M : Type 1} → statement M
-can-be-marked-spec =
+pub can_be_marked_spec : {M : Type 1} → statement M
+can_be_marked_spec =
     tie.close
     (tie.spec
     (λ c s q w. search marked-kind)

@@ -8,25 +8,25 @@ use Rattle.ontology.proofs.types.name_before.Tie as tie
 
 -- ---- the places
 
-abbrev to_start : tie.Then2 → tie.Start
-to_start c = c.before.before.before
+abbrev to_start : tie.Then-b-f → tie.Start
+to_start c = (search)
 
 -- ---- the facts
 
-some-second : (c : tie.Then2) → (to_start c).args.b < (to_start c).args.f
-some-second c = ltb-true _ _ c.if2.true
+some-second : (c : tie.Then-b-f) → (to_start c).args.b < (to_start c).args.f
+some-second c = ltb-true _ _ c.if-b-f.true-raw
 
 -- ---- the needs
 
-shared-slice-read-y : tie.Need-shared-slice-read-y
-shared-slice-read-y c = let both = c.before.before in omega (arith, some-second both, (to_start both).requires.3)
+shared-slice-read-y : tie.Need-bounds-table-b
+shared-slice-read-y c = let both = c in omega (arith, some-second (search), (to_start (search)).requires.3)
 
-returns : tie.Need-returns
+returns : tie.Need-returns-then-x-y
 returns c =
-    let both : tie.Then2 = search in
-    let p = (to_start both).pre in
-    first-decides _ _ _ _ _ both.before.if1.taken p.1 (some-second both) p.3 c.if3.true
+    let both : tie.Then-b-f = search in
+    let p = (to_start both).requires in
+    first-decides _ _ _ _ _ both.if-a-e.true p.1 (some-second both) p.3 c.if-x-y.true
 
-pub name-before-spec : {M : Type 1} → statement M
-name-before-spec =
+pub name_before_spec : {M : Type 1} → statement M
+name_before_spec =
     tie.close (tie.spec (λ c. search rules) shared-slice-read-y returns (λ c κs. search rules) (λ c. search rules))

@@ -5,8 +5,8 @@ use borrow.Author.Rules.{rules}
 use Rattle.ontology.proofs.types.property_fits.Statement.{statement}
 use Rattle.ontology.proofs.types.property_fits.Tie as tie
 
-pub property-fits-spec : {M : Type 1} → statement M
-property-fits-spec =
+pub property_fits_spec : {M : Type 1} → statement M
+property_fits_spec =
     tie.close
     (tie.spec
     (λ c κs. search rules)

@@ -14,52 +14,52 @@ use Rattle.ontology.proofs.types.read_head.Tie as tie
 
 -- ---- the places
 
-abbrev to_start : tie.After-known-told → tie.Start
+abbrev to_start : tie.In-Text → tie.Start
 to_start c = search
 
-abbrev to-name : tie.After-known-told2 → tie.After-known-told
+abbrev to-name : tie.In-Number → tie.In-Text
 to-name c = search
 
-abbrev to-defined : tie.After-known-told3 → tie.Else1
+abbrev to-defined : tie.In-Number-read_number → tie.Else-definition-eq0
 to-defined c = search
 
 -- ---- the values
 
-abbrev definition : tie.After-known-told2 → ℕ
-definition c = c.before.definition.given.0.0
+abbrev definition : tie.In-Number → ℕ
+definition c = c.in-Number.definition
 
 -- ---- the facts: what is left after each field and its rule
 
 named :
-    (c : tie.After-known-told) →
+    (c : tie.In-Text) →
     let a = (to_start c).args in
-    TypeNamed a.table.now a.at c.before.start.given.0.0 c.before.start.given.0.1.0
+    TypeNamed a.table.now a.at c.in-Text.start c.in-Text.end
 named c = search (type-named, name-got)
 
-numbered : (c : tie.After-known-told2) → Left (named (to-name c)) (after-definition (definition c)) c.before.definition.given.0.1.0
-numbered c = on-got read_number _ (named (search)).left (any-got c.before.definition.given.1 (search))
+numbered : (c : tie.In-Number) → Left (named (to-name c)) (after-definition (definition c)) c.in-Number.after_definition
+numbered c = on-got read_number _ (named (search)).left (any-got c.in-Number.is (search))
 
 defined :
-    (c : tie.Else1) →
-    let d = c.before in
-    Left (named (to-name d)) (when-defined (definition d)) d.before.definition.given.0.1.0
-defined c = on-passed _ (numbered c.before) (le-leb 1 (definition c.before) (omega arith))
+    (c : tie.Else-definition-eq0) →
+    let d = c in
+    Left (named (to-name (search))) (when-defined (definition (search))) d.in-Number.after_definition
+defined c = on-passed _ (numbered (search)) (le-leb 1 (definition (search)) (omega arith))
 
 marked :
-    (c : tie.After-known-told3) →
-    let d = (to-defined c).before in
-    Left (named (to-name d)) (after-mark (definition d) c.before.mark.given.0.0) c.before.mark.given.0.1.0
-marked c = on-got read_number _ (defined (search)) (any-got c.before.mark.given.1 (search))
+    (c : tie.In-Number-read_number) →
+    let d = c in
+    Left (named (to-name (search))) (after-mark (definition (search)) c.in-Number-read_number.mark) c.in-Number-read_number.after_mark
+marked c = on-got read_number _ (defined (search)) (any-got c.in-Number-read_number.is (search))
 
 -- ---- the needs
 
-returns-6 : tie.Need-returns-6
+returns-6 : tie.Need-returns
 returns-6 c =
-    let counted = number-got c.before.count.given.1 c.before.before.before.read-within.ensures in
+    let counted = number-got c.in-Number-read_within.is c.read_within.ensures in
     head-is (named (search)) _ _ (on-got (such_that (is_within 1 32) read_number) _ (marked (search)) counted) (got-bounds 1 32 counted).1
 
-pub read-head-spec : {M : Type 1} → statement M
-read-head-spec =
+pub read_head_spec : {M : Type 1} → statement M
+read_head_spec =
     tie.close
     (tie.spec
     (λ c κs. search rules) (λ c. search rules) (λ c. search rules)

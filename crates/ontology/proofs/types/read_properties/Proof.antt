@@ -12,47 +12,47 @@ use borrow.Author.Rules.{rules}
 use Rattle.ontology.proofs.types.read_properties.Statement.{statement}
 use Rattle.ontology.proofs.types.read_properties.Tie as tie
 
-abbrev invariant-loop : tie.invariant-loop
-invariant-loop table at count mark keep properties₀ next₀ start₀ end₀ k₀ properties next start end k =
+abbrev invariant-loop-k : tie.invariant-loop-k
+invariant-loop-k table at count mark keep properties₀ next₀ start₀ end₀ k₀ properties next start end k =
     Filled (read_fitting mark count (drop at table)) table at mark keep properties₀ properties next start end k count
 
-abbrev decreases-loop : tie.decreases-loop
-decreases-loop table at count mark keep properties₀ next₀ start₀ end₀ k₀ properties next start end k = count - k
+abbrev decreases-loop-k : tie.decreases-loop-k
+decreases-loop-k table at count mark keep properties₀ next₀ start₀ end₀ k₀ properties next start end k = count - k
 
 -- the property that was read
 stops :
-    (c : tie.After-p invariant-loop decreases-loop) →
-    let start : tie.Start invariant-loop decreases-loop = search in
-    let l : tie.At-loop invariant-loop decreases-loop = search in
+    (c : tie.In-Property invariant-loop-k decreases-loop-k) →
+    let start : tie.Start invariant-loop-k decreases-loop-k = search in
+    let l : tie.At-loop-k invariant-loop-k decreases-loop-k = search in
     let table = start.args.table.now in
-    PropertyStops (read_property (drop l.loop.next table)) table l.loop.next c.p.given.0.0 c.p.given.0.1.0
+    PropertyStops (read_property (drop l.loop-k.next table)) table l.loop-k.next c.in-Property.p c.in-Property.after
 stops c = search property-got
 
-returns : tie.Need-returns invariant-loop decreases-loop
+returns : tie.Need-returns-in_default invariant-loop-k decreases-loop-k
 returns c =
-    let l : tie.At-loop invariant-loop decreases-loop = search in
-    (search (filled-bad, property-fail), l.loop.inv.stay)
+    let l : tie.At-loop-k invariant-loop-k decreases-loop-k = search in
+    (search (filled-bad, property-fail), l.loop-k.invariant.stay)
 
-returns-2 : tie.Need-returns-2 invariant-loop decreases-loop
+returns-2 : tie.Need-returns-then-not-property_fits invariant-loop-k decreases-loop-k
 returns-2 c =
-    let l : tie.At-loop invariant-loop decreases-loop = search in
-    (filled-not l.loop.inv (search) (stops (search)) c.before.property-fits.ensures c.if1.true, l.loop.inv.stay)
+    let l : tie.At-loop-k invariant-loop-k decreases-loop-k = search in
+    (filled-not l.loop-k.invariant (search) (stops (search)) c.property_fits.ensures c.if-not-property_fits.true-raw, l.loop-k.invariant.stay)
 
-loop-again : tie.Need-loop-preserved invariant-loop decreases-loop
+loop-again : tie.Need-loop-k-preserved invariant-loop-k decreases-loop-k
 loop-again c =
-    let l : tie.At-loop invariant-loop decreases-loop = search in
-    filled_more l.loop.inv (search) (stops (search)) c.before.before.property-fits.ensures c.before.if1.false
+    let l : tie.At-loop-k invariant-loop-k decreases-loop-k = search in
+    filled_more l.loop-k.invariant (search) (stops (search)) c.property_fits.ensures c.if-not-property_fits.false-raw
     (⊎_elim
-    (λ w. placed w.0.taken w.5 w.2.ensures.0 w.2.ensures.1 (omega (arith, l.loop.inv.size, w.3.given)))
-    (λ w. not-placed w.0.left w.1 l.loop.inv.size)
-    c.if2.branch)
+    (λ w. placed w.if-keep.true w.properties-is w.put_property.ensures.0 w.put_property.ensures.1 (omega (arith, l.loop-k.invariant.size, w.properties-1.given)))
+    (λ w. not-placed w.if-keep.false w.properties-is l.loop-k.invariant.size)
+    c.if-keep.branch-raw)
 
-pub read-properties-spec : {M : Type 1} → statement M
-read-properties-spec =
+pub read_properties_spec : {M : Type 1} → statement M
+read_properties_spec =
     tie.close
     (tie.spec
-    invariant-loop
-    decreases-loop
+    invariant-loop-k
+    decreases-loop-k
     (λ c. search filled_none)
     (λ c κs. search rules) (λ c. search rules) (λ c. search rules) (λ c. search rules)
     returns
@@ -63,4 +63,4 @@ read-properties-spec =
     (λ c κs. search rules) (λ c. search rules) (λ c. search rules)
     loop-again
     (λ c. search rules)
-    (λ c. (search filled-all, c.before.loop.invariant.stay)))
+    (λ c. (search filled-all, c.loop-k.invariant.stay)))

@@ -7,25 +7,24 @@ use Rattle.ontology.proofs.types.read_type.Statement.{statement}
 use Rattle.ontology.proofs.types.read_type.Tie as tie
 
 head :
-    (c : tie.After-known-told) →
+    (c : tie.In-Head) →
     let start : tie.Start = search in
-    let h = c.before.start.given.0 in
-    HeadStops start.args.table.now start.args.at h.0 h.1.0 h.1.1.0 h.1.1.1.0 h.1.1.1.1.0 h.1.1.1.1.1.0
+    HeadStops start.args.table.now start.args.at c.in-Head.start c.in-Head.end c.in-Head.definition c.in-Head.mark c.in-Head.count c.in-Head.next
 head c = search head-got
 
-returns-2 : tie.Need-returns-2
+returns-2 : tie.Need-returns-in_default-answer
 returns-2 c =
-    let read : tie.After-read-properties = search in
-    let fails = properties-fail _ _ _ _ _ _ c.enum-told2.given.1 read.read-properties.ensures.0 in
-    (type-none _ _ _ _ _ _ (type-short (head (search)) fails) refl, read.read-properties.ensures.1)
+    let read : tie.After-read_properties-answer = search in
+    let fails = properties-fail _ _ _ _ _ _ c.in_default-answer.is read.read_properties-answer.ensures.0 in
+    (type-none _ _ _ _ _ _ (type-short (head (search)) fails) refl, read.read_properties-answer.ensures.1)
 
-returns-3 : tie.Need-returns-3
+returns-3 : tie.Need-returns
 returns-3 c =
-    let read : tie.After-read-properties = search in
-    (type_reads (head (search)) (properties-got c.before.answer.given.1 read.read-properties.ensures.0), read.read-properties.ensures.1)
+    let read : tie.After-read_properties-answer = search in
+    (type_reads (head (search)) (properties-got c.in-Properties.is read.read_properties-answer.ensures.0), read.read_properties-answer.ensures.1)
 
-pub read-type-spec : {M : Type 1} → statement M
-read-type-spec =
+pub read_type_spec : {M : Type 1} → statement M
+read_type_spec =
     tie.close
     (tie.spec
     (λ c κs. search rules) (λ c κs. search rules) (λ c. search rules) (λ c. search rules)

@@ -4,8 +4,8 @@ use Rattle.ontology.proofs.RuleLaws.{replace-many, replace-optional, replace-man
 use Rattle.ontology.proofs.types.strategy_fits.Statement.{statement}
 use Rattle.ontology.proofs.types.strategy_fits.Tie as tie
 
-pub strategy-fits-spec : {M : Type 1} → statement M
-strategy-fits-spec =
+pub strategy_fits_spec : {M : Type 1} → statement M
+strategy_fits_spec =
     tie.close
     (tie.spec
     (λ c κs. search rules) (λ c κs. search rules) (λ c κs. search rules)

@@ -4,17 +4,17 @@ use Rattle.opening.proofs.OpenLaws.{replies-conflict, without-conflict}
 use Rattle.opening.proofs.calls.open_asked.Statement.{statement}
 use Rattle.opening.proofs.calls.open_asked.Tie as tie
 
-returns : tie.Need-returns
-returns c = λ o. replies-conflict o c.before.before.before.find-conflict.ensures c.before.version.given.1 _
+returns : tie.Need-returns-in-Differs
+returns c = λ o. replies-conflict o c.find_conflict.ensures c.in-Differs.is _
 
-returns-2 : tie.Need-returns-2
+returns-2 : tie.Need-returns-in-NoConflict
 returns-2 c =
-    let merged : tie.After-open-merged = search in
-    let told : tie.After-enum-told = search in
-    λ o. merged.open-merged.ensures o (without-conflict o told.before.before.find-conflict.ensures told.enum_told.given.1)
+    let merged : tie.After-open_merged = search in
+    let told : tie.In-NoConflict = search in
+    λ o. merged.open_merged.ensures o (without-conflict o told.find_conflict.ensures told.in-NoConflict.is)
 
-pub open-asked-spec : {M : Type 1} → statement M
-open-asked-spec =
+pub open_asked_spec : {M : Type 1} → statement M
+open_asked_spec =
     tie.close
     (tie.spec
     (λ c κs. search rules) (λ c. search rules) (λ c. search rules) (λ c κs. search rules)

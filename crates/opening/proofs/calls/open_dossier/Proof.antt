@@ -13,27 +13,27 @@ use Rattle.opening.proofs.calls.open_dossier.Tie as tie
 
 -- ---- the facts
 
-allowed : (c : tie.Else1) → let start : tie.Start = search in Permitted (limits_of start.args.limits)
-allowed c = permitted _ (sym c.before.is-permitted.ensures ∙ not-false _ c.if1.false)
+allowed : (c : tie.Else-not-permitted) → let start : tie.Start = search in Permitted (limits_of start.args.limits)
+allowed c = permitted _ (sym c.is_permitted-permitted.ensures ∙ not-false _ c.if-not-permitted.false-raw)
 
 -- ---- the needs
 
-open-with-requires : tie.Need-open-with-requires
+open-with-requires : tie.Need-open_with-requires
 open-with-requires c κs =
-    let few : tie.Then3 = search in
-    let large : tie.Else2 = search in
-    (allowed search, one-row _ _ _ few.before.snapshot-count.ensures few.if3.taken, large.if2.left)
+    let few : tie.Then-snapshot_count-le1 = search in
+    let large : tie.Else-out-lt-DOSSIER_CAPACITY = search in
+    (allowed search, one-row _ _ _ few.snapshot_count.ensures few.if-snapshot_count-le1.true, large.if-out-lt-DOSSIER_CAPACITY.false)
 
-open-with-requires-2 : tie.Need-open-with-requires-2
-open-with-requires-2 c κs = let large : tie.Else2 = search in (allowed search, all-rows _ _ (allowed search), large.if2.left)
+open-with-requires-2 : tie.Need-open_with-requires-2
+open-with-requires-2 c κs = let large : tie.Else-out-lt-DOSSIER_CAPACITY = search in (allowed search, all-rows _ _ (allowed search), large.if-out-lt-DOSSIER_CAPACITY.false)
 
-pub open-dossier-spec : {M : Type 1} → statement M
-open-dossier-spec =
+pub open_dossier_spec : {M : Type 1} → statement M
+open_dossier_spec =
     tie.close
     (tie.spec
     (λ c κs. search rules)
-    (λ c. open-unpermitted _ _ _ _ (sym c.before.is-permitted.ensures ∙ not-true _ c.if1.true))
-    (λ c. open-small (allowed search) _ _ _ c.if2.true)
+    (λ c. open-unpermitted _ _ _ _ (sym c.is_permitted-permitted.ensures ∙ not-true _ c.if-not-permitted.true-raw))
+    (λ c. open-small (allowed search) _ _ _ c.if-out-lt-DOSSIER_CAPACITY.true)
     (λ c κs. allowed search)
     (λ c. search rules)
     open-with-requires

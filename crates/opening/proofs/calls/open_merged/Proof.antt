@@ -9,50 +9,50 @@ use Rattle.opening.proofs.calls.open_merged.Tie as tie
 
 -- ---- the places
 
-abbrev plan-to-start : tie.After-plan → tie.Start
-plan-to-start c = c.before.before.before.before.before
+abbrev plan-to-start : tie.After-plan-1 → tie.Start
+plan-to-start c = (search)
 
-abbrev to_start : tie.After-plan-sets → tie.Start
-to_start c = plan-to-start c.before
+abbrev to_start : tie.After-plan_sets → tie.Start
+to_start c = plan-to-start (search)
 
-abbrev to-plan : tie.After-find-overfull → tie.After-plan-sets
-to-plan c = c.before.before.before
+abbrev to-plan : tie.After-find_overfull → tie.After-plan_sets
+to-plan c = (search)
 
-abbrev to-told : tie.After-write-event-arg → tie.After-enum-told
-to-told c = c.before.before
+abbrev to-told : tie.After-write_event-arg-1 → tie.In-NoPlace
+to-told c = (search)
 
-abbrev to-find : tie.After-write-event-arg → tie.After-find-overfull
-to-find c = (to-told c).before.before
+abbrev to-find : tie.After-write_event-arg-1 → tie.After-find_overfull
+to-find c = (search)
 
 -- ---- the needs
 
-plan-sets-requires : tie.Need-plan-sets-requires
+plan-sets-requires : tie.Need-plan_sets-requires
 plan-sets-requires c κs =
     let (p, o) = (plan-to-start c).requires in
     ((o.typed.are.few, o.is.one, o.is.few, search rules, search rules, refl), λ i h. get_or-replicate 128 i 0 0 h)
 
-write-event-requires : tie.Need-write-event-requires
+write-event-requires : tie.Need-write_event-requires
 write-event-requires c κs =
     let plan = to-plan (to-find c) in
-    let (p, o) = (to_start plan).pre in
-    (search rules, search rules, o.typed.are.few, writable o plan.plan-sets.ensures p.2)
+    let (p, o) = (to_start plan).requires in
+    (search rules, search rules, o.typed.are.few, writable o plan.plan_sets.ensures p.2)
 
-returns : tie.Need-returns
+returns : tie.Need-returns-in-Place
 returns c =
-    let found = c.before.before.before in
-    λ o free. replies-overfull o (to-plan found).plan-sets.ensures found.find-overfull.ensures free c.before.place.given.1 _
+    let found = c in
+    λ o free. replies-overfull o (to-plan (search)).plan_sets.ensures found.find_overfull.ensures free c.in-Place.is _
 
-returns-2 : tie.Need-returns-2
+returns-2 : tie.Need-returns-in-NoPlace
 returns-2 c =
-    let written = c.before.before in
-    let found = to-find written.before in
+    let written = c in
+    let found = to-find (search) in
     let plan = to-plan found in
     λ o free.
-    replies-merged o plan.plan-sets.ensures found.find-overfull.ensures free (to-told written.before).enum_told.given.1
-    (to_start plan).pre.0.2 written.write-event.ensures
+    replies-merged o plan.plan_sets.ensures found.find_overfull.ensures free (to-told (search)).in-NoPlace.is
+    (to_start plan).requires.0.2 written.write_event.ensures
 
-pub open-merged-spec : {M : Type 1} → statement M
-open-merged-spec =
+pub open_merged_spec : {M : Type 1} → statement M
+open_merged_spec =
     tie.close
     (tie.spec
     (λ c. search rules)

@@ -6,23 +6,23 @@ use Rattle.opening.proofs.StandLaws.{RunsTo, runs_none, runs-more, runs_past, ru
 use Rattle.opening.proofs.cells.runs_of.Statement.{statement}
 use Rattle.opening.proofs.cells.runs_of.Tie as tie
 
-abbrev invariant-loop : tie.invariant-loop
-invariant-loop rows place n r₀ j₀ r j = RunsTo rows place n r j
+abbrev invariant-loop-j : tie.invariant-loop-j
+invariant-loop-j rows place n r₀ j₀ r j = RunsTo rows place n r j
 
-abbrev decreases-loop : tie.decreases-loop
-decreases-loop rows place n r₀ j₀ r j = 8 - j
+abbrev decreases-loop-j : tie.decreases-loop-j
+decreases-loop-j rows place n r₀ j₀ r j = 8 - j
 
-loop-again : tie.Need-loop-preserved invariant-loop decreases-loop
+loop-again : tie.Need-loop-j-preserved invariant-loop-j decreases-loop-j
 loop-again c =
-    let inv = c.before.before.loop.invariant in
-    ⊎_elim (λ x. runs-more inv c.before.loop-test.true x.1.ensures x.2) (λ y. runs_past inv y.0.left y.1) c.if1.branch
+    let inv = c.loop-j.invariant in
+    ⊎_elim (λ x. runs-more inv c.loop-j-test.true x.cell_at-x.ensures x.r-is) (λ y. runs_past inv y.if-j-n.false y.r-is) c.if-j-n.branch-raw
 
-pub runs-of-spec : {M : Type 1} → statement M
-runs-of-spec =
+pub runs_of_spec : {M : Type 1} → statement M
+runs_of_spec =
     tie.close
     (tie.spec
-    invariant-loop
-    decreases-loop
+    invariant-loop-j
+    decreases-loop-j
     (λ c. search runs_none)
     (λ c κs. search rules) (λ c. search rules) (λ c. search rules) (λ c. search rules) (λ c. search rules)
     (λ c. search rules) (λ c. search rules)

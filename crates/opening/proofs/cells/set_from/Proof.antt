@@ -8,8 +8,8 @@ returns : tie.Need-returns
 unfolding set_from
 returns c = refl
 
-pub set-from-spec : {M : Type 1} → statement M
-set-from-spec =
+pub set_from_spec : {M : Type 1} → statement M
+set_from_spec =
     tie.close
     (tie.spec
     (λ c. search rules) (λ c. search rules) (λ c. search rules) (λ c. search rules) (λ c. search rules)

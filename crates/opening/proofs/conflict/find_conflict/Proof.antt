@@ -5,18 +5,18 @@ use Rattle.opening.proofs.ConflictLaws.{ConflictFrom, conflict-start, conflict-f
 use Rattle.opening.proofs.conflict.find_conflict.Statement.{statement}
 use Rattle.opening.proofs.conflict.find_conflict.Tie as tie
 
-abbrev invariant-loop : tie.invariant-loop
-invariant-loop d j₀ j = ConflictFrom d j
+abbrev invariant-loop-j : tie.invariant-loop-j
+invariant-loop-j d j₀ j = ConflictFrom d j
 
-abbrev decreases-loop : tie.decreases-loop
-decreases-loop d j₀ j = d.count - j
+abbrev decreases-loop-j : tie.decreases-loop-j
+decreases-loop-j d j₀ j = d.count - j
 
-pub find-conflict-spec : {M : Type 1} → statement M
-find-conflict-spec =
+pub find_conflict_spec : {M : Type 1} → statement M
+find_conflict_spec =
     tie.close
     (tie.spec
-    invariant-loop
-    decreases-loop
+    invariant-loop-j
+    decreases-loop-j
     (λ c. conflict-start)
     (λ c. search rules) (λ c. search rules) (λ c. search rules) (λ c. search rules) (λ c κs. search rules)
     (λ c. search rules) (λ c. search rules)

@@ -5,18 +5,18 @@ use Rattle.opening.proofs.PlanLaws.{OverfullFrom, overfull-start, overfull-found
 use Rattle.opening.proofs.merge.find_overfull.Statement.{statement}
 use Rattle.opening.proofs.merge.find_overfull.Tie as tie
 
-abbrev invariant-loop : tie.invariant-loop
-invariant-loop count properties plan p₀ p = OverfullFrom count properties plan p
+abbrev invariant-loop-p : tie.invariant-loop-p
+invariant-loop-p count properties plan p₀ p = OverfullFrom count properties plan p
 
-abbrev decreases-loop : tie.decreases-loop
-decreases-loop count properties plan p₀ p = count - p
+abbrev decreases-loop-p : tie.decreases-loop-p
+decreases-loop-p count properties plan p₀ p = count - p
 
-pub find-overfull-spec : {M : Type 1} → statement M
-find-overfull-spec =
+pub find_overfull_spec : {M : Type 1} → statement M
+find_overfull_spec =
     tie.close
     (tie.spec
-    invariant-loop
-    decreases-loop
+    invariant-loop-p
+    decreases-loop-p
     (λ c. overfull-start)
     (λ c κs. search rules) (λ c. search rules) (λ c. search rules) (λ c. search rules) (λ c. search rules)
     (λ c κs. search rules)

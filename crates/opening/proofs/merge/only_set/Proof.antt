@@ -8,50 +8,50 @@ use Rattle.opening.proofs.MergeLaws.{UnionTo, union-one, union-taken, union-kept
 use Rattle.opening.proofs.merge.only_set.Statement.{statement}
 use Rattle.opening.proofs.merge.only_set.Tie as tie
 
-abbrev invariant-loop : tie.invariant-loop
-invariant-loop s rows place n only₀ j₀ only j = UnionTo s rows place n only j
+abbrev invariant-loop-j : tie.invariant-loop-j
+invariant-loop-j s rows place n only₀ j₀ only j = UnionTo s rows place n only j
 
-abbrev decreases-loop : tie.decreases-loop
-decreases-loop s rows place n only₀ j₀ only j = n - j
+abbrev decreases-loop-j : tie.decreases-loop-j
+decreases-loop-j s rows place n only₀ j₀ only j = n - j
 
 -- ---- the places
 
-abbrev to_both : tie.Else2 invariant-loop decreases-loop → tie.Then1 invariant-loop decreases-loop
-to_both c = c.before.before
+abbrev to_both : tie.Else-only-eq0 invariant-loop-j decreases-loop-j → tie.Then-x-ne0 invariant-loop-j decreases-loop-j
+to_both c = (search)
 
-abbrev to-this : tie.Then1 invariant-loop decreases-loop → tie.After-cell-at2 invariant-loop decreases-loop
-to-this c = c.before.before
+abbrev to-this : tie.Then-x-ne0 invariant-loop-j decreases-loop-j → tie.After-cell_at-x invariant-loop-j decreases-loop-j
+to-this c = (search)
 
 -- ---- the needs
 
-returns : tie.Need-returns invariant-loop decreases-loop
+returns : tie.Need-returns-then-not-same invariant-loop-j decreases-loop-j
 returns c =
-    let second : tie.After-set-part2 invariant-loop decreases-loop = search in
-    let first : tie.After-set-part invariant-loop decreases-loop = search in
-    let both = to_both first.before in
+    let second : tie.After-set_part-else-only-eq0 invariant-loop-j decreases-loop-j = search in
+    let first : tie.After-set_part invariant-loop-j decreases-loop-j = search in
+    let both = to_both (search) in
     let this = to-this both in
-    union-differs this.before.before.loop.inv this.before.loop-test.taken this.cell-at2.ensures first.set-part.ensures
-    second.set-part2.ensures c.before.same.ensures first.before.if2.left both.if1.taken (not-true _ c.if3.true)
+    union-differs this.loop-j.invariant this.loop-j-test.true this.cell_at-x.ensures first.set_part.ensures
+    second.set_part-else-only-eq0.ensures c.same.ensures first.if-only-eq0.false both.if-x-ne0.true (not-true _ c.if-not-same.true-raw)
 
-loop-again : tie.Need-loop-preserved invariant-loop decreases-loop
+loop-again : tie.Need-loop-j-preserved invariant-loop-j decreases-loop-j
 loop-again c =
-    let this : tie.After-cell-at2 invariant-loop decreases-loop = search in
-    let inv = this.before.before.loop.inv in
-    let more = this.before.loop-test.taken in
-    let is = this.cell-at2.ensures in
+    let this : tie.After-cell_at-x invariant-loop-j decreases-loop-j = search in
+    let inv = this.loop-j.invariant in
+    let more = this.loop-j-test.true in
+    let is = this.cell_at-x.ensures in
     ⊎_elim
-    (λ x. union-taken inv more is x.2.taken x.3)
+    (λ x. union-taken inv more is x.if-only-eq0.true x.only-is)
     (⊎_elim
-    (λ y. union-same inv more is y.3.ensures y.4.ensures y.5.ensures (not-false _ y.6.left) y.7)
-    (λ z. union-kept inv more is z.0.left z.1))
-    c.if1.branch
+    (λ y. union-same inv more is y.set_part.ensures y.set_part-else-only-eq0.ensures y.same.ensures (not-false _ y.if-not-same.false-raw) y.only-is)
+    (λ z. union-kept inv more is z.if-x-ne0.false z.only-is))
+    c.if-x-ne0.branch-raw
 
-pub only-set-spec : {M : Type 1} → statement M
-only-set-spec =
+pub only_set_spec : {M : Type 1} → statement M
+only_set_spec =
     tie.close
     (tie.spec
-    invariant-loop
-    decreases-loop
+    invariant-loop-j
+    decreases-loop-j
     (λ c κs. search rules)
     (λ c. search union-one)
     (λ c κs. search rules) (λ c κs. search rules) (λ c κs. search rules) (λ c κs. search rules)

@@ -9,13 +9,13 @@ use Rattle.opening.proofs.merge.put_place.Tie as tie
 
 -- ---- the needs
 
-slice-write-plan-3 : tie.Need-slice-write-plan-3
+slice-write-plan-3 : tie.Need-bounds-plan-place-in-Joins-2
 slice-write-plan-3 c =
-    let start = c.before.before.before in
+    let start = c in
     omega (arith, start.requires.0, start.requires.1, length-set start.args.plan.now (4 * start.args.place + 2) 2)
 
-pub put-place-spec : {M : Type 1} → statement M
-put-place-spec =
+pub put_place_spec : {M : Type 1} → statement M
+put_place_spec =
     tie.close
     (tie.spec
     (λ c. search rules) (λ c. search rules) (λ c κs. search rules) (λ c. search rules) (λ c. search rules)

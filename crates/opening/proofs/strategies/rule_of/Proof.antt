@@ -4,10 +4,10 @@ use Rattle.opening.proofs.strategies.rule_of.Statement.{statement}
 use Rattle.opening.proofs.strategies.rule_of.Tie as tie
 
 returns : tie.Need-returns
-returns c = λ s q w. rule-from _ c.before.before.is-replace.ensures c.before.is-extreme.ensures c.is-max.ensures s q w
+returns c = λ s q w. rule-from _ c.is_replace.ensures c.is_extreme.ensures c.is_max.ensures s q w
 
-pub rule-of-spec : {M : Type 1} → statement M
-rule-of-spec =
+pub rule_of_spec : {M : Type 1} → statement M
+rule_of_spec =
     tie.close
     (tie.spec
     (λ c κs. search rules) (λ c κs. search rules) (λ c κs. search rules)

@@ -7,39 +7,39 @@ use Rattle.opening.proofs.write.write_joined.Tie as tie
 
 -- ---- the places
 
-abbrev to_start : tie.After-runs-of → tie.Start
-to_start c = c.before.before.before.before
+abbrev to_start : tie.After-runs_of-runs → tie.Start
+to_start c = (search)
 
-abbrev to-runs : tie.After-write-merged → tie.After-runs-of
-to-runs c = c.before.before.before.before
+abbrev to-runs : tie.After-write_merged-joined → tie.After-runs_of-runs
+to-runs c = (search)
 
-abbrev to_values : tie.After-write-before-arg → tie.After-write-merged
-to_values c = c.before.before.before
+abbrev to_values : tie.After-write_before-arg-1 → tie.After-write_merged-joined
+to_values c = (search)
 
 -- ---- the needs
 
-write-merged-requires : tie.Need-write-merged-requires
+write-merged-requires : tie.Need-write_merged-joined-requires
 write-merged-requires c κs =
-    let runs = c.before.before.before in
-    let p = (to_start runs).requires in
-    (search rules, values-room p.3 runs.runs_of.ensures)
+    let runs = c in
+    let p = (to_start (search)).requires in
+    (search rules, values-room p.3 runs.runs_of-runs.ensures)
 
-write-before-requires : tie.Need-write-before-requires
+write-before-requires : tie.Need-write_before-requires
 write-before-requires c κs =
     let values = to_values c in
     let runs = to-runs values in
-    let e = values.write-merged.ensures in
-    count_room (to_start runs).pre.3 runs.runs_of.ensures e.0 e.1 refl
+    let e = values.write_merged-joined.ensures in
+    count_room (to_start runs).requires.3 runs.runs_of-runs.ensures e.0 e.1 refl
 
 returns : tie.Need-returns
 returns c =
-    let before = c.before.before in
-    let values = to_values before.before in
-    let e = values.write-merged.ensures in
-    λ p. wrote-union p (to-runs values).runs_of.ensures e.0 e.1 before.write-before.ensures
+    let before = c in
+    let values = to_values (search) in
+    let e = values.write_merged-joined.ensures in
+    λ p. wrote-union p (to-runs values).runs_of-runs.ensures e.0 e.1 before.write_before.ensures
 
-pub write-joined-spec : {M : Type 1} → statement M
-write-joined-spec =
+pub write_joined_spec : {M : Type 1} → statement M
+write_joined_spec =
     tie.close
     (tie.spec
     (λ c κs. search rules) (λ c. search rules)

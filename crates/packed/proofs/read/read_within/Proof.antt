@@ -3,8 +3,8 @@ use borrow.Author.Rules.{rules}
 use Rattle.packed.proofs.read.read_within.Statement.{statement}
 use Rattle.packed.proofs.read.read_within.Tie as tie
 
-pub read-within-spec : {M : Type 1} → statement M
-read-within-spec =
+pub read_within_spec : {M : Type 1} → statement M
+read_within_spec =
     tie.close
     (tie.spec
     (λ c κs. search rules) (λ c. search rules) (λ c. search rules)

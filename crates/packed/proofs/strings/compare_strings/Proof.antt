@@ -7,46 +7,46 @@ use borrow.Author.Rules.{rules}
 use Rattle.packed.proofs.strings.compare_strings.Statement.{statement}
 use Rattle.packed.proofs.strings.compare_strings.Tie as tie
 
-abbrev invariant-loop : tie.invariant-loop
-invariant-loop a b x y n m i₀ i = ComparesFrom a b x y n m i
+abbrev invariant-loop-i : tie.invariant-loop-i
+invariant-loop-i a b x y n m i₀ i = ComparesFrom a b x y n m i
 
-abbrev decreases-loop : tie.decreases-loop
-decreases-loop a b x y n m i₀ i = n - i
+abbrev decreases-loop-i : tie.decreases-loop-i
+decreases-loop-i a b x y n m i₀ i = n - i
 
 -- ---- the places
 
-abbrev to-turn : tie.After-string-byte2 invariant-loop decreases-loop → tie.At-loop invariant-loop decreases-loop
-to-turn c = c.before.before.before.before
+abbrev to-turn : tie.After-string_byte-q invariant-loop-i decreases-loop-i → tie.At-loop-i invariant-loop-i decreases-loop-i
+to-turn c = (search)
 
 -- ---- the facts
 
-bytes : (c : tie.After-string-byte2 invariant-loop decreases-loop) → BytesAt (to-turn c).loop.invariant c.before.string-byte.result c.string-byte2.result
+bytes : (c : tie.After-string_byte-q invariant-loop-i decreases-loop-i) → BytesAt (to-turn c).loop-i.invariant c.string_byte-p.result c.string_byte-q.result
 bytes c =
-    let w = (to-turn c).loop.invariant in
+    let w = (to-turn c).loop-i.invariant in
     record {
       in-first = omega (arith, w.first);
       in-second = omega (arith, w.second);
-      p-is = c.before.string-byte.ensures;
-      q-is = c.string-byte2.ensures;
+      p-is = c.string_byte-p.ensures;
+      q-is = c.string_byte-q.ensures;
     }
 
 -- ---- the needs
 
-returns-2 : tie.Need-returns-2 invariant-loop decreases-loop
-returns-2 c = byte-less (bytes c.before) c.if2.true
+returns-2 : tie.Need-returns-then-p-q invariant-loop-i decreases-loop-i
+returns-2 c = byte-less (bytes (search)) c.if-p-q.true
 
-returns-3 : tie.Need-returns-3 invariant-loop decreases-loop
-returns-3 c = byte_more (bytes c.before.before) c.if3.true
+returns-3 : tie.Need-returns-then-q-p invariant-loop-i decreases-loop-i
+returns-3 c = byte_more (bytes (search)) c.if-q-p.true
 
-loop-again : tie.Need-loop-preserved invariant-loop decreases-loop
-loop-again c = byte-same (bytes c.before.before) c.before.if2.false c.if3.false
+loop-again : tie.Need-loop-i-preserved invariant-loop-i decreases-loop-i
+loop-again c = byte-same (bytes (search)) c.if-p-q.false c.if-q-p.false
 
-pub compare-strings-spec : {M : Type 1} → statement M
-compare-strings-spec =
+pub compare_strings_spec : {M : Type 1} → statement M
+compare_strings_spec =
     tie.close
     (tie.spec
-    invariant-loop
-    decreases-loop
+    invariant-loop-i
+    decreases-loop-i
     (λ c κs. search rules) (λ c κs. search rules)
     (λ c. search compares-all)
     (λ c. search second-ends)

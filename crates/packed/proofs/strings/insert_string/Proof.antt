@@ -6,50 +6,50 @@ use borrow.Author.Rules.{rules}
 use Rattle.packed.proofs.strings.insert_string.Statement.{statement}
 use Rattle.packed.proofs.strings.insert_string.Tie as tie
 
-abbrev invariant-loop : tie.invariant-loop
-invariant-loop a b strings₀ count x k₀ strings k = Placing a b strings₀ count x strings k
+abbrev invariant-loop-k : tie.invariant-loop-k
+invariant-loop-k a b strings₀ count x k₀ strings k = Placing a b strings₀ count x strings k
 
-abbrev decreases-loop : tie.decreases-loop
-decreases-loop a b strings₀ count x k₀ strings k = k
+abbrev decreases-loop-k : tie.decreases-loop-k
+decreases-loop-k a b strings₀ count x k₀ strings k = k
 
 -- ---- the facts
 
 asked :
-    (c : tie.After-is-after invariant-loop decreases-loop) →
-    let turn : tie.In-loop invariant-loop decreases-loop = search in
-    Asked turn.before.loop.inv c.before.string-at.result c.is-after.result
+    (c : tie.After-is_after invariant-loop-k decreases-loop-k) →
+    let turn : tie.In-loop-k invariant-loop-k decreases-loop-k = search in
+    Asked turn.loop-k.invariant c.string_at-y.result c.is_after.result
 asked c = record {
-  some = c.before.before.before.loop-test.true;
-  is = c.before.string-at.ensures;
-  told = c.is-after.ensures;
+  some = c.loop-k-test.true;
+  is = c.string_at-y.ensures;
+  told = c.is_after.ensures;
 }
 
 -- ---- the needs
 
-is-after-requires : tie.Need-is-after-requires invariant-loop decreases-loop
+is-after-requires : tie.Need-is_after-requires invariant-loop-k decreases-loop-k
 is-after-requires c κs =
-    let turn = c.before.before in
-    let w = turn.before.loop.invariant in
-    (w.fit, before-fits w turn.loop-test.true c.string-at.ensures)
+    let turn = c in
+    let w = turn.loop-k.invariant in
+    (w.fit, before-fits w turn.loop-k-test.true c.string_at-y.ensures)
 
-returns : tie.Need-returns invariant-loop decreases-loop
+returns : tie.Need-returns-then-is_after invariant-loop-k decreases-loop-k
 returns c =
-    let put : tie.After-put-string invariant-loop decreases-loop = search in
-    let chosen : tie.Then1 invariant-loop decreases-loop = search in
-    placed-after (asked chosen.before) chosen.if1.taken put.put-string.ensures
+    let put : tie.After-put_string invariant-loop-k decreases-loop-k = search in
+    let chosen : tie.Then-is_after invariant-loop-k decreases-loop-k = search in
+    placed-after (asked (search)) chosen.if-is_after.true put.put_string.ensures
 
-loop-again : tie.Need-loop-preserved invariant-loop decreases-loop
+loop-again : tie.Need-loop-k-preserved invariant-loop-k decreases-loop-k
 loop-again c =
-    let put : tie.After-put-string2 invariant-loop decreases-loop = search in
-    let chosen : tie.Else1 invariant-loop decreases-loop = search in
-    placing-more (asked chosen.before) chosen.if1.left (omega (arith, c.before.strings2.given)) put.put-string2.ensures
+    let put : tie.After-put_string-in-loop-k invariant-loop-k decreases-loop-k = search in
+    let chosen : tie.Else-is_after invariant-loop-k decreases-loop-k = search in
+    placing-more (asked (search)) chosen.if-is_after.false (omega (arith, c.strings-in-loop-k-1.given)) put.put_string-in-loop-k.ensures
 
-pub insert-string-spec : {M : Type 1} → statement M
-insert-string-spec =
+pub insert_string_spec : {M : Type 1} → statement M
+insert_string_spec =
     tie.close
     (tie.spec
-    invariant-loop
-    decreases-loop
+    invariant-loop-k
+    decreases-loop-k
     (λ c. search placing-none)
     (λ c. search rules) (λ c κs. search rules)
     is-after-requires

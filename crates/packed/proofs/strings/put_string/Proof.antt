@@ -5,8 +5,8 @@ use borrow.Author.Rules.{rules}
 use Rattle.packed.proofs.strings.put_string.Statement.{statement}
 use Rattle.packed.proofs.strings.put_string.Tie as tie
 
-pub put-string-spec : {M : Type 1} → statement M
-put-string-spec =
+pub put_string_spec : {M : Type 1} → statement M
+put_string_spec =
     tie.close
     (tie.spec
     (λ c. search rules) (λ c. search rules) (λ c. search rules) (λ c. search rules) (λ c. search rules)

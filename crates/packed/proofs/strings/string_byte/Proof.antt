@@ -10,8 +10,8 @@ use Rattle.packed.proofs.strings.string_byte.Tie as tie
 
 -- ---- the places
 
-abbrev to_start : tie.After-struct-known3 → tie.Start
-to_start c = c.before.before.before.before
+abbrev to_start : tie.After-struct_known-2-1 → tie.Start
+to_start c = (search)
 
 -- ---- the facts
 
@@ -21,23 +21,23 @@ inside c = omega (arith, string-length _ _ _ c.requires.0, c.requires.0, c.requi
 
 -- ---- the needs
 
-returns : tie.Need-returns
-returns c = let test : tie.Then1 = search in sym (string-first _ _ _ test.before.before.pre.0 _ test.if1.taken)
+returns : tie.Need-returns-then-i-n
+returns c = let test : tie.Then-i-n = search in sym (string-first _ _ _ test.requires.0 _ test.if-i-n.true)
 
-returns-2 : tie.Need-returns-2
-returns-2 c = sym (string-colon _ _ _ c.before.before.before.requires.0 _ c.if2.true)
+returns-2 : tie.Need-returns-then-i-n-2
+returns-2 c = sym (string-colon _ _ _ c.requires.0 _ c.if-i-n-2.true)
 
-add-j-2 : tie.Need-overflow-add-j-2
+add-j-2 : tie.Need-overflow_add-j-2
 add-j-2 c = omega (arith, inside (to_start c))
 
-shared-slice-read-result-2 : tie.Need-shared-slice-read-result-2
-shared-slice-read-result-2 c = omega (arith, inside (to_start c.before))
+shared-slice-read-result-2 : tie.Need-bounds-b-j
+shared-slice-read-result-2 c = omega (arith, inside (to_start (search)))
 
-returns-3 : tie.Need-returns-3
-returns-3 c = let p = (to_start c.before).requires in sym (string-second _ _ _ p.0 _ (omega arith) p.1)
+returns-3 : tie.Need-returns
+returns-3 c = let p = (to_start (search)).requires in sym (string-second _ _ _ p.0 _ (omega arith) p.1)
 
-pub string-byte-spec : {M : Type 1} → statement M
-string-byte-spec =
+pub string_byte_spec : {M : Type 1} → statement M
+string_byte_spec =
     tie.close
     (tie.spec
     (λ c. search rules) (λ c. search rules) (λ c. search rules)

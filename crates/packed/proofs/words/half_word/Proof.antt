@@ -8,18 +8,18 @@ use Rattle.packed.proofs.words.half_word.Tie as tie
 
 -- ---- the places
 
-abbrev to_start : tie.After-join-four → tie.Start
-to_start c = c.before.before.before.before.before.before
+abbrev to_start : tie.After-join_four → tie.Start
+to_start c = (search)
 
 -- ---- the needs
 
 returns : tie.Need-returns
 returns c =
     let a = (to_start c).args in
-    c.join-four.ensures ∙ ap word_of (sym (four a.s.now a.at (omega arith)))
+    c.join_four.ensures ∙ ap word_of (sym (four a.s.now a.at (omega arith)))
 
-pub half-word-spec : {M : Type 1} → statement M
-half-word-spec =
+pub half_word_spec : {M : Type 1} → statement M
+half_word_spec =
     tie.close
     (tie.spec
     (λ c. search rules) (λ c. search rules) (λ c. search rules) (λ c. search rules) (λ c. search rules)

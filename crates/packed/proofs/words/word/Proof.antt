@@ -10,7 +10,7 @@ use Rattle.packed.proofs.words.word.Tie as tie
 -- ---- the places
 
 abbrev to_start : tie.After-join → tie.Start
-to_start c = c.before.before.before.before.before.before.before.before.before.before
+to_start c = (search)
 
 -- ---- the needs
 
@@ -19,8 +19,8 @@ returns c =
     let a = (to_start c).args in
     c.join.ensures ∙ ap word_of (sym (eight a.s.now a.at (omega arith)))
 
-pub word-spec : {M : Type 1} → statement M
-word-spec =
+pub word_spec : {M : Type 1} → statement M
+word_spec =
     tie.close
     (tie.spec
     (λ c. search rules) (λ c. search rules) (λ c. search rules) (λ c. search rules) (λ c. search rules)

@@ -12,8 +12,8 @@ use Rattle.packed.proofs.write.copy_eight.Tie as tie
 
 -- ---- the places
 
-abbrev to_start : tie.After-shared-slice-known8 → tie.Start
-to_start c = c.before.before.before.before.before.before.before.before
+abbrev to_start : tie.After-shared_slice_known-8-1 → tie.Start
+to_start c = (search)
 
 -- ---- the needs
 
@@ -22,8 +22,8 @@ returns c =
     let a = (to_start c).args in
     stores-eight a.out.now a.to _ _ _ _ _ _ _ _ ∙ ap (sets a.out.now a.to) (sym (eight a.src.now a.from (omega arith)))
 
-pub copy-eight-spec : {M : Type 1} → statement M
-copy-eight-spec =
+pub copy_eight_spec : {M : Type 1} → statement M
+copy_eight_spec =
     tie.close
     (tie.spec
     (λ c. search rules) (λ c. search rules) (λ c. search rules) (λ c. search rules) (λ c. search rules)

@@ -8,34 +8,34 @@ use borrow.Author.Rules.{rules}
 use Rattle.packed.proofs.write.copy_short.Statement.{statement}
 use Rattle.packed.proofs.write.copy_short.Tie as tie
 
-abbrev invariant-loop : tie.invariant-loop
-invariant-loop src out₀ at n last i₀ out i = Copied out₀ at src i out
+abbrev invariant-loop-i : tie.invariant-loop-i
+invariant-loop-i src out₀ at n last i₀ out i = Copied out₀ at src i out
 
-abbrev decreases-loop : tie.decreases-loop
-decreases-loop src out₀ at n last i₀ out i = n - i
+abbrev decreases-loop-i : tie.decreases-loop-i
+decreases-loop-i src out₀ at n last i₀ out i = n - i
 
 -- ---- the needs
 
-loop-again : tie.Need-loop-preserved invariant-loop decreases-loop
+loop-again : tie.Need-loop-i-preserved invariant-loop-i decreases-loop-i
 loop-again c =
-    let put : tie.After-copy-eight invariant-loop decreases-loop = search in
-    let turn : tie.At-loop invariant-loop decreases-loop = search in
-    copied_more turn.loop.i 8 turn.loop.inv (omega arith) (omega arith) (omega arith) put.copy-eight.ensures
+    let put : tie.After-copy_eight invariant-loop-i decreases-loop-i = search in
+    let turn : tie.At-loop-i invariant-loop-i decreases-loop-i = search in
+    copied_more turn.loop-i.i 8 turn.loop-i.invariant (omega arith) (omega arith) (omega arith) put.copy_eight.ensures
 
-returns : tie.Need-returns invariant-loop decreases-loop
+returns : tie.Need-returns invariant-loop-i decreases-loop-i
 returns c =
-    let put : tie.After-copy-eight2 invariant-loop decreases-loop = search in
-    let out : tie.After-loop invariant-loop decreases-loop = search in
-    let end : tie.At-loop invariant-loop decreases-loop = search in
-    let last = copied_more _ 8 end.loop.inv out.loop-test.left (omega arith) (omega arith) put.copy-eight2.ensures in
+    let put : tie.After-copy_eight-2 invariant-loop-i decreases-loop-i = search in
+    let out : tie.After-loop-i invariant-loop-i decreases-loop-i = search in
+    let end : tie.At-loop-i invariant-loop-i decreases-loop-i = search in
+    let last = copied_more _ 8 end.loop-i.invariant out.loop-i-test.false (omega arith) (omega arith) put.copy_eight-2.ensures in
     copied_all last (omega arith) (omega arith)
 
-pub copy-short-spec : {M : Type 1} → statement M
-copy-short-spec =
+pub copy_short_spec : {M : Type 1} → statement M
+copy_short_spec =
     tie.close
     (tie.spec
-    invariant-loop
-    decreases-loop
+    invariant-loop-i
+    decreases-loop-i
     (λ c. search rules)
     (λ c. copied_none)
     (λ c. search rules) (λ c κs. search rules) (λ c. search rules) (λ c. search rules)

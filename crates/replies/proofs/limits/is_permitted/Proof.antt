@@ -3,8 +3,8 @@ use Rattle.replies.proofs.RangeLaws.{not-permitted, permitted-by}
 use Rattle.replies.proofs.limits.is_permitted.Statement.{statement}
 use Rattle.replies.proofs.limits.is_permitted.Tie as tie
 
-pub is-permitted-spec : {M : Type 1} → statement M
-is-permitted-spec =
+pub is_permitted_spec : {M : Type 1} → statement M
+is_permitted_spec =
     tie.close
     (tie.spec
     (λ c. not-permitted _ (λ h. omega (arith, h.some-versions)))

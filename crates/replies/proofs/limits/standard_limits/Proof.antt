@@ -7,5 +7,5 @@ returns : tie.Need-returns
 unfolding standard
 returns c = refl
 
-pub standard-limits-spec : {M : Type 1} → statement M
-standard-limits-spec = tie.close (tie.spec returns)
+pub standard_limits_spec : {M : Type 1} → statement M
+standard_limits_spec = tie.close (tie.spec returns)

@@ -14,7 +14,7 @@ use Rattle.report.proofs.calls.report.Tie as tie
 
 -- ---- the places
 
-abbrev entry : tie.After-start → tie.Start
+abbrev entry : tie.In-Text → tie.Start
 entry c = search
 
 -- ---- the facts
@@ -24,23 +24,23 @@ refusal-short : length (refused_line 9 0) ≤ 50
 refusal-short = refused-short 9 0
 
 -- where the table stands
-stops : (c : tie.After-start) → TextStops (entry c).args.input.now 0 c.start.given.0.0 c.start.given.0.1.0
-stops c = text-stops _ _ _ _ (sym c.before.before.read-text.ensures ∙ c.start.given.1)
+stops : (c : tie.In-Text) → TextStops (entry c).args.input.now 0 c.in-Text.start c.in-Text.end
+stops c = text-stops _ _ _ _ (sym c.read_text.ensures ∙ c.in-Text.is)
 
 -- ---- the needs
 
-returns-3 : tie.Need-returns-3
+returns-3 : tie.Need-returns-in_default
 returns-3 c =
-    let read : tie.After-read-text = search in
-    let told : tie.After-enum-told = search in
-    report-unread _ _ (omega arith) (omega arith) (text-none _ _ (sym read.read-text.ensures ∙ told.enum_told.given.1))
-    c.before.before.write-refused2.ensures
+    let read : tie.After-read_text = search in
+    let told : tie.In_default = search in
+    report-unread _ _ (omega arith) (omega arith) (text-none _ _ (sym read.read_text.ensures ∙ told.in_default.is))
+    c.write_refused-in_default.ensures
 
-returns-4 : tie.Need-returns-4
-returns-4 c = report-parts _ _ (omega arith) (omega arith) (stops (search)) c.before.before.report-batch.ensures
+returns-4 : tie.Need-returns
+returns-4 c = report-parts _ _ (omega arith) (omega arith) (stops (search)) c.report_batch.ensures
 
-pub report-spec : {M : Type 1} → statement M
-report-spec =
+pub report_spec : {M : Type 1} → statement M
+report_spec =
     tie.close
     (tie.spec
     (λ c. search report-small)

@@ -11,7 +11,7 @@ use Rattle.report.proofs.calls.report_batch.Tie as tie
 
 -- ---- the places
 
-abbrev to-batch : tie.After-n → tie.After-batch
+abbrev to-batch : tie.In-Done → tie.After-batch
 to-batch c = search
 
 abbrev start : tie.After-batch → tie.Start
@@ -20,41 +20,40 @@ start c = search
 -- ---- the facts
 
 done :
-    (c : tie.After-n) →
+    (c : tie.In-Done) →
     let b = to-batch c in
-    BatchDone (start b).args.table.now (start b).args.events.now b.batch.last.1.1.1.0 c.n.given.0.0
+    BatchDone (start b).args.table.now (start b).args.events.now b.batch.last.1.1.1.0 c.in-Done.n
 done c =
     let b = (to-batch c).batch in
-    let chosen : tie.After-standard-limits = search in
-    batch-done _ _ _ _ _ b.result chosen.standard-limits.ensures b.ensures (omega arith) c.n.given.1
+    let chosen : tie.After-standard_limits = search in
+    batch-done _ _ _ _ _ b.result chosen.standard_limits.ensures b.ensures (omega arith) c.in-Done.is
 
 -- ---- the needs
 
-report-opened-requires : tie.Need-report-opened-requires
+report-opened-requires : tie.Need-report_opened-requires
 report-opened-requires c κs = (_, done-opens (done (search)) _ (omega arith), omega arith)
 
-write-refused-requires : tie.Need-write-refused-requires
+write-refused-requires : tie.Need-write_refused-requires
 write-refused-requires c κs =
-    let told = c.before.before.n2.given.0 in
-    omega (arith, refused-short told.0 told.1.0)
+    omega (arith, refused-short c.in-Refused.n c.in-Refused.position)
 
-returns : tie.Need-returns
+returns : tie.Need-returns-in-Done
 returns c =
     let d = done (search) in
-    done-lines _ _ d.what d.is (c.before.before.before.report-opened.ensures _ (done-opens d _ (omega arith)))
+    done-lines _ _ d.what d.is (c.report_opened.ensures _ (done-opens d _ (omega arith)))
 
-returns-2 : tie.Need-returns-2
+returns-2 : tie.Need-returns-in-Refused
 returns-2 c =
-    let told : tie.After-n2 = search in
+    let told : tie.In-Refused = search in
     let call : tie.After-batch = search in
     let b = call.batch in
-    let chosen : tie.After-standard-limits = search in
+    let chosen : tie.After-standard_limits = search in
     refused-lines _ _ _ _
-    (batch-refused _ _ _ _ _ b.result chosen.standard-limits.ensures b.ensures (omega arith) told.n2.given.1)
-    c.before.before.write-refused.ensures
+    (batch-refused _ _ _ _ _ b.result chosen.standard_limits.ensures b.ensures (omega arith) told.in-Refused.is)
+    c.write_refused.ensures
 
-pub report-batch-spec : {M : Type 1} → statement M
-report-batch-spec =
+pub report_batch_spec : {M : Type 1} → statement M
+report_batch_spec =
     tie.close
     (tie.spec
     (λ c κs. search rules) (λ c κs. search rules) (λ c κs. search rules) (λ c κs. search rules)

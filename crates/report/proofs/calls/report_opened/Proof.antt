@@ -18,88 +18,88 @@ use Rattle.report.proofs.calls.report_opened.Tie as tie
 
 -- ---- the places
 
-abbrev start : tie.After-open-dossier → tie.Start
+abbrev start : tie.After-open_dossier → tie.Start
 start c = search
 
 -- the call from what each arm learnt of its answer
-abbrev of-merged : tie.After-n → tie.After-open-dossier
+abbrev of-merged : tie.In-Merged → tie.After-open_dossier
 of-merged c = search
 
-abbrev of-found : tie.After-f → tie.After-open-dossier
+abbrev of-found : tie.In-Found → tie.After-open_dossier
 of-found c = search
 
-abbrev of-refused : tie.After-n2 → tie.After-open-dossier
+abbrev of-refused : tie.In-Refused → tie.After-open_dossier
 of-refused c = search
 
-abbrev to-found : tie.After-properties-of → tie.After-f
+abbrev to-found : tie.After-properties_of → tie.In-Found
 to-found c = search
 
 -- ---- the facts
 
 -- the limits are document 01's
-at-standard : (c : tie.After-open-dossier) → let chosen : tie.After-standard-limits = search in limits_of chosen.standard-limits.result ≡ standard
-at-standard c = let chosen : tie.After-standard-limits = search in chosen.standard-limits.ensures
+at-standard : (c : tie.After-open_dossier) → let chosen : tie.After-standard_limits = search in limits_of chosen.standard_limits.result ≡ standard
+at-standard c = let chosen : tie.After-standard_limits = search in chosen.standard_limits.ensures
 
 -- the dossier d is what the call was given
-abbrev Given : tie.After-open-dossier → TypedDossier → Type 0
+abbrev Given : tie.After-open_dossier → TypedDossier → Type 0
 Given c d = let a = (start c).args in DossierOpens a.table.now a.dossier.now d (length a.out.now)
 
-abbrev given : (c : tie.After-open-dossier) → Given c (start c).requires.0
+abbrev given : (c : tie.After-open_dossier) → Given c (start c).requires.0
 given c = (start c).requires.1
 
-merges : (c : tie.After-n) {d : TypedDossier} → Given (of-merged c) d → OpensMerged d (of-merged c).open-dossier.new.1.1.1.0 c.n.given.0.0
-merges c w = let o = (of-merged c).open-dossier in opened-merged _ _ _ _ w (search) o.result (at-standard (search)) o.ensures c.n.given.1
+merges : (c : tie.In-Merged) {d : TypedDossier} → Given (of-merged c) d → OpensMerged d (of-merged c).open_dossier.new.out c.in-Merged.n
+merges c w = let o = (of-merged c).open_dossier in opened-merged _ _ _ _ w (search) o.result (at-standard (search)) o.ensures c.in-Merged.is
 
-finding : (c : tie.After-f) {d : TypedDossier} → Given (of-found c) d → opens d ≡ finds (finding_of c.f.given.0.0)
-finding c w = let o = (of-found c).open-dossier in opened-found _ _ _ _ w (search) o.result (at-standard (search)) o.ensures c.f.given.1
+finding : (c : tie.In-Found) {d : TypedDossier} → Given (of-found c) d → opens d ≡ finds (finding_of c.in-Found.f)
+finding c w = let o = (of-found c).open_dossier in opened-found _ _ _ _ w (search) o.result (at-standard (search)) o.ensures c.in-Found.is
 
-never-refused : (c : tie.After-n2) {d : TypedDossier} → Given (of-refused c) d → ⊥
-never-refused c w = let o = (of-refused c).open-dossier in opened-refused _ _ _ _ w (search) o.result (at-standard (search)) o.ensures c.n2.given.1
+never-refused : (c : tie.In-Refused) {d : TypedDossier} → Given (of-refused c) d → ⊥
+never-refused c w = let o = (of-refused c).open_dossier in opened-refused _ _ _ _ w (search) o.result (at-standard (search)) o.ensures c.in-Refused.is
 
 -- what the writer of the finding is given
 abbrev named :
-    (c : tie.After-properties-of) {d : TypedDossier} → Given (of-found (to-found c)) d →
-    FindingNamed (start (of-found (to-found c))).args.table.now c.properties-of.new.1.1.0 (to-found c).f.given.0.0
-named c w = finding-place w (finding (to-found c) w) (c.properties-of.ensures _ _ w.tabled w.asked)
+    (c : tie.After-properties_of) {d : TypedDossier} → Given (of-found (to-found c)) d →
+    FindingNamed (start (of-found (to-found c))).args.table.now c.properties_of.new.properties (to-found c).in-Found.f
+named c w = finding-place w (finding (to-found c) w) (c.properties_of.ensures _ _ w.tabled w.asked)
 
-within : (c : tie.After-n) → c.n.given.0.0 ≤ length (of-merged c).open-dossier.new.1.1.1.0
+within : (c : tie.In-Merged) → c.in-Merged.n ≤ length (of-merged c).open_dossier.new.out
 within c = (merges c (given (of-merged c))).within
 
 -- ---- the needs
 
-report-merged-requires : tie.Need-report-merged-requires
+report-merged-requires : tie.Need-report_merged-requires
 report-merged-requires c κs =
-    let arm = c.before.before.before in
-    let w = given (of-merged arm) in
-    (_, _, merged-ready w (merges arm w))
+    let arm = c in
+    let w = given (of-merged (search)) in
+    (_, _, merged-ready w (merges (search) w))
 
-write-finding-requires : tie.Need-write-finding-requires
+write-finding-requires : tie.Need-write_finding-requires
 write-finding-requires c κs =
-    let at-properties = c.before.before.before in
-    let arm = to-found at-properties in
+    let at-properties = c in
+    let arm = to-found (search) in
     let w = given (of-found arm) in
-    (search rules, named at-properties w, finding-room w (finding arm w))
+    (search rules, named (search) w, finding-room w (finding arm w))
 
-write-refused-requires : tie.Need-write-refused-requires
+write-refused-requires : tie.Need-write_refused-requires
 write-refused-requires c κs =
-    let arm = c.before.before in
-    absurd (never-refused arm (given (of-refused arm)))
+    let arm = c in
+    absurd (never-refused (search) (given (of-refused (search))))
 
-returns : tie.Need-returns
+returns : tie.Need-returns-in-Merged
 returns c = λ d w.
     let m = merges (search) w in
-    merged-lines w m (c.before.before.report-merged.ensures _ _ (merged-ready w m))
+    merged-lines w m (c.report_merged.ensures _ _ (merged-ready w m))
 
-returns-2 : tie.Need-returns-2
+returns-2 : tie.Need-returns-in-Found
 returns-2 c = λ d w.
-    let at-properties : tie.After-properties-of = search in
-    finding-lines w (finding (to-found at-properties) w) (c.before.before.write-finding.ensures (named at-properties w))
+    let at-properties : tie.After-properties_of = search in
+    finding-lines w (finding (to-found at-properties) w) (c.write_finding.ensures (named at-properties w))
 
-returns-3 : tie.Need-returns-3
+returns-3 : tie.Need-returns-in-Refused
 returns-3 c = λ d w. absurd (never-refused (search) w)
 
-pub report-opened-spec : {M : Type 1} → statement M
-report-opened-spec =
+pub report_opened_spec : {M : Type 1} → statement M
+report_opened_spec =
     tie.close
     (tie.spec
     (λ c κs. search rules) (λ c κs. search rules) (λ c. search rules)

@@ -3,5 +3,5 @@ use Rattle.report.proofs.LineLaws.{hex-low, hex-high}
 use Rattle.report.proofs.lines.hex_digit.Statement.{statement}
 use Rattle.report.proofs.lines.hex_digit.Tie as tie
 
-pub hex-digit-spec : {M : Type 1} → statement M
-hex-digit-spec = tie.close (tie.spec (λ c. search rules) (λ c. search rules) (λ c. search hex-low) (λ c. search hex-high))
+pub hex_digit_spec : {M : Type 1} → statement M
+hex_digit_spec = tie.close (tie.spec (λ c. search rules) (λ c. search rules) (λ c. search hex-low) (λ c. search hex-high))

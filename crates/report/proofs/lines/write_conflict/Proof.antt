@@ -14,32 +14,30 @@ fits :
     11 + length (in_decimal c.args.version.0) + length (name_at c.requires.1.type c.args.place) ≤ length c.args.out.now
 fits c = omega (arith, conflict-length c.requires.1 c.args.version.0)
 
-write-named-requires : tie.Need-write-named-requires
+write-named-requires : tie.Need-write_named-after_name-requires
 write-named-requires c κs = (search, search, omega (arith, fits (search)))
 
-write-end-requires : tie.Need-write-end-requires
+write-end-requires : tie.Need-write_end-requires
 write-end-requires c κs =
     let s : tie.Start = search in
-    omega (arith, fits s, c.before.before.before.write-named.ensures s.pre.1)
+    omega (arith, fits s, c.write_named-after_name.ensures s.requires.1)
 
 returns : tie.Need-returns
 returns c = λ p.
-    let word : tie.After-copy = search in
-    let version : tie.After-write-decimal = search in
-    let space : tie.After-copy2 = search in
-    let name : tie.After-write-named = search in
-    let end : tie.After-write-end = search in
-    wrote-conflict p _ word.copy.ensures version.write-decimal.ensures space.copy2.ensures (name.write-named.ensures p)
-    end.write-end.ensures
+    let word : tie.After-copy-after_word = search in
+    let version : tie.After-write_decimal-after_version = search in
+    let space : tie.After-copy-after_space = search in
+    let name : tie.After-write_named-after_name = search in
+    let end : tie.After-write_end = search in
+    wrote-conflict p _ word.copy-after_word.ensures version.write_decimal-after_version.ensures space.copy-after_space.ensures (name.write_named-after_name.ensures p)
+    end.write_end.ensures
 
-pub write-conflict-spec : {M : Type 1} → statement M
-write-conflict-spec =
+pub write_conflict_spec : {M : Type 1} → statement M
+write_conflict_spec =
     tie.close
     (tie.spec
-    (λ c. search rules)
     (λ c κs. omega (arith, fits (search)))
     (λ c κs. omega (arith, fits (search)))
-    (λ c. search rules)
     (λ c κs. omega (arith, fits (search)))
     write-named-requires
     write-end-requires

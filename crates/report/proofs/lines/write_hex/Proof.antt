@@ -10,42 +10,42 @@ use Rattle.report.proofs.LineLaws.{hex-start, hex-end, hex-gone}
 use Rattle.report.proofs.lines.write_hex.Statement.{statement}
 use Rattle.report.proofs.lines.write_hex.Tie as tie
 
-abbrev invariant-loop : tie.invariant-loop
-invariant-loop s out₀ at i₀ out i = (i ≤ length s) × ToGo out₀ at (hex_of s) out (at + 2 * i) (hex_of (drop i s))
+abbrev invariant-loop-i : tie.invariant-loop-i
+invariant-loop-i s out₀ at i₀ out i = (i ≤ length s) × ToGo out₀ at (hex_of s) out (at + 2 * i) (hex_of (drop i s))
 
-abbrev decreases-loop : tie.decreases-loop
-decreases-loop s out₀ at i₀ out i = length s - i
+abbrev decreases-loop-i : tie.decreases-loop-i
+decreases-loop-i s out₀ at i₀ out i = length s - i
 
 -- ---- the facts
 
 byte :
-    (c : tie.After-shared-slice-known2 invariant-loop decreases-loop) →
-    let s : tie.Start invariant-loop decreases-loop = search in
-    get_or s.args.s.now c.before.before.loop.i 0 < 256
-byte c = omega (arith, c.shared-slice-known2.given c.before.before.loop.i)
+    (c : tie.After-shared_slice_known-in-loop-i-1 invariant-loop-i decreases-loop-i) →
+    let s : tie.Start invariant-loop-i decreases-loop-i = search in
+    get_or s.args.s.now c.loop-i.i 0 < 256
+byte c = omega (arith, c.shared_slice_known-in-loop-i-1.given c.loop-i.i)
 
 -- ---- the needs
 
-loop-holds : tie.Need-loop-init invariant-loop decreases-loop
+loop-holds : tie.Need-loop-i-init invariant-loop-i decreases-loop-i
 loop-holds c = (omega arith, hex-start _ _ _)
 
-loop-again : tie.Need-loop-preserved invariant-loop decreases-loop
+loop-again : tie.Need-loop-i-preserved invariant-loop-i decreases-loop-i
 loop-again c =
-    let turn : tie.In-loop invariant-loop decreases-loop = search in
-    (omega arith, hex-gone _ _ _ _ turn.loop-test.taken c.before.hex-digit.ensures c.hex-digit2.ensures turn.before.loop.inv.1)
+    let turn : tie.In-loop-i invariant-loop-i decreases-loop-i = search in
+    (omega arith, hex-gone _ _ _ _ turn.loop-i-test.true c.hex_digit.ensures c.hex_digit-in-loop-i.ensures turn.loop-i.invariant.1)
 
-returns : tie.Need-returns invariant-loop decreases-loop
+returns : tie.Need-returns invariant-loop-i decreases-loop-i
 returns c =
-    let s : tie.Start invariant-loop decreases-loop = search in
-    let l = c.before.loop in
+    let s : tie.Start invariant-loop-i decreases-loop-i = search in
+    let l = c.loop-i in
     all-gone l.invariant.1 (hex-end s.args.s.now l.i (omega arith))
 
-pub write-hex-spec : {M : Type 1} → statement M
-write-hex-spec =
+pub write_hex_spec : {M : Type 1} → statement M
+write_hex_spec =
     tie.close
     (tie.spec
-    invariant-loop
-    decreases-loop
+    invariant-loop-i
+    decreases-loop-i
     loop-holds
     (λ c. search rules)
     (λ c κs. omega (arith, byte (search)))

@@ -13,16 +13,16 @@ use Rattle.report.proofs.lines.write_merged.Tie as tie
 
 -- ---- the places
 
-abbrev start : tie.After-write-end → tie.Start
+abbrev start : tie.After-write_end-after_line → tie.Start
 start c = search
 
-abbrev to-count : tie.After-write-end → tie.After-write-decimal
+abbrev to-count : tie.After-write_end-after_line → tie.After-write_decimal-after_count
 to-count c = search
 
-abbrev to_word : tie.After-write-end → tie.After-copy
+abbrev to_word : tie.After-write_end-after_line → tie.After-copy-after_merged
 to_word c = search
 
-abbrev to_end : tie.After-write-objects → tie.After-write-end
+abbrev to_end : tie.After-write_objects-after_objects → tie.After-write_end-after_line
 to_end c = search
 
 -- ---- the lengths of the number of objects, of their lines and of the hash
@@ -45,54 +45,52 @@ module _ (c : tie.Start) where
 -- ---- how far the writes come
 
 headed :
-    (c : tie.After-write-end) →
-    (c.write-end.result ≡ 8 + digits (start c)) × (length c.write-end.new.0 ≡ length (start c).args.out.now)
+    (c : tie.After-write_end-after_line) →
+    (c.write_end-after_line.result ≡ 8 + digits (start c)) × (length c.write_end-after_line.new.out ≡ length (start c).args.out.now)
 headed c = (omega arith, omega arith)
 
 -- the last line has room behind the objects' lines
 last_fits :
-    (c : tie.After-write-objects) →
-    c.write-objects.result + 6 + 2 * bytes (start (to_end c)) ≤ length c.write-objects.new.1.1.1.1.1.0
+    (c : tie.After-write_objects-after_objects) →
+    c.write_objects-after_objects.result + 6 + 2 * bytes (start (to_end c)) ≤ length c.write_objects-after_objects.new.out
 last_fits c =
     let s = start (to_end c) in
     let h = headed (to_end c) in
-    let w = c.write-objects.ensures (objects-room s.pre.2 h.0 h.1) in
+    let w = c.write_objects-after_objects.ensures (objects-room s.requires.2 h.0 h.1) in
     omega (arith, fits s, h.0, h.1, w, wrote-length w)
 
 -- ---- the needs
 
-write-objects-requires : tie.Need-write-objects-requires
+write-objects-requires : tie.Need-write_objects-after_objects-requires
 write-objects-requires c κs =
-    let end = c.before.before.before in
-    (search, search, objects-room (start end).requires.2 (headed end).0 (headed end).1)
+    let end = c in
+    (search, search, objects-room (start (search)).requires.2 (headed (search)).0 (headed (search)).1)
 
-write-end-requires-2 : tie.Need-write-end-requires-2
+write-end-requires-2 : tie.Need-write_end-requires
 write-end-requires-2 c κs =
     let s : tie.Start = search in
     omega (arith, last_fits (search), hex-length s.args.hash.now)
 
 returns : tie.Need-returns
 returns c = λ l.
-    let objects : tie.After-write-objects = search in
+    let objects : tie.After-write_objects-after_objects = search in
     let end = to_end objects in
-    let word2 : tie.After-copy2 = search in
-    let hash : tie.After-write-hex = search in
-    let last : tie.After-write-end2 = search in
+    let word2 : tie.After-copy-after_word = search in
+    let hash : tie.After-write_hex-after_hash = search in
+    let last : tie.After-write_end = search in
     wrote-hashed l.type l.event _ l.read.objects
-    (to_word end).copy.ensures (to-count end).write-decimal.ensures end.write-end.ensures
-    (objects.write-objects.ensures (objects-room l (headed end).0 (headed end).1))
-    word2.copy2.ensures hash.write-hex.ensures last.write-end2.ensures
+    (to_word end).copy-after_merged.ensures (to-count end).write_decimal-after_count.ensures end.write_end-after_line.ensures
+    (objects.write_objects-after_objects.ensures (objects-room l (headed end).0 (headed end).1))
+    word2.copy-after_word.ensures hash.write_hex-after_hash.ensures last.write_end.ensures
 
-pub write-merged-spec : {M : Type 1} → statement M
-write-merged-spec =
+pub write_merged_spec : {M : Type 1} → statement M
+write_merged_spec =
     tie.close
     (tie.spec
-    (λ c. search rules)
     (λ c κs. omega (arith, fits (search)))
     (λ c κs. omega (arith, fits (search)))
     (λ c κs. omega (arith, fits (search)))
     write-objects-requires
-    (λ c. search rules)
     (λ c κs. omega (arith, last_fits (search)))
     (λ c κs. omega (arith, last_fits (search)))
     write-end-requires-2

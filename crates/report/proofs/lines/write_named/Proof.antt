@@ -7,20 +7,20 @@ use Rattle.report.proofs.LineLaws.{place-below, place_is, place-name}
 use Rattle.report.proofs.lines.write_named.Statement.{statement}
 use Rattle.report.proofs.lines.write_named.Tie as tie
 
-property-at-requires : tie.Need-property-at-requires
-property-at-requires c κs = (search rules, place-below c.before.before.before.requires.1)
+property-at-requires : tie.Need-property_at-requires
+property-at-requires c κs = (search rules, place-below c.requires.1)
 
-write-name-requires : tie.Need-write-name-requires
+write-name-requires : tie.Need-write_name-requires
 write-name-requires c κs =
     let s : tie.Start = search in
-    let same = c.before.property-at.ensures in
-    let property = place_is s.pre.1 same in
-    (property.order, property.within, omega (arith, ap length (place-name s.pre.1 same)))
+    let same = c.property_at.ensures in
+    let property = place_is s.requires.1 same in
+    (property.order, property.within, omega (arith, ap length (place-name s.requires.1 same)))
 
 returns : tie.Need-returns
 returns c = λ p.
-    let taken : tie.After-property-at = search in
-    wrote_as (place-name p taken.property-at.ensures) c.before.before.write-name.ensures
+    let taken : tie.After-property_at = search in
+    wrote_as (place-name p taken.property_at.ensures) c.write_name.ensures
 
-pub write-named-spec : {M : Type 1} → statement M
-write-named-spec = tie.close (tie.spec property-at-requires write-name-requires (λ c. search rules) returns)
+pub write_named_spec : {M : Type 1} → statement M
+write_named_spec = tie.close (tie.spec property-at-requires write-name-requires (λ c. search rules) returns)

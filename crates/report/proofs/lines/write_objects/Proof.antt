@@ -9,51 +9,51 @@ use Rattle.report.proofs.LineLaws.{ObjectsGo, values-room, objects-more, objects
 use Rattle.report.proofs.lines.write_objects.Statement.{statement}
 use Rattle.report.proofs.lines.write_objects.Tie as tie
 
-abbrev invariant-loop : tie.invariant-loop
-invariant-loop table count properties event sets out₀ at next₀ k₀ out next k =
+abbrev invariant-loop-k : tie.invariant-loop-k
+invariant-loop-k table count properties event sets out₀ at next₀ k₀ out next k =
     (o : ObjectsRoom table count properties event sets at (length out₀)) → ObjectsGo o.properties o.sets out₀ at out next k
 
-abbrev decreases-loop : tie.decreases-loop
-decreases-loop table count properties event sets out₀ at next₀ k₀ out next k = count - k
+abbrev decreases-loop-k : tie.decreases-loop-k
+decreases-loop-k table count properties event sets out₀ at next₀ k₀ out next k = count - k
 
 -- ---- the facts
 
-few : (c : tie.Start invariant-loop decreases-loop) → c.args.count ≤ 32
+few : (c : tie.Start invariant-loop-k decreases-loop-k) → c.args.count ≤ 32
 few c = c.requires.2.are.few
 
 -- ---- the needs
 
-loop-holds : tie.Need-loop-init invariant-loop decreases-loop
+loop-holds : tie.Need-loop-k-init invariant-loop-k decreases-loop-k
 loop-holds c = λ o. to-go
 
-write-values-requires : tie.Need-write-values-requires invariant-loop decreases-loop
+write-values-requires : tie.Need-write_values-next-requires invariant-loop-k decreases-loop-k
 write-values-requires c κs =
-    let s : tie.Start invariant-loop decreases-loop = search in
-    let turn : tie.In-loop invariant-loop decreases-loop = search in
-    let l = turn.before.loop in
-    values-room s.pre.2 l.k (l.inv s.pre.2) turn.loop-test.taken c.before.before.property-at.ensures c.before.set_at.ensures
+    let s : tie.Start invariant-loop-k decreases-loop-k = search in
+    let turn : tie.In-loop-k invariant-loop-k decreases-loop-k = search in
+    let l = turn.loop-k in
+    values-room s.requires.2 l.k (l.invariant s.requires.2) turn.loop-k-test.true c.property_at-p.ensures c.set_at.ensures
 
-loop-again : tie.Need-loop-preserved invariant-loop decreases-loop
+loop-again : tie.Need-loop-k-preserved invariant-loop-k decreases-loop-k
 loop-again c = λ o.
-    let property : tie.After-property-at invariant-loop decreases-loop = search in
-    let set : tie.After-set-at invariant-loop decreases-loop = search in
-    let turn = property.before in
-    let l = turn.before.loop in
-    objects-more o l.k (l.inv o) turn.loop-test.taken property.property-at.ensures set.set_at.ensures
-    c.before.before.write-values.ensures
+    let property : tie.After-property_at-p invariant-loop-k decreases-loop-k = search in
+    let set : tie.After-set_at invariant-loop-k decreases-loop-k = search in
+    let turn = property in
+    let l = turn.loop-k in
+    objects-more o l.k (l.invariant o) turn.loop-k-test.true property.property_at-p.ensures set.set_at.ensures
+    c.write_values-next.ensures
 
-same_length : tie.Need-same-length invariant-loop decreases-loop
-same_length c = let s : tie.Start invariant-loop decreases-loop = search in (c.before.loop.invariant s.pre.2).long
+same_length : tie.Need-shape_of-out invariant-loop-k decreases-loop-k
+same_length c = let s : tie.Start invariant-loop-k decreases-loop-k = search in (c.loop-k.invariant s.requires.2).long
 
-returns : tie.Need-returns invariant-loop decreases-loop
-returns c = λ o. let l = c.before.loop in objects-all o l.k (l.invariant o) (omega arith)
+returns : tie.Need-returns invariant-loop-k decreases-loop-k
+returns c = λ o. let l = c.loop-k in objects-all o l.k (l.invariant o) (omega arith)
 
-pub write-objects-spec : {M : Type 1} → statement M
-write-objects-spec =
+pub write_objects_spec : {M : Type 1} → statement M
+write_objects_spec =
     tie.close
     (tie.spec
-    invariant-loop
-    decreases-loop
+    invariant-loop-k
+    decreases-loop-k
     loop-holds
     (λ c κs. omega (arith, few (search)))
     (λ c κs. omega (arith, few (search)))

@@ -11,26 +11,25 @@ use Rattle.report.proofs.lines.write_overfull.Tie as tie
 fits : (c : tie.Start) → 10 + length (name_at c.requires.1.type c.args.place) ≤ length c.args.out.now
 fits c = omega (arith, overfull-length c.requires.1)
 
-write-named-requires : tie.Need-write-named-requires
+write-named-requires : tie.Need-write_named-after_name-requires
 write-named-requires c κs = (search, search, omega (arith, fits (search)))
 
-write-end-requires : tie.Need-write-end-requires
+write-end-requires : tie.Need-write_end-requires
 write-end-requires c κs =
     let s : tie.Start = search in
-    omega (arith, fits s, c.before.before.before.write-named.ensures s.pre.1)
+    omega (arith, fits s, c.write_named-after_name.ensures s.requires.1)
 
 returns : tie.Need-returns
 returns c = λ p.
-    let word : tie.After-copy = search in
-    let name : tie.After-write-named = search in
-    let end : tie.After-write-end = search in
-    wrote-overfull p word.copy.ensures (name.write-named.ensures p) end.write-end.ensures
+    let word : tie.After-copy-after_word = search in
+    let name : tie.After-write_named-after_name = search in
+    let end : tie.After-write_end = search in
+    wrote-overfull p word.copy-after_word.ensures (name.write_named-after_name.ensures p) end.write_end.ensures
 
-pub write-overfull-spec : {M : Type 1} → statement M
-write-overfull-spec =
+pub write_overfull_spec : {M : Type 1} → statement M
+write_overfull_spec =
     tie.close
     (tie.spec
-    (λ c. search rules)
     (λ c κs. omega (arith, fits (search)))
     write-named-requires
     write-end-requires

@@ -19,12 +19,11 @@ module _ (c : tie.Start) where
   fits : c.args.at + length name + 2 + length value ≤ length c.args.out.now
   fits = omega (arith, value-length name value)
 
-pub write-value-spec : {M : Type 1} → statement M
-write-value-spec =
+pub write_value_spec : {M : Type 1} → statement M
+write_value_spec =
     tie.close
     (tie.spec
     (λ c κs. omega (arith, fits (search)))
-    (λ c. search rules)
     (λ c κs. omega (arith, fits (search)))
     (λ c κs. omega (arith, fits (search)))
     (λ c κs. omega (arith, fits (search)))

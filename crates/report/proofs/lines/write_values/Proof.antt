@@ -11,70 +11,70 @@ use Rattle.report.proofs.LineLaws.{Lines, lines_start, lines-room, lines_more, l
 use Rattle.report.proofs.lines.write_values.Statement.{statement}
 use Rattle.report.proofs.lines.write_values.Tie as tie
 
-abbrev invariant-loop : tie.invariant-loop
-invariant-loop table p event out₀ at next₀ i₀ left₀ out next i left =
+abbrev invariant-loop-left : tie.invariant-loop-left
+invariant-loop-left table p event out₀ at next₀ i₀ left₀ out next i left =
     (end : ℕ) (v : ValuesRoom table p event (record { start = i₀; end = end; count = left₀ }) at (length out₀)) →
     Lines v.property.name v.values event out₀ at out next i left (drop end event)
 
-abbrev decreases-loop : tie.decreases-loop
-decreases-loop table p event out₀ at next₀ i₀ left₀ out next i left = left
+abbrev decreases-loop-left : tie.decreases-loop-left
+decreases-loop-left table p event out₀ at next₀ i₀ left₀ out next i left = left
 
 -- ---- the places
 
-abbrev start : tie.At-loop invariant-loop decreases-loop → tie.Start invariant-loop decreases-loop
+abbrev start : tie.At-loop-left invariant-loop-left decreases-loop-left → tie.Start invariant-loop-left decreases-loop-left
 start c = search
 
-abbrev to-loop : tie.After-start invariant-loop decreases-loop → tie.At-loop invariant-loop decreases-loop
+abbrev to-loop : tie.In-Text invariant-loop-left decreases-loop-left → tie.At-loop-left invariant-loop-left decreases-loop-left
 to-loop c = search
 
 -- ---- the facts
 
-small : (c : tie.At-loop invariant-loop decreases-loop) → length (start c).args.event.now < 2 ^ 64
+small : (c : tie.At-loop-left invariant-loop-left decreases-loop-left) → length (start c).args.event.now < 2 ^ 64
 small c = omega arith
 
-long : (c : tie.At-loop invariant-loop decreases-loop) → length c.loop.out ≡ length (start c).args.out.now
-long c = (c.loop.invariant (start c).args.x.end (start c).requires).go.long
+long : (c : tie.At-loop-left invariant-loop-left decreases-loop-left) → length c.loop-left.out ≡ length (start c).args.out.now
+long c = (c.loop-left.invariant (start c).args.x.end (start c).requires).go.long
 
 stops :
-    (c : tie.After-start invariant-loop decreases-loop) →
-    TextStops (start (to-loop c)).args.event.now (to-loop c).loop.i c.start.given.0.0 c.start.given.0.1.0
-stops c = text-stops _ _ _ _ (sym c.before.before.read-text.ensures ∙ c.start.given.1)
+    (c : tie.In-Text invariant-loop-left decreases-loop-left) →
+    TextStops (start (to-loop c)).args.event.now (to-loop c).loop-left.i c.in-Text.start c.in-Text.end
+stops c = text-stops _ _ _ _ (sym c.read_text.ensures ∙ c.in-Text.is)
 
 -- ---- the needs
 
-loop-holds : tie.Need-loop-init invariant-loop decreases-loop
+loop-holds : tie.Need-loop-left-init invariant-loop-left decreases-loop-left
 loop-holds c = λ end v. lines_start v.is
 
-returns : tie.Need-returns invariant-loop decreases-loop
+returns : tie.Need-returns-in_default invariant-loop-left decreases-loop-left
 returns c = λ v.
-    let turn : tie.In-loop invariant-loop decreases-loop = search in
-    let l = turn.before in
-    let none = text-none _ _ (sym c.before.before.read-text.ensures ∙ c.enum_told.given.1) in
-    absurd (standing-bad (l.loop.inv _ v).stand (small l) turn.loop-test.taken none)
+    let turn : tie.In-loop-left invariant-loop-left decreases-loop-left = search in
+    let l = turn in
+    let none = text-none _ _ (sym c.read_text.ensures ∙ c.in_default.is) in
+    absurd (standing-bad (l.loop-left.invariant _ v).stand (small (search)) turn.loop-left-test.true none)
 
-write-value-requires : tie.Need-write-value-requires invariant-loop decreases-loop
+write-value-requires : tie.Need-write_value-next-requires invariant-loop-left decreases-loop-left
 write-value-requires c κs =
-    let turn : tie.In-loop invariant-loop decreases-loop = search in
-    let l = turn.before in
-    let v = (start l).pre in
+    let turn : tie.In-loop-left invariant-loop-left decreases-loop-left = search in
+    let l = turn in
+    let v = (start (search)).requires in
     let t = stops (search) in
-    (v.named.order, v.named.within, t.order, t.within, lines-room (l.loop.inv _ v) (small l) turn.loop-test.taken t v.named.name v.fits)
+    (v.named.order, v.named.within, t.order, t.within, lines-room (l.loop-left.invariant _ v) (small (search)) turn.loop-left-test.true t v.named.name v.fits)
 
-loop-again : tie.Need-loop-preserved invariant-loop decreases-loop
+loop-again : tie.Need-loop-left-preserved invariant-loop-left decreases-loop-left
 loop-again c = λ end v.
-    let turn : tie.In-loop invariant-loop decreases-loop = search in
-    let l = turn.before in
-    lines_more (l.loop.inv end v) (small l) turn.loop-test.taken (stops (search)) v.named.name c.before.before.write-value.ensures
+    let turn : tie.In-loop-left invariant-loop-left decreases-loop-left = search in
+    let l = turn in
+    lines_more (l.loop-left.invariant end v) (small (search)) turn.loop-left-test.true (stops (search)) v.named.name c.write_value-next.ensures
 
-returns-2 : tie.Need-returns-2 invariant-loop decreases-loop
-returns-2 c = λ v. lines-all (c.before.loop.invariant _ v) (omega arith)
+returns-2 : tie.Need-returns invariant-loop-left decreases-loop-left
+returns-2 c = λ v. lines-all (c.loop-left.invariant _ v) (omega arith)
 
-pub write-values-spec : {M : Type 1} → statement M
-write-values-spec =
+pub write_values_spec : {M : Type 1} → statement M
+write_values_spec =
     tie.close
     (tie.spec
-    invariant-loop
-    decreases-loop
+    invariant-loop-left
+    decreases-loop-left
     loop-holds
     (λ c κs. search rules) (λ c. search rules) (λ c. search rules)
     (λ c. long (search))

@@ -15,47 +15,47 @@ use Rattle.unions.proofs.counted.write_before.Tie as tie
 
 -- ---- the places
 
-abbrev joined : tie.After-slice-known3 → tie.Joined1
-joined c = c.before.before.before.before
+abbrev joined : tie.After-slice_known-2-1 → tie.Joined-more-gt0
+joined c = (search)
 
 -- ---- the facts
 
-module _ (c : tie.After-number-size) where
+module _ (c : tie.After-number_size-more) where
   -- the number takes a byte, and `more`
-  size : length (number c.before.before.args.n) ≡ c.number_size.result - 1 + 1
-  size = omega (arith, c.number_size.ensures, number-bounds c.before.before.args.n)
+  size : length (number c.args.n) ≡ c.number_size-more.result - 1 + 1
+  size = omega (arith, c.number_size-more.ensures, number-bounds c.args.n)
 
-  within : c.before.before.args.end + (c.number_size.result - 1) ≤ length c.before.before.args.out.now
+  within : c.args.end + (c.number_size-more.result - 1) ≤ length c.args.out.now
   within = omega (arith, size)
 
 moved :
-    (c : tie.Joined1) →
-    let sized = c.before in
-    let a = sized.before.before.args in
-    MovedFrom a.out.now a.end (sized.number_size.result - 1) (a.at + 1) c.if1.out
+    (c : tie.Joined-more-gt0) →
+    let sized = c in
+    let a = sized.args in
+    MovedFrom a.out.now a.end (sized.number_size-more.result - 1) (a.at + 1) c.if-more-gt0.out
 moved c = ⊎_elim
-    (λ t. moved_by (t.5 ∙ t.2.ensures))
-    (λ f. subst (MovedFrom _ _ _ _) (sym f.1) (moved-not _ _ _ _ (omega (arith, f.0)) (omega arith) (omega (arith, within c.before))))
-    c.if1.branch
+    (λ t. moved_by (t.out-is ∙ t.move_up.ensures))
+    (λ f. subst (MovedFrom _ _ _ _) (sym f.out-is) (moved-not _ _ _ _ (omega (arith, f.if-more-gt0.false)) (omega arith) (omega (arith, within (search)))))
+    c.if-more-gt0.branch-raw
 
 -- ---- the needs
 
-sub_more : tie.Need-overflow-sub-more
+sub_more : tie.Need-overflow_sub-more
 sub_more c = omega (arith, size c)
 
-write-number-requires : tie.Need-write-number-requires
-write-number-requires c κs = let sized = c.before.before in omega (arith, size sized, within sized, (moved c.before).long)
+write-number-requires : tie.Need-write_number-requires
+write-number-requires c κs = let sized = c in omega (arith, size (search), within (search), (moved (search)).long)
 
-same_length : tie.Need-same-length
-same_length c = wrote-length c.before.before.write-number.ensures ∙ (moved (joined c)).long
+same_length : tie.Need-shape_of-out
+same_length c = wrote-length c.write_number.ensures ∙ (moved (joined c)).long
 
 returns : tie.Need-returns
 returns c = λ l bytes w.
     let j = joined c in
-    wrote-before (size j.before) (omega (arith, within j.before, wrote-length w)) w (moved j) c.before.before.write-number.ensures
+    wrote-before (size (search)) (omega (arith, within (search), wrote-length w)) w (moved j) c.write_number.ensures
 
-pub write-before-spec : {M : Type 1} → statement M
-write-before-spec =
+pub write_before_spec : {M : Type 1} → statement M
+write_before_spec =
     tie.close
     (tie.spec
     (λ c κs. search rules)

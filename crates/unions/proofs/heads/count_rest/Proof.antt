@@ -9,43 +9,43 @@ use Rattle.unions.proofs.RunLaws.{heads-some, heads-none, CountingOne, one_none,
 use Rattle.unions.proofs.heads.count_rest.Statement.{statement}
 use Rattle.unions.proofs.heads.count_rest.Tie as tie
 
-abbrev invariant-loop : tie.invariant-loop
-invariant-loop form s at i₀ n₀ i n = CountingOne form s at i n
+abbrev invariant-loop-end : tie.invariant-loop-end
+invariant-loop-end form s at i₀ n₀ i n = CountingOne form s at i n
 
-abbrev decreases-loop : tie.decreases-loop
-decreases-loop form s at i₀ n₀ i n = length s - i
+abbrev decreases-loop-end : tie.decreases-loop-end
+decreases-loop-end form s at i₀ n₀ i n = length s - i
 
 -- ---- the places
 
-abbrev to-loop : tie.After-known-told invariant-loop decreases-loop → tie.At-loop invariant-loop decreases-loop
-to-loop c = c.before.before.before.before
+abbrev to-loop : tie.In-Text invariant-loop-end decreases-loop-end → tie.At-loop-end invariant-loop-end decreases-loop-end
+to-loop c = (search)
 
 -- ---- the facts
 
 head :
-    (c : tie.After-known-told invariant-loop decreases-loop) →
+    (c : tie.In-Text invariant-loop-end decreases-loop-end) →
     let l = to-loop c in
-    let a = l.before.before.args in
-    HeadIs a.form a.s.now l.loop.i c.before.end.given.0.0 c.before.end.given.0.1.0
-head c = heads-some c.before.end.given.1 c.before.before.before.head_at.ensures
+    let a = l.args in
+    HeadIs a.form a.s.now l.loop-end.i c.in-Text.field-0 c.in-Text.end
+head c = heads-some c.in-Text.is c.head_at.ensures
 
 -- ---- the needs
 
-returns : tie.Need-returns invariant-loop decreases-loop
-returns c = let asked = c.before.before in one-all asked.before.loop.invariant (heads-none c.enum_told.given.1 asked.head_at.ensures)
+returns : tie.Need-returns-in_default invariant-loop-end decreases-loop-end
+returns c = let asked = c in one-all asked.loop-end.invariant (heads-none c.in_default.is asked.head_at.ensures)
 
-loop-less : tie.Need-loop-smaller invariant-loop decreases-loop
+loop-less : tie.Need-loop-end-smaller invariant-loop-end decreases-loop-end
 loop-less c = omega (arith, head c)
 
-loop-again : tie.Need-loop-preserved invariant-loop decreases-loop
-loop-again c = one_on (to-loop c).loop.invariant (head c)
+loop-again : tie.Need-loop-end-preserved invariant-loop-end decreases-loop-end
+loop-again c = one_on (to-loop c).loop-end.invariant (head c)
 
-pub count-rest-spec : {M : Type 1} → statement M
-count-rest-spec =
+pub count_rest_spec : {M : Type 1} → statement M
+count_rest_spec =
     tie.close
     (tie.spec
-    invariant-loop
-    decreases-loop
+    invariant-loop-end
+    decreases-loop-end
     (λ c. search one_none)
     (λ c κs. search rules) (λ c. search rules) (λ c. search rules)
     returns

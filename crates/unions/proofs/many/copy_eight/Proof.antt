@@ -5,24 +5,24 @@ use Rattle.packed.proofs.CopyLaws.{Copied, copied_none, copied_byte, copied-over
 use Rattle.unions.proofs.many.copy_eight.Statement.{statement}
 use Rattle.unions.proofs.many.copy_eight.Tie as tie
 
-abbrev invariant-loop : tie.invariant-loop
-invariant-loop from to₀ j₀ to j = Copied to₀ 0 from j to
+abbrev invariant-loop-j : tie.invariant-loop-j
+invariant-loop-j from to₀ j₀ to j = Copied to₀ 0 from j to
 
-abbrev decreases-loop : tie.decreases-loop
-decreases-loop from to₀ j₀ to j = 8 - j
+abbrev decreases-loop-j : tie.decreases-loop-j
+decreases-loop-j from to₀ j₀ to j = 8 - j
 
-loop-again : tie.Need-loop-preserved invariant-loop decreases-loop
-loop-again c = copied_byte c.before.before.loop.invariant (omega arith) (omega arith)
+loop-again : tie.Need-loop-j-preserved invariant-loop-j decreases-loop-j
+loop-again c = copied_byte c.loop-j.invariant (omega arith) (omega arith)
 
-returns : tie.Need-returns invariant-loop decreases-loop
-returns c = copied-over c.before.loop.invariant (omega arith) (omega arith)
+returns : tie.Need-returns invariant-loop-j decreases-loop-j
+returns c = copied-over c.loop-j.invariant (omega arith) (omega arith)
 
-pub copy-eight-spec : {M : Type 1} → statement M
-copy-eight-spec =
+pub copy_eight_spec : {M : Type 1} → statement M
+copy_eight_spec =
     tie.close
     (tie.spec
-    invariant-loop
-    decreases-loop
+    invariant-loop-j
+    decreases-loop-j
     (λ c. copied_none)
     (λ c. search rules) (λ c. search rules) (λ c. search rules) (λ c. search rules) (λ c. search rules)
     (λ c. search rules)

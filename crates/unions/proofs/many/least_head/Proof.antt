@@ -8,27 +8,27 @@ use Rattle.unions.proofs.MergeLaws.{LeastSofar, sofar-none, sofar-on, sofar-all}
 use Rattle.unions.proofs.many.least_head.Statement.{statement}
 use Rattle.unions.proofs.many.least_head.Tie as tie
 
-abbrev invariant-loop : tie.invariant-loop
-invariant-loop s at ends n after₀ best₀ j₀ after best j = (length after ≡ 8) × LeastSofar s at ends n j (told best after)
+abbrev invariant-loop-j : tie.invariant-loop-j
+invariant-loop-j s at ends n after₀ best₀ j₀ after best j = (length after ≡ 8) × LeastSofar s at ends n j (told best after)
 
-abbrev decreases-loop : tie.decreases-loop
-decreases-loop s at ends n after₀ best₀ j₀ after best j = n - j
+abbrev decreases-loop-j : tie.decreases-loop-j
+decreases-loop-j s at ends n after₀ best₀ j₀ after best j = n - j
 
-loop-holds : tie.Need-loop-init invariant-loop decreases-loop
-loop-holds c = (search rules, sofar-none refl c.before.before.copy-eight.ensures)
+loop-holds : tie.Need-loop-j-init invariant-loop-j decreases-loop-j
+loop-holds c = (search rules, sofar-none refl c.copy_eight.ensures)
 
-loop-again : tie.Need-loop-preserved invariant-loop decreases-loop
+loop-again : tie.Need-loop-j-preserved invariant-loop-j decreases-loop-j
 loop-again c =
-    let asked : tie.After-lesser invariant-loop decreases-loop = search in
-    let turn : tie.In-loop invariant-loop decreases-loop = search in
-    (search rules, sofar-on turn.before.loop.inv.1 turn.loop-test.taken asked.lesser.ensures)
+    let asked : tie.After-lesser-best invariant-loop-j decreases-loop-j = search in
+    let turn : tie.In-loop-j invariant-loop-j decreases-loop-j = search in
+    (search rules, sofar-on turn.loop-j.invariant.1 turn.loop-j-test.true asked.lesser-best.ensures)
 
-pub least-head-spec : {M : Type 1} → statement M
-least-head-spec =
+pub least_head_spec : {M : Type 1} → statement M
+least_head_spec =
     tie.close
     (tie.spec
-    invariant-loop
-    decreases-loop
+    invariant-loop-j
+    decreases-loop-j
     (λ c κs. search rules)
     loop-holds
     (λ c. search rules) (λ c. search rules) (λ c κs. search rules) (λ c. search rules) (λ c. search rules)

@@ -15,77 +15,76 @@ use Rattle.unions.proofs.many.lesser.Tie as tie
 
 -- ---- the places
 
-abbrev to-known : tie.After-shared-slice-known3 → tie.After-shared-slice-known
-to-known c = c.before.before.before
+abbrev to-known : tie.After-shared_slice_known-3-1 → tie.After-shared_slice_known-1
+to-known c = (search)
 
-abbrev to_some : tie.After-struct-known → tie.Else1
-to_some c = c.before.before.before.before.before
+abbrev to_some : tie.After-struct_known-1 → tie.Else-end-start
+to_some c = (search)
 
-abbrev of-head : tie.After-struct-known → tie.Start
-of-head c = (to-known (to_some c).before).before
+abbrev of-head : tie.After-struct_known-1 → tie.Start
+of-head c = (to-known (search)).before
 
 -- ---- the facts
 
 -- there are no more bytes than a `usize` counts
-short : (c : tie.After-shared-slice-known) → length c.before.args.s.now < 2 ^ 64
+short : (c : tie.After-shared_slice_known-1) → length c.args.s.now < 2 ^ 64
 short c = omega arith
 
 head :
-    (c : tie.After-struct-known) →
+    (c : tie.After-struct_known-1) →
     let s = (of-head c).args in
-    let found = c.before.before.p.given.0 in
-    HeadOf s.s.now (told s.best s.after.now) s.at.now s.j s.end found.0 found.1.0
+    HeadOf s.s.now (told s.best s.after.now) s.at.now s.j s.end c.in-Text.p c.in-Text.q
 head c =
     let pre = (of-head c).requires in
-    let found : tie.After-p = search in
+    let found : tie.In-Text = search in
     record {
-      short = short (to-known (to_some c).before);
-      some = (to_some c).if1.false;
+      short = short (to-known (search));
+      some = (to_some c).if-end-start.false;
       in-ats = omega (arith, pre.0);
       in_after = omega (arith, pre.0);
       right = pre.1.0;
       fresh = pre.1.1;
-      head = heads-some found.p.given.1 found.before.before.head_at.ensures;
+      head = heads-some found.in-Text.is found.head_at.ensures;
     }
 
-found_before : (c : tie.Else2) → (of-head c.before).args.best.found ≡ true
-found_before c = not-false _ c.if2.false
+found_before : (c : tie.Else-not-best) → (of-head (search)).args.best.found ≡ true
+found_before c = not-false _ c.if-not-best.false
 
-compared : (c : tie.After-order-parts) → Compared (head c.before.before) c.order-parts.result
-compared c = record { found = found_before c.before; order = c.order-parts.ensures }
+compared : (c : tie.After-order_parts) → Compared (head (search)) c.order_parts.result
+compared c = record { found = found_before (search); order = c.order_parts.ensures }
 
 -- ---- the needs
 
-returns : tie.Need-returns
-returns c = let pre = (to-known c.before).before.requires in answer-end pre.1.0 pre.1.1 c.if1.true
+returns : tie.Need-returns-then-end-start
+returns c = let pre = (to-known (search)).before.requires in answer-end pre.1.0 pre.1.1 c.if-end-start.true
 
-returns-2 : tie.Need-returns-2
+returns-2 : tie.Need-returns-in_default
 returns-2 c =
-    let asked : tie.After-head-at = search in
-    let known = to-known asked.before.before in
-    let pre = known.before.pre in
-    answer-no-head pre.1.0 pre.1.1 (short known) (heads-none c.enum_told.given.1 asked.head_at.ensures)
+    let asked : tie.After-head_at = search in
+    let known = to-known (search) in
+    let pre = known.requires in
+    answer-no-head pre.1.0 pre.1.1 (short known) (heads-none c.in_default.is asked.head_at.ensures)
 
-returns-3 : tie.Need-returns-3
-returns-3 c = first-answer (head c.before) (not-true _ c.if2.true)
+returns-3 : tie.Need-returns-then-not-best
+returns-3 c = first-answer (head (search)) (not-true _ c.if-not-best.true)
 
-order-parts-requires : tie.Need-order-parts-requires
-order-parts-requires c κs = least-inside (head c.before) (found_before c)
+order-parts-requires : tie.Need-order_parts-requires
+order-parts-requires c κs = least-inside (head (search)) (found_before c)
 
-returns-4 : tie.Need-returns-4
+returns-4 : tie.Need-returns-in-0
 returns-4 c =
-    let copied : tie.After-copy-eight = search in
-    let arm : tie.At-match2-keys1 = search in
-    less-answer (compared arm.before) (omega (arith, arm.match2.keys1)) copied.copy-eight.ensures
+    let copied : tie.After-copy_eight = search in
+    let arm : tie.In-0 = search in
+    less-answer (compared (search)) (omega (arith, arm.in-0.is)) copied.copy_eight.ensures
 
-returns-5 : tie.Need-returns-5
-returns-5 c = both-answer (compared c.before) (omega (arith, c.match2.keys2))
+returns-5 : tie.Need-returns-in-1
+returns-5 c = both-answer (compared (search)) (omega (arith, c.in-1.is))
 
-returns-6 : tie.Need-returns-6
-returns-6 c = kept-answer (compared c.before) (omega (arith, c.match2.rest))
+returns-6 : tie.Need-returns-in_default-order_parts
+returns-6 c = kept-answer (compared (search)) (omega (arith, c.in_default-order_parts.in_default-order_parts-own.rest))
 
-pub lesser-spec : {M : Type 1} → statement M
-lesser-spec =
+pub lesser_spec : {M : Type 1} → statement M
+lesser_spec =
     tie.close
     (tie.spec
     (λ c. search rules) (λ c. search rules)

@@ -6,5 +6,5 @@ use Rattle.unions.proofs.pair.count_hash_union.Tie as tie
 returns : tie.Need-returns
 returns c = λ xs ys rx ry ex ey kx ky. c.count_runs.ensures xs ys (hash-run _ xs rx ex kx) (hash-run _ ys ry ey ky)
 
-pub count-hash-union-spec : {M : Type 1} → statement M
-count-hash-union-spec = tie.close (tie.spec (λ c κs. search rules) returns)
+pub count_hash_union_spec : {M : Type 1} → statement M
+count_hash_union_spec = tie.close (tie.spec (λ c κs. search rules) returns)

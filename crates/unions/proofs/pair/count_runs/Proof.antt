@@ -9,50 +9,50 @@ use Rattle.unions.proofs.RunLaws.{steps_next, steps-alone, Counting, counting-no
 use Rattle.unions.proofs.pair.count_runs.Statement.{statement}
 use Rattle.unions.proofs.pair.count_runs.Tie as tie
 
-abbrev invariant-loop : tie.invariant-loop
-invariant-loop form a b i₀ j₀ n₀ i j n = Counting form a b i j n
+abbrev invariant-loop-x : tie.invariant-loop-x
+invariant-loop-x form a b i₀ j₀ n₀ i j n = Counting form a b i j n
 
-abbrev decreases-loop : tie.decreases-loop
-decreases-loop form a b i₀ j₀ n₀ i j n = length a + length b - (i + j)
+abbrev decreases-loop-x : tie.decreases-loop-x
+decreases-loop-x form a b i₀ j₀ n₀ i j n = length a + length b - (i + j)
 
 -- ---- the places
 
-abbrev to-loop : tie.After-known-told invariant-loop decreases-loop → tie.At-loop invariant-loop decreases-loop
-to-loop c = c.before.before.before.before
+abbrev to-loop : tie.In-Next invariant-loop-x decreases-loop-x → tie.At-loop-x invariant-loop-x decreases-loop-x
+to-loop c = (search)
 
 -- ---- the facts
 
 next :
-    (c : tie.After-known-told invariant-loop decreases-loop) →
+    (c : tie.In-Next invariant-loop-x decreases-loop-x) →
     let l = to-loop c in
-    let s = l.before.before.before.args in
-    Stepped s.form s.a.now l.loop.i s.b.now l.loop.j c.before.x.given.0.0 c.before.x.given.0.1.0
-next c = steps_next c.before.x.given.1 c.before.before.before.next_of.ensures
+    let s = l.args in
+    Stepped s.form s.a.now l.loop-x.i s.b.now l.loop-x.j c.in-Next.x c.in-Next.y
+next c = steps_next c.in-Next.is c.next_of.ensures
 
 -- ---- the needs
 
-returns : tie.Need-returns invariant-loop decreases-loop
+returns : tie.Need-returns-in_default invariant-loop-x decreases-loop-x
 returns c =
-    let told : tie.After-enum-told invariant-loop decreases-loop = search in
-    let stopped : tie.After-next-of invariant-loop decreases-loop = search in
-    counting-all stopped.before.loop.inv (steps-alone told.enum_told.given.1 stopped.next_of.ensures) c.before.count-rest.ensures.1
-    c.count-rest2.ensures.1
+    let told : tie.In_default invariant-loop-x decreases-loop-x = search in
+    let stopped : tie.After-next_of invariant-loop-x decreases-loop-x = search in
+    counting-all stopped.loop-x.invariant (steps-alone told.in_default.is stopped.next_of.ensures) c.count_rest.ensures.1
+    c.count_rest-in_default.ensures.1
 
-add-n : tie.Need-overflow-add-n invariant-loop decreases-loop
+add-n : tie.Need-overflow_add-n invariant-loop-x decreases-loop-x
 add-n c = omega (arith, (next c).step)
 
-loop-less : tie.Need-loop-smaller invariant-loop decreases-loop
+loop-less : tie.Need-loop-x-smaller invariant-loop-x decreases-loop-x
 loop-less c = omega (arith, (next c).step)
 
-loop-again : tie.Need-loop-preserved invariant-loop decreases-loop
-loop-again c = counting-on (to-loop c).loop.invariant (next c)
+loop-again : tie.Need-loop-x-preserved invariant-loop-x decreases-loop-x
+loop-again c = counting-on (to-loop c).loop-x.invariant (next c)
 
-pub count-runs-spec : {M : Type 1} → statement M
-count-runs-spec =
+pub count_runs_spec : {M : Type 1} → statement M
+count_runs_spec =
     tie.close
     (tie.spec
-    invariant-loop
-    decreases-loop
+    invariant-loop-x
+    decreases-loop-x
     (λ c. counting-none)
     (λ c κs. search rules) (λ c. search rules) (λ c. search rules) (λ c κs. search rules) (λ c. search rules)
     (λ c κs. search rules) (λ c. search rules)

@@ -10,50 +10,48 @@ use Rattle.unions.proofs.pair.next_of.Tie as tie
 -- ---- the places
 
 -- The left head is known at `After-p`, the right one at `After-q`.
-abbrev to_start : tie.After-p → tie.Start
-to_start c = c.before.before.before.before.before
+abbrev to_start : tie.In-Text → tie.Start
+to_start c = (search)
 
-abbrev to-p : tie.After-q → tie.After-p
-to-p c = c.before.before.before.before
+abbrev to-p : tie.In-Text-head_at → tie.In-Text
+to-p c = (search)
 
 -- ---- the facts
 
 heads :
-    (c : tie.After-q) →
+    (c : tie.In-Text-head_at) →
     let s = (to_start (to-p c)).args in
-    let left = (to-p c).p.given.0 in
-    let right = c.q.given.0 in
-    Both s.form s.a.now s.i s.b.now s.j left.0 left.1.0 right.0 right.1.0
-heads c = both-heads (to-p c).p.given.1 (to-p c).before.before.head_at.ensures c.q.given.1 c.before.before.head-at2.ensures
+    Both s.form s.a.now s.i s.b.now s.j (to-p c).in-Text.p (to-p c).in-Text.x c.in-Text-head_at.q c.in-Text-head_at.y
+heads c = both-heads (to-p c).in-Text.is (to-p c).head_at.ensures c.in-Text-head_at.is c.head_at-2.ensures
 
 -- ---- the needs
 
-returns : tie.Need-returns
-returns c = record { either = inl (heads-none c.enum_told.given.1 c.before.before.head_at.ensures) }
+returns : tie.Need-returns-in_default
+returns c = record { either = inl (heads-none c.in_default.is c.head_at.ensures) }
 
-returns-2 : tie.Need-returns-2
-returns-2 c = record { either = inr (heads-none c.enum-told2.given.1 c.before.before.head-at2.ensures) }
+returns-2 : tie.Need-returns-in_default-head_at
+returns-2 c = record { either = inr (heads-none c.in_default-head_at.is c.head_at-2.ensures) }
 
-order-parts-requires : tie.Need-order-parts-requires
-order-parts-requires c κs = both-inside (heads c.before)
+order-parts-requires : tie.Need-order_parts-requires
+order-parts-requires c κs = both-inside (heads (search))
 
-returns-3 : tie.Need-returns-3
+returns-3 : tie.Need-returns-in-0
 returns-3 c =
-    let compared = c.before in
-    stepped (step_less (heads compared.before.before) compared.order-parts.ensures (omega (arith, c.match3.keys1)))
+    let compared = c in
+    stepped (step_less (heads (search)) compared.order_parts.ensures (omega (arith, c.in-0.is)))
 
-returns-4 : tie.Need-returns-4
+returns-4 : tie.Need-returns-in-1
 returns-4 c =
-    let compared = c.before in
-    stepped (step_same (heads compared.before.before) compared.order-parts.ensures (omega (arith, c.match3.keys2)))
+    let compared = c in
+    stepped (step_same (heads (search)) compared.order_parts.ensures (omega (arith, c.in-1.is)))
 
-returns-5 : tie.Need-returns-5
+returns-5 : tie.Need-returns-in_default-order_parts
 returns-5 c =
-    let compared = c.before in
-    stepped (step-more (heads compared.before.before) compared.order-parts.ensures (omega (arith, c.match3.rest)))
+    let compared = c in
+    stepped (step-more (heads (search)) compared.order_parts.ensures (omega (arith, c.in_default-order_parts.in_default-order_parts-own.rest)))
 
-pub next-of-spec : {M : Type 1} → statement M
-next-of-spec =
+pub next_of_spec : {M : Type 1} → statement M
+next_of_spec =
     tie.close
     (tie.spec
     (λ c κs. search rules) (λ c. search rules) (λ c. search rules)

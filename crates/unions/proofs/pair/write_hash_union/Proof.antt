@@ -9,8 +9,8 @@ use Rattle.unions.proofs.pair.write_hash_union.Tie as tie
 
 returns : tie.Need-returns
 returns c =
-    let runs = c.before.before.write-runs in
+    let runs = c.write_runs-joined in
     λ xs ys rx ry ex ey kx ky. hashes-wrote (union texts xs ys) (runs.ensures xs ys (hash-run _ xs rx ex kx) (hash-run _ ys ry ey ky)).wrote
 
-pub write-hash-union-spec : {M : Type 1} → statement M
-write-hash-union-spec = tie.close (tie.spec (λ c κs. search hashes-room) (λ c. search rules) returns)
+pub write_hash_union_spec : {M : Type 1} → statement M
+write_hash_union_spec = tie.close (tie.spec (λ c κs. search hashes-room) (λ c. search rules) returns)

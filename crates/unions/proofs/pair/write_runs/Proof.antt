@@ -11,130 +11,130 @@ use Rattle.unions.proofs.RunLaws.{left-fits, left-on, right-fits, right-on, righ
 use Rattle.unions.proofs.pair.write_runs.Statement.{statement}
 use Rattle.unions.proofs.pair.write_runs.Tie as tie
 
-abbrev invariant-loop : tie.invariant-loop
-invariant-loop form a b out₀ at i₀ j₀ next₀ shared₀ out i j next shared = Joining form a b out₀ at out i j next shared
+abbrev invariant-loop-p : tie.invariant-loop-p
+invariant-loop-p form a b out₀ at i₀ j₀ next₀ shared₀ out i j next shared = Joining form a b out₀ at out i j next shared
 
-abbrev decreases-loop : tie.decreases-loop
-decreases-loop form a b out₀ at i₀ j₀ next₀ shared₀ out i j next shared = length a + length b - (i + j)
+abbrev decreases-loop-p : tie.decreases-loop-p
+decreases-loop-p form a b out₀ at i₀ j₀ next₀ shared₀ out i j next shared = length a + length b - (i + j)
 
 -- ---- the places
 
 -- The left head is known at `After-p`, the right one at `After-q`.
-abbrev to_start : tie.At-loop invariant-loop decreases-loop → tie.Start invariant-loop decreases-loop
-to_start c = c.before.before.before.before
+abbrev to_start : tie.At-loop-p invariant-loop-p decreases-loop-p → tie.Start invariant-loop-p decreases-loop-p
+to_start c = (search)
 
-abbrev p-to-loop : tie.After-p invariant-loop decreases-loop → tie.At-loop invariant-loop decreases-loop
-p-to-loop c = c.before.before.before
+abbrev p-to-loop : tie.In-Text invariant-loop-p decreases-loop-p → tie.At-loop-p invariant-loop-p decreases-loop-p
+p-to-loop c = (search)
 
-abbrev none-to-loop : tie.After-enum-told invariant-loop decreases-loop → tie.At-loop invariant-loop decreases-loop
-none-to-loop c = c.before.before.before
+abbrev none-to-loop : tie.In_default invariant-loop-p decreases-loop-p → tie.At-loop-p invariant-loop-p decreases-loop-p
+none-to-loop c = (search)
 
-abbrev none-to-p : tie.After-enum-told2 invariant-loop decreases-loop → tie.After-p invariant-loop decreases-loop
-none-to-p c = c.before.before.before.before
+abbrev none-to-p : tie.In_default-head_at invariant-loop-p decreases-loop-p → tie.In-Text invariant-loop-p decreases-loop-p
+none-to-p c = (search)
 
-abbrev to-p : tie.After-q invariant-loop decreases-loop → tie.After-p invariant-loop decreases-loop
-to-p c = c.before.before.before.before
+abbrev to-p : tie.In-Text-head_at invariant-loop-p decreases-loop-p → tie.In-Text invariant-loop-p decreases-loop-p
+to-p c = (search)
 
-abbrev to-q : tie.After-order-parts invariant-loop decreases-loop → tie.After-q invariant-loop decreases-loop
-to-q c = c.before.before
+abbrev to-q : tie.After-order_parts invariant-loop-p decreases-loop-p → tie.In-Text-head_at invariant-loop-p decreases-loop-p
+to-q c = (search)
 
 -- ---- the values
 
-module _ (c : tie.After-q invariant-loop decreases-loop) where
-  abbrev turn : tie.At-loop invariant-loop decreases-loop
+module _ (c : tie.In-Text-head_at invariant-loop-p decreases-loop-p) where
+  abbrev turn : tie.At-loop-p invariant-loop-p decreases-loop-p
   turn = p-to-loop (to-p c)
 
   abbrev x : ℕ
-  x = (to-p c).p.given.0.1.0
+  x = (to-p c).in-Text.x
 
   abbrev y : ℕ
-  y = c.q.given.0.1.0
+  y = c.in-Text-head_at.y
 
 -- ---- the facts
 
-no-left : (c : tie.After-enum-told invariant-loop decreases-loop) → let l = none-to-loop c in let s = (to_start l).args in NoHead s.form s.a.now l.loop.i
-no-left c = heads-none c.enum_told.given.1 c.before.before.head_at.ensures
+no-left : (c : tie.In_default invariant-loop-p decreases-loop-p) → let l = none-to-loop c in let s = (to_start l).args in NoHead s.form s.a.now l.loop-p.i
+no-left c = heads-none c.in_default.is c.head_at.ensures
 
 no-right :
-    (c : tie.After-enum-told2 invariant-loop decreases-loop) →
+    (c : tie.In_default-head_at invariant-loop-p decreases-loop-p) →
     let l = p-to-loop (none-to-p c) in
     let s = (to_start l).args in
-    NoHead s.form s.b.now l.loop.j
-no-right c = heads-none c.enum-told2.given.1 c.before.before.head-at2.ensures
+    NoHead s.form s.b.now l.loop-p.j
+no-right c = heads-none c.in_default-head_at.is c.head_at-in-loop-p.ensures
 
 heads :
-    (c : tie.After-q invariant-loop decreases-loop) →
+    (c : tie.In-Text-head_at invariant-loop-p decreases-loop-p) →
     let l = turn c in
     let s = (to_start l).args in
-    Both s.form s.a.now l.loop.i s.b.now l.loop.j (to-p c).p.given.0.0 (x c) c.q.given.0.0 (y c)
-heads c = both-heads (to-p c).p.given.1 (to-p c).before.before.head_at.ensures c.q.given.1 c.before.before.head-at2.ensures
+    Both s.form s.a.now l.loop-p.i s.b.now l.loop-p.j (to-p c).in-Text.p (x c) c.in-Text-head_at.q (y c)
+heads c = both-heads (to-p c).in-Text.is (to-p c).head_at.ensures c.in-Text-head_at.is c.head_at-in-loop-p.ensures
 
 -- the step of each arm
-less : (c : tie.After-copy-part-arg3 invariant-loop decreases-loop) → let q = to-q c.before.before in LeftStep (turn q).loop.inv 1 (x q) (turn q).loop.j
-less c = let compared = c.before.before in less-step _ (heads (to-q compared)) compared.order-parts.ensures (omega (arith, c.before.match3.keys1))
+less : (c : tie.After-copy_part-arg-in-0-1 invariant-loop-p decreases-loop-p) → let q = to-q (search) in LeftStep (turn q).loop-p.invariant 1 (x q) (turn q).loop-p.j
+less c = let compared = c in less-step _ (heads (to-q (search))) compared.order_parts.ensures (omega (arith, c.in-0.is))
 
-same : (c : tie.After-copy-part-arg4 invariant-loop decreases-loop) → let q = to-q c.before.before in LeftStep (turn q).loop.inv 2 (x q) (y q)
-same c = let compared = c.before.before in same_step _ (heads (to-q compared)) compared.order-parts.ensures (omega (arith, c.before.match3.keys2))
+same : (c : tie.After-copy_part-arg-in-1-1 invariant-loop-p decreases-loop-p) → let q = to-q (search) in LeftStep (turn q).loop-p.invariant 2 (x q) (y q)
+same c = let compared = c in same_step _ (heads (to-q (search))) compared.order_parts.ensures (omega (arith, c.in-1.is))
 
-more : (c : tie.After-copy-part-arg5 invariant-loop decreases-loop) → let q = to-q c.before.before in RightStep (turn q).loop.inv (y q)
-more c = let compared = c.before.before in more-step _ (heads (to-q compared)) compared.order-parts.ensures (omega (arith, c.before.match3.rest))
+more : (c : tie.After-copy_part-arg-in_default-order_parts-1 invariant-loop-p decreases-loop-p) → let q = to-q (search) in RightStep (turn q).loop-p.invariant (y q)
+more c = let compared = c in more-step _ (heads (to-q (search))) compared.order_parts.ensures (omega (arith, c.in_default-order_parts.in_default-order_parts-own.rest))
 
 -- ---- the needs
 
-copy-part-requires : tie.Need-copy-part-requires invariant-loop decreases-loop
-copy-part-requires c κs = right-rest (none-to-loop c.before).loop.inv (no-left c.before)
+copy-part-requires : tie.Need-copy_part-requires invariant-loop-p decreases-loop-p
+copy-part-requires c κs = right-rest (none-to-loop (search)).loop-p.invariant (no-left (search))
 
-returns : tie.Need-returns invariant-loop decreases-loop
+returns : tie.Need-returns-in_default invariant-loop-p decreases-loop-p
 returns c =
-    let copied : tie.After-copy-part invariant-loop decreases-loop = search in
-    let none : tie.After-enum-told invariant-loop decreases-loop = search in
-    right-wrote (none-to-loop none).loop.inv (no-left none) copied.copy-part.ensures
+    let copied : tie.After-copy_part invariant-loop-p decreases-loop-p = search in
+    let none : tie.In_default invariant-loop-p decreases-loop-p = search in
+    right-wrote (none-to-loop none).loop-p.invariant (no-left none) copied.copy_part.ensures
 
-copy-part-requires-2 : tie.Need-copy-part-requires-2 invariant-loop decreases-loop
-copy-part-requires-2 c κs = left-rest (p-to-loop (none-to-p c.before)).loop.inv (no-right c.before)
+copy-part-requires-2 : tie.Need-copy_part-requires-in_default-head_at invariant-loop-p decreases-loop-p
+copy-part-requires-2 c κs = left-rest (p-to-loop (none-to-p (search))).loop-p.invariant (no-right (search))
 
-returns-2 : tie.Need-returns-2 invariant-loop decreases-loop
+returns-2 : tie.Need-returns-in_default-head_at invariant-loop-p decreases-loop-p
 returns-2 c =
-    let copied : tie.After-copy-part2 invariant-loop decreases-loop = search in
-    let none : tie.After-enum-told2 invariant-loop decreases-loop = search in
-    left-wrote (p-to-loop (none-to-p none)).loop.inv (no-right none) copied.copy-part2.ensures
+    let copied : tie.After-copy_part-in_default-head_at invariant-loop-p decreases-loop-p = search in
+    let none : tie.In_default-head_at invariant-loop-p decreases-loop-p = search in
+    left-wrote (p-to-loop (none-to-p none)).loop-p.invariant (no-right none) copied.copy_part-in_default-head_at.ensures
 
-order-parts-requires : tie.Need-order-parts-requires invariant-loop decreases-loop
-order-parts-requires c κs = both-inside (heads c.before)
+order-parts-requires : tie.Need-order_parts-requires invariant-loop-p decreases-loop-p
+order-parts-requires c κs = both-inside (heads (search))
 
-copy-part-requires-3 : tie.Need-copy-part-requires-3 invariant-loop decreases-loop
+copy-part-requires-3 : tie.Need-copy_part-next-requires invariant-loop-p decreases-loop-p
 copy-part-requires-3 c κs = left-fits (less c)
 
-loop-less : tie.Need-loop-smaller invariant-loop decreases-loop
-loop-less c = omega (arith, (less c.before.before.before).step)
+loop-less : tie.Need-loop-p-smaller-in-0 invariant-loop-p decreases-loop-p
+loop-less c = omega (arith, (less (search)).step)
 
-loop-again : tie.Need-loop-preserved invariant-loop decreases-loop
-loop-again c = let copied = c.before.before in left-on (less copied.before) (omega arith) copied.copy-part3.ensures
+loop-again : tie.Need-loop-p-preserved-in-0 invariant-loop-p decreases-loop-p
+loop-again c = let copied = c in left-on (less (search)) (omega arith) copied.copy_part-next.ensures
 
-copy-part-requires-4 : tie.Need-copy-part-requires-4 invariant-loop decreases-loop
+copy-part-requires-4 : tie.Need-copy_part-next-requires-in-1 invariant-loop-p decreases-loop-p
 copy-part-requires-4 c κs = left-fits (same c)
 
-loop-less-2 : tie.Need-loop-smaller-2 invariant-loop decreases-loop
-loop-less-2 c = omega (arith, (same c.before.before.before).step)
+loop-less-2 : tie.Need-loop-p-smaller-in-1 invariant-loop-p decreases-loop-p
+loop-less-2 c = omega (arith, (same (search)).step)
 
-loop-again-2 : tie.Need-loop-preserved-2 invariant-loop decreases-loop
-loop-again-2 c = let copied = c.before.before in left-on (same copied.before) (omega arith) copied.copy-part4.ensures
+loop-again-2 : tie.Need-loop-p-preserved-in-1 invariant-loop-p decreases-loop-p
+loop-again-2 c = let copied = c in left-on (same (search)) (omega arith) copied.copy_part-next-in-1.ensures
 
-copy-part-requires-5 : tie.Need-copy-part-requires-5 invariant-loop decreases-loop
+copy-part-requires-5 : tie.Need-copy_part-next-requires-in_default-order_parts invariant-loop-p decreases-loop-p
 copy-part-requires-5 c κs = right-fits (more c)
 
-loop-less-3 : tie.Need-loop-smaller-3 invariant-loop decreases-loop
-loop-less-3 c = omega (arith, (more c.before.before.before).step)
+loop-less-3 : tie.Need-loop-p-smaller invariant-loop-p decreases-loop-p
+loop-less-3 c = omega (arith, (more (search)).step)
 
-loop-again-3 : tie.Need-loop-preserved-3 invariant-loop decreases-loop
-loop-again-3 c = let copied = c.before.before in right-on (more copied.before) copied.copy-part5.ensures
+loop-again-3 : tie.Need-loop-p-preserved invariant-loop-p decreases-loop-p
+loop-again-3 c = let copied = c in right-on (more (search)) copied.copy_part-next-in_default-order_parts.ensures
 
-pub write-runs-spec : {M : Type 1} → statement M
-write-runs-spec =
+pub write_runs_spec : {M : Type 1} → statement M
+write_runs_spec =
     tie.close
     (tie.spec
-    invariant-loop
-    decreases-loop
+    invariant-loop-p
+    decreases-loop-p
     (λ c. search joining-none)
     (λ c κs. search rules) (λ c. search rules) (λ c. search rules)
     copy-part-requires

@@ -8,8 +8,8 @@ use Rattle.unions.proofs.pair.write_union.Tie as tie
 
 returns : tie.Need-returns
 returns c =
-    let runs = c.before.before.write-runs in
+    let runs = c.write_runs in
     λ xs ys rx ry kx ky. texts-wrote (runs.ensures xs ys (text-run _ xs (omega arith) rx kx) (text-run _ ys (omega arith) ry ky))
 
-pub write-union-spec : {M : Type 1} → statement M
-write-union-spec = tie.close (tie.spec (λ c κs. search texts-room) (λ c. search rules) returns)
+pub write_union_spec : {M : Type 1} → statement M
+write_union_spec = tie.close (tie.spec (λ c κs. search texts-room) (λ c. search rules) returns)

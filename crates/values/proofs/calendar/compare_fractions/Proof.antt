@@ -4,8 +4,8 @@ use Rattle.model.proofs.OrderLaws.{lt-compare, gt-compare, eq-compare}
 use Rattle.values.proofs.calendar.compare_fractions.Statement.{statement}
 use Rattle.values.proofs.calendar.compare_fractions.Tie as tie
 
-pub compare-fractions-spec : {M : Type 1} → statement M
-compare-fractions-spec =
+pub compare_fractions_spec : {M : Type 1} → statement M
+compare_fractions_spec =
     tie.close
     (tie.spec
     (λ c. search lt-compare)

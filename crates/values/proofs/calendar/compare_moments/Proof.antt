@@ -3,12 +3,12 @@ use Rattle.values.proofs.InstantLaws.{datetime-short, stamp-less, stamp-more, st
 use Rattle.values.proofs.calendar.compare_moments.Statement.{statement}
 use Rattle.values.proofs.calendar.compare_moments.Tie as tie
 
-pub compare-moments-spec : {M : Type 1} → statement M
-compare-moments-spec =
+pub compare_moments_spec : {M : Type 1} → statement M
+compare_moments_spec =
     tie.close
     (tie.spec
-    (λ c p q. absurd (datetime-short _ c.if1.true p))
-    (λ c p q. absurd (datetime-short _ c.if2.true q))
+    (λ c p q. absurd (datetime-short _ c.if-a-lt20.true p))
+    (λ c p q. absurd (datetime-short _ c.if-b-lt20.true q))
     (λ c κs. search rules) (λ c κs. search rules)
     (λ c. search stamp-less)
     (λ c. search stamp-more)

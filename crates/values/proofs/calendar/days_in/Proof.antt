@@ -4,13 +4,13 @@ use Rattle.values.specs.Calendar.{days_in}
 use Rattle.values.proofs.calendar.days_in.Statement.{statement}
 use Rattle.values.proofs.calendar.days_in.Tie as tie
 
-pub days-in-spec : {M : Type 1} → statement M
+pub days_in_spec : {M : Type 1} → statement M
 unfolding days_in
-days-in-spec =
+days_in_spec =
     tie.close
     (tie.spec
     (λ c κs. search rules)
-    (λ c. rw (c.before.before.match.keys1, ← c.before.is-leap.ensures, c.if1.true))
-    (λ c. rw (c.before.before.match.keys1, ← c.before.is-leap.ensures, c.if1.false))
-    (λ c. days-thirty _ _ c.match.keys2)
-    (λ c. days-most _ _ c.match.rest.0.1 c.match.rest.1))
+    (λ c. rw (c.in-2.is, ← c.is_leap.ensures, c.if-is_leap.true))
+    (λ c. rw (c.in-2.is, ← c.is_leap.ensures, c.if-is_leap.false))
+    (λ c. days-thirty _ _ c.in-4.is)
+    (λ c. days-most _ _ c.in_default.in_default-own.rest.0.1 c.in_default.in_default-own.rest.1))

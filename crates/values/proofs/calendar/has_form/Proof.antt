@@ -6,18 +6,18 @@ use Rattle.values.proofs.CalendarLaws.{form-other, Formed, formed-all, formed-no
 use Rattle.values.proofs.calendar.has_form.Statement.{statement}
 use Rattle.values.proofs.calendar.has_form.Tie as tie
 
-abbrev invariant-loop : tie.invariant-loop
-invariant-loop form v i₀ i = Formed form v i
+abbrev invariant-loop-i : tie.invariant-loop-i
+invariant-loop-i form v i₀ i = Formed form v i
 
-abbrev decreases-loop : tie.decreases-loop
-decreases-loop form v i₀ i = length v - i
+abbrev decreases-loop-i : tie.decreases-loop-i
+decreases-loop-i form v i₀ i = length v - i
 
-pub has-form-spec : {M : Type 1} → statement M
-has-form-spec =
+pub has_form_spec : {M : Type 1} → statement M
+has_form_spec =
     tie.close
     (tie.spec
-    invariant-loop
-    decreases-loop
+    invariant-loop-i
+    decreases-loop-i
     (λ c. search form-other)
     (λ c. search formed-all)
     (λ c. search rules) (λ c. search rules) (λ c κs. search rules)

@@ -6,16 +6,16 @@ use Rattle.values.proofs.InstantLaws.{whole-not, whole_is, fraction-long, fracti
 use Rattle.values.proofs.calendar.is_datetime.Statement.{statement}
 use Rattle.values.proofs.calendar.is_datetime.Tie as tie
 
-pub is-datetime-spec : {M : Type 1} → statement M
+pub is_datetime_spec : {M : Type 1} → statement M
 unfolding whole_second with_fraction ascii
-is-datetime-spec =
+is_datetime_spec =
     tie.close
     (tie.spec
-    (λ c. search rules) (λ c κs. search rules)
+    (λ c κs. search rules)
     (λ c κs. omega arith)
     (λ c. search whole_is)
     (λ c. search whole-not)
-    (λ c. search rules) (λ c κs. search rules)
+    (λ c κs. search rules)
     (λ c. search fraction-not)
     (λ c κs. search rules)
     (λ c κs. search fraction-long)

@@ -3,8 +3,8 @@ use Rattle.values.proofs.InstantLaws.{moment-no-day, moment-no-hour, moment-no-m
 use Rattle.values.proofs.calendar.is_moment.Statement.{statement}
 use Rattle.values.proofs.calendar.is_moment.Tie as tie
 
-pub is-moment-spec : {M : Type 1} → statement M
-is-moment-spec =
+pub is_moment_spec : {M : Type 1} → statement M
+is_moment_spec =
     tie.close
     (tie.spec
     (λ c κs. search rules) (λ c κs. search rules) (λ c κs. search rules) (λ c κs. search rules)

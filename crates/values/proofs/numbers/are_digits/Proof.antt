@@ -8,18 +8,18 @@ use Rattle.values.proofs.NumberStepLaws.{digits_low, digits-high, digits_more, d
 use Rattle.values.proofs.numbers.are_digits.Statement.{statement}
 use Rattle.values.proofs.numbers.are_digits.Tie as tie
 
-abbrev invariant-loop : tie.invariant-loop
-invariant-loop v i₀ i = Rest are_digits v i
+abbrev invariant-loop-i : tie.invariant-loop-i
+invariant-loop-i v i₀ i = Rest are_digits v i
 
-abbrev decreases-loop : tie.decreases-loop
-decreases-loop v i₀ i = length v - i
+abbrev decreases-loop-i : tie.decreases-loop-i
+decreases-loop-i v i₀ i = length v - i
 
-pub are-digits-spec : {M : Type 1} → statement M
-are-digits-spec =
+pub are_digits_spec : {M : Type 1} → statement M
+are_digits_spec =
     tie.close
     (tie.spec
-    invariant-loop
-    decreases-loop
+    invariant-loop-i
+    decreases-loop-i
     (λ c. rest_all _ _)
     (λ c. search rules)
     (λ c. search digits_low)

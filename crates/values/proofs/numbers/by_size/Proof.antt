@@ -5,11 +5,11 @@ use Rattle.values.proofs.NumberOrderLaws.{size_less, size-more, size-alike}
 use Rattle.values.proofs.numbers.by_size.Statement.{statement}
 use Rattle.values.proofs.numbers.by_size.Tie as tie
 
-returns-3 : tie.Need-returns-3
+returns-3 : tie.Need-returns
 returns-3 c = c.compare.ensures ∙ sym (size-alike _ _ (omega arith))
 
-pub by-size-spec : {M : Type 1} → statement M
-by-size-spec =
+pub by_size_spec : {M : Type 1} → statement M
+by_size_spec =
     tie.close
     (tie.spec
     (λ c. sym (size_less _ _ (omega arith)))

@@ -4,8 +4,8 @@ use Rattle.values.proofs.NumberOrderLaws.{value-order-told}
 use Rattle.values.proofs.numbers.compare_numbers.Statement.{statement}
 use Rattle.values.proofs.numbers.compare_numbers.Tie as tie
 
-pub compare-numbers-spec : {M : Type 1} → statement M
-compare-numbers-spec =
+pub compare_numbers_spec : {M : Type 1} → statement M
+compare_numbers_spec =
     tie.close
     (tie.spec
     (λ c κs. search rules) (λ c κs. search rules) (λ c κs. search rules)

@@ -8,18 +8,18 @@ use Rattle.values.proofs.NumberStepLaws.{nonzero-found, nonzero-more, nonzero-en
 use Rattle.values.proofs.numbers.has_nonzero.Statement.{statement}
 use Rattle.values.proofs.numbers.has_nonzero.Tie as tie
 
-abbrev invariant-loop : tie.invariant-loop
-invariant-loop v i₀ i = Rest has_nonzero v i
+abbrev invariant-loop-i : tie.invariant-loop-i
+invariant-loop-i v i₀ i = Rest has_nonzero v i
 
-abbrev decreases-loop : tie.decreases-loop
-decreases-loop v i₀ i = length v - i
+abbrev decreases-loop-i : tie.decreases-loop-i
+decreases-loop-i v i₀ i = length v - i
 
-pub has-nonzero-spec : {M : Type 1} → statement M
-has-nonzero-spec =
+pub has_nonzero_spec : {M : Type 1} → statement M
+has_nonzero_spec =
     tie.close
     (tie.spec
-    invariant-loop
-    decreases-loop
+    invariant-loop-i
+    decreases-loop-i
     (λ c. rest_all _ _)
     (λ c. search rules)
     (λ c. search nonzero-found)

@@ -4,8 +4,8 @@ use Rattle.values.proofs.NumberStepLaws.{negative-long, decimal-negative, decima
 use Rattle.values.proofs.numbers.is_decimal.Statement.{statement}
 use Rattle.values.proofs.numbers.is_decimal.Tie as tie
 
-pub is-decimal-spec : {M : Type 1} → statement M
-is-decimal-spec =
+pub is_decimal_spec : {M : Type 1} → statement M
+is_decimal_spec =
     tie.close
     (tie.spec
     (λ c κs. search rules) (λ c κs. search rules)

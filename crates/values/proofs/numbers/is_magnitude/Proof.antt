@@ -8,8 +8,8 @@ use Rattle.values.proofs.NumberStepLaws.{magnitude-short, magnitude-long, magnit
 use Rattle.values.proofs.numbers.is_magnitude.Statement.{statement}
 use Rattle.values.proofs.numbers.is_magnitude.Tie as tie
 
-pub is-magnitude-spec : {M : Type 1} → statement M
-is-magnitude-spec =
+pub is_magnitude_spec : {M : Type 1} → statement M
+is_magnitude_spec =
     tie.close
     (tie.spec
     (λ c. search rules)

@@ -4,11 +4,11 @@ use Rattle.values.proofs.AnswerLaws.{and_no, and_yes}
 use Rattle.values.proofs.numbers.is_unsigned.Statement.{statement}
 use Rattle.values.proofs.numbers.is_unsigned.Tie as tie
 
-pub is-unsigned-spec : {M : Type 1} → statement M
+pub is_unsigned_spec : {M : Type 1} → statement M
 unfolding is_unsigned
-is-unsigned-spec =
+is_unsigned_spec =
     tie.close
     (tie.spec
     (λ c κs. search rules) (λ c κs. search rules)
-    (λ c. search (and_yes, c.unsigned-fits.ensures))
+    (λ c. search (and_yes, c.unsigned_fits.ensures))
     (λ c. search and_no))

@@ -6,16 +6,15 @@ use Rattle.values.proofs.NumberStepLaws.{width-eight}
 use Rattle.values.proofs.numbers.negative_fits.Statement.{statement}
 use Rattle.values.proofs.numbers.negative_fits.Tie as tie
 
-pub negative-fits-spec : {M : Type 1} → statement M
+pub negative_fits_spec : {M : Type 1} → statement M
 unfolding is_natural are_digits is_digit numeral numeral_after
-negative-fits-spec =
+negative_fits_spec =
     tie.close
     (tie.spec
-    (λ c. search rules) (λ c κs. search rules) (λ c. search rules) (λ c κs. search rules) (λ c. search rules)
-    (λ c κs. search rules) (λ c. search rules) (λ c κs. search rules) (λ c. search rules)
+    (λ c κs. search rules) (λ c κs. search rules) (λ c κs. search rules) (λ c κs. search rules)
     (λ c κs. search rules)
-    (λ c w n. rw c.before.before.match.keys1 (c.at_most.ensures n refl))
-    (λ c w n. rw c.before.before.match.keys2 (c.at-most2.ensures n refl))
-    (λ c w n. rw c.before.before.match.keys3 (c.at-most3.ensures n refl))
-    (λ c w n. rw c.before.before.match.keys4 (c.at-most4.ensures n refl))
-    (λ c w n. rw (width-eight c.before.before.match.rest w) (c.at-most5.ensures n refl)))
+    (λ c w n. rw c.in-1.is (c.at_most.ensures n refl))
+    (λ c w n. rw c.in-2.is (c.at_most-in-2.ensures n refl))
+    (λ c w n. rw c.in-3.is (c.at_most-in-3.ensures n refl))
+    (λ c w n. rw c.in-4.is (c.at_most-in-4.ensures n refl))
+    (λ c w n. rw (width-eight c.in_default.in_default-own.rest w) (c.at_most-in_default.ensures n refl)))

@@ -22,8 +22,8 @@ write-decimal-at t = and 1 write-decimal-kinds.ps (is 1 write-decimal-kinds.ps �
 abbrev write-decimal-below : ℕ → In 1 write-decimal-kinds.ps
 write-decimal-below t = and 1 write-decimal-kinds.ps (falls 1 write-decimal-kinds.ps ◌<◌ μ-write-decimal t) write-decimal.Pre
 
-pub +write-decimal-spec : {M : Type 1} → statement M
-+write-decimal-spec =
+pub +write_decimal_spec : {M : Type 1} → statement M
++write_decimal_spec =
     close μ-write-decimal λ t.
     write-decimal-lts.spec (write-decimal-below t, write-decimal.Post)
     (write-decimal-at t)
@@ -31,13 +31,13 @@ pub +write-decimal-spec : {M : Type 1} → statement M
     (λ c. search rules) (λ c. search rules)
     (λ c. search last_fits)
     (λ c. search rules) (λ c. search rules)
-    (λ c. wrote-last _ _ _ c.if1.true)
+    (λ c. wrote-last _ _ _ c.if-n-lt10.true)
     (λ c κs. (omega arith, search tenth-fits))
     (λ c. search rules) (λ c. search rules)
     (λ c. search digit-fits)
     (λ c.
-    let tenth = c.before.before.write-decimal in
-    let fits : tenth.result < length tenth.new.1.0 = search digit-fits in
+    let tenth = c.write_decimal-after_tenth in
+    let fits : tenth.result < length tenth.new.out = search digit-fits in
     omega arith)
     (λ c. search rules)
     (λ c. search wrote-more)

@@ -10,5 +10,5 @@ choose_spec =
     (λ c. search rules) (λ c. search rules) (λ c. search rules) (λ c. search rules) (λ c. search rules)
     (λ c. search rules) (λ c κs. search rules) (λ c κs. search rules) (λ c. search rules) (λ c. search rules)
     (λ c. search rules) (λ c. search rules) (λ c. search rules) (λ c. search rules)
-    (λ c. search (chosen-first, c.before.before.before.compare-values.ensures))
-    (λ c. search (chosen-second, c.before.before.before.compare-values.ensures)))
+    (λ c. search (chosen-first, c.compare_values-order.ensures))
+    (λ c. search (chosen-second, c.compare_values-order.ensures)))

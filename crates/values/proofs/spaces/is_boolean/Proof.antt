@@ -5,11 +5,11 @@ use Rattle.values.proofs.CalendarLaws.{form-told}
 use Rattle.values.proofs.spaces.is_boolean.Statement.{statement}
 use Rattle.values.proofs.spaces.is_boolean.Tie as tie
 
-pub is-boolean-spec : {M : Type 1} → statement M
+pub is_boolean_spec : {M : Type 1} → statement M
 unfolding ascii
-is-boolean-spec =
+is_boolean_spec =
     tie.close
     (tie.spec
-    (λ c. search rules) (λ c κs. search rules) (λ c. search rules) (λ c κs. search rules)
+    (λ c κs. search rules) (λ c κs. search rules)
     (λ c. search (or_yes, form-told))
     (λ c. search (or_no, form-told)))

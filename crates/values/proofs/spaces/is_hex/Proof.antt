@@ -10,18 +10,18 @@ use Rattle.values.proofs.SpaceLaws.{hex-other, hex-more, hex-end}
 use Rattle.values.proofs.spaces.is_hex.Statement.{statement}
 use Rattle.values.proofs.spaces.is_hex.Tie as tie
 
-abbrev invariant-loop : tie.invariant-loop
-invariant-loop bytes v i₀ i = Rest are_hex_digits v i
+abbrev invariant-loop-i : tie.invariant-loop-i
+invariant-loop-i bytes v i₀ i = Rest are_hex_digits v i
 
-abbrev decreases-loop : tie.decreases-loop
-decreases-loop bytes v i₀ i = length v - i
+abbrev decreases-loop-i : tie.decreases-loop-i
+decreases-loop-i bytes v i₀ i = length v - i
 
-pub is-hex-spec : {M : Type 1} → statement M
-is-hex-spec =
+pub is_hex_spec : {M : Type 1} → statement M
+is_hex_spec =
     tie.close
     (tie.spec
-    invariant-loop
-    decreases-loop
+    invariant-loop-i
+    decreases-loop-i
     (λ c. search rules)
     (λ c. search ne_eqb)
     (λ c. rest_all _ _)

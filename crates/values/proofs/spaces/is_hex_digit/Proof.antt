@@ -5,9 +5,9 @@ use Rattle.values.proofs.AnswerLaws.{or_yes, or_no}
 use Rattle.values.proofs.spaces.is_hex_digit.Statement.{statement}
 use Rattle.values.proofs.spaces.is_hex_digit.Tie as tie
 
-pub is-hex-digit-spec : {M : Type 1} → statement M
+pub is_hex_digit_spec : {M : Type 1} → statement M
 unfolding is_hex_digit
-is-hex-digit-spec =
+is_hex_digit_spec =
     tie.close
     (tie.spec
     (λ c κs. search rules)

@@ -3,8 +3,8 @@ use Rattle.values.proofs.SpaceLaws.{number-ordered}
 use Rattle.values.proofs.spaces.is_ordered.Statement.{statement}
 use Rattle.values.proofs.spaces.is_ordered.Tie as tie
 
-pub is-ordered-spec : {M : Type 1} → statement M
-is-ordered-spec =
+pub is_ordered_spec : {M : Type 1} → statement M
+is_ordered_spec =
     tie.close
     (tie.spec
     (λ c. search number-ordered)

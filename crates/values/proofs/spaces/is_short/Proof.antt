@@ -2,8 +2,8 @@ use borrow.Author.Tests.{le-leb, lt-leb}
 use Rattle.values.proofs.spaces.is_short.Statement.{statement}
 use Rattle.values.proofs.spaces.is_short.Tie as tie
 
-pub is-short-spec : {M : Type 1} → statement M
-is-short-spec =
+pub is_short_spec : {M : Type 1} → statement M
+is_short_spec =
     tie.close
     (tie.spec
     (λ c. search lt-leb)

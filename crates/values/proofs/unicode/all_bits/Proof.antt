@@ -6,18 +6,18 @@ use Rattle.values.proofs.UnicodeLaws.{Joined, joined-none, joined-more, joined-a
 use Rattle.values.proofs.unicode.all_bits.Statement.{statement}
 use Rattle.values.proofs.unicode.all_bits.Tie as tie
 
-abbrev invariant-loop : tie.invariant-loop
-invariant-loop v all₀ i₀ all i = Joined v all i
+abbrev invariant-loop-i : tie.invariant-loop-i
+invariant-loop-i v all₀ i₀ all i = Joined v all i
 
-abbrev decreases-loop : tie.decreases-loop
-decreases-loop v all₀ i₀ all i = length v - i
+abbrev decreases-loop-i : tie.decreases-loop-i
+decreases-loop-i v all₀ i₀ all i = length v - i
 
-pub all-bits-spec : {M : Type 1} → statement M
-all-bits-spec =
+pub all_bits_spec : {M : Type 1} → statement M
+all_bits_spec =
     tie.close
     (tie.spec
-    invariant-loop
-    decreases-loop
+    invariant-loop-i
+    decreases-loop-i
     (λ c. joined-none _ _)
     (λ c. search rules) (λ c. search rules) (λ c. search rules)
     (λ c. search joined-more)

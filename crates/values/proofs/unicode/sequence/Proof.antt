@@ -9,44 +9,44 @@ use Rattle.values.proofs.UnicodeLaws.{sequence-below, sequence-not, sequence-is}
 use Rattle.values.proofs.unicode.sequence.Statement.{statement}
 use Rattle.values.proofs.unicode.sequence.Tie as tie
 
-abbrev invariant-loop : tie.invariant-loop
-invariant-loop v at k least bits n₀ left₀ i₀ n left i = Continued v at k bits n left i
+abbrev invariant-loop-left : tie.invariant-loop-left
+invariant-loop-left v at k least bits n₀ left₀ i₀ n left i = Continued v at k bits n left i
 
-abbrev decreases-loop : tie.decreases-loop
-decreases-loop v at k least bits n₀ left₀ i₀ n left i = left
+abbrev decreases-loop-left : tie.decreases-loop-left
+decreases-loop-left v at k least bits n₀ left₀ i₀ n left i = left
 
 -- ---- the places
 
-abbrev to-loop : tie.Else3 invariant-loop decreases-loop → tie.At-loop invariant-loop decreases-loop
-to-loop c = c.before.before.before.before.before
+abbrev to-loop : tie.Else-b-ge192 invariant-loop-left decreases-loop-left → tie.At-loop-left invariant-loop-left decreases-loop-left
+to-loop c = (search)
 
 -- ---- the needs
 
-returns-2 : tie.Need-returns-2 invariant-loop decreases-loop
-returns-2 c = (search rules, ⊎_elim (λ w. search continued-low) (λ w. search continued-high) c.if2.branch)
+returns-2 : tie.Need-returns-then-b-lt128 invariant-loop-left decreases-loop-left
+returns-2 c = (search rules, ⊎_elim (λ w. search continued-low) (λ w. search continued-high) c.then-b-lt128.branch-raw)
 
-small : (c : tie.Else3 invariant-loop decreases-loop) → (to-loop c).loop.n < 131072
+small : (c : tie.Else-b-ge192 invariant-loop-left decreases-loop-left) → (to-loop c).loop-left.n < 131072
 small c = search continued-small
 
-add-n : tie.Need-overflow-add-n invariant-loop decreases-loop
+add-n : tie.Need-overflow_add-n invariant-loop-left decreases-loop-left
 add-n c = omega (arith, small c, leb-false)
 
-returns-3 : tie.Need-returns-3 invariant-loop decreases-loop
+returns-3 : tie.Need-returns-then-is_scalar invariant-loop-left decreases-loop-left
 returns-3 c =
-    let ended : tie.After-loop invariant-loop decreases-loop = search in (
+    let ended : tie.After-loop-left invariant-loop-left decreases-loop-left = search in (
       omega arith,
-      sequence-is ended.before.loop.inv _ ended.loop-test.left c.before.before.if4.true c.before.is-scalar.ensures c.if5.true,
+      sequence-is ended.loop-left.invariant _ ended.loop-left-test.false c.if-least-n.true c.is_scalar.ensures c.if-is_scalar.true,
     )
 
-returns-4 : tie.Need-returns-4 invariant-loop decreases-loop
-returns-4 c = (search rules, ⊎_elim (λ w. search sequence-not) (λ w. search sequence-below) c.if4.branch)
+returns-4 : tie.Need-returns-else-least-n invariant-loop-left decreases-loop-left
+returns-4 c = (search rules, ⊎_elim (λ w. search sequence-not) (λ w. search sequence-below) c.else-least-n.branch-raw)
 
-pub sequence-spec : {M : Type 1} → statement M
-sequence-spec =
+pub sequence_spec : {M : Type 1} → statement M
+sequence_spec =
     tie.close
     (tie.spec
-    invariant-loop
-    decreases-loop
+    invariant-loop-left
+    decreases-loop-left
     (λ c. omega arith)
     (λ c. search continued-first)
     (λ c. (search rules, search continued-short))

@@ -1,0 +1,34 @@
+-- In room for any report the call replies its length, and lays it at the front.
+use Rattle.std.proofs.Common.{◌≡◌, ℕ, ◌≤◌, List, Bool, true, false, length, take, drop, ap, sym, arith}
+use mathlib.Core.Bool.{cond}
+use lib.Dec.{leb}
+use lib.Seq.{take-append_seam}
+use borrow.Author.Tests.{le-leb}
+use mathlib.Core.Path.{subst}
+use Rattle.replies.specs.Capacities.{report_capacity}
+use Rattle.replies.specs.Answers as answers
+use Rattle.replies.specs.Answers.{gives, refuses, Outcome, outcome}
+use Rattle.replies.specs.Replies.{replies}
+use Rattle.replies.specs.declared.reply.Reply.{Reply}
+use Rattle.report.specs.Report.{report, report_answer, report_call}
+use Rattle.report.proofs.ReportLaws.{report-short}
+
+-- a reply that gives these lines, at the front of the output
+abbrev pub Gives : answers.Reply → List ℕ → List ℕ → Type 0
+Gives (answers.done n) bytes lines = (n ≤ 65536) × (take n bytes ≡ lines)
+Gives (answers.found f) bytes lines = ⊥
+Gives (answers.refused n) bytes lines = ⊥
+Gives (answers.refused_at n i) bytes lines = ⊥
+
+abbrev pub Prints : List ℕ → Outcome → Type 0
+Prints lines o = Gives o.reply o.bytes lines
+
+pub report-prints : (input old : List ℕ) → report_capacity ≤ length old → Prints (report input) (report_call input old)
+unfolding report_call report_answer
+report-prints input old h =
+    rw (le-leb report_capacity (length old) h)
+    (omega (arith, report-short input), take-append_seam (report input) (drop (length (report input)) old))
+
+pub prints : (input old bytes : List ℕ) (r : Reply) → report_capacity ≤ length old → replies r bytes ≡ report_call input old →
+    Prints (report input) (replies r bytes)
+prints input old bytes r h e = subst (Prints (report input)) (sym e) (report-prints input old h)
