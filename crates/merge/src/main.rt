@@ -39,7 +39,7 @@ fn read_full(input: &mut impl Read, buf: &mut [u8]) -> io::Result<usize>
     Ok(done)
 }
 
-// Writes what `input` comes to, each time the same, and no byte beside it.
+// Writes the report of the input, and no byte beside it.
 fn print_report<W: Write>(writer: &mut W, input: &[u8]) -> io::Result<()>
     ensures { OnOk result (Appends (W.contents writer.old) (W.contents writer.new) (report input.now)) }
 {

@@ -71,7 +71,7 @@ module _ {t : ℕ} where
   abbrev to-combined : At lts.After-event_part-event t → At lts.After-combine_first-others t
   to-combined c = (search)
 
-  abbrev to-taken : At lts.After-add-event-arg4 t → At lts.After-event_part-event t
+  abbrev to-taken : At lts.After-add_event-arg-3-1 t → At lts.After-event_part-event t
   to-taken c = (search)
 
   abbrev to-added : At lts.After-slice_known-11-1 t → At lts.After-add_event t
@@ -110,7 +110,7 @@ module _ {t : ℕ} where
   check-known-requires : At lts.Need-check_known-requires t
   check-known-requires c κs =
       let taken = c in
-      let start = one-to-start (search) in
+      let start = one-to-start {t = t} (search) in
       (first-known (allowed start) (first_of start) taken.event_part.ensures, search rules, search rules)
 
   combine-first-requires : At lts.Need-combine_first-others-requires t
@@ -130,7 +130,7 @@ module _ {t : ℕ} where
   returns-3 : At lts.Need-returns t
   returns-3 c =
       let e = (to-added c).add_event.ensures in
-      let taken = to-taken (search) in
+      let taken = to-taken {t = t} (search) in
       let combined = to-combined taken in
       last-combined (allowed (to_start combined)) (first_of (to_start combined)) (two (to-more combined)) combined.combine_first-others.ensures
       (to-reply taken).in-Done.is

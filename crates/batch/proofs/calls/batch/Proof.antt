@@ -143,7 +143,7 @@ returns-5 c =
 
 combine-all-requires : tie.Need-combine_all-requires
 combine-all-requires c κs =
-    let a = to-agreed c in
+    let a = to-agreed (search) in
     let f = to-framed a in
     let r = rooms-are _ (room (to-batch (to_read f))) in
     ((allowed (to-batch (to_read f)), (frame f).stands.few, r.0, search rules), ((r.1, r.2, r.3), agreed a))

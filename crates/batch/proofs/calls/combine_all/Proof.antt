@@ -39,7 +39,7 @@ to-reply c = (search)
 abbrev to-combined : tie.After-event_part-event → tie.After-combine_first-others
 to-combined c = (search)
 
-abbrev to-taken : tie.After-add-event-arg3 → tie.After-event_part-event
+abbrev to-taken : tie.After-add_event-arg-2-1 → tie.After-event_part-event
 to-taken c = (search)
 
 abbrev to-added : tie.After-slice_known-9-1 → tie.After-add_event

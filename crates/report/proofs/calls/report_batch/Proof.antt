@@ -22,7 +22,7 @@ start c = search
 done :
     (c : tie.In-Done) →
     let b = to-batch c in
-    BatchDone (start b).args.table.now (start b).args.events.now b.batch.last.1.1.1.0 c.in-Done.n
+    BatchDone (start b).args.table.now (start b).args.events.now b.batch.new.out c.in-Done.n
 done c =
     let b = (to-batch c).batch in
     let chosen : tie.After-standard_limits = search in
