@@ -5,9 +5,9 @@
 .PHONY: archive test bench
 
 archive:
-	rt staticlib interface
+	cd crates/interface && rt lib
 	mkdir -p target/merger
-	cp target/staticlib/libinterface.a target/merger/libmerger.a
+	cp crates/interface/out/libinterface.a target/merger/libmerger.a
 	cp include/merger.h target/merger/
 
 test:

@@ -130,7 +130,8 @@ module _ (ts : Table) (a : Typed) (i apart : ℕ) where
       go (accepted bs) = apart-step apart i (events_agree a b) (agree_with a (suc i) bs) h
 
   refused-step :
-      (s : List ℕ) (ss : List (List ℕ)) (n : ℕ) → event_asked narrow ts s ≡ questions.refused n → going_on ts a i apart (s ∷ ss) ≡ refused_at n i
+      (s : List ℕ) (ss : List (List ℕ)) (n : ℕ) → event_asked narrow ts s ≡ questions.refused n →
+      going_on ts a i apart (s ∷ ss) ≡ refused_at n i
   unfolding going_on events_asked
   refused-step s ss n e = rw e
 
@@ -194,7 +195,8 @@ pub record GoesOn
   pub few : x.count ≤ 16
   pub later : 1 ≤ i
   pub whole :
-      (ts : Table) (ss : List (List ℕ)) → table_of table ≡ some ts → BatchIs batch ss x → events_together ts ss ≡ going_on ts first i apart (drop i ss)
+      (ts : Table) (ss : List (List ℕ)) → table_of table ≡ some ts → BatchIs batch ss x →
+      events_together ts ss ≡ going_on ts first i apart (drop i ss)
 
 -- the first event, s, is asked
 module _ {table batch s ats : List ℕ} {x : BatchIndex} {n : ℕ} {e : EventIndex} (is : IsEvent batch x 0 s) (w : OneAnswers table s ats n e) where

@@ -3,6 +3,7 @@ use mathlib.Core.Path.{◌≡◌, refl, sym, ap, ap₂, ◌∙◌, subst}
 use mathlib.Core.Logic.{⊎_elim}
 use mathlib.Core.Bool.{Bool, true, false, cond, ◌&&◌, and-eq-true_iff}
 use mathlib.Core.Option.{Option, none, some}
+use mathlib.Core.List.Memᴰ
 use mathlib.Core.List.{List, [], ◌∷◌, ◌++◌, map, Memᴰ}
 use Prim.Native.Nat.{ℕ, zero, suc, ◌+◌, ◌-◌, ◌≤◌}
 use native.Mathlib.Omega.{arith}
@@ -71,7 +72,7 @@ asked-member :
     (ts : Table) (i : ℕ) (ss : List (List ℕ)) (xs : List Typed) → events_asked ts i ss ≡ accepted xs → (s : List ℕ) → Memᴰ s ss →
     AskedIn ts s xs
 unfolding events_asked
-asked-member ts i [] xs e s m = absurd (mathlib.Core.List.Memᴰ.not-nil m)
+asked-member ts i [] xs e s m = absurd (Memᴰ.not-nil m)
 asked-member ts i (r ∷ ss) xs e s m = go (event_asked narrow ts r) refl (events_asked ts (suc i) ss) (asked-member ts (suc i) ss) e
   where
     go :
@@ -83,20 +84,20 @@ asked-member ts i (r ∷ ss) xs e s m = go (event_asked narrow ts r) refl (event
     go (questions.accepted a) h (accepted ys) k e =
         let z : a ∷ ys ≡ xs = cc in
         subst (AskedIn ts s) z
-        (⊎_elim (λ (q : s ≡ r). (a, rw q h, mathlib.Core.List.Memᴰ.head refl))
-        (λ (n : Memᴰ s ss). let (b, f, w) = k ys refl s n in (b, f, mathlib.Core.List.Memᴰ.tail w))
-        (mathlib.Core.List.Memᴰ.cases_cons m))
+        (⊎_elim (λ (q : s ≡ r). (a, rw q h, Memᴰ.head refl))
+        (λ (n : Memᴰ s ss). let (b, f, w) = k ys refl s n in (b, f, Memᴰ.tail w))
+        (Memᴰ.cases_cons m))
 
 agreed-member : (a : Typed) (i : ℕ) (bs : List Typed) → agree_with a i bs ≡ accepted tt → (b : Typed) → Memᴰ b bs → events_agree a b ≡ true
 unfolding agree_with
-agreed-member a i [] e b m = absurd (mathlib.Core.List.Memᴰ.not-nil m)
+agreed-member a i [] e b m = absurd (Memᴰ.not-nil m)
 agreed-member a i (c ∷ bs) e b m = go (events_agree a c) refl (agreed-member a (suc i) bs) e
   where
     go :
         (t : Bool) → events_agree a c ≡ t → (agree_with a (suc i) bs ≡ accepted tt → (x : Typed) → Memᴰ x bs → events_agree a x ≡ true) →
         (at i (ensure 7 t) >> agree_with a (suc i) bs) ≡ accepted tt → events_agree a b ≡ true
     go false h k e = never (cc)
-    go true h k e = ⊎_elim (λ (q : b ≡ c). rw q h) (λ (n : Memᴰ b bs). k e b n) (mathlib.Core.List.Memᴰ.cases_cons m)
+    go true h k e = ⊎_elim (λ (q : b ≡ c). rw q h) (λ (n : Memᴰ b bs). k e b n) (Memᴰ.cases_cons m)
 
 -- they agree in type, source and match sets
 record Alike (a b : Typed) : Type 0 where
@@ -167,7 +168,7 @@ known ts (s ∷ ss) e = asked (event_asked narrow ts s) refl
           each = λ r m. ⊎_elim (λ (q : r ≡ s). subst (λ (x : List ℕ). Colliding ts a.type a.event.head.source s x) (sym q) self)
               (λ (n : Memᴰ r ss). let (b, k, w) = asked-member ts 1 ss bs f r n in colliding ts s r a b h k
               (agree-alike a b (agreed-member a 1 bs g b w)))
-              (mathlib.Core.List.Memᴰ.cases_cons m);
+              (Memᴰ.cases_cons m);
         }
 
     asked : (q : Asked Typed) → event_asked narrow ts s ≡ q → Known ts (s ∷ ss)
@@ -179,7 +180,7 @@ known ts (s ∷ ss) e = asked (event_asked narrow ts s) refl
 pub known-has : (ts : Table) (ss : List (List ℕ)) → events_together ts ss ≡ accepted tt → Has ss
 unfolding events_together events_asked events_agreed
 known-has ts [] e = never (cc)
-known-has ts (s ∷ ss) e = (s, mathlib.Core.List.Memᴰ.head refl)
+known-has ts (s ∷ ss) e = (s, Memᴰ.head refl)
 
 -- ---- a call's answer, from what it returned
 
@@ -270,7 +271,7 @@ module _
   all_asked : (i : ℕ) (es : List (List ℕ)) → Each S es → events_asked ts i es ≡ accepted (map typed es)
   unfolding events_asked
   all_asked i [] h = refl
-  all_asked i (s ∷ es) h = rw ((h s (mathlib.Core.List.Memᴰ.head refl)).taken, all_asked (suc i) es (λ r m. h r (mathlib.Core.List.Memᴰ.tail m)))
+  all_asked i (s ∷ es) h = rw ((h s (Memᴰ.head refl)).taken, all_asked (suc i) es (λ r m. h r (Memᴰ.tail m)))
 
   two-agree : (s r : List ℕ) → S s → S r → events_agree (typed s) (typed r) ≡ true
   unfolding events_agree
@@ -284,7 +285,8 @@ module _
   all-agree : (s : List ℕ) → S s → (i : ℕ) (es : List (List ℕ)) → Each S es → agree_with (typed s) i (map typed es) ≡ accepted tt
   unfolding agree_with
   all-agree s h i [] g = refl
-  all-agree s h i (r ∷ es) g = rw (two-agree s r h (g r (mathlib.Core.List.Memᴰ.head refl)), all-agree s h (suc i) es (λ x m. g x (mathlib.Core.List.Memᴰ.tail m)))
+  all-agree s h i (r ∷ es) g =
+      rw (two-agree s r h (g r (Memᴰ.head refl)), all-agree s h (suc i) es (λ x m. g x (Memᴰ.tail m)))
 
   events-of : (es : List (List ℕ)) → map (λ (b : Typed). b.event) (map typed es) ≡ map event_at es
   events-of [] = refl
@@ -300,13 +302,13 @@ module _
       ≡ (at 0 (ensure 8 (fits limits (type_view t) (model_of (batch_dossier (typed s) (map typed es)))))
       >> accepted (record { type = t; headed = batch_dossier (typed s) (map typed es) }))
   unfolding together
-  last-question s es h = rw (all-agree s (h s (mathlib.Core.List.Memᴰ.head refl)) 1 es (λ r m. h r (mathlib.Core.List.Memᴰ.tail m)))
+  last-question s es h = rw (all-agree s (h s (Memᴰ.head refl)) 1 es (λ r m. h r (Memᴰ.tail m)))
 
   all-together : (s : List ℕ) (es : List (List ℕ)) → Each S (s ∷ es) →
       (events_asked ts 0 (s ∷ es) >>= together limits)
       ≡ (at 0 (ensure 8 (fits limits (type_view t) (rules (s ∷ es)))) >> accepted (ruled_dossier (s ∷ es)))
   all-together s es h =
-      let first = h s (mathlib.Core.List.Memᴰ.head refl) in
+      let first = h s (Memᴰ.head refl) in
       let d = the-dossier s es first in
       ap (λ (q : AskedAt (List Typed)). q >>= together limits) (all_asked 0 (s ∷ es) h)
       ∙ (last-question s es h
@@ -314,7 +316,7 @@ module _
 
   pub combined-is : (es : List (List ℕ)) → Has es → Each S es → combined_answer limits ts es ≡ answer_for (ruled es)
   unfolding combined_answer combined_given answer_for limited
-  combined-is [] n h = absurd (mathlib.Core.List.Memᴰ.not-nil n.1)
+  combined-is [] n h = absurd (Memᴰ.not-nil n.1)
   combined-is (s ∷ es) n h = ap combined_given (all-together s es h) ∙ go (fits limits (type_view t) (rules (s ∷ es))) refl
     where
       go : (b : Bool) → fits limits (type_view t) (rules (s ∷ es)) ≡ b →
@@ -346,7 +348,7 @@ module _
   -- ---- the first n of them
 
   first-within : (n : ℕ) → Within (take n ss) ss
-  first-within n a m = subst (λ (l : List (List ℕ)). Memᴰ a l) (take-append-drop n ss) (mathlib.Core.List.Memᴰ.append_left (drop n ss) m)
+  first-within n a m = subst (λ (l : List (List ℕ)). Memᴰ a l) (take-append-drop n ss) (Memᴰ.append_left (drop n ss) m)
 
   first-each : (n : ℕ) → Each S (take n ss)
   first-each n a m = k.each a (first-within n a m)
@@ -354,7 +356,7 @@ module _
   first-has : (xs : List (List ℕ)) (n : ℕ) → 1 ≤ n → n ≤ length xs → Has (take n xs)
   first-has [] n h l = absurd (omega arith)
   first-has (s ∷ xs) zero h l = absurd (omega arith)
-  first-has (s ∷ xs) (suc n) h l = (s, mathlib.Core.List.Memᴰ.head refl)
+  first-has (s ∷ xs) (suc n) h l = (s, Memᴰ.head refl)
 
   first-last : (n : ℕ) → 1 ≤ n → n ≤ length ss → take n ss ≡ take (n - 1) ss ++ (get_or ss (n - 1) [] ∷ [])
   first-last zero h l = absurd (omega arith)
@@ -363,7 +365,7 @@ module _
   last-is : (n : ℕ) → 1 ≤ n → n ≤ length ss → S (get_or ss (n - 1) [])
   last-is n h l =
       first-each n (get_or ss (n - 1) []) (subst (λ (xs : List (List ℕ)). Memᴰ (get_or ss (n - 1) []) xs) (sym (first-last n h l))
-      (mathlib.Core.List.Memᴰ.append_right (take (n - 1) ss) (mathlib.Core.List.Memᴰ.head refl)))
+      (Memᴰ.append_right (take (n - 1) ss) (Memᴰ.head refl)))
 
   first-is : (n : ℕ) → 1 ≤ n → n ≤ length ss → combined_answer limits ts (take n ss) ≡ answer_for (ruled (take n ss))
   first-is n h l = combined-is (take n ss) (first-has ss n h l) (first-each n)
@@ -376,7 +378,7 @@ module _
   one-is s h = rw (one-fits limits permitted table ts is_table t k.source k.first k.model s h)
 
   one_each : (s : List ℕ) → S s → Each S (s ∷ [])
-  one_each s h r m = subst S (sym (mathlib.Core.List.Memᴰ.eq_of_singleton m)) h
+  one_each s h r m = subst S (sym (Memᴰ.eq_of_singleton m)) h
 
   -- the dossier of the first event
   check-first : (out : List ℕ) → 1 ≤ length ss → HasRoom out →
@@ -387,7 +389,8 @@ module _
       check-for table (get_or ss 0 []) out
       ∙ ap (λ (a : Answer). outcome a out)
       (ap answer_for (checked-for (get_or ss 0 []) out h r ∙ sym (one-is (get_or ss 0 []) h))
-      ∙ sym (ap (combined_answer limits ts) e ∙ combined-is (get_or ss 0 [] ∷ []) (get_or ss 0 [], mathlib.Core.List.Memᴰ.head refl) (one_each (get_or ss 0 []) h)))
+      ∙ sym (ap (combined_answer limits ts) e ∙
+      combined-is (get_or ss 0 [] ∷ []) (get_or ss 0 [], Memᴰ.head refl) (one_each (get_or ss 0 []) h)))
 
   check-one :
       (n : ℕ) (s out after : List ℕ) (r : reply.Reply) → n ≡ 1 → 1 ≤ length ss → HasRoom out → s ≡ get_or ss 0 [] →
@@ -407,7 +410,8 @@ module _
 
   -- the n-th event was accepted, with the type of the first
   abbrev nth-known :
-      (n : ℕ) (s : List ℕ) (x : TypeIndex) (ps : List ℕ) → 1 ≤ n → n ≤ length ss → s ≡ get_or ss (n - 1) [] → FirstTyped table ts ss x ps →
+      (n : ℕ) (s : List ℕ) (x : TypeIndex) (ps : List ℕ) → 1 ≤ n → n ≤ length ss → s ≡ get_or ss (n - 1) [] →
+      FirstTyped table ts ss x ps →
       KnownEvent table s x
   nth-known n s x ps h l q w = record {
     types = ts;
@@ -427,7 +431,7 @@ module _
   given-snapshots :
       (es : List (List ℕ)) (d : TypedDossier) → Has es → Each S es → (events_asked ts 0 es >>= together limits) ≡ accepted d →
       d.headed.snapshots ≡ (rules es).snapshots
-  given-snapshots [] d n h e = absurd (mathlib.Core.List.Memᴰ.not-nil n.1)
+  given-snapshots [] d n h e = absurd (Memᴰ.not-nil n.1)
   given-snapshots (s ∷ es) d n h e = go (fits limits (type_view t) (rules (s ∷ es))) (sym (all-together s es h) ∙ e)
     where
       go : (b : Bool) → (at 0 (ensure 8 b) >> accepted (ruled_dossier (s ∷ es))) ≡ accepted d → d.headed.snapshots ≡ (rules (s ∷ es)).snapshots
@@ -444,7 +448,7 @@ module _
       (es : List (List ℕ)) (z : ℕ) (m : List ℕ) → Has es → Each S es → fits limits (type_view t) (rules es) ≡ true →
       MeasuredFirst limits ts es (variant.Done z) m → Measured (rules es).snapshots m
   unfolding MeasuredFirst
-  rule-measured [] z m n h f w = absurd (mathlib.Core.List.Memᴰ.not-nil n.1)
+  rule-measured [] z m n h f w = absurd (Memᴰ.not-nil n.1)
   rule-measured (s ∷ es) z m n h f w = w (ruled_dossier (s ∷ es)) (rw (all-together s es h, f))
 
   -- the first event alone
@@ -459,7 +463,7 @@ module _
       ap (λ (d : Headed). d.snapshots) (sym (event-dossier one h)) ∙ ap (λ (d : Dossier). d.snapshots) (sym (rule-bytes t (one ∷ []))) in
       let measured : Measured (rules (one ∷ [])).snapshots m =
       subst (λ (xs : List Snapshot). Measured xs m) same (w (nth-known 1 s x ps (omega arith) l q f)) in
-      rw (first-last 1 (omega arith) l) (first-measured (one ∷ []) r m (one, mathlib.Core.List.Memᴰ.head refl) (one_each one h) measured)
+      rw (first-last 1 (omega arith) l) (first-measured (one ∷ []) r m (one, Memᴰ.head refl) (one_each one h) measured)
 
   -- the n-th event s, and the dossier `sofar` of those before it, of which the code has the measures m
   module _ (n size : ℕ) (s sofar m : List ℕ) (x : TypeIndex) (ps : List ℕ) (h : 2 ≤ n) (l : n ≤ length ss) (q : s ≡ get_or ss (n - 1) [])
@@ -475,7 +479,7 @@ module _
     has-others = first-has ss (n - 1) (omega arith) (omega arith)
 
     has_last : Has (last ∷ [])
-    has_last = (last, mathlib.Core.List.Memᴰ.head refl)
+    has_last = (last, Memᴰ.head refl)
 
     last-in : S last
     last-in = last-is n (omega arith) l
@@ -571,7 +575,8 @@ module _
         let j : i - 1 ≡ n = omega arith in
         let last = get_or ss (i - 1) [] ∷ [] in
         let all : take i ss ≡ take n ss ++ last = first-last i (omega arith) g ∙ ap (λ (y : ℕ). take y ss ++ last) j in
-        let w : Within (take n ss) (take i ss) = λ a x. subst (λ (xs : List (List ℕ)). Memᴰ a xs) (sym all) (mathlib.Core.List.Memᴰ.append_left last x) in
+        let w : Within (take n ss) (take i ss) =
+        λ a x. subst (λ (xs : List (List ℕ)). Memᴰ a xs) (sym all) (Memᴰ.append_left last x) in
         first-is i (omega arith) g ∙ refused-more (take n ss) (take i ss) m w (for-refused (ruled (take n ss)) m old s)
 
     stopped :
@@ -773,7 +778,8 @@ placed-laid (refuses n) old = refl
 placed-laid (refuses_at n i) old = refl
 
 placed-replies :
-    (b : BatchReply) (r : reply.Reply) (after out : List ℕ) (a : Answer) → batch_replied b ≡ at_first (replied r) → replies r after ≡ outcome a out →
+    (b : BatchReply) (r : reply.Reply) (after out : List ℕ) (a : Answer) → batch_replied b ≡ at_first (replied r) →
+    replies r after ≡ outcome a out →
     batch_replies b after ≡ outcome (placed a) out
 placed-replies b r after out a p e =
     let q : batch_replied b ≡ reply_of (placed a) = p ∙ (ap (λ (o : Outcome). at_first o.reply) e ∙ placed-reply a) in

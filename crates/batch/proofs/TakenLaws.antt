@@ -25,7 +25,8 @@ use Rattle.event.specs.Event.{type_view}
 use Rattle.event.specs.EventLayout.{Counts, narrow, event_of}
 use Rattle.event.specs.EventQuestions.{event_shape, values_fit, Typed, event_asked}
 use Rattle.dossier.specs.DossierLayout.{model_of}
-use Rattle.batch.specs.Batch.{AskedAt, refused_at, accepted, ◌>>=◌, ◌>>◌, at, read_batch, batch_of, events_asked, events_agree, agree_with, batch_dossier}
+use Rattle.batch.specs.Batch.{AskedAt, refused_at, accepted, ◌>>=◌, ◌>>◌, at}
+use Rattle.batch.specs.Batch.{read_batch, batch_of, events_asked, events_agree, agree_with, batch_dossier}
 use Rattle.batch.specs.Batch.{together, batch_asked}
 use Rattle.batch.specs.Taken.{IsNumber, IsPosition, Reads, TakesIn, Takes, BatchReads}
 

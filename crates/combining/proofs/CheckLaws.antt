@@ -222,7 +222,8 @@ module _ (table event : List ℕ) (room : ℕ) where
   unfolding check_asked
   asked-small h = rw (too_small dossier_capacity room h)
 
-  asked_is : dossier_capacity ≤ room → check_asked room table event ≡ (event_questions narrow table event >>= λ a. accepted (dossier_bytes (event_dossier a)))
+  asked_is : dossier_capacity ≤ room →
+      check_asked room table event ≡ (event_questions narrow table event >>= λ a. accepted (dossier_bytes (event_dossier a)))
   unfolding check_asked
   asked_is h = rw (has_room_lem dossier_capacity room h) (go (table_of table))
     where

@@ -68,7 +68,8 @@ module _ (ty : EventType) where
 
   -- the one of its version is joined with it
   met-merged :
-      (ss : List Snapshot) (i : ℕ) (y : Snapshot) → Rises ss → i < length ss → ((j : ℕ) → j < i → (get_or ss j no_snapshot).version < y.version) →
+      (ss : List Snapshot) (i : ℕ) (y : Snapshot) → Rises ss → i < length ss →
+      ((j : ℕ) → j < i → (get_or ss j no_snapshot).version < y.version) →
       (get_or ss i no_snapshot).version ≡ y.version →
       merged_with ss y ≡ take i ss ++ (join_snapshots (type_view ty) (get_or ss i no_snapshot) y ∷ drop (suc i) ss)
   met-merged [] i y r l lower e = absurd (omega arith)
@@ -104,7 +105,8 @@ bytes-append (x ∷ xs) ys =
 pub bytes-split : (i : ℕ) (ss : List Snapshot) → bytes_of ss ≡ bytes_of (take i ss) ++ bytes_of (drop i ss)
 bytes-split i ss = ap bytes_of (sym (take-append-drop i ss)) ∙ bytes-append (take i ss) (drop i ss)
 
-pub bytes_next : (ss : List Snapshot) (i : ℕ) → i < length ss → bytes_of (drop i ss) ≡ snapshot_bytes (get_or ss i no_snapshot) ++ bytes_of (drop (suc i) ss)
+pub bytes_next : (ss : List Snapshot) (i : ℕ) → i < length ss →
+    bytes_of (drop i ss) ≡ snapshot_bytes (get_or ss i no_snapshot) ++ bytes_of (drop (suc i) ss)
 unfolding flatten
 bytes_next ss i l = ap bytes_of (drop-cons ss i no_snapshot l)
 

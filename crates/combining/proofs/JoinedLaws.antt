@@ -349,7 +349,8 @@ module _
   whole-bytes = some_bytes a x b y h.xs h.ys h.left h.right h.type p some
 
   place-room :
-      (n at size : ℕ) → n ≡ length whole → at + length (set_bytes whole) ≤ size → at + length (number n) + length (flatten (map text whole)) ≤ size
+      (n at size : ℕ) → n ≡ length whole → at + length (set_bytes whole) ≤ size →
+      at + length (number n) + length (flatten (map text whole)) ≤ size
   place-room n at size e k = set_room n whole at size e (subst (λ (z : List ℕ). at + length z ≤ size) whole-bytes k)
 
   place-wrote : {l l₁ l₂ : List ℕ} {at b next : ℕ} (n : ℕ) → n ≡ length whole →
@@ -533,7 +534,8 @@ module _ {table a b : List ℕ} {count : ℕ} {ps i j : List ℕ} {ty : EventTyp
       (at_set y p (λ s. cell_at y p ≡ holds s) (unfold cell_at in (right-cell h p).holds-it))
       ∙ go ((type_view ty).choice p)
     where
-      go : (c : Choice) → join_cell false c (holds (set_of x p)) (holds (set_of y p)) ≡ holds (held (join_cell false c (holds (set_of x p)) (holds (set_of y p))))
+      go : (c : Choice) →
+          join_cell false c (holds (set_of x p)) (holds (set_of y p)) ≡ holds (held (join_cell false c (holds (set_of x p)) (holds (set_of y p))))
       go every = unfold join_cell held in refl
       go (least O) = unfold join_cell held in refl
 
@@ -560,7 +562,8 @@ module _ {table a b : List ℕ} {count : ℕ} {ps i j : List ℕ} {ty : EventTyp
         presence-is a (set_in i p) b (set_in j p) (set_of x p) (set_of y p) (h.left.each p m) (h.right.each p m) ty p
         ∙ ap bit_of (sym (w.each p m)))
 
-    pub joined_bytes : snapshot_bytes (join_snapshots (type_view ty) x y) ≡ number 0 ++ number (bit_number (map bit_of present)) ++ number 0 ++ sets_from ty x y 0
+    pub joined_bytes : snapshot_bytes (join_snapshots (type_view ty) x y) ≡ number 0 ++ number (bit_number (map bit_of present)) ++ number 0 ++ sets_from ty x
+        y 0
     unfolding snapshot_bytes sets_from up_to
     joined_bytes =
         ap₂ (λ (v : ℕ) (cs : List Cell).

@@ -9,7 +9,8 @@ use lib.ListN.{length, take, length-append, length-map}
 use Rattle.model.specs.Order.{Order, Text, texts, numbers, sets, equal}
 use Rattle.model.specs.Keyed.{put, merge}
 use Rattle.model.specs.Sets.{Within, union}
-use Rattle.model.specs.Rule.{Cell, holds, differs, Choice, every, least, TypeView, places, Snapshot, join_cell, join_cells, join_snapshots, combine, size, sizes}
+use Rattle.model.specs.Rule.{Cell, holds, differs, Choice, every, least, TypeView}
+use Rattle.model.specs.Rule.{places, Snapshot, join_cell, join_cells, join_snapshots, combine, size, sizes}
 use Rattle.model.specs.Rule.{objects}
 use Rattle.model.specs.Limits.{Limits}
 use Rattle.model.specs.Opening.{held}

@@ -418,7 +418,8 @@ counted count = times read_snapshot count >>= risen
 abbrev pub numbered : Limits → Layout ℕ
 numbered limits = such_that (is_within 1 limits.versions) read_number
 
-head_first : (limits : Limits) (s : List ℕ) → read_dossier limits s ≡ and_then (read_dossier_head limits s) (λ h. (numbered limits >>= counted) >>= under h)
+head_first : (limits : Limits) (s : List ℕ) →
+    read_dossier limits s ≡ and_then (read_dossier_head limits s) (λ h. (numbered limits >>= counted) >>= under h)
 unfolding read_dossier read_body
 head_first limits s = refl
 

@@ -128,7 +128,8 @@ module _ (m l u p s d : Bool) (A M L U P S D : ℕ) where
   above = record { all = A; mandatory = M; lone = L; unmarked = U }
 
   covered :
-      eqb (bit_and (bit_or (bit_of p + 2 * P) (bit_of d + 2 * D)) (bit_of m + 2 * M)) (bit_of m + 2 * M) ≡ ((not m || (p || d)) && eqb (bit_and (bit_or P D) M) M)
+      eqb (bit_and (bit_or (bit_of p + 2 * P) (bit_of d + 2 * D)) (bit_of m + 2 * M)) (bit_of m + 2 * M) ≡
+      ((not m || (p || d)) && eqb (bit_and (bit_or P D) M) M)
   covered =
       ap (λ (n : ℕ). eqb (bit_and n (bit_of m + 2 * M)) (bit_of m + 2 * M)) (or-bits p d P D)
       ∙ ap (λ (n : ℕ). eqb n (bit_of m + 2 * M)) (and-bits (p || d) m (bit_or P D) M)

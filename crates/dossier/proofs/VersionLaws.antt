@@ -37,7 +37,8 @@ one_value (v ∷ w ∷ vs) n d e o = absurd (omega arith)
 
 -- by its first value v
 pub version-one :
-    (vs : List Text) (n k : ℕ) → n ≡ length vs → n ≡ 1 → {v : Text} → v ≡ get_or vs 0 [] → {r : Bool} → r ≡ equal texts v (in_decimal k) →
+    (vs : List Text) (n k : ℕ) → n ≡ length vs → n ≡ 1 → {v : Text} → v ≡ get_or vs 0 [] → {r : Bool} →
+    r ≡ equal texts v (in_decimal k) →
     r ≡ equal sets vs (in_decimal k ∷ [])
 version-one vs n k e o f g = g ∙ ap (λ (w : Text). equal texts w (in_decimal k)) f ∙ one_value vs n (in_decimal k) e o
 

@@ -288,7 +288,8 @@ pub found-value :
 found-value {s} {e} {place} {index} h w = subst (ValueFound s e place index) h w
 
 pub found_none :
-    (s : List ℕ) (e : Event) (place index : ℕ) {r : ValueAt} → r ≡ NoValue → ValueFound s e place index r → get_elem? (set_at e place) index ≡ none
+    (s : List ℕ) (e : Event) (place index : ℕ) {r : ValueAt} → r ≡ NoValue → ValueFound s e place index r →
+    get_elem? (set_at e place) index ≡ none
 found_none s e place index h w = subst (ValueFound s e place index) h w
 
 abbrev pub nothing : Part

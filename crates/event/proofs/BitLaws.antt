@@ -96,7 +96,8 @@ filled_more {f} {bits} {k} {b} w h e = record {
 
 -- the bits of the sets of the 32 places
 pub presence-bits :
-    (sets : ℕ → List Text) (bits : List Bool) → length bits ≡ 32 → ((p : ℕ) → p < 32 → presence_bit (sets p) ≡ bit_of (get_or bits p false)) →
+    (sets : ℕ → List Text) (bits : List Bool) → length bits ≡ 32 →
+    ((p : ℕ) → p < 32 → presence_bit (sets p) ≡ bit_of (get_or bits p false)) →
     map presence_bit (map sets (up_to 32)) ≡ map bit_of bits
 presence-bits sets bits long h =
     go (up_to 32) (λ p m. (in-up_to 32 p).1 m) ∙ ap (map bit_of) (map-get_d bits false 32 long)

@@ -191,7 +191,8 @@ pub presence-below : (xs : List (List Text)) → length xs ≡ 32 → bit_number
 presence-below xs h = subst (λ (n : ℕ). bit_number (map presence_bit xs) < 2 ^ n) h (bits_small presence_bit xs presence-small)
 
 -- 32 sets, read
-pub all-sets-read : (xs : List (List Text)) (r : List ℕ) → SetsWritten xs → read_sets 32 (bit_number (map presence_bit xs)) (sets_bytes xs ++ r) ≡ got xs r
+pub all-sets-read : (xs : List (List Text)) (r : List ℕ) → SetsWritten xs →
+    read_sets 32 (bit_number (map presence_bit xs)) (sets_bytes xs ++ r) ≡ got xs r
 all-sets-read xs r w =
     ap (λ (n : ℕ). read_sets n (bit_number (map presence_bit xs)) (sets_bytes xs ++ r)) (sym w.long) ∙ sets-read xs r w.each
 

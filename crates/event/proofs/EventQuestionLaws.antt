@@ -3,6 +3,7 @@ use mathlib.Core.Path.{◌≡◌, refl, sym, ap, ap₂, ◌∙◌, subst, subst�
 use mathlib.Core.Logic.{⊎_elim}
 use mathlib.Core.Bool.{Bool, true, false, cond, not, ◌&&◌, ◌||◌, and-eq-true_iff}
 use mathlib.Core.Option.{none, some}
+use mathlib.Core.List.Memᴰ
 use mathlib.Core.List.{List, [], ◌∷◌, ◌++◌, map, flatten, Memᴰ}
 use Prim.Native.Nat.{ℕ, zero, suc, ◌+◌, ◌-◌, ◌^◌, ◌≤◌, ◌<◌}
 use native.Mathlib.Omega.{arith}
@@ -38,8 +39,8 @@ use Rattle.event.proofs.EventSizeLaws.{event-match}
 module _ {A : Type 0} (ok : A → Type 0) where
   pub all-member : (xs : List A) → All ok xs → (a : A) → Memᴰ a xs → ok a
   all-member [] h a x'' = elim x'' [ ]
-  all-member (x ∷ xs) h a (mathlib.Core.List.Memᴰ.head q) = rw q h.0
-  all-member (x ∷ xs) h a (mathlib.Core.List.Memᴰ.tail m) = all-member xs h.1 a m
+  all-member (x ∷ xs) h a (Memᴰ.head q) = rw q h.0
+  all-member (x ∷ xs) h a (Memᴰ.tail m) = all-member xs h.1 a m
 
   pub all_append : (xs ys : List A) → All ok xs → All ok ys → All ok (xs ++ ys)
   all_append [] ys h k = k
@@ -47,7 +48,7 @@ module _ {A : Type 0} (ok : A → Type 0) where
 
   pub member-all : (xs : List A) → ((a : A) → Memᴰ a xs → ok a) → All ok xs
   member-all [] h = tt
-  member-all (x ∷ xs) h = (h x (mathlib.Core.List.Memᴰ.head refl), member-all xs (λ a m. h a (mathlib.Core.List.Memᴰ.tail m)))
+  member-all (x ∷ xs) h = (h x (Memᴰ.head refl), member-all xs (λ a m. h a (Memᴰ.tail m)))
 
   pub all-at : (d : A) → ok d → (xs : List A) → All ok xs → (p : ℕ) → ok (get_or xs p d)
   all-at d o [] h p = o
@@ -93,19 +94,20 @@ module _ (f : Property → List Text → Bool) (g : List Text → Bool) where
 pub in-space : (k : Kind) (s : List Text) → are_in_space k s ≡ true → (v : Text) → Memᴰ v s → in_space k v ≡ true
 unfolding are_in_space
 in-space k [] h v x'' = elim x'' [ ]
-in-space k (x ∷ s) h v (mathlib.Core.List.Memᴰ.head q) = rw q ((and-eq-true_iff (in_space k x) _).0 h).0
-in-space k (x ∷ s) h v (mathlib.Core.List.Memᴰ.tail m) = in-space k s ((and-eq-true_iff (in_space k x) _).0 h).1 v m
+in-space k (x ∷ s) h v (Memᴰ.head q) = rw q ((and-eq-true_iff (in_space k x) _).0 h).0
+in-space k (x ∷ s) h v (Memᴰ.tail m) = in-space k s ((and-eq-true_iff (in_space k x) _).0 h).1 v m
 
 pub are-in-space : (k : Kind) (s : List Text) → ((v : Text) → Memᴰ v s → in_space k v ≡ true) → are_in_space k s ≡ true
 unfolding are_in_space
 are-in-space k [] h = refl
-are-in-space k (x ∷ s) h = rw (h x (mathlib.Core.List.Memᴰ.head refl)) (are-in-space k s (λ v m. h v (mathlib.Core.List.Memᴰ.tail m)))
+are-in-space k (x ∷ s) h = rw (h x (Memᴰ.head refl)) (are-in-space k s (λ v m. h v (Memᴰ.tail m)))
 
 -- sets that are equal in every match property
 abbrev pub MatchAlike : List Property → List (List Text) → List (List Text) → Type 0
 MatchAlike ps ss ts = (p : ℕ) (q : Property) → get_elem? ps p ≡ some q → is_match q ≡ true → get_or ss p [] ≡ get_or ts p []
 
-pub match-count : (ps : List Property) (ss ts : List (List Text)) → length ss ≡ length ts → MatchAlike ps ss ts → match_count ps ss ≡ match_count ps ts
+pub match-count : (ps : List Property) (ss ts : List (List Text)) → length ss ≡ length ts → MatchAlike ps ss ts →
+    match_count ps ss ≡ match_count ps ts
 unfolding match_count
 match-count [] ss ts l h = refl
 match-count (x ∷ ps) [] [] l h = refl
@@ -120,7 +122,7 @@ match-count (x ∷ ps) (s ∷ ss) (t ∷ ts) l h =
 pub fits-some : (q : Property) (s : List Text) → set_fits q s ≡ true → q.optional ≡ false → Has s
 unfolding set_fits
 fits-some q [] h o = never (cc (or-part q.optional false ((and-eq-true_iff (q.optional || false) _).0 h).0 o))
-fits-some q (v ∷ s) h o = (v, mathlib.Core.List.Memᴰ.head refl)
+fits-some q (v ∷ s) h o = (v, Memᴰ.head refl)
 
 pub fits-single : (q : Property) (s : List Text) → set_fits q s ≡ true → q.multivalued ≡ false → length s ≤ 1
 unfolding set_fits
@@ -276,7 +278,8 @@ one_value [] h l = absurd (h refl)
 one_value (v ∷ []) h l = refl
 one_value (v ∷ w ∷ s) h l = absurd (omega arith)
 
-pub one-in-space : (k : Kind) (s : List Text) → (length s ≡ 0 → ⊥) → length s ≤ 1 → are_in_space k s ≡ true → in_space k (get_or s 0 []) ≡ true
+pub one-in-space : (k : Kind) (s : List Text) → (length s ≡ 0 → ⊥) → length s ≤ 1 → are_in_space k s ≡ true →
+    in_space k (get_or s 0 []) ≡ true
 unfolding are_in_space
 one-in-space k [] h l e = absurd (h refl)
 one-in-space k (v ∷ []) h l e = (and_parts (in_space k v) true e).0
@@ -299,9 +302,9 @@ module _ (t : EventType) (e : Event) (k : TypeKept t) (a : EventFits t e) where
       let s = set_at e p in
       let fit = a.fits p m.property m.at in
       let (v, there) = fits-some m.property s fit m.can.mandatory in
-      let some : length s ≡ 0 → ⊥ = λ z. mathlib.Core.List.Memᴰ.not-nil (subst (Memᴰ v) (no_value s z) there) in
+      let some : length s ≡ 0 → ⊥ = λ z. Memᴰ.not-nil (subst (Memᴰ v) (no_value s z) there) in
       let q : s ≡ get_or s 0 [] ∷ [] = one_value s some (fits-single m.property s fit m.can.single) in
-      let i : Memᴰ (get_or s 0 []) s = subst (Memᴰ (get_or s 0 [])) (sym q) (mathlib.Core.List.Memᴰ.head refl) in
+      let i : Memᴰ (get_or s 0 []) s = subst (Memᴰ (get_or s 0 [])) (sym q) (Memᴰ.head refl) in
       (q, sequence-value m.property.kind (get_or s 0 []) m.can.kind (a.values p m.property m.at (get_or s 0 []) i))
 
   -- "An event's version is the number in its marked property", which has it in decimal

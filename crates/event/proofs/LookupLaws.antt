@@ -333,12 +333,14 @@ module _
         counted.within (sym (length-take-le index (set_at e place) (omega (arith, inside))))
 
     value-here :
-        drop to s ≡ text (get_or (set_at e place) index []) ++ (flatten (map text (drop (suc index) (set_at e place))) ++ sets_bytes (drop (suc place) e.sets))
+        drop to s ≡ text (get_or (set_at e place) index []) ++
+        (flatten (map text (drop (suc index) (set_at e place))) ++ sets_bytes (drop (suc place) e.sets))
     unfolding flatten
     value-here =
         passed.rest
         ∙ ap (λ (l : List Text). flatten (map text l) ++ sets_bytes (drop (suc place) e.sets)) (drop-cons (set_at e place) index [] inside)
-        ∙ append_assoc (text (get_or (set_at e place) index [])) (flatten (map text (drop (suc index) (set_at e place)))) (sets_bytes (drop (suc place) e.sets))
+        ∙
+        append_assoc (text (get_or (set_at e place) index [])) (flatten (map text (drop (suc index) (set_at e place)))) (sets_bytes (drop (suc place) e.sets))
 
     pub value-no-text : o ≡ text_arms.NoText → get_elem? (set_at e place) index ≡ none
     value-no-text k = absurd (text-there s small to passed.within (get_or (set_at e place) index []) _ value-here (text-not s to text-told k))

@@ -84,7 +84,8 @@ place-said s t n ps k b f a w h g = go (get_elem? t.properties k) refl
 -- ---- all places
 
 module _ (f : Property → List Text → Bool) (g : List Text → Bool) where
-  past-step : (k : ℕ) (ss : List (List Text)) → k < length ss → each_place f g [] (drop k ss) ≡ (g (get_or ss k []) && each_place f g [] (drop (suc k) ss))
+  past-step : (k : ℕ) (ss : List (List Text)) → k < length ss →
+      each_place f g [] (drop k ss) ≡ (g (get_or ss k []) && each_place f g [] (drop (suc k) ss))
   unfolding each_place
   past-step k [] h = absurd (omega arith)
   past-step zero (s ∷ ss) h = refl

@@ -154,7 +154,8 @@ fit_none = record { each = λ u ty xs w n v. refl }
 
 pub fit_at :
     {s ats : List ℕ} {count : ℕ} {ps : List ℕ} {k : ℕ} {b : Bool} {p : PropertyAt} {x : SetAt} {v : List ℕ} →
-    k < 32 → ltb k count ≡ true → p ≡ property_in ps k → x ≡ set_in ats k → ((vs : List Text) → SetIs s vs x → v ≡ flatten (map text vs)) →
+    k < 32 → ltb k count ≡ true → p ≡ property_in ps k → x ≡ set_in ats k →
+    ((vs : List Text) → SetIs s vs x → v ≡ flatten (map text vs)) →
     ((a : Kind) (vs : List Text) → kind_of p.kind p.size p.after p.sign ≡ some a → is_kind a ≡ true → v ≡ flatten (map text vs) →
     b ≡ are_in_space a vs) →
     FitAt s ats count ps k b

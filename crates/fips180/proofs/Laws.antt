@@ -1,5 +1,8 @@
 -- Laws of the definitions of `specs/Fips.antt`. Assumes nothing.
-use Rattle.std.proofs.Common.{◌≡◌, ℕ, zero, suc, ◌+◌, ◌-◌, ◌*◌, ◌/◌, ◌%◌, ◌^◌, ◌<◌, ◌≤◌, List, [], ◌∷◌, ◌++◌, length, get_or, take, drop, set, replicate, sym, refl, ap, ◌∙◌, ap₂, add-zero, add-suc, add-one, arith, length-append, length-drop, length-set, length-take-le, get_or-drop, take_all, get_or-take, take-suc, take-suc-set, get_or-append-add, le-ltb, lt-ltb}
+use Rattle.std.proofs.Common.{◌≡◌, ℕ, zero, suc, ◌+◌, ◌-◌, ◌*◌, ◌/◌, ◌%◌, ◌^◌, ◌<◌, ◌≤◌, List, []}
+use Rattle.std.proofs.Common.{◌∷◌, ◌++◌, length, get_or, take, drop, set, replicate, sym, refl, ap, ◌∙◌, ap₂, add-zero, add-suc}
+use Rattle.std.proofs.Common.{add-one, arith, length-append, length-drop, length-set, length-take-le, get_or-drop, take_all, get_or-take, take-suc}
+use Rattle.std.proofs.Common.{take-suc-set, get_or-append-add, le-ltb, lt-ltb}
 use native.Mathlib.Nat.{add-sub_cancel_left}
 use lib.ListN.{length-replicate, get_or-replicate, get_or-append}
 use lib.Seq.{drop-append-le, sets, sets-eq, paste, paste-zero, paste-suc}
@@ -64,7 +67,8 @@ unfolding padded front
 in-length m j k e h =
     let i : ℕ = 7 - k in
     let at : j ≡ length (front m) + i = omega (arith, length_front m, length-padded m) in
-    ap (λ (x : ℕ). get_or (padded m) x 0) at ∙ get_or-append-add (front m) (big_endian 8 (8 * length m)) i 0 ∙ big_endian-at 8 (8 * length m) i k (omega arith)
+    ap (λ (x : ℕ). get_or (padded m) x 0) at ∙ get_or-append-add (front m) (big_endian 8 (8 * length m)) i 0 ∙
+    big_endian-at 8 (8 * length m) i k (omega arith)
 
 -- byte j by the questions of the code
 module _ (m : List ℕ) (j : ℕ) where

@@ -1,6 +1,7 @@
 -- SHA-1 as FIPS 180-4 defines it, on lists of bytes. A byte is a number below 2 ^ 8, a word one below 2 ^ 32.
 -- The section numbers are those of FIPS 180-4, and so are the names where it has one. Assumes nothing.
-use Rattle.std.specs.Prelude.{ℕ, zero, suc, ◌+◌, ◌-◌, ◌*◌, ◌/◌, ◌%◌, ◌^◌, Bool, true, false, List, [], ◌∷◌, ◌++◌, length, take, drop, replicate, bit_and, bit_or, bit_xor, nat_lt, slice_index}
+use Rattle.std.specs.Prelude.{ℕ, zero, suc, ◌+◌, ◌-◌, ◌*◌, ◌/◌, ◌%◌, ◌^◌, Bool, true, false}
+use Rattle.std.specs.Prelude.{List, [], ◌∷◌, ◌++◌, length, take, drop, replicate, bit_and, bit_or, bit_xor, nat_lt, slice_index}
 
 abbrev pub pick : Bool → ℕ → ℕ → ℕ
 pick true x y = x

@@ -52,7 +52,8 @@ module _
         ∙ ap (λ (l : List (List ℕ)). (source_line event e ++ name_line table t) ++ separated l) (sym g)
 
     -- the parts have room where there is room for any hash text
-    pub parts-room : length (source_line event e) + length (name_line table t) + length (separated (strings_of table event objects count)) ≤ hash_text_capacity
+    pub parts-room : length (source_line event e) + length (name_line table t) + length (separated (strings_of table event objects count)) ≤
+        hash_text_capacity
     parts-room =
         omega (
           arith,

@@ -5,10 +5,10 @@ ghost use Rattle.hashing.specs.HashCalls.{hash_text_call, hash_call};
 use crate::text::write_hash_text;
 use event::ask::{ask_event, type_name};
 use event::read::{EventCounts, read_event};
+use fips180::write_digest;
 use ontology::tables::read_table;
 use replies::capacities::{HASH_CAPACITY, HASH_TEXT_CAPACITY};
 use replies::reply::Reply;
-use fips180::write_digest;
 
 // The hash text of an event, written at the front of `out`.
 pub fn hash_text(table: &[u8], event: &[u8], out: &mut [u8]) -> Reply

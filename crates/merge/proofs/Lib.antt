@@ -1,1 +1,2 @@
 mod PrintLaws
+mod InputLaws

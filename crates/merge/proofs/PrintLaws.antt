@@ -1,13 +1,10 @@
 -- In room for any report the call replies its length, and lays it at the front.
-use Rattle.std.proofs.Common.{◌≡◌, ℕ, ◌≤◌, List, Bool, true, false, length, take, drop, ap, sym, arith}
-use mathlib.Core.Bool.{cond}
-use lib.Dec.{leb}
+use Rattle.std.proofs.Common.{◌≡◌, ℕ, ◌≤◌, List, length, take, drop, sym, subst, arith}
 use lib.Seq.{take-append_seam}
 use borrow.Author.Tests.{le-leb}
-use mathlib.Core.Path.{subst}
 use Rattle.replies.specs.Capacities.{report_capacity}
 use Rattle.replies.specs.Answers as answers
-use Rattle.replies.specs.Answers.{gives, refuses, Outcome, outcome}
+use Rattle.replies.specs.Answers.{Outcome}
 use Rattle.replies.specs.Replies.{replies}
 use Rattle.replies.specs.declared.reply.Reply.{Reply}
 use Rattle.replies.specs.declared.reply.Reply.TheVariants.{Done, Refused}
@@ -30,7 +27,8 @@ report-prints input old h =
     rw (le-leb report_capacity (length old) h)
     (omega (arith, report-short input), take-append_seam (report input) (drop (length (report input)) old))
 
-prints : (input old bytes : List ℕ) (r : Reply) → report_capacity ≤ length old → replies r bytes ≡ report_call input old → Prints (report input) (replies r bytes)
+prints : (input old bytes : List ℕ) (r : Reply) → report_capacity ≤ length old → replies r bytes ≡ report_call input old →
+    Prints (report input) (replies r bytes)
 prints input old bytes r h e = subst (Prints (report input)) (sym e) (report-prints input old h)
 
 -- a reply that is done

@@ -2,8 +2,8 @@
 #![tactic(auto)]
 
 ghost use Rattle.report.specs.Report.{report};
-ghost use Rattle.std.specs.Io.KnownBytes.{Appends};
-ghost use Rattle.std.specs.Prelude.{◌≡◌, ◌≤◌, IfOk, OnOk, length};
+ghost use Rattle.std.specs.Io.KnownBytes.{Appends, Consumes, IsAtEnd};
+ghost use Rattle.std.specs.Prelude.{◌≡◌, ◌<◌, ◌≤◌, IfOk, IfSome, OnOk, length, take};
 
 use replies::reply::Reply;
 use report::calls::report;
@@ -25,14 +25,16 @@ fn report_buffer() -> [u8; 65536]
 }
 
 // Reads until the buffer is full or the input ends, and returns how many bytes it put at the start.
-fn read_full(input: &mut impl Read, buf: &mut [u8]) -> io::Result<usize>
-    ensures { IfOk result (λ n. n ≤ length buf.new) }
+fn read_full<R: Read>(input: &mut R, buf: &mut [u8]) -> io::Result<usize>
+    ensures in_bounds { IfOk result (λ n. n ≤ length buf.new) }
+    ensures bytes { IfOk result (λ n. Consumes (R.remaining input.old) (R.remaining input.new) (take n buf.new)) }
+    ensures end { IfOk result (λ n. n < length buf.new → IsAtEnd (R.remaining input.new)) }
 {
     let mut done: usize = 0;
     while done < buf.len() {
         let n = input.read(&mut buf[done..])?;
         if n == 0 {
-            break;
+            return Ok(done);
         }
         done += n;
     }
@@ -50,8 +52,16 @@ fn print_report<W: Write>(writer: &mut W, input: &[u8]) -> io::Result<()>
     }
 }
 
-fn main(rt: HostRuntime) -> io::Result<()> {
+// Of an input that is too long, what was read is too long as well, so that both have the same report.
+fn merge<R: Read, W: Write>(reader: &mut R, writer: &mut W) -> io::Result<()>
+    ensures { OnOk result (IfSome (R.remaining reader.old)
+        (λ input. Appends (W.contents writer.old) (W.contents writer.new) (report input))) }
+{
     let mut input = input_buffer();
-    let n = read_full(&mut rt.reader(), &mut input)?;
-    print_report(&mut io::writer(&rt), &input[..n])
+    let n = read_full(reader, &mut input)?;
+    print_report(writer, &input[..n])
+}
+
+fn main(rt: HostRuntime) -> io::Result<()> {
+    merge(&mut rt.reader(), &mut io::writer(&rt))
 }

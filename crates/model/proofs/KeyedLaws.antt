@@ -3,6 +3,7 @@
 use mathlib.Core.Path.{◌≡◌, refl, sym, ◌∙◌}
 use mathlib.Core.Logic.{◌↔◌}
 use mathlib.Core.Option.{Option, none, some}
+use mathlib.Core.List.Memᴰ
 use mathlib.Core.List.{List, [], ◌∷◌, map, Memᴰ}
 use Prim.Native.Nat.{Ordering}
 use Rattle.model.specs.Order.{Order, pick}
@@ -67,19 +68,19 @@ module _ {E K : Type 0} (O : Order K) (key : E → K) where
   look-member k (x ∷ xs) a h =
       three (O.cmp k (key x))
       (λ l. never (cc))
-      (λ e. let q : x ≡ a = cc in (mathlib.Core.List.Memᴰ.head (sym q), (rw q at (sym (O.same k (key x) e)))))
-      (λ g. let r : Memᴰ a xs × (key a ≡ k) = look-member k xs a (rw g at h) in (mathlib.Core.List.Memᴰ.tail r.0, r.1))
+      (λ e. let q : x ≡ a = cc in (Memᴰ.head (sym q), (rw q at (sym (O.same k (key x) e)))))
+      (λ g. let r : Memᴰ a xs × (key a ≡ k) = look-member k xs a (rw g at h) in (Memᴰ.tail r.0, r.1))
 
   pub above-member : (k : K) (xs : List E) (a : E) → Above O key k xs → Memᴰ a xs → O.cmp k (key a) ≡ Ordering.lt
   above-member k [] a h x'' = elim x'' [ ]
-  above-member k (x ∷ xs) a h (mathlib.Core.List.Memᴰ.head e) = rw e h.0
-  above-member k (x ∷ xs) a h (mathlib.Core.List.Memᴰ.tail m) = above-member k xs a h.1 m
+  above-member k (x ∷ xs) a h (Memᴰ.head e) = rw e h.0
+  above-member k (x ∷ xs) a h (Memᴰ.tail m) = above-member k xs a h.1 m
 
   pub member-look : (xs : List E) (a : E) → Rising O key xs → Memᴰ a xs → look O key (key a) xs ≡ some a
   unfolding look
   member-look [] a h x'' = elim x'' [ ]
-  member-look (x ∷ xs) a h (mathlib.Core.List.Memᴰ.head e) = rw (e, O.self (key x))
-  member-look (x ∷ xs) a h (mathlib.Core.List.Memᴰ.tail m) = rw (less-turn O (key x) (key a) (above-member (key x) xs a h.0 m)) (member-look xs a h.1 m)
+  member-look (x ∷ xs) a h (Memᴰ.head e) = rw (e, O.self (key x))
+  member-look (x ∷ xs) a h (Memᴰ.tail m) = rw (less-turn O (key x) (key a) (above-member (key x) xs a h.0 m)) (member-look xs a h.1 m)
 
   look-tail :
       (x y : E) (xs ys : List E) → Rising O key (x ∷ xs) → Rising O key (y ∷ ys) → key x ≡ key y →

@@ -1,6 +1,7 @@
 -- What `map`, `flatten` and `only` keep of `++` and of the members, and what stands where in the numbers below a bound (`up_to`).
 use mathlib.Core.Path.{◌≡◌, refl, sym, ◌∙◌, ap, ap₂}
 use mathlib.Core.Logic.{⊎_elim, ◌↔◌}
+use mathlib.Core.List.Memᴰ
 use mathlib.Core.List.{List, [], ◌∷◌, ◌++◌, map, flatten}
 use mathlib.Core.List.{append_assoc, Memᴰ}
 use Prim.Native.Nat.{Ordering}
@@ -27,10 +28,12 @@ module _ {A B : Type 0} (f : A → B) where
   -- `map` asks only for the elements of its list
   pub map_same : (g : A → B) (xs : List A) → ((a : A) → Memᴰ a xs → f a ≡ g a) → map f xs ≡ map g xs
   map_same g [] h = refl
-  map_same g (x ∷ xs) h = ap₂ {C = List B} (λ b r. b ∷ r) (h x (mathlib.Core.List.Memᴰ.head refl)) (map_same g xs (λ a m. h a (mathlib.Core.List.Memᴰ.tail m)))
+  map_same g (x ∷ xs) h =
+      ap₂ {C = List B} (λ b r. b ∷ r) (h x (Memᴰ.head refl)) (map_same g xs (λ a m. h a (Memᴰ.tail m)))
 
   pub map-within : (xs ys : List A) → Within xs ys → Within (map f xs) (map f ys)
-  map-within xs ys h b m = let (a, n, q) = mathlib.Core.List.Memᴰ.of_map f xs m in mathlib.Core.List.Memᴰ.cast (sym q) (mathlib.Core.List.Memᴰ.map f (h a n))
+  map-within xs ys h b m = let (a, n, q) = Memᴰ.of_map f xs m in
+      Memᴰ.cast (sym q) (Memᴰ.map f (h a n))
 
 module _ {A : Type 0} where
   pub flatten-append : (xs ys : List (List A)) → flatten (xs ++ ys) ≡ flatten xs ++ flatten ys
@@ -41,16 +44,16 @@ module _ {A : Type 0} where
   pub flatten-in : (xs : List (List A)) (x : List A) (a : A) → Memᴰ x xs → Memᴰ a x → Memᴰ a (flatten xs)
   unfolding flatten
   flatten-in [] x a x4 m = elim x4 [ ]
-  flatten-in (y ∷ xs) x a (mathlib.Core.List.Memᴰ.head q) m = mathlib.Core.List.Memᴰ.append_left (flatten xs) (rw q at m)
-  flatten-in (y ∷ xs) x a (mathlib.Core.List.Memᴰ.tail n) m = mathlib.Core.List.Memᴰ.append_right y (flatten-in xs x a n m)
+  flatten-in (y ∷ xs) x a (Memᴰ.head q) m = Memᴰ.append_left (flatten xs) (rw q at m)
+  flatten-in (y ∷ xs) x a (Memᴰ.tail n) m = Memᴰ.append_right y (flatten-in xs x a n m)
 
   pub flatten-of : (xs : List (List A)) (a : A) → Memᴰ a (flatten xs) → (x : List A) × Memᴰ x xs × Memᴰ a x
   unfolding flatten
-  flatten-of [] a m = absurd (mathlib.Core.List.Memᴰ.not-nil m)
+  flatten-of [] a m = absurd (Memᴰ.not-nil m)
   flatten-of (x ∷ xs) a m = ⊎_elim
-      (λ n. (x, mathlib.Core.List.Memᴰ.head refl, n))
-      (λ n. let (y, k, l) = flatten-of xs a n in (y, mathlib.Core.List.Memᴰ.tail k, l))
-      (mathlib.Core.List.Memᴰ.append_cases x m)
+      (λ n. (x, Memᴰ.head refl, n))
+      (λ n. let (y, k, l) = flatten-of xs a n in (y, Memᴰ.tail k, l))
+      (Memᴰ.append_cases x m)
 
   pub flatten-within : (xs ys : List (List A)) → Within xs ys → Within (flatten xs) (flatten ys)
   flatten-within xs ys h a m = let (x, n, k) = flatten-of xs a m in flatten-in ys x a (h x n) k
@@ -63,21 +66,21 @@ module _ {A K : Type 0} (O : Order K) (f : A → K) where
 
   pub only-in : (k : K) (xs : List A) (a : A) → Memᴰ a xs → f a ≡ k → Memᴰ a (only O f k xs)
   unfolding only
-  only-in k (x ∷ xs) a (mathlib.Core.List.Memᴰ.head q) e = let r : O.cmp k (f x) ≡ Ordering.eq = cc (O.self k) in rw r (mathlib.Core.List.Memᴰ.head q)
+  only-in k (x ∷ xs) a (Memᴰ.head q) e = let r : O.cmp k (f x) ≡ Ordering.eq = cc (O.self k) in rw r (Memᴰ.head q)
   only-in k [] a x'' e = elim x'' [ ]
-  only-in k (x ∷ xs) a (mathlib.Core.List.Memᴰ.tail m) e =
+  only-in k (x ∷ xs) a (Memᴰ.tail m) e =
       let there = only-in k xs a m e in
-      three (O.cmp k (f x)) (λ l. rw l there) (λ s. rw s (mathlib.Core.List.Memᴰ.tail there)) (λ g. rw g there)
+      three (O.cmp k (f x)) (λ l. rw l there) (λ s. rw s (Memᴰ.tail there)) (λ g. rw g there)
 
   pub only_of : (k : K) (xs : List A) (a : A) → Memᴰ a (only O f k xs) → Memᴰ a xs × (f a ≡ k)
   unfolding only
-  only_of k [] a m = absurd (mathlib.Core.List.Memᴰ.not-nil m)
+  only_of k [] a m = absurd (Memᴰ.not-nil m)
   only_of k (x ∷ xs) a m =
       let go : Memᴰ a (only O f k xs) → Memᴰ a (x ∷ xs) × (f a ≡ k) =
-      λ n. let r = only_of k xs a n in (mathlib.Core.List.Memᴰ.tail r.0, r.1) in
+      λ n. let r = only_of k xs a n in (Memᴰ.tail r.0, r.1) in
       three (O.cmp k (f x))
       (λ l. go (rw l at m))
-      (λ s. ⊎_elim (λ q. (mathlib.Core.List.Memᴰ.head q, cc (O.same k (f x) s))) go (mathlib.Core.List.Memᴰ.cases_cons (rw s at m)))
+      (λ s. ⊎_elim (λ q. (Memᴰ.head q, cc (O.same k (f x) s))) go (Memᴰ.cases_cons (rw s at m)))
       (λ g. go (rw g at m))
 
   pub only-within : (k : K) (xs ys : List A) → Within xs ys → Within (only O f k xs) (only O f k ys)
@@ -99,14 +102,14 @@ unfolding up_from
 in-up_from p k zero a b = absurd (omega arith)
 in-up_from p k (suc n) a b =
     three (numbers.cmp k p)
-    (λ l. mathlib.Core.List.Memᴰ.tail (in-up_from p (suc k) n (less-of k p l) (omega arith)))
-    (λ e. mathlib.Core.List.Memᴰ.head (sym (numbers.same k p e)))
+    (λ l. Memᴰ.tail (in-up_from p (suc k) n (less-of k p l) (omega arith)))
+    (λ e. Memᴰ.head (sym (numbers.same k p e)))
     (λ g. absurd (omega (arith, less-of p k (more_turn numbers k p g))))
 
 of-up_from : (p k n : ℕ) → Memᴰ p (up_from k n) → (k ≤ p) × (p < k + n)
 unfolding up_from
-of-up_from p k zero m = absurd (mathlib.Core.List.Memᴰ.not-nil m)
-of-up_from p k (suc n) m = ⊎_elim (λ q. omega arith) (λ r. omega (arith, of-up_from p (suc k) n r)) (mathlib.Core.List.Memᴰ.cases_cons m)
+of-up_from p k zero m = absurd (Memᴰ.not-nil m)
+of-up_from p k (suc n) m = ⊎_elim (λ q. omega arith) (λ r. omega (arith, of-up_from p (suc k) n r)) (Memᴰ.cases_cons m)
 
 pub get_d-up_from : {B : Type 0} (f : ℕ → B) (d : B) (k n i : ℕ) → i < n → get_or (map f (up_from k n)) i d ≡ f (k + i)
 unfolding up_from

@@ -3,6 +3,7 @@ use mathlib.Core.Path.{◌≡◌, refl, sym, ◌∙◌, ap}
 use mathlib.Core.Logic.{◌⊎◌, inl, inr, ⊎_elim, ◌↔◌}
 use mathlib.Core.Bool.{true}
 use mathlib.Core.Option.{Option, none, some}
+use mathlib.Core.List.Memᴰ
 use mathlib.Core.List.{List, [], ◌∷◌, ◌++◌, map, Memᴰ}
 use Prim.Native.Nat.{Ordering}
 use Prim.Native.Nat.{ℕ, suc, ◌+◌, ◌≤◌, zero-le}
@@ -45,22 +46,22 @@ module _ {K : Type 0} (O : Order K) where
 
   pub put-here : (e : K) (xs : List K) → Memᴰ e (put O itself first e xs)
   unfolding put
-  put-here e [] = mathlib.Core.List.Memᴰ.head refl
+  put-here e [] = Memᴰ.head refl
   put-here e (x ∷ xs) =
       three (O.cmp e x)
-      (λ l. rw l (mathlib.Core.List.Memᴰ.head refl))
-      (λ s. rw s (mathlib.Core.List.Memᴰ.head refl))
-      (λ g. rw g (mathlib.Core.List.Memᴰ.tail (put-here e xs)))
+      (λ l. rw l (Memᴰ.head refl))
+      (λ s. rw s (Memᴰ.head refl))
+      (λ g. rw g (Memᴰ.tail (put-here e xs)))
 
   pub put-there : (e : K) (xs : List K) (a : K) → Memᴰ a xs → Memᴰ a (put O itself first e xs)
   unfolding put
   put-there e [] a m = elim m [ ]
   put-there e (x ∷ xs) a m =
-      let either = mathlib.Core.List.Memᴰ.cases_cons m in
+      let either = Memᴰ.cases_cons m in
       three (O.cmp e x)
-      (λ l. rw l (mathlib.Core.List.Memᴰ.tail m))
-      (λ s. rw s (⊎_elim (λ q. mathlib.Core.List.Memᴰ.head (q ∙ sym (O.same e x s))) (λ n. mathlib.Core.List.Memᴰ.tail n) either))
-      (λ g. rw g (⊎_elim (λ q. mathlib.Core.List.Memᴰ.head q) (λ n. mathlib.Core.List.Memᴰ.tail (put-there e xs a n)) either))
+      (λ l. rw l (Memᴰ.tail m))
+      (λ s. rw s (⊎_elim (λ q. Memᴰ.head (q ∙ sym (O.same e x s))) (λ n. Memᴰ.tail n) either))
+      (λ g. rw g (⊎_elim (λ q. Memᴰ.head q) (λ n. Memᴰ.tail (put-there e xs a n)) either))
 
   pub of-put : (e : K) (xs : List K) (a : K) → Memᴰ a (put O itself first e xs) → Memᴰ a (e ∷ xs)
   unfolding put
@@ -68,38 +69,42 @@ module _ {K : Type 0} (O : Order K) where
   of-put e (x ∷ xs) a m =
       three (O.cmp e x)
       (λ l. rw l at m)
-      (λ s. ⊎_elim (λ q. mathlib.Core.List.Memᴰ.head q) (λ n. mathlib.Core.List.Memᴰ.tail (mathlib.Core.List.Memᴰ.tail n)) (mathlib.Core.List.Memᴰ.cases_cons (rw s at m)))
-      (λ g. ⊎_elim (λ q. mathlib.Core.List.Memᴰ.tail (mathlib.Core.List.Memᴰ.head q))
-      (λ n. ⊎_elim (λ q. mathlib.Core.List.Memᴰ.head q) (λ n2. mathlib.Core.List.Memᴰ.tail (mathlib.Core.List.Memᴰ.tail n2)) (mathlib.Core.List.Memᴰ.cases_cons (of-put e xs a n)))
-      (mathlib.Core.List.Memᴰ.cases_cons (rw g at m)))
+      (λ s. ⊎_elim (λ q. Memᴰ.head q) (λ n. Memᴰ.tail (Memᴰ.tail n))
+      (Memᴰ.cases_cons (rw s at m)))
+      (λ g. ⊎_elim (λ q. Memᴰ.tail (Memᴰ.head q))
+      (λ n. ⊎_elim (λ q. Memᴰ.head q) (λ n2. Memᴰ.tail (Memᴰ.tail n2))
+      (Memᴰ.cases_cons (of-put e xs a n)))
+      (Memᴰ.cases_cons (rw g at m)))
 
   pub canon-in : (xs : List K) → Within xs (canon O xs)
   unfolding canon
   canon-in (x ∷ xs) a m = ⊎_elim
-      (λ q. mathlib.Core.List.Memᴰ.cast q (put-here x (canon O xs)))
+      (λ q. Memᴰ.cast q (put-here x (canon O xs)))
       (λ n. put-there x (canon O xs) a (canon-in xs a n))
-      (mathlib.Core.List.Memᴰ.cases_cons m)
+      (Memᴰ.cases_cons m)
   canon-in [] a m = m
 
   pub canon-of : (xs : List K) → Within (canon O xs) xs
   unfolding canon
   canon-of [] a m = m
   canon-of (x ∷ xs) a m =
-      ⊎_elim (λ q. mathlib.Core.List.Memᴰ.head q) (λ n. mathlib.Core.List.Memᴰ.tail (canon-of xs a n)) (mathlib.Core.List.Memᴰ.cases_cons (of-put x (canon O xs) a m))
+      ⊎_elim (λ q. Memᴰ.head q) (λ n. Memᴰ.tail (canon-of xs a n))
+      (Memᴰ.cases_cons (of-put x (canon O xs) a m))
 
   pub union-in : (xs ys : List K) → Within (xs ++ ys) (union O xs ys)
   unfolding union merge
   union-in [] ys a m = m
   union-in (x ∷ xs) ys a m = ⊎_elim
-      (λ q. mathlib.Core.List.Memᴰ.cast q (put-here x (union O xs ys)))
+      (λ q. Memᴰ.cast q (put-here x (union O xs ys)))
       (λ n. put-there x (union O xs ys) a (union-in xs ys a n))
-      (mathlib.Core.List.Memᴰ.cases_cons m)
+      (Memᴰ.cases_cons m)
 
   pub union-of : (xs ys : List K) → Within (union O xs ys) (xs ++ ys)
   unfolding union merge
   union-of [] ys a m = m
   union-of (x ∷ xs) ys a m =
-      ⊎_elim (λ q. mathlib.Core.List.Memᴰ.head q) (λ n. mathlib.Core.List.Memᴰ.tail (union-of xs ys a n)) (mathlib.Core.List.Memᴰ.cases_cons (of-put x (union O xs ys) a m))
+      ⊎_elim (λ q. Memᴰ.head q) (λ n. Memᴰ.tail (union-of xs ys a n))
+      (Memᴰ.cases_cons (of-put x (union O xs ys) a m))
 
   pub ups-union : (xs ys : List K) → Ups O ys → Ups O (union O xs ys)
   unfolding union
@@ -130,18 +135,20 @@ module _ {K : Type 0} (O : Order K) where
   pub union-canon : (xs ys : List K) → union O (canon O xs) (canon O ys) ≡ canon O (xs ++ ys)
   union-canon xs ys =
       by_members (union O (canon O xs) (canon O ys)) (canon O (xs ++ ys)) (ups-union (canon O xs) (canon O ys) (ups-canon ys)) (ups-canon (xs ++ ys)) (
-        λ a m. canon-in (xs ++ ys) a (⊎_elim (λ n. mathlib.Core.List.Memᴰ.append_left ys (canon-of xs a n)) (λ n. mathlib.Core.List.Memᴰ.append_right xs (canon-of ys a n))
-            (mathlib.Core.List.Memᴰ.append_cases (canon O xs) (union-of (canon O xs) (canon O ys) a m))),
+        λ a m. canon-in (xs ++ ys) a
+            (⊎_elim (λ n. Memᴰ.append_left ys (canon-of xs a n)) (λ n. Memᴰ.append_right xs (canon-of ys a n))
+            (Memᴰ.append_cases (canon O xs) (union-of (canon O xs) (canon O ys) a m))),
         λ a m. union-in (canon O xs) (canon O ys) a
-            (⊎_elim (λ n. mathlib.Core.List.Memᴰ.append_left (canon O ys) (canon-in xs a n)) (λ n. mathlib.Core.List.Memᴰ.append_right (canon O xs) (canon-in ys a n))
-            (mathlib.Core.List.Memᴰ.append_cases xs (canon-of (xs ++ ys) a m))),
+            (⊎_elim (λ n. Memᴰ.append_left (canon O ys) (canon-in xs a n))
+            (λ n. Memᴰ.append_right (canon O xs) (canon-in ys a n))
+            (Memᴰ.append_cases xs (canon-of (xs ++ ys) a m))),
       )
 
   apart : (a b : K) → O.cmp a b ≡ Ordering.lt → b ≡ a → ⊥
   apart a b l q = never (cc (O.self a))
 
   drop-member : (y : K) (zs ys : List K) → Within zs (y ∷ ys) → ((a : K) → Memᴰ a zs → O.cmp y a ≡ Ordering.lt) → Within zs ys
-  drop-member y zs ys h f a m = ⊎_elim (λ q. absurd (apart y a (f a m) q)) (λ n. n) (mathlib.Core.List.Memᴰ.cases_cons (h a m))
+  drop-member y zs ys h f a m = ⊎_elim (λ q. absurd (apart y a (f a m) q)) (λ n. n) (Memᴰ.cases_cons (h a m))
 
   -- a sum over a set
   unfoldable pub total : (K → ℕ) → List K → ℕ
@@ -153,18 +160,18 @@ module _ {K : Type 0} (O : Order K) where
       (f g : K → ℕ) → ((k : K) → f k ≤ g k) → (ys xs : List K) → Ups O ys → Ups O xs → Within xs ys → total f xs ≤ total g ys
   unfolding total
   total-within f g le [] [] hy hx h = zero-le
-  total-within f g le [] (x ∷ xs) hy hx h = absurd (mathlib.Core.List.Memᴰ.not-nil (h x (mathlib.Core.List.Memᴰ.head refl)))
+  total-within f g le [] (x ∷ xs) hy hx h = absurd (Memᴰ.not-nil (h x (Memᴰ.head refl)))
   total-within f g le (y ∷ ys) [] hy hx h = zero-le
   total-within f g le (y ∷ ys) (x ∷ xs) hy hx h =
       three (O.cmp x y)
       (λ l. ⊎_elim
       (λ q. absurd (apart x y l (sym q)))
       (λ n. never (cc (above-member O itself y ys x hy.0 n, less-turn O x y l)))
-      (mathlib.Core.List.Memᴰ.cases_cons (h x (mathlib.Core.List.Memᴰ.head refl))))
+      (Memᴰ.cases_cons (h x (Memᴰ.head refl))))
       (λ s.
       let q : x ≡ y = O.same x y s in
       let t : total f xs ≤ total g ys = total-within f g le ys xs hy.1 hx.1
-      (drop-member y xs ys (λ a m. h a (mathlib.Core.List.Memᴰ.tail m)) (λ a m. rw (← q) (above-member O itself x xs a hx.0 m))) in
+      (drop-member y xs ys (λ a m. h a (Memᴰ.tail m)) (λ a m. rw (← q) (above-member O itself x xs a hx.0 m))) in
       let u : f x ≤ g y = rw q (le y) in
       omega arith)
       (λ w.
@@ -173,7 +180,7 @@ module _ {K : Type 0} (O : Order K) where
       (drop-member y (x ∷ xs) ys h (λ a m. ⊎_elim
       (λ q. rw q turned)
       (λ n. O.step y x a turned (above-member O itself x xs a hx.0 n))
-      (mathlib.Core.List.Memᴰ.cases_cons m))) in
+      (Memᴰ.cases_cons m))) in
       omega arith)
 
   length-total : (xs : List K) → length xs ≡ total (λ k. 1) xs
@@ -249,9 +256,9 @@ module _ {K : Type 0} (O : Order K) where
           let q : x ∷ [] ≡ m ∷ ms = sym (ap (take 1) e) ∙ h in
           let r : m ≡ x = cc in
           let u : Ups O (x ∷ c) = rw e at (ups-canon xs) in (
-            canon-of xs m (rw e (mathlib.Core.List.Memᴰ.head r)),
+            canon-of xs m (rw e (Memᴰ.head r)),
             λ a n. ⊎_elim (λ k. inl (r ∙ sym k)) (λ k. inr (rw r (above-member O itself x c a u.0 k)))
-                (mathlib.Core.List.Memᴰ.cases_cons (rw e at (canon-in xs a n))),
+                (Memᴰ.cases_cons (rw e at (canon-in xs a n))),
           )
 
   -- of two values the smaller, as a program chooses

@@ -30,11 +30,13 @@ flag_same t = go (read_number t)
   where
     go :
         (p : Parse ℕ) →
-        and_then (and_then p (λ n. found_if (leb n 1) n)) (λ n. got (eqb n 1)) ≡ and_then (and_then p (λ n. found_if (is_within 0 1 n) n)) (λ n. got (eqb n 1))
+        and_then (and_then p (λ n. found_if (leb n 1) n)) (λ n. got (eqb n 1)) ≡ and_then (and_then p (λ n. found_if (is_within 0 1 n) n))
+        (λ n. got (eqb n 1))
     go fail = refl
     go (got n r) = rw (le-leb 0 n (omega arith))
 
-pub flag_is : {s : List ℕ} {at n e : ℕ} → Got (such_that (is_within 0 1) read_number (drop at s)) s at n e → Got (read_flag (drop at s)) s at (eqb n 1) e
+pub flag_is : {s : List ℕ} {at n e : ℕ} → Got (such_that (is_within 0 1) read_number (drop at s)) s at n e →
+    Got (read_flag (drop at s)) s at (eqb n 1) e
 flag_is {s} {at} g = rw (flag_same (drop at s)) (then_found (λ n. got (eqb n 1)) g refl)
 
 pub flag-none : (t : List ℕ) → such_that (is_within 0 1) read_number t ≡ fail → read_flag t ≡ fail

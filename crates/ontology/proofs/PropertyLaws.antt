@@ -143,7 +143,8 @@ pub record KindLeft (s : List ℕ) (at start end kind size after sign e : ℕ) :
   pub are : KindIs what kind size after sign
   pub left : Onward read_property s at (after-kind (part s start end) what) e
 
-pub name-left : {s : List ℕ} {at start end : ℕ} → NameStops (such_that (is_name_within 32) read_text (drop at s)) s at start end → NameLeft s at start end
+pub name-left : {s : List ℕ} {at start end : ℕ} → NameStops (such_that (is_name_within 32) read_text (drop at s)) s at start end →
+    NameLeft s at start end
 name-left g = record { order = g.order; left = on-first (such_that (is_name_within 32) read_text) after-name property-layout g.stops }
 
 pub kind-left :

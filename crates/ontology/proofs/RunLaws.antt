@@ -104,7 +104,8 @@ module _ {A : Type 0} (p : Layout A) (t : List A → Bool) (n : ℕ) (s : List �
   module _ (a : A) (r : List ℕ) (h : 0 < n) (e : p s ≡ got a r) where
     -- the test of those after the first is what is left of the whole test
     pub such-more :
-        (u : List A → Bool) → ((xs : List A) → t (a ∷ xs) ≡ u xs) → such_that t (times p n) s ≡ prepend (a ∷ []) (such_that u (times p (n - 1)) r)
+        (u : List A → Bool) → ((xs : List A) → t (a ∷ xs) ≡ u xs) →
+        such_that t (times p n) s ≡ prepend (a ∷ []) (such_that u (times p (n - 1)) r)
     such-more u k =
         tested (times_more p n s a r h e)
         ∙ go (times p (n - 1) r)

@@ -13,7 +13,8 @@ use Rattle.model.specs.Order.{Text}
 use Rattle.model.proofs.Cases.{never, truth, and_parts, where-so}
 use Rattle.packed.specs.Parse.{got, Layout, ◌>>=◌, found, such_that, times}
 use Rattle.packed.specs.Packed.{groups, number, read_number, text, read_text, is_within}
-use Rattle.packed.proofs.LayoutLaws.{All, lt-or-ge, fail-got, and_then-got, found_if-got, such_that-got, whole-some, number_read, number-was, text-read, text-was}
+use Rattle.packed.proofs.LayoutLaws.{All, lt-or-ge, fail-got, and_then-got, found_if-got}
+use Rattle.packed.proofs.LayoutLaws.{such_that-got, whole-some, number_read, number-was, text-read, text-was}
 use Rattle.packed.proofs.LayoutLaws.{times-read, times-was}
 use Rattle.packed.proofs.FieldLaws.{within-bounds}
 use Rattle.values.specs.Spaces.{Kind, unsigned, signed, decimal, currency, sequence, datetime, boolean, string, hex, is_kind}
@@ -136,7 +137,8 @@ decimal-was s k r e =
         s ≡ number total ++ number after ++ flag_bytes sign ++ v
     decimal-bytes total after sign t u v a b c = a ∙ rw (b, c) (simp append_assoc)
 
-parameters-was : (n : ℕ) (s : List ℕ) (k : Kind) (r : List ℕ) → read_parameters n s ≡ got k r → (n ≡ kind_number k) × (s ≡ parameter_bytes k ++ r)
+parameters-was : (n : ℕ) (s : List ℕ) (k : Kind) (r : List ℕ) → read_parameters n s ≡ got k r →
+    (n ≡ kind_number k) × (s ≡ parameter_bytes k ++ r)
 unfolding read_parameters parameter_bytes
 parameters-was n s k r =
     chosen n unsigned_number _ _ s k r (λ h. one-was unsigned (λ w. refl) n s k r (λ w. h))

@@ -128,7 +128,8 @@ table-from s {n} {next} g =
     ap (λ (p : Parse ℕ). and_then p (λ count r. and_then (times read_ruled count r) (λ ts. found_if (names_rise (map name_of ts)) ts))) g.is
     ∙ all_from n (drop next s)
 
-pub table-fail : (s : List ℕ) (name : Text) (ps : List ℕ) (r : TableRead) → read_table s ≡ fail → r.ok ≡ false → TableSays (table_of s) s name ps r
+pub table-fail : (s : List ℕ) (name : Text) (ps : List ℕ) (r : TableRead) → read_table s ≡ fail → r.ok ≡ false →
+    TableSays (table_of s) s name ps r
 unfolding TableSays table_of
 table-fail s name ps r e h = rw e h
 

@@ -120,7 +120,8 @@ mark-some m qs =
     ap₂ (λ (b : Bool) (i : ℕ). not b || mark_fits (get_elem? qs i)) (lt-ltb 0 (suc m) (omega arith)) (let e : suc m - 1 ≡ m = omega arith in e)
 
 -- one place on, the mark is one less
-mark-step : (mark : ℕ) (q : Property) (qs : List Property) → mark_rule mark (q ∷ qs) ≡ ((not (eqb mark 1) || can_be_marked q) && mark_rule (mark - 1) qs)
+mark-step : (mark : ℕ) (q : Property) (qs : List Property) →
+    mark_rule mark (q ∷ qs) ≡ ((not (eqb mark 1) || can_be_marked q) && mark_rule (mark - 1) qs)
 unfolding mark_fits
 mark-step zero q qs = refl
 mark-step (suc zero) q qs = sym (and-true (can_be_marked q))

@@ -124,7 +124,8 @@ type-was s t r e =
 
 -- a layout of types fails where no type of it meets the rules
 type-fail :
-    (s : List ℕ) → ((t : EventType) (r : List ℕ) → TypeWas s t r → RulesHold t → ◌≡◌ {A = ℕ} 0 1) → such_that type_rules read_type s ≡ fail
+    (s : List ℕ) → ((t : EventType) (r : List ℕ) → TypeWas s t r → RulesHold t → ◌≡◌ {A = ℕ} 0 1) →
+    such_that type_rules read_type s ≡ fail
 type-fail s never = go (such_that type_rules read_type s) refl
   where
     go : (p : Parse EventType) → such_that type_rules read_type s ≡ p → p ≡ fail
@@ -163,7 +164,8 @@ module _ (s : List ℕ) where
   module _ {v : Text} {t : List ℕ} (name : read_text s ≡ got v t) (named : is_name_within 64 v ≡ true) where
     module _ {d : ℕ} {u : List ℕ} (definition : read_number t ≡ got d u) (defined : leb 1 d ≡ true) where
       module _ {m : ℕ} {x : List ℕ} (mark : read_number u ≡ got m x) where
-        counted : {n : ℕ} {y : List ℕ} → read_number x ≡ got n y → is_within 1 32 n ≡ true → such_that type_rules read_type s ≡ after-count d m n v y
+        counted : {n : ℕ} {y : List ℕ} → read_number x ≡ got n y → is_within 1 32 n ≡ true →
+            such_that type_rules read_type s ≡ after-count d m n v y
         unfolding read_type
         counted {n} {y} count few = rw (name, definition, mark, count) (go (times read_property n y) refl)
           where
@@ -204,7 +206,8 @@ module _ (s : List ℕ) where
         let d-is : t.definition ≡ d = cc in
         cc (le-leb 1 d (omega (arith, k.definition))))))
 
-  with-name : (p : Parse Text) → read_text s ≡ p → such_that type_rules read_type s ≡ and_then (and_then p (λ v. found_if (is_name_within 64 v) v)) after-name
+  with-name : (p : Parse Text) → read_text s ≡ p →
+      such_that type_rules read_type s ≡ and_then (and_then p (λ v. found_if (is_name_within 64 v) v)) after-name
   with-name fail e = type-fail s (λ t r w k. cc)
   with-name (got v t) e =
       truth (is_name_within 64 v)

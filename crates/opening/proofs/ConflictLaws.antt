@@ -35,7 +35,8 @@ module _ (test : ℕ → Bool) where
   lowest_start = refl
 
   lowest_step :
-      (k : ℕ) → k < 32 → {b : Bool} → test k ≡ b → lowest test (up_from k (32 - k)) ≡ cond b (some k) (lowest test (up_from (k + 1) (32 - (k + 1))))
+      (k : ℕ) → k < 32 → {b : Bool} → test k ≡ b →
+      lowest test (up_from k (32 - k)) ≡ cond b (some k) (lowest test (up_from (k + 1) (32 - (k + 1))))
   unfolding lowest up_from
   lowest_step k h t = let e : 32 - k ≡ suc (32 - (k + 1)) = omega arith in rw (e, add-one, t)
 

@@ -120,7 +120,8 @@ module _
     (x-is : (vs : List Text) → first-bytes ≡ flatten (map text vs) → x ≡ get_or vs 0 [])
     (second-part : (ws : List Text) → SetIs s ws b → second-bytes ≡ flatten (map text ws))
     (y-is : (ws : List Text) → second-bytes ≡ flatten (map text ws) → y ≡ get_or ws 0 [])
-    (compared : (k : Kind) → kind_number k ≡ kind → is_ordered k ≡ true → in_space k x ≡ true → in_space k y ≡ true → o ≡ (value_order k).cmp x y)
+    (compared : (k : Kind) → kind_number k ≡ kind → is_ordered k ≡ true → in_space k x ≡ true → in_space k y ≡ true →
+    o ≡ (value_order k).cmp x y)
     (takes : first ≡ pick o (not largest) true largest) where
   module _ (k : Kind) (vs ws : List Text) (ch : Chooses k kind) (p : SetIs s vs a) (q : SetIs s ws b) (v : Lone k vs) (w : Lone k ws) where
     one-first : vs ≡ get_or vs 0 [] ∷ []
@@ -360,7 +361,8 @@ module _ (s : List ℕ) (xss : List (List Text)) where
   only-first : (x : SetAt) → 1 ≤ length xss → rising texts (get_or xss 0 []) ≡ true → SetIs s (get_or xss 0 []) x → SetIs s (union_to xss 1) x
   unfolding flatten canon
   only-first x h u w =
-      subst (λ (vs : List Text). SetIs s vs x) (sym (union_more xss 0 h ((rising-ups texts (get_or xss 0 [])).0 u) ∙ union-left-nil texts (get_or xss 0 []))) w
+      subst (λ (vs : List Text). SetIs s vs x) (sym (union_more xss 0 h ((rising-ups texts (get_or xss 0 [])).0 u) ∙ union-left-nil texts (get_or xss 0 [])))
+      w
 
   only-all : (j : ℕ) (x : SetAt) → length xss ≤ j → SetIs s (union_to xss j) x → SetIs s (canon texts (flatten xss)) x
   only-all j x h w = let e = take_all j xss h in rw e at w

@@ -180,7 +180,8 @@ module _
         under = refl;
       }
 
-  pub open-refused : {out : List ℕ} → dossier_capacity ≤ length out → (r ≡ 0 → ⊥) → open_replies (Refused r) out ≡ open_call limits table s out
+  pub open-refused : {out : List ℕ} → dossier_capacity ≤ length out → (r ≡ 0 → ⊥) →
+      open_replies (Refused r) out ≡ open_call limits table s out
   unfolding open_call open_answer asked_opening
   open-refused {out} h ne =
       rw (in-range limits permitted, has_room_lem dossier_capacity (length out) h, t.is, asked-refused limits t.what table s read.index ps r answered ne)

@@ -100,7 +100,8 @@ module _ (ty : EventType) (d : Dossier) where
   unfolding sets_bytes set_bytes flatten up_from
   sets_end p v = go (32 - p) p v
     where
-      go : (n p : ℕ) → ((i : ℕ) → p ≤ i → merged_at (type_view ty) d i ≡ []) → sets_bytes (map (merged_at (type_view ty) d) (up_from p n)) ≡ []
+      go : (n p : ℕ) → ((i : ℕ) → p ≤ i → merged_at (type_view ty) d i ≡ []) →
+          sets_bytes (map (merged_at (type_view ty) d) (up_from p n)) ≡ []
       go zero p v = refl
       go (suc n) p v = rw (v p (omega arith)) (go n (suc p) (λ i l. v i (omega arith)))
 

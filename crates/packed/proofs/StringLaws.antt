@@ -6,7 +6,8 @@ use Prim.Native.Nat.{ℕ, zero, suc, ◌+◌, ◌-◌, ◌≤◌, ◌<◌, Order
 use native.Mathlib.Omega.{arith}
 use native.Mathlib.Numerals.{add-one}
 use lib.ListN.{length, take, drop, get_or, set, length-append, length-drop, length-set, drop_of_length-le, length-map, get_or-append, get_or-map}
-use lib.Seq.{length-take-le, take-take, get_or-take, get_or-drop, get_or_at, get_or-append-add, drop-cons, take_at, set_split, take-set-le, drop-set-lt, get_or-set_same}
+use lib.Seq.{length-take-le, take-take, get_or-take, get_or-drop, get_or_at, get_or-append-add}
+use lib.Seq.{drop-cons, take_at, set_split, take-set-le, drop-set-lt, get_or-set_same}
 use Rattle.model.specs.Order.{Text, texts, lists, lex, numbers, pick}
 use Rattle.model.specs.Sorting.{insert}
 use Rattle.model.proofs.SortLaws.{Ascends, sorted-ascends, past_one}
@@ -274,7 +275,8 @@ module _ (a b : List ℕ) (xs : List StringAt) (n : ℕ) (x : StringAt) (fits : 
     before_more h e =
         let d = drop-next ss (k - 1) (string_of a b no_string) (omega (arith, strings-length a b xs n count_long, w.low)) in
         let q = d ∙ ap (λ (t : Text). t ∷ drop (k - 1 + 1) ss) (last-string h) in
-        ap (insert texts s) q ∙ insert-here s (string_of a b (get_or new (k - 1) no_string)) (drop (k - 1 + 1) ss) e ∙ ap (λ (l : List Text). s ∷ l) (sym q)
+        ap (insert texts s) q ∙ insert-here s (string_of a b (get_or new (k - 1) no_string)) (drop (k - 1 + 1) ss) e ∙
+        ap (λ (l : List Text). s ∷ l) (sym q)
 
     still : StringsFit a b (set new k x) (n + 1)
     still =

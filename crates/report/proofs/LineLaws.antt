@@ -32,7 +32,8 @@ use Rattle.event.specs.declared.read.EventIndex.{EventIndex}
 use Rattle.event.proofs.SetLaws.{set-read}
 use Rattle.hashing.proofs.ObjectLaws.{part_room}
 use Rattle.hashing.proofs.GatherLaws.{Standing, First, standing-all, standing-none, standing-next, At, at-place}
-use Rattle.report.specs.Report.{hex_digit, hex_of, value_line, value_lines, object_lines, hashed_lines, conflict_line, overfull_line, finding_line, refused_line}
+use Rattle.report.specs.Report.{hex_digit, hex_of, value_line, value_lines, object_lines}
+use Rattle.report.specs.Report.{hashed_lines, conflict_line, overfull_line, finding_line, refused_line}
 use Rattle.report.specs.code.ReportIndex.{PlaceNamed, FindingNamed, ValuesRoom, ObjectsRoom, LinesRoom}
 
 -- ---- hexadecimal digits
@@ -89,7 +90,8 @@ wrote-five v w x y u = wrote_then v (wrote_then w (wrote_then x (wrote_then y u)
 
 module _ (n i : ℕ) where
   refused-is :
-      refused_line n i ≡ (114 ∷ 101 ∷ 102 ∷ 117 ∷ 115 ∷ 101 ∷ 100 ∷ 32 ∷ []) ++ (in_decimal n ++ ((32 ∷ []) ++ (in_decimal i ++ (10 ∷ []))))
+      refused_line n i ≡ (114 ∷ 101 ∷ 102 ∷ 117 ∷ 115 ∷ 101 ∷ 100 ∷ 32 ∷ []) ++
+      (in_decimal n ++ ((32 ∷ []) ++ (in_decimal i ++ (10 ∷ []))))
   unfolding refused_line ascii
   refused-is = simp append_assoc
 

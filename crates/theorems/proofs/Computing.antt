@@ -60,7 +60,8 @@ unfolding order.numbers order.integer_cmp order.integers order.equal order.risin
     calendar.has_form calendar.whole_second calendar.with_fraction calendar.field calendar.is_leap calendar.days_in calendar.is_moment calendar.is_datetime
     calendar.days_of_years calendar.days_of_months calendar.day_number calendar.instant
     unicode.is_scalar unicode.read_continued unicode.read_sequence unicode.read_scalar unicode.are_scalars unicode.is_utf8
-    spaces.is_width spaces.is_kind spaces.is_unsigned spaces.is_signed spaces.whole_part spaces.point_part spaces.is_fraction spaces.unscaled spaces.is_magnitude
+    spaces.is_width spaces.is_kind spaces.is_unsigned spaces.is_signed spaces.whole_part spaces.point_part spaces.is_fraction spaces.unscaled
+    spaces.is_magnitude
     spaces.is_decimal
     spaces.is_hex_digit spaces.are_hex_digits spaces.is_of_kind spaces.in_space
     value-order.is_ordered value-order.minus value-order.with_sign value-order.value_number value-order.value_order
@@ -96,7 +97,8 @@ unfolding order.numbers order.integer_cmp order.integers order.equal order.risin
     check-call.event_dossier check-call.check_asked check-call.check_answer check-call.check_call
     combine-call.combined combine-call.combine_asked combine-call.combine_answer combine-call.combine_call
     open-call.merged_event open-call.opened_answer open-call.asked_opening open-call.open_answer open-call.open_call
-    batch.read_batch batch.batch_of batch.events_asked batch.events_agree batch.agree_with batch.batch_dossier batch.together batch.batch_asked batch.batch_given
+    batch.read_batch batch.batch_of batch.events_asked batch.events_agree batch.agree_with batch.batch_dossier batch.together batch.batch_asked
+    batch.batch_given
     batch.have_room batch.batch_answer batch.batch_call
     byte-ways.event_or byte-ways.way_answer
     flatten

@@ -54,7 +54,8 @@ reply-conflict (refuses n) v p = (λ e. never (cc), λ e. never (cc))
 reply-conflict (refuses_at n i) v p = (λ e. never (cc), λ e. never (cc))
 
 -- a call that is done gave bytes, which are the first of its output
-done-gives : (a : Answer) (n : ℕ) (out : List ℕ) → reply_of a ≡ answers.Reply.done n → (x : List ℕ) × (a ≡ gives x) × (take n (laid a out) ≡ x)
+done-gives : (a : Answer) (n : ℕ) (out : List ℕ) → reply_of a ≡ answers.Reply.done n →
+    (x : List ℕ) × (a ≡ gives x) × (take n (laid a out) ≡ x)
 done-gives (gives x) n out e = let q : n ≡ length x = cc in (x, refl, rw q (take-append_seam x (drop (length x) out)))
 done-gives (Answer.finds f) n out e = never (cc)
 done-gives (refuses m) n out e = never (cc)

@@ -152,7 +152,8 @@ module _ (table : List ℕ) (types : Table) (is_table : table_of table ≡ some 
       dossier-asked : (x d : List ℕ) → returned (check_call table s x) ≡ wrote d → dossier_asked limits types d ≡ accepted of_one
       dossier-asked x d e =
           let gave = checked-one limits permitted table types is_table t uri s own x s (check-accepted table s x d e).0 own in
-          ap (dossier_asked limits types) (wrote-same _ _ (sym e ∙ gave)) ∙ asked limits permitted table types is_table t uri s own (s ∷ []) one each inside
+          ap (dossier_asked limits types) (wrote-same _ _ (sym e ∙ gave)) ∙
+          asked limits permitted table types is_table t uri s own (s ∷ []) one each inside
 
       -- it has the event's match sets
       dossier-match : dossier_match t of_one.headed.snapshots ≡ match_sets t.properties a.event.sets

@@ -26,7 +26,8 @@ use Rattle.dossier.specs.DossierQuestions.{TypedDossier, dossier_asked, dossiers
 use Rattle.dossier.proofs.LargerLaws.{asked-larger}
 use Rattle.combining.specs.CombineCall.{combined, combine_asked, combine_answer, combine_call}
 use Rattle.opening.specs.OpenCall.{asked_opening, open_answer, open_call}
-use Rattle.batch.specs.Batch.{AskedAt, refused_at, accepted, ◌>>◌, at, events_asked, agree_with, batch_dossier, together, batch_of, batch_asked, batch_given, Rooms}
+use Rattle.batch.specs.Batch.{AskedAt, refused_at, accepted, ◌>>◌, at, events_asked}
+use Rattle.batch.specs.Batch.{agree_with, batch_dossier, together, batch_of, batch_asked, batch_given, Rooms}
 use Rattle.batch.specs.Batch.{have_room, batch_answer, batch_call}
 use Rattle.batch.proofs.GatheredLaws.{at-then, at_next, at-ensured}
 use Rattle.ways.specs.ByteWays.{returned, way_answer}

@@ -12,7 +12,8 @@ use Rattle.theorems.proofs.Computing.{computing}
 
 -- an output that is large enough changes no answer
 any-room :
-    (table event : List ℕ) (room : ℕ) → hash_text_capacity ≤ room → hash_text_answer room table event ≡ hash_text_answer hash_text_capacity table event
+    (table event : List ℕ) (room : ℕ) → hash_text_capacity ≤ room →
+    hash_text_answer room table event ≡ hash_text_answer hash_text_capacity table event
 unfolding hash_text_answer hash_text_asked
 any-room table event room h = rw (has_room_lem hash_text_capacity room h)
 

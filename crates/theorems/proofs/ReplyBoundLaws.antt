@@ -36,7 +36,8 @@ use Rattle.combining.specs.CombineCall.{combined, combine_asked, combine_answer,
 use Rattle.combining.proofs.MeetLaws.{taken-rises}
 use Rattle.combining.proofs.RoomLaws.{combined-short}
 use Rattle.opening.specs.OpenCall.{opened_answer, asked_opening, open_answer, open_call}
-use Rattle.batch.specs.Batch.{AskedAt, refused_at, accepted, ◌>>◌, at, agree_with, batch_dossier, together, batch_asked, batch_given, have_room, batch_answer}
+use Rattle.batch.specs.Batch.{AskedAt, refused_at, accepted, ◌>>◌, at, agree_with}
+use Rattle.batch.specs.Batch.{batch_dossier, together, batch_asked, batch_given, have_room, batch_answer}
 use Rattle.batch.specs.Batch.{batch_call}
 use Rattle.batch.specs.Taken.{IsNumber, IsNumberOr18, Bounded}
 use Rattle.batch.proofs.TakenLaws.{Asks, asks-whether, accepts, asks-then, asks-more, asks-next, asks-event, AsksAt, asks-batch}
@@ -186,7 +187,8 @@ replies-bounded = record {
       asks-more (λ a w. (dossier, ts, t, w)) (asked-dossier limits ts dossier));
   hash_text = λ table event old. bounded-answer (hashed-short hash_text_capacity (length old) table event);
   hash =
-      λ table event old. bounded-answer (asks-then (hashed-short hash_capacity (length old) table event) λ m short. accepts (omega (arith, length-sha1_of m)));
+      λ table event old. bounded-answer
+      (asks-then (hashed-short hash_capacity (length old) table event) λ m short. accepts (omega (arith, length-sha1_of m)));
   batch = λ limits rooms table batch old.
       bounded-ranged-at dossier_capacity limits _ λ allowed.
       bounded-batch limits allowed (have_room rooms) table batch (batch_asked limits table batch) refl (asks-batch limits table batch);

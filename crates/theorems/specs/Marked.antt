@@ -132,7 +132,8 @@ pub record Marked : Type 0 where
   pub text-of-one : hash_text_answer hash_text_capacity hosts e1 ≡ gives (ascii "/lab/\nnet.host\naddr:h1")
   pub text-size : (out : List ℕ) → hash_text_capacity ≤ length out → (hash_text_call hosts e1 out).reply ≡ Reply.done 22
   -- "With match properties ip (a) and ip.alt (z): ip.alt:z sorts before ip:a. Sorting by table place fails."
-  pub whole-strings : hash_text_answer hash_text_capacity pairs ip ≡ gives (ascii "/lab/\npair\nip.alt:z" ++ (255 ∷ 255 ∷ 255 ∷ 255 ∷ []) ++ ascii "ip:a")
+  pub whole-strings : hash_text_answer hash_text_capacity pairs ip ≡ gives
+      (ascii "/lab/\npair\nip.alt:z" ++ (255 ∷ 255 ∷ 255 ∷ 255 ∷ []) ++ ascii "ip:a")
   -- "...21.500000Z is later than ...21Z of the same second, though its bytes sort first."
   pub later : opens lasts (whole ∷ fraction ∷ []) ≡ gives fraction
   pub later-turned : opens lasts (fraction ∷ whole ∷ []) ≡ gives fraction

@@ -241,7 +241,8 @@ module _
 
   -- the least so far is kept, and is not the first of run j
   least_kept :
-      take 1 (union texts (value_at s best) (smallest texts this)) ≡ value_at s best → (best.found ≡ true → passed (least_text s best) this ≡ this) →
+      take 1 (union texts (value_at s best) (smallest texts this)) ≡ value_at s best →
+      (best.found ≡ true → passed (least_text s best) this ≡ this) →
       LeastTo s ends n xss (j + 1) best
   least_kept v p = record {
     least = least-next (value_at s best) v;

@@ -27,7 +27,8 @@ pub digit-small : (b : ℕ) {r : ℕ} → r ≡ b - 48 → Fits w8 b → r < 208
 digit-small b e h = omega (arith, h.fits)
 
 pub field-two :
-    (v : List ℕ) (at : ℕ) {a b : ℕ} → at + 2 ≤ length v → a ≡ get_or v at 0 - 48 → b ≡ get_or v (at + 1) 0 - 48 → 10 * a + b ≡ field v at 2
+    (v : List ℕ) (at : ℕ) {a b : ℕ} → at + 2 ≤ length v → a ≡ get_or v at 0 - 48 → b ≡ get_or v (at + 1) 0 - 48 →
+    10 * a + b ≡ field v at 2
 unfolding field numeral numeral_after
 field-two v at h p q = rw (drop-next v at (omega arith), drop-next v (at + 1) (omega arith)) (omega arith)
 

@@ -117,7 +117,8 @@ pub record Fixed (after : ℕ) (m : Text) : Type 0 where
   pub number : unscaled after m ≡ numeral (whole ++ fraction)
 
 split-fixed :
-    (after : ℕ) (m w p : Text) → m ≡ w ++ p → unscaled after m ≡ numeral (w ++ drop 1 p) → is_natural w ≡ true → is_fraction after p ≡ true →
+    (after : ℕ) (m w p : Text) → m ≡ w ++ p → unscaled after m ≡ numeral (w ++ drop 1 p) → is_natural w ≡ true →
+    is_fraction after p ≡ true →
     Fixed after m
 unfolding is_fraction
 split-fixed after m w [] t u n e = let z : ◌≡◌ {A = ℕ} 0 1 = cc in absurd (omega arith)
@@ -294,7 +295,8 @@ number-order (hex bytes) a b n p q = cc
 
 -- "so equal values have equal bytes"
 pub equal-number-equal-bytes :
-    (k : Kind) (a b : Text) → is_number k ≡ true → is_of_kind k a ≡ true → is_of_kind k b ≡ true → value_number k a ≡ value_number k b → a ≡ b
+    (k : Kind) (a b : Text) → is_number k ≡ true → is_of_kind k a ≡ true → is_of_kind k b ≡ true → value_number k a ≡ value_number k b →
+    a ≡ b
 equal-number-equal-bytes k a b n p q e =
     signed_same a b (sym (number-order k a b n p q) ∙ ap (integers.cmp (value_number k a)) (sym e) ∙ integers.self (value_number k a))
 

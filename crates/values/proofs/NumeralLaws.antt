@@ -128,7 +128,8 @@ unfolding numeral
 alike-after n x y h p q e = compare-lt (numeral_after 0 x) (numeral_after n y) (order-after 0 n x y p q e ∙ rw (lt-compare 0 n h))
 
 -- digits after a number that is not 0 write more than digits that are no more
-pub more-after : (n : ℕ) (x y : Text) → 0 < n → are_digits x ≡ true → are_digits y ≡ true → length x ≤ length y → numeral x < numeral_after n y
+pub more-after : (n : ℕ) (x y : Text) → 0 < n → are_digits x ≡ true → are_digits y ≡ true → length x ≤ length y →
+    numeral x < numeral_after n y
 unfolding numeral_after
 more-after n x [] h p q e = alike-after n x [] h p q (omega arith)
 more-after n x (b ∷ y) h p q e =

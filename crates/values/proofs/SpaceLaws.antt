@@ -222,7 +222,8 @@ equal-values-equal-bytes k a b n p q e = ⊎_elim
     (sym (is-datetime-kind k (omega (arith, ordered-low k n)))) (datetimes a b) (of-kind k a p) (of-kind k b q) e)
     (lt-or-ge (kind_number k) (kind_number datetime))
   where
-    datetimes : (a b : Text) → is_of_kind datetime a ≡ true → is_of_kind datetime b ≡ true → value_number datetime a ≡ value_number datetime b → a ≡ b
+    datetimes : (a b : Text) → is_of_kind datetime a ≡ true → is_of_kind datetime b ≡ true → value_number datetime a ≡ value_number datetime b →
+        a ≡ b
     datetimes a b p q e = let s : instant a ≡ instant b = cc in equal-instant-equal-bytes a b p q s
 
 pub chosen :

@@ -1,5 +1,6 @@
 -- Moments of the Gregorian calendar, written YYYY-MM-DDThh:mm:ssZ, or with a point and six digits before Z.
-use Rattle.std.specs.Prelude.{ℕ, zero, suc, ◌+◌, ◌-◌, ◌*◌, ◌/◌, ◌%◌, Bool, true, false, cond, not, ◌&&◌, ◌||◌, [], ◌∷◌, take, drop, ltb, leb, eqb}
+use Rattle.std.specs.Prelude.{ℕ, zero, suc, ◌+◌, ◌-◌, ◌*◌, ◌/◌, ◌%◌, Bool, true, false}
+use Rattle.std.specs.Prelude.{cond, not, ◌&&◌, ◌||◌, [], ◌∷◌, take, drop, ltb, leb, eqb}
 use Rattle.model.specs.Order.{Text}
 use Rattle.packed.specs.Ascii.{ascii}
 use Rattle.values.specs.Decimal.{is_digit, numeral}

@@ -1,5 +1,6 @@
 -- Document 01, "Kinds" and "Value spaces".
-use Rattle.std.specs.Prelude.{ℕ, ◌+◌, ◌-◌, ◌*◌, ◌^◌, Bool, true, false, cond, not, ◌&&◌, ◌||◌, [], ◌∷◌, ◌++◌, length, take, drop, ltb, leb, eqb}
+use Rattle.std.specs.Prelude.{ℕ, ◌+◌, ◌-◌, ◌*◌, ◌^◌, Bool, true, false, cond, not}
+use Rattle.std.specs.Prelude.{◌&&◌, ◌||◌, [], ◌∷◌, ◌++◌, length, take, drop, ltb, leb, eqb}
 use Rattle.model.specs.Order.{Text, texts, equal}
 use Rattle.packed.specs.Ascii.{ascii}
 use Rattle.packed.specs.Packed.{is_within}

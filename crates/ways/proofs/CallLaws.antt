@@ -198,7 +198,8 @@ module _
   of-asked out x e r a = rw (has_room_lem hash_text_capacity (length out) r, is_table, a)
 
   -- of an event
-  pub event-text : (out s : List ℕ) → hash_text_capacity ≤ length out → S s → hash_text_answer (length out) table s ≡ gives (event_text t (event_at s))
+  pub event-text : (out s : List ℕ) → hash_text_capacity ≤ length out → S s →
+      hash_text_answer (length out) table s ≡ gives (event_text t (event_at s))
   event-text out s r k = of-asked out s (event_at s) r (accepted-wide types s (record { type = t; event = event_at s }) k.taken)
 
   -- of the bytes that an answer gives

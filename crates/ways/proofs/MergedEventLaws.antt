@@ -68,7 +68,8 @@ module _
 
     sets-long : length ss ≡ 32
     unfolding merged_sets places type_view event_view
-    sets-long = ap (λ (x : List (List Text)). length x) (sym sets-are) ∙ (length-map (places (type_view t)) (merged_at (type_view t) ruled) ∙ length-up_to 32)
+    sets-long = ap (λ (x : List (List Text)). length x) (sym sets-are) ∙
+        (length-map (places (type_view t)) (merged_at (type_view t) ruled) ∙ length-up_to 32)
 
     set-from : (p : ℕ) → get_or ss p [] ≡ get_or (merged_sets (type_view t) ruled) p []
     set-from p = ap (λ (x : List (List Text)). get_or x p []) (sym sets-are)

@@ -41,7 +41,8 @@ use Rattle.event.proofs.EventQuestionLaws.{version_below, version-none, count-ob
 use Rattle.event.proofs.EventSizeLaws.{each_within}
 use Rattle.event.specs.Agreement.{match_sets}
 use Rattle.dossier.specs.DossierLayout.{Headed, dossier_bytes, headed}
-use Rattle.dossier.specs.DossierQuestions.{each_cell, each_snapshot, is_vacant, is_present, is_lone, is_lone_if_single, is_lone_if_extreme, unversioned_snapshot}
+use Rattle.dossier.specs.DossierQuestions.{each_cell, each_snapshot, is_vacant, is_present}
+use Rattle.dossier.specs.DossierQuestions.{is_lone, is_lone_if_single, is_lone_if_extreme, unversioned_snapshot}
 use Rattle.dossier.specs.DossierQuestions.{unversioned_shape, holds_version, versioned_snapshot, snapshot_match, is_unmarked_match, match_fits, dossier_shape}
 use Rattle.dossier.specs.DossierQuestions.{snapshot_values, dossier_asked, dossier_match}
 use Rattle.dossier.proofs.DossierBodyLaws.{SnapshotWritten}

@@ -1,5 +1,6 @@
 -- What the readers of a dossier answer, as relations between the bytes, what was read and the positions.
-use Rattle.std.specs.Prelude.{ℕ, suc, ◌+◌, ◌-◌, ◌*◌, ◌≤◌, ◌<◌, ◌≡◌, Bool, true, false, cond, not, ◌&&◌, ◌||◌, List, [], map, length, take, drop, get_or, leb, eqb}
+use Rattle.std.specs.Prelude.{ℕ, suc, ◌+◌, ◌-◌, ◌*◌, ◌≤◌, ◌<◌, ◌≡◌, Bool, true, false, cond}
+use Rattle.std.specs.Prelude.{not, ◌&&◌, ◌||◌, List, [], map, length, take, drop, get_or, leb, eqb}
 use Rattle.std.proofs.Math.Option.{Option, none, some}
 use Rattle.std.specs.Int.Bits.{bit_and, bit_or}
 use Rattle.model.specs.Rule.{Cell, Snapshot, sizes}
@@ -22,7 +23,8 @@ use Rattle.dossier.specs.declared.head.DossierHeadRead.TheVariants as read
 use Rattle.dossier.specs.DossierHead.{read_dossier_head, dossier_head_bytes}
 use Rattle.dossier.specs.DossierLayout.{Headed, dossier_of}
 use Rattle.dossier.specs.DossierBody.{apart, cells_of, are_small, read_snapshot, differ_bit, snapshot_bytes}
-use Rattle.dossier.specs.DossierQuestions.{each_cell, is_vacant, is_present, is_lone_if_single, is_lone_if_extreme, is_unmarked_match, holds_version, TypedDossier}
+use Rattle.dossier.specs.DossierQuestions.{each_cell, is_vacant, is_present, is_lone_if_single}
+use Rattle.dossier.specs.DossierQuestions.{is_lone_if_extreme, is_unmarked_match, holds_version, TypedDossier}
 use Rattle.dossier.specs.declared.shape.ShapeMasks.{ShapeMasks}
 use Rattle.dossier.specs.declared.snapshots.NumbersAt.{NumbersAt}
 use Rattle.dossier.specs.declared.snapshots.NumbersAt.TheVariants.{Numbers, NoNumbers}
@@ -36,7 +38,8 @@ use Rattle.dossier.specs.declared.dossiers.DossierIndex.{DossierIndex}
 
 -- what follows the numbers that a snapshot begins with
 abbrev pub after_numbers : ℕ → ℕ → ℕ → Layout Snapshot
-after_numbers version presence differ = read_sets 32 presence >>= λ sets. found_if (are_small sets) (record { version = version; cells = cells_of differ sets })
+after_numbers version presence differ =
+    read_sets 32 presence >>= λ sets. found_if (are_small sets) (record { version = version; cells = cells_of differ sets })
 
 -- the numbers at `at` were read, and what is left starts after the differ number
 pub record NumbersStop (s : List ℕ) (at version presence differ after-differ : ℕ) : Type 0 where

@@ -192,7 +192,8 @@ TextsSkipped s at count to =
 -- the same for the sets of `count` places with objects
 abbrev pub SetsSkipped : List ℕ → ℕ → ℕ → ℕ → Type 0
 SetsSkipped s at count to =
-    (xs : List (List Text)) (r : List ℕ) → drop at s ≡ sets_bytes xs ++ r → at ≤ length s → count ≡ present xs → Skipped s at (sets_bytes xs) r to
+    (xs : List (List Text)) (r : List ℕ) → drop at s ≡ sets_bytes xs ++ r → at ≤ length s → count ≡ present xs →
+    Skipped s at (sets_bytes xs) r to
 
 -- the value at a place and an index stands from a up to z
 pub record ValueStands (s : List ℕ) (e : Event) (place index a z : ℕ) : Type 0 where

@@ -1,5 +1,5 @@
 -- The report has its room, and stands at the front of the output.
-use Rattle.std.proofs.Common.{◌≡◌, ◌≤◌, OnOk, length, subst, arith}
+use Rattle.std.proofs.Common.{◌≤◌, OnOk, length, subst, arith}
 use lib.Seq.{length-take-le}
 use Rattle.std.specs.Io.KnownBytes.{Appends}
 use Rattle.merge.proofs.PrintLaws.{prints-done, never-refused}

@@ -1,11 +1,11 @@
 -- What the readers of a table answer, as relations between the bytes, the model and what the code holds.
-use Rattle.std.specs.Prelude.{ℕ, ◌+◌, ◌-◌, ◌*◌, ◌/◌, ◌%◌, ◌≤◌, ◌<◌, ◌≡◌, ◌⊎◌, Bool, true, false, cond, not, ◌&&◌, ◌||◌, List, [], ◌∷◌, map, length, drop, get_or, ltb, leb, eqb}
+use Rattle.std.specs.Prelude.{ℕ, ◌+◌, ◌-◌, ◌*◌, ◌/◌, ◌%◌, ◌≤◌, ◌<◌, ◌≡◌, ◌⊎◌, Bool, true, false}
+use Rattle.std.specs.Prelude.{cond, not, ◌&&◌, ◌||◌, List, [], ◌∷◌, map, length, drop, get_or, ltb, leb, eqb}
 use Rattle.std.proofs.Math.Option.{Option, none, some}
 use Rattle.std.proofs.Math.ListN.{get_elem?}
 use Rattle.model.specs.Order.{Text}
 use Rattle.packed.specs.Parse.{Parse, fail, got, Layout, and_then, found_if, such_that, times}
 use Rattle.packed.specs.Packed.{part, is_within}
-use Rattle.packed.specs.declared.read.TextAt.TheVariants as text
 use Rattle.packed.specs.code.Located.{Got}
 use Rattle.packed.specs.code.Comparison.{precedes}
 use Rattle.values.specs.Spaces.{Kind, kind_number, unsigned_number, signed_number, string_number, hex_number, is_width}

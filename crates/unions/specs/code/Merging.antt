@@ -51,7 +51,8 @@ value_at s r = cond r.found (least_text s r ∷ []) []
 -- The answer tells of the least value of the first j of n runs; it has been passed in these, and the others stand as they are.
 pub record LeastTo (s ends : List ℕ) (n : ℕ) (xss : List (List Text)) (j : ℕ) (r : Told) : Type 0 where
   pub least : value_at s r ≡ smallest texts (flatten (take j xss))
-  pub passes : r.found ≡ true → (i : ℕ) → i < j → i < n → SetRun s (get_or r.after i 0) (get_or ends i 0) (passed (least_text s r) (get_or xss i []))
+  pub passes : r.found ≡ true → (i : ℕ) → i < j → i < n →
+      SetRun s (get_or r.after i 0) (get_or ends i 0) (passed (least_text s r) (get_or xss i []))
   pub stays : r.found ≡ true → (i : ℕ) → j ≤ i → i < n → SetRun s (get_or r.after i 0) (get_or ends i 0) (get_or xss i [])
 
 -- run j, which ends at `end`, is taken in

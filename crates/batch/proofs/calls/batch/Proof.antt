@@ -82,7 +82,8 @@ module _ (c : tie.After-read_table-read) where
   abbrev properties : List ℕ
   properties = c.read_table-read.new.properties
 
-abbrev got : (c : tie.Else-not-read) → let t = c in TableGot (table (search)) (to-name (search)).type_name-name.result.now (properties (search)) (read (search))
+abbrev got : (c : tie.Else-not-read) → let t = c in
+    TableGot (table (search)) (to-name (search)).type_name-name.result.now (properties (search)) (read (search))
 got c = table_got _ _ _ _ c.read_table-read.ensures (not-false _ c.if-not-read.false)
 
 abbrev frame : (c : tie.Else-not-x) → let b = to-batch (to_read c) in Framed (batch b) (x b)

@@ -15,9 +15,6 @@ use Rattle.combining.proofs.add.write_met.Tie as tie
 abbrev to_start : tie.After-part_of-met → tie.Start
 to_start c = (search)
 
-abbrev alone-to-start : tie.After-write_alone-size → tie.Start
-alone-to-start c = to_start (search)
-
 -- the two differ
 abbrev row-to-start : tie.After-row-1 → tie.Start
 row-to-start c = (search)

@@ -41,7 +41,8 @@ write-sets-requires c κs =
     let numbers = v in
     let pre = (to_start (search)).requires in
     let q = pre.2 in
-    let room = sets-room (parts (search)) v.write_number-after_version.ensures refl p.write_number-after_presence.ensures refl d.write_number-after_differ.ensures refl in
+    let room = sets-room (parts (search)) v.write_number-after_version.ensures refl p.write_number-after_presence.ensures refl
+    d.write_number-after_differ.ensures refl in
     (pre.0, record { values = map held q.left.cells; are = q.shared.left_is.sets; room = room })
 
 returns : tie.Need-returns
@@ -53,7 +54,8 @@ returns c = λ ty left right versioned counted shared.
     let n = v in
     let found = (to-places (search)).agreed_places-p in
     wrote-both (both_found found.ensures n.number_of-presence.ensures n.number_of-differ.ensures versioned counted shared)
-    v.write_number-after_version.ensures p.write_number-after_presence.ensures d.write_number-after_differ.ensures (sets.write_sets.ensures _ shared.left_is.sets)
+    v.write_number-after_version.ensures p.write_number-after_presence.ensures d.write_number-after_differ.ensures
+    (sets.write_sets.ensures _ shared.left_is.sets)
 
 pub write_agreed_spec : {M : Type 1} → statement M
 write_agreed_spec =

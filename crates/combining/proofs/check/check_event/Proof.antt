@@ -60,7 +60,8 @@ module _ (c : tie.After-ask_event-number) where
       c.ask_event-number.ensures _ _ narrow tabled.read_table-read.ensures (tabled.type_name.ensures narrow) read.read_event-e.ensures
 
 -- the event is accepted
-abbrev event-taken : (c : tie.Else-number-ne0) → let a = c in Checked (table (search)) (event (search)) (answer (search)).type (answer (search)).event (sets (search))
+abbrev event-taken : (c : tie.Else-number-ne0) → let a = c in
+    Checked (table (search)) (event (search)) (answer (search)).type (answer (search)).event (sets (search))
 event-taken c = asked-checked (accepted-is narrow _ _ _ _ _ (answered (search)) c.if-number-ne0.false)
 
 version-had : (c : tie.After-version_of-version) → let a = event-taken (to-taken c) in c.version_of-version.result.0 ≡ version_of a.type a.e

@@ -24,7 +24,8 @@ write-sets-requires c κs =
     let v : tie.After-write_number-after_version = search in
     let s : tie.Start = search in
     let is = s.requires.1.read in
-    let room = sets-room (parts s) v.write_number-after_version.ensures is.presence p.write_number-after_presence.ensures refl d.write_number-after_differ.ensures (sets-are is) in
+    let room = sets-room (parts s) v.write_number-after_version.ensures is.presence p.write_number-after_presence.ensures refl
+    d.write_number-after_differ.ensures (sets-are is) in
     (s.requires.0, record { values = s.requires.1.event.sets; are = is.sets; room = room })
 
 pub write_alone_spec : {M : Type 1} → statement M

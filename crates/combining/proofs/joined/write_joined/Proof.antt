@@ -34,7 +34,8 @@ to_start c = (search)
 abbrev to-version : tie.After-number_of invariant-loop-k decreases-loop-k → tie.After-write_number-after_version invariant-loop-k decreases-loop-k
 to-version c = (search)
 
-abbrev to-presence : tie.After-write_number-arg-3-1 invariant-loop-k decreases-loop-k → tie.After-write_number-after_presence invariant-loop-k decreases-loop-k
+abbrev to-presence : tie.After-write_number-arg-3-1 invariant-loop-k decreases-loop-k →
+    tie.After-write_number-after_presence invariant-loop-k decreases-loop-k
 to-presence c = (search)
 
 abbrev differ : tie.At-loop-k invariant-loop-k decreases-loop-k → tie.After-write_number-next invariant-loop-k decreases-loop-k
@@ -86,7 +87,8 @@ loop-again c = λ u ty x y n.
     let low = inside (search) in
     let g = at-loop.loop-k.invariant u ty x y n in
     ⊎_elim
-    (λ d. to-go-same (gone _ _ g (sets-step ty x y k low) (d.write_place-next.ensures (joined-place n k d.set_at-v.ensures d.set_at-w.ensures low))) d.out-is d.next-is)
+    (λ d. to-go-same (gone _ _ g (sets-step ty x y k low) (d.write_place-next.ensures (joined-place n k d.set_at-v.ensures d.set_at-w.ensures low))) d.out-is
+    d.next-is)
     (λ d. to-go-same (place-past n (places (search)).joined_places-present.ensures k low d.if-present-k.false g) d.out-is d.next-is)
     c.if-present-k.branch-raw
 
@@ -94,7 +96,8 @@ same_length : tie.Need-shape_of-out invariant-loop-k decreases-loop-k
 same_length c =
     let at-loop = c in
     (at-loop.loop-k.invariant _ _ _ _ (room-joins (to_start (places (search))).requires.3)).long
-    ∙ (differ (search)).write_number-next.auto.out ∙ (presence (search)).write_number-after_presence.auto.out ∙ (version (search)).write_number-after_version.auto.out
+    ∙ (differ (search)).write_number-next.auto.out ∙ (presence (search)).write_number-after_presence.auto.out ∙
+    (version (search)).write_number-after_version.auto.out
 
 returns : tie.Need-returns invariant-loop-k decreases-loop-k
 returns c = λ u ty x y w v m l r.

@@ -15,15 +15,8 @@ decreases-loop-i m n v w i₀ j₀ count₀ i j count = (m - i) + (n - j)
 
 -- ---- the places
 
--- both sides have a version left
-abbrev to-turn : tie.After-struct_known-in-loop-i-1 invariant-loop-i decreases-loop-i → tie.Else-n-j invariant-loop-i decreases-loop-i
-to-turn c = (search)
-
 abbrev left-joined : tie.Joined-b-a invariant-loop-i decreases-loop-i → tie.Joined-a-b invariant-loop-i decreases-loop-i
 left-joined c = (search)
-
-abbrev turn : tie.Joined-b-a invariant-loop-i decreases-loop-i → tie.Else-n-j invariant-loop-i decreases-loop-i
-turn c = to-turn (search)
 
 -- ---- where each side goes on
 

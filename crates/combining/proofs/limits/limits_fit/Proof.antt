@@ -41,8 +41,10 @@ few-parents c h =
     to-versions h.known _ c.parents_fit.ensures h.left-read.head.hashes h.right-read.head.hashes (not-false _ c.if-not-parents_fit.false-raw)
 
 few-versions :
-    (c : tie.Else-limits-count_versions) {table : List ℕ} (h : Two (versions-to-start c) table) → ToObjects h.known (limits_of (versions-to-start c).args.limits)
-few-versions c h = let counted = to-counted c in versions-few h _ (few-parents (to-parents counted) h) counted.count_versions.ensures c.if-limits-count_versions.false
+    (c : tie.Else-limits-count_versions) {table : List ℕ} (h : Two (versions-to-start c) table) →
+    ToObjects h.known (limits_of (versions-to-start c).args.limits)
+few-versions c h = let counted = to-counted c in
+    versions-few h _ (few-parents (to-parents counted) h) counted.count_versions.ensures c.if-limits-count_versions.false
 
 -- ---- the needs
 

@@ -72,7 +72,8 @@ read_dossier_spec =
     (λ c. refused _ _ _ _ _ (search count_none) c.no_dossier-in_default-read_within.ensures)
     (λ c. omega (arith, (counted c).few))
     (λ c κs. search rules)
-    (λ c. refused _ _ _ _ _ (let told : tie.In-Number = search in search (rows_short, counted told, (start told).requires.1)) c.no_dossier-then-rows-count.ensures)
+    (λ c. refused _ _ _ _ _ (let told : tie.In-Number = search in search (rows_short, counted told, (start told).requires.1))
+    c.no_dossier-then-rows-count.ensures)
     (λ c κs. let n = counted (search) in (n.count.within, n.one, n.few, c.if-rows-count.false))
     (λ c κs. search rules) (λ c. search rules)
     returns-4

@@ -8,7 +8,8 @@ use Rattle.dossier.proofs.shape.cells_fit.Statement.{statement}
 use Rattle.dossier.proofs.shape.cells_fit.Tie as tie
 
 abbrev invariant-loop-k : tie.invariant-loop-k
-invariant-loop-k m count differ objects sets present₀ several₀ left₀ k₀ present several left k = CountsDown count differ objects sets present several left k
+invariant-loop-k m count differ objects sets present₀ several₀ left₀ k₀ present several left k =
+    CountsDown count differ objects sets present several left k
 
 abbrev decreases-loop-k : tie.decreases-loop-k
 decreases-loop-k m count differ objects sets present₀ several₀ left₀ k₀ present several left k = k

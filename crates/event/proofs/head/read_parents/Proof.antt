@@ -12,7 +12,8 @@ use Rattle.event.proofs.head.read_parents.Statement.{statement}
 use Rattle.event.proofs.head.read_parents.Tie as tie
 
 abbrev invariant-loop-left : tie.invariant-loop-left
-invariant-loop-left s at most number after-count count from₀ to₀ left₀ from to left = RisingTo (read_bytes 20) (read_parents most (drop at s)) s from to left
+invariant-loop-left s at most number after-count count from₀ to₀ left₀ from to left =
+    RisingTo (read_bytes 20) (read_parents most (drop at s)) s from to left
 
 abbrev decreases-loop-left : tie.decreases-loop-left
 decreases-loop-left s at most number after-count count from₀ to₀ left₀ from to left = left

@@ -19,7 +19,8 @@ to_start c = search
 
 -- ---- the facts
 
-body : (c : tie.Else-presence-ge4294967296) → let h = to-head c in let a = (to_start h).args in BodyAt (counts a.most_parents a.most_objects) a.s.now h.in-Head.head c.in-Number.presence c.in-Number.after_presence
+body : (c : tie.Else-presence-ge4294967296) → let h = to-head c in let a = (to_start h).args in
+    BodyAt (counts a.most_parents a.most_objects) a.s.now h.in-Head.head c.in-Number.presence c.in-Number.after_presence
 body c = search body_at
 
 pub read_counted_spec : {M : Type 1} → statement M

@@ -15,7 +15,8 @@ abbrev decreases-loop-k : tie.decreases-loop-k
 decreases-loop-k count properties objects sets left₀ matches₀ k₀ left matches k = 32 - k
 
 returns-4 : tie.Need-returns invariant-loop-k decreases-loop-k
-returns-4 c = shape-end c.loop-k.invariant (⊎_elim (λ a. inl (ltb-false _ _ a.if-k-count.false-raw)) (λ a. inr a.loop-k-test.false) c.loop-k-test.branch-raw)
+returns-4 c =
+    shape-end c.loop-k.invariant (⊎_elim (λ a. inl (ltb-false _ _ a.if-k-count.false-raw)) (λ a. inr a.loop-k-test.false) c.loop-k-test.branch-raw)
 
 pub shape_ok_spec : {M : Type 1} → statement M
 shape_ok_spec =

@@ -34,7 +34,8 @@ to_start c = search
 -- ---- the facts
 
 -- the answer on the next text
-asked : (c : tie.After-in_space invariant-loop-at decreases-loop-at) → let l = to-loop c in let a = (to_start l).args in (k : Kind) → KindHere a.kind a.size a.after a.sign k → c.in_space.result ≡ in_space k (part a.v.now (to-text c).in-Text.value (to-text c).in-Text.end)
+asked : (c : tie.After-in_space invariant-loop-at decreases-loop-at) → let l = to-loop c in let a = (to_start l).args in (k : Kind) →
+    KindHere a.kind a.size a.after a.sign k → c.in_space.result ≡ in_space k (part a.v.now (to-text c).in-Text.value (to-text c).in-Text.end)
 asked c k q = c.in_space.ensures k q.0 q.1
 
 -- ---- the needs

@@ -40,7 +40,8 @@ loop-again c =
     let told = sym c.is_match.ensures in
     let p = taken.property_at-p.ensures in
     ⊎_elim
-    (λ d. gathered-same d.objects-is d.n-is (gathered-match l.invariant inside p (told ∙ d.if-is_match.true) d.set_at.ensures d.objects-1.given d.gather_set-n.ensures))
+    (λ d. gathered-same d.objects-is d.n-is
+    (gathered-match l.invariant inside p (told ∙ d.if-is_match.true) d.set_at.ensures d.objects-1.given d.gather_set-n.ensures))
     (λ d. gathered-same d.objects-is d.n-is (gathered-other l.invariant inside p (told ∙ d.if-is_match.false)))
     c.if-is_match.branch-raw
 

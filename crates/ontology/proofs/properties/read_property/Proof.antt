@@ -39,7 +39,8 @@ named c = search (name-left, name-got)
 kinded :
     (c : tie.In-OfKind) →
     let a = (to_start (to-name c)).args in
-    KindLeft a.table.now a.at (to-name c).in-Text.start (to-name c).in-Text.end c.in-OfKind.kind c.in-OfKind.size c.in-OfKind.after c.in-OfKind.sign c.in-OfKind.after_kind
+    KindLeft a.table.now a.at (to-name c).in-Text.start (to-name c).in-Text.end c.in-OfKind.kind c.in-OfKind.size c.in-OfKind.after c.in-OfKind.sign
+    c.in-OfKind.after_kind
 kinded c = kind-left (named (search)) (search kind-got)
 
 optional : (c : tie.In-Flag) → OptionalLeft (kinded (to-kind c)) c.in-Flag.optional c.in-Flag.after_optional

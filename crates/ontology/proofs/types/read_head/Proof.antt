@@ -20,9 +20,6 @@ to_start c = search
 abbrev to-name : tie.In-Number → tie.In-Text
 to-name c = search
 
-abbrev to-defined : tie.In-Number-read_number → tie.Else-definition-eq0
-to-defined c = search
-
 -- ---- the values
 
 abbrev definition : tie.In-Number → ℕ

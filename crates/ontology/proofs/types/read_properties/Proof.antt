@@ -43,7 +43,8 @@ loop-again c =
     let l : tie.At-loop-k invariant-loop-k decreases-loop-k = search in
     filled_more l.loop-k.invariant (search) (stops (search)) c.property_fits.ensures c.if-not-property_fits.false-raw
     (⊎_elim
-    (λ w. placed w.if-keep.true w.properties-is w.put_property.ensures.0 w.put_property.ensures.1 (omega (arith, l.loop-k.invariant.size, w.properties-1.given)))
+    (λ w. placed w.if-keep.true w.properties-is w.put_property.ensures.0 w.put_property.ensures.1
+    (omega (arith, l.loop-k.invariant.size, w.properties-1.given)))
     (λ w. not-placed w.if-keep.false w.properties-is l.loop-k.invariant.size)
     c.if-keep.branch-raw)
 

@@ -25,7 +25,8 @@ open-with-requires c κs =
     (allowed search, one-row _ _ _ few.snapshot_count.ensures few.if-snapshot_count-le1.true, large.if-out-lt-DOSSIER_CAPACITY.false)
 
 open-with-requires-2 : tie.Need-open_with-requires-2
-open-with-requires-2 c κs = let large : tie.Else-out-lt-DOSSIER_CAPACITY = search in (allowed search, all-rows _ _ (allowed search), large.if-out-lt-DOSSIER_CAPACITY.false)
+open-with-requires-2 c κs = let large : tie.Else-out-lt-DOSSIER_CAPACITY = search in
+    (allowed search, all-rows _ _ (allowed search), large.if-out-lt-DOSSIER_CAPACITY.false)
 
 pub open_dossier_spec : {M : Type 1} → statement M
 open_dossier_spec =

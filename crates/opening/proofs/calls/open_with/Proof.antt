@@ -91,7 +91,8 @@ accepted c =
 returns : tie.Need-returns-then-not-read
 returns c =
     let at_table = c in
-    open-table (allowed (to_read (search))) _ _ _ (room (to_read (search))) (table-refused _ _ _ _ at_table.read_table-read.ensures (not-true _ c.if-not-read.true))
+    open-table (allowed (to_read (search))) _ _ _ (room (to_read (search)))
+    (table-refused _ _ _ _ at_table.read_table-read.ensures (not-true _ c.if-not-read.true))
 
 ask-dossier-requires : tie.Need-ask_dossier-number-requires
 ask-dossier-requires c κs =

@@ -29,7 +29,8 @@ returns c = λ p.
     let space : tie.After-copy-after_space = search in
     let name : tie.After-write_named-after_name = search in
     let end : tie.After-write_end = search in
-    wrote-conflict p _ word.copy-after_word.ensures version.write_decimal-after_version.ensures space.copy-after_space.ensures (name.write_named-after_name.ensures p)
+    wrote-conflict p _ word.copy-after_word.ensures version.write_decimal-after_version.ensures space.copy-after_space.ensures
+    (name.write_named-after_name.ensures p)
     end.write_end.ensures
 
 pub write_conflict_spec : {M : Type 1} → statement M

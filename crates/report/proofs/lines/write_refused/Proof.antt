@@ -21,7 +21,8 @@ returns c =
     let space : tie.After-copy-after_space = search in
     let position : tie.After-write_decimal-after_position = search in
     let end : tie.After-write_end = search in
-    wrote-refused _ _ word.copy-after_word.ensures number.write_decimal-after_number.ensures space.copy-after_space.ensures position.write_decimal-after_position.ensures
+    wrote-refused _ _ word.copy-after_word.ensures number.write_decimal-after_number.ensures space.copy-after_space.ensures
+    position.write_decimal-after_position.ensures
     end.write_end.ensures
 
 pub write_refused_spec : {M : Type 1} → statement M

@@ -70,14 +70,17 @@ heads :
 heads c = both-heads (to-p c).in-Text.is (to-p c).head_at.ensures c.in-Text-head_at.is c.head_at-in-loop-p.ensures
 
 -- the step of each arm
-less : (c : tie.After-copy_part-arg-in-0-1 invariant-loop-p decreases-loop-p) → let q = to-q (search) in LeftStep (turn q).loop-p.invariant 1 (x q) (turn q).loop-p.j
+less : (c : tie.After-copy_part-arg-in-0-1 invariant-loop-p decreases-loop-p) → let q = to-q (search) in
+    LeftStep (turn q).loop-p.invariant 1 (x q) (turn q).loop-p.j
 less c = let compared = c in less-step _ (heads (to-q (search))) compared.order_parts.ensures (omega (arith, c.in-0.is))
 
 same : (c : tie.After-copy_part-arg-in-1-1 invariant-loop-p decreases-loop-p) → let q = to-q (search) in LeftStep (turn q).loop-p.invariant 2 (x q) (y q)
 same c = let compared = c in same_step _ (heads (to-q (search))) compared.order_parts.ensures (omega (arith, c.in-1.is))
 
-more : (c : tie.After-copy_part-arg-in_default-order_parts-1 invariant-loop-p decreases-loop-p) → let q = to-q (search) in RightStep (turn q).loop-p.invariant (y q)
-more c = let compared = c in more-step _ (heads (to-q (search))) compared.order_parts.ensures (omega (arith, c.in_default-order_parts.in_default-order_parts-own.rest))
+more : (c : tie.After-copy_part-arg-in_default-order_parts-1 invariant-loop-p decreases-loop-p) → let q = to-q (search) in
+    RightStep (turn q).loop-p.invariant (y q)
+more c = let compared = c in
+    more-step _ (heads (to-q (search))) compared.order_parts.ensures (omega (arith, c.in_default-order_parts.in_default-order_parts-own.rest))
 
 -- ---- the needs
 
