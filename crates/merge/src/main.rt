@@ -52,7 +52,7 @@ fn print_report<W: Write>(writer: &mut W, input: &[u8]) -> io::Result<()>
     }
 }
 
-// Of an input that is too long, what was read is too long as well, so that both have the same report.
+// Writes the report of all that the reader has left. Of an input that is too long, what was read is too long as well, so that both have the same report.
 fn merge<R: Read, W: Write>(reader: &mut R, writer: &mut W) -> io::Result<()>
     ensures { OnOk result (IfSome (R.remaining reader.old)
         (λ input. Appends (W.contents writer.old) (W.contents writer.new) (report input))) }

@@ -11,7 +11,7 @@ use lib.Seq.{take-append_seam, take_all}
 use borrow.Author.Tests.{le-leb, lt-leb}
 use Rattle.model.specs.Order.{Text}
 use Rattle.model.specs.Rule.{places, rule}
-use Rattle.model.specs.Limits.{Limits, standard, is_permitted, Permitted, fits}
+use Rattle.model.specs.Limits.{Limits, standard, is_permitted, Permitted}
 use Rattle.model.specs.Opening as model
 use Rattle.model.specs.Opening.{conflict_at, overfull_at, place_of, finds, merged, overfull, merged_at}
 use Rattle.model.proofs.Cases.{never}
@@ -64,7 +64,7 @@ use Rattle.hashing.specs.HashCalls.{hash_text_asked, hash_answer, hash_call}
 use Rattle.opening.specs.OpenCall.{merged_event, opened_answer, asked_opening, open_answer, open_call}
 use Rattle.ways.proofs.RuleQuestionLaws.{Gathered, rule-asked}
 use Rattle.ways.proofs.MergedEventLaws.{merged-asked}
-use Rattle.batch.specs.Batch.{AskedAt, refused_at, accepted, at, batch_asked, batch_given, Rooms, have_room, batch_answer, batch_call}
+use Rattle.batch.specs.Batch.{AskedAt, refused_at, accepted, batch_asked, batch_given, Rooms, have_room, batch_answer, batch_call}
 use Rattle.batch.proofs.GatheredLaws.{ruled_head, batch-gathers}
 use Rattle.report.specs.Report.{hashed_lines, merged_lines, finding_line, opened_lines, refused_line}
 use Rattle.report.specs.Report.{asked_lines, framed_lines, most_input, report, report_answer}

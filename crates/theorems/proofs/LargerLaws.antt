@@ -1,7 +1,7 @@
 -- What succeeds under smaller limits is the same under larger ones: each question that takes the limits is answered yes under the larger ones too, and what is
 -- written of dossiers that are taken does not hang on the limits.
 use mathlib.Core.Path.{◌≡◌, refl, sym, ap, ◌∙◌, subst}
-use mathlib.Core.Bool.{Bool, true}
+use mathlib.Core.Bool.{true}
 use mathlib.Core.List.{List, [], ◌∷◌}
 use Prim.Native.Nat.{ℕ}
 use lib.Dec.{leb}
@@ -14,7 +14,7 @@ use Rattle.model.proofs.LimitLaws.{fits-larger}
 use Rattle.replies.specs.Questions as questions
 use Rattle.replies.specs.Questions.{Asked, ask, ensure}
 use Rattle.replies.specs.Capacities.{dossier_capacity}
-use Rattle.replies.specs.Answers.{Reply, answer, reply_of, Outcome, outcome}
+use Rattle.replies.specs.Answers.{answer, reply_of, Outcome, outcome}
 use Rattle.replies.proofs.QuestionLaws.{asked-then, ensured}
 use Rattle.replies.proofs.RangeLaws.{in-range}
 use Rattle.ontology.specs.Table.{Table}
