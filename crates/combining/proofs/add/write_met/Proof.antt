@@ -12,9 +12,6 @@ use Rattle.combining.proofs.add.write_met.Tie as tie
 
 -- ---- the places
 
-abbrev to_start : tie.After-part_of-met → tie.Start
-to_start c = (search)
-
 -- the two differ
 abbrev row-to-start : tie.After-row-1 → tie.Start
 row-to-start c = (search)
