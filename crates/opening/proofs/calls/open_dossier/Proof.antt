@@ -2,8 +2,9 @@
 -- as the dossier can have snapshots (`one-row`, `all-rows`).
 use borrow.Author.Rules.{rules}
 use borrow.Author.Tests.{not-true, not-false}
-use mathlib.Core.Path.{sym, ◌∙◌}
-use Rattle.model.specs.Limits.{Permitted}
+use mathlib.Core.Bool.{false}
+use mathlib.Core.Path.{◌≡◌, sym, ◌∙◌}
+use Rattle.model.specs.Limits.{Permitted, is_permitted}
 use Rattle.model.proofs.LimitLaws.{permitted}
 use Rattle.replies.specs.ChosenLimits.{limits_of}
 use Rattle.dossier.proofs.RowLaws.{one-row, all-rows}
@@ -12,6 +13,9 @@ use Rattle.opening.proofs.calls.open_dossier.Statement.{statement}
 use Rattle.opening.proofs.calls.open_dossier.Tie as tie
 
 -- ---- the facts
+
+outside : (c : tie.Then-not-permitted) → let start : tie.Start = search in is_permitted (limits_of start.args.limits) ≡ false
+outside c = sym c.is_permitted-permitted.ensures ∙ not-true _ c.if-not-permitted.true-raw
 
 allowed : (c : tie.Else-not-permitted) → let start : tie.Start = search in Permitted (limits_of start.args.limits)
 allowed c = permitted _ (sym c.is_permitted-permitted.ensures ∙ not-false _ c.if-not-permitted.false-raw)
@@ -33,7 +37,7 @@ open_dossier_spec =
     tie.close
     (tie.spec
     (λ c κs. search rules)
-    (λ c. open-unpermitted _ _ _ _ (sym c.is_permitted-permitted.ensures ∙ not-true _ c.if-not-permitted.true-raw))
+    (λ c. open-unpermitted _ _ _ _ (outside search))
     (λ c. open-small (allowed search) _ _ _ c.if-out-lt-DOSSIER_CAPACITY.true)
     (λ c κs. allowed search)
     (λ c. search rules)
