@@ -1,7 +1,7 @@
 #!/usr/bin/env python3
 """Spells the repository's own definitions, fields and laws in snake case, as today's libraries are spelled.
 
-usage: tools/respell.py [--say] FOLDER      FOLDER is the top of a checkout in which /opt/rattle/port/port.py has run
+usage: tools/respell.py [--say] FOLDER      FOLDER is the top of a checkout in which the port.py of the kit has run
 
 A name that a file of specs/ or proofs/ declares and that has a capital inside a word, as eventOf or length-upTo, gets an underscore there:
 event_of, length-up_to. Types and modules keep their capitals; names that src/ declares, strings, inputs and outputs stay. Pages and edits are
