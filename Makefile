@@ -5,9 +5,9 @@
 .PHONY: archive test bench
 
 archive:
-	cd crates/interface && rt lib
+	cd crates/interface_c && rt lib
 	mkdir -p target/merger
-	cp crates/interface/out/libinterface.a target/merger/libmerger.a
+	cp crates/interface_c/out/libinterface_c.a target/merger/libmerger.a
 	cp include/merger.h target/merger/
 
 test:

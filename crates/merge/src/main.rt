@@ -2,9 +2,10 @@
 #![tactic(auto)]
 
 ghost use Rattle.report.specs.Report.{report};
-ghost use Rattle.std.specs.Io.KnownBytes.{Appends, Consumes, IsAtEnd};
-ghost use Rattle.std.specs.Prelude.{◌≡◌, ◌<◌, ◌≤◌, IfOk, IfSome, OnOk, length, take};
+ghost use Rattle.std.specs.Io.KnownBytes.{Appends};
+ghost use Rattle.std.specs.Prelude.{◌≡◌, IfSome, OnOk, length};
 
+use input::read_full;
 use replies::reply::Reply;
 use report::calls::report;
 use std::io;
@@ -22,23 +23,6 @@ fn report_buffer() -> [u8; 65536]
     ensures { 65536 ≡ length result }
 {
     [0; 65536]
-}
-
-// Reads until the buffer is full or the input ends, and returns how many bytes it put at the start.
-fn read_full<R: Read>(input: &mut R, buf: &mut [u8]) -> io::Result<usize>
-    ensures in_bounds { IfOk result (λ n. n ≤ length buf.new) }
-    ensures bytes { IfOk result (λ n. Consumes (R.remaining input.old) (R.remaining input.new) (take n buf.new)) }
-    ensures end { IfOk result (λ n. n < length buf.new → IsAtEnd (R.remaining input.new)) }
-{
-    let mut done: usize = 0;
-    while done < buf.len() {
-        let n = input.read(&mut buf[done..])?;
-        if n == 0 {
-            return Ok(done);
-        }
-        done += n;
-    }
-    Ok(done)
 }
 
 // Writes the report of the input, and no byte beside it.

@@ -8,9 +8,9 @@ mod fields;
 mod lines;
 mod outputs;
 
-ghost use Rattle.std.specs.Io.KnownBytes.{Consumes, IsAtEnd};
-ghost use Rattle.std.specs.Prelude.{◌≡◌, ◌<◌, ◌≤◌, IfOk, length, take};
+ghost use Rattle.std.specs.Prelude.{◌≡◌, length};
 
+use input::read_full;
 use std::io::{BufWriter, Read, Write};
 use std::{env, fs, io};
 
@@ -19,23 +19,6 @@ fn script_buffer() -> [u8; 524288]
     ensures { 524288 ≡ length result }
 {
     [0; 524288]
-}
-
-// Reads until the buffer is full or the file ends, and returns how many bytes it put at the start.
-fn read_full<R: Read>(file: &mut R, buf: &mut [u8]) -> io::Result<usize>
-    ensures in_bounds { IfOk result (λ n. n ≤ length buf.new) }
-    ensures bytes { IfOk result (λ n. Consumes (R.remaining file.old) (R.remaining file.new) (take n buf.new)) }
-    ensures end { IfOk result (λ n. n < length buf.new → IsAtEnd (R.remaining file.new)) }
-{
-    let mut done: usize = 0;
-    while done < buf.len() {
-        let n = file.read(&mut buf[done..])?;
-        if n == 0 {
-            return Ok(done);
-        }
-        done += n;
-    }
-    Ok(done)
 }
 
 fn replay(writer: &mut impl Write, script: &[u8]) -> io::Result<()> {

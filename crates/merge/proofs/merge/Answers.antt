@@ -8,7 +8,7 @@ use Rattle.merge.proofs.merge.Goals as goal
 pub returns : goal.returns
 returns g c =
     let known = g.R.Read.remaining c.args.reader.now in
-    let left = g.R.Read.remaining c.read_full.new.input in
+    let left = g.R.Read.remaining c.read_full.new.reader in
     let buf = c.read_full.new.buf in
     let room : 65537 ≡ length c.read_full.new.buf = omega arith in
     let told = c.in_ok-n.ensures in

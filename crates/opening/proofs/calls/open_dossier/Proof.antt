@@ -37,7 +37,7 @@ open_dossier_spec =
     tie.close
     (tie.spec
     (λ c κs. search rules)
-    (λ c. open-unpermitted _ _ _ _ (outside search))
+    (λ c. search (open-unpermitted, outside))
     (λ c. open-small (allowed search) _ _ _ c.if-out-lt-DOSSIER_CAPACITY.true)
     (λ c κs. allowed search)
     (λ c. search rules)
