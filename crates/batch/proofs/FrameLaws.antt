@@ -9,18 +9,19 @@ use native.Mathlib.Omega.{arith}
 use lib.ListN.{length, drop, get_or, set, length-append, length-set, get_or-append}
 use lib.Seq.{drop-length, get_or_at, get_or-set_same, get_or-set_other}
 use lib.Dec.{eqb}
-use borrow.Author.Tests.{le-leb, lt-leb, eqb-true, eqb-false}
-use Rattle.packed.specs.Parse.{Parse, fail, got, and_then, found_if, times, whole}
+use borrow.Author.Tests.{eqb-true, eqb-false}
+use Rattle.packed.specs.Parse.{Parse, fail, got, and_then, such_that, times, whole}
 use Rattle.packed.specs.Packed.{read_number, read_text, part, is_within}
-use Rattle.packed.specs.code.Located.{number_at, text_at}
-use Rattle.packed.specs.declared.read.NumberAt.TheVariants.{NoNumber}
-use Rattle.packed.specs.declared.read.TextAt.TheVariants.{Text, NoText}
+use Rattle.packed.specs.code.Located.{text_at, Got}
+use Rattle.packed.specs.declared.read.TextAt.{TextAt}
+use Rattle.packed.proofs.FieldLaws.{then-none}
 use Rattle.packed.proofs.LayoutLaws.{lt-or-ge}
-use Rattle.packed.proofs.ReadLaws.{NumberStops, TextStops, number-none, text-none, text-stops, stops-got, stops-early}
+use Rattle.packed.proofs.ReadLaws.{TextStops, text-none, text-stops, stops-got, stops-early}
 use Rattle.ontology.proofs.RunLaws.{prepend, prepend-nil, prepend-one, times-left, times-end}
 use Rattle.batch.specs.Batch.{read_batch, batch_of}
 use Rattle.batch.specs.code.BatchIndex.{BatchIs, BatchReads}
 use Rattle.batch.specs.declared.frame.BatchIndex.{BatchIndex}
+use Rattle.std.specs.Prelude.{Some, None}
 
 -- ---- the events, one after the other
 
@@ -64,43 +65,49 @@ unfolding BatchReads
 batch-none o s x e h = rw e h
 
 module _ {p : Parse (List (List ℕ))} {s starts ends : List ℕ} {n at i : ℕ} (w : Passed p s starts ends n at i) where
-  pub passed-bad : i < n → text_at s at ≡ NoText → (x : BatchIndex) → x.ok ≡ false → BatchReads (whole p) s x
+  pub passed-bad : i < n → text_at s at ≡ None → (x : BatchIndex) → x.ok ≡ false → BatchReads (whole p) s x
   passed-bad h e x =
       batch-none (whole p) s x (ap whole (w.rest ∙ ap (prepend w.vs) (times-left read_text n i (drop at s) h (text-none s at e))))
 
-  pub passed-more : i < n → {a z : ℕ} → text_at s at ≡ Text a z → Passed p s (set starts i a) (set ends i z) n z (i + 1)
-  passed-more h {a} {z} e =
-      let v = part s a z in
-      record {
-        vs = w.vs ++ (v ∷ []);
-        long = length-append w.vs (v ∷ []) ∙ ap (λ (m : ℕ). m + 1) w.long;
-        below = omega arith;
-        few = w.few;
-        rest =
-            w.rest
-            ∙ ap (prepend w.vs) (times-left read_text n i (drop at s) h t.is)
-            ∙ prepend-one w.vs v (times read_text (n - (i + 1)) (drop z s));
-        within = t.within;
-        each = λ k l. ⊎_elim (old k) (λ (g : i ≤ k). let e : k ≡ i = omega arith in rw e last) (lt-or-ge k i);
-        starts-long = length-set starts i a ∙ w.starts-long;
-        ends-long = length-set ends i z ∙ w.ends-long;
-      }
+  pub passed-more : i < n → {x : TextAt} → text_at s at ≡ Some x → Passed p s (set starts i x.start) (set ends i x.end) n x.end (i + 1)
+  passed-more h {x} e = more x.start x.end (text-stops s at x e)
     where
-      t : TextStops s at a z
-      t = text-stops s at a z e
+      more : (a z : ℕ) → TextStops s at a z → Passed p s (set starts i a) (set ends i z) n z (i + 1)
+      more a z t =
+          let v = part s a z in
+          record {
+            vs = w.vs ++ (v ∷ []);
+            long = length-append w.vs (v ∷ []) ∙ ap (λ (m : ℕ). m + 1) w.long;
+            below = omega arith;
+            few = w.few;
+            rest =
+                w.rest
+                ∙ ap (prepend w.vs) (times-left read_text n i (drop at s) h t.is)
+                ∙ prepend-one w.vs v (times read_text (n - (i + 1)) (drop z s));
+            within = t.within;
+            each = λ k l. ⊎_elim (old k) (λ (g : i ≤ k). let e : k ≡ i = omega arith in rw e last) (lt-or-ge k i);
+            starts-long = length-set starts i a ∙ w.starts-long;
+            ends-long = length-set ends i z ∙ w.ends-long;
+          }
+        where
+          last : EventStands s (get_or (w.vs ++ (part s a z ∷ [])) i []) (get_or (set starts i a) i 0) (get_or (set ends i z) i 0)
+          last =
+              let b : i < length starts = omega (arith, w.starts-long, w.few) in
+              let c : i < length ends = omega (arith, w.ends-long, w.few) in
+              rw (get_or-set_same starts i a 0 b, get_or-set_same ends i z 0 c, get_or_at w.vs (part s a z) [] [] i w.long)
+              (record { bytes = refl; order = t.order; within = t.within })
 
-      last : EventStands s (get_or (w.vs ++ (part s a z ∷ [])) i []) (get_or (set starts i a) i 0) (get_or (set ends i z) i 0)
-      last =
-          let b : i < length starts = omega (arith, w.starts-long, w.few) in
-          let c : i < length ends = omega (arith, w.ends-long, w.few) in
-          rw (get_or-set_same starts i a 0 b, get_or-set_same ends i z 0 c, get_or_at w.vs (part s a z) [] [] i w.long)
-          (record { bytes = refl; order = t.order; within = t.within })
-
-      old : (k : ℕ) → k < i → EventStands s (get_or (w.vs ++ (part s a z ∷ [])) k []) (get_or (set starts i a) k 0) (get_or (set ends i z) k 0)
-      old k l =
-          let ne : k ≡ i → ⊥ = λ e. omega arith in
-          rw (get_or-set_other starts i k a 0 ne, get_or-set_other ends i k z 0 ne, get_or-append w.vs (part s a z ∷ []) [] k (omega (arith, w.long)))
-          (w.each k l)
+          old :
+              (k : ℕ) → k < i →
+              EventStands s (get_or (w.vs ++ (part s a z ∷ [])) k []) (get_or (set starts i a) k 0) (get_or (set ends i z) k 0)
+          old k l =
+              let ne : k ≡ i → ⊥ = λ e. omega arith in
+              rw (
+                get_or-set_other starts i k a 0 ne,
+                get_or-set_other ends i k z 0 ne,
+                get_or-append w.vs (part s a z ∷ []) [] k (omega (arith, w.long)),
+              )
+              (w.each k l)
 
   -- all are read: it is a batch where they end with the bytes
   pub passed-all : n ≤ i → 1 ≤ n → BatchReads (whole p) s (record { ok = eqb at (length s); count = n; starts = starts; ends = ends })
@@ -136,27 +143,14 @@ module _ {p : Parse (List (List ℕ))} {s starts ends : List ℕ} {n at i : ℕ}
 
 -- ---- the whole batch
 
-bad-batch : (s : List ℕ) (x : BatchIndex) → read_batch s ≡ fail → x.ok ≡ false → BatchReads (batch_of s) s x
-unfolding batch_of
-bad-batch s x e h = batch-none (batch_of s) s x (rw e) h
+pub no-count : (s : List ℕ) → such_that (is_within 1 16) read_number s ≡ fail → (x : BatchIndex) → x.ok ≡ false → BatchReads (batch_of s) s x
+unfolding batch_of read_batch
+no-count s e x h = batch-none (batch_of s) s x (ap whole (then-none (times read_text) e)) h
 
-pub no-count : (s : List ℕ) → number_at s 0 ≡ NoNumber → (x : BatchIndex) → x.ok ≡ false → BatchReads (batch_of s) s x
-unfolding read_batch
-no-count s e x = let none : read_number s ≡ fail = number-none s 0 e in bad-batch s x (rw none)
-
-module _ {s : List ℕ} {n at : ℕ} (c : NumberStops s 0 n at) where
-  counted : read_batch s ≡ and_then (found_if (is_within 1 16 n) n (drop at s)) (times read_text)
-  unfolding read_batch
-  counted = ap (λ (p : Parse ℕ). and_then (and_then p (λ m. found_if (is_within 1 16 m) m)) (times read_text)) c.is
-
-  pub count_none : n < 1 → (x : BatchIndex) → x.ok ≡ false → BatchReads (batch_of s) s x
-  count_none h x = bad-batch s x (counted ∙ rw (lt-leb 1 n h))
-
-  pub count-large : 16 < n → (x : BatchIndex) → x.ok ≡ false → BatchReads (batch_of s) s x
-  count-large h x = bad-batch s x (counted ∙ rw (le-leb 1 n (omega arith), lt-leb n 16 h))
-
-  pub count-read : 1 ≤ n → n ≤ 16 → (x : BatchIndex) → BatchReads (whole (times read_text n (drop at s))) s x → BatchReads (batch_of s) s x
-  unfolding batch_of
-  count-read h k x w =
-      let e : read_batch s ≡ times read_text n (drop at s) = counted ∙ rw (le-leb 1 n h, le-leb n 16 k) in
-      rw e w
+pub count-read :
+    {s : List ℕ} {n at : ℕ} → Got (such_that (is_within 1 16) read_number s) s 0 n at → (x : BatchIndex) →
+    BatchReads (whole (times read_text n (drop at s))) s x → BatchReads (batch_of s) s x
+unfolding batch_of read_batch
+count-read {s} {n} {at} g x w =
+    let e : read_batch s ≡ times read_text n (drop at s) = ap (λ (p : Parse ℕ). and_then p (times read_text)) g.is in
+    rw e w

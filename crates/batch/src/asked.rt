@@ -47,24 +47,18 @@ fn events_agree(
         → EventIs a.now f d left.now → EventIs b.now g e right.now
         → (f.head.type ≡ g.head.type → ty ≡ tz) → result ≡ events_agree (record { type = ty; event = f }) (record { type = tz; event = g }) }
 {
-    let x = d.head;
-    let y = e.head;
-    if !heads_agree(a, x, b, y) {
-        return false;
-    }
-    is_match_same(count, properties, a, left, b, right)
+    heads_agree(a, d.head, b, e.head) && is_match_same(count, properties, a, left, b, right)
 }
 
 // The position of the first event that does not agree with the first one, after one more was asked.
 fn first_apart(apart: usize, agrees: bool, position: usize) -> usize
     ensures { result ≡ first_apart apart agrees position }
 {
-    if apart == 0 {
-        if !agrees {
-            return position;
-        }
+    if apart == 0 && !agrees {
+        position
+    } else {
+        apart
     }
-    apart
 }
 
 // The questions of an event, whose index is e. The table was read for a name, and is read again only where the event's type has another one.
@@ -115,8 +109,7 @@ pub fn ask_events(
     }
     let t = read.index;
     let mut apart: usize = 0;
-    let mut i: usize = 1;
-    while i < x.count {
+    for i in 1..x.count {
         let event = event_part(batch, x, i);
         let e = read_event(event, EventCounts::Narrow, &mut right);
         let asked = ask_one(table, name, read, properties, event, e, &right);
@@ -128,7 +121,6 @@ pub fn ask_events(
             events_agree(head, d, &left, event, e, &right, t.count, properties),
             i,
         );
-        i += 1;
     }
     if apart == 0 {
         return answer(0, 0);

@@ -141,16 +141,10 @@ fn batch_reply(r: Reply) -> BatchReply
 fn have_room(out: usize, a: usize, b: usize, c: usize) -> bool
     ensures { result ≡ have_room (record { output = out; first = a; second = b; third = c }) }
 {
-    if out < DOSSIER_CAPACITY {
-        return false;
-    }
-    if a < DOSSIER_CAPACITY {
-        return false;
-    }
-    if b < DOSSIER_CAPACITY {
-        return false;
-    }
-    DOSSIER_CAPACITY <= c
+    DOSSIER_CAPACITY <= out
+        && DOSSIER_CAPACITY <= a
+        && DOSSIER_CAPACITY <= b
+        && DOSSIER_CAPACITY <= c
 }
 
 // The dossier of a batch, written at the front of `out`; a, b and c are scratch.

@@ -4,7 +4,7 @@ ghost use Rattle.packed.specs.Packed.{read_text};
 ghost use Rattle.batch.specs.Batch.{batch_of};
 ghost use Rattle.batch.specs.code.BatchIndex.{BatchIs, BatchReads};
 
-use packed::read::{NumberAt, TextAt, part_of, read_number, read_text};
+use packed::read::{TextAt, part_of, read_text, read_within};
 
 // Where the events of a batch stand, each from its start up to its end.
 #[derive(Clone, Copy)]
@@ -34,15 +34,13 @@ fn read_texts(batch: &[u8], at: usize, count: usize) -> BatchIndex
 {
     let mut x = no_batch();
     let mut next = at;
-    let mut i: usize = 0;
-    while i < count {
-        let TextAt::Text(start, end) = read_text(batch, next) else {
+    for i in 0..count {
+        let Some(TextAt { start, end }) = read_text(batch, next) else {
             return no_batch();
         };
         x.starts[i] = start;
         x.ends[i] = end;
         next = end;
-        i += 1;
     }
     x.count = count;
     x.ok = next == batch.len();
@@ -53,15 +51,9 @@ fn read_texts(batch: &[u8], at: usize, count: usize) -> BatchIndex
 pub fn read_batch(batch: &[u8]) -> BatchIndex
     ensures { BatchReads (batch_of batch.now) batch.now result }
 {
-    let NumberAt::Number(count, after_count) = read_number(batch, 0) else {
+    let Some((count, after_count)) = read_within(batch, 0, 1, 16) else {
         return no_batch();
     };
-    if count < 1 {
-        return no_batch();
-    }
-    if 16 < count {
-        return no_batch();
-    }
     read_texts(batch, after_count, count as usize)
 }
 

@@ -50,7 +50,7 @@ use Rattle.combining.specs.code.AddIndex.{bytes_of, Splits, lower_or_same, with_
 use Rattle.combining.specs.code.AddIndex.{count_in, Addable, AddableUnder, Measured, MeasuredIn, AddingAt, MetRoom, NewRoom, WithRoom, AddedRoom}
 use Rattle.combining.specs.code.CheckIndex.{Checkable, alone_bytes, lone_bytes, AloneRoom}
 use Rattle.combining.specs.code.CombineIndex.{Known, Meet, Shared}
-use Rattle.combining.specs.code.WriteIndex.{SharedRoom, HeadsAre, HeadsRoom, both_heads}
+use Rattle.combining.specs.code.WriteIndex.{HeadsAre, HeadsRoom, both_heads}
 use Rattle.combining.specs.declared.measures.Place.{Place}
 use Rattle.combining.proofs.InsertLaws.{Stands, stands, join-keeps, merged-with, bytes-split, bytes_next, bytes-with, length-with, written_at}
 use Rattle.combining.proofs.CheckLaws.{taken-event, known_read, known-checked, checkable}
@@ -76,19 +76,13 @@ read_is {s} {n = n} {ats = ats} {z = z} w q =
 -- ---- a snapshot of a dossier, and that of an event of the same version
 
 -- what is written at the front is the front
-front-is : {l xs l₁ : List ℕ} {n : ℕ} → length xs ≤ length l → Wrote l 0 xs l₁ n → (n ≤ length l₁) × (take n l₁ ≡ xs)
+front-is : {l xs l₁ : List ℕ} {n : ℕ} → length xs ≤ length l → Wrote l 0 xs l₁ n → take n l₁ ≡ xs
 front-is {l} {xs} {l₁} {n} r w =
     let k : n ≡ length xs = omega (arith, w.after) in
-    (omega (arith, w.after, wrote-length w), ap (take n) (wrote-between (omega arith) w) ∙ take_at xs (drop n l) n (sym k))
+    ap (take n) (wrote-between (omega arith) w) ∙ take_at xs (drop n l) n (sym k)
 
 module _
     {version : EventVersion} {sofar : List ℕ} {start end : ℕ} {event : List ℕ} {e : EventIndex} {ats : List ℕ} {t : TypeIndex} {ps : List ℕ} where
-  pub met-promised : Met version sofar start end event e ats t ps → (start ≤ length sofar) × (read_snapshot (drop start sofar) ≡ fail → ⊥)
-  met-promised h = (omega (arith, h.stands.order, h.stands.within), λ z. unread (sym h.stands.is ∙ z))
-    where
-      unread : {x : Snapshot} {rest : List ℕ} → got x rest ≡ fail → ⊥
-      unread z = never (cc)
-
   -- the event's snapshot has one form
   same-alone : (g h : Met version sofar start end event e ats t ps) → snapshot_bytes g.right ≡ snapshot_bytes h.right
   same-alone g h =
@@ -99,23 +93,17 @@ module _
       ∙ sym h.bytes
 
   -- the event's is written apart
-  pub apart-there : {apart at size : ℕ} → MetRoom version sofar start end event e ats t ps apart at size → AloneRoom event e ats version.0 0 apart
-  apart-there r = record { event = r.met.what; read = r.met.read; room = omega (arith, r.lone, ap length r.met.bytes) }
-
   module _
       {l l₁ : List ℕ} {n : ℕ} (alone-wrote : (x : Event) → EventIs event x e ats → Wrote l 0 (alone_bytes x version.0) l₁ n)
       {at size : ℕ} (r : MetRoom version sofar start end event e ats t ps (length l) at size) where
-    apart-is : (h : Met version sofar start end event e ats t ps) → (n ≤ length l₁) × (take n l₁ ≡ snapshot_bytes h.right)
+    apart-is : (h : Met version sofar start end event e ats t ps) → take n l₁ ≡ snapshot_bytes h.right
     apart-is h = front-is (omega (arith, r.lone, ap length (same-alone r.met h))) (wrote_as (sym h.bytes) (alone-wrote h.what h.read))
-
-    pub apart-within : n ≤ length l₁
-    apart-within = (apart-is r.met).0
 
     -- `same` answers that it has the bytes p, which `part_of` lends, of the one that stands in `sofar`: that one is both together
     module _
         {p : List ℕ} (lent : StandsIn sofar start end p) {alike : Bool} (asked : alike ≡ equal texts p (take n l₁)) (yes-same : alike ≡ true) where
       both_is : (h : Met version sofar start end event e ats t ps) → p ≡ snapshot_bytes (join_snapshots (type_view h.type) h.left h.right)
-      both_is h = same-written h.meet (lent h.stands.order h.stands.within ∙ h.stands.bytes) (apart-is h).1 (sym asked ∙ yes-same)
+      both_is h = same-written h.meet (lent h.stands.order h.stands.within ∙ h.stands.bytes) (apart-is h) (sym asked ∙ yes-same)
 
       pub copy-there : at + length p ≤ size
       copy-there = omega (arith, r.room, ap length (both_is r.met))
@@ -134,21 +122,6 @@ module _
       number = h.number;
       left_is = cells_are sofar h.left n row (read_is stops h.stands.is);
       right_is = h.right_is;
-    }
-
-    pub met-room :
-        {apart at size : ℕ} (r : MetRoom version sofar start end event e ats t ps apart at size) → let h = r.met in
-        SharedRoom version sofar row n.differ event ats 0 (snapshot_bytes h.left) (snapshot_bytes h.right) t ps at size
-    met-room r = let h = r.met in record {
-      table = h.table;
-      type = h.type;
-      left = h.left;
-      right = h.right;
-      typed = h.typed;
-      shared = met-shared h;
-      left-bytes = refl;
-      right-bytes = refl;
-      room = r.room;
     }
 
 -- ---- a dossier that an event can be added to

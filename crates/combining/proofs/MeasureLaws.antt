@@ -3,16 +3,15 @@ use mathlib.Core.Path.{◌≡◌, refl, sym, ap, ◌∙◌, subst}
 use mathlib.Core.Bool.{Bool, true, false, cond}
 use mathlib.Core.Logic.{⊎_elim}
 use mathlib.Core.List.{List, [], ◌∷◌, ◌++◌, flatten}
-use Prim.Native.Nat.{ℕ, zero, suc, ◌+◌, ◌-◌, ◌*◌, ◌≤◌, ◌<◌}
+use Prim.Native.Nat.{ℕ, zero, suc, ◌+◌, ◌-◌, ◌≤◌, ◌<◌}
 use native.Mathlib.Omega.{arith}
-use lib.ListN.{length, take, drop, get_or, set, length-append, length-set, length-drop}
-use lib.Seq.{get_or-set_same, get_or-set_other, get_or-take, get_or-drop, length-take-le}
+use lib.ListN.{length, take, drop, get_or, length-append, length-drop}
+use lib.Seq.{get_or-take, get_or-drop, length-take-le}
 use Rattle.model.specs.Rule.{Snapshot}
-use Rattle.model.proofs.Cases.{never}
 use Rattle.packed.proofs.LayoutLaws.{lt-or-ge}
 use Rattle.dossier.specs.DossierBody.{snapshot_bytes}
 use Rattle.dossier.specs.code.DossierIndex.{no_snapshot}
-use Rattle.combining.specs.code.AddIndex.{bytes_of, count_in, measure_in, measure_of, Measured, MeasuredIn, Splits, MovedUp, with_snapshot}
+use Rattle.combining.specs.code.AddIndex.{bytes_of, count_in, measure_in, measure_of, Measured, MeasuredIn, MovedUp, with_snapshot}
 use Rattle.combining.specs.declared.measures.Measure.{Measure}
 use Rattle.combining.specs.declared.measures.Place.{Place}
 
@@ -32,67 +31,9 @@ bytes-within ss zero = omega arith
 bytes-within [] (suc k) = omega arith
 bytes-within (x ∷ ss) (suc k) = simp length-append (omega (arith, bytes-within ss k))
 
--- ---- the numbers of one snapshot
-
--- the numbers m with x at place k
-abbrev pub put_two : List ℕ → ℕ → Measure → List ℕ
-put_two m k x = set (set m (2 * k + 1) x.version.0) (2 * k + 2) x.size
-
-module _ (m : List ℕ) (k : ℕ) (x : Measure) where
-  abbrev one : List ℕ
-  one = set m (2 * k + 1) x.version.0
-
-  one-long : length one ≡ length m
-  one-long = length-set m (2 * k + 1) x.version.0
-
-  pub put-here : length m ≡ 17 → k < 8 → measure_in (put_two m k x) k ≡ x
-  put-here long low =
-      let v : get_or (put_two m k x) (2 * k + 1) 0 ≡ x.version.0 =
-      get_or-set_other one (2 * k + 2) (2 * k + 1) x.size 0 (λ e. omega arith)
-      ∙ get_or-set_same m (2 * k + 1) x.version.0 0 (omega arith) in
-      let z : get_or (put_two m k x) (2 * k + 2) 0 ≡ x.size = get_or-set_same one (2 * k + 2) x.size 0 (omega (arith, one-long)) in
-      λ i. record { version = record { 0 = v i }; size = z i }
-
-  kept : (i : ℕ) → (i ≡ 2 * k + 1 → ⊥) → (i ≡ 2 * k + 2 → ⊥) → get_or (put_two m k x) i 0 ≡ get_or m i 0
-  kept i p q =
-      get_or-set_other one (2 * k + 2) i x.size 0 (λ e. q (omega (arith, e)))
-      ∙ get_or-set_other m (2 * k + 1) i x.version.0 0 (λ e. p (omega (arith, e)))
-
-  pub put-others : (j : ℕ) → (j ≡ k → ⊥) → measure_in (put_two m k x) j ≡ measure_in m j
-  put-others j n =
-      let v = kept (2 * j + 1) (λ e. n (omega (arith, e))) (λ e. omega (arith, e)) in
-      let z = kept (2 * j + 2) (λ e. omega (arith, e)) (λ e. n (omega (arith, e))) in
-      λ i. record { version = record { 0 = v i }; size = z i }
-
-  pub put_count : count_in (put_two m k x) ≡ count_in m
-  put_count = kept 0 (λ e. omega (arith, e)) (λ e. omega (arith, e))
-
--- the count is put
-module _ (m : List ℕ) (n : ℕ) where
-  pub count-here : length m ≡ 17 → count_in (set m 0 n) ≡ n
-  count-here long = get_or-set_same m 0 n 0 (omega arith)
-
-  pub count-others : (j : ℕ) → measure_in (set m 0 n) j ≡ measure_in m j
-  count-others j =
-      let v = get_or-set_other m 0 (2 * j + 1) n 0 (λ e. omega (arith, e)) in
-      let z = get_or-set_other m 0 (2 * j + 2) n 0 (λ e. omega (arith, e)) in
-      λ i. record { version = record { 0 = v i }; size = z i }
-
 -- a measure that has the numbers of a snapshot is its measure
 is-measure : (x : Measure) (s : Snapshot) → s.version ≡ x.version.0 → length (snapshot_bytes s) ≡ x.size → x ≡ measure_of s
 is-measure x s v z = λ i. record { version = record { 0 = sym v i }; size = sym z i }
-
--- ---- one snapshot
-
-pub measured-one :
-    (m : List ℕ) (x : Measure) (s : Snapshot) → count_in m ≡ 1 → measure_in m 0 ≡ x → s.version ≡ x.version.0 →
-    length (snapshot_bytes s) ≡ x.size →
-    Measured (s ∷ []) m
-measured-one m x s count here v z = record { count = count; few = omega arith; each = first }
-  where
-    first : (j : ℕ) → j < 1 → measure_in m j ≡ measure_of (get_or (s ∷ []) j no_snapshot)
-    first zero l = here ∙ is-measure x s v z
-    first (suc j) l = absurd (omega (arith, l))
 
 -- ---- the place of a version
 
@@ -111,19 +52,6 @@ unfolding flatten
 none_passed ss w = record { within = omega arith; sum = refl; lower = λ j l. absurd (omega (arith, l)) }
 
 module _ {m : List ℕ} {v before k : ℕ} (p : PassedIn m v before k) where
-  pub passed-low : {s : List ℕ} → MeasuredIn s m → (k ≤ count_in m) × (count_in m ≤ 8)
-  passed-low i =
-      let w = i.measured in
-      (omega (arith, (p i.snapshots w).within, w.count), omega (arith, w.count, w.few))
-
-  -- the next one, if there is one, is of a higher version
-  none-met :
-      (ss : List Snapshot) → Measured ss m → (k < length ss → v < (get_or ss k no_snapshot).version) →
-      Splits ss v (record { index = k; before = before; meets = false; size = 0 })
-  none-met ss w above =
-      let u = p ss w in
-      record { within = u.within; before = u.sum; lower = u.lower; met = λ e. never (cc); unmet = λ _. (refl, above) }
-
   -- x is the measure of the next one
   module _ (l : k < count_in m) {x : Measure} (here : x ≡ measure_in m k) where
     next-passed :
@@ -159,66 +87,6 @@ module _ {m : List ℕ} {v before k : ℕ} (p : PassedIn m v before k) where
 
         at_last : (j : ℕ) → j < k + 1 → k ≤ j → k ≡ j
         at_last j g b = omega arith
-
-    pub splits-met :
-        v ≡ x.version.0 → (ss : List Snapshot) → Measured ss m → Splits ss v (record { index = k; before = before; meets = true; size = x.size })
-    splits-met same ss w =
-        let (h, version, size) = next-passed ss w in
-        let u = p ss w in
-        record {
-          within = u.within;
-          before = u.sum;
-          lower = u.lower;
-          met = λ _. (h, sym (same ∙ version), size);
-          unmet = λ e. never (cc);
-        }
-
-    pub splits-unmet :
-        v < x.version.0 → (ss : List Snapshot) → Measured ss m → Splits ss v (record { index = k; before = before; meets = false; size = 0 })
-    splits-unmet below ss w = let (h, version, size) = next-passed ss w in none-met ss w (λ _. omega (arith, below, version))
-
-  pub splits-end :
-      count_in m ≤ k → (ss : List Snapshot) → Measured ss m → Splits ss v (record { index = k; before = before; meets = false; size = 0 })
-  splits-end all ss w = none-met ss w (λ h. absurd (omega (arith, h, w.count)))
-
--- ---- room for one more
-
--- those from k on are moved up by one
-pub record Moved (old : List ℕ) (k : ℕ) (new : List ℕ) : Type 0 where
-  pub long : length new ≡ 17
-  pub lower : (j : ℕ) → j < k → measure_in new j ≡ measure_in old j
-  pub higher : (j : ℕ) → k ≤ j → j < count_in old → measure_in new (suc j) ≡ measure_in old j
-
-pub none-moved : (old : List ℕ) → length old ≡ 17 → Moved old (count_in old) old
-none-moved old long = record { long = long; lower = λ j l. refl; higher = λ j l h. absurd (omega arith) }
-
--- `next` has at k what `new` has below it
-pub moved-next :
-    (old : List ℕ) (k : ℕ) (new next : List ℕ) → Moved old k new → 0 < k → length next ≡ length new →
-    measure_in next k ≡ measure_in new (k - 1) → ((j : ℕ) → (j ≡ k → ⊥) → measure_in next j ≡ measure_in new j) → Moved old (k - 1) next
-moved-next old k new next w pos long here others = record {
-  long = long ∙ w.long;
-  lower = λ j l. others j (λ e. omega (arith, e)) ∙ w.lower j (omega arith);
-  higher = λ j l h. ⊎_elim
-      (λ (b : j < k). moved_here j (last j l b))
-      (λ (b : k ≤ j). others (suc j) (λ e. omega (arith, e)) ∙ w.higher j b h)
-      (lt-or-ge j k);
-}
-  where
-    last : (j : ℕ) → k - 1 ≤ j → j < k → k ≡ suc j
-    last j l b = omega arith
-
-    moved_here : (j : ℕ) → k ≡ suc j → measure_in next (suc j) ≡ measure_in old j
-    moved_here j e =
-        let below : k - 1 ≡ j = omega (arith, e) in
-        ap (measure_in next) (sym e) ∙ here ∙ w.lower (k - 1) (omega arith) ∙ ap (measure_in old) below
-
-pub moved_up : (old new : List ℕ) (index k : ℕ) → index ≤ k → k ≤ index → Moved old k new → MovedUp old index (set new 0 (count_in old + 1))
-moved_up old new index k low high w = record {
-  count = count-here new (count_in old + 1) w.long;
-  lower = λ j l. count-others new (count_in old + 1) j ∙ w.lower j (omega arith);
-  higher = λ j l h. count-others new (count_in old + 1) (suc j) ∙ w.higher j (omega arith) h;
-}
 
 -- ---- a snapshot at its place
 

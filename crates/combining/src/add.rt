@@ -26,8 +26,8 @@ use crate::joined::write_joined;
 use crate::limits::{objects_fit, parents_fit};
 use crate::measures::{Measure, Place, place_of, put_snapshot};
 use crate::write::write_heads;
-use dossier::head::{DossierHeadRead, read_dossier_head};
-use dossier::snapshots::{SnapshotRead, read_snapshot};
+use dossier::head::read_dossier_head;
+use dossier::snapshots::read_snapshot;
 use event::head::HeadAt;
 use event::read::{EventCounts, EventIndex, read_event};
 use ontology::types::TypeIndex;
@@ -65,7 +65,7 @@ fn objects_added(
         → result ≡ leb (sizes (join_snapshots (type_view ty) left right).cells) most }
 {
     let mut row = [0usize; 96];
-    let SnapshotRead::Found(x, _) = read_snapshot(sofar, at, true, &mut row) else {
+    let Some((x, _)) = read_snapshot(sofar, at, true, &mut row) else {
         return false;
     };
     objects_fit(
@@ -101,10 +101,7 @@ fn added_fits(
     if !p.meets {
         return measures[0] < limits.versions;
     }
-    if 0 < t.mark {
-        return true;
-    }
-    objects_added(sofar, body, event, e, sets, limits.objects, t, properties)
+    0 < t.mark || objects_added(sofar, body, event, e, sets, limits.objects, t, properties)
 }
 
 // Writes the event's snapshot together with the one of its version, which stands in `sofar` from `start` up to `end`. It is made apart first, since the two are
@@ -134,7 +131,7 @@ fn write_met<'a>(
         return copy(met, out, at);
     }
     let mut row = [0usize; 96];
-    let SnapshotRead::Found(x, _) = read_snapshot(sofar, start, true, &mut row) else {
+    let Some((x, _)) = read_snapshot(sofar, start, true, &mut row) else {
         return at;
     };
     if 0 < t.mark {
@@ -293,7 +290,7 @@ pub fn add_event<'a>(
     let mut sets = [0usize; 96];
     let e = read_event(event, EventCounts::Narrow, &mut sets);
     let version = version_of(event, t, &sets);
-    let DossierHeadRead::Head(x, after_head) = read_dossier_head(sofar, limits) else {
+    let Some((x, after_head)) = read_dossier_head(sofar, limits) else {
         return Reply::Refused(3);
     };
     // the count of snapshots is one byte

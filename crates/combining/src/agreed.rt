@@ -29,24 +29,18 @@ fn is_kept(a: &[u8], v: SetAt, b: &[u8], w: SetAt, marks: u64) -> bool
     ensures { (c d : Cell) → marks ≡ differ_bit c + differ_bit d → SetIs a.now (held c) v → SetIs b.now (held d) w
         → result ≡ is_agreed c d }
 {
-    if marks != 0 {
+    if marks != 0 || v.count != w.count {
         return false;
     }
     // most places are empty in both, and need no look at their bytes
-    if v.count != w.count {
-        return false;
-    }
-    if v.count == 0 {
-        return true;
-    }
-    same(set_part(a, v), set_part(b, w))
+    v.count == 0 || same(set_part(a, v), set_part(b, w))
 }
 
 // Whether a place has objects: it keeps its set, and that is not empty.
 fn has_objects(kept: bool, count: usize) -> bool
     ensures { result ≡ (kept && ltb 0 count) }
 {
-    if kept { 0 < count } else { false }
+    kept && 0 < count
 }
 
 // The places of what two versioned snapshots are together, of a type that has `count` properties. A place past these is vacant in both, and stays so.
@@ -71,16 +65,14 @@ fn agreed_places(
     };
     let mut left = m;
     let mut right = n;
-    let mut k: usize = 0;
-    while k < count {
+    for k in 0..count {
         let v = set_at(x, k);
         let w = set_at(y, k);
         let kept = is_kept(a, v, b, w, left % 2 + right % 2);
         p.present[k] = has_objects(kept, v.count);
         p.marked[k] = !kept;
-        left = left / 2;
-        right = right / 2;
-        k += 1;
+        left /= 2;
+        right /= 2;
     }
     p
 }

@@ -88,10 +88,8 @@ fn joined_places(left: &[usize], right: &[usize], count: usize) -> [bool; 32]
     ensures { NoObjectsFrom count left.now right.now → PresentAre left.now right.now result }
 {
     let mut present = [false; 32];
-    let mut k: usize = 0;
-    while k < count {
+    for k in 0..count {
         present[k] = have_objects(set_at(left, k), set_at(right, k));
-        k += 1;
     }
     present
 }
@@ -118,14 +116,12 @@ pub fn write_joined<'a>(
     let after_version = write_number(out, at, 0);
     let after_presence = write_number(out, after_version, number_of(present));
     let mut next = write_number(out, after_presence, 0);
-    let mut k: usize = 0;
-    while k < count {
+    for k in 0..count {
         if present[k] {
             let v = set_at(x, k);
             let w = set_at(y, k);
             next = write_place(count, properties, k, a, v, b, w, out, next);
         }
-        k += 1;
     }
     next
 }

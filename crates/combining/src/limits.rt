@@ -54,10 +54,7 @@ pub fn is_extreme_at(count: usize, properties: &[usize], k: usize) -> bool
     requires { (count ≤ 32) × (length properties.now ≡ 96) }
     ensures { (u : List ℕ) (ty : EventType) → PropertiesAre u ty.properties count properties.now → result ≡ is_extreme_at ty k }
 {
-    if count <= k {
-        return false;
-    }
-    is_extreme(property_at(properties, k))
+    k < count && is_extreme(property_at(properties, k))
 }
 
 // How many objects a place has where two unversioned snapshots are joined.
@@ -77,12 +74,10 @@ fn count_place(
         → result ≡ length (held (join_cell false ((type_view ty).choice k) (holds xs) (holds ys))) }
 {
     if is_extreme_at(count, properties, k) {
-        if x.count == 0 {
-            return y.count;
-        }
-        return 1;
+        if x.count == 0 { y.count } else { 1 }
+    } else {
+        count_union(set_part(a, x), set_part(b, y))
     }
-    count_union(set_part(a, x), set_part(b, y))
 }
 
 // Whether two unversioned snapshots of m and n objects have at most `most` when they are joined. They have no more than m and n together, so they are
@@ -109,14 +104,12 @@ pub fn objects_fit(
         return true;
     }
     let mut room = most;
-    let mut k: usize = 0;
-    while k < count {
+    for k in 0..count {
         let here = count_place(count, properties, k, a, set_at(x, k), b, set_at(y, k));
         if room < here {
             return false;
         }
         room -= here;
-        k += 1;
     }
     true
 }
@@ -152,28 +145,25 @@ pub fn limits_fit(
 {
     let x = d.head;
     let y = e.head;
-    if !parents_fit(a, x.parents, b, y.parents, limits.parents) {
-        return false;
-    }
     let v = d.versions;
     let w = e.versions;
-    if limits.versions < count_versions(v, d.count, w, e.count) {
+    if !parents_fit(a, x.parents, b, y.parents, limits.parents)
+        || limits.versions < count_versions(v, d.count, w, e.count)
+    {
         return false;
-    }
-    if 0 < t.mark {
-        return true;
     }
     let m = d.objects[0];
     let n = e.objects[0];
-    objects_fit(
-        a,
-        &left[0..96],
-        m,
-        b,
-        &right[0..96],
-        n,
-        limits.objects,
-        t.count,
-        properties,
-    )
+    0 < t.mark
+        || objects_fit(
+            a,
+            &left[0..96],
+            m,
+            b,
+            &right[0..96],
+            n,
+            limits.objects,
+            t.count,
+            properties,
+        )
 }

@@ -60,8 +60,7 @@ pub fn place_of(s: &[u8], measures: &[usize], version: EventVersion) -> Place
 {
     let count = measures[0];
     let mut before: usize = 0;
-    let mut k: usize = 0;
-    while k < count {
+    for k in 0..count {
         let x = measure_at(measures, k);
         let here = x.version;
         if version.0 == here.0 {
@@ -81,10 +80,9 @@ pub fn place_of(s: &[u8], measures: &[usize], version: EventVersion) -> Place
             };
         }
         before += x.size;
-        k += 1;
     }
     Place {
-        index: k,
+        index: count,
         before,
         meets: false,
         size: 0,
@@ -97,12 +95,7 @@ fn move_up(measures: &mut [usize], index: usize)
     ensures { MovedUp measures.old index measures.new }
 {
     let count = measures[0];
-    let mut k = count;
-    while index < k {
-        let x = measure_at(measures, k - 1);
-        put_measure(measures, k, x);
-        k -= 1;
-    }
+    measures.copy_within(2 * index + 1..2 * count + 1, 2 * index + 3);
     measures[0] = count + 1;
 }
 
@@ -114,10 +107,8 @@ pub fn put_snapshot(measures: &mut [usize], p: Place, x: Measure)
         → length (snapshot_bytes s) ≡ x.size → Measured (with_snapshot ss p s) measures.new }
 {
     let at = p.index;
-    if p.meets {
-        put_measure(measures, at, x);
-        return;
+    if !p.meets {
+        move_up(measures, at);
     }
-    move_up(measures, at);
     put_measure(measures, at, x);
 }

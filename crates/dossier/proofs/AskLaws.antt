@@ -9,7 +9,6 @@ use native.Mathlib.Numerals.{add-one}
 use lib.Dec.{ltb, leb, eqb}
 use lib.ListN.{length, take, drop, get_or, drop_of_length-le, get_or-map}
 use lib.Seq.{drop-cons, get_or-take}
-use borrow.Author.Tests.{not-true}
 use Rattle.model.specs.Order.{Text, sets, lists, equal}
 use Rattle.model.proofs.OrderLaws.{equal-true}
 use Rattle.model.specs.Rule.{Cell, holds, Snapshot, sizes}
@@ -191,23 +190,15 @@ snapshot_number limits ty xs y = shape_number (snapshot_fits limits ty y && matc
 abbrev pub values_number : Bool → ℕ
 values_number right = shape_number true right
 
--- what holds of any snapshot y that stands as the numbers say, beside the sets xs of the first one
-abbrev pub Shaped :
-    List ℕ → List ℕ → List ℕ → SnapshotNumbers → ShapeMasks → ℕ → ℕ → List ℕ →
-    (EventType → List (List Text) → Snapshot → Type 0) → Type 0
-Shaped s first row x m mark count ps P =
-    (u : List ℕ) (ty : EventType) (xs : List (List Text)) (y : Snapshot) → mark ≡ ty.mark → PropertiesAre u ty.properties count ps →
-    MasksAre (is_versioned ty) ty.properties m → KindsAre ty → SetsAre s xs first → SnapshotIs s y x row → P ty xs y
-
 module _ (limits : Limits) (ty : EventType) (xs : List (List Text)) (y : Snapshot) where
-  pub number-shape : {r : Bool} → not r ≡ true → r ≡ snapshot_fits limits ty y → 5 ≡ snapshot_number limits ty xs y
+  pub number-shape : {r : Bool} → r ≡ false → r ≡ snapshot_fits limits ty y → 5 ≡ snapshot_number limits ty xs y
   unfolding shape_number
-  number-shape {r} h e = sym (ap (λ (b : Bool). shape_number (b && match_like ty xs y) (snapshot_values ty y)) (sym e ∙ not-true r h))
+  number-shape h e = sym (ap (λ (b : Bool). shape_number (b && match_like ty xs y) (snapshot_values ty y)) (sym e ∙ h))
 
-  pub number-match : {r : Bool} → not r ≡ true → r ≡ match_like ty xs y → 5 ≡ snapshot_number limits ty xs y
+  pub number-match : {r : Bool} → r ≡ false → r ≡ match_like ty xs y → 5 ≡ snapshot_number limits ty xs y
   unfolding shape_number
-  number-match {r} h e =
-      sym (ap (λ (b : Bool). shape_number (snapshot_fits limits ty y && b) (snapshot_values ty y)) (sym e ∙ not-true r h)
+  number-match h e =
+      sym (ap (λ (b : Bool). shape_number (snapshot_fits limits ty y && b) (snapshot_values ty y)) (sym e ∙ h)
       ∙ ap (λ (b : Bool). shape_number b (snapshot_values ty y)) (and-false (snapshot_fits limits ty y)))
 
   -- where neither refuses, the values decide
@@ -304,16 +295,16 @@ from_end limits t ss number j l o =
 
 -- ---- the dossier's snapshots
 
+-- the numbers that the index has of a snapshot
+abbrev numbers_at : DossierIndex → ℕ → SnapshotNumbers
+numbers_at d j = record { version = get_or d.versions j no_version; differ = get_or d.differs j 0; objects = get_or d.objects j 0 }
+
 module _ (s : List ℕ) (h : Headed) (d : DossierIndex) (w : DossierIs s h d) where
   pub in_count : (j : ℕ) → j < d.count → j < length h.snapshots
   in_count j l = omega (arith, w.count)
 
   pub past-count : (j : ℕ) → d.count ≤ j → length h.snapshots ≤ j
   past-count j l = omega (arith, w.count)
-
-  -- the numbers that the index has of a snapshot
-  abbrev pub numbers_at : ℕ → SnapshotNumbers
-  numbers_at j = record { version = get_or d.versions j no_version; differ = get_or d.differs j 0; objects = get_or d.objects j 0 }
 
   -- what is noted of each snapshot
   noted :
@@ -328,7 +319,7 @@ module _ (s : List ℕ) (h : Headed) (d : DossierIndex) (w : DossierIs s h d) wh
   -- a snapshot has these numbers, and its sets stand where its row says
   pub snapshot-stands :
       (rows : List ℕ) → RowsAre s h.snapshots rows → (j : ℕ) → j < d.count →
-      SnapshotIs s (get_or h.snapshots j no_snapshot) (numbers_at j) (row_of rows j)
+      SnapshotIs s (get_or h.snapshots j no_snapshot) (numbers_at d j) (row_of rows j)
   unfolding sizes bit_number
   snapshot-stands rows r j l =
       let k = in_count j l in
@@ -401,7 +392,18 @@ module _
     }
 
 -- the masks that are made by the index's mark are those of the type
-pub masks-typed :
+masks-typed :
     {u : List ℕ} {ty : EventType} {t : TypeIndex} {ps : List ℕ} {m : ShapeMasks} → TypeIs u ty t ps → MasksAre (ltb 0 t.mark) ty.properties m →
     MasksAre (is_versioned ty) ty.properties m
 masks-typed {u} {ty} {t} {ps} {m} w x = subst (λ (n : ℕ). MasksAre (ltb 0 n) ty.properties m) w.mark x
+
+-- the number n of snapshot j, which is asked by the index's numbers, its row and the first row
+pub number-here :
+    (limits : Limits) {s : List ℕ} {d : DossierIndex} {rows : List ℕ} {t : TypeIndex} {ps : List ℕ} {m : ShapeMasks} {j n : ℕ} → j < d.count →
+    ((u : List ℕ) (qs : List Property) → PropertiesAre u qs t.count ps → MasksAre (ltb 0 t.mark) qs m) →
+    ((u : List ℕ) (ty : EventType) (xs : List (List Text)) (y : Snapshot) → t.mark ≡ ty.mark → PropertiesAre u ty.properties t.count ps →
+    MasksAre (is_versioned ty) ty.properties m → KindsAre ty → SetsAre s xs (row_of rows 0) → SnapshotIs s y (numbers_at d j) (row_of rows j) →
+    n ≡ snapshot_number limits ty xs y) →
+    Each s d rows t ps (λ ty ss. n ≡ number_of limits ty ss j)
+number-here limits {s} {d} {rows} {t} {ps} {m} {j} {n} k masks told u ty h w g x r =
+    told u ty _ _ w.mark w.are (masks-typed w (masks u ty.properties w.are)) g (first-sets s h d x rows r) (snapshot-stands s h d x rows r j k)

@@ -103,9 +103,6 @@ MatchesFew count ps ats r = Matching count ps ats (λ qs xs. r ≡ leb (match_co
 pub record MatchesLeft (count : ℕ) (ps ats : List ℕ) (left k : ℕ) : Type 0 where
   pub is : Matching count ps ats (λ qs xs. leb (match_count qs xs) 32 ≡ leb (match_count (drop k qs) (drop k xs)) left)
 
-pub matches-none : (count : ℕ) (ps ats : List ℕ) → MatchesLeft count ps ats 32 0
-matches-none count ps ats = record { is = λ s u qs xs w v. refl }
-
 module _ {count : ℕ} {ps ats : List ℕ} {left k : ℕ} (l : MatchesLeft count ps ats left k) where
   pub matches-all : count ≤ k → MatchesFew count ps ats true
   unfolding match_count

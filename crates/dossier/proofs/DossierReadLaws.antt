@@ -4,14 +4,16 @@ use mathlib.Core.Logic.{⊎_elim}
 use mathlib.Core.Bool.{Bool, true, false}
 use mathlib.Core.Option.{none}
 use mathlib.Core.List.{List, [], ◌∷◌, ◌++◌, append-nil, map, map-id}
-use Prim.Native.Nat.{ℕ, suc, ◌+◌, ◌-◌, ◌*◌, ◌≤◌, ◌<◌}
+use Prim.Native.Nat.{ℕ, zero, suc, ◌+◌, ◌-◌, ◌*◌, ◌≤◌, ◌<◌}
 use native.Mathlib.Omega.{arith}
 use native.Mathlib.Numerals.{add-one}
+use lib.Dec.{ltb}
 use lib.ListN.{length, take, drop, get_or, set, replicate, length-append}
-use lib.ListN.{length-drop, take-append-drop, length-map, length-set, get_or-append, get_or-map}
-use lib.Seq.{drop-cons, drop-length, get_or_at, get_or-set_same, get_or-set_other, get_or-take, length-take-le, take-suc-set, take_at, drop_at, take-append-le}
+use lib.ListN.{length-drop, take-append-drop, length-set, get_or-append}
+use lib.Seq.{drop-length, get_or_at, get_or-set_same, get_or-set_other, length-take-le, take-suc-set, take_at, drop_at, take-append-le}
 use lib.Seq.{drop-append-le}
 use borrow.Author.Count.{below_more}
+use borrow.Author.Tests.{ltb-true, ltb-false}
 use borrow.Rule.Slice.PartMut.{mid_of, post_of, put_mid, same_len_mid, mid_len}
 use Rattle.model.specs.Order.{numbers, rising}
 use Rattle.model.proofs.Cases.{three}
@@ -24,30 +26,26 @@ use Rattle.packed.specs.Parse.{Parse, fail, got, Layout, and_then, ◌>>=◌, fo
 use Rattle.packed.specs.Packed.{read_number, is_within}
 use Rattle.packed.proofs.LayoutLaws.{lt-or-ge, times-was}
 use Rattle.packed.proofs.ReadLaws.{drop-next}
-use Rattle.packed.specs.code.Located.{Got, NumberReads}
-use Rattle.packed.specs.declared.read.NumberAt.{NumberAt}
-use Rattle.packed.specs.declared.read.NumberAt.TheVariants.{Number, NoNumber}
-use Rattle.packed.proofs.FieldLaws.{number-got, number-fail, got-bounds}
+use Rattle.packed.specs.code.Located.{Got}
+use Rattle.packed.proofs.FieldLaws.{got-bounds}
 use Rattle.values.specs.declared.versions.EventVersion.{EventVersion}
 use Rattle.ontology.proofs.RunLaws.{prepend, prepend-nil, prepend-one, times-left}
 use Rattle.event.specs.Head.{Head}
 use Rattle.event.specs.EventLayout.{bit_number}
 use Rattle.event.specs.code.EventIndex.{SetsAre}
 use Rattle.event.specs.declared.head.HeadAt.{HeadAt}
-use Rattle.dossier.specs.declared.head.DossierHeadRead.{DossierHeadRead}
-use Rattle.dossier.specs.declared.head.DossierHeadRead.TheVariants as read
 use Rattle.dossier.specs.DossierHead.{read_dossier_head}
 use Rattle.dossier.specs.DossierLayout.{Headed, read_dossier, dossier_of}
 use Rattle.dossier.specs.DossierBody.{read_snapshot, differ_bit, snapshot_bytes, read_body}
-use Rattle.dossier.specs.code.DossierIndex.{SnapshotAt, SnapshotStops, SnapshotReads, no_snapshot, version_numbers, no_version, row_of, SnapshotsStop}
-use Rattle.dossier.specs.code.DossierIndex.{SnapshotsSay}
+use Rattle.dossier.specs.code.DossierIndex.{SnapshotAt, SnapshotStops, SnapshotReads, no_snapshot, version_numbers, no_version, row_of}
+use Rattle.dossier.specs.code.DossierIndex.{SnapshotsStop}
 use Rattle.dossier.specs.code.DossierIndex.{DossierIs, DossierReads, DossierHeadStops, DossierHeadReads}
 use Rattle.dossier.specs.declared.snapshots.SnapshotNumbers.{SnapshotNumbers}
-use Rattle.dossier.specs.declared.snapshots.SnapshotRead.{SnapshotRead}
-use Rattle.dossier.specs.declared.snapshots.SnapshotRead.TheVariants.{Found, NoSnapshot}
 use Rattle.dossier.specs.declared.dossiers.SnapshotsRead.{SnapshotsRead}
 use Rattle.dossier.specs.declared.dossiers.DossierIndex.{DossierIndex}
 use Rattle.dossier.proofs.DossierBodyLaws.{SnapshotWritten, snapshot-was}
+use Rattle.std.specs.Prelude.{Option, Some, None}
+use Rattle.std.specs.List.{IsAllAdjacentAnswer}
 
 -- ---- versions that rise
 
@@ -59,62 +57,30 @@ first_on : (a b : ℕ) (l : List ℕ) → a < b → rising numbers (a ∷ b ∷ 
 unfolding rising
 first_on a b l h = rw (less-cmp a b h)
 
-rise-few : (l : List ℕ) → length l ≤ 1 → rising numbers l ≡ true
+-- the numbers of a version and of the next one
+abbrev Adjacent : List EventVersion → ℕ → Bool
+Adjacent vs k = ltb (get_or vs k no_version).0 (get_or vs (suc k) no_version).0
+
+all-rise : (vs : List EventVersion) → ((k : ℕ) → suc k < length vs → Adjacent vs k ≡ true) → rising numbers (version_numbers vs) ≡ true
 unfolding rising
-rise-few [] h = refl
-rise-few (a ∷ []) h = refl
-rise-few (a ∷ b ∷ l) h = absurd (omega arith)
+all-rise [] h = refl
+all-rise (v ∷ []) h = refl
+all-rise (v ∷ w ∷ vs) h =
+    first_on v.0 w.0 (version_numbers vs) (ltb-true v.0 w.0 (h 0 (omega arith))) ∙ all-rise (w ∷ vs) (λ k l. h (suc k) (omega arith))
 
--- the numbers of the first `count` versions
-abbrev firsts : List EventVersion → ℕ → List ℕ
-firsts vs count = version_numbers (take count vs)
+not-rise : (vs : List EventVersion) (k : ℕ) → suc k < length vs → Adjacent vs k ≡ false → rising numbers (version_numbers vs) ≡ false
+not-rise [] k h e = absurd (omega arith)
+not-rise (v ∷ []) k h e = absurd (omega arith)
+not-rise (v ∷ w ∷ vs) zero h e = first-not v.0 w.0 (version_numbers vs) (ltb-false v.0 w.0 e)
+not-rise (v ∷ w ∷ vs) (suc k) h e =
+    ⊎_elim (λ (l : v.0 < w.0). first_on v.0 w.0 (version_numbers vs) l ∙ not-rise (w ∷ vs) k (omega arith) e)
+    (λ (l : w.0 ≤ v.0). first-not v.0 w.0 (version_numbers vs) l) (lt-or-ge v.0 w.0)
 
-abbrev number_at : List EventVersion → ℕ → ℕ
-number_at vs j = (get_or vs j no_version).0
-
-module _ (vs : List EventVersion) (count : ℕ) (few : count ≤ length vs) where
-  long : length (firsts vs count) ≡ count
-  long = length-map (take count vs) (λ (v : EventVersion). v.0) ∙ length-take-le count vs few
-
-  split : (j : ℕ) → j < count → drop j (firsts vs count) ≡ number_at vs j ∷ drop (suc j) (firsts vs count)
-  split j h =
-      drop-cons (firsts vs count) j 0 (omega (arith, long))
-      ∙ ap (λ (a : ℕ). a ∷ drop (suc j) (firsts vs count))
-      (get_or-map (λ (v : EventVersion). v.0) (take count vs) j no_version ∙ ap (λ (v : EventVersion). v.0) (get_or-take count vs j no_version h))
-
--- all rise if those from the one before k on do
-pub record RiseFrom (vs : List EventVersion) (count k : ℕ) : Type 0 where
-  pub past : 1 ≤ k
-  pub is : rising numbers (firsts vs count) ≡ rising numbers (drop (k - 1) (firsts vs count))
-
-pub rise_one : (vs : List EventVersion) (count : ℕ) → RiseFrom vs count 1
-rise_one vs count = record { past = omega arith; is = refl }
-
-module _ {vs : List EventVersion} {count k : ℕ} (w : RiseFrom vs count k) (few : count ≤ length vs) where
-  pub rise-all : count ≤ k → true ≡ rising numbers (firsts vs count)
-  rise-all h = sym (w.is ∙ rise-few (drop (k - 1) (firsts vs count)) (simp (length-drop, long vs count few) (omega arith)))
-
-  module _ (h : k < count) where
-    two : drop (k - 1) (firsts vs count) ≡ number_at vs (k - 1) ∷ number_at vs k ∷ drop (suc k) (firsts vs count)
-    two =
-        let next : suc (k - 1) ≡ k = omega (arith, w.past) in
-        split vs count few (k - 1) (omega arith)
-        ∙ ap (λ (l : List ℕ). number_at vs (k - 1) ∷ l) (ap (λ (i : ℕ). drop i (firsts vs count)) next ∙ split vs count few k h)
-
-    pub rise-not : number_at vs k ≤ number_at vs (k - 1) → false ≡ rising numbers (firsts vs count)
-    rise-not b = sym (w.is ∙ ap (rising numbers) two ∙ first-not (number_at vs (k - 1)) (number_at vs k) _ b)
-
-    pub rise-more : number_at vs (k - 1) < number_at vs k → RiseFrom vs count (k + 1)
-    rise-more b =
-        let here : k ≡ k + 1 - 1 = omega arith in
-        record {
-          past = omega arith;
-          is =
-              w.is
-              ∙ ap (rising numbers) two
-              ∙ first_on (number_at vs (k - 1)) (number_at vs k) _ b
-              ∙ ap (rising numbers) (sym (split vs count few k h) ∙ ap (λ (i : ℕ). drop i (firsts vs count)) here);
-        }
+-- the answer to whether each version is below the next
+pub rise-told : (vs : List EventVersion) (r : Bool) → IsAllAdjacentAnswer (λ v w b. b ≡ ltb v.0 w.0) vs r → r ≡ rising numbers (version_numbers vs)
+rise-told vs true told = sym (all-rise vs (λ k l. rw (← add-one k) (sym (told k no_version (omega arith)))))
+rise-told vs false told =
+    sym (not-rise vs told.0 (omega (arith, told.1)) (rw (← add-one told.0) (sym (told.2 no_version))))
 
 -- ---- snapshots, one after the other
 
@@ -171,21 +137,20 @@ noted_more f g ns xs x n j l e h =
     ∙ ap₂ (λ (l : List ℕ) (k : ℕ). l ++ (k ∷ [])) e h
     ∙ sym (map-append f xs (x ∷ []))
 
--- The first j of n snapshots are read: they are xs, and the others stand from `next` on. The rows are as long as they were.
-pub record Sofar (p : Parse (List Snapshot)) (s rows : List ℕ) (r : SnapshotsRead) (n next j size : ℕ) : Type 0 where
+-- The first j of n snapshots are read: they are xs, and the others stand from the next position on. The rows are as long as they were.
+pub record Sofar (p : Parse (List Snapshot)) (s rows : List ℕ) (r : SnapshotsRead) (n j size : ℕ) : Type 0 where
   pub xs : List Snapshot
   pub long : length xs ≡ j
   pub below : j ≤ n
-  pub rest : p ≡ prepend xs (times read_snapshot (n - j) (drop next s))
-  pub within : next ≤ length s
+  pub rest : p ≡ prepend xs (times read_snapshot (n - j) (drop r.next s))
+  pub within : r.next ≤ length s
   pub each : (i : ℕ) → i < j → SnapshotAt s (get_or xs i no_snapshot) (get_or r.starts i 0) (get_or r.ends i 0)
   pub follows : (i : ℕ) → suc i < j → get_or r.starts (suc i) 0 ≡ get_or r.ends i 0
-  pub last : (i : ℕ) → suc i ≡ j → get_or r.ends i 0 ≡ next
+  pub last : (i : ℕ) → suc i ≡ j → get_or r.ends i 0 ≡ r.next
   pub numbers : version_numbers (take j r.versions) ≡ map (λ (x : Snapshot). x.version) xs
   pub marks : map (λ (k : ℕ). k) (take j r.differs) ≡ map differ_number xs
   pub counts : map (λ (k : ℕ). k) (take j r.objects) ≡ map objects_of xs
   pub stand : (i : ℕ) → i < j → SetsAre s (map held (get_or xs i no_snapshot).cells) (row_of rows i)
-  pub refused : r.ok ≡ false
   pub starts-long : length r.starts ≡ 8
   pub ends-long : length r.ends ≡ 8
   pub versions-long : length r.versions ≡ 8
@@ -195,14 +160,14 @@ pub record Sofar (p : Parse (List Snapshot)) (s rows : List ℕ) (r : SnapshotsR
   pub same : length rows ≡ size
 
 -- where nothing is read yet
-abbrev pub none_read : SnapshotsRead
-none_read =
+abbrev pub none_read : ℕ → SnapshotsRead
+none_read at =
     let none : List ℕ = replicate 8 0 in
-    record { ok = false; next = 0; starts = none; ends = none; versions = replicate 8 no_version; differs = none; objects = none }
+    record { next = at; starts = none; ends = none; versions = replicate 8 no_version; differs = none; objects = none }
 
 pub sofar-none :
     (s rows : List ℕ) (n at : ℕ) → at ≤ length s → 96 * n ≤ length rows →
-    Sofar (times read_snapshot n (drop at s)) s rows none_read n at 0 (length rows)
+    Sofar (times read_snapshot n (drop at s)) s rows (none_read at) n 0 (length rows)
 sofar-none s rows n at h l =
     let z : n - 0 ≡ n = omega arith in
     record {
@@ -218,7 +183,6 @@ sofar-none s rows n at h l =
       marks = refl;
       counts = refl;
       stand = λ i k. absurd (omega arith);
-      refused = refl;
       starts-long = refl;
       ends-long = refl;
       versions-long = refl;
@@ -228,15 +192,10 @@ sofar-none s rows n at h l =
       same = refl;
     }
 
-module _ {p : Parse (List Snapshot)} {s rows : List ℕ} {r : SnapshotsRead} {n next j size : ℕ} (w : Sofar p s rows r n next j size) where
+module _ {p : Parse (List Snapshot)} {s rows : List ℕ} {r : SnapshotsRead} {n j size : ℕ} (w : Sofar p s rows r n j size) where
   module _ (h : j < n) where
-    stopped : read_snapshot (drop next s) ≡ fail → p ≡ fail
-    stopped e = w.rest ∙ ap (prepend w.xs) (times-left read_snapshot n j (drop next s) h e)
-
-    -- the next snapshot is none, and so are all
-    pub sofar-bad : (rows' : List ℕ) → read_snapshot (drop next s) ≡ fail → SnapshotsSay p s rows' r
-    unfolding SnapshotsSay
-    sofar-bad rows' e = rw (stopped e) w.refused
+    pub stopped : read_snapshot (drop r.next s) ≡ fail → p ≡ fail
+    stopped e = w.rest ∙ ap (prepend w.xs) (times-left read_snapshot n j (drop r.next s) h e)
 
     -- the row of a snapshot is among those that are lent
     inside : 96 * j + 96 ≤ length rows
@@ -244,7 +203,7 @@ module _ {p : Parse (List Snapshot)} {s rows : List ℕ} {r : SnapshotsRead} {n 
 
     -- the next snapshot is read, and its row is put among the others
     module _
-        (few : n ≤ 8) {x : SnapshotNumbers} {end : ℕ} {ats : List ℕ} (k : SnapshotStops s next x end ats)
+        (few : n ≤ 8) {x : SnapshotNumbers} {end : ℕ} {ats : List ℕ} (k : SnapshotStops s r.next x end ats)
         (lent : length ats ≡ length (mid_of (96 * j) (96 * j + 96 - 96 * j) rows)) where
       row-long : length ats ≡ 96
       row-long = lent ∙ mid_len (96 * j) (96 * j + 96) rows inside ∙ omega arith
@@ -263,9 +222,8 @@ module _ {p : Parse (List Snapshot)} {s rows : List ℕ} {r : SnapshotsRead} {n 
 
       abbrev pub with-one : SnapshotsRead
       with-one = record {
-        ok = r.ok;
-        next = r.next;
-        starts = set r.starts j next;
+        next = end;
+        starts = set r.starts j r.next;
         ends = set r.ends j end;
         versions = set r.versions j x.version;
         differs = set r.differs j x.differ;
@@ -279,13 +237,13 @@ module _ {p : Parse (List Snapshot)} {s rows : List ℕ} {r : SnapshotsRead} {n 
       is_last = get_or_at w.xs it [] no_snapshot j w.long
 
       each-old : (m : ℕ) → m < j → SnapshotAt s (get_or all m no_snapshot) (get_or with-one.starts m 0) (get_or with-one.ends m 0)
-      each-old m l = rw (get_or-set_other r.starts j m next 0 (old m l), get_or-set_other r.ends j m end 0 (old m l), was m l) (w.each m l)
+      each-old m l = rw (get_or-set_other r.starts j m r.next 0 (old m l), get_or-set_other r.ends j m end 0 (old m l), was m l) (w.each m l)
 
       each_last : SnapshotAt s (get_or all j no_snapshot) (get_or with-one.starts j 0) (get_or with-one.ends j 0)
       each_last =
           let a : j < length r.starts = omega (arith, w.starts-long) in
           let b : j < length r.ends = omega (arith, w.ends-long) in
-          rw (get_or-set_same r.starts j next 0 a, get_or-set_same r.ends j end 0 b, is_last) k.stands
+          rw (get_or-set_same r.starts j r.next 0 a, get_or-set_same r.ends j end 0 b, is_last) k.stands
 
       -- the sets of a snapshot stand where a row says
       abbrev StandIn : Snapshot → List ℕ → Type 0
@@ -303,11 +261,11 @@ module _ {p : Parse (List Snapshot)} {s rows : List ℕ} {r : SnapshotsRead} {n 
           let ne : m ≡ j → ⊥ = λ e. omega arith in
           let a : j < length r.starts = omega (arith, w.starts-long) in
           ⊎_elim
-          (λ (b : suc m < j). get_or-set_other r.starts j (suc m) next 0 (old (suc m) b) ∙ w.follows m b ∙ sym (get_or-set_other r.ends j m end 0 ne))
+          (λ (b : suc m < j). get_or-set_other r.starts j (suc m) r.next 0 (old (suc m) b) ∙ w.follows m b ∙ sym (get_or-set_other r.ends j m end 0 ne))
           (λ (b : j ≤ suc m).
           let e : suc m ≡ j = omega arith in
           ap (λ (i : ℕ). get_or with-one.starts i 0) e
-          ∙ get_or-set_same r.starts j next 0 a
+          ∙ get_or-set_same r.starts j r.next 0 a
           ∙ sym (get_or-set_other r.ends j m end 0 ne ∙ w.last m e))
           (lt-or-ge (suc m) j)
 
@@ -317,14 +275,14 @@ module _ {p : Parse (List Snapshot)} {s rows : List ℕ} {r : SnapshotsRead} {n 
           let a : j < length r.ends = omega (arith, w.ends-long) in
           ap (λ (i : ℕ). get_or with-one.ends i 0) e ∙ get_or-set_same r.ends j end 0 a
 
-      pub sofar-more : Sofar p s after with-one n end (j + 1) size
+      pub sofar-more : Sofar p s after with-one n (j + 1) size
       sofar-more = record {
         xs = all;
         long = length-append w.xs (it ∷ []) ∙ ap (λ (m : ℕ). m + 1) w.long;
         below = omega arith;
         rest =
             w.rest
-            ∙ ap (prepend w.xs) (times-left read_snapshot n j (drop next s) h k.stands.is)
+            ∙ ap (prepend w.xs) (times-left read_snapshot n j (drop r.next s) h k.stands.is)
             ∙ prepend-one w.xs it (times read_snapshot (n - (j + 1)) (drop end s));
         within = k.stands.within;
         each = below_more (λ (m : ℕ). SnapshotAt s (get_or all m no_snapshot) (get_or with-one.starts m 0) (get_or with-one.ends m 0)) j each-old each_last;
@@ -336,8 +294,7 @@ module _ {p : Parse (List Snapshot)} {s rows : List ℕ} {r : SnapshotsRead} {n 
         marks = noted_more differ_number (λ (i : ℕ). i) r.differs w.xs it x.differ j (omega (arith, w.differs-long)) w.marks k.is.differ;
         counts = noted_more objects_of (λ (i : ℕ). i) r.objects w.xs it x.objects j (omega (arith, w.objects-long)) w.counts k.is.objects;
         stand = below_more (λ (m : ℕ). StandIn (get_or all m no_snapshot) (row_of after m)) j stand-old stand-last;
-        refused = w.refused;
-        starts-long = length-set r.starts j next ∙ w.starts-long;
+        starts-long = length-set r.starts j r.next ∙ w.starts-long;
         ends-long = length-set r.ends j end ∙ w.ends-long;
         versions-long = length-set r.versions j x.version ∙ w.versions-long;
         differs-long = length-set r.differs j x.differ ∙ w.differs-long;
@@ -347,63 +304,44 @@ module _ {p : Parse (List Snapshot)} {s rows : List ℕ} {r : SnapshotsRead} {n 
       }
 
   module _ (full : n ≤ j) where
-    all_read : p ≡ got w.xs (drop next s)
+    all_read : p ≡ got w.xs (drop r.next s)
     unfolding times
     all_read =
         let z : n - j ≡ 0 = omega arith in
-        w.rest ∙ ap (λ (m : ℕ). prepend w.xs (times read_snapshot m (drop next s))) z
-        ∙ ap (λ (l : List Snapshot). got l (drop next s)) (append-nil w.xs)
+        w.rest ∙ ap (λ (m : ℕ). prepend w.xs (times read_snapshot m (drop r.next s))) z
+        ∙ ap (λ (l : List Snapshot). got l (drop r.next s)) (append-nil w.xs)
 
     -- what is noted of all snapshots
     noted : (ns : List ℕ) (f : Snapshot → ℕ) → map (λ (k : ℕ). k) (take j ns) ≡ map f w.xs → take (length w.xs) ns ≡ map f w.xs
     noted ns f e = ap (λ (k : ℕ). take k ns) w.long ∙ sym (map-id (take j ns)) ∙ e
 
-    pub sofar-all :
-        SnapshotsSay p s rows
-        (record { ok = true; next = next; starts = r.starts; ends = r.ends; versions = r.versions; differs = r.differs; objects = r.objects })
-    unfolding SnapshotsSay
-    sofar-all =
-        rw all_read (record {
-          right = refl;
-          rest = refl;
-          within = w.within;
-          are = record {
-            each = λ i l. w.each i (omega (arith, w.long));
-            follows = λ i l. w.follows i (omega (arith, w.long));
-            numbers = ap (λ (k : ℕ). version_numbers (take k r.versions)) w.long ∙ w.numbers;
-          };
-          differs = noted r.differs differ_number w.marks;
-          objects = noted r.objects objects_of w.counts;
-          stand = record { each = λ i l. w.stand i (omega (arith, w.long)) };
-        })
+    pub sofar-all : SnapshotsStop p s rows r
+    sofar-all = record {
+      what = w.xs;
+      is = all_read;
+      within = w.within;
+      are = record {
+        each = λ i l. w.each i (omega (arith, w.long));
+        follows = λ i l. w.follows i (omega (arith, w.long));
+        numbers = ap (λ (k : ℕ). version_numbers (take k r.versions)) w.long ∙ w.numbers;
+      };
+      differs = noted r.differs differ_number w.marks;
+      objects = noted r.objects objects_of w.counts;
+      stand = record { each = λ i l. w.stand i (omega (arith, w.long)) };
+    }
 
 -- what is known of a call's answer in the arm of a `match`
 pub snapshot-read :
-    {s : List ℕ} {at : ℕ} {ats : List ℕ} {r : SnapshotRead} {x : SnapshotNumbers} {next : ℕ} →
-    r ≡ Found x next → SnapshotReads s at ats r → SnapshotStops s at x next ats
+    {s : List ℕ} {at : ℕ} {ats : List ℕ} {r : Option (SnapshotNumbers × ℕ)} {x : SnapshotNumbers} {next : ℕ} →
+    r ≡ Some (x, next) → SnapshotReads s at ats r → SnapshotStops s at x next ats
 snapshot-read {s} {at} {ats} h w = subst (SnapshotReads s at ats) h w
 
 pub snapshot-refused :
-    (s : List ℕ) (at : ℕ) (ats : List ℕ) {r : SnapshotRead} → r ≡ NoSnapshot → SnapshotReads s at ats r → read_snapshot (drop at s) ≡ fail
+    (s : List ℕ) (at : ℕ) (ats : List ℕ) {r : Option (SnapshotNumbers × ℕ)} → r ≡ None → SnapshotReads s at ats r →
+    read_snapshot (drop at s) ≡ fail
 snapshot-refused s at ats h w = subst (SnapshotReads s at ats) h w
 
 -- ---- the whole
-
-snapshots-refused : (p : Parse (List Snapshot)) (s rows : List ℕ) (r : SnapshotsRead) → SnapshotsSay p s rows r → r.ok ≡ false → p ≡ fail
-unfolding SnapshotsSay
-snapshots-refused fail s rows r w h = refl
-snapshots-refused (got xs t) s rows r w h = let z : ◌≡◌ {A = ℕ} 0 1 = cc w.right in absurd (omega arith)
-
-pub record AllFound (p : Parse (List Snapshot)) (s rows : List ℕ) (r : SnapshotsRead) : Type 0 where
-  pub what : List Snapshot
-  pub is : p ≡ got what (drop r.next s)
-  pub stop : SnapshotsStop s what (drop r.next s) rows r
-
-snapshots-found : (p : Parse (List Snapshot)) (s rows : List ℕ) (r : SnapshotsRead) → SnapshotsSay p s rows r → r.ok ≡ true → AllFound p s rows r
-unfolding SnapshotsSay
-snapshots-found fail s rows r w h = let z : ◌≡◌ {A = ℕ} 0 1 = cc in absurd (omega arith)
-snapshots-found (got xs t) s rows r w h =
-    record { what = xs; is = ap (got xs) w.rest; stop = subst (λ (u : List ℕ). SnapshotsStop s xs u rows r) w.rest w }
 
 -- what follows the head
 abbrev under : Head → List Snapshot → Layout Headed
@@ -425,10 +363,10 @@ head_first limits s = refl
 
 -- what is answered where the bytes are no dossier
 pub refused :
-    (limits : Limits) (s rows : List ℕ) (size : ℕ) (i : DossierIndex) → dossier_of limits s ≡ none → (i.ok ≡ false) × (i.count ≡ 0) →
-    DossierReads (dossier_of limits s) s rows i × (96 * i.count ≤ size)
+    (limits : Limits) (s rows : List ℕ) (i : DossierIndex) → dossier_of limits s ≡ none → i.ok ≡ false →
+    DossierReads (dossier_of limits s) s rows i
 unfolding DossierReads
-refused limits s rows size i e h = (rw e h.0, omega (arith, h.1))
+refused limits s rows i e h = rw e h
 
 no-dossier : (limits : Limits) (s : List ℕ) → read_dossier limits s ≡ fail → dossier_of limits s ≡ none
 unfolding dossier_of
@@ -436,17 +374,15 @@ no-dossier limits s e = rw e
 
 -- what is known of the head's answer in the arm of a `match`
 pub head-reads :
-    {p : Parse Head} {s : List ℕ} {r : DossierHeadRead} {x : HeadAt} {end : ℕ} → r ≡ read.Head x end → DossierHeadReads p s r →
+    {p : Parse Head} {s : List ℕ} {r : Option (HeadAt × ℕ)} {x : HeadAt} {end : ℕ} → r ≡ Some (x, end) → DossierHeadReads p s r →
     DossierHeadStops p s x end
 head-reads {p} {s} h w = subst (DossierHeadReads p s) h w
 
-pub head-refused : {p : Parse Head} (s : List ℕ) {r : DossierHeadRead} → r ≡ read.NoHead → DossierHeadReads p s r → p ≡ fail
+pub head-refused : {p : Parse Head} (s : List ℕ) {r : Option (HeadAt × ℕ)} → r ≡ None → DossierHeadReads p s r → p ≡ fail
 head-refused {p} s h w = subst (DossierHeadReads p s) h w
 
-pub head-none :
-    (limits : Limits) (s : List ℕ) {r : DossierHeadRead} → r ≡ read.NoHead → DossierHeadReads (read_dossier_head limits s) s r →
-    dossier_of limits s ≡ none
-head-none limits s e w = let bad = head-refused s e w in no-dossier limits s (head_first limits s ∙ rw bad)
+pub head-none : (limits : Limits) (s : List ℕ) → read_dossier_head limits s ≡ fail → dossier_of limits s ≡ none
+head-none limits s bad = no-dossier limits s (head_first limits s ∙ rw bad)
 
 -- the head x and the number n of snapshots are read, which stand from `at` on
 pub record HeadCount (limits : Limits) (s : List ℕ) (x : HeadAt) (n at : ℕ) : Type 0 where
@@ -460,41 +396,21 @@ module _ (limits : Limits) {s : List ℕ} {x : HeadAt} {end : ℕ} (w : DossierH
   head_step : read_dossier limits s ≡ and_then (and_then (numbered limits (drop end s)) counted) (under w.what)
   head_step = head_first limits s ∙ rw w.is
 
--- the number of snapshots, by what the readers of the head and of the number answer
-module _
-    (limits : Limits) (s : List ℕ) {r : DossierHeadRead} {x : HeadAt} {end : ℕ} (e : r ≡ read.Head x end)
-    (w : DossierHeadReads (read_dossier_head limits s) s r)
-    {q : NumberAt} (v : NumberReads (numbered limits (drop end s)) s end q)
-  where
-    pub count_none : q ≡ NoNumber → dossier_of limits s ≡ none
-    count_none k =
-        let head = head-reads e w in
-        no-dossier limits s (head_step limits head ∙ ap (λ (p : Parse ℕ). and_then (and_then p counted) (under head.what)) (number-fail s end k v))
+  pub count_none : numbered limits (drop end s) ≡ fail → dossier_of limits s ≡ none
+  count_none e = no-dossier limits s (head_step ∙ ap (λ (p : Parse ℕ). and_then (and_then p counted) (under w.what)) e)
 
-    pub count-read : Permitted limits → {n at : ℕ} → q ≡ Number n at → HeadCount limits s x n at
-    count-read permitted k =
-        let count = number-got k v in
-        let bounds = got-bounds 1 limits.versions count in
-        record { end = end; head = head-reads e w; count = count; one = bounds.0; few = omega (arith, bounds.1, permitted.few-versions) }
-
--- the snapshots are read too, as r says
-pub record SnapshotsFound (limits : Limits) (s : List ℕ) (x : HeadAt) (n : ℕ) (rows : List ℕ) (r : SnapshotsRead) : Type 0 where
-  pub at : ℕ
-  pub counted : HeadCount limits s x n at
-  pub all : AllFound (times read_snapshot n (drop at s)) s rows r
+  pub count-read : Permitted limits → {n at : ℕ} → Got (numbered limits (drop end s)) s end n at → HeadCount limits s x n at
+  count-read permitted count =
+      let bounds = got-bounds 1 limits.versions count in
+      record { end = end; head = w; count = count; one = bounds.0; few = omega (arith, bounds.1, permitted.few-versions) }
 
 module _ {limits : Limits} {s : List ℕ} {x : HeadAt} {n at : ℕ} (w : HeadCount limits s x n at) where
   count-step : read_dossier limits s ≡ and_then (and_then (times read_snapshot n (drop at s)) risen) (under w.head.what)
   count-step = head_step limits w.head ∙ ap (λ (p : Parse ℕ). and_then (and_then p counted) (under w.head.what)) w.count.is
 
-  module _ (rows : List ℕ) (r : SnapshotsRead) (v : SnapshotsSay (times read_snapshot n (drop at s)) s rows r) where
-    pub snapshots-none : r.ok ≡ false → dossier_of limits s ≡ none
-    snapshots-none bad =
-        let e = snapshots-refused (times read_snapshot n (drop at s)) s rows r v bad in
-        no-dossier limits s (count-step ∙ ap (λ (p : Parse (List Snapshot)). and_then (and_then p risen) (under w.head.what)) e)
-
-    pub snapshots-read : r.ok ≡ true → SnapshotsFound limits s x n rows r
-    snapshots-read ok = record { at = at; counted = w; all = snapshots-found (times read_snapshot n (drop at s)) s rows r v ok }
+  pub snapshots-none : times read_snapshot n (drop at s) ≡ fail → dossier_of limits s ≡ none
+  snapshots-none e =
+      no-dossier limits s (count-step ∙ ap (λ (p : Parse (List Snapshot)). and_then (and_then p risen) (under w.head.what)) e)
 
 -- the index of a dossier
 abbrev pub index_of : HeadAt → ℕ → SnapshotsRead → DossierIndex
@@ -509,24 +425,26 @@ index_of x n r = record {
   objects = r.objects;
 }
 
--- what is left to ask: whether they end with the bytes, and whether their versions rise
-module _ {limits : Limits} {s : List ℕ} {x : HeadAt} {n : ℕ} {rows : List ℕ} {r : SnapshotsRead} (w : SnapshotsFound limits s x n rows r) where
+-- Where the snapshots are read too, as r says, what is left to ask is whether they end with the bytes, and whether their versions rise.
+module _
+    {limits : Limits} {s : List ℕ} {x : HeadAt} {n at : ℕ} {rows : List ℕ} {r : SnapshotsRead} (w : HeadCount limits s x n at)
+    (all : SnapshotsStop (times read_snapshot n (drop at s)) s rows r) where
   abbrev top : Head
-  top = w.counted.head.what
+  top = w.head.what
 
   abbrev these : List Snapshot
-  these = w.all.what
+  these = all.what
 
   abbrev read-there : Headed
   read-there = record { head = top; snapshots = these }
 
   last_step : read_dossier limits s ≡ and_then (risen these (drop r.next s)) (under top)
-  last_step = count-step w.counted ∙ rw w.all.is
+  last_step = count-step w ∙ rw all.is
 
   pub not-whole : (r.next ≡ length s → ⊥) → dossier_of limits s ≡ none
   unfolding dossier_of
   not-whole ne =
-      let l : r.next < length s = omega (arith, w.all.stop.within, ne) in
+      let l : r.next < length s = omega (arith, all.within, ne) in
       ap whole last_step ∙ go (rising numbers (map (λ (s : Snapshot). s.version) these)) (drop-next s r.next l)
     where
       go : (b : Bool) {y : ℕ} {t u : List ℕ} → t ≡ y ∷ u → whole (and_then (found_if b these t) (under top)) ≡ none
@@ -534,25 +452,25 @@ module _ {limits : Limits} {s : List ℕ} {x : HeadAt} {n : ℕ} {rows : List �
       go false e = refl
 
   many : length these ≡ n
-  many = as_many n (drop w.at s) these (drop r.next s) w.all.is
+  many = as_many n (drop at s) these (drop r.next s) all.is
 
   -- by the answer to whether they rise
   module _ {b : Bool} (a : b ≡ rising numbers (version_numbers (take n r.versions))) where
     rises : {d : Bool} → b ≡ d → rising numbers (map (λ (s : Snapshot). s.version) these) ≡ d
-    rises e = ap (rising numbers) (sym w.all.stop.are.numbers ∙ ap (λ (k : ℕ). version_numbers (take k r.versions)) many) ∙ sym a ∙ e
+    rises e = ap (rising numbers) (sym all.are.numbers ∙ ap (λ (k : ℕ). version_numbers (take k r.versions)) many) ∙ sym a ∙ e
 
     pub not-rising : b ≡ false → dossier_of limits s ≡ none
     not-rising e = no-dossier limits s (last_step ∙ rw (rises e))
 
     stands : DossierIs s read-there (index_of x n r)
     stands = record {
-      head = w.counted.head.stands;
+      head = w.head.stands;
       count = sym many;
-      one = w.counted.one;
-      few = w.counted.few;
-      snapshots = w.all.stop.are;
-      differs = w.all.stop.differs;
-      objects = w.all.stop.objects;
+      one = w.one;
+      few = w.few;
+      snapshots = all.are;
+      differs = all.differs;
+      objects = all.objects;
     }
 
     pub dossier-found :
@@ -564,4 +482,4 @@ module _ {limits : Limits} {s : List ℕ} {x : HeadAt} {n : ℕ} {rows : List �
         last_step
         ∙ ap (λ (b : Bool). and_then (found_if b these (drop r.next s)) (under top)) (rises e)
         ∙ ap (got read-there) (ap (λ (k : ℕ). drop k s) z ∙ drop-length s) in
-        rw g (refl, stands, w.all.stop.stand)
+        rw g (refl, stands, all.stand)

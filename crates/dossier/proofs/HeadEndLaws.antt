@@ -8,23 +8,21 @@ use lib.ListN.{length, drop, length-append, length-drop}
 use lib.Seq.{drop_at, drop-drop}
 use borrow.Author.Tests.{leb-true}
 use Rattle.model.specs.Order.{Text, texts, rising}
-use Rattle.model.specs.Limits.{Limits, Permitted}
+use Rattle.model.specs.Limits.{Limits}
 use Rattle.model.proofs.Cases.{never}
 use Rattle.packed.specs.Parse.{Parse, fail, got, such_that, times}
 use Rattle.packed.specs.Packed.{read_number, read_text, read_bytes, is_within}
 use Rattle.packed.specs.code.Located.{text_at, Got, NumberReads}
-use Rattle.packed.specs.declared.read.NumberAt.{NumberAt}
-use Rattle.packed.specs.declared.read.NumberAt.TheVariants.{Number, NoNumber}
-use Rattle.packed.specs.declared.read.TextAt.{TextAt}
-use Rattle.packed.specs.declared.read.TextAt.TheVariants as text
 use Rattle.packed.proofs.LayoutLaws.{and_then-got, such_that-got, found_if-got, bytes-was, times-was, flat}
 use Rattle.packed.proofs.ReadLaws.{text-stops, text-none}
-use Rattle.packed.proofs.FieldLaws.{number-got, number-fail, such-never, such-was, is_within_lem, got-bounds}
+use Rattle.packed.proofs.FieldLaws.{number-got, number-fail, such-never, such-was, is_within_lem}
 use Rattle.event.specs.Head.{Head, is_source, read_parents, read_head}
 use Rattle.event.specs.declared.head.HeadAt.{HeadAt}
 use Rattle.event.proofs.HeadLayoutLaws.{hashes-size}
 use Rattle.dossier.specs.DossierHead.{read_dossier_head}
 use Rattle.dossier.specs.code.DossierIndex.{DossierHeadStops, HeadEnds}
+use Rattle.std.specs.Prelude.{Option, Some, None}
+use Rattle.packed.specs.declared.read.TextAt.{TextAt}
 
 -- ---- the parts of a head that was read
 
@@ -106,41 +104,38 @@ abbrev parents : Limits → List ℕ → ℕ → Parse ℕ
 parents limits s at = such_that (is_within 0 limits.parents) read_number (drop at s)
 
 -- Each part of a head starts where the one before it ends, as the readers answer. Where one reads nothing, no head is read, so that any position will do.
-module _ (limits : Limits) (s : List ℕ) {r₁ : TextAt} (h₁ : r₁ ≡ text_at s 0) where
-  pub no_name : r₁ ≡ text.NoText → (end : ℕ) → HeadEnds limits s end
+module _ (limits : Limits) (s : List ℕ) {r₁ : Option TextAt} (h₁ : r₁ ≡ text_at s 0) where
+  pub no_name : r₁ ≡ None → (end : ℕ) → HeadEnds limits s end
   no_name q = no-head limits s (λ t w. never_both (text-none s 0 (sym h₁ ∙ q)) w.named)
 
-  module _ {name name-end : ℕ} (e₁ : r₁ ≡ text.Text name name-end) {r₂ : TextAt} (h₂ : r₂ ≡ text_at s name-end) where
-    source-there : (t : List ℕ) (w : Passed limits s t) → read_text (drop name-end s) ≡ got w.source w.after-source
+  module _ {name : TextAt} (e₁ : r₁ ≡ Some name) {r₂ : Option TextAt} (h₂ : r₂ ≡ text_at s name.end) where
+    source-there : (t : List ℕ) (w : Passed limits s t) → read_text (drop name.end s) ≡ got w.source w.after-source
     source-there t w =
-        let at = left-same (sym w.named ∙ (text-stops s 0 name name-end (sym h₁ ∙ e₁)).is) in
+        let at = left-same (sym w.named ∙ (text-stops s 0 name (sym h₁ ∙ e₁)).is) in
         ap read_text (sym at) ∙ w.sourced
 
-    pub no_source : r₂ ≡ text.NoText → (end : ℕ) → HeadEnds limits s end
-    no_source q = no-head limits s (λ t w. never_both (text-none s name-end (sym h₂ ∙ q)) (source-there t w))
+    pub no_source : r₂ ≡ None → (end : ℕ) → HeadEnds limits s end
+    no_source q = no-head limits s (λ t w. never_both (text-none s name.end (sym h₂ ∙ q)) (source-there t w))
 
-    module _ {source at : ℕ} (e₂ : r₂ ≡ text.Text source at) where
-      number-there : (t : List ℕ) (w : Passed limits s t) → read_number (drop at s) ≡ got w.count w.after-count
+    module _ {source : TextAt} (e₂ : r₂ ≡ Some source) where
+      number-there : (t : List ℕ) (w : Passed limits s t) → read_number (drop source.end s) ≡ got w.count w.after-count
       number-there t w =
-          let there = left-same (sym (source-there t w) ∙ (text-stops s name-end source at (sym h₂ ∙ e₂)).is) in
+          let there = left-same (sym (source-there t w) ∙ (text-stops s name.end source (sym h₂ ∙ e₂)).is) in
           ap read_number (sym there) ∙ w.counted
 
-      module _ {r₃ : NumberAt} (h₃ : NumberReads (parents limits s at) s at r₃) where
-        pub no-count : r₃ ≡ NoNumber → (end : ℕ) → HeadEnds limits s end
+      module _ {r₃ : Option (ℕ × ℕ)} (h₃ : NumberReads (parents limits s source.end) s source.end r₃) where
+        pub no-count : r₃ ≡ None → (end : ℕ) → HeadEnds limits s end
         no-count q = no-head limits s (λ t w.
-            such-never (is_within 0 limits.parents) read_number s at (number-fail s at q h₃) (number-there t w)
+            such-never (is_within 0 limits.parents) read_number s source.end (number-fail s source.end q h₃) (number-there t w)
             (is_within_lem 0 limits.parents w.count (omega arith) w.few))
 
         -- n hashes follow from e on
-        module _ {n e : ℕ} (e₃ : r₃ ≡ Number n e) where
-          count : Got (parents limits s at) s at n e
+        module _ {n e : ℕ} (e₃ : r₃ ≡ Some (n, e)) where
+          count : Got (parents limits s source.end) s source.end n e
           count = number-got e₃ h₃
 
-          pub hashes-few : Permitted limits → n ≤ 32
-          hashes-few permitted = omega (arith, (got-bounds 0 limits.parents count).1, permitted.few-parents)
-
           same : (t : List ℕ) (w : Passed limits s t) → got w.count w.after-count ≡ got n (drop e s)
-          same t w = sym (number-there t w) ∙ (such-was (is_within 0 limits.parents) read_number s at count).0.is
+          same t w = sym (number-there t w) ∙ (such-was (is_within 0 limits.parents) read_number s source.end count).0.is
 
           hashes-there : (t : List ℕ) → Passed limits s t → HashesPassed n (drop e s) t
           hashes-there t w =

@@ -6,10 +6,11 @@ use mathlib.Core.List.{List, [], ◌∷◌, ◌++◌, map}
 use Prim.Native.Nat.{ℕ, zero, suc, ◌+◌, ◌-◌, ◌*◌, ◌/◌, ◌%◌, ◌^◌, ◌≤◌, ◌<◌, min, max}
 use native.Mathlib.Nat.{zero-add, pow-succ'}
 use native.Mathlib.Omega.{arith}
+use mir.Val.{bool_byte}
 use lib.Bits.{bit_and, bit_or, and_step, or_step}
 use lib.Dec.{ltb, leb, eqb, leb-suc-zero, eqb-suc-zero}
 use lib.ListN.{length, take, drop, get_or, length-map, length-take, take-append-drop, drop_of_length-le}
-use lib.Pow.{pow_pos, pow_mono}
+use lib.Pow.{pow_pos}
 use lib.Seq.{drop-cons, take-suc, get_or-take}
 use borrow.Author.Tests.{leb-true, leb-false, le-leb, lt-leb, eqb-true, eqb-false, eq-eqb, ne_eqb}
 use Rattle.model.specs.Rule.{Cell, holds, differs, size, sizes}
@@ -277,50 +278,19 @@ masks-same {v} {qs} {m} w present several differ =
     (λ (a b : ℕ). leb differ n.all && eqb (bit_and either n.mandatory) n.mandatory && eqb (bit_and several a) 0 && eqb (bit_and differ b) 0)
     w.lone w.unmarked
 
--- ---- the tests of the masks, one after the other
-
-module _ (m : ShapeMasks) (present several differ : ℕ) where
-  abbrev covering : ℕ
-  covering = bit_and (bit_or present differ) m.mandatory
-
-  pub fit-beyond : m.all < differ → false ≡ masks_fit m present several differ
-  unfolding masks_fit
-  fit-beyond h =
-      sym (ap (λ (a : Bool). a && eqb covering m.mandatory && eqb (bit_and several m.lone) 0 && eqb (bit_and differ m.unmarked) 0)
-      (lt-leb differ m.all h))
-
-  module _ (h : differ ≤ m.all) where
-    pub fit-absent : (covering ≡ m.mandatory → ⊥) → false ≡ masks_fit m present several differ
-    unfolding masks_fit
-    fit-absent g =
-        sym (ap₂ (λ (a b : Bool). a && b && eqb (bit_and several m.lone) 0 && eqb (bit_and differ m.unmarked) 0)
-        (le-leb differ m.all h) (ne_eqb covering m.mandatory g))
-
-    module _ (g : covering ≡ m.mandatory) where
-      past : masks_fit m present several differ ≡ (eqb (bit_and several m.lone) 0 && eqb (bit_and differ m.unmarked) 0)
-      unfolding masks_fit
-      past =
-          ap₂ (λ (a b : Bool). a && b && eqb (bit_and several m.lone) 0 && eqb (bit_and differ m.unmarked) 0)
-          (le-leb differ m.all h) (eq-eqb covering m.mandatory g)
-
-      pub fit-several : (bit_and several m.lone ≡ 0 → ⊥) → false ≡ masks_fit m present several differ
-      fit-several e = sym (past ∙ ap (λ (b : Bool). b && eqb (bit_and differ m.unmarked) 0) (ne_eqb (bit_and several m.lone) 0 e))
-
-      pub fit-last : bit_and several m.lone ≡ 0 → eqb (bit_and differ m.unmarked) 0 ≡ masks_fit m present several differ
-      fit-last e = sym (past ∙ ap (λ (b : Bool). b && eqb (bit_and differ m.unmarked) 0) (eq-eqb (bit_and several m.lone) 0 e))
-
 -- ---- masks that are made from the highest place down
-
--- one bit more has its room
-pub bits-room : (n k : ℕ) → 0 < k → n < 2 ^ (32 - k) → 2 * n + 1 < 4294967296
-bits-room n k h l = omega (arith, pow_mono {i = 32 - k} {j = 31} (omega arith))
 
 bits-more : (n k b : ℕ) → 0 < k → k ≤ 32 → n < 2 ^ (32 - k) → b < 2 → 2 * n + b < 2 ^ (32 - (k - 1))
 bits-more n k b h m l e = let next : 32 - (k - 1) ≡ suc (32 - k) = omega arith in rw (next, pow-succ' 2 (32 - k)) (omega arith)
 
--- what a function that answers a bit says of it
-pub bit-low : (f : Bool) {b : ℕ} → b ≡ bit_of f → b < 2
-bit-low f e = omega (arith, e, bit-small f)
+-- a flag as a number is its bit
+flag-bit : (f : Bool) → bool_byte f ≡ bit_of f
+unfolding bit_of
+flag-bit true = refl
+flag-bit false = refl
+
+bit-low : (f : Bool) {b : ℕ} → b ≡ bool_byte f → b < 2
+bit-low f e = omega (arith, e, flag-bit f, bit-small f)
 
 mask-more :
     {A : Type 0} (test : A → Bool) (xs : List A) (x : A) (k n b : ℕ) →
@@ -343,21 +313,6 @@ joined m a b c = record { all = 2 * m.all + 1; mandatory = 2 * m.mandatory + a; 
 
 abbrev pub no_masks : ShapeMasks
 no_masks = record { all = 0; mandatory = 0; lone = 0; unmarked = 0 }
-
--- each mask has room for one bit more
-pub record MasksRoom (m : ShapeMasks) : Type 0 where
-  pub all : 2 * m.all + 1 < 4294967296
-  pub mandatory : 2 * m.mandatory + 1 < 4294967296
-  pub lone : 2 * m.lone + 1 < 4294967296
-  pub unmarked : 2 * m.unmarked + 1 < 4294967296
-
-pub masks-room : {m : ShapeMasks} {k : ℕ} → MasksLow m k → 0 < k → MasksRoom m
-masks-room {m} {k} w h = record {
-  all = bits-room m.all k h w.all;
-  mandatory = bits-room m.mandatory k h w.mandatory;
-  lone = bits-room m.lone k h w.lone;
-  unmarked = bits-room m.unmarked k h w.unmarked;
-}
 
 module _ {s : List ℕ} {q : Property} {x : PropertyAt} (v : Bool) (w : PropertyIs s q x) where
   lone_of : cond v (not x.multivalued) (has_extreme x || (has_match x && not x.multivalued)) ≡ must_be_lone v q
@@ -392,9 +347,9 @@ module _ {v : Bool} {count : ℕ} {ps : List ℕ} {m : ShapeMasks} {k : ℕ} (w 
   -- the place below k, by its property p and the bits that are put in
   module _
       (h : 0 < k) (few : count ≤ 32) {p : PropertyAt} (at : p ≡ property_in ps (k - 1)) {lone unmarked : Bool} {a b c : ℕ}
-      (d : a ≡ bit_of (not p.optional))
-      (l : lone ≡ cond v (not p.multivalued) (has_extreme p || (has_match p && not p.multivalued))) (e : b ≡ bit_of lone)
-      (u : unmarked ≡ (not v || has_match p)) (f : c ≡ bit_of unmarked)
+      (d : a ≡ bool_byte (not p.optional))
+      (l : lone ≡ cond v (not p.multivalued) (has_extreme p || (has_match p && not p.multivalued))) (e : b ≡ bool_byte lone)
+      (u : unmarked ≡ (not v || has_match p)) (f : c ≡ bool_byte unmarked)
     where
       more-are : (s : List ℕ) (qs : List Property) → PropertiesAre s qs count ps → MasksAre v (drop (k - 1) qs) (joined m a b c)
       unfolding bit_of
@@ -409,9 +364,9 @@ module _ {v : Bool} {count : ℕ} {ps : List ℕ} {m : ShapeMasks} {k : ℕ} (w 
             all = mask-more (λ (p : Property). true) qs q k m.all 1 split old.all refl;
             mandatory =
                 mask-more (λ (p : Property). not p.optional) qs q k m.mandatory a split old.mandatory
-                (d ∙ ap (λ (o : Bool). bit_of (not o)) is.optional);
-            lone = mask-more (must_be_lone v) qs q k m.lone b split old.lone (e ∙ ap bit_of (l ∙ lone_of v is));
-            unmarked = mask-more (must_be_unmarked v) qs q k m.unmarked c split old.unmarked (f ∙ ap bit_of (u ∙ unmarked-of v is));
+                (d ∙ flag-bit (not p.optional) ∙ ap (λ (o : Bool). bit_of (not o)) is.optional);
+            lone = mask-more (must_be_lone v) qs q k m.lone b split old.lone (e ∙ flag-bit lone ∙ ap bit_of (l ∙ lone_of v is));
+            unmarked = mask-more (must_be_unmarked v) qs q k m.unmarked c split old.unmarked (f ∙ flag-bit unmarked ∙ ap bit_of (u ∙ unmarked-of v is));
           }
 
       pub masks-more : MasksDown v count ps (joined m a b c) (k - 1)
@@ -505,7 +460,7 @@ module _
     counts-few m l u qs cs versioned n x y o = absurd (omega (arith, (w.from u cs y o).rest, sizes-before y))
 
     pub counts-more :
-        {a b : ℕ} → a ≡ bit_of (ltb 0 objects_here) → b ≡ bit_of (ltb 1 objects_here) →
+        {a b : ℕ} → a ≡ bool_byte (ltb 0 objects_here) → b ≡ bool_byte (ltb 1 objects_here) →
         CountsDown count differ objects ats (2 * present + a) (2 * several + b) (left - objects_here) (k - 1)
     counts-more {a} {b} e f =
         let below : k ≤ 32 = omega (arith, w.inside) in
@@ -518,8 +473,12 @@ module _
               let xs = take count cs in
               let split = split-here y in
               record {
-                there = mask-more is_there xs (here cs) k present a split x.there (e ∙ ap (λ (n : ℕ). bit_of (ltb 0 n)) (counted y));
-                many = mask-more is_several xs (here cs) k several b split x.many (f ∙ ap (λ (n : ℕ). bit_of (ltb 1 n)) (counted y));
+                there =
+                    mask-more is_there xs (here cs) k present a split x.there
+                    (e ∙ flag-bit (ltb 0 objects_here) ∙ ap (λ (n : ℕ). bit_of (ltb 0 n)) (counted y));
+                many =
+                    mask-more is_several xs (here cs) k several b split x.many
+                    (f ∙ flag-bit (ltb 1 objects_here) ∙ ap (λ (n : ℕ). bit_of (ltb 1 n)) (counted y));
                 rest = omega (arith, x.rest, sizes-before y);
               };
         }

@@ -1,12 +1,12 @@
 -- The laws of a snapshot's version property, and of all that question 5 asks of one snapshot.
 use mathlib.Core.Path.{◌≡◌, refl, sym, ap, ap₂, ◌∙◌, subst}
-use mathlib.Core.Bool.{Bool, true, false, cond, not, ◌&&◌}
+use mathlib.Core.Bool.{Bool, true, false, cond, ◌&&◌}
 use mathlib.Core.List.{List, [], ◌∷◌, map}
 use Prim.Native.Nat.{ℕ, ◌-◌, ◌≤◌, ◌<◌}
 use native.Mathlib.Omega.{arith}
 use lib.Dec.{ltb, leb, eqb}
 use lib.ListN.{length, get_or, length-map, get_or-eq_default}
-use borrow.Author.Tests.{not-true, not-false, lt-ltb, le-leb, lt-leb, eq-eqb, ne_eqb}
+use borrow.Author.Tests.{lt-ltb, le-leb, lt-leb, eq-eqb, ne_eqb}
 use Rattle.model.specs.Order.{Text, texts, sets, lists, lex, equal}
 use Rattle.model.proofs.Cases.{three, and-false}
 use Rattle.model.proofs.OrderLaws.{equal-false}
@@ -15,12 +15,10 @@ use Rattle.model.specs.Limits.{Limits}
 use Rattle.model.specs.Opening.{held, cell_at}
 use Rattle.values.specs.Decimal.{in_decimal}
 use Rattle.ontology.specs.Table.{EventType, is_versioned}
-use Rattle.ontology.specs.code.TypeIndex.{PropertiesAre}
 use Rattle.event.specs.EventQuestions.{match_count}
 use Rattle.event.specs.code.EventIndex.{SetIs, set_in, SetsAre}
 use Rattle.dossier.specs.DossierQuestions.{each_cell, is_vacant, holds_version}
-use Rattle.dossier.specs.code.DossierIndex.{SnapshotIs, CellsAre, MasksAre, cell_fits, version_fits, snapshot_fits}
-use Rattle.dossier.specs.declared.shape.ShapeMasks.{ShapeMasks}
+use Rattle.dossier.specs.code.DossierIndex.{SnapshotIs, CellsAre, cell_fits, version_fits, snapshot_fits}
 use Rattle.dossier.specs.declared.snapshots.SnapshotNumbers.{SnapshotNumbers}
 use Rattle.dossier.proofs.CellLaws.{held_at, match-few}
 
@@ -114,12 +112,6 @@ module _
 pub cells_are : (s : List ℕ) (y : Snapshot) (x : SnapshotNumbers) (ats : List ℕ) → SnapshotIs s y x ats → CellsAre s y.cells x.differ ats
 cells_are s y x ats w = record { bits = w.differ; sets = w.sets }
 
--- what holds of any snapshot that stands as the numbers say
-abbrev pub Fitting : List ℕ → List ℕ → SnapshotNumbers → ShapeMasks → ℕ → ℕ → List ℕ → (EventType → Snapshot → Type 0) → Type 0
-Fitting s ats x m mark count ps P =
-    (u : List ℕ) (ty : EventType) (y : Snapshot) → mark ≡ ty.mark → PropertiesAre u ty.properties count ps →
-    MasksAre (is_versioned ty) ty.properties m → SnapshotIs s y x ats → P ty y
-
 abbrev pub cells_fit : EventType → Snapshot → Bool
 cells_fit ty y = each_cell (cell_fits (is_versioned ty)) is_vacant ty.properties y.cells
 
@@ -127,20 +119,20 @@ abbrev pub matches_few : EventType → Snapshot → Bool
 matches_few ty y = leb (match_count ty.properties (map held y.cells)) 32
 
 module _ (limits : Limits) (ty : EventType) (y : Snapshot) where
-  pub fits-cells : {a : Bool} → not a ≡ true → a ≡ cells_fit ty y → false ≡ snapshot_fits limits ty y
+  pub fits-cells : {a : Bool} → a ≡ cells_fit ty y → a ≡ false → false ≡ snapshot_fits limits ty y
   unfolding snapshot_fits
-  fits-cells {a} f e = sym (ap (λ (b : Bool). b && matches_few ty y && version_fits limits ty y) (sym e ∙ not-true a f))
+  fits-cells e f = sym (ap (λ (b : Bool). b && matches_few ty y && version_fits limits ty y) (sym e ∙ f))
 
-  pub fits-match : {a : Bool} → not a ≡ true → a ≡ matches_few ty y → false ≡ snapshot_fits limits ty y
+  pub fits-match : {a : Bool} → a ≡ matches_few ty y → a ≡ false → false ≡ snapshot_fits limits ty y
   unfolding snapshot_fits
-  fits-match {a} f e =
-      sym (ap (λ (b : Bool). cells_fit ty y && b && version_fits limits ty y) (sym e ∙ not-true a f)
+  fits-match e f =
+      sym (ap (λ (b : Bool). cells_fit ty y && b && version_fits limits ty y) (sym e ∙ f)
       ∙ ap (λ (b : Bool). b && version_fits limits ty y) (and-false (cells_fit ty y)))
 
-  pub fits_all : {a r : Bool} → not a ≡ false → a ≡ cells_fit ty y → matches_few ty y ≡ true → r ≡ version_fits limits ty y →
-      r ≡ snapshot_fits limits ty y
+  pub fits_all :
+      {a r : Bool} → a ≡ cells_fit ty y → a ≡ true → matches_few ty y ≡ true → r ≡ version_fits limits ty y → r ≡ snapshot_fits limits ty y
   unfolding snapshot_fits
-  fits_all {a} f e g k = k ∙ sym (ap₂ (λ (a b : Bool). a && b && version_fits limits ty y) (sym e ∙ not-false a f) g)
+  fits_all e f g k = k ∙ sym (ap₂ (λ (a b : Bool). a && b && version_fits limits ty y) (sym e ∙ f) g)
 
 -- where there are few objects, there are few match objects
 pub match-within : (ty : EventType) (y : Snapshot) {objects : ℕ} → objects ≡ sizes y.cells → objects ≤ 32 → matches_few ty y ≡ true

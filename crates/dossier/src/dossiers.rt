@@ -8,10 +8,10 @@ ghost use Rattle.dossier.specs.DossierLayout.{Headed, dossier_of};
 ghost use Rattle.dossier.specs.DossierBody.{read_snapshot};
 ghost use Rattle.dossier.specs.code.DossierIndex.{version_numbers, SnapshotsSay, HasRows, DossierReads};
 
-use crate::head::{DossierHeadRead, dossier_head_end, read_dossier_head};
-use crate::snapshots::{SnapshotRead, read_snapshot};
+use crate::head::{dossier_head_end, read_dossier_head};
+use crate::snapshots::read_snapshot;
 use event::head::{HeadAt, no_head};
-use packed::read::{NumberAt, read_within};
+use packed::read::read_within;
 use replies::limits::Limits;
 use values::versions::EventVersion;
 
@@ -19,7 +19,6 @@ use values::versions::EventVersion;
 // as the largest limits allow.
 #[derive(Clone, Copy)]
 pub struct SnapshotsRead {
-    pub ok: bool,
     pub next: usize,
     pub starts: [usize; 8],
     pub ends: [usize; 8],
@@ -43,58 +42,36 @@ pub struct DossierIndex {
 }
 
 // So many snapshots, from `at` on.
-fn read_snapshots(s: &[u8], at: usize, count: usize, rows: &mut [usize]) -> SnapshotsRead
+fn read_snapshots(s: &[u8], at: usize, count: usize, rows: &mut [usize]) -> Option<SnapshotsRead>
     requires { (at ≤ length s.now) × (1 ≤ count) × (count ≤ 8) × (96 * count ≤ length rows.old) }
     ensures { SnapshotsSay (times read_snapshot count (drop at s.now)) s.now rows.new result }
 {
     let mut r = SnapshotsRead {
-        ok: false,
-        next: 0,
+        next: at,
         starts: [0; 8],
         ends: [0; 8],
         versions: [EventVersion(0); 8],
         differs: [0; 8],
         objects: [0; 8],
     };
-    let mut next = at;
-    let mut j: usize = 0;
-    while j < count {
-        let SnapshotRead::Found(x, end) = read_snapshot(
-            s,
-            next,
-            false,
-            &mut rows[96 * j..96 * j + 96],
-        ) else {
-            return r;
-        };
-        let version = x.version;
-        r.starts[j] = next;
+    for j in 0..count {
+        let row = &mut rows[96 * j..96 * j + 96];
+        let (x, end) = read_snapshot(s, r.next, false, row)?;
+        r.starts[j] = r.next;
         r.ends[j] = end;
-        r.versions[j] = version;
+        r.versions[j] = x.version;
         r.differs[j] = x.differ;
         r.objects[j] = x.objects;
-        next = end;
-        j += 1;
+        r.next = end;
     }
-    r.next = next;
-    r.ok = true;
-    r
+    Some(r)
 }
 
 fn versions_rise(versions: [EventVersion; 8], count: usize) -> bool
     requires { count ≤ 8 }
     ensures { result ≡ rising numbers (version_numbers (take count versions)) }
 {
-    let mut k: usize = 1;
-    while k < count {
-        let here = versions[k];
-        let before = versions[k - 1];
-        if here.0 <= before.0 {
-            return false;
-        }
-        k += 1;
-    }
-    true
+    versions[..count].is_sorted_by(|a, b| a.0 < b.0)
 }
 
 fn no_dossier() -> DossierIndex
@@ -118,8 +95,8 @@ pub fn snapshot_count(s: &[u8], limits: Limits) -> usize
     ensures { (h : Headed) → dossier_of (limits_of limits) s.now ≡ some h → length h.snapshots ≡ result }
 {
     match read_within(s, dossier_head_end(s, limits), 1, limits.versions as u64) {
-        NumberAt::Number(number, _) => number as usize,
-        NumberAt::NoNumber => 0,
+        Some((number, _)) => number as usize,
+        None => 0,
     }
 }
 
@@ -129,15 +106,10 @@ pub fn read_dossier(s: &[u8], limits: Limits, rows: &mut [usize]) -> DossierInde
     ensures dossier_reads { DossierReads (dossier_of (limits_of limits) s.now) s.now rows.new result }
     ensures within { 96 * result.count ≤ length rows.old }
 {
-    let DossierHeadRead::Head(head, after_head) = read_dossier_head(s, limits) else {
+    let Some((head, after_head)) = read_dossier_head(s, limits) else {
         return no_dossier();
     };
-    let NumberAt::Number(number, after_count) = read_within(
-        s,
-        after_head,
-        1,
-        limits.versions as u64,
-    ) else {
+    let Some((number, after_count)) = read_within(s, after_head, 1, limits.versions as u64) else {
         return no_dossier();
     };
     let count = number as usize;
@@ -145,10 +117,9 @@ pub fn read_dossier(s: &[u8], limits: Limits, rows: &mut [usize]) -> DossierInde
     if rows.len() < 96 * count {
         return no_dossier();
     }
-    let all = read_snapshots(s, after_count, count, rows);
-    if !all.ok {
+    let Some(all) = read_snapshots(s, after_count, count, rows) else {
         return no_dossier();
-    }
+    };
     if all.next != s.len() {
         return no_dossier();
     }

@@ -8,25 +8,16 @@ ghost use Rattle.event.specs.code.EventIndex.{HeadParts};
 ghost use Rattle.dossier.specs.DossierHead.{read_dossier_head, dossier_head_bytes};
 ghost use Rattle.dossier.specs.code.DossierIndex.{DossierHeadReads, HeadEnds, DossierHeadRoom};
 
-use event::head::{HeadAt, HeadRead, read_head, write_head};
-use packed::read::{NumberAt, TextAt, read_text, read_within};
+use event::head::{HeadAt, read_head, write_head};
+use packed::read::{read_text, read_within};
 use replies::limits::Limits;
 
 // Where the head's parts stand, and the position after it.
-#[derive(Clone, Copy)]
-pub enum DossierHeadRead {
-    Head(HeadAt, usize),
-    NoHead,
-}
-
-pub fn read_dossier_head(s: &[u8], limits: Limits) -> DossierHeadRead
+pub fn read_dossier_head(s: &[u8], limits: Limits) -> Option<(HeadAt, usize)>
     ensures { DossierHeadReads (read_dossier_head (limits_of limits) s.now) s.now result }
 {
-    let HeadRead::Head(head) = read_head(s, limits.parents) else {
-        return DossierHeadRead::NoHead;
-    };
-    let parents = head.parents;
-    DossierHeadRead::Head(head, parents.end)
+    let head = read_head(s, limits.parents)?;
+    Some((head, head.parents.end))
 }
 
 // Where a dossier's head ends; some position where there is none. Only what tells this is read, since all is read and checked with the dossier.
@@ -34,14 +25,13 @@ pub fn dossier_head_end(s: &[u8], limits: Limits) -> usize
     requires { Permitted (limits_of limits) }
     ensures { HeadEnds (limits_of limits) s.now result }
 {
-    let TextAt::Text(_, name_end) = read_text(s, 0) else {
+    let Some(name) = read_text(s, 0) else {
         return 0;
     };
-    let TextAt::Text(_, source_end) = read_text(s, name_end) else {
+    let Some(source) = read_text(s, name.end) else {
         return 0;
     };
-    let NumberAt::Number(number, after_count) = read_within(s, source_end, 0, limits.parents as u64)
-    else {
+    let Some((number, after_count)) = read_within(s, source.end, 0, limits.parents as u64) else {
         return 0;
     };
     let size = 20 * number as usize;

@@ -65,10 +65,7 @@ fn first_number(number: u8, next: u8) -> u8
 fn is_lone(mark: usize, count: usize) -> bool
     ensures { result ≡ (ltb 0 mark || eqb count 1) }
 {
-    if 0 < mark {
-        return true;
-    }
-    count == 1
+    0 < mark || count == 1
 }
 
 // Questions 5 and 6 of a dossier's snapshots.
@@ -90,11 +87,9 @@ fn ask_snapshots(
     }
     let m = masks_of(0 < t.mark, t.count, properties);
     let mut number: u8 = 0;
-    let mut j: usize = 0;
-    while j < d.count {
-        let version = d.versions[j];
+    for j in 0..d.count {
         let x = SnapshotNumbers {
-            version,
+            version: d.versions[j],
             differ: d.differs[j],
             objects: d.objects[j],
         };
@@ -113,7 +108,6 @@ fn ask_snapshots(
             return 5;
         }
         number = first_number(number, next);
-        j += 1;
     }
     number
 }
@@ -122,9 +116,7 @@ fn ask_snapshots(
 pub fn type_name(s: &[u8], d: DossierIndex) -> &[u8]
     ensures { (h : Headed) → DossierIs s.now h d → result.now ≡ h.head.type }
 {
-    let head = d.head;
-    let name = head.name;
-    text_part(s, name)
+    text_part(s, d.head.name)
 }
 
 // Questions 3 to 6 of the dossier s, whose index is d: the number of the first that is answered no, or 0. The table was read for the name of its type, and is
@@ -170,10 +162,6 @@ pub fn dossiers_agree(
         → (h.head.type ≡ g.head.type → ty ≡ tz)
         → result ≡ dossiers_agree (record { type = ty; headed = h }) (record { type = tz; headed = g }) }
 {
-    let x = d.head;
-    let y = e.head;
-    if !heads_agree(a, x, b, y) {
-        return false;
-    }
-    is_match_same(count, properties, a, &left[0..96], b, &right[0..96])
+    heads_agree(a, d.head, b, e.head)
+        && is_match_same(count, properties, a, &left[0..96], b, &right[0..96])
 }

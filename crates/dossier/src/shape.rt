@@ -7,7 +7,7 @@ ghost use Rattle.replies.specs.ChosenLimits.{limits_of};
 ghost use Rattle.ontology.specs.Table.{Property, EventType, is_versioned};
 ghost use Rattle.ontology.specs.code.TypeIndex.{PropertiesAre, has_extreme, has_match};
 ghost use Rattle.event.specs.EventQuestions.{match_count};
-ghost use Rattle.event.specs.code.EventIndex.{SetIs, SetsAre, bit_of};
+ghost use Rattle.event.specs.code.EventIndex.{SetIs, SetsAre};
 ghost use Rattle.dossier.specs.DossierQuestions.{each_cell, is_vacant, holds_version};
 ghost use Rattle.dossier.specs.code.DossierIndex.{CellsAre, cell_fits, MasksAre, masks_fit, snapshot_fits, version_fits, SnapshotIs};
 
@@ -29,30 +29,22 @@ pub struct ShapeMasks {
     pub unmarked: u64,
 }
 
-fn bit(flag: bool) -> u64
-    ensures { result ≡ bit_of flag }
-{
-    if flag { 1 } else { 0 }
-}
-
 // At most one object is allowed: in a versioned dossier in a single set, in an unversioned one in min and max, and in a match set that is single.
 fn is_lone_place(p: PropertyAt, versioned: bool) -> bool
     ensures { result ≡ cond versioned (not p.multivalued) (has_extreme p || (has_match p && not p.multivalued)) }
 {
     if versioned {
-        return !p.multivalued;
+        !p.multivalued
+    } else {
+        is_extreme(p) || is_match(p) && !p.multivalued
     }
-    if is_extreme(p) {
-        return true;
-    }
-    if is_match(p) { !p.multivalued } else { false }
 }
 
 // A match set is unmarked, and in an unversioned dossier every set is.
 fn is_unmarked_place(p: PropertyAt, versioned: bool) -> bool
     ensures { result ≡ (not versioned || has_match p) }
 {
-    if versioned { is_match(p) } else { true }
+    !versioned || is_match(p)
 }
 
 // The masks of a type, from the highest place down.
@@ -66,14 +58,12 @@ pub fn masks_of(versioned: bool, count: usize, properties: &[usize]) -> ShapeMas
         lone: 0,
         unmarked: 0,
     };
-    let mut k = count;
-    while 0 < k {
-        k -= 1;
+    for k in (0..count).rev() {
         let p = property_at(properties, k);
         m.all = 2 * m.all + 1;
-        m.mandatory = 2 * m.mandatory + bit(!p.optional);
-        m.lone = 2 * m.lone + bit(is_lone_place(p, versioned));
-        m.unmarked = 2 * m.unmarked + bit(is_unmarked_place(p, versioned));
+        m.mandatory = 2 * m.mandatory + u64::from(!p.optional);
+        m.lone = 2 * m.lone + u64::from(is_lone_place(p, versioned));
+        m.unmarked = 2 * m.unmarked + u64::from(is_unmarked_place(p, versioned));
     }
     m
 }
@@ -82,16 +72,10 @@ pub fn masks_of(versioned: bool, count: usize, properties: &[usize]) -> ShapeMas
 fn masks_fit(m: ShapeMasks, present: u64, several: u64, differ: u64) -> bool
     ensures { result ≡ masks_fit m present several differ }
 {
-    if m.all < differ {
-        return false;
-    }
-    if (present | differ) & m.mandatory != m.mandatory {
-        return false;
-    }
-    if several & m.lone != 0 {
-        return false;
-    }
-    differ & m.unmarked == 0
+    differ <= m.all
+        && (present | differ) & m.mandatory == m.mandatory
+        && several & m.lone == 0
+        && differ & m.unmarked == 0
 }
 
 // The same of a snapshot's sets. The objects that are left after the places of all properties stand at places without one.
@@ -103,21 +87,16 @@ fn cells_fit(m: ShapeMasks, count: usize, differ: u64, objects: usize, sets: &[u
     let mut present: u64 = 0;
     let mut several: u64 = 0;
     let mut left = objects;
-    let mut k = count;
-    while 0 < k {
-        k -= 1;
+    for k in (0..count).rev() {
         let n = sets[3 * k + 2];
         if left < n {
             return false;
         }
         left -= n;
-        present = 2 * present + bit(0 < n);
-        several = 2 * several + bit(1 < n);
+        present = 2 * present + u64::from(0 < n);
+        several = 2 * several + u64::from(1 < n);
     }
-    if left != 0 {
-        return false;
-    }
-    masks_fit(m, present, several, differ)
+    left == 0 && masks_fit(m, present, several, differ)
 }
 
 // At most 32 match objects.
@@ -127,15 +106,13 @@ fn is_match_small(count: usize, properties: &[usize], sets: &[usize]) -> bool
         → SetsAre u xs sets.now → result ≡ leb (match_count qs xs) 32 }
 {
     let mut left: usize = 32;
-    let mut k: usize = 0;
-    while k < count {
+    for k in 0..count {
         let x = set_at(sets, k);
         let n = matches_at(property_at(properties, k), x.count);
         if left < n {
             return false;
         }
         left -= n;
-        k += 1;
     }
     true
 }
@@ -143,11 +120,7 @@ fn is_match_small(count: usize, properties: &[usize], sets: &[usize]) -> bool
 fn is_version(s: &[u8], x: SetAt, version: EventVersion) -> bool
     ensures { (vs : List Text) → SetIs s.now vs x → result ≡ equal sets vs (in_decimal version.0 ∷ []) }
 {
-    if x.count != 1 {
-        return false;
-    }
-    let v = value_in(set_part(s, x), 0);
-    is_in_decimal(v, version.0)
+    x.count == 1 && is_in_decimal(value_in(set_part(s, x), 0), version.0)
 }
 
 // The version property holds the snapshot's version. A marked one holds nothing.
@@ -156,10 +129,7 @@ fn holds_version(s: &[u8], sets: &[usize], version: EventVersion, mark: usize) -
     ensures { (y : Snapshot) → version.0 ≡ y.version → SetsAre s.now (map held y.cells) sets.now
         → result ≡ holds_version y.version (cell_at y (mark - 1)) }
 {
-    if 32 < mark {
-        return false;
-    }
-    is_version(s, set_at(sets, mark - 1), version)
+    mark <= 32 && is_version(s, set_at(sets, mark - 1), version)
 }
 
 fn fits_by_version(
@@ -173,17 +143,11 @@ fn fits_by_version(
     ensures { (y : Snapshot) (ty : EventType) → mark ≡ ty.mark → SnapshotIs s.now y x sets.now
         → result ≡ version_fits (limits_of limits) ty y }
 {
-    let version = x.version;
     if mark == 0 {
-        if version.0 != 0 {
-            return false;
-        }
-        return x.objects <= limits.objects;
+        x.version.0 == 0 && x.objects <= limits.objects
+    } else {
+        x.objects <= 32 && holds_version(s, sets, x.version, mark)
     }
-    if 32 < x.objects {
-        return false;
-    }
-    holds_version(s, sets, version, mark)
 }
 
 // All that question 5 asks of one snapshot. There are no more match objects than objects.
@@ -203,13 +167,7 @@ pub fn snapshot_fits(
         → MasksAre (is_versioned ty) ty.properties m → SnapshotIs s.now y x sets.now →
         result ≡ snapshot_fits (limits_of limits) ty y }
 {
-    if !cells_fit(m, count, x.differ, x.objects, sets) {
-        return false;
-    }
-    if 32 < x.objects {
-        if !is_match_small(count, properties, sets) {
-            return false;
-        }
-    }
-    fits_by_version(s, sets, x, mark, limits)
+    cells_fit(m, count, x.differ, x.objects, sets)
+        && (x.objects <= 32 || is_match_small(count, properties, sets))
+        && fits_by_version(s, sets, x, mark, limits)
 }

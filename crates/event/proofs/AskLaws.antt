@@ -14,8 +14,6 @@ use Rattle.packed.specs.Parse.{got}
 use Rattle.packed.specs.Packed.{number, text, read_text, part}
 use Rattle.packed.proofs.LayoutLaws.{fail-got, text-read}
 use Rattle.packed.specs.code.Located.{text_at}
-use Rattle.packed.specs.declared.read.TextAt.{TextAt}
-use Rattle.packed.specs.declared.read.TextAt.TheVariants as text_arms
 use Rattle.replies.specs.Questions as questions
 use Rattle.replies.specs.Questions.{Asked, refused, accepted, ask, ensure}
 use Rattle.ontology.specs.Table.{EventType, Table, type_named}
@@ -35,9 +33,10 @@ use Rattle.event.proofs.ShapeLaws.{Shaped}
 use Rattle.event.proofs.SpaceLaws.{Spoken}
 use Rattle.event.proofs.EventLayoutLaws.{event-was}
 use Rattle.event.proofs.EventQuestionLaws.{EventAccepted, event-accepted}
-use Rattle.event.specs.declared.lookup.ValueAt.{ValueAt}
-use Rattle.event.specs.declared.lookup.ValueAt.TheVariants.{Value, NoValue}
 use Rattle.event.specs.declared.read.EventIndex.{EventIndex}
+use Rattle.std.specs.Prelude.{Some, None}
+use Rattle.std.specs.Prelude as std
+use Rattle.packed.specs.declared.read.TextAt.{TextAt}
 
 -- ---- the kinds of a table
 
@@ -59,11 +58,11 @@ name-there counts s e h =
     ∙ append_assoc t u (p ++ (n ++ x)) in
     (u ++ (p ++ (n ++ x)), ap read_text b ∙ text-read e.head.type (u ++ (p ++ (n ++ x))) w.1.head.type)
 
-module _ (counts : Counts) (s : List ℕ) (e : Event) (is-event : event_of counts s ≡ some e) {r : TextAt} (told : r ≡ text_at s 0) where
-  pub no-name-there : r ≡ text_arms.NoText → ⊥
+module _ (counts : Counts) (s : List ℕ) (e : Event) (is-event : event_of counts s ≡ some e) {r : std.Option TextAt} (told : r ≡ text_at s 0) where
+  pub no-name-there : r ≡ None → ⊥
   no-name-there is = fail-got (sym (text-not s 0 told is) ∙ (name-there counts s e is-event).1)
 
-  pub name-part : {a z : ℕ} → r ≡ text_arms.Text a z → part s a z ≡ e.head.type
+  pub name-part : {x : TextAt} → r ≡ Some x → part s x.start x.end ≡ e.head.type
   name-part is = let g = sym (text-got told is).is ∙ (name-there counts s e is-event).1 in cc
 
 -- ---- what asking answers
@@ -284,11 +283,12 @@ module _ (counts : Counts) (table event : List ℕ) (a : Typed) (taken : event_q
 
 -- what is known of the value's place in the arm of a `match`
 pub found-value :
-    {s : List ℕ} {e : Event} {place index a z : ℕ} {r : ValueAt} → r ≡ Value a z → ValueFound s e place index r → ValueStands s e place index a z
-found-value {s} {e} {place} {index} h w = subst (ValueFound s e place index) h w
+    (s : List ℕ) (e : Event) (place index : ℕ) {x : TextAt} {r : std.Option TextAt} → r ≡ Some x → ValueFound s e place index r →
+    ValueStands s e place index x.start x.end
+found-value s e place index h w = subst (ValueFound s e place index) h w
 
 pub found_none :
-    (s : List ℕ) (e : Event) (place index : ℕ) {r : ValueAt} → r ≡ NoValue → ValueFound s e place index r →
+    (s : List ℕ) (e : Event) (place index : ℕ) {r : std.Option TextAt} → r ≡ None → ValueFound s e place index r →
     get_elem? (set_at e place) index ≡ none
 found_none s e place index h w = subst (ValueFound s e place index) h w
 
@@ -337,19 +337,23 @@ module _ {table event ats : List ℕ} {x : EventIndex} {n : ℕ} (w : Answered t
   pub lent-refused : (at : ℕ × ℕ) → (n ≡ 0 → ⊥) → ◌≡◌ {A = Lent} ([], (at.0, 0 + at.1)) (lent_from at (value_call table event place index))
   lent-refused at h = lent_is at (value-refused table event place index n (refused-is wide table event _ ats _ w.is h))
 
-  module _ (h : n ≡ 0) (v : ValueAt) (finds : (e : Event) → EventIs event e x ats → ValueFound event e place index v) where
+  module _ (h : n ≡ 0) (v : std.Option TextAt) (finds : (e : Event) → EventIs event e x ats → ValueFound event e place index v) where
     a : Accepted wide table event w.ps ats (asked n w.type x)
     a = accepted-is wide table event _ ats _ w.is h
 
     found : ValueFound event a.e place index v
     found = finds a.e a.event-is
 
-    pub lent-missing : (at : ℕ × ℕ) → v ≡ NoValue → ◌≡◌ {A = Lent} ([], (at.0, 0 + at.1)) (lent_from at (value_call table event place index))
+    pub lent-missing : (at : ℕ × ℕ) → v ≡ None → ◌≡◌ {A = Lent} ([], (at.0, 0 + at.1)) (lent_from at (value_call table event place index))
     lent-missing at e = lent_is at (value-missing table event place index _ ats _ a (found_none event a.e place index e found))
 
-    module _ {s z : ℕ} (is : v ≡ Value s z) where
-      pub lent-inside : (s ≤ z) × (z ≤ length event)
-      lent-inside = let w = found-value is found in (w.order, w.within)
+    module _ {t : TextAt} (is : v ≡ Some t) where
+      stands : ValueStands event a.e place index t.start t.end
+      stands = found-value event a.e place index is found
 
-      pub lent_found : (at : ℕ × ℕ) → ◌≡◌ {A = Lent} (part event s z, (at.0, s + at.1)) (lent_from at (value_call table event place index))
-      lent_found at = lent_is at (value-is table event place index _ ats _ a s z (found-value is found))
+      pub lent-inside : (t.start ≤ t.end) × (t.end ≤ length event)
+      lent-inside = let w = stands in (w.order, w.within)
+
+      pub lent_found :
+          (at : ℕ × ℕ) → ◌≡◌ {A = Lent} (part event t.start t.end, (at.0, t.start + at.1)) (lent_from at (value_call table event place index))
+      lent_found at = lent_is at (value-is table event place index _ ats _ a t.start t.end stands)

@@ -6,6 +6,7 @@ use Prim.Native.Nat.{ℕ, zero, suc, ◌+◌, ◌-◌, ◌*◌, ◌^◌, ◌≤�
 use native.Mathlib.Omega.{arith}
 use lib.ListN.{length, drop, get_or, set, length-set, drop_of_length-le}
 use lib.Seq.{drop-cons, get_or-set_same, get_or-set_other}
+use Rattle.std.specs.Int.{from_bool}
 use borrow.Author.Count.{below_none, below_more}
 use Rattle.model.specs.Order.{Text}
 use Rattle.model.specs.Sets.{up_to}
@@ -20,6 +21,14 @@ bit-small : (b : Bool) → bit_of b < 2
 unfolding bit_of
 bit-small true = omega arith
 bit-small false = omega arith
+
+from_bit : (b : Bool) → from_bool b ≡ bit_of b
+unfolding bit_of
+from_bit true = refl
+from_bit false = refl
+
+pub bit-least : {d : ℕ} (b : Bool) → d ≡ from_bool b → d < 2
+bit-least {d} b e = omega (arith, e ∙ from_bit b, bit-small b)
 
 -- the bits from k on are no more than all of them
 bits-least : (bits : List Bool) (k : ℕ) → bit_number (map bit_of (drop k bits)) ≤ bit_number (map bit_of bits)
@@ -62,16 +71,12 @@ module _ {bits : List Bool} {n k : ℕ} (w : BitsFrom bits n k) where
     pub bits-room : 2 * n + 1 < 8589934592
     bits-room = omega (arith, w.is, bits-least bits k, bits_below bits w.long)
 
-    bits-more : {b : Bool} {m : ℕ} → get_or bits (k - 1) false ≡ b → m ≡ bit_of b + 2 * n → BitsFrom bits m (k - 1)
-    bits-more h e = record { long = w.long; is = e ∙ ap (λ (b : Bool). bit_of b + 2 * n) (sym h) ∙ bits-step; within = omega (arith, w.within) }
-
-    pub bits-set : get_or bits (k - 1) false ≡ true → BitsFrom bits (2 * n + 1) (k - 1)
-    unfolding bit_of
-    bits-set h = bits-more h (omega arith)
-
-    pub bits-clear : get_or bits (k - 1) false ≡ false → BitsFrom bits (2 * n) (k - 1)
-    unfolding bit_of
-    bits-clear h = bits-more h (omega arith)
+    pub bits_more : {d : ℕ} → d ≡ from_bool (get_or bits (k - 1) false) → BitsFrom bits (2 * n + d) (k - 1)
+    bits_more e = record {
+      long = w.long;
+      is = omega (arith, e ∙ from_bit (get_or bits (k - 1) false)) ∙ bits-step;
+      within = omega (arith, w.within);
+    }
 
 -- ---- an array of bits, filled place by place
 

@@ -1,5 +1,5 @@
 -- The laws of reading a whole event: its head, its presence number and its sets.
-use mathlib.Core.Path.{◌≡◌, refl, sym, ap, ap₂, ◌∙◌, subst}
+use mathlib.Core.Path.{◌≡◌, refl, sym, ap, ◌∙◌}
 use mathlib.Core.Bool.{Bool, true, false}
 use mathlib.Core.Option.{Option, none}
 use mathlib.Core.List.{List, [], ◌∷◌, ◌++◌, append_assoc, append-nil}
@@ -12,8 +12,6 @@ use Rattle.model.specs.Order.{Text}
 use Rattle.packed.specs.Parse.{Parse, fail, got, and_then, found_if, whole}
 use Rattle.packed.specs.Packed.{number, read_number}
 use Rattle.packed.specs.code.Located.{number_at}
-use Rattle.packed.specs.declared.read.NumberAt.{NumberAt}
-use Rattle.packed.specs.declared.read.NumberAt.TheVariants.{Number}
 use Rattle.packed.proofs.LayoutLaws.{number-was}
 use Rattle.packed.proofs.ReadLaws.{drop-next, NumberStops, stretch}
 use Rattle.event.specs.Event.{Event, object_count}
@@ -26,11 +24,10 @@ use Rattle.event.proofs.SetLaws.{sets-read}
 use Rattle.event.proofs.HeadLayoutLaws.{head-was}
 use Rattle.event.proofs.EventLayoutLaws.{read_body, sets-was}
 use Rattle.event.specs.declared.head.HeadAt.{HeadAt}
-use Rattle.event.specs.declared.head.HeadRead.{HeadRead}
-use Rattle.event.specs.declared.head.HeadRead.TheVariants as read
-use Rattle.event.specs.declared.sets.SetsRead.{SetsRead}
-use Rattle.event.specs.declared.sets.SetsRead.TheVariants.{Sets}
 use Rattle.event.specs.declared.read.EventIndex.{EventIndex}
+use Rattle.std.specs.Prelude.{Some}
+use Rattle.std.specs.Prelude as std
+use Rattle.event.specs.declared.sets.SetsRead.{SetsRead}
 
 -- ---- the head, and what follows it
 
@@ -63,7 +60,7 @@ pub record BodyAt (counts : Counts) (s : List ℕ) (h : HeadAt) (n next : ℕ) :
   small : n < 2 ^ 32
   after : read_event counts s ≡ and_then (read_sets 32 n (drop next s)) (event-of counts head.what)
 
-module _ (counts : Counts) (s : List ℕ) {h : HeadAt} {r : HeadRead} (told : HeadReads (read_head counts.parents s) s r) (is : r ≡ read.Head h) where
+module _ (counts : Counts) (s : List ℕ) {h : HeadAt} {r : std.Option HeadAt} (told : HeadReads (read_head counts.parents s) s r) (is : r ≡ Some h) where
   w : HeadStops (read_head counts.parents s) s h
   w = head-reads is told
 
@@ -74,7 +71,7 @@ module _ (counts : Counts) (s : List ℕ) {h : HeadAt} {r : HeadRead} (told : He
   unfolding event_of read_bits
   no-presence e = rw (after-head, e)
 
-  module _ {n next : ℕ} {a : NumberAt} (number-told : a ≡ number_at s h.parents.end) (number_is : a ≡ Number n next) where
+  module _ {n next : ℕ} {a : std.Option (ℕ × ℕ)} (number-told : a ≡ number_at s h.parents.end) (number_is : a ≡ Some (n, next)) where
     m : NumberStops s h.parents.end n next
     m = number-got number-told number_is
 
@@ -92,43 +89,43 @@ module _ {counts : Counts} {s : List ℕ} {h : HeadAt} {n next : ℕ} (b : BodyA
   no-sets e = rw (b.after, e)
 
   module _
-      (ats : List ℕ) {end objects : ℕ} {x : SetsRead}
-      (sets-told : SetsReads (read_sets 32 n (drop next s)) s ats x) (sets-is : x ≡ Sets end objects) where
-    t : SetsStop (read_sets 32 n (drop next s)) s ats end objects
+      (ats : List ℕ) {read : SetsRead} {x : std.Option SetsRead}
+      (sets-told : SetsReads (read_sets 32 n (drop next s)) s ats x) (sets-is : x ≡ Some read) where
+    t : SetsStop (read_sets 32 n (drop next s)) s ats read.next read.objects
     t = sets-read sets-is sets-told
 
-    after-sets : (l : List ℕ) → drop end s ≡ l → read_event counts s ≡ event-of counts b.head.what t.what l
+    after-sets : (l : List ℕ) → drop read.next s ≡ l → read_event counts s ≡ event-of counts b.head.what t.what l
     after-sets l e = b.after ∙ ap (λ (p : Parse (List (List Text))). and_then p (event-of counts b.head.what)) (t.is ∙ ap (got t.what) e)
 
-    pub early : (end ≡ length s → ⊥) → event_of counts s ≡ none
+    pub early : (read.next ≡ length s → ⊥) → event_of counts s ≡ none
     unfolding event_of
     early ne =
-        let k : end < length s = omega (arith, t.within, ne) in
-        ap whole (after-sets _ (drop-next s end k)) ∙ go (leb (object_count t.what) counts.objects) _ _ _
+        let k : read.next < length s = omega (arith, t.within, ne) in
+        ap whole (after-sets _ (drop-next s read.next k)) ∙ go (leb (object_count t.what) counts.objects) _ _ _
       where
         go : (b : Bool) (e : Event) (y : ℕ) (l : List ℕ) → whole (found_if b e (y ∷ l)) ≡ none
         go true e y l = refl
         go false e y l = refl
 
-    module _ (whole-read : end ≡ length s) where
-      at-end : drop end s ≡ []
-      at-end = let l : length s ≤ end = omega arith in drop_of_length-le s l
+    module _ (whole-read : read.next ≡ length s) where
+      at-end : drop read.next s ≡ []
+      at-end = let l : length s ≤ read.next = omega arith in drop_of_length-le s l
 
-      pub many : counts.objects < objects → event_of counts s ≡ none
+      pub many : counts.objects < read.objects → event_of counts s ≡ none
       unfolding event_of
       many k =
           let l : counts.objects < object_count t.what = omega (arith, t.summed) in
           rw (after-sets [] at-end, lt-leb _ _ l)
 
       pub event-found :
-          objects ≤ counts.objects → EventReads (event_of counts s) s ats
-          (record { ok = true; head = h; presence = n; after_presence = next; objects = objects })
+          read.objects ≤ counts.objects → EventReads (event_of counts s) s ats
+          (record { ok = true; head = h; presence = n; after_presence = next; objects = read.objects })
       unfolding event_of EventReads
       event-found k =
           let w = b.head in
           let m = b.number in
           let l : object_count t.what ≤ counts.objects = omega (arith, t.summed) in
-          let x = sets-was 32 n (drop next s) t.what (drop end s) b.small t.is in
+          let x = sets-was 32 n (drop next s) t.what (drop read.next s) b.small t.is in
           let front : drop 0 s ≡ (head_bytes w.what ++ number n) ++ drop next s =
           head_bytes_lem counts.parents s h w
           ∙ ap (λ (l : List ℕ). head_bytes w.what ++ l) (number-was (drop h.parents.end s) n (drop next s) m.is).0
@@ -146,9 +143,3 @@ module _ {counts : Counts} {s : List ℕ} {h : HeadAt} {n next : ℕ} (b : BodyA
               sets = t.stands;
             },
           )
-
--- read within so many parents and objects as the counts k have, it is read within k
-pub with-counts :
-    (k : Counts) (event ats : List ℕ) (x : EventIndex) (parents objects : ℕ) → parents ≡ k.parents → objects ≡ k.objects →
-    EventReads (event_of (counts parents objects) event) event ats x → EventReads (event_of k event) event ats x
-with-counts k event ats x parents objects p o w = subst (λ (c : Counts). EventReads (event_of c event) event ats x) (ap₂ counts p o) w

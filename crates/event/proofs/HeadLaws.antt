@@ -4,67 +4,25 @@ use mathlib.Core.Bool.{Bool, true, false, not}
 use mathlib.Core.List.{List, [], ◌∷◌, ◌++◌, append_assoc, flatten}
 use Prim.Native.Nat.{ℕ, zero, suc, ◌+◌, ◌-◌, ◌*◌, ◌≤◌, ◌<◌}
 use native.Mathlib.Omega.{arith}
-use lib.ListN.{length, take, drop, get_or, length-drop, drop_of_length-le}
+use lib.ListN.{length, take, drop, get_or, length-drop}
 use lib.Seq.{take_at, drop-drop, drop-append_seam}
 use borrow.Author.Tests.{le-leb, lt-leb}
 use Rattle.model.specs.Order.{Text, rising}
 use Rattle.packed.specs.Parse.{Parse, fail, got, Layout, and_then, ◌>>=◌, found, found_if, such_that, times, All}
 use Rattle.packed.specs.code.Comparison.{precedes}
 use Rattle.packed.specs.code.Located.{number_at, text_at}
-use Rattle.packed.specs.declared.read.NumberAt.{NumberAt}
-use Rattle.packed.specs.declared.read.NumberAt.TheVariants.{Number}
-use Rattle.packed.specs.declared.read.TextAt.{TextAt}
-use Rattle.packed.specs.declared.read.TextAt.TheVariants as text_arms
 use Rattle.packed.specs.Packed.{read_number, read_text, read_bytes, part}
 use Rattle.packed.proofs.LayoutLaws.{All, times-was, bytes-was, flat}
-use Rattle.packed.proofs.ReadLaws.{drop-next, NumberStops, TextStops, stretch, part_length}
-use Rattle.event.specs.Head.{are_source_bytes, is_source, read_parents, Head, read_head}
+use Rattle.packed.proofs.ReadLaws.{NumberStops, TextStops, stretch, part_length}
+use Rattle.event.specs.Head.{is_source, read_parents, Head, read_head}
 use Rattle.event.specs.code.EventIndex.{ParentsStop, ParentsReads, HeadStops, HeadReads, HashesAre, HeadIs, HeadParts}
 use Rattle.event.proofs.AnswerLaws.{number-got, text-got, text-not, told-no, told-yes}
 use Rattle.event.proofs.SetLaws.{risen, risen-was, risen-bad, Stands, RisingTo, rising-first, rising-bad, rising-not, rising-more, rising-all}
 use Rattle.event.specs.declared.sets.SetAt.{SetAt}
 use Rattle.event.specs.declared.head.HeadAt.{HeadAt}
-use Rattle.event.specs.declared.head.HeadRead.{HeadRead}
-use Rattle.event.specs.declared.head.HeadRead.TheVariants as read
-use Rattle.event.specs.declared.head.ParentsRead.{ParentsRead}
-use Rattle.event.specs.declared.head.ParentsRead.TheVariants.{Parents, NoParents}
 use Rattle.event.proofs.HeadLayoutLaws.{hashes-size}
-
--- ---- the source
-
-pub source-none : (v : Text) → length v ≡ 0 → false ≡ is_source v
-unfolding is_source
-source-none v h = rw h
-
-pub source-many : (v : Text) → 120 < length v → false ≡ is_source v
-unfolding is_source
-source-many v h = rw (le-leb 1 (length v) (omega arith), lt-leb (length v) 120 h)
-
--- the bytes before i are a source's
-pub record SourceTo (v : Text) (i : ℕ) : Type 0 where
-  is : is_source v ≡ are_source_bytes (drop i v)
-
-pub source_first : {v : Text} → (length v ≡ 0 → ⊥) → length v ≤ 120 → SourceTo v 0
-unfolding is_source
-source_first {v} h k = record { is = rw (le-leb 1 (length v) (omega (arith, h)), le-leb (length v) 120 k) }
-
-module _ {v : Text} {i : ℕ} (w : SourceTo v i) where
-  pub source-end : length v ≤ i → true ≡ is_source v
-  unfolding are_source_bytes
-  source-end h = sym (w.is ∙ rw (drop_of_length-le v h))
-
-  module _ (h : i < length v) where
-    pub source-low : get_or v i 0 < 0x21 → false ≡ is_source v
-    unfolding are_source_bytes
-    source-low k = sym (w.is ∙ rw (drop-next v i h, lt-leb 0x21 (get_or v i 0) k))
-
-    pub source-high : 0x7e < get_or v i 0 → false ≡ is_source v
-    unfolding are_source_bytes
-    source-high k = sym (w.is ∙ rw (drop-next v i h, le-leb 0x21 (get_or v i 0) (omega arith), lt-leb (get_or v i 0) 0x7e k))
-
-    pub source_more : 0x21 ≤ get_or v i 0 → get_or v i 0 ≤ 0x7e → SourceTo v (i + 1)
-    unfolding are_source_bytes
-    source_more k l = record { is = w.is ∙ rw (drop-next v i h, le-leb 0x21 (get_or v i 0) k, le-leb (get_or v i 0) 0x7e l) }
+use Rattle.std.specs.Prelude.{Option, Some, None}
+use Rattle.packed.specs.declared.read.TextAt.{TextAt}
 
 -- ---- the parents
 
@@ -94,7 +52,7 @@ module _ {q : Parse (List Text)} {s : List ℕ} {from to left : ℕ} (w : Rising
     pub hash-not : not b ≡ true → q ≡ fail
     hash-not = rising-not w h (hash-stands room) told
 
-    pub hash-more : not b ≡ false → RisingTo (read_bytes 20) q s to (to + 20) (left - 1)
+    pub hash-more : {more : ℕ} → not b ≡ false → left ≡ suc more → RisingTo (read_bytes 20) q s to (to + 20) more
     hash-more = rising-more w h (hash-stands room) told
 
 hash_at :
@@ -140,7 +98,7 @@ pub parents-none : (most : ℕ) (t : List ℕ) → read_number t ≡ fail → re
 unfolding read_parents
 parents-none most t e = rw e
 
-module _ (most : ℕ) (s : List ℕ) (at : ℕ) {n start : ℕ} {r : NumberAt} (told : r ≡ number_at s at) (is : r ≡ Number n start) where
+module _ (most : ℕ) (s : List ℕ) (at : ℕ) {n start : ℕ} {r : Option (ℕ × ℕ)} (told : r ≡ number_at s at) (is : r ≡ Some (n, start)) where
   w : NumberStops s at n start
   w = number-got told is
 
@@ -168,21 +126,21 @@ module _ (most : ℕ) (s : List ℕ) (at : ℕ) {n start : ℕ} {r : NumberAt} (
         ParentsStop (read_parents most (drop at s)) s (record { start = start; end = to; count = n })
     parents-found v h = hashes-found w.within v.within parents-some (rising-all v h)
 
-parents-reads : {p : Parse (List Text)} {s : List ℕ} {r : ParentsRead} {x : SetAt} → r ≡ Parents x → ParentsReads p s r → ParentsStop p s x
+parents-reads : {p : Parse (List Text)} {s : List ℕ} {r : Option SetAt} {x : SetAt} → r ≡ Some x → ParentsReads p s r → ParentsStop p s x
 parents-reads {p} {s} h w = subst (ParentsReads p s) h w
 
-pub parents-refused : {p : Parse (List Text)} (s : List ℕ) {r : ParentsRead} → r ≡ NoParents → ParentsReads p s r → p ≡ fail
+pub parents-refused : {p : Parse (List Text)} (s : List ℕ) {r : Option SetAt} → r ≡ None → ParentsReads p s r → p ≡ fail
 parents-refused {p} s h w = subst (ParentsReads p s) h w
 
 -- ---- the head
 
-pub head-reads : {p : Parse Head} {s : List ℕ} {r : HeadRead} {x : HeadAt} → r ≡ read.Head x → HeadReads p s r → HeadStops p s x
+pub head-reads : {p : Parse Head} {s : List ℕ} {r : Option HeadAt} {x : HeadAt} → r ≡ Some x → HeadReads p s r → HeadStops p s x
 head-reads {p} {s} h w = subst (HeadReads p s) h w
 
-pub head-refused : {p : Parse Head} (s : List ℕ) {r : HeadRead} → r ≡ read.NoHead → HeadReads p s r → p ≡ fail
+pub head-refused : {p : Parse Head} (s : List ℕ) {r : Option HeadAt} → r ≡ None → HeadReads p s r → p ≡ fail
 head-refused {p} s h w = subst (HeadReads p s) h w
 
-pub no_name : (most : ℕ) (s : List ℕ) {r : TextAt} → r ≡ text_at s 0 → r ≡ text_arms.NoText → read_head most s ≡ fail
+pub no_name : (most : ℕ) (s : List ℕ) {r : Option TextAt} → r ≡ text_at s 0 → r ≡ None → read_head most s ≡ fail
 unfolding read_head
 no_name most s told is = rw (text-not s 0 told is)
 
@@ -193,37 +151,45 @@ after_source most t u = read_parents most >>= λ hs. found (record { type = t; s
 abbrev after_name : ℕ → Text → Layout Head
 after_name most t = such_that is_source read_text >>= λ u. after_source most t u
 
-module _ (most : ℕ) (s : List ℕ) {a e : ℕ} {r : TextAt} (name-told : r ≡ text_at s 0) (name-is : r ≡ text_arms.Text a e) where
-  n : TextStops s 0 a e
+module _ (most : ℕ) (s : List ℕ) {name : TextAt} {r : Option TextAt} (name-told : r ≡ text_at s 0) (name-is : r ≡ Some name) where
+  abbrev type : Text
+  type = part s name.start name.end
+
+  n : TextStops s 0 name.start name.end
   n = text-got name-told name-is
 
-  named : read_head most s ≡ after_name most (part s a e) (drop e s)
+  named : read_head most s ≡ after_name most type (drop name.end s)
   unfolding read_head
   named = ap (λ (p : Parse Text). and_then p (λ t. after_name most t)) n.is
 
-  pub no_source : read_text (drop e s) ≡ fail → read_head most s ≡ fail
+  pub no_source : read_text (drop name.end s) ≡ fail → read_head most s ≡ fail
   no_source f = named ∙ rw f
 
-  module _ {b f : ℕ} {o : TextAt} (told : o ≡ text_at s e) (is : o ≡ text_arms.Text b f) {k : Bool} (asked : k ≡ is_source (part s b f)) where
-    u : TextStops s e b f
+  module _
+      {source : TextAt} {o : Option TextAt} (told : o ≡ text_at s name.end) (is : o ≡ Some source)
+      {k : Bool} (asked : k ≡ is_source (part s source.start source.end)) where
+    abbrev uri : Text
+    uri = part s source.start source.end
+
+    u : TextStops s name.end source.start source.end
     u = text-got told is
 
-    step : read_head most s ≡ and_then (found_if (is_source (part s b f)) (part s b f) (drop f s)) (λ v. after_source most (part s a e) v)
-    step = named ∙ ap (λ (p : Parse Text). and_then (and_then p (λ v. found_if (is_source v) v)) (λ v. after_source most (part s a e) v)) u.is
+    step : read_head most s ≡ and_then (found_if (is_source uri) uri (drop source.end s)) (λ v. after_source most type v)
+    step = named ∙ ap (λ (p : Parse Text). and_then (and_then p (λ v. found_if (is_source v) v)) (λ v. after_source most type v)) u.is
 
     pub source-not : not k ≡ true → read_head most s ≡ fail
     source-not h = step ∙ rw (told-no asked h)
 
     module _ (right : not k ≡ false) where
-      pub parents-not : read_parents most (drop f s) ≡ fail → read_head most s ≡ fail
+      pub parents-not : read_parents most (drop source.end s) ≡ fail → read_head most s ≡ fail
       parents-not g = step ∙ rw (told-yes asked right, g)
 
       abbrev head_at : SetAt → HeadAt
-      head_at x = record { name = record { start = a; end = e }; source = record { start = b; end = f }; parents = x }
+      head_at x = record { name = name; source = source; parents = x }
 
-      head_of : {x : SetAt} → ParentsStop (read_parents most (drop f s)) s x → HeadStops (read_head most s) s (head_at x)
+      head_of : {x : SetAt} → ParentsStop (read_parents most (drop source.end s)) s x → HeadStops (read_head most s) s (head_at x)
       head_of p = record {
-        what = record { type = part s a e; source = part s b f; parents = p.what };
+        what = record { type = type; source = uri; parents = p.what };
         is = step ∙ rw (told-yes asked right, p.is);
         stands = record {
           name = record { bytes = refl; order = n.order; within = n.within };
@@ -233,7 +199,7 @@ module _ (most : ℕ) (s : List ℕ) {a e : ℕ} {r : TextAt} (name-told : r ≡
       }
 
       pub head-found :
-          {x : SetAt} {t : ParentsRead} → ParentsReads (read_parents most (drop f s)) s t → t ≡ Parents x →
+          {x : SetAt} {t : Option SetAt} → ParentsReads (read_parents most (drop source.end s)) s t → t ≡ Some x →
           HeadStops (read_head most s) s (head_at x)
       head-found h k = head_of (parents-reads k h)
 

@@ -3,10 +3,9 @@ use mathlib.Core.Path.{◌≡◌, refl, sym, ap, ◌∙◌}
 use mathlib.Core.Option.{none, some}
 use mathlib.Core.List.{List, [], ◌∷◌, ◌++◌, append_assoc, map, flatten}
 use Prim.Native.Nat.{ℕ, zero, suc, ◌+◌, ◌-◌, ◌*◌, ◌/◌, ◌%◌, ◌^◌, ◌≤◌, ◌<◌}
-use native.Mathlib.Nat.{one-mul, mod-one, zero-mod, mod-lt, lt_of_lt_of_le}
+use native.Mathlib.Nat.{mod-one, zero-mod}
 use native.Mathlib.Omega.{arith}
-use lib.Dec.{lit<}
-use lib.Pow.{pow_pos, pow_mono, shl_exact, mod-pow-add}
+use lib.Pow.{mod-pow-add}
 use lib.Count.{ones, ones_step, ones-ones}
 use lib.ListN.{length, take, drop, get_or, get_elem?, length-append, length-drop}
 use lib.Seq.{drop-cons, length-take-le}
@@ -14,10 +13,6 @@ use Rattle.model.specs.Order.{Text}
 use Rattle.packed.specs.Parse.{fail, got}
 use Rattle.packed.specs.Packed.{number, read_number, text, read_text, part}
 use Rattle.packed.specs.code.Located.{number_at, text_at}
-use Rattle.packed.specs.declared.read.NumberAt.{NumberAt}
-use Rattle.packed.specs.declared.read.NumberAt.TheVariants.{Number, NoNumber}
-use Rattle.packed.specs.declared.read.TextAt.{TextAt}
-use Rattle.packed.specs.declared.read.TextAt.TheVariants as text_arms
 use Rattle.packed.proofs.LayoutLaws.{fail-got, number_read, text-read, text-length}
 use Rattle.packed.proofs.ReadLaws.{part_length, NumberStops, TextStops, stretch}
 use Rattle.ontology.proofs.RunLaws.{no-element}
@@ -25,12 +20,14 @@ use Rattle.event.specs.Event.{Event, set_at}
 use Rattle.event.specs.EventLayout.{set_bytes, sets_bytes, presence_bit, bit_number}
 use Rattle.event.specs.Head.{head_bytes}
 use Rattle.event.specs.Value.{bytes_before}
-use Rattle.event.specs.code.EventIndex.{EventIs, set_in, present, Skipped, TextsSkipped, SetsSkipped, ValueStands}
+use Rattle.event.specs.code.EventIndex.{EventIs, set_in, present, Skipped, TextsSkipped, SetsSkipped, ValueStands, ValueFound}
 use Rattle.event.proofs.AnswerLaws.{number-got, number-not, text-got, text-not}
 use Rattle.event.proofs.EventLayoutLaws.{presence-small}
 use Rattle.event.proofs.SetLaws.{texts-long}
 use Rattle.event.specs.declared.read.EventIndex.{EventIndex}
 use Rattle.event.specs.declared.sets.SetAt.{SetAt}
+use Rattle.std.specs.Prelude.{Option, Some, None}
+use Rattle.packed.specs.declared.read.TextAt.{TextAt}
 
 -- ---- the next number and the next text
 
@@ -75,8 +72,8 @@ module _ (s : List ℕ) (small : length s < 2 ^ 64) (at : ℕ) (within : at ≤ 
 pub record TextsTo (s : List ℕ) (at count pos left : ℕ) : Type 0 where
   on : (to : ℕ) → TextsSkipped s pos left to → TextsSkipped s at count to
 
-pub texts-none : {s : List ℕ} {at count : ℕ} → TextsTo s at count at count
-texts-none = record { on = λ to h. h }
+pub texts-none : {s : List ℕ} {at count left : ℕ} → left ≡ count → TextsTo s at count at left
+texts-none e = record { on = λ to f vs r b k l. f vs r b k (e ∙ l) }
 
 module _ {s : List ℕ} {at count pos left : ℕ} (w : TextsTo s at count pos left) where
   pub texts-all : left ≤ 0 → TextsSkipped s at count pos
@@ -101,14 +98,15 @@ module _ {s : List ℕ} {at count pos left : ℕ} (w : TextsTo s at count pos le
         here [] r b k l = absurd (omega arith)
         here (v ∷ vs) r b k l = absurd (text-there s small pos k v _ (first-text v vs r b) e)
 
-    pub texts-more : {a z : ℕ} {o : TextAt} → o ≡ text_at s pos → o ≡ text_arms.Text a z → TextsTo s at count z (left - 1)
+    pub texts-more :
+        {x : TextAt} {o : Option TextAt} {more : ℕ} → o ≡ text_at s pos → o ≡ Some x → left ≡ suc more → TextsTo s at count x.end more
     unfolding flatten
-    texts-more {a} {z} told is = record { on = λ to f. w.on to (here to f) }
+    texts-more {x} {more} told is e = record { on = λ to f. w.on to (here to f) }
       where
-        here : (to : ℕ) → TextsSkipped s z (left - 1) to → TextsSkipped s pos left to
+        here : (to : ℕ) → TextsSkipped s x.end more to → TextsSkipped s pos left to
         here to f [] r b k l = absurd (omega arith)
         here to f (v ∷ vs) r b k l =
-            let n = (text-next s small pos k v _ (first-text v vs r b) a z (text-got told is)).2 in
+            let n = (text-next s small pos k v _ (first-text v vs r b) x.start x.end (text-got told is)).2 in
             let m = f vs r n.rest n.within (omega arith) in
             record { rest = m.rest; far = omega (arith, m.far, n.far, length-append (text v) (flatten (map text vs))); within = m.within }
 
@@ -142,8 +140,8 @@ none-present ((v ∷ vs) ∷ xs) h = absurd (omega arith)
 pub record SetsTo (s : List ℕ) (at count pos left : ℕ) : Type 0 where
   on : (to : ℕ) → SetsSkipped s pos left to → SetsSkipped s at count to
 
-pub sets-none : {s : List ℕ} {at count : ℕ} → SetsTo s at count at count
-sets-none = record { on = λ to h. h }
+pub sets-none : {s : List ℕ} {at count left : ℕ} → left ≡ count → SetsTo s at count at left
+sets-none e = record { on = λ to f xs r b k l. f xs r b k (e ∙ l) }
 
 module _ {s : List ℕ} {at count pos left : ℕ} (w : SetsTo s at count pos left) where
   pub sets-all : left ≤ 0 → SetsSkipped s at count pos
@@ -180,9 +178,10 @@ module _ {s : List ℕ} {at count pos left : ℕ} (w : SetsTo s at count pos lef
         absurd (number-there s small pos k (length (first xs r b l).vs) _ (next-few xs r b l) (here xs r b l) e)
 
     pub sets_more :
-        {n start to : ℕ} {o : NumberAt} → o ≡ number_at s pos → o ≡ Number n start → TextsSkipped s start n to → SetsTo s at count to (left - 1)
+        {n start to more : ℕ} {o : Option (ℕ × ℕ)} → o ≡ number_at s pos → o ≡ Some (n, start) → TextsSkipped s start n to →
+        left ≡ suc more → SetsTo s at count to more
     unfolding values others
-    sets_more {n} {start} {to} told is skip = record {
+    sets_more {n} {start} {to} told is skip e = record {
       on = λ end f. w.on end λ xs r b k l.
           let x = first xs r b l in
           let a = number-next s small pos k (length x.vs) _ (next-few xs r b l) (here xs r b l) n start (number-got told is) in
@@ -198,16 +197,6 @@ module _ {s : List ℕ} {at count pos left : ℕ} (w : SetsTo s at count pos lef
     }
 
 -- ---- the ones below a place
-
--- 1 shifted to a place of 64 bits is the power
-pub shifted : (k : ℕ) → k < 32 → 1 * 2 ^ k % 18446744073709551616 ≡ 2 ^ k
-shifted k h = shl_exact {a = 1} 1 k 64 (lit< tt) (omega arith) ∙ one-mul (2 ^ k)
-
-pub positive : (k : ℕ) → k < 32 → 0 < 1 * 2 ^ k % 18446744073709551616
-positive k h = rw (shifted k h) (pow_pos k)
-
-pub below-small : (n k : ℕ) → k < 32 → n % (1 * 2 ^ k % 18446744073709551616) < 2 ^ 32
-below-small n k h = rw (shifted k h) (lt_of_lt_of_le (mod-lt n (pow_pos k)) (pow_mono {j = 32} (omega arith)))
 
 ones-bits : (xs : List (List Text)) → ones (bit_number (map presence_bit xs)) ≡ present xs
 unfolding bit_number present
@@ -313,12 +302,12 @@ module _
     length-append (flatten (map text (set_at e place))) (sets_bytes (drop (suc place) e.sets)),
   )
 
-  pub value-no-count : {r : NumberAt} → r ≡ number_at s at → r ≡ NoNumber → get_elem? (set_at e place) index ≡ none
+  pub value-no-count : {r : Option (ℕ × ℕ)} → r ≡ number_at s at → r ≡ None → get_elem? (set_at e place) index ≡ none
   value-no-count h k = absurd (number-there s small at skipped.within (length (set_at e place)) _ few set_here (number-not s at h k))
 
   module _
-      {n start to : ℕ} {r : NumberAt} (told : r ≡ number_at s at) (number_is : r ≡ Number n start) (skip-texts : TextsSkipped s start index to)
-      {o : TextAt} (text-told : o ≡ text_at s to) where
+      {n start to : ℕ} {r : Option (ℕ × ℕ)} (told : r ≡ number_at s at) (number_is : r ≡ Some (n, start))
+      (skip-texts : TextsSkipped s start index to) {o : Option TextAt} (text-told : o ≡ text_at s to) where
     counted : Skipped s at (number (length (set_at e place))) (flatten (map text (set_at e place)) ++ sets_bytes (drop (suc place) e.sets)) start
     counted = (number-next s small at skipped.within (length (set_at e place)) _ few set_here n start (number-got told number_is)).1
 
@@ -342,14 +331,14 @@ module _
         ∙
         append_assoc (text (get_or (set_at e place) index [])) (flatten (map text (drop (suc index) (set_at e place)))) (sets_bytes (drop (suc place) e.sets))
 
-    pub value-no-text : o ≡ text_arms.NoText → get_elem? (set_at e place) index ≡ none
+    value-no-text : o ≡ None → get_elem? (set_at e place) index ≡ none
     value-no-text k = absurd (text-there s small to passed.within (get_or (set_at e place) index []) _ value-here (text-not s to text-told k))
 
-    pub value-stands : {a z : ℕ} → o ≡ text_arms.Text a z → ValueStands s e place index a z
+    value-stands : {found : TextAt} → o ≡ Some found → ValueStands s e place index found.start found.end
     unfolding bytes_before
-    value-stands {a} {z} k =
+    value-stands {found} k =
         let t = text-got text-told k in
-        let b = text-next s small to passed.within (get_or (set_at e place) index []) _ value-here a z t in
+        let b = text-next s small to passed.within (get_or (set_at e place) index []) _ value-here found.start found.end t in
         let f : x.after_presence ≡ length (head_bytes e.head) + length (number x.presence) =
         sym (length-take-le x.after_presence s is.within) ∙ ap length is.front
         ∙ length-append (head_bytes e.head) (number x.presence) in
@@ -361,3 +350,10 @@ module _
           order = t.order;
           within = t.within;
         }
+
+    pub value-found : ValueFound s e place index o
+    value-found = go o refl
+      where
+        go : (a : Option TextAt) → o ≡ a → ValueFound s e place index a
+        go None k = value-no-text k
+        go (Some found) k = value-stands k

@@ -7,18 +7,16 @@ use Prim.Native.Nat.{ℕ, zero, suc, ◌+◌, ◌-◌, ◌*◌, ◌/◌, ◌%◌
 use native.Mathlib.Nat.{sub_self, le_refl}
 use native.Mathlib.Omega.{arith}
 use lib.Dec.{eqb}
-use lib.ListN.{length, drop, get_or, replicate, length-append, length-drop, length-replicate, get_or-eq_default}
-use lib.Seq.{get_or_at}
+use borrow.Rule.Slice.PartMut.{put_mid, mid_of, post_of}
+use Rattle.std.proofs.lemmas.List.{get_or-append_right}
+use lib.ListN.{length, take, drop, get_or, replicate, length-append, length-drop, length-replicate, get_or-append, get_or-replicate, get_or-eq_default}
+use lib.Seq.{get_or_at, get_or-take, length-take-le}
 use borrow.Author.Tests.{le-leb, eq-eqb, ne_eqb, eqb-true, eqb-false}
 use Rattle.model.specs.Order.{Text, texts, rising, pick}
 use Rattle.model.proofs.Cases.{never}
 use Rattle.packed.specs.Parse.{Parse, fail, got, Layout, and_then, ◌>>=◌, found_if, times, All}
 use Rattle.packed.specs.code.Comparison.{precedes}
 use Rattle.packed.specs.code.Located.{number_at, text_at}
-use Rattle.packed.specs.declared.read.NumberAt.{NumberAt}
-use Rattle.packed.specs.declared.read.NumberAt.TheVariants.{Number}
-use Rattle.packed.specs.declared.read.TextAt.{TextAt}
-use Rattle.packed.specs.declared.read.TextAt.TheVariants as text_arms
 use Rattle.packed.specs.Packed.{number, read_number, text, read_text, part}
 use Rattle.packed.proofs.LayoutLaws.{lt-or-ge, and_then-got, found_if-got, times-was, text-read, text-was, text-length, number-was, number-bounds}
 use Rattle.packed.proofs.ReadLaws.{NumberStops, stretch}
@@ -31,10 +29,9 @@ use Rattle.event.specs.code.EventIndex.{count_size, SetIs, no_set, set_in, SetsA
 use Rattle.event.proofs.AnswerLaws.{number-got, text-got, text-not, told-no, told-yes}
 use Rattle.event.proofs.EventLayoutLaws.{set-was, nonempty-was}
 use Rattle.event.specs.declared.sets.SetAt.{SetAt}
-use Rattle.event.specs.declared.sets.SetRead.{SetRead}
-use Rattle.event.specs.declared.sets.SetRead.TheVariants.{Found, NoSet}
+use Rattle.std.specs.Prelude.{Option, Some, None}
 use Rattle.event.specs.declared.sets.SetsRead.{SetsRead}
-use Rattle.event.specs.declared.sets.SetsRead.TheVariants.{Sets, NoSets}
+use Rattle.packed.specs.declared.read.TextAt.{TextAt}
 
 -- ---- rising texts, each read by the layout p
 
@@ -92,7 +89,7 @@ pub record Stands (p : Layout Text) (s : List ℕ) (at a e : ℕ) : Type 0 where
   pub order : a ≤ e
   pub within : e ≤ length s
 
-text-stands : {s : List ℕ} {at a e : ℕ} {r : TextAt} → r ≡ text_at s at → r ≡ text_arms.Text a e → Stands read_text s at a e
+text-stands : {s : List ℕ} {at : ℕ} {x : TextAt} {r : Option TextAt} → r ≡ text_at s at → r ≡ Some x → Stands read_text s at x.start x.end
 text-stands h k = let t = text-got h k in record { is = t.is; order = t.order; within = t.within }
 
 -- The last that was read stands from `from` up to `to`, and `left` more follow; q is what is found of them all
@@ -160,13 +157,16 @@ module _ {p : Layout Text} {q : Parse (List Text)} {s : List ℕ} {from to left 
       pub rising-not : {b : Bool} → b ≡ precedes (part s from to) u → not b ≡ true → q ≡ fail
       rising-not t f = falling (told-no t f)
 
-      pub rising-more : {b : Bool} → b ≡ precedes (part s from to) u → not b ≡ false → RisingTo p q s a e (left - 1)
+      pub rising-more : {b : Bool} {more : ℕ} → b ≡ precedes (part s from to) u → not b ≡ false → left ≡ suc more → RisingTo p q s a e more
       unfolding rising
-      rising-more answered f = record {
+      rising-more {more = more} answered f l = record {
         order = t.order;
         within = t.within;
         sofar = w.sofar ++ (u ∷ []);
-        is = step ∙ go (texts.cmp (part s from to) u) (told-yes answered f) (times p (left - 1) (drop e s));
+        is =
+            let one-less : left - 1 ≡ more = omega arith in
+            step ∙ go (texts.cmp (part s from to) u) (told-yes answered f) (times p (left - 1) (drop e s))
+            ∙ ap (λ (n : ℕ). and_then (times p n (drop e s)) (λ ws r. found_if (rising texts (u ∷ ws)) ((w.sofar ++ (u ∷ [])) ++ ws) r)) one-less;
       }
         where
           go : (o : Ordering) → pick o true false false ≡ true → (m : Parse (List Text)) →
@@ -180,18 +180,20 @@ module _ {p : Layout Text} {q : Parse (List Text)} {s : List ℕ} {from to left 
 -- where each is a text
 module _
     {q : Parse (List Text)} {s : List ℕ} {from to left : ℕ} (w : RisingTo read_text q s from to left) (h : 0 < left)
-    {r : TextAt} (told : r ≡ text_at s to) where
-  pub value-bad : r ≡ text_arms.NoText → q ≡ fail
+    {r : Option TextAt} (told : r ≡ text_at s to) where
+  pub value-bad : r ≡ None → q ≡ fail
   value-bad is = rising-bad w h (text-not s to told is)
 
-  module _ {a e : ℕ} (is : r ≡ text_arms.Text a e) where
-    pub value-promised : {known : Bool} → Promised known q → known ≡ true → precedes (part s from to) (part s a e) ≡ true
+  module _ {x : TextAt} (is : r ≡ Some x) where
+    pub value-promised : {known : Bool} → Promised known q → known ≡ true → precedes (part s from to) (part s x.start x.end) ≡ true
     value-promised = rising-promised w h (text-stands told is)
 
-    pub value_not : {b : Bool} → b ≡ precedes (part s from to) (part s a e) → not b ≡ true → q ≡ fail
+    pub value_not : {b : Bool} → b ≡ precedes (part s from to) (part s x.start x.end) → not b ≡ true → q ≡ fail
     value_not = rising-not w h (text-stands told is)
 
-    pub value-more : {b : Bool} → b ≡ precedes (part s from to) (part s a e) → not b ≡ false → RisingTo read_text q s a e (left - 1)
+    pub value-more :
+        {b : Bool} {more : ℕ} → b ≡ precedes (part s from to) (part s x.start x.end) → not b ≡ false → left ≡ suc more →
+        RisingTo read_text q s x.start x.end more
     value-more = rising-more w h (text-stands told is)
 
 -- ---- a set
@@ -212,7 +214,7 @@ some-count zero h = absurd (h refl)
 some-count (suc n) h = refl
 
 -- its count stands at `at`, and its values from `start` up to `to`
-module _ (s : List ℕ) (at : ℕ) {count start : ℕ} {r : NumberAt} (told : r ≡ number_at s at) (is : r ≡ Number count start) where
+module _ (s : List ℕ) (at : ℕ) {count start : ℕ} {r : Option (ℕ × ℕ)} (told : r ≡ number_at s at) (is : r ≡ Some (count, start)) where
   n : NumberStops s at count start
   n = number-got told is
 
@@ -238,7 +240,7 @@ module _ (s : List ℕ) (at : ℕ) {count start : ℕ} {r : NumberAt} (told : r 
     set-bad e = set-some ∙ risen-bad read_text count (drop start s) some e
 
     pub set_first :
-        {a e : ℕ} {t : TextAt} → t ≡ text_at s start → t ≡ text_arms.Text a e → RisingTo read_text (read_set (drop at s)) s a e (count - 1)
+        {x : TextAt} {t : Option TextAt} → t ≡ text_at s start → t ≡ Some x → RisingTo read_text (read_set (drop at s)) s x.start x.end (count - 1)
     set_first h k = rising-first count start set-some some (text-stands h k)
 
     module _ {from to left : ℕ} (w : RisingTo read_text (read_set (drop at s)) s from to left) (h : left ≤ 0) where
@@ -273,10 +275,10 @@ module _ (s : List ℕ) (at : ℕ) {count start : ℕ} {r : NumberAt} (told : r 
           }
 
 -- what is known of a call's answer in the arm of a `match`
-set_reads : {p : Parse (List Text)} {s : List ℕ} {r : SetRead} {x : SetAt} → r ≡ Found x → SetReads p s r → SetStops p s x
+set_reads : {p : Parse (List Text)} {s : List ℕ} {r : Option SetAt} {x : SetAt} → r ≡ Some x → SetReads p s r → SetStops p s x
 set_reads {p} {s} h w = subst (SetReads p s) h w
 
-pub set-refused : {p : Parse (List Text)} (s : List ℕ) {r : SetRead} → r ≡ NoSet → SetReads p s r → p ≡ fail
+pub set-refused : {p : Parse (List Text)} (s : List ℕ) {r : Option SetAt} → r ≡ None → SetReads p s r → p ≡ fail
 set-refused {p} s h w = subst (SetReads p s) h w
 
 -- ---- a place
@@ -288,7 +290,7 @@ place_set bit t h = rw (eq-eqb bit 1 h)
 pub place-promised : (bit : ℕ) (t : List ℕ) {known : Bool} → bit ≡ 1 → Promised known (read_place bit t) → Promised known (read_set t)
 place-promised bit t {known} h = subst (Promised known) (place_set bit t h)
 
-pub place-reads : (bit : ℕ) (t s : List ℕ) (r : SetRead) → bit ≡ 1 → SetReads (read_set t) s r → SetReads (read_place bit t) s r
+pub place-reads : (bit : ℕ) (t s : List ℕ) (r : Option SetAt) → bit ≡ 1 → SetReads (read_set t) s r → SetReads (read_place bit t) s r
 place-reads bit t s r h = subst (λ (p : Parse (List Text)). SetReads p s r) (sym (place_set bit t h))
 
 pub place-clear :
@@ -423,7 +425,7 @@ module _ {p : Parse (List (List Text))} {s ats : List ℕ} {bits next objects k 
   pub sofar-bad : k < 32 → read_place (bits % 2) (drop next s) ≡ fail → p ≡ fail
   sofar-bad h e = w.rest ∙ ap (prepend w.xs) (sets-step k bits (drop next s) h e)
 
-  module _ {x : SetAt} {r : SetRead} (h : k < 32) (told : SetReads (read_place (bits % 2) (drop next s)) s r) (is : r ≡ Found x) where
+  module _ {x : SetAt} {r : Option SetAt} (h : k < 32) (told : SetReads (read_place (bits % 2) (drop next s)) s r) (is : r ≡ Some x) where
     t : SetStops (read_place (bits % 2) (drop next s)) s x
     t = set_reads is told
 
@@ -510,51 +512,53 @@ not-promised p e f = never (cc e)
 
 -- what is known of a call's answer in the arm of a `match`
 pub sets-read :
-    {p : Parse (List (List Text))} {s ats : List ℕ} {r : SetsRead} {next objects : ℕ} →
-    r ≡ Sets next objects → SetsReads p s ats r → SetsStop p s ats next objects
+    {p : Parse (List (List Text))} {s ats : List ℕ} {r : Option SetsRead} {x : SetsRead} →
+    r ≡ Some x → SetsReads p s ats r → SetsStop p s ats x.next x.objects
 sets-read {p} {s} {ats} h w = subst (SetsReads p s ats) h w
 
-pub sets-refused : {p : Parse (List (List Text))} (s ats : List ℕ) {r : SetsRead} → r ≡ NoSets → SetsReads p s ats r → p ≡ fail
+pub sets-refused : {p : Parse (List (List Text))} (s ats : List ℕ) {r : Option SetsRead} → r ≡ None → SetsReads p s ats r → p ≡ fail
 sets-refused {p} s ats h w = subst (SetsReads p s ats) h w
 
 -- ---- places that are cleared
 
--- those from `place` up to k are clear, and those before stand as in the numbers old
-pub record Cleared (old ats : List ℕ) (place k : ℕ) : Type 0 where
-  pub long : length ats ≡ length old
-  pub all : length ats ≡ 96
-  from : place ≤ k
-  kept : (i : ℕ) → i < place → set_in ats i ≡ set_in old i
-  clear : (i : ℕ) → place ≤ i → i < k → set_in ats i ≡ no_set
+-- the numbers of the places from k on are 0, and those before stay
+module _
+    (ats : List ℕ) {zeros : List ℕ} {k : ℕ} (long : length ats ≡ 96) (few : k ≤ 32)
+    (clear : zeros ≡ replicate (length (mid_of (3 * k) (length ats - 3 * k) ats)) 0) where
+  abbrev after-zeros : List ℕ
+  after-zeros = post_of (3 * k) (length ats - 3 * k) ats
 
-pub cleared-none : {ats : List ℕ} {place : ℕ} → length ats ≡ 96 → Cleared ats ats place place
-cleared-none {place} l = record { long = refl; all = l; from = le_refl place; kept = λ i h. refl; clear = λ i a b. absurd (omega arith) }
+  abbrev cleared : List ℕ
+  cleared = put_mid (3 * k) (length ats - 3 * k) ats zeros
 
-module _ {old ats : List ℕ} {place k : ℕ} (w : Cleared old ats place k) where
-  pub cleared-all :
-      32 ≤ k →
-      ((i : ℕ) → i < place → set_in ats i ≡ set_in old i) × ((i : ℕ) → place ≤ i → i < 32 → set_in ats i ≡ no_set)
-  cleared-all h = (w.kept, λ i a b. w.clear i a (omega arith))
+  how-many : length (mid_of (3 * k) (length ats - 3 * k) ats) ≡ 96 - 3 * k
+  how-many = length-take-le (length ats - 3 * k) (drop (3 * k) ats) (omega (arith, length-drop (3 * k) ats)) ∙ omega arith
 
-  module _ (h : k < 32) where
-    -- the numbers with place k cleared
-    abbrev next-ats : List ℕ
-    next-ats = put_three ats k 0 0 0
+  all-zeros : zeros ≡ replicate (96 - 3 * k) 0
+  all-zeros = clear ∙ ap (λ (n : ℕ). replicate n 0) how-many
 
-    next-clear : (i : ℕ) → place ≤ i → i < k + 1 → (b : Bool) → eqb i k ≡ b → set_in next-ats i ≡ no_set
-    next-clear i a l true e = rw (eqb-true i k e) (set_here ats k no_set (omega (arith, w.all)))
-    next-clear i a l false e = let ne = eqb-false i k e in set_other ats k no_set i ne ∙ w.clear i a (omega (arith, ne))
+  front : length (take (3 * k) ats) ≡ 3 * k
+  front = length-take-le (3 * k) ats (omega arith)
 
-    pub cleared_more : Cleared old next-ats place (k + 1)
-    cleared_more =
-        let same = three-long ats k 0 0 0 in
-        record {
-          long = same ∙ w.long;
-          all = same ∙ w.all;
-          from = omega (arith, w.from);
-          kept = λ i l. set_other ats k no_set i (λ e. absurd (omega (arith, w.from))) ∙ w.kept i l;
-          clear = λ i a l. next-clear i a l (eqb i k) refl;
-        }
+  number-kept : (j : ℕ) → j < 3 * k → get_or cleared j 0 ≡ get_or ats j 0
+  number-kept j h = get_or-append (take (3 * k) ats) (zeros ++ after-zeros) 0 j (omega (arith, front)) ∙ get_or-take (3 * k) ats j 0 h
+
+  number-clear : (j : ℕ) → 3 * k ≤ j → j < 96 → get_or cleared j 0 ≡ 0
+  number-clear j h l =
+      get_or-append_right (take (3 * k) ats) (zeros ++ after-zeros) (3 * k) j 0 front h
+      ∙ ap (λ (l : List ℕ). get_or (l ++ after-zeros) (j - 3 * k) 0) all-zeros
+      ∙ get_or-append (replicate (96 - 3 * k) 0) after-zeros 0 (j - 3 * k) (omega (arith, length-replicate {A = ℕ} (96 - 3 * k) 0))
+      ∙ get_or-replicate (96 - 3 * k) (j - 3 * k) 0 0 (omega arith)
+
+  pub cleared-kept : (i : ℕ) → i < k → set_in cleared i ≡ set_in ats i
+  cleared-kept i h = rw (number-kept (3 * i) (omega arith), number-kept (3 * i + 1) (omega arith), number-kept (3 * i + 2) (omega arith)) refl
+
+  pub cleared-from : (i : ℕ) → k ≤ i → i < 32 → set_in cleared i ≡ no_set
+  cleared-from i h l = rw (
+    number-clear (3 * i) (omega arith) (omega arith),
+    number-clear (3 * i + 1) (omega arith) (omega arith),
+    number-clear (3 * i + 2) (omega arith) (omega arith),
+  ) refl
 
 -- ---- the text at an index
 
@@ -592,8 +596,8 @@ ValueFrom s at index x = (vs : List Text) → drop at s ≡ flatten (map text vs
 pub record WalkedTo (s : List ℕ) (index at left : ℕ) : Type 0 where
   on : (x : Text) → ValueFrom s at left x → ValueFrom s 0 index x
 
-pub walks-none : {s : List ℕ} {index : ℕ} → WalkedTo s index 0 index
-walks-none = record { on = λ x h. h }
+pub walks-none : {s : List ℕ} {index left : ℕ} → left ≡ index → WalkedTo s index 0 left
+walks-none e = record { on = λ v f vs h. f vs h ∙ ap (λ (i : ℕ). get_or vs i []) e }
 
 module _ {s : List ℕ} {index at left : ℕ} (w : WalkedTo s index at left) (small : length s < 2 ^ 64) where
   rest-small : length (drop at s) < 2 ^ 64
@@ -602,18 +606,18 @@ module _ {s : List ℕ} {index at left : ℕ} (w : WalkedTo s index at left) (sm
   pub walks-bad : read_text (drop at s) ≡ fail → ValueFrom s 0 index []
   walks-bad e = w.on [] λ vs h. sym (ap (λ (l : List Text). get_or l left []) (no-next (drop at s) vs rest-small e h))
 
-  module _ {a e : ℕ} {r : TextAt} (told : r ≡ text_at s at) (is : r ≡ text_arms.Text a e) where
-    first : (vs : List Text) → drop at s ≡ flatten (map text vs) → Next vs (part s a e) (drop e s)
-    first vs h = next (drop at s) (part s a e) (drop e s) vs rest-small (text-got told is).is h
+  module _ {x : TextAt} {r : Option TextAt} (told : r ≡ text_at s at) (is : r ≡ Some x) where
+    first : (vs : List Text) → drop at s ≡ flatten (map text vs) → Next vs (part s x.start x.end) (drop x.end s)
+    first vs h = next (drop at s) (part s x.start x.end) (drop x.end s) vs rest-small (text-got told is).is h
 
-    pub walks_more : 0 < left → WalkedTo s index e (left - 1)
+    pub walks_more : {more : ℕ} → left ≡ suc more → WalkedTo s index x.end more
     walks_more k = record {
-      on = λ x f. w.on x λ vs h.
+      on = λ v f. w.on v λ vs h.
           let n = first vs h in
-          f n.more n.bytes ∙ sym (ap₂ (λ (l : List Text) (i : ℕ). get_or l i []) n.all (sym (suc-of left k)));
+          f n.more n.bytes ∙ sym (ap₂ (λ (l : List Text) (i : ℕ). get_or l i []) n.all k);
     }
 
-    pub walks-found : left ≤ 0 → ValueFrom s 0 index (part s a e)
-    walks-found k = w.on (part s a e) λ vs h.
+    pub walks-found : left ≤ 0 → ValueFrom s 0 index (part s x.start x.end)
+    walks-found k = w.on (part s x.start x.end) λ vs h.
         let z : left ≡ 0 = omega arith in
         sym (ap₂ (λ (l : List Text) (i : ℕ). get_or l i []) (first vs h).all z)

@@ -12,10 +12,10 @@ use Rattle.model.specs.Order.{Text}
 use Rattle.packed.specs.Packed.{number, text, part}
 use Rattle.packed.specs.code.Written.{Wrote, ToGo}
 use Rattle.packed.proofs.ReadLaws.{part_join}
-use Rattle.packed.proofs.WriteLaws.{to-go, to-go-as, gone, gone-to, all-gone, wrote_as, wrote_then, wrote-length}
+use Rattle.packed.proofs.WriteLaws.{to-go, to-go-as, gone, gone-to, all-gone, wrote_as, wrote_then}
 use Rattle.event.specs.EventLayout.{presence_bit, bit_number, set_bytes, sets_bytes}
 use Rattle.event.specs.code.EventIndex.{count_size, SetIs, set_in, SetsAre}
-use Rattle.event.specs.code.SetWriting.{SetRoom, place_bytes, present_bytes, PresentRoom, run_bytes, RunIs, RunRoom}
+use Rattle.event.specs.code.SetWriting.{place_bytes, present_bytes, PresentRoom, run_bytes, RunIs, RunRoom}
 use Rattle.event.specs.declared.sets.SetAt.{SetAt}
 use Rattle.event.specs.declared.write.Run.{Run}
 use Rattle.event.proofs.SetLaws.{set-read}
@@ -74,20 +74,6 @@ place-own (v ∷ vs) = refl
 pub present-own : (xs : List (List Text)) → present_bytes (bit_number (map presence_bit xs)) xs ≡ sets_bytes xs
 present-own [] = present-nil []
 present-own (x ∷ xs) = present-cons x x xs xs (place-own x) (present-own xs)
-
--- ---- a set that is copied with its count
-
-module _ {s : List ℕ} {x : SetAt} {start : ℕ} (e : start ≡ x.start - count_size x.count) where
-  whole_set : (vs : List Text) → SetIs s vs x → part s start x.end ≡ set_bytes vs
-  whole_set vs is = ap (λ (i : ℕ). part s i x.end) e ∙ is.whole
-
-  pub copy-room : {at size : ℕ} → SetRoom s x at size → (start ≤ x.end) × (x.end ≤ length s) × (at + length (part s start x.end) ≤ size)
-  copy-room p = (omega (arith, e, p.is.order), p.is.within, omega (arith, p.room, ap length (whole_set p.values p.is)))
-
-  pub copied-set :
-      {l l₁ : List ℕ} {at next : ℕ} → Wrote l at (part s start x.end) l₁ next → (vs : List Text) → SetIs s vs x →
-      Wrote l at (set_bytes vs) l₁ next
-  copied-set w vs is = wrote_as (whole_set vs is) w
 
 -- ---- runs
 
@@ -149,9 +135,6 @@ module _ {s ats l₀ : List ℕ} {at presence : ℕ} {l : List ℕ} {r : Run} {b
 
     runs-long : length l ≡ length l₀
     runs-long = here.to_write.long
-
-    pub copied-long : {l₁ : List ℕ} {end : ℕ} → Wrote l r.to (run_bytes s r) l₁ end → length l₁ ≡ length l₀
-    copied-long o = wrote-length o ∙ runs-long
 
     room : r.to + length (run_bytes s r) ≤ length l
     room = omega (arith, p.room, here.to_write.after, runs-long, length-append (run_bytes s r) (present_bytes bits (drop k p.values)))

@@ -2,16 +2,15 @@
 use mathlib.Core.Path.{◌≡◌, refl, sym, ap, ap₂, ◌∙◌, subst}
 use mathlib.Core.Bool.{Bool, true, false, cond, not, ◌&&◌, ◌||◌}
 use mathlib.Core.Option.{Option, none, some}
-use mathlib.Core.Logic.{◌⊎◌, ⊎_elim}
 use mathlib.Core.List.{List, [], ◌∷◌}
-use Prim.Native.Nat.{ℕ, zero, suc, ◌+◌, ◌-◌, ◌≤◌, ◌<◌}
+use Prim.Native.Nat.{ℕ, zero, suc, ◌+◌, ◌-◌, ◌≤◌, ◌<◌, min}
 use native.Mathlib.Omega.{arith}
 use native.Mathlib.Numerals.{add-one}
 use native.Mathlib.Nat.{zero-add}
-use lib.Dec.{ltb, eqb}
+use lib.Dec.{eqb}
 use lib.ListN.{length, drop, get_or, get_elem?, drop_of_length-le}
 use lib.Seq.{drop-cons}
-use borrow.Author.Tests.{ltb-true, le-leb, lt-leb, ne_eqb, not-true, not-false}
+use borrow.Author.Tests.{le-leb, lt-leb, ne_eqb, not-true, not-false}
 use Rattle.model.specs.Order.{Text}
 use Rattle.model.proofs.Cases.{and-true, and-false}
 use Rattle.ontology.specs.Table.{Property, EventType, is_match, at_place}
@@ -71,14 +70,14 @@ none-past (x ∷ xs) (suc i) e = omega (arith, none-past xs i e)
 -- what is said of a place that has a property
 pub place-said :
     {A : Type 0} (s : List ℕ) (t : EventType) (n : ℕ) (ps : List ℕ) (k : ℕ) (b : A) (f : Property → A) (a : A) →
-    PropertiesAre s t.properties n ps → ltb k n ≡ true →
+    PropertiesAre s t.properties n ps → k < n →
     ((q : Property) → get_elem? t.properties k ≡ some q → PropertyIs s q (property_in ps k) → a ≡ f q) →
     a ≡ at_place b f (get_elem? t.properties k)
 unfolding at_place
 place-said s t n ps k b f a w h g = go (get_elem? t.properties k) refl
   where
     go : (o : Option Property) → get_elem? t.properties k ≡ o → a ≡ at_place b f o
-    go none e = absurd (omega (arith, w.count, ltb-true k n h, none-past t.properties k e))
+    go none e = absurd (omega (arith, w.count, h, none-past t.properties k e))
     go (some q) e = g q e (w.each k q e)
 
 -- ---- all places
@@ -170,7 +169,7 @@ shape-none = record { few = omega arith; shape = λ table event t x are is n. re
 
 module _ {count : ℕ} {ps : List ℕ} {objects : ℕ} {ats : List ℕ} {left matches k : ℕ} (w : ShapeTo count ps objects ats left matches k) where
   -- place k has a property; its property p and its set v are taken from the numbers
-  module _ {p : PropertyAt} {v : SetAt} (inside : k < 32) (there : ltb k count ≡ true) (property : p ≡ property_in ps k) (set : v ≡ set_in ats k) where
+  module _ {p : PropertyAt} {v : SetAt} (inside : k < 32) (there : k < count) (property : p ≡ property_in ps k) (set : v ≡ set_in ats k) where
     set-count : {event : List ℕ} {xs : List (List Text)} → SetsAre event xs ats → v.count ≡ length (get_or xs k [])
     set-count is = ap (λ (y : SetAt). y.count) set ∙ (is.each k inside).count
 
@@ -234,10 +233,10 @@ module _ {count : ℕ} {ps : List ℕ} {objects : ℕ} {ats : List ℕ} {left ma
         };
       }
 
-  pub shape-end : (count ≤ k) ⊎ (32 ≤ k) → Shaped count ps objects ats (λ t x. eqb left 0 ≡ event_shape t x)
+  pub shape-end : min count 32 ≤ k → Shaped count ps objects ats (λ t x. eqb left 0 ≡ event_shape t x)
   unfolding event_shape
   shape-end past table event t x are is n =
       let s = w.shape table event t x are is n in
-      let l : length t.properties ≤ k = ⊎_elim (λ h. omega (arith, are.count)) (λ h. omega (arith, are.count, are.few)) past in
+      let l : length t.properties ≤ k = omega (arith, are.count, are.few) in
       let c : matches_from t x 0 ≤ 32 = omega (arith, s.count, match-end k t.properties x.sets l, w.few) in
       sym (rw (s.each, drop_of_length-le t.properties l, all-empty set_fits (drop k x.sets), ← s.objects, le-leb _ _ c) (and-true (eqb left 0)))

@@ -2,18 +2,15 @@
 use mathlib.Core.Path.{◌≡◌, refl, sym, ap, ◌∙◌}
 use mathlib.Core.Bool.{Bool, true, false, not, ◌&&◌}
 use mathlib.Core.Option.{Option, some}
-use mathlib.Core.Logic.{◌⊎◌, inl, inr, ⊎_elim}
 use mathlib.Core.List.{List, [], ◌∷◌, map, flatten}
-use Prim.Native.Nat.{ℕ, ◌+◌, ◌-◌, ◌^◌, ◌≤◌, ◌<◌}
+use Prim.Native.Nat.{ℕ, ◌+◌, ◌-◌, ◌^◌, ◌≤◌, ◌<◌, min}
 use native.Mathlib.Omega.{arith}
-use lib.Dec.{ltb, leb}
+use lib.Dec.{leb}
 use lib.ListN.{length, drop, get_or, get_elem?, length-append, length-drop, drop_of_length-le}
-use borrow.Author.Tests.{not-true, not-false, ltb-false}
+use borrow.Author.Tests.{not-true, not-false}
 use Rattle.model.specs.Order.{Text}
 use Rattle.packed.specs.Packed.{text, part}
 use Rattle.packed.specs.code.Located.{text_at}
-use Rattle.packed.specs.declared.read.TextAt.{TextAt}
-use Rattle.packed.specs.declared.read.TextAt.TheVariants as text_arms
 use Rattle.packed.proofs.ReadLaws.{part_length}
 use Rattle.packed.proofs.LayoutLaws.{text-length, number-bounds}
 use Rattle.values.specs.Spaces.{Kind, string, is_kind, in_space}
@@ -31,6 +28,9 @@ use Rattle.event.proofs.AnswerLaws.{text-got, text-not}
 use Rattle.event.proofs.SetLaws.{set-read}
 use Rattle.event.proofs.LookupLaws.{text-there, text-next}
 use Rattle.event.proofs.ShapeLaws.{place-said, each_step}
+use Rattle.std.specs.Prelude.{Some, None}
+use Rattle.std.specs.Prelude as std
+use Rattle.packed.specs.declared.read.TextAt.{TextAt}
 
 -- the kind that an index has the numbers of
 kind-of : (k : Kind) (kind size after sign : ℕ) → KindIs k kind size after sign → kind_of kind size after sign ≡ some k
@@ -59,8 +59,8 @@ module _ {p : Kind → Type 0} {v : List ℕ} {at : ℕ} (w : SpaceTo p v at) wh
       here k (u ∷ us) q d =
           absurd (omega (arith, length-drop at v, ap length d, length-append (text u) (flatten (map text us)), text-length u, (number-bounds (length u)).0))
 
-  module _ (small : length v < 2 ^ 64) (l : at < length v) {r : TextAt} (told : r ≡ text_at v at) where
-    pub space-bad : r ≡ text_arms.NoText → SpaceFrom p v 0 false
+  module _ (small : length v < 2 ^ 64) (l : at < length v) {r : std.Option TextAt} (told : r ≡ text_at v at) where
+    pub space-bad : r ≡ None → SpaceFrom p v 0 false
     unfolding flatten
     space-bad f = w.on false here
       where
@@ -69,21 +69,21 @@ module _ {p : Kind → Type 0} {v : List ℕ} {at : ℕ} (w : SpaceTo p v at) wh
         here k (u ∷ us) q d = absurd (text-there v small at (omega arith) u (flatten (map text us)) d (text-not v at told f))
 
     -- b is the answer on the next text
-    module _ {a z : ℕ} (is : r ≡ text_arms.Text a z) {b : Bool} (asked : (k : Kind) → p k → b ≡ in_space k (part v a z)) where
+    module _ {x : TextAt} (is : r ≡ Some x) {b : Bool} (asked : (k : Kind) → p k → b ≡ in_space k (part v x.start x.end)) where
       -- and that on the others
       step :
           (k : Kind) (vs : List Text) → p k → drop at v ≡ flatten (map text vs) →
-          (us : List Text) × (drop z v ≡ flatten (map text us)) × (are_in_space k vs ≡ (b && are_in_space k us))
+          (us : List Text) × (drop x.end v ≡ flatten (map text us)) × (are_in_space k vs ≡ (b && are_in_space k us))
       unfolding are_in_space flatten
       step k [] q d = absurd (omega (arith, length-drop at v, ap length d))
       step k (u ∷ us) q d =
-          let n = text-next v small at (omega arith) u (flatten (map text us)) d a z (text-got told is) in
+          let n = text-next v small at (omega arith) u (flatten (map text us)) d x.start x.end (text-got told is) in
           (us, n.2.rest, ap (λ (c : Bool). c && are_in_space k us) (sym (asked k q ∙ ap (in_space k) n.0)))
 
       pub space-not : not b ≡ true → SpaceFrom p v 0 false
       space-not f = w.on false λ k vs q d. let n = step k vs q d in sym (n.2 ∙ ap (λ (c : Bool). c && are_in_space k n.0) (not-true b f))
 
-      pub space-more : not b ≡ false → SpaceTo p v z
+      pub space-more : not b ≡ false → SpaceTo p v x.end
       space-more f = record {
         on = λ o g. w.on o λ k vs q d.
             let n = step k vs q d in
@@ -96,12 +96,13 @@ KindHere kind size after sign k = (kind_of kind size after sign ≡ some k) × (
 
 -- a text without a byte above 7F is told by its length
 pub short-fits :
-    (v : List ℕ) (at : ℕ) {a z most : ℕ} {r : TextAt} {b : Bool} → r ≡ text_at v at → r ≡ text_arms.Text a z →
-    b ≡ (leb 1 (z - a) && leb (z - a) 120 && leb (z - a) most) → (k : Kind) → (k ≡ string most) × AllLow v → b ≡ in_space k (part v a z)
-short-fits v at {a} {z} {most} h is e k q =
+    (v : List ℕ) (at : ℕ) {x : TextAt} {most : ℕ} {r : std.Option TextAt} {b : Bool} → r ≡ text_at v at → r ≡ Some x →
+    b ≡ (leb 1 (x.end - x.start) && leb (x.end - x.start) 120 && leb (x.end - x.start) most) →
+    (k : Kind) → (k ≡ string most) × AllLow v → b ≡ in_space k (part v x.start x.end)
+short-fits v at {x} {most} h is e k q =
     let t = text-got h is in
-    e ∙ ap (λ (n : ℕ). leb 1 n && leb n 120 && leb n most) (sym (part_length v a z t.order t.within))
-    ∙ short-string most _ (low_part v _ _ t.order t.within q.1) ∙ ap (λ (x : Kind). in_space x (part v a z)) (sym q.0)
+    e ∙ ap (λ (n : ℕ). leb 1 n && leb n 120 && leb n most) (sym (part_length v x.start x.end t.order t.within))
+    ∙ short-string most _ (low_part v _ _ t.order t.within q.1) ∙ ap (λ (a : Kind). in_space a (part v x.start x.end)) (sym q.0)
 
 -- ---- places
 
@@ -111,7 +112,7 @@ place_space o s = at_place true (λ q. are_in_space q.kind s) o
 -- what is asked of a place that has a property
 place-space :
     (table : List ℕ) (y : EventType) (n : ℕ) (ps : List ℕ) (k : ℕ) (vs : List Text) (r : Bool) →
-    PropertiesAre table y.properties n ps → KindsAre y → ltb k n ≡ true →
+    PropertiesAre table y.properties n ps → KindsAre y → k < n →
     let p = property_in ps k in
     ((a : Kind) → kind_of p.kind p.size p.after p.sign ≡ some a → is_kind a ≡ true → r ≡ are_in_space a vs) →
     r ≡ place_space (get_elem? y.properties k) vs
@@ -154,7 +155,7 @@ fit_none = record { each = λ u ty xs w n v. refl }
 
 pub fit_at :
     {s ats : List ℕ} {count : ℕ} {ps : List ℕ} {k : ℕ} {b : Bool} {p : PropertyAt} {x : SetAt} {v : List ℕ} →
-    k < 32 → ltb k count ≡ true → p ≡ property_in ps k → x ≡ set_in ats k →
+    k < 32 → k < count → p ≡ property_in ps k → x ≡ set_in ats k →
     ((vs : List Text) → SetIs s vs x → v ≡ flatten (map text vs)) →
     ((a : Kind) (vs : List Text) → kind_of p.kind p.size p.after p.sign ≡ some a → is_kind a ≡ true → v ≡ flatten (map text vs) →
     b ≡ are_in_space a vs) →
@@ -180,13 +181,7 @@ module _ {s ats : List ℕ} {count : ℕ} {ps : List ℕ} {k : ℕ} (w : FitTo s
     pub fit-more : not b ≡ false → FitTo s ats count ps (k + 1)
     fit-more e = record { each = λ u ty xs are kinds is. next u ty xs are kinds is ∙ ap (λ (c : Bool). c && fit_from ty xs (k + 1)) (not-false b e) }
 
-  fit-end : (count ≤ k) ⊎ (32 ≤ k) → Spoken s ats count ps (λ ty xs. true ≡ values_fit ty xs)
+  pub fit-end : min count 32 ≤ k → Spoken s ats count ps (λ ty xs. true ≡ values_fit ty xs)
   fit-end past u ty xs are kinds is =
-      let l : length ty.properties ≤ k = ⊎_elim (λ h. omega (arith, are.count)) (λ h. omega (arith, are.count, are.few)) past in
+      let l : length ty.properties ≤ k = omega (arith, are.count, are.few) in
       sym (w.each u ty xs are kinds is ∙ rw (drop_of_length-le ty.properties l) (free (λ p s. are_in_space p.kind s) (drop k xs)))
-
-  pub fit-past : ltb k count ≡ false → Spoken s ats count ps (λ ty xs. true ≡ values_fit ty xs)
-  fit-past h = fit-end (inl (ltb-false _ _ h))
-
-  pub fit_all : 32 ≤ k → Spoken s ats count ps (λ ty xs. true ≡ values_fit ty xs)
-  fit_all h = fit-end (inr h)

@@ -14,10 +14,7 @@ fn place_same(p: PropertyAt, a: &[u8], x: SetAt, b: &[u8], y: SetAt) -> bool
     ensures { (s : List ℕ) (q : Property) (vs ws : List Text) → PropertyIs s q p → SetIs a.now vs x → SetIs b.now ws y
         → result ≡ (not (is_match q) || equal sets vs ws) }
 {
-    if !is_match(p) {
-        return true;
-    }
-    same(set_part(a, x), set_part(b, y))
+    !is_match(p) || same(set_part(a, x), set_part(b, y))
 }
 
 // Whether the match sets of two events or snapshots are the same.
@@ -34,12 +31,10 @@ pub fn is_match_same(
         → SetsAre a.now xs x.now → SetsAre b.now ys y.now
         → result ≡ equal (lists sets) (match_sets ty.properties xs) (match_sets ty.properties ys) }
 {
-    let mut k: usize = 0;
-    while k < count {
+    for k in 0..count {
         if !place_same(property_at(properties, k), a, set_at(x, k), b, set_at(y, k)) {
             return false;
         }
-        k += 1;
     }
     true
 }

@@ -8,7 +8,7 @@ ghost use Rattle.event.specs.EventLayout.{Counts, event_of};
 ghost use Rattle.event.specs.Value.{lent_from, value_call};
 ghost use Rattle.event.specs.code.EventIndex.{EventReads, event_questions, asked, EventAnswers};
 
-use crate::lookup::{ValueAt, find_value};
+use crate::lookup::find_value;
 use crate::read::{EventCounts, EventIndex, read_event};
 use crate::shape::shape_ok;
 use crate::spaces::sets_in_space;
@@ -19,7 +19,7 @@ use packed::read::{TextAt, read_text};
 pub fn type_name(event: &[u8]) -> &[u8]
     ensures { (counts : Counts) (e : Event) → event_of counts event.now ≡ some e → result.now ≡ e.head.type }
 {
-    let TextAt::Text(start, end) = read_text(event, 0) else {
+    let Some(TextAt { start, end }) = read_text(event, 0) else {
         return &event[0..0];
     };
     &event[start..end]
@@ -73,7 +73,7 @@ pub fn value<'a>(table: &[u8], event: &'a [u8], place: usize, index: usize) -> &
         return &event[0..0];
     }
     match find_value(event, e, &sets, place, index) {
-        ValueAt::Value(start, end) => &event[start..end],
-        ValueAt::NoValue => &event[0..0],
+        Some(TextAt { start, end }) => &event[start..end],
+        None => &event[0..0],
     }
 }

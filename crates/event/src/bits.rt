@@ -6,14 +6,9 @@ ghost use Rattle.event.specs.code.EventIndex.{bit_of};
 pub fn number_of(bits: [bool; 32]) -> u64
     ensures { result ≡ bit_number (map bit_of bits) }
 {
-    let mut n: u64 = 0;
-    let mut k: usize = 32;
-    while 0 < k {
-        k -= 1;
-        n = 2 * n;
-        if bits[k] {
-            n += 1;
-        }
+    let mut n = 0;
+    for k in (0..32).rev() {
+        n = 2 * n + u64::from(bits[k]);
     }
     n
 }

@@ -7,126 +7,74 @@ ghost use Rattle.event.specs.code.EventIndex.{TextIs, HeadIs, ParentsReads, Head
 
 use crate::sets::SetAt;
 use packed::order::{is_before, same};
-use packed::read::{NumberAt, TextAt, part_of, read_number, read_text};
+use packed::read::{TextAt, part_of, read_number, read_text};
 use packed::write::{copy, write_number, write_text};
-
-// Where a text's own bytes stand.
-#[derive(Clone, Copy)]
-pub struct PartAt {
-    pub start: usize,
-    pub end: usize,
-}
-
-#[derive(Clone, Copy)]
-pub enum ParentsRead {
-    Parents(SetAt),
-    NoParents,
-}
 
 // Type name, source and parents, with which an event and a dossier begin.
 #[derive(Clone, Copy)]
 pub struct HeadAt {
-    pub name: PartAt,
-    pub source: PartAt,
+    pub name: TextAt,
+    pub source: TextAt,
     pub parents: SetAt,
-}
-
-#[derive(Clone, Copy)]
-pub enum HeadRead {
-    Head(HeadAt),
-    NoHead,
 }
 
 // 1 to 120 bytes from 21 to 7E hexadecimal.
 fn is_source(v: &[u8]) -> bool
     ensures { result ≡ is_source v.now }
 {
-    if v.len() == 0 {
-        return false;
-    }
-    if 120 < v.len() {
-        return false;
-    }
-    let mut i = 0;
-    while i < v.len() {
-        let b = v[i];
-        if b < 0x21 {
-            return false;
-        }
-        if 0x7e < b {
-            return false;
-        }
-        i += 1;
-    }
-    true
+    matches!(v.len(), 1..=120) && v.iter().all(|b| matches!(b, 0x21..=0x7e))
 }
 
 // A count of at most `most`, and as many rising hashes of 20 bytes.
-fn read_parents(s: &[u8], at: usize, most: usize) -> ParentsRead
+fn read_parents(s: &[u8], at: usize, most: usize) -> Option<SetAt>
     ensures { ParentsReads (read_parents most (drop at s.now)) s.now result }
 {
-    let NumberAt::Number(number, after_count) = read_number(s, at) else {
-        return ParentsRead::NoParents;
-    };
+    let (number, after_count) = read_number(s, at)?;
     let count = number as usize;
     if most < count {
-        return ParentsRead::NoParents;
+        return None;
     }
     if count == 0 {
-        return ParentsRead::Parents(SetAt {
+        return Some(SetAt {
             start: after_count,
             end: after_count,
             count,
         });
     }
     if s.len() - after_count < 20 {
-        return ParentsRead::NoParents;
+        return None;
     }
     let mut from = after_count;
     let mut to = after_count + 20;
-    let mut left = count - 1;
-    while 0 < left {
+    for _ in 1..count {
         if s.len() - to < 20 {
-            return ParentsRead::NoParents;
+            return None;
         }
         if !is_before(s, from, to, to, to + 20) {
-            return ParentsRead::NoParents;
+            return None;
         }
         from = to;
         to += 20;
-        left -= 1;
     }
-    ParentsRead::Parents(SetAt {
+    Some(SetAt {
         start: after_count,
         end: to,
         count,
     })
 }
 
-pub fn read_head(s: &[u8], most: usize) -> HeadRead
+pub fn read_head(s: &[u8], most: usize) -> Option<HeadAt>
     ensures { HeadReads (read_head most s.now) s.now result }
 {
-    let TextAt::Text(name, name_end) = read_text(s, 0) else {
-        return HeadRead::NoHead;
-    };
-    let TextAt::Text(source, source_end) = read_text(s, name_end) else {
-        return HeadRead::NoHead;
-    };
-    if !is_source(&s[source..source_end]) {
-        return HeadRead::NoHead;
+    let name = read_text(s, 0)?;
+    let source = read_text(s, name.end)?;
+    if !is_source(&s[source.start..source.end]) {
+        return None;
     }
-    let ParentsRead::Parents(parents) = read_parents(s, source_end, most) else {
-        return HeadRead::NoHead;
-    };
-    HeadRead::Head(HeadAt {
-        name: PartAt {
-            start: name,
-            end: name_end,
-        },
-        source: PartAt {
-            start: source,
-            end: source_end,
-        },
+    let parents = read_parents(s, source.end, most)?;
+    Some(HeadAt {
+        name,
+        source,
         parents,
     })
 }
@@ -135,7 +83,7 @@ pub fn read_head(s: &[u8], most: usize) -> HeadRead
 pub fn no_head() -> HeadAt
     ensures { result.parents.count ≡ 0 }
 {
-    let none = PartAt { start: 0, end: 0 };
+    let none = TextAt { start: 0, end: 0 };
     HeadAt {
         name: none,
         source: none,
@@ -148,7 +96,7 @@ pub fn no_head() -> HeadAt
 }
 
 // A text's own bytes; nothing where the positions are not of these bytes.
-pub fn text_part(s: &[u8], x: PartAt) -> &[u8]
+pub fn text_part(s: &[u8], x: TextAt) -> &[u8]
     ensures { (v : Text) → TextIs s.now v x → result.now ≡ v }
 {
     part_of(s, x.start, x.end)
@@ -159,10 +107,8 @@ pub fn heads_agree(a: &[u8], x: HeadAt, b: &[u8], y: HeadAt) -> bool
     ensures { (g h : Head) → HeadIs a.now g x → HeadIs b.now h y
         → result ≡ (equal texts g.type h.type && equal texts g.source h.source) }
 {
-    if !same(text_part(a, x.name), text_part(b, y.name)) {
-        return false;
-    }
-    same(text_part(a, x.source), text_part(b, y.source))
+    same(text_part(a, x.name), text_part(b, y.name))
+        && same(text_part(a, x.source), text_part(b, y.source))
 }
 
 // The hashes of some parents where they stand; nothing where the positions are not of these bytes.

@@ -5,27 +5,18 @@ ghost use Rattle.event.specs.code.EventIndex.{EventIs, TextsSkipped, SetsSkipped
 
 use crate::read::EventIndex;
 use crate::sets::set_at;
-use packed::read::{NumberAt, TextAt, read_number, read_text};
-
-// Where a value's own bytes stand.
-#[derive(Clone, Copy)]
-pub enum ValueAt {
-    Value(usize, usize),
-    NoValue,
-}
+use packed::read::{TextAt, read_number, read_text};
 
 // The position after `count` texts.
 fn skip_texts(s: &[u8], at: usize, count: usize) -> usize
     ensures { TextsSkipped s.now at count result }
 {
     let mut pos = at;
-    let mut left = count;
-    while 0 < left {
-        let TextAt::Text(_, end) = read_text(s, pos) else {
+    for _ in 0..count {
+        let Some(TextAt { end, .. }) = read_text(s, pos) else {
             return pos;
         };
         pos = end;
-        left -= 1;
     }
     pos
 }
@@ -35,13 +26,11 @@ pub fn skip_sets(s: &[u8], at: usize, count: u32) -> usize
     ensures { SetsSkipped s.now at count result }
 {
     let mut pos = at;
-    let mut left = count;
-    while 0 < left {
-        let NumberAt::Number(values, after_count) = read_number(s, pos) else {
+    for _ in 0..count {
+        let Some((values, after_count)) = read_number(s, pos) else {
             return pos;
         };
         pos = skip_texts(s, after_count, values as usize);
-        left -= 1;
     }
     pos
 }
@@ -61,24 +50,19 @@ pub fn find_value(
     sets: &[usize],
     place: usize,
     index: usize,
-) -> ValueAt
+) -> Option<TextAt>
     requires { length sets.now ≡ 96 }
     ensures { (e : Event) → EventIs event.now e x sets.now → ValueFound event.now e place index result }
 {
     if 31 < place {
-        return ValueAt::NoValue;
+        return None;
     }
     let set = set_at(sets, place);
     if set.count <= index {
-        return ValueAt::NoValue;
+        return None;
     }
     let at = skip_sets(event, x.after_presence, sets_below(x.presence, place));
-    let NumberAt::Number(_, after_count) = read_number(event, at) else {
-        return ValueAt::NoValue;
-    };
+    let (_, after_count) = read_number(event, at)?;
     let to = skip_texts(event, after_count, index);
-    let TextAt::Text(value, end) = read_text(event, to) else {
-        return ValueAt::NoValue;
-    };
-    ValueAt::Value(value, end)
+    read_text(event, to)
 }

@@ -2,9 +2,9 @@ ghost use Rattle.std.specs.Prelude.{◌≡◌, false, length};
 ghost use Rattle.event.specs.EventLayout.{event_of};
 ghost use Rattle.event.specs.code.EventIndex.{EventReads, counts, counts_of};
 
-use crate::head::{HeadAt, HeadRead, no_head, read_head};
+use crate::head::{HeadAt, no_head, read_head};
 use crate::sets::{SetsRead, read_sets};
-use packed::read::{NumberAt, read_number};
+use packed::read::read_number;
 
 // Where each thing of an event stands. Where its sets stand is lent beside it, as 96 numbers.
 #[derive(Clone, Copy)]
@@ -62,17 +62,17 @@ fn read_counted(
     requires { length sets.old ≡ 96 }
     ensures { EventReads (event_of (counts most_parents most_objects) s.now) s.now sets.new result }
 {
-    let HeadRead::Head(head) = read_head(s, most_parents) else {
+    let Some(head) = read_head(s, most_parents) else {
         return no_event();
     };
     let parents = head.parents;
-    let NumberAt::Number(presence, after_presence) = read_number(s, parents.end) else {
+    let Some((presence, after_presence)) = read_number(s, parents.end) else {
         return no_event();
     };
     if 4294967296 <= presence {
         return no_event();
     }
-    let SetsRead::Sets { next, objects } = read_sets(s, after_presence, presence, false, sets)
+    let Some(SetsRead { next, objects }) = read_sets(s, after_presence, presence, false, sets)
     else {
         return no_event();
     };

@@ -4,10 +4,10 @@ ghost use Rattle.model.specs.Order.{Text};
 ghost use Rattle.packed.specs.Packed.{text, part};
 ghost use Rattle.packed.specs.code.Comparison.{precedes};
 ghost use Rattle.event.specs.EventLayout.{read_set, read_place, read_sets};
-ghost use Rattle.event.specs.code.EventIndex.{SetIs, no_set, set_in, Promised, SetReads, SetsReads};
+ghost use Rattle.event.specs.code.EventIndex.{SetIs, set_in, Promised, SetReads, SetsReads};
 
 use packed::order::is_before;
-use packed::read::{NumberAt, TextAt, part_of, read_number, read_text};
+use packed::read::{TextAt, part_of, read_number, read_text};
 
 // Where the values of a place stand: their texts, one after the other, without the count. A place without objects has an empty stretch.
 #[derive(Clone, Copy)]
@@ -17,75 +17,58 @@ pub struct SetAt {
     pub count: usize,
 }
 
-#[derive(Clone, Copy)]
-pub enum SetRead {
-    Found(SetAt),
-    NoSet,
-}
-
 // The position after the sets of all places, and how many objects they have together.
 #[derive(Clone, Copy)]
-pub enum SetsRead {
-    Sets { next: usize, objects: usize },
-    NoSets,
+pub struct SetsRead {
+    pub next: usize,
+    pub objects: usize,
 }
 
 // Whether a value comes after the one before it. Of what is known to be a set it does, and is not compared.
-fn comes_after(s: &[u8], from: usize, to: usize, value: usize, end: usize, known: bool) -> bool
-    requires from_le_to { (from ≤ to) × (to ≤ length s.now) × (value ≤ end) × (end ≤ length s.now) }
-    requires end_value { known ≡ true → precedes (part s.now from to) (part s.now value end) ≡ true }
-    ensures { result ≡ precedes (part s.now from to) (part s.now value end) }
+fn comes_after(s: &[u8], last: TextAt, value: TextAt, known: bool) -> bool
+    requires within { (last.start ≤ last.end) × (last.end ≤ length s.now) × (value.start ≤ value.end) × (value.end ≤ length s.now) }
+    requires rising { known ≡ true → precedes (part s.now last.start last.end) (part s.now value.start value.end) ≡ true }
+    ensures { result ≡ precedes (part s.now last.start last.end) (part s.now value.start value.end) }
 {
     if known {
         return true;
     }
-    is_before(s, from, to, value, end)
+    is_before(s, last.start, last.end, value.start, value.end)
 }
 
 // A count of at least 1, and as many rising values. Each value is compared with the one before it where they stand.
-fn read_set(s: &[u8], at: usize, known: bool) -> SetRead
+fn read_set(s: &[u8], at: usize, known: bool) -> Option<SetAt>
     requires { Promised known (read_set (drop at s.now)) }
     ensures { SetReads (read_set (drop at s.now)) s.now result }
 {
-    let NumberAt::Number(count, after_count) = read_number(s, at) else {
-        return SetRead::NoSet;
-    };
+    let (count, after_count) = read_number(s, at)?;
     if count == 0 {
-        return SetRead::NoSet;
+        return None;
     }
-    let TextAt::Text(first, first_end) = read_text(s, after_count) else {
-        return SetRead::NoSet;
-    };
-    let mut from = first;
-    let mut to = first_end;
-    let mut left = count - 1;
-    while 0 < left {
-        let TextAt::Text(value, end) = read_text(s, to) else {
-            return SetRead::NoSet;
-        };
-        if !comes_after(s, from, to, value, end, known) {
-            return SetRead::NoSet;
+    let mut last = read_text(s, after_count)?;
+    for _ in 1..count {
+        let value = read_text(s, last.end)?;
+        if !comes_after(s, last, value, known) {
+            return None;
         }
-        from = value;
-        to = end;
-        left -= 1;
+        last = value;
     }
-    SetRead::Found(SetAt {
+    Some(SetAt {
         start: after_count,
-        end: to,
+        end: last.end,
         count: count as usize,
     })
 }
 
 // The set of a place whose bit of the presence number is `bit`.
-fn read_place(s: &[u8], at: usize, bit: u64, known: bool) -> SetRead
+fn read_place(s: &[u8], at: usize, bit: u64, known: bool) -> Option<SetAt>
     requires { (at ≤ length s.now) × Promised known (read_place bit (drop at s.now)) }
     ensures { SetReads (read_place bit (drop at s.now)) s.now result }
 {
     if bit == 1 {
         read_set(s, at, known)
     } else {
-        SetRead::Found(SetAt {
+        Some(SetAt {
             start: at,
             end: at,
             count: 0,
@@ -93,45 +76,34 @@ fn read_place(s: &[u8], at: usize, bit: u64, known: bool) -> SetRead
     }
 }
 
-// The places from `place` on have no objects.
-fn clear_from(sets: &mut [usize], place: usize)
-    requires { length sets.old ≡ 96 }
-    ensures kept { (i : ℕ) → i < place → set_in sets.new i ≡ set_in sets.old i }
-    ensures clear { (i : ℕ) → place ≤ i → i < 32 → set_in sets.new i ≡ no_set }
-{
-    let mut k = place;
-    while k < 32 {
-        sets[3 * k] = 0;
-        sets[3 * k + 1] = 0;
-        sets[3 * k + 2] = 0;
-        k += 1;
-    }
-}
-
 // The sets of a presence number, three numbers for each place. Each value takes a byte at least, so there are fewer objects than bytes. Where no bit is left,
 // the places that follow have no objects.
-pub fn read_sets(s: &[u8], at: usize, presence: u64, known: bool, sets: &mut [usize]) -> SetsRead
+pub fn read_sets(
+    s: &[u8],
+    at: usize,
+    presence: u64,
+    known: bool,
+    sets: &mut [usize],
+) -> Option<SetsRead>
     requires { (at ≤ length s.now) × (length sets.old ≡ 96) × Promised known (read_sets 32 presence (drop at s.now)) }
     ensures { SetsReads (read_sets 32 presence (drop at s.now)) s.now sets.new result }
 {
     let mut bits = presence;
     let mut next = at;
-    let mut objects: usize = 0;
-    let mut k: usize = 0;
+    let mut objects = 0;
+    let mut k = 0;
     while k < 32 && 0 < bits {
-        let SetRead::Found(x) = read_place(s, next, bits % 2, known) else {
-            return SetsRead::NoSets;
-        };
+        let x = read_place(s, next, bits % 2, known)?;
         sets[3 * k] = x.start;
         sets[3 * k + 1] = x.end;
         sets[3 * k + 2] = x.count;
         objects += x.count;
         next = x.end;
-        bits = bits / 2;
+        bits /= 2;
         k += 1;
     }
-    clear_from(sets, k);
-    SetsRead::Sets { next, objects }
+    sets[3 * k..].fill(0);
+    Some(SetsRead { next, objects })
 }
 
 // The sets of all places are lent as 96 numbers, three for each: where its values start and end, and how many they are.
@@ -150,16 +122,14 @@ pub fn set_at(sets: &[usize], place: usize) -> SetAt
 pub fn value_in(s: &[u8], index: usize) -> &[u8]
     ensures { (vs : List Text) → s.now ≡ flatten (map text vs) → result.now ≡ get_or vs index [] }
 {
-    let mut at: usize = 0;
-    let mut left = index;
-    while 0 < left {
-        let TextAt::Text(_, end) = read_text(s, at) else {
+    let mut at = 0;
+    for _ in 0..index {
+        let Some(TextAt { end, .. }) = read_text(s, at) else {
             return &s[0..0];
         };
         at = end;
-        left -= 1;
     }
-    let TextAt::Text(start, end) = read_text(s, at) else {
+    let Some(TextAt { start, end }) = read_text(s, at) else {
         return &s[0..0];
     };
     &s[start..end]

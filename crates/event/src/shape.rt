@@ -13,13 +13,11 @@ use ontology::properties::{PropertyAt, is_match, property_at};
 fn set_fits(p: PropertyAt, count: usize) -> bool
     ensures { (s : List ℕ) (q : Property) (vs : List Text) → PropertyIs s q p → count ≡ length vs → result ≡ set_fits q vs }
 {
-    if count == 0 {
-        return p.optional;
+    match count {
+        0 => p.optional,
+        1 => true,
+        _ => p.multivalued,
     }
-    if count == 1 {
-        return true;
-    }
-    p.multivalued
 }
 
 // How many of a property's objects are match objects.
@@ -36,9 +34,8 @@ pub fn shape_ok(count: usize, properties: &[usize], objects: usize, sets: &[usiz
         → SetsAre event x.sets sets.now → objects ≡ object_count x.sets → result ≡ event_shape y x }
 {
     let mut left = objects;
-    let mut matches: usize = 0;
-    let mut k: usize = 0;
-    while k < 32 && k < count {
+    let mut matches = 0;
+    for k in 0..count.min(32) {
         let p = property_at(properties, k);
         let set = set_at(sets, k);
         if !set_fits(p, set.count) {
@@ -53,7 +50,6 @@ pub fn shape_ok(count: usize, properties: &[usize], objects: usize, sets: &[usiz
         }
         left -= set.count;
         matches += n;
-        k += 1;
     }
     left == 0
 }

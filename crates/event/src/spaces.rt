@@ -22,7 +22,7 @@ fn are_short(v: &[u8], most: u8) -> bool
 {
     let mut at: usize = 0;
     while at < v.len() {
-        let TextAt::Text(value, end) = read_text(v, at) else {
+        let Some(TextAt { start: value, end }) = read_text(v, at) else {
             return false;
         };
         if !is_short(most, end - value) {
@@ -43,7 +43,7 @@ fn are_in_space(v: &[u8], kind: u8, size: u8, after: u8, sign: u8) -> bool
     }
     let mut at: usize = 0;
     while at < v.len() {
-        let TextAt::Text(value, end) = read_text(v, at) else {
+        let Some(TextAt { start: value, end }) = read_text(v, at) else {
             return false;
         };
         if !in_space(kind, size, after, sign, &v[value..end]) {
@@ -60,8 +60,7 @@ pub fn sets_in_space(s: &[u8], sets: &[usize], count: usize, properties: &[usize
     ensures { (u : List ℕ) (ty : EventType) (xs : List (List Text)) → PropertiesAre u ty.properties count properties.now
         → KindsAre ty → SetsAre s.now xs sets.now → result ≡ values_fit ty xs }
 {
-    let mut k: usize = 0;
-    while k < 32 && k < count {
+    for k in 0..count.min(32) {
         let p = property_at(properties, k);
         if !are_in_space(
             set_part(s, set_at(sets, k)),
@@ -72,7 +71,6 @@ pub fn sets_in_space(s: &[u8], sets: &[usize], count: usize, properties: &[usize
         ) {
             return false;
         }
-        k += 1;
     }
     true
 }

@@ -44,17 +44,13 @@ fn with_set(s: &[u8], run: Run, x: SetAt, out: &mut [u8]) -> Run
 {
     let start = set_start(x);
     if start == run.end {
-        return Run {
-            start: run.start,
-            end: x.end,
-            to: run.to,
-        };
+        return Run { end: x.end, ..run };
     }
     let to = copy_part(s, run.start, run.end, out, run.to);
     Run {
-        start: start,
+        start,
         end: x.end,
-        to: to,
+        to,
     }
 }
 
@@ -71,12 +67,12 @@ pub fn write_sets(s: &[u8], sets: &[usize], presence: u64, out: &mut [u8], at: u
         to: at,
     };
     let mut bits = presence;
-    let mut k: usize = 0;
+    let mut k = 0;
     while k < 32 && 0 < bits {
         if bits % 2 == 1 {
             run = with_set(s, run, set_at(sets, k), out);
         }
-        bits = bits / 2;
+        bits /= 2;
         k += 1;
     }
     copy_part(s, run.start, run.end, out, run.to)

@@ -1,34 +1,31 @@
 -- Laws of the definitions of `specs/Fips.antt`. Assumes nothing.
 use Rattle.std.proofs.Common.{◌≡◌, ℕ, zero, suc, ◌+◌, ◌-◌, ◌*◌, ◌/◌, ◌%◌, ◌^◌, ◌<◌, ◌≤◌, List, []}
 use Rattle.std.proofs.Common.{◌∷◌, ◌++◌, length, get_or, take, drop, set, replicate, sym, refl, ap, ◌∙◌, ap₂, add-zero, add-suc}
-use Rattle.std.proofs.Common.{add-one, arith, length-append, length-drop, length-set, length-take-le, get_or-drop, take_all, get_or-take, take-suc}
-use Rattle.std.proofs.Common.{take-suc-set, get_or-append-add, le-ltb, lt-ltb}
+use Rattle.std.proofs.Common.{add-one, div-one, arith, append_assoc, length-append, length-drop, take_all}
+use Rattle.std.proofs.Common.{get_or-take, take-suc-set, le-ltb, lt-ltb}
+use Rattle.std.proofs.lemmas.List.{append-nil, take_at, drop_at, take-append-le, drop-append-le, length-replicate, replicate-append-replicate}
+use Rattle.std.proofs.lemmas.List.{take-replicate, drop-replicate}
+use Rattle.std.proofs.Math.Seq.{drop-append-add}
+use Rattle.std.specs.Int.{w32, w64, div_ceil, to_be_bytes}
 use native.Mathlib.Nat.{add-sub_cancel_left}
-use lib.ListN.{length-replicate, get_or-replicate, get_or-append}
-use lib.Seq.{drop-append-le, sets, sets-eq, paste, paste-zero, paste-suc}
-use lib.Seq.{get_or-append_seam, take-append-le}
-use lib.Bits.{bit_xor}
-use Rattle.fips180.specs.Fips.{HashValue, H0, plus, zeros, big_endian, padded, block, word_at, W, ROTL, schedule, round, rounds, compressed, hash, digest}
-use Rattle.fips180.specs.Fips.{sha1_of}
+use borrow.Rule.Slice.PartMut.{put_mid}
+use Rattle.std.proofs.lemmas.Nat.Bits.{same_from_bits_below, bit_at-lt, bit_at_and, bit_at_xor, bit_at_not}
+use lib.Bits.{bit_and, bit_xor, and_lt, xor_lt}
+use Rattle.fips180.specs.Fips.{HashValue, plus, complement, Ch, zeros, big_endian, padded, block, word_at, W, ROTL, schedule, round, rounds, compressed, hash}
+use Rattle.fips180.specs.Fips.{digest, sha1_of}
 
--- two lists that agree below n agree at each place below n
-pub same_at : (n : ℕ) (a b : List ℕ) → take n a ≡ take n b → (k : ℕ) → k < n → get_or a k 0 ≡ get_or b k 0
+same_at : (n : ℕ) (a b : List ℕ) → take n a ≡ take n b → (k : ℕ) → k < n → get_or a k 0 ≡ get_or b k 0
 same_at n a b e k h = sym (get_or-take n a k 0 h) ∙ ap (λ (l : List ℕ). get_or l k 0) e ∙ get_or-take n b k 0 h
 
-pub length-big_endian : (k n : ℕ) → length (big_endian k n) ≡ k
+length-big_endian : (k n : ℕ) → length (big_endian k n) ≡ k
 unfolding big_endian
 length-big_endian zero n = refl
 length-big_endian (suc k) n = ap suc (length-big_endian k n)
 
--- byte j of n as bytes, which stands k bytes from the end
-pub big_endian-at : (c n j k : ℕ) → j + suc k ≡ c → get_or (big_endian c n) j 0 ≡ n / 2 ^ (8 * k) % 2 ^ 8
+-- the library's eight bytes of a length
+big_endian-length : (n : ℕ) → to_be_bytes w64 n ≡ big_endian 8 n
 unfolding big_endian
-big_endian-at zero n j k e = absurd (omega arith)
-big_endian-at (suc c) n zero k e = rw (the_same c k (omega arith))
-  where
-    the_same : (c k : ℕ) → suc k ≡ suc c → c ≡ k
-    the_same c k e = omega arith
-big_endian-at (suc c) n (suc j) k e = big_endian-at c n j k (omega arith)
+big_endian-length n = simp div-one
 
 pub length-padded : (m : List ℕ) → length (padded m) ≡ length m + (1 + zeros (length m)) + 8
 unfolding padded
@@ -41,42 +38,6 @@ front m = m ++ (0x80 ∷ replicate (zeros (length m)) 0)
 length_front : (m : List ℕ) → length (front m) ≡ length m + (1 + zeros (length m))
 unfolding front
 length_front m = simp (length-append, length-replicate) (omega arith)
-
-in-front : (m : List ℕ) (j : ℕ) → j < length m + (1 + zeros (length m)) → get_or (padded m) j 0 ≡ get_or (front m) j 0
-unfolding padded front
-in-front m j h = get_or-append (front m) (big_endian 8 (8 * length m)) 0 j (omega (arith, length_front m))
-
-pub in-message : (m : List ℕ) (j : ℕ) → j < length m → get_or (padded m) j 0 ≡ get_or m j 0
-unfolding front
-in-message m j h = in-front m j (omega arith) ∙ get_or-append m (0x80 ∷ replicate (zeros (length m)) 0) 0 j h
-
-pub at-end : (m : List ℕ) → get_or (padded m) (length m) 0 ≡ 0x80
-unfolding front
-at-end m = in-front m (length m) (omega arith) ∙ get_or-append_seam m 0x80 (replicate (zeros (length m)) 0) 0
-
-pub in-zeros : (m : List ℕ) (j : ℕ) → length m < j → j < length m + (1 + zeros (length m)) → get_or (padded m) j 0 ≡ 0
-unfolding front
-in-zeros m j h k =
-    let i : ℕ = j - length m - 1 in
-    let at : j ≡ length m + suc i = omega arith in
-    in-front m j k ∙ ap (λ (x : ℕ). get_or (front m) x 0) at ∙ get_or-append-add m (0x80 ∷ replicate (zeros (length m)) 0) (suc i) 0
-    ∙ get_or-replicate (zeros (length m)) i 0 0 (omega arith)
-
-pub in-length : (m : List ℕ) (j k : ℕ) → j + suc k ≡ length (padded m) → k < 8 → get_or (padded m) j 0 ≡ 8 * length m / 2 ^ (8 * k) % 2 ^ 8
-unfolding padded front
-in-length m j k e h =
-    let i : ℕ = 7 - k in
-    let at : j ≡ length (front m) + i = omega (arith, length_front m, length-padded m) in
-    ap (λ (x : ℕ). get_or (padded m) x 0) at ∙ get_or-append-add (front m) (big_endian 8 (8 * length m)) i 0 ∙
-    big_endian-at 8 (8 * length m) i k (omega arith)
-
--- byte j by the questions of the code
-module _ (m : List ℕ) (j : ℕ) where
-  pub byte-in : j < length m → get_or m j 0 ≡ get_or (padded m) j 0
-  byte-in h = sym (in-message m j h)
-
-  pub byte-end : j ≡ length m → 0x80 ≡ get_or (padded m) j 0
-  byte-end e = rw e (sym (at-end m))
 
 pub padded-most : (m : List ℕ) → length (padded m) ≤ length m + 72
 unfolding zeros
@@ -98,51 +59,85 @@ block_in m i h =
 pub compressed-of : (s : HashValue) {b m : List ℕ} {r : HashValue} → r ≡ compressed b s → b ≡ m → r ≡ compressed m s
 compressed-of s e is = e ∙ ap (λ (x : List ℕ). compressed x s) is
 
-length-block : (p : List ℕ) (i : ℕ) → 64 * i + 64 ≤ length p → length (block p i) ≡ 64
-unfolding block
-length-block p i h = length-take-le 64 (drop (64 * i) p) (omega (arith, length-drop (64 * i) p))
+-- the padded message before its length is written
+pub unfinished : List ℕ → List ℕ
+unfinished m = m ++ (0x80 ∷ replicate (zeros (length m) + 8) 0)
 
-block_at : (p : List ℕ) (i k : ℕ) → k < 64 → get_or (block p i) k 0 ≡ get_or p (64 * i + k) 0
-unfolding block
-block_at p i k h = get_or-take 64 (drop (64 * i) p) k 0 h ∙ get_or-drop (64 * i) p k 0
+unfinished_block : (m : List ℕ) (i : ℕ) → block (unfinished m) i ≡ take 64 (drop (64 * i) (front m ++ replicate 8 0))
+unfolding block unfinished front
+unfinished_block m i =
+    let z : ℕ = zeros (length m) in
+    ap (λ (l : List ℕ). take 64 (drop (64 * i) (m ++ (0x80 ∷ l)))) (sym (replicate-append-replicate z 8 0))
+    ∙ ap (λ (l : List ℕ). take 64 (drop (64 * i) l)) (sym (append_assoc m (0x80 ∷ replicate z 0) (replicate 8 0)))
 
--- a list whose first k bytes are those of a block
-pub record Filled (p : List ℕ) (i : ℕ) (m : List ℕ) (k : ℕ) : Type 0 where
-  pub within : k ≤ 64
-  pub long : 64 ≡ length m
-  pub bytes : take k m ≡ take k (block p i)
+-- the byte 0x80 stored after what is left of the message, where zeros stand
+closed :
+    (left : List ℕ) (n z : ℕ) → length left < n → n ≤ length left + suc z →
+    set (left ++ drop (length left) (replicate n 0)) (length left) 0x80 ≡ take n (left ++ (0x80 ∷ replicate z 0))
+closed left zero z room far = absurd (omega arith)
+closed [] (suc n) z room far = ap (λ (l : List ℕ). 0x80 ∷ l) (sym (take-replicate n z 0 (omega arith)))
+closed (x ∷ left) (suc n) z room far = ap (λ (l : List ℕ). x ∷ l) (closed left n z (omega arith) (omega arith))
 
-pub filled_none : (p : List ℕ) (i : ℕ) (m : List ℕ) → 64 ≡ length m → Filled p i m 0
-filled_none p i m h = record { within = omega arith; long = h; bytes = refl }
+-- block i as the code makes it, where it ends past the message: first without the length, then with it where it is the last
+module _ (m : List ℕ) (i : ℕ) (room : 64 * i + 64 ≤ length (padded m)) (past : length m < 64 * i + 64) where
+  pub begun-message :
+      (new made : List ℕ) → 64 * i ≤ length m → new ≡ take (length m - 64 * i) (drop (64 * i) m) →
+      made ≡ set (new ++ drop (length m - 64 * i) (replicate 64 0)) (length m - 64 * i) 0x80 → made ≡ block (unfinished m) i
+  unfolding block unfinished
+  begun-message new made h copied e =
+      let left : List ℕ = drop (64 * i) m in
+      let z : ℕ = zeros (length m) + 8 in
+      let long : length left ≡ length m - 64 * i = length-drop (64 * i) m in
+      let whole : new ≡ left = copied ∙ take_all (length m - 64 * i) left (omega arith) in
+      e ∙ ap₂ (λ (l : List ℕ) (n : ℕ). set (l ++ drop n (replicate 64 0)) n 0x80) whole (sym long)
+      ∙ closed left 64 z (omega arith) (omega (arith, length-padded m))
+      ∙ sym (ap (take 64) (drop-append-le (64 * i) m (0x80 ∷ replicate z 0) h))
 
-module _ {p : List ℕ} {i : ℕ} {m : List ℕ} {k : ℕ} (c : Filled p i m k) (room : 64 * i + 64 ≤ length p) where
-  pub filled_more : k < 64 → {v : ℕ} → v ≡ get_or p (64 * i + k) 0 → Filled p i (set m k v) (k + 1)
-  filled_more h {v} e =
-      let long : k < length (block p i) = omega (arith, length-block p i room) in
-      let next = add-one k in
-      record {
-        within = omega arith;
-        long = simp length-set c.long;
-        bytes =
-            ap (λ (n : ℕ). take n (set m k v)) next ∙ take-suc-set m k v (omega (arith, c.long))
-            ∙ ap₂ (λ (l : List ℕ) (x : ℕ). l ++ (x ∷ [])) c.bytes (e ∙ sym (block_at p i k h)) ∙ sym (take-suc (block p i) k 0 long)
-            ∙ ap (λ (n : ℕ). take n (block p i)) (sym next);
-      }
+  pub begun-zeros : (made : List ℕ) → length m < 64 * i → made ≡ replicate 64 0 → made ≡ block (unfinished m) i
+  unfolding block unfinished
+  begun-zeros made h e =
+      let z : ℕ = zeros (length m) + 8 in
+      let d : ℕ = 64 * i - length m - 1 in
+      let start : 64 * i ≡ length m + suc d = omega arith in
+      e ∙ sym (
+      ap (λ (n : ℕ). take 64 (drop n (m ++ (0x80 ∷ replicate z 0)))) start
+      ∙ ap (take 64) (drop-append-add m (0x80 ∷ replicate z 0) (suc d) ∙ drop-replicate d z 0)
+      ∙ take-replicate 64 (z - d) 0 (omega (arith, length-padded m)))
 
-  pub filled-all : 64 ≤ k → m ≡ block p i
-  filled-all h =
-      let end : k ≡ 64 = omega (arith, c.within) in
-      sym (take_all 64 m (omega (arith, c.long))) ∙ rw end at c.bytes ∙ take_all 64 (block p i) (omega (arith, length-block p i room))
+  pub ended-last :
+      (made bytes : List ℕ) → length m < 64 * i + 56 → made ≡ block (unfinished m) i → bytes ≡ to_be_bytes w64 (8 * length m) →
+      put_mid 56 8 made bytes ≡ block (padded m) i
+  unfolding block padded front zeros
+  ended-last made bytes h e written =
+      let begun : List ℕ = drop (64 * i) (front m) in
+      let number : List ℕ = big_endian 8 (8 * length m) in
+      let last : 64 * i + 56 ≡ length (front m) = omega (arith, length_front m, length-padded m) in
+      let within : 64 * i ≤ length (front m) = omega arith in
+      let long : length begun ≡ 56 = omega (arith, length-drop (64 * i) (front m)) in
+      let before : made ≡ begun ++ replicate 8 0 =
+      e ∙ unfinished_block m i ∙ ap (take 64) (drop-append-le (64 * i) (front m) (replicate 8 0) within)
+      ∙ take_all 64 (begun ++ replicate 8 0) (omega (arith, length-append begun (replicate 8 0))) in
+      let put : put_mid 56 8 (begun ++ replicate 8 0) number ≡ begun ++ number =
+      ap₂ (λ (l r : List ℕ). l ++ (number ++ drop 8 r)) (take_at begun (replicate 8 0) 56 long) (drop_at begun (replicate 8 0) 56 long)
+      ∙ ap (λ (l : List ℕ). begun ++ l) (append-nil number) in
+      ap₂ (put_mid 56 8) before (written ∙ big_endian-length (8 * length m)) ∙ put
+      ∙ sym (ap (take 64) (drop-append-le (64 * i) (front m) number within)
+      ∙ take_all 64 (begun ++ number) (omega (arith, length-append begun number, length-big_endian 8 (8 * length m))))
 
--- a schedule whose first t words are written, with word t stored
+  pub ended-before : (made : List ℕ) → 64 * i + 56 ≤ length m → made ≡ block (unfinished m) i → made ≡ block (padded m) i
+  unfolding block padded front zeros
+  ended-before made h e =
+      let fits : 64 * i + 64 ≤ length (front m) = omega (arith, length_front m, length-padded m) in
+      e ∙ unfinished_block m i ∙ within (front m) (replicate 8 0) (64 * i) fits
+      ∙ sym (within (front m) (big_endian 8 (8 * length m)) (64 * i) fits)
+
+-- word t stored after those below it
 schedule-more :
     (m w : List ℕ) (t v : ℕ) → t < length w → take t w ≡ schedule m t → v ≡ W m (schedule m t) t →
     take (t + 1) (set w t v) ≡ schedule m (t + 1)
 unfolding schedule
 schedule-more m w t v h e ev =
-    let next = add-one t in
-    ap (λ (n : ℕ). take n (set w t v)) next ∙ take-suc-set w t v h ∙ ap₂ (λ (l : List ℕ) (x : ℕ). l ++ (x ∷ [])) e ev
-    ∙ ap (schedule m) (sym next)
+    rw add-one (take-suc-set w t v h ∙ ap₂ (λ (l : List ℕ) (x : ℕ). l ++ (x ∷ [])) e ev)
 
 pub length-schedule : (m : List ℕ) (n : ℕ) → length (schedule m n) ≡ n
 unfolding schedule
@@ -170,152 +165,52 @@ W-high m w t h e =
     (e ∙ sym (take_all t (schedule m t) (omega (arith, length-schedule m t)))) in
     rw (le-ltb t 16 h, back (t - 3) (omega arith), back (t - 8) (omega arith), back (t - 14) (omega arith), back (t - 16) (omega arith))
 
--- the first t of n words are written
-pub record Scheduled (m w : List ℕ) (n t : ℕ) : Type 0 where
-  pub within : t ≤ n
-  pub long : length w ≡ 80
-  pub words : take t w ≡ schedule m t
+-- a word of the block stored, and one that follows from those before it
+pub schedule_low :
+    (m w : List ℕ) (t v : ℕ) → t < 16 → t < length w → take t w ≡ schedule m t → v ≡ word_at m (4 * t) →
+    take (t + 1) (set w t v) ≡ schedule m (t + 1)
+schedule_low m w t v low h e ev = schedule-more m w t v h e (ev ∙ W-low m (schedule m t) t low)
 
-pub scheduled-none : (m w : List ℕ) (n : ℕ) → length w ≡ 80 → Scheduled m w n 0
-unfolding schedule
-scheduled-none m w n h = record { within = omega arith; long = h; words = refl }
+pub schedule_high :
+    (m w : List ℕ) (t v : ℕ) → 16 ≤ t → t < length w → take t w ≡ schedule m t →
+    v ≡ ROTL 1 (bit_xor (bit_xor (bit_xor (get_or w (t - 3) 0) (get_or w (t - 8) 0)) (get_or w (t - 14) 0)) (get_or w (t - 16) 0)) →
+    take (t + 1) (set w t v) ≡ schedule m (t + 1)
+schedule_high m w t v high h e ev = schedule-more m w t v h e (ev ∙ W-high m w t high e)
 
-pub scheduled-more :
-    {m w : List ℕ} {t : ℕ} → Scheduled m w 16 t → t < 16 → {v : ℕ} →
-    v ≡ get_or m (4 * t) 0 * 2 ^ 24 + get_or m (4 * t + 1) 0 * 2 ^ 16 + get_or m (4 * t + 2) 0 * 2 ^ 8 + get_or m (4 * t + 3) 0 →
-    Scheduled m (set w t v) 16 (t + 1)
-unfolding word_at
-scheduled-more {m} {w} {t} c h {v} e =
-    record {
-      within = omega arith;
-      long = simp length-set c.long;
-      words = schedule-more m w t v (omega (arith, c.long)) c.words (e ∙ W-low m (schedule m t) t h);
-    }
-
-pub scheduled-all : {m w : List ℕ} {n t : ℕ} → Scheduled m w n t → n ≤ t → (length w ≡ 80) × (take n w ≡ schedule m n)
-scheduled-all {n = n} {t = t} c h = let end : t ≡ n = omega (arith, c.within) in (c.long, rw end at c.words)
-
--- what held the words below `from` of a schedule holds those below t
-pub record Extended (w₀ : List ℕ) (from to : ℕ) (w : List ℕ) (t : ℕ) : Type 0 where
-  pub begun : from ≤ t
-  pub within : t ≤ to
-  pub long : length w ≡ 80
-  pub words : (m : List ℕ) → take from w₀ ≡ schedule m from → take t w ≡ schedule m t
-
-pub extended_none :
-    (w : List ℕ) (from to : ℕ) → (16 ≤ from) × (from ≤ to) × (to ≤ 80) × (length w ≡ 80) → Extended w from to w from
-extended_none w from to h = record { begun = omega arith; within = h.1; long = h.3; words = λ m e. e }
-
-module _ {w₀ : List ℕ} {from to : ℕ} {w : List ℕ} {t : ℕ} (c : Extended w₀ from to w t) where
-  pub extended-more :
-      (16 ≤ from) × (from ≤ to) × (to ≤ 80) × (length w₀ ≡ 80) → t < to → {v : ℕ} →
-      v ≡ ROTL 1 (bit_xor (bit_xor (bit_xor (get_or w (t - 3) 0) (get_or w (t - 8) 0)) (get_or w (t - 14) 0)) (get_or w (t - 16) 0)) →
-      Extended w₀ from to (set w t v) (t + 1)
-  extended-more r h {v} e =
-      record {
-        begun = omega (arith, c.begun);
-        within = omega arith;
-        long = simp length-set c.long;
-        words = λ m held.
-            let words = c.words m held in
-            schedule-more m w t v (omega (arith, c.long)) words (e ∙ W-high m w t (omega (arith, c.begun)) words);
-      }
-
-  pub extended-all : to ≤ t → (length w ≡ 80) × ((m : List ℕ) → take from w₀ ≡ schedule m from → take to w ≡ schedule m to)
-  extended-all h = let end : t ≡ to = omega (arith, c.within) in (c.long, λ m held. rw end at (c.words m held))
+-- Ch with one operation less than FIPS 180-4 writes: of each bit, y where x is 1 and z where x is 0
+pub Ch_chosen : (x y z : ℕ) → x < 2 ^ 32 → y < 2 ^ 32 → z < 2 ^ 32 → bit_xor z (bit_and x (bit_xor y z)) ≡ Ch x y z
+unfolding Ch complement
+Ch_chosen x y z hx hy hz =
+    let and_word : (a b : ℕ) → a < 2 ^ 32 → b < 2 ^ 32 → bit_and a b < 2 ^ 32 = and_lt 32 in
+    let xor_word : (a b : ℕ) → a < 2 ^ 32 → b < 2 ^ 32 → bit_xor a b < 2 ^ 32 = xor_lt 32 in
+    same_from_bits_below 32 _ _ (search (and_word, xor_word, arith)) (search (and_word, xor_word, arith)) (λ i h.
+    simp (bit_at_xor, bit_at_and, bit_at_not w32 x i hx h) (omega (arith, bit_at-lt x i, bit_at-lt y i, bit_at-lt z i)))
 
 plus-rest : (x y : ℕ) → (x % 2 ^ 32 + y) % 2 ^ 32 ≡ (x + y) % 2 ^ 32
 plus-rest x y = omega arith
 
 -- the sum of a round in the order of the code
-pub sum-order : (r f e k w : ℕ) → plus (plus (plus (plus e k) w) f) r ≡ plus (plus (plus (plus r f) e) k) w
+pub sum_order : (r f e k w : ℕ) → plus (plus (plus (plus e k) w) f) r ≡ plus (plus (plus (plus r f) e) k) w
 unfolding plus
-sum-order r f e k w = simp plus-rest (ap (λ (n : ℕ). n % 2 ^ 32) (omega arith))
+sum_order r f e k w = simp plus-rest (ap (λ (n : ℕ). n % 2 ^ 32) (omega arith))
 
-rounds-more : (ws : List ℕ) (t : ℕ) (s : HashValue) → round t (get_or ws t 0) (rounds ws t s) ≡ rounds ws (t + 1) s
+-- a round more, with words of which those below n are known
+pub rounds-more :
+    (w ws : List ℕ) (n t : ℕ) (s r q : HashValue) → t < n → take n w ≡ take n ws → r ≡ rounds ws t s → q ≡ round t (get_or w t 0) r →
+    q ≡ rounds ws (t + 1) s
 unfolding rounds
-rounds-more ws t s = ap (λ (n : ℕ). rounds ws n s) (sym (add-one t))
+rounds-more w ws n t s r q h words e is = rw add-one (is ∙ ap₂ (round t) (same_at n w ws words t h) e)
 
--- what was the state after the rounds below `from` is that after the rounds below t
-pub record Rounded (w : List ℕ) (from : ℕ) (s r : HashValue) (t : ℕ) : Type 0 where
-  pub begun : from ≤ t
-  pub within : t ≤ from + 20
-  pub same : (ws : List ℕ) (h : HashValue) → take (from + 20) w ≡ take (from + 20) ws → s ≡ rounds ws from h → r ≡ rounds ws t h
-
-pub rounded-none : (w : List ℕ) (from : ℕ) (s : HashValue) → Rounded w from s s from
-rounded-none w from s = record { begun = omega arith; within = omega arith; same = λ ws h words e. e }
-
-module _ {w : List ℕ} {from : ℕ} {s r : HashValue} {t : ℕ} (c : Rounded w from s r t) where
-  pub rounded-more : t < from + 20 → {q : HashValue} → q ≡ round t (get_or w t 0) r → Rounded w from s q (t + 1)
-  rounded-more l is =
-      record {
-        begun = omega (arith, c.begun);
-        within = omega arith;
-        same = λ ws h words e. is ∙ ap₂ (round t) (same_at (from + 20) w ws words t l) (c.same ws h words e) ∙ rounds-more ws t h;
-      }
-
-  pub rounded-all :
-      from + 20 ≤ t → (ws : List ℕ) (h : HashValue) → take (from + 20) w ≡ take (from + 20) ws → s ≡ rounds ws from h →
-      r ≡ rounds ws (from + 20) h
-  rounded-all l ws h words e = let end : t ≡ from + 20 = omega (arith, c.within) in c.same ws h words e ∙ ap (λ (n : ℕ). rounds ws n h) end
-
-hash-more : (p : List ℕ) (i : ℕ) → compressed (block p i) (hash p i) ≡ hash p (i + 1)
+-- a block more
+pub hash-more : (p : List ℕ) (i : ℕ) (s r : HashValue) → s ≡ hash p i → r ≡ compressed (block p i) s → r ≡ hash p (i + 1)
 unfolding hash
-hash-more p i = ap (hash p) (sym (add-one i))
+hash-more p i s r e is = rw add-one (is ∙ ap (compressed (block p i)) e)
 
--- the hash value after the blocks below i, of n
-pub record Hashed (m : List ℕ) (n i : ℕ) (s : HashValue) : Type 0 where
-  pub within : i ≤ n
-  pub is : s ≡ hash (padded m) i
-
-pub hashed-none : (m : List ℕ) (n : ℕ) → Hashed m n 0 H0
-unfolding hash
-hashed-none m n = record { within = omega arith; is = refl }
-
-module _ {m : List ℕ} {n i : ℕ} {s : HashValue} (c : Hashed m n i s) where
-  pub hashed-more : i < n → {r : HashValue} → r ≡ compressed (block (padded m) i) s → Hashed m n (i + 1) r
-  hashed-more h e =
-      record { within = omega arith; is = e ∙ ap (compressed (block (padded m) i)) c.is ∙ hash-more (padded m) i }
-
-  pub hashed-all : n ≤ i → n ≡ length (padded m) / 64 → {d : List ℕ} → d ≡ digest s → d ≡ sha1_of m
-  unfolding sha1_of
-  hashed-all h whole e =
-      let end : i ≡ length (padded m) / 64 = omega (arith, c.within) in
-      e ∙ ap digest c.is ∙ ap (λ (k : ℕ). digest (hash (padded m) k)) end
+-- how many blocks the code reads
+pub blocks_of : (m : List ℕ) → div_ceil (length m + 9) 64 ≡ length (padded m) / 64
+unfolding zeros
+blocks_of m = omega (arith, length-padded m)
 
 pub length-sha1_of : (m : List ℕ) → length (sha1_of m) ≡ 20
 unfolding sha1_of digest big_endian
 length-sha1_of m = refl
-
--- a whole list pasted is its elements stored one after the other
-paste-sets : (d s : List ℕ) (at n : ℕ) → length s ≡ n → at + n ≤ length d → paste d at s n ≡ sets d at s
-paste-sets d s at n e h =
-    ap₂ (λ (l : List ℕ) (k : ℕ). take at d ++ l ++ drop (at + k) d) (take_all n s (omega arith)) (sym e) ∙ sym (sets-eq s d at (omega arith))
-
--- the first k bytes of a digest are written
-pub record Pasted (out₀ : List ℕ) (at : ℕ) (d out : List ℕ) (k : ℕ) : Type 0 where
-  pub within : k ≤ 20
-  pub digest-long : length d ≡ 20
-  pub long : length out ≡ length out₀
-  pub is : out ≡ paste out₀ at d k
-
-pub pasted-none : (out : List ℕ) (at : ℕ) (d m : List ℕ) → d ≡ sha1_of m → Pasted out at d out 0
-pasted-none out at d m e =
-    record { within = omega arith; digest-long = ap length e ∙ length-sha1_of m; long = refl; is = paste-zero out at d }
-
-module _ {out₀ : List ℕ} {at : ℕ} {d out : List ℕ} {k : ℕ} (c : Pasted out₀ at d out k) (room : at + 20 ≤ length out₀) where
-  pub pasted-more : k < 20 → Pasted out₀ at d (set out (at + k) (get_or d k 0)) (k + 1)
-  pasted-more h =
-      record {
-        within = omega arith;
-        digest-long = c.digest-long;
-        long = simp length-set c.long;
-        is =
-            ap (λ (o : List ℕ). set o (at + k) (get_or d k 0)) c.is ∙ paste-suc out₀ at d k 0 (omega arith) (omega (arith, c.digest-long))
-            ∙ ap (paste out₀ at d) (sym (add-one k));
-      }
-
-  pub pasted-all : 20 ≤ k → (m : List ℕ) → d ≡ sha1_of m → out ≡ sets out₀ at (sha1_of m)
-  pasted-all h m e =
-      let end : k ≡ 20 = omega (arith, c.within) in
-      c.is ∙ ap (paste out₀ at d) end ∙ paste-sets out₀ d at 20 c.digest-long room ∙ ap (sets out₀ at) e

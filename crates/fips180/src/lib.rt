@@ -1,9 +1,9 @@
 // SHA-1 (FIPS 180-4) of a byte slice. Each function computes the definition of `specs/Fips.antt` that its contract cites.
 #![tactic(auto)]
 
-ghost use Rattle.std.specs.Prelude.{◌≡◌, ℕ, ◌+◌, ◌*◌, ◌/◌, ◌%◌, ◌^◌, ◌<◌, ◌≤◌, List, length, take, slice_index};
+ghost use Rattle.std.specs.Prelude.{◌≡◌, ℕ, ◌+◌, ◌*◌, ◌^◌, ◌<◌, ◌≤◌, List, length, take};
 ghost use Rattle.std.proofs.lemmas.List.Edits.{sets};
-ghost use Rattle.fips180.specs.Fips.{HashValue, ROTL, f, K, zeros, padded, block, schedule, round, rounds, sum, compressed, digest, sha1_of};
+ghost use Rattle.fips180.specs.Fips.{HashValue, f, K, padded, block, schedule, round, rounds, sum, compressed, digest, sha1_of};
 ghost use Rattle.fips180.specs.code.StateWords.{words_of};
 
 // Five words: the hash value, and the working variables.
@@ -16,140 +16,87 @@ pub struct State {
     pub e: u32,
 }
 
-// The rotation of `x` to the left by `n`.
-fn rotl(x: u32, n: u32) -> u32
-    requires { (0 < n) × (n < 32) }
-    ensures { result ≡ ROTL n x }
-{
-    (x << n) | (x >> (32 - n))
-}
-
-// The function f of round `t`: Ch, Parity, Maj, Parity. Ch is written with three operations in place of four, for speed.
+// The function f of round `t`: Ch in the first twenty rounds, Maj in the third, Parity in the others. Ch is written with three
+// operations in place of four, for speed.
+#[tactic(auto, using(crate::proofs::Laws::Ch_chosen), unfolding(crate::specs::Fips::f, crate::specs::Fips::Parity, crate::specs::Fips::Maj))]
 fn mix(t: usize, x: u32, y: u32, z: u32) -> u32
     ensures { result ≡ f t x y z }
 {
-    if t < 20 {
-        return z ^ (x & (y ^ z));
+    match t {
+        0..20 => z ^ (x & (y ^ z)),
+        40..60 => (x & y) ^ (x & z) ^ (y & z),
+        _ => x ^ y ^ z,
     }
-    if t < 40 {
-        return x ^ y ^ z;
-    }
-    if t < 60 {
-        return (x & y) ^ (x & z) ^ (y & z);
-    }
-    x ^ y ^ z
 }
 
 // The constant K of round `t`.
+#[tactic(auto, unfolding(crate::specs::Fips::K))]
 fn constant(t: usize) -> u32
     ensures { result ≡ K t }
 {
-    if t < 20 {
-        return 0x5a82_7999;
+    match t {
+        0..20 => 0x5a82_7999,
+        20..40 => 0x6ed9_eba1,
+        40..60 => 0x8f1b_bcdc,
+        _ => 0xca62_c1d6,
     }
-    if t < 40 {
-        return 0x6ed9_eba1;
-    }
-    if t < 60 {
-        return 0x8f1b_bcdc;
-    }
-    0xca62_c1d6
 }
 
 // Round `t` with the word `w`. The rotated `a`, which the round before makes last, is added last.
+#[tactic(auto, using(crate::proofs::Laws::sum_order), unfolding(crate::specs::Fips::round, crate::specs::Fips::plus, crate::specs::Fips::ROTL))]
 fn round_of(t: usize, w: u32, s: State) -> State
     ensures { words_of result ≡ round t w (words_of s) }
 {
-    let x = std::num::wrapping_add_u32(s.e, constant(t));
-    let y = std::num::wrapping_add_u32(x, w);
-    let z = std::num::wrapping_add_u32(y, mix(t, s.b, s.c, s.d));
     State {
-        a: std::num::wrapping_add_u32(z, rotl(s.a, 5)),
+        a: s.e
+            .wrapping_add(constant(t))
+            .wrapping_add(w)
+            .wrapping_add(mix(t, s.b, s.c, s.d))
+            .wrapping_add(s.a.rotate_left(5)),
         b: s.a,
-        c: rotl(s.b, 30),
+        c: s.b.rotate_left(30),
         d: s.c,
         e: s.d,
     }
 }
 
-// The length of the padded message: a byte 0x80, eight bytes of length, and what fills the last block.
-fn padded_length(n: usize) -> usize
-    requires { n < 2 ^ 61 }
-    ensures { (result ≡ n + (1 + zeros n) + 8) × (result % 64 ≡ 0) }
-{
-    (n + 72) / 64 * 64
-}
-
-// The word of four bytes, the highest first.
-fn word_of(a: u8, b: u8, c: u8, d: u8) -> u32
-    ensures { result ≡ a * 2 ^ 24 + b * 2 ^ 16 + c * 2 ^ 8 + d }
-{
-    (a as u32) * 0x100_0000 + (b as u32) * 0x1_0000 + (c as u32) * 0x100 + d as u32
-}
-
-// The byte of `x` that stands `k` bits up.
-fn byte_of(x: u64, k: u64) -> u8
-    requires { k < 64 }
-    ensures { result ≡ x / 2 ^ k % 2 ^ 8 }
-{
-    ((x >> k) % 256) as u8
-}
-
-// Byte `j` of the padded message.
-fn padded_byte(message: &[u8], j: usize) -> u8
-    requires { (length message.now < 2 ^ 61) × (j < length (padded message.now)) }
-    ensures { result ≡ slice_index (padded message.now) j }
-{
-    let n = message.len();
-    if j < n {
-        return message[j];
-    }
-    if j == n {
-        return 0x80;
-    }
-    let total = padded_length(n);
-    if j < total - 8 {
-        return 0;
-    }
-    byte_of(8 * n as u64, 8 * (total - 1 - j) as u64)
-}
-
-// Block `i` of the padded message.
+// Block `i` of the padded message, which ends past the message: what is left of the message, the byte 0x80 after it, and in the
+// last block the length in bits.
 fn padded_block(message: &[u8], i: usize) -> [u8; 64]
-    requires { (length message.now < 2 ^ 61) × (64 * i + 64 ≤ length (padded message.now)) }
+    requires { (length message.now < 2 ^ 61) × (64 * i + 64 ≤ length (padded message.now)) × (length message.now < 64 * i + 64) }
     ensures { result ≡ block (padded message.now) i }
 {
+    let n = message.len();
+    let start = 64 * i;
     let mut m = [0u8; 64];
-    let mut k: usize = 0;
-    while k < 64 {
-        m[k] = padded_byte(message, 64 * i + k);
-        k += 1;
+    if start <= n {
+        m[..n - start].copy_from_slice(&message[start..]);
+        m[n - start] = 0x80;
+    }
+    if n < start + 56 {
+        m[56..].copy_from_slice(&(8 * n as u64).to_be_bytes());
     }
     m
 }
 
 // Writes the first 16 words of the message schedule of the block `m`, which are the block's own.
 fn block_words(m: &[u8], w: &mut [u32; 80])
-    requires { (length m.now ≡ 64) × (length w.old ≡ 80) }
-    ensures { (length w.new ≡ 80) × (take 16 w.new ≡ schedule m.now 16) }
+    requires { length m.now ≡ 64 }
+    ensures { take 16 w.new ≡ schedule m.now 16 }
 {
-    let mut t: usize = 0;
-    while t < 16 {
-        w[t] = word_of(m[4 * t], m[4 * t + 1], m[4 * t + 2], m[4 * t + 3]);
-        t += 1;
+    for t in 0..16 {
+        w[t] = u32::from_be_bytes([m[4 * t], m[4 * t + 1], m[4 * t + 2], m[4 * t + 3]]);
     }
 }
 
 // Continues the message schedule from word `from` to word `to`: what held its words below `from` now holds those below `to`.
+#[tactic(auto, using(crate::proofs::Laws::schedule_high), unfolding(crate::specs::Fips::ROTL))]
 fn extend(w: &mut [u32; 80], from: usize, to: usize)
-    requires { (16 ≤ from) × (from ≤ to) × (to ≤ 80) × (length w.old ≡ 80) }
-    ensures { (length w.new ≡ 80) × ((m : List ℕ) → take from w.old ≡ schedule m from
-        → take to w.new ≡ schedule m to) }
+    requires { (16 ≤ from) × (from ≤ to) × (to ≤ 80) }
+    ensures { (m : List ℕ) → take from w.old ≡ schedule m from → take to w.new ≡ schedule m to }
 {
-    let mut t = from;
-    while t < to {
-        w[t] = rotl(w[t - 3] ^ w[t - 8] ^ w[t - 14] ^ w[t - 16], 1);
-        t += 1;
+    for t in from..to {
+        w[t] = (w[t - 3] ^ w[t - 8] ^ w[t - 14] ^ w[t - 16]).rotate_left(1);
     }
 }
 
@@ -162,24 +109,23 @@ fn twenty(w: &[u32; 80], from: usize, s: State) -> State
         → words_of s ≡ rounds ws from h → words_of result ≡ rounds ws (from + 20) h }
 {
     let mut r = s;
-    let mut t = from;
-    while t < from + 20 {
+    for t in from..from + 20 {
         r = round_of(t, w[t], r);
-        t += 1;
     }
     r
 }
 
 // The hash value `s` before a block and the working variables `r` after its rounds, added.
+#[tactic(auto, unfolding(crate::specs::Fips::sum, crate::specs::Fips::plus))]
 fn sum_of(s: State, r: State) -> State
     ensures { words_of result ≡ sum (words_of s) (words_of r) }
 {
     State {
-        a: std::num::wrapping_add_u32(r.a, s.a),
-        b: std::num::wrapping_add_u32(r.b, s.b),
-        c: std::num::wrapping_add_u32(r.c, s.c),
-        d: std::num::wrapping_add_u32(r.d, s.d),
-        e: std::num::wrapping_add_u32(r.e, s.e),
+        a: r.a.wrapping_add(s.a),
+        b: r.b.wrapping_add(s.b),
+        c: r.c.wrapping_add(s.c),
+        d: r.d.wrapping_add(s.d),
+        e: r.e.wrapping_add(s.e),
     }
 }
 
@@ -211,38 +157,23 @@ fn add_block(message: &[u8], i: usize, s: State) -> State
     let start = 64 * i;
     let end = start + 64;
     if end <= message.len() {
-        return compress(&message[start..end], s);
+        compress(&message[start..end], s)
+    } else {
+        compress(&padded_block(message, i), s)
     }
-    let m = padded_block(message, i);
-    compress(&m, s)
 }
 
 // The hash value as bytes.
 fn digest_of(s: State) -> [u8; 20]
     ensures { result ≡ digest (words_of s) }
 {
-    [
-        ((s.a >> 24) % 256) as u8,
-        ((s.a >> 16) % 256) as u8,
-        ((s.a >> 8) % 256) as u8,
-        (s.a % 256) as u8,
-        ((s.b >> 24) % 256) as u8,
-        ((s.b >> 16) % 256) as u8,
-        ((s.b >> 8) % 256) as u8,
-        (s.b % 256) as u8,
-        ((s.c >> 24) % 256) as u8,
-        ((s.c >> 16) % 256) as u8,
-        ((s.c >> 8) % 256) as u8,
-        (s.c % 256) as u8,
-        ((s.d >> 24) % 256) as u8,
-        ((s.d >> 16) % 256) as u8,
-        ((s.d >> 8) % 256) as u8,
-        (s.d % 256) as u8,
-        ((s.e >> 24) % 256) as u8,
-        ((s.e >> 16) % 256) as u8,
-        ((s.e >> 8) % 256) as u8,
-        (s.e % 256) as u8,
-    ]
+    let mut d = [0u8; 20];
+    d[..4].copy_from_slice(&s.a.to_be_bytes());
+    d[4..8].copy_from_slice(&s.b.to_be_bytes());
+    d[8..12].copy_from_slice(&s.c.to_be_bytes());
+    d[12..16].copy_from_slice(&s.d.to_be_bytes());
+    d[16..].copy_from_slice(&s.e.to_be_bytes());
+    d
 }
 
 // SHA-1 of `message`.
@@ -250,7 +181,8 @@ pub fn sha1(message: &[u8]) -> [u8; 20]
     requires { length message.now < 2 ^ 61 }
     ensures { result ≡ sha1_of message.now }
 {
-    let blocks = padded_length(message.len()) / 64;
+    // the message, the byte 0x80 and eight bytes of length, up to whole blocks
+    let blocks = (message.len() + 9).div_ceil(64);
     let mut s = State {
         a: 0x6745_2301,
         b: 0xefcd_ab89,
@@ -258,10 +190,8 @@ pub fn sha1(message: &[u8]) -> [u8; 20]
         d: 0x1032_5476,
         e: 0xc3d2_e1f0,
     };
-    let mut i: usize = 0;
-    while i < blocks {
+    for i in 0..blocks {
         s = add_block(message, i, s);
-        i += 1;
     }
     digest_of(s)
 }
@@ -271,10 +201,5 @@ pub fn write_digest(message: &[u8], out: &mut [u8], at: usize)
     requires { (length message.now < 2 ^ 61) × (at + 20 ≤ length out.old) }
     ensures { out.new ≡ sets out.old at (sha1_of message.now) }
 {
-    let d = sha1(message);
-    let mut k: usize = 0;
-    while k < 20 {
-        out[at + k] = d[k];
-        k += 1;
-    }
+    out[at..at + 20].copy_from_slice(&sha1(message));
 }

@@ -190,11 +190,11 @@ module _
     }
 
     pub set_all :
-        {end : ℕ} → left ≤ 0 →
-        StringsFit table event (strings_in objects) n
+        {end m : ℕ} → m ≡ n → left ≤ 0 →
+        StringsFit table event (strings_in objects) m
         × ((vs : List Text) → SetIs event vs (record { start = at₀; end = end; count = left₀ }) →
-        Gathered table event (strings_in objects₀) count (strings_in objects) n (named table name colon vs))
-    set_all {end} h = (w.fit, λ vs is. gathering-all (w.so_far vs end is) h)
+        Gathered table event (strings_in objects₀) count (strings_in objects) m (named table name colon vs))
+    set_all {end} e h = rw e (w.fit, λ vs is. gathering-all (w.so_far vs end is) h)
 
 -- ---- all places
 

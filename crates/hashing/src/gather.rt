@@ -29,25 +29,22 @@ fn gather_set(
         → Gathered table.now event.now (strings_in objects.old) count (strings_in objects.new) result
         (map (object_string (part table.now name colon)) vs) }
 {
-    let mut n = count;
     let mut at = set.start;
-    let mut left = set.count;
-    while 0 < left {
-        let TextAt::Text(value, end) = read_text(event, at) else {
+    let all = count + set.count;
+    for n in count..all {
+        let Some(TextAt { start, end }) = read_text(event, at) else {
             return n;
         };
         let x = StringAt {
             first: name,
             colon,
-            second: value,
+            second: start,
             end,
         };
         insert_string(table, event, objects, n, x);
-        n += 1;
         at = end;
-        left -= 1;
     }
-    n
+    all
 }
 
 // Puts the objects of all match properties, sorted, at the first places of `objects`, and answers how many they are.
@@ -67,8 +64,7 @@ pub fn gather(
         ≡ sorted texts (object_strings h.properties h.sets) }
 {
     let mut n: usize = 0;
-    let mut place: usize = 0;
-    while place < count {
+    for place in 0..count {
         let p = property_at(properties, place);
         if is_match(p) {
             n = gather_set(
@@ -81,7 +77,6 @@ pub fn gather(
                 n,
             );
         }
-        place += 1;
     }
     n
 }

@@ -45,11 +45,9 @@ pub fn write_objects(
     }
     let first = string_at(objects, 0);
     let mut next = write_object(table, event, first, out, at);
-    let mut i: usize = 1;
-    while i < count {
+    for i in 1..count {
         let x = string_at(objects, i);
         next = write_next(table, event, x, out, next);
-        i += 1;
     }
     next
 }

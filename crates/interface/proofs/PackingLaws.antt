@@ -1,5 +1,5 @@
 -- The laws of the numbers that replies are packed into.
-use Prim.Native.Nat.{ℕ, ◌+◌, ◌*◌, ◌-◌, ◌%◌}
+use Prim.Native.Nat.{ℕ, ◌+◌, ◌*◌, ◌-◌, ◌%◌, ◌≤◌}
 use native.Mathlib.Nat.{zero-add}
 use mathlib.Core.Path.{◌≡◌, refl, sym, ap, ◌∙◌}
 use mathlib.Core.List.{List}
@@ -22,11 +22,11 @@ use Rattle.replies.specs.declared.reply.BatchReply.{BatchReply}
 use Rattle.replies.specs.declared.reply.BatchReply.TheVariants as batch
 use Rattle.event.specs.EventLayout.{wide}
 use Rattle.event.specs.Value.{Part, value_call}
-use Rattle.event.specs.declared.lookup.ValueAt.{ValueAt}
-use Rattle.event.specs.declared.lookup.ValueAt.TheVariants.{Value, NoValue}
-use Rattle.event.specs.code.EventIndex.{ValueFound, ValueStands, event_questions, EventAsked, EventAnswers}
+use Rattle.event.specs.code.EventIndex.{ValueFound, event_questions, EventAsked, EventAnswers}
 use Rattle.event.proofs.AskLaws.{Accepted, refused-is, found-value, found_none, nothing, value-refused, value-missing, value-is}
 use Rattle.interface.specs.Packing.{low, kinded, packed_refusal, packed_finding, packed_as, packed, packed_opened, version_or, version_after, packed_part}
+use Rattle.std.specs.Prelude.{Option, Some, None}
+use Rattle.packed.specs.declared.read.TextAt.{TextAt}
 
 pub refusal_is : (number position : ℕ) → 288230376151711744 + (position % 16777216 * 256 + number) ≡ packed_refusal number position
 unfolding packed_refusal kinded
@@ -158,15 +158,18 @@ pub value-unasked :
 value-unasked table event place index ps ats r w h =
     none-packed (value-refused table event place index _ (refused-is wide table event ps ats r w h))
 
-module _ {table event ps ats : List ℕ} {r : EventAsked} (a : Taken table event ps ats r) (place index : ℕ) {q : ValueAt} where
-  pub value-absent : q ≡ NoValue → ValueFound event a.e place index q → 0 ≡ packed_part (value_call table event place index)
+module _ {table event ps ats : List ℕ} {r : EventAsked} (a : Taken table event ps ats r) (place index : ℕ) {q : Option TextAt} where
+  pub value-absent : q ≡ None → ValueFound event a.e place index q → 0 ≡ packed_part (value_call table event place index)
   value-absent h w = none-packed (value-missing table event place index ps ats r a (found_none event a.e place index h w))
 
+  pub value-ordered : {x : TextAt} → q ≡ Some x → ValueFound event a.e place index q → x.start ≤ x.end
+  value-ordered h w = (found-value event a.e place index h w).order
+
   pub value-packed :
-      {s z : ℕ} → q ≡ Value s z → ValueFound event a.e place index q →
-      (z - s) % 268435456 + s % 268435456 * 268435456 ≡ packed_part (value_call table event place index)
+      {x : TextAt} → q ≡ Some x → ValueFound event a.e place index q →
+      (x.end - x.start) % 268435456 + x.start % 268435456 * 268435456 ≡ packed_part (value_call table event place index)
   unfolding packed_part
-  value-packed {s} {z} h w =
-      let v : ValueStands event a.e place index s z = found-value h w in
-      ap (λ (n : ℕ). n % 268435456 + s % 268435456 * 268435456) (sym (part_length event s z v.order v.within))
-      ∙ ap packed_part (sym (value-is table event place index ps ats r a s z v))
+  value-packed {x} h w =
+      let v = found-value event a.e place index h w in
+      ap (λ (n : ℕ). n % 268435456 + x.start % 268435456 * 268435456) (sym (part_length event x.start x.end v.order v.within))
+      ∙ ap packed_part (sym (value-is table event place index ps ats r a x.start x.end v))

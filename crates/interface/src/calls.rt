@@ -16,7 +16,7 @@ use batch::calls::batch;
 use combining::check::check_event;
 use combining::combine::combine;
 use event::ask::{ask_event, type_name};
-use event::lookup::{ValueAt, find_value};
+use event::lookup::find_value;
 use event::read::{EventCounts, read_event};
 use hashing::calls::{hash, hash_text};
 use ontology::tables::{check_table, read_table};
@@ -134,9 +134,9 @@ pub extern "C" fn merger_value(table: &[u8], event: &[u8], place: usize, index: 
         return 0;
     }
     match find_value(event, e, &sets, place, index) {
-        ValueAt::Value(start, end) => (end - start) as u64 % 268435456
-            + start as u64 % 268435456 * 268435456,
-        ValueAt::NoValue => 0,
+        Some(at) => (at.end - at.start) as u64 % 268435456
+            + at.start as u64 % 268435456 * 268435456,
+        None => 0,
     }
 }
 

@@ -6,6 +6,7 @@ use Prim.Native.Nat.{ℕ, ◌+◌, ◌*◌, ◌/◌, ◌%◌, ◌≤◌, ◌<◌
 use native.Mathlib.Omega.{arith}
 use lib.Dec.{eqb}
 use lib.ListN.{length}
+use mir.Val.{bool_byte}
 use Rattle.ontology.specs.declared.properties.PropertyAt.{PropertyAt}
 use Rattle.ontology.specs.code.TypeIndex.{bit_of, code_of, decoded, property_in}
 use Rattle.ontology.proofs.TripleLaws.{put_three, three-first, three-second, three_third, three-zero, three-other}
@@ -15,8 +16,9 @@ unfolding bit_of
 bit-small true = omega arith
 bit-small false = omega arith
 
-pub bit-read : (b : Bool) {n : ℕ} → n ≡ bit_of b → n ≤ 1
-bit-read b e = omega (arith, bit-small b)
+pub bool-small : (b : Bool) → bool_byte b ≤ 1
+bool-small true = omega arith
+bool-small false = omega arith
 
 bit-back : (b : Bool) (n : ℕ) → n ≡ bit_of b → eqb n 1 ≡ b
 unfolding bit_of

@@ -1,6 +1,5 @@
 -- The laws of flags.
-use mathlib.Core.Path.{refl, subst, ◌≡◌, ◌∙◌}
-use mathlib.Core.Bool.{Bool}
+use mathlib.Core.Path.{refl, ◌≡◌, ◌∙◌}
 use mathlib.Core.List.{List}
 use Prim.Native.Nat.{ℕ}
 use native.Mathlib.Omega.{arith}
@@ -11,18 +10,7 @@ use Rattle.packed.specs.Parse.{Parse, fail, got, and_then, found_if, such_that}
 use Rattle.packed.specs.Packed.{read_number, is_within}
 use Rattle.packed.specs.code.Located.{Got}
 use Rattle.packed.proofs.FieldLaws.{then_found, then-none}
-use Rattle.ontology.specs.declared.fields.FlagAt.{FlagAt}
-use Rattle.ontology.specs.declared.fields.FlagAt.TheVariants.{Flag, NoFlag}
 use Rattle.ontology.specs.TableLayout.{read_flag}
-use Rattle.ontology.specs.code.TypeIndex.{FlagReads}
-
-pub flag-got : {p : Parse Bool} {s : List ℕ} {at : ℕ} {r : FlagAt} {b : Bool} {e : ℕ} → r ≡ Flag b e → FlagReads p s at r → Got p s at b e
-flag-got {p} {s} {at} h w = subst (FlagReads p s at) h w
-
-pub flag-fail : {p : Parse Bool} (s : List ℕ) (at : ℕ) {r : FlagAt} → r ≡ NoFlag → FlagReads p s at r → p ≡ fail
-flag-fail {p} s at h w = subst (FlagReads p s at) h w
-
--- ---- flags
 
 flag_same : (t : List ℕ) → read_flag t ≡ and_then (such_that (is_within 0 1) read_number t) (λ n. got (eqb n 1))
 unfolding read_flag

@@ -8,45 +8,21 @@ use native.Mathlib.Omega.{arith}
 use lib.ListN.{drop}
 use lib.Dec.{leb, eqb}
 use mir.Val.{bool_byte}
-use borrow.Author.Tests.{le-leb, lt-leb, eq-eqb, ne_eqb, eqb-true}
+use borrow.Author.Tests.{ne_eqb, eqb-true}
 use Rattle.packed.specs.Parse.{Parse, fail, got, Layout, and_then, found, found_if, such_that}
 use Rattle.packed.specs.Packed.{read_number, is_within}
 use Rattle.packed.specs.code.Located.{Got}
-use Rattle.packed.proofs.FieldLaws.{then-none, is_within_lem, is_below, is-above, within-bounds}
+use Rattle.packed.proofs.FieldLaws.{then-none, within-bounds}
 use Rattle.values.specs.Spaces.{Kind, unsigned, signed, decimal, currency, sequence, datetime, boolean, string, hex, is_width, is_kind}
 use Rattle.values.specs.Spaces.{kind_number, unsigned_number, signed_number, decimal_number, string_number, hex_number}
 use Rattle.values.specs.code.KindNumbers.{size_parameter, after_parameter, sign_parameter}
 use Rattle.ontology.specs.TableLayout.{read_flag, read_decimal, read_parameters, read_kind}
-use Rattle.ontology.specs.declared.kinds.KindRead.{KindRead}
-use Rattle.ontology.specs.declared.kinds.KindRead.TheVariants.{OfKind, NoKind}
 use Rattle.ontology.specs.code.TypeIndex.{HasOne, parameter_fits, KindIs, KindStops, KindReads}
 use Rattle.ontology.proofs.OnwardLaws.{Onward, on-first, on-got, on-not, on-passed, on-found}
-
--- what is known of a call's answer in the arm of a `match`
-pub kind-got :
-    {p : Parse Kind} {s : List ℕ} {at : ℕ} {r : KindRead} {n a b c e : ℕ} → r ≡ OfKind n a b c e → KindReads p s at r → KindStops p s at n a b c e
-kind-got {p} {s} {at} h w = subst (KindReads p s at) h w
-
-pub kind-fail : {p : Parse Kind} (s : List ℕ) (at : ℕ) {r : KindRead} → r ≡ NoKind → KindReads p s at r → p ≡ fail
-kind-fail {p} s at h w = subst (KindReads p s at) h w
+use Rattle.std.specs.Prelude.{Option, Some, None}
+use Rattle.ontology.specs.declared.kinds.KindAt.{KindAt}
 
 -- ---- ranges
-
-pub width_is : (n : ℕ) → 1 ≤ n → n ≤ 4 → true ≡ is_width n
-unfolding is_width
-width_is n h k = rw (is_within_lem 1 4 n h k)
-
-pub width-eight : (n : ℕ) → n ≡ 8 → true ≡ is_width n
-unfolding is_width
-width-eight n h = rw h
-
-pub width-none : (n : ℕ) → n < 1 → false ≡ is_width n
-unfolding is_width
-width-none n h = rw (is_below 1 4 n h, ne_eqb n 8 (λ e. omega arith))
-
-pub width-wide : (n : ℕ) → 4 < n → (n ≡ 8 → ⊥) → false ≡ is_width n
-unfolding is_width
-width-wide n h k = rw (is-above 1 4 n (omega arith) h, ne_eqb n 8 k)
 
 width_small : (n : ℕ) → is_width n ≡ true → n ≤ 120
 unfolding is_width
@@ -55,20 +31,6 @@ width_small n e = go (is_within 1 4 n) refl e
     go : (t : Bool) → is_within 1 4 n ≡ t → (t || eqb n 8) ≡ true → n ≤ 120
     go true h e = omega (arith, within-bounds 1 4 n h)
     go false h e = omega (arith, eqb-true n 8 e)
-
-pub fits_width : (kind n : ℕ) → kind ≤ signed_number → {r : Bool} → r ≡ is_width n → r ≡ parameter_fits kind n
-unfolding parameter_fits
-fits_width kind n h r = rw (le-leb kind signed_number h) r
-
-pub fits-string :
-    (kind n : ℕ) → signed_number < kind → kind ≡ string_number → {r : Bool} → r ≡ is_within 1 120 n → r ≡ parameter_fits kind n
-unfolding parameter_fits
-fits-string kind n h k r = rw (lt-leb kind signed_number h, eq-eqb kind string_number k) r
-
-pub fits-hex :
-    (kind n : ℕ) → signed_number < kind → (kind ≡ string_number → ⊥) → {r : Bool} → r ≡ is_within 1 60 n → r ≡ parameter_fits kind n
-unfolding parameter_fits
-fits-hex kind n h k r = rw (lt-leb kind signed_number h, ne_eqb kind string_number k) r
 
 pub fits-small : (kind n : ℕ) → parameter_fits kind n ≡ true → n ≤ 120
 unfolding parameter_fits
@@ -82,15 +44,6 @@ fits-small kind n e = go (leb kind signed_number) (eqb kind string_number) e
 -- the digits of a decimal are in their ranges
 abbrev pub digits_fit : ℕ → ℕ → Bool
 digits_fit total after = is_within 2 38 total && is_within 1 (total - 1) after
-
-pub digits-few : (total after : ℕ) → total < 2 → false ≡ digits_fit total after
-digits-few total after h = rw (is_below 2 38 total h)
-
-pub digits-many : (total after : ℕ) → 2 ≤ total → 38 < total → false ≡ digits_fit total after
-digits-many total after h k = rw (is-above 2 38 total h k)
-
-pub digits_are : (total after : ℕ) → 2 ≤ total → total ≤ 38 → {r : Bool} → r ≡ is_within 1 (total - 1) after → r ≡ digits_fit total after
-digits_are total after h k r = rw (is_within_lem 2 38 total h k) r
 
 pub digits-small : (total after : ℕ) → digits_fit total after ≡ true → (total ≤ 38) × (after ≤ 38)
 digits-small total after e = go (is_within 2 38 total) refl e
@@ -160,12 +113,6 @@ one-parameter kind (inr (inr (inr e))) = subst OneParameter (sym e) one-hex
 abbrev pub kind_after : ℕ → List ℕ → Parse Kind
 kind_after kind t = such_that is_kind (read_parameters kind) t
 
--- the parameters are read, and b is whether they are in their ranges
-pub record KindTested (s : List ℕ) (at kind size after sign e : ℕ) (b : Bool) : Type 0 where
-  pub fails : b ≡ false → kind_after kind (drop at s) ≡ fail
-  pub stops : b ≡ true → KindStops (kind_after kind (drop at s)) s at kind size after sign e
-  pub small : b ≡ true → (size ≤ 120) × (after ≤ 120)
-
 module _ {kind : ℕ} (h : HasOne kind) where
   abbrev made : ℕ → Kind
   made = (one-parameter kind h).make
@@ -184,14 +131,16 @@ module _ {kind : ℕ} (h : HasOne kind) where
   pub one_none : (t : List ℕ) → read_number t ≡ fail → kind_after kind t ≡ fail
   one_none t e = one-layout t ∙ then-none after_one e
 
-  pub one-tested :
-      {s : List ℕ} {at n e : ℕ} {b : Bool} → Got (read_number (drop at s)) s at n e → b ≡ parameter_fits kind n → KindTested s at kind n 0 0 e b
-  one-tested {n = n} g f =
-      let w = on-first read_number after_one one-layout g in record {
-        fails = λ e. on-not (got (made n)) w (sym f ∙ e);
-        stops = λ e. record { what = made n; stops = on-found (on-passed (got (made n)) w (sym f ∙ e)); are = (one-parameter kind h).are n };
-        small = λ e. (fits-small kind n (sym f ∙ e), omega arith);
-      }
+  -- the parameter is read, and is in its range or not
+  module _ {s : List ℕ} {at n e : ℕ} (g : Got (read_number (drop at s)) s at n e) where
+    one-left : Onward (kind_after kind) s at (after_one n) e
+    one-left = on-first read_number after_one one-layout g
+
+    pub one-stops : true ≡ parameter_fits kind n → KindStops (kind_after kind (drop at s)) s at kind n 0 0 e
+    one-stops f = record { what = made n; stops = on-found (on-passed (got (made n)) one-left (sym f)); are = (one-parameter kind h).are n }
+
+    pub one-not : false ≡ parameter_fits kind n → kind_after kind (drop at s) ≡ fail
+    one-not f = on-not (got (made n)) one-left (sym f)
 
 -- ---- a decimal
 
@@ -248,16 +197,20 @@ module _ {s : List ℕ} {at : ℕ} where
   pub total_left : {total e : ℕ} → Got (read_number (drop at s)) s at total e → TotalLeft s at total e
   total_left g = on-first read_number after-total decimal-layout g
 
-  pub decimal-tested :
-      {total after e f : ℕ} {sign b : Bool} → PointLeft s at total after e → Got (read_flag (drop e s)) s e sign f → b ≡ digits_fit total after →
-      KindTested s at decimal_number total after (bool_byte sign) f b
-  decimal-tested {total} {after} {sign = sign} w g q =
-      let made = decimal total after sign in
-      let left = on-got read_flag (after-sign total after) w g in record {
-        fails = λ h. on-not (got made) left (sym q ∙ h);
-        stops = λ h. record { what = made; stops = on-found (on-passed (got made) left (sym q ∙ h)); are = kind-is refl refl refl (sign-byte sign) };
-        small = λ h. let (few, fewer) = digits-small total after (sym q ∙ h) in (omega arith, omega arith);
-      }
+  -- and the flag is, and the digits are in their ranges or not
+  module _ (total after : ℕ) {e f : ℕ} {sign : Bool} (w : PointLeft s at total after e) (g : Got (read_flag (drop e s)) s e sign f) where
+    sign-left : Onward (kind_after decimal_number) s at (after-sign total after sign) f
+    sign-left = on-got read_flag (after-sign total after) w g
+
+    pub decimal-stops : true ≡ digits_fit total after → KindStops (kind_after decimal_number (drop at s)) s at decimal_number total after (bool_byte sign) f
+    decimal-stops q = record {
+      what = decimal total after sign;
+      stops = on-found (on-passed (got (decimal total after sign)) sign-left (sym q));
+      are = kind-is refl refl refl (sign-byte sign);
+    }
+
+    pub decimal-not : false ≡ digits_fit total after → kind_after decimal_number (drop at s) ≡ fail
+    decimal-not q = on-not (got (decimal total after sign)) sign-left (sym q)
 
 -- ---- a kind
 
@@ -309,8 +262,8 @@ module _ {s : List ℕ} {at n e : ℕ} (g : Got (read_number (drop at s)) s at n
   kind-next = rw g.is
 
   -- what a reader of the parameters answers is the answer for the kind
-  pub kind-after : (r : KindRead) {k : ℕ} → n ≡ k → KindReads (kind_after k (drop e s)) s e r → KindReads (read_kind (drop at s)) s at r
-  kind-after (OfKind m a b c f) {k} q w = record {
+  pub kind-after : (r : Option (KindAt × ℕ)) {k : ℕ} → n ≡ k → KindReads (kind_after k (drop e s)) s e r → KindReads (read_kind (drop at s)) s at r
+  kind-after (Some (found, f)) {k} q w = record {
     what = w.what;
     stops = record {
       is = kind-next ∙ ap (λ (i : ℕ). kind_after i (drop e s)) q ∙ w.stops.is;
@@ -319,7 +272,7 @@ module _ {s : List ℕ} {at n e : ℕ} (g : Got (read_number (drop at s)) s at n
     };
     are = w.are;
   }
-  kind-after NoKind {k} q w = kind-next ∙ ap (λ (i : ℕ). kind_after i (drop e s)) q ∙ w
+  kind-after None {k} q w = kind-next ∙ ap (λ (i : ℕ). kind_after i (drop e s)) q ∙ w
 
   pub kind-plain : kind_number currency ≤ n → n ≤ kind_number boolean → KindStops (read_kind (drop at s)) s at n 0 0 0 e
   kind-plain h k =

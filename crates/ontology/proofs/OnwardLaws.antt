@@ -7,18 +7,17 @@ use native.Mathlib.Omega.{arith}
 use lib.ListN.{length, drop}
 use Rattle.packed.specs.Parse.{Parse, fail, got, Layout, and_then}
 use Rattle.packed.specs.Packed.{read_number}
-use Rattle.packed.specs.declared.read.NumberAt.{NumberAt}
-use Rattle.packed.specs.declared.read.NumberAt.TheVariants.{Number, NoNumber}
 use Rattle.packed.specs.code.Located.{number_at, Got}
 use Rattle.packed.proofs.FieldLaws.{number-here, then-none}
 use Rattle.packed.proofs.ReadLaws.{number-none}
+use Rattle.std.specs.Prelude.{Some, None}
 
--- the answer of `read_number`, which takes a number of any size, in the arm of a `match`
-pub any-got : {s : List ℕ} {at : ℕ} {r : NumberAt} {n e : ℕ} → r ≡ Number n e → r ≡ number_at s at → Got (read_number (drop at s)) s at n e
-any-got {s} {at} {r} {n} {e} h w = number-here s at n e (sym w ∙ h)
+-- what `read_number`, which takes a number of any size, promises of each of its answers
+pub any-got : {s : List ℕ} {at n e : ℕ} → Some (n, e) ≡ number_at s at → Got (read_number (drop at s)) s at n e
+any-got {s} {at} {n} {e} h = number-here s at n e (sym h)
 
-pub any-fail : (s : List ℕ) (at : ℕ) {r : NumberAt} → r ≡ NoNumber → r ≡ number_at s at → read_number (drop at s) ≡ fail
-any-fail s at h w = number-none s at (sym w ∙ h)
+pub any-fail : (s : List ℕ) (at : ℕ) → None ≡ number_at s at → read_number (drop at s) ≡ fail
+any-fail s at h = number-none s at (sym h)
 
 -- Something was read, up to e: the layout at `at` reads what `rest` reads there.
 pub record Onward {A : Type 0} (layout : Layout A) (s : List ℕ) (at : ℕ) (rest : Layout A) (e : ℕ) : Type 0 where

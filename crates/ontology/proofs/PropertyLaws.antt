@@ -1,5 +1,5 @@
 -- The laws of a property's fields, one after the other.
-use mathlib.Core.Path.{◌≡◌, refl, sym, ap, ◌∙◌, subst}
+use mathlib.Core.Path.{◌≡◌, refl, sym, ap, ◌∙◌}
 use mathlib.Core.Bool.{Bool, true, false, cond}
 use mathlib.Core.List.{List}
 use Prim.Native.Nat.{ℕ, zero, suc, ◌≤◌}
@@ -17,20 +17,8 @@ use Rattle.packed.proofs.FieldLaws.{then-none, such-was, within-bounds, is_withi
 use Rattle.values.specs.Spaces.{Kind}
 use Rattle.ontology.specs.Table.{Strategy, min, max, add, replace, match, set, any, strategy_number, Property, is_name, is_name_within}
 use Rattle.ontology.specs.TableLayout.{read_flag, read_kind, read_strategy, read_property}
-use Rattle.ontology.specs.declared.properties.PropertyAt.{PropertyAt}
-use Rattle.ontology.specs.declared.properties.PropertyRead.{PropertyRead}
-use Rattle.ontology.specs.declared.properties.PropertyRead.TheVariants as read
-use Rattle.ontology.specs.code.TypeIndex.{KindIs, KindStops, PropertyStops, PropertyReads}
+use Rattle.ontology.specs.code.TypeIndex.{KindIs, KindStops, PropertyStops}
 use Rattle.ontology.proofs.OnwardLaws.{Onward, on-first, on-got, on-found}
-
--- what is known of a call's answer in the arm of a `match`
-pub property-got :
-    {p : Parse Property} {s : List ℕ} {at : ℕ} {r : PropertyRead} {x : PropertyAt} {e : ℕ} → r ≡ read.Property x e → PropertyReads p s at r →
-    PropertyStops p s at x e
-property-got {p} {s} {at} h w = subst (PropertyReads p s at) h w
-
-pub property-fail : {p : Parse Property} (s : List ℕ) (at : ℕ) {r : PropertyRead} → r ≡ read.NoProperty → PropertyReads p s at r → p ≡ fail
-property-fail {p} s at h w = subst (PropertyReads p s at) h w
 
 -- ---- the strategy
 

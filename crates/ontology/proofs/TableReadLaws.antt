@@ -1,5 +1,5 @@
 -- The laws of a table: its types one by one, in the order of their names, and the type of a name among them.
-use mathlib.Core.Path.{◌≡◌, refl, sym, ap, ◌∙◌, subst}
+use mathlib.Core.Path.{◌≡◌, refl, sym, ap, ap₂, ◌∙◌, subst}
 use mathlib.Core.Bool.{Bool, true, false, cond, not, ◌&&◌}
 use mathlib.Core.Option.{Option, none, some}
 use mathlib.Core.List.{List, [], ◌∷◌, ◌++◌, map, append-nil}
@@ -7,9 +7,8 @@ use Prim.Native.Nat.{ℕ, ◌-◌, ◌≤◌, ◌<◌}
 use native.Mathlib.Omega.{arith}
 use lib.ListN.{length, drop, drop_of_length-le}
 use lib.Dec.{leb}
-use borrow.Author.Tests.{not-true, not-false}
 use Rattle.model.specs.Order.{Text, texts, equal, rising}
-use Rattle.model.proofs.Cases.{and_parts, never}
+use Rattle.model.proofs.Cases.{and_parts}
 use Rattle.packed.specs.Parse.{Parse, fail, got, Layout, and_then, found_if, such_that, times}
 use Rattle.packed.specs.Packed.{read_number, part, is_within}
 use Rattle.packed.proofs.LayoutLaws.{such_that-got}
@@ -23,52 +22,15 @@ use Rattle.ontology.specs.Table.{EventType, Table, is_name, is_name_within, name
 use Rattle.ontology.specs.TableLayout.{read_type, read_table, table_of}
 use Rattle.ontology.specs.TableCall.{reply_to_table, table_call}
 use Rattle.ontology.specs.declared.types.TypeIndex.{TypeIndex}
-use Rattle.ontology.specs.declared.types.TypeRead.{TypeRead}
 use Rattle.ontology.specs.declared.tables.TableRead.{TableRead}
-use Rattle.ontology.specs.code.TypeIndex.{TypeIs, TypeStops, TypeReads, TypeSays, TableSays}
+use Rattle.ontology.specs.code.TypeIndex.{TypeIs, TypeStops, TypeSays, TableSays}
 use Rattle.ontology.proofs.RunLaws.{prepend, prepend-nil, prepend-two, such-stop, such-bad, such-more, such-end}
 use Rattle.ontology.proofs.TurnLaws.{rise-step, rise-from}
 use Rattle.ontology.proofs.TypeLaws.{rules-hold}
 
--- ---- what a caller of `read_type` has
-
+-- a type that meets its rules
 abbrev read_ruled : Layout EventType
 read_ruled = such_that type_rules read_type
-
-pub record TypeGot (s : List ℕ) (at : ℕ) (keep : Bool) (ps : List ℕ) (r : TypeRead) : Type 0 where
-  pub what : EventType
-  pub left : List ℕ
-  pub is : read_ruled (drop at s) ≡ got what (drop r.next s)
-  pub stops : TypeStops s at what left keep ps r
-
-pub type-got :
-    {s : List ℕ} {at : ℕ} {keep : Bool} {ps : List ℕ} {r : TypeRead} → TypeReads (read_ruled (drop at s)) s at keep ps r → not r.ok ≡ false →
-    TypeGot s at keep ps r
-unfolding TypeReads
-type-got {s} {at} {keep} {ps} {r} w n = let h = not-false r.ok n in go h (read_ruled (drop at s)) refl w
-  where
-    go : r.ok ≡ true → (q : Parse EventType) → read_ruled (drop at s) ≡ q → TypeReads q s at keep ps r → TypeGot s at keep ps r
-    go h fail e k = never (cc)
-    go h (got t u) e k = record { what = t; left = u; is = e ∙ ap (got t) k.follows; stops = k }
-
-module _
-    (s : List ℕ) (at : ℕ) (keep : Bool) (ps : List ℕ) (r : TypeRead) (w : TypeReads (read_ruled (drop at s)) s at keep ps r) (n : not r.ok ≡ false)
-  where
-    good : TypeGot s at keep ps r
-    good = type-got w n
-
-    pub type-order : r.index.start ≤ r.index.end
-    type-order = good.stops.order
-
-    pub type-ends : r.index.end ≤ length s
-    type-ends = good.stops.ends
-
-type-not :
-    (p : Parse EventType) (s : List ℕ) (at : ℕ) (keep : Bool) (ps : List ℕ) (r : TypeRead) → TypeReads p s at keep ps r → r.ok ≡ false →
-    p ≡ fail
-unfolding TypeReads
-type-not fail s at keep ps r k h = refl
-type-not (got t u) s at keep ps r k h = never (cc k.right)
 
 -- ---- the types that are left, each name above the one before
 
@@ -150,12 +112,12 @@ pub record Listed (s : List ℕ) (name : Text) (ps : List ℕ) (r : TableRead) (
   pub says : TypeSays (type_named name before) s ps r
 
 pub listed-none :
-    (s : List ℕ) (name : Text) (ps : List ℕ) (r : TableRead) {n next : ℕ} → Got (such_that (is_within 1 16) read_number (drop 0 s)) s 0 n next →
-    r.ok ≡ false → r.found ≡ false → Listed s name ps r n next 0 0
+    (s : List ℕ) (name : Text) (ps : List ℕ) (r : TableRead) {n left next : ℕ} → Got (such_that (is_within 1 16) read_number (drop 0 s)) s 0 n next →
+    n ≡ left → r.ok ≡ false → r.found ≡ false → Listed s name ps r left next 0 0
 unfolding TypeSays type_named
-listed-none s name ps r {n} {next} g h k = record {
+listed-none s name ps r {n} {left} {next} g e h k = record {
   before = [];
-  rest = table-from s g ∙ prepend-nil (types_from [] n (drop next s));
+  rest = table-from s g ∙ prepend-nil (types_from [] n (drop next s)) ∙ ap (λ (m : ℕ). prepend [] (types_from [] m (drop next s))) e;
   within = g.within;
   order = omega arith;
   ends = omega arith;
@@ -168,44 +130,40 @@ module _ {s : List ℕ} {name : Text} {ps : List ℕ} {r : TableRead} {left at s
   failed : (qs : List ℕ) → types_from (part s start end) left (drop at s) ≡ fail → TableSays (table_of s) s name qs r
   failed qs e = table-fail s name qs r (w.rest ∙ ap (prepend w.before) e) w.unset
 
-  pub listed-bad :
-      (keep : Bool) (ps' qs : List ℕ) (t : TypeRead) → 0 < left → TypeReads (read_ruled (drop at s)) s at keep ps' t → not t.ok ≡ true →
-      TableSays (table_of s) s name qs r
-  listed-bad keep ps' qs t h k n =
-      failed qs (types-none (part s start end) left (drop at s) h (type-not (read_ruled (drop at s)) s at keep ps' t k (not-true _ n)))
+  pub listed-bad : (qs : List ℕ) → 0 < left → read_ruled (drop at s) ≡ fail → TableSays (table_of s) s name qs r
+  listed-bad qs h e = failed qs (types-none (part s start end) left (drop at s) h e)
 
-  -- a further type is read into the numbers ps', which stay where the type of the name is found, and b says whether its name comes after the last one
+  -- a further type is read into the numbers ps', which stay where the type of the name is found
   module _
-      {ps' : List ℕ} {t : TypeRead} (h : 0 < left) (g : TypeGot s at (not r.found) ps' t) {b : Bool}
-      (told : b ≡ precedes (part s start end) (part s t.index.start t.index.end))
+      {ps' : List ℕ} {x : TypeIndex} {next : ℕ} (h : 0 < left) (g : TypeStops (read_ruled (drop at s)) s at (not r.found) ps' x next)
     where
       -- the names, where the type's stands in the bytes
-      named_here : {c : Bool} → b ≡ c → precedes (part s start end) g.what.name ≡ c
-      named_here e = ap (precedes (part s start end)) (sym g.stops.name) ∙ sym told ∙ e
+      named_here : {b : Bool} → b ≡ precedes (part s start end) (part s x.start x.end) → precedes (part s start end) g.what.name ≡ b
+      named_here e = ap (precedes (part s start end)) (sym g.name) ∙ sym e
 
-      pub listed-low : (qs : List ℕ) → not b ≡ true → TableSays (table_of s) s name qs r
-      listed-low qs n = failed qs (types-low (part s start end) left (drop at s) g.what (drop t.next s) h g.is (named_here (not-true _ n)))
+      pub listed-low : (qs : List ℕ) → false ≡ precedes (part s start end) (part s x.start x.end) → TableSays (table_of s) s name qs r
+      listed-low qs n = failed qs (types-low (part s start end) left (drop at s) g.what (drop next s) h g.stops.is (named_here n))
 
       pub listed_more :
-          {q : TableRead} → not b ≡ false → q.ok ≡ r.ok →
+          {q : TableRead} {others : ℕ} → left - 1 ≡ others → true ≡ precedes (part s start end) (part s x.start x.end) → q.ok ≡ r.ok →
           ((ts : List EventType) (u : EventType) (ns : List ℕ) → TypeSays (type_named name ts) s ns r →
-          (r.found ≡ false → TypeIs s u t.index ns) →
+          (r.found ≡ false → TypeIs s u x ns) →
           TypeSays (type_named name (ts ++ (u ∷ []))) s ns q) →
-          (not r.found ≡ false → ps' ≡ ps) → Listed s name ps' q (left - 1) t.next t.index.start t.index.end
-      listed_more n o kept stay = record {
+          (not r.found ≡ false → ps' ≡ ps) → Listed s name ps' q others next x.start x.end
+      listed_more {others = others} e n o kept stay = record {
         before = w.before ++ (g.what ∷ []);
         rest =
             w.rest
-            ∙ ap (prepend w.before) (types_more (part s start end) left (drop at s) g.what (drop t.next s) h g.is (named_here (not-false _ n)))
-            ∙ prepend-two w.before (g.what ∷ []) (types_from g.what.name (left - 1) (drop t.next s))
-            ∙ ap (λ (v : Text). prepend (w.before ++ (g.what ∷ [])) (types_from v (left - 1) (drop t.next s))) (sym g.stops.name);
+            ∙ ap (prepend w.before) (types_more (part s start end) left (drop at s) g.what (drop next s) h g.stops.is (named_here n))
+            ∙ prepend-two w.before (g.what ∷ []) (types_from g.what.name (left - 1) (drop next s))
+            ∙ ap₂ (λ (v : Text) (n : ℕ). prepend (w.before ++ (g.what ∷ [])) (types_from v n (drop next s))) (sym g.name) e;
         within = g.stops.within;
-        order = g.stops.order;
-        ends = g.stops.ends;
+        order = g.order;
+        ends = g.ends;
         unset = o ∙ w.unset;
         says =
             kept w.before g.what ps' (says-stay (type_named name w.before) s ps ps' r w.says (λ e. stay (ap not e)))
-            (λ e. g.stops.is (ap not e));
+            (λ e. g.is (ap not e));
       }
 
   listed-all : left ≤ 0 → read_table s ≡ got w.before (drop at s)
@@ -273,20 +231,20 @@ module _ (n : Text) (ts : List EventType) (t : EventType) (s ps : List ℕ) (r :
       go (some u) k = let y = k.0 in let z : ◌≡◌ {A = ℕ} 0 1 = cc in absurd (omega arith)
 
   -- x is the next type, whose name stands in the bytes
-  module _
-      (x : TypeIndex) (h : r.found ≡ false) (is : r.found ≡ false → TypeIs s t x ps) {e : Bool}
-      (told : e ≡ equal texts n (part s x.start x.end))
-    where
-      now-named : {b : Bool} → e ≡ b → type_named n (ts ++ (t ∷ [])) ≡ cond b (some t) none
-      now-named e = named_none n ts t (none_yet h) ∙ ap (λ (b : Bool). cond b (some t) none) (ap (equal texts n) (sym (is h).name) ∙ sym told ∙ e)
+  module _ (x : TypeIndex) (h : r.found ≡ false) (is : r.found ≡ false → TypeIs s t x ps) where
+    now-named : {b : Bool} → b ≡ equal texts n (part s x.start x.end) → type_named n (ts ++ (t ∷ [])) ≡ cond b (some t) none
+    now-named e =
+        named_none n ts t (none_yet h) ∙ ap (λ (b : Bool). cond b (some t) none) (ap (equal texts n) (sym (is h).name) ∙ sym e)
 
-      pub keep-new : e ≡ true → TypeSays (type_named n (ts ++ (t ∷ []))) s ps (record { ok = r.ok; found = true; index = x })
-      unfolding TypeSays
-      keep-new e = rw (now-named e) (refl, is h)
+    pub keep-new :
+        true ≡ equal texts n (part s x.start x.end) →
+        TypeSays (type_named n (ts ++ (t ∷ []))) s ps (record { ok = r.ok; found = true; index = x })
+    unfolding TypeSays
+    keep-new e = rw (now-named e) (refl, is h)
 
-      pub keep-none : e ≡ false → TypeSays (type_named n (ts ++ (t ∷ []))) s ps r
-      unfolding TypeSays
-      keep-none e = rw (now-named e) h
+    pub keep-none : false ≡ equal texts n (part s x.start x.end) → TypeSays (type_named n (ts ++ (t ∷ []))) s ps r
+    unfolding TypeSays
+    keep-none e = rw (now-named e) h
 
 -- ---- the call
 

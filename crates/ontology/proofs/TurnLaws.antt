@@ -7,7 +7,7 @@ use Prim.Native.Nat.{ℕ, zero, suc, ◌-◌, ◌<◌, Ordering}
 use native.Mathlib.Omega.{arith}
 use lib.ListN.{length, get_elem?}
 use lib.Dec.{ltb, leb, eqb, leb-zero, leb-suc-zero, leb-suc-suc}
-use borrow.Author.Tests.{lt-ltb, ne_eqb, not-true, not-false}
+use borrow.Author.Tests.{lt-ltb, ne_eqb}
 use Rattle.model.specs.Order.{Text, texts, lists, lex, rising, pick}
 use Rattle.model.proofs.Cases.{never, and-true, and-false}
 use Rattle.packed.specs.Parse.{fail, got, Layout, times}
@@ -46,40 +46,14 @@ rise-from p f named n s (x ∷ xs) r e = let a = times-first p n s x xs r e in g
 
 -- ---- a property in its turn
 
--- its rules, by the answers on its name, which stands in the bytes s, and on its strategy, and by whether it is marked
-fits-by :
-    {s : List ℕ} {q : Property} {x : PropertyAt} (versioned : Bool) {marked a b m : Bool} (last : Text) → PropertyIs s q x →
-    precedes last (part s x.start x.end) ≡ a → strategy_fits versioned q ≡ b → marked ≡ m →
-    property_fits versioned marked last q ≡ (a && b && (not m || can_be_marked q))
+-- its rules, where its name stands in the bytes s
+pub fits-by :
+    {s : List ℕ} {q : Property} {x : PropertyAt} (versioned marked : Bool) (last : Text) → PropertyIs s q x →
+    property_fits versioned marked last q
+    ≡ (precedes last (part s x.start x.end) && strategy_fits versioned q && (not marked || can_be_marked q))
 unfolding property_fits
-fits-by {q = q} versioned {marked} {a} {b} last w h k l =
-    ap₂ (λ (a b : Bool). a && b && (not marked || can_be_marked q)) (ap (precedes last) (sym w.name) ∙ h) k
-    ∙ ap (λ (y : Bool). a && b && (not y || can_be_marked q)) l
-
--- the returns of `property_fits`: what was answered on the index, and how
-module _
-    {s : List ℕ} {q : Property} {x : PropertyAt} (versioned marked : Bool) (last : Text) (w : PropertyIs s q x) {a : Bool}
-    (name : a ≡ precedes last (part s x.start x.end))
-  where
-    pub fits_low : not a ≡ true → false ≡ property_fits versioned marked last q
-    fits_low n = sym (fits-by versioned last w (sym name ∙ not-true _ n) refl refl)
-
-    module _
-        (rises : not a ≡ false) {b : Bool} (strategy : (s : List ℕ) (q : Property) → PropertyIs s q x → b ≡ strategy_fits versioned q)
-      where
-        told : {m b' : Bool} → b ≡ b' → marked ≡ m → property_fits versioned marked last q ≡ (b' && (not m || can_be_marked q))
-        told e = fits-by versioned last w (sym name ∙ not-false _ rises) (sym (strategy _ q w) ∙ e)
-
-        pub fits-unfit : not b ≡ true → false ≡ property_fits versioned marked last q
-        fits-unfit n = sym (told (not-true _ n) refl)
-
-        pub fits-marked :
-            not b ≡ false → marked ≡ true → {m : Bool} → ((s : List ℕ) (q : Property) → PropertyIs s q x → m ≡ can_be_marked q) →
-            m ≡ property_fits versioned marked last q
-        fits-marked n h m = m _ q w ∙ sym (told (not-false _ n) h)
-
-        pub fits-unmarked : not b ≡ false → marked ≡ false → true ≡ property_fits versioned marked last q
-        fits-unmarked n h = sym (told (not-false _ n) h)
+fits-by {q = q} versioned marked last w =
+    ap (λ (name : Text). precedes last name && strategy_fits versioned q && (not marked || can_be_marked q)) (sym w.name)
 
 -- ---- properties that meet their rules, read one by one
 

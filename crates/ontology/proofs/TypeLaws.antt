@@ -8,7 +8,7 @@ use Prim.Native.Nat.{ℕ, ◌+◌, ◌-◌, ◌≤◌, ◌<◌}
 use native.Mathlib.Omega.{arith}
 use lib.ListN.{length, drop, get_elem?, length-append}
 use lib.Dec.{ltb, leb, eqb}
-use borrow.Author.Tests.{le-leb, leb-true, eq-eqb, ne_eqb, eqb-true, eqb-false, not-true, not-false}
+use borrow.Author.Tests.{le-leb, leb-true, eq-eqb, ne_eqb, eqb-true, eqb-false}
 use Rattle.model.specs.Order.{Text}
 use Rattle.model.proofs.Cases.{never, truth, and_parts}
 use Rattle.packed.specs.Parse.{Parse, fail, got, Layout, and_then, found, found_if, such_that, times}
@@ -16,30 +16,16 @@ use Rattle.packed.specs.Packed.{read_number, read_text, part, is_within}
 use Rattle.packed.proofs.LayoutLaws.{and_then-got, such_that-got}
 use Rattle.packed.specs.code.Located.{NameStops}
 use Rattle.packed.proofs.FieldLaws.{then-none, within-bounds, is_within_lem}
-use Rattle.values.specs.declared.versions.DefinitionVersion.{DefinitionVersion}
 use Rattle.ontology.specs.Table.{Property, EventType, is_name_within, names_rise, all_fit, mark_fits, is_versioned, type_rules}
 use Rattle.ontology.specs.TableLayout.{read_property, read_type}
 use Rattle.ontology.specs.declared.properties.PropertyAt.{PropertyAt}
-use Rattle.ontology.specs.declared.types.HeadRead.{HeadRead}
-use Rattle.ontology.specs.declared.types.HeadRead.TheVariants.{Head, NoHead}
-use Rattle.ontology.specs.declared.types.PropertiesRead.{PropertiesRead}
-use Rattle.ontology.specs.declared.types.PropertiesRead.TheVariants.{Properties, NoProperties}
 use Rattle.ontology.specs.declared.types.TypeIndex.{TypeIndex}
-use Rattle.ontology.specs.declared.types.TypeRead.{TypeRead}
-use Rattle.ontology.specs.code.TypeIndex.{PropertyIs, PropertyStops, property_in, PropertiesStop, PropertiesSay}
-use Rattle.ontology.specs.code.TypeIndex.{property_fits, fit_in_turn, fitting_from, read_fitting, property_rules, type_of, HeadStops, HeadReads, TypeReads}
+use Rattle.ontology.specs.code.TypeIndex.{PropertyIs, PropertyStops, property_in, PropertiesStop}
+use Rattle.ontology.specs.code.TypeIndex.{property_fits, fit_in_turn, fitting_from, read_fitting, property_rules, type_of, HeadStops, TypeReads}
+use Rattle.std.specs.Bool.{then_some}
 use Rattle.ontology.proofs.OnwardLaws.{Onward, on-first}
 use Rattle.ontology.proofs.RunLaws.{prepend, prepend-nil, prepend-two, times-length, snoc-at}
 use Rattle.ontology.proofs.TurnLaws.{fitting-stop, fitting-end, fitting-not, fitting-more, rules-in-turn}
-
--- what is known of a call's answer in the arm of a `match`
-pub head-got :
-    {s : List ℕ} {at : ℕ} {r : HeadRead} {a e : ℕ} {d : DefinitionVersion} {m n f : ℕ} → r ≡ Head a e d m n f → HeadReads s at r →
-    HeadStops s at a e d m n f
-head-got {s} {at} h w = subst (HeadReads s at) h w
-
-pub head-fail : (s : List ℕ) (at : ℕ) {r : HeadRead} → r ≡ NoHead → HeadReads s at r → such_that type_rules read_type (drop at s) ≡ fail
-head-fail s at h w = subst (HeadReads s at) h w
 
 -- ---- the rules of a type
 
@@ -325,36 +311,34 @@ module _
     }
 
     module _ {x : PropertyAt} {e : ℕ} (h : k < count) (t : PropertyStops (read_property (drop next s)) s next x e) where
-      -- b is the answer of `property_fits`
+      -- `property_fits` answered b
       abbrev Fits : Bool → Type 0
       Fits b = (q : Property) → PropertyIs s q x → b ≡ property_fits (ltb 0 mark) (eqb (k + 1) mark) (part s start end) q
 
       -- the same with the mark counted from here
-      fits-here : {b d : Bool} → Fits b → b ≡ d → property_fits (ltb 0 mark) (eqb (mark - k) 1) (part s start end) t.what ≡ d
-      fits-here f e =
-          ap (λ (m : Bool). property_fits (ltb 0 mark) m (part s start end) t.what) (sym (mark-here mark k)) ∙ sym (f t.what t.is) ∙ e
+      fits-here : {b : Bool} → Fits b → property_fits (ltb 0 mark) (eqb (mark - k) 1) (part s start end) t.what ≡ b
+      fits-here f = ap (λ (m : Bool). property_fits (ltb 0 mark) m (part s start end) t.what) (sym (mark-here mark k)) ∙ sym (f t.what t.is)
 
-      pub filled-not : {b : Bool} → Fits b → not b ≡ true → p ≡ fail
-      filled-not f e =
+      pub filled-not : Fits false → p ≡ fail
+      filled-not f =
           whole_by
-          (fitting-not (ltb 0 mark) (mark - k) (part s start end) (count - k) (drop next s) t.what _ (omega arith) t.stops.is
-          (fits-here f (not-true _ e)))
+          (fitting-not (ltb 0 mark) (mark - k) (part s start end) (count - k) (drop next s) t.what _ (omega arith) t.stops.is (fits-here f))
 
       -- what is left after it, with the mark m, the last name v and n properties
       abbrev after : ℕ → Text → ℕ → Parse (List Property)
       after m v n = prepend (w.before ++ (t.what ∷ [])) (fitting_from (ltb 0 mark) m v n (drop e s))
 
       pub filled_more :
-          {b : Bool} {ys : List ℕ} → Fits b → not b ≡ false → Placed keep k x xs ys →
+          {ys : List ℕ} → Fits true → Placed keep k x xs ys →
           Filled p s at mark keep xs₀ ys e x.start x.end (k + 1) count
-      filled_more {b} {ys} f o d = record {
+      filled_more {ys} f d = record {
         before = w.before ++ (t.what ∷ []);
         long = length-append w.before (t.what ∷ []) ∙ ap (λ (n : ℕ). n + 1) w.long;
         few = omega arith;
         rest =
             whole_by
             (fitting-more (ltb 0 mark) (mark - k) (part s start end) (count - k) (drop next s) t.what (drop e s) (omega arith) t.stops.is
-            (fits-here f (not-false _ o)))
+            (fits-here f))
             ∙ prepend-two w.before (t.what ∷ []) (fitting_from (ltb 0 mark) (mark - k - 1) t.what.name (count - k - 1) (drop e s))
             ∙ ap₂ (λ (m n : ℕ). after m t.what.name n)
             (let z : mark - k - 1 ≡ mark - (k + 1) = omega arith in z) (let z : count - k - 1 ≡ count - (k + 1) = omega arith in z)
@@ -380,57 +364,40 @@ module _
               let g : property_in ys i ≡ x = ap (λ (j : ℕ). property_in ys j) (sym b) ∙ d.here o in
               subst (PropertyIs s q) (sym g) (subst (λ (u : Property). PropertyIs s u x) a.1 t.is)
 
--- what the reader of some properties answered
-pub properties-got :
-    {p : Parse (List Property)} {s : List ℕ} {at n : ℕ} {keep : Bool} {xs : List ℕ} {r : PropertiesRead} {next : ℕ} →
-    r ≡ Properties next → PropertiesSay p s at n keep xs r → PropertiesStop p s at n next keep xs
-properties-got {p} {s} {at} {n} {keep} {xs} e w = subst (PropertiesSay p s at n keep xs) e w
-
-pub properties-fail :
-    (p : Parse (List Property)) (s : List ℕ) (at n : ℕ) (keep : Bool) (xs : List ℕ) {r : PropertiesRead} →
-    r ≡ NoProperties → PropertiesSay p s at n keep xs r → p ≡ fail
-properties-fail p s at n keep xs e w = subst (PropertiesSay p s at n keep xs) e w
-
 -- ---- the type
 
-pub type-none :
-    (p : Parse EventType) (s : List ℕ) (at : ℕ) (keep : Bool) (ps : List ℕ) (r : TypeRead) → p ≡ fail → r.ok ≡ false →
-    TypeReads p s at keep ps r
-unfolding TypeReads
-type-none p s at keep ps r e h = rw e h
-
-module _
-    {s : List ℕ} {at start end : ℕ} {definition : DefinitionVersion} {mark count next : ℕ} (w : HeadStops s at start end definition mark count next) where
+-- what stands before the properties is read
+module _ {s : List ℕ} {at : ℕ} {x : TypeIndex} {next : ℕ} (w : HeadStops s at x.start x.end x.definition x.mark x.count next) where
   -- the type, by what its properties come to
   type-by :
-      {q : Parse (List Property)} → read_fitting mark count (drop next s) ≡ q →
-      such_that type_rules read_type (drop at s) ≡ and_then q (λ qs. found_if (leb mark count) (type_of (part s start end) definition.0 mark qs))
-  type-by e = w.is ∙ ap (λ (q : Parse (List Property)). and_then q (λ qs. found_if (leb mark count) (type_of (part s start end) definition.0 mark qs))) e
+      {q : Parse (List Property)} → read_fitting x.mark x.count (drop next s) ≡ q →
+      such_that type_rules read_type (drop at s)
+      ≡ and_then q (λ qs. found_if (leb x.mark x.count) (type_of (part s x.start x.end) x.definition.0 x.mark qs))
+  type-by e =
+      w.is
+      ∙ ap (λ (q : Parse (List Property)). and_then q (λ qs. found_if (leb x.mark x.count) (type_of (part s x.start x.end) x.definition.0 x.mark qs))) e
 
-  pub type-short : read_fitting mark count (drop next s) ≡ fail → such_that type_rules read_type (drop at s) ≡ fail
+  pub type-short : read_fitting x.mark x.count (drop next s) ≡ fail → such_that type_rules read_type (drop at s) ≡ fail
   type-short e = type-by e
 
-  module _ {after : ℕ} {keep : Bool} {xs : List ℕ} (u : PropertiesStop (read_fitting mark count (drop next s)) s next count after keep xs) where
+  -- and so are the properties, up to `after`
+  module _ {after : ℕ} {keep : Bool} {xs : List ℕ} (u : PropertiesStop (read_fitting x.mark x.count (drop next s)) s next x.count after keep xs) where
     -- the type that was read, if its mark is at most their count
     abbrev pub headed : EventType
-    headed = type_of (part s start end) definition.0 mark u.what
+    headed = type_of (part s x.start x.end) x.definition.0 x.mark u.what
 
-    abbrev pub indexed : TypeIndex
-    indexed = record { start = start; end = end; definition = definition; mark = mark; count = count }
+    type-if : {b : Bool} → leb x.mark x.count ≡ b → such_that type_rules read_type (drop at s) ≡ cond b (got headed (drop after s)) fail
+    type-if e = type-by u.is ∙ ap (λ (b : Bool). cond b (got headed (drop after s)) fail) e
 
-    pub type_reads : TypeReads (such_that type_rules read_type (drop at s)) s at keep xs (record { ok = leb mark count; next = after; index = indexed })
-    unfolding TypeReads
-    type_reads = rw (type-by u.is) (go (leb mark count))
-      where
-        go : (b : Bool) → TypeReads (cond b (got headed (drop after s)) fail) s at keep xs (record { ok = b; next = after; index = indexed })
-        go true = record {
-          right = refl;
-          follows = refl;
-          after = omega (arith, w.after, u.after);
-          within = u.within;
+    pub type-reads : TypeReads (such_that type_rules read_type (drop at s)) s at keep xs (then_some (leb x.mark x.count) (x, after))
+    type-reads =
+        truth (leb x.mark x.count)
+        (λ h. rw h (record {
+          what = headed;
+          stops = record { is = type-if h; after = omega (arith, w.after, u.after); within = u.within };
           name = refl;
           order = w.order;
           ends = w.ends;
           is = λ o. record { name = refl; order = w.order; within = w.ends; definition = refl; mark = refl; are = u.are o };
-        }
-        go false = refl
+        }))
+        (λ h. rw h (type-if h))

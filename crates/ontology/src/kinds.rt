@@ -5,47 +5,40 @@ ghost use Rattle.values.specs.Spaces.{decimal_number, is_width, is_kind};
 ghost use Rattle.ontology.specs.TableLayout.{read_parameters, read_kind};
 ghost use Rattle.ontology.specs.code.TypeIndex.{HasOne, parameter_fits, KindReads};
 
-use crate::fields::{FlagAt, read_flag};
-use packed::read::{NumberAt, read_number};
+use crate::fields::read_flag;
+use packed::read::read_number;
 use values::kinds::{BOOLEAN, CURRENCY, DECIMAL, HEX, SIGNED, STRING, UNSIGNED};
 
-// A kind's number and its parameters, those that it has not as 0, and the position after them.
-#[derive(Clone, Copy)]
-pub enum KindRead {
-    OfKind {
-        kind: u8,
-        size: u8,
-        after: u8,
-        sign: u8,
-        next: usize,
-    },
-    NoKind,
+// A kind's number and its parameters, those that it has not as 0.
+#[derive(Clone, Copy, PartialEq, Eq)]
+pub struct KindAt {
+    pub kind: u8,
+    pub size: u8,
+    pub after: u8,
+    pub sign: u8,
 }
 
+#[tactic(auto, unfolding(values::specs::Spaces::is_width))]
 fn is_width(n: u64) -> bool
     ensures { result ≡ is_width n }
 {
-    match n {
-        1..=4 => true,
-        8 => true,
-        _ => false,
-    }
+    matches!(n, 1..=4 | 8)
 }
 
 fn is_size(n: u64, most: u64) -> bool
     ensures { result ≡ is_within 1 most n }
 {
-    if n == 0 { false } else { n <= most }
+    0 < n && n <= most
 }
 
 // Whether the only parameter of a kind with one is in its range.
+#[tactic(auto, unfolding(crate::specs::code::TypeIndex::parameter_fits))]
 fn parameter_fits(kind: u8, n: u64) -> bool
     ensures { result ≡ parameter_fits kind n }
 {
     if kind <= SIGNED {
-        return is_width(n);
-    }
-    if kind == STRING {
+        is_width(n)
+    } else if kind == STRING {
         is_size(n, 120)
     } else {
         is_size(n, 60)
@@ -53,23 +46,23 @@ fn parameter_fits(kind: u8, n: u64) -> bool
 }
 
 // A kind with one parameter.
-fn read_parameter(s: &[u8], at: usize, kind: u8) -> KindRead
+fn read_parameter(s: &[u8], at: usize, kind: u8) -> Option<(KindAt, usize)>
     requires { HasOne kind }
     ensures { KindReads (such_that is_kind (read_parameters kind) (drop at s.now)) s.now at result }
 {
-    let NumberAt::Number(n, next) = read_number(s, at) else {
-        return KindRead::NoKind;
-    };
+    let (n, next) = read_number(s, at)?;
     if parameter_fits(kind, n) {
-        KindRead::OfKind {
-            kind,
-            size: n as u8,
-            after: 0,
-            sign: 0,
+        Some((
+            KindAt {
+                kind,
+                size: n as u8,
+                after: 0,
+                sign: 0,
+            },
             next,
-        }
+        ))
     } else {
-        KindRead::NoKind
+        None
     }
 }
 
@@ -77,65 +70,49 @@ fn read_parameter(s: &[u8], at: usize, kind: u8) -> KindRead
 fn digits_fit(total: u64, after: u64) -> bool
     ensures { result ≡ (is_within 2 38 total && is_within 1 (total - 1) after) }
 {
-    if total < 2 {
-        return false;
-    }
-    if 38 < total {
-        return false;
-    }
-    is_size(after, total - 1)
+    2 <= total && total <= 38 && is_size(after, total - 1)
 }
 
 // A decimal's parameters.
-fn read_decimal(s: &[u8], at: usize) -> KindRead
+fn read_decimal(s: &[u8], at: usize) -> Option<(KindAt, usize)>
     ensures { KindReads (such_that is_kind (read_parameters decimal_number) (drop at s.now)) s.now at result }
 {
-    let NumberAt::Number(total, after_total) = read_number(s, at) else {
-        return KindRead::NoKind;
-    };
-    let NumberAt::Number(after, after_point) = read_number(s, after_total) else {
-        return KindRead::NoKind;
-    };
-    let FlagAt::Flag(sign, next) = read_flag(s, after_point) else {
-        return KindRead::NoKind;
-    };
+    let (total, after_total) = read_number(s, at)?;
+    let (after, after_point) = read_number(s, after_total)?;
+    let (sign, next) = read_flag(s, after_point)?;
     if digits_fit(total, after) {
-        KindRead::OfKind {
-            kind: DECIMAL,
-            size: total as u8,
-            after: after as u8,
-            sign: sign as u8,
+        Some((
+            KindAt {
+                kind: DECIMAL,
+                size: total as u8,
+                after: after as u8,
+                sign: sign as u8,
+            },
             next,
-        }
+        ))
     } else {
-        KindRead::NoKind
+        None
     }
 }
 
 // A kind with its parameters.
-pub fn read_kind(s: &[u8], at: usize) -> KindRead
+pub fn read_kind(s: &[u8], at: usize) -> Option<(KindAt, usize)>
     ensures { KindReads (read_kind (drop at s.now)) s.now at result }
 {
-    let NumberAt::Number(n, next) = read_number(s, at) else {
-        return KindRead::NoKind;
-    };
-    if (HEX as u64) < n {
-        return KindRead::NoKind;
-    }
-    let kind = n as u8;
+    let (n, next) = read_number(s, at)?;
+    let kind = u8::try_from(n).ok()?;
     match kind {
-        UNSIGNED => read_parameter(s, next, UNSIGNED),
-        SIGNED => read_parameter(s, next, SIGNED),
+        UNSIGNED | SIGNED | STRING | HEX => read_parameter(s, next, kind),
         DECIMAL => read_decimal(s, next),
-        CURRENCY..=BOOLEAN => KindRead::OfKind {
-            kind,
-            size: 0,
-            after: 0,
-            sign: 0,
+        CURRENCY..=BOOLEAN => Some((
+            KindAt {
+                kind,
+                size: 0,
+                after: 0,
+                sign: 0,
+            },
             next,
-        },
-        STRING => read_parameter(s, next, STRING),
-        HEX => read_parameter(s, next, HEX),
-        _ => KindRead::NoKind,
+        )),
+        _ => None,
     }
 }

@@ -4,12 +4,12 @@ ghost use Rattle.packed.specs.Packed.{read_number, is_within};
 ghost use Rattle.packed.specs.code.Located.{NumberReads};
 ghost use Rattle.ontology.specs.Table.{min, any, strategy_number};
 ghost use Rattle.ontology.specs.TableLayout.{read_property};
-ghost use Rattle.ontology.specs.code.TypeIndex.{has_max, has_extreme, has_replace, has_match, PropertyReads, bit_of, code_of, property_in};
+ghost use Rattle.ontology.specs.code.TypeIndex.{has_max, has_extreme, has_replace, has_match, PropertyReads, code_of, property_in};
 
-use crate::fields::{FlagAt, read_flag};
-use crate::kinds::{KindRead, read_kind};
+use crate::fields::read_flag;
+use crate::kinds::read_kind;
 use crate::names::read_name;
-use packed::read::{NumberAt, TextAt, read_within};
+use packed::read::{TextAt, read_within};
 
 // "strategy 1 min, 2 max, 3 add, 4 replace, 5 match, 6 set, 7 any"
 pub const MIN: u8 = 1;
@@ -40,13 +40,6 @@ pub struct PropertyAt {
     pub strategy: u8,
 }
 
-// A property and the position after it.
-#[derive(Clone, Copy)]
-pub enum PropertyRead {
-    Property(PropertyAt, usize),
-    NoProperty,
-}
-
 pub fn is_max(p: PropertyAt) -> bool
     ensures { result ≡ has_max p }
 {
@@ -72,20 +65,15 @@ pub fn is_match(p: PropertyAt) -> bool
     p.strategy == MATCH
 }
 
-fn read_strategy(table: &[u8], at: usize) -> NumberAt
+fn read_strategy(table: &[u8], at: usize) -> Option<(u64, usize)>
     ensures { NumberReads (such_that (is_within (strategy_number min) (strategy_number any)) read_number (drop at table.now))
         table.now at result }
 {
     read_within(table, at, MIN as u64, ANY as u64)
 }
 
-fn bit_of(flag: bool) -> usize
-    ensures { result ≡ bit_of flag }
-{
-    if flag { 1 } else { 0 }
-}
-
 // All of a property but its name, as one number: a byte for each of its numbers, and a bit for each of its flags.
+#[tactic(auto, unfolding(crate::specs::code::TypeIndex::bit_of))]
 fn code_of(p: PropertyAt) -> usize
     ensures { result ≡ code_of p }
 {
@@ -94,8 +82,8 @@ fn code_of(p: PropertyAt) -> usize
         + 65536 * p.after as usize
         + 16777216 * p.sign as usize
         + 4294967296 * p.strategy as usize
-        + 1099511627776 * bit_of(p.optional)
-        + 2199023255552 * bit_of(p.multivalued)
+        + 1099511627776 * p.optional as usize
+        + 2199023255552 * p.multivalued as usize
 }
 
 // The properties of a type are lent as 96 numbers, three for each: where its name starts and ends, and all else as one number.
@@ -127,41 +115,25 @@ pub fn put_property(properties: &mut [usize], k: usize, p: PropertyAt)
     properties[3 * k + 2] = code_of(p);
 }
 
-pub fn read_property(table: &[u8], at: usize) -> PropertyRead
+// A property and the position after it.
+pub fn read_property(table: &[u8], at: usize) -> Option<(PropertyAt, usize)>
     ensures { PropertyReads (read_property (drop at table.now)) table.now at result }
 {
-    let TextAt::Text(start, end) = read_name(table, at, 32) else {
-        return PropertyRead::NoProperty;
-    };
-    let KindRead::OfKind {
-        kind,
-        size,
-        after,
-        sign,
-        next: after_kind,
-    } = read_kind(table, end)
-    else {
-        return PropertyRead::NoProperty;
-    };
-    let FlagAt::Flag(optional, after_optional) = read_flag(table, after_kind) else {
-        return PropertyRead::NoProperty;
-    };
-    let FlagAt::Flag(multivalued, after_multivalued) = read_flag(table, after_optional) else {
-        return PropertyRead::NoProperty;
-    };
-    let NumberAt::Number(strategy, after_strategy) = read_strategy(table, after_multivalued) else {
-        return PropertyRead::NoProperty;
-    };
+    let TextAt { start, end } = read_name(table, at, 32)?;
+    let (k, after_kind) = read_kind(table, end)?;
+    let (optional, after_optional) = read_flag(table, after_kind)?;
+    let (multivalued, after_multivalued) = read_flag(table, after_optional)?;
+    let (strategy, after_strategy) = read_strategy(table, after_multivalued)?;
     let p = PropertyAt {
         start,
         end,
-        kind,
-        size,
-        after,
-        sign,
+        kind: k.kind,
+        size: k.size,
+        after: k.after,
+        sign: k.sign,
         optional,
         multivalued,
         strategy: strategy as u8,
     };
-    PropertyRead::Property(p, after_strategy)
+    Some((p, after_strategy))
 }

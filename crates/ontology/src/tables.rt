@@ -7,7 +7,7 @@ ghost use Rattle.ontology.specs.code.TypeIndex.{TypeIs, TypeSays, TableSays};
 
 use crate::types::{TypeIndex, no_type, read_type};
 use packed::order::{is_before, same};
-use packed::read::{NumberAt, read_within};
+use packed::read::read_within;
 use replies::reply::TableReply;
 
 // Whether a table meets every rule, whether it has the type that was named, and the index of that type.
@@ -29,13 +29,11 @@ fn keep(r: TableRead, table: &[u8], name: &[u8], x: TypeIndex) -> TableRead
     if r.found {
         return r;
     }
-    let start = x.start;
-    let end = x.end;
-    if same(name, &table[start..end]) {
+    if same(name, &table[x.start..x.end]) {
         TableRead {
-            ok: r.ok,
             found: true,
             index: x,
+            ..r
         }
     } else {
         r
@@ -53,19 +51,16 @@ pub fn read_table(table: &[u8], name: &[u8], properties: &mut [usize]) -> TableR
         found: false,
         index: no_type(),
     };
-    let NumberAt::Number(count, after_count) = read_within(table, 0, 1, 16) else {
+    let Some((count, after_count)) = read_within(table, 0, 1, 16) else {
         return r;
     };
-    let mut left = count;
     let mut at = after_count;
     let mut start: usize = 0;
     let mut end: usize = 0;
-    while 0 < left {
-        let t = read_type(table, at, !r.found, properties);
-        if !t.ok {
+    for _ in 0..count {
+        let Some((x, next)) = read_type(table, at, !r.found, properties) else {
             return r;
-        }
-        let x = t.index;
+        };
         // the first name comes after the empty one
         if !is_before(table, start, end, x.start, x.end) {
             return r;
@@ -73,8 +68,7 @@ pub fn read_table(table: &[u8], name: &[u8], properties: &mut [usize]) -> TableR
         r = keep(r, table, name, x);
         start = x.start;
         end = x.end;
-        at = t.next;
-        left -= 1;
+        at = next;
     }
     if at == table.len() {
         r.ok = true;

@@ -1,20 +1,27 @@
 -- The laws of a conflict: the lowest place with a differ bit, and the lowest snapshot that has one.
-use mathlib.Core.Path.{◌≡◌, refl, sym, ap, ap₂, ◌∙◌, subst}
-use mathlib.Core.Logic.{◌⊎◌, inl, inr}
+use mathlib.Core.Path.{◌≡◌, refl, sym, ap, ap₂, ◌∙◌}
+use mathlib.Core.Logic.{⊎_elim}
 use mathlib.Core.Bool.{Bool, true, false, cond}
 use mathlib.Core.Option.{Option, none, some}
 use mathlib.Core.List.{List, [], ◌∷◌, map}
-use Prim.Native.Nat.{ℕ, zero, suc, ◌+◌, ◌-◌, ◌/◌, ◌%◌, ◌≤◌, ◌<◌}
+use Prim.Native.Nat.{ℕ, zero, suc, ◌+◌, ◌-◌, ◌/◌, ◌^◌, ◌≤◌, ◌<◌}
+use native.Mathlib.Nat.{add-zero, eq-zero-or-pos}
 use native.Mathlib.Omega.{arith}
 use native.Mathlib.Numerals.{add-one}
 use lib.ListN.{length, take, drop, get_or, drop_of_length-le, get_or-map}
 use lib.Seq.{drop-cons, get_or-take}
-use borrow.Author.Tests.{eq-eqb, ne_eqb}
+use lib.Count.{trailing_of_zero}
+use lib.Dec.{ltb, eqb}
+use borrow.Author.Tests.{lt-ltb, le-ltb}
+use Rattle.std.specs.Bool.{then_some}
+use Rattle.std.specs.Int.{w64, bit_at, trailing_zeros}
+use Rattle.std.proofs.lemmas.Nat.Bits.{bit_at_lowest, bit_at-suc, bit_at-zero, bit_at-trailing_zeros}
 use Rattle.model.specs.Sets.{up_from, up_to}
 use Rattle.model.specs.Rule.{Cell, holds, Snapshot}
 use Rattle.model.specs.Opening as model
 use Rattle.model.specs.Opening.{lowest, is_mark, cell_at, no_conflict, differs_at, marked, or_later, conflict}
 use Rattle.model.proofs.Cases.{never}
+use Rattle.packed.proofs.LayoutLaws.{lt-or-ge}
 use Rattle.values.specs.declared.versions.EventVersion.{EventVersion}
 use Rattle.event.specs.EventLayout.{bit_number}
 use Rattle.dossier.specs.DossierLayout.{Headed}
@@ -23,9 +30,9 @@ use Rattle.dossier.specs.code.DossierIndex.{no_snapshot, no_version, DossierIs}
 use Rattle.dossier.specs.declared.dossiers.DossierIndex.{DossierIndex}
 use Rattle.dossier.proofs.CellLaws.{mark-here, bits-next}
 use Rattle.dossier.proofs.AskLaws.{in_count, past-count}
-use Rattle.opening.specs.code.OpenIndex.{conflict_of}
-use Rattle.opening.specs.declared.conflict.Conflict.{Conflict}
-use Rattle.opening.specs.declared.conflict.Conflict.TheVariants.{Differs, NoConflict}
+use Rattle.opening.specs.code.OpenIndex.{lowest_of, conflict_of}
+use Rattle.std.specs.Prelude as std
+use Rattle.std.specs.Prelude.{Some, None}
 
 -- ---- the lowest of 32 places
 
@@ -55,62 +62,55 @@ module _ (test : ℕ → Bool) where
       go zero k h = refl
       go (suc n) k h = rw (h k (omega arith)) (go n (suc k) (λ i l. h i (omega arith)))
 
-  lowest-end : (k : ℕ) → 32 ≤ k → lowest test (up_from k (32 - k)) ≡ none
+  -- the place k is the first that passes, or no place does where it is past the last
+  lowest-after : (k : ℕ) → k ≤ 32 → ((i : ℕ) → i < k → test i ≡ false) → lowest test (up_to 32) ≡ lowest test (up_from k (32 - k))
+  lowest-after zero h clear = lowest_start
+  lowest-after (suc k) h clear =
+      lowest-after k (omega arith) (λ i l. clear i (omega arith)) ∙ (rw add-one at (lowest-next k (omega arith) (clear k (omega arith))))
+
+  lowest-first :
+      (k : ℕ) → (k < 32 → test k ≡ true) → ((i : ℕ) → i < k → test i ≡ false) →
+      lowest_of (then_some (ltb k 32) k) ≡ lowest test (up_to 32)
   unfolding lowest up_from
-  lowest-end k h = let e : 32 - k ≡ 0 = omega arith in rw e
+  lowest-first k set clear =
+      ⊎_elim
+      (λ (l : k < 32). rw (lt-ltb k 32 l) (sym (lowest-after k (omega arith) clear ∙ lowest-here k l (set l))))
+      (λ (l : 32 ≤ k). rw (le-ltb k 32 l) (sym (lowest-after 32 (omega arith) (λ i m. clear i (omega arith)))))
+      (lt-or-ge k 32)
 
 -- ---- the differ bit of a place
 
 abbrev mark_at : List Cell → ℕ → Bool
 mark_at cs p = is_mark (get_or cs p (holds []))
 
-module _ (cs : List Cell) (k bits : ℕ) (b : bits ≡ bit_number (map differ_bit (drop k cs))) where
-  bit-set : bits % 2 ≡ 1 → mark_at cs k ≡ true
-  bit-set e = sym (mark-here cs k bits b) ∙ eq-eqb (bits % 2) 1 e
+-- bit i of the places from k on is that of place k + i
+mark-from :
+    (cs : List Cell) (i k bits : ℕ) → bits ≡ bit_number (map differ_bit (drop k cs)) → (p : ℕ) → p ≡ k + i →
+    eqb (bit_at bits i) 1 ≡ mark_at cs p
+mark-from cs zero k bits b p e = rw (bit_at_lowest bits, e, add-zero) (mark-here cs k bits b)
+mark-from cs (suc i) k bits b p e = rw (bit_at-suc bits i) (mark-from cs i (k + 1) (bits / 2) (bits-next cs k bits b) p (omega (arith, e)))
 
-  bit-clear : (bits % 2 ≡ 1 → ⊥) → mark_at cs k ≡ false
-  bit-clear e = sym (mark-here cs k bits b) ∙ ne_eqb (bits % 2) 1 e
+module _ (cs : List Cell) (differ : ℕ) (b : differ ≡ bit_number (map differ_bit cs)) where
+  mark : (p : ℕ) {n : ℕ} → bit_at differ p ≡ n → mark_at cs p ≡ eqb n 1
+  mark p e = sym (mark-from cs p 0 differ b p (omega arith)) ∙ ap (λ (n : ℕ). eqb n 1) e
 
--- where no bit is set from place k on, no later place has one
-zero-from :
-    (cs : List Cell) (k n i : ℕ) → 0 ≡ bit_number (map differ_bit (drop k cs)) → i ≡ k + n → 0 ≡ bit_number (map differ_bit (drop i cs))
-zero-from cs k zero i b e = let f : k ≡ i = omega arith in subst (λ (j : ℕ). 0 ≡ bit_number (map differ_bit (drop j cs))) f b
-zero-from cs k (suc n) i b e =
-    let f : k + n + 1 ≡ i = omega arith in
-    subst (λ (j : ℕ). 0 ≡ bit_number (map differ_bit (drop j cs))) f (bits-next cs (k + n) 0 (zero-from cs k n (k + n) b refl))
+  -- the lowest place with a bit is told by how many zeros the number ends with
+  abbrev place : ℕ
+  place = trailing_zeros w64 differ
 
--- the loop has passed the last place, or no bit is left
-lowest-over :
-    (cs : List Cell) (k bits : ℕ) → bits ≡ bit_number (map differ_bit (drop k cs)) → (32 ≤ k) ⊎ (bits ≤ 0) →
-    lowest (mark_at cs) (up_from k (32 - k)) ≡ none
-lowest-over cs k bits b (inl h) = lowest-end (mark_at cs) k h
-lowest-over cs k bits b (inr h) =
-    let z : 0 ≡ bits = omega arith in
-    lowest-none (mark_at cs) k (λ i l. bit-clear cs i 0 (zero-from cs k (i - k) i (z ∙ b) (omega arith)) (λ e. omega (arith, e)))
+  pub lowest-mark : differ < 2 ^ 64 → lowest_of (then_some (ltb place 32) place) ≡ lowest (mark_at cs) (up_to 32)
+  lowest-mark small = ⊎_elim none some_place (eq-zero-or-pos differ)
+    where
+      none : differ ≡ 0 → lowest_of (then_some (ltb place 32) place) ≡ lowest (mark_at cs) (up_to 32)
+      none z =
+          let clear : (i : ℕ) → bit_at differ i ≡ 0 = λ i. rw z (bit_at-zero i) in
+          let end : place ≡ 64 = rw z (trailing_of_zero 64) in
+          lowest-first (mark_at cs) place (λ l. absurd (omega arith)) (λ i l. mark i (clear i))
 
--- the lowest place with a bit is that of the places from k on, and `bits` has their bits
-pub record MarksFrom (differ bits k : ℕ) : Type 0 where
-  pub is :
-      (cs : List Cell) → differ ≡ bit_number (map differ_bit cs) →
-      (bits ≡ bit_number (map differ_bit (drop k cs))) × (lowest (mark_at cs) (up_to 32) ≡ lowest (mark_at cs) (up_from k (32 - k)))
-
-pub marks-start : {differ : ℕ} → MarksFrom differ differ 0
-marks-start = record { is = λ cs v. (v, lowest_start (mark_at cs)) }
-
-abbrev LowestMark : ℕ → Option ℕ → Type 0
-LowestMark differ o = (cs : List Cell) → differ ≡ bit_number (map differ_bit cs) → o ≡ lowest (mark_at cs) (up_to 32)
-
-module _ {differ bits k : ℕ} (m : MarksFrom differ bits k) where
-  pub mark-found : k < 32 → bits % 2 ≡ 1 → LowestMark differ (some k)
-  mark-found h e cs v = let (b, from) = m.is cs v in sym (from ∙ lowest-here (mark_at cs) k h (bit-set cs k bits b e))
-
-  pub marks-next : k < 32 → (bits % 2 ≡ 1 → ⊥) → MarksFrom differ (bits / 2) (k + 1)
-  marks-next h e = record {
-    is = λ cs v. let (b, from) = m.is cs v in (bits-next cs k bits b, from ∙ lowest-next (mark_at cs) k h (bit-clear cs k bits b e));
-  }
-
-  pub no-mark : (32 ≤ k) ⊎ (bits ≤ 0) → LowestMark differ none
-  no-mark h cs v = let (b, from) = m.is cs v in sym (from ∙ lowest-over cs k bits b h)
+      some_place : 0 < differ → lowest_of (then_some (ltb place 32) place) ≡ lowest (mark_at cs) (up_to 32)
+      some_place h =
+          let (within, set, clear) = bit_at-trailing_zeros w64 differ h small in
+          lowest-first (mark_at cs) place (λ l. mark place set) (λ i l. mark i (clear i l))
 
 -- ---- a snapshot
 
@@ -142,9 +142,6 @@ module _ (s : List ℕ) (h : Headed) (d : DossierIndex) (w : DossierIs s h d) (j
 
 -- ---- the snapshots, from one on
 
-conflict-not : {v : EventVersion} {p : ℕ} (r : Conflict) → r ≡ Differs v p → r ≡ NoConflict → ⊥
-conflict-not r e f = never (cc)
-
 module _ (ps : List ℕ) where
   later : (v : ℕ) (o : Option ℕ) (c : model.Conflict) → or_later v o no_conflict ≡ no_conflict → or_later v o c ≡ c
   unfolding or_later
@@ -165,12 +162,10 @@ module _ (ps : List ℕ) where
     conflict-later e = conflict-split ∙ later (get_or ss j no_snapshot).version (marked ps (get_or ss j no_snapshot)) (conflict ps (drop (j + 1) ss)) (sym e)
 
     conflict-here :
-        (r : Conflict) → conflict_of r ≡ conflict ps (get_or ss j no_snapshot ∷ []) → (r ≡ NoConflict → ⊥) →
-        conflict_of r ≡ conflict ps (drop j ss)
+        {x : EventVersion × ℕ} → conflict_of (Some x) ≡ conflict ps (get_or ss j no_snapshot ∷ []) → conflict_of (Some x) ≡ conflict ps (drop j ss)
     unfolding conflict
-    conflict-here (Differs v p) e n =
-        sooner (get_or ss j no_snapshot).version v.0 p (marked ps (get_or ss j no_snapshot)) (conflict ps (drop (j + 1) ss)) e ∙ sym conflict-split
-    conflict-here NoConflict e n = absurd (n refl)
+    conflict-here {x} e =
+        sooner (get_or ss j no_snapshot).version x.0.0 x.1 (marked ps (get_or ss j no_snapshot)) (conflict ps (drop (j + 1) ss)) e ∙ sym conflict-split
 
   conflict-end : (ss : List Snapshot) (j : ℕ) → length ss ≤ j → no_conflict ≡ conflict ps (drop j ss)
   unfolding conflict
@@ -183,25 +178,26 @@ pub record ConflictFrom (d : DossierIndex) (j : ℕ) : Type 0 where
 pub conflict-start : {d : DossierIndex} → ConflictFrom d 0
 conflict-start = record { is = λ s h w. refl }
 
-module _ {d : DossierIndex} {j : ℕ} (c : ConflictFrom d j) where
-  -- r is the conflict of snapshot j
-  module _
-      {r : Conflict} (l : j < d.count)
-      (e : (x : Snapshot) → (get_or d.versions j no_version).0 ≡ x.version → get_or d.differs j 0 ≡ bit_number (map differ_bit x.cells) →
-      conflict_of r ≡ conflict (up_to 32) (x ∷ [])) where
-    pub conflict-found :
-        {v : EventVersion} {p : ℕ} → r ≡ Differs v p → (s : List ℕ) (h : Headed) → DossierIs s h d →
-        conflict_of r ≡ conflict (up_to 32) h.snapshots
-    conflict-found f s h w =
-        let k = in_count s h d w j l in
-        conflict-here (up_to 32) h.snapshots j k r (e _ (version-at s h d w j k) (differ-at s h d w j k)) (conflict-not r f) ∙ sym (c.is s h w)
+-- r is the conflict of snapshot j
+abbrev pub ConflictAt : DossierIndex → ℕ → std.Option (EventVersion × ℕ) → Type 0
+ConflictAt d j r =
+    (x : Snapshot) → (get_or d.versions j no_version).0 ≡ x.version → get_or d.differs j 0 ≡ bit_number (map differ_bit x.cells) →
+    conflict_of r ≡ conflict (up_to 32) (x ∷ [])
 
-    pub conflict-next : r ≡ NoConflict → ConflictFrom d (j + 1)
-    conflict-next f = record {
+module _ {d : DossierIndex} {j : ℕ} (c : ConflictFrom d j) where
+  module _ (l : j < d.count) where
+    pub conflict-found :
+        {x : EventVersion × ℕ} → ConflictAt d j (Some x) → (s : List ℕ) (h : Headed) → DossierIs s h d →
+        conflict_of (Some x) ≡ conflict (up_to 32) h.snapshots
+    conflict-found e s h w =
+        let k = in_count s h d w j l in
+        conflict-here (up_to 32) h.snapshots j k (e _ (version-at s h d w j k) (differ-at s h d w j k)) ∙ sym (c.is s h w)
+
+    pub conflict-next : ConflictAt d j None → ConflictFrom d (j + 1)
+    conflict-next e = record {
       is = λ s h w.
           let k = in_count s h d w j l in
-          let clear = sym (ap conflict_of f) ∙ e _ (version-at s h d w j k) (differ-at s h d w j k) in
-          c.is s h w ∙ conflict-later (up_to 32) h.snapshots j k clear;
+          c.is s h w ∙ conflict-later (up_to 32) h.snapshots j k (e _ (version-at s h d w j k) (differ-at s h d w j k));
     }
 
   pub no-conflict : d.count ≤ j → (s : List ℕ) (h : Headed) → DossierIs s h d → no_conflict ≡ conflict (up_to 32) h.snapshots

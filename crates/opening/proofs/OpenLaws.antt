@@ -40,14 +40,12 @@ use Rattle.dossier.proofs.AnswerLaws.{reads-is}
 use Rattle.opening.specs.OpenCall.{merged_event, opened_answer, asked_opening, open_answer, open_call}
 use Rattle.opening.specs.code.OpenIndex.{lowest_of, conflict_of, Mergeable, Openable}
 use Rattle.opening.specs.code.PlanIndex.{PlanIs, Writable}
-use Rattle.opening.specs.declared.conflict.Conflict as found
-use Rattle.opening.specs.declared.conflict.Conflict.TheVariants.{Differs, NoConflict}
-use Rattle.opening.specs.declared.conflict.Lowest.{Lowest}
-use Rattle.opening.specs.declared.conflict.Lowest.TheVariants.{Place, NoPlace}
 use Rattle.opening.proofs.StandLaws.{cells-stand}
 use Rattle.opening.proofs.MergeLaws.{merged-vacant}
 use Rattle.opening.proofs.AcceptedLaws.{mergeable}
 use Rattle.opening.proofs.SizeLaws.{merged-size}
+use Rattle.std.specs.Prelude as std
+use Rattle.std.specs.Prelude.{Some, None}
 
 -- ---- a dossier that was asked its questions
 
@@ -64,18 +62,20 @@ module _ {s : List ℕ} {d : DossierIndex} {rows : List ℕ} {t : TypeIndex} {ps
   bytes = event_bytes (merged_event o.headed (merged_sets (type_view o.type) dossier))
 
   -- r is the conflict that was found
-  module _ {r : found.Conflict} (finds : (u : List ℕ) (h : Headed) → DossierIs u h d → conflict_of r ≡ conflict (up_to 32) h.snapshots) where
-    pub replies-conflict :
-        {v : EventVersion} {p : ℕ} → r ≡ Differs v p → (out : List ℕ) →
-        open_replies (Found (Conflict v p)) out ≡ outcome (opened_answer o.headed opens) out
-    unfolding opened_answer opening first_of places type_view event_view
-    replies-conflict e out =
-        ap (λ (c : model.Conflict).
-        outcome (opened_answer o.headed (first_of c (overfull (type_view o.type) dossier) (merged_sets (type_view o.type) dossier))) out)
-        (sym (ap conflict_of e) ∙ finds s o.headed o.is)
+  abbrev pub ConflictIs : std.Option (EventVersion × ℕ) → Type 0
+  ConflictIs r = (u : List ℕ) (h : Headed) → DossierIs u h d → conflict_of r ≡ conflict (up_to 32) h.snapshots
 
-    pub without-conflict : r ≡ NoConflict → conflict (up_to 32) dossier.snapshots ≡ no_conflict
-    without-conflict e = sym (finds s o.headed o.is) ∙ ap conflict_of e
+  pub replies-conflict :
+      {x : EventVersion × ℕ} → ConflictIs (Some x) → (out : List ℕ) →
+      open_replies (Found (Conflict x.0 x.1)) out ≡ outcome (opened_answer o.headed opens) out
+  unfolding opened_answer opening first_of places type_view event_view
+  replies-conflict finds out =
+      ap (λ (c : model.Conflict).
+      outcome (opened_answer o.headed (first_of c (overfull (type_view o.type) dossier) (merged_sets (type_view o.type) dossier))) out)
+      (finds s o.headed o.is)
+
+  pub without-conflict : ConflictIs None → conflict (up_to 32) dossier.snapshots ≡ no_conflict
+  without-conflict finds = sym (finds s o.headed o.is)
 
   -- the sets are planned
   module _
@@ -99,11 +99,11 @@ module _ {s : List ℕ} {d : DossierIndex} {rows : List ℕ} {t : TypeIndex} {ps
 
     -- without a conflict, r is the overfull place that was found
     module _
-        {r : Lowest}
+        {r : std.Option ℕ}
         (finds : (u v : List ℕ) (ty : EventType) (x : Dossier) → PropertiesAre u ty.properties t.count ps → PlanIs v plan ty x →
         lowest_of r ≡ overfull (type_view ty) x)
         (free : conflict (up_to 32) dossier.snapshots ≡ no_conflict) where
-      opens_as : {q : Lowest} → r ≡ q → opens ≡ first_of no_conflict (lowest_of q) (merged_sets (type_view o.type) dossier)
+      opens_as : {q : std.Option ℕ} → r ≡ q → opens ≡ first_of no_conflict (lowest_of q) (merged_sets (type_view o.type) dossier)
       unfolding places type_view event_view
       opens_as e =
           opening-free (type_view o.type) dossier free
@@ -111,18 +111,18 @@ module _ {s : List ℕ} {d : DossierIndex} {rows : List ℕ} {t : TypeIndex} {ps
           (sym (finds o.table s o.type dossier o.typed.are planned) ∙ ap lowest_of e)
 
       answered-as :
-          {q : Lowest} → r ≡ q → (out : List ℕ) →
+          {q : std.Option ℕ} → r ≡ q → (out : List ℕ) →
           outcome (opened_answer o.headed (first_of no_conflict (lowest_of q) (merged_sets (type_view o.type) dossier))) out
           ≡ outcome (opened_answer o.headed opens) out
       answered-as e out = sym (ap (λ (x : model.Opened). outcome (opened_answer o.headed x) out) (opens_as e))
 
       pub replies-overfull :
-          {p : ℕ} → r ≡ Place p → (out : List ℕ) → open_replies (Found (Overfull p)) out ≡ outcome (opened_answer o.headed opens) out
+          {p : ℕ} → r ≡ Some p → (out : List ℕ) → open_replies (Found (Overfull p)) out ≡ outcome (opened_answer o.headed opens) out
       unfolding opened_answer first_of
       replies-overfull e out = answered-as e out
 
       pub replies-merged :
-          {out new : List ℕ} {n : ℕ} → r ≡ NoPlace → dossier_capacity ≤ length out →
+          {out new : List ℕ} {n : ℕ} → r ≡ None → dossier_capacity ≤ length out →
           ((w : Writable s d rows t.count plan (length out)) →
           Wrote out 0 (event_bytes (merged_event w.headed (merged_sets (type_view w.type) (model_of w.headed)))) new n) →
           open_replies (Merged n) new ≡ outcome (opened_answer o.headed opens) out

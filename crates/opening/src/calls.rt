@@ -12,7 +12,7 @@ ghost use Rattle.dossier.specs.code.DossierIndex.{HasRows};
 ghost use Rattle.opening.specs.OpenCall.{opened_answer, open_call};
 ghost use Rattle.opening.specs.code.OpenIndex.{Openable};
 
-use crate::conflict::{Conflict, Lowest, find_conflict};
+use crate::conflict::find_conflict;
 use crate::merge::{find_overfull, plan_sets};
 use crate::write::write_event;
 use dossier::dossiers::{DossierIndex, read_dossier, snapshot_count};
@@ -42,8 +42,8 @@ fn open_merged(
     let mut plan = [0usize; 128];
     plan_sets(s, rows, d.count, t.count, t.mark, properties, &mut plan);
     match find_overfull(t.count, properties, &plan) {
-        Lowest::Place(place) => Opened::Found(Finding::Overfull(place)),
-        Lowest::NoPlace => Opened::Merged(write_event(s, d, rows, t.count, &plan, out)),
+        Some(place) => Opened::Found(Finding::Overfull(place)),
+        None => Opened::Merged(write_event(s, d, rows, t.count, &plan, out)),
     }
 }
 
@@ -63,8 +63,8 @@ fn open_asked(
         ≡ outcome (opened_answer o.headed (opening (type_view o.type) (model_of o.headed))) out.old }
 {
     match find_conflict(d) {
-        Conflict::Differs(version, place) => Opened::Found(Finding::Conflict(version, place)),
-        Conflict::NoConflict => open_merged(s, d, rows, t, properties, out),
+        Some((version, place)) => Opened::Found(Finding::Conflict(version, place)),
+        None => open_merged(s, d, rows, t, properties, out),
     }
 }
 

@@ -53,15 +53,13 @@ pub fn runs_of(rows: &[usize], place: usize, n: usize) -> Runs
         starts: [0; 8],
         ends: [0; 8],
     };
-    let mut j: usize = 0;
     // eight turns whatever n is: a loop of so many is unrolled, and one of n turns is slower
-    while j < 8 {
+    for j in 0..8 {
         if j < n {
             let x = cell_at(rows, place, j);
             r.starts[j] = x.start;
             r.ends[j] = x.end;
         }
-        j += 1;
     }
     r
 }

@@ -16,7 +16,6 @@ ghost use Rattle.opening.specs.code.OpenIndex.{lowest_of, CellsStand, RuleIs, Lo
 ghost use Rattle.opening.specs.code.PlanIndex.{PlaceIs, with_place, PlanIs};
 
 use crate::cells::{cell_at, put_set};
-use crate::conflict::Lowest;
 use crate::strategies::{PlaceRule, rule_of};
 use event::bits::number_of;
 use event::sets::{SetAt, set_part, value_in};
@@ -52,11 +51,9 @@ fn extreme_of(s: &[u8], rows: &[usize], place: usize, n: usize, kind: u8, larges
         → SetIs s.now (smallest (extreme_order largest k) (flatten (column ss place))) result }
 {
     let mut best = cell_at(rows, place, 0);
-    let mut j: usize = 1;
-    while j < n {
+    for j in 1..n {
         let x = cell_at(rows, place, j);
         best = better(s, kind, largest, best, x);
-        j += 1;
     }
     best
 }
@@ -75,19 +72,15 @@ fn only_set(s: &[u8], rows: &[usize], place: usize, n: usize) -> PlaceMerged
         → PlaceIs s.now (canon texts (flatten (column ss place))) (column ss place) result }
 {
     let mut only = cell_at(rows, place, 0);
-    let mut j: usize = 1;
-    while j < n {
+    for j in 1..n {
         let x = cell_at(rows, place, j);
         if x.count != 0 {
             if only.count == 0 {
                 only = x;
-            } else {
-                if !same(set_part(s, only), set_part(s, x)) {
-                    return PlaceMerged::Joins;
-                }
+            } else if !same(set_part(s, only), set_part(s, x)) {
+                return PlaceMerged::Joins;
             }
         }
-        j += 1;
     }
     PlaceMerged::Stands(only)
 }
@@ -149,38 +142,31 @@ pub fn plan_sets(
     ensures { (u : List ℕ) (ty : EventType) (d : Dossier) → PropertiesAre u ty.properties count properties.now
         → mark ≡ ty.mark → Mergeable s.now rows.now n ty d → PlanIs s.now plan.new ty d }
 {
-    let mut p: usize = 0;
-    while p < count {
+    for p in 0..count {
         let rule = rule_of(property_at(properties, p));
         put_place(plan, p, merged_at(s, rows, p, n, p + 1 == mark, rule));
-        p += 1;
     }
 }
 
 fn is_overfull(single: bool, count: usize) -> bool
     ensures { result ≡ (single && leb 2 count) }
 {
-    if single {
-        return 2 <= count;
-    }
-    false
+    single && 2 <= count
 }
 
 // The lowest single-valued place that would get more than one object.
-pub fn find_overfull(count: usize, properties: &[usize], plan: &[usize]) -> Lowest
+pub fn find_overfull(count: usize, properties: &[usize], plan: &[usize]) -> Option<usize>
     requires { (count ≤ 32) × (length properties.now ≡ 96) × (length plan.now ≡ 128) }
     ensures { (u s : List ℕ) (ty : EventType) (d : Dossier) → PropertiesAre u ty.properties count properties.now
         → PlanIs s plan.now ty d → lowest_of result ≡ overfull (type_view ty) d }
 {
-    let mut p: usize = 0;
-    while p < count {
+    for p in 0..count {
         let property = property_at(properties, p);
         if is_overfull(!property.multivalued, plan[4 * p + 2]) {
-            return Lowest::Place(p);
+            return Some(p);
         }
-        p += 1;
     }
-    Lowest::NoPlace
+    None
 }
 
 // The presence number of the merged sets.
@@ -190,10 +176,8 @@ pub fn presence_of(plan: &[usize]) -> u64
         → result ≡ bit_number (map presence_bit (merged_sets (type_view ty) d)) }
 {
     let mut present = [false; 32];
-    let mut p: usize = 0;
-    while p < 32 {
+    for p in 0..32 {
         present[p] = 0 < plan[4 * p + 2];
-        p += 1;
     }
     number_of(present)
 }

@@ -55,14 +55,12 @@ fn write_sets(
         → Wrote out.old at (sets_bytes (merged_sets (type_view p.type) p.dossier)) out.new result }
 {
     let mut next = at;
-    let mut p: usize = 0;
-    while p < count {
+    for p in 0..count {
         if plan[4 * p + 3] == 1 {
             next = write_joined(s, rows, p, n, out, next);
         } else {
             next = write_set(s, set_from(plan, 4 * p), out, next);
         }
-        p += 1;
     }
     next
 }

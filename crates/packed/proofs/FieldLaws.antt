@@ -7,10 +7,8 @@ use lib.ListN.{drop}
 use lib.Dec.{leb}
 use borrow.Author.Tests.{le-leb, lt-leb, leb-true}
 use Rattle.model.proofs.Cases.{and_parts}
-use Rattle.packed.specs.declared.read.NumberAt.{NumberAt}
-use Rattle.packed.specs.declared.read.NumberAt.TheVariants.{Number, NoNumber}
+use Rattle.std.specs.Prelude.{Option, Some, None}
 use Rattle.packed.specs.declared.read.TextAt.{TextAt}
-use Rattle.packed.specs.declared.read.TextAt.TheVariants.{Text, NoText}
 use Rattle.packed.specs.Parse.{Parse, fail, got, Layout, and_then, found_if, such_that}
 use Rattle.packed.specs.Packed.{read_number, is_within}
 use Rattle.packed.specs.code.Located.{number_at, Got, NumberReads, NameStops, NameReads}
@@ -19,19 +17,22 @@ use Rattle.packed.proofs.ReadLaws.{number-stops, number-none}
 
 -- ---- what is known of a call's answer in the arm of a `match`
 
-pub number-got : {p : Parse ℕ} {s : List ℕ} {at : ℕ} {r : NumberAt} {n e : ℕ} → r ≡ Number n e → NumberReads p s at r → Got p s at n e
+pub number-got :
+    {p : Parse ℕ} {s : List ℕ} {at : ℕ} {r : Option (ℕ × ℕ)} {n e : ℕ} → r ≡ Some (n, e) → NumberReads p s at r → Got p s at n e
 number-got {p} {s} {at} h w = subst (NumberReads p s at) h w
 
-pub number-fail : {p : Parse ℕ} (s : List ℕ) (at : ℕ) {r : NumberAt} → r ≡ NoNumber → NumberReads p s at r → p ≡ fail
+pub number-fail : {p : Parse ℕ} (s : List ℕ) (at : ℕ) {r : Option (ℕ × ℕ)} → r ≡ None → NumberReads p s at r → p ≡ fail
 number-fail {p} s at h w = subst (NumberReads p s at) h w
 
-pub name-got : {p : Parse (List ℕ)} {s : List ℕ} {at : ℕ} {r : TextAt} {a e : ℕ} → r ≡ Text a e → NameReads p s at r → NameStops p s at a e
+pub name-got :
+    {p : Parse (List ℕ)} {s : List ℕ} {at : ℕ} {r : Option TextAt} {x : TextAt} → r ≡ Some x → NameReads p s at r →
+    NameStops p s at x.start x.end
 name-got {p} {s} {at} h w = subst (NameReads p s at) h w
 
-pub name-fail : {p : Parse (List ℕ)} (s : List ℕ) (at : ℕ) {r : TextAt} → r ≡ NoText → NameReads p s at r → p ≡ fail
+pub name-fail : {p : Parse (List ℕ)} (s : List ℕ) (at : ℕ) {r : Option TextAt} → r ≡ None → NameReads p s at r → p ≡ fail
 name-fail {p} s at h w = subst (NameReads p s at) h w
 
-pub number-here : (s : List ℕ) (at n next : ℕ) → number_at s at ≡ Number n next → Got (read_number (drop at s)) s at n next
+pub number-here : (s : List ℕ) (at n next : ℕ) → number_at s at ≡ Some (n, next) → Got (read_number (drop at s)) s at n next
 number-here s at n next e = let w = number-stops s at n next e in record { is = w.is; after = w.after; within = w.within }
 
 -- ---- one layout after the other
@@ -101,11 +102,11 @@ pub got-bounds :
 got-bounds {s} {at} {n} {next} least most g = within-bounds least most n (such-was (is_within least most) read_number s at g).1
 
 -- the steps of reading one, each for a return of `read_within`: r is the answer for the number
-module _ (s : List ℕ) (at least most : ℕ) {r : NumberAt} (read : r ≡ number_at s at) where
-  pub within_none : r ≡ NoNumber → such_that (is_within least most) read_number (drop at s) ≡ fail
+module _ (s : List ℕ) (at least most : ℕ) {r : Option (ℕ × ℕ)} (read : r ≡ number_at s at) where
+  pub within_none : r ≡ None → such_that (is_within least most) read_number (drop at s) ≡ fail
   within_none e = such-none (is_within least most) read_number s at (number-none s at (sym read ∙ e))
 
-  module _ {n next : ℕ} (e : r ≡ Number n next) where
+  module _ {n next : ℕ} (e : r ≡ Some (n, next)) where
     pub within-below : n < least → such_that (is_within least most) read_number (drop at s) ≡ fail
     within-below h = such-fail (is_within least most) read_number s at (number-here s at n next (sym read ∙ e)) (is_below least most n h)
 

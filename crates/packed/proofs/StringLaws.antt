@@ -15,7 +15,6 @@ use Rattle.packed.specs.Packed.{part}
 use Rattle.packed.specs.code.Strings.{joined, string_of, strings_of, StringFits, no_string, StringsFit, Inserted}
 use Rattle.packed.specs.declared.strings.StringAt.{StringAt}
 use Rattle.packed.proofs.LayoutLaws.{All}
-use Rattle.packed.proofs.OrderLaws.{order-step, order-less, order-more, order-first, order-second, order_same}
 use Rattle.packed.proofs.ReadLaws.{part_length}
 
 -- ---- the bytes of a string
@@ -65,55 +64,6 @@ module _ (a b : List ℕ) (x : StringAt) (w : StringFits a b x) where
 pub plain-order : (u v : Text) → texts.cmp (joined [] u) (joined [] v) ≡ texts.cmp u v
 unfolding texts lists lex numbers
 plain-order u v = refl
-
--- the strings have n and m bytes, and compare as they do from byte i on
-pub record ComparesFrom (a b : List ℕ) (x y : StringAt) (n m i : ℕ) : Type 0 where
-  pub first : n ≡ length (string_of a b x)
-  pub second : m ≡ length (string_of a b y)
-  pub within : i ≤ n
-  pub is : texts.cmp (string_of a b x) (string_of a b y) ≡ texts.cmp (drop i (string_of a b x)) (drop i (string_of a b y))
-
-pub compares-all :
-    {a b : List ℕ} {x y : StringAt} {n m : ℕ} → n ≡ length (string_of a b x) → m ≡ length (string_of a b y) → ComparesFrom a b x y n m 0
-compares-all e f = record { first = e; second = f; within = omega arith; is = refl }
-
-module _ {a b : List ℕ} {x y : StringAt} {n m i : ℕ} (w : ComparesFrom a b x y n m i) where
-  abbrev X : Text
-  X = string_of a b x
-
-  abbrev Y : Text
-  Y = string_of a b y
-
-  pub first_ends : n ≤ i → i < m → Ordering.lt ≡ texts.cmp X Y
-  first_ends h k = sym (w.is ∙ order-first X Y i (omega (arith, w.first)) (omega (arith, w.second)))
-
-  pub second-ends : i < n → m ≤ i → Ordering.gt ≡ texts.cmp X Y
-  second-ends h k = sym (w.is ∙ order-second X Y i (omega (arith, w.first)) (omega (arith, w.second)))
-
-  pub both_end : n ≤ i → m ≤ i → Ordering.eq ≡ texts.cmp X Y
-  both_end h k = sym (w.is ∙ order_same X Y i (omega (arith, w.first)) (omega (arith, w.second)))
-
-  -- both have a byte i, and these are p and q
-  pub record BytesAt (p q : ℕ) : Type 0 where
-    pub in-first : i < length X
-    pub in-second : i < length Y
-    pub p-is : p ≡ get_or X i 0
-    pub q-is : q ≡ get_or Y i 0
-
-module _ {a b : List ℕ} {x y : StringAt} {n m i p q : ℕ} {w : ComparesFrom a b x y n m i} (v : BytesAt w p q) where
-  pub byte-less : p < q → Ordering.lt ≡ texts.cmp (X w) (Y w)
-  byte-less l = sym (w.is ∙ order-less (X w) (Y w) i v.in-first v.in-second (omega (arith, v.p-is, v.q-is)))
-
-  pub byte_more : q < p → Ordering.gt ≡ texts.cmp (X w) (Y w)
-  byte_more l = sym (w.is ∙ order-more (X w) (Y w) i v.in-first v.in-second (omega (arith, v.p-is, v.q-is)))
-
-  pub byte-same : q ≤ p → p ≤ q → ComparesFrom a b x y n m (i + 1)
-  byte-same l g = record {
-    first = w.first;
-    second = w.second;
-    within = omega (arith, v.in-first, w.first);
-    is = w.is ∙ order-step (X w) (Y w) i v.in-first v.in-second (omega (arith, v.p-is, v.q-is));
-  }
 
 -- ---- parts of a list
 

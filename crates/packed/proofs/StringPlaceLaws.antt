@@ -150,9 +150,10 @@ placing-none {a} {b} {old} {count} {x} f g r l = record {
 }
 
 module _ {a b old new : List ℕ} {count k : ℕ} {x : StringAt} (w : Placing a b old count x new k) where
-  pub placed_first : k ≤ 0 → {rs : List StringAt} → rs ≡ set (strings_in new) k x → Inserted a b (strings_in old) count x rs
+  pub placed_first : k ≤ 0 → {rs : List StringAt} → rs ≡ set (strings_in new) 0 x → Inserted a b (strings_in old) count x rs
   placed_first h put =
-      subst (Inserted a b (strings_in old) count x) (sym put)
+      let z : 0 ≡ k = omega arith in
+      subst (Inserted a b (strings_in old) count x) (sym (put ∙ ap (λ (i : ℕ). set (strings_in new) i x) z))
       (inserted-first a b (strings_in old) count x w.fits w.fit w.room (strings_in new) k w.moved w.before h)
 
   -- y is the string before place k
@@ -178,13 +179,17 @@ module _ {a b old new : List ℕ} {count k : ℕ} {x y : StringAt} {t : Bool} {w
       ∙ sym v.told
       ∙ e
 
-  pub placed-after : t ≡ true → {rs : List StringAt} → rs ≡ set (strings_in new) k x → Inserted a b (strings_in old) count x rs
+  -- the code counts the strings before place k, and puts one after the last of them
+  here : k - 1 + 1 ≡ k
+  here = omega (arith, v.some)
+
+  pub placed-after : t ≡ true → {rs : List StringAt} → rs ≡ set (strings_in new) (k - 1 + 1) x → Inserted a b (strings_in old) count x rs
   placed-after e put =
-      subst (Inserted a b (strings_in old) count x) (sym put)
+      subst (Inserted a b (strings_in old) count x) (sym (put ∙ ap (λ (i : ℕ). set (strings_in new) i x) here))
       (inserted-after a b (strings_in old) count x w.fits w.fit w.room (strings_in new) k w.moved w.before v.some (answer-is e))
 
   pub placing-more :
-      t ≡ false → {r : List ℕ} → length r ≡ length new → strings_in r ≡ set (strings_in new) k y → Placing a b old count x r (k - 1)
+      t ≡ false → {r : List ℕ} → length r ≡ length new → strings_in r ≡ set (strings_in new) (k - 1 + 1) y → Placing a b old count x r (k - 1)
   placing-more e l put = record {
     fits = w.fits;
     fit = w.fit;
@@ -193,7 +198,7 @@ module _ {a b old new : List ℕ} {count k : ℕ} {x y : StringAt} {t : Bool} {w
     moved =
         subst
         (λ (ys : List StringAt). Moved (strings_in old) ys count (k - 1))
-        (sym (put ∙ ap (set (strings_in new) k) (y-is w v.some v.is)))
+        (sym (put ∙ ap₂ (set (strings_in new)) here (y-is w v.some v.is)))
         (moved_more (strings_in old) count w.room w.fits.long (strings_in new) k w.moved v.some);
     before = before_more a b (strings_in old) count x w.fits w.fit w.room (strings_in new) k w.moved v.some (answer-is e);
   }

@@ -1,23 +1,29 @@
 -- The laws of words of bytes: words of equal length are in the order of their bytes.
 -- Assumes nothing.
-use mathlib.Core.Path.{◌≡◌, refl, sym, ap, ap₂, ◌∙◌, subst}
+use mathlib.Core.Path.{◌≡◌, refl, sym, ap, ap₂, ◌∙◌}
 use mathlib.Core.List.{List, [], ◌∷◌, ◌++◌}
-use mathlib.Core.Logic.{◌⊎◌, ⊎_elim}
-use Prim.Native.Nat.{ℕ, zero, suc, ◌+◌, ◌-◌, ◌*◌, ◌%◌, ◌^◌, ◌≤◌, ◌<◌, compare, Ordering}
+use mathlib.Core.Logic.{⊎_elim}
+use Prim.Native.Nat.{ℕ, zero, suc, ◌+◌, ◌-◌, ◌*◌, ◌^◌, ◌≤◌, ◌<◌, compare, Ordering}
+use native.Mathlib.Nat.{add-sub_cancel_left}
 use native.Mathlib.Omega.{arith}
 use mir.Syntax.{w8}
 use mir.Val.{Fits}
-use lib.Bits.{bit_and, bit_or, or_shifted, and_block, and_self, and_zero_r}
+use lib.Bits.{bit_and, and_block, and_self, and_zero_r}
 use lib.ListN.{length, take, drop, get_or, replicate, length-drop, take-append-drop}
 use lib.Seq.{get_or-drop, take-add, take-take}
 use Rattle.model.specs.Order.{texts, numbers, lists, lex, pick, nat-self, nat-same}
 use Rattle.model.proofs.Cases.{three}
 use Rattle.model.proofs.OrderLaws.{lt-compare, gt-compare, eq-compare, compare-lt, compare-gt}
-use Rattle.packed.specs.code.Comparison.{order_number}
+use Rattle.std.specs.Prelude.{min}
+use Rattle.std.specs.Ordering.{nat_cmp}
+use Rattle.std.specs.declared.cmp.Ordering as std
+use Rattle.std.specs.Int.{w32, w64, from_be_bytes}
+use Rattle.std.specs.Array.{IsWholeChunk}
+use Rattle.packed.specs.code.Comparison.{ordering}
 use Rattle.packed.specs.code.Words.{word_after, word_of}
 use Rattle.packed.proofs.LayoutLaws.{lt-or-ge}
 use Rattle.packed.proofs.ReadLaws.{drop-next}
-use Rattle.packed.proofs.OrderLaws.{order-first, order-second, order_same}
+use Rattle.packed.proofs.OrderLaws.{number-order, order-lengths}
 
 -- each element is a byte
 abbrev pub Bytes : List ℕ → Type 0
@@ -94,20 +100,19 @@ prefix-order (a ∷ x) u v = rw (nat-self a) (prefix-order x u v)
 pub record Alike (a b : List ℕ) (n i : ℕ) : Type 0 where
   pub a-bytes : Bytes a
   pub b-bytes : Bytes b
-  pub shorter : (n ≤ length a) × (n ≤ length b) × ((length a ≤ n) ⊎ (length b ≤ n))
+  pub shorter : n ≡ min (length a) (length b)
   pub within : i ≤ n
   pub same : take i a ≡ take i b
 
-pub alike-none :
-    {a b : List ℕ} {n : ℕ} → Known a → Known b → (n ≤ length a) × (n ≤ length b) × ((length a ≤ n) ⊎ (length b ≤ n)) → Alike a b n 0
+pub alike-none : {a b : List ℕ} {n : ℕ} → Known a → Known b → n ≡ min (length a) (length b) → Alike a b n 0
 alike-none {a} {b} p q h = record { a-bytes = known_bytes a p; b-bytes = known_bytes b q; shorter = h; within = omega arith; same = refl }
-
-pub alike_as : {a b : List ℕ} {n i j : ℕ} → i ≡ j → Alike a b n j → Alike a b n i
-alike_as {a} {b} {n} e w = subst (Alike a b n) (sym e) w
 
 module _ {a b : List ℕ} {n i : ℕ} (w : Alike a b n i) where
   same-before : (j : ℕ) → j ≤ i → take j a ≡ take j b
   same-before j h = sym (take-take j i a h) ∙ ap (take j) w.same ∙ take-take j i b h
+
+  pub alike-less : {j : ℕ} → j ≤ i → Alike a b n j
+  alike-less {j} h = record { a-bytes = w.a-bytes; b-bytes = w.b-bytes; shorter = w.shorter; within = omega (arith, w.within); same = same-before j h }
 
   order_from : (j : ℕ) → j ≤ i → texts.cmp a b ≡ texts.cmp (drop j a) (drop j b)
   order_from j h =
@@ -115,21 +120,8 @@ module _ {a b : List ℕ} {n i : ℕ} (w : Alike a b n i) where
       ∙ prefix-order (take j a) (drop j a) (drop j b)
 
   -- one of them is at its end: the lengths decide
-  pub alike_all : n ≤ i → {r : ℕ} → r ≡ order_number (compare (length a) (length b)) → r ≡ order_number (texts.cmp a b)
-  alike_all h e =
-      let in-a = w.shorter.0 in
-      let in_b = w.shorter.1 in
-      let within = w.within in
-      let ends = w.shorter.2 in
-      let within_both : (m : ℕ) → m ≤ length a → m ≤ length b → m ≤ i = λ m p q.
-      ⊎_elim (λ (x : length a ≤ n). omega arith) (λ (x : length b ≤ n). omega arith) ends in
-      let a-ends : length a ≤ length b → length a ≤ i = λ k. within_both (length a) (omega arith) k in
-      let b-ends : length b ≤ length a → length b ≤ i = λ k. within_both (length b) k (omega arith) in
-      e ∙ ap order_number (sym (order_from i (omega arith) ∙
-      three (compare (length a) (length b))
-      (λ l. let m = compare-lt (length a) (length b) l in order-first a b i (a-ends (omega arith)) (omega arith) ∙ sym l)
-      (λ s. let m = nat-same (length a) (length b) s in order_same a b i (a-ends (omega arith)) (b-ends (omega arith)) ∙ sym s)
-      (λ g. let m = compare-gt (length a) (length b) g in order-second a b i (omega arith) (b-ends (omega arith)) ∙ sym g)))
+  pub alike_all : n ≤ i → {r : std.Ordering} → r ≡ nat_cmp (length a) (length b) → ordering r ≡ texts.cmp a b
+  alike_all h e = order-lengths a b i refl refl (omega (arith, w.within, w.shorter)) e ∙ sym (order_from i (omega arith))
 
   -- x and y are the words of the k bytes from j on, and the bytes before are the same
   pub record WordsAt (j k x y : ℕ) : Type 0 where
@@ -145,10 +137,10 @@ words-at w j k h f p q = record { low = h; fits = f; a_word = p; b-word = q }
 
 module _ {a b : List ℕ} {n i j k x y : ℕ} {w : Alike a b n i} (v : WordsAt w j k x y) where
   a-left : k ≤ length (drop j a)
-  a-left = omega (arith, v.fits, w.shorter.0, length-drop j a)
+  a-left = omega (arith, v.fits, w.shorter, length-drop j a)
 
   b-left : k ≤ length (drop j b)
-  b-left = omega (arith, v.fits, w.shorter.1, length-drop j b)
+  b-left = omega (arith, v.fits, w.shorter, length-drop j b)
 
   by_word : texts.cmp a b ≡ pick (compare x y) Ordering.lt (lex numbers (drop k (drop j a)) (drop k (drop j b))) Ordering.gt
   unfolding word_of texts lists
@@ -158,11 +150,12 @@ module _ {a b : List ℕ} {n i j k x y : ℕ} {w : Alike a b n i} (v : WordsAt w
       (order_from w j v.low
       ∙ words-order k 0 0 (drop j a) (drop j b) (bytes_drop a j w.a-bytes) (bytes_drop b j w.b-bytes) a-left b-left))
 
-  pub word-less : x < y → 0 ≡ order_number (texts.cmp a b)
-  word-less l = let less : texts.cmp a b ≡ Ordering.lt = by_word ∙ rw (lt-compare x y l) in ap order_number (sym less)
-
-  pub word_more : (x ≡ y → ⊥) → y ≤ x → 2 ≡ order_number (texts.cmp a b)
-  word_more e l = let more : texts.cmp a b ≡ Ordering.gt = by_word ∙ rw (gt-compare x y (omega arith)) in ap order_number (sym more)
+  pub word_differs : (x ≡ y → ⊥) → {r : std.Ordering} → r ≡ nat_cmp x y → ordering r ≡ texts.cmp a b
+  word_differs n e = number-order x y e ∙ sym (by_word ∙
+      three (compare x y)
+      (λ l. rw l)
+      (λ s. absurd (n (nat-same x y s)))
+      (λ g. rw g))
 
   pub word_same : x ≡ y → Alike a b n (j + k)
   unfolding word_of
@@ -193,20 +186,18 @@ module _ {a b : List ℕ} {n i : ℕ} (w : Alike a b n i) (h : i < n) where
   bytes-at = record {
     low = omega arith;
     fits = omega arith;
-    a_word = one a i (omega (arith, w.shorter.0));
-    b-word = one b i (omega (arith, w.shorter.1));
+    a_word = one a i (omega (arith, w.shorter));
+    b-word = one b i (omega (arith, w.shorter));
   }
 
-  pub byte-less : get_or a i 0 < get_or b i 0 → 0 ≡ order_number (texts.cmp a b)
-  byte-less = word-less bytes-at
-
-  pub byte_more : (get_or a i 0 ≡ get_or b i 0 → ⊥) → get_or b i 0 ≤ get_or a i 0 → 2 ≡ order_number (texts.cmp a b)
-  byte_more = word_more bytes-at
+  pub byte_differs :
+      (get_or a i 0 ≡ get_or b i 0 → ⊥) → {r : std.Ordering} → r ≡ nat_cmp (get_or a i 0) (get_or b i 0) → ordering r ≡ texts.cmp a b
+  byte_differs = word_differs bytes-at
 
   pub byte-same : get_or a i 0 ≡ get_or b i 0 → Alike a b n (i + 1)
   byte-same = word_same bytes-at
 
-pub eight :
+eight :
     (s : List ℕ) (at : ℕ) → at + 8 ≤ length s →
     take 8 (drop at s)
     ≡ get_or s at 0 ∷ get_or s (at + 1) 0 ∷ get_or s (at + 2) 0 ∷ get_or s (at + 3) 0 ∷ get_or s (at + 4) 0 ∷ get_or s (at + 5) 0 ∷ get_or s
@@ -224,7 +215,7 @@ eight s at h =
       first_byte s (at + 7) (at + 8) 0 (omega arith) (omega arith),
     )
 
-pub four :
+four :
     (s : List ℕ) (at : ℕ) → at + 4 ≤ length s →
     take 4 (drop at s) ≡ get_or s at 0 ∷ get_or s (at + 1) 0 ∷ get_or s (at + 2) 0 ∷ get_or s (at + 3) 0 ∷ []
 four s at h =
@@ -235,54 +226,23 @@ four s at h =
       first_byte s (at + 3) (at + 4) 0 (omega arith) (omega arith),
     )
 
--- what stands below the lowest bit of n that is shifted by k
-under : (k n : ℕ) {w low v : ℕ} → w ≡ n * 2 ^ k → low < 2 ^ k → n * 2 ^ k + low ≡ v → bit_or w low ≡ v
-under k n {w} {low} {v} e l s = ap (λ (x : ℕ). bit_or x low) e ∙ or_shifted n k low l ∙ s
+-- what `try_into` takes of the part of n bytes from `at` on
+pub chunk : (s : List ℕ) (at n : ℕ) {bytes : List ℕ} → IsWholeChunk (take (at + n - at) (drop at s)) bytes n → bytes ≡ take n (drop at s)
+chunk s at n w = w.same ∙ rw (add-sub_cancel_left at n)
 
--- a byte shifted up by k bits, in a word of 64
-abbrev up : ℕ → ℕ → ℕ
-up k a = a * 2 ^ k % 2 ^ 64
+-- and what `from_be_bytes` makes of it
+module _ (s : List ℕ) (at : ℕ) {bytes : List ℕ} {r : ℕ} where
+  pub eight-word :
+      at + 8 ≤ length s → IsWholeChunk (take (at + 8 - at) (drop at s)) bytes 8 → r ≡ from_be_bytes w64 bytes →
+      r ≡ word_of (take 8 (drop at s))
+  unfolding word_of word_after
+  eight-word h w e = e ∙ rw (chunk s at 8 w, eight s at h) (omega arith)
 
-pub joined :
-    (a b c d e f g h : ℕ) → a < 256 → b < 256 → c < 256 → d < 256 → e < 256 → f < 256 → g < 256 → h < 256 →
-    bit_or (bit_or (bit_or (bit_or (bit_or (bit_or (bit_or (up 56 a) (up 48 b)) (up 40 c)) (up 32 d)) (up 24 e)) (up 16 f)) (up 8 g)) h
-    ≡ word_of (a ∷ b ∷ c ∷ d ∷ e ∷ f ∷ g ∷ h ∷ [])
-unfolding word_of word_after
-joined a b c d e f g h pa pb pc pd pe pf pg ph =
-    let a-up : up 56 a ≡ a * 2 ^ 56 = omega arith in
-    let nb : ℕ = 256 * a + b in
-    let wb : ℕ = bit_or (up 56 a) (up 48 b) in
-    let b-up : wb ≡ nb * 2 ^ 48 = under 56 a a-up (omega arith) (omega arith) in
-    let nc : ℕ = 256 * nb + c in
-    let wc : ℕ = bit_or wb (up 40 c) in
-    let c-up : wc ≡ nc * 2 ^ 40 = under 48 nb b-up (omega arith) (omega arith) in
-    let nd : ℕ = 256 * nc + d in
-    let wd : ℕ = bit_or wc (up 32 d) in
-    let d-up : wd ≡ nd * 2 ^ 32 = under 40 nc c-up (omega arith) (omega arith) in
-    let ne : ℕ = 256 * nd + e in
-    let we : ℕ = bit_or wd (up 24 e) in
-    let e_up : we ≡ ne * 2 ^ 24 = under 32 nd d-up (omega arith) (omega arith) in
-    let nf : ℕ = 256 * ne + f in
-    let wf : ℕ = bit_or we (up 16 f) in
-    let f-up : wf ≡ nf * 2 ^ 16 = under 24 ne e_up (omega arith) (omega arith) in
-    let ng : ℕ = 256 * nf + g in
-    let wg : ℕ = bit_or wf (up 8 g) in
-    let g-up : wg ≡ ng * 2 ^ 8 = under 16 nf f-up (omega arith) (omega arith) in
-    under 8 ng g-up (omega arith) (omega arith)
-
-pub joined-four :
-    (a b c d : ℕ) → a < 256 → b < 256 → c < 256 → d < 256 →
-    bit_or (bit_or (bit_or (up 24 a) (up 16 b)) (up 8 c)) d ≡ word_of (a ∷ b ∷ c ∷ d ∷ [])
-unfolding word_of word_after
-joined-four a b c d pa pb pc pd =
-    let a-up : up 24 a ≡ a * 2 ^ 24 = omega arith in
-    let nb : ℕ = 256 * a + b in
-    let wb : ℕ = bit_or (up 24 a) (up 16 b) in
-    let b-up : wb ≡ nb * 2 ^ 16 = under 24 a a-up (omega arith) (omega arith) in
-    let nc : ℕ = 256 * nb + c in
-    let wc : ℕ = bit_or wb (up 8 c) in
-    let c-up : wc ≡ nc * 2 ^ 8 = under 16 nb b-up (omega arith) (omega arith) in
-    under 8 nc c-up (omega arith) (omega arith)
+  pub four-word :
+      at + 4 ≤ length s → IsWholeChunk (take (at + 4 - at) (drop at s)) bytes 4 → r ≡ from_be_bytes w32 bytes →
+      r ≡ word_of (take 4 (drop at s))
+  unfolding word_of word_after
+  four-word h w e = e ∙ rw (chunk s at 4 w, four s at h) (omega arith)
 
 -- ---- bytes whose top bit is clear
 

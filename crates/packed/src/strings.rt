@@ -3,7 +3,7 @@ ghost use Rattle.model.specs.Order.{texts, pick};
 ghost use Rattle.packed.specs.code.Comparison.{ordering};
 ghost use Rattle.packed.specs.code.Strings.{string_of, StringFits, string_in, strings_in, StringsFit, Inserted};
 
-use crate::order::Ordering;
+use std::cmp::Ordering;
 
 // Where a string's first part stands in one slice, and its second part, after a colon, in another. A plain string is one whose first part is empty: all
 // such strings have their colon in front, and are in the order of their second parts. A string is never put together in memory to be compared.
@@ -52,14 +52,12 @@ fn string_byte(a: &[u8], b: &[u8], x: StringAt, i: usize) -> u8
 {
     let n = x.colon - x.first;
     if i < n {
-        let j = x.first + i;
-        return a[j];
+        a[x.first + i]
+    } else if i == n {
+        b':'
+    } else {
+        b[x.second + (i - n - 1)]
     }
-    if i == n {
-        return b':';
-    }
-    let j = x.second + (i - n - 1);
-    b[j]
 }
 
 // Compares two strings, where they stand.
@@ -69,38 +67,21 @@ fn compare_strings(a: &[u8], b: &[u8], x: StringAt, y: StringAt) -> Ordering
 {
     let n = string_size(a, b, x);
     let m = string_size(a, b, y);
-    let mut i: usize = 0;
-    while i < n {
-        if m <= i {
-            return Ordering::Greater;
-        }
+    for i in 0..n.min(m) {
         let p = string_byte(a, b, x, i);
         let q = string_byte(a, b, y, i);
-        if p < q {
-            return Ordering::Less;
+        if p != q {
+            return p.cmp(&q);
         }
-        if q < p {
-            return Ordering::Greater;
-        }
-        i += 1;
     }
-    if i < m {
-        Ordering::Less
-    } else {
-        Ordering::Equal
-    }
+    n.cmp(&m)
 }
 
 fn is_after(a: &[u8], b: &[u8], x: StringAt, y: StringAt) -> bool
     requires { StringFits a.now b.now x × StringFits a.now b.now y }
-    ensures { result ≡ pick (texts.cmp (string_of a.now b.now x) (string_of a.now b.now y))
-        false false true }
+    ensures { result ≡ pick (texts.cmp (string_of a.now b.now x) (string_of a.now b.now y)) false false true }
 {
-    match compare_strings(a, b, x, y) {
-        Ordering::Less => false,
-        Ordering::Equal => false,
-        Ordering::Greater => true,
-    }
+    compare_strings(a, b, x, y).is_gt()
 }
 
 // The first `count` places have strings, sorted. Strings come nearly sorted, so the place of the one to insert is looked for from the end; the strings after
@@ -110,15 +91,13 @@ pub fn insert_string(a: &[u8], b: &[u8], strings: &mut [usize], count: usize, x:
         × (length strings.old ≡ 128) }
     ensures { Inserted a.now b.now (strings_in strings.old) count x (strings_in strings.new) }
 {
-    let mut k = count;
-    while 0 < k {
-        let y = string_at(strings, k - 1);
+    for k in (0..count).rev() {
+        let y = string_at(strings, k);
         if is_after(a, b, x, y) {
-            put_string(strings, k, x);
+            put_string(strings, k + 1, x);
             return;
         }
-        put_string(strings, k, y);
-        k -= 1;
+        put_string(strings, k + 1, y);
     }
-    put_string(strings, k, x);
+    put_string(strings, 0, x);
 }

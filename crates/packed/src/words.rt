@@ -1,41 +1,12 @@
-ghost use Rattle.std.specs.Prelude.{ℕ, ◌+◌, ◌≤◌, ◌<◌, ◌≡◌, true, [], ◌∷◌, length, take, drop, get_or};
+ghost use Rattle.std.specs.Prelude.{ℕ, ◌+◌, ◌≤◌, ◌<◌, ◌≡◌, true, length, take, drop, get_or};
 ghost use Rattle.packed.specs.code.Words.{word_of};
 
-// The word of eight bytes. Written with shifts and `|` alone, each byte shifted once, it is compiled to one load where the bytes stand side by side.
-fn join(a: u8, b: u8, c: u8, d: u8, e: u8, f: u8, g: u8, h: u8) -> u64
-    ensures { result ≡ word_of (a ∷ b ∷ c ∷ d ∷ e ∷ f ∷ g ∷ h ∷ []) }
-{
-    (a as u64) << 56
-        | (b as u64) << 48
-        | (c as u64) << 40
-        | (d as u64) << 32
-        | (e as u64) << 24
-        | (f as u64) << 16
-        | (g as u64) << 8
-        | h as u64
-}
-
-// The eight bytes from `at` on as one number, the highest first.
+// The eight bytes from `at` on as one number, the highest first. Taken as an array by `try_into`, they are compiled to one load, with no test of a length.
 pub fn word(s: &[u8], at: usize) -> u64
     requires { at + 8 ≤ length s.now }
     ensures { result ≡ word_of (take 8 (drop at s.now)) }
 {
-    join(
-        s[at],
-        s[at + 1],
-        s[at + 2],
-        s[at + 3],
-        s[at + 4],
-        s[at + 5],
-        s[at + 6],
-        s[at + 7],
-    )
-}
-
-fn join_four(a: u8, b: u8, c: u8, d: u8) -> u64
-    ensures { result ≡ word_of (a ∷ b ∷ c ∷ d ∷ []) }
-{
-    (a as u64) << 24 | (b as u64) << 16 | (c as u64) << 8 | d as u64
+    u64::from_be_bytes(s[at..at + 8].try_into().unwrap())
 }
 
 // The same of four bytes.
@@ -43,7 +14,7 @@ pub fn half_word(s: &[u8], at: usize) -> u64
     requires { at + 4 ≤ length s.now }
     ensures { result ≡ word_of (take 4 (drop at s.now)) }
 {
-    join_four(s[at], s[at + 1], s[at + 2], s[at + 3])
+    u64::from(u32::from_be_bytes(s[at..at + 4].try_into().unwrap()))
 }
 
 // Whether the eight bytes from `at` on are all below 0x80.

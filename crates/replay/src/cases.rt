@@ -1,5 +1,5 @@
-// The cases of a script: each is the number of a call and its fields. A function answers the position after its case, or 0 where the script has none there.
-use crate::fields::{bytes, read_count, read_field, read_limits};
+// The cases of a script: each is the number of a call and its fields. A function answers the position after its case; None where the script has no case there.
+use crate::fields::{read_count, read_field, read_limits};
 use crate::lines;
 use crate::outputs::{
     output, report_buffer, write_batch, write_combined, write_opened, write_reply,
@@ -11,7 +11,7 @@ use event::ask::value;
 use hashing::calls::{hash, hash_text};
 use ontology::tables::check_table;
 use opening::calls::open_dossier;
-use packed::read::{NumberAt, read_number};
+use packed::read::read_number;
 use replies::limits::Limits;
 use replies::reply::{Reply, TableReply};
 use report::calls::report;
@@ -19,33 +19,28 @@ use std::io;
 use std::io::Write;
 
 // 1, check a table: the table.
-fn replay_table(writer: &mut impl Write, script: &[u8], at: usize) -> io::Result<usize> {
-    let table = read_field(script, at);
-    if !table.ok {
-        return Ok(0);
-    }
-    match check_table(bytes(script, table)) {
-        TableReply::Accepted => write!(writer, "ok")?,
-        TableReply::Refused(n) => lines::write_refusal(writer, n)?,
-    }
-    Ok(table.end)
+fn replay_table(writer: &mut impl Write, script: &[u8], at: usize) -> Option<io::Result<usize>> {
+    let (table, end) = read_field(script, at)?;
+    let written = match check_table(table) {
+        TableReply::Accepted => write!(writer, "ok"),
+        TableReply::Refused(n) => lines::write_refusal(writer, n),
+    };
+    Some(written.and(Ok(end)))
+}
+
+fn write_value(writer: &mut impl Write, bytes: &[u8]) -> io::Result<()> {
+    write!(writer, "value ")?;
+    lines::write_hex(writer, bytes)
 }
 
 // 5, value: the table, the event, the place and the index.
-fn replay_value(writer: &mut impl Write, script: &[u8], at: usize) -> io::Result<usize> {
-    let table = read_field(script, at);
-    let event = read_field(script, table.end);
-    let place = read_count(script, event.end);
-    let index = read_count(script, place.end);
-    if !(table.ok && event.ok && place.ok && index.ok) {
-        return Ok(0);
-    }
-    write!(writer, "value ")?;
-    lines::write_hex(
-        writer,
-        value(bytes(script, table), bytes(script, event), place.n, index.n),
-    )?;
-    Ok(index.end)
+fn replay_value(writer: &mut impl Write, script: &[u8], at: usize) -> Option<io::Result<usize>> {
+    let (table, at) = read_field(script, at)?;
+    let (event, at) = read_field(script, at)?;
+    let (place, at) = read_count(script, at)?;
+    let (index, end) = read_count(script, at)?;
+    let written = write_value(writer, value(table, event, place, index));
+    Some(written.and(Ok(end)))
 }
 
 // A call with one input, by its number.
@@ -75,28 +70,20 @@ fn write_one(
 
 // 2, check an event, 4, open, 6, hash text, and 7, hash: the size of the output, the table, and the event or dossier. 11, open within limits: the limits
 // before these.
-fn replay_one(writer: &mut impl Write, call: u64, script: &[u8], at: usize) -> io::Result<usize> {
-    let chosen = read_limits(call, script, at);
-    let size = read_count(script, chosen.end);
-    let table = read_field(script, size.end);
-    let input = read_field(script, table.end);
-    if !(chosen.ok && size.ok && table.ok && input.ok) {
-        return Ok(0);
-    }
-    let n = size.n;
+fn replay_one(
+    writer: &mut impl Write,
+    call: u64,
+    script: &[u8],
+    at: usize,
+) -> Option<io::Result<usize>> {
+    let (limits, at) = read_limits(call, script, at)?;
+    let (size, at) = read_count(script, at)?;
+    let (table, at) = read_field(script, at)?;
+    let (input, end) = read_field(script, at)?;
     let mut out = output();
-    if out.len() < n {
-        return Ok(0);
-    }
-    write_one(
-        writer,
-        call,
-        chosen.limits,
-        bytes(script, table),
-        bytes(script, input),
-        &mut out[0..n],
-    )?;
-    Ok(input.end)
+    let out = out.get_mut(..size)?;
+    let written = write_one(writer, call, limits, table, input, out);
+    Some(written.and(Ok(end)))
 }
 
 fn write_combine<'a>(
@@ -117,29 +104,16 @@ fn replay_combine(
     call: u64,
     script: &[u8],
     at: usize,
-) -> io::Result<usize> {
-    let chosen = read_limits(call, script, at);
-    let size = read_count(script, chosen.end);
-    let table = read_field(script, size.end);
-    let left = read_field(script, table.end);
-    let right = read_field(script, left.end);
-    if !(chosen.ok && size.ok && table.ok && left.ok && right.ok) {
-        return Ok(0);
-    }
-    let n = size.n;
+) -> Option<io::Result<usize>> {
+    let (limits, at) = read_limits(call, script, at)?;
+    let (size, at) = read_count(script, at)?;
+    let (table, at) = read_field(script, at)?;
+    let (left, at) = read_field(script, at)?;
+    let (right, end) = read_field(script, at)?;
     let mut out = output();
-    if out.len() < n {
-        return Ok(0);
-    }
-    write_combine(
-        writer,
-        chosen.limits,
-        bytes(script, table),
-        bytes(script, left),
-        bytes(script, right),
-        &mut out[0..n],
-    )?;
-    Ok(right.end)
+    let out = out.get_mut(..size)?;
+    let written = write_combine(writer, limits, table, left, right, out);
+    Some(written.and(Ok(end)))
 }
 
 fn call_batch(
@@ -156,7 +130,7 @@ fn call_batch(
     write_batch(writer, r, out)
 }
 
-// A batch with its scratch buffers, of these sizes.
+// A batch with its scratch buffers, of these sizes. Where one would be larger than any, nothing is called.
 fn replay_sized(
     writer: &mut impl Write,
     limits: Limits,
@@ -170,87 +144,64 @@ fn replay_sized(
     let mut a = output();
     let mut b = output();
     let mut c = output();
-    if a.len() < x {
+    let (Some(a), Some(b), Some(c)) = (a.get_mut(..x), b.get_mut(..y), c.get_mut(..z)) else {
         return Ok(());
-    }
-    if b.len() < y {
-        return Ok(());
-    }
-    if c.len() < z {
-        return Ok(());
-    }
-    call_batch(
-        writer,
-        limits,
-        table,
-        events,
-        out,
-        &mut a[0..x],
-        &mut b[0..y],
-        &mut c[0..z],
-    )
+    };
+    call_batch(writer, limits, table, events, out, a, b, c)
 }
 
 // 8, batch: the sizes of the output and of the three scratch buffers, the table, and the batch. 12, batch within limits: the limits before these.
-fn replay_batch(writer: &mut impl Write, call: u64, script: &[u8], at: usize) -> io::Result<usize> {
-    let chosen = read_limits(call, script, at);
-    let size = read_count(script, chosen.end);
-    let x = read_count(script, size.end);
-    let y = read_count(script, x.end);
-    let z = read_count(script, y.end);
-    let table = read_field(script, z.end);
-    let events = read_field(script, table.end);
-    if !(chosen.ok && size.ok && x.ok && y.ok && z.ok && table.ok && events.ok) {
-        return Ok(0);
-    }
-    let n = size.n;
+fn replay_batch(
+    writer: &mut impl Write,
+    call: u64,
+    script: &[u8],
+    at: usize,
+) -> Option<io::Result<usize>> {
+    let (limits, at) = read_limits(call, script, at)?;
+    let (size, at) = read_count(script, at)?;
+    let (x, at) = read_count(script, at)?;
+    let (y, at) = read_count(script, at)?;
+    let (z, at) = read_count(script, at)?;
+    let (table, at) = read_field(script, at)?;
+    let (events, end) = read_field(script, at)?;
     let mut out = output();
-    if out.len() < n {
-        return Ok(0);
+    let out = out.get_mut(..size)?;
+    let written = replay_sized(writer, limits, table, events, out, x, y, z);
+    Some(written.and(Ok(end)))
+}
+
+fn write_report(writer: &mut impl Write, input: &[u8]) -> io::Result<()> {
+    let mut out = report_buffer();
+    let r = report(input, &mut out);
+    write!(writer, "report ")?;
+    if let Reply::Done(n) = r {
+        if let Some(text) = out.get(..n) {
+            lines::write_hex(writer, text)?;
+        }
     }
-    replay_sized(
-        writer,
-        chosen.limits,
-        bytes(script, table),
-        bytes(script, events),
-        &mut out[0..n],
-        x.n,
-        y.n,
-        z.n,
-    )?;
-    Ok(events.end)
+    Ok(())
 }
 
 // 9, merge report: the program's standard input.
-fn replay_report(writer: &mut impl Write, script: &[u8], at: usize) -> io::Result<usize> {
-    let input = read_field(script, at);
-    if !input.ok {
-        return Ok(0);
-    }
-    let mut out = report_buffer();
-    let r = report(bytes(script, input), &mut out);
-    write!(writer, "report ")?;
-    if let Reply::Done(n) = r {
-        if n <= out.len() {
-            lines::write_hex(writer, &out[0..n])?;
-        }
-    }
-    Ok(input.end)
+fn replay_report(writer: &mut impl Write, script: &[u8], at: usize) -> Option<io::Result<usize>> {
+    let (input, end) = read_field(script, at)?;
+    Some(write_report(writer, input).and(Ok(end)))
 }
 
-pub fn replay_case(writer: &mut impl Write, script: &[u8], at: usize) -> io::Result<usize> {
-    let NumberAt::Number(call, next) = read_number(script, at) else {
-        return Ok(0);
+pub fn replay_case(writer: &mut impl Write, script: &[u8], at: usize) -> io::Result<Option<usize>> {
+    let Some((call, at)) = read_number(script, at) else {
+        return Ok(None);
     };
-    let end = match call {
-        1 => replay_table(writer, script, next)?,
-        3 | 10 => replay_combine(writer, call, script, next)?,
-        5 => replay_value(writer, script, next)?,
-        2 | 4 | 6 | 7 | 11 => replay_one(writer, call, script, next)?,
-        8 | 12 => replay_batch(writer, call, script, next)?,
-        9 => replay_report(writer, script, next)?,
-        _ => 0,
+    let replayed = match call {
+        1 => replay_table(writer, script, at),
+        3 | 10 => replay_combine(writer, call, script, at),
+        5 => replay_value(writer, script, at),
+        2 | 4 | 6 | 7 | 11 => replay_one(writer, call, script, at),
+        8 | 12 => replay_batch(writer, call, script, at),
+        9 => replay_report(writer, script, at),
+        _ => None,
     };
+    let end = replayed.transpose()?;
     writeln!(writer)?;
     Ok(end)
 }

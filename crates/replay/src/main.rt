@@ -24,11 +24,10 @@ fn script_buffer() -> [u8; 524288]
 fn replay(writer: &mut impl Write, script: &[u8]) -> io::Result<()> {
     let mut at: usize = 0;
     while at < script.len() {
-        let next = cases::replay_case(writer, script, at)?;
-        if next <= at {
-            return writeln!(writer, "the script has no case here");
+        match cases::replay_case(writer, script, at)? {
+            Some(end) if at < end => at = end,
+            _ => return writeln!(writer, "the script has no case here"),
         }
-        at = next;
     }
     Ok(())
 }

@@ -22,12 +22,7 @@ pub fn report_buffer() -> [u8; 65536]
 
 // Every byte of the output from a position on has its old value.
 fn is_kept(out: &[u8], from: usize) -> bool {
-    for i in from..out.len() {
-        if out[i] != 0xee {
-            return false;
-        }
-    }
-    true
+    out.iter().skip(from).all(|byte| *byte == 0xee)
 }
 
 fn write_kept(writer: &mut impl Write, out: &[u8], from: usize) -> io::Result<()> {
@@ -39,8 +34,8 @@ fn write_kept(writer: &mut impl Write, out: &[u8], from: usize) -> io::Result<()
 
 // The bytes that a call gave, and whether it left the others.
 fn write_given(writer: &mut impl Write, n: usize, out: &[u8]) -> io::Result<()> {
-    if n <= out.len() {
-        lines::write_hex(writer, &out[0..n])?;
+    if let Some(given) = out.get(..n) {
+        lines::write_hex(writer, given)?;
     }
     write_kept(writer, out, n)
 }

@@ -114,7 +114,7 @@ pub fn report(input: &[u8], out: &mut [u8]) -> Reply
     if MOST_INPUT < input.len() {
         return Reply::Done(write_refused(9, 0, out));
     }
-    let TextAt::Text(start, end) = read_text(input, 0) else {
+    let Some(TextAt { start, end }) = read_text(input, 0) else {
         return Reply::Done(write_refused(9, 0, out));
     };
     Reply::Done(report_batch(&input[start..end], &input[end..], out))

@@ -21,7 +21,7 @@ fn hex_digit(n: u8) -> u8
     requires { n < 16 }
     ensures { result ≡ hex_digit n }
 {
-    if n < 10 { 48 + n } else { 87 + n }
+    if n < 10 { b'0' + n } else { b'a' + (n - 10) }
 }
 
 // Two digits a byte.
@@ -29,14 +29,11 @@ pub fn write_hex(s: &[u8], out: &mut [u8], at: usize) -> usize
     requires { at + 2 * length s.now ≤ length out.old }
     ensures { Wrote out.old at (hex_of s.now) out.new result }
 {
-    let mut i: usize = 0;
-    while i < s.len() {
-        let b = s[i];
-        out[at + 2 * i] = hex_digit(b / 16);
-        out[at + 2 * i + 1] = hex_digit(b % 16);
-        i += 1;
+    for (i, b) in s.iter().enumerate() {
+        out[at + 2 * i] = hex_digit(*b / 16);
+        out[at + 2 * i + 1] = hex_digit(*b % 16);
     }
-    at + 2 * i
+    at + 2 * s.len()
 }
 
 // The end of a line.
@@ -159,15 +156,13 @@ fn write_values(
         → Wrote out.old at (value_lines v.property.name v.values) out.new result }
 {
     let mut next = at;
-    let mut i = x.start;
-    let mut left = x.count;
-    while 0 < left {
-        let TextAt::Text(start, end) = read_text(event, i) else {
+    let mut from = x.start;
+    for _ in 0..x.count {
+        let Some(TextAt { start, end }) = read_text(event, from) else {
             return next;
         };
         next = write_value(table, p, event, start, end, out, next);
-        i = end;
-        left -= 1;
+        from = end;
     }
     next
 }
@@ -189,11 +184,9 @@ fn write_objects(
         → Wrote out.old at (object_lines o.properties o.sets) out.new result }
 {
     let mut next = at;
-    let mut k: usize = 0;
-    while k < count {
+    for k in 0..count {
         let p = property_at(properties, k);
         next = write_values(table, p, event, set_at(sets, k), out, next);
-        k += 1;
     }
     next
 }

@@ -2,33 +2,22 @@
 // makes the file `stdout` of the same messages by coreutils' sha1sum.
 #![tactic(auto)]
 
-ghost use Rattle.std.specs.Prelude.{◌≡◌, length};
+ghost use Rattle.std.specs.Prelude.{◌^◌, ◌<◌, length};
 
 use std::io;
 use std::io::Write;
 
-fn digit(n: u8) -> u8 {
-    let n = n % 16;
-    if n < 10 { 48 + n } else { 87 + n }
-}
-
-fn print_sha1(out: &mut impl Write, message: &[u8]) -> io::Result<()> {
-    if message.len() > 1000000 {
-        return Ok(());
-    }
-    let d = fips180::sha1(message);
-    let mut line = [b'\n'; 41];
-    for i in 0..20 {
-        line[2 * i] = digit(d[i] / 16);
-        line[2 * i + 1] = digit(d[i]);
-    }
-    out.write_all(&line)
-}
-
-// A million times 'a'. The contract says the length alone, so that no proof holds the bytes.
-fn million() -> [u8; 1000000]
-    ensures { 1000000 ≡ length result }
+fn print_sha1(out: &mut impl Write, message: &[u8]) -> io::Result<()>
+    requires { length message.now < 2 ^ 61 }
 {
+    for byte in fips180::sha1(message) {
+        write!(out, "{byte:02x}")?;
+    }
+    writeln!(out)
+}
+
+// A million times 'a'. A function of its own, so that no other proof holds the bytes.
+fn million() -> [u8; 1000000] {
     [b'a'; 1000000]
 }
 
@@ -49,33 +38,21 @@ fn print_published(out: &mut impl Write) -> io::Result<()> {
 }
 
 // The digits 0 to 9 over and over, 8,192 bytes.
-fn digits() -> [u8; 8192]
-    ensures { 8192 ≡ length result }
-{
+fn digits() -> [u8; 8192] {
     let mut s = [b'0'; 8192];
     for i in 0..8192 {
-        s[i] = 48 + (i % 10) as u8;
+        s[i] = b'0' + (i % 10) as u8;
     }
     s
 }
 
-fn print_first(out: &mut impl Write, n: usize, s: &[u8]) -> io::Result<()> {
-    if n <= s.len() {
-        print_sha1(out, &s[0..n])?;
-    }
-    Ok(())
-}
-
+// Lengths about the ends of blocks, and one of many blocks.
 fn print_lengths(out: &mut impl Write) -> io::Result<()> {
     let s = digits();
-    print_first(out, 55, &s)?;
-    print_first(out, 56, &s)?;
-    print_first(out, 63, &s)?;
-    print_first(out, 64, &s)?;
-    print_first(out, 65, &s)?;
-    print_first(out, 119, &s)?;
-    print_first(out, 120, &s)?;
-    print_first(out, 8192, &s)
+    for n in [55, 56, 63, 64, 65, 119, 120, 8192] {
+        print_sha1(out, &s[..n])?;
+    }
+    Ok(())
 }
 
 fn main(rt: HostRuntime) -> io::Result<()> {

@@ -1,7 +1,7 @@
 -- The laws of merging several runs.
 use mathlib.Core.Path.{◌≡◌, refl, sym, ap, ap₂, ◌∙◌, subst}
 use mathlib.Core.Logic.{◌⊎◌, inl, inr, ⊎_elim}
-use mathlib.Core.Bool.{Bool, true, false, cond}
+use mathlib.Core.Bool.{true}
 use mathlib.Core.List.{List, [], ◌∷◌, ◌++◌, append_assoc, map}
 use mathlib.Core.List.Memᴰ
 use mathlib.Core.List.{flatten, Memᴰ}
@@ -24,11 +24,11 @@ use Rattle.packed.proofs.LayoutLaws.{All, text-length, number-bounds}
 use Rattle.packed.proofs.ReadLaws.{part_length, stretch}
 use Rattle.packed.specs.code.Written.{Wrote, ToGo}
 use Rattle.packed.proofs.WriteLaws.{to-go, all-gone, wrote-length}
-use Rattle.packed.specs.code.Comparison.{order_number}
-use Rattle.packed.proofs.OrderLaws.{number-less, number-equal, number_more}
+use Rattle.std.specs.Prelude.{Option, Some, None, IfSome}
 use Rattle.unions.specs.declared.heads.Form.TheVariants as form
 use Rattle.unions.specs.code.Runs.{written, run, Run, HeadIs, NoHead}
-use Rattle.unions.specs.code.Merging.{SetRun, SetRuns, passed, Told, RightLeast, least_text, value_at, LeastTo, Lesser, IsLeast, MergedRoom}
+use Rattle.unions.specs.declared.many.Least.{Least}
+use Rattle.unions.specs.code.Merging.{SetRun, SetRuns, passed, RightLeast, least_text, value_at, LeastTo, Lesser, IsLeast, MergedRoom}
 use Rattle.unions.proofs.RunLaws.{First, part_then, head-part, run-head, texts-fit, write-room, write-next}
 
 -- ---- the least value of rising lists is the first of their union, and the others follow without it
@@ -199,259 +199,206 @@ flat-at (xs ∷ xss) i zero h a n = absurd (omega arith)
 flat-at (xs ∷ xss) zero (suc j) h a n = Memᴰ.append_left (flatten (take j xss)) n
 flat-at (xs ∷ xss) (suc i) (suc j) h a n = Memᴰ.append_right xs (flat-at xss i j (omega arith) a n)
 
--- what the answer tells of
-value-told : (s : List ℕ) (r : Told) {b : Bool} → r.found ≡ b → value_at s r ≡ cond b (least_text s r ∷ []) []
+value-some : (s : List ℕ) (x : Least) → value_at s (Some x) ≡ least_text s x ∷ []
 unfolding value_at
-value-told s r f = ap (λ (b : Bool). cond b (least_text s r ∷ []) []) f
+value-some s x = refl
 
-value-some : (s : List ℕ) (r : Told) → r.found ≡ true → value_at s r ≡ least_text s r ∷ []
-value-some s r f = value-told s r f
+value_none : (s : List ℕ) → value_at s None ≡ []
+unfolding value_at
+value_none s = refl
 
-value_none : (s : List ℕ) (r : Told) → r.found ≡ false → value_at s r ≡ []
-value_none s r f = value-told s r f
-
-value-nil : (s : List ℕ) (r : Told) → take 1 (union texts (value_at s r) (smallest texts [])) ≡ value_at s r
-unfolding smallest canon
-value-nil s r =
-    truth r.found
-    (λ f. rw (value-some s r f) (ap (take 1) (union-right-nil texts (least_text s r ∷ []) (tt, tt))))
-    (λ f. rw (value_none s r f) (ap (take 1) (union-left-nil texts [])))
-
--- the answer r, with run j going on at q
-abbrev onward : Told → ℕ → ℕ → Told
-onward r j q = record { found = r.found; start = r.start; value = r.value; end = r.end; after = set r.after j q }
-
--- the value from p up to q, which stands first in run j
-abbrev head_of : List ℕ → ℕ → ℕ → ℕ → Told
-head_of ats j p q = record { found = true; start = get_or ats j 0; value = p; end = q; after = set ats j q }
+value-nil : (s : List ℕ) (r : Option Least) → take 1 (union texts (value_at s r) (smallest texts [])) ≡ value_at s r
+unfolding smallest canon value_at
+value-nil s (Some x) = ap (take 1) (union-right-nil texts (least_text s x ∷ []) (tt, tt))
+value-nil s None = ap (take 1) (union-left-nil texts [])
 
 module _
-    (s ats ends : List ℕ) (n : ℕ) (xss : List (List Text)) (w : SetRuns s ats ends n xss) (j : ℕ) (h : j < n)
-    (best : Told) (b : LeastTo s ends n xss j best) where
+    (s ats ends : List ℕ) (n : ℕ) (xss : List (List Text)) (w : SetRuns s ats ends n xss) (j : ℕ) (h : j < n) where
   abbrev this : List Text
   this = get_or xss j []
 
-  least-next : (v : List Text) → take 1 (union texts (value_at s best) (smallest texts this)) ≡ v → v ≡ smallest texts (flatten (take (j + 1) xss))
-  least-next v e =
-      let l : j < length xss = omega (arith, w.long) in
-      sym e
-      ∙ ap (λ (v : List Text). take 1 (union texts v (smallest texts this))) b.least
-      ∙ sym (smallest-snoc texts (take j xss) this)
-      ∙ ap (λ (z : List (List Text)). smallest texts (flatten z)) (sym (take-suc xss j [] l) ∙ ap (λ (m : ℕ). take m xss) (sym (add-one j)))
+  module _ (best : Option Least) (before : List ℕ) (b : LeastTo s ends n xss j best before) where
+    least-next : (v : List Text) → take 1 (union texts (value_at s best) (smallest texts this)) ≡ v → v ≡ smallest texts (flatten (take (j + 1) xss))
+    least-next v e =
+        let l : j < length xss = omega (arith, w.long) in
+        sym e
+        ∙ ap (λ (v : List Text). take 1 (union texts v (smallest texts this))) b.least
+        ∙ sym (smallest-snoc texts (take j xss) this)
+        ∙ ap (λ (z : List (List Text)). smallest texts (flatten z)) (sym (take-suc xss j [] l) ∙ ap (λ (m : ℕ). take m xss) (sym (add-one j)))
+
+    -- the first of run j is less than all before it
+    least_first :
+        (x : Least) → take 1 (union texts (value_at s best) (smallest texts this)) ≡ least_text s x ∷ [] →
+        Low (least_text s x) (flatten (take j xss)) → j < length ats →
+        SetRun s x.text.end (get_or ends j 0) (passed (least_text s x) this) → LeastTo s ends n xss (j + 1) (Some x) (set ats j x.text.end)
+    unfolding value_at
+    least_first x v low long r = record {
+      least = least-next (least_text s x ∷ []) v;
+      passes = below_more
+          (λ (i : ℕ). i < n → SetRun s (get_or (set ats j x.text.end) i 0) (get_or ends i 0) (passed (least_text s x) (get_or xss i [])))
+          j
+          (λ i l k.
+          let ne : i ≡ j → ⊥ = λ e. omega arith in
+          rw (get_or-set_other ats j i x.text.end 0 ne, passed-low (least_text s x) (get_or xss i []) (λ a m. low a (flat-at xss i j l a m))) (w.each i k))
+          (λ k. rw (get_or-set_same ats j x.text.end 0 long) r);
+      stays = λ i k l. let ne : i ≡ j → ⊥ = λ e. omega arith in rw (get_or-set_other ats j i x.text.end 0 ne) (w.each i l);
+    }
 
   -- the least so far is kept, and is not the first of run j
   least_kept :
+      (best : Option Least) (before : List ℕ) → LeastTo s ends n xss j best before →
       take 1 (union texts (value_at s best) (smallest texts this)) ≡ value_at s best →
-      (best.found ≡ true → passed (least_text s best) this ≡ this) →
-      LeastTo s ends n xss (j + 1) best
-  least_kept v p = record {
-    least = least-next (value_at s best) v;
-    passes = λ f. below_more
-        (λ (i : ℕ). i < n → SetRun s (get_or best.after i 0) (get_or ends i 0) (passed (least_text s best) (get_or xss i [])))
+      IfSome best (λ x. passed (least_text s x) this ≡ this) →
+      LeastTo s ends n xss (j + 1) best before
+  least_kept None before b v p = record { least = least-next None before b (value_at s None) v; passes = tt; stays = tt }
+  least_kept (Some x) before b v p = record {
+    least = least-next (Some x) before b (value_at s (Some x)) v;
+    passes = below_more
+        (λ (i : ℕ). i < n → SetRun s (get_or before i 0) (get_or ends i 0) (passed (least_text s x) (get_or xss i [])))
         j
-        (b.passes f)
-        (λ k. rw (p f) (b.stays f j (omega arith) k));
-    stays = λ f i k. b.stays f i (omega arith);
+        b.passes
+        (λ k. rw p (b.stays j (omega arith) k));
+    stays = λ i k. b.stays i (omega arith);
   }
 
-  module _ (q : ℕ) where
-    -- the least so far is the first of run j too
-    least-both :
-        take 1 (union texts (value_at s best) (smallest texts this)) ≡ value_at s best → j < length best.after →
-        SetRun s q (get_or ends j 0) (passed (least_text s best) this) → LeastTo s ends n xss (j + 1) (onward best j q)
-    unfolding value_at
-    least-both v long r = record {
-      least = least-next (value_at s best) v;
-      passes = λ f. below_more
-          (λ (i : ℕ). i < n → SetRun s (get_or (set best.after j q) i 0) (get_or ends i 0) (passed (least_text s best) (get_or xss i [])))
-          j
-          (λ i l k. let ne : i ≡ j → ⊥ = λ e. omega arith in rw (get_or-set_other best.after j i q 0 ne) (b.passes f i l k))
-          (λ k. rw (get_or-set_same best.after j q 0 long) r);
-      stays = λ f i k l. let ne : i ≡ j → ⊥ = λ e. omega arith in rw (get_or-set_other best.after j i q 0 ne) (b.stays f i (omega arith) l);
-    }
-
-    -- the first of run j is less than all before it
-    module _ (p : ℕ) where
-      least_first :
-          take 1 (union texts (value_at s best) (smallest texts this)) ≡ part s p q ∷ [] → Low (part s p q) (flatten (take j xss)) → j < length ats →
-          SetRun s q (get_or ends j 0) (passed (part s p q) this) → LeastTo s ends n xss (j + 1) (head_of ats j p q)
-      unfolding value_at
-      least_first v low long r = record {
-        least = least-next (part s p q ∷ []) v;
-        passes = λ f. below_more
-            (λ (i : ℕ). i < n → SetRun s (get_or (set ats j q) i 0) (get_or ends i 0) (passed (part s p q) (get_or xss i [])))
-            j
-            (λ i l k.
-            let ne : i ≡ j → ⊥ = λ e. omega arith in
-            rw (get_or-set_other ats j i q 0 ne, passed-low (part s p q) (get_or xss i []) (λ a m. low a (flat-at xss i j l a m))) (w.each i k))
-            (λ k. rw (get_or-set_same ats j q 0 long) r);
-        stays = λ f i k l. let ne : i ≡ j → ⊥ = λ e. omega arith in rw (get_or-set_other ats j i q 0 ne) (w.each i l);
-      }
-
-module _ (s : List ℕ) (best : Told) (ats : List ℕ) (j end : ℕ) where
-  lesser-none : RightLeast s best → ((xs : List Text) → SetRun s (get_or ats j 0) end xs → xs ≡ []) → Lesser s best ats j end best
-  unfolding passed
-  lesser-none r k = record {
-    right = r;
-    more = λ ends n xss w h e b.
-        let z : get_or xss j [] ≡ [] = k (get_or xss j []) (rw e at (w.each j h)) in
-        least_kept s ats ends n xss w j h best b (rw z (value-nil s best)) (λ f. rw z);
+  -- the least so far is the first of run j too
+  least-both :
+      (x : Least) (before : List ℕ) → LeastTo s ends n xss j (Some x) before → (q : ℕ) →
+      take 1 (union texts (value_at s (Some x)) (smallest texts this)) ≡ value_at s (Some x) → j < length before →
+      SetRun s q (get_or ends j 0) (passed (least_text s x) this) → LeastTo s ends n xss (j + 1) (Some x) (set before j q)
+  least-both x before b q v long r = record {
+    least = least-next (Some x) before b (value_at s (Some x)) v;
+    passes = below_more
+        (λ (i : ℕ). i < n → SetRun s (get_or (set before j q) i 0) (get_or ends i 0) (passed (least_text s x) (get_or xss i [])))
+        j
+        (λ i l k. let ne : i ≡ j → ⊥ = λ e. omega arith in rw (get_or-set_other before j i q 0 ne) (b.passes i l k))
+        (λ k. rw (get_or-set_same before j q 0 long) r);
+    stays = λ i k l. let ne : i ≡ j → ⊥ = λ e. omega arith in rw (get_or-set_other before j i q 0 ne) (b.stays i (omega arith) l);
   }
-
-  module _ (l : length s < 2 ^ 64) (some : get_or ats j 0 < end) (p q : ℕ) (w : HeadIs form.Texts s (get_or ats j 0) p q) where
-    abbrev first-text : Text
-    first-text = part s p q
-
-    run-first : (xs : List Text) → SetRun s (get_or ats j 0) end xs → First form.Texts xs first-text (drop q s) (drop end s)
-    run-first xs r = set_first s (get_or ats j 0) end l some p q w xs r
-
-    run-passed : (m : Text) → first-text ≡ m → (xs : List Text) → SetRun s (get_or ats j 0) end xs → SetRun s q end (passed m xs)
-    unfolding passed
-    run-passed m e xs r =
-        let f = run-first xs r in
-        rw (f.all, (equal-true texts first-text m).1 e) (set_rest s end q xs first-text w.within r.within f)
-
-    first-passed : (xs : List Text) → SetRun s (get_or ats j 0) end xs → SetRun s q end (passed first-text xs)
-    first-passed = run-passed first-text refl
-
-    run-least : (xs : List Text) → SetRun s (get_or ats j 0) end xs → smallest texts xs ≡ first-text ∷ []
-    run-least = set-smallest s (get_or ats j 0) end l some p q w
-
-    lesser-first : j < length ats → best.found ≡ false → Lesser s best ats j end (head_of ats j p q)
-    lesser-first long f = record {
-      right = λ t. w;
-      more = λ ends n xss v h e b.
-          let r : SetRun s (get_or ats j 0) end (get_or xss j []) = rw e at (v.each j h) in
-          let none_yet = value_none s best f in
-          least_first s ats ends n xss v j h best b q p
-          (rw (none_yet, run-least (get_or xss j []) r) (ap (take 1) (union-left-nil texts (first-text ∷ []))))
-          (low-none first-text (flatten (take j xss)) (sym b.least ∙ none_yet))
-          long
-          (rw e (first-passed (get_or xss j []) r));
-    }
-
-    module _ (f : best.found ≡ true) where
-      picked : (o : Ordering) → texts.cmp first-text (least_text s best) ≡ o → (xs : List Text) → SetRun s (get_or ats j 0) end xs →
-          take 1 (union texts (value_at s best) (smallest texts xs)) ≡ pick (flip o) (least_text s best ∷ []) (least_text s best ∷ []) (first-text ∷ [])
-      picked o c xs r =
-          ap₂ (λ (u v : List Text). take 1 (union texts u v)) (value-some s best f) (run-least xs r)
-          ∙ smaller texts (least_text s best) first-text
-          ∙ ap (λ (o : Ordering). pick o (least_text s best ∷ []) (least_text s best ∷ []) (first-text ∷ []))
-          (texts.turn first-text (least_text s best) ∙ ap flip c)
-
-      lesser-less : j < length ats → texts.cmp first-text (least_text s best) ≡ Ordering.lt →
-          Lesser s best ats j end (head_of ats j p q)
-      lesser-less long c = record {
-        right = λ t. w;
-        more = λ ends n xss v h e b.
-            let r : SetRun s (get_or ats j 0) end (get_or xss j []) = rw e at (v.each j h) in
-            least_first s ats ends n xss v j h best b q p
-            (picked Ordering.lt c (get_or xss j []) r)
-            (low-less first-text (least_text s best) (flatten (take j xss)) (sym b.least ∙ value-some s best f) c)
-            long
-            (rw e (first-passed (get_or xss j []) r));
-      }
-
-      lesser-both : RightLeast s best → j < length best.after → texts.cmp first-text (least_text s best) ≡ Ordering.eq →
-          Lesser s best ats j end (onward best j q)
-      lesser-both right long c = record {
-        right = right;
-        more = λ ends n xss v h e b.
-            let r : SetRun s (get_or ats j 0) end (get_or xss j []) = rw e at (v.each j h) in
-            least-both s ats ends n xss v j h best b q
-            (picked Ordering.eq c (get_or xss j []) r ∙ sym (value-some s best f))
-            long
-            (rw e (run-passed (least_text s best) (texts.same first-text (least_text s best) c) (get_or xss j []) r));
-      }
-
-      lesser-kept : RightLeast s best → texts.cmp first-text (least_text s best) ≡ Ordering.gt → Lesser s best ats j end best
-      unfolding passed
-      lesser-kept right c = record {
-        right = right;
-        more = λ ends n xss v h e b.
-            let r : SetRun s (get_or ats j 0) end (get_or xss j []) = rw e at (v.each j h) in
-            let ne : first-text ≡ least_text s best → ⊥ = λ q. never (cc (c, texts.self first-text)) in
-            least_kept s ats ends n xss v j h best b
-            (picked Ordering.gt c (get_or xss j []) r ∙ sym (value-some s best f))
-            (λ t. rw ((run-first (get_or xss j []) r).all, (equal-false texts first-text (least_text s best)).1 ne));
-      }
 
 -- ---- the answers of `lesser`
 
--- run j is taken in, and where nothing is found the runs still go on as they did
-abbrev pub Answer : List ℕ → Told → List ℕ → ℕ → ℕ → Told → Type 0
-Answer s best ats j end r = Lesser s best ats j end r × (r.found ≡ false → r.after ≡ ats)
+module _ {s : List ℕ} {best : Option Least} {before ats : List ℕ} {j end : ℕ} (right : RightLeast s ats best before) where
+  lesser-none : ((xs : List Text) → SetRun s (get_or ats j 0) end xs → xs ≡ []) → Lesser s best before ats j end best before
+  unfolding passed
+  lesser-none k = record {
+    right = right;
+    more = λ ends n xss w h e b.
+        let z : get_or xss j [] ≡ [] = k (get_or xss j []) (rw e at (w.each j h)) in
+        least_kept s ats ends n xss w j h best before b (rw z (value-nil s best)) (kept-nil best z);
+  }
+    where
+      kept-nil : (r : Option Least) {xs : List Text} → xs ≡ [] → IfSome r (λ x. passed (least_text s x) xs ≡ xs)
+      kept-nil None e = tt
+      kept-nil (Some x) e = rw e
 
-module _ {s : List ℕ} {best : Told} {ats : List ℕ} {j end : ℕ} (right : RightLeast s best) (fresh : best.found ≡ false → best.after ≡ ats) where
-  pub answer-end : end ≤ get_or ats j 0 → Answer s best ats j end best
-  answer-end h = (lesser-none s best ats j end right (λ xs r. set-end s (get_or ats j 0) end xs h r), fresh)
+  pub answer-end : end ≤ get_or ats j 0 → Lesser s best before ats j end best before
+  answer-end h = lesser-none (λ xs r. set-end s (get_or ats j 0) end xs h r)
 
-  pub answer-no-head : length s < 2 ^ 64 → NoHead form.Texts s (get_or ats j 0) → Answer s best ats j end best
-  answer-no-head l h = (lesser-none s best ats j end right (set-no-head s (get_or ats j 0) end l h), fresh)
+  pub answer-no-head : length s < 2 ^ 64 → NoHead form.Texts s (get_or ats j 0) → Lesser s best before ats j end best before
+  answer-no-head l h = lesser-none (set-no-head s (get_or ats j 0) end l h)
 
--- the value from p up to q stands first in run j
-pub record HeadOf (s : List ℕ) (best : Told) (ats : List ℕ) (j end p q : ℕ) : Type 0 where
+-- the value x stands first in run j
+pub record HeadOf (s ats : List ℕ) (j end : ℕ) (x : Least) : Type 0 where
   pub short : length s < 2 ^ 64
-  pub some : get_or ats j 0 < end
-  pub in-ats : j < length ats
-  pub in_after : j < length best.after
-  pub right : RightLeast s best
-  pub fresh : best.found ≡ false → best.after ≡ ats
-  pub head : HeadIs form.Texts s (get_or ats j 0) p q
+  pub start : x.start ≡ get_or ats j 0
+  pub some : x.start < end
+  pub inside : j < length ats
+  pub head : HeadIs form.Texts s x.start x.text.start x.text.end
 
-module _ {s : List ℕ} {best : Told} {ats : List ℕ} {j end p q : ℕ} (w : HeadOf s best ats j end p q) where
-  -- it is the answer, where run j went on as the others in l
-  taken :
-      (l : List ℕ) → l ≡ ats → Lesser s best ats j end (head_of ats j p q) →
-      Answer s best ats j end (record { found = true; start = get_or ats j 0; value = p; end = q; after = set l j q })
-  taken l e v = (
-    subst
-        (λ (m : List ℕ). Lesser s best ats j end (record { found = true; start = get_or ats j 0; value = p; end = q; after = set m j q }))
-        (sym e)
-        v,
-    λ t. never (cc t),
-  )
+module _ {s ats : List ℕ} {j end : ℕ} {x : Least} (w : HeadOf s ats j end x) where
+  abbrev first-text : Text
+  first-text = least_text s x
 
-  pub first-answer :
-      best.found ≡ false → Answer s best ats j end (record { found = true; start = get_or ats j 0; value = p; end = q; after = set best.after j q })
-  first-answer f = taken best.after (w.fresh f) (lesser-first s best ats j end w.short w.some p q w.head w.in-ats f)
+  run-at : (xs : List Text) → SetRun s (get_or ats j 0) end xs → SetRun s x.start end xs
+  run-at xs r = rw w.start r
 
-  -- the least so far, with which it is compared, stands in s too
-  pub least-inside : best.found ≡ true → (p ≤ q) × (q ≤ length s) × (best.value ≤ best.end) × (best.end ≤ length s)
-  least-inside f = let least = w.right f in (w.head.order, w.head.within, least.order, least.within)
+  run-first : (xs : List Text) → SetRun s (get_or ats j 0) end xs → First form.Texts xs first-text (drop x.text.end s) (drop end s)
+  run-first xs r = set_first s x.start end w.short w.some x.text.start x.text.end w.head xs (run-at xs r)
 
-  pub record Compared (r : ℕ) : Type 0 where
-    pub found : best.found ≡ true
-    pub order : r ≡ order_number (texts.cmp (part s p q) (least_text s best))
+  run-passed : (m : Text) → first-text ≡ m → (xs : List Text) → SetRun s (get_or ats j 0) end xs → SetRun s x.text.end end (passed m xs)
+  unfolding passed
+  run-passed m e xs r =
+      let f = run-first xs r in
+      rw (f.all, (equal-true texts first-text m).1 e) (set_rest s end x.text.end xs first-text w.head.within r.within f)
 
-module _ {s : List ℕ} {best : Told} {ats : List ℕ} {j end p q r : ℕ} {w : HeadOf s best ats j end p q} (v : Compared w r) where
-  pub less-answer :
-      r ≡ 0 → {l : List ℕ} → l ≡ ats →
-      Answer s best ats j end (record { found = true; start = get_or ats j 0; value = p; end = q; after = set l j q })
-  less-answer e {l} g =
-      taken w l g
-      (lesser-less s best ats j end w.short w.some p q w.head v.found w.in-ats (sym (number-less _ v.order e)))
+  first-passed : (xs : List Text) → SetRun s (get_or ats j 0) end xs → SetRun s x.text.end end (passed first-text xs)
+  first-passed = run-passed first-text refl
 
-  pub both-answer : r ≡ 1 → Answer s best ats j end (onward best j q)
-  both-answer e = (
-    lesser-both s best ats j end w.short w.some p q w.head v.found w.right w.in_after (sym (number-equal _ v.order e)),
-    λ t. never (cc (sym v.found ∙ t)),
-  )
+  run-least : (xs : List Text) → SetRun s (get_or ats j 0) end xs → smallest texts xs ≡ first-text ∷ []
+  run-least xs r = set-smallest s x.start end w.short w.some x.text.start x.text.end w.head xs (run-at xs r)
 
-  pub kept-answer : 2 ≤ r → Answer s best ats j end best
-  kept-answer e =
-      (lesser-kept s best ats j end w.short w.some p q w.head v.found w.right (sym (number_more _ v.order e)), w.fresh)
+  pub first-answer : (before : List ℕ) → before ≡ ats → Lesser s None before ats j end (Some x) (set before j x.text.end)
+  first-answer before f = rw f record {
+    right = w.head;
+    more = λ ends n xss v h e b.
+        let r : SetRun s (get_or ats j 0) end (get_or xss j []) = rw e at (v.each j h) in
+        let none_yet = value_none s in
+        least_first s ats ends n xss v j h None ats b x
+        (rw (none_yet, run-least (get_or xss j []) r) (ap (take 1) (union-left-nil texts (first-text ∷ []))))
+        (low-none first-text (flatten (take j xss)) (sym b.least ∙ none_yet))
+        w.inside
+        (rw e (first-passed (get_or xss j []) r));
+  }
+
+  -- it is compared with the least so far
+  picked :
+      (least : Least) (o : Ordering) → o ≡ texts.cmp first-text (least_text s least) → (xs : List Text) → SetRun s (get_or ats j 0) end xs →
+      take 1 (union texts (value_at s (Some least)) (smallest texts xs))
+      ≡ pick (flip o) (least_text s least ∷ []) (least_text s least ∷ []) (first-text ∷ [])
+  picked least o c xs r =
+      ap₂ (λ (u v : List Text). take 1 (union texts u v)) (value-some s least) (run-least xs r)
+      ∙ smaller texts (least_text s least) first-text
+      ∙ ap (λ (o : Ordering). pick o (least_text s least ∷ []) (least_text s least ∷ []) (first-text ∷ []))
+      (texts.turn first-text (least_text s least) ∙ ap flip (sym c))
+
+  module _ {least : Least} {before : List ℕ} where
+    pub less-answer : Ordering.lt ≡ texts.cmp first-text (least_text s least) →
+        Lesser s (Some least) before ats j end (Some x) (set ats j x.text.end)
+    less-answer c = record {
+      right = w.head;
+      more = λ ends n xss v h e b.
+          let r : SetRun s (get_or ats j 0) end (get_or xss j []) = rw e at (v.each j h) in
+          least_first s ats ends n xss v j h (Some least) before b x
+          (picked least Ordering.lt c (get_or xss j []) r)
+          (low-less first-text (least_text s least) (flatten (take j xss)) (sym b.least ∙ value-some s least) (sym c))
+          w.inside
+          (rw e (first-passed (get_or xss j []) r));
+    }
+
+    pub both-answer : HeadIs form.Texts s least.start least.text.start least.text.end → j < length before →
+        Ordering.eq ≡ texts.cmp first-text (least_text s least) →
+        Lesser s (Some least) before ats j end (Some least) (set before j x.text.end)
+    both-answer right long c = record {
+      right = right;
+      more = λ ends n xss v h e b.
+          let r : SetRun s (get_or ats j 0) end (get_or xss j []) = rw e at (v.each j h) in
+          least-both s ats ends n xss v j h least before b x.text.end
+          (picked least Ordering.eq c (get_or xss j []) r ∙ sym (value-some s least))
+          long
+          (rw e (run-passed (least_text s least) (texts.same first-text (least_text s least) (sym c)) (get_or xss j []) r));
+    }
+
+    pub kept-answer : HeadIs form.Texts s least.start least.text.start least.text.end →
+        Ordering.gt ≡ texts.cmp first-text (least_text s least) →
+        Lesser s (Some least) before ats j end (Some least) before
+    unfolding passed
+    kept-answer right c = record {
+      right = right;
+      more = λ ends n xss v h e b.
+          let r : SetRun s (get_or ats j 0) end (get_or xss j []) = rw e at (v.each j h) in
+          let ne : first-text ≡ least_text s least → ⊥ = λ q. never (cc (c, texts.self first-text)) in
+          least_kept s ats ends n xss v j h (Some least) before b
+          (picked least Ordering.gt c (get_or xss j []) r ∙ sym (value-some s least))
+          (rw ((run-first (get_or xss j []) r).all, (equal-false texts first-text (least_text s least)).1 ne));
+    }
 
 -- ---- the least of the first values of all runs
 
 -- nothing is found in no runs
-least-none : (s ends : List ℕ) (n : ℕ) (xss : List (List Text)) (r : Told) → r.found ≡ false → LeastTo s ends n xss 0 r
+least-none : (s ends : List ℕ) (n : ℕ) (xss : List (List Text)) (after : List ℕ) → LeastTo s ends n xss 0 None after
 unfolding smallest canon flatten
-least-none s ends n xss r f = record {
-  least = value_none s r f;
-  passes = λ t i h. absurd (omega arith);
-  stays = λ t. never (cc);
-}
+least-none s ends n xss after = record { least = value_none s; passes = tt; stays = tt }
 
 get_d-passed : (m : Text) (xss : List (List Text)) (j : ℕ) → get_or (map (passed m) xss) j [] ≡ passed m (get_or xss j [])
 unfolding passed
@@ -464,34 +411,35 @@ length-map m [] = refl
 length-map m (xs ∷ xss) = ap suc (length-map m xss)
 
 -- the first j of n runs are looked at
-pub record LeastSofar (s ats ends : List ℕ) (n j : ℕ) (r : Told) : Type 0 where
-  pub within : j ≤ n
-  pub right : RightLeast s r
-  pub fresh : r.found ≡ false → r.after ≡ ats
-  pub least : (xss : List (List Text)) → SetRuns s ats ends n xss → LeastTo s ends n xss j r
+pub record LeastSofar (s ats ends : List ℕ) (n j : ℕ) (r : Option Least) (after : List ℕ) : Type 0 where
+  pub right : RightLeast s ats r after
+  pub least : (xss : List (List Text)) → SetRuns s ats ends n xss → LeastTo s ends n xss j r after
 
-pub sofar-none : {s ats ends : List ℕ} {n : ℕ} {r : Told} → r.found ≡ false → r.after ≡ ats → LeastSofar s ats ends n 0 r
-sofar-none {s} {ats} {ends} {n} {r} f e =
-    record { within = omega arith; right = λ t. never (cc (sym f ∙ t)); fresh = λ t. e; least = λ xss v. least-none s ends n xss r f }
+pub sofar-none : {s ats ends : List ℕ} {n : ℕ} → LeastSofar s ats ends n 0 None ats
+sofar-none {s} {ats} {ends} {n} = record { right = refl; least = λ xss v. least-none s ends n xss ats }
 
-module _ {s ats ends : List ℕ} {n j : ℕ} {r : Told} (w : LeastSofar s ats ends n j r) where
-  pub sofar-on : {t : Told} → j < n → Answer s r ats j (get_or ends j 0) t → LeastSofar s ats ends n (j + 1) t
-  sofar-on h v = record {
-    within = omega arith;
-    right = v.0.right;
-    fresh = v.1;
-    least = λ xss k. v.0.more ends n xss k h refl (w.least xss k);
-  }
+module _ {s ats ends : List ℕ} {n j : ℕ} {r : Option Least} {before : List ℕ} (w : LeastSofar s ats ends n j r before) where
+  pub sofar-on :
+      {t : Option Least} {after : List ℕ} → j < n → Lesser s r before ats j (get_or ends j 0) t after → LeastSofar s ats ends n (j + 1) t after
+  sofar-on h v = record { right = v.right; least = λ xss k. v.more ends n xss k h refl (w.least xss k) }
 
-  pub sofar-all : n ≤ j → IsLeast s ats ends n r
-  sofar-all h = record {
-    right = w.right;
-    is = λ xss v. (w.least xss v).least ∙ ap (λ (z : List (List Text)). smallest texts (flatten z)) (take_all j xss (omega (arith, v.long)));
-    goes = λ xss v f. record {
-      long = length-map (least_text s r) xss ∙ v.long;
-      each = λ i l. rw (get_d-passed (least_text s r) xss i) ((w.least xss v).passes f i (omega arith) l);
-    };
-  }
+pub sofar-all :
+    {s ats ends : List ℕ} {n j : ℕ} {r : Option Least} {after : List ℕ} → LeastSofar s ats ends n j r after → n ≡ j → IsLeast s ats ends n r after
+sofar-all {s} {ats} {ends} {n} {j} {r} {after} w h = record {
+  right = w.right;
+  is = λ xss v. (w.least xss v).least ∙ ap (λ (z : List (List Text)). smallest texts (flatten z)) (take_all j xss (omega (arith, v.long)));
+  goes = λ xss v. goes-on r xss v ((w.least xss v).passes);
+}
+  where
+    goes-on :
+        (r : Option Least) (xss : List (List Text)) → SetRuns s ats ends n xss →
+        IfSome r (λ x. (i : ℕ) → i < j → i < n → SetRun s (get_or after i 0) (get_or ends i 0) (passed (least_text s x) (get_or xss i []))) →
+        IfSome r (λ x. SetRuns s after ends n (map (passed (least_text s x)) xss))
+    goes-on None xss v k = tt
+    goes-on (Some x) xss v k = record {
+      long = length-map (least_text s x) xss ∙ v.long;
+      each = λ i l. rw (get_d-passed (least_text s x) xss i) (k i (omega arith) l);
+    }
 
 -- ---- the union of all runs from here on
 
@@ -505,21 +453,24 @@ all-ups : (xss : List (List Text)) → ((j : ℕ) → j < length xss → rising 
 all-ups [] h = tt
 all-ups (xs ∷ xss) h = ((rising-ups texts xs).0 (h 0 (omega arith)), all-ups xss (λ j l. h (suc j) (omega arith)))
 
-module _ {s ats ends : List ℕ} {n : ℕ} {P : List Text → Type 0} (g : Merging s ats ends n P) {r : Told} (w : IsLeast s ats ends n r) where
-  merging-first : r.found ≡ true → P (least_text s r ∷ canon texts (flatten (map (passed (least_text s r)) g.xss)))
-  merging-first f =
+module _ {s ats ends : List ℕ} {n : ℕ} {P : List Text → Type 0} (g : Merging s ats ends n P) {after : List ℕ} where
+  merging-first :
+      {x : Least} → IsLeast s ats ends n (Some x) after → P (least_text s x ∷ canon texts (flatten (map (passed (least_text s x)) g.xss)))
+  merging-first {x} w =
       let ups = all-ups g.xss (λ j l. (g.runs.each j (omega (arith, g.runs.long))).rises) in
-      subst P (canon-least g.xss (least_text s r) ups (sym (w.is g.xss g.runs) ∙ value-some s r f)) g.so
+      subst P (canon-least g.xss (least_text s x) ups (sym (w.is g.xss g.runs) ∙ value-some s x)) g.so
 
-  merging-on : (Q : List Text → Type 0) → r.found ≡ true → ((zs : List Text) → P (least_text s r ∷ zs) → Q zs) → Merging s r.after ends n Q
-  merging-on Q f k = record {
-    xss = map (passed (least_text s r)) g.xss;
-    runs = w.goes g.xss g.runs f;
-    so = k (canon texts (flatten (map (passed (least_text s r)) g.xss))) (merging-first f);
+  merging-on :
+      {x : Least} → IsLeast s ats ends n (Some x) after → (Q : List Text → Type 0) → ((zs : List Text) → P (least_text s x ∷ zs) → Q zs) →
+      Merging s after ends n Q
+  merging-on {x} w Q k = record {
+    xss = map (passed (least_text s x)) g.xss;
+    runs = w.goes g.xss g.runs;
+    so = k (canon texts (flatten (map (passed (least_text s x)) g.xss))) (merging-first w);
   }
 
-  merging-none : r.found ≡ false → P []
-  merging-none f = subst P (canon-none (flatten g.xss) (sym (w.is g.xss g.runs) ∙ value_none s r f)) g.so
+  merging-none : IsLeast s ats ends n None after → P []
+  merging-none w = subst P (canon-none (flatten g.xss) (sym (w.is g.xss g.runs) ∙ value_none s)) g.so
 
 -- ---- the steps of writing the union
 
@@ -532,30 +483,30 @@ written_none : (l : List ℕ) (at : ℕ) (zs : List Text) → Written l at zs l 
 written_none l at zs = record { go = to-go; counted = omega arith }
 
 module _ {s ats ends : List ℕ} {n : ℕ} {l₀ l : List ℕ} {all : List Text} {at p count : ℕ}
-    (g : Merging s ats ends n (Written l₀ at all l p count)) {r : Told} (w : IsLeast s ats ends n r) where
-  merged-wrote : r.found ≡ false → Wrote l₀ at (flatten (map text all)) l p
+    (g : Merging s ats ends n (Written l₀ at all l p count)) {after : List ℕ} where
+  merged-wrote : IsLeast s ats ends n None after → Wrote l₀ at (flatten (map text all)) l p
   unfolding flatten
-  merged-wrote f = all-gone (merging-none g w f).go refl
+  merged-wrote w = all-gone (merging-none g w).go refl
 
-  merged-counted : r.found ≡ false → count ≡ length all
-  merged-counted f = omega (arith, (merging-none g w f).counted)
+  merged-counted : IsLeast s ats ends n None after → count ≡ length all
+  merged-counted w = omega (arith, (merging-none g w).counted)
 
-  module _ (f : r.found ≡ true) where
-    head_bytes : part s r.start r.end ≡ written form.Texts (least_text s r)
-    head_bytes = head-part form.Texts s r.start r.value r.end (w.right f)
+  module _ {x : Least} (w : IsLeast s ats ends n (Some x) after) where
+    head_bytes : part s x.start x.text.end ≡ written form.Texts (least_text s x)
+    head_bytes = head-part form.Texts s x.start x.text.start x.text.end w.right
 
-    least-room : at + length (flatten (map text all)) ≤ length l₀ → p + length (part s r.start r.end) ≤ length l
+    least-room : at + length (flatten (map text all)) ≤ length l₀ → p + length (part s x.start x.text.end) ≤ length l
     unfolding written
     least-room h =
-        let rest = canon texts (flatten (map (passed (least_text s r)) g.xss)) in
-        write-room form.Texts (least_text s r) rest (part s r.start r.end) h head_bytes (merging-first g w f).go
+        let rest = canon texts (flatten (map (passed (least_text s x)) g.xss)) in
+        write-room form.Texts (least_text s x) rest (part s x.start x.text.end) h head_bytes (merging-first g w).go
 
     least-wrote :
-        {l₁ : List ℕ} {p₁ : ℕ} → Wrote l p (part s r.start r.end) l₁ p₁ →
-        Merging s r.after ends n (Written l₀ at all l₁ p₁ (count + 1))
+        {l₁ : List ℕ} {p₁ : ℕ} → Wrote l p (part s x.start x.text.end) l₁ p₁ →
+        Merging s after ends n (Written l₀ at all l₁ p₁ (count + 1))
     unfolding written
-    least-wrote {l₁} {p₁} o = merging-on g w (Written l₀ at all l₁ p₁ (count + 1)) f (λ zs h. record {
-      go = write-next form.Texts (least_text s r) zs (part s r.start r.end) o head_bytes h.go;
+    least-wrote {l₁} {p₁} o = merging-on g w (Written l₀ at all l₁ p₁ (count + 1)) (λ zs h. record {
+      go = write-next form.Texts (least_text s x) zs (part s x.start x.text.end) o head_bytes h.go;
       counted = omega (arith, h.counted);
     })
 
@@ -580,38 +531,31 @@ merges-none h = record {
 }
 
 module _ {s starts ends : List ℕ} {n : ℕ} {out₀ : List ℕ} {at : ℕ} {out left : List ℕ} {next count : ℕ}
-    (w : Merges s starts ends n out₀ at out left next count) {r : Told} (l : IsLeast s left ends n r) where
+    (w : Merges s starts ends n out₀ at out left next count) {after : List ℕ} where
   -- no run has a value left
-  pub merges-all :
-      r.found ≡ false →
-      ((xss : List (List Text)) → SetRuns s starts ends n xss → Wrote out₀ at (flatten (map text (canon texts (flatten xss)))) out next)
-      × ((xss : List (List Text)) → SetRuns s starts ends n xss → count ≡ length (canon texts (flatten xss)))
-  merges-all f = (λ xss v. merged-wrote (w.merging xss v) l f, λ xss v. merged-counted (w.merging xss v) l f)
+  module _ (l : IsLeast s left ends n None after) where
+    pub merges-wrote : (xss : List (List Text)) → SetRuns s starts ends n xss → Wrote out₀ at (flatten (map text (canon texts (flatten xss)))) out next
+    merges-wrote xss v = merged-wrote (w.merging xss v) l
+
+    pub merges-counted : (xss : List (List Text)) → SetRuns s starts ends n xss → count ≡ length (canon texts (flatten xss))
+    merges-counted xss v = merged-counted (w.merging xss v) l
 
   -- the least is found: it has its room, and takes a byte at least
-  pub record Found : Type 0 where
-    pub found : r.found ≡ true
-    pub fits : (r.start ≤ r.end) × (r.end ≤ length s) × (next + length (part s r.start r.end) ≤ length out)
-    pub some : 1 ≤ length (part s r.start r.end)
+  module _ {x : Least} (l : IsLeast s left ends n (Some x) after) where
+    pub least-fits : (x.start ≤ x.text.end) × (x.text.end ≤ length s) × (next + length (part s x.start x.text.end) ≤ length out)
+    least-fits =
+        let head = l.right in
+        (omega (arith, head.after), head.within, least-room (w.merging w.wanted.xss w.wanted.runs) l w.wanted.room)
 
-  pub least-found : r.found ≡ true → Found
-  least-found f =
-      let head = l.right f in
-      let order : r.start ≤ r.end = omega (arith, head.after) in
-      record {
-        found = f;
-        fits = (order, head.within, least-room (w.merging w.wanted.xss w.wanted.runs) l f w.wanted.room);
-        some = omega (arith, head.after, part_length s r.start r.end order head.within);
-      }
+    pub least-some : 1 ≤ length (part s x.start x.text.end)
+    least-some = let head = l.right in omega (arith, head.after, part_length s x.start x.text.end (omega (arith, head.after)) head.within)
 
-module _ {s starts ends : List ℕ} {n : ℕ} {out₀ : List ℕ} {at : ℕ} {out left : List ℕ} {next count : ℕ}
-    {w : Merges s starts ends n out₀ at out left next count} {r : Told} {l : IsLeast s left ends n r} (v : Found w l) where
-  pub merges-on :
-      {out₁ : List ℕ} {p₁ : ℕ} → Wrote out next (part s r.start r.end) out₁ p₁ →
-      Merges s starts ends n out₀ at out₁ r.after p₁ (count + 1)
-  merges-on o = record {
-    wanted = w.wanted;
-    long = wrote-length o ∙ w.long;
-    few = omega (arith, w.few, v.some, o.after);
-    merging = λ xss h. least-wrote (w.merging xss h) l v.found o;
-  }
+    pub merges-on :
+        {out₁ : List ℕ} {p₁ : ℕ} → Wrote out next (part s x.start x.text.end) out₁ p₁ →
+        Merges s starts ends n out₀ at out₁ after p₁ (count + 1)
+    merges-on o = record {
+      wanted = w.wanted;
+      long = wrote-length o ∙ w.long;
+      few = omega (arith, w.few, least-some, o.after);
+      merging = λ xss h. least-wrote (w.merging xss h) l o;
+    }

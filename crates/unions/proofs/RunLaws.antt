@@ -8,6 +8,9 @@ use Prim.Native.Nat.{ℕ, suc, ◌+◌, ◌-◌, ◌^◌, ◌≤◌, ◌<◌}
 use native.Mathlib.Omega.{arith}
 use lib.ListN.{length, take, drop, length-append, length-drop, take-append-drop}
 use lib.Seq.{drop-drop, take_at, drop_at}
+use lib.Dec.{leb}
+use borrow.Author.Tests.{leb-true, leb-false}
+use Rattle.model.proofs.Cases.{truth}
 use Rattle.model.specs.Order.{Text, texts, rising, pick}
 use Rattle.model.specs.Sets.{Ups, union}
 use Rattle.model.proofs.SetLaws.{rising-ups}
@@ -15,21 +18,18 @@ use Rattle.model.proofs.StepLaws.{union-step, union-left-nil, union-right-nil}
 use Rattle.packed.specs.Parse.{fail, got}
 use Rattle.packed.specs.Packed.{text, read_text, part}
 use Rattle.packed.specs.code.Located.{text_at}
-use Rattle.packed.specs.declared.read.TextAt.{TextAt}
-use Rattle.packed.specs.declared.read.TextAt.TheVariants as at
 use Rattle.packed.proofs.LayoutLaws.{All, text-read, text-was, text-length, number-bounds, flat}
 use Rattle.packed.proofs.ReadLaws.{text-stops, text-none, part_length, to_end, stretch}
 use Rattle.packed.specs.code.Written.{Wrote, ToGo}
 use Rattle.packed.proofs.WriteLaws.{to-go, gone, all-gone, wrote-length}
-use Rattle.packed.specs.code.Comparison.{order_number}
-use Rattle.packed.proofs.OrderLaws.{number-less, number-equal, number_more}
 use Rattle.unions.specs.declared.heads.Form.{Form}
 use Rattle.unions.specs.declared.heads.Form.TheVariants as form
 use Rattle.unions.specs.declared.pair.Joined.{Joined}
-use Rattle.unions.specs.declared.pair.Step.{Step}
-use Rattle.unions.specs.declared.pair.Step.TheVariants.{Next, Alone}
 use Rattle.unions.specs.code.Runs.{written, fits, run, Hashes, Run, HeadIs, NoHead, Heads, Room, TextsRoom, HashesRoom}
-use Rattle.unions.specs.code.Runs.{StepIs, Stepped, IsAlone, Steps, WroteUnion}
+use Rattle.unions.specs.code.Runs.{StepIs, Stepped, IsAlone, WroteUnion}
+use Rattle.std.specs.Prelude.{Option, Some, None}
+use Rattle.std.specs.Bool.{then_some}
+use Rattle.packed.specs.declared.read.TextAt.{TextAt}
 
 -- ---- a value's bytes: never none, and where one value's bytes end the next one's begin
 
@@ -54,13 +54,13 @@ part_then s a e h k =
     let n : a + (e - a) ≡ e = omega arith in
     sym (take-append-drop (e - a) (drop a s)) ∙ ap (λ (r : List ℕ). part s a e ++ r) (drop-drop (e - a) a s ∙ ap (λ (i : ℕ). drop i s) n)
 
-text_head : (s : List ℕ) (i : ℕ) (r : TextAt) → r ≡ text_at s i → Heads form.Texts s i r
+text_head : (s : List ℕ) (i : ℕ) (r : Option TextAt) → r ≡ text_at s i → Heads form.Texts s i r
 unfolding written fits
-text_head s i (at.Text a e) h =
-    let t = text-stops s i a e (sym h) in
-    let w = text-was (drop i s) (part s a e) (drop e s) t.is in
+text_head s i (Some x) h =
+    let t = text-stops s i x (sym h) in
+    let w = text-was (drop i s) (part s x.start x.end) (drop x.end s) t.is in
     record { order = t.order; after = omega (arith, t.after, t.order); within = t.within; fit = w.1; bytes = w.0 }
-text_head s i at.NoText h = record {
+text_head s i None h = record {
   none = λ v r k e.
       let g : got v r ≡ fail = sym (text-read v r k) ∙ ap read_text (sym e) ∙ text-none s i (sym h) in
       let z : ◌≡◌ {A = ℕ} 0 1 = cc in
@@ -68,10 +68,10 @@ text_head s i at.NoText h = record {
 }
 
 -- the steps of finding a head, each for a return of `head_at`
-pub texts-head : (f : Form) (s : List ℕ) (i : ℕ) {r : TextAt} → f ≡ form.Texts → r ≡ text_at s i → Heads f s i r
+pub texts-head : (f : Form) (s : List ℕ) (i : ℕ) {r : Option TextAt} → f ≡ form.Texts → r ≡ text_at s i → Heads f s i r
 texts-head f s i {r} e h = rw e (text_head s i r h)
 
-pub hash-head : {f : Form} {s : List ℕ} {i : ℕ} → f ≡ form.Hashes → i + 20 ≤ length s → HeadIs f s i i (i + 20)
+hash-head : {f : Form} {s : List ℕ} {i : ℕ} → f ≡ form.Hashes → i + 20 ≤ length s → HeadIs f s i i (i + 20)
 unfolding written fits
 hash-head {f} {s} {i} e h =
     let k : i + 20 - i ≡ 20 = omega arith in
@@ -87,12 +87,13 @@ pub no-hash : {f : Form} {s : List ℕ} {i : ℕ} → f ≡ form.Hashes → leng
 unfolding written fits
 no-hash {f} {s} {i} e h = rw e record { none = λ v r k q. omega (arith, ap length q, length-drop i s, length-append v r) }
 
--- what is known of a call's answer in the arm of a `match`
-pub heads-some : {f : Form} {s : List ℕ} {i a e : ℕ} {r : TextAt} → r ≡ at.Text a e → Heads f s i r → HeadIs f s i a e
-heads-some {f} {s} {i} h w = subst (Heads f s i) h w
-
-pub heads-none : {f : Form} {s : List ℕ} {i : ℕ} {r : TextAt} → r ≡ at.NoText → Heads f s i r → NoHead f s i
-heads-none {f} {s} {i} h w = subst (Heads f s i) h w
+pub hash-within :
+    {f : Form} (s : List ℕ) (i : ℕ) {e : ℕ} → f ≡ form.Hashes → e ≡ i + 20 →
+    Heads f s i (then_some (leb e (length s)) (record { start = i; end = e }))
+hash-within {f} s i {e} h q =
+    truth (leb e (length s))
+    (λ t. rw (t, q) (hash-head h (omega (arith, leb-true _ _ t))))
+    (λ t. rw t (no-hash h (omega (arith, leb-false _ _ t))))
 
 -- the value that a run begins with is the one whose bytes stand there
 pub run-head : (f : Form) (s : List ℕ) (u : Text) (us : List Text) (rest : List ℕ) (v : Text) (t : List ℕ) →
@@ -159,11 +160,8 @@ module _ {f : Form} {s : List ℕ} {at i n : ℕ} (w : CountingOne f s at i n) w
         record { more = q.more; left = q.left; counted = omega (arith, g.counted, ap length q.all) };
   }
 
-  pub one-all : NoHead f s i → (n ≤ length s - at) × ((xs : List Text) → Run f (drop at s) xs [] → n ≡ length xs)
-  one-all h = (
-    omega (arith, w.high, w.few),
-    λ xs r. let g = w.going xs r in omega (arith, g.counted, ap length (first-none f s i h g.more g.left)),
-  )
+  pub one-all : NoHead f s i → (xs : List Text) → Run f (drop at s) xs [] → n ≡ length xs
+  one-all h xs r = let g = w.going xs r in omega (arith, g.counted, ap length (first-none f s i h g.more g.left))
 
 -- ---- a step through two runs, by the comparison of their heads
 
@@ -238,41 +236,19 @@ module _ {f : Form} {a : List ℕ} {i p x : ℕ} {b : List ℕ} {j q y : ℕ} (h
         };
   }
 
--- a value stands first on both sides, from p up to x and from q up to y
-pub record Both (f : Form) (a : List ℕ) (i : ℕ) (b : List ℕ) (j p x q y : ℕ) : Type 0 where
-  pub left : HeadIs f a i p x
-  pub right : HeadIs f b j q y
+module _ {f : Form} {a : List ℕ} {i : ℕ} {b : List ℕ} {j p x q y : ℕ} (hx : HeadIs f a i p x) (hy : HeadIs f b j q y) where
+  pub step_less : Ordering.lt ≡ texts.cmp (part a p x) (part b q y) → StepIs f a i b j (part a i x) 1 x j
+  step_less o = by_less hx hy (sym o)
 
-pub both-heads :
-    {f : Form} {a : List ℕ} {i : ℕ} {b : List ℕ} {j p x q y : ℕ} {r t : TextAt} →
-    r ≡ at.Text p x → Heads f a i r → t ≡ at.Text q y → Heads f b j t → Both f a i b j p x q y
-both-heads e v g w = record { left = heads-some e v; right = heads-some g w }
+  pub step_same : Ordering.eq ≡ texts.cmp (part a p x) (part b q y) → StepIs f a i b j (part a i x) 2 x y
+  step_same o = by-same hx hy (sym o)
 
-module _ {f : Form} {a : List ℕ} {i : ℕ} {b : List ℕ} {j p x q y : ℕ} (h : Both f a i b j p x q y) where
-  -- they are compared where they stand
-  pub both-inside : (p ≤ x) × (x ≤ length a) × (q ≤ y) × (y ≤ length b)
-  both-inside = (h.left.order, h.left.within, h.right.order, h.right.within)
-
-  module _ {r : ℕ} (o : r ≡ order_number (texts.cmp (part a p x) (part b q y))) where
-    pub step_less : r ≡ 0 → StepIs f a i b j (part a i x) 1 x j
-    step_less e = by_less h.left h.right (sym (number-less _ o e))
-
-    pub step_same : r ≡ 1 → StepIs f a i b j (part a i x) 2 x y
-    step_same e = by-same h.left h.right (sym (number-equal _ o e))
-
-    pub step-more : 2 ≤ r → StepIs f a i b j (part b j y) 1 i y
-    step-more e = by-more h.left h.right (sym (number_more _ o e))
+  pub step-more : Ordering.gt ≡ texts.cmp (part a p x) (part b q y) → StepIs f a i b j (part b j y) 1 i y
+  step-more o = by-more hx hy (sym o)
 
 pub stepped :
     {f : Form} {a : List ℕ} {i : ℕ} {b : List ℕ} {j : ℕ} {head : List ℕ} {n x y : ℕ} → StepIs f a i b j head n x y → Stepped f a i b j x y
 stepped {head = head} {n = n} w = record { head = head; n = n; step = w }
-
--- what is known of a step in the arm of a `match`
-pub steps_next : {f : Form} {a : List ℕ} {i : ℕ} {b : List ℕ} {j x y : ℕ} {r : Step} → r ≡ Next x y → Steps f a i b j r → Stepped f a i b j x y
-steps_next {f} {a} {i} {b} {j} h w = subst (Steps f a i b j) h w
-
-pub steps-alone : {f : Form} {a : List ℕ} {i : ℕ} {b : List ℕ} {j : ℕ} {r : Step} → r ≡ Alone → Steps f a i b j r → IsAlone f a i b j
-steps-alone {f} {a} {i} {b} {j} h w = subst (Steps f a i b j) h w
 
 -- ---- the union of two runs from here on
 
@@ -450,15 +426,15 @@ module _ {f : Form} {a b out₀ : List ℕ} {at : ℕ} {out : List ℕ} {i j nex
     pub on : j < y
     pub step : StepIs f a i b j (part b j y) 1 i y
 
-  module _ {p x q y r : ℕ} (h : Both f a i b j p x q y) (o : r ≡ order_number (texts.cmp (part a p x) (part b q y))) where
-    pub less-step : r ≡ 0 → LeftStep 1 x j
-    less-step e = record { on = h.left.after; most = omega arith; step = step_less h o e }
+  module _ {p x q y : ℕ} (hx : HeadIs f a i p x) (hy : HeadIs f b j q y) where
+    pub less-step : Ordering.lt ≡ texts.cmp (part a p x) (part b q y) → LeftStep 1 x j
+    less-step o = record { on = hx.after; most = omega arith; step = step_less hx hy o }
 
-    pub same_step : r ≡ 1 → LeftStep 2 x y
-    same_step e = record { on = h.left.after; most = omega arith; step = step_same h o e }
+    pub same_step : Ordering.eq ≡ texts.cmp (part a p x) (part b q y) → LeftStep 2 x y
+    same_step o = record { on = hx.after; most = omega arith; step = step_same hx hy o }
 
-    pub more-step : 2 ≤ r → RightStep y
-    more-step e = record { on = h.right.after; step = step-more h o e }
+    pub more-step : Ordering.gt ≡ texts.cmp (part a p x) (part b q y) → RightStep y
+    more-step o = record { on = hy.after; step = step-more hx hy o }
 
   -- a has no more values: the rest of b is written
   module _ (v : NoHead f a i) where

@@ -12,19 +12,14 @@ pub enum Form {
 }
 
 // The first value of a run that goes on at position `at`: where its own bytes start and end.
-pub fn head_at(form: Form, s: &[u8], at: usize) -> TextAt
+pub fn head_at(form: Form, s: &[u8], at: usize) -> Option<TextAt>
     ensures { Heads form s.now at result }
 {
     match form {
         Form::Texts => read_text(s, at),
         Form::Hashes => {
-            if s.len() < 20 {
-                return TextAt::NoText;
-            }
-            if s.len() - 20 < at {
-                return TextAt::NoText;
-            }
-            TextAt::Text(at, at + 20)
+            let end = at.checked_add(20)?;
+            (end <= s.len()).then_some(TextAt { start: at, end })
         }
     }
 }
@@ -37,11 +32,9 @@ pub fn count_rest(form: Form, s: &[u8], at: usize) -> usize
 {
     let mut i = at;
     let mut n: usize = 0;
-    loop {
-        let TextAt::Text(_, end) = head_at(form, s, i) else {
-            return n;
-        };
+    while let Some(TextAt { end, .. }) = head_at(form, s, i) {
         i = end;
         n += 1;
     }
+    n
 }

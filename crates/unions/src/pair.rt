@@ -7,16 +7,9 @@ ghost use Rattle.packed.specs.code.Written.{Wrote};
 ghost use Rattle.unions.specs.code.Runs.{run, Run, Hashes, Steps, Room, TextsRoom, HashesRoom, WroteUnion};
 
 use crate::heads::{Form, count_rest, head_at};
-use packed::order::{EQUAL, LESS, order_parts};
-use packed::read::TextAt;
+use packed::order::compare_parts;
 use packed::write::copy_part;
-
-// Where both sides go on after the next value of a union; or one side alone is left.
-#[derive(Clone, Copy)]
-enum Step {
-    Next(usize, usize),
-    Alone,
-}
+use std::cmp::Ordering;
 
 // Where a union that was written ends, and how many values both sides have.
 #[derive(Clone, Copy)]
@@ -25,20 +18,16 @@ pub struct Joined {
     pub shared: usize,
 }
 
-// A value that stands first on both sides is passed on both.
-fn next_of(form: Form, a: &[u8], i: usize, b: &[u8], j: usize) -> Step
+// Where both sides go on after the next value of a union; none where one side alone is left. A value that stands first on both sides is passed on both.
+fn next_of(form: Form, a: &[u8], i: usize, b: &[u8], j: usize) -> Option<(usize, usize)>
     ensures { Steps form a.now i b.now j result }
 {
-    let TextAt::Text(p, x) = head_at(form, a, i) else {
-        return Step::Alone;
-    };
-    let TextAt::Text(q, y) = head_at(form, b, j) else {
-        return Step::Alone;
-    };
-    match order_parts(a, p, x, b, q, y) {
-        LESS => Step::Next(x, j),
-        EQUAL => Step::Next(x, y),
-        _ => Step::Next(i, y),
+    let x = head_at(form, a, i)?;
+    let y = head_at(form, b, j)?;
+    match compare_parts(a, x.start, x.end, b, y.start, y.end) {
+        Ordering::Less => Some((x.end, j)),
+        Ordering::Equal => Some((x.end, y.end)),
+        Ordering::Greater => Some((i, y.end)),
     }
 }
 
@@ -49,14 +38,12 @@ fn count_runs(form: Form, a: &[u8], b: &[u8]) -> usize
     let mut i: usize = 0;
     let mut j: usize = 0;
     let mut n: usize = 0;
-    loop {
-        let Step::Next(x, y) = next_of(form, a, i, b, j) else {
-            return n + count_rest(form, a, i) + count_rest(form, b, j);
-        };
+    while let Some((x, y)) = next_of(form, a, i, b, j) {
         i = x;
         j = y;
         n += 1;
     }
+    n + count_rest(form, a, i) + count_rest(form, b, j)
 }
 
 pub fn count_union(a: &[u8], b: &[u8]) -> usize
@@ -84,32 +71,32 @@ fn write_runs(form: Form, a: &[u8], b: &[u8], out: &mut [u8], at: usize) -> Join
     let mut next = at;
     let mut shared: usize = 0;
     loop {
-        let TextAt::Text(p, x) = head_at(form, a, i) else {
+        let Some(x) = head_at(form, a, i) else {
             return Joined {
                 next: copy_part(b, j, b.len(), out, next),
                 shared,
             };
         };
-        let TextAt::Text(q, y) = head_at(form, b, j) else {
+        let Some(y) = head_at(form, b, j) else {
             return Joined {
                 next: copy_part(a, i, a.len(), out, next),
                 shared,
             };
         };
-        match order_parts(a, p, x, b, q, y) {
-            LESS => {
-                next = copy_part(a, i, x, out, next);
-                i = x;
+        match compare_parts(a, x.start, x.end, b, y.start, y.end) {
+            Ordering::Less => {
+                next = copy_part(a, i, x.end, out, next);
+                i = x.end;
             }
-            EQUAL => {
-                next = copy_part(a, i, x, out, next);
-                i = x;
-                j = y;
+            Ordering::Equal => {
+                next = copy_part(a, i, x.end, out, next);
+                i = x.end;
+                j = y.end;
                 shared += 1;
             }
-            _ => {
-                next = copy_part(b, j, y, out, next);
-                j = y;
+            Ordering::Greater => {
+                next = copy_part(b, j, y.end, out, next);
+                j = y.end;
             }
         }
     }
@@ -130,6 +117,5 @@ pub fn write_hash_union(a: &[u8], b: &[u8], out: &mut [u8], at: usize) -> usize
     ensures { (xs ys : List Text) → a.now ≡ flatten xs → b.now ≡ flatten ys → Hashes xs → Hashes ys
         → rising texts xs ≡ true → rising texts ys ≡ true → Wrote out.old at (flatten (union texts xs ys)) out.new result }
 {
-    let joined = write_runs(Form::Hashes, a, b, out, at);
-    joined.next
+    write_runs(Form::Hashes, a, b, out, at).next
 }

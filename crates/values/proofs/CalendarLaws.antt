@@ -1,17 +1,15 @@
 -- Reading the fields of a moment, and the laws of its form.
 -- Assumes nothing.
 use mathlib.Core.Path.{◌≡◌, refl, sym, ap, ap₂, ◌∙◌}
-use mathlib.Core.Logic.{◌⊎◌, ⊎_elim}
-use mathlib.Core.Bool.{Bool, true, false, cond, not, ◌&&◌, and-false, true≢false, false≢true}
+use mathlib.Core.Bool.{Bool, true, false, cond, ◌&&◌, and-false, true≢false, false≢true}
 use mathlib.Core.List.{List, [], ◌∷◌, ◌++◌}
-use Prim.Native.Nat.{ℕ, zero, suc, ◌+◌, ◌-◌, ◌*◌, ◌≤◌, ◌<◌, compare}
+use Prim.Native.Nat.{ℕ, zero, suc, ◌+◌, ◌-◌, ◌*◌, ◌≤◌, compare}
 use native.Mathlib.Omega.{arith}
-use mir.Syntax.{w8}
-use mir.Val.{Fits}
 use lib.Dec.{eqb}
-use lib.ListN.{length, get_or, take, drop, drop_of_length-le, take-append-drop}
+use lib.ListN.{length, take, drop, drop_of_length-le, take-append-drop}
 use lib.Seq.{take-add, drop-drop}
-use borrow.Author.Tests.{eqb-true, eqb-false, not-true, not-false}
+use borrow.Author.Tests.{eqb-true, eqb-false}
+use Rattle.std.specs.List.{list_all, zip}
 use Rattle.model.specs.Order.{texts, lists, numbers, lex, equal, nat-turn}
 use Rattle.model.proofs.Cases.{three}
 use Rattle.model.proofs.OrderLaws.{eq-compare}
@@ -21,16 +19,6 @@ use Rattle.values.specs.Calendar.{has_form, field}
 use Rattle.values.proofs.NumeralLaws.{and_left, and_right, digits-order}
 
 -- ---- fields
-
--- a digit that is read from a byte
-pub digit-small : (b : ℕ) {r : ℕ} → r ≡ b - 48 → Fits w8 b → r < 208
-digit-small b e h = omega (arith, h.fits)
-
-pub field-two :
-    (v : List ℕ) (at : ℕ) {a b : ℕ} → at + 2 ≤ length v → a ≡ get_or v at 0 - 48 → b ≡ get_or v (at + 1) 0 - 48 →
-    10 * a + b ≡ field v at 2
-unfolding field numeral numeral_after
-field-two v at h p q = rw (drop-next v at (omega arith), drop-next v (at + 1) (omega arith)) (omega arith)
 
 numeral-append : (n : ℕ) (x y : List ℕ) → numeral_after n (x ++ y) ≡ numeral_after (numeral_after n x) y
 unfolding numeral_after
@@ -58,9 +46,6 @@ pub field-none : (v : List ℕ) → length v ≤ 20 → field v 20 6 ≡ 0
 unfolding field numeral numeral_after
 field-none v h = rw (drop_of_length-le v h)
 
-pub fraction-none : (v : List ℕ) → length v < 26 → (length v ≡ 20) ⊎ (26 ≤ length v) → 0 ≡ field v 20 6
-fraction-none v h k = sym (field-none v (⊎_elim (λ e. omega arith) (λ e. omega arith) k))
-
 -- ---- forms
 
 abbrev pub fits_form : ℕ → ℕ → Bool
@@ -73,37 +58,20 @@ form-other [] (b ∷ v) h = refl
 form-other (f ∷ form) [] h = refl
 form-other (f ∷ form) (b ∷ v) h = ap (λ (t : Bool). fits_form f b && t) (form-other form v (λ e. h (ap suc e))) ∙ and-false (fits_form f b)
 
-pub form-length : (form v : List ℕ) → has_form form v ≡ true → length form ≡ length v
-form-length form v e = go (eqb (length form) (length v)) refl
+pub form_length : (form v : List ℕ) → has_form form v ≡ true → length form ≡ length v
+form_length form v e = go (eqb (length form) (length v)) refl
   where
     go : (t : Bool) → eqb (length form) (length v) ≡ t → length form ≡ length v
     go true p = eqb-true (length form) (length v) p
     go false p = let z : true ≡ false = sym e ∙ form-other form v (eqb-false (length form) (length v) p) in absurd (true≢false z)
 
--- as many bytes as the form has: the answer for all of them is the answer for the rest of both, from i on
-pub record Formed (form v : List ℕ) (i : ℕ) : Type 0 where
-  pub long : length form ≡ length v
-  pub within : i ≤ length v
-  pub same : has_form form v ≡ has_form (drop i form) (drop i v)
-
-pub formed-all : (form v : List ℕ) → length form ≡ length v → Formed form v 0
-formed-all form v e = record { long = e; within = omega arith; same = refl }
-
-module _ {form v : List ℕ} {i : ℕ} (r : Formed form v i) where
-  module _ (h : i < length v) {t : Bool} (told : t ≡ fits_form (get_or form i 0) (get_or v i 0)) where
-    step : has_form form v ≡ (t && has_form (drop (i + 1) form) (drop (i + 1) v))
-    unfolding has_form
-    step = r.same ∙ rw (drop-next form i (omega (arith, r.long)), drop-next v i h, told)
-
-    pub formed-not : not t ≡ true → false ≡ has_form form v
-    formed-not e = sym (step ∙ rw (not-true t e))
-
-    pub formed-next : not t ≡ false → Formed form v (i + 1)
-    formed-next e = record { long = r.long; within = omega arith; same = step ∙ rw (not-false t e) }
-
-  pub formed-end : length v ≤ i → true ≡ has_form form v
-  unfolding has_form
-  formed-end h = sym (r.same ∙ rw (drop_of_length-le form {i = i} (omega (arith, r.long)), drop_of_length-le v h))
+-- as many bytes as the form has: each stands where the form has its byte
+pub form-pairs : (form v : List ℕ) → length form ≡ length v → list_all (λ p. fits_form p.0 p.1) (zip form v) ≡ has_form form v
+unfolding has_form
+form-pairs [] [] e = refl
+form-pairs [] (b ∷ v) e = absurd (omega arith)
+form-pairs (f ∷ form) [] e = absurd (omega arith)
+form-pairs (f ∷ form) (b ∷ v) e = ap (λ (t : Bool). fits_form f b && t) (form-pairs form v (omega arith))
 
 -- no 0 among the bytes
 abbrev pub plain : List ℕ → Bool
@@ -125,9 +93,6 @@ form-text (f ∷ form) (b ∷ v) h = go (eqb f 48) refl h (form-text form v)
     go false e q ih =
         let turned = nat-turn b f in
         three (compare b f) (λ l. rw (e, turned, l)) (λ s. rw (e, turned, s) (ih q)) (λ g. rw (e, turned, g))
-
-pub form-told : (form v : List ℕ) {t : Bool} → plain form ≡ true → t ≡ has_form form v → t ≡ equal texts v form
-form-told form v h told = told ∙ form-text form v h
 
 -- ---- parts of a text that has a form
 
@@ -200,5 +165,5 @@ module _ (form a b : List ℕ) (p : has_form form a ≡ true) (q : has_form form
       (sym
       (digits-order (take n (drop at a)) (take n (drop at b)) (zeros-digits (take n (drop at form)) (take n (drop at a)) h x)
       (zeros-digits (take n (drop at form)) (take n (drop at b)) h y)
-      (sym (form-length (take n (drop at form)) (take n (drop at a)) x) ∙ form-length (take n (drop at form)) (take n (drop at b)) y))
+      (sym (form_length (take n (drop at form)) (take n (drop at a)) x) ∙ form_length (take n (drop at form)) (take n (drop at b)) y))
       ∙ eq-compare (numeral (take n (drop at a))) (numeral (take n (drop at b))) e))

@@ -140,12 +140,11 @@ pub record Left (v : Text) (n m k : ℕ) : Type 0 where
 pub left-all : (v : Text) (n : ℕ) → n < 2 ^ 64 → Left v n n (length v)
 unfolding in_decimal
 left-all v n h =
-    let l : length v ≤ length v = omega arith in
     record {
       most = 19;
-      is = ap (λ (t : Text). equal texts v (digits_before 20 n t)) (sym (drop_of_length-le v l));
+      is = ap (λ (t : Text). equal texts v (digits_before 20 n t)) (sym (drop_of_length-le v (omega arith)));
       small = omega arith;
-      within = l;
+      within = omega arith;
     }
 
 module _ {v : Text} {n m k : ℕ} (w : Left v n m k) where
@@ -165,7 +164,7 @@ module _ {v : Text} {n m k : ℕ} (w : Left v n m k) where
     step = w.is ∙ ap (equal texts v) (digits_more w.most m (drop k v) (omega arith))
 
     -- were the two equal, so would be what stands at the place before k
-    pub digit-none : k ≡ 0 → false ≡ equal texts v (in_decimal n)
+    digit-none : k ≡ 0 → false ≡ equal texts v (in_decimal n)
     digit-none z =
         let b = before w.most (m / 10) last in
         sym
@@ -216,6 +215,20 @@ module _ {v : Text} {n m k : ℕ} (w : Left v n m k) where
             ⊎_elim (λ (e : b ≡ 48 + m). (equal-true texts (b ∷ v) ((48 + m) ∷ v)).1 (ap (λ (x : ℕ). x ∷ v) e) ∙ sym (eq-eqb b (48 + m) e))
             (λ (ne : b ≡ 48 + m → ⊥). (equal-false texts (b ∷ v) ((48 + m) ∷ v)).1 (λ e. ne (cc)) ∙ sym (ne_eqb b (48 + m) ne))
             (same_or b (48 + m))
+
+-- no byte is left for a digit of m
+pub digit-empty : {v : Text} {n m k : ℕ} → Left v n m k → k ≡ 0 → false ≡ equal texts v (in_decimal n)
+digit-empty {v} {n} {m} w z =
+    ⊎_elim (λ (l : 9 < m). digit-none w l z) (λ (g : m ≤ 9). digit-far w g (λ e. omega arith)) (lt-or-ge 9 m)
+
+-- one byte is left for two digits or more
+pub digit-short : {v : Text} {n m k : ℕ} → Left v n m k → 9 < m → k ≡ 1 → false ≡ equal texts v (in_decimal n)
+digit-short {v} {n} {m} {k} w h z =
+    let o : k ≡ 0 → ⊥ = λ e. omega arith in
+    ⊎_elim
+    (λ (e : get_or v (k - 1) 0 ≡ 48 + m % 10). digit-empty (digit-same w h o e) (omega arith))
+    (λ (ne : get_or v (k - 1) 0 ≡ 48 + m % 10 → ⊥). digit-other w h o ne)
+    (same_or (get_or v (k - 1) 0) (48 + m % 10))
 
 -- ---- a number that is written in decimal
 

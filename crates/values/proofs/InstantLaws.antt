@@ -2,13 +2,13 @@
 -- Assumes nothing.
 use mathlib.Core.Path.{◌≡◌, refl, sym, ap₂, ◌∙◌}
 use mathlib.Core.Logic.{◌⊎◌, inl, inr, ⊎_elim}
-use mathlib.Core.Bool.{Bool, true, false, not, ◌&&◌, ◌||◌, false≢true}
+use mathlib.Core.Bool.{Bool, true, false, ◌&&◌, ◌||◌, false≢true}
 use mathlib.Core.List.{List, ◌++◌}
 use Prim.Native.Nat.{ℕ, ◌+◌, ◌*◌, ◌≤◌, ◌<◌, compare, Ordering}
 use native.Mathlib.Omega.{arith}
 use lib.Dec.{ltb, leb}
 use lib.ListN.{length, take, drop, drop_of_length-le}
-use borrow.Author.Tests.{ltb-true, leb-true, le-leb, lt-leb, lt-ltb, le-ltb, not-true, not-false}
+use borrow.Author.Tests.{ltb-true, leb-true}
 use Rattle.model.specs.Order.{Text, integers, integer_cmp, ranked, rank_cmp}
 use Rattle.model.proofs.OrderLaws.{lt-compare, gt-compare, eq-compare}
 use Rattle.packed.specs.Ascii.{ascii}
@@ -17,7 +17,7 @@ use Rattle.values.specs.Calendar.{is_datetime, day_number, instant}
 use Rattle.values.specs.Spaces.{datetime}
 use Rattle.values.specs.ValueOrder.{value_number, value_order}
 use Rattle.values.proofs.NumeralLaws.{and_left, and_right, numeral-below}
-use Rattle.values.proofs.CalendarLaws.{form-other, form-length, form-part, field-none, zeros-digits, same-mark, same-field}
+use Rattle.values.proofs.CalendarLaws.{form_length, form-part, field-none, zeros-digits, same-mark, same-field}
 use Rattle.values.proofs.MomentLaws.{Day, date_of, Along, days-along, along-more, ordered, days-in-most}
 
 -- ---- what a datetime is
@@ -62,11 +62,11 @@ unfolding is_datetime
 moment v e = moment-of v (and_right (whole_second v || (with_fraction v && ltb 0 (microsecond v))) (is_moment v) e)
 
 -- of a whole second, or with a fraction
-pub formed : (v : Text) → is_datetime v ≡ true → (whole_second v ≡ true) ⊎ ((with_fraction v ≡ true) × (0 < microsecond v))
-unfolding is_datetime
-formed v e =
-    go (whole_second v) (with_fraction v) (ltb 0 (microsecond v)) refl refl refl
-    (and_left (whole_second v || (with_fraction v && ltb 0 (microsecond v))) (is_moment v) e)
+abbrev pub form_of : Text → Bool
+form_of v = whole_second v || (with_fraction v && ltb 0 (microsecond v))
+
+formed-of : (v : Text) → form_of v ≡ true → (whole_second v ≡ true) ⊎ ((with_fraction v ≡ true) × (0 < microsecond v))
+formed-of v e = go (whole_second v) (with_fraction v) (ltb 0 (microsecond v)) refl refl refl e
   where
     go :
         (p q r : Bool) → whole_second v ≡ p → with_fraction v ≡ q → ltb 0 (microsecond v) ≡ r → (p || (q && r)) ≡ true →
@@ -76,13 +76,20 @@ formed v e =
     go false true false ep eq er k = absurd (false≢true k)
     go false false r ep eq er k = absurd (false≢true k)
 
+pub formed : (v : Text) → is_datetime v ≡ true → (whole_second v ≡ true) ⊎ ((with_fraction v ≡ true) × (0 < microsecond v))
+unfolding is_datetime
+formed v e = formed-of v (and_left (form_of v) (is_moment v) e)
+
 whole_length : (v : Text) → whole_second v ≡ true → length v ≡ 20
 unfolding whole_second ascii
-whole_length v e = sym (form-length (ascii "0000-00-00T00:00:00Z") v e)
+whole_length v e = sym (form_length (ascii "0000-00-00T00:00:00Z") v e)
 
-fraction-length : (v : Text) → with_fraction v ≡ true → length v ≡ 27
+pub fraction-length : (v : Text) → with_fraction v ≡ true → length v ≡ 27
 unfolding with_fraction ascii
-fraction-length v e = sym (form-length (ascii "0000-00-00T00:00:00.000000Z") v e)
+fraction-length v e = sym (form_length (ascii "0000-00-00T00:00:00.000000Z") v e)
+
+pub formed_long : (v : Text) → form_of v ≡ true → 20 ≤ length v
+formed_long v e = ⊎_elim (λ w. let n = whole_length v w in omega arith) (λ w. let n = fraction-length v w.0 in omega arith) (formed-of v e)
 
 pub datetime-length : (v : Text) → is_datetime v ≡ true → (length v ≡ 20) ⊎ (26 ≤ length v)
 datetime-length v e = ⊎_elim (λ w. inl (whole_length v w)) (λ w. let n = fraction-length v w.0 in inr (omega arith)) (formed v e)
@@ -97,77 +104,11 @@ fraction-below : (v : Text) → with_fraction v ≡ true → microsecond v < 100
 unfolding with_fraction ascii field
 fraction-below v e =
     let p = form-part 20 6 (ascii "0000-00-00T00:00:00.000000Z") v e in
-    rw (sym (form-length (ascii "000000") (take 6 (drop 20 v)) p)) at
+    rw (sym (form_length (ascii "000000") (take 6 (drop 20 v)) p)) at
     (numeral-below (take 6 (drop 20 v)) (zeros-digits (ascii "000000") (take 6 (drop 20 v)) refl p))
 
 microsecond-below : (v : Text) → is_datetime v ≡ true → microsecond v < 1000000
 microsecond-below v e = ⊎_elim (λ w. let n = whole-microsecond v w in omega arith) (λ w. fraction-below v w.0) (formed v e)
-
--- ---- a moment and a datetime by the questions of the code
-
--- the day is told, then the hour, the minute and the second
-module _
-    (v : Text) {y m d : ℕ} {t : Bool} (year-is : y ≡ year v) (month-is : m ≡ month v) (day-is : d ≡ day v)
-    (told : t ≡ (leb 1 y && leb 1 m && leb m 12 && leb 1 d && leb d (days_in y m))) where
-  day-told : (leb 1 (year v) && leb 1 (month v) && leb (month v) 12 && leb 1 (day v) && leb (day v) (days_in (year v) (month v))) ≡ t
-  day-told = rw (← year-is, ← month-is, ← day-is) (sym told)
-
-  pub moment-no-day : not t ≡ true → false ≡ is_moment v
-  unfolding is_moment
-  moment-no-day e = rw (day-told, not-true t e)
-
-  module _ (e : not t ≡ false) {h : ℕ} (hour-is : h ≡ hour v) where
-    pub moment-no-hour : 23 < h → leb h 23 ≡ is_moment v
-    unfolding is_moment
-    moment-no-hour l = rw (day-told, not-false t e, ← hour-is, lt-leb h 23 l)
-
-    module _ (l : h ≤ 23) {n : ℕ} (minute-is : n ≡ minute v) where
-      pub moment-no-minute : 59 < n → leb n 59 ≡ is_moment v
-      unfolding is_moment
-      moment-no-minute k = rw (day-told, not-false t e, ← hour-is, le-leb h 23 l, ← minute-is, lt-leb n 59 k)
-
-      pub moment-second : n ≤ 59 → {s : ℕ} → s ≡ second v → leb s 59 ≡ is_moment v
-      unfolding is_moment
-      moment-second k second_is = rw (day-told, not-false t e, ← hour-is, le-leb h 23 l, ← minute-is, le-leb n 59 k, ← second_is)
-
-module _ (v : Text) where
-  -- twenty bytes are of a whole second or of no datetime
-  module _ (n : length v ≡ 20) {t : Bool} (told : t ≡ whole_second v) where
-    pub whole-not : t ≡ false → t ≡ is_datetime v
-    unfolding is_datetime with_fraction ascii
-    whole-not e = e ∙ rw (sym told ∙ e, form-other (ascii "0000-00-00T00:00:00.000000Z") v (λ k. omega arith))
-
-    pub whole_is : t ≡ true → {r : Bool} → r ≡ is_moment v → r ≡ is_datetime v
-    unfolding is_datetime
-    whole_is e is = rw (sym told ∙ e) is
-
-  module _ {t : Bool} (told : t ≡ with_fraction v) where
-    fraction-bytes : not t ≡ false → length v ≡ 27
-    fraction-bytes e = fraction-length v (sym told ∙ not-false t e)
-
-    pub fraction-long : not t ≡ false → 20 ≤ length v
-    fraction-long e = omega (arith, fraction-bytes e)
-
-    module _ (n : length v ≡ 20 → ⊥) where
-      not-whole : whole_second v ≡ false
-      unfolding whole_second ascii
-      not-whole = form-other (ascii "0000-00-00T00:00:00Z") v (λ k. n (sym k))
-
-      pub fraction-not : not t ≡ true → false ≡ is_datetime v
-      unfolding is_datetime
-      fraction-not e = rw (not-whole, sym told ∙ not-true t e)
-
-      module _ (e : not t ≡ false) {f : ℕ} (is : (length v ≡ 20) ⊎ (26 ≤ length v) → f ≡ microsecond v) where
-        number : microsecond v ≡ f
-        number = let l = fraction-bytes e in sym (is (inr (omega arith)))
-
-        pub fraction-zero : f ≤ 0 → ltb 0 f ≡ is_datetime v
-        unfolding is_datetime
-        fraction-zero l = rw (not-whole, sym told ∙ not-false t e, number, le-ltb 0 f l)
-
-        pub fraction-is : 0 < f → {r : Bool} → r ≡ is_moment v → r ≡ is_datetime v
-        unfolding is_datetime
-        fraction-is l moment = rw (not-whole, sym told ∙ not-false t e, number, lt-ltb 0 f l) moment
 
 -- ---- the order of instants
 

@@ -1,5 +1,4 @@
 -- The laws of numbers, of moments, of UTF-8 and of the value spaces.
-pub mod AnswerLaws
 pub mod NumeralLaws
 pub mod DigitLaws
 pub mod NumberOrderLaws

@@ -1,14 +1,14 @@
 -- The days and seconds of the calendar rise with the digits that write them, from the year down.
 -- Assumes nothing.
 use mathlib.Core.Path.{◌≡◌, refl, subst}
-use mathlib.Core.Logic.{◌⊎◌, inl, inr, ⊎_elim}
+use mathlib.Core.Logic.{⊎_elim}
 use mathlib.Core.Bool.{Bool, true, false, cond, not, ◌&&◌, ◌||◌, false≢true}
 use Prim.Native.Nat.{ℕ, zero, suc, ◌+◌, ◌-◌, ◌*◌, ◌/◌, ◌%◌, ◌≤◌, ◌<◌}
 use native.Mathlib.Omega.{arith}
 use native.Mathlib.Nat.{add-zero, add-suc, suc-mul, mul-le-mul_right}
 use native.Mathlib.Numerals.{sub-one}
 use lib.Dec.{ltb, eqb}
-use borrow.Author.Tests.{ltb-true, eqb-true, eqb-false, ltb-false, ne_eqb}
+use borrow.Author.Tests.{ltb-true, eqb-true, eqb-false, ltb-false}
 use Rattle.packed.proofs.LayoutLaws.{lt-or-ge}
 use Rattle.values.specs.Calendar.{is_leap, days_in, days_of_years, days_of_months}
 
@@ -130,22 +130,6 @@ days-in-most y m = go (eqb m 2) (is_leap y) (eqb m 4 || eqb m 6 || eqb m 9 || eq
     go true false r = omega arith
     go false q true = omega arith
     go false q false = omega arith
-
-module _ (y m : ℕ) where
-  pub days-thirty : (m ≡ 4) ⊎ ((m ≡ 6) ⊎ ((m ≡ 9) ⊎ (m ≡ 11))) → 30 ≡ days_in y m
-  unfolding days_in
-  days-thirty k = ⊎_elim (λ e. rw e) (⊎_elim (λ e. rw e) (⊎_elim (λ e. rw e) (λ e. rw e))) k
-
-  pub days-most : (m ≡ 2 → ⊥) → ((m ≡ 4) ⊎ ((m ≡ 6) ⊎ ((m ≡ 9) ⊎ (m ≡ 11))) → ⊥) → 31 ≡ days_in y m
-  unfolding days_in
-  days-most h k =
-      rw (
-        ne_eqb m 2 h,
-        ne_eqb m 4 (λ e. k (inl e)),
-        ne_eqb m 6 (λ e. k (inr (inl e))),
-        ne_eqb m 9 (λ e. k (inr (inr (inl e)))),
-        ne_eqb m 11 (λ e. k (inr (inr (inr e)))),
-      )
 
 -- two numbers in one of their three orders
 pub ordered : {C : Type 0} (a b : ℕ) → (a < b → C) → (a ≡ b → C) → (b < a → C) → C

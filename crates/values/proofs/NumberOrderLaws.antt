@@ -305,11 +305,3 @@ pub value-order-signed :
     (k : Kind) (a b : Text) → is_number k ≡ true → is_of_kind k a ≡ true → is_of_kind k b ≡ true → (value_order k).cmp a b ≡ signed_order a b
 unfolding value_order ranked
 value-order-signed k a b n p q = rank-decides (value_number k) integers texts a b (equal-number-equal-bytes k a b n p q) ∙ number-order k a b n p q
-
--- the same where the signs are told
-pub value-order-told :
-    (k : Kind) (a b : Text) {m n s t : Bool} {o : Ordering} →
-    m ≡ is_negative a → m ≡ s → n ≡ is_negative b → n ≡ t →
-    o ≡ cond s (cond t (size_order b a) Ordering.lt) (cond t Ordering.gt (size_order a b)) →
-    is_number k ≡ true → is_of_kind k a ≡ true → is_of_kind k b ≡ true → o ≡ (value_order k).cmp a b
-value-order-told k a b p e q f is n x y = is ∙ sym (value-order-signed k a b n x y ∙ rw (sym p ∙ e, sym q ∙ f))

@@ -1,193 +1,146 @@
 -- What the definitions say in the terms of the code on numbers: at an index, of a part, of a width, after a call's answer.
 -- Assumes nothing.
-use mathlib.Core.Path.{◌≡◌, refl, sym, ap, ap₂, ◌∙◌}
-use mathlib.Core.Bool.{Bool, true, false, not, ◌&&◌, ◌||◌}
+use mathlib.Core.Path.{◌≡◌, refl, sym, ap, ◌∙◌}
+use mathlib.Core.Logic.{⊎_elim}
+use mathlib.Core.Bool.{Bool, true, false, not, ◌&&◌}
 use mathlib.Core.List.{List, [], ◌∷◌}
-use Prim.Native.Nat.{ℕ, ◌+◌, ◌-◌, ◌*◌, ◌^◌, ◌≤◌, ◌<◌}
+use Prim.Native.Nat.{ℕ, ◌+◌, ◌-◌, ◌≤◌, ◌<◌, compare, Ordering}
 use native.Mathlib.Omega.{arith}
-use lib.Dec.{ltb, leb, eqb, is_le}
+use lib.Dec.{ltb, leb, eqb}
 use lib.ListN.{length, get_or, take, drop, length-drop}
 use lib.Seq.{length-take-le}
-use borrow.Author.Tests.{lt-ltb, le-ltb, le-leb, lt-leb, eq-eqb, leb-true, eqb-true}
-use Rattle.model.specs.Order.{Text}
-use Rattle.model.proofs.Cases.{and-false, and-true}
-use Rattle.packed.specs.code.Comparison.{ordering}
-use Rattle.packed.specs.declared.order.Ordering.{Ordering}
+use borrow.Author.Tests.{lt-ltb, le-ltb, le-leb, lt-leb, eq-eqb, ne_eqb}
+use Rattle.model.specs.Order.{Text, pick, nat-same}
+use Rattle.model.proofs.Cases.{three, and-false, and-true}
+use Rattle.model.proofs.OrderLaws.{compare-lt, compare-gt}
+use Rattle.packed.proofs.LayoutLaws.{lt-or-ge}
 use Rattle.packed.proofs.ReadLaws.{drop-next, to_end}
-use Rattle.values.specs.Decimal.{is_digit, are_digits, numeral, is_natural, is_negative, magnitude}
-use Rattle.values.specs.Spaces.{is_width, is_signed, whole_part, point_part, is_fraction, unscaled, is_magnitude, is_decimal}
+use Rattle.values.specs.Decimal.{are_digits, numeral, is_natural, is_negative, magnitude}
+use Rattle.values.specs.Spaces.{whole_part, point_part, is_fraction, unscaled, is_magnitude, is_decimal}
 use Rattle.values.specs.code.NumberAnswer.{size_order, has_nonzero}
-use Rattle.values.proofs.AnswerLaws.{Rest, rest-next, rest-told, rest_end}
 use Rattle.values.proofs.NumeralLaws.{digit-least, digits-head, natural-digits, natural-first, natural-nonempty, natural-order}
 use Rattle.values.proofs.NumberOrderLaws.{negative-cons, positive-magnitude, numeral-nonzero, fixed, fixed-nonzero}
 
--- ---- digits
-
-module _ {v : Text} {i : ℕ} (r : Rest are_digits v i) where
-  pub digits_low : i < length v → get_or v i 0 < 48 → false ≡ are_digits v
-  unfolding are_digits is_digit
-  digits_low h k = rest-told r (rw (drop-next v i h, lt-leb 48 (get_or v i 0) k))
-
-  pub digits-high : i < length v → 57 < get_or v i 0 → false ≡ are_digits v
-  unfolding are_digits is_digit
-  digits-high h k = rest-told r (rw (drop-next v i h, le-leb 48 (get_or v i 0) (omega arith), lt-leb (get_or v i 0) 57 k))
-
-  pub digits_more : i < length v → 48 ≤ get_or v i 0 → get_or v i 0 ≤ 57 → Rest are_digits v (i + 1)
-  unfolding are_digits is_digit
-  digits_more h k l = rest-next r h (rw (drop-next v i h, le-leb 48 (get_or v i 0) k, le-leb (get_or v i 0) 57 l))
-
-  pub digits-end : length v ≤ i → true ≡ are_digits v
-  unfolding are_digits
-  digits-end h = rest_end r h
-
-module _ {v : Text} {i : ℕ} (r : Rest has_nonzero v i) where
-  pub nonzero-found : i < length v → 48 < get_or v i 0 → true ≡ has_nonzero v
-  unfolding has_nonzero
-  nonzero-found h k = rest-told r (rw (drop-next v i h, lt-ltb 48 (get_or v i 0) k))
-
-  pub nonzero-more : i < length v → get_or v i 0 ≤ 48 → Rest has_nonzero v (i + 1)
-  unfolding has_nonzero
-  nonzero-more h k = rest-next r h (rw (drop-next v i h, le-ltb 48 (get_or v i 0) k))
-
-  pub nonzero-end : length v ≤ i → false ≡ has_nonzero v
-  unfolding has_nonzero
-  nonzero-end h = rest_end r h
-
--- ---- the first byte
-
-pub natural-none : (v : Text) → length v ≡ 0 → is_natural v ≡ false
-unfolding is_natural
-natural-none [] h = refl
-natural-none (b ∷ v) h = absurd (omega arith)
-
-pub natural-one : (v : Text) → length v ≡ 1 → is_natural v ≡ are_digits v
-unfolding is_natural are_digits
-natural-one [] h = absurd (omega arith)
-natural-one (b ∷ []) h = sym (and-true (is_digit b))
-natural-one (b ∷ c ∷ v) h = absurd (omega arith)
-
-pub natural-several :
-    (v : Text) → (length v ≡ 0 → ⊥) → (length v ≡ 1 → ⊥) → is_natural v ≡ not (eqb (get_or v 0 0) 48) && are_digits v
-unfolding is_natural
-natural-several [] h k = absurd (h refl)
-natural-several (b ∷ []) h k = absurd (k refl)
-natural-several (b ∷ c ∷ v) h k = refl
-
-pub negative-none : (v : Text) → length v ≡ 0 → is_negative v ≡ false
-unfolding is_negative
-negative-none [] h = refl
-negative-none (b ∷ v) h = absurd (omega arith)
-
-pub negative-first : (v : Text) → (length v ≡ 0 → ⊥) → is_negative v ≡ eqb (get_or v 0 0) 45
-unfolding is_negative
-negative-first [] h = absurd (h refl)
-negative-first (b ∷ v) h = refl
-
--- ---- widths
-
-pub width-eight :
-    {w : ℕ} → (((Unit {0} × (w ≡ 1 → ⊥)) × (w ≡ 2 → ⊥)) × (w ≡ 3 → ⊥)) × (w ≡ 4 → ⊥) → is_width w ≡ true → w ≡ 8
-unfolding is_width
-width-eight {w} other e = go (leb 1 w) (leb w 4) (eqb w 8) refl refl refl e
+-- the order by length and then by bytes tells whether a natural numeral is below another
+pub less-told :
+    (a b : Text) {o : Ordering} → o ≡ size_order a b → is_natural a ≡ true → is_natural b ≡ true →
+    pick o true false false ≡ ltb (numeral a) (numeral b)
+less-told a b told p q = ap (λ (o : Ordering). pick o true false false) (told ∙ sym (natural-order a b p q)) ∙ go (numeral a) (numeral b)
   where
-    go : (p q r : Bool) → leb 1 w ≡ p → leb w 4 ≡ q → eqb w 8 ≡ r → (p && q) || r ≡ true → w ≡ 8
-    go true true r x y z e = absurd (omega (arith, leb-true 1 w x, leb-true w 4 y, other.0.0.0.1, other.0.0.1, other.0.1, other.1))
-    go true false true x y z e = eqb-true w 8 z
-    go true false false x y z e = cc
-    go false q true x y z e = eqb-true w 8 z
-    go false q false x y z e = cc
-
--- the order by length and then by bytes tells whether a natural numeral is at most another
-pub at-most-told :
-    (v most : Text) (o p : Ordering) {t : Bool} → ordering o ≡ size_order v most → o ≡ p → is_le (ordering p) ≡ t →
-    is_natural v ≡ true → is_natural most ≡ true → t ≡ leb (numeral v) (numeral most)
-at-most-told v most o p told e l n m = sym (ap is_le (natural-order v most n m ∙ sym told ∙ ap ordering e) ∙ l)
+    go : (m n : ℕ) → pick (compare m n) true false false ≡ ltb m n
+    go m n =
+        three (compare m n)
+        (λ l. rw l (sym (lt-ltb m n (compare-lt m n l))))
+        (λ s. rw (s, nat-same m n s) (sym (le-ltb n n (omega arith))))
+        (λ g. let h = compare-gt m n g in rw g (sym (le-ltb m n (omega arith))))
 
 -- ---- integers
 
-pub natural-zero : (m : List ℕ) → is_natural m ≡ true → get_or m 0 0 ≡ 48 → ltb 0 (numeral m) ≡ false
+pub natural_zero : (m : List ℕ) → is_natural m ≡ true → ltb 0 (numeral m) ≡ not (eqb (get_or m 0 0) 48)
 unfolding has_nonzero
-natural-zero [] n e = absurd (omega (arith, natural-nonempty [] n))
-natural-zero (b ∷ []) n e = numeral-nonzero (b ∷ []) ∙ rw (le-ltb 48 b (omega arith))
-natural-zero (b ∷ c ∷ m) n e = absurd (omega (arith, natural-first b (c ∷ m) n (omega arith)))
-
-pub natural-nonzero : (m : List ℕ) → is_natural m ≡ true → (get_or m 0 0 ≡ 48 → ⊥) → ltb 0 (numeral m) ≡ true
-unfolding has_nonzero
-natural-nonzero [] n e = absurd (omega (arith, natural-nonempty [] n))
-natural-nonzero (b ∷ m) n e =
+natural_zero [] n = absurd (omega (arith, natural-nonempty [] n))
+natural_zero (b ∷ m) n =
     let h = digit-least b (digits-head b m (natural-digits (b ∷ m) n)) in
-    numeral-nonzero (b ∷ m) ∙ rw (lt-ltb 48 b (omega arith))
+    numeral-nonzero (b ∷ m) ∙ ⊎_elim
+    (λ (l : 48 < b). rw (lt-ltb 48 b l, ne_eqb b 48 (λ e. omega arith)))
+    (λ (g : b ≤ 48). rw (le-ltb 48 b g, eq-eqb b 48 (omega arith)) (zero-rest g m n))
+    (lt-or-ge 48 b)
+  where
+    zero-rest : b ≤ 48 → (m : List ℕ) → is_natural (b ∷ m) ≡ true → has_nonzero m ≡ false
+    zero-rest g [] n = refl
+    zero-rest g (c ∷ m) n = absurd (omega (arith, natural-first b (c ∷ m) n (omega arith)))
 
-pub natural-long : (v : Text) {n : Bool} → n ≡ is_natural v → n ≡ true → 0 < length v
-natural-long v told e = natural-nonempty v (sym told ∙ e)
+-- ---- the minus sign
 
-pub negative-long : (v : Text) {n : Bool} → n ≡ is_negative v → n ≡ true → 1 ≤ length v
-negative-long v told e = omega (arith, ap length (negative-cons v (sym told ∙ e)))
+negative-first : (v : Text) → 1 ≤ length v → is_negative v ≡ eqb (get_or v 0 0) 45
+unfolding is_negative
+negative-first [] h = absurd (omega arith)
+negative-first (b ∷ v) h = refl
 
--- what follows the minus sign
-negative-rest : (v : Text) → is_negative v ≡ true → magnitude v ≡ take (length v - 1) (drop 1 v)
-negative-rest v e = sym (to_end v 1 ∙ ap (drop 1) (negative-cons v e))
+positive-first : (v : Text) → (get_or v 0 0 ≡ 45 → ⊥) → is_negative v ≡ false
+unfolding is_negative
+positive-first [] h = refl
+positive-first (b ∷ v) h = ne_eqb b 45 h
 
--- by whether the first byte is a minus sign
-module _ (width : ℕ) (v : Text) {negative : Bool} (told : negative ≡ is_negative v) {r : Bool} where
-  pub signed-negative :
-      negative ≡ true →
-      (let m = take (length v - 1) (drop 1 v) in r ≡ is_natural m && (ltb 0 (numeral m) && leb (numeral m) (2 ^ (8 * width - 1)))) →
-      r ≡ is_signed width v
-  unfolding is_signed
-  signed-negative e is = let n = sym told ∙ e in rw (n, negative-rest v n) is
-
-  pub signed-positive : negative ≡ false → r ≡ is_natural v && ltb (numeral v) (2 ^ (8 * width - 1)) → r ≡ is_signed width v
-  unfolding is_signed
-  signed-positive e is = let n = sym told ∙ e in rw (n, positive-magnitude v n) is
+-- what follows it
+negative-rest : (v : Text) → is_negative v ≡ true → take (length v - 1) (drop 1 v) ≡ magnitude v
+negative-rest v e = to_end v 1 ∙ ap (drop 1) (negative-cons v e)
 
 -- ---- decimals
 
-minus-nonzero : (v : Text) → is_negative v ≡ true → has_nonzero v ≡ has_nonzero (magnitude v)
-unfolding has_nonzero
-minus-nonzero v e = ap has_nonzero (negative-cons v e)
-
-module _ (total after : ℕ) (sign : Bool) (v : Text) {negative : Bool} (told : negative ≡ is_negative v) {r : Bool} where
+-- by whether the first byte is a minus sign
+module _ (total after : ℕ) (sign : Bool) (v : Text) where
   pub decimal-negative :
-      negative ≡ true → r ≡ sign && (has_nonzero v && is_magnitude total after (take (length v - 1) (drop 1 v))) → r ≡ is_decimal total after sign v
+      1 ≤ length v → get_or v 0 0 ≡ 45 →
+      let m = take (length v - 1) (drop 1 v) in
+      is_decimal total after sign v ≡ (sign && (has_nonzero m && is_magnitude total after m))
   unfolding is_decimal
-  decimal-negative e is = let n = sym told ∙ e in is ∙ rw (← negative-rest v n, n) (go n (is_magnitude total after (magnitude v)) sign refl)
+  decimal-negative h e = let n = negative-first v h ∙ eq-eqb (get_or v 0 0) 45 e in
+      rw (negative-rest v n, n) (go (is_magnitude total after (magnitude v)) sign refl)
     where
       go :
-          is_negative v ≡ true → (t s : Bool) → is_magnitude total after (magnitude v) ≡ t →
-          s && (has_nonzero v && t) ≡ t && (s && ltb 0 (unscaled after (magnitude v)))
-      go n false false f = refl
-      go n false true f = and-false (has_nonzero v)
-      go n true false f = refl
-      go n true true f = and-true (has_nonzero v) ∙ minus-nonzero v n ∙ sym (fixed-nonzero (fixed total after (magnitude v) f))
+          (t s : Bool) → is_magnitude total after (magnitude v) ≡ t →
+          t && (s && ltb 0 (unscaled after (magnitude v))) ≡ s && (has_nonzero (magnitude v) && t)
+      go false false f = refl
+      go false true f = sym (and-false (has_nonzero (magnitude v)))
+      go true false f = refl
+      go true true f = fixed-nonzero (fixed total after (magnitude v) f) ∙ sym (and-true (has_nonzero (magnitude v)))
 
-  pub decimal-positive : negative ≡ false → r ≡ is_magnitude total after v → r ≡ is_decimal total after sign v
+  pub decimal-positive : (get_or v 0 0 ≡ 45 → ⊥) → is_decimal total after sign v ≡ is_magnitude total after v
   unfolding is_decimal
-  decimal-positive e is = let n = sym told ∙ e in is ∙ rw (n, positive-magnitude v n) (sym (and-true (is_magnitude total after v)))
+  decimal-positive h = let n = positive-first v h in rw (n, positive-magnitude v n) (and-true (is_magnitude total after v))
+
+  pub decimal-empty : length v < 1 → is_decimal total after sign v ≡ is_magnitude total after v
+  decimal-empty h = decimal-positive (λ e. first v h e)
+    where
+      first : (v : Text) → length v < 1 → get_or v 0 0 ≡ 45 → ⊥
+      first [] h e = omega arith
+      first (b ∷ v) h e = omega arith
+
+pub ruleset signs = (decimal-negative, decimal-positive, decimal-empty)
 
 fraction-cons : (after b : ℕ) (v : Text) → length v ≡ after → is_fraction after (b ∷ v) ≡ eqb b 46 && are_digits v
 unfolding is_fraction
 fraction-cons after b v h = rw (eq-eqb (length v) after h) (ap (λ (t : Bool). t && are_digits v) (and-true (eqb b 46)))
 
 module _ (total after : ℕ) (m : List ℕ) where
-  pub magnitude-short : length m ≤ after + 1 → is_magnitude total after m ≡ false
+  pub magnitude-short : length m < after + 1 → is_magnitude total after m ≡ false
   unfolding is_magnitude whole_part is_natural
   magnitude-short h = let e : length m - (after + 1) ≡ 0 = omega arith in rw e
 
-  pub magnitude-long : after + 1 < length m → total + 1 < length m - (after + 1) + (after + 1) → is_magnitude total after m ≡ false
-  unfolding is_magnitude whole_part
-  magnitude-long h k =
-      let e = length-take-le (length m - (after + 1)) m (omega arith) in
-      rw (e, lt-leb (length m - (after + 1)) (total - after) (omega arith))
-      (ap (λ (t : Bool). t && is_fraction after (point_part after m)) (and-false (is_natural (take (length m - (after + 1)) m))))
+  -- by its length, its point, and what stands before and after the point
+  pub magnitude-told :
+      after + 1 ≤ length m →
+      let point = length m - (after + 1) in
+      is_magnitude total after m
+      ≡ (leb (length m) (total + 1)
+      && (eqb (get_or m point 0) 46 && (is_natural (take point m) && are_digits (take (length m - (point + 1)) (drop (point + 1) m)))))
+  unfolding is_magnitude whole_part point_part is_natural
+  magnitude-told h =
+      let point = length m - (after + 1) in
+      rw (length-take-le point m (omega arith), drop-next m point (omega arith), to_end m (point + 1))
+      (rw (fraction-cons after (get_or m point 0) (drop (point + 1) m) (omega (arith, length-drop (point + 1) m)))
+      (⊎_elim
+      (λ (l : 0 < point). rw (room l) (turn (is_natural (take point m)) (leb (length m) (total + 1)) (eqb (get_or m point 0) 46) _))
+      (λ (g : point ≤ 0). let e : point ≡ 0 = omega arith in
+      rw (none e) (turn false (leb (length m) (total + 1)) (eqb (get_or m point 0) 46) (are_digits (drop (point + 1) m))))
+      (lt-or-ge 0 point)))
+    where
+      turn : (a b e d : Bool) → (a && b) && (e && d) ≡ (b && (e && (a && d)))
+      turn true true e d = refl
+      turn true false e d = refl
+      turn false true true d = refl
+      turn false true false d = refl
+      turn false false e d = refl
 
-  pub magnitude-parts :
-      after + 1 < length m → length m - (after + 1) + (after + 1) ≤ total + 1 →
-      let point = length m - (after + 1) in
-      is_magnitude total after m ≡ is_natural (take point m) && (eqb (get_or m point 0) 46 && are_digits (take (length m - (point + 1)) (drop (point + 1) m)))
-  unfolding is_magnitude whole_part point_part
-  magnitude-parts h k =
-      let point = length m - (after + 1) in
-      rw (length-take-le point m (omega arith), le-leb point (total - after) (omega arith), drop-next m point (omega arith), to_end m (point + 1))
-      (ap₂ (λ (s t : Bool). s && t) (and-true (is_natural (take point m)))
-      (fraction-cons after (get_or m point 0) (drop (point + 1) m) (omega (arith, length-drop (point + 1) m))))
+      none : length m - (after + 1) ≡ 0 → is_natural (take (length m - (after + 1)) m) ≡ false
+      none e = rw e
+
+      room : 0 < length m - (after + 1) → leb (length m - (after + 1)) (total - after) ≡ leb (length m) (total + 1)
+      room l =
+          ⊎_elim
+          (λ (k : total + 1 < length m). rw (lt-leb (length m - (after + 1)) (total - after) (omega arith), lt-leb (length m) (total + 1) k))
+          (λ (k : length m ≤ total + 1). rw (le-leb (length m - (after + 1)) (total - after) (omega arith), le-leb (length m) (total + 1) k))
+          (lt-or-ge (total + 1) (length m))
+
+pub ruleset magnitudes = (magnitude-short, magnitude-told)

@@ -1,18 +1,20 @@
 // Moments of the Gregorian calendar.
-ghost use Rattle.std.specs.Prelude.{◌≡◌, ◌⊎◌, true, cond, ◌&&◌, leb, eqb, length};
+ghost use Rattle.std.specs.Prelude.{◌≡◌, ◌⊎◌, true, cond, ◌&&◌, ◌||◌, ltb, leb, eqb, length};
 ghost use Prim.Native.Nat.{◌+◌, ◌-◌, ◌*◌, ◌≤◌, ◌<◌, compare};
 ghost use Rattle.packed.specs.code.Comparison.{ordering};
 ghost use Rattle.values.specs.Decimal.{is_digit};
-ghost use Rattle.values.specs.Calendar.{has_form, field, year, month, day, hour, minute, second, is_leap, days_in, is_moment, is_datetime};
+ghost use Rattle.values.specs.Calendar.{has_form, whole_second, with_fraction, field, year, month, day, hour, minute, second, microsecond};
+ghost use Rattle.values.specs.Calendar.{is_leap, days_in, is_moment, is_datetime};
 ghost use Rattle.values.specs.Spaces.{datetime};
 ghost use Rattle.values.specs.ValueOrder.{value_order};
 
-use packed::order::Ordering;
+use std::cmp::Ordering;
 
+#[tactic(auto, unfolding(crate::specs::Decimal::is_digit))]
 pub fn is_digit(b: u8) -> bool
     ensures { result ≡ is_digit b }
 {
-    b'0' <= b && b <= b'9'
+    b.is_ascii_digit()
 }
 
 // A byte stands where the form has f.
@@ -26,26 +28,17 @@ fn matches(f: u8, b: u8) -> bool
 pub fn has_form(form: &[u8], v: &[u8]) -> bool
     ensures { result ≡ has_form form.now v.now }
 {
-    if form.len() != v.len() {
-        return false;
-    }
-    let mut i = 0;
-    while i < v.len() {
-        if !matches(form[i], v[i]) {
-            return false;
-        }
-        i += 1;
-    }
-    true
+    form.len() == v.len() && form.iter().zip(v).all(|(f, b)| matches(*f, *b))
 }
 
 // What a byte counts for as a digit. No byte is refused here, so that a field can be read from any text.
 fn digit(b: u8) -> u32
     ensures { result ≡ b - 48 }
 {
-    if b < b'0' { 0 } else { b as u32 - 48 }
+    u32::from(b.saturating_sub(b'0'))
 }
 
+#[tactic(auto, unfolding(crate::specs::Decimal::numeral, crate::specs::Decimal::numeral_after, crate::specs::Calendar::field))]
 fn two(v: &[u8], at: usize) -> u32
     requires { at + 2 ≤ length v.now }
     ensures number { result ≡ field v.now at 2 }
@@ -63,26 +56,31 @@ fn four(v: &[u8], at: usize) -> u32
 }
 
 // The digits after the point of a whole second or of one with six digits.
+#[tactic(auto, unfolding(crate::specs::Decimal::numeral, crate::specs::Decimal::numeral_after, crate::specs::Calendar::field))]
 fn fraction(v: &[u8]) -> u32
     ensures { (length v.now ≡ 20) ⊎ (26 ≤ length v.now) → result ≡ field v.now 20 6 }
 {
     if v.len() < 26 {
-        return 0;
+        0
+    } else {
+        100 * four(v, 20) + two(v, 24)
     }
-    100 * four(v, 20) + two(v, 24)
 }
 
+#[tactic(auto, unfolding(crate::specs::Calendar::is_leap))]
 fn is_leap(y: u32) -> bool
     ensures { result ≡ is_leap y }
 {
     y % 4 == 0 && (y % 100 != 0 || y % 400 == 0)
 }
 
+#[tactic(auto, unfolding(crate::specs::Calendar::days_in))]
 fn days_in(y: u32, m: u32) -> u32
     ensures { result ≡ days_in y m }
 {
     match m {
-        2 => { if is_leap(y) { 29 } else { 28 } }
+        2 if is_leap(y) => 29,
+        2 => 28,
         4 | 6 | 9 | 11 => 30,
         _ => 31,
     }
@@ -91,30 +89,33 @@ fn days_in(y: u32, m: u32) -> u32
 fn is_day(y: u32, m: u32, d: u32) -> bool
     ensures { result ≡ (leb 1 y && leb 1 m && leb m 12 && leb 1 d && leb d (days_in y m)) }
 {
-    let last = days_in(y, m);
-    1 <= y && (1 <= m && (m <= 12 && (1 <= d && d <= last)))
+    1 <= y && 1 <= m && m <= 12 && 1 <= d && d <= days_in(y, m)
 }
 
+#[tactic(auto, unfolding(crate::specs::Calendar::is_moment))]
 fn is_moment(v: &[u8]) -> bool
     requires { 20 ≤ length v.now }
     ensures { result ≡ is_moment v.now }
 {
-    if !is_day(four(v, 0), two(v, 5), two(v, 8)) {
-        return false;
-    }
-    two(v, 11) <= 23 && (two(v, 14) <= 59 && two(v, 17) <= 59)
+    is_day(four(v, 0), two(v, 5), two(v, 8))
+        && two(v, 11) <= 23
+        && two(v, 14) <= 59
+        && two(v, 17) <= 59
 }
 
+// Of a whole second, or with a fraction that is not 0.
+fn has_datetime_form(v: &[u8]) -> bool
+    ensures { result ≡ (whole_second v.now || (with_fraction v.now && ltb 0 (microsecond v.now))) }
+{
+    has_form(b"0000-00-00T00:00:00Z", v)
+        || has_form(b"0000-00-00T00:00:00.000000Z", v) && 0 < fraction(v)
+}
+
+#[tactic(auto, using(crate::proofs::InstantLaws::formed_long), unfolding(crate::specs::Calendar::is_datetime))]
 pub fn is_datetime(v: &[u8]) -> bool
     ensures { result ≡ is_datetime v.now }
 {
-    if v.len() == 20 {
-        return has_form(b"0000-00-00T00:00:00Z", v) && is_moment(v);
-    }
-    if !has_form(b"0000-00-00T00:00:00.000000Z", v) {
-        return false;
-    }
-    0 < fraction(v) && is_moment(v)
+    has_datetime_form(v) && is_moment(v)
 }
 
 // The digits of date and time as one number.
@@ -123,9 +124,9 @@ fn stamp(v: &[u8]) -> u64
     ensures { result ≡ ((((year v.now * 100 + month v.now) * 100 + day v.now) * 100
         + hour v.now) * 100 + minute v.now) * 100 + second v.now }
 {
-    let month = four(v, 0) as u64 * 100 + two(v, 5) as u64;
-    let hour = (month * 100 + two(v, 8) as u64) * 100 + two(v, 11) as u64;
-    (hour * 100 + two(v, 14) as u64) * 100 + two(v, 17) as u64
+    let month = u64::from(four(v, 0)) * 100 + u64::from(two(v, 5));
+    let hour = (month * 100 + u64::from(two(v, 8))) * 100 + u64::from(two(v, 11));
+    (hour * 100 + u64::from(two(v, 14))) * 100 + u64::from(two(v, 17))
 }
 
 fn compare_fractions(f: u32, g: u32) -> Ordering
@@ -145,10 +146,7 @@ pub fn compare_moments(a: &[u8], b: &[u8]) -> Ordering
     ensures { is_datetime a.now ≡ true → is_datetime b.now ≡ true →
         ordering result ≡ (value_order datetime).cmp a.now b.now }
 {
-    if a.len() < 20 {
-        return Ordering::Equal;
-    }
-    if b.len() < 20 {
+    if a.len() < 20 || b.len() < 20 {
         return Ordering::Equal;
     }
     let x = stamp(a);

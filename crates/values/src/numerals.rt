@@ -9,12 +9,9 @@ pub fn numeral_of(v: &[u8]) -> u64
     requires { (are_digits v.now ≡ true) × (numeral v.now < 2 ^ 64) }
     ensures { result ≡ numeral v.now }
 {
-    let mut n: u64 = 0;
-    let mut i: usize = 0;
-    while i < v.len() {
-        let b = v[i];
-        n = 10 * n + (b as u64 - 48);
-        i += 1;
+    let mut n = 0;
+    for b in v {
+        n = 10 * n + (u64::from(*b) - 48);
     }
     n
 }
@@ -23,22 +20,17 @@ pub fn numeral_of(v: &[u8]) -> u64
 pub fn is_in_decimal(v: &[u8], n: u64) -> bool
     ensures { result ≡ equal texts v.now (in_decimal n) }
 {
-    let mut m = n;
-    let mut k = v.len();
-    while 9 < m {
-        if k == 0 {
-            return false;
-        }
-        if v[k - 1] as u64 != 48 + m % 10 {
-            return false;
-        }
-        m = m / 10;
-        k -= 1;
-    }
-    if k != 1 {
+    if v.is_empty() {
         return false;
     }
-    v[0] as u64 == 48 + m
+    let mut m = n;
+    for i in (1..v.len()).rev() {
+        if m < 10 || u64::from(v[i]) != 48 + m % 10 {
+            return false;
+        }
+        m /= 10;
+    }
+    m < 10 && u64::from(v[0]) == 48 + m
 }
 
 // A number in decimal: the digits before the last are those of a tenth.

@@ -11,48 +11,40 @@ ghost use Rattle.values.specs.ValueOrder.{is_ordered, value_order, extreme_order
 ghost use Rattle.values.specs.code.KindNumbers.{kind_of, is_ordered_number};
 ghost use Rattle.values.specs.code.LowBytes.{AllLow};
 
-use crate::calendar::{compare_moments, has_form, is_datetime, is_digit};
+use crate::calendar::{compare_moments, is_datetime, is_digit};
 use crate::kinds::{BOOLEAN, CURRENCY, DATETIME, DECIMAL, HEX, SEQUENCE, SIGNED, STRING, UNSIGNED};
 use crate::numbers::{compare_numbers, is_decimal, is_signed, is_unsigned};
 use crate::unicode::{is_ascii, is_utf8};
-use packed::order::Ordering;
+use std::cmp::Ordering;
 
-// A form without 0 is a text itself.
+#[tactic(auto, using(crate::proofs::SpaceLaws::booleans), unfolding(packed::specs::Ascii::ascii))]
 fn is_boolean(v: &[u8]) -> bool
     ensures { result ≡ (equal texts v.now (ascii "true") || equal texts v.now (ascii "false")) }
 {
-    has_form(b"true", v) || has_form(b"false", v)
+    matches!(v, b"true" | b"false")
 }
 
+#[tactic(auto, unfolding(crate::specs::Spaces::is_hex_digit))]
 fn is_hex_digit(b: u8) -> bool
     ensures { result ≡ is_hex_digit b }
 {
-    is_digit(b) || (b'a' <= b && b <= b'f')
+    is_digit(b) || matches!(b, b'a'..=b'f')
 }
 
 fn is_hex(bytes: u8, v: &[u8]) -> bool
     ensures { result ≡ (eqb (length v.now) (2 * bytes) && are_hex_digits v.now) }
 {
-    if v.len() != 2 * (bytes as usize) {
-        return false;
-    }
-    let mut i = 0;
-    while i < v.len() {
-        if !is_hex_digit(v[i]) {
-            return false;
-        }
-        i += 1;
-    }
-    true
+    v.len() == 2 * usize::from(bytes) && v.iter().all(|b| is_hex_digit(*b))
 }
 
 fn is_string(most: u8, v: &[u8]) -> bool
     ensures { result ≡ (leb (length v.now) most && is_utf8 v.now) }
 {
-    v.len() <= most as usize && is_utf8(v)
+    v.len() <= usize::from(most) && is_utf8(v)
 }
 
 // The value space of each kind, without the bounds of all values.
+#[tactic(auto, unfolding(crate::specs::Spaces::is_of_kind, crate::specs::Spaces::is_kind, crate::specs::code::KindNumbers::kind_of))]
 fn is_of_kind(kind: u8, size: u8, after: u8, sign: u8, v: &[u8]) -> bool
     ensures { (k : Kind) → kind_of kind size after sign ≡ some k → is_kind k ≡ true → result ≡ is_of_kind k v.now }
 {
@@ -71,51 +63,35 @@ fn is_of_kind(kind: u8, size: u8, after: u8, sign: u8, v: &[u8]) -> bool
 }
 
 // The value is in the space of its kind.
+#[tactic(auto, unfolding(crate::specs::Spaces::in_space))]
 pub fn in_space(kind: u8, size: u8, after: u8, sign: u8, v: &[u8]) -> bool
     ensures { (k : Kind) → kind_of kind size after sign ≡ some k → is_kind k ≡ true → result ≡ in_space k v.now }
 {
-    if v.len() < 1 {
-        return false;
-    }
-    if 120 < v.len() {
-        return false;
-    }
-    is_of_kind(kind, size, after, sign, v)
+    matches!(v.len(), 1..=120) && is_of_kind(kind, size, after, sign, v)
 }
 
 // Whether all of v is of strings, and has no byte above 7F. Then its parts are told by their lengths.
 pub fn is_plain(kind: u8, v: &[u8]) -> bool
     ensures { result ≡ true → (kind ≡ string_number) × AllLow v.now }
 {
-    if kind != STRING {
-        return false;
-    }
-    is_ascii(v)
+    kind == STRING && is_ascii(v)
 }
 
 pub fn is_short(most: u8, length: usize) -> bool
     ensures { result ≡ (leb 1 length && leb length 120 && leb length most) }
 {
-    if length < 1 {
-        return false;
-    }
-    if 120 < length {
-        return false;
-    }
-    length <= most as usize
+    matches!(length, 1..=120) && length <= usize::from(most)
 }
 
 // "Kinds 1 to 6 are ordered by their numbers or instants"
 pub fn is_ordered(kind: u8) -> bool
     ensures { result ≡ is_ordered_number kind }
 {
-    match kind {
-        UNSIGNED..=DATETIME => true,
-        _ => false,
-    }
+    matches!(kind, UNSIGNED..=DATETIME)
 }
 
 // Two values of an ordered kind by number or instant; of no other kind is anything said.
+#[tactic(auto, unfolding(crate::specs::Spaces::in_space, crate::specs::Spaces::is_of_kind))]
 pub fn compare_values(kind: u8, a: &[u8], b: &[u8]) -> Ordering
     ensures { (k : Kind) → kind_number k ≡ kind → is_ordered k ≡ true →
         in_space k a.now ≡ true → in_space k b.now ≡ true →
@@ -157,10 +133,11 @@ pub fn choose<'a>(
         result.now ∷ [] ≡ take 1 (union (extreme_order largest k)
         (take (e - a) (drop a left.now) ∷ []) (take (f - b) (drop b right.now) ∷ [])) }
 {
-    let order = compare_values(kind, &left[a..e], &right[b..f]);
-    if takes_first(order, largest) {
-        &left[a..e]
+    let x = &left[a..e];
+    let y = &right[b..f];
+    if takes_first(compare_values(kind, x, y), largest) {
+        x
     } else {
-        &right[b..f]
+        y
     }
 }

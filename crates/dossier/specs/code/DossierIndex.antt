@@ -18,21 +18,18 @@ use Rattle.event.specs.EventLayout.{read_sets, bit_number}
 use Rattle.event.specs.code.EventIndex.{SetsAre, HeadIs, HeadParts, bit_of}
 use Rattle.event.specs.Head.{Head}
 use Rattle.event.specs.declared.head.HeadAt.{HeadAt}
-use Rattle.dossier.specs.declared.head.DossierHeadRead.{DossierHeadRead}
-use Rattle.dossier.specs.declared.head.DossierHeadRead.TheVariants as read
 use Rattle.dossier.specs.DossierHead.{read_dossier_head, dossier_head_bytes}
 use Rattle.dossier.specs.DossierLayout.{Headed, dossier_of}
 use Rattle.dossier.specs.DossierBody.{apart, cells_of, are_small, read_snapshot, differ_bit, snapshot_bytes}
 use Rattle.dossier.specs.DossierQuestions.{each_cell, is_vacant, is_present, is_lone_if_single}
 use Rattle.dossier.specs.DossierQuestions.{is_lone_if_extreme, is_unmarked_match, holds_version, TypedDossier}
 use Rattle.dossier.specs.declared.shape.ShapeMasks.{ShapeMasks}
-use Rattle.dossier.specs.declared.snapshots.NumbersAt.{NumbersAt}
-use Rattle.dossier.specs.declared.snapshots.NumbersAt.TheVariants.{Numbers, NoNumbers}
 use Rattle.dossier.specs.declared.snapshots.SnapshotNumbers.{SnapshotNumbers}
-use Rattle.dossier.specs.declared.snapshots.SnapshotRead.{SnapshotRead}
-use Rattle.dossier.specs.declared.snapshots.SnapshotRead.TheVariants.{Found, NoSnapshot}
 use Rattle.dossier.specs.declared.dossiers.SnapshotsRead.{SnapshotsRead}
 use Rattle.dossier.specs.declared.dossiers.DossierIndex.{DossierIndex}
+use Rattle.std.specs.Prelude.{Some, None}
+use Rattle.std.specs.Prelude as std
+use Rattle.dossier.specs.declared.snapshots.NumbersAt.{NumbersAt}
 
 -- ---- a snapshot
 
@@ -49,9 +46,9 @@ pub record NumbersStop (s : List ℕ) (at version presence differ after-differ :
   pub differ-low : differ < 4294967296
   pub clear : apart 32 presence differ ≡ true
 
-abbrev pub NumbersRead : List ℕ → ℕ → NumbersAt → Type 0
-NumbersRead s at (Numbers version presence differ after-differ) = NumbersStop s at version.0 presence differ after-differ
-NumbersRead s at NoNumbers = read_snapshot (drop at s) ≡ fail
+abbrev pub NumbersRead : List ℕ → ℕ → std.Option NumbersAt → Type 0
+NumbersRead s at (Some n) = NumbersStop s at n.version.0 n.presence n.differ n.after_differ
+NumbersRead s at None = read_snapshot (drop at s) ≡ fail
 
 -- the snapshot x stands from `start` up to `end`
 pub record SnapshotAt (s : List ℕ) (x : Snapshot) (start end : ℕ) : Type 0 where
@@ -74,9 +71,9 @@ pub record SnapshotStops (s : List ℕ) (at : ℕ) (n : SnapshotNumbers) (next :
   pub is : SnapshotIs s what n ats
 
 -- what the reader of a snapshot answers, and leaves in the numbers ats
-abbrev pub SnapshotReads : List ℕ → ℕ → List ℕ → SnapshotRead → Type 0
-SnapshotReads s at ats (Found n next) = SnapshotStops s at n next ats
-SnapshotReads s at ats NoSnapshot = read_snapshot (drop at s) ≡ fail
+abbrev pub SnapshotReads : List ℕ → ℕ → List ℕ → std.Option (SnapshotNumbers × ℕ) → Type 0
+SnapshotReads s at ats (Some (n, next)) = SnapshotStops s at n next ats
+SnapshotReads s at ats None = read_snapshot (drop at s) ≡ fail
 
 -- ---- snapshots, one after the other
 
@@ -104,19 +101,19 @@ row_of rows j = part rows (96 * j) (96 * j + 96)
 pub record RowsAre (s : List ℕ) (xs : List Snapshot) (rows : List ℕ) : Type 0 where
   pub each : (j : ℕ) → j < length xs → SetsAre s (map held (get_or xs j no_snapshot).cells) (row_of rows j)
 
-pub record SnapshotsStop (s : List ℕ) (xs : List Snapshot) (t rows : List ℕ) (r : SnapshotsRead) : Type 0 where
-  pub right : r.ok ≡ true
-  pub rest : t ≡ drop r.next s
+pub record SnapshotsStop (p : Parse (List Snapshot)) (s rows : List ℕ) (r : SnapshotsRead) : Type 0 where
+  pub what : List Snapshot
+  pub is : p ≡ got what (drop r.next s)
   pub within : r.next ≤ length s
-  pub are : SnapshotsAre s xs r.starts r.ends r.versions
-  pub differs : take (length xs) r.differs ≡ map (λ (x : Snapshot). bit_number (map differ_bit x.cells)) xs
-  pub objects : take (length xs) r.objects ≡ map (λ (x : Snapshot). sizes x.cells) xs
-  pub stand : RowsAre s xs rows
+  pub are : SnapshotsAre s what r.starts r.ends r.versions
+  pub differs : take (length what) r.differs ≡ map (λ (x : Snapshot). bit_number (map differ_bit x.cells)) what
+  pub objects : take (length what) r.objects ≡ map (λ (x : Snapshot). sizes x.cells) what
+  pub stand : RowsAre s what rows
 
 -- what the reader of several snapshots answers, and leaves in the rows
-unfoldable pub SnapshotsSay : Parse (List Snapshot) → List ℕ → List ℕ → SnapshotsRead → Type 0
-SnapshotsSay fail s rows r = r.ok ≡ false
-SnapshotsSay (got xs t) s rows r = SnapshotsStop s xs t rows r
+abbrev pub SnapshotsSay : Parse (List Snapshot) → List ℕ → List ℕ → std.Option SnapshotsRead → Type 0
+SnapshotsSay p s rows (Some r) = SnapshotsStop p s rows r
+SnapshotsSay p s rows None = p ≡ fail
 
 -- ---- the head
 
@@ -126,9 +123,9 @@ pub record DossierHeadStops (p : Parse Head) (s : List ℕ) (x : HeadAt) (end : 
   pub is : p ≡ got what (drop end s)
   pub stands : HeadIs s what x
 
-abbrev pub DossierHeadReads : Parse Head → List ℕ → DossierHeadRead → Type 0
-DossierHeadReads p s (read.Head x end) = DossierHeadStops p s x end
-DossierHeadReads p s read.NoHead = p ≡ fail
+abbrev pub DossierHeadReads : Parse Head → List ℕ → std.Option (HeadAt × ℕ) → Type 0
+DossierHeadReads p s (Some (x, end)) = DossierHeadStops p s x end
+DossierHeadReads p s None = p ≡ fail
 
 -- where the bytes begin with a head, it ends at `end`
 pub record HeadEnds (limits : Limits) (s : List ℕ) (end : ℕ) : Type 0 where

@@ -18,23 +18,16 @@ use Rattle.event.specs.EventLayout.{Counts, narrow, wide, set_bytes, sets_bytes,
 use Rattle.event.specs.Head.{head_bytes, Head}
 use Rattle.ontology.specs.declared.types.TypeIndex.{TypeIndex}
 use Rattle.event.specs.declared.sets.SetAt.{SetAt}
-use Rattle.event.specs.declared.sets.SetRead.{SetRead}
-use Rattle.event.specs.declared.sets.SetRead.TheVariants.{Found, NoSet}
-use Rattle.event.specs.declared.sets.SetsRead.{SetsRead}
-use Rattle.event.specs.declared.sets.SetsRead.TheVariants.{Sets, NoSets}
-use Rattle.event.specs.declared.head.PartAt.{PartAt}
 use Rattle.event.specs.declared.head.HeadAt.{HeadAt}
-use Rattle.event.specs.declared.head.HeadRead.{HeadRead}
-use Rattle.event.specs.declared.head.HeadRead.TheVariants as read
-use Rattle.event.specs.declared.head.ParentsRead.{ParentsRead}
-use Rattle.event.specs.declared.head.ParentsRead.TheVariants.{Parents, NoParents}
 use Rattle.event.specs.declared.read.EventIndex.{EventIndex}
 use Rattle.event.specs.EventQuestions.{Typed, event_asked}
 use Rattle.event.specs.Value.{bytes_before}
 use Rattle.event.specs.declared.read.EventCounts.{EventCounts}
 use Rattle.event.specs.declared.read.EventCounts.TheVariants as taken
-use Rattle.event.specs.declared.lookup.ValueAt.{ValueAt}
-use Rattle.event.specs.declared.lookup.ValueAt.TheVariants.{Value, NoValue}
+use Rattle.std.specs.Prelude.{Some, None}
+use Rattle.packed.specs.declared.read.TextAt.{TextAt}
+use Rattle.std.specs.Prelude as std
+use Rattle.event.specs.declared.sets.SetsRead.{SetsRead}
 
 -- how many bytes a set has before its values: those of its count, and an empty set none
 unfoldable pub count_size : ℕ → ℕ
@@ -79,9 +72,9 @@ pub record SetStops (p : Parse (List Text)) (s : List ℕ) (x : SetAt) : Type 0 
   pub stands : SetIs s what x
 
 -- what the reader of a set answers, where the layout finds p
-abbrev pub SetReads : Parse (List Text) → List ℕ → SetRead → Type 0
-SetReads p s (Found x) = SetStops p s x
-SetReads p s NoSet = p ≡ fail
+abbrev pub SetReads : Parse (List Text) → List ℕ → std.Option SetAt → Type 0
+SetReads p s (Some x) = SetStops p s x
+SetReads p s None = p ≡ fail
 
 -- the sets were read, and what is left starts at `next`; ats are the numbers of all places
 pub record SetsStop (p : Parse (List (List Text))) (s ats : List ℕ) (next objects : ℕ) : Type 0 where
@@ -92,9 +85,9 @@ pub record SetsStop (p : Parse (List (List Text))) (s ats : List ℕ) (next obje
   pub stands : SetsAre s what ats
 
 -- what the reader of sets answers, and leaves in the numbers ats
-abbrev pub SetsReads : Parse (List (List Text)) → List ℕ → List ℕ → SetsRead → Type 0
-SetsReads p s ats (Sets next objects) = SetsStop p s ats next objects
-SetsReads p s ats NoSets = p ≡ fail
+abbrev pub SetsReads : Parse (List (List Text)) → List ℕ → List ℕ → std.Option SetsRead → Type 0
+SetsReads p s ats (Some x) = SetsStop p s ats x.next x.objects
+SetsReads p s ats None = p ≡ fail
 
 -- hashes of 20 bytes stand in the bytes where x says
 pub record HashesAre (s : List ℕ) (hs : List Text) (x : SetAt) : Type 0 where
@@ -109,12 +102,12 @@ pub record ParentsStop (p : Parse (List Text)) (s : List ℕ) (x : SetAt) : Type
   pub is : p ≡ got what (drop x.end s)
   pub stands : HashesAre s what x
 
-abbrev pub ParentsReads : Parse (List Text) → List ℕ → ParentsRead → Type 0
-ParentsReads p s (Parents x) = ParentsStop p s x
-ParentsReads p s NoParents = p ≡ fail
+abbrev pub ParentsReads : Parse (List Text) → List ℕ → std.Option SetAt → Type 0
+ParentsReads p s (Some x) = ParentsStop p s x
+ParentsReads p s None = p ≡ fail
 
 -- a text stands where x says
-pub record TextIs (s : List ℕ) (v : Text) (x : PartAt) : Type 0 where
+pub record TextIs (s : List ℕ) (v : Text) (x : TextAt) : Type 0 where
   pub bytes : part s x.start x.end ≡ v
   pub order : x.start ≤ x.end
   pub within : x.end ≤ length s
@@ -142,9 +135,9 @@ pub record HeadStops (p : Parse Head) (s : List ℕ) (h : HeadAt) : Type 0 where
   pub is : p ≡ got what (drop h.parents.end s)
   pub stands : HeadIs s what h
 
-abbrev pub HeadReads : Parse Head → List ℕ → HeadRead → Type 0
-HeadReads p s (read.Head h) = HeadStops p s h
-HeadReads p s read.NoHead = p ≡ fail
+abbrev pub HeadReads : Parse Head → List ℕ → std.Option HeadAt → Type 0
+HeadReads p s (Some h) = HeadStops p s h
+HeadReads p s None = p ≡ fail
 
 -- The event e stands in the bytes s as the index says, and its sets where the numbers ats say
 pub record EventIs (s : List ℕ) (e : Event) (x : EventIndex) (ats : List ℕ) : Type 0 where
@@ -202,9 +195,9 @@ pub record ValueStands (s : List ℕ) (e : Event) (place index a z : ℕ) : Type
   pub order : a ≤ z
   pub within : z ≤ length s
 
-abbrev pub ValueFound : List ℕ → Event → ℕ → ℕ → ValueAt → Type 0
-ValueFound s e place index (Value a z) = ValueStands s e place index a z
-ValueFound s e place index NoValue = get_elem? (set_at e place) index ≡ none
+abbrev pub ValueFound : List ℕ → Event → ℕ → ℕ → std.Option TextAt → Type 0
+ValueFound s e place index (Some x) = ValueStands s e place index x.start x.end
+ValueFound s e place index None = get_elem? (set_at e place) index ≡ none
 
 -- ---- the questions
 

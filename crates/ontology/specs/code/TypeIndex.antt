@@ -14,26 +14,18 @@ use Rattle.values.specs.declared.versions.DefinitionVersion.{DefinitionVersion}
 use Rattle.ontology.specs.Table.{Strategy, min, max, replace, match, strategy_number, Property, EventType, Table, type_named}
 use Rattle.ontology.specs.Table.{names_rise, strategy_fits, all_fit, can_be_marked, mark_fits, type_rules}
 use Rattle.ontology.specs.TableLayout.{read_property, read_type}
-use Rattle.ontology.specs.declared.fields.FlagAt.{FlagAt}
-use Rattle.ontology.specs.declared.fields.FlagAt.TheVariants.{Flag, NoFlag}
-use Rattle.ontology.specs.declared.kinds.KindRead.{KindRead}
-use Rattle.ontology.specs.declared.kinds.KindRead.TheVariants.{OfKind, NoKind}
 use Rattle.ontology.specs.declared.properties.PropertyAt.{PropertyAt}
-use Rattle.ontology.specs.declared.properties.PropertyRead.{PropertyRead}
-use Rattle.ontology.specs.declared.properties.PropertyRead.TheVariants as read
-use Rattle.ontology.specs.declared.types.HeadRead.{HeadRead}
-use Rattle.ontology.specs.declared.types.HeadRead.TheVariants.{Head, NoHead}
-use Rattle.ontology.specs.declared.types.PropertiesRead.{PropertiesRead}
-use Rattle.ontology.specs.declared.types.PropertiesRead.TheVariants.{Properties, NoProperties}
 use Rattle.ontology.specs.declared.types.TypeIndex.{TypeIndex}
-use Rattle.ontology.specs.declared.types.TypeRead.{TypeRead}
 use Rattle.ontology.specs.declared.tables.TableRead.{TableRead}
+use Rattle.std.specs.Prelude.{Some, None}
+use Rattle.std.specs.Prelude as std
+use Rattle.ontology.specs.declared.kinds.KindAt.{KindAt}
 
 -- ---- fields
 
-abbrev pub FlagReads : Parse Bool → List ℕ → ℕ → FlagAt → Type 0
-FlagReads p s at (Flag b next) = Got p s at b next
-FlagReads p s at NoFlag = p ≡ fail
+abbrev pub FlagReads : Parse Bool → List ℕ → ℕ → std.Option (Bool × ℕ) → Type 0
+FlagReads p s at (Some (b, next)) = Got p s at b next
+FlagReads p s at None = p ≡ fail
 
 -- ---- kinds
 
@@ -57,9 +49,9 @@ pub record KindStops (p : Parse Kind) (s : List ℕ) (at kind size after sign ne
   pub stops : Got p s at what next
   pub are : KindIs what kind size after sign
 
-abbrev pub KindReads : Parse Kind → List ℕ → ℕ → KindRead → Type 0
-KindReads p s at (OfKind kind size after sign next) = KindStops p s at kind size after sign next
-KindReads p s at NoKind = p ≡ fail
+abbrev pub KindReads : Parse Kind → List ℕ → ℕ → std.Option (KindAt × ℕ) → Type 0
+KindReads p s at (Some (k, next)) = KindStops p s at k.kind k.size k.after k.sign next
+KindReads p s at None = p ≡ fail
 
 -- ---- properties
 
@@ -98,9 +90,9 @@ pub record PropertyStops (p : Parse Property) (s : List ℕ) (at : ℕ) (x : Pro
   pub stops : Got p s at what next
   pub is : PropertyIs s what x
 
-abbrev pub PropertyReads : Parse Property → List ℕ → ℕ → PropertyRead → Type 0
-PropertyReads p s at (read.Property x next) = PropertyStops p s at x next
-PropertyReads p s at read.NoProperty = p ≡ fail
+abbrev pub PropertyReads : Parse Property → List ℕ → ℕ → std.Option (PropertyAt × ℕ) → Type 0
+PropertyReads p s at (Some (x, next)) = PropertyStops p s at x next
+PropertyReads p s at None = p ≡ fail
 
 -- a flag as a bit
 unfoldable pub bit_of : Bool → ℕ
@@ -162,9 +154,9 @@ pub record PropertiesStop (p : Parse (List Property)) (s : List ℕ) (at n next 
   pub are : keep ≡ true → PropertiesAre s what n xs
 
 -- what the reader of n properties answers, and leaves in the numbers xs where it keeps the properties
-abbrev pub PropertiesSay : Parse (List Property) → List ℕ → ℕ → ℕ → Bool → List ℕ → PropertiesRead → Type 0
-PropertiesSay p s at n keep xs (Properties next) = PropertiesStop p s at n next keep xs
-PropertiesSay p s at n keep xs NoProperties = p ≡ fail
+abbrev pub PropertiesSay : Parse (List Property) → List ℕ → ℕ → ℕ → Bool → List ℕ → std.Option ℕ → Type 0
+PropertiesSay p s at n keep xs (Some next) = PropertiesStop p s at n next keep xs
+PropertiesSay p s at n keep xs None = p ≡ fail
 
 -- ---- types
 
@@ -187,9 +179,9 @@ pub record HeadStops (s : List ℕ) (at start end : ℕ) (definition : Definitio
   pub after : at < next
   pub within : next ≤ length s
 
-abbrev pub HeadReads : List ℕ → ℕ → HeadRead → Type 0
-HeadReads s at (Head start end definition mark count next) = HeadStops s at start end definition mark count next
-HeadReads s at NoHead = such_that type_rules read_type (drop at s) ≡ fail
+abbrev pub HeadReads : List ℕ → ℕ → std.Option (TypeIndex × ℕ) → Type 0
+HeadReads s at (Some (x, next)) = HeadStops s at x.start x.end x.definition x.mark x.count next
+HeadReads s at None = such_that type_rules read_type (drop at s) ≡ fail
 
 -- The type t, as the index has it, with its properties at their places among the numbers ps
 pub record TypeIs (s : List ℕ) (t : EventType) (x : TypeIndex) (ps : List ℕ) : Type 0 where
@@ -200,20 +192,18 @@ pub record TypeIs (s : List ℕ) (t : EventType) (x : TypeIndex) (ps : List ℕ)
   pub mark : x.mark ≡ t.mark
   pub are : PropertiesAre s t.properties x.count ps
 
-pub record TypeStops (s : List ℕ) (at : ℕ) (t : EventType) (u : List ℕ) (keep : Bool) (ps : List ℕ) (r : TypeRead) : Type 0 where
-  pub right : r.ok ≡ true
-  pub follows : u ≡ drop r.next s
-  pub after : at < r.next
-  pub within : r.next ≤ length s
-  pub name : part s r.index.start r.index.end ≡ t.name
-  pub order : r.index.start ≤ r.index.end
-  pub ends : r.index.end ≤ length s
-  pub is : keep ≡ true → TypeIs s t r.index ps
+pub record TypeStops (p : Parse EventType) (s : List ℕ) (at : ℕ) (keep : Bool) (ps : List ℕ) (x : TypeIndex) (next : ℕ) : Type 0 where
+  pub what : EventType
+  pub stops : Got p s at what next
+  pub name : part s x.start x.end ≡ what.name
+  pub order : x.start ≤ x.end
+  pub ends : x.end ≤ length s
+  pub is : keep ≡ true → TypeIs s what x ps
 
 -- what the reader of a type answers, and leaves in the numbers ps where it keeps the properties
-unfoldable pub TypeReads : Parse EventType → List ℕ → ℕ → Bool → List ℕ → TypeRead → Type 0
-TypeReads fail s at keep ps r = r.ok ≡ false
-TypeReads (got t u) s at keep ps r = TypeStops s at t u keep ps r
+abbrev pub TypeReads : Parse EventType → List ℕ → ℕ → Bool → List ℕ → std.Option (TypeIndex × ℕ) → Type 0
+TypeReads p s at keep ps (Some (x, next)) = TypeStops p s at keep ps x next
+TypeReads p s at keep ps None = p ≡ fail
 
 -- ---- tables
 

@@ -10,6 +10,7 @@ use Rattle.model.specs.Opening as model
 use Rattle.model.specs.Opening.{held, cell_at, column, merged_at}
 use Rattle.values.specs.Spaces.{Kind, kind_number}
 use Rattle.values.specs.ValueOrder.{is_ordered}
+use Rattle.values.specs.declared.versions.EventVersion.{EventVersion}
 use Rattle.replies.specs.Questions.{accepted}
 use Rattle.ontology.specs.Table.{Property, EventType, Table, is_min, is_max, is_replace}
 use Rattle.ontology.specs.TableLayout.{table_of}
@@ -24,21 +25,19 @@ use Rattle.dossier.specs.DossierQuestions.{dossier_asked}
 use Rattle.dossier.specs.code.DossierIndex.{no_snapshot, DossierIs, RowsAre}
 use Rattle.dossier.specs.declared.dossiers.DossierIndex.{DossierIndex}
 use Rattle.opening.specs.code.CellIndex.{cell_in}
-use Rattle.opening.specs.declared.conflict.Conflict.{Conflict}
-use Rattle.opening.specs.declared.conflict.Conflict.TheVariants.{Differs, NoConflict}
-use Rattle.opening.specs.declared.conflict.Lowest.{Lowest}
-use Rattle.opening.specs.declared.conflict.Lowest.TheVariants.{Place, NoPlace}
 use Rattle.opening.specs.declared.strategies.PlaceRule.{PlaceRule}
+use Rattle.std.specs.Prelude as std
+use Rattle.std.specs.Prelude.{Some, None}
 
 -- ---- conflict
 
-abbrev pub lowest_of : Lowest → Option ℕ
-lowest_of (Place p) = some p
-lowest_of NoPlace = none
+abbrev pub lowest_of : std.Option ℕ → Option ℕ
+lowest_of (Some p) = some p
+lowest_of None = none
 
-abbrev pub conflict_of : Conflict → model.Conflict
-conflict_of (Differs v p) = model.differs_at v.0 p
-conflict_of NoConflict = model.no_conflict
+abbrev pub conflict_of : std.Option (EventVersion × ℕ) → model.Conflict
+conflict_of (Some (v, p)) = model.differs_at v.0 p
+conflict_of None = model.no_conflict
 
 -- ---- cells
 

@@ -4,15 +4,13 @@ use mathlib.Core.List.{List, [], ◌∷◌, ◌++◌, map, flatten}
 use Rattle.model.specs.Order.{Text, texts, rising}
 use Rattle.model.specs.Sets.{Ups, union}
 use Rattle.packed.specs.Packed.{text, part}
-use Rattle.packed.specs.declared.read.TextAt.{TextAt}
-use Rattle.packed.specs.declared.read.TextAt.TheVariants as at
 use Rattle.packed.specs.Parse.{All}
 use Rattle.unions.specs.declared.heads.Form.{Form}
 use Rattle.unions.specs.declared.heads.Form.TheVariants as form
 use Rattle.packed.specs.code.Written.{Wrote}
 use Rattle.unions.specs.declared.pair.Joined.{Joined}
-use Rattle.unions.specs.declared.pair.Step.{Step}
-use Rattle.unions.specs.declared.pair.Step.TheVariants.{Next, Alone}
+use Rattle.std.specs.Prelude.{Option, Some, None}
+use Rattle.packed.specs.declared.read.TextAt.{TextAt}
 
 -- a value's bytes in a run
 unfoldable pub written : Form → Text → List ℕ
@@ -49,9 +47,9 @@ pub record HeadIs (f : Form) (s : List ℕ) (at a e : ℕ) : Type 0 where
 pub record NoHead (f : Form) (s : List ℕ) (i : ℕ) : Type 0 where
   pub none : (v : Text) (r : List ℕ) → fits f v → drop i s ≡ written f v ++ r → ⊥
 
-abbrev pub Heads : Form → List ℕ → ℕ → TextAt → Type 0
-Heads f s i (at.Text a e) = HeadIs f s i a e
-Heads f s i at.NoText = NoHead f s i
+abbrev pub Heads : Form → List ℕ → ℕ → Option TextAt → Type 0
+Heads f s i (Some x) = HeadIs f s i x.start x.end
+Heads f s i None = NoHead f s i
 
 -- of xs and ys one value is taken, with the bytes `head`, out of both where n is 2; what is left of each stands in s and t
 pub record Taken (f : Form) (xs ys : List Text) (head : List ℕ) (n : ℕ) (s t : List ℕ) : Type 0 where
@@ -80,9 +78,9 @@ pub record Stepped (f : Form) (a : List ℕ) (i : ℕ) (b : List ℕ) (j x y : �
 pub record IsAlone (f : Form) (a : List ℕ) (i : ℕ) (b : List ℕ) (j : ℕ) : Type 0 where
   pub either : NoHead f a i ⊎ NoHead f b j
 
-abbrev pub Steps : Form → List ℕ → ℕ → List ℕ → ℕ → Step → Type 0
-Steps f a i b j (Next x y) = Stepped f a i b j x y
-Steps f a i b j Alone = IsAlone f a i b j
+abbrev pub Steps : Form → List ℕ → ℕ → List ℕ → ℕ → Option (ℕ × ℕ) → Type 0
+Steps f a i b j (Some (x, y)) = Stepped f a i b j x y
+Steps f a i b j None = IsAlone f a i b j
 
 -- a union has its room in an output of `size` bytes, from position `at` on
 pub record Room (f : Form) (a b : List ℕ) (at size : ℕ) : Type 0 where

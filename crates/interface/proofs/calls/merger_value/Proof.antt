@@ -3,8 +3,8 @@ use borrow.Author.Rules.{rules}
 use Prim.Native.Nat.{ℕ}
 use mathlib.Core.List.{List}
 use Rattle.event.specs.code.EventIndex.{ValueFound, EventAsked, asked}
-use Rattle.event.proofs.AskLaws.{accepted-is, found-value}
-use Rattle.interface.proofs.PackingLaws.{Answers, Taken, value-unasked, value-absent, value-packed}
+use Rattle.event.proofs.AskLaws.{accepted-is}
+use Rattle.interface.proofs.PackingLaws.{Answers, Taken, value-unasked, value-absent, value-ordered, value-packed}
 use Rattle.interface.proofs.calls.merger_value.Statement.{statement}
 use Rattle.interface.proofs.calls.merger_value.Tie as tie
 
@@ -60,17 +60,19 @@ returns : tie.Need-returns-then-number-ne0
 returns c = value-unasked _ _ _ _ _ _ _ (answered (search)) c.if-number-ne0.true
 
 sub-result : tie.Need-overflow_sub-result
-sub-result c = (found-value c.in-Value.is (found (search))).order
+sub-result c =
+    let f : tie.After-find_value = search in
+    value-ordered (accepted (search)) _ _ c.in-Some.is (found f)
 
-returns-2 : tie.Need-returns-in-Value
+returns-2 : tie.Need-returns-in-Some
 returns-2 c =
     let f : tie.After-find_value = search in
-    value-packed (accepted (search)) _ _ c.in-Value.is (found f)
+    value-packed (accepted (search)) _ _ c.in-Some.is (found f)
 
-returns-3 : tie.Need-returns-in-NoValue
+returns-3 : tie.Need-returns-in-None
 returns-3 c =
     let f : tie.After-find_value = search in
-    value-absent (accepted (search)) _ _ c.in-NoValue.is (found f)
+    value-absent (accepted (search)) _ _ c.in-None.is (found f)
 
 pub merger_value_spec : {M : Type 1} → statement M
 merger_value_spec =

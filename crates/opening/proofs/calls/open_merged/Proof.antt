@@ -18,7 +18,7 @@ to_start c = plan-to-start (search)
 abbrev to-plan : tie.After-find_overfull → tie.After-plan_sets
 to-plan c = (search)
 
-abbrev to-told : tie.After-write_event-arg-1 → tie.In-NoPlace
+abbrev to-told : tie.After-write_event-arg-1 → tie.In-None
 to-told c = (search)
 
 abbrev to-find : tie.After-write_event-arg-1 → tie.After-find_overfull
@@ -37,18 +37,18 @@ write-event-requires c κs =
     let (p, o) = (to_start plan).requires in
     (search rules, search rules, o.typed.are.few, writable o plan.plan_sets.ensures p.2)
 
-returns : tie.Need-returns-in-Place
+returns : tie.Need-returns-in-Some
 returns c =
     let found = c in
-    λ o free. replies-overfull o (to-plan (search)).plan_sets.ensures found.find_overfull.ensures free c.in-Place.is _
+    λ o free. replies-overfull o (to-plan (search)).plan_sets.ensures found.find_overfull.ensures free c.in-Some.is _
 
-returns-2 : tie.Need-returns-in-NoPlace
+returns-2 : tie.Need-returns-in-None
 returns-2 c =
     let written = c in
     let found = to-find (search) in
     let plan = to-plan found in
     λ o free.
-    replies-merged o plan.plan_sets.ensures found.find_overfull.ensures free (to-told (search)).in-NoPlace.is
+    replies-merged o plan.plan_sets.ensures found.find_overfull.ensures free (to-told (search)).in-None.is
     (to_start plan).requires.0.2 written.write_event.ensures
 
 pub open_merged_spec : {M : Type 1} → statement M

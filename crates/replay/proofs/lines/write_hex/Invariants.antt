@@ -1,9 +1,0 @@
--- Each round takes a byte at least, so that the bytes left fall.
-use Rattle.std.proofs.Common.{◌-◌, length}
-use Rattle.replay.proofs.lines.write_hex.Given as goal
-
-abbrev pub invariant-loop-at : goal.invariant-loop-at
-invariant-loop-at g l = Unit {0}
-
-abbrev pub decreases-loop-at : goal.decreases-loop-at
-decreases-loop-at g l = length l.s - l.at

@@ -1,0 +1,4 @@
+use Rattle.values.proofs.numerals.+write_decimal.Given as goal
+
+abbrev pub decreases-write_decimal : goal.decreases-write_decimal
+decreases-write_decimal l = l.n
